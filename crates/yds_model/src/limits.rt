@@ -1,0 +1,72 @@
+//! The limits of what may be read, kept and written, each one named constant.
+
+/// The greatest number of jobs of a document.
+pub const MAX_JOBS: usize = 4_000;
+
+/// The greatest release, deadline and end of a piece, and the greatest whole part of a slot's end, in
+/// time units.
+pub const MAX_TIME: u32 = 1_000_000_000;
+
+/// The greatest work of a job, in units of work.
+pub const MAX_WORK: u32 = 1_000_000;
+
+/// The greatest number of operating points.
+pub const MAX_POINTS: usize = 64;
+
+/// The greatest speed of an operating point, in work per time unit.
+pub const MAX_POINT_SPEED: u32 = 4_000;
+
+/// The greatest power of an operating point, in energy per time unit.
+pub const MAX_POINT_POWER: u32 = 1_000_000;
+
+/// The greatest least common multiple of the gaps between the speeds of a table's lower hull, 2 to the
+/// power 40.
+pub const MAX_GAPS: u64 = 1_099_511_627_776;
+
+/// The greatest denominator of a fraction, 2 to the power 60.
+pub const MAX_DENOMINATOR: u64 = 1_152_921_504_606_846_976;
+
+/// The greatest whole part that a fraction keeps.
+pub const MAX_WHOLE: u64 = 10_000_000_000_000_000_000;
+
+/// The greatest whole part of a slot's work, in units of work.
+pub const MAX_SLOT_WORK: u64 = 1_000_000_000_000;
+
+/// The greatest whole part of an energy.
+pub const MAX_ENERGY: u64 = 1_000_000_000_000_000_000;
+
+/// The greatest work of a level of a certificate, in units of work.
+pub const MAX_LEVEL_WORK: u64 = 4_000_000_000;
+
+/// The greatest length of a level of a certificate, in time units.
+pub const MAX_LEVEL_LENGTH: u64 = 1_000_000_000;
+
+/// The greatest number of slots of a schedule, those of runs among them.
+pub const MAX_SLOTS: usize = 100_000;
+
+/// The greatest number of levels of a certificate.
+pub const MAX_LEVELS: usize = 100_000;
+
+/// The greatest number of pieces of a certificate, over all its levels.
+pub const MAX_PIECES: usize = 100_000;
+
+/// The greatest number of members of a certificate, over all its levels.
+pub const MAX_MEMBERS: usize = 100_000;
+
+/// The greatest number of ticks in a time unit.
+pub const MAX_TICKS: u32 = 1_000_000_000;
+
+/// The greatest grid of a policy run: its works are multiples of one part in so many.
+pub const MAX_GRID: u32 = 1_000_000;
+
+/// The greatest number of event points at which a policy run may tell that it rounded.
+pub const MAX_ROUNDED: u32 = 1_000_000;
+
+/// The greatest length of a job's name, in bytes.
+pub const MAX_NAME: usize = 64;
+
+/// The greatest size of an input that is read as a document, in bytes.
+pub const MAX_INPUT: usize = 8_388_608;
+
+/// The greatest size of any text that a call of these crates takes, in bytes.
+pub const MAX_BYTES: usize = 1_000_000_000;
