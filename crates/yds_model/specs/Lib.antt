@@ -1,1 +1,11 @@
+pub mod Numbers
 pub mod Job
+pub mod Scale
+pub mod Slot
+pub mod Feasible
+pub mod Excess
+pub mod Piece
+pub mod Level
+pub mod Explains
+pub mod Proper
+pub mod Laws

@@ -1,0 +1,85 @@
+-- The laws of the definitions. Each is the contract of a public function of this crate.
+use Rattle.std.specs.Prelude.{◌≡◌, ℕ, ◌+◌, ◌*◌, ◌<◌, ◌≤◌, ◌↔◌, List, ◌++◌, length}
+use Rattle.std.specs.List.{All}
+use Rattle.std.specs.Int.{◌∣◌}
+use Rattle.yds_model.specs.Numbers.{AreDifferent}
+use Rattle.yds_model.specs.Job.{Job, job_at, work_of}
+use Rattle.yds_model.specs.Scale.{Fraction, at_scale, IsLess, IsSame, IsSum, IsMultiple}
+use Rattle.yds_model.specs.Slot.{WrittenSlot, WholeSlot, IsScale, IsSolid, slots_at}
+use Rattle.yds_model.specs.Feasible.{IsFeasibleAt, IsFeasible}
+use Rattle.yds_model.specs.Excess.{excess, IsLeast}
+use Rattle.yds_model.specs.Piece.{Piece, IsConfined, total_length}
+use Rattle.yds_model.specs.Level.{Level}
+use Rattle.yds_model.specs.Explains.{Explains}
+use Rattle.yds_model.specs.Proper.{IsProper}
+
+-- Scale: reading a schedule at k times a scale keeps it feasible, both ways.
+abbrev pub ScaleKeepsFeasible : Type 0
+ScaleKeepsFeasible = (jobs : List Job) (slots : List WrittenSlot) (scale k : ℕ) → IsScale scale slots → 1 ≤ k →
+    (IsFeasibleAt jobs scale (slots_at scale slots) ↔ IsFeasibleAt jobs (k * scale) (slots_at (k * scale) slots))
+
+-- Scale: and multiplies each excess by k.
+abbrev pub ScaleMultipliesExcess : Type 0
+ScaleMultipliesExcess = (slots : List WrittenSlot) (scale k p q : ℕ) → IsScale scale slots →
+    excess p q (slots_at (k * scale) slots) ≡ k * excess p q (slots_at scale slots)
+
+-- Scale: one scale decides.
+abbrev pub OneScaleDecides : Type 0
+OneScaleDecides = (jobs : List Job) (slots : List WrittenSlot) (scale : ℕ) → IsScale scale slots →
+    IsFeasibleAt jobs scale (slots_at scale slots) → IsFeasible jobs slots
+
+-- Scale: there is one, so 'at each scale' says something.
+abbrev pub ScaleExists : Type 0
+ScaleExists = (slots : List WrittenSlot) → All IsSolid slots → (scale : ℕ) × IsScale scale slots
+
+-- Order of fractions: by cross products it is the order of the values at each common scale.
+abbrev pub OrderIsOfValues : Type 0
+OrderIsOfValues = (x y : Fraction) (scale : ℕ) → 1 ≤ scale → x.den ∣ scale → y.den ∣ scale →
+    (IsLess x y ↔ (at_scale scale x < at_scale scale y))
+
+abbrev pub EqualityIsOfValues : Type 0
+EqualityIsOfValues = (x y : Fraction) (scale : ℕ) → 1 ≤ scale → x.den ∣ scale → y.den ∣ scale →
+    (IsSame x y ↔ (at_scale scale x ≡ at_scale scale y))
+
+abbrev pub SumIsOfValues : Type 0
+SumIsOfValues = (x y z : Fraction) (scale : ℕ) → 1 ≤ scale → x.den ∣ scale → y.den ∣ scale → z.den ∣ scale →
+    (IsSum x y z ↔ (at_scale scale z ≡ at_scale scale x + at_scale scale y))
+
+abbrev pub MultipleIsOfValues : Type 0
+MultipleIsOfValues = (k : ℕ) (x z : Fraction) (scale : ℕ) → 1 ≤ scale → x.den ∣ scale → z.den ∣ scale →
+    (IsMultiple k x z ↔ (at_scale scale z ≡ k * at_scale scale x))
+
+abbrev pub OrderIsTransitive : Type 0
+OrderIsTransitive = (x y z : Fraction) → 1 ≤ x.den → 1 ≤ y.den → 1 ≤ z.den → IsLess x y → IsLess y z → IsLess x z
+
+abbrev pub EqualityIsTransitive : Type 0
+EqualityIsTransitive = (x y z : Fraction) → 1 ≤ x.den → 1 ≤ y.den → 1 ≤ z.den → IsSame x y → IsSame y z → IsSame x z
+
+-- equal fractions are ordered alike
+abbrev pub OrderAgreesWithEquality : Type 0
+OrderAgreesWithEquality = (x y z : Fraction) → 1 ≤ x.den → 1 ≤ y.den → 1 ≤ z.den → IsSame x y →
+    (IsLess x z ↔ IsLess y z) × (IsLess z x ↔ IsLess z y)
+
+-- The confinement bound: different jobs that are confined to pieces force, in every feasible schedule, an excess of at
+-- least the work that the pieces don't take at the speed p/q.
+abbrev pub ConfinementBound : Type 0
+ConfinementBound = (jobs : List Job) (scale p q : ℕ) (slots : List WholeSlot) (members : List ℕ) (pieces : List Piece) →
+    1 ≤ scale → AreDifferent members → All (λ number. number < length jobs) members →
+    All (λ number. IsConfined (job_at jobs number) pieces) members → IsFeasibleAt jobs scale slots →
+    q * scale * work_of jobs members ≤ excess p q slots + p * scale * total_length pieces
+
+-- A proper certificate explains its schedule.
+abbrev pub ProperExplains : Type 0
+ProperExplains = (jobs : List Job) (slots : List WrittenSlot) (levels : List Level) → IsProper jobs slots levels →
+    Explains jobs slots levels
+
+-- What is explained is least.
+abbrev pub ExplainedIsLeast : Type 0
+ExplainedIsLeast = (jobs : List Job) (slots : List WrittenSlot) (levels : List Level) → Explains jobs slots levels →
+    IsLeast jobs slots
+
+-- A least schedule does no more work above any speed than any feasible written schedule, whatever its denominators are.
+abbrev pub LeastAmongWritten : Type 0
+LeastAmongWritten = (jobs : List Job) (slots others : List WrittenSlot) (scale p q : ℕ) → IsLeast jobs slots →
+    IsFeasible jobs others → IsScale scale (slots ++ others) → 1 ≤ q →
+    excess p q (slots_at scale slots) ≤ excess p q (slots_at scale others)
