@@ -9,6 +9,12 @@
 mod job_row;
 pub mod limits;
 mod memory;
+mod scale_laws;
 
 pub use job_row::JobRow;
 pub use memory::Memory;
+pub use scale_laws::{
+    equality_is_of_values, equality_is_transitive, multiple_is_of_values, one_scale_decides,
+    order_agrees_with_equality, order_is_of_values, order_is_transitive, scale_exists,
+    scale_keeps_feasible, scale_multiplies_excess, sum_is_of_values,
+};
