@@ -5,7 +5,9 @@
 #![tactic(auto)]
 
 mod divisors;
+mod mixed;
 mod ratio;
 
 pub use divisors::{gcd, lcm_within};
+pub use mixed::{Amount, Mixed, Moment};
 pub use ratio::{Ratio, Speed};
