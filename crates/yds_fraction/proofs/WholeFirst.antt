@@ -3,12 +3,14 @@ use Rattle.std.proofs.Common.{◌≡◌, ℕ, ◌+◌, ◌*◌, ◌<◌, ◌≤�
 use Rattle.std.specs.declared.cmp.Ordering.{Ordering}
 use Rattle.std.specs.declared.cmp.Ordering.TheVariants.{Less, Equal, Greater}
 use Rattle.std.specs.Ordering.{MatchOrdering, nat_cmp, ordering_then}
+use Rattle.std.specs.Int.{◌∣◌}
+use Rattle.yds_model.proofs.Fractions.{order_of_values, equality_of_values}
 use Rattle.std.specs.Cmp.{nat_cmp_is}
 use Rattle.std.proofs.lemmas.Cmp.{ranked}
 use Rattle.std.proofs.Math.Nat.{mul-le-mul_right, mul-lt-mul_of_pos_right}
-use Rattle.yds_model.specs.Scale.{Fraction, Quotient, numerator, IsLess, IsSame, IsLessQuotient, IsSameQuotient}
-use Rattle.yds_fraction.specs.Order.{parts, quotient_cmp, fraction_cmp}
-use Rattle.yds_fraction.specs.Mixed.{IsMixed}
+use Rattle.yds_model.specs.Scale.{Fraction, Quotient, at_scale, numerator, IsLess, IsSame, IsLessQuotient, IsSameQuotient}
+use Rattle.yds_fraction.specs.Order.{parts, quotient_cmp, fraction_cmp, OrderOfQuotients, OrderOfFractions}
+use Rattle.yds_fraction.specs.Mixed.{IsMixed, AtScales}
 
 -- the lesser whole part is below by one at least
 lesser_whole : (w n d v m e : ℕ) → n < d → 1 ≤ e → w < v → (w * d + n) * e < (v * e + m) * d
@@ -53,3 +55,25 @@ pub MatchOrdering-fractions : (x y : Fraction) (r : Ordering) → 1 ≤ x.den �
     MatchOrdering r (IsLess x y) (IsSame x y) (IsLess y x)
 MatchOrdering-fractions x y r some_x some_y e =
     MatchOrdering-quotients (record { num = numerator x; den = x.den }) (record { num = numerator y; den = y.den }) r some_x some_y e
+
+pub compared : (most_den : ℕ) (x y : Fraction) (r : Ordering) → IsMixed most_den x → IsMixed most_den y →
+    r ≡ ordering_then (nat_cmp x.whole y.whole) (nat_cmp (x.num * y.den) (y.num * x.den)) → r ≡ fraction_cmp x y
+compared most_den x y r kept_x kept_y e = e ∙ whole_first most_den x y kept_x kept_y
+
+order_at : (x y : Fraction) (scale : ℕ) (r : Ordering) → 1 ≤ scale → x.den ∣ scale → y.den ∣ scale →
+    MatchOrdering r (IsLess x y) (IsSame x y) (IsLess y x) →
+    MatchOrdering r (at_scale scale x < at_scale scale y) (at_scale scale x ≡ at_scale scale y) (at_scale scale y < at_scale scale x)
+order_at x y scale Less positive dx dy h = (order_of_values x y scale positive dx dy).0 h
+order_at x y scale Equal positive dx dy h = (equality_of_values x y scale positive dx dy).0 h
+order_at x y scale Greater positive dx dy h = (order_of_values y x scale positive dy dx).0 h
+
+-- the answer of `cmp` and `==` at each common scale
+pub order_at_scales : (x y : Fraction) (r : Ordering) → MatchOrdering r (IsLess x y) (IsSame x y) (IsLess y x) →
+    AtScales x y (λ scale. MatchOrdering r (at_scale scale x < at_scale scale y) (at_scale scale x ≡ at_scale scale y) (at_scale scale y < at_scale scale x))
+order_at_scales x y r h scale positive dx dy = order_at x y scale r positive dx dy h
+
+pub order_of_quotients : OrderOfQuotients
+order_of_quotients x y some_x some_y = MatchOrdering-quotients x y (quotient_cmp x y) some_x some_y refl
+
+pub order_of_fractions : OrderOfFractions
+order_of_fractions x y some_x some_y = MatchOrdering-fractions x y (fraction_cmp x y) some_x some_y refl

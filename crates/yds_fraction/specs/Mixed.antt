@@ -1,7 +1,8 @@
 -- What a `Mixed` keeps, and what its operators give.
 use Rattle.std.specs.Prelude.{◌≡◌, ℕ, ◌+◌, ◌*◌, ◌/◌, ◌<◌, ◌≤◌, ◌⊎◌, ◌==◌, if◌then◌else◌, max}
+use Rattle.std.specs.Int.{◌∣◌}
 use Rattle.yds_model.specs.declared.limits.TheConstants.{MAX_DENOMINATOR, MAX_WHOLE}
-use Rattle.yds_model.specs.Scale.{Fraction, IsAtMost, IsSum, IsMultiple}
+use Rattle.yds_model.specs.Scale.{Fraction, at_scale, IsAtMost, IsSum, IsMultiple}
 
 -- a greatest denominator that a type may have
 pub record IsLimit (most_den : ℕ) : Type 0 where
@@ -36,6 +37,14 @@ common_den x y = max x.den y.den
 abbrev pub whole_of_sum : Fraction → Fraction → ℕ
 whole_of_sum x y = x.whole + y.whole + (x.num + y.num) / common_den x y
 
+-- P holds of each common scale of x and y
+abbrev pub AtScales : Fraction → Fraction → (ℕ → Type 0) → Type 0
+AtScales x y P = (scale : ℕ) → 1 ≤ scale → x.den ∣ scale → y.den ∣ scale → P scale
+
+-- and each is a scale of z too
+abbrev pub AtScalesWith : Fraction → Fraction → Fraction → (ℕ → Type 0) → Type 0
+AtScalesWith x y z P = AtScales x y (λ scale. (z.den ∣ scale) × P scale)
+
 pub record CanAdd (x y : Fraction) : Type 0 where
   pub alike : AreAlike x y
   pub fits : whole_of_sum x y ≤ MAX_WHOLE
@@ -43,6 +52,7 @@ pub record CanAdd (x y : Fraction) : Type 0 where
 -- z is x + y, in the greater of the two denominators, or whole
 pub record Adds (most_den : ℕ) (x y z : Fraction) : Type 0 where
   pub sum : IsSum x y z
+  pub at_scales : AtScalesWith x y z (λ scale. at_scale scale z ≡ at_scale scale x + at_scale scale y)
   pub parts : IsInParts (common_den x y) z
   pub whole : z.whole ≤ x.whole + y.whole + 1
   pub kept : IsMixed most_den z
@@ -54,6 +64,7 @@ pub record CanSubtract (x y : Fraction) : Type 0 where
 -- z is x - y, in the greater of the two denominators, or whole
 pub record Subtracts (most_den : ℕ) (x y z : Fraction) : Type 0 where
   pub difference : IsSum z y x
+  pub at_scales : AtScalesWith x y z (λ scale. at_scale scale z + at_scale scale y ≡ at_scale scale x)
   pub parts : IsInParts (common_den x y) z
   pub whole : z.whole ≤ x.whole
   pub kept : IsMixed most_den z
@@ -68,6 +79,14 @@ CanMultiply x k = whole_of_multiple k x ≤ MAX_WHOLE
 -- z is k * x, in the denominator of x, or whole
 pub record Multiplies (most_den : ℕ) (x : Fraction) (k : ℕ) (z : Fraction) : Type 0 where
   pub multiple : IsMultiple k x z
+  pub at_scales : AtScalesWith x x z (λ scale. at_scale scale z ≡ k * at_scale scale x)
   pub parts : IsInParts x.den z
   pub whole : z.whole ≡ whole_of_multiple k x
   pub kept : IsMixed most_den z
+
+-- The parts below one of a sum carry one at most, and those of k times a fraction k at most.
+abbrev pub SumCarriesOne : Type 0
+SumCarriesOne = (x y : Fraction) → x.num < x.den → y.num < y.den → whole_of_sum x y ≤ x.whole + y.whole + 1
+
+abbrev pub MultipleCarriesFactor : Type 0
+MultipleCarriesFactor = (k : ℕ) (x : Fraction) → x.num < x.den → whole_of_multiple k x ≤ k * (x.whole + 1)

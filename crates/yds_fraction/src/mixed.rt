@@ -2,13 +2,15 @@ ghost use Rattle.std.specs.Prelude.{◌≡◌, ◌<◌, ◌≤◌, ◌↔◌, Is
 ghost use Rattle.std.specs.Int.{◌∣◌, IsGcd};
 ghost use Rattle.std.specs.Cmp.{partial_equiv_from_equiv};
 ghost use Rattle.std.specs.Ordering.{MatchOrdering};
-ghost use Rattle.yds_model.specs.Scale.{of_whole, IsLess, IsSame};
+ghost use Rattle.yds_model.specs.Scale.{of_whole, at_scale, IsLess, IsSame};
 ghost use Rattle.yds_fraction.specs.Order.{fraction_cmp, fraction_same};
 ghost use Rattle.yds_fraction.specs.OrderLaws.{fraction_total, fraction_equivalence, fraction_order};
 ghost use Rattle.yds_fraction.specs.Mixed.{
   IsLimit,
   IsMixed,
   fraction_of,
+  AtScales,
+  AtScalesWith,
   AreAlike,
   CanAdd,
   Adds,
@@ -119,6 +121,8 @@ impl<const D: u64> Mixed<D> {
     /// The same value in lowest terms.
     pub fn reduced(self) -> Self
         ensures same { IsSame self.entry result }
+        ensures at_scales { AtScalesWith self.entry self.entry result
+            (λ scale. at_scale scale result ≡ at_scale scale self.entry) }
         ensures lowest { IsGcd result.num result.den 1 }
         ensures whole { result.whole ≡ self.entry.whole }
         ensures parts { result.den ∣ self.entry.den }
@@ -141,6 +145,8 @@ impl<const D: u64> PartialEq for Mixed<D> {
     fn eq(&self, other: &Self) -> bool
         ensures test { result ≡ fraction_same self.now other.now }
         ensures same { IsTrue result ↔ IsSame self.now other.now }
+        ensures at_scales { AtScales self.now other.now
+            (λ scale. IsTrue result ↔ (at_scale scale self.now ≡ at_scale scale other.now)) }
     {
         self.cmp(other).is_eq()
     }
@@ -175,6 +181,10 @@ impl<const D: u64> Ord for Mixed<D> {
             (IsLess self.now other.now)
             (IsSame self.now other.now)
             (IsLess other.now self.now) }
+        ensures at_scales { AtScales self.now other.now (λ scale. MatchOrdering result
+            (at_scale scale self.now < at_scale scale other.now)
+            (at_scale scale self.now ≡ at_scale scale other.now)
+            (at_scale scale other.now < at_scale scale self.now)) }
     {
         let left = u128::from(self.num) * u128::from(other.den);
         let right = u128::from(other.num) * u128::from(self.den);

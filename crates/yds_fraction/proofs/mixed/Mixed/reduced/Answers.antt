@@ -1,4 +1,5 @@
 use Rattle.yds_fraction.proofs.Lowest.{IsGcd-positive, IsGcd-lowest, IsSame-lowest, IsMixed-lowest, parts_divide}
+use Rattle.yds_fraction.proofs.Values.{same_at_scales}
 use Rattle.yds_fraction.proofs.mixed.Mixed.reduced.Goals as goal
 
 pub nonzero_div-result : goal.nonzero_div-result
@@ -24,3 +25,6 @@ returns-clause-parts g c = rw (← c.self.view_is) (parts_divide c.self.inside.d
 pub returns-clause-kept : goal.returns-clause-kept
 returns-clause-kept g c =
     IsMixed-lowest _ c.self.inside.whole c.self.inside.num c.self.inside.den c.gcd-divisor.result c.self.invariant c.gcd-divisor.ensures
+
+pub returns-clause-at_scales : goal.returns-clause-at_scales
+returns-clause-at_scales g c = same_at_scales c.args.self _ (returns-clause-parts g c) (returns-clause-same g c)
