@@ -1,5 +1,5 @@
 -- The laws of the definitions. Each is the contract of a public function of this crate.
-use Rattle.std.specs.Prelude.{◌≡◌, ℕ, ◌+◌, ◌*◌, ◌<◌, ◌≤◌, ◌↔◌, List, ◌++◌, length}
+use Rattle.std.specs.Prelude.{◌≡◌, ℕ, ◌+◌, ◌-◌, ◌*◌, ◌<◌, ◌≤◌, ◌↔◌, List, ◌++◌, length}
 use Rattle.std.specs.List.{All}
 use Rattle.std.specs.Int.{◌∣◌}
 use Rattle.yds_model.specs.Numbers.{AreDifferent}
@@ -12,6 +12,7 @@ use Rattle.yds_model.specs.Piece.{Piece, IsConfined, total_length}
 use Rattle.yds_model.specs.Level.{Level}
 use Rattle.yds_model.specs.Explains.{Explains}
 use Rattle.yds_model.specs.Proper.{IsProper}
+use Rattle.yds_model.specs.Table.{Point, point_at, AreRising, IsHullOf, IsAround, interpolated}
 
 -- Scale: reading a schedule at k times a scale keeps it feasible, both ways.
 abbrev pub ScaleKeepsFeasible : Type 0
@@ -83,3 +84,12 @@ abbrev pub LeastAmongWritten : Type 0
 LeastAmongWritten = (jobs : List Job) (slots others : List WrittenSlot) (scale p q : ℕ) → IsLeast jobs slots →
     IsFeasible jobs others → IsScale scale (slots ++ others) → 1 ≤ q →
     excess p q (slots_at scale slots) ≤ excess p q (slots_at scale others)
+
+-- Hull: at each speed, the power on the line between two neighbours of the hull is at most that on the line between any two
+-- of the points.
+abbrev pub HullIsLowest : Type 0
+HullIsLowest = (points hull : List Point) (p q i j k : ℕ) → AreRising points → IsHullOf points hull → 1 ≤ q →
+    i < j → j < length points → IsAround p q (point_at points i) (point_at points j) →
+    k + 1 < length hull → IsAround p q (point_at hull k) (point_at hull (k + 1)) →
+    interpolated p q (point_at hull k) (point_at hull (k + 1)) * ((point_at points j).speed - (point_at points i).speed)
+    ≤ interpolated p q (point_at points i) (point_at points j) * ((point_at hull (k + 1)).speed - (point_at hull k).speed)

@@ -8,4 +8,5 @@ pub mod Piece
 pub mod Level
 pub mod Explains
 pub mod Proper
+pub mod Table
 pub mod Laws
