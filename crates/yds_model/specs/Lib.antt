@@ -9,4 +9,6 @@ pub mod Level
 pub mod Explains
 pub mod Proper
 pub mod Table
+pub mod Lines
+pub mod Spelling
 pub mod Laws

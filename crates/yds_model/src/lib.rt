@@ -9,6 +9,8 @@
 mod job_row;
 pub mod limits;
 mod memory;
+mod number_fault;
 
 pub use job_row::JobRow;
 pub use memory::Memory;
+pub use number_fault::NumberFault;
