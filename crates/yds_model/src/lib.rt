@@ -6,11 +6,17 @@
 //! certificate shows. None of its calls takes memory.
 #![tactic(auto)]
 
+mod command;
 mod job_row;
 pub mod limits;
 mod memory;
 mod number_fault;
+mod reason;
+mod status;
 
+pub use command::Command;
 pub use job_row::JobRow;
 pub use memory::Memory;
 pub use number_fault::NumberFault;
+pub use reason::Reason;
+pub use status::Status;
