@@ -7,8 +7,10 @@
 #![tactic(auto)]
 
 mod job_row;
+mod laws;
 pub mod limits;
 mod memory;
 
 pub use job_row::JobRow;
+pub use laws::{confinement_bound, explained_is_least};
 pub use memory::Memory;

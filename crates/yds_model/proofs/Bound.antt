@@ -1,0 +1,44 @@
+-- The confinement bound, and what follows for a schedule that is explained.
+use Rattle.std.proofs.Common.{◌≡◌, ℕ, ◌+◌, ◌-◌, ◌*◌, ◌≤◌, List, get_or, arith, ap}
+use Rattle.std.specs.List.{sum_by}
+use Rattle.std.proofs.Math.Nat.{mul-le-mul_left}
+use Rattle.yds_model.specs.Numbers.{count}
+use Rattle.yds_model.specs.Job.{work_of}
+use Rattle.yds_model.specs.Slot.{WholeSlot}
+use Rattle.yds_model.specs.Excess.{excess}
+use Rattle.yds_model.specs.Laws.{ConfinementBound, ExplainedIsLeast}
+use Rattle.yds_model.proofs.Sums.{sum_by-add, sum_by-mul, sum_by-at_most}
+use Rattle.yds_model.proofs.Time.{time-within}
+use Rattle.yds_model.proofs.Group.{group, work-served}
+
+-- what a slot does above a speed, and what it does at that speed, is at least its work
+slot-bound : (p q often work time : ℕ) → often ≤ 1 → q * (often * work) ≤ (q * work - p * time) + p * (often * time)
+slot-bound p q often work time once = grind arith
+
+pub confinement-bound : ConfinementBound
+confinement-bound jobs scale p q slots members pieces positive different known confined feasible =
+    let work = λ (slot : WholeSlot). count slot.job members * slot.work in
+    let time = λ (slot : WholeSlot). count slot.job members * (slot.to - slot.from) in
+    let term = λ (slot : WholeSlot). q * slot.work - p * (slot.to - slot.from) in
+    omega (arith,
+      sum_by-at_most (λ slot. q * work slot) (λ slot. term slot + p * time slot) slots
+        (λ k d within. slot-bound p q (count (get_or slots k d).job members) (get_or slots k d).work
+          ((get_or slots k d).to - (get_or slots k d).from) (different (get_or slots k d).job)),
+      sum_by-add term (λ slot. p * time slot) slots,
+      sum_by-mul p time slots,
+      sum_by-mul q work slots,
+      ap (λ n. q * n) (work-served jobs scale slots members feasible.served known),
+      mul-le-mul_left p (time-within jobs scale members pieces slots positive different confined
+        feasible.one_at_a_time feasible.in_windows))
+
+-- the bound of the jobs that explain a schedule holds of every other
+pub explained-is-least : ExplainedIsLeast
+explained-is-least jobs slots levels explains scale divided =
+    let at = explains scale divided in
+    record {
+      feasible = at.feasible;
+      least = λ p q positive others feasible.
+        let forces = at.forced p q positive in
+        omega (arith, forces.exact,
+          confinement-bound jobs scale p q others _ _ divided.positive forces.different forces.known forces.confined feasible)
+    }

@@ -1,0 +1,5 @@
+pub mod Sums
+pub mod Lists
+pub mod Time
+pub mod Group
+pub mod Bound

@@ -1,0 +1,14 @@
+ghost use Rattle.yds_model.specs.Laws.{ConfinementBound, ExplainedIsLeast};
+
+/// Different jobs that are confined to pieces of time force, in every feasible schedule and above each
+/// speed, an excess of at least the work that the pieces don't take at that speed.
+pub fn confinement_bound()
+    ensures { ConfinementBound }
+{
+}
+
+/// A schedule that is explained is least.
+pub fn explained_is_least()
+    ensures { ExplainedIsLeast }
+{
+}
