@@ -3,3 +3,4 @@ pub mod Lists
 pub mod Time
 pub mod Group
 pub mod Bound
+pub mod Exact
