@@ -4,3 +4,4 @@ pub mod Time
 pub mod Group
 pub mod Bound
 pub mod Exact
+pub mod Front
