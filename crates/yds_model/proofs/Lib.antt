@@ -5,3 +5,4 @@ pub mod Group
 pub mod Bound
 pub mod Exact
 pub mod Front
+pub mod Explained

@@ -1,4 +1,4 @@
-ghost use Rattle.yds_model.specs.Laws.{ConfinementBound, ExplainedIsLeast};
+ghost use Rattle.yds_model.specs.Laws.{ConfinementBound, ExplainedIsLeast, ProperExplains};
 
 /// Different jobs that are confined to pieces of time force, in every feasible schedule and above each
 /// speed, an excess of at least the work that the pieces don't take at that speed.
@@ -10,5 +10,11 @@ pub fn confinement_bound()
 /// A schedule that is explained is least.
 pub fn explained_is_least()
     ensures { ExplainedIsLeast }
+{
+}
+
+/// A proper certificate explains its schedule.
+pub fn proper_explains()
+    ensures { ProperExplains }
 {
 }
