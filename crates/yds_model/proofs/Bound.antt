@@ -1,12 +1,14 @@
--- The confinement bound, and what follows for a schedule that is explained.
-use Rattle.std.proofs.Common.{◌≡◌, ℕ, ◌+◌, ◌-◌, ◌*◌, ◌≤◌, List, get_or, arith, ap}
+-- The confinement bound, and what follows for a schedule that is explained, against each other schedule.
+use Rattle.std.proofs.Common.{◌≡◌, ℕ, ◌+◌, ◌-◌, ◌*◌, ◌≤◌, List, ◌++◌, length, get_or, refl, arith, ap}
 use Rattle.std.specs.List.{sum_by}
+use Rattle.std.proofs.lemmas.List.{take_at, drop_at}
+use Rattle.std.proofs.lemmas.List.Elements.{All-take, All-drop}
 use Rattle.std.proofs.Math.Nat.{mul-le-mul_left}
 use Rattle.yds_model.specs.Numbers.{count}
 use Rattle.yds_model.specs.Job.{work_of}
-use Rattle.yds_model.specs.Slot.{WholeSlot}
+use Rattle.yds_model.specs.Slot.{WholeSlot, WrittenSlot, IsDivided, IsScale, slots_at}
 use Rattle.yds_model.specs.Excess.{excess}
-use Rattle.yds_model.specs.Laws.{ConfinementBound, ExplainedIsLeast}
+use Rattle.yds_model.specs.Laws.{ConfinementBound, ExplainedIsLeast, LeastAmongWritten}
 use Rattle.yds_model.proofs.Sums.{sum_by-add, sum_by-mul, sum_by-at_most}
 use Rattle.yds_model.proofs.Time.{time-within}
 use Rattle.yds_model.proofs.Group.{group, work-served}
@@ -42,3 +44,24 @@ explained-is-least jobs slots levels explains scale divided =
         omega (arith, forces.exact,
           confinement-bound jobs scale p q others _ _ divided.positive forces.different forces.known forces.confined feasible)
     }
+
+-- a scale of two schedules is one of each
+scale-left : (scale : ℕ) (slots others : List WrittenSlot) → IsScale scale (slots ++ others) → IsScale scale slots
+scale-left scale slots others is = record {
+  positive = is.positive;
+  divided = rw (take_at slots others (length slots) refl) at
+      (All-take (IsDivided scale) (length slots) (slots ++ others) is.divided);
+}
+
+scale-right : (scale : ℕ) (slots others : List WrittenSlot) → IsScale scale (slots ++ others) → IsScale scale others
+scale-right scale slots others is = record {
+  positive = is.positive;
+  divided = rw (drop_at slots others (length slots) refl) at
+      (All-drop (IsDivided scale) (length slots) (slots ++ others) is.divided);
+}
+
+-- at a scale of both, a written schedule is one of the others
+pub least-among-written : LeastAmongWritten
+least-among-written jobs slots others scale p q least feasible is positive =
+    (least scale (scale-left scale slots others is)).least p q positive (slots_at scale others)
+      (feasible scale (scale-right scale slots others is))

@@ -12,5 +12,5 @@ pub mod limits;
 mod memory;
 
 pub use job_row::JobRow;
-pub use laws::{confinement_bound, explained_is_least, proper_explains};
+pub use laws::{confinement_bound, explained_is_least, least_among_written, proper_explains};
 pub use memory::Memory;
