@@ -1,5 +1,5 @@
 -- Lists: how often a number stands in one, and facts about elements and pairs of lists that are joined.
-use Rattle.std.proofs.Common.{◌≡◌, ℕ, zero, suc, ◌+◌, ◌<◌, ◌≤◌, ◌==◌, List, [], ◌∷◌, ◌++◌, ◌∙◌, length, get_or, take, refl, arith, inl, inr, ap, add-one}
+use Rattle.std.proofs.Common.{◌≡◌, ℕ, suc, ◌+◌, ◌<◌, ◌≤◌, ◌==◌, List, [], ◌∷◌, ◌++◌, ◌∙◌, length, get_or, take, arith, inl, inr, ap, add-one}
 use Rattle.std.specs.List.{All, AllPairs, Any, Contains, flat_map}
 use Rattle.std.proofs.lemmas.List.{take_more, append-nil, length-append, get_or_append_left}
 use Rattle.std.proofs.lemmas.List.Concat.{flat_map-append}
@@ -15,21 +15,25 @@ pub count-cons : (number x : ℕ) (xs : List ℕ) → count number (x ∷ xs) �
 count-cons number x xs = sum_by-cons (λ other. cond (number == other) 1 0) x xs
 
 -- a number that is counted stands in the list
-pub counted-contains : (number : ℕ) (numbers : List ℕ) → 1 ≤ count number numbers → Contains numbers number
-counted-contains number [] h = absurd (omega arith)
-counted-contains number (x ∷ xs) h = elim (cases_eq number x) [
-    inl same ↦ (0, omega arith, cc)
+pub counted_contains : (number : ℕ) (numbers : List ℕ) → 1 ≤ count number numbers → Contains numbers number
+counted_contains number [] h = absurd (omega arith)
+counted_contains number (x ∷ xs) h = elim (cases_eq number x) [
+  | inl same ↦ (0, omega arith, cc)
   | inr other ↦
       let rest : 1 ≤ count number xs = omega (arith, count-cons number x xs, ap {B = ℕ} (λ b. cond b 1 0) (ne_eqb number x other)) in
-      let found = counted-contains number xs rest in
+      let found = counted_contains number xs rest in
       (suc found.0, omega (arith, found.1), found.2)
-  ]
+]
 
 -- some element of a list is one of a longer list
 pub Any-append_left : {X : Type 0} (P : X → Type 0) (xs ys : List X) → Any P xs → Any P (xs ++ ys)
-Any-append_left P xs ys some =
-    (some.0, some.1, omega (arith, some.2, length-append xs ys),
-      get_or_append_left xs ys some.1 some.0 some.2 ∙ some.3, some.4)
+Any-append_left P xs ys some = (
+  some.0,
+  some.1,
+  omega (arith, some.2, length-append xs ys),
+  get_or_append_left xs ys some.1 some.0 some.2 ∙ some.3,
+  some.4,
+)
 
 -- pairs of two lists together: those of each, and each of the second with each of the first
 pub AllPairs-append : {X : Type 0} (R : X → X → Type 0) (xs ys : List X) → AllPairs R xs → AllPairs R ys →
@@ -37,10 +41,10 @@ pub AllPairs-append : {X : Type 0} (R : X → X → Type 0) (xs ys : List X) →
 AllPairs-append R [] ys first second across = second
 AllPairs-append R (x ∷ xs) ys first second across =
     AllPairs-cons R x (xs ++ ys)
-      (All-append (R x) xs ys (λ k d within. first 0 (suc k) d (omega arith) (omega arith))
-        (λ k d within. across k d within 0 x (omega arith)))
-      (AllPairs-append R xs ys (λ i j d order within. first (suc i) (suc j) d (omega arith) (omega arith)) second
-        (λ k d within. All-tail (λ one. R one (get_or ys k d)) x xs (across k d within)))
+    (All-append (R x) xs ys (λ k d within. first 0 (suc k) d (omega arith) (omega arith))
+    (λ k d within. across k d within 0 x (omega arith)))
+    (AllPairs-append R xs ys (λ i j d order within. first (suc i) (suc j) d (omega arith) (omega arith)) second
+    (λ k d within. All-tail (λ one. R one (get_or ys k d)) x xs (across k d within)))
 
 -- one element more of a list, and what it stands for
 pub flat_map-take : {X A : Type 0} (f : X → List A) (xs : List X) (i : ℕ) (d : X) → i < length xs →

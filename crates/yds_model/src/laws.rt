@@ -4,24 +4,20 @@ ghost use Rattle.yds_model.specs.Laws.{ConfinementBound, ExplainedIsLeast, Least
 /// speed, an excess of at least the work that the pieces don't take at that speed.
 pub fn confinement_bound()
     ensures { ConfinementBound }
-{
-}
-
-/// A schedule that is explained is least.
-pub fn explained_is_least()
-    ensures { ExplainedIsLeast }
-{
-}
+{}
 
 /// A proper certificate explains its schedule.
 pub fn proper_explains()
     ensures { ProperExplains }
-{
-}
+{}
+
+/// A schedule that is explained is least.
+pub fn explained_is_least()
+    ensures { ExplainedIsLeast }
+{}
 
 /// A least schedule does no more work above any speed than any feasible written schedule, whatever the
 /// denominators of either are.
 pub fn least_among_written()
     ensures { LeastAmongWritten }
-{
-}
+{}
