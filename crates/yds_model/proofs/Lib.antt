@@ -1,1 +1,9 @@
 mod Examples
+pub mod Sums
+pub mod Lists
+pub mod Time
+pub mod Group
+pub mod Bound
+pub mod Exact
+pub mod Front
+pub mod Explained

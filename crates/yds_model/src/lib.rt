@@ -8,6 +8,7 @@
 
 mod command;
 mod job_row;
+mod laws;
 pub mod limits;
 mod memory;
 mod number_fault;
@@ -16,6 +17,7 @@ mod status;
 
 pub use command::Command;
 pub use job_row::JobRow;
+pub use laws::{confinement_bound, explained_is_least, least_among_written, proper_explains};
 pub use memory::Memory;
 pub use number_fault::NumberFault;
 pub use reason::Reason;
