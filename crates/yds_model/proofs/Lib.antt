@@ -7,3 +7,5 @@ pub mod Bound
 pub mod Exact
 pub mod Front
 pub mod Explained
+pub mod Fractions
+pub mod Scale
