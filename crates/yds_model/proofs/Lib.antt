@@ -9,3 +9,4 @@ pub mod Front
 pub mod Explained
 pub mod Fractions
 pub mod Scale
+pub mod Lines
