@@ -6,9 +6,11 @@
 //! certificate shows. None of its calls takes memory.
 #![tactic(auto)]
 
+mod hull_laws;
 mod job_row;
 pub mod limits;
 mod memory;
 
+pub use hull_laws::hull_is_lowest;
 pub use job_row::JobRow;
 pub use memory::Memory;
