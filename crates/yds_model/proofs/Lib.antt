@@ -10,3 +10,4 @@ pub mod Explained
 pub mod Fractions
 pub mod Scale
 pub mod Lines
+pub mod Hull

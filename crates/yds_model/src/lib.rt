@@ -7,6 +7,7 @@
 #![tactic(auto)]
 
 mod command;
+mod hull_laws;
 mod job_row;
 mod laws;
 pub mod limits;
@@ -17,6 +18,7 @@ mod status;
 mod scale_laws;
 
 pub use command::Command;
+pub use hull_laws::hull_is_lowest;
 pub use job_row::JobRow;
 pub use laws::{confinement_bound, explained_is_least, least_among_written, proper_explains};
 pub use memory::Memory;
