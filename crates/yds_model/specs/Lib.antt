@@ -20,6 +20,8 @@ pub mod Reading
 pub mod Event
 pub mod EarliestFirst
 pub mod Plan
+pub mod Audit
+pub mod Judgement
 pub mod Words
 pub mod OneJob
 pub mod PlanAnswer
