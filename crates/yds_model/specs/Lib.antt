@@ -22,6 +22,7 @@ pub mod EarliestFirst
 pub mod Plan
 pub mod Words
 pub mod OneJob
+pub mod OneJobPlan
 pub mod PlanAnswer
 pub mod Answer
 pub mod Laws
