@@ -11,3 +11,4 @@ pub mod Fractions
 pub mod Scale
 pub mod Lines
 pub mod Hull
+pub mod OneJob

@@ -24,6 +24,7 @@ pub mod Audit
 pub mod Judgement
 pub mod Words
 pub mod OneJob
+pub mod OneJobPlan
 pub mod PlanAnswer
 pub mod Answer
 pub mod Laws
