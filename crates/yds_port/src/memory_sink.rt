@@ -105,10 +105,8 @@ impl Sink for MemorySink {
         ensures settings { (self.new.room ≡ self.old.room) × (self.new.piece ≡ self.old.piece) × (self.new.failing ≡ self.old.failing) }
     {
         self.calls = self.calls.saturating_add(1);
-        let count = piece
-            .len()
-            .min(self.piece)
-            .min(self.room - self.bytes.len());
+        let room = self.room - self.bytes.len();
+        let count = piece.len().min(self.piece).min(room);
         if count == 0 || is_failing(&self.failing, self.calls) {
             self.faults = self.faults.saturating_add(1);
             return Given::Failed;
