@@ -33,8 +33,25 @@ IsAtMost x y = numerator x * y.den ≤ numerator y * x.den
 abbrev pub IsSame : Fraction → Fraction → Type 0
 IsSame x y = numerator x * y.den ≡ numerator y * x.den
 
+abbrev pub IsAtMost : Fraction → Fraction → Type 0
+IsAtMost x y = numerator x * y.den ≤ numerator y * x.den
+
 abbrev pub IsSum : Fraction → Fraction → Fraction → Type 0
 IsSum x y z = numerator z * (x.den * y.den) ≡ (numerator x * y.den + numerator y * x.den) * z.den
 
 abbrev pub IsMultiple : ℕ → Fraction → Fraction → Type 0
 IsMultiple k x z = numerator z * x.den ≡ k * numerator x * z.den
+
+-- `num/den`: a speed, in work per time unit. Order and equality by cross products.
+pub record Quotient : Type 0 where
+  pub num : ℕ
+  pub den : ℕ
+
+abbrev pub IsLessQuotient : Quotient → Quotient → Type 0
+IsLessQuotient x y = x.num * y.den < y.num * x.den
+
+abbrev pub IsSameQuotient : Quotient → Quotient → Type 0
+IsSameQuotient x y = x.num * y.den ≡ y.num * x.den
+
+abbrev pub IsAtMostQuotient : Quotient → Quotient → Type 0
+IsAtMostQuotient x y = x.num * y.den ≤ y.num * x.den

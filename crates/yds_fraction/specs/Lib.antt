@@ -1,0 +1,4 @@
+pub mod Divisors
+pub mod Order
+pub mod Ratio
+pub mod OrderLaws

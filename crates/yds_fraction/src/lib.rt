@@ -1,0 +1,11 @@
+//! Exact fractions: quotients of two bounded numbers, and written fractions with a whole part.
+//!
+//! It stands on `yds_model`. Its promise: each operator is that of the values. Equality and order go by cross
+//! products, and sums, differences, products and lowest terms are exact. No call takes memory.
+#![tactic(auto)]
+
+mod divisors;
+mod ratio;
+
+pub use divisors::{gcd, lcm_within};
+pub use ratio::{Ratio, Speed};
