@@ -22,6 +22,11 @@ pub mod EarliestFirst
 pub mod Plan
 pub mod Audit
 pub mod Judgement
+pub mod Energy
+pub mod Policy
+pub mod AverageRate
+pub mod OptimalAvailable
+pub mod Rounding
 pub mod Words
 pub mod OneJob
 pub mod OneJobPlan

@@ -33,9 +33,6 @@ IsAtMost x y = numerator x * y.den ≤ numerator y * x.den
 abbrev pub IsSame : Fraction → Fraction → Type 0
 IsSame x y = numerator x * y.den ≡ numerator y * x.den
 
-abbrev pub IsAtMost : Fraction → Fraction → Type 0
-IsAtMost x y = numerator x * y.den ≤ numerator y * x.den
-
 abbrev pub IsSum : Fraction → Fraction → Fraction → Type 0
 IsSum x y z = numerator z * (x.den * y.den) ≡ (numerator x * y.den + numerator y * x.den) * z.den
 
