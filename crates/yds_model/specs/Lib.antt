@@ -31,5 +31,8 @@ pub mod Words
 pub mod OneJob
 pub mod OneJobPlan
 pub mod PlanAnswer
+pub mod AuditAnswer
+pub mod RoundAnswer
+pub mod ReportAnswer
 pub mod Answer
 pub mod Laws
