@@ -2,3 +2,4 @@ pub mod Divisors
 pub mod Order
 pub mod Ratio
 pub mod OrderLaws
+pub mod Mixed

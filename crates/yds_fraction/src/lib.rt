@@ -5,7 +5,11 @@
 #![tactic(auto)]
 
 mod divisors;
+mod laws;
+mod mixed;
 mod ratio;
 
 pub use divisors::{gcd, lcm_within};
+pub use laws::{multiple_carries_factor, order_of_fractions, order_of_quotients, sum_carries_one};
+pub use mixed::{Amount, Mixed, Moment};
 pub use ratio::{Ratio, Speed};
