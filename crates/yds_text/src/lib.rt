@@ -8,6 +8,9 @@
 
 mod field;
 mod line;
+mod spelling;
 
 pub use field::{Field, Fields};
 pub use line::{Line, LineIter, lines};
+pub use spelling::{name, number, number_from};
+pub use yds_model::NumberFault;
