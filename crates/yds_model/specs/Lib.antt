@@ -11,4 +11,5 @@ pub mod Proper
 pub mod Table
 pub mod Lines
 pub mod Spelling
+pub mod TextLaws
 pub mod Laws

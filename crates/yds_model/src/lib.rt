@@ -10,7 +10,9 @@ mod job_row;
 pub mod limits;
 mod memory;
 mod number_fault;
+mod text_laws;
 
 pub use job_row::JobRow;
 pub use memory::Memory;
 pub use number_fault::NumberFault;
+pub use text_laws::{fields_are_slices, lines_are_slices};
