@@ -1,7 +1,8 @@
 -- A table of operating points, each a speed and its power, and the table's lower hull: the points that least energy uses.
 -- Two points around the ideal speed are enough: Ishihara and Yasuura (ISLPED 1998).
-use Rattle.std.specs.Prelude.{◌≡◌, ℕ, ◌+◌, ◌-◌, ◌*◌, ◌<◌, ◌≤◌, ◌⊎◌, List, [], ◌∷◌, length}
-use Rattle.std.specs.List.{slice_index_or}
+use Rattle.std.specs.Prelude.{◌≡◌, ℕ, ◌+◌, ◌-◌, ◌*◌, ◌<◌, ◌≤◌, ◌⊎◌, List, [], ◌∷◌, ◌++◌, length, Bool, nat_lt, if◌then◌else◌}
+use Rattle.std.specs.List.{slice_index_or, list_any}
+use Rattle.yds_model.specs.Divisor.{multiple_of_all}
 
 pub record Point : Type 0 where
   pub speed : ℕ
@@ -72,3 +73,29 @@ pub record IsAround (p q : ℕ) (low high : Point) : Type 0 where
 -- q times the power at the speed p/q on the line between the two points, times their distance
 abbrev pub interpolated : ℕ → ℕ → Point → Point → ℕ
 interpolated p q low high = low.power * (high.speed * q - p) + high.power * (p - low.speed * q)
+
+-- The hull, computed: a point is left out where it lies above the line between an earlier and a later point.
+abbrev pub is_above : Point → Point → Point → Bool
+is_above low high point =
+    nat_lt (low.power * (high.speed - point.speed) + high.power * (point.speed - low.speed)) (point.power * (high.speed - low.speed))
+
+abbrev pub is_left_out : List Point → Point → List Point → Bool
+is_left_out earlier point later = list_any (λ low. list_any (λ high. is_above low high point) later) earlier
+
+abbrev pub hull_after : List Point → List Point → List Point
+hull_after earlier [] = []
+hull_after earlier (point ∷ later) =
+    if is_left_out earlier point later then hull_after (earlier ++ point ∷ []) later else point ∷ hull_after (earlier ++ point ∷ []) later
+
+abbrev pub hull_of : List Point → List Point
+hull_of points = hull_after [] points
+
+-- the differences between the speeds of neighbours
+abbrev pub gaps_of : List Point → List ℕ
+gaps_of [] = []
+gaps_of (point ∷ []) = []
+gaps_of (point ∷ next ∷ points) = (next.speed - point.speed) ∷ gaps_of (next ∷ points)
+
+-- the least common multiple of the gaps of the hull, 1 for one point
+abbrev pub hull_multiple : List Point → ℕ
+hull_multiple points = multiple_of_all (gaps_of (hull_of points))

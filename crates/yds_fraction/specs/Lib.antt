@@ -1,0 +1,5 @@
+pub mod Divisors
+pub mod Order
+pub mod Ratio
+pub mod OrderLaws
+pub mod Mixed

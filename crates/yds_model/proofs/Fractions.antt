@@ -1,0 +1,117 @@
+-- What order, equality, sum and multiple of fractions say of their values at a scale.
+use Rattle.std.proofs.Common.{◌≡◌, ℕ, zero, suc, ◌+◌, ◌*◌, ◌/◌, ◌<◌, ◌≤◌, ap, sym, ◌∙◌, arith}
+use Rattle.std.specs.Prelude.{◌↔◌}
+use Rattle.std.specs.Int.{◌∣◌}
+use Rattle.std.proofs.Math.Nat.{div-mul_cancel, mul-pos, mul-lt-mul_of_pos_right, lt_of_mul-lt-mul_right, eq_of_mul-eq-mul_right}
+use Rattle.yds_model.specs.Scale.{Fraction, at_scale, numerator}
+use Rattle.yds_model.specs.Laws.{OrderIsOfValues, EqualityIsOfValues, SumIsOfValues, MultipleIsOfValues, OrderIsTransitive, EqualityIsTransitive, OrderAgreesWithEquality}
+
+-- a product that isn't 0 has no factor 0
+factor_positive : (quotient d scale : ℕ) → quotient * d ≡ scale → 1 ≤ scale → 1 ≤ d
+factor_positive quotient zero scale e positive = omega arith
+factor_positive quotient (suc d) scale e positive = omega arith
+
+pub den_positive : (scale d : ℕ) → 1 ≤ scale → d ∣ scale → 1 ≤ d
+den_positive scale d positive divides = factor_positive (scale / d) d scale (div-mul_cancel d divides) positive
+
+-- the value at a scale, times the denominator, is the numerator times the scale
+scaled : (whole num d quotient scale : ℕ) → quotient * d ≡ scale → (whole * scale + num * quotient) * d ≡ (whole * d + num) * scale
+scaled whole num d quotient scale e = omega (arith, ap (λ n. num * n) e)
+
+pub value-den : (scale : ℕ) (x : Fraction) → x.den ∣ scale → at_scale scale x * x.den ≡ numerator x * scale
+value-den scale x divides = scaled x.whole x.num x.den (scale / x.den) scale (div-mul_cancel x.den divides)
+
+-- numbers that are tied to two others by positive factors are ordered as those are
+pub tied_order : (a b k s u v : ℕ) → 1 ≤ s → 1 ≤ k → u * k ≡ a * s → v * k ≡ b * s → (a < b ↔ (u < v))
+tied_order a b k s u v some_s some_k e f = (
+  λ below. lt_of_mul-lt-mul_right k (rw (e, f) (mul-lt-mul_of_pos_right below some_s)),
+  λ below. lt_of_mul-lt-mul_right s (rw (← e, ← f) (mul-lt-mul_of_pos_right below some_k)),
+)
+
+pub tied_equality : (a b k s u v : ℕ) → 1 ≤ s → 1 ≤ k → u * k ≡ a * s → v * k ≡ b * s → (a ≡ b ↔ (u ≡ v))
+tied_equality a b k s u v some_s some_k e f = (
+  λ same. eq_of_mul-eq-mul_right k some_k u v (e ∙ ap (λ n. n * s) same ∙ sym f),
+  λ same. eq_of_mul-eq-mul_right s some_s a b (sym e ∙ ap (λ n. n * k) same ∙ f),
+)
+
+-- equations times a factor
+times : (u d a s e : ℕ) → u * d ≡ a * s → u * (d * e) ≡ a * e * s
+times u d a s e h = omega (arith, ap (λ n. n * e) h)
+
+times_left : (u d a s e : ℕ) → u * d ≡ a * s → u * (e * d) ≡ a * e * s
+times_left u d a s e h = omega (arith, ap (λ n. n * e) h)
+
+pub order_of_values : OrderIsOfValues
+order_of_values x y scale positive dx dy =
+    tied_order (numerator x * y.den) (numerator y * x.den) (x.den * y.den) scale (at_scale scale x) (at_scale scale y)
+    positive (mul-pos (den_positive scale x.den positive dx) (den_positive scale y.den positive dy))
+    (times (at_scale scale x) x.den (numerator x) scale y.den (value-den scale x dx))
+    (times_left (at_scale scale y) y.den (numerator y) scale x.den (value-den scale y dy))
+
+pub equality_of_values : EqualityIsOfValues
+equality_of_values x y scale positive dx dy =
+    tied_equality (numerator x * y.den) (numerator y * x.den) (x.den * y.den) scale (at_scale scale x) (at_scale scale y)
+    positive (mul-pos (den_positive scale x.den positive dx) (den_positive scale y.den positive dy))
+    (times (at_scale scale x) x.den (numerator x) scale y.den (value-den scale x dx))
+    (times_left (at_scale scale y) y.den (numerator y) scale x.den (value-den scale y dy))
+
+-- the value of a sum's two sides, over the three denominators
+sum_over : (u v a b d e f s : ℕ) → u * d ≡ a * s → v * e ≡ b * s → (u + v) * (d * e * f) ≡ (a * e + b * d) * f * s
+sum_over u v a b d e f s h k = omega (arith, ap (λ n. n * (e * f)) h, ap (λ n. n * (d * f)) k)
+
+value_over : (w c f g s : ℕ) → w * f ≡ c * s → w * (g * f) ≡ c * g * s
+value_over w c f g s h = omega (arith, ap (λ n. n * g) h)
+
+pub sum_of_values : SumIsOfValues
+sum_of_values x y z scale positive dx dy dz =
+    tied_equality (numerator z * (x.den * y.den)) ((numerator x * y.den + numerator y * x.den) * z.den) (x.den * y.den * z.den) scale
+    (at_scale scale z) (at_scale scale x + at_scale scale y)
+    positive (mul-pos (mul-pos (den_positive scale x.den positive dx) (den_positive scale y.den positive dy)) (den_positive scale z.den positive dz))
+    (value_over (at_scale scale z) (numerator z) z.den (x.den * y.den) scale (value-den scale z dz))
+    (sum_over (at_scale scale x) (at_scale scale y) (numerator x) (numerator y) x.den y.den z.den scale (value-den scale x dx) (value-den scale y dy))
+
+multiple_over : (k u a d f s : ℕ) → u * d ≡ a * s → k * u * (d * f) ≡ k * a * f * s
+multiple_over k u a d f s h = omega (arith, ap (λ n. k * (n * f)) h)
+
+pub multiple_of_values : MultipleIsOfValues
+multiple_of_values k x z scale positive dx dz =
+    tied_equality (numerator z * x.den) (k * numerator x * z.den) (x.den * z.den) scale (at_scale scale z) (k * at_scale scale x)
+    positive (mul-pos (den_positive scale x.den positive dx) (den_positive scale z.den positive dz))
+    (value_over (at_scale scale z) (numerator z) z.den x.den scale (value-den scale z dz))
+    (multiple_over k (at_scale scale x) (numerator x) x.den z.den scale (value-den scale x dx))
+
+-- a/d < b/e and b/e < c/f give a/d < c/f
+less_through : (a b c d e f : ℕ) → 1 ≤ d → 1 ≤ f → a * e < b * d → b * f < c * e → a * f < c * d
+less_through a b c d e f some_d some_f one two =
+    let first : a * e * f < b * d * f = mul-lt-mul_of_pos_right one some_f in
+    let second : b * f * d < c * e * d = mul-lt-mul_of_pos_right two some_d in
+    lt_of_mul-lt-mul_right e (omega arith)
+
+pub order_transitive : OrderIsTransitive
+order_transitive x y z dx _ dz one two =
+    less_through (numerator x) (numerator y) (numerator z) x.den y.den z.den dx dz one two
+
+same_through : (a b c d e f : ℕ) → 1 ≤ e → a * e ≡ b * d → b * f ≡ c * e → a * f ≡ c * d
+same_through a b c d e f some one two =
+    let first : a * e * f ≡ b * d * f = ap (λ n. n * f) one in
+    let second : b * f * d ≡ c * e * d = ap (λ n. n * d) two in
+    eq_of_mul-eq-mul_right e some (a * f) (c * d) (omega arith)
+
+pub equality_transitive : EqualityIsTransitive
+equality_transitive x y z _ dy _ one two =
+    same_through (numerator x) (numerator y) (numerator z) x.den y.den z.den dy one two
+
+-- b/e, which is a/d, stands to c/f as a/d does
+alike_left : (a b c d e f : ℕ) → a * e ≡ b * d → b * f * d ≡ a * f * e
+alike_left a b c d e f h = omega (arith, ap (λ n. n * f) h)
+
+alike_right : (c d e : ℕ) → c * e * d ≡ c * d * e
+alike_right c d e = omega arith
+
+pub order_agrees : OrderAgreesWithEquality
+order_agrees x y z dx dy dz same =
+    let left = alike_left (numerator x) (numerator y) (numerator z) x.den y.den z.den same in
+    let right = alike_right (numerator z) x.den y.den in (
+      tied_order (numerator x * z.den) (numerator z * x.den) x.den y.den (numerator y * z.den) (numerator z * y.den) dy dx left right,
+      tied_order (numerator z * x.den) (numerator x * z.den) x.den y.den (numerator z * y.den) (numerator y * z.den) dy dx right left,
+    )

@@ -1,0 +1,167 @@
+-- The law of scale: what a written schedule is at a multiple of one of its scales.
+use Rattle.std.proofs.Common.{◌≡◌, ℕ, ◌+◌, ◌-◌, ◌*◌, ◌/◌, ◌≤◌, List, [], ◌∷◌, map, ap, subst, sym, ◌∙◌, refl, arith, Bool, true, false}
+use Rattle.std.specs.Prelude.{sum_by, ◌==◌, if◌then◌else◌}
+use Rattle.std.specs.List.{AllByRecursion}
+use Rattle.std.specs.Int.{◌∣◌}
+use Rattle.std.proofs.lemmas.List.Sums.{sum_by-cons}
+use Rattle.std.proofs.lemmas.List.Elements.{recursion_from_All, All-from_recursion, All-nil, All-cons, All-weaker}
+use Rattle.std.proofs.Math.Nat.{mul-div_assoc, mul_comm, mul-zero, mul-pos, mul-sub, mul-le-mul_left, mul-lt-mul_of_pos_left, le_of_mul-le-mul_left, lt_of_mul-lt-mul_left, eq_of_mul-eq-mul_left, dvd-mul_left, dvd-mul_right, dvd-mul_left_of_dvd, dvd-mul_right_of_dvd}
+use Rattle.yds_model.specs.Job.{Job, job_at}
+use Rattle.yds_model.specs.Scale.{Fraction, at_scale}
+use Rattle.yds_model.specs.Slot.{WrittenSlot, WholeSlot, IsDivided, IsScale, IsSolid, slot_at_scale, slots_at, work_given}
+use Rattle.yds_model.specs.Feasible.{RunFrom, IsInWindow, IsFeasibleAt}
+use Rattle.yds_model.specs.Excess.{excess}
+use Rattle.yds_model.specs.Laws.{ScaleKeepsFeasible, ScaleMultipliesExcess, OneScaleDecides, ScaleExists}
+
+-- the slot in parts that are k times as fine
+abbrev pub finer : ℕ → WholeSlot → WholeSlot
+finer k slot = record { job = slot.job; from = k * slot.from; to = k * slot.to; work = k * slot.work }
+
+value_split : (whole num k scale quotient finer : ℕ) → finer ≡ k * quotient → whole * (k * scale) + num * finer ≡ k * (whole * scale + num * quotient)
+value_split whole num k scale quotient finer e = omega (arith, ap (λ n. num * n) e)
+
+-- a fraction at k times a scale of it
+pub finer_value : (k scale : ℕ) (x : Fraction) → x.den ∣ scale → at_scale (k * scale) x ≡ k * at_scale scale x
+finer_value k scale x divides = value_split x.whole x.num k scale (scale / x.den) (k * scale / x.den) (mul-div_assoc x.den k divides)
+
+pub finer_slot : (k scale : ℕ) (slot : WrittenSlot) → IsDivided scale slot → slot_at_scale (k * scale) slot ≡ finer k (slot_at_scale scale slot)
+finer_slot k scale slot divided =
+    cc (finer_value k scale slot.from divided.from, finer_value k scale slot.to divided.to, finer_value k scale slot.work divided.work)
+
+finer_each : (k scale : ℕ) (slots : List WrittenSlot) → AllByRecursion (IsDivided scale) slots →
+    slots_at (k * scale) slots ≡ map (finer k) (slots_at scale slots)
+finer_each k scale [] _ = refl
+finer_each k scale (slot ∷ slots) divided = cc (finer_slot k scale slot divided.0, finer_each k scale slots divided.1)
+
+pub finer_slots : (k scale : ℕ) (slots : List WrittenSlot) → IsScale scale slots → slots_at (k * scale) slots ≡ map (finer k) (slots_at scale slots)
+finer_slots k scale slots is = finer_each k scale slots (recursion_from_All (IsDivided scale) slots is.divided)
+
+-- what each finer slot has k times, they have k times together
+finer_sum : (k : ℕ) (f : WholeSlot → ℕ) → ((slot : WholeSlot) → f (finer k slot) ≡ k * f slot) → (slots : List WholeSlot) →
+    sum_by f (map (finer k) slots) ≡ k * sum_by f slots
+finer_sum k f each [] = omega arith
+finer_sum k f each (slot ∷ slots) =
+    omega (arith, sum_by-cons f (finer k slot) (map (finer k) slots), sum_by-cons f slot slots, each slot, finer_sum k f each slots, ap (λ n. k * n) (sum_by-cons f slot slots))
+
+excess_split : (k p q work from to : ℕ) → q * (k * work) - p * (k * to - k * from) ≡ k * (q * work - p * (to - from))
+excess_split k p q work from to =
+    rw (mul-sub k (q * work) (p * (to - from)), ← mul-sub k to from) (omega arith)
+
+finer_excess : (k p q : ℕ) (slots : List WholeSlot) → excess p q (map (finer k) slots) ≡ k * excess p q slots
+finer_excess k p q slots =
+    finer_sum k (λ slot. q * slot.work - p * (slot.to - slot.from)) (λ slot. excess_split k p q slot.work slot.from slot.to) slots
+
+given_split : (k work : ℕ) (mine : Bool) → (if mine then k * work else 0) ≡ k * (if mine then work else 0)
+given_split k work true = refl
+given_split k work false = omega arith
+
+finer_work : (k : ℕ) (slots : List WholeSlot) (job : ℕ) → work_given (map (finer k) slots) job ≡ k * work_given slots job
+finer_work k slots job =
+    finer_sum k (λ slot. if job == slot.job then slot.work else 0) (λ slot. given_split k slot.work (job == slot.job)) slots
+
+pub excess_scaled : ScaleMultipliesExcess
+excess_scaled slots scale k p q is = ap (excess p q) (finer_slots k scale slots is) ∙ finer_excess k p q (slots_at scale slots)
+
+shifted : (n k scale : ℕ) → n * (k * scale) ≡ k * (n * scale)
+shifted n k scale = omega arith
+
+-- Feasible at a scale is feasible at k times it, and back.
+run_finer : (k start : ℕ) (slots : List WholeSlot) → 1 ≤ k → RunFrom start slots → RunFrom (k * start) (map (finer k) slots)
+run_finer k start [] some run = tt
+run_finer k start (slot ∷ slots) some run =
+    (mul-le-mul_left k run.0, mul-lt-mul_of_pos_left run.1 some, run_finer k slot.to slots some run.2)
+
+run_coarser : (k start : ℕ) (slots : List WholeSlot) → 1 ≤ k → RunFrom (k * start) (map (finer k) slots) → RunFrom start slots
+run_coarser k start [] some run = tt
+run_coarser k start (slot ∷ slots) some run =
+    (le_of_mul-le-mul_left run.0 some, lt_of_mul-lt-mul_left k run.1, run_coarser k slot.to slots some run.2)
+
+window_finer : (jobs : List Job) (k scale : ℕ) (slot : WholeSlot) → IsInWindow jobs scale slot → IsInWindow jobs (k * scale) (finer k slot)
+window_finer jobs k scale slot window = record {
+  known = window.known;
+  released = rw (shifted (job_at jobs slot.job).release k scale) (mul-le-mul_left k window.released);
+  due = rw (shifted (job_at jobs slot.job).deadline k scale) (mul-le-mul_left k window.due);
+}
+
+window_coarser : (jobs : List Job) (k scale : ℕ) (slot : WholeSlot) → 1 ≤ k → IsInWindow jobs (k * scale) (finer k slot) → IsInWindow jobs scale slot
+window_coarser jobs k scale slot some window = record {
+  known = window.known;
+  released = le_of_mul-le-mul_left (rw (shifted (job_at jobs slot.job).release k scale) at window.released) some;
+  due = le_of_mul-le-mul_left (rw (shifted (job_at jobs slot.job).deadline k scale) at window.due) some;
+}
+
+windows_finer : (jobs : List Job) (k scale : ℕ) (slots : List WholeSlot) → AllByRecursion (IsInWindow jobs scale) slots →
+    AllByRecursion (IsInWindow jobs (k * scale)) (map (finer k) slots)
+windows_finer jobs k scale [] windows = tt
+windows_finer jobs k scale (slot ∷ slots) windows = (window_finer jobs k scale slot windows.0, windows_finer jobs k scale slots windows.1)
+
+windows_coarser : (jobs : List Job) (k scale : ℕ) (slots : List WholeSlot) → 1 ≤ k →
+    AllByRecursion (IsInWindow jobs (k * scale)) (map (finer k) slots) → AllByRecursion (IsInWindow jobs scale) slots
+windows_coarser jobs k scale [] some windows = tt
+windows_coarser jobs k scale (slot ∷ slots) some windows =
+    (window_coarser jobs k scale slot some windows.0, windows_coarser jobs k scale slots some windows.1)
+
+pub feasible_finer : (jobs : List Job) (k scale : ℕ) (slots : List WholeSlot) → 1 ≤ k → IsFeasibleAt jobs scale slots →
+    IsFeasibleAt jobs (k * scale) (map (finer k) slots)
+feasible_finer jobs k scale slots some feasible = record {
+  one_at_a_time = subst (λ (start : ℕ). RunFrom start (map (finer k) slots)) (mul-zero k) (run_finer k 0 slots some feasible.one_at_a_time);
+  in_windows = All-from_recursion (IsInWindow jobs (k * scale)) (map (finer k) slots)
+      (windows_finer jobs k scale slots (recursion_from_All (IsInWindow jobs scale) slots feasible.in_windows));
+  served = λ number known. finer_work k slots number ∙ ap (λ n. k * n) (feasible.served number known) ∙ sym (shifted (job_at jobs number).work k scale);
+}
+
+pub feasible_coarser : (jobs : List Job) (k scale : ℕ) (slots : List WholeSlot) → 1 ≤ k → IsFeasibleAt jobs (k * scale) (map (finer k) slots) →
+    IsFeasibleAt jobs scale slots
+feasible_coarser jobs k scale slots some feasible = record {
+  one_at_a_time = run_coarser k 0 slots some (subst (λ (start : ℕ). RunFrom start (map (finer k) slots)) (sym (mul-zero k)) feasible.one_at_a_time);
+  in_windows = All-from_recursion (IsInWindow jobs scale) slots
+      (windows_coarser jobs k scale slots some (recursion_from_All (IsInWindow jobs (k * scale)) (map (finer k) slots) feasible.in_windows));
+  served = λ number known. eq_of_mul-eq-mul_left k some (work_given slots number) ((job_at jobs number).work * scale)
+      (sym (finer_work k slots number) ∙ feasible.served number known ∙ shifted (job_at jobs number).work k scale);
+}
+
+pub feasible_scaled : ScaleKeepsFeasible
+feasible_scaled jobs slots scale k is some =
+    let e = finer_slots k scale slots is in (
+      λ feasible. subst (IsFeasibleAt jobs (k * scale)) (sym e) (feasible_finer jobs k scale (slots_at scale slots) some feasible),
+      λ feasible. feasible_coarser jobs k scale (slots_at scale slots) some (subst (IsFeasibleAt jobs (k * scale)) e feasible),
+    )
+
+-- up by the other scale, and down by the first
+pub one_scale_decides : OneScaleDecides
+one_scale_decides jobs slots scale is feasible other is_other =
+    let finest = (feasible_scaled jobs slots scale other is is_other.positive).0 feasible in
+    (feasible_scaled jobs slots other scale is_other is.positive).1
+    (subst (λ (both : ℕ). IsFeasibleAt jobs both (slots_at both slots)) (mul_comm other scale) finest)
+
+-- a multiple of a scale is one
+coarsest : (k scale : ℕ) (slot : WrittenSlot) → IsDivided scale slot → IsDivided (k * scale) slot
+coarsest k scale slot divided = record {
+  from = dvd-mul_left_of_dvd slot.from.den divided.from k;
+  to = dvd-mul_left_of_dvd slot.to.den divided.to k;
+  work = dvd-mul_left_of_dvd slot.work.den divided.work k;
+}
+
+product_divided : (scale : ℕ) (slot : WrittenSlot) → IsDivided (slot.from.den * slot.to.den * slot.work.den * scale) slot
+product_divided scale slot = record {
+  from = dvd-mul_right_of_dvd _ (dvd-mul_right_of_dvd _ (dvd-mul_right _ _) _) _;
+  to = dvd-mul_right_of_dvd _ (dvd-mul_right_of_dvd _ (dvd-mul_left _ _) _) _;
+  work = dvd-mul_right_of_dvd _ (dvd-mul_left _ _) _;
+}
+
+-- the product of all denominators is a scale
+scale_of : (slots : List WrittenSlot) → AllByRecursion IsSolid slots → (scale : ℕ) × IsScale scale slots
+scale_of [] _ = (1, record { positive = omega arith; divided = All-nil (IsDivided 1) })
+scale_of (slot ∷ slots) solid =
+    let rest = scale_of slots solid.1 in
+    let dens = slot.from.den * slot.to.den * slot.work.den in (
+      dens * rest.0,
+      record {
+        positive = mul-pos (mul-pos (mul-pos solid.0.from solid.0.to) solid.0.work) rest.1.positive;
+        divided = All-cons (IsDivided (dens * rest.0)) slot slots (product_divided rest.0 slot)
+            (All-weaker (IsDivided rest.0) (IsDivided (dens * rest.0)) (coarsest dens rest.0) slots rest.1.divided);
+      },
+    )
+
+pub scale_exists : ScaleExists
+scale_exists slots solid = scale_of slots (recursion_from_All IsSolid slots solid)

@@ -1,0 +1,34 @@
+-- Sums over a list: of sums, of multiples, and of terms that are compared one by one.
+use Rattle.std.proofs.Common.{◌≡◌, ℕ, ◌+◌, ◌*◌, ◌≤◌, List, [], ◌∷◌, refl, arith}
+use Rattle.std.specs.List.{All, sum_by}
+use Rattle.std.proofs.lemmas.List.Sums.{sum_by-cons}
+use Rattle.std.proofs.lemmas.List.Elements.{All-tail}
+use Rattle.std.proofs.Math.Nat.{mul-add}
+
+-- a sum of sums is the sum of the two
+pub sum_by-add : {X : Type 0} (f g : X → ℕ) (xs : List X) → sum_by (λ x. f x + g x) xs ≡ sum_by f xs + sum_by g xs
+sum_by-add f g [] = refl
+sum_by-add f g (x ∷ xs) = simp sum_by-cons (omega (arith, sum_by-add f g xs))
+
+-- a sum of multiples is the multiple of the sum
+pub sum_by-mul : {X : Type 0} (k : ℕ) (f : X → ℕ) (xs : List X) → sum_by (λ x. k * f x) xs ≡ k * sum_by f xs
+sum_by-mul k f [] = omega arith
+sum_by-mul k f (x ∷ xs) = simp sum_by-cons (omega (arith, sum_by-mul k f xs, mul-add k (f x) (sum_by f xs)))
+
+-- a sum of terms that are equal, each to its own
+pub sum_by_same : {X : Type 0} (f g : X → ℕ) (xs : List X) → All (λ x. f x ≡ g x) xs → sum_by f xs ≡ sum_by g xs
+sum_by_same f g [] h = refl
+sum_by_same f g (x ∷ xs) h =
+    simp sum_by-cons (omega (arith, h 0 x (omega arith), sum_by_same f g xs (All-tail (λ y. f y ≡ g y) x xs h)))
+
+-- a sum of terms that are at most others, each at most its own
+pub sum_by_at_most : {X : Type 0} (f g : X → ℕ) (xs : List X) → All (λ x. f x ≤ g x) xs → sum_by f xs ≤ sum_by g xs
+sum_by_at_most f g [] h = omega arith
+sum_by_at_most f g (x ∷ xs) h =
+    simp sum_by-cons (omega (arith, h 0 x (omega arith), sum_by_at_most f g xs (All-tail (λ y. f y ≤ g y) x xs h)))
+
+-- a sum of zeros
+pub sum_by_zero : {X : Type 0} (f : X → ℕ) (xs : List X) → All (λ x. f x ≡ 0) xs → sum_by f xs ≡ 0
+sum_by_zero f [] h = refl
+sum_by_zero f (x ∷ xs) h =
+    simp sum_by-cons (omega (arith, h 0 x (omega arith), sum_by_zero f xs (All-tail (λ y. f y ≡ 0) x xs h)))

@@ -1,0 +1,19 @@
+-- The greatest common divisor and the least common multiple.
+use Rattle.std.specs.Prelude.{ℕ, zero, suc, ◌*◌, ◌/◌, ◌%◌, List, [], ◌∷◌}
+
+-- Euclid's turns: the divisors of a and b are those of b and the rest of a by b. As many turns as b are enough.
+abbrev pub divisor_within : ℕ → ℕ → ℕ → ℕ
+divisor_within zero a b = a
+divisor_within (suc turns) a zero = a
+divisor_within (suc turns) a (suc b) = divisor_within turns (suc b) (a % suc b)
+
+abbrev pub common_divisor : ℕ → ℕ → ℕ
+common_divisor a b = divisor_within b a b
+
+abbrev pub common_multiple : ℕ → ℕ → ℕ
+common_multiple a b = a / common_divisor a b * b
+
+-- of all these numbers, 1 for none
+abbrev pub multiple_of_all : List ℕ → ℕ
+multiple_of_all [] = 1
+multiple_of_all (n ∷ numbers) = common_multiple n (multiple_of_all numbers)

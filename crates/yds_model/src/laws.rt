@@ -1,0 +1,23 @@
+ghost use Rattle.yds_model.specs.Laws.{ConfinementBound, ExplainedIsLeast, LeastAmongWritten, ProperExplains};
+
+/// Different jobs that are confined to pieces of time force, in every feasible schedule and above each
+/// speed, an excess of at least the work that the pieces don't take at that speed.
+pub fn confinement_bound()
+    ensures { ConfinementBound }
+{}
+
+/// A proper certificate explains its schedule.
+pub fn proper_explains()
+    ensures { ProperExplains }
+{}
+
+/// A schedule that is explained is least.
+pub fn explained_is_least()
+    ensures { ExplainedIsLeast }
+{}
+
+/// A least schedule does no more work above any speed than any feasible written schedule, whatever the
+/// denominators of either are.
+pub fn least_among_written()
+    ensures { LeastAmongWritten }
+{}
