@@ -44,7 +44,8 @@ impl<'a> Model for Fields<'a> {
 impl<'a> Fields<'a> {
     pub(crate) fn new(text: &'a [u8], line: u32) -> Fields<'a>
         requires { length text.now ≤ MAX_BYTES }
-        ensures { result ≡ map (placed line) (fields_of text.now) }
+        ensures value { result ≡ map (placed line) (fields_of text.now) }
+        ensures count { length result ≤ length text.now }
     {
         Fields {
             rest: text,

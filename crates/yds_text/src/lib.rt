@@ -14,3 +14,6 @@ pub use field::{Field, Fields};
 pub use line::{Line, LineIter, lines};
 pub use spelling::{name, number, number_from};
 pub use yds_model::NumberFault;
+
+#[cfg(test)]
+mod tests;

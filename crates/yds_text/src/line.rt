@@ -43,7 +43,8 @@ impl<'a> Model for LineIter<'a> {
 /// bytes. A carriage return directly before that end isn't part of the line.
 pub fn lines<'a>(bytes: &'a [u8]) -> LineIter<'a>
     requires { length bytes.now ≤ MAX_BYTES }
-    ensures { result ≡ map numbered (lines_of bytes.now) }
+    ensures value { result ≡ map numbered (lines_of bytes.now) }
+    ensures count { length result ≤ length bytes.now }
 {
     LineIter {
         bytes,
@@ -109,7 +110,9 @@ fn trim_return(text: &[u8]) -> &[u8]
 impl<'a> Line<'a> {
     /// The fields of the line: its longest runs of bytes other than spaces and tabs.
     pub fn fields(&self) -> Fields<'a>
-        ensures { result ≡ map (placed self.now.number) (fields_of self.now.text.now) }
+        ensures value { result ≡ map (placed self.now.number) (fields_of self.now.text.now) }
+        ensures count { length result ≤ length self.now.text.now }
+        ensures bounded { length result ≤ MAX_BYTES }
     {
         Fields::new(self.text, self.number)
     }
