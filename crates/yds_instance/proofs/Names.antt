@@ -1,10 +1,10 @@
 -- The number of a name, and what an instance keeps as a job with a new name comes.
-use Rattle.std.proofs.Common.{◌≡◌, ℕ, ◌+◌, ◌<◌, ◌≤◌, ◌⊎◌, Bool, true, false, cond, List, [], ◌∷◌, ◌++◌, Option, Some, None, Result, Ok, Err, is_ok, if◌then◌else◌, length, ltb, refl, sym, ap, ◌∙◌, inl, inr, arith, map}
+use Rattle.std.proofs.Common.{◌≡◌, ℕ, ◌+◌, ◌<◌, ◌≤◌, ◌⊎◌, Bool, true, false, cond, not, List, [], ◌∷◌, ◌++◌, Option, Some, None, Result, Ok, Err, is_ok, if◌then◌else◌, length, ltb, refl, sym, ap, ◌∙◌, inl, inr, arith, map}
 use Rattle.std.specs.List.{Contains, slice_index_or, prefix_len, position_or_len, position, list_any}
 use Rattle.std.specs.Option.{MatchOption}
 use Rattle.std.specs.Str.{bytes_eq}
 use Rattle.std.specs.Borrow.{Bor}
-use Rattle.std.proofs.lemmas.Bool.{cases_lt, false≢true, ltb-false}
+use Rattle.std.proofs.lemmas.Bool.{cases_lt, cases_Bool, false≢true, ltb-false}
 use Rattle.std.proofs.lemmas.Slice.Eq.{bytes_eq-Decides}
 use Rattle.std.proofs.lemmas.List.{length-map, map-append, length_push, get_or_push, get_or_append_left}
 use Rattle.std.proofs.lemmas.List.Sums.{fails_before_first}
@@ -14,7 +14,9 @@ use Rattle.std.proofs.lemmas.List.Elements.{All-push}
 use Rattle.indexmap.specs.IndexSet.{insert_key}
 use Rattle.yds_model.specs.Job.{Job, IsJob}
 use Rattle.yds_model.specs.declared.limits.TheConstants.{MAX_JOBS}
-use Rattle.yds_instance.specs.Named.{Named, IsName, IsInstance, AreDifferentNames, name_at, number_of}
+use Rattle.yds_instance.specs.Named.{Named, IsInstance, AreDifferentNames, number_of}
+use Rattle.yds_model.specs.Document.{name_at}
+use Rattle.yds_model.specs.Spelling.{is_name}
 
 -- # The number of a name
 
@@ -24,6 +26,26 @@ prefix_len-map p f (x ∷ xs) = ap (λ n. cond (p (f x)) (1 + n) 0) (prefix_len-
 
 pub position-map : {X Y : Type 0} (p : Y → Bool) (f : X → Y) (xs : List X) → position p (map f xs) ≡ position (λ x. p (f x)) xs
 position-map p f xs = rw (prefix_len-map, length-map) refl
+
+prefix_len-same : {X : Type 0} (p q : X → Bool) → ((x : X) → p x ≡ q x) → (xs : List X) → prefix_len p xs ≡ prefix_len q xs
+prefix_len-same p q same [] = refl
+prefix_len-same p q same (x ∷ xs) =
+    ap (λ b. cond b (1 + prefix_len p xs) 0) (same x) ∙ ap (λ n. cond (q x) (1 + n) 0) (prefix_len-same p q same xs)
+
+bytes_eq_comm : (a b : List ℕ) → bytes_eq a b ≡ bytes_eq b a
+bytes_eq_comm a b = elim (cases_Bool (bytes_eq a b)) [
+  | inl same ↦ same ∙ sym ((bytes_eq-Decides b a).1 (sym ((bytes_eq-Decides a b).0 same)))
+  | inr differ ↦ elim (cases_Bool (bytes_eq b a)) [
+    | inl alike ↦ absurd (false≢true (sym differ ∙ (bytes_eq-Decides a b).1 (sym ((bytes_eq-Decides b a).0 alike))))
+    | inr other ↦ differ ∙ sym other
+  ]
+]
+
+-- as the index tests, with the name on the left
+number_found : (names : List (List ℕ)) (name : List ℕ) → number_of names name ≡ position (bytes_eq name) names
+number_found names name =
+    ap (λ n. cond (ltb n (length names)) (Some n) None)
+    (prefix_len-same (λ other. not (bytes_eq other name)) (λ other. not (bytes_eq name other)) (λ other. ap not (bytes_eq_comm other name)) names)
 
 chosen : (b : Bool) (n : ℕ) → cond b (Some n) None ≡ None → b ≡ false
 chosen true n none = cc
@@ -35,7 +57,7 @@ position-None p xs none = ltb-false (position_or_len p xs) (length xs) (chosen (
 -- a name has no number exactly where no job has it
 pub others_differ : (names : List (List ℕ)) (name : List ℕ) → number_of names name ≡ None → (i : ℕ) (d : List ℕ) → i < length names → bytes_eq name (slice_index_or names i d) ≡ false
 others_differ names name none i d within =
-    let end : length names ≤ position_or_len (bytes_eq name) names = position-None (bytes_eq name) names none in
+    let end : length names ≤ position_or_len (bytes_eq name) names = position-None (bytes_eq name) names (sym (number_found names name) ∙ none) in
     fails_before_first (bytes_eq name) names i d (omega arith)
 
 not_contained : (names : List (List ℕ)) (name : List ℕ) → number_of names name ≡ None → Contains names name → ⊥
@@ -44,8 +66,8 @@ not_contained names name none (i, within, is) =
 
 has_name : (names : List (List ℕ)) (name : List ℕ) (number : ℕ) → number_of names name ≡ Some number → (number < length names) × (name_at names number ≡ name)
 has_name names name number is =
-    let found = position-Some (bytes_eq name) names number [] is in
-    (found.0, sym ((bytes_eq-Decides name (name_at names number)).0 found.1))
+    let found = position-Some (λ other. bytes_eq other name) names number [] is in
+    (found.0, (bytes_eq-Decides (name_at names number) name).0 found.1)
 
 pub number_says : (named : Named) (name : List ℕ) (number : Option ℕ) → IsInstance named → number ≡ number_of named.names name →
     MatchOption number (Contains named.names name → ⊥) (λ n. (n < length named.jobs) × (name_at named.names n ≡ name))
@@ -57,14 +79,15 @@ number_says named name (Some n) kept is =
 pub field_number : (keys : List (Bor (List ℕ))) (named : Named) (name : List ℕ) (number : Option ℕ) → map (λ key. key.now) keys ≡ named.names →
     number ≡ position (λ key. bytes_eq name key.now) keys → number ≡ number_of named.names name
 field_number keys named name number same is =
-    is ∙ sym (position-map (bytes_eq name) (λ key. key.now) keys) ∙ ap (λ names. number_of names name) same
+    is ∙ sym (position-map (bytes_eq name) (λ key. key.now) keys) ∙ sym (number_found (map (λ key. key.now) keys) name) ∙ ap (λ names. number_of names name) same
 
 -- # A job with a new name comes
 
 pub none_same : (keys : List (Bor (List ℕ))) (name : Bor (List ℕ)) → number_of (map (λ key. key.now) keys) name.now ≡ None →
     list_any (λ key. bytes_eq name.now key.now) keys ≡ false
 none_same keys name none =
-    let same : number_of (map (λ key. key.now) keys) name.now ≡ position (λ key. bytes_eq name.now key.now) keys = position-map (bytes_eq name.now) (λ key. key.now) keys in
+    let same : number_of (map (λ key. key.now) keys) name.now ≡ position (λ key. bytes_eq name.now key.now) keys =
+    number_found (map (λ key. key.now) keys) name.now ∙ position-map (bytes_eq name.now) (λ key. key.now) keys in
     let end : length keys ≤ position_or_len (λ key. bytes_eq name.now key.now) keys = position-None (λ key. bytes_eq name.now key.now) keys (sym same ∙ none) in
     list_any_none (λ key. bytes_eq name.now key.now) keys (λ k d within. fails_before_first (λ key. bytes_eq name.now key.now) keys k d (omega arith))
 
@@ -101,12 +124,12 @@ different_pushed names name different none i j i_within j_within same =
       ]
     ]
 
-pub instance_pushed : (named : Named) (name : List ℕ) (job : Job) → IsInstance named → length named.jobs < MAX_JOBS → IsName name → IsJob job →
+pub instance_pushed : (named : Named) (name : List ℕ) (job : Job) → IsInstance named → length named.jobs < MAX_JOBS → is_name name ≡ true → IsJob job →
     number_of named.names name ≡ None → IsInstance (record { names = named.names ++ name ∷ []; jobs = named.jobs ++ job ∷ [] })
 instance_pushed named name job kept room name_fits job_fits none = record {
   one_name_each = omega (arith, length_push named.names name, length_push named.jobs job, kept.one_name_each);
   few = omega (arith, length_push named.jobs job);
-  names_fit = All-push IsName named.names name kept.names_fit name_fits;
+  names_fit = All-push (λ other. is_name other ≡ true) named.names name kept.names_fit name_fits;
   jobs_fit = All-push IsJob named.jobs job kept.jobs_fit job_fits;
   different = different_pushed named.names name kept.different none;
 }

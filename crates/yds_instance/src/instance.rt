@@ -1,6 +1,8 @@
-ghost use Rattle.std.specs.Prelude.{◌≡◌, ℕ, ◌<◌, ◌≤◌, ◌↔◌, List, [], ◌∷◌, ◌++◌, Some, None, length, MatchOption, OnOk, IfOk, OnErr, IsErrOf};
+ghost use Rattle.std.specs.Prelude.{◌≡◌, ℕ, ◌<◌, ◌≤◌, ◌↔◌, List, [], ◌∷◌, ◌++◌, Some, None, length, MatchOption, OnOk, IfOk, OnErr, IsErrOf, IsTrue};
 ghost use Rattle.std.specs.List.{Contains};
-ghost use Rattle.yds_instance.specs.Named.{Named, IsName, IsInstance, name_at, number_of};
+ghost use Rattle.yds_model.specs.Document.{name_at};
+ghost use Rattle.yds_model.specs.Spelling.{is_name};
+ghost use Rattle.yds_instance.specs.Named.{Named, IsInstance, number_of};
 
 use crate::fault::AddFault;
 use indexmap::IndexSet;
@@ -47,7 +49,7 @@ impl<'a> Instance<'a> {
     /// new and `MAX_JOBS` jobs are there, and as `Memory` for want of memory, tried in this order. After
     /// each of them the instance is unchanged.
     pub fn add(&mut self, name: &'a str, row: JobRow) -> Result<u32, AddFault>
-        requires { IsName name.now }
+        requires { IsTrue (is_name name.now) }
         ensures number { IfOk result (λ number. number ≡ length self.old.jobs) }
         ensures last { OnOk result (self.new ≡ record { names = self.old.names ++ name.entry.now ∷ []; jobs = self.old.jobs ++ row ∷ [] }) }
         ensures new { OnOk result (number_of self.old.names name.entry.now ≡ None) }
