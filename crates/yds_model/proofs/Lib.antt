@@ -9,8 +9,10 @@ pub mod Front
 pub mod Explained
 pub mod Fractions
 pub mod Scale
+pub mod Divisor
 pub mod Lines
 pub mod Hull
 pub mod OneJob
+pub mod Plans
 pub mod Spelling
 pub mod TextLaws
