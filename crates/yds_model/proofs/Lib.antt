@@ -9,6 +9,10 @@ pub mod Front
 pub mod Explained
 pub mod Fractions
 pub mod Scale
+pub mod Grain
+pub mod Runs
+pub mod Verdicts
+pub mod Judgements
 pub mod Divisor
 pub mod Lines
 pub mod Hull

@@ -10,6 +10,7 @@ mod command;
 mod divisor_laws;
 mod hull_laws;
 mod job_row;
+mod judging_laws;
 mod laws;
 pub mod limits;
 mod memory;
@@ -24,7 +25,10 @@ pub use command::Command;
 pub use divisor_laws::{divisor_is_greatest, lowest_terms_are_one, multiple_is_least};
 pub use hull_laws::hull_is_lowest;
 pub use job_row::JobRow;
-pub use laws::{confinement_bound, explained_is_least, least_among_written, proper_explains};
+pub use judging_laws::{judgement_is_exact, table_verdict_is_exact, verdict_is_exact};
+pub use laws::{
+    confinement_bound, explained_is_least, least_among_written, proper_explains, served_at_speed,
+};
 pub use memory::Memory;
 pub use number_fault::NumberFault;
 pub use plan_laws::plans_are_least;
