@@ -12,6 +12,9 @@ pub mod Scale
 pub mod Grain
 pub mod Runs
 pub mod Verdicts
+pub mod FirstFailure
+pub mod OneVerdict
+pub mod OneJudgement
 pub mod Judgements
 pub mod Divisor
 pub mod Lines

@@ -1,5 +1,5 @@
 -- The laws of the definitions. Each is the contract of a public function of this crate.
-use Rattle.std.specs.Prelude.{◌≡◌, ℕ, ◌+◌, ◌-◌, ◌*◌, ◌/◌, ◌<◌, ◌≤◌, ◌↔◌, List, ◌++◌, length, Some, None}
+use Rattle.std.specs.Prelude.{◌≡◌, ℕ, ◌+◌, ◌-◌, ◌*◌, ◌/◌, ◌<◌, ◌≤◌, ◌↔◌, List, ◌++◌, length, Option, Some, None}
 use Rattle.std.specs.List.{All}
 use Rattle.std.specs.Int.{◌∣◌, IsGcd}
 use Rattle.yds_model.specs.Numbers.{AreDifferent}
@@ -14,8 +14,8 @@ use Rattle.yds_model.specs.Level.{Level, level_at}
 use Rattle.yds_model.specs.Explains.{Explains}
 use Rattle.yds_model.specs.Proper.{IsProper, AreLevels}
 use Rattle.yds_model.specs.Plan.{IsPlan}
-use Rattle.yds_model.specs.Audit.{Feasible, IsVerdict, IsOnTable, AreSlots}
-use Rattle.yds_model.specs.Judgement.{Accepted, IsJudgement}
+use Rattle.yds_model.specs.Audit.{Verdict, Feasible, IsVerdict, IsOnTable, AreSlots}
+use Rattle.yds_model.specs.Judgement.{Judgement, Accepted, IsJudgement}
 use Rattle.yds_model.specs.Table.{Point, point_at, AreRising, IsHullOf, IsAround, interpolated}
 
 -- Scale: reading a schedule at k times a scale keeps it feasible, both ways.
@@ -112,6 +112,16 @@ TableVerdictIsExact = (jobs : List Job) (points : List Point) (slots : List Writ
 abbrev pub JudgementIsExact : Type 0
 JudgementIsExact = (jobs : List Job) (slots : List WrittenSlot) (levels : List Level) → AreSlots (length jobs) slots → AreLevels jobs levels →
     (IsJudgement jobs slots levels Accepted ↔ IsProper jobs slots levels)
+
+-- Audit: two verdicts of the same jobs, table and slots are one.
+abbrev pub VerdictIsUnique : Type 0
+VerdictIsUnique = (jobs : List Job) (table : Option (List Point)) (slots : List WrittenSlot) (verdict other : Verdict) →
+    IsVerdict jobs table slots verdict → IsVerdict jobs table slots other → verdict ≡ other
+
+-- Check: two judgements of the same jobs, slots and levels are one.
+abbrev pub JudgementIsUnique : Type 0
+JudgementIsUnique = (jobs : List Job) (slots : List WrittenSlot) (levels : List Level) (judgement other : Judgement) →
+    IsJudgement jobs slots levels judgement → IsJudgement jobs slots levels other → judgement ≡ other
 
 -- A plan's schedule is least, and its levels explain it.
 abbrev pub PlansAreLeast : Type 0

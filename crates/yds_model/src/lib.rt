@@ -25,7 +25,10 @@ pub use command::Command;
 pub use divisor_laws::{divisor_is_greatest, lowest_terms_are_one, multiple_is_least};
 pub use hull_laws::hull_is_lowest;
 pub use job_row::JobRow;
-pub use judging_laws::{judgement_is_exact, table_verdict_is_exact, verdict_is_exact};
+pub use judging_laws::{
+    judgement_is_exact, judgement_is_unique, table_verdict_is_exact, verdict_is_exact,
+    verdict_is_unique,
+};
 pub use laws::{
     confinement_bound, explained_is_least, least_among_written, proper_explains, served_at_speed,
 };
