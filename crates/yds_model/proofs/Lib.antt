@@ -12,3 +12,4 @@ pub mod Scale
 pub mod Lines
 pub mod Hull
 pub mod OneJob
+pub mod Spelling

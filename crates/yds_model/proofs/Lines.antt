@@ -175,6 +175,25 @@ fields_from-first column (byte ∷ bytes) some =
           ∙ ap (λ (n : ℕ). record { column = column; text = take n (byte ∷ bytes) } ∷ fields_from (column + n) (drop n (byte ∷ bytes))) (sym more)
     ]
 
+-- with no field after them, the blanks at the front are all
+pub drop_blanks-none : (bytes : List ℕ) → position_or_len is_blank (drop (prefix_len is_blank bytes) bytes) ≡ 0 →
+    drop (prefix_len is_blank bytes) bytes ≡ []
+drop_blanks-none [] none = refl
+drop_blanks-none (byte ∷ bytes) none =
+    elim (cases_Bool (is_blank byte)) [
+      | inl blank ↦
+          let blanks : prefix_len is_blank (byte ∷ bytes) ≡ 1 + prefix_len is_blank bytes = rw blank refl in
+          let rest : drop (prefix_len is_blank (byte ∷ bytes)) (byte ∷ bytes) ≡ drop (prefix_len is_blank bytes) bytes =
+          ap (λ (n : ℕ). drop n (byte ∷ bytes)) blanks ∙ drop_next (prefix_len is_blank bytes) byte bytes in
+          rest ∙ drop_blanks-none bytes (sym (ap (position_or_len is_blank) rest) ∙ none)
+      | inr full ↦
+          let blanks : prefix_len is_blank (byte ∷ bytes) ≡ 0 = rw full refl in
+          let some : position_or_len is_blank (byte ∷ bytes) ≡ 1 + position_or_len is_blank bytes = rw full refl in
+          let same : position_or_len is_blank (drop (prefix_len is_blank (byte ∷ bytes)) (byte ∷ bytes)) ≡ position_or_len is_blank (byte ∷ bytes) =
+          ap (λ (n : ℕ). position_or_len is_blank (drop n (byte ∷ bytes))) blanks in
+          absurd (omega arith)
+    ]
+
 -- a field and the space after it
 pub fields_from-front : (column : ℕ) (field rest : List ℕ) → 0 < length field → All (λ byte. is_blank byte ≡ false) field →
     fields_from column (field ++ 32 ∷ rest) ≡ record { column = column; text = field } ∷ fields_from (column + length field + 1) rest
