@@ -10,12 +10,19 @@ use Rattle.yds_model.specs.OneJobPlan.{one_slot, one_level}
 use Rattle.yds_model.specs.PlanAnswer.{with_plan}
 use Rattle.yds_model.specs.Answer.{too_long_line, not_yet_line}
 use Rattle.yds_cli.specs.declared.named_job.NamedJob.{NamedJob}
+use Rattle.yds_cli.specs.declared.reader.OneJob.{OneJob}
+use Rattle.yds_cli.specs.declared.reader.OneJob.TheVariants.{Absent, Present}
 use Rattle.yds_cli.specs.declared.answer.Answer.{Answer}
 use Rattle.yds_cli.specs.declared.answer.Answer.TheVariants as answers
 
 -- the document of one job and nothing else
 abbrev pub document_of : NamedJob → Document
 document_of named = document_said (JobEntry named.name.now named.job ∷ [])
+
+-- the document that was read
+abbrev pub document_said_by : OneJob → Document
+document_said_by Absent = no_document
+document_said_by (Present named) = document_of named
 
 abbrev pub answer_text : Answer → List ℕ
 answer_text answers.Usage = usage_line

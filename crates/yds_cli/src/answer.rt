@@ -5,6 +5,7 @@ use crate::named_job::NamedJob;
 use yds_model::Status;
 
 /// What the program answers.
+#[derive(Drop)]
 pub enum Answer<'a> {
     /// The words name no command.
     Usage,

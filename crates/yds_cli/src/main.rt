@@ -8,8 +8,11 @@
 #![tactic(auto)]
 
 mod answer;
+mod compute;
+mod deliver;
 mod line;
 mod named_job;
+mod reader;
 mod run;
 mod words;
 mod writer;
