@@ -1,0 +1,78 @@
+-- A job that is read has a window.
+use Rattle.std.proofs.Common.{◌≡◌, ℕ, ◌<◌, List, [], ◌∷◌, Bool, true, false, Option, Some, None, Result, Ok, Err, refl, subst}
+use Rattle.std.specs.Prelude.{nat_lt}
+use Rattle.std.proofs.lemmas.Bool.{ltb-true}
+use Rattle.yds_model.specs.declared.reason.Reason.{Reason}
+use Rattle.yds_model.specs.declared.reason.Reason.TheVariants as reasons
+use Rattle.yds_model.specs.Lines.{Field, Line, fields_of}
+use Rattle.yds_model.specs.Entry.{Entry, JobEntry, PointEntry, SlotEntry, LevelEntry, PieceEntry, MemberEntry, TicksEntry, GridEntry, EnergyEntry}
+use Rattle.yds_model.specs.Reading.{Fault, Spot, ◌>>=◌, demand, Kind, JobLine, PointLine, SlotLine, LevelLine, PieceLine, MemberLine, TicksLine, RunLine, GridLine, EnergyLine, field_at, kind_of, read_job, read_kind, read_fields, read_line, refuse, on_line, may_follow, has_room, count_fields, fields_wanted}
+
+-- a job's window isn't empty
+abbrev pub HasWindow : Entry → Type 0
+HasWindow (JobEntry name job) = job.release < job.deadline
+HasWindow _ = Unit {0}
+
+-- what a step reads, if it reads something, has P
+pub record IfRead {A : Type 0} (P : A → Type 0) (step : Result A Spot) : Type 0 where
+  pub holds : (x : A) → step ≡ Ok x → P x
+
+-- what holds after each answer of a step holds after the step
+after : {A B : Type 0} (P : B → Type 0) (r : Result A Spot) (next : A → Result B Spot) → ((x : A) → IfRead P (next x)) → IfRead P (r >>= next)
+after P (Ok x) next holds = holds x
+after P (Err spot) next holds = record { holds = λ y fails. absurd (cc) }
+
+after_test : {B : Type 0} (P : B → Type 0) (test : Bool) (column : ℕ) (reason : Reason) (next : Bool → Result B Spot)
+    → (test ≡ true → IfRead P (next test)) → IfRead P (demand test column reason >>= next)
+after_test P true column reason next holds = holds refl
+after_test P false column reason next holds = record { holds = λ y fails. absurd (cc) }
+
+reads : (P : Entry → Type 0) (entry : Entry) → P entry → IfRead P (Ok entry)
+reads P entry holds = record { holds = λ other same. subst P (cc) holds }
+
+-- a refusal reads nothing
+refuses : (P : Entry → Type 0) (column : ℕ) (reason : Reason) → IfRead P (refuse column reason)
+refuses P column reason = record { holds = λ y fails. absurd (cc) }
+
+job_has_window : (earlier : List Entry) (fields : List Field) → IfRead HasWindow (read_job earlier fields)
+job_has_window earlier fields = search (after, after_test, reads, ltb-true) depth 12
+
+kind_has_window : (kind : Kind) (earlier : List Entry) (fields : List Field) → IfRead HasWindow (read_kind kind earlier fields)
+kind_has_window JobLine earlier fields = job_has_window earlier fields
+kind_has_window PointLine earlier fields = search (after, reads) depth 12
+kind_has_window SlotLine earlier fields = search (after, reads) depth 12
+kind_has_window LevelLine earlier fields = search (after, reads) depth 12
+kind_has_window PieceLine earlier fields = search (after, reads) depth 12
+kind_has_window MemberLine earlier fields = search (after, reads) depth 12
+kind_has_window TicksLine earlier fields = search (after, reads) depth 12
+kind_has_window RunLine earlier fields = search (after, reads) depth 12
+kind_has_window GridLine earlier fields = search (after, reads) depth 12
+kind_has_window EnergyLine earlier fields = search (after, reads) depth 12
+
+-- the fields of a line of this kind, if it is one
+abbrev read_as : List Entry → List Field → Option Kind → Result Entry Spot
+read_as earlier fields kind =
+    elim kind [
+      | None ↦ refuse (field_at fields 0).column reasons.UnknownKind
+      | Some kind ↦ do
+        placed ← demand (may_follow kind earlier) (field_at fields 0).column reasons.Misplaced
+        room ← demand (has_room kind earlier) (field_at fields 0).column reasons.TooMany
+        counted ← count_fields (fields_wanted kind) fields
+        read_kind kind earlier fields
+    ]
+
+as_has_window : (kind : Option Kind) (earlier : List Entry) (fields : List Field) → IfRead HasWindow (read_as earlier fields kind)
+as_has_window None earlier fields = refuses HasWindow (field_at fields 0).column reasons.UnknownKind
+as_has_window (Some kind) earlier fields = search (after, kind_has_window)
+
+fields_have_window : (earlier : List Entry) (fields : List Field) → IfRead HasWindow (read_fields earlier fields)
+fields_have_window earlier fields = as_has_window (kind_of (field_at fields 0).text) earlier fields
+
+window_on_line : (number : ℕ) (step : Result Entry Spot) (entry : Entry) → IfRead HasWindow step → on_line number step ≡ Ok entry → HasWindow entry
+window_on_line number (Ok x) entry read same = subst HasWindow (cc) (read.holds x refl)
+window_on_line number (Err spot) entry read same = absurd (cc)
+
+-- what a line says has a window, where it is a job
+pub line_has_window : (earlier : List Entry) (line : Line) (entry : Entry) → read_line earlier line ≡ Ok entry → HasWindow entry
+line_has_window earlier line entry same =
+    window_on_line line.number (read_fields earlier (fields_of line.text)) entry (fields_have_window earlier (fields_of line.text)) same
