@@ -5,3 +5,6 @@ pub mod Windows
 pub mod Answered
 pub mod Complete
 pub mod Headline
+pub mod Fields
+pub mod LiveLines
+pub mod JobLine
