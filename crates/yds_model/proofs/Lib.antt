@@ -13,3 +13,4 @@ pub mod Lines
 pub mod Hull
 pub mod OneJob
 pub mod Spelling
+pub mod TextLaws
