@@ -12,7 +12,7 @@ use Rattle.yds_model.specs.Spelling.{number_at, is_name}
 use Rattle.yds_model.specs.Entry.{Entry, JobEntry, document_said}
 use Rattle.yds_model.specs.OneJob.{said_by_job, said_by_line}
 use Rattle.yds_model.specs.Reading.{Spot, ◌>>=◌, demand, Kind, JobLine, PointLine, SlotLine, LevelLine, PieceLine, MemberLine, TicksLine, RunLine, GridLine, EnergyLine, field_at, kind_of, kind_among, kind_words, read_job, read_fields, read_line, on_line}
-use Rattle.yds_cli.specs.OneJobLine.{said_by_five, said_by_field_texts, field_texts}
+use Rattle.yds_cli.specs.OneJobLine.{texts_of, said_by_five, said_by_field_texts, field_texts}
 use Rattle.yds_cli.proofs.Windows.{IfRead, Suits, read_as, as_suits}
 
 abbrev pub said_by_read : Result Entry Spot → Option Document
@@ -36,9 +36,6 @@ five_say kind name release deadline work true (Ok r) (Err e) w job is_named er e
 five_say kind name release deadline work true (Ok r) (Ok d) (Err e) job is_named er ed ew = rw (is_named, job, er, ed, ew) refl
 five_say kind name release deadline work true (Ok r) (Ok d) (Ok w) job is_named er ed ew =
     rw (is_named, job, er, ed, ew) (window_says (nat_lt r d) _ _ _ _)
-
-abbrev texts_of : List Field → List (List ℕ)
-texts_of fields = map (λ field. field.text) fields
 
 -- a line whose kind is that of jobs
 job_says : (fields : List Field) → bytes_eq (codes "job") (field_at fields 0).text ≡ true

@@ -1,13 +1,12 @@
--- What the lines of a document of at most one job say, by the bytes of their fields alone.
-use Rattle.std.specs.Prelude.{ℕ, List, [], ◌∷◌, codes, map, Option, Some, None, ◌&&◌, not, nat_lt, if◌then◌else◌, filter}
+-- What a line says alone in a document, by the bytes of its fields.
+use Rattle.std.specs.Prelude.{ℕ, List, [], ◌∷◌, codes, map, Option, Some, None, ◌&&◌, nat_lt, if◌then◌else◌}
 use Rattle.std.specs.Result.{result_ok}
 use Rattle.std.specs.Str.{bytes_eq}
 use Rattle.yds_model.specs.declared.limits.TheConstants.{MAX_TIME, MAX_WORK}
 use Rattle.yds_model.specs.Lines.{Field, fields_of}
 use Rattle.yds_model.specs.Spelling.{number_at, is_name}
-use Rattle.yds_model.specs.Document.{Document, no_document}
+use Rattle.yds_model.specs.Document.{Document}
 use Rattle.yds_model.specs.Entry.{JobEntry, document_said}
-use Rattle.yds_model.specs.Reading.{begins_comment}
 
 -- the document of one job, whose window isn't empty
 abbrev pub said_by_numbers : List ℕ → Option ℕ → Option ℕ → Option ℕ → Option Document
@@ -25,14 +24,8 @@ abbrev pub said_by_field_texts : List (List ℕ) → Option Document
 said_by_field_texts (kind ∷ name ∷ release ∷ deadline ∷ work ∷ []) = said_by_five kind name release deadline work
 said_by_field_texts _ = None
 
+abbrev pub texts_of : List Field → List (List ℕ)
+texts_of fields = map (λ field. field.text) fields
+
 abbrev pub field_texts : List ℕ → List (List ℕ)
-field_texts text = map (λ field. field.text) (fields_of text)
-
--- the lines that aren't skipped
-abbrev pub live_texts : List (List ℕ) → List (List ℕ)
-live_texts texts = filter (λ text. not (begins_comment (fields_of text))) texts
-
-abbrev pub said_by_texts : List (List ℕ) → Option Document
-said_by_texts [] = Some no_document
-said_by_texts (text ∷ []) = said_by_field_texts (field_texts text)
-said_by_texts (text ∷ next ∷ texts) = None
+field_texts text = texts_of (fields_of text)

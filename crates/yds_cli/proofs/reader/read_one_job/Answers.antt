@@ -8,12 +8,12 @@ returns-then-is_some c =
     (sym c.is_skipped.ensures ∙ c.if-is_skipped.false)
 
 pub returns-in_default : goal.returns-in_default
-returns-in_default c = says_none c.args.bytes.now _ _ c.loop-line.invariant.live c.in_default.is c.in-None.ensures.steps.0
+returns-in_default c = says_none c.args.bytes.now _ _ c.loop-line.invariant.live c.in_default.is c.in-None.ensures.steps.none
 
 pub returns-in-Some-read_line : goal.returns-in-Some-read_line
 returns-in-Some-read_line c =
-    c.in-Some-read_line.ensures ∙ says_one c.args.bytes.now _ _ _ c.loop-line.invariant.live c.in-Some-live.is c.in-None.ensures.steps.0
+    c.in-Some-read_line.ensures ∙ says_one c.args.bytes.now _ _ _ c.loop-line.invariant.live c.in-Some-live.is c.in-None.ensures.steps.none
 
 pub returns-in-None-read_line : goal.returns-in-None-read_line
 returns-in-None-read_line c =
-    c.in-None-read_line.ensures ∙ says_one c.args.bytes.now _ _ _ c.loop-line.invariant.live c.in-Some-live.is c.in-None.ensures.steps.0
+    c.in-None-read_line.ensures ∙ says_one c.args.bytes.now _ _ _ c.loop-line.invariant.live c.in-Some-live.is c.in-None.ensures.steps.none
