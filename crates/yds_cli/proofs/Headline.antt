@@ -18,15 +18,19 @@ use Rattle.yds_cli.specs.Run.{AnswersBytes}
 plan_text_holds : (input text : List ℕ) (document : Document) → one_job_document input ≡ Some document → IsPlanText document text → HoldsHeadline input text
 plan_text_holds input text document read planned =
     let proper = planned.2.plan.proper in
-    let explained = proper_explains document.jobs planned.0 planned.1 proper in
-    (document, planned.0, planned.1, record {
-      read = read;
-      written = planned.2.written;
-      feasible = proper.feasible;
-      least = explained_is_least document.jobs planned.0 planned.1 explained;
-      proper = proper;
-      explained = explained;
-    })
+    let explained = proper_explains document.jobs planned.0 planned.1 proper in (
+      document,
+      planned.0,
+      planned.1,
+      record {
+        read = read;
+        written = planned.2.written;
+        feasible = proper.feasible;
+        least = explained_is_least document.jobs planned.0 planned.1 explained;
+        proper = proper;
+        explained = explained;
+      },
+    )
 
 document_holds : (input text : List ℕ) (read : Option Document) → one_job_document input ≡ read → AnswersDocument Plan read text Done → HoldsHeadline input text
 document_holds input text None read answers = let refused = answers.ended in absurd (cc)
@@ -40,10 +44,12 @@ input_holds input text false answers = document_holds input text (one_job_docume
 plan_holds : (left old new : Option (List ℕ)) (flushed : Option ℕ) → IfSome left (λ input. AnswersBytes (Some Plan) input Done old new flushed)
     → IfSome left (λ input. (text : List ℕ) × Appends old new text × HoldsHeadline input text)
 plan_holds None old new flushed answered = tt
-plan_holds (Some input) old new flushed answered =
-    (answered.text, answered.outcome.whole,
-      input_holds input answered.text (nat_lt MAX_INPUT (length input))
-      (subst (λ status. AnswersInput Plan (nat_lt MAX_INPUT (length input)) input answered.text status) answered.outcome.said answered.answers))
+plan_holds (Some input) old new flushed answered = (
+  answered.text,
+  answered.outcome.whole,
+  input_holds input answered.text (nat_lt MAX_INPUT (length input))
+      (subst (λ status. AnswersInput Plan (nat_lt MAX_INPUT (length input)) input answered.text status) answered.outcome.said answered.answers),
+)
 
 pub done_holds : (words : List (List ℕ)) (result : Status) (left old new : Option (List ℕ)) (flushed : Option ℕ)
     → words ≡ codes "plan" ∷ [] → result ≡ Done → IfSome left (λ input. AnswersBytes (command_of words) input result old new flushed)
@@ -51,4 +57,4 @@ pub done_holds : (words : List (List ℕ)) (result : Status) (left old new : Opt
 done_holds words result left old new flushed plan done answered =
     plan_holds left old new flushed
     (subst (λ result. IfSome left (λ input. AnswersBytes (Some Plan) input result old new flushed)) done
-      (subst (λ words. IfSome left (λ input. AnswersBytes (command_of words) input result old new flushed)) plan answered))
+    (subst (λ words. IfSome left (λ input. AnswersBytes (command_of words) input result old new flushed)) plan answered))

@@ -18,11 +18,10 @@ mod words;
 mod writer;
 
 use run::run;
-use std::env;
-use std::io;
 use std::io::ErrorKind;
 use std::process::ExitCode;
 use std::rt::Env;
+use std::{env, io};
 use yds_model::Status;
 use yds_port::{StdSink, StdSource};
 

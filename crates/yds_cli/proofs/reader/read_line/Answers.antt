@@ -19,21 +19,39 @@ returns-in_err-release c =
 pub returns-in_err-deadline : goal.returns-in_err-deadline
 returns-in_err-deadline c =
     no_job _ c.args.line.now.text.now _ c.from_residual-in_err-deadline.ensures c.fields-fields.ensures.fields
-    (inl (omega (arith, ap length c.in_ok-kind.ensures.steps.first, ap length c.in_ok-name.ensures.steps.first, ap length c.in_ok-release.ensures.steps.first,
-      ap length c.in_err-deadline.ensures.steps.none)))
+    (inl (omega (
+      arith,
+      ap length c.in_ok-kind.ensures.steps.first,
+      ap length c.in_ok-name.ensures.steps.first,
+      ap length c.in_ok-release.ensures.steps.first,
+      ap length c.in_err-deadline.ensures.steps.none,
+    )))
 
 pub returns-in_err-work : goal.returns-in_err-work
 returns-in_err-work c =
     no_job _ c.args.line.now.text.now _ c.from_residual-in_err-work.ensures c.fields-fields.ensures.fields
-    (inl (omega (arith, ap length c.in_ok-kind.ensures.steps.first, ap length c.in_ok-name.ensures.steps.first, ap length c.in_ok-release.ensures.steps.first,
-      ap length c.in_ok-deadline.ensures.steps.first, ap length c.in_err-work.ensures.steps.none)))
+    (inl (omega (
+      arith,
+      ap length c.in_ok-kind.ensures.steps.first,
+      ap length c.in_ok-name.ensures.steps.first,
+      ap length c.in_ok-release.ensures.steps.first,
+      ap length c.in_ok-deadline.ensures.steps.first,
+      ap length c.in_err-work.ensures.steps.none,
+    )))
 
 pub returns-then-is_some : goal.returns-then-is_some
 returns-then-is_some c =
     let more : 0 < length c.next-5.new.self.fields = read_some _ _ _ (sym c.is_some.ensures ∙ c.if-is_some.true) c.next-6.ensures.steps in
     no_job _ c.args.line.now.text.now _ refl c.fields-fields.ensures.fields
-    (inr (omega (arith, more, ap length c.in_ok-kind.ensures.steps.first, ap length c.in_ok-name.ensures.steps.first, ap length c.in_ok-release.ensures.steps.first,
-      ap length c.in_ok-deadline.ensures.steps.first, ap length c.in_ok-work.ensures.steps.first)))
+    (inr (omega (
+      arith,
+      more,
+      ap length c.in_ok-kind.ensures.steps.first,
+      ap length c.in_ok-name.ensures.steps.first,
+      ap length c.in_ok-release.ensures.steps.first,
+      ap length c.in_ok-deadline.ensures.steps.first,
+      ap length c.in_ok-work.ensures.steps.first,
+    )))
 
 pub returns : goal.returns
 returns c =
