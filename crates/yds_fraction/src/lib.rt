@@ -13,3 +13,6 @@ pub use divisors::{gcd, lcm_within};
 pub use laws::{multiple_carries_factor, order_of_fractions, order_of_quotients, sum_carries_one};
 pub use mixed::{Amount, Mixed, Moment};
 pub use ratio::{Ratio, Speed};
+
+#[cfg(test)]
+mod tests;

@@ -5,6 +5,7 @@ ghost use Rattle.std.specs.Ordering.{MatchOrdering};
 ghost use Rattle.yds_model.specs.Scale.{of_whole, at_scale, IsLess, IsSame};
 ghost use Rattle.yds_fraction.specs.Order.{fraction_cmp, fraction_same};
 ghost use Rattle.yds_fraction.specs.OrderLaws.{fraction_total, fraction_equivalence, fraction_order};
+ghost use Rattle.yds_fraction.specs.Text.{fraction_text};
 ghost use Rattle.yds_fraction.specs.Mixed.{
   IsLimit,
   IsMixed,
@@ -22,6 +23,7 @@ ghost use Rattle.yds_fraction.specs.Mixed.{
 
 use crate::divisors::gcd;
 use std::cmp::Ordering;
+use std::fmt;
 use std::marker::Model;
 use std::ops::{Add, Mul, Sub};
 use yds_model::limits::{MAX_DENOMINATOR, MAX_WHOLE};
@@ -245,5 +247,18 @@ impl<const D: u64> Mul<u32> for Mixed<D> {
             (parts % den) as u64,
             self.den,
         )
+    }
+}
+
+/// As it is written: `whole`, or `whole+num/den` where `num` isn't 0.
+impl<const D: u64> fmt::Display for Mixed<D> {
+    ghost output = { λ x. Some (fraction_text x) };
+
+    fn fmt<W: fmt::Write>(&self, f: &mut fmt::Formatter<W>) -> fmt::Result {
+        if self.num == 0 {
+            write!(f, "{}", self.whole)
+        } else {
+            write!(f, "{}+{}/{}", self.whole, self.num, self.den)
+        }
     }
 }

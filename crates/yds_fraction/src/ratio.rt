@@ -3,12 +3,14 @@ ghost use Rattle.std.specs.Int.{IsGcd};
 ghost use Rattle.std.specs.Cmp.{partial_equiv_from_equiv};
 ghost use Rattle.std.specs.Ordering.{MatchOrdering};
 ghost use Rattle.yds_model.specs.Scale.{Quotient, IsLessQuotient, IsSameQuotient};
+ghost use Rattle.yds_fraction.specs.Text.{quotient_text};
 ghost use Rattle.yds_fraction.specs.Order.{quotient_cmp, quotient_same};
 ghost use Rattle.yds_fraction.specs.Ratio.{AreBounds, IsRatio, mediant_of};
 ghost use Rattle.yds_fraction.specs.OrderLaws.{quotient_total, quotient_equivalence, quotient_order};
 
 use crate::divisors::gcd;
 use std::cmp::Ordering;
+use std::fmt;
 use std::marker::Model;
 use yds_model::limits::{MAX_LEVEL_LENGTH, MAX_LEVEL_WORK};
 
@@ -139,5 +141,14 @@ impl<const N: u64, const D: u64> Ord for Ratio<N, D> {
         let left = u128::from(self.num) * u128::from(other.den);
         let right = u128::from(other.num) * u128::from(self.den);
         left.cmp(&right)
+    }
+}
+
+/// As it is written: `num/den`.
+impl<const N: u64, const D: u64> fmt::Display for Ratio<N, D> {
+    ghost output = { λ x. Some (quotient_text x) };
+
+    fn fmt<W: fmt::Write>(&self, f: &mut fmt::Formatter<W>) -> fmt::Result {
+        write!(f, "{}/{}", self.num, self.den)
     }
 }

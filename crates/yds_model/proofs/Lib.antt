@@ -9,8 +9,17 @@ pub mod Front
 pub mod Explained
 pub mod Fractions
 pub mod Scale
+pub mod Grain
+pub mod Runs
+pub mod Verdicts
+pub mod FirstFailure
+pub mod OneVerdict
+pub mod OneJudgement
+pub mod Judgements
+pub mod Divisor
 pub mod Lines
 pub mod Hull
 pub mod OneJob
+pub mod Plans
 pub mod Spelling
 pub mod TextLaws
