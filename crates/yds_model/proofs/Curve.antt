@@ -32,6 +32,7 @@ abbrev pub AreFalling : List Level → Type 0
 AreFalling [] = Unit {0}
 AreFalling (level ∷ levels) = (1 ≤ level.work) × (1 ≤ level.length) × IsAboveFirst level levels × AreFalling levels
 
+-- by recursion, from what holds at each place
 pub are_falling : (levels : List Level) → All (λ level. (1 ≤ level.work) × (1 ≤ level.length)) levels →
     Each (length levels) (IsSlower levels) → AreFalling levels
 are_falling [] positive falls = tt
@@ -54,6 +55,7 @@ slower_still p q work long next next_long some slow falls =
     let falls_not_above : next * long ≤ work * next_long = omega arith in
     le_of_mul-le-mul_right {k = long} (omega (arith, mul-le-mul_right q falls_not_above, mul-le-mul_right next_long slow)) some
 
+-- so the next of the levels is not either
 slow_rest : (p q : ℕ) (level : Level) (levels : List Level) → 1 ≤ level.length → level.work * q ≤ p * level.length →
     IsAboveFirst level levels → IsSlowFirst p q levels
 slow_rest p q level [] some slow falls = tt
@@ -70,6 +72,7 @@ pub record SumsUp (jobs : List Job) (level : Level) : Type 0 where
   pub work : level.work ≡ work_of jobs level.members
   pub long : level.length ≡ total_length level.pieces
 
+-- summed over them
 pub curve_above : (jobs : List Job) (p q : ℕ) (levels : List Level) → AreFalling levels → All (SumsUp jobs) levels →
     curve p q levels + p * total_length (all_pieces (levels_above p q levels)) ≡ q * work_of jobs (all_members (levels_above p q levels))
 curve_above jobs p q [] falling sums = omega arith
@@ -136,6 +139,7 @@ not_faster p q level levels none = omega (arith, none, sum_by-cons (λ (one : Le
 abbrev pub DoTheSame : List Level → List Level → Type 0
 DoTheSame levels others = (p q : ℕ) → 1 ≤ q → curve p q levels ≡ curve p q others
 
+-- the other first level isn't faster than this one
 first_speed : (level : Level) (levels : List Level) (other : Level) (others : List Level) → AreFalling (level ∷ levels) →
     DoTheSame (level ∷ levels) (other ∷ others) → level.length * other.work ≤ level.work * other.length
 first_speed level levels other others falling same =
@@ -175,6 +179,7 @@ same_rest level levels other others first same p q some =
 abbrev IsSameAt : List Level → List Level → ℕ → Type 0
 IsSameAt levels others i = ((level_at levels i).work ≡ (level_at others i).work) × ((level_at levels i).length ≡ (level_at others i).length)
 
+-- the first levels and the rest together
 same_each : (level : Level) (levels : List Level) (other : Level) (others : List Level) → (level.work ≡ other.work) × (level.length ≡ other.length) →
     Each (length levels) (IsSameAt levels others) → Each (length (level ∷ levels)) (IsSameAt (level ∷ levels) (other ∷ others))
 same_each level levels other others first rest zero within = first

@@ -14,14 +14,17 @@ use Rattle.yds_model.proofs.Explained.{proper_explains}
 use Rattle.yds_model.proofs.Scale.{scale_exists}
 use Rattle.yds_model.proofs.Curve.{curve, AreFalling, are_falling, SumsUp, curve_above, DoTheSame, same_levels}
 
+-- a plan's certificate is proper, so it explains the schedule, which is least
 pub plans_are_least : PlansAreLeast
 plans_are_least jobs slots levels plan =
     let explains = proper_explains jobs slots levels plan.proper in
     (explained_is_least jobs slots levels explains, explains)
 
+-- the speeds of a plan's levels fall
 plan_falls : (jobs : List Job) (slots : List WrittenSlot) (levels : List Level) → IsPlan jobs slots levels → AreFalling levels
 plan_falls jobs slots levels plan = are_falling levels plan.proper.well_formed.positive plan.falling
 
+-- each of its levels has its members' work and its pieces' length
 plan_sums_up : (jobs : List Job) (slots : List WrittenSlot) (levels : List Level) → IsPlan jobs slots levels → All (SumsUp jobs) levels
 plan_sums_up jobs slots levels plan =
     All-from_get_or (SumsUp jobs) levels no_level
@@ -54,6 +57,7 @@ plans_do_the_same jobs slots others levels others_levels scale plan other is p q
       two.least p q some (slots_at scale slots) one.feasible,
     ))
 
+-- at a scale of both schedules
 pub plans_have_the_same_levels : PlansHaveTheSameLevels
 plans_have_the_same_levels jobs slots others levels others_levels solid others_solid plan other =
     let scale = scale_exists (slots ++ others) (All-append IsSolid slots others solid others_solid) in
