@@ -67,12 +67,12 @@ curve_slow p q [] falling slow = refl
 curve_slow p q (level ∷ levels) falling slow =
     simp sum_by-cons (omega (arith, slow, curve_slow p q levels falling.3 (slow_rest p q level levels falling.1 slow falling.2)))
 
--- the levels above p/q do it all
+-- the level has its members' work and its pieces' length
 pub record SumsUp (jobs : List Job) (level : Level) : Type 0 where
   pub work : level.work ≡ work_of jobs level.members
   pub long : level.length ≡ total_length level.pieces
 
--- summed over them
+-- what levels do above p/q is what those above it do, their work less that at p/q
 pub curve_above : (jobs : List Job) (p q : ℕ) (levels : List Level) → AreFalling levels → All (SumsUp jobs) levels →
     curve p q levels + p * total_length (all_pieces (levels_above p q levels)) ≡ q * work_of jobs (all_members (levels_above p q levels))
 curve_above jobs p q [] falling sums = omega arith

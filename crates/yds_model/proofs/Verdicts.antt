@@ -143,7 +143,7 @@ all_stand_exactly jobs table slots are = (
 pub table_verdict_is_exact : TableVerdictIsExact
 table_verdict_is_exact jobs points slots are = all_stand_exactly jobs (Some points) slots are
 
--- without one, where each slot has any speed that it likes
+-- without one, where a slot may run at any speed
 pub verdict_is_exact : VerdictIsExact
 verdict_is_exact jobs slots are =
     let exact = all_stand_exactly jobs None slots are in
