@@ -50,7 +50,7 @@ explained_is_least jobs slots levels explains scale divided =
     }
 
 -- a scale of two schedules is one of the first
-scale_left : (scale : ℕ) (slots others : List WrittenSlot) → IsScale scale (slots ++ others) → IsScale scale slots
+pub scale_left : (scale : ℕ) (slots others : List WrittenSlot) → IsScale scale (slots ++ others) → IsScale scale slots
 scale_left scale slots others is = record {
   positive = is.positive;
   divided = rw (take_at slots others (length slots) refl) at
@@ -58,7 +58,7 @@ scale_left scale slots others is = record {
 }
 
 -- and of the other
-scale_right : (scale : ℕ) (slots others : List WrittenSlot) → IsScale scale (slots ++ others) → IsScale scale others
+pub scale_right : (scale : ℕ) (slots others : List WrittenSlot) → IsScale scale (slots ++ others) → IsScale scale others
 scale_right scale slots others is = record {
   positive = is.positive;
   divided = rw (drop_at slots others (length slots) refl) at

@@ -34,9 +34,11 @@ within_times t (suc turns) a (suc b) enough =
     IsGcd-from_mod (t * a) (t * suc b) (t * divisor_within turns (suc b) (a % suc b))
     (rw (mod_times t a (suc b) (omega arith)) (within_times t turns (suc b) (a % suc b) (omega arith)))
 
+-- so the turns of the definition do
 pub divisor_is_greatest : DivisorIsGreatest
 divisor_is_greatest a b = within_is_greatest b a b (omega arith)
 
+-- also of t times the numbers
 pub divisor_times : (t a b : ℕ) → IsGcd (t * a) (t * b) (t * common_divisor a b)
 divisor_times t a b = within_times t b a b (omega arith)
 
@@ -56,6 +58,7 @@ multiple_divides a b k some of_first of_second =
     dvd_of_mul-dvd-mul_left (a / g * b) some
     (subst (λ (n : ℕ). n ∣ g * k) left (subst (λ (n : ℕ). a * b ∣ n) right (mul-dvd-mul_right a shared b)))
 
+-- it is a multiple of the first number
 multiple_of_first : (a b : ℕ) → a ∣ common_multiple a b
 multiple_of_first a b =
     let g = common_divisor a b in
@@ -66,12 +69,14 @@ multiple_of_first a b =
     ) in
     subst (λ (n : ℕ). a ∣ n) e (dvd-mul_right a (b / g))
 
+-- and each common multiple is one of it, also where both numbers are 0
 multiple_least : (a b k : ℕ) → a ∣ k → b ∣ k → common_multiple a b ∣ k
 multiple_least zero zero k of_first of_second = of_first
 multiple_least (suc a) zero k of_first of_second = multiple_divides (suc a) zero k (omega arith) of_first of_second
 multiple_least a (suc b) k of_first of_second =
     multiple_divides a (suc b) k (divisor_positive a (suc b) (omega arith)) of_first of_second
 
+-- the three facts together
 pub multiple_is_least : MultipleIsLeast
 multiple_is_least a b = (multiple_of_first a b, dvd-mul_left b (a / common_divisor a b), multiple_least a b)
 
@@ -87,6 +92,7 @@ same_divisor t a b s c d first second =
     same_from_IsGcd (t * a) (t * b) (t * common_divisor a b) (s * common_divisor c d) (divisor_times t a b)
     (rw (first, second) (divisor_times s c d))
 
+-- the divisors stand as the denominators do, and as the numerators
 pub lowest_terms_are_one : LowestTermsAreOne
 lowest_terms_are_one a b c d some_b some_d e =
     let g = common_divisor a b in

@@ -31,11 +31,13 @@ pub record IsFirst (places : ℕ → ℕ) (Test : ℕ → ℕ → Type 0) (stage
   pub before : Each place (Test stage)
   pub fails : Test stage place → ⊥
 
+-- two first failures are of one stage
 pub one_stage : (places : ℕ → ℕ) (Test : ℕ → ℕ → Type 0) (s p t q : ℕ) → IsFirst places Test s p → IsFirst places Test t q → s ≡ t
 one_stage places Test s p t q one other =
     first_is_one (λ s. Each (places s) (Test s)) s t one.stages (λ all. one.fails (all p one.within)) other.stages
     (λ all. other.fails (all q other.within))
 
+-- and at one place of it
 pub one_place : (places : ℕ → ℕ) (Test : ℕ → ℕ → Type 0) (s p t q : ℕ) → IsFirst places Test s p → IsFirst places Test t q → p ≡ q
 one_place places Test s p t q one other =
     let same = one_stage places Test s p t q one other in

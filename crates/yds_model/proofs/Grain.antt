@@ -23,10 +23,12 @@ step_grows : (b : Bool) (most den : ℕ) → most ≤ (if b then max most den el
 step_grows true most den = le-max_left most den
 step_grows false most den = le_refl most
 
+-- and takes in the denominator of a slot of the job
 step_takes : (b : Bool) (most den : ℕ) → b ≡ true → den ≤ (if b then max most den else most)
 step_takes true most den is = le-max_right most den
 step_takes false most den is = absurd (cc)
 
+-- it stays, or is that denominator
 step_reached : (b : Bool) (most den : ℕ) →
     ((if b then max most den else most) ≡ most) ⊎ ((b ≡ true) × ((if b then max most den else most) ≡ den))
 step_reached true most den = elim (cases_lt most den) [
@@ -35,12 +37,14 @@ step_reached true most den = elim (cases_lt most den) [
 ]
 step_reached false most den = inl refl
 
+-- the grain is at least the first
 grain_grows : (job most : ℕ) (slots : List WrittenSlot) → most ≤ grain_from job most slots
 grain_grows job most [] = le_refl most
 grain_grows job most (slot ∷ slots) =
     let next = if slot.job == job then max most slot.work.den else most in
     omega (arith, step_grows (slot.job == job) most slot.work.den, grain_grows job next slots)
 
+-- and at least each denominator of the job's works
 grain_takes : (job most : ℕ) (slots : List WrittenSlot) →
     All (λ slot. slot.job ≡ job → slot.work.den ≤ grain_from job most slots) slots
 grain_takes job most [] = All-nil (λ slot. slot.job ≡ job → slot.work.den ≤ most)
@@ -68,9 +72,11 @@ grain_reached job most (slot ∷ slots) =
       ]
     ]
 
+-- a number divides itself
 equal_divides : (a b : ℕ) → a ≡ b → a ∣ b
 equal_divides a b same = subst (λ (n : ℕ). a ∣ n) same (dvd_refl a)
 
+-- and 1 divides each number
 one_divides : (a b : ℕ) → a ≡ 1 → a ∣ b
 one_divides a b one = subst (λ (n : ℕ). n ∣ b) (sym one) (one-dvd b)
 
@@ -81,6 +87,7 @@ alike_divides den grain other some most reached (inl same) = equal_divides den g
 alike_divides den grain other some most reached (inr (inl one)) = one_divides den grain one
 alike_divides den grain other some most reached (inr (inr one)) = one_divides den grain (omega arith)
 
+-- the grain is at least 1
 pub grain_positive : (slots : List WrittenSlot) (job : ℕ) → 1 ≤ grain_of slots job
 grain_positive slots job = grain_grows job 1 slots
 
@@ -112,6 +119,7 @@ part_of_job a b u v grain scale same = elim (cases_eq a b) [
   | inr other ↦ rw (ne_eqb a b other, ne_eqb b a (λ e. other (sym e))) (omega arith)
 ]
 
+-- summed over the slots
 parts_scaled : (scale grain job : ℕ) (slots : List WrittenSlot) → AllByRecursion (IsDivided scale) slots →
     AllByRecursion (λ slot. slot.job ≡ job → slot.work.den ∣ grain) slots →
     grain * work_given (slots_at scale slots) job

@@ -20,9 +20,11 @@ crossed_scaled : (u v a b d e scale : ℕ) → u * d ≡ a * scale → v * e ≡
 crossed_scaled u v a b d e scale f g =
     omega (arith, mul-sub (d * e) v u, mul-sub scale (b * d) (a * e), ap (λ n. n * e) f, ap (λ n. n * d) g)
 
+-- a slot's work times the level's length, over all three denominators
 work_over : (w c f g scale long : ℕ) → w * f ≡ c * scale → w * long * (g * f) ≡ c * long * g * scale
 work_over w c f g scale long e = omega (arith, ap (λ n. n * (long * g)) e)
 
+-- and the level's work times the slot's length
 length_over : (time g crossed scale f all : ℕ) → time * g ≡ crossed * scale → all * time * (g * f) ≡ all * crossed * f * scale
 length_over time g crossed scale f all e = omega (arith, ap (λ n. n * (all * f)) e)
 
@@ -46,6 +48,7 @@ abbrev HasSpeeds : List Level → WholeSlot → Type 0
 HasSpeeds levels slot = (i : ℕ) → i < length levels → Contains (level_at levels i).members slot.job →
     slot.work * (level_at levels i).length ≡ (level_at levels i).work * (slot.to - slot.from)
 
+-- a written slot that has them has them at a scale
 speeds_at_scale : (levels : List Level) (slots : List WrittenSlot) (scale : ℕ) → IsScale scale slots → (s : ℕ) → s < length slots →
     HasWrittenSpeed levels slots s → HasLevelSpeed levels (slots_at scale slots) s
 speeds_at_scale levels slots scale is s within has =
@@ -54,12 +57,14 @@ speeds_at_scale levels slots scale is s within has =
     (speed_of_values (level_at levels i).work (level_at levels i).length scale (written_slot_at slots s) is.positive
     (is.divided s no_written_slot within)).0 (has i inside member))
 
+-- and back
 speeds_written : (levels : List Level) (slots : List WrittenSlot) (scale : ℕ) → IsScale scale slots → (s : ℕ) → s < length slots →
     HasLevelSpeed levels (slots_at scale slots) s → HasWrittenSpeed levels slots s
 speeds_written levels slots scale is s within has i inside member =
     (speed_of_values (level_at levels i).work (level_at levels i).length scale (written_slot_at slots s) is.positive
     (is.divided s no_written_slot within)).1 (subst (HasSpeeds levels) (slot_read scale slots s within) has i inside member)
 
+-- the other conditions are the same on both sides
 pub judgement_is_exact : JudgementIsExact
 judgement_is_exact jobs slots levels are are_levels = (
   λ accepted. record {

@@ -20,6 +20,7 @@ pub mod Divisor
 pub mod Lines
 pub mod Hull
 pub mod OneJob
+pub mod Curve
 pub mod Plans
 pub mod Spelling
 pub mod TextLaws

@@ -23,6 +23,7 @@ module _ (jobs : List Job) (slots : List WrittenSlot) (levels : List Level) wher
   Test (suc (suc (suc (suc (suc (suc zero)))))) = HasWrittenSpeed levels slots
   Test (suc (suc (suc (suc (suc (suc (suc stage))))))) = λ place. ⊥
 
+  -- how many places a condition has
   abbrev places : ℕ → ℕ
   places zero = 1
   places (suc zero) = length levels
@@ -33,6 +34,7 @@ module _ (jobs : List Job) (slots : List WrittenSlot) (levels : List Level) wher
   places (suc (suc (suc (suc (suc (suc zero)))))) = length slots
   places (suc (suc (suc (suc (suc (suc (suc stage))))))) = 1
 
+  -- the judgement of a failure
   abbrev told : ℕ → ℕ → Verdict → Judgement
   told zero place verdict = Slots verdict
   told (suc zero) place verdict = Pieces place
@@ -47,22 +49,27 @@ module _ (jobs : List Job) (slots : List WrittenSlot) (levels : List Level) wher
   abbrev Stage : ℕ → Type 0
   Stage s = Each (places s) (Test s)
 
-  -- the stages before one that fails hold
+  -- where a condition is tried, those before it hold: before the pieces that of the slots
   after_slots : SlotsHold jobs slots → Each 1 Stage
   after_slots holds = each_more Stage 0 (each_none Stage) (λ place within. holds)
 
+  -- those before the members
   after_pieces : PiecesHold jobs slots levels → Each 2 Stage
   after_pieces holds = each_more Stage 1 (after_slots holds.0) holds.1
 
+  -- those before the sums
   after_members : MembersHold jobs slots levels → Each 3 Stage
   after_members holds = each_more Stage 2 (after_pieces holds.0) holds.1
 
+  -- those before the order
   after_sums : SumsHold jobs slots levels → Each 4 Stage
   after_sums holds = each_more Stage 3 (after_members holds.0) holds.1
 
+  -- those before the windows
   after_order : OrderHolds jobs slots levels → Each 5 Stage
   after_order holds = each_more Stage 4 (after_sums holds.0) holds.1
 
+  -- those before the speeds
   after_windows : WindowsHold jobs slots levels → Each 6 Stage
   after_windows holds = each_more Stage 5 (after_order holds.0) holds.1
 
@@ -75,6 +82,7 @@ module _ (jobs : List Job) (slots : List WrittenSlot) (levels : List Level) wher
     first : IsFirst places Test stage place
     is_verdict : IsVerdict jobs None slots verdict
 
+  -- the judgement of a failure after the slots
   first_told : (stage place : ℕ) → SlotsHold jobs slots → Each stage Stage → IsFirstFailure (places stage) (Test stage) place →
       IsTold (told stage place Feasible)
   first_told stage place holds stages failure = record {
@@ -86,6 +94,7 @@ module _ (jobs : List Job) (slots : List WrittenSlot) (levels : List Level) wher
     is_verdict = holds;
   }
 
+  -- each judgement that is so
   judgement_told : (judgement : Judgement) → IsJudgement jobs slots levels judgement → IsTold judgement
   judgement_told Accepted is =
       first_told 7 0 is.0.0.0.0.0.0 (each_more Stage 6 (after_windows is.0) is.1)
@@ -110,6 +119,7 @@ module _ (jobs : List Job) (slots : List WrittenSlot) (levels : List Level) wher
   judgement_told (Window job) is = first_told 5 job is.0.0.0.0.0 (after_order is.0) is.1
   judgement_told (Speed slot) is = first_told 6 slot is.0.0.0.0.0.0 (after_windows is.0) is.1
 
+-- two judgements are of one first failure
 pub judgement_is_unique : JudgementIsUnique
 judgement_is_unique jobs slots levels judgement other is is_other =
     let one = judgement_told jobs slots levels judgement is in

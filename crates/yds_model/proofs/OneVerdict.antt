@@ -18,6 +18,7 @@ module _ (jobs : List Job) (table : Option (List Point)) (slots : List WrittenSl
   Condition i (suc (suc (suc zero))) = IsAtMost (written_slot_at slots i).to (deadline_of jobs (written_slot_at slots i))
   Condition i (suc (suc (suc (suc kind)))) = IsOnTable table (written_slot_at slots i)
 
+  -- a slot that stands meets each
   stand_meets : (i kind : ℕ) → Stands jobs table slots i → Condition i kind
   stand_meets i zero stands = stands.forward
   stand_meets i (suc zero) stands = stands.after
@@ -31,6 +32,7 @@ module _ (jobs : List Job) (table : Option (List Point)) (slots : List WrittenSl
   Test (suc zero) = GetsItsWork jobs slots
   Test (suc (suc stage)) = λ place. ⊥
 
+  -- how many places a stage has
   abbrev places : ℕ → ℕ
   places zero = length slots
   places (suc zero) = length jobs
@@ -41,6 +43,7 @@ module _ (jobs : List Job) (table : Option (List Point)) (slots : List WrittenSl
   Kind zero place = Condition place
   Kind (suc stage) place = λ kind. ⊥
 
+  -- the verdict of a slot that fails in a condition
   abbrev slot_verdict : ℕ → ℕ → Verdict
   slot_verdict i zero = Backward i
   slot_verdict i (suc zero) = Overlap i
@@ -48,6 +51,7 @@ module _ (jobs : List Job) (table : Option (List Point)) (slots : List WrittenSl
   slot_verdict i (suc (suc (suc zero))) = Late i
   slot_verdict i (suc (suc (suc (suc kind)))) = OffPoint i
 
+  -- the verdict of a failure
   abbrev told : ℕ → ℕ → ℕ → Verdict
   told zero place kind = slot_verdict place kind
   told (suc zero) place kind = WrongWork place (given_of slots place) (job_at jobs place).work
@@ -63,6 +67,7 @@ module _ (jobs : List Job) (table : Option (List Point)) (slots : List WrittenSl
     met : Each kind (Kind stage place)
     fails : Kind stage place kind → ⊥
 
+  -- the verdict of the first slot that fails
   slot_told : (i kind : ℕ) → ComesTo jobs table slots i → Each kind (Condition i) → (Condition i kind → ⊥) → IsTold (slot_verdict i kind)
   slot_told i kind comes met fails = record {
     stage = 0;
@@ -79,6 +84,7 @@ module _ (jobs : List Job) (table : Option (List Point)) (slots : List WrittenSl
     fails = fails;
   }
 
+  -- each verdict that is so
   verdict_told : (verdict : Verdict) → IsVerdict jobs table slots verdict → IsTold verdict
   verdict_told Feasible is = record {
     stage = 2;
@@ -124,10 +130,12 @@ module _ (jobs : List Job) (table : Option (List Point)) (slots : List WrittenSl
     fails = λ none. none;
   }
 
+  -- two first conditions that fail at one place are one
   one_kind : (s p k t q l : ℕ) → s ≡ t → p ≡ q → Each k (Kind s p) → (Kind s p k → ⊥) → Each l (Kind t q) → (Kind t q l → ⊥) → k ≡ l
   one_kind s p k t q l e f met fails other_met other_fails =
       first_is_one (Kind s p) k l met fails (rw (e, f) other_met) (rw (e, f) other_fails)
 
+-- two verdicts are of one first failure
 pub verdict_is_unique : VerdictIsUnique
 verdict_is_unique jobs table slots verdict other is is_other =
     let one = verdict_told jobs table slots verdict is in

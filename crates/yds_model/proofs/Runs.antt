@@ -11,6 +11,7 @@ pub slot_read : (scale : ℕ) (slots : List WrittenSlot) (i : ℕ) → i < lengt
     slot_at (slots_at scale slots) i ≡ slot_at_scale scale (written_slot_at slots i)
 slot_read scale slots i within = get_or-map (slot_at_scale scale) slots i no_written_slot no_slot within
 
+-- slots that take time, each after the one before it, run one after another
 pub run_from_places : (start : ℕ) (slots : List WholeSlot) → (0 < length slots → start ≤ (slot_at slots 0).from) →
     All (λ slot. slot.from < slot.to) slots →
     ((i : ℕ) → suc i < length slots → (slot_at slots i).to ≤ (slot_at slots (suc i)).from) → RunFrom start slots
@@ -22,6 +23,7 @@ run_from_places start (slot ∷ slots) begins forward after = (
       (λ i within. after (suc i) (omega arith)),
 )
 
+-- slots that run one after another take time
 pub run_forward : (start : ℕ) (slots : List WholeSlot) → RunFrom start slots → All (λ slot. slot.from < slot.to) slots
 run_forward start [] run = All-nil (λ slot. slot.from < slot.to)
 run_forward start (slot ∷ slots) run = All-cons (λ one. one.from < one.to) slot slots run.1 (run_forward slot.to slots run.2)
@@ -31,6 +33,7 @@ pub run_begins : (start : ℕ) (slots : List WholeSlot) → RunFrom start slots 
 run_begins start [] run some = absurd (omega arith)
 run_begins start (slot ∷ slots) run some = run.0
 
+-- and each begins after the one before it
 pub run_after : (start : ℕ) (slots : List WholeSlot) → RunFrom start slots → (i : ℕ) → suc i < length slots →
     (slot_at slots i).to ≤ (slot_at slots (suc i)).from
 run_after start [] run i within = absurd (omega arith)

@@ -23,6 +23,7 @@ given_from_parts : (grain given scale parts work : ℕ) → 1 ≤ grain → grai
 given_from_parts grain given scale parts work some e f =
     eq_of_mul-eq-mul_left grain some given (work * scale) (omega (arith, e, ap (λ n. scale * n) f))
 
+-- and back
 parts_from_given : (grain given scale parts work : ℕ) → 1 ≤ scale → grain * given ≡ scale * parts → given ≡ work * scale → parts ≡ work * grain
 parts_from_given grain given scale parts work some e f =
     eq_of_mul-eq-mul_left scale some parts (work * grain) (omega (arith, e, ap (λ n. grain * n) f))
@@ -41,6 +42,7 @@ module _ (jobs : List Job) (table : Option (List Point)) (slots : List WrittenSl
       let divided = divided_at i within in
       (order_of_values (written_slot_at slots i).from (written_slot_at slots i).to scale is.positive divided.from divided.to).0 stands.forward
 
+  -- it begins after the one before it
   after_at_scale : (i : ℕ) → suc i < length slots → Stands jobs table slots (suc i) →
       (slot_at_scale scale (written_slot_at slots i)).to ≤ (slot_at_scale scale (written_slot_at slots (suc i))).from
   after_at_scale i within stands =
@@ -48,6 +50,7 @@ module _ (jobs : List Job) (table : Option (List Point)) (slots : List WrittenSl
       (at_most_of_values (written_slot_at slots i).to (written_slot_at slots (suc i)).from scale is.positive earlier.to
       (divided_at (suc i) within).from).0 (stands.after i (omega arith))
 
+  -- within its job's window
   window_at_scale : (i : ℕ) → i < length slots → Stands jobs table slots i →
       IsInWindow jobs scale (slot_at_scale scale (written_slot_at slots i))
   window_at_scale i within stands =
@@ -59,11 +62,13 @@ module _ (jobs : List Job) (table : Option (List Point)) (slots : List WrittenSl
         due = omega (arith, (at_most_of_values slot.to (deadline_of jobs slot) scale is.positive divided.to (one-dvd scale)).0 stands.due);
       }
 
+  -- a job that gets its work by parts of its grain gets it at the scale
   served_at_scale : (number : ℕ) → GetsItsWork jobs slots number → work_given (slots_at scale slots) number ≡ (job_at jobs number).work * scale
   served_at_scale number gets =
       given_from_parts (grain_of slots number) (work_given (slots_at scale slots) number) scale (parts_given slots number)
       (job_at jobs number).work (grain_positive slots number) (given_scaled (length jobs) scale slots number are is) gets
 
+  -- so slots and jobs that stand are a feasible schedule
   pub stand_is_feasible : AllStand jobs table slots → IsFeasibleAt jobs scale (slots_at scale slots)
   stand_is_feasible all = record {
     one_at_a_time = run_from_places 0 (slots_at scale slots) (λ some. omega arith)
@@ -96,6 +101,7 @@ module _ (jobs : List Job) (table : Option (List Point)) (slots : List WrittenSl
       (rw (slot_read scale slots before (omega arith), slot_read scale slots (suc before) within) at
       (run_after 0 (slots_at scale slots) feasible.one_at_a_time before (omega (arith, length-map slots (slot_at_scale scale)))))
 
+  -- with a point's speed
   stands_at : IsFeasibleAt jobs scale (slots_at scale slots) → All (IsOnTable table) slots → Each (length slots) (Stands jobs table slots)
   stands_at feasible on_table i within =
       let slot = written_slot_at slots i in
@@ -111,6 +117,7 @@ module _ (jobs : List Job) (table : Option (List Point)) (slots : List WrittenSl
         on_table = on_table i no_written_slot within;
       }
 
+  -- so a feasible schedule on the table's points stands
   pub feasible_stand : IsFeasibleAt jobs scale (slots_at scale slots) → All (IsOnTable table) slots → AllStand jobs table slots
   feasible_stand feasible on_table = record {
     stand = stands_at feasible on_table;
@@ -132,9 +139,11 @@ all_stand_exactly jobs table slots are = (
       feasible_stand jobs table slots some.0 are some.1 (both.0 some.0 some.1) both.1,
 )
 
+-- with a table
 pub table_verdict_is_exact : TableVerdictIsExact
 table_verdict_is_exact jobs points slots are = all_stand_exactly jobs (Some points) slots are
 
+-- without one, where a slot may run at any speed
 pub verdict_is_exact : VerdictIsExact
 verdict_is_exact jobs slots are =
     let exact = all_stand_exactly jobs None slots are in

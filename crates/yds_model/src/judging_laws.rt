@@ -1,5 +1,11 @@
 //! The laws of the auditor's verdicts and the checker's judgements, each as the contract of a call that does nothing.
-ghost use Rattle.yds_model.specs.Laws.{VerdictIsExact, TableVerdictIsExact, JudgementIsExact, VerdictIsUnique, JudgementIsUnique};
+ghost use Rattle.yds_model.specs.Laws.{
+  VerdictIsExact,
+  TableVerdictIsExact,
+  JudgementIsExact,
+  VerdictIsUnique,
+  JudgementIsUnique,
+};
 
 /// The verdict is 'feasible' exactly where the schedule is feasible.
 pub fn verdict_is_exact()
