@@ -1,12 +1,14 @@
-ghost use Rattle.std.specs.Prelude.{◌≡◌, ◌⊎◌, ◌<◌, ◌≤◌};
+ghost use Rattle.std.specs.Prelude.{◌≡◌, ◌⊎◌, ◌<◌, ◌≤◌, OnOk, OnErr};
+ghost use Rattle.std.specs.Io.KnownBytes.{Keeps};
 ghost use Rattle.yds_port.specs.Count.{Rose};
+ghost use Rattle.yds_port.specs.Sink.{IsFlushed};
 ghost use Rattle.yds_cli.specs.Answer.{answer_text, answer_status};
 ghost use Rattle.yds_cli.specs.Run.{Outcome};
 
 use crate::answer::Answer;
 use crate::writer::write_answer;
 use yds_model::Status;
-use yds_port::{Flushed, Sink};
+use yds_port::{Flushed, Sink, WriteFault};
 
 /// Writes the answer's text and flushes the sink once. It takes no memory.
 pub fn deliver<K: Sink>(answer: &Answer<'_>, sink: &mut K) -> Status
@@ -19,8 +21,21 @@ pub fn deliver<K: Sink>(answer: &Answer<'_>, sink: &mut K) -> Status
     if write_answer(answer, sink).is_err() {
         return Status::WriteFault;
     }
+    if flush(sink).is_err() {
+        return Status::WriteFault;
+    }
+    answer.status()
+}
+
+/// Passes on all that was written.
+fn flush<K: Sink>(sink: &mut K) -> Result<(), WriteFault>
+    ensures flushed { OnOk result (IsFlushed (K.written sink.new) (K.flushed sink.new)) }
+    ensures written_stays { Keeps (K.written sink.old) (K.written sink.new) }
+    ensures no_fault { OnOk result (K.faults sink.new ≡ K.faults sink.old) }
+    ensures fault { OnErr result (Rose (K.faults sink.old) (K.faults sink.new)) }
+{
     match sink.flush() {
-        Flushed::Done => answer.status(),
-        Flushed::Failed => Status::WriteFault,
+        Flushed::Done => Ok(()),
+        Flushed::Failed => Err(WriteFault),
     }
 }
