@@ -35,4 +35,5 @@ pub mod AuditAnswer
 pub mod RoundAnswer
 pub mod ReportAnswer
 pub mod Answer
+pub mod TextLaws
 pub mod Laws

@@ -2,13 +2,13 @@
 ghost use Rattle.std.specs.Prelude.{◌≡◌, ℕ, ◌+◌, ◌<◌, ◌≤◌, [], ◌∷◌, length, map};
 ghost use Rattle.std.specs.List.{prefix_len, position_or_len};
 ghost use Rattle.yds_model.specs.declared.limits.TheConstants.{MAX_BYTES};
-ghost use Rattle.yds_model.specs.Lines.{fields_from, fields_of, is_blank, placed};
+ghost use Rattle.yds_model.specs.Lines.{fields_from, fields_of, is_blank};
 
 use std::iter::FusedIterator;
 use std::marker::Model;
 
 /// A field of a line: one of its longest runs of bytes other than spaces and tabs.
-#[derive(Clone, Copy, Debug)]
+#[derive(Clone, Copy, Debug, PartialEq, Eq)]
 pub struct Field<'a> {
     /// Its bytes.
     pub text: &'a [u8],
@@ -20,8 +20,8 @@ pub struct Field<'a> {
     pub ghost within: { column + length text.now ≤ MAX_BYTES + 1 },
 }
 
-/// The fields of a line that are left to read, first to last. A contract sees the list of their
-/// places and bytes.
+/// The fields of a line that are left to read, first to last. A contract sees the line's number and
+/// their list.
 #[derive(Drop)]
 pub struct Fields<'a> {
     rest: &'a [u8],
@@ -32,11 +32,12 @@ pub struct Fields<'a> {
 impl<'a> Model for Fields<'a> {
     ghost use Rattle.std.specs.Prelude.{ℕ, ◌+◌, ◌≤◌, List, length, map};
     ghost use Rattle.yds_model.specs.declared.limits.TheConstants.{MAX_BYTES};
-    ghost use Rattle.yds_model.specs.Lines.{PlacedField, fields_from, placed};
+    ghost use Rattle.yds_model.specs.Lines.{fields_from};
+    ghost use Rattle.yds_text.specs.Left.{FieldsLeft};
 
-    ghost Value = { List PlacedField };
+    ghost Value = { FieldsLeft };
 
-    ghost view = { λ it. map (placed it.line) (fields_from it.column it.rest.now) };
+    ghost view = { λ it. record { line = it.line; fields = fields_from it.column it.rest.now } };
 
     ghost invariant = { λ it. (1 ≤ it.column) × (it.column + length it.rest.now ≤ MAX_BYTES + 1) };
 }
@@ -44,7 +45,9 @@ impl<'a> Model for Fields<'a> {
 impl<'a> Fields<'a> {
     pub(crate) fn new(text: &'a [u8], line: u32) -> Fields<'a>
         requires { length text.now ≤ MAX_BYTES }
-        ensures { result ≡ map (placed line) (fields_of text.now) }
+        ensures line { result.line ≡ line }
+        ensures fields { result.fields ≡ fields_of text.now }
+        ensures count { length result.fields ≤ length text.now }
     {
         Fields {
             rest: text,
@@ -55,14 +58,14 @@ impl<'a> Fields<'a> {
 }
 
 impl<'a> Iterator for Fields<'a> {
-    ghost use Rattle.std.specs.Iterator.{YieldsFirstBy, item_count};
-    ghost use Rattle.yds_text.specs.Read.{field_read};
+    ghost use Rattle.std.specs.Iterator.{item_count};
+    ghost use Rattle.yds_text.specs.Read.{GivesField};
 
     type Item = Field<'a>;
 
-    ghost next_gives = { YieldsFirstBy field_read (λ rest. rest) };
+    ghost next_gives = { GivesField };
 
-    ghost remaining = { item_count (λ rest. rest) };
+    ghost remaining = { item_count (λ left. left.fields) };
 
     fn next(&mut self) -> Option<Field<'a>> {
         let (blanks, text, rest) = first_field(self.rest);

@@ -1,7 +1,7 @@
 //! The lines of a text.
 ghost use Rattle.std.specs.Prelude.{◌≡◌, ℕ, ◌+◌, ◌<◌, ◌≤◌, ◌∷◌, length, drop, map};
 ghost use Rattle.yds_model.specs.declared.limits.TheConstants.{MAX_BYTES};
-ghost use Rattle.yds_model.specs.Lines.{lines_from, lines_of, fields_of, without_return, numbered, placed};
+ghost use Rattle.yds_model.specs.Lines.{lines_from, lines_of, fields_of, without_return};
 
 use crate::field::Fields;
 use memchr::memchr;
@@ -9,7 +9,7 @@ use std::iter::FusedIterator;
 use std::marker::Model;
 
 /// A line of a text, without its line feed and without a carriage return before it.
-#[derive(Clone, Copy, Debug)]
+#[derive(Clone, Copy, Debug, PartialEq, Eq)]
 pub struct Line<'a> {
     /// Its bytes.
     pub text: &'a [u8],
@@ -18,8 +18,8 @@ pub struct Line<'a> {
     pub ghost bounded: { length text.now ≤ MAX_BYTES },
 }
 
-/// The lines of a text that are left to read, first to last. A contract sees the list of their
-/// numbers and bytes.
+/// The lines of a text that are left to read, first to last. A contract sees their list, and where in
+/// the text they start.
 #[derive(Drop)]
 pub struct LineIter<'a> {
     bytes: &'a [u8],
@@ -30,11 +30,12 @@ pub struct LineIter<'a> {
 impl<'a> Model for LineIter<'a> {
     ghost use Rattle.std.specs.Prelude.{ℕ, ◌+◌, ◌≤◌, List, length, drop, map};
     ghost use Rattle.yds_model.specs.declared.limits.TheConstants.{MAX_BYTES};
-    ghost use Rattle.yds_model.specs.Lines.{NumberedLine, lines_from, trimmed, numbered};
+    ghost use Rattle.yds_model.specs.Lines.{lines_from, trimmed};
+    ghost use Rattle.yds_text.specs.Left.{LinesLeft};
 
-    ghost Value = { List NumberedLine };
+    ghost Value = { LinesLeft };
 
-    ghost view = { λ it. map numbered (map trimmed (lines_from it.number it.start (drop it.start it.bytes.now))) };
+    ghost view = { λ it. record { start = it.start; lines = map trimmed (lines_from it.number it.start (drop it.start it.bytes.now)) } };
 
     ghost invariant = { λ it. (length it.bytes.now ≤ MAX_BYTES) × (it.start ≤ length it.bytes.now) × (it.number ≤ it.start + 1) };
 }
@@ -43,7 +44,9 @@ impl<'a> Model for LineIter<'a> {
 /// bytes. A carriage return directly before that end isn't part of the line.
 pub fn lines<'a>(bytes: &'a [u8]) -> LineIter<'a>
     requires { length bytes.now ≤ MAX_BYTES }
-    ensures { result ≡ map numbered (lines_of bytes.now) }
+    ensures start { result.start ≡ 0 }
+    ensures lines { result.lines ≡ lines_of bytes.now }
+    ensures count { length result.lines ≤ length bytes.now }
 {
     LineIter {
         bytes,
@@ -53,14 +56,14 @@ pub fn lines<'a>(bytes: &'a [u8]) -> LineIter<'a>
 }
 
 impl<'a> Iterator for LineIter<'a> {
-    ghost use Rattle.std.specs.Iterator.{YieldsFirstBy, item_count};
-    ghost use Rattle.yds_text.specs.Read.{line_read};
+    ghost use Rattle.std.specs.Iterator.{item_count};
+    ghost use Rattle.yds_text.specs.Read.{GivesLine};
 
     type Item = Line<'a>;
 
-    ghost next_gives = { YieldsFirstBy line_read (λ rest. rest) };
+    ghost next_gives = { GivesLine };
 
-    ghost remaining = { item_count (λ rest. rest) };
+    ghost remaining = { item_count (λ left. left.lines) };
 
     fn next(&mut self) -> Option<Line<'a>> {
         let rest = &self.bytes[self.start..];
@@ -109,7 +112,9 @@ fn trim_return(text: &[u8]) -> &[u8]
 impl<'a> Line<'a> {
     /// The fields of the line: its longest runs of bytes other than spaces and tabs.
     pub fn fields(&self) -> Fields<'a>
-        ensures { result ≡ map (placed self.now.number) (fields_of self.now.text.now) }
+        ensures line { result.line ≡ self.now.number }
+        ensures fields { result.fields ≡ fields_of self.now.text.now }
+        ensures count { length result.fields ≤ length self.now.text.now }
     {
         Fields::new(self.text, self.number)
     }
