@@ -10,14 +10,13 @@ pub record JobShare : Type 0 where
 abbrev pub units_given : List JobShare → ℕ → ℕ
 units_given shares job = sum_by (λ share. if job == share.job then share.units else 0) shares
 
--- the units of all shares, together
+-- the units of all the shares
 abbrev pub total_units : List JobShare → ℕ
 total_units shares = sum_by (λ share. share.units) shares
 
--- the shares in a stretch
+-- the shares in a stretch, and those in the stretches before it
 abbrev pub shares_in : List JobShare → ℕ → List JobShare
-shares_in shares stretch = filter (λ share. share.stretch == stretch) shares
+shares_in shares stretch = filter (λ share. stretch == share.stretch) shares
 
--- the shares in the stretches before it
 abbrev pub shares_before : List JobShare → ℕ → List JobShare
 shares_before shares stretch = filter (λ share. nat_lt share.stretch stretch) shares

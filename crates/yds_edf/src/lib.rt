@@ -5,7 +5,10 @@
 //! points are at most the capacity between them, each job gets all its units inside its window.
 #![tactic(auto)]
 
+mod engine;
+mod entry;
 mod event_points;
+pub mod limits;
 mod share;
 mod stretch;
 

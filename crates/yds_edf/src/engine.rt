@@ -1,0 +1,149 @@
+ghost use Rattle.std.specs.Prelude.{
+    ◌≡◌, ◌<◌, ◌≤◌, ◌+◌, ◌-◌, ◌*◌, IfOk, OnErr, MatchOption, MatchResult, None, Some, replicate, length, slice_index
+};
+ghost use Rattle.yds_model.specs.Job.{IsJob};
+
+ghost use Rattle.yds_edf.specs.Engine.{ServesFirst, ServesTied};
+ghost use Rattle.yds_edf.specs.Queue.{IsNoEarlier, all_pending, pending_due};
+
+use crate::entry::Entry;
+use crate::limits::MAX_GRAIN;
+use crate::share::Share;
+use std::alloc::Global;
+use std::cmp::Reverse;
+use std::collections::BinaryHeap;
+use std::marker::Model;
+use yds_model::limits::MAX_JOBS;
+use yds_model::{JobRow, Memory};
+
+/// Serves jobs earliest deadline first, jobs of the same deadline in order of their ties.
+///
+/// The jobs that are to come stand in a heap by their releases, those that are pending in one by their
+/// deadlines. Each job with units left has one entry in one of the two.
+#[derive(Drop)]
+pub(crate) struct Engine {
+    rows: Vec<JobRow>,
+    ties: Vec<u32>,
+    grain: u64,
+    time: Option<u32>,
+    served: Vec<u64>,
+    coming: BinaryHeap<Reverse<Entry>>,
+    pending: BinaryHeap<Reverse<Entry>>,
+    units: u64,
+}
+
+impl Model for Engine {
+    ghost use Rattle.std.specs.Prelude.{◌+◌, ◌≤◌};
+    ghost use Rattle.std.specs.BinaryHeap.{heap_items, heap_len, heap_capacity};
+    ghost use Rattle.yds_edf.specs.Engine.{TiedQueue, IsEngine};
+
+    ghost Value = { TiedQueue };
+
+    ghost view = { λ e. record {
+        queue = record { jobs = e.rows.items; grain = e.grain; time = e.time; served = e.served.items };
+        ties = e.ties.items
+    } };
+
+    ghost invariant = { λ e. IsEngine (record {
+            queue = record { jobs = e.rows.items; grain = e.grain; time = e.time; served = e.served.items };
+            ties = e.ties.items
+        }) (heap_items e.coming) (heap_items e.pending) e.units
+        × (heap_len e.coming + heap_len e.pending ≤ heap_capacity e.pending) };
+}
+
+impl Engine {
+    /// The units that are pending.
+    pub(crate) fn pending(&self) -> u64
+        ensures { result ≡ all_pending self.now.queue }
+    {
+        self.units
+    }
+}
+
+impl Engine {
+    /// The jobs have arrived that are released by this time.
+    pub(crate) fn arrive(&mut self, time: u32)
+        requires { IsNoEarlier self.old.queue.time time }
+        ensures { self.new ≡ record {
+            queue = record self.old.queue { time = Some time };
+            ties = self.old.ties
+        } }
+    {
+        while let Some(Reverse(next)) = self.coming.peek() {
+            if next.time > time {
+                break;
+            }
+            let job = next.job as usize;
+            let row = &self.rows[job];
+            let entry = Entry {
+                time: row.deadline,
+                tie: self.ties[job],
+                job: next.job,
+            };
+            self.units += units_left(row, self.grain, self.served[job]);
+            let _ = self.pending.push(Reverse(entry));
+            let _ = self.coming.pop();
+        }
+        self.time = Some(time);
+    }
+
+    /// Serves the job that is due first among those with pending units, with at most so many units: the
+    /// job's number and the units that it got. None where no units are pending.
+    fn serve_first(&mut self, room: u64) -> Option<(u32, u64)>
+        requires { 1 ≤ room }
+        ensures { MatchOption result
+            ((all_pending self.old.queue ≡ 0) × (self.new ≡ self.old))
+            (λ served. ServesFirst self.old self.new room served.0 served.1) }
+    {
+        let Reverse(first) = *self.pending.peek()?;
+        let job = first.job as usize;
+        let served = &mut self.served[job];
+        let left = units_left(&self.rows[job], self.grain, *served);
+        let units = left.min(room);
+        *served += units;
+        self.units -= units;
+        if units == left {
+            let _ = self.pending.pop();
+        }
+        Some((first.job, units))
+    }
+
+    /// How many jobs it serves.
+    fn jobs(&self) -> usize
+        ensures few { length self.now.queue.jobs ≤ MAX_JOBS }
+        ensures count { result ≡ length self.now.queue.jobs }
+    {
+        self.rows.len()
+    }
+
+    /// Serves the lesser of the capacity and the pending units, one share for each job that is served.
+    pub(crate) fn serve(&mut self, alloc: Global, stretch: u32, capacity: u64) -> Result<Vec<Share>, Memory>
+        ensures ok { IfOk result (λ shares. ServesTied self.old self.new stretch capacity shares.items) }
+        ensures err { OnErr result (self.new ≡ self.old) }
+    {
+        let mut shares = Vec::with_capacity(alloc, self.jobs())?;
+        let mut room = capacity;
+        while room > 0 {
+            let Some((job, units)) = self.serve_first(room) else {
+                break;
+            };
+            shares.push(Share {
+                stretch,
+                job,
+                units,
+            })?;
+            room -= units;
+        }
+        Ok(shares)
+    }
+}
+
+/// The units that a job wants beyond those that it was served.
+fn units_left(row: &JobRow, grain: u64, served: u64) -> u64
+    requires grain_in_range { grain ≤ MAX_GRAIN }
+    requires within { served ≤ row.now.work * grain }
+    ensures left { result ≡ row.now.work * grain - served }
+    ensures job { IsJob row.now }
+{
+    u64::from(row.work) * grain - served
+}
