@@ -46,7 +46,7 @@ no_entries_times : (entries left : ℕ) → entries < 1 → entries * left ≡ 0
 no_entries_times entries left h = omega (arith, ap (λ n. n * left) (let e : entries ≡ 0 = omega arith in e))
 
 -- an entry at the top comes before each other by time, tie and number
-in_entry_order : (x y : Reverse Entry) → is_lt (comes_first x y) ≡ false →
+pub in_entry_order : (x y : Reverse Entry) → is_lt (comes_first x y) ≡ false →
     (x.0.time < y.0.time)
     ⊎ ((x.0.time ≡ y.0.time) × ((x.0.tie < y.0.tie) ⊎ (x.0.tie ≡ y.0.tie)))
 in_entry_order x y h = elim (cases_order x.0.time y.0.time) [

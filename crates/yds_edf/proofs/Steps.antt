@@ -19,7 +19,7 @@ use Rattle.yds_edf.proofs.Sums.{sum_below_change, sum_below_term}
 use Rattle.yds_edf.proofs.Heaps.{entries_tell, none_coming, entries_times, top_is_first}
 
 -- an entry counts for its job
-entry_counts : (entry : Reverse Entry) (entries : List (Reverse Entry)) → Contains entries entry → 1 ≤ entries_of entries entry.0.job
+pub entry_counts : (entry : Reverse Entry) (entries : List (Reverse Entry)) → Contains entries entry → 1 ≤ entries_of entries entry.0.job
 entry_counts entry entries there =
     omega (
       arith,
