@@ -1,5 +1,5 @@
 -- What a queue of jobs knows: the jobs, the grain, the last time of arrival, and the units of each job that were served.
-use Rattle.std.specs.Prelude.{◌≡◌, ℕ, ◌+◌, ◌≤◌, ⊤, List, length, slice_index, Option, Some, None, All, nat_le, if◌then◌else◌}
+use Rattle.std.specs.Prelude.{◌≡◌, ℕ, ◌+◌, ◌≤◌, ⊤, List, length, slice_index, replicate, Option, Some, None, All, nat_le, if◌then◌else◌}
 use Rattle.yds_model.specs.Numbers.{Each}
 use Rattle.yds_model.specs.Job.{Job, job_at}
 use Rattle.yds_edf.specs.Shares.{JobShare, units_given}
@@ -11,6 +11,10 @@ pub record JobQueue : Type 0 where
   pub grain : ℕ
   pub time : Option ℕ
   pub served : List ℕ
+
+-- a queue of which nobody has arrived and none was served
+abbrev pub new_queue : List Job → ℕ → JobQueue
+new_queue jobs grain = record { jobs = jobs; grain = grain; time = None; served = replicate (length jobs) 0 }
 
 -- the units of a job that are pending
 abbrev pub pending_in : JobQueue → ℕ → ℕ

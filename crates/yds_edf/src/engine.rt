@@ -3,8 +3,9 @@ ghost use Rattle.std.specs.Prelude.{
 };
 ghost use Rattle.yds_model.specs.Job.{IsJob};
 
-ghost use Rattle.yds_edf.specs.Engine.{ServesFirst, ServesTied};
-ghost use Rattle.yds_edf.specs.Queue.{IsNoEarlier, all_pending, pending_due};
+ghost use Rattle.yds_edf.specs.Engine.{IsTiedQueue, ServesFirst, ServesTied};
+ghost use Rattle.yds_edf.specs.Serving.{AreTies};
+ghost use Rattle.yds_edf.specs.Queue.{new_queue, IsNoEarlier, all_pending, pending_due};
 
 use crate::entry::Entry;
 use crate::limits::MAX_GRAIN;
@@ -52,6 +53,40 @@ impl Model for Engine {
 }
 
 impl Engine {
+    /// No job has arrived, and none is served. Each job has `work * grain` units.
+    pub(crate) fn new(alloc: Global, rows: &[JobRow], ties: Vec<u32>, grain: u64) -> Result<Engine, Memory>
+        requires few { length rows.now ≤ MAX_JOBS }
+        requires some_grain { 1 ≤ grain }
+        requires grain_in_range { grain ≤ MAX_GRAIN }
+        requires all_tied { length ties.items ≡ length rows.now }
+        requires told_apart { AreTies ties.items }
+        ensures { IfOk result (λ engine. engine ≡ record {
+            queue = new_queue rows.now grain;
+            ties = ties.items
+        }) }
+    {
+        let mut coming = BinaryHeap::new(alloc);
+        for (number, row) in rows.iter().enumerate() {
+            if row.work > 0 {
+                coming.push(Reverse(Entry {
+                    time: row.release,
+                    tie: ties[number],
+                    job: number as u32,
+                }))?;
+            }
+        }
+        Ok(Engine {
+            rows: Vec::from_slice(alloc, rows)?,
+            ties,
+            grain,
+            time: None,
+            served: vec![in alloc; 0; rows.len()]?,
+            coming,
+            pending: BinaryHeap::with_capacity(alloc, rows.len())?,
+            units: 0,
+        })
+    }
+
     /// The units that are pending.
     pub(crate) fn pending(&self) -> u64
         ensures { result ≡ all_pending self.now.queue }
@@ -110,8 +145,8 @@ impl Engine {
 
     /// How many jobs it serves.
     fn jobs(&self) -> usize
-        ensures few { length self.now.queue.jobs ≤ MAX_JOBS }
         ensures count { result ≡ length self.now.queue.jobs }
+        ensures kept { IsTiedQueue self.now }
     {
         self.rows.len()
     }
