@@ -10,7 +10,7 @@ use Rattle.yds_model.proofs.Lists.{AllPairs-append}
 use Rattle.yds_edf.specs.Shares.{JobShare, units_given, total_units}
 use Rattle.yds_edf.specs.Pending.{sum_below, has_arrived, units_wanted}
 use Rattle.yds_edf.specs.Serving.{IsDueBefore, IsServing}
-use Rattle.yds_edf.specs.Queue.{JobQueue, pending_in, all_pending, Adds}
+use Rattle.yds_edf.specs.Queue.{JobQueue, pending_in, all_pending, Adds, Serves}
 use Rattle.yds_edf.specs.Engine.{TiedQueue, IsTiedQueue, with_served, ServesFirst, ServesTied}
 use Rattle.yds_edf.proofs.Sums.{sum_below_same, sum_below-add, sum_below_at_most, sum_below_bound, sum_below_change, sum_below_term, sum_by_grouped}
 use Rattle.yds_edf.proofs.Steps.{changed_here, changed_elsewhere}
@@ -245,4 +245,35 @@ end start now stretch capacity room shares progress over =
       in_stretch = progress.in_stretch;
       ties = progress.ties;
       adds = progress.adds;
+    }
+
+-- where each job's tie is its number, jobs of the same deadline are served in order of their numbers
+before_by_number : (jobs : List Job) (ties : List ℕ) (one other : ℕ) → slice_index ties one ≡ one → slice_index ties other ≡ other →
+    IsDueBefore jobs (slice_index ties) one other → IsDueBefore jobs (λ number. number) one other
+before_by_number jobs ties one other first second (inl less) = inl less
+before_by_number jobs ties one other first second (inr (same, less)) = inr (same, omega (arith, first, second, less))
+
+pub by_number : (old new : TiedQueue) (stretch capacity : ℕ) (shares : List JobShare) →
+    ((number : ℕ) → number < length old.queue.jobs → slice_index old.ties number ≡ number) →
+    ServesTied old new stretch capacity shares → Serves old.queue new.queue stretch capacity shares
+by_number old new stretch capacity shares numbers serves =
+    let known = serves.serving.known in
+    record {
+      serving = record {
+        known = known;
+        some = serves.serving.some;
+        in_order = λ i j d order within.
+            before_by_number old.queue.jobs old.ties (get_or shares i d).job (get_or shares j d).job
+            (numbers (get_or shares i d).job (known i d (omega (arith, order, within))))
+            (numbers (get_or shares j d).job (known j d within)) (serves.serving.in_order i j d order within);
+        within = serves.serving.within;
+        total = serves.serving.total;
+        earliest = λ number there less k d within. elim (serves.serving.earliest number there less k d within) [
+          | inl is ↦ inl is
+          | inr before ↦ inr (before_by_number old.queue.jobs old.ties (get_or shares k d).job number
+              (numbers (get_or shares k d).job (known k d within)) (numbers number there) before)
+        ];
+      };
+      in_stretch = serves.in_stretch;
+      adds = serves.adds;
     }

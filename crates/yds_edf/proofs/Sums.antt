@@ -81,3 +81,11 @@ sum_by_grouped n key f (x ∷ xs) h =
           (λ j. cond (j == key x) (f x) 0 + sum_by (λ y. cond (j == key y) (f y) 0) xs)
           (λ j below. sum_by-cons (λ y. cond (j == key y) (f y) 0) x xs),
     )
+
+-- a sum of fewer terms is no greater
+pub sum_below_front : (i n : ℕ) (f : ℕ → ℕ) → i ≤ n → sum_below i f ≤ sum_below n f
+sum_below_front i zero f h = rw (let e : i ≡ 0 = omega arith in e) (omega arith)
+sum_below_front i (suc n) f h = elim (cases_eq i (suc n)) [
+  | inl same ↦ rw same (omega arith)
+  | inr other ↦ omega (arith, sum_below_front i n f (omega arith))
+]

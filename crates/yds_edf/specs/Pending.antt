@@ -11,10 +11,14 @@ sum_below (suc n) f = sum_below n f + f n
 abbrev pub units_wanted : List Job → ℕ → ℕ → ℕ
 units_wanted jobs grain number = (job_at jobs number).work * grain
 
--- a job has arrived where it was released by the last time of arrival, and none has where there is none
+-- a time is at most the last time of arrival, where there is one
+abbrev pub is_within : Option ℕ → ℕ → Bool
+is_within None time = false
+is_within (Some last) time = nat_le time last
+
+-- a job has arrived where it was released by the last time of arrival
 abbrev pub has_arrived : Option ℕ → Job → Bool
-has_arrived None job = false
-has_arrived (Some time) job = nat_le job.release time
+has_arrived last job = is_within last job.release
 
 -- the units of a job that are pending: those of an arrived job that weren't served
 abbrev pub pending_units : List Job → ℕ → Option ℕ → (ℕ → ℕ) → ℕ → ℕ

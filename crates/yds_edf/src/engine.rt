@@ -1,9 +1,10 @@
 ghost use Rattle.std.specs.Prelude.{
-    ◌≡◌, ◌<◌, ◌≤◌, ◌+◌, ◌-◌, ◌*◌, IfOk, OnErr, MatchOption, MatchResult, None, Some, replicate, length, slice_index
+    ◌≡◌, ◌≤◌, ◌-◌, ◌*◌, IfOk, OnErr, MatchOption, None, Some, length, if◌then◌else◌
 };
 ghost use Rattle.yds_model.specs.Job.{IsJob};
 
 ghost use Rattle.yds_edf.specs.Engine.{IsTiedQueue, ServesFirst, ServesTied};
+ghost use Rattle.yds_edf.specs.Pending.{is_within};
 ghost use Rattle.yds_edf.specs.Serving.{AreTies};
 ghost use Rattle.yds_edf.specs.Queue.{new_queue, IsNoEarlier, all_pending, pending_due};
 
@@ -93,6 +94,26 @@ impl Engine {
     {
         self.units
     }
+
+    /// The units that are pending of the jobs with deadline at most this time.
+    pub(crate) fn due(&self, time: u32) -> u64
+        ensures { result ≡ pending_due self.now.queue time }
+    {
+        let mut units = 0;
+        for (job, row) in self.rows.iter().enumerate() {
+            if row.deadline <= time {
+                units += units_pending(row, self.grain, self.time, self.served[job]);
+            }
+        }
+        units
+    }
+
+    /// The units that each job was served.
+    pub(crate) fn served(&self) -> &[u64]
+        ensures { result.now ≡ self.now.queue.served }
+    {
+        &self.served
+    }
 }
 
 impl Engine {
@@ -170,6 +191,18 @@ impl Engine {
             room -= units;
         }
         Ok(shares)
+    }
+}
+
+/// The units of a job that are pending at the last time of arrival.
+fn units_pending(row: &JobRow, grain: u64, last: Option<u32>, served: u64) -> u64
+    requires grain_in_range { grain ≤ MAX_GRAIN }
+    requires within { served ≤ row.now.work * grain }
+    ensures { result ≡ (if is_within last row.now.release then row.now.work * grain - served else 0) }
+{
+    match last {
+        Some(time) if row.release <= time => units_left(row, grain, served),
+        _ => 0,
     }
 }
 

@@ -9,9 +9,11 @@ mod engine;
 mod entry;
 mod event_points;
 pub mod limits;
+mod queue;
 mod share;
 mod stretch;
 
 pub use event_points::events;
+pub use queue::Queue;
 pub use share::Share;
 pub use stretch::Stretch;
