@@ -89,3 +89,21 @@ sum_below_front i (suc n) f h = elim (cases_eq i (suc n)) [
   | inl same ↦ rw same (omega arith)
   | inr other ↦ omega (arith, sum_below_front i n f (omega arith))
 ]
+
+-- a sum of terms that are at most others, and one of them less
+pub sum_below_less : (n k : ℕ) (f g : ℕ → ℕ) → k < n → ((j : ℕ) → j < n → f j ≤ g j) → f k < g k → sum_below n f < sum_below n g
+sum_below_less zero k f g within h less = absurd (omega arith)
+sum_below_less (suc n) k f g within h less = elim (cases_eq k n) [
+  | inl same ↦ omega (
+    arith,
+    ap f same,
+    ap g same,
+    less,
+    sum_below_at_most n f g (λ j below. h j (omega arith)),
+  )
+  | inr other ↦ omega (
+    arith,
+    h n (omega arith),
+    sum_below_less n k f g (omega arith) (λ j below. h j (omega arith)) less,
+  )
+]

@@ -5,8 +5,12 @@ use Rattle.yds_model.specs.Job.{Job, job_at}
 use Rattle.yds_model.specs.Piece.{Piece}
 use Rattle.yds_edf.specs.Pending.{sum_below, units_wanted}
 
+-- the stretch at a place; `no_stretch` stands where there is none
+abbrev pub no_stretch : Piece
+no_stretch = record { from = 0; to = 0 }
+
 abbrev pub stretch_at : List Piece → ℕ → Piece
-stretch_at stretches i = slice_index_or stretches i (record { from = 0; to = 0 })
+stretch_at stretches i = slice_index_or stretches i no_stretch
 
 -- the stretch's capacity, by its number
 abbrev pub capacity_at : List ℕ → ℕ → ℕ

@@ -61,10 +61,11 @@ impl Engine {
         requires grain_in_range { grain ≤ MAX_GRAIN }
         requires all_tied { length ties.items ≡ length rows.now }
         requires told_apart { AreTies ties.items }
-        ensures { IfOk result (λ engine. engine ≡ record {
+        ensures made { IfOk result (λ engine. engine ≡ record {
             queue = new_queue rows.now grain;
             ties = ties.items
         }) }
+        ensures kept { IfOk result IsTiedQueue }
     {
         let mut coming = BinaryHeap::new(alloc);
         for (number, row) in rows.iter().enumerate() {

@@ -8,12 +8,14 @@
 mod engine;
 mod entry;
 mod event_points;
+mod filling;
 pub mod limits;
 mod queue;
 mod share;
 mod stretch;
 
 pub use event_points::events;
+pub use filling::fill;
 pub use queue::Queue;
 pub use share::Share;
 pub use stretch::Stretch;

@@ -14,5 +14,5 @@ new-requires-clause-told_apart c = rw c.in_ok-numbers.ensures (λ i j first seco
 ))
 
 pub invariant_of-result : goal.invariant_of-result
-invariant_of-result c = rw (c.in_ok-engine.ensures, c.in_ok-numbers.ensures)
+invariant_of-result c = rw (c.in_ok-engine.ensures.made, c.in_ok-numbers.ensures)
     (λ number within. omega (arith, get_or-range_with_len 0 (length c.args.rows.now) number 0 within))
