@@ -1,17 +1,21 @@
 -- The laws of the definitions. Each is the contract of a public function of this crate.
-use Rattle.std.specs.Prelude.{◌≡◌, ℕ, ◌+◌, ◌-◌, ◌*◌, ◌<◌, ◌≤◌, ◌↔◌, List, ◌++◌, length}
+use Rattle.std.specs.Prelude.{◌≡◌, ℕ, ◌+◌, ◌-◌, ◌*◌, ◌/◌, ◌<◌, ◌≤◌, ◌↔◌, List, ◌++◌, length, Option, Some, None}
 use Rattle.std.specs.List.{All}
-use Rattle.std.specs.Int.{◌∣◌}
+use Rattle.std.specs.Int.{◌∣◌, IsGcd}
 use Rattle.yds_model.specs.Numbers.{AreDifferent}
+use Rattle.yds_model.specs.Divisor.{common_divisor, common_multiple}
 use Rattle.yds_model.specs.Job.{Job, job_at, work_of}
 use Rattle.yds_model.specs.Scale.{Fraction, at_scale, IsLess, IsSame, IsSum, IsMultiple}
 use Rattle.yds_model.specs.Slot.{WrittenSlot, WholeSlot, IsScale, IsSolid, slots_at}
 use Rattle.yds_model.specs.Feasible.{IsFeasibleAt, IsFeasible}
 use Rattle.yds_model.specs.Excess.{excess, IsLeast}
 use Rattle.yds_model.specs.Piece.{Piece, IsConfined, total_length}
-use Rattle.yds_model.specs.Level.{Level}
+use Rattle.yds_model.specs.Level.{Level, level_at}
 use Rattle.yds_model.specs.Explains.{Explains}
-use Rattle.yds_model.specs.Proper.{IsProper}
+use Rattle.yds_model.specs.Proper.{IsProper, AreLevels}
+use Rattle.yds_model.specs.Plan.{IsPlan}
+use Rattle.yds_model.specs.Audit.{Verdict, Feasible, IsVerdict, IsOnTable, AreSlots}
+use Rattle.yds_model.specs.Judgement.{Judgement, Accepted, IsJudgement}
 use Rattle.yds_model.specs.Table.{Point, point_at, AreRising, IsHullOf, IsAround, interpolated}
 
 -- Scale: reading a schedule at k times a scale keeps it feasible, both ways.
@@ -93,3 +97,63 @@ HullIsLowest = (points hull : List Point) (p q i j k : ℕ) → AreRising points
     k + 1 < length hull → IsAround p q (point_at hull k) (point_at hull (k + 1)) →
     interpolated p q (point_at hull k) (point_at hull (k + 1)) * ((point_at points j).speed - (point_at points i).speed)
     ≤ interpolated p q (point_at points i) (point_at points j) * ((point_at hull (k + 1)).speed - (point_at hull k).speed)
+
+-- Audit: the verdict is 'feasible' exactly where the schedule is feasible.
+abbrev pub VerdictIsExact : Type 0
+VerdictIsExact = (jobs : List Job) (slots : List WrittenSlot) → AreSlots (length jobs) slots →
+    (IsVerdict jobs None slots Feasible ↔ IsFeasible jobs slots)
+
+-- Audit: with a table, exactly where besides each slot has a point's speed.
+abbrev pub TableVerdictIsExact : Type 0
+TableVerdictIsExact = (jobs : List Job) (points : List Point) (slots : List WrittenSlot) → AreSlots (length jobs) slots →
+    (IsVerdict jobs (Some points) slots Feasible ↔ (IsFeasible jobs slots × All (IsOnTable (Some points)) slots))
+
+-- Check: the judgement is 'accepted' exactly where the certificate is proper.
+abbrev pub JudgementIsExact : Type 0
+JudgementIsExact = (jobs : List Job) (slots : List WrittenSlot) (levels : List Level) → AreSlots (length jobs) slots → AreLevels jobs levels →
+    (IsJudgement jobs slots levels Accepted ↔ IsProper jobs slots levels)
+
+-- Audit: two verdicts of the same jobs, table and slots are one.
+abbrev pub VerdictIsUnique : Type 0
+VerdictIsUnique = (jobs : List Job) (table : Option (List Point)) (slots : List WrittenSlot) (verdict other : Verdict) →
+    IsVerdict jobs table slots verdict → IsVerdict jobs table slots other → verdict ≡ other
+
+-- Check: two judgements of the same jobs, slots and levels are one.
+abbrev pub JudgementIsUnique : Type 0
+JudgementIsUnique = (jobs : List Job) (slots : List WrittenSlot) (levels : List Level) (judgement other : Judgement) →
+    IsJudgement jobs slots levels judgement → IsJudgement jobs slots levels other → judgement ≡ other
+
+-- A plan's schedule is least, and its levels explain it.
+abbrev pub PlansAreLeast : Type 0
+PlansAreLeast = (jobs : List Job) (slots : List WrittenSlot) (levels : List Level) → IsPlan jobs slots levels →
+    IsLeast jobs slots × Explains jobs slots levels
+
+-- Two plans of the same jobs have the same levels by work and length.
+abbrev pub PlansHaveTheSameLevels : Type 0
+PlansHaveTheSameLevels = (jobs : List Job) (slots others : List WrittenSlot) (levels others_levels : List Level) →
+    All IsSolid slots → All IsSolid others → IsPlan jobs slots levels → IsPlan jobs others others_levels →
+    (length levels ≡ length others_levels)
+    × ((i : ℕ) → i < length levels → ((level_at levels i).work ≡ (level_at others_levels i).work) × ((level_at levels i).length ≡ (level_at others_levels i).length))
+
+-- A feasible schedule at or below a whole speed serves each interval: the work confined to it is at most the speed times its
+-- length.
+abbrev pub ServedAtSpeed : Type 0
+ServedAtSpeed = (jobs : List Job) (scale top from to : ℕ) (slots : List WholeSlot) (members : List ℕ) →
+    1 ≤ scale → from < to → IsFeasibleAt jobs scale slots → All (λ slot. slot.work ≤ top * (slot.to - slot.from)) slots →
+    AreDifferent members → All (λ number. number < length jobs) members →
+    All (λ number. (from ≤ (job_at jobs number).release) × ((job_at jobs number).deadline ≤ to)) members →
+    work_of jobs members ≤ top * (to - from)
+
+-- The greatest common divisor is one, and each common divisor divides it.
+abbrev pub DivisorIsGreatest : Type 0
+DivisorIsGreatest = (a b : ℕ) → IsGcd a b (common_divisor a b)
+
+-- The least common multiple is one, and divides each common multiple.
+abbrev pub MultipleIsLeast : Type 0
+MultipleIsLeast = (a b : ℕ) →
+    (a ∣ common_multiple a b) × (b ∣ common_multiple a b) × ((k : ℕ) → a ∣ k → b ∣ k → common_multiple a b ∣ k)
+
+-- Equal quotients have the same lowest terms.
+abbrev pub LowestTermsAreOne : Type 0
+LowestTermsAreOne = (a b c d : ℕ) → 1 ≤ b → 1 ≤ d → a * d ≡ c * b →
+    (a / common_divisor a b ≡ c / common_divisor c d) × (b / common_divisor a b ≡ d / common_divisor c d)

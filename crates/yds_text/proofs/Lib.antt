@@ -1,0 +1,4 @@
+mod FirstLine
+mod FirstField
+mod Spelled
+mod Split
