@@ -1,3 +1,4 @@
 pub mod Divisors
 pub mod Parts
 pub mod Split
+pub mod Stretches
