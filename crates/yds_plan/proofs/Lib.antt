@@ -2,3 +2,4 @@ pub mod Divisors
 pub mod Parts
 pub mod Split
 pub mod Stretches
+pub mod Joined
