@@ -3,3 +3,4 @@ pub mod Parts
 pub mod Split
 pub mod Stretches
 pub mod Joined
+pub mod Speeds
