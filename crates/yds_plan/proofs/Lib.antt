@@ -4,3 +4,5 @@ pub mod Split
 pub mod Stretches
 pub mod Joined
 pub mod Speeds
+pub mod Blocks
+pub mod Shares
