@@ -6,3 +6,4 @@ pub mod Joined
 pub mod Speeds
 pub mod Blocks
 pub mod Shares
+pub mod Filled
