@@ -53,3 +53,16 @@ AllPairs-blocks R f a (suc n) within across =
     (λ k l from order below. across k l (omega arith) order (omega arith)))
     (All-blocks (λ y. All (λ x. R x y) (f a)) f (a + 1) n
     (λ i below. across a (a + 1 + i) (omega arith) (omega arith) (omega arith)))
+
+-- the same for blocks from 0 on
+pub all_of_blocks : {Y : Type 0} (P : Y → Type 0) (f : ℕ → List Y) (n : ℕ) → ((i : ℕ) → i < n → All P (f i)) →
+    All P (flat_map f (range_with_len 0 n))
+all_of_blocks P f n each = All-blocks P f 0 n (λ i below. let same : 0 + i ≡ i = omega arith in rw same (each i below))
+
+pub block_of_all : {Y : Type 0} (P : Y → Type 0) (f : ℕ → List Y) (n i : ℕ) → i < n → All P (flat_map f (range_with_len 0 n)) → All P (f i)
+block_of_all P f n i below all = let same : 0 + i ≡ i = omega arith in rw same at (All-block P f 0 n i below all)
+
+pub pairs_of_blocks : {Y : Type 0} (R : Y → Y → Type 0) (f : ℕ → List Y) (n : ℕ) → ((k : ℕ) → k < n → AllPairs R (f k)) →
+    ((k l : ℕ) → k < l → l < n → All (λ y. All (λ x. R x y) (f k)) (f l)) → AllPairs R (flat_map f (range_with_len 0 n))
+pairs_of_blocks R f n within across =
+    AllPairs-blocks R f 0 n (λ k from below. within k (omega arith)) (λ k l from order below. across k l order (omega arith))

@@ -101,6 +101,10 @@ slots_from_length group start done (share ∷ shares) = omega (arith, slots_from
 abbrev pub units_of : List Share → ℕ
 units_of shares = sum_by (λ share. share.units) shares
 
+-- the slots follow each other, and so do their jobs
+abbrev pub FollowsBy : (ℕ → ℕ → Type 0) → WholeSlot → WholeSlot → Type 0
+FollowsBy R one other = (one.to ≤ other.from) × R one.job other.job
+
 module _ (group : Group) (scale start : ℕ) (positive : 1 ≤ scale) (some_time : 1 ≤ per_time group) where
   pub fills : (end done : ℕ) (shares : List Share) → AllByRecursion (IsDivided scale) (slots_from group start done shares) →
       All (λ share. 1 ≤ share.units) shares → start * per_time group + done + units_of shares ≤ end * per_time group →
@@ -125,10 +129,6 @@ module _ (group : Group) (scale start : ℕ) (positive : 1 ≤ scale) (some_time
       (λ slot later. later_from scale start done share.units end (per_time group) (per_work group) slot later)
       (slots_at scale (slots_from group start (done + share.units) shares))
       (fills end (done + share.units) shares divided.1 (All-tail (λ share. 1 ≤ share.units) share shares some) (omega arith)))
-
-  -- the slots follow each other, as the shares do
-  abbrev pub FollowsBy : (ℕ → ℕ → Type 0) → WholeSlot → WholeSlot → Type 0
-  FollowsBy R one other = (one.to ≤ other.from) × R one.job other.job
 
   pub filled_pairs : (R : ℕ → ℕ → Type 0) (end done : ℕ) (shares : List Share) →
       AllByRecursion (IsDivided scale) (slots_from group start done shares) →

@@ -7,3 +7,4 @@ pub mod Speeds
 pub mod Blocks
 pub mod Shares
 pub mod Filled
+pub mod Order
