@@ -8,3 +8,4 @@ pub mod Blocks
 pub mod Shares
 pub mod Filled
 pub mod Order
+pub mod Schedule

@@ -50,10 +50,10 @@ in_range n k d within =
     let below : k < n = omega (arith, length-range_with_len 0 n) in
     (below, get_or-range_with_len 0 n k d below ∙ omega arith)
 
-not_here : (key k v : ℕ) → (key ≡ k → ⊥) → cond (key == k) v 0 ≡ 0
+pub not_here : (key k v : ℕ) → (key ≡ k → ⊥) → cond (key == k) v 0 ≡ 0
 not_here key k v other = ap (λ b. cond b v 0) (ne_eqb key k other)
 
-is_here : (key k v : ℕ) → key ≡ k → cond (key == k) v 0 ≡ v
+pub is_here : (key k v : ℕ) → key ≡ k → cond (key == k) v 0 ≡ v
 is_here key k v same = ap (λ b. cond b v 0) (eq-eqb key k same)
 
 -- of a range's terms only that of the key counts
