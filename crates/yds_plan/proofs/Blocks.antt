@@ -1,9 +1,9 @@
 -- Lists that are joined from blocks, one for each number of a range: facts of elements and of pairs.
 use Rattle.std.proofs.Common.{◌≡◌, ℕ, zero, suc, ◌+◌, ◌<◌, ◌≤◌, List, [], ◌∷◌, ◌++◌, ◌∙◌, length, map, get_or, sym, refl, ap, arith}
-use Rattle.std.specs.List.{All, AllPairs, flat_map, range_with_len}
-use Rattle.std.proofs.lemmas.List.{map-append}
+use Rattle.std.specs.List.{All, AllPairs, Any, flat_map, range_with_len}
+use Rattle.std.proofs.lemmas.List.{map-append, length-append, get_or-append-add}
 use Rattle.std.proofs.lemmas.List.Elements.{All-nil, All-cons, All-head, All-tail, All-append}
-use Rattle.yds_model.proofs.Lists.{AllPairs-append}
+use Rattle.yds_model.proofs.Lists.{AllPairs-append, Any-append_left}
 use Rattle.yds_plan.proofs.Split.{All-range}
 
 pub All-front : {X : Type 0} (P : X → Type 0) (xs ys : List X) → All P (xs ++ ys) → All P xs
@@ -66,3 +66,25 @@ pub pairs_of_blocks : {Y : Type 0} (R : Y → Y → Type 0) (f : ℕ → List Y)
     ((k l : ℕ) → k < l → l < n → All (λ y. All (λ x. R x y) (f k)) (f l)) → AllPairs R (flat_map f (range_with_len 0 n))
 pairs_of_blocks R f n within across =
     AllPairs-blocks R f 0 n (λ k from below. within k (omega arith)) (λ k l from order below. across k l order (omega arith))
+
+-- some element of a block is one of all
+Any-append_right : {Y : Type 0} (P : Y → Type 0) (xs ys : List Y) → Any P ys → Any P (xs ++ ys)
+Any-append_right P xs ys some = (
+  length xs + some.0,
+  some.1,
+  omega (arith, some.2, length-append xs ys),
+  get_or-append-add xs ys some.0 some.1 ∙ some.3,
+  some.4,
+)
+
+any_block : {Y : Type 0} (P : Y → Type 0) (f : ℕ → List Y) (a n i : ℕ) → i < n → Any P (f (a + i)) → Any P (flat_map f (range_with_len a n))
+any_block P f a zero i below some = absurd (omega arith)
+any_block P f a (suc n) zero below some =
+    let first : a + 0 ≡ a = omega arith in
+    Any-append_left P (f a) (flat_map f (range_with_len (a + 1) n)) (rw first at some)
+any_block P f a (suc n) (suc i) below some =
+    let same : a + suc i ≡ a + 1 + i = omega arith in
+    Any-append_right P (f a) (flat_map f (range_with_len (a + 1) n)) (any_block P f (a + 1) n i (omega arith) (rw same at some))
+
+pub some_of_blocks : {Y : Type 0} (P : Y → Type 0) (f : ℕ → List Y) (n i : ℕ) → i < n → Any P (f i) → Any P (flat_map f (range_with_len 0 n))
+some_of_blocks P f n i below some = let same : 0 + i ≡ i = omega arith in any_block P f 0 n i below (rw same some)

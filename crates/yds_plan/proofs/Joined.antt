@@ -2,7 +2,7 @@
 use Rattle.std.proofs.Common.{◌≡◌, ℕ, zero, suc, ◌+◌, ◌-◌, ◌*◌, ◌<◌, ◌≤◌, ◌==◌, ◌⊎◌, List, [], ◌∷◌, ◌∙◌, length, map, get_or, sym, refl, ap, arith, inl, inr, Bool, true, false}
 use Rattle.std.specs.Prelude.{cond}
 use Rattle.std.specs.List.{All, Any, sum_by, filter, range_with_len}
-use Rattle.std.proofs.lemmas.Bool.{cases_lt, cond_both, eqb-true, eqb-false}
+use Rattle.std.proofs.lemmas.Bool.{cases_lt, cond_both, eqb-true, eqb-false, false≢true}
 use Rattle.std.proofs.lemmas.List.Sums.{sum_by-cons}
 use Rattle.std.proofs.lemmas.List.Elements.{All-nil, All-cons, All-head, All-tail}
 use Rattle.yds_model.specs.Job.{Job}
@@ -177,3 +177,31 @@ range_run jobs p low a (suc n) within from =
 pub some_stretches_run : (jobs : List Job) (p : ℕ → Bool) →
     PiecesFrom 0 (map (stretch_at jobs) (filter p (range_with_len 0 (length (stretches jobs)))))
 some_stretches_run jobs p = range_run jobs p 0 0 (length (stretches jobs)) (omega arith) (λ k above below. omega arith)
+
+-- one of some of the stretches covers what it has
+here_covers : (jobs : List Job) (time a : ℕ) (ks : List ℕ) (p : Bool) → p ≡ true → Holds time (stretch_at jobs a) →
+    Covers (map (stretch_at jobs) (cond p (a ∷ ks) ks)) time
+here_covers jobs time a ks true is holds = covers_head time (stretch_at jobs a) (map (stretch_at jobs) ks) holds
+here_covers jobs time a ks false is holds = absurd (false≢true is)
+
+later_covers : (jobs : List Job) (time a : ℕ) (ks : List ℕ) (p : Bool) → Covers (map (stretch_at jobs) ks) time →
+    Covers (map (stretch_at jobs) (cond p (a ∷ ks) ks)) time
+later_covers jobs time a ks true covers = covers_tail time (stretch_at jobs a) (map (stretch_at jobs) ks) covers
+later_covers jobs time a ks false covers = covers
+
+range_covers : (jobs : List Job) (p : ℕ → Bool) (time k a n : ℕ) → a ≤ k → k < a + n → p k ≡ true → Holds time (stretch_at jobs k) →
+    Covers (map (stretch_at jobs) (filter p (range_with_len a n))) time
+range_covers jobs p time k a zero from below passes holds = absurd (omega arith)
+range_covers jobs p time k a (suc n) from below passes holds = elim (cases_lt a k) [
+  | inl later ↦
+      later_covers jobs time a (filter p (range_with_len (a + 1) n)) (p a)
+      (range_covers jobs p time k (a + 1) n (omega arith) (omega arith) passes holds)
+  | inr now ↦
+      let same : k ≡ a = omega arith in
+      here_covers jobs time a (filter p (range_with_len (a + 1) n)) (p a) (rw same at passes) (rw same at holds)
+]
+
+pub some_stretches_cover : (jobs : List Job) (p : ℕ → Bool) (time k : ℕ) → k < length (stretches jobs) → p k ≡ true → Holds time (stretch_at jobs k) →
+    Covers (map (stretch_at jobs) (filter p (range_with_len 0 (length (stretches jobs))))) time
+some_stretches_cover jobs p time k within passes holds =
+    range_covers jobs p time k 0 (length (stretches jobs)) (omega arith) (omega arith) passes holds

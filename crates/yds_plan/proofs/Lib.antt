@@ -9,3 +9,5 @@ pub mod Shares
 pub mod Filled
 pub mod Order
 pub mod Schedule
+pub mod Levels
+pub mod LevelPieces
