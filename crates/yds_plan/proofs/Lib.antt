@@ -11,3 +11,4 @@ pub mod Order
 pub mod Schedule
 pub mod Levels
 pub mod LevelPieces
+pub mod Plan

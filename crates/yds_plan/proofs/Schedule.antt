@@ -43,7 +43,7 @@ room_of start end p units forward e =
 
 module _ (jobs : List Job) (found : Found) (is : IsFound jobs found) where
   -- a job that is in a group has work
-  has_work : (j : ℕ) → j < length jobs → group_of found.group_of_job j < length found.groups → 1 ≤ (job_at jobs j).work
+  pub has_work : (j : ℕ) → j < length jobs → group_of found.group_of_job j < length found.groups → 1 ≤ (job_at jobs j).work
   has_work j known grouped = elim (cases_lt (job_at jobs j).work 1) [
     | inl none ↦ absurd (omega (arith, is.idle j known (omega arith)))
     | inr some ↦ some
@@ -75,7 +75,7 @@ module _ (jobs : List Job) (found : Found) (is : IsFound jobs found) where
         earliest_of a b k l one other (omega (arith, one.same_group, other.same_group)) released order
   ]
 
-  terms : (g : ℕ) → g < length found.groups → Lowest (group_at found.groups g).work (group_at found.groups g).length
+  pub terms : (g : ℕ) → g < length found.groups → Lowest (group_at found.groups g).work (group_at found.groups g).length
   terms g known = lowest (group_at found.groups g).work (group_at found.groups g).length (is.some_work g known) (is.some_length g known)
 
   room : (k : ℕ) → k < length (stretches jobs) → group_of found.group_of_stretch k < length found.groups →

@@ -19,7 +19,7 @@ pub record AreGroups (groups : List Group) : Type 0 where
       (group_at groups (i + 1)).work * (group_at groups i).length ≤ (group_at groups i).work * (group_at groups (i + 1)).length
 
 -- a/d = b/e and b/e = c/f give a/d = c/f
-same_through : (a b c d e f : ℕ) → 1 ≤ e → a * e ≡ b * d → b * f ≡ c * e → a * f ≡ c * d
+pub same_through : (a b c d e f : ℕ) → 1 ≤ e → a * e ≡ b * d → b * f ≡ c * e → a * f ≡ c * d
 same_through a b c d e f some one two =
     let first : a * e * f ≡ b * d * f = ap (λ n. n * f) one in
     let second : b * f * d ≡ c * e * d = ap (λ n. n * d) two in

@@ -3,7 +3,7 @@ use Rattle.std.proofs.Common.{◌≡◌, ℕ, zero, suc, ◌+◌, ◌*◌, ◌<�
 use Rattle.std.specs.Prelude.{cond, nat_lt}
 use Rattle.std.specs.List.{All, sum_by, filter, flat_map, range_with_len}
 use Rattle.std.proofs.lemmas.Bool.{cases_eq, cases_lt, ne_eqb, eq-eqb, lt-ltb, le-ltb}
-use Rattle.std.proofs.lemmas.List.Sums.{sum_by-cons, sum_by-append}
+use Rattle.std.proofs.lemmas.List.Sums.{sum_by-cons, sum_by-append, sum_by-le-sum_by}
 use Rattle.std.proofs.lemmas.List.FromFn.{get_or-range_with_len, length-range_with_len}
 use Rattle.yds_model.proofs.Sums.{sum_by-add, sum_by_same, sum_by_zero}
 
@@ -110,3 +110,22 @@ split_all key f n xs below =
     split_sum key f n xs
     ∙ sum_by_same (λ x. cond (nat_lt (key x) n) (f x) 0) f xs
         (λ i d within. ap (λ b. cond b (f (get_or xs i d)) 0) (lt-ltb (key (get_or xs i d)) n (below i d within)))
+
+cond_at_most : (b : Bool) (v : ℕ) → cond b v 0 ≤ v
+cond_at_most true v = omega arith
+cond_at_most false v = omega arith
+
+-- they are never more
+pub split_at_most : {X : Type 0} (key : X → ℕ) (f : X → ℕ) (n : ℕ) (xs : List X) →
+    sum_by (λ k. sum_by f (filter (λ x. key x == k) xs)) (range_with_len 0 n) ≤ sum_by f xs
+split_at_most key f n xs =
+    omega (
+      arith,
+      split_sum key f n xs,
+      sum_by-le-sum_by (λ x. cond (nat_lt (key x) n) (f x) 0) f xs (λ x. cond_at_most (nat_lt (key x) n) (f x)),
+    )
+
+-- a length is a sum of ones
+pub count_all : {X : Type 0} (xs : List X) → sum_by (λ x. 1) xs ≡ length xs
+count_all [] = refl
+count_all (x ∷ xs) = omega (arith, sum_by-cons (λ one. 1) x xs, count_all xs)
