@@ -237,6 +237,5 @@ module _ (jobs : List Job) (found : Found) (is : IsFound jobs found) where
   }
 
 -- What is found makes a plan.
-pub found_makes_plan : (jobs : List Job) (found : Found) → All IsJob jobs → IsFound jobs found →
-    IsPlan jobs (slots_of jobs found) (levels_of jobs found)
-found_makes_plan jobs found are is = makes_plan jobs found is
+pub found_makes_plan : (jobs : List Job) (found : Found) → IsFound jobs found → IsPlan jobs (slots_of jobs found) (levels_of jobs found)
+found_makes_plan = makes_plan
