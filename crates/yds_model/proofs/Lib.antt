@@ -11,3 +11,6 @@ pub mod Fractions
 pub mod Scale
 pub mod Lines
 pub mod Hull
+pub mod OneJob
+pub mod Spelling
+pub mod TextLaws

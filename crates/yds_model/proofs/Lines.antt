@@ -1,10 +1,10 @@
 -- Lines and fields in parts: the steps by which a text is read and written.
-use Rattle.std.proofs.Common.{◌≡◌, ◌≢◌, ℕ, ◌+◌, ◌<◌, ◌≤◌, true, false, ◌==◌, cond, List, [], ◌∷◌, ◌++◌, length, take, drop, All, refl, sym, ap, ◌∙◌, arith, ne_eqb, eq-eqb, one-add, ap₂, subst, take-append-drop, append-nil, not, inl, inr}
-use Rattle.std.specs.List.{prefix_len, position_or_len}
+use Rattle.std.proofs.Common.{◌≡◌, ◌≢◌, ℕ, ◌+◌, ◌<◌, ◌≤◌, true, false, ◌==◌, cond, List, [], ◌∷◌, ◌++◌, length, take, drop, All, refl, sym, ap, ◌∙◌, arith, ne_eqb, eq-eqb, one-add, ap₂, subst, take-append-drop, append-nil, append_assoc, not, inl, inr}
+use Rattle.std.specs.List.{prefix_len, position_or_len, join_with_byte, AllByRecursion}
 use Rattle.std.proofs.lemmas.Bool.{cases_Bool}
 use Rattle.std.proofs.lemmas.List.Folds.{length-prefix_len}
-use Rattle.std.proofs.lemmas.List.Elements.{All-nil, All-cons, All-head, All-tail}
-use Rattle.yds_model.specs.Lines.{Field, lines_from, without_return, is_blank, joined, fields_from}
+use Rattle.std.proofs.lemmas.List.Elements.{All-nil, All-cons, All-head, All-tail, All-append}
+use Rattle.yds_model.specs.Lines.{Line, in_front, Field, lines_from, without_return, is_blank, joined, fields_from}
 
 -- ---- lines
 
@@ -26,6 +26,26 @@ lines_from-last number start byte [] none =
 lines_from-last number start byte (next ∷ bytes) none =
     rw (ne_eqb byte 10 (All-head (λ byte. byte ≢ 10) byte (next ∷ bytes) none), lines_from-last number (start + 1) next bytes (All-tail (λ byte. byte ≢ 10) byte (next ∷ bytes) none)) refl
 
+-- there are no more lines than bytes
+length-in_front-le : (number start byte : ℕ) (lines : List Line) → length (in_front number start byte lines) ≤ length lines + 1
+length-in_front-le number start byte [] = omega arith
+length-in_front-le number start byte (line ∷ lines) = omega arith
+
+pub length-lines_from-le : (number start : ℕ) (bytes : List ℕ) → length (lines_from number start bytes) ≤ length bytes
+length-lines_from-le number start [] = omega arith
+length-lines_from-le number start (byte ∷ bytes) =
+    elim (cases_Bool (byte == 10)) [
+      | inl feed ↦ rw feed (omega (arith, length-lines_from-le (number + 1) (start + 1) bytes))
+      | inr other ↦
+          rw other (omega (arith, length-in_front-le number start byte (lines_from number (start + 1) bytes), length-lines_from-le number (start + 1) bytes))
+    ]
+
+-- a written line: bytes without line feeds, and a line feed
+pub lines_from-written : (number start : ℕ) (text rest : List ℕ) → All (λ byte. byte ≢ 10) text →
+    lines_from number start (text ++ 10 ∷ [] ++ rest) ≡ record { number = number; start = start; text = text } ∷ lines_from (number + 1) (start + length text + 1) rest
+lines_from-written number start text rest none =
+    ap (lines_from number start) (append_assoc text (10 ∷ []) rest) ∙ lines_from-front number start text rest none
+
 -- ---- carriage returns
 
 pub without_return-end : (front : List ℕ) → without_return (front ++ 13 ∷ []) ≡ front
@@ -37,6 +57,12 @@ pub without_return-other : (front : List ℕ) (byte : ℕ) → byte ≢ 13 → w
 without_return-other [] byte other = rw (ne_eqb byte 13 other) refl
 without_return-other (first ∷ []) byte other = rw (ne_eqb byte 13 other) refl
 without_return-other (first ∷ next ∷ front) byte other = ap (λ bytes. first ∷ bytes) (without_return-other (next ∷ front) byte other)
+
+pub without_return-none : (text : List ℕ) → All (λ byte. byte ≢ 13) text → without_return text ≡ text
+without_return-none [] none = refl
+without_return-none (byte ∷ []) none = rw (ne_eqb byte 13 (All-head (λ byte. byte ≢ 13) byte [] none)) refl
+without_return-none (byte ∷ next ∷ text) none =
+    ap (λ text. byte ∷ text) (without_return-none (next ∷ text) (All-tail (λ byte. byte ≢ 13) byte (next ∷ text) none))
 
 -- ---- fields
 
@@ -175,6 +201,25 @@ fields_from-first column (byte ∷ bytes) some =
           ∙ ap (λ (n : ℕ). record { column = column; text = take n (byte ∷ bytes) } ∷ fields_from (column + n) (drop n (byte ∷ bytes))) (sym more)
     ]
 
+-- with no field after them, the blanks at the front are all
+pub drop_blanks-none : (bytes : List ℕ) → position_or_len is_blank (drop (prefix_len is_blank bytes) bytes) ≡ 0 →
+    drop (prefix_len is_blank bytes) bytes ≡ []
+drop_blanks-none [] none = refl
+drop_blanks-none (byte ∷ bytes) none =
+    elim (cases_Bool (is_blank byte)) [
+      | inl blank ↦
+          let blanks : prefix_len is_blank (byte ∷ bytes) ≡ 1 + prefix_len is_blank bytes = rw blank refl in
+          let rest : drop (prefix_len is_blank (byte ∷ bytes)) (byte ∷ bytes) ≡ drop (prefix_len is_blank bytes) bytes =
+          ap (λ (n : ℕ). drop n (byte ∷ bytes)) blanks ∙ drop_next (prefix_len is_blank bytes) byte bytes in
+          rest ∙ drop_blanks-none bytes (sym (ap (position_or_len is_blank) rest) ∙ none)
+      | inr full ↦
+          let blanks : prefix_len is_blank (byte ∷ bytes) ≡ 0 = rw full refl in
+          let some : position_or_len is_blank (byte ∷ bytes) ≡ 1 + position_or_len is_blank bytes = rw full refl in
+          let same : position_or_len is_blank (drop (prefix_len is_blank (byte ∷ bytes)) (byte ∷ bytes)) ≡ position_or_len is_blank (byte ∷ bytes) =
+          ap (λ (n : ℕ). position_or_len is_blank (drop n (byte ∷ bytes))) blanks in
+          absurd (omega arith)
+    ]
+
 -- a field and the space after it
 pub fields_from-front : (column : ℕ) (field rest : List ℕ) → 0 < length field → All (λ byte. is_blank byte ≡ false) field →
     fields_from column (field ++ 32 ∷ rest) ≡ record { column = column; text = field } ∷ fields_from (column + length field + 1) rest
@@ -187,3 +232,43 @@ pub fields_from-last : (column : ℕ) (field : List ℕ) → 0 < length field �
 fields_from-last column [] some full = absurd (omega arith)
 fields_from-last column (byte ∷ field) some full =
     ap (λ bytes. fields_from column (byte ∷ bytes)) (sym (append-nil field)) ∙ fields_from-run column byte field [] full tt
+
+-- there are no more fields than bytes
+length-joined-le : (column byte : ℕ) (fields : List Field) → length (joined column byte fields) ≤ length fields + 1
+length-joined-le column byte [] = omega arith
+length-joined-le column byte (field ∷ fields) =
+    elim (field.column == column + 1) as (λ test. length (cond test (record { column = column; text = byte ∷ field.text } ∷ fields) (record { column = column; text = byte ∷ [] } ∷ field ∷ fields)) ≤ length (field ∷ fields) + 1) [ true ↦ omega arith | false ↦ omega arith ]
+
+pub length-fields_from-le : (column : ℕ) (bytes : List ℕ) → length (fields_from column bytes) ≤ length bytes
+length-fields_from-le column [] = omega arith
+length-fields_from-le column (byte ∷ bytes) =
+    elim (cases_Bool (is_blank byte)) [
+      | inl blank ↦ rw blank (omega (arith, length-fields_from-le (column + 1) bytes))
+      | inr full ↦
+          rw full (omega (arith, length-joined-le column byte (fields_from (column + 1) bytes), length-fields_from-le (column + 1) bytes))
+    ]
+
+-- what holds of each byte of these fields, and of a space, holds of them with one space between
+pub All-join : (P : ℕ → Type 0) (fields : List (List ℕ)) → P 32 → AllByRecursion (All P) fields → All P (join_with_byte 32 fields)
+All-join P [] space all = All-nil P
+All-join P (field ∷ []) space all = all.0
+All-join P (field ∷ next ∷ fields) space all =
+    All-append P field (32 ∷ join_with_byte 32 (next ∷ fields)) all.0
+    (All-cons P 32 (join_with_byte 32 (next ∷ fields)) space (All-join P (next ∷ fields) space all.1))
+
+-- these bytes as fields with one space between, from this column on
+abbrev pub spaced : ℕ → List (List ℕ) → List Field
+spaced column [] = []
+spaced column (text ∷ texts) = record { column = column; text = text } ∷ spaced (column + length text + 1) texts
+
+-- bytes that are a field
+pub record IsFull (text : List ℕ) : Type 0 where
+  pub some : 0 < length text
+  pub full : All (λ byte. is_blank byte ≡ false) text
+
+pub fields_from-join : (column : ℕ) (texts : List (List ℕ)) → AllByRecursion IsFull texts → fields_from column (join_with_byte 32 texts) ≡ spaced column texts
+fields_from-join column [] full = refl
+fields_from-join column (text ∷ []) full = fields_from-last column text full.0.some full.0.full
+fields_from-join column (text ∷ next ∷ texts) full =
+    fields_from-front column text (join_with_byte 32 (next ∷ texts)) full.0.some full.0.full
+    ∙ ap (λ fields. record { column = column; text = text } ∷ fields) (fields_from-join (column + length text + 1) (next ∷ texts) full.1)

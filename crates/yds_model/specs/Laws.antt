@@ -1,5 +1,5 @@
 -- The laws of the definitions. Each is the contract of a public function of this crate.
-use Rattle.std.specs.Prelude.{◌≡◌, ℕ, ◌+◌, ◌-◌, ◌*◌, ◌<◌, ◌≤◌, ◌↔◌, List, ◌++◌, length}
+use Rattle.std.specs.Prelude.{◌≡◌, ℕ, ◌+◌, ◌-◌, ◌*◌, ◌<◌, ◌≤◌, ◌↔◌, List, ◌++◌, length, Some, None}
 use Rattle.std.specs.List.{All}
 use Rattle.std.specs.Int.{◌∣◌}
 use Rattle.yds_model.specs.Numbers.{AreDifferent}
@@ -9,9 +9,12 @@ use Rattle.yds_model.specs.Slot.{WrittenSlot, WholeSlot, IsScale, IsSolid, slots
 use Rattle.yds_model.specs.Feasible.{IsFeasibleAt, IsFeasible}
 use Rattle.yds_model.specs.Excess.{excess, IsLeast}
 use Rattle.yds_model.specs.Piece.{Piece, IsConfined, total_length}
-use Rattle.yds_model.specs.Level.{Level}
+use Rattle.yds_model.specs.Level.{Level, level_at}
 use Rattle.yds_model.specs.Explains.{Explains}
-use Rattle.yds_model.specs.Proper.{IsProper}
+use Rattle.yds_model.specs.Proper.{IsProper, AreLevels}
+use Rattle.yds_model.specs.Plan.{IsPlan}
+use Rattle.yds_model.specs.Audit.{Feasible, IsVerdict, IsOnTable, AreSlots}
+use Rattle.yds_model.specs.Judgement.{Accepted, IsJudgement}
 use Rattle.yds_model.specs.Table.{Point, point_at, AreRising, IsHullOf, IsAround, interpolated}
 
 -- Scale: reading a schedule at k times a scale keeps it feasible, both ways.
@@ -93,3 +96,39 @@ HullIsLowest = (points hull : List Point) (p q i j k : ℕ) → AreRising points
     k + 1 < length hull → IsAround p q (point_at hull k) (point_at hull (k + 1)) →
     interpolated p q (point_at hull k) (point_at hull (k + 1)) * ((point_at points j).speed - (point_at points i).speed)
     ≤ interpolated p q (point_at points i) (point_at points j) * ((point_at hull (k + 1)).speed - (point_at hull k).speed)
+
+-- Audit: the verdict is 'feasible' exactly where the schedule is feasible.
+abbrev pub VerdictIsExact : Type 0
+VerdictIsExact = (jobs : List Job) (slots : List WrittenSlot) → AreSlots (length jobs) slots →
+    (IsVerdict jobs None slots Feasible ↔ IsFeasible jobs slots)
+
+-- Audit: with a table, exactly where besides each slot has a point's speed.
+abbrev pub TableVerdictIsExact : Type 0
+TableVerdictIsExact = (jobs : List Job) (points : List Point) (slots : List WrittenSlot) → AreSlots (length jobs) slots →
+    (IsVerdict jobs (Some points) slots Feasible ↔ (IsFeasible jobs slots × All (IsOnTable (Some points)) slots))
+
+-- Check: the judgement is 'accepted' exactly where the certificate is proper.
+abbrev pub JudgementIsExact : Type 0
+JudgementIsExact = (jobs : List Job) (slots : List WrittenSlot) (levels : List Level) → AreSlots (length jobs) slots → AreLevels jobs levels →
+    (IsJudgement jobs slots levels Accepted ↔ IsProper jobs slots levels)
+
+-- A plan's schedule is least, and its levels explain it.
+abbrev pub PlansAreLeast : Type 0
+PlansAreLeast = (jobs : List Job) (slots : List WrittenSlot) (levels : List Level) → IsPlan jobs slots levels →
+    IsLeast jobs slots × Explains jobs slots levels
+
+-- Two plans of the same jobs have the same levels by work and length.
+abbrev pub PlansHaveTheSameLevels : Type 0
+PlansHaveTheSameLevels = (jobs : List Job) (slots others : List WrittenSlot) (levels others_levels : List Level) →
+    All IsSolid slots → All IsSolid others → IsPlan jobs slots levels → IsPlan jobs others others_levels →
+    (length levels ≡ length others_levels)
+    × ((i : ℕ) → i < length levels → ((level_at levels i).work ≡ (level_at others_levels i).work) × ((level_at levels i).length ≡ (level_at others_levels i).length))
+
+-- A feasible schedule at or below a whole speed serves each interval: the work confined to it is at most the speed times its
+-- length.
+abbrev pub ServedAtSpeed : Type 0
+ServedAtSpeed = (jobs : List Job) (scale top from to : ℕ) (slots : List WholeSlot) (members : List ℕ) →
+    1 ≤ scale → from < to → IsFeasibleAt jobs scale slots → All (λ slot. slot.work ≤ top * (slot.to - slot.from)) slots →
+    AreDifferent members → All (λ number. number < length jobs) members →
+    All (λ number. (from ≤ (job_at jobs number).release) × ((job_at jobs number).deadline ≤ to)) members →
+    work_of jobs members ≤ top * (to - from)

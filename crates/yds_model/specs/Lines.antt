@@ -56,20 +56,3 @@ fields_from column (byte ∷ bytes) =
 
 abbrev pub fields_of : List ℕ → List Field
 fields_of text = fields_from 1 text
-
--- a line by its number and its bytes, as a reader of lines hands it out
-pub record NumberedLine : Type 0 where
-  pub number : ℕ
-  pub text : List ℕ
-
-abbrev pub numbered : Line → NumberedLine
-numbered line = record { number = line.number; text = line.text }
-
--- a field with the number of its line
-pub record PlacedField : Type 0 where
-  pub line : ℕ
-  pub column : ℕ
-  pub text : List ℕ
-
-abbrev pub placed : ℕ → Field → PlacedField
-placed line field = record { line = line; column = field.column; text = field.text }

@@ -1,6 +1,6 @@
 -- Reading: a function from bytes to a document, or to the fault of the first line that has one. What a line needs of the
 -- lines before it is a condition on the list of what they say.
-use Rattle.std.specs.Prelude.{ℕ, ◌+◌, ◌-◌, ◌*◌, ◌/◌, ◌%◌, List, [], ◌∷◌, ◌++◌, length, codes, Option, Some, None, is_none, Result, Ok, Err, Bool, true, nat_lt, nat_le, ◌==◌, ◌||◌, if◌then◌else◌}
+use Rattle.std.specs.Prelude.{ℕ, ◌+◌, ◌-◌, ◌*◌, ◌/◌, List, [], ◌∷◌, ◌++◌, length, codes, Option, Some, None, is_none, Result, Ok, Err, Bool, true, nat_lt, nat_le, ◌==◌, ◌||◌, if◌then◌else◌}
 use Rattle.std.specs.List.{slice_index_or, filter_map, list_all}
 use Rattle.std.specs.Str.{bytes_eq}
 use Rattle.yds_model.specs.declared.limits.TheConstants.{MAX_JOBS, MAX_TIME, MAX_WORK, MAX_POINTS, MAX_POINT_SPEED, MAX_POINT_POWER, MAX_GAPS, MAX_SLOT_WORK, MAX_ENERGY, MAX_LEVEL_WORK, MAX_LEVEL_LENGTH, MAX_SLOTS, MAX_LEVELS, MAX_PIECES, MAX_MEMBERS, MAX_TICKS, MAX_GRID, MAX_ROUNDED}
@@ -8,7 +8,7 @@ use Rattle.yds_model.specs.declared.number_fault.NumberFault.{NumberFault}
 use Rattle.yds_model.specs.declared.number_fault.NumberFault.TheVariants as faults
 use Rattle.yds_model.specs.declared.reason.Reason.{Reason}
 use Rattle.yds_model.specs.declared.reason.Reason.TheVariants as reasons
-use Rattle.yds_model.specs.Scale.{Fraction, of_whole}
+use Rattle.yds_model.specs.Scale.{Fraction, of_parts}
 use Rattle.yds_model.specs.Table.{Point, point_at, hull_multiple}
 use Rattle.yds_model.specs.Document.{Document}
 use Rattle.yds_model.specs.Lines.{Line, Field, lines_of, fields_of}
@@ -205,11 +205,6 @@ read_ticks fields = do
   ticks ← number_in 1 MAX_TICKS (field_at fields 1)
   Ok (TicksEntry ticks)
 
--- a whole number of parts of one `ticks`-th, as a fraction: whole where no part is left over
-abbrev pub of_ticks : ℕ → ℕ → Fraction
-of_ticks parts ticks =
-    if parts % ticks == 0 then of_whole (parts / ticks) else record { whole = parts / ticks; num = parts % ticks; den = ticks }
-
 -- A run from one tick to another at a speed is the slot of that speed times its time.
 abbrev pub read_run_at : ℕ → List Entry → List Field → Result Entry Spot
 read_run_at ticks earlier fields = do
@@ -218,8 +213,8 @@ read_run_at ticks earlier fields = do
   to ← number_in 0 (MAX_TIME * ticks) (field_at fields 3)
   speed ← number_in 0 MAX_WORK (field_at fields 4)
   small ← demand (nat_le (speed * (to - from) / ticks) MAX_SLOT_WORK) (field_at fields 4).column reasons.OutOfRange
-  grain ← demand (fits_grain earlier job (of_ticks (speed * (to - from)) ticks)) (field_at fields 4).column reasons.MixedGrain
-  Ok (SlotEntry (record { job = job; from = of_ticks from ticks; to = of_ticks to ticks; work = of_ticks (speed * (to - from)) ticks }))
+  grain ← demand (fits_grain earlier job (of_parts (speed * (to - from)) ticks)) (field_at fields 4).column reasons.MixedGrain
+  Ok (SlotEntry (record { job = job; from = of_parts from ticks; to = of_parts to ticks; work = of_parts (speed * (to - from)) ticks }))
 
 -- by the ticks that the earlier line has said
 abbrev pub read_run : List Entry → List Field → Result Entry Spot

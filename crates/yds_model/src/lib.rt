@@ -16,6 +16,7 @@ mod number_fault;
 mod reason;
 mod scale_laws;
 mod status;
+mod text_laws;
 
 pub use command::Command;
 pub use hull_laws::hull_is_lowest;
@@ -30,3 +31,4 @@ pub use scale_laws::{
     scale_keeps_feasible, scale_multiplies_excess, sum_is_of_values,
 };
 pub use status::Status;
+pub use text_laws::{fields_are_slices, lines_are_slices};

@@ -1,5 +1,7 @@
 -- Deliveries in a row: a caller that writes in several calls, each of which appends its text or, after a fault, a front of it.
-use Rattle.std.proofs.Common.{◌≡◌, ℕ, ◌<◌, ◌≤◌, List, ◌++◌, ◌∙◌, ap, subst, sym, append_assoc, Result, Ok, Err, IsErr, refl, arith}
+use Rattle.std.proofs.Common.{◌≡◌, ℕ, suc, ◌<◌, ◌≤◌, List, ◌++◌, ◌∙◌, ap, subst, sym, append_assoc, Result, Ok, Err, IsErr, refl, arith, length, take, drop, get_or, take-append-drop, drop-cons}
+use Rattle.std.specs.Prelude.{flat_map}
+use Rattle.std.proofs.lemmas.Grind.{flat_map-append}
 use Rattle.std.proofs.KnownBytes.{Appends-trans}
 use Rattle.std.specs.declared.option.Option.{Option}
 use Rattle.std.specs.Io.KnownBytes.{Appends}
@@ -23,6 +25,25 @@ AppendsFront-longer front back a b part = record {
   is_front = ap (λ l. l ++ back) part.is_front ∙ append_assoc part.front part.rest back;
   appended = part.appended;
 }
+
+-- in a loop over items, the lines of the first i items were appended, and a front of the next one's line
+pub AppendsFront-item : {X : Type 0} (line : X → List ℕ) (xs : List X) (i : ℕ) (d x : X) (a b c : Option (List ℕ)) → i < length xs → get_or xs i d ≡ x
+    → Appends a b (flat_map line (take i xs)) → AppendsFront (line x) b c → AppendsFront (flat_map line xs) a c
+AppendsFront-item line xs i d x a b c within item first part =
+    let done = flat_map line (take i xs) in
+    let later = flat_map line (drop (suc i) xs) in
+    let rest : flat_map line (drop i xs) ≡ line x ++ later =
+    ap (flat_map line) (drop-cons xs i d within) ∙ ap (λ y. line y ++ later) item in
+    let whole : flat_map line xs ≡ done ++ (line x ++ later) =
+    ap (flat_map line) (sym (take-append-drop i xs)) ∙ flat_map-append line (take i xs) (drop i xs) ∙ ap (λ l. done ++ l) rest in
+    subst (λ text. AppendsFront text a c) (sym whole)
+    (AppendsFront-after done (line x ++ later) a b c first (AppendsFront-longer (line x) later b c part))
+
+-- what a caller that answers with an error owes
+pub delivers_failed : {T E : Type 0} (r : Result T E) (text : List ℕ) (a b : Option (List ℕ)) (l m n : ℕ)
+    → IsErr r → AppendsFront text a b → m ≡ l → Rose m n → Delivers r text a b l n
+delivers_failed (Ok x) text a b l m n failed part same rose = cc
+delivers_failed (Err e) text a b l m n failed part same rose = (part, subst (λ before. Rose before n) same rose)
 
 -- The front was delivered with no fault, and then the back by `r`: for a caller's last call.
 pub delivers_after : {T E : Type 0} (r : Result T E) (front back : List ℕ) (a b c : Option (List ℕ)) (m n k : ℕ)

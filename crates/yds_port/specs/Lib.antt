@@ -2,3 +2,4 @@ pub mod Count
 pub mod Source
 pub mod Sink
 pub mod Memory
+pub mod Adapter

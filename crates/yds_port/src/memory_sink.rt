@@ -90,7 +90,8 @@ impl Sink for MemorySink {
 
     fn write(&mut self, piece: &[u8]) -> Given
         requires { 0 < length piece.now }
-        ensures writes { Writes result piece.now (Some self.old.written) (Some self.new.written) self.old.faults self.new.faults }
+        ensures writes { Writes result piece.now (Some self.old.written) (Some self.new.written)
+            self.old.faults self.new.faults }
         ensures flushed_stays { self.new.flushed ≡ self.old.flushed }
 
         // Exactly the numbered calls fail, and those into a full room, and each counts one fault.
@@ -102,13 +103,12 @@ impl Sink for MemorySink {
         // Any other call takes as much as there is, up to a piece and the room.
         ensures takes { (n : ℕ) → result ≡ Given.Bytes n
             → n ≡ min (min (length piece.now) self.old.piece) (self.old.room - length self.old.written) }
-        ensures settings { (self.new.room ≡ self.old.room) × (self.new.piece ≡ self.old.piece) × (self.new.failing ≡ self.old.failing) }
+        ensures settings { (self.new.room ≡ self.old.room) × (self.new.piece ≡ self.old.piece)
+            × (self.new.failing ≡ self.old.failing) }
     {
         self.calls = self.calls.saturating_add(1);
-        let count = piece
-            .len()
-            .min(self.piece)
-            .min(self.room - self.bytes.len());
+        let room = self.room - self.bytes.len();
+        let count = piece.len().min(self.piece).min(room);
         if count == 0 || is_failing(&self.failing, self.calls) {
             self.faults = self.faults.saturating_add(1);
             return Given::Failed;
@@ -118,7 +118,8 @@ impl Sink for MemorySink {
     }
 
     fn flush(&mut self) -> Flushed
-        ensures flushes { Flushes result (Some self.new.written) (Some self.new.flushed) self.old.faults self.new.faults }
+        ensures flushes { Flushes result (Some self.new.written) (Some self.new.flushed)
+            self.old.faults self.new.faults }
         ensures written_stays { self.new.written ≡ self.old.written }
 
         // Exactly the numbered calls fail. Each counts one fault, and flushes nothing more.
@@ -126,7 +127,8 @@ impl Sink for MemorySink {
         ensures fails { (result ≡ Flushed.Failed) ↔ Contains self.old.failing self.new.calls }
         ensures counts { result ≡ Flushed.Failed → self.new.faults ≡ next_count self.old.faults }
         ensures not_flushed { result ≡ Flushed.Failed → self.new.flushed ≡ self.old.flushed }
-        ensures settings { (self.new.room ≡ self.old.room) × (self.new.piece ≡ self.old.piece) × (self.new.failing ≡ self.old.failing) }
+        ensures settings { (self.new.room ≡ self.old.room) × (self.new.piece ≡ self.old.piece)
+            × (self.new.failing ≡ self.old.failing) }
     {
         self.calls = self.calls.saturating_add(1);
         if is_failing(&self.failing, self.calls) {

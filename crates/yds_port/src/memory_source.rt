@@ -39,7 +39,13 @@ impl MemorySource {
     /// counted from 1, stand in `failing` fail. It takes no memory.
     pub fn new(bytes: Vec<u8>, piece: usize, failing: Vec<u32>) -> MemorySource
         requires { 1 ≤ piece }
-        ensures { result ≡ record { left = bytes.items; piece = piece; failing = failing.items; calls = 0; faults = 0 } }
+        ensures { result ≡ record {
+          left = bytes.items;
+          piece = piece;
+          failing = failing.items;
+          calls = 0;
+          faults = 0;
+        } }
     {
         MemorySource {
             bytes,
@@ -59,7 +65,8 @@ impl Source for MemorySource {
 
     fn read(&mut self, into: &mut [u8]) -> Taken
         requires { 0 < length into.old }
-        ensures reads { Reads result into.new (Some self.old.left) (Some self.new.left) self.old.faults self.new.faults }
+        ensures reads { Reads result into.new (Some self.old.left) (Some self.new.left)
+            self.old.faults self.new.faults }
 
         // Exactly the numbered calls fail, and each counts one fault.
         ensures numbered { self.new.calls ≡ next_count self.old.calls }

@@ -39,7 +39,8 @@ pub fn read_all<S: Source>(
     most: usize,
 ) -> Result<Vec<u8>, ReadAllFault>
     requires { most ≤ MAX_BYTES }
-    ensures reads { ReadsAll result most (S.left source.old) (S.left source.new) (S.faults source.old) (S.faults source.new) }
+    ensures reads { ReadsAll result most (S.left source.old) (S.left source.new)
+        (S.faults source.old) (S.faults source.new) }
     ensures later { S.faults source.old ≤ S.faults source.new }
     ensures counted { S.faults source.old < S.faults source.new → IsErrOf result ReadAllFault.ReadFault }
 {
@@ -78,7 +79,8 @@ fn make_room(bytes: &mut Vec<u8>, filled: usize, most: usize) -> Result<(), Allo
 /// One read into the tail of `bytes`, behind the `filled` bytes that were read before.
 fn read_into<S: Source>(source: &mut S, bytes: &mut Vec<u8>, filled: usize) -> Taken
     requires { filled < vec_len bytes.old }
-    ensures reads { Reads result (drop filled bytes.new.items) (S.left source.old) (S.left source.new) (S.faults source.old) (S.faults source.new) }
+    ensures reads { Reads result (drop filled bytes.new.items) (S.left source.old) (S.left source.new)
+        (S.faults source.old) (S.faults source.new) }
     ensures front { take filled bytes.new.items ≡ take filled bytes.old.items }
     ensures len { vec_len bytes.new ≡ vec_len bytes.old }
 {

@@ -35,11 +35,13 @@ pub trait Sink {
     /// Appends bytes from the front of `piece`, which isn't empty.
     fn write(&mut self, piece: &[u8]) -> Given
         requires { 0 < length piece.now }
-        ensures writes { Writes result piece.now (written self.old) (written self.new) (faults self.old) (faults self.new) }
+        ensures writes { Writes result piece.now (written self.old) (written self.new)
+            (faults self.old) (faults self.new) }
         ensures flushed_stays { flushed self.new ≡ flushed self.old };
 
     /// Passes on all that was written.
     fn flush(&mut self) -> Flushed
-        ensures flushes { Flushes result (written self.new) (flushed self.new) (faults self.old) (faults self.new) }
+        ensures flushes { Flushes result (written self.new) (flushed self.new)
+            (faults self.old) (faults self.new) }
         ensures written_stays { Keeps (written self.old) (written self.new) };
 }

@@ -24,5 +24,6 @@ pub trait Source {
     /// Reads the next bytes into the front of `into`, which isn't empty.
     fn read(&mut self, into: &mut [u8]) -> Taken
         requires { 0 < length into.old }
-        ensures { Reads result into.new (left self.old) (left self.new) (faults self.old) (faults self.new) };
+        ensures { Reads result into.new (left self.old) (left self.new)
+            (faults self.old) (faults self.new) };
 }

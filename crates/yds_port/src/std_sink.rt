@@ -22,12 +22,15 @@ impl<W: Write> StdSink<W> {
 }
 
 impl<W: Write> Sink for StdSink<W> {
-    ghost written = { λ s. W.contents s.inner };
+    ghost use Rattle.yds_port.specs.Adapter.{writer_of, write_faults};
+
+    // What the writer tells.
+    ghost written = { λ sink. W.contents (writer_of sink) };
 
     // std's writers tell nothing of it.
     ghost flushed = { λ _. None };
 
-    ghost faults = { λ s. s.faults };
+    ghost faults = { write_faults };
 
     fn write(&mut self, piece: &[u8]) -> Given {
         match self.inner.write(piece) {

@@ -21,9 +21,12 @@ impl<R: Read> StdSource<R> {
 }
 
 impl<R: Read> Source for StdSource<R> {
-    ghost left = { λ s. R.remaining s.inner };
+    ghost use Rattle.yds_port.specs.Adapter.{reader_of, read_faults};
 
-    ghost faults = { λ s. s.faults };
+    // What the reader tells.
+    ghost left = { λ source. R.remaining (reader_of source) };
+
+    ghost faults = { read_faults };
 
     fn read(&mut self, into: &mut [u8]) -> Taken {
         match self.inner.read(into) {

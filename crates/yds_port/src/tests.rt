@@ -3,23 +3,26 @@ use std::io;
 use std::io::{Read, Write};
 use std::test::Fail;
 
-// A reader whose calls are refused once `given` bytes came, and a writer whose flush is refused.
+// A reader that gives so many bytes and then errors; a writer that takes no byte, and whose second
+// flush errors.
+#[derive(Drop)]
 struct Broken {
-    given: usize,
+    left: usize,
+    flushes: usize,
 }
 
-impl Drop for Broken {
-    fn drop(self) {
-        let Broken { given: _ } = self;
+impl Broken {
+    fn new(left: usize) -> Broken {
+        Broken { left, flushes: 0 }
     }
 }
 
 impl Read for Broken {
     fn read(&mut self, buf: &mut [u8]) -> io::Result<usize> {
-        if self.given == 0 || buf.is_empty() {
+        if self.left == 0 || buf.is_empty() {
             return Err(io::Error::from(io::ErrorKind::Interrupted));
         }
-        self.given -= 1;
+        self.left -= 1;
         buf[0] = b'x';
         Ok(1)
     }
@@ -31,6 +34,10 @@ impl Write for Broken {
     }
 
     fn flush(&mut self) -> io::Result<()> {
+        self.flushes = self.flushes.saturating_add(1);
+        if self.flushes == 1 {
+            return Ok(());
+        }
         Err(io::Error::from(io::ErrorKind::Other))
     }
 }
@@ -111,7 +118,7 @@ fn readers_of_std(rt: HostRuntime) -> Result<(), Fail> {
         read_all(rt.alloc(), &mut source, 10)?.as_slice(),
         b"point 0 1\n".as_slice()
     );
-    let mut broken = StdSource::new(Broken { given: 3 });
+    let mut broken = StdSource::new(Broken::new(3));
     let read = read_all(rt.alloc(), &mut broken, 10);
     assert_eq!(rt; fault_of(&read), Some(ReadAllFault::ReadFault));
     Ok(())
@@ -124,9 +131,12 @@ fn writers_of_std(rt: HostRuntime) -> Result<(), Fail> {
     assert_eq!(rt; write_all(&mut sink, b"idle 0\n"), Ok(()));
     assert_eq!(rt; sink.flush(), Flushed::Done);
     assert_eq!(rt; held.as_slice(), b"idle 0\n".as_slice());
-    let mut broken = StdSink::new(Broken { given: 0 });
-    assert_eq!(rt; write_all(&mut broken, b""), Ok(()));
-    assert_eq!(rt; write_all(&mut broken, b"idle 0\n"), Err(WriteFault));
-    assert_eq!(rt; broken.flush(), Flushed::Failed);
+    let mut broken = Broken::new(0);
+    let mut sink = StdSink::new(&mut broken);
+    assert_eq!(rt; write_all(&mut sink, b""), Ok(()));
+    assert_eq!(rt; write_all(&mut sink, b"idle 0\n"), Err(WriteFault));
+    assert_eq!(rt; sink.flush(), Flushed::Done);
+    assert_eq!(rt; sink.flush(), Flushed::Failed);
+    assert_eq!(rt; broken.flushes, 2);
     Ok(())
 }

@@ -11,7 +11,8 @@ pub struct WriteFault;
 
 /// Appends the whole piece, or after a fault a front of it. It takes no memory.
 pub fn write_all<K: Sink>(sink: &mut K, piece: &[u8]) -> Result<(), WriteFault>
-    ensures delivers { Delivers result piece.now (K.written sink.old) (K.written sink.new) (K.faults sink.old) (K.faults sink.new) }
+    ensures delivers { Delivers result piece.now (K.written sink.old) (K.written sink.new)
+        (K.faults sink.old) (K.faults sink.new) }
     ensures flushed_stays { K.flushed sink.new ≡ K.flushed sink.old }
     ensures later { K.faults sink.old ≤ K.faults sink.new }
     ensures counted { K.faults sink.old < K.faults sink.new → IsErr result }

@@ -1,4 +1,4 @@
-use Rattle.std.proofs.Common.{◌∙◌, subst, sym, arith, length-drop, length-take}
+use Rattle.std.proofs.Common.{◌∙◌, subst, sym, arith, length-drop}
 use Rattle.std.proofs.KnownBytes.{Consumes-kept}
 use Rattle.std.specs.Io.KnownBytes.{Consumes}
 use Rattle.yds_port.proofs.Read.{Consumes-next}

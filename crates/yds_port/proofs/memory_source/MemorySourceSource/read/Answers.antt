@@ -1,4 +1,4 @@
-use Rattle.std.proofs.Common.{ap, sym, ◌∙◌, drop, take, arith, List, ℕ, ◌≡◌}
+use Rattle.std.proofs.Common.{ap, sym, ◌∙◌, arith}
 use Rattle.std.proofs.lemmas.Grind.{common_steps}
 use Rattle.yds_port.specs.Memory.{SourceState}
 use Rattle.yds_port.proofs.Read.{Consumes-copied}

@@ -1,0 +1,4 @@
+pub mod Multiples
+pub mod Lowest
+pub mod Values
+pub mod WholeFirst

@@ -1,0 +1,79 @@
+-- Two numbers over their greatest common divisor.
+use Rattle.std.proofs.Common.{◌≡◌, ℕ, zero, suc, ◌+◌, ◌*◌, ◌/◌, ◌<◌, ◌≤◌, ap, subst, sym, ◌∙◌, arith}
+use Rattle.std.specs.Int.{◌∣◌, IsGcd}
+use Rattle.std.proofs.Math.Nat.{div-mul_cancel, div-le_self, one-dvd, mul-dvd-mul_left, dvd_of_mul-dvd-mul_left, dvd-mul_right, zero-mul, lt_of_mul-lt-mul_right}
+use Rattle.yds_model.proofs.Fractions.{den_positive}
+use Rattle.yds_fraction.specs.Ratio.{IsRatio}
+use Rattle.yds_fraction.specs.Mixed.{IsMixed}
+
+-- a number of at least 1 has no common divisor 0 with another
+pub IsGcd-positive : (n d g : ℕ) → 1 ≤ d → IsGcd n d g → 1 ≤ g
+IsGcd-positive n d g some greatest = den_positive d g some greatest.1
+
+-- a divisor of n/g, times g, divides n
+times_divides : (e n g : ℕ) → g ∣ n → e ∣ n / g → g * e ∣ n
+times_divides e n g divides of_part =
+    let whole : g * (n / g) ≡ n = omega (arith, div-mul_cancel g divides) in
+    subst (λ (m : ℕ). g * e ∣ m) whole (mul-dvd-mul_left e g of_part)
+
+pub IsGcd-lowest : (n d g : ℕ) → 1 ≤ d → IsGcd n d g → IsGcd (n / g) (d / g) 1
+IsGcd-lowest n d g some greatest = (
+  one-dvd (n / g),
+  one-dvd (d / g),
+  λ e of_first of_second.
+      let one : g ≡ g * 1 = omega arith in
+      dvd_of_mul-dvd-mul_left e (IsGcd-positive n d g some greatest)
+      (subst (λ (m : ℕ). g * e ∣ m) one (greatest.2 (g * e) (times_divides e n g greatest.0 of_first) (times_divides e d g greatest.1 of_second))),
+)
+
+pub same_lowest : (n d g : ℕ) → IsGcd n d g → n * (d / g) ≡ n / g * d
+same_lowest n d g greatest =
+    omega (arith, ap (λ m. m * (d / g)) (div-mul_cancel g greatest.0), ap (λ m. n / g * m) (div-mul_cancel g greatest.1))
+
+positive_part : (part g d : ℕ) → part * g ≡ d → 1 ≤ d → 1 ≤ part
+positive_part zero g d e some = omega arith
+positive_part (suc part) g d e some = omega arith
+
+pub parts_lowest : (n d g : ℕ) → 1 ≤ d → IsGcd n d g → 1 ≤ d / g
+parts_lowest n d g some greatest = positive_part (d / g) g d (div-mul_cancel g greatest.1) some
+
+pub IsRatio-lowest : (most_num most_den num den g : ℕ) → IsRatio most_num most_den (record { num = num; den = den }) → IsGcd num den g →
+    IsRatio most_num most_den (record { num = num / g; den = den / g })
+IsRatio-lowest most_num most_den num den g kept greatest =
+    let part = parts_lowest num den g kept.has_parts greatest in
+    let less_num = div-le_self num g in
+    let less_den = div-le_self den g in
+    record { bounds = kept.bounds; num_in_range = omega arith; has_parts = part; den_in_range = omega arith }
+
+-- a fraction in lowest terms is kept
+plain_lowest : (num den g : ℕ) → 1 ≤ den → (num ≡ 0 → den ≡ 1) → IsGcd num den g → num / g ≡ 0 → den / g ≡ 1
+plain_lowest num den g some plain greatest none =
+    let back : num ≡ 0 = sym (div-mul_cancel g greatest.0) ∙ ap (λ n. n * g) none ∙ zero-mul g in
+    let one : den ≡ 1 = plain back in
+    let small = div-le_self den g in
+    let part = parts_lowest num den g some greatest in
+    omega arith
+
+lesser_lowest : (num den g : ℕ) → num < den → IsGcd num den g → num / g < den / g
+lesser_lowest num den g below greatest =
+    lt_of_mul-lt-mul_right g (rw (div-mul_cancel g greatest.0, div-mul_cancel g greatest.1) below)
+
+pub IsMixed-lowest : (most_den whole num den g : ℕ) → IsMixed most_den (record { whole = whole; num = num; den = den }) → IsGcd num den g →
+    IsMixed most_den (record { whole = whole; num = num / g; den = den / g })
+IsMixed-lowest most_den whole num den g kept greatest =
+    let small = div-le_self den g in
+    let in_range = kept.den_in_range in
+    record {
+      limit = kept.limit;
+      whole_in_range = kept.whole_in_range;
+      below_one = lesser_lowest num den g kept.below_one greatest;
+      has_parts = parts_lowest num den g kept.has_parts greatest;
+      den_in_range = omega arith;
+      whole_is_plain = plain_lowest num den g kept.has_parts kept.whole_is_plain greatest;
+    }
+
+pub IsSame-lowest : (whole num den g : ℕ) → IsGcd num den g → (whole * den + num) * (den / g) ≡ (whole * (den / g) + num / g) * den
+IsSame-lowest whole num den g greatest = omega (arith, same_lowest num den g greatest)
+
+pub parts_divide : (den g : ℕ) → g ∣ den → den / g ∣ den
+parts_divide den g divides = subst (λ (n : ℕ). den / g ∣ n) (div-mul_cancel g divides) (dvd-mul_right (den / g) g)

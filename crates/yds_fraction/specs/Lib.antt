@@ -1,0 +1,6 @@
+pub mod Divisors
+pub mod Order
+pub mod Ratio
+pub mod OrderLaws
+pub mod Mixed
+pub mod Text

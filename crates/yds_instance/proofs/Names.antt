@@ -1,0 +1,135 @@
+-- The number of a name, and what an instance keeps as a job with a new name comes.
+use Rattle.std.proofs.Common.{◌≡◌, ℕ, ◌+◌, ◌<◌, ◌≤◌, ◌⊎◌, Bool, true, false, cond, not, List, [], ◌∷◌, ◌++◌, Option, Some, None, Result, Ok, Err, is_ok, if◌then◌else◌, length, ltb, refl, sym, ap, ◌∙◌, inl, inr, arith, map}
+use Rattle.std.specs.List.{Contains, slice_index_or, prefix_len, position_or_len, position, list_any}
+use Rattle.std.specs.Option.{MatchOption}
+use Rattle.std.specs.Str.{bytes_eq}
+use Rattle.std.specs.Borrow.{Bor}
+use Rattle.std.proofs.lemmas.Bool.{cases_lt, cases_Bool, false≢true, ltb-false}
+use Rattle.std.proofs.lemmas.Slice.Eq.{bytes_eq-Decides}
+use Rattle.std.proofs.lemmas.List.{length-map, map-append, length_push, get_or_push, get_or_append_left}
+use Rattle.std.proofs.lemmas.List.Sums.{fails_before_first}
+use Rattle.std.proofs.lemmas.List.Folds.{list_any_none}
+use Rattle.std.proofs.lemmas.List.Quantifiers.{position-Some}
+use Rattle.std.proofs.lemmas.List.Elements.{All-push}
+use Rattle.indexmap.specs.IndexSet.{insert_key}
+use Rattle.yds_model.specs.Job.{Job, IsJob}
+use Rattle.yds_model.specs.declared.limits.TheConstants.{MAX_JOBS}
+use Rattle.yds_instance.specs.Named.{Named, IsInstance, AreDifferentNames, number_of}
+use Rattle.yds_model.specs.Document.{name_at}
+use Rattle.yds_model.specs.Spelling.{is_name}
+
+-- # The number of a name
+
+prefix_len-map : {X Y : Type 0} (p : Y → Bool) (f : X → Y) (xs : List X) → prefix_len p (map f xs) ≡ prefix_len (λ x. p (f x)) xs
+prefix_len-map p f [] = refl
+prefix_len-map p f (x ∷ xs) = ap (λ n. cond (p (f x)) (1 + n) 0) (prefix_len-map p f xs)
+
+pub position-map : {X Y : Type 0} (p : Y → Bool) (f : X → Y) (xs : List X) → position p (map f xs) ≡ position (λ x. p (f x)) xs
+position-map p f xs = rw (prefix_len-map, length-map) refl
+
+prefix_len-same : {X : Type 0} (p q : X → Bool) → ((x : X) → p x ≡ q x) → (xs : List X) → prefix_len p xs ≡ prefix_len q xs
+prefix_len-same p q same [] = refl
+prefix_len-same p q same (x ∷ xs) =
+    ap (λ b. cond b (1 + prefix_len p xs) 0) (same x) ∙ ap (λ n. cond (q x) (1 + n) 0) (prefix_len-same p q same xs)
+
+bytes_eq_comm : (a b : List ℕ) → bytes_eq a b ≡ bytes_eq b a
+bytes_eq_comm a b = elim (cases_Bool (bytes_eq a b)) [
+  | inl same ↦ same ∙ sym ((bytes_eq-Decides b a).1 (sym ((bytes_eq-Decides a b).0 same)))
+  | inr differ ↦ elim (cases_Bool (bytes_eq b a)) [
+    | inl alike ↦ absurd (false≢true (sym differ ∙ (bytes_eq-Decides a b).1 (sym ((bytes_eq-Decides b a).0 alike))))
+    | inr other ↦ differ ∙ sym other
+  ]
+]
+
+-- as the index tests, with the name on the left
+number_found : (names : List (List ℕ)) (name : List ℕ) → number_of names name ≡ position (bytes_eq name) names
+number_found names name =
+    ap (λ n. cond (ltb n (length names)) (Some n) None)
+    (prefix_len-same (λ other. not (bytes_eq other name)) (λ other. not (bytes_eq name other)) (λ other. ap not (bytes_eq_comm other name)) names)
+
+chosen : (b : Bool) (n : ℕ) → cond b (Some n) None ≡ None → b ≡ false
+chosen true n none = cc
+chosen false n none = refl
+
+position-None : {X : Type 0} (p : X → Bool) (xs : List X) → position p xs ≡ None → length xs ≤ position_or_len p xs
+position-None p xs none = ltb-false (position_or_len p xs) (length xs) (chosen (ltb (position_or_len p xs) (length xs)) (position_or_len p xs) none)
+
+-- a name has no number exactly where no job has it
+pub others_differ : (names : List (List ℕ)) (name : List ℕ) → number_of names name ≡ None → (i : ℕ) (d : List ℕ) → i < length names → bytes_eq name (slice_index_or names i d) ≡ false
+others_differ names name none i d within =
+    let end : length names ≤ position_or_len (bytes_eq name) names = position-None (bytes_eq name) names (sym (number_found names name) ∙ none) in
+    fails_before_first (bytes_eq name) names i d (omega arith)
+
+not_contained : (names : List (List ℕ)) (name : List ℕ) → number_of names name ≡ None → Contains names name → ⊥
+not_contained names name none (i, within, is) =
+    false≢true (sym (others_differ names name none i name within) ∙ (bytes_eq-Decides name (slice_index_or names i name)).1 (sym is))
+
+has_name : (names : List (List ℕ)) (name : List ℕ) (number : ℕ) → number_of names name ≡ Some number → (number < length names) × (name_at names number ≡ name)
+has_name names name number is =
+    let found = position-Some (λ other. bytes_eq other name) names number [] is in
+    (found.0, (bytes_eq-Decides (name_at names number) name).0 found.1)
+
+pub number_says : (named : Named) (name : List ℕ) (number : Option ℕ) → IsInstance named → number ≡ number_of named.names name →
+    MatchOption number (Contains named.names name → ⊥) (λ n. (n < length named.jobs) × (name_at named.names n ≡ name))
+number_says named name None kept is = not_contained named.names name (sym is)
+number_says named name (Some n) kept is =
+    let found : (n < length named.names) × (name_at named.names n ≡ name) = has_name named.names name n (sym is) in (omega (arith, kept.one_name_each), found.1)
+
+-- the same of the fields of an instance, whose value is `named`
+pub field_number : (keys : List (Bor (List ℕ))) (named : Named) (name : List ℕ) (number : Option ℕ) → map (λ key. key.now) keys ≡ named.names →
+    number ≡ position (λ key. bytes_eq name key.now) keys → number ≡ number_of named.names name
+field_number keys named name number same is =
+    is ∙ sym (position-map (bytes_eq name) (λ key. key.now) keys) ∙ sym (number_found (map (λ key. key.now) keys) name) ∙ ap (λ names. number_of names name) same
+
+-- # A job with a new name comes
+
+pub none_same : (keys : List (Bor (List ℕ))) (name : Bor (List ℕ)) → number_of (map (λ key. key.now) keys) name.now ≡ None →
+    list_any (λ key. bytes_eq name.now key.now) keys ≡ false
+none_same keys name none =
+    let same : number_of (map (λ key. key.now) keys) name.now ≡ position (λ key. bytes_eq name.now key.now) keys =
+    number_found (map (λ key. key.now) keys) name.now ∙ position-map (bytes_eq name.now) (λ key. key.now) keys in
+    let end : length keys ≤ position_or_len (λ key. bytes_eq name.now key.now) keys = position-None (λ key. bytes_eq name.now key.now) keys (sym same ∙ none) in
+    list_any_none (λ key. bytes_eq name.now key.now) keys (λ k d within. fails_before_first (λ key. bytes_eq name.now key.now) keys k d (omega arith))
+
+-- what the fields are once both have grown
+pub keys_pushed : (keys grown : List (Bor (List ℕ))) (name : Bor (List ℕ)) → grown ≡ insert_key (λ x y. bytes_eq x.now y.now) keys name →
+    number_of (map (λ key. key.now) keys) name.now ≡ None → map (λ key. key.now) grown ≡ map (λ key. key.now) keys ++ name.now ∷ []
+keys_pushed keys grown name is none =
+    let pushed : grown ≡ keys ++ name ∷ [] = rw (none_same keys name none) at is in rw (pushed, map-append) refl
+
+pub rows_pushed : {T E : Type 0} (rows reserved grown : List Job) (row : Job) (pushed : Result T E) (done : T) → reserved ≡ rows → grown ≡ (if is_ok pushed then reserved ++ row ∷ [] else reserved) → pushed ≡ Ok done →
+    grown ≡ rows ++ row ∷ []
+rows_pushed rows reserved grown row (Ok done) _ same is ok = is ∙ ap (λ xs. xs ++ row ∷ []) same
+rows_pushed rows reserved grown row (Err fault) done same is ok = cc
+
+place_cases : (i n : ℕ) → i < n + 1 → (i < n) ⊎ (i ≡ n)
+place_cases i n within = elim (cases_lt i n) [ inl less ↦ inl less | inr more ↦ inr (omega arith) ]
+
+other_differs : (names : List (List ℕ)) (name : List ℕ) (i : ℕ) → number_of names name ≡ None → i < length names → name_at names i ≡ name → ⊥
+other_differs names name i none within is =
+    false≢true (sym (others_differ names name none i [] within) ∙ (bytes_eq-Decides name (name_at names i)).1 (sym is))
+
+different_pushed : (names : List (List ℕ)) (name : List ℕ) → AreDifferentNames names → number_of names name ≡ None → AreDifferentNames (names ++ name ∷ [])
+different_pushed names name different none i j i_within j_within same =
+    let last : name_at (names ++ name ∷ []) (length names) ≡ name = get_or_push names name [] (length names) refl in
+    let earlier : (k : ℕ) → k < length names → name_at (names ++ name ∷ []) k ≡ name_at names k = λ k within. get_or_append_left names (name ∷ []) [] k within in
+    elim (place_cases i (length names) (rw length_push at i_within)) [
+      | inl i_less ↦ elim (place_cases j (length names) (rw length_push at j_within)) [
+        | inl j_less ↦ different i j i_less j_less (sym (earlier i i_less) ∙ same ∙ earlier j j_less)
+        | inr j_last ↦ absurd (other_differs names name i none i_less (sym (earlier i i_less) ∙ same ∙ rw j_last last))
+      ]
+      | inr i_last ↦ elim (place_cases j (length names) (rw length_push at j_within)) [
+        | inl j_less ↦ absurd (other_differs names name j none j_less (sym (earlier j j_less) ∙ sym same ∙ rw i_last last))
+        | inr j_last ↦ i_last ∙ sym j_last
+      ]
+    ]
+
+pub instance_pushed : (named : Named) (name : List ℕ) (job : Job) → IsInstance named → length named.jobs < MAX_JOBS → is_name name ≡ true → IsJob job →
+    number_of named.names name ≡ None → IsInstance (record { names = named.names ++ name ∷ []; jobs = named.jobs ++ job ∷ [] })
+instance_pushed named name job kept room name_fits job_fits none = record {
+  one_name_each = omega (arith, length_push named.names name, length_push named.jobs job, kept.one_name_each);
+  few = omega (arith, length_push named.jobs job);
+  names_fit = All-push (λ other. is_name other ≡ true) named.names name kept.names_fit name_fits;
+  jobs_fit = All-push IsJob named.jobs job kept.jobs_fit job_fits;
+  different = different_pushed named.names name kept.different none;
+}

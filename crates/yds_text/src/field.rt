@@ -1,0 +1,132 @@
+//! The fields of a line.
+ghost use Rattle.std.specs.Prelude.{◌≡◌, ℕ, ◌+◌, ◌<◌, ◌≤◌, [], ◌∷◌, length, map};
+ghost use Rattle.std.specs.List.{prefix_len, position_or_len};
+ghost use Rattle.yds_model.specs.declared.limits.TheConstants.{MAX_BYTES};
+ghost use Rattle.yds_model.specs.Lines.{fields_from, fields_of, is_blank};
+
+use std::iter::FusedIterator;
+use std::marker::Model;
+
+/// A field of a line: one of its longest runs of bytes other than spaces and tabs.
+#[derive(Clone, Copy, Debug)]
+pub struct Field<'a> {
+    /// Its bytes.
+    pub text: &'a [u8],
+    /// The number of its line, counted from 1.
+    pub line: u32,
+    /// The place of its first byte in the line, counted from 1 in bytes.
+    pub column: u32,
+    pub ghost bounded: { length text.now ≤ MAX_BYTES },
+    pub ghost within: { column + length text.now ≤ MAX_BYTES + 1 },
+}
+
+/// The fields of a line that are left to read, first to last. A contract sees the line's number and
+/// their list.
+#[derive(Drop)]
+pub struct Fields<'a> {
+    rest: &'a [u8],
+    line: u32,
+    column: u32,
+}
+
+impl<'a> Model for Fields<'a> {
+    ghost use Rattle.std.specs.Prelude.{ℕ, ◌+◌, ◌≤◌, List, length, map};
+    ghost use Rattle.yds_model.specs.declared.limits.TheConstants.{MAX_BYTES};
+    ghost use Rattle.yds_model.specs.Lines.{fields_from};
+    ghost use Rattle.yds_text.specs.Left.{FieldsLeft};
+
+    ghost Value = { FieldsLeft };
+
+    ghost view = { λ it. record { line = it.line; fields = fields_from it.column it.rest.now } };
+
+    ghost invariant = { λ it. (1 ≤ it.column) × (it.column + length it.rest.now ≤ MAX_BYTES + 1) };
+}
+
+impl<'a> Fields<'a> {
+    pub(crate) fn new(text: &'a [u8], line: u32) -> Fields<'a>
+        requires { length text.now ≤ MAX_BYTES }
+        ensures line { result.line ≡ line }
+        ensures fields { result.fields ≡ fields_of text.now }
+        ensures count { length result.fields ≤ length text.now }
+    {
+        Fields {
+            rest: text,
+            line,
+            column: 1,
+        }
+    }
+}
+
+impl<'a> Iterator for Fields<'a> {
+    ghost use Rattle.std.specs.Iterator.{item_count};
+    ghost use Rattle.yds_text.specs.Read.{GivesField};
+
+    type Item = Field<'a>;
+
+    ghost next_gives = { GivesField };
+
+    ghost remaining = { item_count (λ left. left.fields) };
+
+    fn next(&mut self) -> Option<Field<'a>> {
+        let (blanks, text, rest) = first_field(self.rest);
+        let column = self.column + blanks as u32;
+        self.rest = rest;
+        self.column = column + text.len() as u32;
+        if text.is_empty() {
+            return None;
+        }
+        Some(Field {
+            text,
+            line: self.line,
+            column,
+        })
+    }
+}
+
+impl<'a> FusedIterator for Fields<'a> {}
+
+// How many blanks stand before the first field, its bytes, and what is after it. The field is empty
+// where there is none.
+fn first_field(bytes: &[u8]) -> (usize, &[u8], &[u8])
+    ensures first { 0 < length result.1.now → (column : ℕ) → fields_from column bytes.now
+        ≡ record { column = column + result.0; text = result.1.now } ∷ fields_from (column + result.0 + length result.1.now) result.2.now }
+    ensures none { length result.1.now ≡ 0 → (column : ℕ) → fields_from column bytes.now ≡ [] }
+    ensures end { length result.1.now ≡ 0 → result.2.now ≡ [] }
+    ensures lengths { result.0 + length result.1.now + length result.2.now ≡ length bytes.now }
+{
+    let (blanks, rest) = bytes.split_at(blank_len(bytes));
+    let (text, rest) = rest.split_at(field_len(rest));
+    (blanks.len(), text, rest)
+}
+
+fn is_blank(byte: u8) -> bool
+    ensures { result ≡ is_blank byte }
+{
+    byte == b' ' || byte == b'\t'
+}
+
+// How many blanks stand at the front.
+fn blank_len(bytes: &[u8]) -> usize
+    ensures value { result ≡ prefix_len is_blank bytes.now }
+    ensures within { result ≤ length bytes.now }
+{
+    for (index, &byte) in bytes.iter().enumerate() {
+        if !is_blank(byte) {
+            return index;
+        }
+    }
+    bytes.len()
+}
+
+// How many bytes stand before the first blank.
+fn field_len(bytes: &[u8]) -> usize
+    ensures value { result ≡ position_or_len is_blank bytes.now }
+    ensures within { result ≤ length bytes.now }
+{
+    for (index, &byte) in bytes.iter().enumerate() {
+        if is_blank(byte) {
+            return index;
+        }
+    }
+    bytes.len()
+}

@@ -1,0 +1,50 @@
+//! One table: the places and texts of a small input, and what fields spell.
+ghost use Rattle.std.specs.Prelude.{◌≤◌, length};
+
+use crate::{Field, NumberFault, lines, name, number, number_from};
+use std::test::Fail;
+
+fn field(text: &[u8]) -> Field<'_>
+    requires { length text.now ≤ 100 }
+{
+    Field {
+        text,
+        line: 1,
+        column: 1,
+    }
+}
+
+#[test]
+fn lines_and_fields_of_a_small_input(rt: HostRuntime) -> Result<(), Fail> {
+    let mut places = vec![in rt.alloc()]?;
+    for line in lines(b"job a\t 7\r\n\n # x") {
+        for field in line.fields() {
+            places.push((field.line, field.column, field.text))?;
+        }
+    }
+    let expected = [
+        (1, 1, b"job".as_slice()),
+        (1, 5, b"a".as_slice()),
+        (1, 8, b"7".as_slice()),
+        (3, 2, b"#".as_slice()),
+        (3, 4, b"x".as_slice()),
+    ];
+    assert_eq!(rt; places.as_slice(), expected.as_slice());
+    Ok(())
+}
+
+#[test]
+fn what_fields_spell(rt: HostRuntime) {
+    assert_eq!(rt; number(field(b"120"), 120), Ok(120));
+    assert_eq!(rt; number(field(b"007"), 120), Err(NumberFault::BadNumber));
+    assert_eq!(rt;
+        number_from(field(b"0"), 1, 9),
+        Err(NumberFault::OutOfRange)
+    );
+    assert_eq!(rt;
+        number(field(b"18446744073709551616"), u64::MAX),
+        Err(NumberFault::OutOfRange)
+    );
+    assert_eq!(rt; name(field(b"a_1")), Some("a_1"));
+    assert_eq!(rt; name(field(b"")), None);
+}
