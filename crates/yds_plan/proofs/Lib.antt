@@ -12,3 +12,4 @@ pub mod Schedule
 pub mod Levels
 pub mod LevelPieces
 pub mod Plan
+pub mod Drafts

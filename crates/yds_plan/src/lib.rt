@@ -6,4 +6,6 @@
 //! are laws of that definition.
 #![tactic(auto)]
 
+mod found;
+mod layout_levels;
 mod share;
