@@ -1,30 +1,15 @@
-ghost use Rattle.std.specs.Prelude.{◌≡◌, ℕ, ◌+◌, ◌-◌, ◌*◌, ◌<◌, ◌≤◌, ◌++◌, Bool, List, [], ◌∷◌, length, map, sum_by, nat_lt, slice_set, slice_index_or, IfOk, IsTrue, vec_len};
+ghost use Rattle.std.specs.Prelude.{◌≡◌, ℕ, ◌+◌, ◌-◌, ◌*◌, ◌<◌, ◌≤◌, List, length, map, nat_lt, IfOk, IsTrue};
 ghost use Rattle.std.specs.List.{range_with_len};
 ghost use Rattle.yds_model.specs.Level.{level_at};
-ghost use Rattle.yds_plan.specs.Found.{group_at};
 ghost use Rattle.yds_plan.specs.Views.{group_view};
-ghost use Rattle.yds_plan.specs.Laid.{level_of, slows_after};
-ghost use Rattle.yds_plan.specs.Drafts.{joins_before, with_group, empty_levels, with_piece, AreGroupsWithin};
+ghost use Rattle.yds_plan.specs.Laid.{level_of};
+ghost use Rattle.yds_plan.specs.Drafts.{joins_before, with_group, empty_levels, AreGroupsWithin};
 
 use crate::found::Group;
 use std::alloc::Global;
-use yds_certificate::{Level, Piece};
+use yds_certificate::Level;
 use yds_model::Memory;
 use yds_model::limits::{MAX_LEVEL_LENGTH, MAX_LEVEL_WORK};
-
-/// The piece joins the last one where they touch, and else stands last.
-fn add_piece(pieces: &mut Vec<Piece>, piece: Piece) -> Result<(), Memory>
-    ensures { IfOk result (λ _. pieces.new.items ≡ with_piece pieces.old.items piece) }
-{
-    if let Some(last) = pieces.last_mut() {
-        if last.to == piece.from {
-            last.to = piece.to;
-            return Ok(());
-        }
-    }
-    pieces.push(piece)?;
-    Ok(())
-}
 
 /// Whether the next group is slower than the one before it.
 fn slows(before: &Group, next: &Group) -> bool
@@ -67,7 +52,7 @@ fn add_group(alloc: Global, levels: &mut Vec<Level>, joins: bool, group: &Group)
 }
 
 /// The groups' levels without pieces and members, and the number of each group's level.
-fn levels_of_groups(alloc: Global, groups: &[Group]) -> Result<(Vec<Level>, Vec<u32>), Memory>
+pub(crate) fn levels_of_groups(alloc: Global, groups: &[Group]) -> Result<(Vec<Level>, Vec<u32>), Memory>
     requires { AreGroupsWithin (map group_view groups.now) }
     ensures levels { IfOk result (λ r. r.0.items ≡ empty_levels (map group_view groups.now) (length groups.now)) }
     ensures numbers { IfOk result (λ r. r.1.items ≡ map (level_of (map group_view groups.now)) (range_with_len 0 (length groups.now))) }

@@ -8,4 +8,5 @@
 
 mod found;
 mod layout_levels;
+mod layout_members;
 mod share;
