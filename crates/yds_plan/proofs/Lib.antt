@@ -13,3 +13,5 @@ pub mod Levels
 pub mod LevelPieces
 pub mod Plan
 pub mod Drafts
+pub mod Extended
+pub mod DraftSteps

@@ -1,5 +1,5 @@
 -- The stretches of jobs: they follow one another, and no release or deadline lies inside one.
-use Rattle.std.proofs.Common.{◌≡◌, ℕ, zero, suc, ◌+◌, ◌*◌, ◌<◌, ◌≤◌, ◌==◌, ◌⊎◌, List, [], ◌∷◌, ◌∙◌, length, get_or, sym, refl, ap, arith, inl, inr, Bool, true, false}
+use Rattle.std.proofs.Common.{◌≡◌, ℕ, zero, suc, ◌+◌, ◌*◌, ◌<◌, ◌≤◌, ◌==◌, ◌⊎◌, List, [], ◌∷◌, ◌∙◌, length, get_or, sym, refl, ap, arith, inl, inr, Bool, true, false, add-one}
 use Rattle.std.specs.Prelude.{cond, nat_lt}
 use Rattle.std.specs.List.{All, AllPairs, flat_map}
 use Rattle.std.proofs.lemmas.Bool.{cases_lt, cases_order, cond_both, ltb-true, lt-ltb, eqb-true, eqb-false, true≢false}
@@ -224,3 +224,22 @@ neighbours_length (time ∷ next ∷ times) = omega (arith, neighbours_length (n
 pub few_stretches : (jobs : List Job) → length (stretches jobs) ≤ 2 * length jobs
 unfolding ends_of
 few_stretches jobs = omega (arith, neighbours_length (event_points jobs), rising_length (ends_of jobs), ends_length jobs)
+
+-- a stretch lies between two neighbouring event points
+neighbours_at : (times : List ℕ) (k : ℕ) → k < length (neighbours times) →
+    (suc k < length times) × (get_or (neighbours times) k no_piece ≡ record { from = get_or times k 0; to = get_or times (suc k) 0 })
+neighbours_at [] k within = absurd (omega arith)
+neighbours_at (time ∷ []) k within = absurd (omega arith)
+neighbours_at (time ∷ next ∷ times) zero within = (omega arith, refl)
+neighbours_at (time ∷ next ∷ times) (suc k) within =
+    let rest = neighbours_at (next ∷ times) k (omega arith) in
+    (omega (arith, rest.0), rest.1)
+
+pub times_within : (jobs : List Job) (times : List ℕ) (k : ℕ) → times ≡ event_points jobs → k < length (stretches jobs) → k + 1 < length times
+times_within jobs times k are within =
+    omega (arith, (neighbours_at (event_points jobs) k within).0, ap length are)
+
+pub stretch_between : (jobs : List Job) (times : List ℕ) (k : ℕ) → times ≡ event_points jobs → k < length (stretches jobs) →
+    record { from = get_or times k 0; to = get_or times (k + 1) 0 } ≡ stretch_at jobs k
+stretch_between jobs times k are within =
+    rw (are, add-one) (sym (neighbours_at (event_points jobs) k within).1)
