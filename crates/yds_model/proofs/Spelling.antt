@@ -90,7 +90,7 @@ number_at-decimal least most n small low high =
 
 -- ---- digits are no blanks, line ends, pluses or slashes
 
-digit_range : (byte : ℕ) → is_digit byte ≡ true → (48 ≤ byte) × (byte ≤ 57)
+pub digit_range : (byte : ℕ) → is_digit byte ≡ true → (48 ≤ byte) × (byte ≤ 57)
 digit_range byte digit =
     let parts = and_parts (nat_le 48 byte) (nat_le byte 57) digit in (leb-true 48 byte parts.0, leb-true byte 57 parts.1)
 

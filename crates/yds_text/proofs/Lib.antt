@@ -1,3 +1,4 @@
 mod FirstLine
 mod FirstField
 mod Spelled
+mod Split

@@ -1,5 +1,5 @@
 //! What fields spell: numbers and names.
-ghost use Rattle.std.specs.Prelude.{◌≡◌, ℕ, ◌^◌, ◌≤◌, ◌&&◌, nat_le, All, IfSome, IfNone, IsTrue, IsFalse, MatchOption};
+ghost use Rattle.std.specs.Prelude.{◌≡◌, ℕ, ◌^◌, ◌≤◌, ◌&&◌, nat_le, true, All, IfSome, IfNone, IsTrue, IsFalse, MatchOption, if◌then◌else◌};
 ghost use Rattle.std.specs.List.{list_all};
 ghost use Rattle.std.specs.Str.Parse.{digits_value};
 ghost use Rattle.yds_model.specs.Spelling.{number_at, is_digit, is_number, is_name};
@@ -24,9 +24,11 @@ pub fn number_from(field: Field<'_>, least: u64, most: u64) -> Result<u64, Numbe
     if !is_number(field.text) {
         return Err(NumberFault::BadNumber);
     }
-    match digits_value(field.text) {
-        Some(value) if least <= value && value <= most => Ok(value),
-        Some(_) | None => Err(NumberFault::OutOfRange),
+    let value = at_most(field.text, most)?;
+    if least <= value {
+        Ok(value)
+    } else {
+        Err(NumberFault::OutOfRange)
     }
 }
 
@@ -44,7 +46,7 @@ pub fn name<'a>(field: Field<'a>) -> Option<&'a str>
     }
 }
 
-fn is_number(text: &[u8]) -> bool
+pub(crate) fn is_number(text: &[u8]) -> bool
     ensures { result ≡ is_number text.now }
 {
     match text {
@@ -60,9 +62,20 @@ fn are_digits(text: &[u8]) -> bool
     text.iter().all(|byte| byte.is_ascii_digit())
 }
 
+// The number that `text` spells, where it is at most `most`.
+pub(crate) fn at_most(text: &[u8], most: u64) -> Result<u64, NumberFault>
+    requires { is_number text.now ≡ true }
+    ensures { result ≡ (if nat_le (digits_value 10 text.now) most then Ok (digits_value 10 text.now) else Err NumberFault.OutOfRange) }
+{
+    match digits_value(text) {
+        Some(value) if value <= most => Ok(value),
+        Some(_) | None => Err(NumberFault::OutOfRange),
+    }
+}
+
 // The number that digits write in base ten, or `None` where it takes more than 64 bits.
 fn digits_value(digits: &[u8]) -> Option<u64>
-    requires { All (λ byte. (48 ≤ byte) × (byte ≤ 57)) digits.now }
+    requires { All (λ byte. is_digit byte ≡ true) digits.now }
     ensures { MatchOption result (2 ^ 64 ≤ digits_value 10 digits.now) (λ value. value ≡ digits_value 10 digits.now) }
 {
     let mut value: u64 = 0;

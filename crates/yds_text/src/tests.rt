@@ -1,7 +1,7 @@
 //! One table: the places and texts of a small input, and what fields spell.
 ghost use Rattle.std.specs.Prelude.{◌≤◌, length};
 
-use crate::{Field, NumberFault, lines, name, number, number_from};
+use crate::{Field, NumberFault, lines, mixed, name, number, number_from};
 use std::test::Fail;
 
 fn field(text: &[u8]) -> Field<'_>
@@ -45,6 +45,10 @@ fn what_fields_spell(rt: HostRuntime) {
         number(field(b"18446744073709551616"), u64::MAX),
         Err(NumberFault::OutOfRange)
     );
+    let third = mixed(field(b"2+1/3"), 9).map(|value| (value.whole(), value.num(), value.den()));
+    assert_eq!(rt; third, Ok((2, 1, 3)));
+    let one = mixed(field(b"1+3/3"), 9).map(|value| (value.whole(), value.num(), value.den()));
+    assert_eq!(rt; one, Err(NumberFault::OutOfRange));
     assert_eq!(rt; name(field(b"a_1")), Some("a_1"));
     assert_eq!(rt; name(field(b"")), None);
 }
