@@ -1,0 +1,23 @@
+use Rattle.std.proofs.Common.{◌≡◌, ◌∙◌, length, arith, ap, subst}
+use Rattle.std.proofs.lemmas.List.{get_or_read}
+use Rattle.yds_model.specs.Piece.{Piece}
+use Rattle.yds_edf.specs.Demand.{no_stretch}
+use Rattle.yds_edf.proofs.Filled.{Filling, filled_after, all_filled}
+use Rattle.yds_edf.proofs.filling.fill.Goals as goal
+
+pub loop-number-preserved : goal.loop-number-preserved
+loop-number-preserved c = record {
+  are = c.loop-number.invariant.are;
+  filling = filled_after c.requires.in_order c.loop-number-test.true c.loop-number.invariant.filling c.stretch.inside.from
+      (ap (λ (stretch : Piece). stretch.from) (c.stretch.view_is
+      ∙ get_or_read c.args.stretches.now c.loop-number.number c.index-stretches-number.result c.loop-number-test.true
+      c.index-stretches-number.is no_stretch))
+      c.arrive.new.self c.arrive.ensures c.in_ok-served.ensures.ok c.in_ok-append.ensures.items;
+}
+
+pub returns : goal.returns
+returns c =
+    let all : c.loop-number.number ≡ length c.args.stretches.now = omega arith in
+    all_filled c.loop-number.invariant.are c.requires.in_order c.requires.uncut c.requires.demand
+    (subst (λ n. Filling c.args.rows.now c.args.ties.now c.args.grain c.args.stretches.now c.args.capacities.now n
+    c.loop-number.engine c.loop-number.shares.items) all c.loop-number.invariant.filling)
