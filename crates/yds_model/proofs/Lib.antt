@@ -24,3 +24,9 @@ pub mod Curve
 pub mod Plans
 pub mod Spelling
 pub mod TextLaws
+pub mod Brought
+pub mod RoundTrip
+pub mod Said
+pub mod Printed
+pub mod KindsRead
+pub mod JobNames

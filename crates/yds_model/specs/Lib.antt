@@ -36,4 +36,5 @@ pub mod RoundAnswer
 pub mod ReportAnswer
 pub mod Answer
 pub mod TextLaws
+pub mod RoundTrip
 pub mod Laws

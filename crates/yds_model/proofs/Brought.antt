@@ -1,0 +1,131 @@
+-- Reading in parts: bytes that bring a document that was read so far to a longer one.
+use Rattle.std.proofs.Common.{◌≡◌, ◌≢◌, ℕ, ◌+◌, ◌<◌, ◌≤◌, false, ◌==◌, List, [], ◌∷◌, ◌++◌, length, map, Ok, refl, sym, ap, subst, ◌∙◌, arith, append-nil, append_assoc}
+use Rattle.std.specs.List.{All, AllByRecursion, join_with_byte, flat_map}
+use Rattle.std.proofs.lemmas.List.Elements.{All-weaker}
+use Rattle.std.proofs.lemmas.Bool.{or_from}
+use Rattle.std.proofs.Common.{ne_eqb}
+use Rattle.yds_model.specs.Document.{Document, no_document}
+use Rattle.yds_model.specs.Lines.{Line, Field, is_blank, lines_from, without_return, trimmed, fields_of, lines_of}
+use Rattle.yds_model.specs.Entry.{Entry, document_said}
+use Rattle.yds_model.specs.Reading.{read_fields, begins_comment, is_skipped, read_line, live_lines, read_after, reading}
+use Rattle.yds_model.specs.Text.{line}
+use Rattle.yds_model.proofs.Lines.{IsFull, spaced, fields_from-join, lines_from-written, without_return-none, All-join}
+
+-- ---- one line
+
+-- bytes that are a field of a line: some, and each of them visible
+pub record IsWord (text : List ℕ) : Type 0 where
+  pub some : 0 < length text
+  pub visible : All (λ byte. 33 ≤ byte) text
+
+visible_full : (byte : ℕ) → 33 ≤ byte → is_blank byte ≡ false
+visible_full byte visible =
+    or_from (byte == 32) (byte == 9) (ne_eqb byte 32 (λ (same : byte ≡ 32). omega arith)) (ne_eqb byte 9 (λ (same : byte ≡ 9). omega arith))
+
+word_full : (text : List ℕ) → IsWord text → IsFull text
+word_full text word = record {
+  some = word.some;
+  full = All-weaker (λ byte. 33 ≤ byte) (λ byte. is_blank byte ≡ false) visible_full text word.visible;
+}
+
+words_full : (texts : List (List ℕ)) → AllByRecursion IsWord texts → AllByRecursion IsFull texts
+words_full [] words = tt
+words_full (text ∷ texts) words = (word_full text words.0, words_full texts words.1)
+
+-- no byte of words with one space between is this one, as a line feed or a carriage return
+words_without : (other : ℕ) → other < 32 → (texts : List (List ℕ)) → AllByRecursion IsWord texts → All (λ byte. byte ≢ other) (join_with_byte 32 texts)
+words_without other low texts words =
+    All-weaker (λ byte. 32 ≤ byte) (λ byte. byte ≢ other) (λ byte (high : 32 ≤ byte) (same : byte ≡ other). omega arith) (join_with_byte 32 texts)
+    (All-join (λ byte. 32 ≤ byte) texts (omega arith) (high texts words))
+  where
+    high : (texts : List (List ℕ)) → AllByRecursion IsWord texts → AllByRecursion (All (λ byte. 32 ≤ byte)) texts
+    high [] words = tt
+    high (text ∷ texts) words =
+        (All-weaker (λ byte. 33 ≤ byte) (λ byte. 32 ≤ byte) (λ byte (visible : 33 ≤ byte). omega arith) text words.0.visible, high texts words.1)
+
+-- the lines that are read of these bytes, from a line's number and a place on
+abbrev pub live_from : ℕ → ℕ → List ℕ → List Line
+live_from number start bytes = live_lines (map trimmed (lines_from number start bytes))
+
+live_lines-line : (line : Line) (lines : List Line) → is_skipped line ≡ false → live_lines (line ∷ lines) ≡ line ∷ live_lines lines
+live_lines-line line lines live = rw live refl
+
+read_after-line : (earlier : List Entry) (line : Line) (lines : List Line) (entry : Entry) → read_line earlier line ≡ Ok entry →
+    read_after earlier (line ∷ lines) ≡ read_after (earlier ++ entry ∷ []) lines
+read_after-line earlier first lines entry is = rw (is, read_after) refl
+
+read_line-fields : (earlier : List Entry) (line : Line) (fields : List Field) (entry : Entry) → fields_of line.text ≡ fields →
+    read_fields earlier fields ≡ Ok entry → read_line earlier line ≡ Ok entry
+read_line-fields earlier line fields entry same is = rw (same, is) refl
+
+-- a written line says its entry
+line_says : (earlier : List Entry) (texts : List (List ℕ)) (entry : Entry) (number start : ℕ) (rest : List ℕ) → AllByRecursion IsWord texts →
+    begins_comment (spaced 1 texts) ≡ false → read_fields earlier (spaced 1 texts) ≡ Ok entry →
+    read_after earlier (live_from number start (line texts ++ rest))
+    ≡ read_after (earlier ++ entry ∷ []) (live_from (number + 1) (start + length (join_with_byte 32 texts) + 1) rest)
+line_says earlier texts entry number start rest words live is =
+    let text : List ℕ = join_with_byte 32 texts in
+    let kept : without_return text ≡ text = without_return-none text (words_without 13 (omega arith) texts words) in
+    let fields : fields_of text ≡ spaced 1 texts = fields_from-join 1 texts (words_full texts words) in
+    let first : Line = record { number = number; start = start; text = text } in
+    let others : List Line = map trimmed (lines_from (number + 1) (start + length text + 1) rest) in
+    let shown : is_skipped first ≡ false = ap begins_comment fields ∙ live in
+    ap (λ lines. read_after earlier (live_lines (map trimmed lines))) (lines_from-written number start text rest (words_without 10 (omega arith) texts words))
+    ∙ ap (λ (text : List ℕ). read_after earlier (live_lines (record { number = number; start = start; text = text } ∷ others))) kept
+    ∙ ap (read_after earlier) (live_lines-line first others shown)
+    ∙ read_after-line earlier first (live_lines others) entry (read_line-fields earlier first (spaced 1 texts) entry fields is)
+
+-- ---- parts of a text
+
+-- after lines that said `before`, these bytes are read, and what was said is `after`
+abbrev pub Brings : Document → List ℕ → Document → Type 0
+Brings before bytes after = (earlier : List Entry) → document_said earlier ≡ before → (number start : ℕ) (rest : List ℕ) →
+    (entries : List Entry) × (next : ℕ) × (place : ℕ) × (document_said entries ≡ after)
+    × (read_after earlier (live_from number start (bytes ++ rest)) ≡ read_after entries (live_from next place rest))
+
+pub Brings-nil : (before : Document) → Brings before [] before
+Brings-nil before earlier said number start rest = (earlier, number, start, said, refl)
+
+pub Brings-append : (before middle after : Document) (front back : List ℕ) → Brings before front middle → Brings middle back after →
+    Brings before (front ++ back) after
+Brings-append before middle after front back first second earlier said number start rest =
+    let one = first earlier said number start (back ++ rest) in
+    let two = second one.0 one.3 one.1 one.2 rest in
+    (two.0, two.1, two.2, two.3, ap (λ bytes. read_after earlier (live_from number start bytes)) (append_assoc front back rest) ∙ one.4 ∙ two.4)
+
+-- one line
+pub Brings-line : (before after : Document) (texts : List (List ℕ)) → AllByRecursion IsWord texts → begins_comment (spaced 1 texts) ≡ false →
+    ((earlier : List Entry) → document_said earlier ≡ before →
+    (entry : Entry) × (read_fields earlier (spaced 1 texts) ≡ Ok entry) × (document_said (earlier ++ entry ∷ []) ≡ after)) →
+    Brings before (line texts) after
+Brings-line before after texts words live says earlier said number start rest =
+    let one = says earlier said in (
+      earlier ++ one.0 ∷ [],
+      number + 1,
+      start + length (join_with_byte 32 texts) + 1,
+      one.2,
+      line_says earlier texts one.0 number start rest words live one.1,
+    )
+
+-- the lines of each element of a list, one after another
+Brings-rest : {X : Type 0} (state : List X → Document) (text : X → List ℕ) (all before after : List X) → before ++ after ≡ all →
+    ((before : List X) (x : X) (after : List X) → before ++ x ∷ after ≡ all → Brings (state before) (text x) (state (before ++ x ∷ []))) →
+    Brings (state before) (flat_map text after) (state all)
+Brings-rest state text all before [] is each = subst (λ xs. Brings (state before) [] (state xs)) (sym (append-nil before) ∙ is) (Brings-nil (state before))
+Brings-rest state text all before (x ∷ after) is each =
+    Brings-append (state before) (state (before ++ x ∷ [])) (state all) (text x) (flat_map text after)
+    (each before x after is)
+    (Brings-rest state text all (before ++ x ∷ []) after (append_assoc before (x ∷ []) after ∙ is) each)
+
+pub Brings-each : {X : Type 0} (state : List X → Document) (text : X → List ℕ) (all : List X) →
+    ((before : List X) (x : X) (after : List X) → before ++ x ∷ after ≡ all → Brings (state before) (text x) (state (before ++ x ∷ []))) →
+    Brings (state []) (flat_map text all) (state all)
+Brings-each state text all each = Brings-rest state text all [] all refl each
+
+-- the whole
+pub read_whole : (bytes : List ℕ) (document : Document) → Brings no_document bytes document → reading bytes ≡ Ok document
+read_whole bytes document brings =
+    let all = brings [] refl 1 0 [] in
+    let read : read_after [] (live_lines (lines_of bytes)) ≡ Ok all.0 =
+    ap (λ bytes. read_after [] (live_from 1 0 bytes)) (sym (append-nil bytes)) ∙ all.4 in
+    rw (read, reading) (ap Ok all.3)
