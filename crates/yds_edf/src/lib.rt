@@ -9,6 +9,7 @@ mod engine;
 mod entry;
 mod event_points;
 mod filling;
+mod laying;
 pub mod limits;
 mod queue;
 mod share;
@@ -16,6 +17,7 @@ mod stretch;
 
 pub use event_points::events;
 pub use filling::fill;
+pub use laying::lay;
 pub use queue::Queue;
 pub use share::Share;
 pub use stretch::Stretch;
