@@ -11,6 +11,7 @@ mod event_points;
 mod filling;
 mod laying;
 pub mod limits;
+mod policy_run;
 mod queue;
 mod share;
 mod stretch;
@@ -18,6 +19,10 @@ mod stretch;
 pub use event_points::events;
 pub use filling::fill;
 pub use laying::lay;
+pub use policy_run::PolicyRun;
 pub use queue::Queue;
 pub use share::Share;
 pub use stretch::Stretch;
+
+#[cfg(test)]
+mod tests;
