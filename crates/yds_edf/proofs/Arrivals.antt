@@ -15,8 +15,8 @@ use Rattle.yds_model.specs.Job.{Job, IsJob, no_job, job_at}
 use Rattle.yds_edf.specs.declared.entry.Entry.{Entry}
 use Rattle.yds_edf.specs.Entries.{comes_first, entries_of}
 use Rattle.yds_edf.specs.Pending.{sum_below, has_arrived, units_wanted}
-use Rattle.yds_edf.specs.Queue.{IsNoEarlier}
-use Rattle.yds_edf.specs.Engine.{TiedQueue, IsTiedQueue, AreHeaps, IsEngine, IsComing, IsPending, HasNotArrived, units_left}
+use Rattle.yds_edf.specs.Queue.{IsNoEarlier, units_left}
+use Rattle.yds_edf.specs.Engine.{TiedQueue, IsTiedQueue, AreHeaps, IsEngine, IsComing, IsPending, HasNotArrived}
 use Rattle.yds_edf.proofs.Sums.{sum_below_same, sum_below_change, sum_below_at_most, sum_below_bound}
 use Rattle.yds_edf.proofs.Heaps.{in_entry_order}
 use Rattle.yds_edf.proofs.Steps.{entry_counts}

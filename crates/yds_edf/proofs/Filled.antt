@@ -3,7 +3,7 @@ use Rattle.std.proofs.Common.{◌≡◌, ◌≢◌, ℕ, zero, suc, ◌+◌, ◌
 use Rattle.std.specs.Prelude.{Bool, ◌==◌, nat_le, filter, All, AllPairs, Contains, Some, None}
 use Rattle.std.proofs.lemmas.List.Elements.{All-nil, All-append, All-contains, Contains-get_or}
 use Rattle.std.proofs.lemmas.List.Sums.{sum_by-append}
-use Rattle.std.proofs.lemmas.List.{get_or-replicate}
+use Rattle.std.proofs.lemmas.List.{get_or-replicate, length-append}
 use Rattle.std.proofs.lemmas.Bool.{cases_lt, cases_eq, cases_Bool, eq-eqb}
 use Rattle.yds_model.specs.Numbers.{Each}
 use Rattle.yds_model.specs.Job.{Job, IsJob, job_at}
@@ -14,9 +14,9 @@ use Rattle.yds_edf.specs.Pending.{sum_below, units_wanted, has_arrived, pending_
 use Rattle.yds_edf.specs.Serving.{IsDueBefore, IsServing}
 use Rattle.yds_edf.specs.Demand.{no_stretch, stretch_at, capacity_at, IsWithinCapacity, AreUncut}
 use Rattle.yds_edf.specs.Filled.{pending_at, IsInTime, IsFilled}
-use Rattle.yds_edf.specs.Queue.{JobQueue, new_queue, IsNoEarlier, pending_in, Adds}
+use Rattle.yds_edf.specs.Queue.{JobQueue, new_queue, IsNoEarlier, pending_in, units_left, unfinished}
 use Rattle.yds_edf.specs.Engine.{TiedQueue, ServesTied}
-use Rattle.yds_edf.proofs.Sums.{sum_below_same}
+use Rattle.yds_edf.proofs.Sums.{sum_below_same, sum_below_bound}
 use Rattle.yds_edf.proofs.Parts.{in_added, before_added, in_kept, before_kept}
 use Rattle.yds_edf.proofs.Demand.{starts_rise, in_window, in_full}
 
@@ -45,6 +45,7 @@ pub record Filling (jobs : List Job) (ties : List ℕ) (grain : ℕ) (stretches 
   pub known : All (λ share. share.stretch < i) shares
   pub serving : Each i (λ k.
       IsServing jobs (slice_index ties) (pending_at jobs grain stretches shares k) (capacity_at capacities k) (shares_in shares k))
+  pub few : length shares + unfinished now.queue ≤ length jobs + i
 
 pub begun : (jobs : List Job) (ties : List ℕ) (grain : ℕ) (stretches : List Piece) (capacities : List ℕ) →
     Filling jobs ties grain stretches capacities 0 (record { queue = new_queue jobs grain; ties = ties }) []
@@ -57,6 +58,10 @@ begun jobs ties grain stretches capacities = record {
   in_order = λ i j d order within. absurd (omega arith);
   known = All-nil (λ share. share.stretch < 0);
   serving = λ k within. absurd (omega arith);
+  few = omega (
+    arith,
+    sum_below_bound (length jobs) 1 (λ number. min 1 (units_left (new_queue jobs grain) number)) (λ k within. omega arith),
+  );
 }
 
 -- the next stretch is filled, once the jobs that are released by its start have arrived
@@ -112,6 +117,7 @@ filled_next {jobs = jobs} {ties = ties} {grain = grain} {stretches = stretches} 
             (λ number there. ap (λ (xs : List JobShare). pending_units jobs grain (Some (stretch_at stretches k).from) (units_given xs) number)
             (sym (before_kept shares part i filling.known serves.in_stretch k less))) (filling.serving k less))
       ];
+      few = omega (arith, filling.few, serves.finishing, length-append shares part);
     }
 
 -- the same by what the calls ensure
@@ -165,5 +171,6 @@ all_filled {jobs = jobs} {ties = ties} {grain = grain} {stretches = stretches} {
               share.stretch j e here below)
               (stands_in shares share (Contains-get_or shares k d within)) in
           record { released = window.0; due = window.1 };
+      few = omega (arith, filling.few);
       served = in_full jobs ties grain stretches capacities shares are order uncut enough filling.serving filling.known;
     }

@@ -15,8 +15,8 @@ use Rattle.yds_edf.specs.declared.entry.Entry.{Entry}
 use Rattle.yds_edf.specs.Entries.{comes_first, entries_of}
 use Rattle.yds_edf.specs.Pending.{sum_below, has_arrived}
 use Rattle.yds_edf.specs.Serving.{IsDueBefore}
-use Rattle.yds_edf.specs.Queue.{pending_in, all_pending}
-use Rattle.yds_edf.specs.Engine.{TiedQueue, IsEngine, IsComing, IsPending, HasNotArrived, units_left}
+use Rattle.yds_edf.specs.Queue.{pending_in, all_pending, units_left}
+use Rattle.yds_edf.specs.Engine.{TiedQueue, IsEngine, IsComing, IsPending, HasNotArrived}
 use Rattle.yds_edf.proofs.Sums.{sum_below_same, sum_below_zero}
 
 -- a job that has an entry has one with its number

@@ -17,8 +17,8 @@ use Rattle.yds_edf.specs.declared.limits.TheConstants.{MAX_GRAIN}
 use Rattle.yds_edf.specs.Entries.{comes_first, entries_of}
 use Rattle.yds_edf.specs.Pending.{sum_below, units_wanted}
 use Rattle.yds_edf.specs.Serving.{AreTies}
-use Rattle.yds_edf.specs.Queue.{new_queue}
-use Rattle.yds_edf.specs.Engine.{TiedQueue, IsEngine, IsComing, IsPending, HasNotArrived, units_left}
+use Rattle.yds_edf.specs.Queue.{new_queue, units_left}
+use Rattle.yds_edf.specs.Engine.{TiedQueue, IsEngine, IsComing, IsPending, HasNotArrived}
 use Rattle.yds_edf.proofs.Sums.{sum_below_zero}
 
 -- the first n jobs have been entered

@@ -10,10 +10,14 @@ use Rattle.yds_model.proofs.Lists.{AllPairs-append}
 use Rattle.yds_edf.specs.Shares.{JobShare, units_given, total_units}
 use Rattle.yds_edf.specs.Pending.{sum_below, has_arrived, units_wanted}
 use Rattle.yds_edf.specs.Serving.{IsDueBefore, IsServing}
-use Rattle.yds_edf.specs.Queue.{JobQueue, pending_in, all_pending, Adds, Serves}
+use Rattle.yds_edf.specs.Queue.{JobQueue, pending_in, all_pending, units_left, unfinished, Adds, Serves}
 use Rattle.yds_edf.specs.Engine.{TiedQueue, IsTiedQueue, with_served, ServesFirst, ServesTied}
 use Rattle.yds_edf.proofs.Sums.{sum_below_same, sum_below-add, sum_below_at_most, sum_below_bound, sum_below_change, sum_below_term, sum_by_grouped}
 use Rattle.yds_edf.proofs.Steps.{changed_here, changed_elsewhere}
+
+-- how many of the first jobs have units left
+abbrev pub unfinished_of : ℕ → JobQueue → ℕ
+unfinished_of n queue = sum_below n (λ number. min 1 (units_left queue number))
 
 -- what is served so far, with so much room left
 pub record Progress (start now : TiedQueue) (stretch capacity room : ℕ) (shares : List JobShare) : Type 0 where
@@ -30,8 +34,8 @@ pub record Progress (start now : TiedQueue) (stretch capacity room : ℕ) (share
   pub finished : 1 ≤ room → All (λ share. pending_in now.queue share.job < 1) shares
   pub earliest : (number : ℕ) → number < length start.queue.jobs → 1 ≤ pending_in now.queue number →
       All (λ share. (share.job ≡ number) ⊎ IsDueBefore start.queue.jobs (slice_index start.ties) share.job number) shares
-  pub few : 1 ≤ room →
-      length shares + sum_below (length start.queue.jobs) (λ number. min 1 (pending_in now.queue number)) ≤ length start.queue.jobs
+  pub few : 1 ≤ room → length shares + unfinished_of (length start.queue.jobs) now.queue ≤ unfinished start.queue
+  pub finishing : length shares + unfinished_of (length start.queue.jobs) now.queue ≤ unfinished start.queue + 1
 
 pub begin : (start : TiedQueue) (stretch capacity : ℕ) → IsTiedQueue start → Progress start start stretch capacity capacity []
 begin start stretch capacity kept = record {
@@ -46,10 +50,8 @@ begin start stretch capacity kept = record {
   total = omega arith;
   finished = λ room k d within. absurd (omega arith);
   earliest = λ number known some k d within. absurd (omega arith);
-  few = λ room. omega (
-    arith,
-    sum_below_bound (length start.queue.jobs) 1 (λ number. min 1 (pending_in start.queue number)) (λ k within. omega arith),
-  );
+  few = λ room. omega arith;
+  finishing = omega arith;
 }
 
 -- the units pending of a job, once one was served so many more
@@ -62,6 +64,24 @@ pending_here tied job units within some enough = elim (cases_Bool (has_arrived t
       rw (arrived, here) (omega (arith, rw arrived at enough))
   | inr not_yet ↦ absurd (omega (arith, rw not_yet at some))
 ]
+
+-- all that is left of a job of which units are pending is pending
+some_pending : (queue : JobQueue) (number : ℕ) → 1 ≤ pending_in queue number → pending_in queue number ≡ units_left queue number
+some_pending queue number some = elim (cases_Bool (has_arrived queue.time (job_at queue.jobs number))) [
+  | inl arrived ↦ rw arrived refl
+  | inr not_yet ↦ absurd (omega (arith, rw not_yet at some))
+]
+
+left_here : (tied : TiedQueue) (job units : ℕ) → job < length tied.queue.served → units ≤ units_left tied.queue job →
+    units + units_left (with_served tied job units).queue job ≡ units_left tied.queue job
+left_here tied job units within enough =
+    let here = changed_here tied.queue.served job (slice_index tied.queue.served job + units) within in
+    rw here (omega (arith, enough))
+
+left_elsewhere : (tied : TiedQueue) (job units number : ℕ) → number ≢ job →
+    units_left (with_served tied job units).queue number ≡ units_left tied.queue number
+left_elsewhere tied job units number other =
+    rw (changed_elsewhere tied.queue.served job number (slice_index tied.queue.served job + units) other) refl
 
 pending_elsewhere : (tied : TiedQueue) (job units number : ℕ) → number ≢ job →
     pending_in (with_served tied job units).queue number ≡ pending_in tied.queue number
@@ -113,16 +133,22 @@ module _ (start now : TiedQueue) (stretch capacity room : ℕ) (shares : List Jo
     | inr before ↦ before
   ]
 
-  few_after : length shares + 1 + sum_below (length start.queue.jobs) (λ number. min 1 (pending_in (with_served now job units).queue number))
-      ≤ length start.queue.jobs + min 1 (pending_in (with_served now job units).queue job)
+  all_left : pending_in now.queue job ≡ units_left now.queue job
+  all_left = some_pending now.queue job (omega (arith, some, lesser))
+
+  here_left : units + units_left (with_served now job units).queue job ≡ units_left now.queue job
+  here_left = left_here now job units (omega (arith, known, progress.as_long)) (omega (arith, lesser, all_left))
+
+  few_after : length shares + 1 + unfinished_of (length start.queue.jobs) (with_served now job units).queue
+      ≤ unfinished start.queue + min 1 (units_left (with_served now job units).queue job)
   few_after = omega (
     arith,
     progress.few room_left,
     some,
-    lesser,
-    sum_below_change (length start.queue.jobs) job (λ number. min 1 (pending_in now.queue number))
-        (λ number. min 1 (pending_in (with_served now job units).queue number)) known
-        (λ number within other. ap (λ n. min 1 n) (sym (elsewhere number other))),
+    here_left,
+    sum_below_change (length start.queue.jobs) job (λ number. min 1 (units_left now.queue number))
+        (λ number. min 1 (units_left (with_served now job units).queue number)) known
+        (λ number within other. ap (λ n. min 1 n) (sym (left_elsewhere now job units number other))),
   )
 
   -- there is room for its share
@@ -131,8 +157,9 @@ module _ (start now : TiedQueue) (stretch capacity room : ℕ) (shares : List Jo
     arith,
     progress.few room_left,
     some,
-    lesser,
-    sum_below_term (length start.queue.jobs) job (λ number. min 1 (pending_in now.queue number)) known,
+    here_left,
+    sum_below_term (length start.queue.jobs) job (λ number. min 1 (units_left now.queue number)) known,
+    sum_below_bound (length start.queue.jobs) 1 (λ number. min 1 (units_left start.queue number)) (λ k within. omega arith),
   )
 
   pub go_on : Progress start (with_served now job units) stretch capacity (room - units) (shares ++ share ∷ [])
@@ -194,7 +221,8 @@ module _ (start now : TiedQueue) (stretch capacity room : ℕ) (shares : List Jo
         (λ s. (s.job ≡ number) ⊎ IsDueBefore start.queue.jobs (slice_index start.ties) s.job number) shares share
         (progress.earliest number within (omega (arith, no_more number, pending)))
         (first number within (omega (arith, no_more number, pending)));
-    few = λ more. omega (arith, more, lesser, here, few_after, length-append shares (share ∷ []));
+    few = λ more. omega (arith, more, lesser, all_left, here_left, few_after, length-append shares (share ∷ []));
+    finishing = omega (arith, few_after, length-append shares (share ∷ []));
   }
 
 -- the same by what the step ensures
@@ -243,6 +271,11 @@ end start now stretch capacity room shares progress over =
         earliest = λ number within less. progress.earliest number within (omega (arith, less, progress.given number within));
       };
       in_stretch = progress.in_stretch;
+      finishing = omega (
+        arith,
+        progress.finishing,
+        ap (λ (jobs : List Job). unfinished_of (length jobs) now.queue) progress.adds.jobs,
+      );
       ties = progress.ties;
       adds = progress.adds;
     }
@@ -275,5 +308,6 @@ by_number old new stretch capacity shares numbers serves =
         ];
       };
       in_stretch = serves.in_stretch;
+      finishing = serves.finishing;
       adds = serves.adds;
     }

@@ -13,8 +13,8 @@ use Rattle.yds_model.specs.Job.{Job, no_job, job_at}
 use Rattle.yds_edf.specs.declared.entry.Entry.{Entry}
 use Rattle.yds_edf.specs.Entries.{comes_first, entries_of}
 use Rattle.yds_edf.specs.Pending.{sum_below, has_arrived, units_wanted}
-use Rattle.yds_edf.specs.Queue.{pending_in}
-use Rattle.yds_edf.specs.Engine.{TiedQueue, IsTiedQueue, IsEngine, IsComing, IsPending, HasNotArrived, units_left, with_served, ServesFirst}
+use Rattle.yds_edf.specs.Queue.{pending_in, units_left}
+use Rattle.yds_edf.specs.Engine.{TiedQueue, IsTiedQueue, IsEngine, IsComing, IsPending, HasNotArrived, with_served, ServesFirst}
 use Rattle.yds_edf.proofs.Sums.{sum_below_change, sum_below_term}
 use Rattle.yds_edf.proofs.Heaps.{entries_tell, none_coming, entries_times, top_is_first}
 

@@ -11,16 +11,12 @@ use Rattle.yds_edf.specs.Entries.{comes_first, entries_of}
 use Rattle.yds_edf.specs.Pending.{sum_below, units_wanted, has_arrived}
 use Rattle.yds_edf.specs.Shares.{JobShare}
 use Rattle.yds_edf.specs.Serving.{IsDueBefore, IsServing}
-use Rattle.yds_edf.specs.Queue.{JobQueue, pending_in, Adds}
+use Rattle.yds_edf.specs.Queue.{JobQueue, pending_in, units_left, unfinished, Adds}
 
 -- a queue, and the numbers that order jobs of the same deadline
 pub record TiedQueue : Type 0 where
   pub queue : JobQueue
   pub ties : List ℕ
-
--- the units of a job that weren't served
-abbrev pub units_left : JobQueue → ℕ → ℕ
-units_left queue number = units_wanted queue.jobs queue.grain number - slice_index queue.served number
 
 -- the queue once a job was served so many units more
 abbrev pub with_served : TiedQueue → ℕ → ℕ → TiedQueue
@@ -83,5 +79,6 @@ pub record ServesFirst (old new : TiedQueue) (room job units : ℕ) : Type 0 whe
 pub record ServesTied (old new : TiedQueue) (stretch capacity : ℕ) (shares : List JobShare) : Type 0 where
   pub serving : IsServing old.queue.jobs (slice_index old.ties) (pending_in old.queue) capacity shares
   pub in_stretch : All (λ share. share.stretch ≡ stretch) shares
+  pub finishing : length shares + unfinished new.queue ≤ unfinished old.queue + 1
   pub ties : new.ties ≡ old.ties
   pub adds : Adds old.queue new.queue shares

@@ -1,5 +1,5 @@
 -- What it means that stretches, each of a capacity, are filled earliest deadline first and that every job is served in time.
-use Rattle.std.specs.Prelude.{◌≡◌, ℕ, ◌<◌, ◌≤◌, List, length, slice_index, Some, All, AllPairs}
+use Rattle.std.specs.Prelude.{◌≡◌, ℕ, ◌+◌, ◌<◌, ◌≤◌, List, length, slice_index, Some, All, AllPairs}
 use Rattle.yds_model.specs.Numbers.{Each}
 use Rattle.yds_model.specs.Job.{Job, job_at}
 use Rattle.yds_model.specs.Piece.{Piece}
@@ -20,7 +20,8 @@ pub record IsInTime (jobs : List Job) (stretches : List Piece) (share : JobShare
   pub due : (stretch_at stretches share.stretch).to ≤ (job_at jobs share.job).deadline
 
 -- The shares stand in order of their stretches. Each stretch is served earliest deadline first, jobs of the same deadline in
--- order of their ties, and every job gets all its units inside its window.
+-- order of their ties, and every job gets all its units inside its window. There is at most one share for each job and each
+-- stretch together.
 pub record IsFilled (jobs : List Job) (ties : List ℕ) (grain : ℕ) (stretches : List Piece) (capacities : List ℕ)
     (shares : List JobShare) : Type 0 where
   pub in_order : AllPairs (λ one other. one.stretch ≤ other.stretch) shares
@@ -28,4 +29,5 @@ pub record IsFilled (jobs : List Job) (ties : List ℕ) (grain : ℕ) (stretches
   pub serving : Each (length stretches) (λ i.
       IsServing jobs (slice_index ties) (pending_at jobs grain stretches shares i) (capacity_at capacities i) (shares_in shares i))
   pub in_time : All (IsInTime jobs stretches) shares
+  pub few : length shares ≤ length jobs + length stretches
   pub served : Each (length jobs) (λ number. units_given shares number ≡ units_wanted jobs grain number)

@@ -9,13 +9,20 @@ mod engine;
 mod entry;
 mod event_points;
 mod filling;
+mod laying;
 pub mod limits;
+mod policy_run;
 mod queue;
 mod share;
 mod stretch;
 
 pub use event_points::events;
 pub use filling::fill;
+pub use laying::lay;
+pub use policy_run::PolicyRun;
 pub use queue::Queue;
 pub use share::Share;
 pub use stretch::Stretch;
+
+#[cfg(test)]
+mod tests;

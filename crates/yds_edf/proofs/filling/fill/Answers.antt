@@ -2,8 +2,17 @@ use Rattle.std.proofs.Common.{◌≡◌, ◌∙◌, length, arith, ap, subst}
 use Rattle.std.proofs.lemmas.List.{get_or_read}
 use Rattle.yds_model.specs.Piece.{Piece}
 use Rattle.yds_edf.specs.Demand.{no_stretch}
-use Rattle.yds_edf.proofs.Filled.{Filling, filled_after, all_filled}
+use Rattle.yds_edf.proofs.Filled.{Filling, begun, filled_after, all_filled}
 use Rattle.yds_edf.proofs.filling.fill.Goals as goal
+
+pub loop-number-init : goal.loop-number-init
+loop-number-init c =
+    let kept = rw c.in_ok-engine.ensures.made at c.in_ok-engine.ensures.kept in
+    record {
+      are = kept.jobs;
+      filling = rw (c.in_ok-engine.ensures.made, c.in_ok-ties.ensures.items, c.new-shares.ensures.items)
+          (begun c.args.rows.now c.args.ties.now c.args.grain c.args.stretches.now c.args.capacities.now);
+    }
 
 pub loop-number-preserved : goal.loop-number-preserved
 loop-number-preserved c = record {
