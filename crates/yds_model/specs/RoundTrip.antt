@@ -98,3 +98,7 @@ pub record HasJobsAndSlots (document : Document) : Type 0 where
 -- The text of a document of jobs and slots is read as that document.
 abbrev pub JobsAndSlotsAreRead : Type 0
 JobsAndSlotsAreRead = (document : Document) → IsDocument document → HasJobsAndSlots document → reading (canonical_text document) ≡ Ok document
+
+-- The text of a document within the limits is read as that document.
+abbrev pub PrintedIsRead : Type 0
+PrintedIsRead = (document : Document) → IsDocument document → reading (canonical_text document) ≡ Ok document
