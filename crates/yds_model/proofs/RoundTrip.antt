@@ -67,7 +67,7 @@ jobs_brought d fits =
     subst (λ after. Brings no_document (job_lines d.names d.jobs) after) whole (Brings-each some_jobs (λ named. job_line named.0 named.1) (zip d.names d.jobs) each)
   where
     same : length d.jobs ≡ length d.names
-    same = sym fits.one_name_each
+    same = sym fits.jobs.one_name_each
 
     whole : some_jobs (zip d.names d.jobs) ≡ after_jobs d
     whole = rw (firsts-zip d.names d.jobs same, seconds-zip d.names d.jobs same) refl
@@ -80,17 +80,17 @@ jobs_brought d fits =
         sym (map-append (λ (one : List ℕ × Job). one.0) before (x ∷ after)) ∙ ap (map (λ (one : List ℕ × Job). one.0)) is ∙ firsts-zip d.names d.jobs same in
         let jobs : map (λ (one : List ℕ × Job). one.1) before ++ x.1 ∷ map (λ (one : List ℕ × Job). one.1) after ≡ d.jobs =
         sym (map-append (λ (one : List ℕ × Job). one.1) before (x ∷ after)) ∙ ap (map (λ (one : List ℕ × Job). one.1)) is ∙ seconds-zip d.names d.jobs same in
-        let named : is_name x.0 ≡ true = All-middle (λ name. is_name name ≡ true) d.names names_before x.0 _ names fits.names_fit in
-        let job : IsJob x.1 = All-middle IsJob d.jobs _ x.1 _ jobs fits.jobs_fit in
+        let named : is_name x.0 ≡ true = All-middle (λ name. is_name name ≡ true) d.names names_before x.0 _ names fits.jobs.names_fit in
+        let job : IsJob x.1 = All-middle IsJob d.jobs _ x.1 _ jobs fits.jobs.jobs_fit in
         let few : length names_before < MAX_JOBS =
-        omega (arith, length_before d.names names_before x.0 (map (λ (one : List ℕ × Job). one.0) after) names, fits.few_jobs, same) in
+        omega (arith, length_before d.names names_before x.0 (map (λ (one : List ℕ × Job). one.0) after) names, fits.jobs.few, same) in
         let more : with_job x.0 x.1 (some_jobs before) ≡ some_jobs (before ++ x ∷ []) =
         rw (map-append (λ (one : List ℕ × Job). one.0) before (x ∷ []), map-append (λ (one : List ℕ × Job). one.1) before (x ∷ [])) refl in
         Brings-line (some_jobs before) (some_jobs (before ++ x ∷ [])) (job_texts x.0 x.1) (job_words x.0 x.1 named job) refl
         (λ earlier says.
         let known : filter_map name_said earlier ≡ names_before = ap (λ (d : Document). d.names) says.said in
         let new : job_named earlier x.0 ≡ None =
-        ap (λ names. position (λ other. bytes_eq other x.0) names) known ∙ name_new d.names names_before x.0 _ fits.different names in
+        ap (λ names. position (λ other. bytes_eq other x.0) names) known ∙ name_new d.names names_before x.0 _ fits.jobs.different names in
         let room : length (filter_map name_said earlier) < MAX_JOBS = omega (arith, ap {B = ℕ} length known, few) in
         (JobEntry x.0 x.1, job_read earlier x.0 x.1 job named new room, subst (Says (earlier ++ JobEntry x.0 x.1 ∷ [])) more (says-job earlier x.0 x.1 (some_jobs before) says)))
 
@@ -120,18 +120,18 @@ slots_brought d fits = Brings-each (some_slots d) (slot_line d.names) d.slots ea
         Brings (some_slots d before) (slot_line d.names slot) (some_slots d (before ++ slot ∷ []))
     each before slot after is =
         let name : List ℕ = name_at d.names slot.job in
-        let known : slot.job < length d.names = All-middle (λ slot. slot.job < length d.names) d.slots before slot after is fits.slots_known in
-        let named : is_name name ≡ true = fits.names_fit slot.job [] known in
-        let slot_fits : IsSlot slot = All-middle IsSlot d.slots before slot after is fits.slots_fit in
-        let few : length before < MAX_SLOTS = omega (arith, length_before d.slots before slot after is, fits.few_slots) in
+        let known : slot.job < length d.names = All-middle (λ slot. slot.job < length d.names) d.slots before slot after is fits.slots.known in
+        let named : is_name name ≡ true = fits.jobs.names_fit slot.job [] known in
+        let slot_fits : IsSlot slot = All-middle IsSlot d.slots before slot after is fits.slots.fit in
+        let few : length before < MAX_SLOTS = omega (arith, length_before d.slots before slot after is, fits.slots.few) in
         Brings-line (some_slots d before) (some_slots d (before ++ slot ∷ [])) (slot_texts name slot) (slot_words name slot named slot_fits) refl
         (λ earlier says.
         let number : job_named earlier name ≡ Some slot.job =
-        ap (λ (d : Document). position (λ other. bytes_eq other name) d.names) says.said ∙ name_known d.names slot.job fits.different known in
+        ap (λ (d : Document). position (λ other. bytes_eq other name) d.names) says.said ∙ name_known d.names slot.job fits.jobs.different known in
         let slots : filter_map slot_said earlier ≡ before = ap (λ (d : Document). d.slots) says.said in
         let grain : fits_grain earlier slot.job slot.work ≡ true =
         ap (λ slots. list_all (are_alike slot.work) (filter_map (λ other. if other.job == slot.job then Some other.work else None) slots)) slots
-        ∙ grain_test slot.job slot.work before (alike_before d.slots before slot after fits.grains is) in
+        ∙ grain_test slot.job slot.work before (alike_before d.slots before slot after fits.slots.grains is) in
         let room : length (filter_map slot_said earlier) < MAX_SLOTS = omega (arith, ap {B = ℕ} length slots, few) in
         (SlotEntry slot, slot_read earlier name slot slot_fits named number grain room, says-slot earlier slot (some_slots d before) says))
 
@@ -156,12 +156,12 @@ points_brought d fits = Brings-each (some_points d) point_line d.points each
     each : (before : List Point) (point : Point) (after : List Point) → before ++ point ∷ after ≡ d.points →
         Brings (some_points d before) (point_line point) (some_points d (before ++ point ∷ []))
     each before point after is =
-        let point_fits : IsPoint point = All-middle IsPoint d.points before point after is fits.points_fit in
-        let few : length before < MAX_POINTS = omega (arith, length_before d.points before point after is, fits.few_points) in
+        let point_fits : IsPoint point = All-middle IsPoint d.points before point after is fits.points.fit in
+        let few : length before < MAX_POINTS = omega (arith, length_before d.points before point after is, fits.points.few) in
         let front : take (length before + 1) d.points ≡ before ++ point ∷ [] =
         ap (take (length before + 1)) (sym is) ∙ take-append-add before (point ∷ after) 1 in
-        let gaps : hull_multiple (before ++ point ∷ []) ≤ MAX_GAPS = subst (λ points. hull_multiple points ≤ MAX_GAPS) front (fits.gaps_in_range (length before + 1)) in
-        let table : IsTable (before ++ point ∷ after) = table_of d.points before point after is fits.table in
+        let gaps : hull_multiple (before ++ point ∷ []) ≤ MAX_GAPS = subst (λ points. hull_multiple points ≤ MAX_GAPS) front (fits.points.gaps_in_range (length before + 1)) in
+        let table : IsTable (before ++ point ∷ after) = table_of d.points before point after is fits.points.table in
         Brings-line (some_points d before) (some_points d (before ++ point ∷ [])) (point_texts point) (point_words point point_fits) refl
         (λ earlier says.
         let points : filter_map point_said earlier ≡ before = ap (λ (d : Document). d.points) says.said in
@@ -194,11 +194,11 @@ piece_brought : (d : Document) → IsDocument d → (before : List Level) (level
     Brings (within_level d before level front []) (piece_line piece) (within_level d before level (front ++ piece ∷ []) [])
 piece_brought d fits before level after is front piece back here =
     let so_far : Level = record { work = level.work; length = level.length; pieces = front; members = [] } in
-    let level_fits : IsLevel level = All-middle IsLevel d.levels before level after is fits.levels_fit in
+    let level_fits : IsLevel level = All-middle IsLevel d.levels before level after is fits.levels.fit in
     let piece_fits : IsPiece piece = All-middle IsPiece level.pieces front piece back here level_fits.pieces in
     let middle = joined_middle (λ level. level.pieces) d.levels before level after is front piece back here in
     let few : length (all_pieces before ++ front) < MAX_PIECES =
-    omega (arith, length_before (all_pieces d.levels) (all_pieces before ++ front) piece (back ++ all_pieces after) middle, fits.few_pieces) in
+    omega (arith, length_before (all_pieces d.levels) (all_pieces before ++ front) piece (back ++ all_pieces after) middle, fits.levels.few_pieces) in
     Brings-line (within_level d before level front []) (within_level d before level (front ++ piece ∷ []) []) (piece_texts piece) (piece_words piece piece_fits) refl
     (λ earlier says.
     let levels : levels_said earlier ≡ before ++ so_far ∷ [] = ap (λ (d : Document). d.levels) says.said in
@@ -219,10 +219,10 @@ member_brought d fits before level after is front member back here =
     let name : List ℕ = name_at d.names member in
     let middle = joined_middle (λ level. level.members) d.levels before level after is front member back here in
     let known : member < length d.names =
-    All-middle (λ job. job < length d.names) (all_members d.levels) (all_members before ++ front) member (back ++ all_members after) middle fits.members_known in
-    let named : is_name name ≡ true = fits.names_fit member [] known in
+    All-middle (λ job. job < length d.names) (all_members d.levels) (all_members before ++ front) member (back ++ all_members after) middle fits.levels.known in
+    let named : is_name name ≡ true = fits.jobs.names_fit member [] known in
     let few : length (all_members before ++ front) < MAX_MEMBERS =
-    omega (arith, length_before (all_members d.levels) (all_members before ++ front) member (back ++ all_members after) middle, fits.few_members) in
+    omega (arith, length_before (all_members d.levels) (all_members before ++ front) member (back ++ all_members after) middle, fits.levels.few_members) in
     Brings-line (within_level d before level level.pieces front) (within_level d before level level.pieces (front ++ member ∷ [])) (member_texts name) (member_words name named) refl
     (λ earlier says.
     let levels : levels_said earlier ≡ before ++ so_far ∷ [] = ap (λ (d : Document). d.levels) says.said in
@@ -230,7 +230,7 @@ member_brought d fits before level after is front member back here =
     let members : filter_map member_said earlier ≡ all_members before ++ front = says.members ∙ sym (flat_map_more (λ level. level.members) [] before so_far) in
     let room : length (filter_map member_said earlier) < MAX_MEMBERS = omega (arith, ap {B = ℕ} length members, few) in
     let number : job_named earlier name ≡ Some member =
-    ap (λ (d : Document). position (λ other. bytes_eq other name) d.names) says.said ∙ name_known d.names member fits.different known in
+    ap (λ (d : Document). position (λ other. bytes_eq other name) d.names) says.said ∙ name_known d.names member fits.jobs.different known in
     let kind : IsOfLevels (MemberEntry member) = record { names = refl; jobs = refl; points = refl; slots = refl; grid = refl; energy = refl } in
     let said : Says (earlier ++ MemberEntry member ∷ []) (within_level d before level (level.pieces ++ []) (front ++ member ∷ [])) =
     says-last earlier before so_far (MemberEntry member) (within_level d before level level.pieces front) refl kind refl says in (
@@ -242,8 +242,8 @@ member_brought d fits before level after is front member back here =
 level_brought : (d : Document) → IsDocument d → (before : List Level) (level : Level) (after : List Level) → before ++ level ∷ after ≡ d.levels →
     Brings (some_levels d before) (level_lines d.names level) (some_levels d (before ++ level ∷ []))
 level_brought d fits before level after is =
-    let level_fits : IsLevel level = All-middle IsLevel d.levels before level after is fits.levels_fit in
-    let few : length before < MAX_LEVELS = omega (arith, length_before d.levels before level after is, fits.few_levels) in
+    let level_fits : IsLevel level = All-middle IsLevel d.levels before level after is fits.levels.fit in
+    let few : length before < MAX_LEVELS = omega (arith, length_before d.levels before level after is, fits.levels.few) in
     let head : Brings (some_levels d before) (line (level_texts level)) (within_level d before level [] []) =
     Brings-line (some_levels d before) (within_level d before level [] []) (level_texts level) (level_words level level_fits) refl
     (λ earlier says.
@@ -302,9 +302,9 @@ printed_is_read d fits =
     let two = Brings-append no_document (after_jobs d) (after_points d) jobs points (jobs_brought d fits) (points_brought d fits) in
     let three = Brings-append no_document (after_points d) (after_slots d) (jobs ++ points) slots two (slots_brought d fits) in
     let four = Brings-append no_document (after_slots d) after_levels (jobs ++ points ++ slots) levels three (levels_brought d fits) in
-    let five = Brings-append no_document after_levels after_grid (jobs ++ points ++ slots ++ levels) grid four (grid_brought d d.grid fits.grid_fits) in
+    let five = Brings-append no_document after_levels after_grid (jobs ++ points ++ slots ++ levels) grid four (grid_brought d d.grid fits.grid) in
     read_whole (canonical_text d) d
-    (Brings-append no_document after_grid d (jobs ++ points ++ slots ++ levels ++ grid) energy five (energy_brought d d.energy fits.energy_fits))
+    (Brings-append no_document after_grid d (jobs ++ points ++ slots ++ levels ++ grid) energy five (energy_brought d d.energy fits.energy))
 
 pub jobs_and_slots_are_read : JobsAndSlotsAreRead
 jobs_and_slots_are_read d fits only = printed_is_read d fits
