@@ -31,3 +31,4 @@ pub mod Said
 pub mod Printed
 pub mod KindsRead
 pub mod JobNames
+pub mod Short
