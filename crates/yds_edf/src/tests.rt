@@ -42,11 +42,17 @@ fn queue_serves_by_deadline(rt: HostRuntime) -> Result<(), Fail> {
     queue.arrive(0);
     assert_eq!(rt; queue.pending(), 2);
     let first = queue.serve(0, 1)?;
-    assert_eq!(rt; numbers(rt.alloc(), &first)?.as_slice(), [(0, 0, 1)].as_slice());
+    assert_eq!(rt;
+        numbers(rt.alloc(), &first)?.as_slice(),
+        [(0, 0, 1)].as_slice()
+    );
     queue.arrive(1);
     assert_eq!(rt; (queue.pending(), queue.due(2)), (2, 1));
     let second = queue.serve(1, 2)?;
-    assert_eq!(rt; numbers(rt.alloc(), &second)?.as_slice(), [(1, 1, 1), (1, 0, 1)].as_slice());
+    assert_eq!(rt;
+        numbers(rt.alloc(), &second)?.as_slice(),
+        [(1, 1, 1), (1, 0, 1)].as_slice()
+    );
     assert_eq!(rt; queue.served(), [2, 1].as_slice());
     Ok(())
 }
@@ -56,7 +62,10 @@ fn queue_serves_by_deadline(rt: HostRuntime) -> Result<(), Fail> {
 fn fills_a_level(rt: HostRuntime) -> Result<(), Fail> {
     let rows = [JobRow::new(0, 3, 2), JobRow::new(0, 3, 5)];
     let shares = fill(rt.alloc(), &rows, &[0, 1], 3, &[Stretch::new(0, 3)], &[21])?;
-    assert_eq!(rt; numbers(rt.alloc(), &shares)?.as_slice(), [(0, 0, 6), (0, 1, 15)].as_slice());
+    assert_eq!(rt;
+        numbers(rt.alloc(), &shares)?.as_slice(),
+        [(0, 0, 6), (0, 1, 15)].as_slice()
+    );
     Ok(())
 }
 

@@ -11,8 +11,12 @@ loop-room-init c = record {
 
 pub returns-in_err-push-clause-err : goal.returns-in_err-push-clause-err
 returns-in_err-push-clause-err c =
-    absurd (omega (arith, c.in_err-push.ensures.full, c.loop-room.invariant.has_room,
-    next_fits c.loop-room.invariant.progress c.loop-room-test.true c.in-Some.ensures))
+    absurd (omega (
+      arith,
+      c.in_err-push.ensures.full,
+      c.loop-room.invariant.has_room,
+      next_fits c.loop-room.invariant.progress c.loop-room-test.true c.in-Some.ensures,
+    ))
 
 pub loop-room-preserved : goal.loop-room-preserved
 loop-room-preserved c = record {
