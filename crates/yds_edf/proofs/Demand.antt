@@ -5,7 +5,6 @@
 -- before it. A stretch either serves its whole capacity to them, or leaves none of them pending.
 use Rattle.std.proofs.Common.{◌≡◌, ◌≢◌, ℕ, zero, suc, ◌+◌, ◌-◌, ◌<◌, ◌≤◌, ◌⊎◌, List, [], ◌∷◌, length, get_or, slice_index, ◌∙◌, refl, sym, subst, arith, inl, inr, ap, cond, true, false}
 use Rattle.std.specs.Prelude.{Bool, ◌==◌, ◌&&◌, nat_le, nat_lt, All}
-use Rattle.std.proofs.lemmas.List.Sums.{get_or-le-sum_by}
 use Rattle.std.proofs.lemmas.Bool.{cases_lt, cases_eq, cases_order, cases_Bool, ltb-true, ltb-false, lt-leb, le-leb, eq-eqb, ne_eqb, eqb-true, true≢false}
 use Rattle.yds_model.specs.Numbers.{Each}
 use Rattle.yds_model.specs.Job.{Job, IsJob, no_job, job_at}
@@ -17,7 +16,7 @@ use Rattle.yds_edf.specs.Demand.{no_stretch, stretch_at, capacity_at, confined_u
 use Rattle.yds_edf.specs.Filled.{pending_at}
 use Rattle.yds_edf.proofs.Sums.{sum_below_same, sum_below_at_most, sum_below_zero, sum_below-add, sum_below_term, sum_below_change, sum_below_less, sum_by_grouped}
 use Rattle.yds_model.proofs.Sums.{sum_by_zero}
-use Rattle.yds_edf.proofs.Parts.{all_before, none_before, given_next}
+use Rattle.yds_edf.proofs.Parts.{all_before, none_before, given_next, share_given}
 
 -- a term that counts where two orders hold
 both : (a b c d x : ℕ) → a ≤ b → c ≤ d → cond (nat_le a b && nat_le c d) x 0 ≡ x
@@ -223,16 +222,6 @@ capacity_first stretches capacities time =
 none_given : (shares : List JobShare) (number : ℕ) → All (λ share. number ≢ share.job) shares → units_given shares number ≡ 0
 none_given shares number none = sum_by_zero (λ (share : JobShare). cond (number == share.job) share.units 0) shares
     (λ k d within. ap {B = ℕ} (λ b. cond b (get_or shares k d).units 0) (ne_eqb number (get_or shares k d).job (none k d within)))
-
--- a job gets at least what one of its shares has
-share_given : (shares : List JobShare) (k : ℕ) (share : JobShare) → k < length shares →
-    (get_or shares k share).units ≤ units_given shares (get_or shares k share).job
-share_given shares k share within = omega (
-  arith,
-  get_or-le-sum_by (λ (other : JobShare). cond ((get_or shares k share).job == other.job) other.units 0) shares k share within,
-  ap {B = ℕ} (λ b. cond b (get_or shares k share).units 0)
-      (eq-eqb (get_or shares k share).job (get_or shares k share).job refl),
-)
 
 module _ (jobs : List Job) (ties : List ℕ) (grain : ℕ) (stretches : List Piece) (capacities : List ℕ) (shares : List JobShare)
     (are : All IsJob jobs) (order : PiecesFrom 0 stretches) (uncut : AreUncut jobs stretches)

@@ -10,6 +10,7 @@ ghost use Rattle.std.specs.Prelude.{
   Some,
   length,
   if◌then◌else◌,
+  All,
 };
 ghost use Rattle.yds_model.specs.Job.{IsJob};
 ghost use Rattle.yds_edf.specs.Engine.{IsTiedQueue, ServesFirst, ServesTied};
@@ -24,7 +25,7 @@ use std::alloc::Global;
 use std::cmp::Reverse;
 use std::collections::BinaryHeap;
 use std::marker::Model;
-use yds_model::limits::MAX_JOBS;
+use yds_model::limits::{MAX_JOBS, MAX_WORK};
 use yds_model::{JobRow, Memory};
 
 /// Serves jobs earliest deadline first, jobs of the same deadline in order of their ties.
@@ -197,6 +198,7 @@ impl Engine {
         capacity: u64,
     ) -> Result<Vec<Share>, Memory>
         ensures ok { IfOk result (λ shares. ServesTied self.old self.new stretch capacity shares.items) }
+        ensures works { IfOk result (λ shares. All (λ share. share.units ≤ MAX_WORK * self.old.queue.grain) shares.items) }
         ensures err { OnErr result (self.new ≡ self.old) }
     {
         let mut shares = Vec::with_capacity(alloc, self.jobs())?;
