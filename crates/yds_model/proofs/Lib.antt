@@ -1,4 +1,5 @@
 mod Examples
+mod ThreeJobs
 pub mod Sums
 pub mod Lists
 pub mod Time
