@@ -1,5 +1,7 @@
 mod Examples
 mod ThreeJobs
+mod Policies
+mod Judged
 pub mod Sums
 pub mod Lists
 pub mod Time
