@@ -1,5 +1,8 @@
 mod Examples
 pub mod Sums
+pub mod Differences
+pub mod Horizon
+pub mod Hinges
 pub mod Lists
 pub mod Time
 pub mod Group
@@ -23,6 +26,7 @@ pub mod HullOf
 pub mod OneJob
 pub mod Curve
 pub mod Plans
+pub mod Energy
 pub mod Spelling
 pub mod TextLaws
 pub mod Brought
