@@ -31,7 +31,7 @@ gains low high time work = low.power * (high.speed * time) + high.power * work
 abbrev pub losses : Point → Point → ℕ → ℕ → ℕ
 losses low high time work = low.power * work + high.power * (low.speed * time)
 
-line_is : (low high : Point) (time work : ℕ) → IsDifference (gains low high time work) (losses low high time work) (on_line low high time work)
+pub line_is : (low high : Point) (time work : ℕ) → IsDifference (gains low high time work) (losses low high time work) (on_line low high time work)
 line_is low high time work =
     difference_plus (low.power * (high.speed * time)) (low.power * work) (high.power * work) (high.power * (low.speed * time)) _ _
     (difference_times low.power (high.speed * time) work _ (difference_of (high.speed * time) work))

@@ -27,6 +27,8 @@ pub mod OneJob
 pub mod Curve
 pub mod Plans
 pub mod Energy
+pub mod HullEnergy
+pub mod PlansEnergy
 pub mod Spelling
 pub mod TextLaws
 pub mod Brought

@@ -27,3 +27,10 @@ abbrev pub PointsCostAtLeastTheHull : Type 0
 PointsCostAtLeastTheHull = (jobs : List Job) (points hull : List Point) (scale energy : ℕ) (slots : List WholeSlot) → AreRising points →
     IsHullOf points hull → IsEnergyOnPoints jobs points scale slots energy →
     interpolated_energy jobs hull scale slots ≤ℤ pos (product (gaps_of hull) * energy)
+
+-- So a plan's schedule, by the table's lower hull, has at most the energy that any feasible schedule spends on the table's points.
+abbrev pub PlansCostLeastOnPoints : Type 0
+PlansCostLeastOnPoints = (jobs : List Job) (slots : List WrittenSlot) (levels : List Level) (points hull : List Point) (scale energy : ℕ) (others : List WholeSlot) →
+    IsPlan jobs slots levels → IsTable points → IsHullOf points hull → IsScale scale slots → IsFeasibleAt jobs scale others →
+    IsEnergyOnPoints jobs points scale others energy →
+    interpolated_energy jobs hull scale (slots_at scale slots) ≤ℤ pos (product (gaps_of hull) * energy)
