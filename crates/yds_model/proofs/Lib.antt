@@ -1,4 +1,5 @@
 mod Examples
+mod EnergyExamples
 pub mod Sums
 pub mod Differences
 pub mod Horizon
