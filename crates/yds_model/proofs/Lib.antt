@@ -2,7 +2,11 @@ mod Examples
 mod ThreeJobs
 mod Policies
 mod Judged
+mod EnergyExamples
 pub mod Sums
+pub mod Differences
+pub mod Horizon
+pub mod Hinges
 pub mod Lists
 pub mod Time
 pub mod Group
@@ -26,6 +30,9 @@ pub mod HullOf
 pub mod OneJob
 pub mod Curve
 pub mod Plans
+pub mod Energy
+pub mod HullEnergy
+pub mod PlansEnergy
 pub mod Spelling
 pub mod TextLaws
 pub mod Brought

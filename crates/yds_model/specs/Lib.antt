@@ -23,6 +23,7 @@ pub mod Plan
 pub mod Audit
 pub mod Judgement
 pub mod Energy
+pub mod EnergyLaws
 pub mod Policy
 pub mod AverageRate
 pub mod OptimalAvailable

@@ -8,6 +8,7 @@
 
 mod command;
 mod divisor_laws;
+mod energy_laws;
 mod hull_laws;
 mod job_row;
 mod judging_laws;
@@ -24,6 +25,9 @@ mod text_laws;
 
 pub use command::Command;
 pub use divisor_laws::{divisor_is_greatest, lowest_terms_are_one, multiple_is_least};
+pub use energy_laws::{
+    least_is_cheapest, plans_cost_least, plans_cost_least_on_points, points_cost_at_least_the_hull,
+};
 pub use hull_laws::{hull_is_computed, hull_is_lowest};
 pub use job_row::JobRow;
 pub use judging_laws::{

@@ -1,0 +1,63 @@
+-- Signed numbers as differences of two naturals, and the greatest and the sum of a list of them.
+use Rattle.std.proofs.Common.{◌≡◌, ℕ, ◌+◌, ◌*◌, ◌≤◌, List, [], ◌∷◌, refl, sym, ap, ◌∙◌, arith}
+use Rattle.std.specs.Prelude.{ℤ, pos, ◌+ℤ◌, ◌-ℤ◌, ◌*ℤ◌, ◌≤ℤ◌, map}
+use Rattle.std.specs.Int.{int_max}
+use Rattle.std.specs.List.{fold, sum_by}
+use Rattle.std.proofs.lemmas.Int.{ints, clamps}
+use Rattle.std.proofs.lemmas.List.Sums.{sum_by-cons}
+use borrow.Author.Differences.{up, down}
+use Rattle.yds_model.specs.Energy.{greatest, total}
+
+-- the signed number is a - b
+abbrev pub IsDifference : ℕ → ℕ → ℤ → Type 0
+IsDifference a b z = up z + b ≡ a + down z
+
+pub difference_of : (a b : ℕ) → IsDifference a b (pos a -ℤ pos b)
+difference_of a b = omega (arith, ints)
+
+pub difference_times : (k a b : ℕ) (z : ℤ) → IsDifference a b z → IsDifference (k * a) (k * b) (pos k *ℤ z)
+difference_times k a b z is = omega (arith, ints, ap (λ n. k * n) is)
+
+pub difference_plus : (a b c d : ℕ) (x y : ℤ) → IsDifference a b x → IsDifference c d y → IsDifference (a + c) (b + d) (x +ℤ y)
+difference_plus a b c d x y first second = omega (arith, ints, first, second)
+
+pub difference_at_most : (a b c d : ℕ) (x y : ℤ) → IsDifference a b x → IsDifference c d y → a + d ≤ c + b → x ≤ℤ y
+difference_at_most a b c d x y first second order = omega (arith, ints, first, second, order)
+
+-- the first is the greater of two numbers
+pub difference_first : (a b c d : ℕ) (x y : ℤ) → IsDifference a b x → IsDifference c d y → c + b ≤ a + d → IsDifference a b (int_max x y)
+difference_first a b c d x y first second order = omega (arith, ints, clamps, first, second, order)
+
+-- the second is
+pub difference_second : (a b c d : ℕ) (x y : ℤ) → IsDifference a b x → IsDifference c d y → a + d ≤ c + b → IsDifference c d (int_max x y)
+difference_second a b c d x y first second order = omega (arith, ints, clamps, first, second, order)
+
+max_assoc : (x y z : ℤ) → int_max (int_max x y) z ≡ int_max x (int_max y z)
+max_assoc x y z = omega (arith, ints, clamps)
+
+-- the greatest of a number and a list is the greater of the number and the list's greatest
+pub greatest-cons : (x y : ℤ) (zs : List ℤ) → greatest x (y ∷ zs) ≡ int_max x (greatest y zs)
+greatest-cons x y [] = refl
+greatest-cons x y (z ∷ zs) = greatest-cons (int_max x y) z zs ∙ max_assoc x y (greatest z zs) ∙ ap (int_max x) (sym (greatest-cons y z zs))
+
+total_from : (a b : ℤ) (zs : List ℤ) → fold (λ a n. a +ℤ n) (a +ℤ b) zs ≡ a +ℤ fold (λ a n. a +ℤ n) b zs
+total_from a b [] = refl
+total_from a b (z ∷ zs) =
+    ap (λ x. fold (λ a n. a +ℤ n) x zs) (the_sum a b z) ∙ total_from a (b +ℤ z) zs
+  where
+    the_sum : (x y z : ℤ) → (x +ℤ y) +ℤ z ≡ x +ℤ (y +ℤ z)
+    the_sum x y z = omega (arith, ints)
+
+pub total-cons : (z : ℤ) (zs : List ℤ) → total (z ∷ zs) ≡ z +ℤ total zs
+total-cons z zs = ap (λ x. fold (λ a n. a +ℤ n) x zs) (swapped z) ∙ total_from z (pos 0) zs
+  where
+    swapped : (z : ℤ) → pos 0 +ℤ z ≡ z +ℤ pos 0
+    swapped z = omega (arith, ints)
+
+-- a total of differences is the difference of the sums
+pub total_is : {X : Type 0} (a b : X → ℕ) (f : X → ℤ) (xs : List X) → ((x : X) → IsDifference (a x) (b x) (f x)) →
+    IsDifference (sum_by a xs) (sum_by b xs) (total (map f xs))
+total_is a b f [] each = refl
+total_is a b f (x ∷ xs) each =
+    rw (sum_by-cons a x xs) (rw (sum_by-cons b x xs) (rw (total-cons (f x) (map f xs))
+    (difference_plus (a x) (b x) (sum_by a xs) (sum_by b xs) (f x) (total (map f xs)) (each x) (total_is a b f xs each))))

@@ -1,0 +1,132 @@
+-- What all feasible schedules of the same jobs share: their work together, and the horizon that they fit in.
+use Rattle.std.proofs.Common.{◌≡◌, ℕ, zero, suc, ◌+◌, ◌-◌, ◌*◌, ◌<◌, ◌≤◌, ◌==◌, min, max, List, [], ◌∷◌, length, refl, sym, arith, inl, inr, ap, ◌∙◌}
+use Rattle.std.specs.Prelude.{if◌then◌else◌}
+use Rattle.std.specs.List.{All, sum_by, fold}
+use Rattle.std.proofs.lemmas.List.Sums.{sum_by-cons}
+use Rattle.std.proofs.lemmas.List.Elements.{All-tail}
+use Rattle.std.proofs.lemmas.Bool.{cases_eq}
+use Rattle.std.proofs.lemmas.Bool.Decides.{nat_tests}
+use Rattle.std.proofs.Math.Nat.{mul-le-mul_right}
+use Rattle.yds_model.specs.Job.{Job, job_at}
+use Rattle.yds_model.specs.Slot.{WholeSlot, work_given}
+use Rattle.yds_model.specs.Feasible.{RunFrom, IsFeasibleAt}
+use Rattle.yds_model.specs.Energy.{last_deadline, first_release, horizon, busy, idle}
+
+-- # The work of all slots
+
+-- the work that the slots give the jobs with the numbers below n
+given_below : List WholeSlot → ℕ → ℕ
+given_below slots zero = 0
+given_below slots (suc n) = work_given slots n + given_below slots n
+
+given_none : (n : ℕ) → given_below [] n ≡ 0
+unfolding given_below
+given_none zero = refl
+given_none (suc n) = omega (arith, given_none n)
+
+part_own : (number job work : ℕ) → number ≡ job → (if number == job then work else 0) ≡ work
+part_own number job work same = grind (arith, nat_tests)
+
+part_other : (number job work : ℕ) → (number ≡ job → ⊥) → (if number == job then work else 0) ≡ 0
+part_other number job work other = grind (arith, nat_tests)
+
+given-cons : (slot : WholeSlot) (slots : List WholeSlot) (n : ℕ) →
+    work_given (slot ∷ slots) n ≡ (if n == slot.job then slot.work else 0) + work_given slots n
+given-cons slot slots n = sum_by-cons (λ (other : WholeSlot). if n == other.job then other.work else 0) slot slots
+
+-- a slot's work is given to its own job alone
+before_own : (slot : WholeSlot) (slots : List WholeSlot) (n : ℕ) → n ≤ slot.job → given_below (slot ∷ slots) n ≡ given_below slots n
+unfolding given_below
+before_own slot slots zero within = refl
+before_own slot slots (suc n) within =
+    omega (arith, given-cons slot slots n, part_other n slot.job slot.work (λ same. omega arith), before_own slot slots n (omega arith))
+
+after_own : (slot : WholeSlot) (slots : List WholeSlot) (n : ℕ) → slot.job < n → given_below (slot ∷ slots) n ≡ slot.work + given_below slots n
+unfolding given_below
+after_own slot slots zero within = absurd (omega arith)
+after_own slot slots (suc n) within = elim (cases_eq n slot.job) [
+  | inl same ↦ omega (arith, given-cons slot slots n, part_own n slot.job slot.work same, before_own slot slots n (omega arith))
+  | inr other ↦
+      let later : slot.job < n = omega arith in
+      omega (arith, given-cons slot slots n, part_other n slot.job slot.work other, after_own slot slots n later)
+]
+
+all_given : (slots : List WholeSlot) (n : ℕ) → All (λ slot. slot.job < n) slots → sum_by (λ slot. slot.work) slots ≡ given_below slots n
+all_given [] n known = sym (given_none n)
+all_given (slot ∷ slots) n known =
+    omega (
+      arith,
+      sum_by-cons (λ (other : WholeSlot). other.work) slot slots,
+      after_own slot slots n (known 0 slot (omega arith)),
+      all_given slots n (All-tail (λ other. other.job < n) slot slots known),
+    )
+
+given_same : (slots others : List WholeSlot) (n : ℕ) → ((number : ℕ) → number < n → work_given slots number ≡ work_given others number) →
+    given_below slots n ≡ given_below others n
+unfolding given_below
+given_same slots others zero same = refl
+given_same slots others (suc n) same = omega (arith, same n (omega arith), given_same slots others n (λ number within. same number (omega arith)))
+
+pub same_work : (jobs : List Job) (scale : ℕ) (slots others : List WholeSlot) → IsFeasibleAt jobs scale slots → IsFeasibleAt jobs scale others →
+    sum_by (λ slot. slot.work) slots ≡ sum_by (λ slot. slot.work) others
+same_work jobs scale slots others feasible other_feasible =
+    all_given slots (length jobs) (λ k d within. (feasible.in_windows k d within).known)
+    ∙ given_same slots others (length jobs) (λ number within. feasible.served number within ∙ sym (other_feasible.served number within))
+    ∙ sym (all_given others (length jobs) (λ k d within. (other_feasible.in_windows k d within).known))
+
+-- # The horizon
+
+-- a fold by the greater, or by the lesser, passes none of its numbers
+deadlines_from : (jobs : List Job) (from : ℕ) → from ≤ fold (λ time job. max time job.deadline) from jobs
+deadlines_from [] from = omega arith
+deadlines_from (job ∷ jobs) from = omega (arith, deadlines_from jobs (max from job.deadline))
+
+deadlines_below : (jobs : List Job) (from number : ℕ) → number < length jobs →
+    (job_at jobs number).deadline ≤ fold (λ time job. max time job.deadline) from jobs
+deadlines_below [] from number within = absurd (omega arith)
+deadlines_below (job ∷ jobs) from zero within = omega (arith, deadlines_from jobs (max from job.deadline))
+deadlines_below (job ∷ jobs) from (suc number) within = deadlines_below jobs (max from job.deadline) number (omega arith)
+
+releases_from : (jobs : List Job) (from : ℕ) → fold (λ time job. min time job.release) from jobs ≤ from
+releases_from [] from = omega arith
+releases_from (job ∷ jobs) from = omega (arith, releases_from jobs (min from job.release))
+
+releases_above : (jobs : List Job) (from number : ℕ) → number < length jobs →
+    fold (λ time job. min time job.release) from jobs ≤ (job_at jobs number).release
+releases_above [] from number within = absurd (omega arith)
+releases_above (job ∷ jobs) from zero within = omega (arith, releases_from jobs (min from job.release))
+releases_above (job ∷ jobs) from (suc number) within = releases_above jobs (min from job.release) number (omega arith)
+
+-- slots that run within a time take no longer
+busy_within : (last start : ℕ) (slots : List WholeSlot) → start ≤ last → RunFrom start slots → All (λ slot. slot.to ≤ last) slots →
+    busy slots + start ≤ last
+busy_within last start [] within runs due = omega (arith, within)
+busy_within last start (slot ∷ slots) within runs due =
+    omega (
+      arith,
+      sum_by-cons (λ (other : WholeSlot). other.to - other.from) slot slots,
+      runs.0,
+      runs.1,
+      busy_within last slot.to slots (due 0 slot (omega arith)) runs.2 (All-tail (λ other. other.to ≤ last) slot slots due),
+    )
+
+-- the first slot begins at the first release or later
+runs_from : (start : ℕ) (slots : List WholeSlot) → RunFrom 0 slots → All (λ slot. start ≤ slot.from) slots → RunFrom start slots
+runs_from start [] runs released = tt
+runs_from start (slot ∷ slots) runs released = (released 0 slot (omega arith), runs.1, runs.2)
+
+-- the time in which something runs, and the rest, are the horizon
+pub busy_and_idle : (jobs : List Job) (scale : ℕ) (slots : List WholeSlot) → IsFeasibleAt jobs scale slots →
+    busy slots + idle jobs scale slots ≡ scale * horizon jobs
+busy_and_idle jobs scale slots feasible =
+    let first : first_release jobs ≤ last_deadline jobs = releases_from jobs (last_deadline jobs) in
+    let gap : first_release jobs + horizon jobs ≡ last_deadline jobs = omega (arith, first) in
+    let order : first_release jobs * scale ≤ last_deadline jobs * scale = mul-le-mul_right scale first in
+    omega (
+      arith,
+      ap (λ n. scale * n) gap,
+      busy_within (last_deadline jobs * scale) (first_release jobs * scale) slots order
+          (runs_from (first_release jobs * scale) slots feasible.one_at_a_time
+          (λ k d within. omega (arith, (feasible.in_windows k d within).released, mul-le-mul_right scale (releases_above jobs (last_deadline jobs) _ (feasible.in_windows k d within).known))))
+          (λ k d within. omega (arith, (feasible.in_windows k d within).due, mul-le-mul_right scale (deadlines_below jobs 0 _ (feasible.in_windows k d within).known))),
+    )

@@ -1,0 +1,36 @@
+-- The laws of energy. Each is the contract of a public function of this crate.
+use Rattle.std.specs.Prelude.{ℕ, ◌*◌, List, pos, ◌≤ℤ◌}
+use Rattle.yds_model.specs.Job.{Job}
+use Rattle.yds_model.specs.Slot.{WrittenSlot, WholeSlot, IsScale, slots_at}
+use Rattle.yds_model.specs.Feasible.{IsFeasibleAt}
+use Rattle.yds_model.specs.Excess.{IsLeastAt}
+use Rattle.yds_model.specs.Level.{Level}
+use Rattle.yds_model.specs.Plan.{IsPlan}
+use Rattle.yds_model.specs.Table.{Point, AreRising, IsTable, IsConvex, IsHullOf, gaps_of}
+use Rattle.yds_model.specs.Energy.{product, interpolated_energy, IsEnergyOnPoints}
+
+-- By a convex table of any size, a schedule that is least above every speed has at most the energy of each feasible schedule,
+-- also where one of them is faster than the table's top.
+abbrev pub LeastIsCheapest : Type 0
+LeastIsCheapest = (jobs : List Job) (points : List Point) (scale : ℕ) (slots others : List WholeSlot) → IsTable points → IsConvex points →
+    IsLeastAt jobs scale slots → IsFeasibleAt jobs scale others →
+    interpolated_energy jobs points scale slots ≤ℤ interpolated_energy jobs points scale others
+
+-- So has a plan's schedule, at each of its scales.
+abbrev pub PlansCostLeast : Type 0
+PlansCostLeast = (jobs : List Job) (slots : List WrittenSlot) (levels : List Level) (points : List Point) (scale : ℕ) (others : List WholeSlot) →
+    IsPlan jobs slots levels → IsTable points → IsConvex points → IsScale scale slots → IsFeasibleAt jobs scale others →
+    interpolated_energy jobs points scale (slots_at scale slots) ≤ℤ interpolated_energy jobs points scale others
+
+-- A schedule whose slots have speeds of the table's points spends on them at least its energy by the table's lower hull.
+abbrev pub PointsCostAtLeastTheHull : Type 0
+PointsCostAtLeastTheHull = (jobs : List Job) (points hull : List Point) (scale energy : ℕ) (slots : List WholeSlot) → AreRising points →
+    IsHullOf points hull → IsEnergyOnPoints jobs points scale slots energy →
+    interpolated_energy jobs hull scale slots ≤ℤ pos (product (gaps_of hull) * energy)
+
+-- So a plan's schedule, by the table's lower hull, has at most the energy that any feasible schedule spends on the table's points.
+abbrev pub PlansCostLeastOnPoints : Type 0
+PlansCostLeastOnPoints = (jobs : List Job) (slots : List WrittenSlot) (levels : List Level) (points hull : List Point) (scale energy : ℕ) (others : List WholeSlot) →
+    IsPlan jobs slots levels → IsTable points → IsHullOf points hull → IsScale scale slots → IsFeasibleAt jobs scale others →
+    IsEnergyOnPoints jobs points scale others energy →
+    interpolated_energy jobs hull scale (slots_at scale slots) ≤ℤ pos (product (gaps_of hull) * energy)
