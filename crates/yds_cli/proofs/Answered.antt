@@ -1,7 +1,6 @@
 -- Every input has an answer.
-use Rattle.std.proofs.Common.{◌≡◌, ℕ, ◌≤◌, List, [], ◌∷◌, length, Bool, true, false, Option, Some, None, Result, Ok, Err, refl, subst, sym, arith, inl, inr, suc, zero}
-use Rattle.std.specs.Prelude.{◌⊎◌, nat_lt}
-use Rattle.yds_model.specs.declared.limits.TheConstants.{MAX_INPUT}
+use Rattle.std.proofs.Common.{◌≡◌, ℕ, ◌≤◌, List, [], ◌∷◌, Bool, true, false, Option, Some, None, Result, Ok, Err, refl, subst, sym, arith, inl, inr, suc, zero}
+use Rattle.std.specs.Prelude.{◌⊎◌}
 use Rattle.yds_model.specs.declared.command.Command.{Command}
 use Rattle.yds_model.specs.declared.command.Command.TheVariants.{Plan}
 use Rattle.yds_model.specs.declared.status.Status.{Status}
@@ -20,6 +19,7 @@ use Rattle.yds_model.specs.Text.{canonical_text}
 use Rattle.yds_model.specs.PlanAnswer.{with_plan}
 use Rattle.yds_model.specs.Answer.{AnswersInput, AnswersDocument, too_long_line, not_yet_line}
 use Rattle.yds_model.proofs.OneJob.{no_job_is_plan, idle_job_is_plan, one_job_is_plan}
+use Rattle.yds_cli.proofs.Planned.{answers_by_plan}
 use Rattle.yds_cli.proofs.Windows.{HasWindow, line_has_window}
 
 -- the document's jobs have a plan
@@ -57,7 +57,7 @@ pub record IsAnswered (command : Command) (long : Bool) (input : List ℕ) : Typ
 
 document_answered : (document : Document) → HasPlan document → (text : List ℕ) × AnswersDocument Plan (Some document) text Done
 document_answered document planned =
-    (canonical_text (with_plan document planned.slots planned.levels), (refl, (planned.slots, planned.levels, record { plan = planned.plan; written = refl })))
+    (canonical_text (with_plan document planned.slots planned.levels), answers_by_plan document planned.slots planned.levels planned.plan)
 
 short_is_answered : (input : List ℕ) (read : Option Document) → one_job_document input ≡ read → IsAnswered Plan false input
 short_is_answered input None read = record {

@@ -1,8 +1,7 @@
 -- From the bytes that were taken to all bytes of the input.
-use Rattle.std.proofs.Common.{◌≡◌, ℕ, ◌+◌, ◌<◌, List, [], ◌∷◌, ◌++◌, length, Bool, true, false, Option, Some, None, refl, subst, sym, ap, ◌∙◌, arith, inl, inr, length-append, lt-ltb}
+use Rattle.std.proofs.Common.{◌≡◌, ℕ, ◌+◌, ◌<◌, List, [], ◌++◌, length, Option, Some, None, subst, sym, ap, ◌∙◌, arith, inl, inr, length-append, lt-ltb}
 use Rattle.std.specs.Prelude.{◌⊎◌, ◌≢◌, nat_lt, IfSome}
 use Rattle.std.proofs.lemmas.List.{append-nil}
-use Rattle.std.specs.Io.KnownBytes.{Appends, Consumes, IsAtEnd}
 use Rattle.yds_model.specs.declared.limits.TheConstants.{MAX_INPUT}
 use Rattle.yds_model.specs.declared.command.Command.{Command}
 use Rattle.yds_model.specs.declared.status.Status.{Status}

@@ -1,9 +1,9 @@
 -- What the sink holds once an answer was delivered.
-use Rattle.std.proofs.Common.{◌≡◌, ℕ, List, [], ◌++◌, sym, Result, Ok, Err, is_err, false}
+use Rattle.std.proofs.Common.{◌≡◌, ℕ, List, [], sym, Result, Ok, Err, is_err, false}
 use Rattle.std.proofs.lemmas.Bool.{true≢false}
 use Rattle.std.proofs.lemmas.List.{append-nil}
 use Rattle.std.specs.declared.option.Option.{Option}
-use Rattle.std.specs.Io.KnownBytes.{Appends, Keeps}
+use Rattle.std.specs.Io.KnownBytes.{Keeps}
 use Rattle.std.proofs.KnownBytes.{Appends-kept}
 use Rattle.yds_port.specs.Sink.{AppendsFront, Delivers}
 

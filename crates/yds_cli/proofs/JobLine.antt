@@ -1,6 +1,6 @@
 -- What a line says alone in a document goes by the bytes of its fields.
-use Rattle.std.proofs.Common.{◌≡◌, ℕ, ◌+◌, ◌<◌, List, [], ◌∷◌, length, Bool, true, false, Option, Some, None, Result, Ok, Err, refl, ap, sym, ◌∙◌, subst, arith, lt-ltb, drop, rules}
-use Rattle.std.specs.Prelude.{map, codes, nat_lt, ◌≢◌, if◌then◌else◌}
+use Rattle.std.proofs.Common.{◌≡◌, ℕ, List, [], ◌∷◌, length, Bool, true, false, Option, Some, None, Result, Ok, Err, refl, ap, sym, ◌∙◌, arith, lt-ltb, drop, rules}
+use Rattle.std.specs.Prelude.{codes, nat_lt, ◌≢◌, if◌then◌else◌}
 use Rattle.std.specs.Str.{bytes_eq}
 use Rattle.yds_model.specs.declared.limits.TheConstants.{MAX_TIME, MAX_WORK}
 use Rattle.yds_model.specs.declared.number_fault.NumberFault.{NumberFault}

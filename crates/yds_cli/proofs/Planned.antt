@@ -1,5 +1,5 @@
 -- The documents of at most one job have the plans that the program writes.
-use Rattle.std.proofs.Common.{◌≡◌, ℕ, ◌<◌, ◌≤◌, List, [], ◌∷◌, Some, refl, subst, sym}
+use Rattle.std.proofs.Common.{◌≡◌, ℕ, ◌<◌, ◌≤◌, List, [], ◌∷◌, Some, refl}
 use Rattle.yds_model.specs.declared.command.Command.TheVariants.{Plan}
 use Rattle.yds_model.specs.declared.status.Status.TheVariants.{Done}
 use Rattle.yds_model.specs.Job.{Job}
@@ -15,7 +15,7 @@ use Rattle.yds_model.specs.Answer.{AnswersDocument}
 use Rattle.yds_model.proofs.OneJob.{no_job_is_plan, idle_job_is_plan, one_job_is_plan}
 
 -- the text of a plan answers
-answers_by_plan : (document : Document) (slots : List WrittenSlot) (levels : List Level) → IsPlan document.jobs slots levels
+pub answers_by_plan : (document : Document) (slots : List WrittenSlot) (levels : List Level) → IsPlan document.jobs slots levels
     → AnswersDocument Plan (Some document) (canonical_text (with_plan document slots levels)) Done
 answers_by_plan document slots levels plan = (refl, (slots, levels, record { plan = plan; written = refl }))
 

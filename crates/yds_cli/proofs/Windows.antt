@@ -1,13 +1,12 @@
 -- A job that is read has a window.
-use Rattle.std.proofs.Common.{◌≡◌, ℕ, ◌<◌, List, [], ◌∷◌, Bool, true, false, Option, Some, None, Result, Ok, Err, refl, subst}
-use Rattle.std.specs.Prelude.{nat_lt}
+use Rattle.std.proofs.Common.{◌≡◌, ℕ, ◌<◌, List, Bool, true, false, Option, Some, None, Result, Ok, Err, refl, subst}
 use Rattle.std.proofs.lemmas.Bool.{ltb-true}
 use Rattle.yds_model.specs.declared.reason.Reason.{Reason}
 use Rattle.yds_model.specs.declared.reason.Reason.TheVariants as reasons
 use Rattle.yds_model.specs.Lines.{Field, Line, fields_of}
-use Rattle.yds_model.specs.Entry.{Entry, JobEntry, PointEntry, SlotEntry, LevelEntry, PieceEntry, MemberEntry, TicksEntry, GridEntry, EnergyEntry}
+use Rattle.yds_model.specs.Entry.{Entry, JobEntry}
 use Rattle.yds_model.specs.OneJob.{said_by_job}
-use Rattle.yds_model.specs.Reading.{Fault, Spot, ◌>>=◌, demand, Kind, JobLine, PointLine, SlotLine, LevelLine, PieceLine, MemberLine, TicksLine, RunLine, GridLine, EnergyLine, field_at, kind_of, read_kind, read_fields, read_line, refuse, on_line, may_follow, has_room, count_fields, fields_wanted}
+use Rattle.yds_model.specs.Reading.{Spot, ◌>>=◌, demand, Kind, JobLine, PointLine, SlotLine, LevelLine, PieceLine, MemberLine, TicksLine, RunLine, GridLine, EnergyLine, field_at, kind_of, read_kind, read_fields, read_line, refuse, on_line, may_follow, has_room, count_fields, fields_wanted}
 
 -- a job's window isn't empty
 abbrev pub HasWindow : Entry → Type 0

@@ -4,9 +4,7 @@ ghost use Rattle.std.specs.Prelude.{◌≡◌, ◌≤◌, ◌∷◌, [], length,
 ghost use Rattle.std.specs.Option.{option_map};
 ghost use Rattle.std.specs.Result.{result_ok};
 ghost use Rattle.yds_model.specs.declared.limits.TheConstants.{MAX_INPUT};
-ghost use Rattle.yds_model.specs.Lines.{fields_of};
 ghost use Rattle.yds_model.specs.Spelling.{number_at};
-ghost use Rattle.yds_model.specs.Reading.{begins_comment};
 ghost use Rattle.yds_model.specs.OneJob.{one_job_document};
 ghost use Rattle.yds_cli.specs.Answer.{document_of, document_said_by};
 ghost use Rattle.yds_cli.specs.OneJobLine.{said_by_five, said_by_field_texts, field_texts};
@@ -32,7 +30,7 @@ pub fn read_one_job<'a>(bytes: &'a [u8]) -> Option<OneJob<'a>>
 {
     let mut live = None;
     for line in lines(bytes) {
-        if is_skipped(&line) {
+        if line.is_comment() {
             continue;
         }
         if live.is_some() {
@@ -46,16 +44,6 @@ pub fn read_one_job<'a>(bytes: &'a [u8]) -> Option<OneJob<'a>>
     match read_line(&line) {
         Some(named) => Some(OneJob::Present(named)),
         None => None,
-    }
-}
-
-/// Whether the line has no field, or is a comment.
-fn is_skipped(line: &Line<'_>) -> bool
-    ensures { result ≡ begins_comment (fields_of line.now.text.now) }
-{
-    match line.fields().next() {
-        Some(field) => field.text.first() == Some(&b'#'),
-        None => true,
     }
 }
 

@@ -1,4 +1,5 @@
 mod Examples
+mod ThreeJobs
 pub mod Sums
 pub mod Lists
 pub mod Time
@@ -19,6 +20,7 @@ pub mod Judgements
 pub mod Divisor
 pub mod Lines
 pub mod Hull
+pub mod HullOf
 pub mod OneJob
 pub mod Curve
 pub mod Plans

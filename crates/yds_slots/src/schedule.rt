@@ -1,4 +1,6 @@
-ghost use Rattle.std.specs.Prelude.{◌≡◌, ℕ, ◌<◌, ◌≤◌, List, [], ◌∷◌, ◌++◌, length, IfOk, OnOk, OnErr};
+ghost use Rattle.std.specs.Prelude.{◌≡◌, ℕ, ◌<◌, ◌≤◌, List, [], ◌∷◌, ◌++◌, length, take, drop, filter, vec_len, IfOk, OnOk, OnErr};
+ghost use Rattle.std.specs.List.Sorted.{IsPermutation, IsSortedByKey, IsStableByKey};
+ghost use Rattle.yds_fraction.specs.Order.{fraction_cmp};
 ghost use Rattle.std.specs.List.{All};
 ghost use Rattle.std.specs.Int.{◌∣◌};
 ghost use Rattle.yds_model.specs.declared.limits.TheConstants.{MAX_DENOMINATOR, MAX_SLOTS};
@@ -7,9 +9,11 @@ ghost use Rattle.yds_model.specs.Slot.{IsScale, slots_at, work_given};
 ghost use Rattle.yds_model.specs.Audit.{AreSlots, grain_of, given_of};
 ghost use Rattle.yds_fraction.specs.Mixed.{IsMixed};
 ghost use Rattle.yds_slots.specs.Slot.{IsSlot};
+ghost use Rattle.yds_slots.specs.Between.{RunInOrder, lies_between};
 ghost use Rattle.yds_slots.specs.Schedule.{WrittenSchedule, FitsGrain};
 
 use crate::received::Received;
+use crate::search::{end_of, first_from};
 use crate::slot::Slot;
 use std::alloc::Global;
 use std::marker::Model;
@@ -28,6 +32,7 @@ pub struct Schedule {
 
 impl Model for Schedule {
     ghost use Rattle.std.specs.Prelude.{length};
+    ghost use Rattle.yds_slots.specs.Between.{RunInOrder, lies_between};
     ghost use Rattle.yds_slots.specs.Schedule.{WrittenSchedule};
     ghost use Rattle.yds_slots.specs.Kept.{IsKept};
 
@@ -36,6 +41,16 @@ impl Model for Schedule {
     ghost view = { λ s. record { jobs = length s.received.items; slots = s.slots.items } };
 
     ghost invariant = { λ s. IsKept s.slots.items s.received.items };
+}
+
+/// The slots in rising order of their starts, equal ones in their given order.
+fn by_start(mut slots: Vec<Slot>) -> Result<Vec<Slot>, Memory>
+    ensures same { IfOk result (λ sorted. IsPermutation slots.items sorted.items) }
+    ensures rising { IfOk result (λ sorted. IsSortedByKey (λ slot. slot.from) fraction_cmp sorted.items) }
+    ensures stable { IfOk result (λ sorted. IsStableByKey (λ slot. slot.from) fraction_cmp slots.items sorted.items) }
+{
+    slots.sort_by_key(|slot| slot.from)?;
+    Ok(slots)
 }
 
 impl Schedule {
@@ -48,6 +63,24 @@ impl Schedule {
             received: Vec::new(alloc),
         };
         schedule.widen(jobs)?;
+        Ok(schedule)
+    }
+
+    /// These slots of so many jobs, in rising order of the times at which they begin. Slots that begin together
+    /// stay in the order in which they are given.
+    pub fn sorted(alloc: Global, jobs: u32, slots: Vec<Slot>) -> Result<Schedule, Memory>
+        requires few { vec_len slots ≤ MAX_SLOTS }
+        requires agree { AreSlots jobs slots.items }
+        ensures jobs { IfOk result (λ schedule. schedule.jobs ≡ jobs) }
+        ensures same { IfOk result (λ schedule. IsPermutation slots.items schedule.slots) }
+        ensures rising { IfOk result (λ schedule. IsSortedByKey (λ slot. slot.from) fraction_cmp schedule.slots) }
+        ensures stable { IfOk result (λ schedule. IsStableByKey (λ slot. slot.from) fraction_cmp slots.items schedule.slots) }
+    {
+        let rising = by_start(slots)?;
+        let mut schedule = Schedule::new(alloc, jobs)?;
+        for slot in &rising {
+            schedule.push(*slot)?;
+        }
         Ok(schedule)
     }
 
@@ -105,5 +138,17 @@ impl Schedule {
         ensures few { length self.now.slots ≤ MAX_SLOTS }
     {
         self.slots.as_slice()
+    }
+    /// The slots that begin at `from` or later and have ended by `to`: neighbours in the schedule.
+    ///
+    /// They are found by halves, as the slots run in order.
+    pub fn between(&self, from: u32, to: u32) -> &[Slot]
+        requires { RunInOrder self.now.slots }
+        ensures part { result.now ≡ filter (lies_between from to) self.now.slots }
+        ensures neighbours { (start : ℕ) × (result.now ≡ take (length result.now) (drop start self.now.slots)) }
+    {
+        let start = first_from(&self.slots, from);
+        let end = end_of(&self.slots, to).max(start);
+        &self.slots[start..end]
     }
 }

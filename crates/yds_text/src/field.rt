@@ -3,6 +3,7 @@ ghost use Rattle.std.specs.Prelude.{◌≡◌, ℕ, ◌+◌, ◌<◌, ◌≤◌,
 ghost use Rattle.std.specs.List.{prefix_len, position_or_len};
 ghost use Rattle.yds_model.specs.declared.limits.TheConstants.{MAX_BYTES};
 ghost use Rattle.yds_model.specs.Lines.{fields_from, fields_of, is_blank};
+ghost use Rattle.yds_model.specs.Reading.{begins_comment};
 
 use std::iter::FusedIterator;
 use std::marker::Model;
@@ -103,6 +104,18 @@ fn is_blank(byte: u8) -> bool
     ensures { result ≡ is_blank byte }
 {
     byte == b' ' || byte == b'\t'
+}
+
+// Whether a line of these bytes says nothing: it has no field, or its first one begins with `#`.
+pub(crate) fn is_comment(bytes: &[u8]) -> bool
+    ensures { result ≡ begins_comment (fields_of bytes.now) }
+{
+    for byte in bytes {
+        if !is_blank(*byte) {
+            return *byte == b'#';
+        }
+    }
+    true
 }
 
 // How many blanks stand at the front.

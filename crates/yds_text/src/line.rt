@@ -2,8 +2,9 @@
 ghost use Rattle.std.specs.Prelude.{◌≡◌, ℕ, ◌+◌, ◌<◌, ◌≤◌, ◌∷◌, length, drop, map};
 ghost use Rattle.yds_model.specs.declared.limits.TheConstants.{MAX_BYTES};
 ghost use Rattle.yds_model.specs.Lines.{lines_from, lines_of, fields_of, without_return};
+ghost use Rattle.yds_model.specs.Reading.{begins_comment};
 
-use crate::field::Fields;
+use crate::field::{Fields, is_comment};
 use memchr::memchr;
 use std::iter::FusedIterator;
 use std::marker::Model;
@@ -117,5 +118,13 @@ impl<'a> Line<'a> {
         ensures count { length result.fields ≤ length self.now.text.now }
     {
         Fields::new(self.text, self.number)
+    }
+
+    /// Whether the line says nothing: it has no field, or its first one begins with `#`, which makes it a
+    /// comment. It looks at no byte beyond that one.
+    pub fn is_comment(&self) -> bool
+        ensures { result ≡ begins_comment (fields_of self.now.text.now) }
+    {
+        is_comment(self.text)
     }
 }

@@ -30,6 +30,10 @@ fn lines_and_fields_of_a_small_input(rt: HostRuntime) -> Result<(), Fail> {
         (3, 4, b"x".as_slice()),
     ];
     assert_eq!(rt; places.as_slice(), expected.as_slice());
+    let silent = lines(b" \n\t# x\nx #\n")
+        .filter(|line| line.is_comment())
+        .count();
+    assert_eq!(rt; silent, 2);
     Ok(())
 }
 

@@ -1,4 +1,4 @@
-use Rattle.std.proofs.Common.{◌≡◌, ◌<◌, ◌∙◌, ap, sym, inl, inr, arith, length, refl}
+use Rattle.std.proofs.Common.{◌<◌, ◌∙◌, ap, sym, inl, inr, arith, length, refl}
 use Rattle.yds_cli.proofs.Fields.{no_job, five_fields, read_some, read_none}
 use Rattle.yds_cli.proofs.reader.read_line.Goals as goal
 

@@ -5,7 +5,7 @@ use Rattle.yds_cli.proofs.reader.read_one_job.Goals as goal
 pub returns-then-is_some : goal.returns-then-is_some
 returns-then-is_some c =
     says_two c.args.bytes.now _ c.in-Some.line _ _ c.loop-line.invariant.live (sym c.is_some.ensures ∙ c.if-is_some.true) c.in-Some.ensures.steps
-    (sym c.is_skipped.ensures ∙ c.if-is_skipped.false)
+    (sym c.is_comment.ensures ∙ c.if-is_comment.false)
 
 pub returns-in_default : goal.returns-in_default
 returns-in_default c = says_none c.args.bytes.now _ _ c.loop-line.invariant.live c.in_default.is c.in-None.ensures.steps.none

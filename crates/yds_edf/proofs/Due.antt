@@ -1,0 +1,66 @@
+-- The pending units of the jobs that are due by a time, summed job by job.
+use Rattle.std.proofs.Common.{◌≡◌, ℕ, suc, ◌+◌, ◌-◌, ◌*◌, ◌<◌, ◌≤◌, length, slice_index_or, ◌∙◌, refl, arith, inl, inr, ap, cond, add-one}
+use Rattle.std.specs.Prelude.{nat_le}
+use Rattle.std.proofs.lemmas.Bool.{cases_Bool, le-leb, lt-leb}
+use Rattle.std.proofs.lemmas.List.{get_or_read}
+use Rattle.yds_model.specs.Job.{Job, no_job, job_at}
+use Rattle.yds_edf.specs.Pending.{sum_below, is_within, units_wanted}
+use Rattle.yds_edf.specs.Queue.{JobQueue, pending_in}
+use Rattle.yds_edf.specs.Engine.{TiedQueue, IsTiedQueue}
+use Rattle.yds_edf.proofs.Sums.{sum_below_front, sum_below_at_most}
+use Rattle.yds_edf.proofs.Arrivals.{wanted_bound}
+
+-- the units of a job that count by a time
+abbrev pub due_of : JobQueue → ℕ → ℕ → ℕ
+due_of queue time number = cond (nat_le (job_at queue.jobs number).deadline time) (pending_in queue number) 0
+
+due_within : (queue : JobQueue) (time number : ℕ) → due_of queue time number ≤ units_wanted queue.jobs queue.grain number
+due_within queue time number = elim (cases_Bool (nat_le (job_at queue.jobs number).deadline time)) [
+  | inr late ↦ rw late (omega arith)
+  | inl due ↦ rw due (elim (cases_Bool (is_within queue.time (job_at queue.jobs number).release)) [
+    | inl arrived ↦ rw arrived (omega arith)
+    | inr not_yet ↦ rw not_yet (omega arith)
+  ])
+]
+
+-- with one job more the sum is within 64 bits
+pub due_fits : (tied : TiedQueue) (time number : ℕ) → IsTiedQueue tied → number < length tied.queue.jobs →
+    sum_below number (due_of tied.queue time) + due_of tied.queue time number ≤ 4000000000000000000
+due_fits tied time number kept within = omega (
+  arith,
+  wanted_bound tied kept,
+  sum_below_front (suc number) (length tied.queue.jobs) (due_of tied.queue time) (omega arith),
+  sum_below_at_most (length tied.queue.jobs) (due_of tied.queue time) (units_wanted tied.queue.jobs tied.queue.grain)
+      (λ k below. due_within tied.queue time k),
+)
+
+-- what is read of a job tells its pending units
+pub pending_read : (queue : JobQueue) (number : ℕ) (row : Job) (now pending : ℕ) → number < length queue.jobs →
+    number < length queue.served → row ≡ slice_index_or queue.jobs number row → now ≡ slice_index_or queue.served number now →
+    pending ≡ cond (is_within queue.time row.release) (row.work * queue.grain - now) 0 →
+    pending ≡ pending_in queue number
+pending_read queue number row now pending known served row_is now_is is =
+    let row_at = get_or_read queue.jobs number row known row_is no_job in
+    let now_at = get_or_read queue.served number now served now_is 0 in
+    is ∙ rw (row_at, now_at) refl
+
+-- a job that is due by the time counts, and one that isn't doesn't
+pub due_read : (queue : JobQueue) (time number : ℕ) (row : Job) (deadline : ℕ) → number < length queue.jobs →
+    row ≡ slice_index_or queue.jobs number row → deadline ≡ row.deadline → deadline ≤ time →
+    due_of queue time number ≡ pending_in queue number
+due_read queue time number row deadline known row_is is due =
+    let row_at = get_or_read queue.jobs number row known row_is no_job in
+    rw (le-leb (job_at queue.jobs number).deadline time (omega (arith, due, is, ap (λ (job : Job). job.deadline) row_at))) refl
+
+pub not_due_read : (queue : JobQueue) (time number : ℕ) (row : Job) (deadline : ℕ) → number < length queue.jobs →
+    row ≡ slice_index_or queue.jobs number row → deadline ≡ row.deadline → time < deadline → due_of queue time number ≡ 0
+not_due_read queue time number row deadline known row_is is late =
+    let row_at = get_or_read queue.jobs number row known row_is no_job in
+    rw (lt-leb (job_at queue.jobs number).deadline time (omega (arith, late, is, ap (λ (job : Job). job.deadline) row_at))) refl
+
+-- the sum with one job more
+pub sum_more : (n : ℕ) (f : ℕ → ℕ) (units more : ℕ) → units ≡ sum_below n f → more ≡ f n → units + more ≡ sum_below (n + 1) f
+sum_more n f units more sum term = rw add-one (omega (arith, sum, term))
+
+pub sum_no_more : (n : ℕ) (f : ℕ → ℕ) (units : ℕ) → units ≡ sum_below n f → f n ≡ 0 → units ≡ sum_below (n + 1) f
+sum_no_more n f units sum term = rw add-one (omega (arith, sum, term))

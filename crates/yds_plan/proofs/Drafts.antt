@@ -1,0 +1,221 @@
+-- Levels on the way: each group joins the last level or makes a new one.
+use Rattle.std.proofs.Common.{◌≡◌, ℕ, zero, suc, ◌+◌, ◌-◌, ◌*◌, ◌<◌, ◌≤◌, ◌==◌, List, [], ◌∷◌, ◌++◌, ◌∙◌, length, map, get_or, set, take, sym, refl, ap, arith, inl, inr, Bool, true, false, not, add-one}
+use Rattle.std.specs.Prelude.{cond, nat_lt}
+use Rattle.std.specs.List.{sum_by, range_with_len}
+use Rattle.std.proofs.lemmas.Bool.{cases_lt, cases_eq, not-true, not-false, true≢false}
+use Rattle.std.proofs.lemmas.List.{ext_get_or, length-set, length-map, get_or-set_same, get_or-set_other, get_or-map, get_or_past, map-id}
+use Rattle.std.proofs.lemmas.List.FromFn.{length-range_with_len, get_or-map-range_with_len, length-map-range_with_len, map-range_with_len_more}
+use Rattle.std.proofs.lemmas.List.Sums.{sum_by_push, sum_by_more, sum_by_more_le}
+use Rattle.yds_model.specs.Level.{Level, no_level, level_at}
+use Rattle.yds_model.proofs.Sums.{sum_by_same, sum_by_at_most, sum_by_zero}
+use Rattle.yds_plan.specs.Found.{Group, no_group, group_at}
+use Rattle.yds_plan.specs.declared.found.Group.{Group as Struct}
+use Rattle.yds_plan.specs.Views.{group_view}
+use Rattle.yds_plan.specs.Laid.{slows_after, level_of, levels_among}
+use Rattle.yds_plan.specs.Drafts.{among, empty_level, empty_levels, joins_before, level_of_one, with_more, with_group, AreGroupsWithin}
+use Rattle.yds_plan.proofs.Split.{in_range, not_here, is_here}
+use Rattle.yds_plan.proofs.Speeds.{among_above}
+
+-- a range, one longer
+pub range_more : (n : ℕ) → range_with_len 0 (n + 1) ≡ range_with_len 0 n ++ n ∷ []
+range_more n =
+    sym (map-id (range_with_len 0 (n + 1)))
+    ∙ map-range_with_len_more (λ k. k) 0 n n (omega arith)
+    ∙ ap (λ ks. ks ++ n ∷ []) (map-id (range_with_len 0 n))
+
+-- values over a range, of which one is replaced
+pub map_range_set : {X : Type 0} (d : X) (f g : ℕ → X) (n l : ℕ) → l < n → ((k : ℕ) → k < n → (k ≡ l → ⊥) → f k ≡ g k) →
+    set (map f (range_with_len 0 n)) l (g l) ≡ map g (range_with_len 0 n)
+map_range_set d f g n l below others =
+    ext_get_or d _ _
+    (length-set (map f (range_with_len 0 n)) l (g l) ∙ length-map-range_with_len f 0 n ∙ sym (length-map-range_with_len g 0 n))
+    (λ i within.
+        let known : i < n = omega (arith, length-set (map f (range_with_len 0 n)) l (g l), length-map-range_with_len f 0 n) in
+        let there = get_or-map-range_with_len g 0 n i i d known (omega arith) in
+        elim (cases_eq i l) [
+          | inl same ↦ rw same (get_or-set_same (map f (range_with_len 0 n)) l (g l) d (omega (arith, length-map-range_with_len f 0 n))
+              ∙ sym (get_or-map-range_with_len g 0 n l l d below (omega arith)))
+          | inr other ↦ get_or-set_other (map f (range_with_len 0 n)) l i (g l) d other
+              ∙ get_or-map-range_with_len f 0 n i i d known (omega arith) ∙ others i known other ∙ sym there
+        ])
+
+pub map_range_same : {X : Type 0} (d : X) (f g : ℕ → X) (n : ℕ) → ((k : ℕ) → k < n → f k ≡ g k) →
+    map f (range_with_len 0 n) ≡ map g (range_with_len 0 n)
+map_range_same d f g n same =
+    ext_get_or d _ _
+    (length-map-range_with_len f 0 n ∙ sym (length-map-range_with_len g 0 n))
+    (λ i within.
+        let known : i < n = omega (arith, length-map-range_with_len f 0 n) in
+        get_or-map-range_with_len f 0 n i i d known (omega arith) ∙ same i known
+        ∙ sym (get_or-map-range_with_len g 0 n i i d known (omega arith)))
+
+module _ (groups : List Group) where
+  pub joining : (i : ℕ) → joins_before groups i ≡ true → level_of groups i + 1 ≡ levels_among groups i
+  joining zero joins = absurd (true≢false (sym joins))
+  joining (suc i) joins = omega (arith, ap {B = ℕ} (λ b. cond b 1 0) (not-true (slows_after groups i) joins))
+
+  pub parting : (i : ℕ) → joins_before groups i ≡ false → level_of groups i ≡ levels_among groups i
+  parting zero parts = refl
+  parting (suc i) parts = omega (arith, ap {B = ℕ} (λ b. cond b 1 0) (not-false (slows_after groups i) parts))
+
+  pub among_more : (f : Group → ℕ) (i l : ℕ) →
+      among f groups (i + 1) l ≡ among f groups i l + cond (level_of groups i == l) (f (group_at groups i)) 0
+  among_more f i l =
+      ap (sum_by (λ k. cond (level_of groups k == l) (f (group_at groups k)) 0)) (range_more i)
+      ∙ sum_by_push (λ k. cond (level_of groups k == l) (f (group_at groups k)) 0) (range_with_len 0 i) i
+
+  among_none : (f : Group → ℕ) (i l : ℕ) → levels_among groups i ≤ l → among f groups i l ≡ 0
+  among_none f i l past =
+      sum_by_zero (λ k. cond (level_of groups k == l) (f (group_at groups k)) 0) (range_with_len 0 i)
+      (λ k d within.
+          let at = in_range i k d within in
+          rw (at.1) (not_here (level_of groups k) l (f (group_at groups k)) (λ same. omega (arith, among_above groups i k at.0))))
+
+  among_other : (f : Group → ℕ) (i l : ℕ) → (l ≡ level_of groups i → ⊥) → among f groups i l ≡ among f groups (i + 1) l
+  among_other f i l other =
+      omega (arith, among_more f i l, not_here (level_of groups i) l (f (group_at groups i)) (λ same. other (sym same)))
+
+  among_here : (f : Group → ℕ) (i : ℕ) → among f groups i (level_of groups i) + f (group_at groups i) ≡ among f groups (i + 1) (level_of groups i)
+  among_here f i =
+      omega (arith, among_more f i (level_of groups i), is_here (level_of groups i) (level_of groups i) (f (group_at groups i)) refl)
+
+  level_other : (i l : ℕ) → (l ≡ level_of groups i → ⊥) → empty_level groups i l ≡ empty_level groups (i + 1) l
+  level_other i l other = cc (among_other (λ group. group.work) i l other, among_other (λ group. group.length) i l other)
+
+  level_more : (i : ℕ) → with_more (empty_level groups i (level_of groups i)) (group_at groups i) ≡ empty_level groups (i + 1) (level_of groups i)
+  level_more i = cc (among_here (λ group. group.work) i, among_here (λ group. group.length) i)
+
+  level_new : (i : ℕ) → levels_among groups i ≤ level_of groups i → level_of_one (group_at groups i) ≡ empty_level groups (i + 1) (level_of groups i)
+  level_new i past =
+      let work : (group_at groups i).work ≡ among (λ group. group.work) groups (i + 1) (level_of groups i) =
+          omega (arith, among_here (λ group. group.work) i, among_none (λ group. group.work) i (level_of groups i) past) in
+      let long : (group_at groups i).length ≡ among (λ group. group.length) groups (i + 1) (level_of groups i) =
+          omega (arith, among_here (λ group. group.length) i, among_none (λ group. group.length) i (level_of groups i) past) in
+      cc (work, long)
+
+  pub empty_length : (i : ℕ) → length (empty_levels groups i) ≡ levels_among groups i
+  empty_length i = length-map-range_with_len (empty_level groups i) 0 (levels_among groups i)
+
+  joins_step : (i : ℕ) → joins_before groups i ≡ true →
+      set (empty_levels groups i) (length (empty_levels groups i) - 1)
+      (with_more (level_at (empty_levels groups i) (length (empty_levels groups i) - 1)) (group_at groups i)) ≡ empty_levels groups (i + 1)
+  joins_step i joins =
+      let last : length (empty_levels groups i) - 1 ≡ level_of groups i = omega (arith, empty_length i, joining i joins) in
+      let here : level_at (empty_levels groups i) (level_of groups i) ≡ empty_level groups i (level_of groups i) =
+          get_or-map-range_with_len (empty_level groups i) 0 (levels_among groups i) (level_of groups i) (level_of groups i) no_level
+          (omega (arith, joining i joins)) (omega arith) in
+      let count : levels_among groups (i + 1) ≡ levels_among groups i = rw (add-one) (omega (arith, joining i joins)) in
+      rw (last, here, level_more i, count)
+      (map_range_set no_level (empty_level groups i) (empty_level groups (i + 1)) (levels_among groups i) (level_of groups i)
+      (omega (arith, joining i joins)) (λ k known other. level_other i k other))
+
+  parts_step : (i : ℕ) → joins_before groups i ≡ false → empty_levels groups i ++ level_of_one (group_at groups i) ∷ [] ≡ empty_levels groups (i + 1)
+  parts_step i parts =
+      let number : level_of groups i ≡ levels_among groups i = parting i parts in
+      let count : levels_among groups (i + 1) ≡ levels_among groups i + 1 = rw (add-one) (omega arith) in
+      let front = map_range_same no_level (empty_level groups i) (empty_level groups (i + 1)) (levels_among groups i)
+          (λ k known. level_other i k (λ same. omega arith)) in
+      let next : level_of_one (group_at groups i) ≡ empty_level groups (i + 1) (levels_among groups i) =
+          rw number at (level_new i (omega arith)) in
+      rw (count, front, next)
+      (sym (map-range_with_len_more (empty_level groups (i + 1)) 0 (levels_among groups i) (levels_among groups i) (omega arith)))
+
+  with_group_cases : (i : ℕ) (b : Bool) → joins_before groups i ≡ b → with_group (empty_levels groups i) b (group_at groups i) ≡ empty_levels groups (i + 1)
+  with_group_cases i true joins = joins_step i joins
+  with_group_cases i false parts = parts_step i parts
+
+  pub draft_step : (i : ℕ) → with_group (empty_levels groups i) (joins_before groups i) (group_at groups i) ≡ empty_levels groups (i + 1)
+  draft_step i = with_group_cases i (joins_before groups i) refl
+
+  -- what a level has so far, and the next group, are within what all groups have
+  sum_of_first : (f : Group → ℕ) (i : ℕ) → i ≤ length groups → sum_by (λ k. f (group_at groups k)) (range_with_len 0 i) ≡ sum_by f (take i groups)
+  sum_of_first f zero within = refl
+  sum_of_first f (suc i) within =
+      ap (sum_by (λ k. f (group_at groups k))) (ap (range_with_len 0) (sym (add-one i)) ∙ range_more i)
+      ∙ sum_by_push (λ k. f (group_at groups k)) (range_with_len 0 i) i
+      ∙ ap (λ n. n + f (group_at groups i)) (sum_of_first f i (omega arith))
+      ∙ sym (ap (λ n. sum_by f (take n groups)) (sym (add-one i)) ∙ sum_by_more f groups i no_group (omega arith))
+
+  cond_at_most : (b : Bool) (v : ℕ) → cond b v 0 ≤ v
+  cond_at_most true v = omega arith
+  cond_at_most false v = omega arith
+
+  among_within : (f : Group → ℕ) (i l : ℕ) → i < length groups → among f groups i l + f (group_at groups i) ≤ sum_by f groups
+  among_within f i l within =
+      omega (
+        arith,
+        sum_by_at_most (λ k. cond (level_of groups k == l) (f (group_at groups k)) 0) (λ k. f (group_at groups k)) (range_with_len 0 i)
+            (λ k d inside. cond_at_most _ _),
+        sum_of_first f i (omega arith),
+        sum_by_more_le f groups i no_group within,
+      )
+
+  pub work_within : (i x : ℕ) → i < length groups →
+      (level_at (empty_levels groups i) x).work + (group_at groups i).work ≤ sum_by (λ group. group.work) groups
+  work_within i x within = elim (cases_lt x (levels_among groups i)) [
+    | inl known ↦
+        let here = get_or-map-range_with_len (empty_level groups i) 0 (levels_among groups i) x x no_level known (omega arith) in
+        rw here (among_within (λ group. group.work) i x within)
+    | inr past ↦
+        let none = get_or_past (empty_levels groups i) x no_level (omega (arith, empty_length i)) in
+        rw none (omega (arith, sum_by_more_le (λ group. group.work) groups i no_group within))
+  ]
+
+  pub length_within : (i x : ℕ) → i < length groups →
+      (level_at (empty_levels groups i) x).length + (group_at groups i).length ≤ sum_by (λ group. group.length) groups
+  length_within i x within = elim (cases_lt x (levels_among groups i)) [
+    | inl known ↦
+        let here = get_or-map-range_with_len (empty_level groups i) 0 (levels_among groups i) x x no_level known (omega arith) in
+        rw here (among_within (λ group. group.length) i x within)
+    | inr past ↦
+        let none = get_or_past (empty_levels groups i) x no_level (omega (arith, empty_length i)) in
+        rw none (omega (arith, sum_by_more_le (λ group. group.length) groups i no_group within))
+  ]
+
+-- a struct's group at a place
+pub view_at : (items : List Struct) (i : ℕ) (d : Struct) → i < length items → group_at (map group_view items) i ≡ group_view (get_or items i d)
+view_at items i d within = get_or-map group_view items i d no_group within
+
+abbrev pub no_struct : Struct
+no_struct = record { work = 0; length = 0 }
+
+pub work_at : (items : List Struct) (i : ℕ) → i < length items → (group_at (map group_view items) i).work ≡ (get_or items i no_struct).work
+work_at items i within = ap (λ group. group.work) (view_at items i no_struct within)
+
+pub length_at : (items : List Struct) (i : ℕ) → i < length items → (group_at (map group_view items) i).length ≡ (get_or items i no_struct).length
+length_at items i within = ap (λ group. group.length) (view_at items i no_struct within)
+
+pub joins_at : (items : List Struct) (place : ℕ) (d : Struct) → 0 < place → place < length items →
+    not (nat_lt ((get_or items place d).work * (get_or items (place - 1) d).length) ((get_or items (place - 1) d).work * (get_or items place d).length))
+    ≡ joins_before (map group_view items) place
+joins_at items zero d some within = absurd (omega arith)
+joins_at items (suc i) d some within =
+    let before : suc i - 1 ≡ i = omega arith in
+    let known : i < length items = omega arith in
+    rw (before, add-one, view_at items (suc i) d within, view_at items i d known) refl
+
+-- the levels and their groups' numbers after so many groups
+pub record IsDrafted (groups : List Group) (i : ℕ) (levels : List Level) (numbers : List ℕ) : Type 0 where
+  pub drafts : levels ≡ empty_levels groups i
+  pub numbered : numbers ≡ map (level_of groups) (range_with_len 0 i)
+
+pub levels_next : (items : List Struct) (i : ℕ) (d : Struct) (levels next : List Level) (numbers : List ℕ) (joins : Bool) →
+    i < length items → IsDrafted (map group_view items) i levels numbers → joins ≡ joins_before (map group_view items) i →
+    next ≡ with_group levels joins (group_view (get_or items i d)) → next ≡ empty_levels (map group_view items) (i + 1)
+levels_next items i d levels next numbers joins within drafted is_joins is_next =
+    let groups = map group_view items in
+    is_next
+    ∙ ap (λ some. with_group some joins (group_view (get_or items i d))) drafted.drafts
+    ∙ ap (λ b. with_group (empty_levels groups i) b (group_view (get_or items i d))) is_joins
+    ∙ ap (with_group (empty_levels groups i) (joins_before groups i)) (sym (view_at items i d within))
+    ∙ draft_step groups i
+
+pub count_next : (groups : List Group) (i : ℕ) (levels : List Level) → levels ≡ empty_levels groups (i + 1) → length levels ≡ level_of groups i + 1
+count_next groups i levels is = ap length is ∙ empty_length groups (i + 1) ∙ ap (levels_among groups) (add-one i)
+
+pub numbers_next : (groups : List Group) (i : ℕ) (numbers next : List ℕ) (count : ℕ) → numbers ≡ map (level_of groups) (range_with_len 0 i) →
+    count ≡ level_of groups i + 1 → next ≡ numbers ++ (count - 1) ∷ [] → next ≡ map (level_of groups) (range_with_len 0 (i + 1))
+numbers_next groups i numbers next count are is_count is =
+    let number : count - 1 ≡ level_of groups i = omega arith in
+    is ∙ ap (λ some. some ++ (count - 1) ∷ []) are ∙ ap (λ n. map (level_of groups) (range_with_len 0 i) ++ n ∷ []) number
+    ∙ sym (map-range_with_len_more (level_of groups) 0 i i (omega arith))

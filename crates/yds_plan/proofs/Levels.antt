@@ -1,0 +1,195 @@
+-- The levels of what was found: their members, and their sums.
+use Rattle.std.proofs.Common.{◌≡◌, ℕ, zero, suc, ◌+◌, ◌*◌, ◌<◌, ◌≤◌, ◌==◌, List, [], ◌∷◌, ◌∙◌, length, map, get_or, take, sym, refl, ap, arith, inl, inr, Bool, true, false}
+use Rattle.std.specs.Prelude.{cond, nat_lt}
+use Rattle.std.specs.List.{All, Contains, sum_by, filter, flat_map, range_with_len}
+use Rattle.std.proofs.lemmas.Bool.{cases_lt, cases_eq, lt-ltb, le-ltb, eqb-true}
+use Rattle.std.proofs.lemmas.List.Sums.{sum_by-le-sum_by}
+use Rattle.std.proofs.lemmas.List.Elements.{All-map, All-filter, All-contains, All-head, filter_passes}
+use Rattle.std.proofs.lemmas.List.FromFn.{get_or-map-range_with_len, length-map-range_with_len}
+use Rattle.yds_model.specs.Numbers.{count}
+use Rattle.yds_model.specs.Job.{Job, job_at}
+use Rattle.yds_model.specs.Level.{Level, no_level, level_at, all_members}
+use Rattle.yds_model.specs.Plan.{Rise}
+use Rattle.yds_model.proofs.Sums.{sum_by_same, sum_by_at_most, sum_by_zero}
+use Rattle.yds_plan.specs.Found.{Group, Found, IsFound, group_of, group_at, work_in}
+use Rattle.yds_plan.specs.Laid.{level_of, levels_among, level_of_place, together, members_of, level_numbered, levels_of}
+use Rattle.yds_plan.proofs.Split.{All-range, in_range, sums_swap, not_here, is_here, one_of_range, split_sum, sum_by-filter, sum_by-flat_map}
+use Rattle.yds_plan.proofs.Blocks.{flat_map-map}
+use Rattle.yds_plan.proofs.Speeds.{among_below}
+
+-- a level's number is that of a group's place
+pub place_in_level : (groups : List Group) (g l : ℕ) → level_of_place groups g ≡ l → l < levels_among groups (length groups) →
+    (g < length groups) × (level_of groups g ≡ l)
+place_in_level groups g l is known = elim (cases_lt g (length groups)) [
+  | inl within ↦ (within, sym (ap (λ b. cond b (level_of groups g) (length groups)) (lt-ltb g (length groups) within)) ∙ is)
+  | inr past ↦ absurd (omega (
+    arith,
+    is,
+    ap (λ b. cond b (level_of groups g) (length groups)) (le-ltb g (length groups) past),
+    among_below groups (length groups),
+  ))
+]
+
+pub place_level : (groups : List Group) (g : ℕ) → g < length groups → level_of_place groups g ≡ level_of groups g
+place_level groups g within = ap (λ b. cond b (level_of groups g) (length groups)) (lt-ltb g (length groups) within)
+
+-- Sums over the groups of a level, each of them a sum over what is in the group: the sum over all that is in the level.
+cond_sum : {X : Type 0} (b : Bool) (f : X → ℕ) (xs : List X) → cond b (sum_by f xs) 0 ≡ sum_by (λ x. cond b (f x) 0) xs
+cond_sum true f xs = refl
+cond_sum false f xs = sym (sum_by_zero (λ x. 0) xs (λ k d within. refl))
+
+cond_none : (b : Bool) → cond {A = ℕ} b 0 0 ≡ 0
+cond_none true = refl
+cond_none false = refl
+
+level_of_its_group : (groups : List Group) (l g i v : ℕ) →
+    cond (level_of groups i == l) (cond (g == i) v 0) 0 ≡ cond (g == i) (cond (level_of groups g == l) v 0) 0
+level_of_its_group groups l g i v = elim (cases_eq g i) [
+  | inl same ↦ rw (← same) (rw (is_here g g v refl, is_here g g (cond (level_of groups g == l) v 0) refl) refl)
+  | inr other ↦ rw (not_here g i v other, not_here g i (cond (level_of groups g == l) v 0) other) (cond_none (level_of groups i == l))
+]
+
+place_value : (groups : List Group) (l g v : ℕ) → l < levels_among groups (length groups) →
+    cond (nat_lt g (length groups)) (cond (level_of groups g == l) v 0) 0 ≡ cond (level_of_place groups g == l) v 0
+place_value groups l g v known = elim (cases_lt g (length groups)) [
+  | inl within ↦
+      ap (λ b. cond b (cond (level_of groups g == l) v 0) 0) (lt-ltb g (length groups) within)
+      ∙ ap (λ level. cond (level == l) v 0) (sym (place_level groups g within))
+  | inr past ↦
+      ap (λ b. cond b (cond (level_of groups g == l) v 0) 0) (le-ltb g (length groups) past)
+      ∙ sym (not_here (level_of_place groups g) l v (λ same. absurd (omega (arith, past, (place_in_level groups g l same known).0))))
+]
+
+pub group_sum : (groups : List Group) (places : List ℕ) (v : ℕ → ℕ) (n l : ℕ) (f : Group → ℕ) →
+    ((i : ℕ) → i < length groups → f (group_at groups i) ≡ sum_by (λ j. cond (group_of places j == i) (v j) 0) (range_with_len 0 n)) →
+    l < levels_among groups (length groups) →
+    together f groups l ≡ sum_by v (filter (λ j. level_of_place groups (group_of places j) == l) (range_with_len 0 n))
+group_sum groups places v n l f is known =
+    let all = range_with_len 0 (length groups) in
+    let each = range_with_len 0 n in
+    sum_by_same (λ i. cond (level_of groups i == l) (f (group_at groups i)) 0)
+        (λ i. sum_by (λ j. cond (level_of groups i == l) (cond (group_of places j == i) (v j) 0) 0) each) all
+        (λ k d within.
+            let at = in_range (length groups) k d within in
+            rw (at.1) (ap (λ n. cond (level_of groups k == l) n 0) (is k at.0)
+            ∙ cond_sum (level_of groups k == l) (λ j. cond (group_of places j == k) (v j) 0) each))
+    ∙ sums_swap (λ i j. cond (level_of groups i == l) (cond (group_of places j == i) (v j) 0) 0) all each
+    ∙ sum_by_same (λ j. sum_by (λ i. cond (level_of groups i == l) (cond (group_of places j == i) (v j) 0) 0) all)
+        (λ j. cond (level_of_place groups (group_of places j) == l) (v j) 0) each
+        (λ k d within. one (get_or each k d))
+    ∙ sym (sum_by-filter (λ j. level_of_place groups (group_of places j) == l) v each)
+  where
+    one : (j : ℕ) → sum_by (λ i. cond (level_of groups i == l) (cond (group_of places j == i) (v j) 0) 0) (range_with_len 0 (length groups))
+        ≡ cond (level_of_place groups (group_of places j) == l) (v j) 0
+    one j =
+        sum_by_same (λ i. cond (level_of groups i == l) (cond (group_of places j == i) (v j) 0) 0)
+            (λ i. cond (group_of places j == i) (cond (level_of groups (group_of places j) == l) (v j) 0) 0)
+            (range_with_len 0 (length groups))
+            (λ k d within. level_of_its_group groups l (group_of places j) (get_or (range_with_len 0 (length groups)) k d) (v j))
+        ∙ one_of_range (length groups) (group_of places j) (cond (level_of groups (group_of places j) == l) (v j) 0)
+        ∙ place_value groups l (group_of places j) (v j) known
+
+-- numbers that rise, one below all of them
+rise_more : (a : ℕ) (numbers : List ℕ) → All (λ number. a < number) numbers → Rise numbers → Rise (a ∷ numbers)
+rise_more a [] above rise = tt
+rise_more a (next ∷ numbers) above rise = (All-head (λ number. a < number) next numbers above, rise)
+
+rise_step : (a : ℕ) (numbers : List ℕ) (p : Bool) → All (λ number. a < number) numbers → Rise numbers → Rise (cond p (a ∷ numbers) numbers)
+rise_step a numbers true above rise = rise_more a numbers above rise
+rise_step a numbers false above rise = rise
+
+range_rise : (p : ℕ → Bool) (a n : ℕ) → Rise (filter p (range_with_len a n))
+range_rise p a zero = tt
+range_rise p a (suc n) =
+    rise_step a (filter p (range_with_len (a + 1) n)) (p a)
+    (All-filter p (λ number. a < number) (range_with_len (a + 1) n) (All-range (λ number. a < number) (a + 1) n (λ i below. omega arith)))
+    (range_rise p (a + 1) n)
+
+-- what holds at the place of each level
+pub level_there : (jobs : List Job) (found : Found) (l : ℕ) → l < levels_among found.groups (length found.groups) →
+    level_at (levels_of jobs found) l ≡ level_numbered jobs found l
+level_there jobs found l known =
+    get_or-map-range_with_len (level_numbered jobs found) 0 (levels_among found.groups (length found.groups)) l l no_level known (omega arith)
+
+pub levels_length : (jobs : List Job) (found : Found) → length (levels_of jobs found) ≡ levels_among found.groups (length found.groups)
+levels_length jobs found = length-map-range_with_len (level_numbered jobs found) 0 (levels_among found.groups (length found.groups))
+
+pub each_level : (P : Level → Type 0) (jobs : List Job) (found : Found) →
+    ((l : ℕ) → l < levels_among found.groups (length found.groups) → P (level_numbered jobs found l)) → All P (levels_of jobs found)
+each_level P jobs found each =
+    All-map P (level_numbered jobs found) (range_with_len 0 (levels_among found.groups (length found.groups)))
+    (All-range (λ l. P (level_numbered jobs found l)) 0 _ (λ i below. let same : 0 + i ≡ i = omega arith in rw same (each i below)))
+
+pub members_joined : (jobs : List Job) (found : Found) →
+    all_members (levels_of jobs found) ≡ flat_map (members_of jobs found) (range_with_len 0 (levels_among found.groups (length found.groups)))
+members_joined jobs found =
+    flat_map-map (λ level. level.members) (level_numbered jobs found) (range_with_len 0 (levels_among found.groups (length found.groups)))
+
+-- who is a member of a level
+pub record IsMember (jobs : List Job) (found : Found) (l number : ℕ) : Type 0 where
+  pub known : number < length jobs
+  pub grouped : group_of found.group_of_job number < length found.groups
+  pub level : level_of found.groups (group_of found.group_of_job number) ≡ l
+
+pub each_member : (jobs : List Job) (found : Found) (l : ℕ) → l < levels_among found.groups (length found.groups) →
+    All (IsMember jobs found l) (members_of jobs found l)
+each_member jobs found l known k d within =
+    let in_level = λ (j : ℕ). level_of_place found.groups (group_of found.group_of_job j) == l in
+    let passes = filter_passes in_level (range_with_len 0 (length jobs)) k d within in
+    let place = place_in_level found.groups _ l (eqb-true _ l passes) known in
+    record {
+      known = All-filter in_level (λ j. j < length jobs) (range_with_len 0 (length jobs))
+          (λ i e inside. let at = in_range (length jobs) i e inside in rw (at.1) at.0) k d within;
+      grouped = place.0;
+      level = place.1;
+    }
+
+pub members_rise : (jobs : List Job) (found : Found) (l : ℕ) → Rise (members_of jobs found l)
+members_rise jobs found l = range_rise _ 0 (length jobs)
+
+-- how often a number stands among all members: only at its own place
+abbrev counted : List Job → Found → ℕ → ℕ → ℕ
+counted jobs found number j =
+    cond (nat_lt (level_of_place found.groups (group_of found.group_of_job j)) (levels_among found.groups (length found.groups)))
+    (cond (number == j) 1 0) 0
+
+member_count : (jobs : List Job) (found : Found) (number : ℕ) →
+    count number (all_members (levels_of jobs found)) ≡ sum_by (counted jobs found number) (range_with_len 0 (length jobs))
+member_count jobs found number =
+    ap (count number) (members_joined jobs found)
+    ∙ sum_by-flat_map (members_of jobs found) (λ other. cond (number == other) 1 0) (range_with_len 0 (levels_among found.groups (length found.groups)))
+    ∙ split_sum (λ j. level_of_place found.groups (group_of found.group_of_job j)) (λ other. cond (number == other) 1 0)
+        (levels_among found.groups (length found.groups)) (range_with_len 0 (length jobs))
+
+cond_at_most : (b : Bool) (v : ℕ) → cond b v 0 ≤ v
+cond_at_most true v = omega arith
+cond_at_most false v = omega arith
+
+pub member_at_most_once : (jobs : List Job) (found : Found) (number : ℕ) → count number (all_members (levels_of jobs found)) ≤ 1
+member_at_most_once jobs found number =
+    omega (
+      arith,
+      member_count jobs found number,
+      sum_by_at_most (counted jobs found number) (λ j. cond (number == j) 1 0) (range_with_len 0 (length jobs))
+          (λ k d within. cond_at_most _ _),
+      one_of_range (length jobs) number 1,
+      cond_at_most (nat_lt number (length jobs)) 1,
+    )
+
+mine_alone : (m v : ℕ) (key : ℕ → ℕ) (number j : ℕ) → key number < m →
+    cond (nat_lt (key j) m) (cond (number == j) v 0) 0 ≡ cond (number == j) v 0
+mine_alone m v key number j below = elim (cases_eq number j) [
+  | inl same ↦ ap (λ b. cond b (cond (number == j) v 0) 0) (lt-ltb (key j) m (rw same at below))
+  | inr other ↦ rw (not_here number j v other) (cond_none (nat_lt (key j) m))
+]
+
+pub member_once : (jobs : List Job) (found : Found) (number : ℕ) → number < length jobs →
+    level_of_place found.groups (group_of found.group_of_job number) < levels_among found.groups (length found.groups) →
+    count number (all_members (levels_of jobs found)) ≡ 1
+member_once jobs found number known below =
+    member_count jobs found number
+    ∙ sum_by_same (counted jobs found number) (λ j. cond (number == j) 1 0) (range_with_len 0 (length jobs))
+        (λ k d within. mine_alone (levels_among found.groups (length found.groups)) 1
+        (λ j. level_of_place found.groups (group_of found.group_of_job j)) number (get_or (range_with_len 0 (length jobs)) k d) below)
+    ∙ one_of_range (length jobs) number 1
+    ∙ ap {B = ℕ} (λ b. cond b 1 0) (lt-ltb number (length jobs) known)

@@ -1,0 +1,17 @@
+pub mod Divisors
+pub mod Parts
+pub mod Split
+pub mod Stretches
+pub mod Joined
+pub mod Speeds
+pub mod Blocks
+pub mod Shares
+pub mod Filled
+pub mod Order
+pub mod Schedule
+pub mod Levels
+pub mod LevelPieces
+pub mod Plan
+pub mod Drafts
+pub mod Extended
+pub mod DraftSteps

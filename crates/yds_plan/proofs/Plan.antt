@@ -1,0 +1,241 @@
+-- What the search finds makes a plan.
+use Rattle.std.proofs.Common.{◌≡◌, ℕ, zero, suc, ◌+◌, ◌-◌, ◌*◌, ◌/◌, ◌<◌, ◌≤◌, ◌==◌, ◌⊎◌, List, [], ◌∷◌, ◌∙◌, length, map, get_or, take, sym, refl, ap, arith, inl, inr}
+use Rattle.std.specs.List.{All, Contains, sum_by, flat_map, range_with_len}
+use Rattle.std.proofs.lemmas.Bool.{cases_lt}
+use Rattle.std.proofs.lemmas.List.{length-map}
+use Rattle.std.proofs.lemmas.List.Concat.{length-flat_map}
+use Rattle.std.proofs.lemmas.List.Elements.{All-contains, All-weaker}
+use Rattle.std.proofs.Math.Nat.{eq_of_mul-eq-mul_right}
+use Rattle.yds_model.specs.Numbers.{Each}
+use Rattle.yds_model.specs.Job.{Job, IsJob, job_at, work_of}
+use Rattle.yds_model.specs.Slot.{WrittenSlot, WholeSlot, no_slot, no_written_slot, IsScale, slot_at_scale, slots_at, slot_at, written_slot_at}
+use Rattle.yds_model.specs.Feasible.{IsFeasible}
+use Rattle.yds_model.specs.Level.{Level, level_at, all_members, all_pieces}
+use Rattle.yds_model.specs.Proper.{PiecesStand, StandsOnce, SumsAgree, IsNotFaster, IsWindowCovered, HasLevelSpeed, AreLevels, IsProper}
+use Rattle.yds_model.specs.Divisor.{common_divisor}
+use Rattle.yds_model.specs.Event.{stretches}
+use Rattle.yds_model.specs.Plan.{IsSlower, DontTouch, Rise, HasLevelDenominators, IsPlan}
+use Rattle.yds_model.proofs.Sums.{sum_by_same}
+use Rattle.yds_plan.specs.Found.{Group, Share, Found, IsFound, group_of, group_at, per_time, per_work, stretch_at, length_of}
+use Rattle.yds_plan.specs.Laid.{level_of, levels_among, level_of_place, together, members_of, stretches_of, joined, level_numbered, levels_of, slots_in, slots_of, shares_in}
+use Rattle.yds_plan.proofs.Divisors.{same_lowest, lowest}
+use Rattle.yds_plan.proofs.Split.{count_all, split_all, sum_by-filter}
+use Rattle.yds_plan.proofs.Stretches.{release_outside, deadline_outside, stretch_with, few_stretches}
+use Rattle.yds_plan.proofs.Blocks.{all_of_blocks}
+use Rattle.yds_plan.proofs.Shares.{Serves, all_serve}
+use Rattle.yds_plan.proofs.Filled.{IsOverTerms, over_terms, slots_of_jobs, slots_from_length}
+use Rattle.yds_plan.proofs.Speeds.{AreGroups, level_rises, among_above, among_found, level_speed, level_has, level_slower, same_through}
+use Rattle.yds_plan.proofs.Schedule.{Stands, has_work, terms, all_stand, feasible, served_in_stretches}
+use Rattle.yds_plan.proofs.Levels.{IsMember, place_level, group_sum, level_there, levels_length, each_level, members_joined, each_member, members_rise, member_at_most_once, member_once}
+use Rattle.yds_plan.proofs.LevelPieces.{pieces_apart, pieces_run, pieces_dont_touch, pieces_total, some_pieces, stretch_covered, few_pieces}
+
+-- a speed of work over units, as one of work over length
+at_speed : (work time p q g w l : ℕ) → work * q ≡ p * time → p * g ≡ w → q * g ≡ l → work * l ≡ w * time
+at_speed work time p q g w l e f h = omega (arith, ap (λ n. n * g) e, ap (λ n. n * time) f, ap (λ n. work * n) h)
+
+module _ (jobs : List Job) (found : Found) (is : IsFound jobs found) where
+  abbrev count_of_levels : ℕ
+  count_of_levels = levels_among found.groups (length found.groups)
+
+  groups_are : AreGroups found.groups
+  groups_are = record { some_work = is.some_work; some_length = is.some_length; order = is.order }
+
+  abbrev level_work : ℕ → ℕ
+  level_work l = together (λ group. group.work) found.groups l
+
+  abbrev level_length : ℕ → ℕ
+  level_length l = together (λ group. group.length) found.groups l
+
+  some_level_work : (l : ℕ) → l < count_of_levels → 1 ≤ level_work l
+  some_level_work l known =
+      let k = among_found found.groups (length found.groups) l known in
+      omega (arith, is.some_work k.0 k.1, rw (k.2) at (level_has found.groups groups_are (λ group. group.work) k.0 k.1))
+
+  some_level_length : (l : ℕ) → l < count_of_levels → 1 ≤ level_length l
+  some_level_length l known =
+      let k = among_found found.groups (length found.groups) l known in
+      omega (arith, is.some_length k.0 k.1, rw (k.2) at (level_has found.groups groups_are (λ group. group.length) k.0 k.1))
+
+  -- sums
+  members_work : (l : ℕ) → l < count_of_levels → level_work l ≡ work_of jobs (members_of jobs found l)
+  members_work l known =
+      group_sum found.groups found.group_of_job (λ j. (job_at jobs j).work) (length jobs) l (λ group. group.work) is.works known
+
+  stretches_length : (l : ℕ) → l < count_of_levels → level_length l ≡ sum_by (length_of jobs) (stretches_of jobs found l)
+  stretches_length l known =
+      group_sum found.groups found.group_of_stretch (length_of jobs) (length (stretches jobs)) l (λ group. group.length) is.lengths known
+
+  -- by place
+  place : (P : ℕ → Level → Type 0) → ((l : ℕ) → l < count_of_levels → P l (level_numbered jobs found l)) →
+      (i : ℕ) → i < length (levels_of jobs found) → P i (level_at (levels_of jobs found) i)
+  place P each i within =
+      let known : i < count_of_levels = omega (arith, levels_length jobs found) in
+      rw (level_there jobs found i known) (each i known)
+
+  well_formed : AreLevels jobs (levels_of jobs found)
+  well_formed = record {
+    positive = each_level (λ level. (1 ≤ level.work) × (1 ≤ level.length)) jobs found
+        (λ l known. (some_level_work l known, some_level_length l known));
+    known = each_level (λ level. All (λ number. number < length jobs) level.members) jobs found
+        (λ l known k d within. (each_member jobs found l known k d within).known);
+  }
+
+  pieces_stand : Each (length (levels_of jobs found)) (PiecesStand (levels_of jobs found))
+  pieces_stand i within =
+      let known : i < count_of_levels = omega (arith, levels_length jobs found) in
+      let here = level_there jobs found i known in
+      record {
+        some = rw here (some_pieces jobs found i (omega (arith, some_level_length i known, stretches_length i known)));
+        in_order = rw here (pieces_run jobs found i);
+        apart = rw here (pieces_apart jobs found i known);
+      }
+
+  sums_agree : Each (length (levels_of jobs found)) (SumsAgree jobs (levels_of jobs found))
+  sums_agree i within =
+      let known : i < count_of_levels = omega (arith, levels_length jobs found) in
+      let here = level_there jobs found i known in
+      record {
+        work = rw here (members_work i known);
+        length = rw here (stretches_length i known ∙ sym (pieces_total jobs found i));
+      }
+
+  stands_once : Each (length jobs) (StandsOnce jobs (levels_of jobs found))
+  stands_once number known = record {
+    at_most_once = member_at_most_once jobs found number;
+    with_work = λ some.
+        let grouped = is.with_work number known some in
+        member_once jobs found number known
+        (rw (place_level found.groups (group_of found.group_of_job number) grouped)
+        (among_above found.groups (length found.groups) (group_of found.group_of_job number) grouped));
+  }
+
+  falling : Each (length (levels_of jobs found)) (IsSlower (levels_of jobs found))
+  falling i within before is_before =
+      let known : i < count_of_levels = omega (arith, levels_length jobs found) in
+      let next : before + 1 < count_of_levels = omega arith in
+      rw (level_there jobs found i known, level_there jobs found before (omega arith), ← is_before)
+      (level_slower found.groups groups_are before next)
+
+  -- a member of the level at a place
+  member_there : (i number : ℕ) → i < length (levels_of jobs found) → Contains (level_at (levels_of jobs found) i).members number →
+      IsMember jobs found i number
+  member_there i number within contains =
+      let known : i < count_of_levels = omega (arith, levels_length jobs found) in
+      All-contains (IsMember jobs found i) (members_of jobs found i) number (each_member jobs found i known)
+      (rw (level_there jobs found i known) at contains)
+
+  windows_covered : Each (length jobs) (IsWindowCovered jobs (levels_of jobs found))
+  windows_covered number known i within contains time from below =
+      let member = member_there i number within contains in
+      let k = stretch_with jobs number time known from below in
+      let released : (job_at jobs number).release ≤ (stretch_at jobs k.0).from =
+          elim (release_outside jobs number k.0 known k.1) [ inl h ↦ h | inr h ↦ absurd (omega (arith, k.3)) ] in
+      let due : (stretch_at jobs k.0).to ≤ (job_at jobs number).deadline =
+          elim (deadline_outside jobs number k.0 known k.1) [ inl h ↦ absurd (omega (arith, k.2)) | inr h ↦ h ] in
+      let first = is.windows number k.0 known (has_work jobs found is number known member.grouped) k.1 (record { released = released; due = due }) in
+      let grouped : group_of found.group_of_stretch k.0 < length found.groups = omega (arith, member.grouped) in
+      stretch_covered jobs found k.0 (i + 1) time k.1
+      (rw (place_level found.groups (group_of found.group_of_stretch k.0) grouped)
+      (omega (arith, level_rises found.groups _ _ first, member.level)))
+      (omega (arith, levels_length jobs found)) (k.2, k.3)
+
+  -- a level's speed is that of the group of its members' stretches
+  group_speed : (i g : ℕ) → i < count_of_levels → g < length found.groups → level_of found.groups g ≡ i →
+      level_work i * (group_at found.groups g).length ≡ (group_at found.groups g).work * level_length i
+  group_speed i g known grouped level = rw level at (level_speed found.groups groups_are g grouped)
+
+  speeds : (scale : ℕ) → IsScale scale (slots_of jobs found) →
+      Each (length (slots_of jobs found)) (HasLevelSpeed (levels_of jobs found) (slots_at scale (slots_of jobs found)))
+  speeds scale divided s within i inside contains =
+      let member = member_there i _ inside contains in
+      let stands = all_stand jobs found is scale divided s no_slot (omega (arith, length-map (slots_of jobs found) (slot_at_scale scale))) in
+      let serves = stands.2.serves in
+      let g = group_of found.group_of_stretch stands.0 in
+      let grouped : g < length found.groups = omega (arith, serves.same_group, serves.grouped) in
+      let level : level_of found.groups g ≡ i = ap (level_of found.groups) serves.same_group ∙ member.level in
+      let known : i < count_of_levels = omega (arith, levels_length jobs found) in
+      let low = terms jobs found is g grouped in
+      rw (level_there jobs found i known)
+      (same_through _ (group_at found.groups g).work (level_work i) _ (group_at found.groups g).length (level_length i)
+      (is.some_length g grouped)
+      (at_speed _ _ _ _ _ (group_at found.groups g).work (group_at found.groups g).length stands.2.speed low.first low.second)
+      (sym (group_speed i g known grouped level)))
+
+  members_have_work : All (λ number. 1 ≤ (job_at jobs number).work) (all_members (levels_of jobs found))
+  members_have_work =
+      rw (members_joined jobs found)
+      (all_of_blocks (λ number. 1 ≤ (job_at jobs number).work) (members_of jobs found) count_of_levels
+      (λ l known k d within.
+          let member = each_member jobs found l known k d within in
+          has_work jobs found is _ member.known member.grouped))
+
+  slots_length : length (slots_of jobs found) ≡ length found.shares
+  slots_length =
+      length-flat_map (slots_in jobs found) (range_with_len 0 (length (stretches jobs)))
+      ∙ sum_by_same (λ k. length (slots_in jobs found k)) (λ k. sum_by (λ share. 1) (shares_in found.shares k))
+          (range_with_len 0 (length (stretches jobs)))
+          (λ k d within. slots_from_length _ _ 0 (shares_in found.shares (get_or (range_with_len 0 (length (stretches jobs))) k d))
+          ∙ sym (count_all (shares_in found.shares (get_or (range_with_len 0 (length (stretches jobs))) k d))))
+      ∙ split_all (λ share. share.stretch) (λ share. 1) (length (stretches jobs)) found.shares
+          (λ k d within. (is.shares k d within).known_stretch)
+      ∙ count_all found.shares
+
+  -- a slot is written over the terms of the group of its stretch
+  abbrev IsWritten : WrittenSlot → Type 0
+  IsWritten slot = (k : ℕ) × Serves jobs found k slot.job × IsOverTerms (group_at found.groups (group_of found.group_of_stretch k)) slot
+
+  all_written : All IsWritten (slots_of jobs found)
+  all_written =
+      all_of_blocks IsWritten (slots_in jobs found) (length (stretches jobs))
+      (λ k known x d within. (
+        k,
+        slots_of_jobs (Serves jobs found k) (group_at found.groups (group_of found.group_of_stretch k)) (stretch_at jobs k).from 0
+            (shares_in found.shares k) (all_serve jobs found is k) x d within,
+        over_terms (group_at found.groups (group_of found.group_of_stretch k)) (stretch_at jobs k).from 0 (shares_in found.shares k) x d within,
+      ))
+
+  denominators : (i s : ℕ) → i < length (levels_of jobs found) → s < length (slots_of jobs found) →
+      Contains (level_at (levels_of jobs found) i).members (written_slot_at (slots_of jobs found) s).job →
+      HasLevelDenominators (level_at (levels_of jobs found) i) (written_slot_at (slots_of jobs found) s)
+  denominators i s within inside contains =
+      let member = member_there i _ within contains in
+      let written = all_written s no_written_slot inside in
+      let serves = written.1 in
+      let g = group_of found.group_of_stretch written.0 in
+      let grouped : g < length found.groups = omega (arith, serves.same_group, serves.grouped) in
+      let level : level_of found.groups g ≡ i = ap (level_of found.groups) serves.same_group ∙ member.level in
+      let known : i < count_of_levels = omega (arith, levels_length jobs found) in
+      let same = same_lowest (level_work i) (level_length i) (group_at found.groups g).work (group_at found.groups g).length
+          (some_level_work i known) (some_level_length i known) (is.some_work g grouped) (is.some_length g grouped)
+          (group_speed i g known grouped level) in
+      rw (level_there jobs found i known) (record {
+        from = rw (same.0) written.2.from;
+        to = rw (same.0) written.2.to;
+        work = rw (same.1) written.2.work;
+      })
+
+  pub makes_plan : IsPlan jobs (slots_of jobs found) (levels_of jobs found)
+  makes_plan = record {
+    proper = record {
+      well_formed = well_formed;
+      feasible = λ scale divided. feasible jobs found is scale divided;
+      pieces = pieces_stand;
+      members = stands_once;
+      sums = sums_agree;
+      order = λ i within before is_before. omega (arith, falling i within before is_before);
+      windows = windows_covered;
+      speeds = speeds;
+    };
+    falling = falling;
+    pieces_apart = each_level (λ level. DontTouch level.pieces) jobs found (λ l known. pieces_dont_touch jobs found l);
+    members_rise = each_level (λ level. Rise level.members) jobs found (λ l known. members_rise jobs found l);
+    members_work = members_have_work;
+    served = λ scale divided. served_in_stretches jobs found is scale divided;
+    few_slots = omega (arith, slots_length, is.few, few_stretches jobs);
+    few_pieces = omega (arith, few_pieces jobs found, few_stretches jobs);
+    denominators = denominators;
+  }
+
+-- What is found makes a plan.
+pub found_makes_plan : (jobs : List Job) (found : Found) → IsFound jobs found → IsPlan jobs (slots_of jobs found) (levels_of jobs found)
+found_makes_plan = makes_plan

@@ -1,0 +1,92 @@
+-- What the search finds, laid out: the slots of a plan and its levels.
+use Rattle.std.specs.Prelude.{ℕ, zero, suc, Bool, ◌+◌, ◌*◌, ◌/◌, ◌%◌, List, [], ◌∷◌, length, map, sum_by, nat_lt, ◌==◌, if◌then◌else◌}
+use Rattle.std.specs.List.{filter, flat_map, range_with_len}
+use Rattle.yds_model.specs.Job.{Job}
+use Rattle.yds_model.specs.Scale.{Fraction, of_whole}
+use Rattle.yds_model.specs.Slot.{WrittenSlot}
+use Rattle.yds_model.specs.Piece.{Piece}
+use Rattle.yds_model.specs.Level.{Level}
+use Rattle.yds_model.specs.Event.{stretches}
+use Rattle.yds_plan.specs.Found.{Group, Share, Found, group_at, per_time, per_work, stretch_at, group_of}
+
+-- So much, and so many parts of which `den` make one. It is whole where they make whole ones, and else it has the
+-- denominator `den`.
+abbrev pub with_parts : ℕ → ℕ → ℕ → Fraction
+with_parts whole parts den =
+    if parts % den == 0 then of_whole (whole + parts / den)
+    else record { whole = whole + parts / den; num = parts % den; den = den }
+
+-- One share after another, without a gap, in a stretch that begins at `start`, where `done` units are done before them.
+abbrev pub slots_from : Group → ℕ → ℕ → List Share → List WrittenSlot
+slots_from group start done [] = []
+slots_from group start done (share ∷ shares) = record {
+  job = share.job;
+  from = with_parts start done (per_time group);
+  to = with_parts start (done + share.units) (per_time group);
+  work = with_parts 0 share.units (per_work group);
+} ∷ slots_from group start (done + share.units) shares
+
+-- the shares of a stretch, in the order in which they were found
+abbrev pub shares_in : List Share → ℕ → List Share
+shares_in shares k = filter (λ share. share.stretch == k) shares
+
+abbrev pub slots_in : List Job → Found → ℕ → List WrittenSlot
+slots_in jobs found k =
+    slots_from (group_at found.groups (group_of found.group_of_stretch k)) (stretch_at jobs k).from 0 (shares_in found.shares k)
+
+-- The slots of a plan: each stretch is filled from its start.
+abbrev pub slots_of : List Job → Found → List WrittenSlot
+slots_of jobs found = flat_map (slots_in jobs found) (range_with_len 0 (length (stretches jobs)))
+
+-- the group after this place is slower than the one at it
+abbrev pub slows_after : List Group → ℕ → Bool
+slows_after groups i =
+    nat_lt ((group_at groups (i + 1)).work * (group_at groups i).length) ((group_at groups i).work * (group_at groups (i + 1)).length)
+
+-- Groups of the same speed make one level. The number of a group's level is how often the speed falls up to it.
+abbrev pub level_of : List Group → ℕ → ℕ
+level_of groups zero = 0
+level_of groups (suc i) = level_of groups i + (if slows_after groups i then 1 else 0)
+
+-- how many levels the first groups make
+abbrev pub levels_among : List Group → ℕ → ℕ
+levels_among groups zero = 0
+levels_among groups (suc i) = level_of groups i + 1
+
+-- the level of a job or stretch by the place of its group; where it is in none, no level has this number
+abbrev pub level_of_place : List Group → ℕ → ℕ
+level_of_place groups i = if nat_lt i (length groups) then level_of groups i else length groups
+
+-- pieces in order, of which those that touch are one
+abbrev pub join : Piece → List Piece → List Piece
+join piece [] = piece ∷ []
+join piece (next ∷ pieces) =
+    if piece.to == next.from then record { from = piece.from; to = next.to } ∷ pieces else piece ∷ next ∷ pieces
+
+abbrev pub joined : List Piece → List Piece
+joined [] = []
+joined (piece ∷ pieces) = join piece (joined pieces)
+
+-- the jobs and the stretches of a level, by number, and what its groups have together
+abbrev pub members_of : List Job → Found → ℕ → List ℕ
+members_of jobs found level =
+    filter (λ j. level_of_place found.groups (group_of found.group_of_job j) == level) (range_with_len 0 (length jobs))
+
+abbrev pub stretches_of : List Job → Found → ℕ → List ℕ
+stretches_of jobs found level =
+    filter (λ k. level_of_place found.groups (group_of found.group_of_stretch k) == level) (range_with_len 0 (length (stretches jobs)))
+
+abbrev pub together : (Group → ℕ) → List Group → ℕ → ℕ
+together f groups level = sum_by (λ i. if level_of groups i == level then f (group_at groups i) else 0) (range_with_len 0 (length groups))
+
+abbrev pub level_numbered : List Job → Found → ℕ → Level
+level_numbered jobs found level = record {
+  work = together (λ group. group.work) found.groups level;
+  length = together (λ group. group.length) found.groups level;
+  pieces = joined (map (stretch_at jobs) (stretches_of jobs found level));
+  members = members_of jobs found level;
+}
+
+-- The levels of a plan, the fastest first.
+abbrev pub levels_of : List Job → Found → List Level
+levels_of jobs found = map (level_numbered jobs found) (range_with_len 0 (levels_among found.groups (length found.groups)))

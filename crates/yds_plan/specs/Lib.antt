@@ -1,0 +1,4 @@
+pub mod Found
+pub mod Views
+pub mod Laid
+pub mod Drafts

@@ -1,0 +1,12 @@
+//! The offline plan: the slots and the certificate that do, above every speed, the least work that any
+//! feasible schedule does.
+//!
+//! It stands on `yds_model`, `yds_slots` and `yds_certificate`. Its one promise is that `plan` answers a
+//! plan by the model's definition; that it is least, for every speed and every convex power function,
+//! are laws of that definition.
+#![tactic(auto)]
+
+mod found;
+mod layout_levels;
+mod layout_members;
+mod share;
