@@ -42,3 +42,6 @@ pub mod Printed
 pub mod KindsRead
 pub mod JobNames
 pub mod Short
+pub mod Inverse
+pub mod Grown
+pub mod Within

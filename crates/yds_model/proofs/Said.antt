@@ -12,17 +12,17 @@ use Rattle.yds_model.specs.Slot.{WrittenSlot}
 use Rattle.yds_model.specs.Level.{Level, all_pieces, all_members}
 use Rattle.yds_model.specs.Table.{Point}
 use Rattle.yds_model.specs.Document.{Document, Grid}
-use Rattle.yds_model.specs.Entry.{Entry, JobEntry, PointEntry, SlotEntry, LevelEntry, GridEntry, EnergyEntry, name_said, job_said, point_said, slot_said, piece_said, member_said, grid_said, energy_said, first_of_them, is_level, until_level, levels_said, document_said}
+use Rattle.yds_model.specs.Entry.{Entry, JobEntry, PointEntry, SlotEntry, LevelEntry, TicksEntry, GridEntry, EnergyEntry, name_said, job_said, point_said, slot_said, piece_said, member_said, grid_said, energy_said, first_of_them, is_level, until_level, levels_said, document_said}
 
 -- ---- the lists
 
 -- an entry that says one more
-more_said : {X : Type 0} (said : Entry → Option X) (entries : List Entry) (entry : Entry) (x : X) → said entry ≡ Some x →
+pub more_said : {X : Type 0} (said : Entry → Option X) (entries : List Entry) (entry : Entry) (x : X) → said entry ≡ Some x →
     filter_map said (entries ++ entry ∷ []) ≡ filter_map said entries ++ x ∷ []
 more_said said entries entry x is = filter_map-append said entries (entry ∷ []) ∙ ap (λ xs. filter_map said entries ++ xs) (rw is refl)
 
 -- an entry that says none
-none_said : {X : Type 0} (said : Entry → Option X) (entries : List Entry) (entry : Entry) → said entry ≡ None →
+pub none_said : {X : Type 0} (said : Entry → Option X) (entries : List Entry) (entry : Entry) → said entry ≡ None →
     filter_map said (entries ++ entry ∷ []) ≡ filter_map said entries
 none_said said entries entry is =
     filter_map-append said entries (entry ∷ []) ∙ ap (λ xs. filter_map said entries ++ xs) (rw is refl) ∙ append-nil (filter_map said entries)
@@ -141,7 +141,7 @@ pub record Says (entries : List Entry) (d : Document) : Type 0 where
   pub members : filter_map member_said entries ≡ all_members d.levels
 
 -- an entry that is no level, piece or member
-says_other : (entries : List Entry) (entry : Entry) (d after : Document) → piece_said entry ≡ None → member_said entry ≡ None → after.levels ≡ d.levels →
+pub says_other : (entries : List Entry) (entry : Entry) (d after : Document) → piece_said entry ≡ None → member_said entry ≡ None → after.levels ≡ d.levels →
     document_said (entries ++ entry ∷ []) ≡ after → Says entries d → Says (entries ++ entry ∷ []) after
 says_other entries entry d after no_piece no_member same said says = record {
   said = said;
@@ -305,6 +305,20 @@ says-energy entries energy d none says =
     says_other entries (EnergyEntry energy) d (with_energy energy d) refl refl refl
     (said-energy entries energy (ap (λ (d : Document). d.energy) says.said ∙ none) ∙ ap (with_energy energy) says.said) says
 
+-- ticks are no part of a document
+pub said-ticks : (entries : List Entry) (ticks : ℕ) → document_said (entries ++ TicksEntry ticks ∷ []) ≡ document_said entries
+said-ticks entries ticks =
+    let entry : Entry = TicksEntry ticks in
+    rw (
+      none_said name_said entries entry refl,
+      none_said job_said entries entry refl,
+      none_said point_said entries entry refl,
+      none_said slot_said entries entry refl,
+      levels_said-same entries entry refl refl refl,
+      none_said grid_said entries entry refl,
+      none_said energy_said entries entry refl,
+    ) refl
+
 -- ---- the levels of the document
 
 abbrev pub with_levels : List Level → Document → Document
@@ -355,7 +369,7 @@ says-level entries work length d says =
     }
 
 -- a list of each level, as the last level gets more of it
-last_longer : {X : Type 0} (f : Level → List X) (before : List Level) (level longer : Level) (more : List X) → f longer ≡ f level ++ more →
+pub last_longer : {X : Type 0} (f : Level → List X) (before : List Level) (level longer : Level) (more : List X) → f longer ≡ f level ++ more →
     flat_map f (before ++ level ∷ []) ++ more ≡ flat_map f (before ++ longer ∷ [])
 last_longer f before level longer more is =
     ap (λ xs. xs ++ more) (sym (flat_map_more f [] before level)) ∙ append_assoc (flat_map f before) (f level) more

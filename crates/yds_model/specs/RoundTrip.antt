@@ -118,6 +118,14 @@ JobsAndSlotsAreRead = (document : Document) → IsDocument document → HasJobsA
 abbrev pub PrintedIsRead : Type 0
 PrintedIsRead = (document : Document) → IsDocument document → reading (canonical_text document) ≡ Ok document
 
+-- What is read is within the limits.
+abbrev pub ReadIsWithinLimits : Type 0
+ReadIsWithinLimits = (bytes : List ℕ) (document : Document) → reading bytes ≡ Ok document → IsDocument document
+
+-- So the text of what is read is read as the same.
+abbrev pub CanonicalTextIsRead : Type 0
+CanonicalTextIsRead = (bytes : List ℕ) (document : Document) → reading bytes ≡ Ok document → reading (canonical_text document) ≡ Ok document
+
 -- Each line of a text is short: its greatest length in bytes, the line feed included.
 pub record LinesAreShort : Type 0 where
   pub job : (name : List ℕ) (job : Job) → IsTrue (is_name name) → IsJob job → length (job_line name job) ≤ 99
