@@ -36,6 +36,8 @@ pub mod AuditAnswer
 pub mod RoundAnswer
 pub mod ReportAnswer
 pub mod Answer
+pub mod Request
+pub mod RequestAnswer
 pub mod TextLaws
 pub mod RoundTrip
 pub mod Laws

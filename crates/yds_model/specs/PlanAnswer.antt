@@ -1,6 +1,6 @@
 -- The answer of `plan`: the document's jobs and points, with the slots and the levels of a plan of its jobs. And the
 -- headline, which is what a reader wants to know of such a text.
-use Rattle.std.specs.Prelude.{◌≡◌, ℕ, List, Some, None}
+use Rattle.std.specs.Prelude.{◌≡◌, ℕ, List, Some, None, Ok}
 use Rattle.yds_model.specs.Slot.{WrittenSlot}
 use Rattle.yds_model.specs.Level.{Level}
 use Rattle.yds_model.specs.Feasible.{IsFeasible}
@@ -11,6 +11,7 @@ use Rattle.yds_model.specs.Plan.{IsPlan}
 use Rattle.yds_model.specs.Document.{Document}
 use Rattle.yds_model.specs.Text.{canonical_text}
 use Rattle.yds_model.specs.OneJob.{one_job_document}
+use Rattle.yds_model.specs.Reading.{reading}
 
 -- the same jobs and points, with these slots and levels, and nothing else
 abbrev pub with_plan : Document → List WrittenSlot → List Level → Document
@@ -44,3 +45,16 @@ pub record Headline (input text : List ℕ) (document : Document) (slots : List 
 
 abbrev pub HoldsHeadline : List ℕ → List ℕ → Type 0
 HoldsHeadline input text = (document : Document) × (slots : List WrittenSlot) × (levels : List Level) × Headline input text document slots levels
+
+-- The same for every document that is read, where besides what was written is read again as the document with its plan.
+pub record ReadHeadline (input text : List ℕ) (document : Document) (slots : List WrittenSlot) (levels : List Level) : Type 0 where
+  pub read : reading input ≡ Ok document
+  pub written : text ≡ canonical_text (with_plan document slots levels)
+  pub read_again : reading text ≡ Ok (with_plan document slots levels)
+  pub feasible : IsFeasible document.jobs slots
+  pub least : IsLeast document.jobs slots
+  pub proper : IsProper document.jobs slots levels
+  pub explained : Explains document.jobs slots levels
+
+abbrev pub HoldsReadHeadline : List ℕ → List ℕ → Type 0
+HoldsReadHeadline input text = (document : Document) × (slots : List WrittenSlot) × (levels : List Level) × ReadHeadline input text document slots levels

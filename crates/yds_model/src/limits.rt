@@ -70,3 +70,9 @@ pub const MAX_INPUT: usize = 8_388_608;
 
 /// The greatest size of any text that a call of these crates takes, in bytes.
 pub const MAX_BYTES: usize = 1_000_000_000;
+
+/// The greatest seed of a trial.
+pub const MAX_SEED: u32 = 4_294_967_295;
+
+/// The greatest number of jobs that a trial draws.
+pub const MAX_TRIAL_JOBS: u32 = 1_000;
