@@ -131,6 +131,7 @@ pub record LinesAreShort : Type 0 where
   pub job : (name : List ℕ) (job : Job) → IsTrue (is_name name) → IsJob job → length (job_line name job) ≤ 99
   pub point : (point : Point) → IsPoint point → length (point_line point) ≤ 19
   pub slot : (names : List (List ℕ)) (slot : WrittenSlot) → IsTrue (is_name (name_at names slot.job)) → IsSlot slot → length (slot_line names slot) ≤ 226
+  -- the level's own line, without those of its pieces and members
   pub level : (level : Level) → IsLevel level → length (level_lines [] (record { work = level.work; length = level.length; pieces = []; members = [] })) ≤ 28
   pub piece : (piece : Piece) → IsPiece piece → length (piece_line piece) ≤ 28
   pub member : (names : List (List ℕ)) (job : ℕ) → IsTrue (is_name (name_at names job)) → length (member_line names job) ≤ 72
