@@ -1,22 +1,22 @@
 -- What an engine keeps as jobs arrive: their entries go from the heap of those to come to that of the pending.
-use Rattle.std.proofs.Common.{◌≡◌, ◌≢◌, ℕ, ◌+◌, ◌-◌, ◌*◌, ◌<◌, ◌≤◌, ◌⊎◌, min, true, false, List, [], ◌∷◌, length, slice_index, slice_index_or, get_or, ◌∙◌, refl, sym, arith, inl, inr, ap, cond}
-use Rattle.std.specs.Prelude.{◌==◌, ⊤, All, Contains, Option, Some, None, Result, Ok, Err, IsSome, IsOk, IfSome, OnOk}
+use Rattle.std.proofs.Common.{◌≡◌, ◌≢◌, ℕ, ◌+◌, ◌-◌, ◌*◌, ◌<◌, ◌≤◌, false, List, ◌∷◌, length, slice_index, slice_index_or, get_or, ◌∙◌, refl, sym, arith, inl, inr, ap, cond}
+use Rattle.std.specs.Prelude.{◌==◌, All, Contains, Some, Result, Ok, Err, IsOk, OnOk}
 use Rattle.std.specs.declared.cmp.Reverse.{Reverse}
 use Rattle.std.specs.BinaryHeap.{IsHeap, IsUpperBound, KeepsHeap}
 use Rattle.std.specs.Ordering.{is_lt}
 use Rattle.std.specs.List.Sorted.{IsPermutation}
 use Rattle.std.proofs.lemmas.List.Sums.{sum_by-cons}
-use Rattle.std.proofs.lemmas.List.Sorted.{sum_by_pushed, sum_by_popped, sum_by-IsPermutation, All-permutation}
-use Rattle.std.proofs.lemmas.List.Elements.{All-contains, All-tail, All-cons, All-weaker, All-from_recursion, All-from_get_or}
+use Rattle.std.proofs.lemmas.List.Sorted.{sum_by_popped, sum_by-IsPermutation, All-permutation}
+use Rattle.std.proofs.lemmas.List.Elements.{All-contains, All-tail, All-cons, All-from_recursion}
 use Rattle.std.proofs.lemmas.Bool.{cases_lt, cases_eq, eq-eqb, ne_eqb, lt-leb, le-leb}
 use Rattle.std.proofs.lemmas.List.{get_or_read}
 use Rattle.std.proofs.Math.Nat.{mul-le-mul}
-use Rattle.yds_model.specs.Job.{Job, IsJob, no_job, job_at}
+use Rattle.yds_model.specs.Job.{Job, no_job, job_at}
 use Rattle.yds_edf.specs.declared.entry.Entry.{Entry}
 use Rattle.yds_edf.specs.Entries.{comes_first, entries_of}
-use Rattle.yds_edf.specs.Pending.{sum_below, has_arrived, units_wanted}
-use Rattle.yds_edf.specs.Queue.{IsNoEarlier, units_left}
-use Rattle.yds_edf.specs.Engine.{TiedQueue, IsTiedQueue, AreHeaps, IsEngine, IsComing, IsPending, HasNotArrived}
+use Rattle.yds_edf.specs.Pending.{sum_below, units_wanted}
+use Rattle.yds_edf.specs.Queue.{units_left}
+use Rattle.yds_edf.specs.Engine.{TiedQueue, IsTiedQueue, AreHeaps, IsComing, IsPending, HasNotArrived}
 use Rattle.yds_edf.proofs.Sums.{sum_below_same, sum_below_change, sum_below_at_most, sum_below_bound}
 use Rattle.yds_edf.proofs.Heaps.{in_entry_order}
 use Rattle.yds_edf.proofs.Steps.{entry_counts}
@@ -107,9 +107,9 @@ module _ (tied : TiedQueue) (waiting ready : List (Reverse Entry)) (units : ℕ)
       AreHeaps tied rest joined (units + units_left tied.queue top.0.job)
   after_arrival rest joined out moved heap joined_heap pending =
       let fewer : (number : ℕ) → entries_of rest number + cond (number == top.0.job) 1 0 ≡ entries_of waiting number =
-          λ number. sum_by_popped (λ (x : Reverse Entry). cond (number == x.0.job) 1 0) top waiting rest out in
+      λ number. sum_by_popped (λ (x : Reverse Entry). cond (number == x.0.job) 1 0) top waiting rest out in
       let more : (number : ℕ) → entries_of joined number ≡ entries_of (entry ∷ ready) number =
-          λ number. sum_by-IsPermutation (λ (x : Reverse Entry). cond (number == x.0.job) 1 0) (entry ∷ ready) joined moved in
+      λ number. sum_by-IsPermutation (λ (x : Reverse Entry). cond (number == x.0.job) 1 0) (entry ∷ ready) joined moved in
       record {
         coming = All-tail (IsComing tied.queue.jobs) top rest
             (All-permutation (IsComing tied.queue.jobs) waiting (top ∷ rest) out heaps.coming);
@@ -191,7 +191,7 @@ module _ {tied : TiedQueue} {waiting ready : List (Reverse Entry)} {units : ℕ}
   left_read : left ≡ units_left tied.queue top.0.job
   left_read =
       let now_read : now ≡ slice_index tied.queue.served top.0.job =
-          get_or_read tied.queue.served top.0.job now (omega (arith, coming.known, kept.served)) reads.now_is 0 in
+      get_or_read tied.queue.served top.0.job now (omega (arith, coming.known, kept.served)) reads.now_is 0 in
       reads.left_is ∙ rw (row_read, now_read) refl
 
   pub sum_fits : units + left ≤ 4000000000000000000

@@ -3,22 +3,20 @@
 --
 -- The argument: the units that are left of the jobs due by a deadline are at most the capacity of the stretches that are left
 -- before it. A stretch either serves its whole capacity to them, or leaves none of them pending.
-use Rattle.std.proofs.Common.{◌≡◌, ◌≢◌, ℕ, zero, suc, ◌+◌, ◌-◌, ◌*◌, ◌<◌, ◌≤◌, ◌⊎◌, min, List, [], ◌∷◌, ◌++◌, length, get_or, slice_index, ◌∙◌, refl, sym, subst, arith, inl, inr, ap, cond, true, false}
-use Rattle.std.specs.Prelude.{Bool, ◌==◌, ◌&&◌, nat_le, nat_lt, sum_by, All, Some}
-use Rattle.std.proofs.lemmas.List.Elements.{All-contains, Contains-get_or}
-use Rattle.std.proofs.lemmas.List.Sums.{get_or-le-sum_by, sum_by-cons}
+use Rattle.std.proofs.Common.{◌≡◌, ◌≢◌, ℕ, zero, suc, ◌+◌, ◌-◌, ◌<◌, ◌≤◌, ◌⊎◌, List, [], ◌∷◌, length, get_or, slice_index, ◌∙◌, refl, sym, subst, arith, inl, inr, ap, cond, true, false}
+use Rattle.std.specs.Prelude.{Bool, ◌==◌, ◌&&◌, nat_le, nat_lt, All}
 use Rattle.std.proofs.lemmas.Bool.{cases_lt, cases_eq, cases_order, cases_Bool, ltb-true, ltb-false, lt-leb, le-leb, eq-eqb, ne_eqb, eqb-true, true≢false}
 use Rattle.yds_model.specs.Numbers.{Each}
 use Rattle.yds_model.specs.Job.{Job, IsJob, no_job, job_at}
 use Rattle.yds_model.specs.Piece.{Piece, PiecesFrom}
-use Rattle.yds_edf.specs.Shares.{JobShare, units_given, total_units, shares_in, shares_before}
-use Rattle.yds_edf.specs.Pending.{sum_below, units_wanted, has_arrived, pending_units}
-use Rattle.yds_edf.specs.Serving.{IsDueBefore, IsServing}
+use Rattle.yds_edf.specs.Shares.{JobShare, units_given, shares_in, shares_before}
+use Rattle.yds_edf.specs.Pending.{sum_below, units_wanted}
+use Rattle.yds_edf.specs.Serving.{IsServing}
 use Rattle.yds_edf.specs.Demand.{no_stretch, stretch_at, capacity_at, confined_units, capacity_between, IsWithinCapacity, AreUncut}
-use Rattle.yds_edf.specs.Filled.{pending_at, IsInTime, IsFilled}
+use Rattle.yds_edf.specs.Filled.{pending_at}
 use Rattle.yds_edf.proofs.Sums.{sum_below_same, sum_below_at_most, sum_below_zero, sum_below-add, sum_below_term, sum_below_change, sum_below_less, sum_by_grouped}
 use Rattle.yds_model.proofs.Sums.{sum_by_zero}
-use Rattle.yds_edf.proofs.Parts.{all_before, none_before, given_next}
+use Rattle.yds_edf.proofs.Parts.{all_before, none_before, given_next, share_given}
 
 -- a term that counts where two orders hold
 both : (a b c d x : ℕ) → a ≤ b → c ≤ d → cond (nat_le a b && nat_le c d) x 0 ≡ x
@@ -115,14 +113,14 @@ module _ (jobs : List Job) (grain : ℕ) (stretches : List Piece) (capacities : 
       ≤ capacity_between stretches capacities from (job_at jobs last).deadline
   from_any zero from near =
       let nothing = sum_below_zero (length jobs)
-          (λ number.
-          cond (nat_le from (job_at jobs number).release && nat_le (job_at jobs number).deadline (job_at jobs last).deadline)
-          (units_wanted jobs grain number) 0)
-          (λ number within. elim (cases_lt (job_at jobs number).release from) [
-            | inl before ↦ not_first from (job_at jobs number).release _ _ _ before
-            | inr after ↦ not_second from (job_at jobs number).release (job_at jobs number).deadline (job_at jobs last).deadline _
-                (omega (arith, after, near, (are number no_job within).has_window))
-          ]) in
+      (λ number.
+      cond (nat_le from (job_at jobs number).release && nat_le (job_at jobs number).deadline (job_at jobs last).deadline)
+      (units_wanted jobs grain number) 0)
+      (λ number within. elim (cases_lt (job_at jobs number).release from) [
+        | inl before ↦ not_first from (job_at jobs number).release _ _ _ before
+        | inr after ↦ not_second from (job_at jobs number).release (job_at jobs number).deadline (job_at jobs last).deadline _
+            (omega (arith, after, near, (are number no_job within).has_window))
+      ]) in
       omega (arith, nothing)
   from_any (suc more) from near = elim (found_or_none (length jobs) (λ number. (job_at jobs number).release == from)) [
     | inl found ↦
@@ -131,21 +129,21 @@ module _ (jobs : List Job) (grain : ℕ) (stretches : List Piece) (capacities : 
         (eqb-true (job_at jobs found.0).release from found.2) (enough found.0 last found.1 there)
     | inr none ↦
         let demand = sum_below_same (length jobs)
-            (λ number. confined_term jobs grain from (job_at jobs last).deadline number)
-            (λ number. confined_term jobs grain (suc from) (job_at jobs last).deadline number)
-            (λ number within. elim (cases_order (job_at jobs number).release from) [
-              | inl same ↦ absurd (true≢false (sym (eq-eqb (job_at jobs number).release from same) ∙ none number within))
-              | inr (inl before) ↦ not_first from (job_at jobs number).release _ _ _ before
-                  ∙ sym (not_first (suc from) (job_at jobs number).release _ _ _ (omega (arith, before)))
-              | inr (inr after) ↦ rw (le-leb from (job_at jobs number).release (omega (arith, after)), le-leb (suc from) (job_at jobs number).release (omega (arith, after))) refl
-            ]) in
+        (λ number. confined_term jobs grain from (job_at jobs last).deadline number)
+        (λ number. confined_term jobs grain (suc from) (job_at jobs last).deadline number)
+        (λ number within. elim (cases_order (job_at jobs number).release from) [
+          | inl same ↦ absurd (true≢false (sym (eq-eqb (job_at jobs number).release from same) ∙ none number within))
+          | inr (inl before) ↦ not_first from (job_at jobs number).release _ _ _ before
+              ∙ sym (not_first (suc from) (job_at jobs number).release _ _ _ (omega (arith, before)))
+          | inr (inr after) ↦ rw (le-leb from (job_at jobs number).release (omega (arith, after)), le-leb (suc from) (job_at jobs number).release (omega (arith, after))) refl
+        ]) in
         let capacity = sum_below_at_most (length stretches)
-            (λ k. between_term stretches capacities (suc from) (job_at jobs last).deadline k)
-            (λ k. between_term stretches capacities from (job_at jobs last).deadline k)
-            (λ k within. elim (cases_lt (stretch_at stretches k).from (suc from)) [
-              | inl before ↦ omega (arith, not_first (suc from) (stretch_at stretches k).from (stretch_at stretches k).to (job_at jobs last).deadline (capacity_at capacities k) before)
-              | inr after ↦ rw (le-leb from (stretch_at stretches k).from (omega (arith, after)), le-leb (suc from) (stretch_at stretches k).from after) (omega arith)
-            ]) in
+        (λ k. between_term stretches capacities (suc from) (job_at jobs last).deadline k)
+        (λ k. between_term stretches capacities from (job_at jobs last).deadline k)
+        (λ k within. elim (cases_lt (stretch_at stretches k).from (suc from)) [
+          | inl before ↦ omega (arith, not_first (suc from) (stretch_at stretches k).from (stretch_at stretches k).to (job_at jobs last).deadline (capacity_at capacities k) before)
+          | inr after ↦ rw (le-leb from (stretch_at stretches k).from (omega (arith, after)), le-leb (suc from) (stretch_at stretches k).from after) (omega arith)
+        ]) in
         omega (arith, demand, capacity, from_any more (suc from) (omega (arith, near)))
   ]
 
@@ -194,288 +192,277 @@ same_capacity : (stretches : List Piece) (capacities : List ℕ) (i time : ℕ) 
     capacity_from stretches capacities i time ≡ capacity_from stretches capacities (suc i) time
 same_capacity stretches capacities i time within later =
     sum_below_same (length stretches) (coming_term stretches capacities i time) (coming_term stretches capacities (suc i) time)
-        (λ k below. elim (cases_order k i) [
-          | inl same ↦ rw same (not_second i i _ _ _ later ∙ sym (not_second (suc i) i _ _ _ later))
-          | inr (inl before) ↦ not_first i k _ _ _ before ∙ sym (not_first (suc i) k _ _ _ (omega (arith, before)))
-          | inr (inr after) ↦ rw (le-leb i k (omega (arith, after)), le-leb (suc i) k after) refl
-        ])
+    (λ k below. elim (cases_order k i) [
+      | inl same ↦ rw same (not_second i i _ _ _ later ∙ sym (not_second (suc i) i _ _ _ later))
+      | inr (inl before) ↦ not_first i k _ _ _ before ∙ sym (not_first (suc i) k _ _ _ (omega (arith, before)))
+      | inr (inr after) ↦ rw (le-leb i k (omega (arith, after)), le-leb (suc i) k after) refl
+    ])
 
 -- before the first stretch no more is left than is wanted
 left_first : (jobs : List Job) (grain : ℕ) (shares : List JobShare) (time : ℕ) →
     left_due jobs grain shares 0 time ≤ confined_units jobs grain 0 time
 left_first jobs grain shares time =
     sum_below_at_most (length jobs) (left_term jobs grain shares 0 time) (confined_term jobs grain 0 time)
-        (λ number within. elim (cases_lt time (job_at jobs number).deadline) [
-          | inl later ↦ omega (arith, not_one (job_at jobs number).deadline time (left_of jobs grain shares 0 number) later)
-          | inr due ↦ omega (
-            arith,
-            one (job_at jobs number).deadline time (left_of jobs grain shares 0 number) due,
-            both 0 (job_at jobs number).release (job_at jobs number).deadline time (units_wanted jobs grain number) (omega arith) due,
-          )
-        ])
+    (λ number within. elim (cases_lt time (job_at jobs number).deadline) [
+      | inl later ↦ omega (arith, not_one (job_at jobs number).deadline time (left_of jobs grain shares 0 number) later)
+      | inr due ↦ omega (
+        arith,
+        one (job_at jobs number).deadline time (left_of jobs grain shares 0 number) due,
+        both 0 (job_at jobs number).release (job_at jobs number).deadline time (units_wanted jobs grain number) (omega arith) due,
+      )
+    ])
 
 capacity_first : (stretches : List Piece) (capacities : List ℕ) (time : ℕ) →
     capacity_between stretches capacities 0 time ≤ capacity_from stretches capacities 0 time
 capacity_first stretches capacities time =
     sum_below_at_most (length stretches) (between_term stretches capacities 0 time) (coming_term stretches capacities 0 time)
-        (λ k within. rw (le-leb 0 (stretch_at stretches k).from (omega arith), le-leb 0 k (omega arith)) (omega arith))
+    (λ k within. rw (le-leb 0 (stretch_at stretches k).from (omega arith), le-leb 0 k (omega arith)) (omega arith))
 
 -- a job of which no share is given gets no units
 none_given : (shares : List JobShare) (number : ℕ) → All (λ share. number ≢ share.job) shares → units_given shares number ≡ 0
 none_given shares number none = sum_by_zero (λ (share : JobShare). cond (number == share.job) share.units 0) shares
     (λ k d within. ap {B = ℕ} (λ b. cond b (get_or shares k d).units 0) (ne_eqb number (get_or shares k d).job (none k d within)))
 
--- a job gets at least what one of its shares has
-share_given : (shares : List JobShare) (k : ℕ) (share : JobShare) → k < length shares →
-    (get_or shares k share).units ≤ units_given shares (get_or shares k share).job
-share_given shares k share within = omega (
-  arith,
-  get_or-le-sum_by (λ (other : JobShare). cond ((get_or shares k share).job == other.job) other.units 0) shares k share within,
-  ap {B = ℕ} (λ b. cond b (get_or shares k share).units 0)
-      (eq-eqb (get_or shares k share).job (get_or shares k share).job refl),
-)
-
 module _ (jobs : List Job) (ties : List ℕ) (grain : ℕ) (stretches : List Piece) (capacities : List ℕ) (shares : List JobShare)
     (are : All IsJob jobs) (order : PiecesFrom 0 stretches) (uncut : AreUncut jobs stretches)
     (enough : IsWithinCapacity jobs grain stretches capacities)
     (serving : Each (length stretches) (λ i.
     IsServing jobs (slice_index ties) (pending_at jobs grain stretches shares i) (capacity_at capacities i) (shares_in shares i)))
-    where
-  pending_left : (i number : ℕ) → pending_at jobs grain stretches shares i number ≤ left_of jobs grain shares i number
-  pending_left i number = elim (cases_Bool (nat_le (job_at jobs number).release (stretch_at stretches i).from)) [
-    | inl arrived ↦ rw arrived (omega arith)
-    | inr not_yet ↦ rw not_yet (omega arith)
-  ]
+  where
+    pending_left : (i number : ℕ) → pending_at jobs grain stretches shares i number ≤ left_of jobs grain shares i number
+    pending_left i number = elim (cases_Bool (nat_le (job_at jobs number).release (stretch_at stretches i).from)) [
+      | inl arrived ↦ rw arrived (omega arith)
+      | inr not_yet ↦ rw not_yet (omega arith)
+    ]
 
-  -- all that is left of a job that has arrived is pending
-  arrived_left : (i number : ℕ) → (job_at jobs number).release ≤ (stretch_at stretches i).from →
-      pending_at jobs grain stretches shares i number ≡ left_of jobs grain shares i number
-  arrived_left i number arrived = rw (le-leb (job_at jobs number).release (stretch_at stretches i).from arrived) refl
+    -- all that is left of a job that has arrived is pending
+    arrived_left : (i number : ℕ) → (job_at jobs number).release ≤ (stretch_at stretches i).from →
+        pending_at jobs grain stretches shares i number ≡ left_of jobs grain shares i number
+    arrived_left i number arrived = rw (le-leb (job_at jobs number).release (stretch_at stretches i).from arrived) refl
 
-  -- a job never gets more than it wants
-  no_more : (i number : ℕ) → i ≤ length stretches → number < length jobs →
-      units_given (shares_before shares i) number ≤ units_wanted jobs grain number
-  no_more zero number here within = omega (arith, ap (λ (part : List JobShare). units_given part number) (none_before shares))
-  no_more (suc i) number here within = omega (
-    arith,
-    no_more i number (omega arith) within,
-    given_next shares i number,
-    (serving i (omega arith)).within number within,
-    pending_left i number,
-  )
+    -- a job never gets more than it wants
+    no_more : (i number : ℕ) → i ≤ length stretches → number < length jobs →
+        units_given (shares_before shares i) number ≤ units_wanted jobs grain number
+    no_more zero number here within = omega (arith, ap (λ (part : List JobShare). units_given part number) (none_before shares))
+    no_more (suc i) number here within = omega (
+      arith,
+      no_more i number (omega arith) within,
+      given_next shares i number,
+      (serving i (omega arith)).within number within,
+      pending_left i number,
+    )
 
-  next_left : (i number : ℕ) → i < length stretches → number < length jobs →
-      left_of jobs grain shares (suc i) number + units_given (shares_in shares i) number ≡ left_of jobs grain shares i number
-  next_left i number here within = omega (
-    arith,
-    given_next shares i number,
-    (serving i here).within number within,
-    pending_left i number,
-  )
+    next_left : (i number : ℕ) → i < length stretches → number < length jobs →
+        left_of jobs grain shares (suc i) number + units_given (shares_in shares i) number ≡ left_of jobs grain shares i number
+    next_left i number here within = omega (
+      arith,
+      given_next shares i number,
+      (serving i here).within number within,
+      pending_left i number,
+    )
 
-  next_term : (i time number : ℕ) → i < length stretches → number < length jobs →
-      left_term jobs grain shares (suc i) time number + given_term jobs shares i time number
-      ≡ left_term jobs grain shares i time number
-  next_term i time number here within = elim (cases_lt time (job_at jobs number).deadline) [
-    | inl later ↦ rw (lt-leb (job_at jobs number).deadline time later) refl
-    | inr due ↦ rw (le-leb (job_at jobs number).deadline time due) (next_left i number here within)
-  ]
+    next_term : (i time number : ℕ) → i < length stretches → number < length jobs →
+        left_term jobs grain shares (suc i) time number + given_term jobs shares i time number
+        ≡ left_term jobs grain shares i time number
+    next_term i time number here within = elim (cases_lt time (job_at jobs number).deadline) [
+      | inl later ↦ rw (lt-leb (job_at jobs number).deadline time later) refl
+      | inr due ↦ rw (le-leb (job_at jobs number).deadline time due) (next_left i number here within)
+    ]
 
-  next_due : (i time : ℕ) → i < length stretches →
-      left_due jobs grain shares (suc i) time + sum_below (length jobs) (given_term jobs shares i time)
-      ≡ left_due jobs grain shares i time
-  next_due i time here =
-      sym (sum_below-add (length jobs) (left_term jobs grain shares (suc i) time) (given_term jobs shares i time))
-      ∙ sum_below_same (length jobs)
-      (λ number. left_term jobs grain shares (suc i) time number + given_term jobs shares i time number)
-      (left_term jobs grain shares i time) (λ number within. next_term i time number here within)
+    next_due : (i time : ℕ) → i < length stretches →
+        left_due jobs grain shares (suc i) time + sum_below (length jobs) (given_term jobs shares i time)
+        ≡ left_due jobs grain shares i time
+    next_due i time here =
+        sym (sum_below-add (length jobs) (left_term jobs grain shares (suc i) time) (given_term jobs shares i time))
+        ∙ sum_below_same (length jobs)
+        (λ number. left_term jobs grain shares (suc i) time number + given_term jobs shares i time number)
+        (left_term jobs grain shares i time) (λ number within. next_term i time number here within)
 
-  -- a job that is due by the time stays pending: the whole capacity is given to such jobs
-  busy : (i time number : ℕ) → i < length stretches → number < length jobs → (job_at jobs number).deadline ≤ time →
-      units_given (shares_in shares i) number < pending_at jobs grain stretches shares i number →
-      sum_below (length jobs) (given_term jobs shares i time) ≡ capacity_at capacities i
-  busy i time number here within due pending =
-      let serves = serving i here in
-      let all_due : (other : ℕ) → other < length jobs →
-          given_term jobs shares i time other ≡ units_given (shares_in shares i) other =
-          λ other there. elim (cases_lt time (job_at jobs other).deadline) [
-            | inr soon ↦ one (job_at jobs other).deadline time (units_given (shares_in shares i) other) soon
-            | inl later ↦ not_one (job_at jobs other).deadline time (units_given (shares_in shares i) other) later
-                ∙ sym (none_given (shares_in shares i) other (λ k d found is.
-                elim (serves.earliest number within pending k d found) [
-                  | inl same ↦ absurd (omega (arith, later, due, ap (λ job. (job_at jobs job).deadline) is, ap (λ job. (job_at jobs job).deadline) same))
-                  | inr (inl less) ↦ absurd (omega (arith, later, due, ap (λ job. (job_at jobs job).deadline) is, less))
-                  | inr (inr (tied, lower)) ↦ absurd (omega (arith, later, due, ap (λ job. (job_at jobs job).deadline) is, tied))
-                ]))
-          ] in
-      omega (
-        arith,
-        sum_below_same (length jobs) (given_term jobs shares i time) (units_given (shares_in shares i)) all_due,
-        sum_by_grouped (length jobs) (λ (share : JobShare). share.job) (λ share. share.units) (shares_in shares i) serves.known,
-        serves.total,
-        sum_below_less (length jobs) number (units_given (shares_in shares i)) (pending_at jobs grain stretches shares i) within
-            serves.within pending,
-      )
+    -- a job that is due by the time stays pending: the whole capacity is given to such jobs
+    busy : (i time number : ℕ) → i < length stretches → number < length jobs → (job_at jobs number).deadline ≤ time →
+        units_given (shares_in shares i) number < pending_at jobs grain stretches shares i number →
+        sum_below (length jobs) (given_term jobs shares i time) ≡ capacity_at capacities i
+    busy i time number here within due pending =
+        let serves = serving i here in
+        let all_due : (other : ℕ) → other < length jobs →
+        given_term jobs shares i time other ≡ units_given (shares_in shares i) other =
+        λ other there. elim (cases_lt time (job_at jobs other).deadline) [
+          | inr soon ↦ one (job_at jobs other).deadline time (units_given (shares_in shares i) other) soon
+          | inl later ↦ not_one (job_at jobs other).deadline time (units_given (shares_in shares i) other) later
+              ∙ sym (none_given (shares_in shares i) other (λ k d found is.
+              elim (serves.earliest number within pending k d found) [
+                | inl same ↦ absurd (omega (arith, later, due, ap (λ job. (job_at jobs job).deadline) is, ap (λ job. (job_at jobs job).deadline) same))
+                | inr (inl less) ↦ absurd (omega (arith, later, due, ap (λ job. (job_at jobs job).deadline) is, less))
+                | inr (inr (tied, lower)) ↦ absurd (omega (arith, later, due, ap (λ job. (job_at jobs job).deadline) is, tied))
+              ]))
+        ] in
+        omega (
+          arith,
+          sum_below_same (length jobs) (given_term jobs shares i time) (units_given (shares_in shares i)) all_due,
+          sum_by_grouped (length jobs) (λ (share : JobShare). share.job) (λ share. share.units) (shares_in shares i) serves.known,
+          serves.total,
+          sum_below_less (length jobs) number (units_given (shares_in shares i)) (pending_at jobs grain stretches shares i) within
+              serves.within pending,
+        )
 
-  -- none that is due by the time stays pending: what is left of such jobs arrives after the stretch
-  idle : (i time : ℕ) → i < length stretches →
-      ((number : ℕ) → number < length jobs → (job_at jobs number).deadline ≤ time →
-      pending_at jobs grain stretches shares i number ≤ units_given (shares_in shares i) number) →
-      left_due jobs grain shares (suc i) time ≤ confined_units jobs grain (stretch_at stretches i).to time
-  idle i time here none =
-      sum_below_at_most (length jobs) (left_term jobs grain shares (suc i) time)
-          (confined_term jobs grain (stretch_at stretches i).to time)
-          (λ number within. elim (cases_lt time (job_at jobs number).deadline) [
-            | inl later ↦ omega (arith, not_one (job_at jobs number).deadline time (left_of jobs grain shares (suc i) number) later)
-            | inr due ↦ elim (cases_lt (stretch_at stretches i).from (job_at jobs number).release) [
-              | inl after ↦ omega (
-                arith,
-                one (job_at jobs number).deadline time (left_of jobs grain shares (suc i) number) due,
-                both (stretch_at stretches i).to (job_at jobs number).release (job_at jobs number).deadline time
-                    (units_wanted jobs grain number)
-                    (elim ((uncut i no_stretch here) number no_job within).0 [
-                      | inl before ↦ absurd (omega (arith, before, after))
-                      | inr beyond ↦ beyond
-                    ]) due,
-              )
-              | inr arrived ↦ omega (
-                arith,
-                one (job_at jobs number).deadline time (left_of jobs grain shares (suc i) number) due,
-                next_left i number here within,
-                arrived_left i number arrived,
-                none number within due,
-              )
-            ]
-          ])
-
-  later_capacity : (i time : ℕ) → i < length stretches →
-      capacity_between stretches capacities (stretch_at stretches i).to time ≤ capacity_from stretches capacities (suc i) time
-  later_capacity i time here =
-      sum_below_at_most (length stretches) (between_term stretches capacities (stretch_at stretches i).to time)
-          (coming_term stretches capacities (suc i) time)
-          (λ k within. elim (cases_lt i k) [
-            | inl after ↦ elim (cases_lt (stretch_at stretches k).from (stretch_at stretches i).to) [
-              | inl before ↦ omega (arith, not_first (stretch_at stretches i).to (stretch_at stretches k).from (stretch_at stretches k).to time (capacity_at capacities k) before)
-              | inr beyond ↦ rw (le-leb (stretch_at stretches i).to (stretch_at stretches k).from beyond, le-leb (suc i) k after) (omega arith)
-            ]
-            | inr before ↦ omega (
+    -- none that is due by the time stays pending: what is left of such jobs arrives after the stretch
+    idle : (i time : ℕ) → i < length stretches →
+        ((number : ℕ) → number < length jobs → (job_at jobs number).deadline ≤ time →
+        pending_at jobs grain stretches shares i number ≤ units_given (shares_in shares i) number) →
+        left_due jobs grain shares (suc i) time ≤ confined_units jobs grain (stretch_at stretches i).to time
+    idle i time here none =
+        sum_below_at_most (length jobs) (left_term jobs grain shares (suc i) time)
+        (confined_term jobs grain (stretch_at stretches i).to time)
+        (λ number within. elim (cases_lt time (job_at jobs number).deadline) [
+          | inl later ↦ omega (arith, not_one (job_at jobs number).deadline time (left_of jobs grain shares (suc i) number) later)
+          | inr due ↦ elim (cases_lt (stretch_at stretches i).from (job_at jobs number).release) [
+            | inl after ↦ omega (
               arith,
-              not_first (stretch_at stretches i).to (stretch_at stretches k).from (stretch_at stretches k).to time (capacity_at capacities k)
-                  (omega (arith, starts_rise k i stretches order before here, has_length 0 i stretches order here)),
+              one (job_at jobs number).deadline time (left_of jobs grain shares (suc i) number) due,
+              both (stretch_at stretches i).to (job_at jobs number).release (job_at jobs number).deadline time
+                  (units_wanted jobs grain number)
+                  (elim ((uncut i no_stretch here) number no_job within).0 [
+                    | inl before ↦ absurd (omega (arith, before, after))
+                    | inr beyond ↦ beyond
+                  ]) due,
             )
-          ])
+            | inr arrived ↦ omega (
+              arith,
+              one (job_at jobs number).deadline time (left_of jobs grain shares (suc i) number) due,
+              next_left i number here within,
+              arrived_left i number arrived,
+              none number within due,
+            )
+          ]
+        ])
 
-  -- what is left of the jobs due by a deadline is at most the capacity that is left before it
-  bounded : (last i : ℕ) → last < length jobs → i ≤ length stretches →
-      left_due jobs grain shares i (job_at jobs last).deadline
-      ≤ capacity_from stretches capacities i (job_at jobs last).deadline
-  bounded last zero there within = omega (
-    arith,
-    left_first jobs grain shares (job_at jobs last).deadline,
-    from_any jobs grain stretches capacities are enough last there (job_at jobs last).deadline 0 (omega arith),
-    capacity_first stretches capacities (job_at jobs last).deadline,
-  )
-  bounded last (suc i) there within =
-      let time = (job_at jobs last).deadline in
-      let here : i < length stretches = omega arith in
-      elim (cases_lt time (stretch_at stretches i).to) [
-        | inl later ↦ omega (arith, bounded last i there (omega arith), next_due i time here, same_capacity stretches capacities i time here later)
-        | inr ends ↦ elim (found_or_none (length jobs) (λ number.
-            nat_lt (given_term jobs shares i time number)
-            (cond (nat_le (job_at jobs number).deadline time) (pending_at jobs grain stretches shares i number) 0))) [
-          | inl found ↦
-              let number = found.0 in
-              let less = ltb-true (given_term jobs shares i time number)
-                  (cond (nat_le (job_at jobs number).deadline time) (pending_at jobs grain stretches shares i number) 0) found.2 in
-              elim (cases_lt time (job_at jobs number).deadline) [
-                | inl late ↦ absurd (omega (
+    later_capacity : (i time : ℕ) → i < length stretches →
+        capacity_between stretches capacities (stretch_at stretches i).to time ≤ capacity_from stretches capacities (suc i) time
+    later_capacity i time here =
+        sum_below_at_most (length stretches) (between_term stretches capacities (stretch_at stretches i).to time)
+        (coming_term stretches capacities (suc i) time)
+        (λ k within. elim (cases_lt i k) [
+          | inl after ↦ elim (cases_lt (stretch_at stretches k).from (stretch_at stretches i).to) [
+            | inl before ↦ omega (arith, not_first (stretch_at stretches i).to (stretch_at stretches k).from (stretch_at stretches k).to time (capacity_at capacities k) before)
+            | inr beyond ↦ rw (le-leb (stretch_at stretches i).to (stretch_at stretches k).from beyond, le-leb (suc i) k after) (omega arith)
+          ]
+          | inr before ↦ omega (
+            arith,
+            not_first (stretch_at stretches i).to (stretch_at stretches k).from (stretch_at stretches k).to time (capacity_at capacities k)
+                (omega (arith, starts_rise k i stretches order before here, has_length 0 i stretches order here)),
+          )
+        ])
+
+    -- what is left of the jobs due by a deadline is at most the capacity that is left before it
+    bounded : (last i : ℕ) → last < length jobs → i ≤ length stretches →
+        left_due jobs grain shares i (job_at jobs last).deadline
+        ≤ capacity_from stretches capacities i (job_at jobs last).deadline
+    bounded last zero there within = omega (
+      arith,
+      left_first jobs grain shares (job_at jobs last).deadline,
+      from_any jobs grain stretches capacities are enough last there (job_at jobs last).deadline 0 (omega arith),
+      capacity_first stretches capacities (job_at jobs last).deadline,
+    )
+    bounded last (suc i) there within =
+        let time = (job_at jobs last).deadline in
+        let here : i < length stretches = omega arith in
+        elim (cases_lt time (stretch_at stretches i).to) [
+          | inl later ↦ omega (arith, bounded last i there (omega arith), next_due i time here, same_capacity stretches capacities i time here later)
+          | inr ends ↦ elim (found_or_none (length jobs) (λ number.
+              nat_lt (given_term jobs shares i time number)
+              (cond (nat_le (job_at jobs number).deadline time) (pending_at jobs grain stretches shares i number) 0))) [
+                | inl found ↦
+                    let number = found.0 in
+                    let less = ltb-true (given_term jobs shares i time number)
+                    (cond (nat_le (job_at jobs number).deadline time) (pending_at jobs grain stretches shares i number) 0) found.2 in
+                    elim (cases_lt time (job_at jobs number).deadline) [
+                      | inl late ↦ absurd (omega (
+                        arith,
+                        less,
+                        not_one (job_at jobs number).deadline time (pending_at jobs grain stretches shares i number) late,
+                      ))
+                      | inr due ↦ omega (
+                        arith,
+                        bounded last i there (omega arith),
+                        next_due i time here,
+                        next_capacity stretches capacities i time here ends,
+                        busy i time number here found.1 due (omega (
+                          arith,
+                          less,
+                          one (job_at jobs number).deadline time (pending_at jobs grain stretches shares i number) due,
+                          one (job_at jobs number).deadline time (units_given (shares_in shares i) number) due,
+                        )),
+                      )
+                    ]
+                | inr none ↦ omega (
                   arith,
-                  less,
-                  not_one (job_at jobs number).deadline time (pending_at jobs grain stretches shares i number) late,
-                ))
-                | inr due ↦ omega (
-                  arith,
-                  bounded last i there (omega arith),
-                  next_due i time here,
-                  next_capacity stretches capacities i time here ends,
-                  busy i time number here found.1 due (omega (
+                  idle i time here (λ number known due. omega (
                     arith,
-                    less,
+                    ltb-false (given_term jobs shares i time number)
+                        (cond (nat_le (job_at jobs number).deadline time) (pending_at jobs grain stretches shares i number) 0) (none number known),
                     one (job_at jobs number).deadline time (pending_at jobs grain stretches shares i number) due,
                     one (job_at jobs number).deadline time (units_given (shares_in shares i) number) due,
                   )),
+                  from_any jobs grain stretches capacities are enough last there time (stretch_at stretches i).to (omega arith),
+                  later_capacity i time here,
                 )
               ]
-          | inr none ↦ omega (
-            arith,
-            idle i time here (λ number known due. omega (
-              arith,
-              ltb-false (given_term jobs shares i time number)
-                  (cond (nat_le (job_at jobs number).deadline time) (pending_at jobs grain stretches shares i number) 0) (none number known),
-              one (job_at jobs number).deadline time (pending_at jobs grain stretches shares i number) due,
-              one (job_at jobs number).deadline time (units_given (shares_in shares i) number) due,
-            )),
-            from_any jobs grain stretches capacities are enough last there time (stretch_at stretches i).to (omega arith),
-            later_capacity i time here,
-          )
         ]
-      ]
 
-  -- a share lies in its job's window
-  pub in_window : (i k : ℕ) (share : JobShare) → i < length stretches → k < length (shares_in shares i) →
-      ((job_at jobs (get_or (shares_in shares i) k share).job).release ≤ (stretch_at stretches i).from)
-      × ((stretch_at stretches i).to ≤ (job_at jobs (get_or (shares_in shares i) k share).job).deadline)
-  in_window i k share here within =
-      let job = (get_or (shares_in shares i) k share).job in
-      let serves = serving i here in
-      let known : job < length jobs = serves.known k share within in
-      let some : 1 ≤ pending_at jobs grain stretches shares i job =
-          omega (arith, serves.some k share within, share_given (shares_in shares i) k share within, serves.within job known) in
-      (
-        elim (cases_lt (stretch_at stretches i).from (job_at jobs job).release) [
-          | inr arrived ↦ arrived
-          | inl later ↦ absurd (omega (arith, rw (lt-leb (job_at jobs job).release (stretch_at stretches i).from later) at some))
-        ],
-        elim ((uncut i no_stretch here) job no_job known).1 [
-          | inr ends ↦ ends
-          | inl before ↦
-              let time = (job_at jobs job).deadline in
-              let nothing = sum_below_zero (length stretches) (coming_term stretches capacities i time)
-                  (λ j below. elim (cases_lt j i) [
-                    | inl earlier ↦ not_first i j (stretch_at stretches j).to time (capacity_at capacities j) earlier
-                    | inr after ↦ not_second i j (stretch_at stretches j).to time (capacity_at capacities j) (omega (
-                      arith,
-                      before,
-                      starts_rise i j stretches order after below,
-                      has_length 0 j stretches order below,
-                    ))
-                  ]) in
-              absurd (omega (
-                arith,
-                nothing,
-                bounded job i known (omega arith),
-                sum_below_term (length jobs) job (left_term jobs grain shares i time) known,
-                one time time (left_of jobs grain shares i job) (omega arith),
-                pending_left i job,
-                some,
-              ))
-        ],
-      )
+    -- a share lies in its job's window
+    pub in_window : (i k : ℕ) (share : JobShare) → i < length stretches → k < length (shares_in shares i) →
+        ((job_at jobs (get_or (shares_in shares i) k share).job).release ≤ (stretch_at stretches i).from)
+        × ((stretch_at stretches i).to ≤ (job_at jobs (get_or (shares_in shares i) k share).job).deadline)
+    in_window i k share here within =
+        let job = (get_or (shares_in shares i) k share).job in
+        let serves = serving i here in
+        let known : job < length jobs = serves.known k share within in
+        let some : 1 ≤ pending_at jobs grain stretches shares i job =
+        omega (arith, serves.some k share within, share_given (shares_in shares i) k share within, serves.within job known) in (
+          elim (cases_lt (stretch_at stretches i).from (job_at jobs job).release) [
+            | inr arrived ↦ arrived
+            | inl later ↦ absurd (omega (arith, rw (lt-leb (job_at jobs job).release (stretch_at stretches i).from later) at some))
+          ],
+          elim ((uncut i no_stretch here) job no_job known).1 [
+            | inr ends ↦ ends
+            | inl before ↦
+                let time = (job_at jobs job).deadline in
+                let nothing = sum_below_zero (length stretches) (coming_term stretches capacities i time)
+                (λ j below. elim (cases_lt j i) [
+                  | inl earlier ↦ not_first i j (stretch_at stretches j).to time (capacity_at capacities j) earlier
+                  | inr after ↦ not_second i j (stretch_at stretches j).to time (capacity_at capacities j) (omega (
+                    arith,
+                    before,
+                    starts_rise i j stretches order after below,
+                    has_length 0 j stretches order below,
+                  ))
+                ]) in
+                absurd (omega (
+                  arith,
+                  nothing,
+                  bounded job i known (omega arith),
+                  sum_below_term (length jobs) job (left_term jobs grain shares i time) known,
+                  one time time (left_of jobs grain shares i job) (omega arith),
+                  pending_left i job,
+                  some,
+                ))
+          ],
+        )
 
-  -- and every job is served in full
-  pub in_full : All (λ share. share.stretch < length stretches) shares → (number : ℕ) → number < length jobs →
-      units_given shares number ≡ units_wanted jobs grain number
-  in_full earlier number within =
-      let time = (job_at jobs number).deadline in
-      let nothing = sum_below_zero (length stretches) (coming_term stretches capacities (length stretches) time)
-          (λ j below. not_first (length stretches) j (stretch_at stretches j).to time (capacity_at capacities j) below) in
-      let all = ap (λ (part : List JobShare). units_given part number) (all_before shares (length stretches) earlier) in
-      omega (
-        arith,
-        nothing,
-        all,
-        bounded number (length stretches) within (omega arith),
-        sum_below_term (length jobs) number (left_term jobs grain shares (length stretches) time) within,
-        one time time (left_of jobs grain shares (length stretches) number) (omega arith),
-        no_more (length stretches) number (omega arith) within,
-      )
+    -- and every job is served in full
+    pub in_full : All (λ share. share.stretch < length stretches) shares → (number : ℕ) → number < length jobs →
+        units_given shares number ≡ units_wanted jobs grain number
+    in_full earlier number within =
+        let time = (job_at jobs number).deadline in
+        let nothing = sum_below_zero (length stretches) (coming_term stretches capacities (length stretches) time)
+        (λ j below. not_first (length stretches) j (stretch_at stretches j).to time (capacity_at capacities j) below) in
+        let all = ap (λ (part : List JobShare). units_given part number) (all_before shares (length stretches) earlier) in
+        omega (
+          arith,
+          nothing,
+          all,
+          bounded number (length stretches) within (omega arith),
+          sum_below_term (length jobs) number (left_term jobs grain shares (length stretches) time) within,
+          one time time (left_of jobs grain shares (length stretches) number) (omega arith),
+          no_more (length stretches) number (omega arith) within,
+        )

@@ -1,7 +1,7 @@
 -- The pending units of the jobs that are due by a time, summed job by job.
-use Rattle.std.proofs.Common.{◌≡◌, ℕ, zero, suc, ◌+◌, ◌-◌, ◌*◌, ◌<◌, ◌≤◌, List, length, slice_index, slice_index_or, ◌∙◌, refl, arith, inl, inr, ap, cond, add-one, true, false}
+use Rattle.std.proofs.Common.{◌≡◌, ℕ, suc, ◌+◌, ◌-◌, ◌*◌, ◌<◌, ◌≤◌, length, slice_index_or, ◌∙◌, refl, arith, inl, inr, ap, cond, add-one}
 use Rattle.std.specs.Prelude.{nat_le}
-use Rattle.std.proofs.lemmas.Bool.{cases_lt, cases_eq, cases_Bool, le-leb, lt-leb}
+use Rattle.std.proofs.lemmas.Bool.{cases_Bool, le-leb, lt-leb}
 use Rattle.std.proofs.lemmas.List.{get_or_read}
 use Rattle.yds_model.specs.Job.{Job, no_job, job_at}
 use Rattle.yds_edf.specs.Pending.{sum_below, is_within, units_wanted}

@@ -1,19 +1,19 @@
 -- Filling stretches one by one: what has been filled so far, and that in the end all is.
-use Rattle.std.proofs.Common.{◌≡◌, ◌≢◌, ℕ, zero, suc, ◌+◌, ◌-◌, ◌*◌, ◌<◌, ◌≤◌, ◌⊎◌, min, List, [], ◌∷◌, ◌++◌, length, get_or, slice_index, ◌∙◌, refl, sym, subst, arith, inl, inr, ap, cond, true, false, add-one}
-use Rattle.std.specs.Prelude.{Bool, ◌==◌, nat_le, filter, All, AllPairs, Contains, Some, None}
+use Rattle.std.proofs.Common.{◌≡◌, ℕ, zero, suc, ◌+◌, ◌-◌, ◌<◌, ◌≤◌, min, List, [], ◌∷◌, ◌++◌, length, get_or, slice_index, ◌∙◌, refl, sym, subst, arith, inl, inr, ap, cond, true, add-one}
+use Rattle.std.specs.Prelude.{Bool, ◌==◌, nat_le, filter, All, AllPairs, Contains, Some}
 use Rattle.std.proofs.lemmas.List.Elements.{All-nil, All-append, All-contains, Contains-get_or}
 use Rattle.std.proofs.lemmas.List.Sums.{sum_by-append}
 use Rattle.std.proofs.lemmas.List.{get_or-replicate, length-append}
-use Rattle.std.proofs.lemmas.Bool.{cases_lt, cases_eq, cases_Bool, eq-eqb}
+use Rattle.std.proofs.lemmas.Bool.{cases_eq, cases_Bool, eq-eqb}
 use Rattle.yds_model.specs.Numbers.{Each}
 use Rattle.yds_model.specs.Job.{Job, IsJob, job_at}
 use Rattle.yds_model.specs.Piece.{Piece, PiecesFrom}
 use Rattle.yds_model.proofs.Lists.{AllPairs-append}
-use Rattle.yds_edf.specs.Shares.{JobShare, units_given, total_units, shares_in, shares_before}
-use Rattle.yds_edf.specs.Pending.{sum_below, units_wanted, has_arrived, pending_units}
-use Rattle.yds_edf.specs.Serving.{IsDueBefore, IsServing}
-use Rattle.yds_edf.specs.Demand.{no_stretch, stretch_at, capacity_at, IsWithinCapacity, AreUncut}
-use Rattle.yds_edf.specs.Filled.{pending_at, IsInTime, IsFilled}
+use Rattle.yds_edf.specs.Shares.{JobShare, units_given, shares_in}
+use Rattle.yds_edf.specs.Pending.{units_wanted, pending_units}
+use Rattle.yds_edf.specs.Serving.{IsServing}
+use Rattle.yds_edf.specs.Demand.{stretch_at, capacity_at, IsWithinCapacity, AreUncut}
+use Rattle.yds_edf.specs.Filled.{pending_at, IsFilled}
 use Rattle.yds_edf.specs.Queue.{JobQueue, new_queue, IsNoEarlier, pending_in, units_left, unfinished}
 use Rattle.yds_edf.specs.Engine.{TiedQueue, ServesTied}
 use Rattle.yds_edf.proofs.Sums.{sum_below_same, sum_below_bound}
@@ -76,11 +76,11 @@ filled_next {jobs = jobs} {ties = ties} {grain = grain} {stretches = stretches} 
     let start : ℕ = (stretch_at stretches i).from in
     let queue : List Job → ℕ → JobQueue = λ js g. record { jobs = js; grain = g; time = Some start; served = now.queue.served } in
     let here : IsServing jobs (slice_index ties) (pending_in (queue jobs grain)) (capacity_at capacities i) part =
-        subst (λ js. IsServing js (slice_index ties) (pending_in (queue js grain)) (capacity_at capacities i) part) filling.same_jobs
-        (subst (λ g. IsServing now.queue.jobs (slice_index ties) (pending_in (queue now.queue.jobs g)) (capacity_at capacities i) part)
-        filling.same_grain
-        (subst (λ ts. IsServing now.queue.jobs (slice_index ts) (pending_in (queue now.queue.jobs now.queue.grain)) (capacity_at capacities i) part)
-        filling.same_ties serves.serving)) in
+    subst (λ js. IsServing js (slice_index ties) (pending_in (queue js grain)) (capacity_at capacities i) part) filling.same_jobs
+    (subst (λ g. IsServing now.queue.jobs (slice_index ties) (pending_in (queue now.queue.jobs g)) (capacity_at capacities i) part)
+    filling.same_grain
+    (subst (λ ts. IsServing now.queue.jobs (slice_index ts) (pending_in (queue now.queue.jobs now.queue.grain)) (capacity_at capacities i) part)
+    filling.same_ties serves.serving)) in
     record {
       same_ties = serves.ties ∙ filling.same_ties;
       same_jobs = serves.adds.jobs ∙ filling.same_jobs;
@@ -164,12 +164,12 @@ all_filled {jobs = jobs} {ties = ties} {grain = grain} {stretches = stretches} {
           let share = get_or shares k d in
           let here = filling.known k d within in
           let window = All-contains
-              (λ s. ((job_at jobs s.job).release ≤ (stretch_at stretches share.stretch).from)
-              × ((stretch_at stretches share.stretch).to ≤ (job_at jobs s.job).deadline))
-              (shares_in shares share.stretch) share
-              (λ j e below. in_window jobs ties grain stretches capacities shares are order uncut enough filling.serving
-              share.stretch j e here below)
-              (stands_in shares share (Contains-get_or shares k d within)) in
+          (λ s. ((job_at jobs s.job).release ≤ (stretch_at stretches share.stretch).from)
+          × ((stretch_at stretches share.stretch).to ≤ (job_at jobs s.job).deadline))
+          (shares_in shares share.stretch) share
+          (λ j e below. in_window jobs ties grain stretches capacities shares are order uncut enough filling.serving
+          share.stretch j e here below)
+          (stands_in shares share (Contains-get_or shares k d within)) in
           record { released = window.0; due = window.1 };
       few = omega (arith, filling.few);
       served = in_full jobs ties grain stretches capacities shares are order uncut enough filling.serving filling.known;

@@ -1,22 +1,19 @@
 -- What the heaps of an engine say of its jobs: which are pending, and which of them is due first.
-use Rattle.std.proofs.Common.{◌≡◌, ◌≢◌, ℕ, zero, suc, ◌+◌, ◌-◌, ◌*◌, ◌<◌, ◌≤◌, ◌⊎◌, min, true, false, List, [], ◌∷◌, length, slice_index, ◌∙◌, refl, sym, arith, inl, inr, ap, cond}
-use Rattle.std.specs.Prelude.{◌==◌, sum_by, All, Any, Contains, nat_lt}
+use Rattle.std.proofs.Common.{◌≡◌, ℕ, suc, ◌*◌, ◌<◌, ◌≤◌, ◌⊎◌, min, true, false, List, [], ◌∷◌, length, slice_index, ◌∙◌, refl, sym, arith, inl, inr, ap, cond}
+use Rattle.std.specs.Prelude.{◌==◌, Any, Contains}
 use Rattle.std.specs.Ordering.{is_lt}
 use Rattle.std.specs.declared.cmp.Reverse.{Reverse}
 use Rattle.std.specs.BinaryHeap.{IsUpperBound}
-use Rattle.std.specs.List.Sorted.{IsPermutation}
 use Rattle.std.proofs.lemmas.List.Sums.{sum_by-cons}
-use Rattle.std.proofs.lemmas.List.Sorted.{sum_by_pushed, sum_by_popped}
 use Rattle.std.proofs.lemmas.List.Elements.{All-contains, All-from_recursion}
 use Rattle.std.proofs.lemmas.Bool.{cases_lt, cases_eq, cases_order, cases_Bool, lt-ltb, le-ltb, eq-eqb, ne_eqb, true≢false}
-use Rattle.yds_model.specs.Numbers.{Each}
 use Rattle.yds_model.specs.Job.{job_at}
 use Rattle.yds_edf.specs.declared.entry.Entry.{Entry}
 use Rattle.yds_edf.specs.Entries.{comes_first, entries_of}
-use Rattle.yds_edf.specs.Pending.{sum_below, has_arrived}
+use Rattle.yds_edf.specs.Pending.{has_arrived}
 use Rattle.yds_edf.specs.Serving.{IsDueBefore}
 use Rattle.yds_edf.specs.Queue.{pending_in, all_pending, units_left}
-use Rattle.yds_edf.specs.Engine.{TiedQueue, IsEngine, IsComing, IsPending, HasNotArrived}
+use Rattle.yds_edf.specs.Engine.{TiedQueue, IsEngine, IsPending, HasNotArrived}
 use Rattle.yds_edf.proofs.Sums.{sum_below_same, sum_below_zero}
 
 -- a job that has an entry has one with its number
@@ -52,11 +49,14 @@ pub in_entry_order : (x y : Reverse Entry) → is_lt (comes_first x y) ≡ false
 in_entry_order x y h = elim (cases_order x.0.time y.0.time) [
   | inr (inl less) ↦ inl less
   | inr (inr more) ↦ absurd (true≢false (rw (lt-ltb y.0.time x.0.time more) at h))
-  | inl same ↦ inr (same, elim (cases_order x.0.tie y.0.tie) [
-    | inl tied ↦ inr tied
-    | inr (inl less) ↦ inl less
-    | inr (inr more) ↦ absurd (true≢false (rw (le-ltb y.0.time x.0.time (omega arith), eq-eqb y.0.time x.0.time (sym same), lt-ltb y.0.tie x.0.tie more) at h))
-  ])
+  | inl same ↦ inr (
+    same,
+    elim (cases_order x.0.tie y.0.tie) [
+      | inl tied ↦ inr tied
+      | inr (inl less) ↦ inl less
+      | inr (inr more) ↦ absurd (true≢false (rw (le-ltb y.0.time x.0.time (omega arith), eq-eqb y.0.time x.0.time (sym same), lt-ltb y.0.tie x.0.tie more) at h))
+    ],
+  )
 ]
 
 module _ (tied : TiedQueue) (waiting ready : List (Reverse Entry)) (units : ℕ) (engine : IsEngine tied waiting ready units) where
@@ -87,7 +87,7 @@ module _ (tied : TiedQueue) (waiting ready : List (Reverse Entry)) (units : ℕ)
   entries_tell number within = elim (cases_Bool (has_arrived tied.queue.time (job_at tied.queue.jobs number))) [
     | inl arrived ↦
         let one : entries_of ready number ≡ min 1 (units_left tied.queue number) =
-            omega (arith, none_coming number arrived, engine.heaps.once number within) in
+        omega (arith, none_coming number arrived, engine.heaps.once number within) in
         rw arrived (one, entries_times (entries_of ready number) (units_left tied.queue number) one)
     | inr not_yet ↦
         let none = none_pending number not_yet in
@@ -110,7 +110,7 @@ module _ (tied : TiedQueue) (waiting ready : List (Reverse Entry)) (units : ℕ)
       let here = All-contains (IsPending tied.queue.jobs tied.ties tied.queue.time) ready top engine.heaps.pending there in
       let its = All-contains (IsPending tied.queue.jobs tied.ties tied.queue.time) ready entry engine.heaps.pending (found.0, found.2, found.3) in
       let order = in_entry_order top entry (All-contains (λ y. is_lt (comes_first top y) ≡ false) ready entry
-          (All-from_recursion (λ y. is_lt (comes_first top y) ≡ false) ready bound) (found.0, found.2, found.3)) in
+      (All-from_recursion (λ y. is_lt (comes_first top y) ≡ false) ready bound) (found.0, found.2, found.3)) in
       let job : entry.0.job ≡ other = found.4 in
       elim order [
         | inl less ↦ inr (inl (rw (here.deadline, its.deadline, job) at less))
@@ -126,6 +126,6 @@ none_pending_left {tied = tied} {waiting = waiting} {ready = ready} {units = uni
       | inl nothing ↦ omega (arith, nothing)
       | inr some ↦
           let found = entry_found number ready
-              (omega (arith, (entries_tell tied waiting ready units engine number within).0)) in
+          (omega (arith, (entries_tell tied waiting ready units engine number within).0)) in
           absurd (omega (arith, found.2, none))
     ])

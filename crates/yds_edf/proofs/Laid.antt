@@ -1,6 +1,6 @@
 -- Times and works in parts, and slots that follow one another at one speed.
-use Rattle.std.proofs.Common.{◌≡◌, ℕ, zero, suc, ◌+◌, ◌-◌, ◌*◌, ◌/◌, ◌%◌, ◌<◌, ◌≤◌, ◌⊎◌, List, [], ◌∷◌, ◌++◌, length, get_or, take, ◌∙◌, refl, sym, subst, arith, inl, inr, ap, eqb, Bool, true, false}
-use Rattle.std.specs.List.{AllZip, All}
+use Rattle.std.proofs.Common.{◌≡◌, ℕ, ◌+◌, ◌-◌, ◌*◌, ◌/◌, ◌%◌, ◌<◌, ◌≤◌, List, [], ◌∷◌, ◌++◌, length, get_or, take, ◌∙◌, refl, sym, subst, arith, inl, inr, ap}
+use Rattle.std.specs.List.{AllZip}
 use Rattle.std.specs.Int.{◌∣◌, IsGcd}
 use Rattle.std.proofs.lemmas.List.{take_more, take_all}
 use Rattle.std.proofs.lemmas.List.Sums.{sum_by_more_le, sum_by_push}
@@ -10,9 +10,8 @@ use Rattle.std.proofs.Math.Nat.{div-add-mod, div-mul_cancel, div-le_of_le-mul, l
 use Rattle.yds_model.specs.declared.limits.TheConstants.{MAX_DENOMINATOR, MAX_TIME, MAX_WORK}
 use Rattle.yds_model.specs.Divisor.{common_divisor}
 use Rattle.yds_model.specs.Scale.{Fraction, at_scale, numerator, of_whole, of_parts}
-use Rattle.yds_model.specs.Slot.{WrittenSlot, IsDivided, slot_at_scale}
+use Rattle.yds_model.specs.Slot.{WrittenSlot}
 use Rattle.yds_model.specs.Piece.{Piece}
-use Rattle.yds_model.specs.Event.{LiesIn}
 use Rattle.yds_model.specs.Plan.{IsOver}
 use Rattle.yds_model.proofs.Divisor.{divisor_is_greatest, divisor_positive}
 use Rattle.yds_model.proofs.Fractions.{value-den, den_positive}
@@ -21,7 +20,7 @@ use Rattle.yds_fraction.proofs.Values.{written}
 use Rattle.yds_slots.specs.Slot.{IsSlot}
 use Rattle.yds_slots.proofs.Parts.{of_parts_value, of_parts_den, of_parts_is}
 use Rattle.yds_edf.specs.Shares.{JobShare, total_units}
-use Rattle.yds_edf.specs.Laid.{length_of, time_step, time_den, RunsIn, IsLaidSlot, FollowFrom, end_of, IsLaid}
+use Rattle.yds_edf.specs.Laid.{length_of, time_step, time_den, IsLaidSlot, FollowFrom, end_of, IsLaid}
 
 -- the value at a scale, over a denominator of one's own
 parts_of : (value numer d den p scale : ℕ) → 1 ≤ d → value * d ≡ numer * scale → numer * den ≡ p * d → value * den ≡ p * scale
@@ -203,9 +202,9 @@ module _ (stretch : Piece) (capacity grain : ℕ) (forward : stretch.from < stre
     work = refl;
     runs = λ scale some divided.
         let begins = parts_at scale (stretch.from * time_den stretch capacity + served * time_step stretch capacity)
-            (time_den stretch capacity) divided.from some in
+        (time_den stretch capacity) divided.from some in
         let ends = parts_at scale (stretch.from * time_den stretch capacity + (served + share.units) * time_step stretch capacity)
-            (time_den stretch capacity) divided.to some in
+        (time_den stretch capacity) divided.to some in
         let work = parts_at scale share.units grain divided.work some in
         let whole : stretch.to ≡ stretch.from + length_of stretch = omega (arith, forward) in
         record {
@@ -289,7 +288,7 @@ pub laid_more : {stretch : Piece} {capacity grain : ℕ} (shares : List JobShare
 laid_more {stretch = stretch} {capacity = capacity} {grain = grain} shares i {served = served} {slots = slots}
     share forward some_capacity some_grain enough within is some same laying slot_is joins =
     let taken : take (i + 1) shares ≡ take i shares ++ share ∷ [] =
-        take_more shares i share within ∙ ap (λ s. take i shares ++ s ∷ []) (sym is) in
+    take_more shares i share within ∙ ap (λ s. take i shares ++ s ∷ []) (sym is) in
     rw (joins, slot_is, same, taken) (record {
       each = all_zip_push (IsLaidSlot stretch capacity grain) (take i shares) slots share _ laying.each
           (laid_slot stretch capacity grain forward some_capacity served share some_grain some

@@ -1,5 +1,5 @@
 -- How an engine is made: each job that wants units gets one entry among those to come.
-use Rattle.std.proofs.Common.{◌≡◌, ◌≢◌, ℕ, zero, ◌+◌, ◌-◌, ◌*◌, ◌<◌, ◌≤◌, min, List, [], ◌∷◌, length, slice_index, replicate, ◌∙◌, refl, sym, arith, inl, inr, ap, cond}
+use Rattle.std.proofs.Common.{◌≡◌, ℕ, zero, ◌+◌, ◌*◌, ◌<◌, ◌≤◌, min, List, [], ◌∷◌, length, slice_index, replicate, ◌∙◌, refl, sym, arith, inl, inr, ap, cond}
 use Rattle.std.specs.Prelude.{◌==◌, All, None}
 use Rattle.std.specs.declared.cmp.Reverse.{Reverse}
 use Rattle.std.specs.BinaryHeap.{IsHeap}
@@ -15,10 +15,10 @@ use Rattle.yds_model.specs.Job.{Job, IsJob, no_job, job_at}
 use Rattle.yds_edf.specs.declared.entry.Entry.{Entry}
 use Rattle.yds_edf.specs.declared.limits.TheConstants.{MAX_GRAIN}
 use Rattle.yds_edf.specs.Entries.{comes_first, entries_of}
-use Rattle.yds_edf.specs.Pending.{sum_below, units_wanted}
+use Rattle.yds_edf.specs.Pending.{units_wanted}
 use Rattle.yds_edf.specs.Serving.{AreTies}
 use Rattle.yds_edf.specs.Queue.{new_queue, units_left}
-use Rattle.yds_edf.specs.Engine.{TiedQueue, IsEngine, IsComing, IsPending, HasNotArrived}
+use Rattle.yds_edf.specs.Engine.{IsEngine, IsComing, IsPending}
 use Rattle.yds_edf.proofs.Sums.{sum_below_zero}
 
 -- the first n jobs have been entered
@@ -70,7 +70,7 @@ pub entered_some : {jobs : List Job} {grain n : ℕ} {entries : List (Reverse En
     IsHeap comes_first joined → Entered jobs grain (n + 1) joined
 entered_some {jobs = jobs} {grain = grain} {n = n} {entries = entries} entered is some positive there entry job time joined moved heap =
     let counted : (number : ℕ) → entries_of joined number ≡ cond (number == entry.0.job) 1 0 + entries_of entries number =
-        λ number. sum_by_pushed (λ (x : Reverse Entry). cond (number == x.0.job) 1 0) entry entries joined moved in
+    λ number. sum_by_pushed (λ (x : Reverse Entry). cond (number == x.0.job) 1 0) entry entries joined moved in
     record {
       known = All-permutation (IsComing jobs) (entry ∷ entries) joined moved
           (All-cons (IsComing jobs) entry entries

@@ -1,10 +1,10 @@
 -- The shares in a stretch and in the stretches before it, as shares are added.
-use Rattle.std.proofs.Common.{◌≡◌, ◌≢◌, ℕ, suc, ◌+◌, ◌<◌, ◌≤◌, List, [], ◌∷◌, ◌++◌, ◌∙◌, refl, sym, arith, inl, inr, ap, cond, true, false}
-use Rattle.std.specs.Prelude.{Bool, ◌==◌, nat_lt, filter, sum_by, All}
+use Rattle.std.proofs.Common.{◌≡◌, ℕ, suc, ◌+◌, ◌<◌, List, [], ◌∷◌, ◌++◌, ◌∙◌, refl, sym, arith, inl, inr, ap, true, false, length, get_or, cond, ◌≤◌}
+use Rattle.std.specs.Prelude.{Bool, ◌==◌, nat_lt, filter, All}
 use Rattle.std.proofs.lemmas.List.{append-nil}
-use Rattle.std.proofs.lemmas.List.Sums.{sum_by-cons}
+use Rattle.std.proofs.lemmas.List.Sums.{sum_by-cons, get_or-le-sum_by}
 use Rattle.std.proofs.lemmas.List.Elements.{All-tail, filter-append}
-use Rattle.std.proofs.lemmas.Bool.{cases_lt, cases_eq, cases_order, lt-ltb, le-ltb, eq-eqb, ne_eqb}
+use Rattle.std.proofs.lemmas.Bool.{cases_order, lt-ltb, le-ltb, eq-eqb, ne_eqb}
 use Rattle.yds_edf.specs.Shares.{JobShare, units_given, shares_in, shares_before}
 
 -- a filter that each element passes, and one that none does
@@ -68,3 +68,13 @@ given_next (share ∷ shares) i job = elim (cases_order share.stretch i) [
 -- no share is before the first stretch
 pub none_before : (shares : List JobShare) → shares_before shares 0 ≡ []
 none_before shares = filter_none (λ share. nat_lt share.stretch 0) shares (λ k d within. le-ltb _ 0 (omega arith))
+
+-- a job gets at least what one of its shares has
+pub share_given : (shares : List JobShare) (k : ℕ) (share : JobShare) → k < length shares →
+    (get_or shares k share).units ≤ units_given shares (get_or shares k share).job
+share_given shares k share within = omega (
+  arith,
+  get_or-le-sum_by (λ (other : JobShare). cond ((get_or shares k share).job == other.job) other.units 0) shares k share within,
+  ap {B = ℕ} (λ b. cond b (get_or shares k share).units 0)
+      (eq-eqb (get_or shares k share).job (get_or shares k share).job refl),
+)

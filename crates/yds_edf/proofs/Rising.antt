@@ -1,8 +1,8 @@
 -- Rising lists without repeats: the event points are one, and such a list is known by what stands in it.
-use Rattle.std.proofs.Common.{◌≡◌, ℕ, zero, suc, ◌<◌, ◌≤◌, ◌⊎◌, List, [], ◌∷◌, length, get_or, refl, sym, ◌∙◌, ap, inl, inr, arith}
-use Rattle.std.specs.Prelude.{cond, nat_lt, ◌==◌}
+use Rattle.std.proofs.Common.{◌≡◌, ℕ, zero, suc, ◌<◌, ◌≤◌, ◌⊎◌, List, [], ◌∷◌, length, get_or, refl, sym, ◌∙◌, inl, inr, arith}
+use Rattle.std.specs.Prelude.{◌==◌}
 use Rattle.std.specs.List.{Contains, dedup}
-use Rattle.std.specs.List.Sorted.{IsPermutation, IsSorted, IsStrictlyIncreasing}
+use Rattle.std.specs.List.Sorted.{IsPermutation, IsSorted}
 use Rattle.std.specs.Ordering.{nat_cmp}
 use Rattle.std.proofs.lemmas.Bool.{cases_order, lt-ltb, le-ltb, eq-eqb, ne_eqb}
 use Rattle.std.proofs.lemmas.List.Kept.{Contains-dedup_nat, Contains-from_dedup, AllPairs-from_increasing}
@@ -115,16 +115,16 @@ same_times (x ∷ xs) (y ∷ ys) up down there back =
       | inr later ↦ omega (arith, stands_later b a cs h later)
     ] in
     let same : x ≡ y =
-        omega (arith, least x y ys down.0 (there x (inl refl)), least y x xs up.0 (back y (inl refl))) in
+    omega (arith, least x y ys down.0 (there x (inl refl)), least y x xs up.0 (back y (inl refl))) in
     let rest : xs ≡ ys = same_times xs ys up.1 down.1
-        (λ z stands. elim (there z (inr stands)) [
-          | inl is ↦ absurd (omega (arith, stands_later x z xs up.0 stands, is, same))
-          | inr later ↦ later
-        ])
-        (λ z stands. elim (back z (inr stands)) [
-          | inl is ↦ absurd (omega (arith, stands_later y z ys down.0 stands, is, same))
-          | inr later ↦ later
-        ]) in
+    (λ z stands. elim (there z (inr stands)) [
+      | inl is ↦ absurd (omega (arith, stands_later x z xs up.0 stands, is, same))
+      | inr later ↦ later
+    ])
+    (λ z stands. elim (back z (inr stands)) [
+      | inl is ↦ absurd (omega (arith, stands_later y z ys down.0 stands, is, same))
+      | inr later ↦ later
+    ]) in
     cc
 
 -- from places to recursion
@@ -154,9 +154,9 @@ rises_from_pairs (x ∷ xs) h = (
 pub sorted_times : (xs ys : List ℕ) → IsPermutation xs ys → IsSorted nat_cmp ys → dedup (λ x y. x == y) ys ≡ rising_times xs
 sorted_times xs ys moved sorted =
     same_times (dedup (λ x y. x == y) ys) (rising_times xs)
-        (rises_from_pairs (dedup (λ x y. x == y) ys) (AllPairs-from_increasing _ (IsStrictlyIncreasing-dedup ys sorted)))
-        (rises_times xs)
-        (λ z h. stands_times z xs (stands_from_Contains z xs (Contains-permutation ys xs z (IsPermutation-sym xs ys moved)
-        (Contains-from_dedup (λ x y. x == y) ys z (contains_from_Stands z _ h)))))
-        (λ z h. stands_from_Contains z _ (Contains-dedup_nat ys z
-        (Contains-permutation xs ys z moved (contains_from_Stands z xs (stands_from_times z xs h)))))
+    (rises_from_pairs (dedup (λ x y. x == y) ys) (AllPairs-from_increasing _ (IsStrictlyIncreasing-dedup ys sorted)))
+    (rises_times xs)
+    (λ z h. stands_times z xs (stands_from_Contains z xs (Contains-permutation ys xs z (IsPermutation-sym xs ys moved)
+    (Contains-from_dedup (λ x y. x == y) ys z (contains_from_Stands z _ h)))))
+    (λ z h. stands_from_Contains z _ (Contains-dedup_nat ys z
+    (Contains-permutation xs ys z moved (contains_from_Stands z xs (stands_from_times z xs h)))))

@@ -1,18 +1,21 @@
 -- Serving a stretch job by job: what has been served so far, and that it is what the stretch serves in the end.
-use Rattle.std.proofs.Common.{◌≡◌, ◌≢◌, ℕ, ◌+◌, ◌-◌, ◌*◌, ◌<◌, ◌≤◌, ◌⊎◌, min, true, false, List, [], ◌∷◌, ◌++◌, length, get_or, slice_index, slice_set, ◌∙◌, refl, sym, subst, arith, inl, inr, ap, cond, length-set}
+use Rattle.std.proofs.Common.{◌≡◌, ◌≢◌, ℕ, ◌+◌, ◌-◌, ◌<◌, ◌≤◌, ◌⊎◌, min, List, [], ◌∷◌, ◌++◌, length, get_or, slice_index, ◌∙◌, refl, sym, subst, arith, inl, inr, ap, cond, length-set, ◌*◌}
 use Rattle.std.specs.Prelude.{◌==◌, All, AllPairs}
 use Rattle.std.proofs.lemmas.List.{length-append}
 use Rattle.std.proofs.lemmas.List.Sums.{sum_by_push}
 use Rattle.std.proofs.lemmas.List.Elements.{All-push, All-nil, All-cons, All-get_or}
-use Rattle.std.proofs.lemmas.Bool.{cases_lt, cases_eq, cases_Bool, eq-eqb, ne_eqb}
-use Rattle.yds_model.specs.Job.{Job, job_at}
+use Rattle.std.proofs.lemmas.Bool.{cases_eq, cases_Bool, eq-eqb, ne_eqb}
+use Rattle.std.proofs.Math.Nat.{mul-le-mul_right}
+use Rattle.yds_model.specs.declared.limits.TheConstants.{MAX_WORK}
+use Rattle.yds_model.specs.Job.{Job, no_job, job_at}
 use Rattle.yds_model.proofs.Lists.{AllPairs-append}
 use Rattle.yds_edf.specs.Shares.{JobShare, units_given, total_units}
 use Rattle.yds_edf.specs.Pending.{sum_below, has_arrived, units_wanted}
-use Rattle.yds_edf.specs.Serving.{IsDueBefore, IsServing}
+use Rattle.yds_edf.specs.Serving.{IsDueBefore}
 use Rattle.yds_edf.specs.Queue.{JobQueue, pending_in, all_pending, units_left, unfinished, Adds, Serves}
 use Rattle.yds_edf.specs.Engine.{TiedQueue, IsTiedQueue, with_served, ServesFirst, ServesTied}
-use Rattle.yds_edf.proofs.Sums.{sum_below_same, sum_below-add, sum_below_at_most, sum_below_bound, sum_below_change, sum_below_term, sum_by_grouped}
+use Rattle.yds_edf.proofs.Sums.{sum_below_same, sum_below-add, sum_below_bound, sum_below_change, sum_below_term, sum_by_grouped}
+use Rattle.yds_edf.proofs.Parts.{share_given}
 use Rattle.yds_edf.proofs.Steps.{changed_here, changed_elsewhere}
 
 -- how many of the first jobs have units left
@@ -63,6 +66,13 @@ pending_here tied job units within some enough = elim (cases_Bool (has_arrived t
       let here = changed_here tied.queue.served job (slice_index tied.queue.served job + units) within in
       rw (arrived, here) (omega (arith, rw arrived at enough))
   | inr not_yet ↦ absurd (omega (arith, rw not_yet at some))
+]
+
+-- no more is pending than is wanted
+pending_wanted : (queue : JobQueue) (number : ℕ) → pending_in queue number ≤ units_wanted queue.jobs queue.grain number
+pending_wanted queue number = elim (cases_Bool (has_arrived queue.time (job_at queue.jobs number))) [
+  | inl arrived ↦ rw arrived (omega arith)
+  | inr not_yet ↦ rw not_yet (omega arith)
 ]
 
 -- all that is left of a job of which units are pending is pending
@@ -257,7 +267,7 @@ end start now stretch capacity room shares progress over =
     let sums = sum_below-add (length start.queue.jobs) (units_given shares) (pending_in now.queue)
     in
     let wanted = sum_below_same (length start.queue.jobs)
-        (λ number. units_given shares number + pending_in now.queue number) (pending_in start.queue) progress.given in
+    (λ number. units_given shares number + pending_in now.queue number) (pending_in start.queue) progress.given in
     record {
       serving = record {
         known = progress.known;
@@ -311,3 +321,17 @@ by_number old new stretch capacity shares numbers serves =
       finishing = serves.finishing;
       adds = serves.adds;
     }
+
+-- no share is of more units than the greatest work has
+pub works : (old new : TiedQueue) (stretch capacity : ℕ) (shares : List JobShare) → IsTiedQueue old →
+    ServesTied old new stretch capacity shares → All (λ share. share.units ≤ MAX_WORK * old.queue.grain) shares
+works old new stretch capacity shares kept serves = λ k d within.
+    let job = (get_or shares k d).job in
+    let known = serves.serving.known k d within in
+    omega (
+      arith,
+      share_given shares k d within,
+      serves.serving.within job known,
+      pending_wanted old.queue job,
+      mul-le-mul_right old.queue.grain (kept.jobs job no_job known).work_in_range,
+    )

@@ -1,20 +1,20 @@
 -- What one step of an engine keeps: a job is served, or a job arrives.
-use Rattle.std.proofs.Common.{◌≡◌, ◌≢◌, ℕ, zero, suc, ◌+◌, ◌-◌, ◌*◌, ◌<◌, ◌≤◌, ◌⊎◌, min, true, false, List, [], ◌∷◌, length, get_or, slice_index, slice_index_or, slice_set, ◌∙◌, refl, sym, subst, arith, inl, inr, ap, cond, length-set, get_or-set_other, get_or-set_same}
-use Rattle.std.specs.Prelude.{◌==◌, sum_by, All, Contains, Option, Some, None, IsSome, IfSome, OnSome}
+use Rattle.std.proofs.Common.{◌≡◌, ◌≢◌, ℕ, ◌+◌, ◌-◌, ◌*◌, ◌<◌, ◌≤◌, min, List, ◌∷◌, length, slice_index, slice_index_or, slice_set, ◌∙◌, refl, sym, subst, arith, inl, inr, ap, cond, length-set, get_or-set_other, get_or-set_same}
+use Rattle.std.specs.Prelude.{◌==◌, All, Contains, Option, Some, None, IsSome, IfSome, OnSome}
 use Rattle.std.specs.declared.cmp.Reverse.{Reverse}
 use Rattle.std.specs.BinaryHeap.{IsHeap, IsUpperBound, PopsGreatest}
 use Rattle.std.specs.List.Sorted.{IsPermutation}
-use Rattle.std.proofs.lemmas.List.Sums.{sum_by-cons, get_or-le-sum_by}
-use Rattle.std.proofs.lemmas.List.Sorted.{sum_by_pushed, sum_by_popped, All-permutation}
+use Rattle.std.proofs.lemmas.List.Sums.{get_or-le-sum_by}
+use Rattle.std.proofs.lemmas.List.Sorted.{sum_by_popped, All-permutation}
 use Rattle.std.proofs.lemmas.List.Elements.{All-contains, All-tail}
-use Rattle.std.proofs.lemmas.Bool.{cases_lt, cases_eq, eq-eqb, ne_eqb}
+use Rattle.std.proofs.lemmas.Bool.{cases_eq, eq-eqb, ne_eqb}
 use Rattle.std.proofs.lemmas.List.{get_or_read}
 use Rattle.yds_model.specs.Job.{Job, no_job, job_at}
 use Rattle.yds_edf.specs.declared.entry.Entry.{Entry}
 use Rattle.yds_edf.specs.Entries.{comes_first, entries_of}
-use Rattle.yds_edf.specs.Pending.{sum_below, has_arrived, units_wanted}
+use Rattle.yds_edf.specs.Pending.{units_wanted}
 use Rattle.yds_edf.specs.Queue.{pending_in, units_left}
-use Rattle.yds_edf.specs.Engine.{TiedQueue, IsTiedQueue, IsEngine, IsComing, IsPending, HasNotArrived, with_served, ServesFirst}
+use Rattle.yds_edf.specs.Engine.{TiedQueue, IsTiedQueue, IsEngine, IsPending, with_served, ServesFirst}
 use Rattle.yds_edf.proofs.Sums.{sum_below_change, sum_below_term}
 use Rattle.yds_edf.proofs.Heaps.{entries_tell, none_coming, entries_times, top_is_first}
 
@@ -68,7 +68,7 @@ module _ (tied : TiedQueue) (waiting ready : List (Reverse Entry)) (units : ℕ)
       units_left (with_served tied top.0.job more).queue top.0.job ≡ units_left tied.queue top.0.job - more
   left_here more =
       let here = changed_here tied.queue.served top.0.job (slice_index tied.queue.served top.0.job + more)
-          (omega (arith, its.known, engine.kept.served)) in
+      (omega (arith, its.known, engine.kept.served)) in
       omega (arith, here)
 
   kept_after : (more : ℕ) → more ≤ units_left tied.queue top.0.job → IsTiedQueue (with_served tied top.0.job more)
@@ -81,8 +81,11 @@ module _ (tied : TiedQueue) (waiting ready : List (Reverse Entry)) (units : ℕ)
     different = engine.kept.different;
     served = length-set _ _ _ ∙ engine.kept.served;
     within = λ number within. elim (cases_eq number top.0.job) [
-      | inl same ↦ rw (same, changed_here tied.queue.served top.0.job (slice_index tied.queue.served top.0.job + more)
-          (omega (arith, its.known, engine.kept.served)))
+      | inl same ↦ rw (
+        same,
+        changed_here tied.queue.served top.0.job (slice_index tied.queue.served top.0.job + more)
+            (omega (arith, its.known, engine.kept.served)),
+      )
           (omega (arith, enough, engine.kept.within top.0.job its.known))
       | inr other ↦ rw (changed_elsewhere tied.queue.served top.0.job number (slice_index tied.queue.served top.0.job + more) other) (engine.kept.within number within)
     ];
@@ -97,9 +100,9 @@ module _ (tied : TiedQueue) (waiting ready : List (Reverse Entry)) (units : ℕ)
   after_serving more rest enough pending heap others here =
       let gone = none_coming tied waiting ready units engine top.0.job its.arrived in
       let same : (number : ℕ) → number < length tied.queue.jobs → number ≢ top.0.job →
-          entries_of ready number * units_left tied.queue number
-          ≡ entries_of rest number * units_left (with_served tied top.0.job more).queue number =
-          λ number within other. rw (others number other, left_after more number within other) refl in
+      entries_of ready number * units_left tied.queue number
+      ≡ entries_of rest number * units_left (with_served tied top.0.job more).queue number =
+      λ number within other. rw (others number other, left_after more number within other) refl in
       record {
         kept = kept_after more enough;
         heaps = record {
@@ -131,7 +134,7 @@ module _ (tied : TiedQueue) (waiting ready : List (Reverse Entry)) (units : ℕ)
       IsEngine (with_served tied top.0.job more) waiting ready (units - more)
   served_some more less =
       after_serving more ready (omega (arith, less)) engine.heaps.pending engine.heaps.pending_heap (λ number other. refl)
-          (omega (arith, one_entry, less))
+      (omega (arith, one_entry, less))
 
   -- all that is left of the job is served, and its entry is taken out
   pub served_all : (rest : List (Reverse Entry)) → IsPermutation ready (top ∷ rest) → IsHeap comes_first rest →
@@ -139,12 +142,12 @@ module _ (tied : TiedQueue) (waiting ready : List (Reverse Entry)) (units : ℕ)
       (units - units_left tied.queue top.0.job)
   served_all rest moved heap =
       let counted : (number : ℕ) → entries_of rest number + cond (number == top.0.job) 1 0 ≡ entries_of ready number =
-          λ number. sum_by_popped (λ (entry : Reverse Entry). cond (number == entry.0.job) 1 0) top ready rest moved in
+      λ number. sum_by_popped (λ (entry : Reverse Entry). cond (number == entry.0.job) 1 0) top ready rest moved in
       after_serving (units_left tied.queue top.0.job) rest (omega arith)
-          (All-tail (IsPending tied.queue.jobs tied.ties tied.queue.time) top rest
-          (All-permutation (IsPending tied.queue.jobs tied.ties tied.queue.time) _ _ moved engine.heaps.pending)) heap
-          (λ number other. omega (arith, counted number, ap {B = ℕ} (λ b. cond b 1 0) (ne_eqb number top.0.job other)))
-          (omega (arith, counted top.0.job, one_entry, ap {B = ℕ} (λ b. cond b 1 0) (eq-eqb top.0.job top.0.job refl)))
+      (All-tail (IsPending tied.queue.jobs tied.ties tied.queue.time) top rest
+      (All-permutation (IsPending tied.queue.jobs tied.ties tied.queue.time) _ _ moved engine.heaps.pending)) heap
+      (λ number other. omega (arith, counted number, ap {B = ℕ} (λ b. cond b 1 0) (ne_eqb number top.0.job other)))
+      (omega (arith, counted top.0.job, one_entry, ap {B = ℕ} (λ b. cond b 1 0) (eq-eqb top.0.job top.0.job refl)))
 
 -- what `serve_first` reads: the top of the pending heap, the units that its job was served, its row, the units that are left
 -- of it, and how many of them are served
@@ -170,7 +173,7 @@ module _ {tied : TiedQueue} {waiting ready : List (Reverse Entry)} {units : ℕ}
   pub left_read : left ≡ units_left tied.queue top.0.job
   left_read =
       let row_at : row ≡ job_at tied.queue.jobs top.0.job =
-          get_or_read tied.queue.jobs top.0.job row (its tied waiting ready units engine top stands).known reads.row_is no_job in
+      get_or_read tied.queue.jobs top.0.job row (its tied waiting ready units engine top stands).known reads.row_is no_job in
       reads.left_is ∙ rw (row_at, now_read) refl
 
   -- no more is served than is pending

@@ -1,5 +1,5 @@
 -- What an engine keeps true of its two heaps: the jobs to come by their releases, and the pending ones by their deadlines.
-use Rattle.std.specs.Prelude.{◌≡◌, ℕ, ◌+◌, ◌-◌, ◌*◌, ◌<◌, ◌≤◌, ◌⊎◌, min, true, false, List, length, slice_index, slice_set, All, Option}
+use Rattle.std.specs.Prelude.{◌≡◌, ℕ, ◌+◌, ◌*◌, ◌<◌, ◌≤◌, ◌⊎◌, min, true, false, List, length, slice_index, slice_set, All, Option}
 use Rattle.std.specs.BinaryHeap.{IsHeap}
 use Rattle.std.specs.declared.cmp.Reverse.{Reverse}
 use Rattle.yds_model.specs.declared.limits.TheConstants.{MAX_JOBS}

@@ -1,9 +1,8 @@
 -- Entries of jobs in a heap, and the order by which the first of them is at its top.
-use Rattle.std.specs.Prelude.{◌≡◌, ℕ, ◌==◌, List, count_by, slice_index}
+use Rattle.std.specs.Prelude.{ℕ, ◌==◌, List, count_by}
 use Rattle.std.specs.declared.cmp.Ordering.{Ordering}
 use Rattle.std.specs.declared.cmp.Reverse.{Reverse}
 use Rattle.std.specs.Ordering.{nat_cmp, ordering_then}
-use Rattle.yds_model.specs.Job.{Job, job_at}
 use Rattle.yds_edf.specs.declared.entry.Entry.{Entry}
 
 abbrev pub comes_first : Reverse Entry → Reverse Entry → Ordering

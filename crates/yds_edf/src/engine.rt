@@ -1,8 +1,18 @@
 ghost use Rattle.std.specs.Prelude.{
-    ◌≡◌, ◌≤◌, ◌-◌, ◌*◌, IfOk, OnErr, MatchOption, None, Some, length, if◌then◌else◌
+  ◌≡◌,
+  ◌≤◌,
+  ◌-◌,
+  ◌*◌,
+  IfOk,
+  OnErr,
+  MatchOption,
+  None,
+  Some,
+  length,
+  if◌then◌else◌,
+  All,
 };
 ghost use Rattle.yds_model.specs.Job.{IsJob};
-
 ghost use Rattle.yds_edf.specs.Engine.{IsTiedQueue, ServesFirst, ServesTied};
 ghost use Rattle.yds_edf.specs.Pending.{is_within};
 ghost use Rattle.yds_edf.specs.Serving.{AreTies};
@@ -15,7 +25,7 @@ use std::alloc::Global;
 use std::cmp::Reverse;
 use std::collections::BinaryHeap;
 use std::marker::Model;
-use yds_model::limits::MAX_JOBS;
+use yds_model::limits::{MAX_JOBS, MAX_WORK};
 use yds_model::{JobRow, Memory};
 
 /// Serves jobs earliest deadline first, jobs of the same deadline in order of their ties.
@@ -27,10 +37,13 @@ pub(crate) struct Engine {
     rows: Vec<JobRow>,
     ties: Vec<u32>,
     grain: u64,
+    /// The last time of arrival.
     time: Option<u32>,
+    /// The units that each job was served.
     served: Vec<u64>,
     coming: BinaryHeap<Reverse<Entry>>,
     pending: BinaryHeap<Reverse<Entry>>,
+    /// The units of all pending jobs together.
     units: u64,
 }
 
@@ -42,28 +55,33 @@ impl Model for Engine {
     ghost Value = { TiedQueue };
 
     ghost view = { λ e. record {
-        queue = record { jobs = e.rows.items; grain = e.grain; time = e.time; served = e.served.items };
-        ties = e.ties.items
+      queue = record { jobs = e.rows.items; grain = e.grain; time = e.time; served = e.served.items };
+      ties = e.ties.items;
     } };
 
     ghost invariant = { λ e. IsEngine (record {
-            queue = record { jobs = e.rows.items; grain = e.grain; time = e.time; served = e.served.items };
-            ties = e.ties.items
-        }) (heap_items e.coming) (heap_items e.pending) e.units
+      queue = record { jobs = e.rows.items; grain = e.grain; time = e.time; served = e.served.items };
+      ties = e.ties.items;
+    }) (heap_items e.coming) (heap_items e.pending) e.units
         × (heap_len e.coming + heap_len e.pending ≤ heap_capacity e.pending) };
 }
 
 impl Engine {
     /// No job has arrived, and none is served. Each job has `work * grain` units.
-    pub(crate) fn new(alloc: Global, rows: &[JobRow], ties: Vec<u32>, grain: u64) -> Result<Engine, Memory>
+    pub(crate) fn new(
+        alloc: Global,
+        rows: &[JobRow],
+        ties: Vec<u32>,
+        grain: u64,
+    ) -> Result<Engine, Memory>
         requires few { length rows.now ≤ MAX_JOBS }
         requires some_grain { 1 ≤ grain }
         requires grain_in_range { grain ≤ MAX_GRAIN }
         requires all_tied { length ties.items ≡ length rows.now }
         requires told_apart { AreTies ties.items }
         ensures made { IfOk result (λ engine. engine ≡ record {
-            queue = new_queue rows.now grain;
-            ties = ties.items
+          queue = new_queue rows.now grain;
+          ties = ties.items;
         }) }
         ensures kept { IfOk result IsTiedQueue }
     {
@@ -115,15 +133,14 @@ impl Engine {
     {
         &self.served
     }
-}
 
-impl Engine {
-    /// The jobs have arrived that are released by this time.
+    /// The jobs with release at most this time have arrived. It takes no memory: the heap of the pending
+    /// jobs has room for all of them.
     pub(crate) fn arrive(&mut self, time: u32)
         requires { IsNoEarlier self.old.queue.time time }
         ensures { self.new ≡ record {
-            queue = record self.old.queue { time = Some time };
-            ties = self.old.ties
+          queue = record self.old.queue { time = Some time };
+          ties = self.old.ties;
         } }
     {
         while let Some(Reverse(next)) = self.coming.peek() {
@@ -174,8 +191,14 @@ impl Engine {
     }
 
     /// Serves the lesser of the capacity and the pending units, one share for each job that is served.
-    pub(crate) fn serve(&mut self, alloc: Global, stretch: u32, capacity: u64) -> Result<Vec<Share>, Memory>
+    pub(crate) fn serve(
+        &mut self,
+        alloc: Global,
+        stretch: u32,
+        capacity: u64,
+    ) -> Result<Vec<Share>, Memory>
         ensures ok { IfOk result (λ shares. ServesTied self.old self.new stretch capacity shares.items) }
+        ensures works { IfOk result (λ shares. All (λ share. share.units ≤ MAX_WORK * self.old.queue.grain) shares.items) }
         ensures err { OnErr result (self.new ≡ self.old) }
     {
         let mut shares = Vec::with_capacity(alloc, self.jobs())?;

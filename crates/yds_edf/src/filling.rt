@@ -1,4 +1,4 @@
-ghost use Rattle.std.specs.Prelude.{◌≡◌, ◌≤◌, IfOk, length};
+ghost use Rattle.std.specs.Prelude.{◌≡◌, ◌≤◌, IfOk, length, ◌*◌, All};
 ghost use Rattle.yds_model.specs.Piece.{PiecesFrom};
 ghost use Rattle.yds_edf.specs.Serving.{AreTies};
 ghost use Rattle.yds_edf.specs.Demand.{AreUncut, IsWithinCapacity};
@@ -9,7 +9,7 @@ use crate::limits::{MAX_GRAIN, MAX_STRETCHES};
 use crate::share::Share;
 use crate::stretch::Stretch;
 use std::alloc::Global;
-use yds_model::limits::MAX_JOBS;
+use yds_model::limits::{MAX_JOBS, MAX_WORK};
 use yds_model::{JobRow, Memory};
 
 /// Fills stretches of given capacities earliest deadline first, jobs of the same deadline in order of
@@ -35,7 +35,8 @@ pub fn fill(
     requires told_apart { AreTies ties.now }
     requires uncut { AreUncut rows.now stretches.now }
     requires demand { IsWithinCapacity rows.now grain stretches.now capacities.now }
-    ensures { IfOk result (λ shares. IsFilled rows.now ties.now grain stretches.now capacities.now shares.items) }
+    ensures works { IfOk result (λ shares. All (λ share. share.units ≤ MAX_WORK * grain) shares.items) }
+    ensures filled { IfOk result (λ shares. IsFilled rows.now ties.now grain stretches.now capacities.now shares.items) }
 {
     let ties = Vec::from_slice(alloc, ties)?;
     let mut engine = Engine::new(alloc, rows, ties, grain)?;

@@ -62,10 +62,10 @@ impl Pace {
     fn of(stretch: Stretch, capacity: u64) -> Pace
         requires { 1 ≤ capacity }
         ensures pace { result ≡ record {
-            start = stretch.from;
-            length = length_of stretch;
-            step = time_step stretch capacity;
-            parts = time_den stretch capacity
+          start = stretch.from;
+          length = length_of stretch;
+          step = time_step stretch capacity;
+          parts = time_den stretch capacity;
         } }
         ensures forward { IsStretch stretch }
     {
@@ -108,10 +108,10 @@ impl Pace {
         requires grain_in_range { grain ≤ MAX_GRAIN }
         requires work_in_range { share.now.units ≤ MAX_WORK * grain }
         ensures { result ≡ record {
-            job = share.now.job;
-            from = of_parts (self.now.start * self.now.parts + served * self.now.step) self.now.parts;
-            to = of_parts (self.now.start * self.now.parts + (served + share.now.units) * self.now.step) self.now.parts;
-            work = of_parts share.now.units grain
+          job = share.now.job;
+          from = of_parts (self.now.start * self.now.parts + served * self.now.step) self.now.parts;
+          to = of_parts (self.now.start * self.now.parts + (served + share.now.units) * self.now.step) self.now.parts;
+          work = of_parts share.now.units grain;
         } }
     {
         Slot {

@@ -1,8 +1,10 @@
-//! Earliest deadline first: event points, the queue of pending jobs, and the theorem that demand within the
-//! capacity is served in time.
+//! Earliest deadline first: the event points of jobs, the queue of pending jobs, the filling of stretches
+//! of given capacities, and the laying of what a stretch serves as slots.
 //!
-//! It stands on `yds_model`. It carries the promise that where the units confined between any two event
-//! points are at most the capacity between them, each job gets all its units inside its window.
+//! It stands on `yds_model`, `yds_fraction` and `yds_slots`. It carries the promise that where the units
+//! confined between any release and any deadline are at most the capacity between them, every job gets all
+//! its units inside its window, and that laid slots fill their stretch at one speed. The planner and the
+//! policies serve and lay by these calls alone: denominators of times and works are decided here.
 #![tactic(auto)]
 
 mod engine;

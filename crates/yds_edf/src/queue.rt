@@ -1,4 +1,4 @@
-ghost use Rattle.std.specs.Prelude.{◌≡◌, ◌≤◌, IfOk, OnErr, Some, length};
+ghost use Rattle.std.specs.Prelude.{◌≡◌, ◌≤◌, IfOk, OnErr, Some, length, ◌*◌, All};
 ghost use Rattle.std.specs.List.{range_with_len};
 ghost use Rattle.yds_edf.specs.Queue.{new_queue, IsNoEarlier, all_pending, pending_due, Serves};
 
@@ -7,7 +7,7 @@ use crate::limits::MAX_GRAIN;
 use crate::share::Share;
 use std::alloc::{AllocError, Global};
 use std::marker::Model;
-use yds_model::limits::MAX_JOBS;
+use yds_model::limits::{MAX_JOBS, MAX_WORK};
 use yds_model::{JobRow, Memory};
 
 /// Jobs that arrive in the course of time and are served earliest deadline first, those of the same
@@ -77,6 +77,7 @@ impl Queue {
     /// The shares have the stretch's number. After want of memory the queue is unchanged.
     pub fn serve(&mut self, stretch: u32, capacity: u64) -> Result<Vec<Share>, Memory>
         ensures ok { IfOk result (λ shares. Serves self.old self.new stretch capacity shares.items) }
+        ensures works { IfOk result (λ shares. All (λ share. share.units ≤ MAX_WORK * self.old.grain) shares.items) }
         ensures err { OnErr result (self.new ≡ self.old) }
     {
         self.engine.serve(self.alloc, stretch, capacity)

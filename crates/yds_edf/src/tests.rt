@@ -42,26 +42,52 @@ fn queue_serves_by_deadline(rt: HostRuntime) -> Result<(), Fail> {
     queue.arrive(0);
     assert_eq!(rt; queue.pending(), 2);
     let first = queue.serve(0, 1)?;
-    assert_eq!(rt; numbers(rt.alloc(), &first)?.as_slice(), [(0, 0, 1)].as_slice());
+    assert_eq!(rt;
+        numbers(rt.alloc(), &first)?.as_slice(),
+        [(0, 0, 1)].as_slice()
+    );
     queue.arrive(1);
     assert_eq!(rt; (queue.pending(), queue.due(2)), (2, 1));
     let second = queue.serve(1, 2)?;
-    assert_eq!(rt; numbers(rt.alloc(), &second)?.as_slice(), [(1, 1, 1), (1, 0, 1)].as_slice());
+    assert_eq!(rt;
+        numbers(rt.alloc(), &second)?.as_slice(),
+        [(1, 1, 1), (1, 0, 1)].as_slice()
+    );
     assert_eq!(rt; queue.served(), [2, 1].as_slice());
     Ok(())
 }
 
 // The plan of jobs a 0 3 2 and b 0 3 5: one level of speed 7/3, so units of a third and a capacity of 21.
 #[test]
-fn fills_and_lays_a_fractional_switch(rt: HostRuntime) -> Result<(), Fail> {
+fn fills_a_level(rt: HostRuntime) -> Result<(), Fail> {
     let rows = [JobRow::new(0, 3, 2), JobRow::new(0, 3, 5)];
-    let stretch = Stretch::new(0, 3);
-    let shares = fill(rt.alloc(), &rows, &[0, 1], 3, &[stretch], &[21])?;
-    assert_eq!(rt; numbers(rt.alloc(), &shares)?.as_slice(), [(0, 0, 6), (0, 1, 15)].as_slice());
-    let slots = lay(rt.alloc(), stretch, 21, 3, &shares)?;
+    let shares = fill(rt.alloc(), &rows, &[0, 1], 3, &[Stretch::new(0, 3)], &[21])?;
+    assert_eq!(rt;
+        numbers(rt.alloc(), &shares)?.as_slice(),
+        [(0, 0, 6), (0, 1, 15)].as_slice()
+    );
+    Ok(())
+}
+
+#[test]
+fn lays_a_fractional_switch(rt: HostRuntime) -> Result<(), Fail> {
+    let shares = [
+        Share {
+            stretch: 0,
+            job: 0,
+            units: 6,
+        },
+        Share {
+            stretch: 0,
+            job: 1,
+            units: 15,
+        },
+    ];
+    let slots = lay(rt.alloc(), Stretch::new(0, 3), 21, 3, &shares)?;
     assert_eq!(rt; slots.len(), 2);
-    assert_eq!(rt; ends(&slots[0]), ((0, 0, 1), (0, 6, 7)));
-    assert_eq!(rt; ends(&slots[1]), ((0, 6, 7), (3, 0, 1)));
-    assert_eq!(rt; (slots[0].work.whole(), slots[1].work.whole()), (2, 5));
+    let (first, second) = (&slots[0], &slots[1]);
+    assert_eq!(rt; ends(first), ((0, 0, 1), (0, 6, 7)));
+    assert_eq!(rt; ends(second), ((0, 6, 7), (3, 0, 1)));
+    assert_eq!(rt; (first.work.whole(), second.work.whole()), (2, 5));
     Ok(())
 }

@@ -6,10 +6,11 @@ use Rattle.std.proofs.lemmas.Bool.{or_from}
 use Rattle.std.proofs.Common.{ne_eqb}
 use Rattle.yds_model.specs.Document.{Document, no_document}
 use Rattle.yds_model.specs.Lines.{Line, Field, is_blank, lines_from, without_return, trimmed, fields_of, lines_of}
-use Rattle.yds_model.specs.Entry.{Entry, document_said}
+use Rattle.yds_model.specs.Entry.{Entry}
 use Rattle.yds_model.specs.Reading.{read_fields, begins_comment, is_skipped, read_line, live_lines, read_after, reading}
 use Rattle.yds_model.specs.Text.{line}
 use Rattle.yds_model.proofs.Lines.{IsFull, spaced, fields_from-join, lines_from-written, without_return-none, All-join}
+use Rattle.yds_model.proofs.Said.{Says}
 
 -- ---- one line
 
@@ -79,8 +80,8 @@ line_says earlier texts entry number start rest words live is =
 
 -- after lines that said `before`, these bytes are read, and what was said is `after`
 abbrev pub Brings : Document → List ℕ → Document → Type 0
-Brings before bytes after = (earlier : List Entry) → document_said earlier ≡ before → (number start : ℕ) (rest : List ℕ) →
-    (entries : List Entry) × (next : ℕ) × (place : ℕ) × (document_said entries ≡ after)
+Brings before bytes after = (earlier : List Entry) → Says earlier before → (number start : ℕ) (rest : List ℕ) →
+    (entries : List Entry) × (next : ℕ) × (place : ℕ) × Says entries after
     × (read_after earlier (live_from number start (bytes ++ rest)) ≡ read_after entries (live_from next place rest))
 
 pub Brings-nil : (before : Document) → Brings before [] before
@@ -95,8 +96,8 @@ Brings-append before middle after front back first second earlier said number st
 
 -- one line
 pub Brings-line : (before after : Document) (texts : List (List ℕ)) → AllByRecursion IsWord texts → begins_comment (spaced 1 texts) ≡ false →
-    ((earlier : List Entry) → document_said earlier ≡ before →
-    (entry : Entry) × (read_fields earlier (spaced 1 texts) ≡ Ok entry) × (document_said (earlier ++ entry ∷ []) ≡ after)) →
+    ((earlier : List Entry) → Says earlier before →
+    (entry : Entry) × (read_fields earlier (spaced 1 texts) ≡ Ok entry) × Says (earlier ++ entry ∷ []) after) →
     Brings before (line texts) after
 Brings-line before after texts words live says earlier said number start rest =
     let one = says earlier said in (
@@ -125,7 +126,7 @@ Brings-each state text all each = Brings-rest state text all [] all refl each
 -- the whole
 pub read_whole : (bytes : List ℕ) (document : Document) → Brings no_document bytes document → reading bytes ≡ Ok document
 read_whole bytes document brings =
-    let all = brings [] refl 1 0 [] in
+    let all = brings [] (record { said = refl; pieces = refl; members = refl }) 1 0 [] in
     let read : read_after [] (live_lines (lines_of bytes)) ≡ Ok all.0 =
     ap (λ bytes. read_after [] (live_from 1 0 bytes)) (sym (append-nil bytes)) ∙ all.4 in
-    rw (read, reading) (ap Ok all.3)
+    rw (read, reading) (ap Ok all.3.said)

@@ -1,4 +1,7 @@
 mod Examples
+mod ThreeJobs
+mod Policies
+mod Judged
 mod EnergyExamples
 pub mod Sums
 pub mod Differences
@@ -39,3 +42,7 @@ pub mod Said
 pub mod Printed
 pub mod KindsRead
 pub mod JobNames
+pub mod Short
+pub mod Inverse
+pub mod Grown
+pub mod Within

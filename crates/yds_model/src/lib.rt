@@ -41,7 +41,7 @@ pub use laws::{
 pub use memory::Memory;
 pub use number_fault::NumberFault;
 pub use plan_laws::{plans_are_least, plans_have_the_same_levels};
-pub use reading_laws::jobs_and_slots_are_read;
+pub use reading_laws::{jobs_and_slots_are_read, lines_are_short, printed_is_read, text_is_short};
 pub use reason::Reason;
 pub use scale_laws::{
     equality_is_of_values, equality_is_transitive, multiple_is_of_values, one_scale_decides,

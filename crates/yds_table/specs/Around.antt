@@ -1,5 +1,5 @@
 -- The points of a hull around a speed.
-use Rattle.std.specs.Prelude.{◌≡◌, ℕ, ◌+◌, ◌*◌, ◌<◌, ◌⊎◌, List, length}
+use Rattle.std.specs.Prelude.{◌≡◌, ℕ, ◌+◌, ◌*◌, ◌<◌, ◌≤◌, ◌⊎◌, List, length}
 use Rattle.std.specs.List.{Contains}
 use Rattle.yds_model.specs.Scale.{Quotient}
 use Rattle.yds_model.specs.Table.{Point, point_at}
@@ -26,3 +26,12 @@ pub record AreNeighbours (hull : List Point) (speed : Quotient) (low high : Poin
 
 abbrev pub AreAround : List Point → Quotient → Point → Point → Type 0
 AreAround hull speed low high = AreOnePoint hull speed low high ⊎ AreNeighbours hull speed low high
+
+abbrev pub IsSlower : Quotient → Point → Type 0
+IsSlower speed point = point.speed * speed.den < speed.num
+
+-- the place of the first point that is at least as fast as this
+pub record IsFirstAtLeast (points : List Point) (speed : Quotient) (place : ℕ) : Type 0 where
+  pub within : place < length points
+  pub slower : (k : ℕ) → k < place → IsSlower speed (point_at points k)
+  pub fast_enough : speed.num ≤ (point_at points place).speed * speed.den

@@ -1,15 +1,17 @@
-ghost use Rattle.std.specs.Prelude.{◌≡◌, ◌*◌, ◌<◌, ◌≤◌, ◌↔◌, [], ◌∷◌, ◌++◌, length, IsNone, IfSome, IfOk, OnOk, IfErr, OnErr};
+ghost use Rattle.std.specs.Prelude.{◌≡◌, ◌*◌, ◌<◌, ◌≤◌, ◌↔◌, [], ◌∷◌, ◌++◌, length, IsNone, IfSome, IfOk, OnOk, IfErr, OnErr, MatchOption};
 ghost use Rattle.std.specs.List.{All};
 ghost use Rattle.yds_model.specs.declared.limits.TheConstants.{MAX_POINTS, MAX_GAPS};
 ghost use Rattle.yds_model.specs.Table.{point_at, AreRising, IsHullOf, hull_of, hull_multiple};
 ghost use Rattle.yds_hull.specs.Limits.{IsPoint};
 ghost use Rattle.yds_table.specs.Table.{IsPointTable, last_of};
+ghost use Rattle.yds_table.specs.Around.{IsAboveTop, AreAround, IsSlower, IsFirstAtLeast};
 ghost use Rattle.yds_table.specs.Fault.{IsCauseAtFirst, IsCause};
 
 use crate::fault::TableFault;
 use crate::gaps::multiple_of_gaps;
 use std::alloc::Global;
 use std::marker::Model;
+use yds_fraction::Speed;
 use yds_hull::{Point, hull};
 use yds_model::Memory;
 
@@ -44,6 +46,18 @@ fn with_point(alloc: Global, points: &[Point], point: Point) -> Result<Vec<Point
     let mut all = Vec::from_slice(alloc, points)?;
     all.push(point)?;
     Ok(all)
+}
+
+/// The place of the first point that is at least as fast as this.
+fn first_at_least(points: &[Point], speed: Speed) -> Option<usize>
+    ensures { MatchOption result (All (IsSlower speed) points.now) (IsFirstAtLeast points.now speed) }
+{
+    for (place, point) in points.iter().enumerate() {
+        if speed.num() <= u64::from(point.speed) * speed.den() {
+            return Some(place);
+        }
+    }
+    None
 }
 
 impl Table {
@@ -122,5 +136,18 @@ impl Table {
         ensures within { result ≤ MAX_GAPS }
     {
         self.gaps
+    }
+    /// The points of the hull around the speed: twice the point that has it, or else the neighbours in the hull
+    /// below and above it. None exactly where the speed is above that of the last point.
+    pub fn around(&self, speed: Speed) -> Option<(&Point, &Point)>
+        ensures above { IsNone result ↔ IsAboveTop self.now speed }
+        ensures around { IfSome result (λ points. AreAround (hull_of self.now) speed points.0.now points.1.now) }
+    {
+        let place = first_at_least(&self.hull, speed)?;
+        let high = &self.hull[place];
+        if u64::from(high.speed) * speed.den() == speed.num() {
+            return Some((high, high));
+        }
+        Some((&self.hull[place - 1], high))
     }
 }

@@ -1,3 +1,7 @@
+use Rattle.std.specs.Prelude.{ℕ, ◌*◌, ◌≤◌, All}
+use Rattle.std.proofs.lemmas.List.Elements.{All-nil, All-append}
+use Rattle.yds_model.specs.declared.limits.TheConstants.{MAX_WORK}
+use Rattle.yds_edf.specs.Engine.{TiedQueue}
 use Rattle.std.proofs.Common.{◌≡◌, ◌∙◌, length, arith, ap, subst}
 use Rattle.std.proofs.lemmas.List.{get_or_read}
 use Rattle.yds_model.specs.Piece.{Piece}
@@ -10,6 +14,7 @@ loop-number-init c =
     let kept = rw c.in_ok-engine.ensures.made at c.in_ok-engine.ensures.kept in
     record {
       are = kept.jobs;
+      works = rw c.new-shares.ensures.items (All-nil (λ share. share.units ≤ MAX_WORK * c.args.grain));
       filling = rw (c.in_ok-engine.ensures.made, c.in_ok-ties.ensures.items, c.new-shares.ensures.items)
           (begun c.args.rows.now c.args.ties.now c.args.grain c.args.stretches.now c.args.capacities.now);
     }
@@ -17,6 +22,11 @@ loop-number-init c =
 pub loop-number-preserved : goal.loop-number-preserved
 loop-number-preserved c = record {
   are = c.loop-number.invariant.are;
+  works = rw c.in_ok-append.ensures.items (All-append (λ share. share.units ≤ MAX_WORK * c.args.grain)
+      c.loop-number.shares.items c.in_ok-served.served.items c.loop-number.invariant.works
+      (subst (λ (grain : ℕ). All (λ share. share.units ≤ MAX_WORK * grain) c.in_ok-served.served.items)
+      (ap (λ (tied : TiedQueue). tied.queue.grain) c.arrive.ensures ∙ c.loop-number.invariant.filling.same_grain)
+      c.in_ok-served.ensures.works));
   filling = filled_after c.requires.in_order c.loop-number-test.true c.loop-number.invariant.filling c.stretch.inside.from
       (ap (λ (stretch : Piece). stretch.from) (c.stretch.view_is
       ∙ get_or_read c.args.stretches.now c.loop-number.number c.index-stretches-number.result c.loop-number-test.true
@@ -24,8 +34,8 @@ loop-number-preserved c = record {
       c.arrive.new.self c.arrive.ensures c.in_ok-served.ensures.ok c.in_ok-append.ensures.items;
 }
 
-pub returns : goal.returns
-returns c =
+pub returns-clause-filled : goal.returns-clause-filled
+returns-clause-filled c =
     let all : c.loop-number.number ≡ length c.args.stretches.now = omega arith in
     all_filled c.loop-number.invariant.are c.requires.in_order c.requires.uncut c.requires.demand
     (subst (λ n. Filling c.args.rows.now c.args.ties.now c.args.grain c.args.stretches.now c.args.capacities.now n

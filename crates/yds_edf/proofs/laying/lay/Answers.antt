@@ -1,4 +1,4 @@
-use Rattle.std.proofs.Common.{◌≡◌, ◌≤◌, arith, ap}
+use Rattle.std.proofs.Common.{arith, ap}
 use Rattle.yds_edf.specs.Shares.{JobShare}
 use Rattle.yds_edf.proofs.Laid.{some_parts, time_within, laid_none, share_fits, laid_more, laid_all}
 use Rattle.yds_edf.proofs.laying.lay.Goals as goal
@@ -20,7 +20,7 @@ slot-requires-clause-within c = rw c.of-pace.ensures.pace
 pub slot-requires-clause-fits : goal.slot-requires-clause-fits
 slot-requires-clause-fits c =
     let fits = share_fits c.args.shares.now c.loop-share.share-index c.loop-share.served c.args.capacity c.share-item.result
-        c.loop-share-test.true c.share-item.is c.loop-share.invariant.units c.requires.enough in
+    c.loop-share-test.true c.share-item.is c.loop-share.invariant.units c.requires.enough in
     omega (arith, fits, c.requires.capacity_in_range)
 
 pub loop-share-preserved : goal.loop-share-preserved

@@ -1,6 +1,6 @@
-use Rattle.std.proofs.Common.{arith, refl, heap_items, heap_len, ap, sym}
+use Rattle.std.proofs.Common.{arith, refl, heap_items, heap_len, ap}
 use Rattle.yds_model.specs.Job.{Job}
-use Rattle.yds_edf.proofs.Arrivals.{Reads, sum_fits, heaps_kept, pushed, all_arrived}
+use Rattle.yds_edf.proofs.Arrivals.{sum_fits, heaps_kept, pushed, all_arrived}
 use Rattle.yds_edf.proofs.Steps.{popped, fewer}
 use Rattle.yds_edf.proofs.engine.Engine.arrive.Goals as goal
 use Rattle.yds_edf.proofs.engine.Engine.arrive.Goals.{in-Some+then-next-time, in_default}
@@ -22,15 +22,15 @@ overflow_add-self c =
 pub loop-next-preserved : goal.loop-next-preserved
 loop-next-preserved c =
     let out = popped (heap_items c.loop-next.self-inside.coming) (heap_items c.pop.new.self) c.in-Some.field-0.now c.pop.result
-        (omega (arith, c.in-Some.ensures.item)) c.in-Some.ensures.lookup c.loop-next.invariant.heaps.coming_heap
-        (c.pop.ensures.variant.1 (c.in-Some.ensures.variant.0 refl))
-        c.pop.ensures.top c.pop.ensures.permutation c.pop.ensures.heap_order in
+    (omega (arith, c.in-Some.ensures.item)) c.in-Some.ensures.lookup c.loop-next.invariant.heaps.coming_heap
+    (c.pop.ensures.variant.1 (c.in-Some.ensures.variant.0 refl))
+    c.pop.ensures.top c.pop.ensures.permutation c.pop.ensures.heap_order in
     let less = fewer c.pop.result (heap_len c.pop.new.self) (heap_len c.loop-next.self-inside.coming)
-        (c.pop.ensures.variant.1 (c.in-Some.ensures.variant.0 refl)) c.pop.ensures.len in
+    (c.pop.ensures.variant.1 (c.in-Some.ensures.variant.0 refl)) c.pop.ensures.len in
     let joined = pushed (heap_items c.loop-next.self-inside.pending) (heap_items c.push.new.self) _ c.push.result
-        (heap_len c.push.new.self) (heap_len c.loop-next.self-inside.pending) c.loop-next.invariant.heaps.pending_heap
-        (c.push.ensures.succeeds (omega (arith, c.loop-next.invariant.room, less)))
-        c.push.ensures.len c.push.ensures.permutation c.push.ensures.heap_order in
+    (heap_len c.push.new.self) (heap_len c.loop-next.self-inside.pending) c.loop-next.invariant.heaps.pending_heap
+    (c.push.ensures.succeeds (omega (arith, c.loop-next.invariant.room, less)))
+    c.push.ensures.len c.push.ensures.permutation c.push.ensures.heap_order in
     record {
       kept = c.loop-next.invariant.kept;
       heaps = heaps_kept c.loop-next.invariant.kept c.loop-next.invariant.heaps (record {

@@ -2,7 +2,6 @@ use Rattle.std.proofs.Common.{◌≡◌, ◌+◌, ◌≤◌, heap_items, heap_le
 use Rattle.std.specs.Prelude.{Some}
 use Rattle.std.specs.BinaryHeap.{heap_capacity}
 use Rattle.yds_edf.specs.Engine.{IsTiedQueue, AreHeaps}
-use Rattle.yds_edf.proofs.Arrivals.{wanted_bound}
 use Rattle.yds_edf.proofs.engine.Engine.arrive.Given as goal
 
 abbrev pub invariant-loop-next : goal.invariant-loop-next

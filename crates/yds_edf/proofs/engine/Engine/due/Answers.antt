@@ -1,4 +1,4 @@
-use Rattle.std.proofs.Common.{◌≡◌, ◌<◌, ◌+◌, ◌∙◌, length, arith, ap, sym}
+use Rattle.std.proofs.Common.{◌<◌, ◌∙◌, length, arith, ap, sym}
 use Rattle.yds_model.specs.Job.{Job}
 use Rattle.yds_edf.specs.Queue.{JobQueue}
 use Rattle.yds_edf.proofs.Due.{due_fits, pending_read, due_read, not_due_read, sum_more, sum_no_more}
@@ -17,10 +17,10 @@ overflow_add-units c =
     let there : c.loop-job.job < length c.self.inside.rows.items = rw rows at c.loop-job-test.true in
     let fits = due_fits _ c.args.time c.loop-job.job c.self.invariant.0.kept there in
     let pending = pending_read _ c.loop-job.job c.row-item.result c.index.result.now c.units_pending-units.result there
-        (omega (arith, there, c.self.invariant.0.kept.served)) (rw rows at c.row-item.is) c.index.ensures
-        c.units_pending-units.ensures in
+    (omega (arith, there, c.self.invariant.0.kept.served)) (rw rows at c.row-item.is) c.index.ensures
+    c.units_pending-units.ensures in
     let counts = due_read queue c.args.time c.loop-job.job c.row-item.result c.row.inside.deadline there (rw rows at c.row-item.is)
-        (ap (λ (job : Job). job.deadline) c.row.view_is) c.if-row-time.true in
+    (ap (λ (job : Job). job.deadline) c.row.view_is) c.if-row-time.true in
     let same = c.loop-job.invariant in
     omega (arith, fits, pending, counts, same)
 

@@ -1,5 +1,5 @@
 use Rattle.std.proofs.Common.{arith, inl, inr}
-use Rattle.yds_edf.proofs.Serving.{begin, next, next_fits, end}
+use Rattle.yds_edf.proofs.Serving.{begin, next, next_fits, end, works}
 use Rattle.yds_edf.proofs.engine.Engine.serve.Goals as goal
 use Rattle.yds_edf.proofs.engine.Engine.serve.Goals.{else-loop-room-test, then-loop-room-test+in_default}
 
@@ -11,8 +11,12 @@ loop-room-init c = record {
 
 pub returns-in_err-push-clause-err : goal.returns-in_err-push-clause-err
 returns-in_err-push-clause-err c =
-    absurd (omega (arith, c.in_err-push.ensures.full, c.loop-room.invariant.has_room,
-    next_fits c.loop-room.invariant.progress c.loop-room-test.true c.in-Some.ensures))
+    absurd (omega (
+      arith,
+      c.in_err-push.ensures.full,
+      c.loop-room.invariant.has_room,
+      next_fits c.loop-room.invariant.progress c.loop-room-test.true c.in-Some.ensures,
+    ))
 
 pub loop-room-preserved : goal.loop-room-preserved
 loop-room-preserved c = record {
@@ -26,3 +30,6 @@ returns-clause-ok c = elim c.loop-room-test.branch [
   | then-loop-room-test+in_default w ↦
       rw (w.self-is, w.in_default.ensures.1) (end _ _ _ _ _ _ c.loop-room.invariant.progress (inr w.in_default.ensures.0))
 ]
+
+pub returns-clause-works : goal.returns-clause-works
+returns-clause-works c = works _ _ _ _ _ c.jobs.ensures.kept (returns-clause-ok c)

@@ -1,5 +1,5 @@
 use Rattle.std.proofs.Common.{arith, refl, heap_items, heap_len}
-use Rattle.yds_edf.proofs.Steps.{Reads, more_within, some_kept, all_kept, serves_first, popped, fewer}
+use Rattle.yds_edf.proofs.Steps.{more_within, some_kept, all_kept, serves_first, popped, fewer}
 use Rattle.yds_edf.proofs.Heaps.{none_pending_left}
 use Rattle.yds_edf.proofs.engine.Engine.serve_first.Goals as goal
 
@@ -21,10 +21,9 @@ returns-in_err-first c = rw (c.from_residual.ensures, ← c.self.view_is)
 pub invariant_of-self : goal.invariant_of-self
 invariant_of-self c =
     let out = popped (heap_items c.self.inside.pending) (heap_items c.pop.new.self) c.in_ok-first.field-0.now c.pop.result
-        (omega (arith, c.in_ok-first.ensures.item)) c.in_ok-first.ensures.lookup c.self.invariant.0.heaps.pending_heap
-        (c.pop.ensures.variant.1 (c.in_ok-first.ensures.variant.0 refl))
-        c.pop.ensures.top c.pop.ensures.permutation c.pop.ensures.heap_order in
-    (
+    (omega (arith, c.in_ok-first.ensures.item)) c.in_ok-first.ensures.lookup c.self.invariant.0.heaps.pending_heap
+    (c.pop.ensures.variant.1 (c.in_ok-first.ensures.variant.0 refl))
+    c.pop.ensures.top c.pop.ensures.permutation c.pop.ensures.heap_order in (
       all_kept c.self.invariant.0 (record {
         some = c.requires;
         there = omega (arith, c.in_ok-first.ensures.item);
@@ -34,8 +33,13 @@ invariant_of-self c =
         left_is = c.units_left-left.ensures.left;
         more_is = c.min-units.ensures;
       }) (heap_items c.pop.new.self) c.if-units-left.true out.0 out.1,
-      omega (arith, c.self.invariant.1, c.pop.ensures.capacity, fewer c.pop.result (heap_len c.pop.new.self)
-          (heap_len c.self.inside.pending) (c.pop.ensures.variant.1 (c.in_ok-first.ensures.variant.0 refl)) c.pop.ensures.len),
+      omega (
+        arith,
+        c.self.invariant.1,
+        c.pop.ensures.capacity,
+        fewer c.pop.result (heap_len c.pop.new.self)
+            (heap_len c.self.inside.pending) (c.pop.ensures.variant.1 (c.in_ok-first.ensures.variant.0 refl)) c.pop.ensures.len,
+      ),
     )
 
 pub invariant_of-self-else-units-left : goal.invariant_of-self-else-units-left

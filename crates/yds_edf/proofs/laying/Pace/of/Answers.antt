@@ -11,5 +11,8 @@ nonzero_div-result-2 c = divisor_some c.args.capacity (c.stretch.inside.to - c.s
     (omega (arith, c.stretch.invariant.has_length)) c.gcd-divisor.ensures
 
 pub returns-clause-pace : goal.returns-clause-pace
-returns-clause-pace c = rw (← c.stretch.view_is, c.from-2.ensures,
-    divisor_is c.args.capacity (c.stretch.inside.to - c.stretch.inside.from) c.from.result _ c.from.ensures c.gcd-divisor.ensures) refl
+returns-clause-pace c = rw (
+  ← c.stretch.view_is,
+  c.from-2.ensures,
+  divisor_is c.args.capacity (c.stretch.inside.to - c.stretch.inside.from) c.from.result _ c.from.ensures c.gcd-divisor.ensures,
+) refl

@@ -1,4 +1,4 @@
-use Rattle.std.proofs.Common.{◌≡◌, arith, ap}
+use Rattle.std.proofs.Common.{◌≡◌, ap}
 use Rattle.yds_edf.specs.Shares.{JobShare}
 use Rattle.yds_edf.proofs.Laid.{slot_kept}
 use Rattle.yds_edf.proofs.laying.Pace.slot.Goals as goal
