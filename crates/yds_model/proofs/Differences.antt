@@ -24,6 +24,9 @@ difference_plus a b c d x y first second = omega (arith, ints, first, second)
 pub difference_at_most : (a b c d : ℕ) (x y : ℤ) → IsDifference a b x → IsDifference c d y → a + d ≤ c + b → x ≤ℤ y
 difference_at_most a b c d x y first second order = omega (arith, ints, first, second, order)
 
+pub at_most_in_turn : (x y z : ℤ) → x ≤ℤ y → y ≤ℤ z → x ≤ℤ z
+at_most_in_turn x y z first second = omega (arith, ints, first, second)
+
 -- the first is the greater of two numbers
 pub difference_first : (a b c d : ℕ) (x y : ℤ) → IsDifference a b x → IsDifference c d y → c + b ≤ a + d → IsDifference a b (int_max x y)
 difference_first a b c d x y first second order = omega (arith, ints, clamps, first, second, order)

@@ -32,6 +32,7 @@ pub mod Curve
 pub mod Plans
 pub mod Energy
 pub mod HullEnergy
+pub mod LineEnergy
 pub mod PlansEnergy
 pub mod Spelling
 pub mod TextLaws

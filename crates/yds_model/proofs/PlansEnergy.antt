@@ -1,11 +1,10 @@
 -- The energy of plans: at most that of every feasible schedule.
 use Rattle.std.proofs.Common.{◌≤◌, List, [], ◌∷◌, length, sym, arith, ap, ◌∙◌}
-use Rattle.std.specs.Prelude.{ℤ, ◌≤ℤ◌}
-use Rattle.std.proofs.lemmas.Int.{ints}
 use Rattle.yds_model.specs.Slot.{slots_at}
 use Rattle.yds_model.specs.Table.{Point, IsTable, IsHullOf}
 use Rattle.yds_model.specs.EnergyLaws.{PlansCostLeast, PlansCostLeastOnPoints}
 use Rattle.yds_model.proofs.Plans.{plans_are_least}
+use Rattle.yds_model.proofs.Differences.{at_most_in_turn}
 use Rattle.yds_model.proofs.Energy.{least_is_cheapest}
 use Rattle.yds_model.proofs.HullEnergy.{hull_first, hull_rising, points_cost_at_least_the_hull}
 
@@ -26,12 +25,9 @@ hull_table points hull table is_hull = record {
   rising = hull_rising points hull table.rising is_hull;
 }
 
-in_turn : (x y z : ℤ) → x ≤ℤ y → y ≤ℤ z → x ≤ℤ z
-in_turn x y z first second = omega (arith, ints, first, second)
-
 -- by the hull the plan costs at most what the other schedule does, and that spends at least as much on the points
 pub plans_cost_least_on_points : PlansCostLeastOnPoints
 plans_cost_least_on_points jobs slots levels points hull scale energy others plan table is_hull is feasible spends =
-    in_turn _ _ _
+    at_most_in_turn _ _ _
     (plans_cost_least jobs slots levels hull scale others plan (hull_table points hull table is_hull) is_hull.convex is feasible)
     (points_cost_at_least_the_hull jobs points hull scale energy others table.rising is_hull spends)

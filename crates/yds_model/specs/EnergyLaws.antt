@@ -1,13 +1,13 @@
 -- The laws of energy. Each is the contract of a public function of this crate.
-use Rattle.std.specs.Prelude.{ℕ, ◌*◌, List, pos, ◌≤ℤ◌}
+use Rattle.std.specs.Prelude.{ℕ, ◌+◌, ◌-◌, ◌*◌, ◌<◌, List, length, pos, ◌*ℤ◌, ◌≤ℤ◌}
 use Rattle.yds_model.specs.Job.{Job}
 use Rattle.yds_model.specs.Slot.{WrittenSlot, WholeSlot, IsScale, slots_at}
 use Rattle.yds_model.specs.Feasible.{IsFeasibleAt}
 use Rattle.yds_model.specs.Excess.{IsLeastAt}
 use Rattle.yds_model.specs.Level.{Level}
 use Rattle.yds_model.specs.Plan.{IsPlan}
-use Rattle.yds_model.specs.Table.{Point, AreRising, IsTable, IsConvex, IsHullOf, gaps_of}
-use Rattle.yds_model.specs.Energy.{product, interpolated_energy, IsEnergyOnPoints}
+use Rattle.yds_model.specs.Table.{Point, point_at, AreRising, IsTable, IsConvex, IsHullOf, gaps_of}
+use Rattle.yds_model.specs.Energy.{product, on_line, interpolated_power, interpolated_energy, IsEnergyOnPoints}
 
 -- By a convex table of any size, a schedule that is least above every speed has at most the energy of each feasible schedule,
 -- also where one of them is faster than the table's top.
@@ -34,3 +34,10 @@ PlansCostLeastOnPoints = (jobs : List Job) (slots : List WrittenSlot) (levels : 
     IsPlan jobs slots levels → IsTable points → IsHullOf points hull → IsScale scale slots → IsFeasibleAt jobs scale others →
     IsEnergyOnPoints jobs points scale others energy →
     interpolated_energy jobs hull scale (slots_at scale slots) ≤ℤ pos (product (gaps_of hull) * energy)
+
+-- The line between any two neighbours of a table gives a slot at most its energy: both times the product of the gaps, and times
+-- those neighbours' gap.
+abbrev pub LinesAreAtMostEnergy : Type 0
+LinesAreAtMostEnergy = (points : List Point) (k time work : ℕ) → k + 1 < length points →
+    (pos (product (gaps_of points)) *ℤ on_line (point_at points k) (point_at points (k + 1)) time work)
+    ≤ℤ (pos ((point_at points (k + 1)).speed - (point_at points k).speed) *ℤ interpolated_power points time work)

@@ -2,7 +2,7 @@
 //!
 //! Energy is that of a table of operating points, after Ishihara and Yasuura (ISLPED 1998). It is compared times the
 //! product of the gaps between the table's speeds, and at a common scale, so that no number is divided.
-ghost use Rattle.yds_model.specs.EnergyLaws.{LeastIsCheapest, PlansCostLeast, PlansCostLeastOnPoints, PointsCostAtLeastTheHull};
+ghost use Rattle.yds_model.specs.EnergyLaws.{LeastIsCheapest, LinesAreAtMostEnergy, PlansCostLeast, PlansCostLeastOnPoints, PointsCostAtLeastTheHull};
 
 /// By a convex table of operating points, a schedule that is least above every speed has at most the energy of
 /// each feasible schedule.
@@ -27,4 +27,11 @@ pub fn points_cost_at_least_the_hull()
 /// the speeds of the table's points.
 pub fn plans_cost_least_on_points()
     ensures { PlansCostLeastOnPoints }
+{}
+
+/// The line between any two neighbours of a table gives a slot at most the slot's energy.
+///
+/// So time at two neighbours, with the same work, costs no more than the interpolated energy.
+pub fn lines_are_at_most_energy()
+    ensures { LinesAreAtMostEnergy }
 {}

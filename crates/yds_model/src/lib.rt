@@ -26,7 +26,8 @@ mod text_laws;
 pub use command::Command;
 pub use divisor_laws::{divisor_is_greatest, lowest_terms_are_one, multiple_is_least};
 pub use energy_laws::{
-    least_is_cheapest, plans_cost_least, plans_cost_least_on_points, points_cost_at_least_the_hull,
+    least_is_cheapest, lines_are_at_most_energy, plans_cost_least, plans_cost_least_on_points,
+    points_cost_at_least_the_hull,
 };
 pub use hull_laws::{hull_is_computed, hull_is_lowest};
 pub use job_row::JobRow;
