@@ -105,10 +105,10 @@ RoundsStretches hull levels (stretch ∷ others) planned written =
     × All (λ slot. (stretch.from * slot.from.den ≤ numerator slot.from) × (numerator slot.to ≤ stretch.to * slot.to.den)) here
     × RoundsStretch hull levels stretch here made × RoundsStretches hull levels others later made_later
 
--- the fraction is the schedule's energy on the points
+-- each slot runs at a point's speed, and the fraction is the schedule's energy on the points
 abbrev pub IsEnergyOf : List Job → List Point → List WrittenSlot → Fraction → Type 0
-IsEnergyOf jobs points slots energy = (scale : ℕ) → IsScale scale slots → (spent : ℕ) → IsEnergyOnPoints jobs points scale (slots_at scale slots) spent →
-    spent * energy.den ≡ numerator energy * scale
+IsEnergyOf jobs points slots energy = (scale : ℕ) → IsScale scale slots →
+    (spent : ℕ) × IsEnergyOnPoints jobs points scale (slots_at scale slots) spent × (spent * energy.den ≡ numerator energy * scale)
 
 -- A plan's slots are rounded to these, whose energy is this fraction in lowest terms.
 pub record IsRounding (jobs : List Job) (points : List Point) (planned : List WrittenSlot) (levels : List Level)
