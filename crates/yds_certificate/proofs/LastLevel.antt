@@ -1,16 +1,20 @@
 -- A certificate with its last level changed.
-use Rattle.std.proofs.Common.{◌≡◌, ℕ, suc, ◌+◌, ◌-◌, ◌<◌, ◌≤◌, List, [], ◌∷◌, length, sym, ap, ◌∙◌, subst, arith}
-use Rattle.std.specs.List.{slice_index_or, slice_set, flat_map}
-use Rattle.std.proofs.lemmas.List.{length-append, length-set}
-use Rattle.std.proofs.lemmas.List.Concat.{length-flat_map}
-use Rattle.std.proofs.lemmas.List.Sums.{sum_by-set}
+use Rattle.std.proofs.Common.{◌≡◌, ℕ, suc, ◌+◌, ◌-◌, ◌<◌, ◌≤◌, List, [], ◌∷◌, ◌++◌, length, sym, ap, ◌∙◌, subst, arith}
+use Rattle.std.specs.Prelude.{◌==◌, cond}
+use Rattle.std.specs.List.{All, slice_index_or, slice_set, flat_map}
+use Rattle.std.proofs.lemmas.List.{length-append, length-set, get_or-append-add, append-nil}
+use Rattle.std.proofs.lemmas.List.Concat.{length-flat_map, flat_map-cons}
+use Rattle.std.proofs.lemmas.List.Sums.{sum_by-set, sum_by-append}
+use Rattle.std.proofs.lemmas.List.Sorted.{length_permutation}
 use Rattle.std.proofs.lemmas.List.Elements.{All-push, All-set}
 use Rattle.yds_model.specs.declared.limits.TheConstants.{MAX_PIECES, MAX_MEMBERS}
-use Rattle.yds_model.specs.Piece.{Piece}
-use Rattle.yds_model.specs.Level.{Level, all_members, all_pieces}
+use Rattle.yds_model.specs.Numbers.{count}
+use Rattle.yds_model.specs.Piece.{Piece, AreApart}
+use Rattle.yds_model.specs.Level.{Level, level_at, all_members, all_pieces}
 use Rattle.yds_certificate.specs.Piece.{IsPiece}
 use Rattle.yds_certificate.specs.Level.{IsLevel, with_piece, with_member}
 use Rattle.yds_certificate.specs.Certificate.{IsCertificate, with_last}
+use Rattle.yds_certificate.specs.Merging.{IsNewTo, AreTogether, last_level}
 
 pub last_set : (levels : List Level) (old new : Level) (change : Level → Level) → 1 ≤ length levels →
     old ≡ slice_index_or levels (length levels - 1) old → change old ≡ new → slice_set levels (length levels - 1) new ≡ with_last change levels
@@ -60,4 +64,61 @@ member_kept levels old job some is kept level room = record {
   few = omega (arith, kept.few, length-set levels (length levels - 1) (with_member job old));
   few_pieces = omega (arith, kept.few_pieces, length_changed (λ l. l.pieces) levels old (with_member job old) (length levels - 1) (omega arith) is);
   few_members = omega (arith, length_changed (λ l. l.members) levels old (with_member job old) (length levels - 1) (omega arith) is, length-append old.members (job ∷ []));
+}
+
+-- # The last level joined by another
+
+pub merged_kept : (levels : List Level) (old level both : Level) → 1 ≤ length levels → old ≡ slice_index_or levels (length levels - 1) old →
+    IsCertificate levels → IsLevel both → AreTogether old level both → length both.pieces ≤ length old.pieces + length level.pieces →
+    length (all_pieces levels) + length level.pieces ≤ MAX_PIECES → length (all_members levels) + length level.members ≤ MAX_MEMBERS →
+    IsCertificate (slice_set levels (length levels - 1) both)
+merged_kept levels old level both some is kept limits together few room_for_pieces room_for_members = record {
+  each = All-set IsLevel levels (length levels - 1) both limits kept.each;
+  few = omega (arith, kept.few, length-set levels (length levels - 1) both);
+  few_pieces = omega (arith, few, room_for_pieces, length_changed (λ l. l.pieces) levels old both (length levels - 1) (omega arith) is);
+  few_members = omega (
+    arith,
+    room_for_members,
+    length_permutation (old.members ++ level.members) both.members together.members,
+    length-append old.members level.members,
+    length_changed (λ l. l.members) levels old both (length levels - 1) (omega arith) is,
+  );
+}
+
+last_cons : (first : Level) (levels : List Level) → 1 ≤ length levels → last_level (first ∷ levels) ≡ last_level levels
+last_cons first [] some = absurd (omega arith)
+last_cons first (next ∷ levels) some =
+    let here : suc (suc (length levels)) - 1 ≡ suc (suc (length levels) - 1) = omega arith in
+    ap (λ (i : ℕ). level_at (first ∷ next ∷ levels) i) here
+
+All-right : {X : Type 0} (P : X → Type 0) (xs ys : List X) → All P (xs ++ ys) → All P ys
+All-right P xs ys all k d within = subst P (get_or-append-add xs ys k d) (all (length xs + k) d (omega (arith, length-append xs ys)))
+
+-- what all pieces have, those of the last level have
+last_pieces : (P : Piece → Type 0) (levels : List Level) → 1 ≤ length levels → All P (all_pieces levels) → All P (last_level levels).pieces
+last_pieces P [] some all = absurd (omega arith)
+last_pieces P (only ∷ []) some all =
+    subst (All P) (flat_map-cons (λ (l : Level). l.pieces) only [] ∙ append-nil only.pieces) all
+last_pieces P (first ∷ next ∷ levels) some all =
+    rw (last_cons first (next ∷ levels) (omega arith))
+    (last_pieces P (next ∷ levels) (omega arith)
+    (All-right P first.pieces (all_pieces (next ∷ levels)) (subst (All P) (flat_map-cons (λ (l : Level). l.pieces) first (next ∷ levels)) all)))
+
+-- a number that is no member is none of the last level
+last_members : (number : ℕ) (levels : List Level) → 1 ≤ length levels → count number (all_members levels) ≡ 0 → count number (last_level levels).members ≡ 0
+last_members number [] some none = absurd (omega arith)
+last_members number (only ∷ []) some none =
+    subst (λ (all : List ℕ). count number all ≡ 0) (flat_map-cons (λ (l : Level). l.members) only [] ∙ append-nil only.members) none
+last_members number (first ∷ next ∷ levels) some none =
+    let split : count number (first.members ++ all_members (next ∷ levels)) ≡ 0 =
+    subst (λ (all : List ℕ). count number all ≡ 0) (flat_map-cons (λ (l : Level). l.members) first (next ∷ levels)) none in
+    rw (last_cons first (next ∷ levels) (omega arith))
+    (last_members number (next ∷ levels) (omega arith)
+    (omega (arith, split, sum_by-append (λ (other : ℕ). cond (number == other) 1 0) first.members (all_members (next ∷ levels)))))
+
+pub new_to_last : (levels : List Level) (level : Level) → 1 ≤ length levels → IsNewTo level (all_pieces levels) (all_members levels) →
+    IsNewTo level (last_level levels).pieces (last_level levels).members
+new_to_last levels level some new = record {
+  apart = λ k d within. last_pieces (AreApart (slice_index_or level.pieces k d)) levels some (new.apart k d within);
+  members = λ k d within. last_members (slice_index_or level.members k d) levels some (new.members k d within);
 }

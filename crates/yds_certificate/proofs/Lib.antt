@@ -1,1 +1,5 @@
 pub mod LastLevel
+pub mod Cover
+pub mod Extended
+pub mod Joined
+pub mod Together

@@ -1,3 +1,4 @@
 pub mod Piece
 pub mod Level
 pub mod Certificate
+pub mod Merging

@@ -1,8 +1,9 @@
-ghost use Rattle.std.specs.Prelude.{◌≡◌, ◌+◌, ◌<◌, ◌≤◌, [], ◌∷◌, ◌++◌, length, OnOk, OnErr};
+ghost use Rattle.std.specs.Prelude.{◌≡◌, ◌+◌, ◌<◌, ◌≤◌, [], ◌∷◌, ◌++◌, ◌↔◌, length, IsTrue, OnOk, OnErr};
 ghost use Rattle.yds_model.specs.declared.limits.TheConstants.{MAX_LEVELS, MAX_PIECES, MAX_MEMBERS};
 ghost use Rattle.yds_model.specs.Level.{all_members, all_pieces, levels_above};
 ghost use Rattle.yds_certificate.specs.Level.{with_piece, with_member};
 ghost use Rattle.yds_certificate.specs.Certificate.{IsCertificate, with_last};
+ghost use Rattle.yds_certificate.specs.Merging.{IsOrderly, IsNewTo, CanFollow, HasSpeedOfLast, JoinsLast, last_level};
 
 use crate::level::Level;
 use crate::piece::Piece;
@@ -29,6 +30,16 @@ impl Model for Certificate {
     ghost view = { λ c. c.levels.items };
 
     ghost invariant = { λ c. IsCertificate c.levels.items };
+}
+
+/// Whether there is a last level, and it has the speed of this one.
+fn has_speed_of_last(levels: &[Level], level: &Level) -> bool
+    ensures { IsTrue result ↔ HasSpeedOfLast levels.now level.now }
+{
+    match levels {
+        [.., last] => last.speed() == level.speed(),
+        [] => false,
+    }
 }
 
 impl Certificate {
@@ -60,6 +71,32 @@ impl Certificate {
         // Reading a field shows that the level is within its limits.
         let _work = level.work;
         self.levels.push(level)?;
+        Ok(())
+    }
+
+    /// Puts the level last, or joins it to the last one where both have the same speed.
+    ///
+    /// Joined, their works and lengths are added, their pieces rise and don't touch, and their members rise.
+    pub fn push_merging(&mut self, level: Level) -> Result<(), Memory>
+        requires room { length self.old < MAX_LEVELS }
+        requires room_for_pieces { length (all_pieces self.old) + length level.pieces ≤ MAX_PIECES }
+        requires room_for_members { length (all_members self.old) + length level.members ≤ MAX_MEMBERS }
+        requires orderly { IsOrderly level }
+        requires new { IsNewTo level (all_pieces self.old) (all_members self.old) }
+        requires follows { 1 ≤ length self.old → CanFollow (last_level self.old) level }
+
+        ensures same_speed { OnOk result (HasSpeedOfLast self.old level → JoinsLast self.old level self.new) }
+        ensures other_speed { OnOk result (¬ (HasSpeedOfLast self.old level) → self.new ≡ self.old ++ level ∷ []) }
+        ensures err { OnErr result (self.new ≡ self.old) }
+    {
+        if !has_speed_of_last(&self.levels, &level) {
+            return self.push(level);
+        }
+        let place = self.levels.len() - 1;
+        let both = self.levels[place].with(*self.levels.allocator(), &level)?;
+        // Reading a field shows that the level is within its limits.
+        let _work = both.work;
+        self.levels[place] = both;
         Ok(())
     }
 

@@ -1,8 +1,12 @@
-ghost use Rattle.std.specs.Prelude.{◌≡◌, ◌*◌, ◌<◌, ◌↔◌, IsTrue};
+ghost use Rattle.std.specs.Prelude.{◌≡◌, ◌+◌, ◌*◌, ◌<◌, ◌≤◌, ◌↔◌, length, IsTrue, IfOk};
+ghost use Rattle.yds_certificate.specs.Merging.{IsOrderly, IsNewTo, FitsBeside, AreTogether};
 
+use crate::merging::{by_start, in_order, join_touching};
 use crate::piece::Piece;
+use std::alloc::Global;
 use std::marker::Model;
 use yds_fraction::Speed;
+use yds_model::Memory;
 
 /// A level of a certificate: its members have so much work together, and are served at one speed, the work
 /// over the length, in pieces of time of that length together.
@@ -45,5 +49,23 @@ impl Level {
         ensures { IsTrue result ↔ (speed.num * self.now.length < self.now.work * speed.den) }
     {
         speed < self.speed()
+    }
+    /// The two levels together, served at once: works and lengths added, the pieces of both with touching ones
+    /// joined, and the members of both.
+    pub(crate) fn with(&self, alloc: Global, other: &Level) -> Result<Level, Memory>
+        requires orderly { IsOrderly self.now }
+        requires other_orderly { IsOrderly other.now }
+        requires apart { IsNewTo other.now self.now.pieces self.now.members }
+        requires fits { FitsBeside self.now other.now }
+        ensures together { IfOk result (AreTogether self.now other.now) }
+        ensures few_pieces { IfOk result (λ both. length both.pieces ≤ length self.now.pieces + length other.now.pieces) }
+    {
+        let pieces = by_start(alloc, &self.pieces, &other.pieces)?;
+        Ok(Level {
+            work: self.work + other.work,
+            length: self.length + other.length,
+            pieces: join_touching(alloc, &pieces)?,
+            members: in_order(alloc, &self.members, &other.members)?,
+        })
     }
 }

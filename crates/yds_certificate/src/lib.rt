@@ -9,6 +9,7 @@
 
 mod certificate;
 mod level;
+mod merging;
 mod piece;
 
 pub use certificate::Certificate;
