@@ -15,3 +15,4 @@ pub mod Plan
 pub mod Drafts
 pub mod Extended
 pub mod DraftSteps
+pub mod Buckets

@@ -2,3 +2,4 @@ pub mod Found
 pub mod Views
 pub mod Laid
 pub mod Drafts
+pub mod Filling

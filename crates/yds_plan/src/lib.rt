@@ -9,4 +9,5 @@
 mod found;
 mod layout_levels;
 mod layout_members;
+mod layout_slots;
 mod share;
