@@ -16,3 +16,4 @@ pub mod Drafts
 pub mod Extended
 pub mod DraftSteps
 pub mod Buckets
+pub mod Fitting

@@ -78,7 +78,7 @@ module _ (jobs : List Job) (found : Found) (is : IsFound jobs found) where
   pub terms : (g : ℕ) → g < length found.groups → Lowest (group_at found.groups g).work (group_at found.groups g).length
   terms g known = lowest (group_at found.groups g).work (group_at found.groups g).length (is.some_work g known) (is.some_length g known)
 
-  room : (k : ℕ) → k < length (stretches jobs) → group_of found.group_of_stretch k < length found.groups →
+  pub room : (k : ℕ) → k < length (stretches jobs) → group_of found.group_of_stretch k < length found.groups →
       (stretch_at jobs k).from * per_time (group_at found.groups (group_of found.group_of_stretch k)) + 0 + units_of (shares_in found.shares k)
       ≤ (stretch_at jobs k).to * per_time (group_at found.groups (group_of found.group_of_stretch k))
   room k within grouped =
