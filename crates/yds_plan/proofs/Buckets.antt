@@ -64,3 +64,13 @@ vectors_count items shares count vectors are =
 
 abbrev pub no_struct : Struct
 no_struct = record { job = 0; stretch = 0; units = 0 }
+
+-- the vector of a stretch has its shares
+pub vector_at : {V : Type 0} (items : V → List Struct) (shares : List Struct) (count k : ℕ) (vectors : List V) (vector : V) →
+    map items vectors ≡ map (structs_in shares) (range_with_len 0 count) → k < count → vector ≡ get_or vectors k vector →
+    items vector ≡ structs_in shares k
+vector_at items shares count k vectors vector are below is =
+    ap items is
+    ∙ sym (get_or-map items vectors k vector (items vector) (omega (arith, vectors_count items shares count vectors are)))
+    ∙ ap (λ lists. get_or lists k (items vector)) are
+    ∙ get_or-map-range_with_len (structs_in shares) 0 count k k (items vector) below (omega arith)

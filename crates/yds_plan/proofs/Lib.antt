@@ -17,3 +17,5 @@ pub mod Extended
 pub mod DraftSteps
 pub mod Buckets
 pub mod Fitting
+pub mod Bounds
+pub mod Laying

@@ -169,7 +169,7 @@ module _ (jobs : List Job) (found : Found) (is : IsFound jobs found) where
           let member = each_member jobs found l known k d within in
           has_work jobs found is _ member.known member.grouped))
 
-  slots_length : length (slots_of jobs found) ≡ length found.shares
+  pub slots_length : length (slots_of jobs found) ≡ length found.shares
   slots_length =
       length-flat_map (slots_in jobs found) (range_with_len 0 (length (stretches jobs)))
       ∙ sum_by_same (λ k. length (slots_in jobs found k)) (λ k. sum_by (λ share. 1) (shares_in found.shares k))

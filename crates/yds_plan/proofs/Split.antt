@@ -1,10 +1,11 @@
 -- Sums over lists that are filtered, mapped and joined, and a sum that is split by a key.
-use Rattle.std.proofs.Common.{◌≡◌, ℕ, zero, suc, ◌+◌, ◌*◌, ◌<◌, ◌≤◌, ◌==◌, List, [], ◌∷◌, ◌++◌, ◌∙◌, length, map, get_or, sym, refl, ap, arith, inl, inr, Bool, true, false}
+use Rattle.std.proofs.Common.{◌≡◌, ℕ, zero, suc, ◌+◌, ◌*◌, ◌<◌, ◌≤◌, ◌==◌, List, [], ◌∷◌, ◌++◌, ◌∙◌, length, map, get_or, take, sym, refl, ap, arith, inl, inr, Bool, true, false, add-one}
 use Rattle.std.specs.Prelude.{cond, nat_lt}
 use Rattle.std.specs.List.{All, sum_by, filter, flat_map, range_with_len}
 use Rattle.std.proofs.lemmas.Bool.{cases_eq, cases_lt, ne_eqb, eq-eqb, lt-ltb, le-ltb}
-use Rattle.std.proofs.lemmas.List.Sums.{sum_by-cons, sum_by-append, sum_by-le-sum_by}
-use Rattle.std.proofs.lemmas.List.FromFn.{get_or-range_with_len, length-range_with_len}
+use Rattle.std.proofs.lemmas.List.Sums.{sum_by-cons, sum_by-append, sum_by_push, sum_by_more, sum_by-le-sum_by}
+use Rattle.std.proofs.lemmas.List.{map-id, take_all}
+use Rattle.std.proofs.lemmas.List.FromFn.{get_or-range_with_len, length-range_with_len, map-range_with_len_more}
 use Rattle.yds_model.proofs.Sums.{sum_by-add, sum_by_same, sum_by_zero}
 
 filter_step : {X : Type 0} (p : Bool) (x : X) (f : X → ℕ) (xs : List X) →
@@ -111,7 +112,7 @@ split_all key f n xs below =
     ∙ sum_by_same (λ x. cond (nat_lt (key x) n) (f x) 0) f xs
         (λ i d within. ap (λ b. cond b (f (get_or xs i d)) 0) (lt-ltb (key (get_or xs i d)) n (below i d within)))
 
-cond_at_most : (b : Bool) (v : ℕ) → cond b v 0 ≤ v
+pub cond_at_most : (b : Bool) (v : ℕ) → cond b v 0 ≤ v
 cond_at_most true v = omega arith
 cond_at_most false v = omega arith
 
@@ -129,3 +130,33 @@ split_at_most key f n xs =
 pub count_all : {X : Type 0} (xs : List X) → sum_by (λ x. 1) xs ≡ length xs
 count_all [] = refl
 count_all (x ∷ xs) = omega (arith, sum_by-cons (λ one. 1) x xs, count_all xs)
+
+-- a range, one longer
+pub range_more : (n : ℕ) → range_with_len 0 (n + 1) ≡ range_with_len 0 n ++ n ∷ []
+range_more n =
+    sym (map-id (range_with_len 0 (n + 1)))
+    ∙ map-range_with_len_more (λ k. k) 0 n n (omega arith)
+    ∙ ap (λ ks. ks ++ n ∷ []) (map-id (range_with_len 0 n))
+
+-- a sum over the first elements, by their places
+pub sum_of_first : {X : Type 0} (f : X → ℕ) (xs : List X) (d : X) (i : ℕ) → i ≤ length xs →
+    sum_by (λ k. f (get_or xs k d)) (range_with_len 0 i) ≡ sum_by f (take i xs)
+sum_of_first f xs d zero within = refl
+sum_of_first f xs d (suc i) within =
+    ap (sum_by (λ k. f (get_or xs k d))) (ap (range_with_len 0) (sym (add-one i)) ∙ range_more i)
+    ∙ sum_by_push (λ k. f (get_or xs k d)) (range_with_len 0 i) i
+    ∙ ap (λ n. n + f (get_or xs i d)) (sum_of_first f xs d i (omega arith))
+    ∙ sym (ap (λ n. sum_by f (take n xs)) (sym (add-one i)) ∙ sum_by_more f xs i d (omega arith))
+
+pub sum_of_all : {X : Type 0} (f : X → ℕ) (xs : List X) (d : X) → sum_by (λ k. f (get_or xs k d)) (range_with_len 0 (length xs)) ≡ sum_by f xs
+sum_of_all f xs d = sum_of_first f xs d (length xs) (omega arith) ∙ ap (sum_by f) (take_all (length xs) xs (omega arith))
+
+-- the terms before a place and the one at it are within all
+pub range_within : (f : ℕ → ℕ) (n k : ℕ) → k < n → sum_by f (range_with_len 0 k) + f k ≤ sum_by f (range_with_len 0 n)
+range_within f zero k below = absurd (omega arith)
+range_within f (suc n) k below =
+    let last = ap (sum_by f) (ap (range_with_len 0) (sym (add-one n)) ∙ range_more n) ∙ sum_by_push f (range_with_len 0 n) n in
+    elim (cases_lt k n) [
+      | inl before ↦ omega (arith, range_within f n k before, last)
+      | inr here ↦ let same : k ≡ n = omega arith in rw same (omega (arith, last))
+    ]
