@@ -7,6 +7,7 @@
 #![tactic(auto)]
 
 mod found;
+mod layout;
 mod layout_levels;
 mod layout_members;
 mod layout_slots;
