@@ -5,7 +5,7 @@ use Rattle.std.proofs.lemmas.List.{map-append, length-append, get_or-append-add}
 use Rattle.std.proofs.lemmas.List.Concat.{flat_map-append}
 use Rattle.std.proofs.lemmas.List.Elements.{All-nil, All-cons, All-head, All-tail, All-append}
 use Rattle.yds_model.proofs.Lists.{AllPairs-append, Any-append_left}
-use Rattle.yds_plan.proofs.Split.{All-range}
+use Rattle.yds_plan.proofs.KeySums.{All-range}
 
 pub All-front : {X : Type 0} (P : X → Type 0) (xs ys : List X) → All P (xs ++ ys) → All P xs
 All-front P [] ys all = All-nil P

@@ -14,7 +14,7 @@ use Rattle.yds_model.specs.Event.{with_time, rising_times, event_points, neighbo
 use Rattle.yds_model.proofs.Sums.{sum_by-mul, sum_by_same, sum_by_at_most}
 use Rattle.yds_plan.specs.Found.{Group, Found, IsFound, no_group, group_of, group_at, no_piece, stretch_at, length_of, work_in, length_in}
 use Rattle.yds_plan.specs.Drafts.{AreGroupsWithin}
-use Rattle.yds_plan.proofs.Split.{in_range, split_at_most, sum_by-filter, sum_of_all, cond_at_most, count_all}
+use Rattle.yds_plan.proofs.KeySums.{in_range, split_at_most, sum_by-filter, sum_of_all, cond_at_most, count_all}
 use Rattle.yds_plan.proofs.Stretches.{stretches_run}
 
 -- all event points are in the jobs' windows

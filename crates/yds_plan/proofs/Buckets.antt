@@ -7,7 +7,7 @@ use Rattle.std.proofs.lemmas.List.{append-nil, length-map, get_or-map, map-set}
 use Rattle.std.proofs.lemmas.List.Elements.{filter_more}
 use Rattle.std.proofs.lemmas.List.FromFn.{get_or-map-range_with_len, length-map-range_with_len, map-range_with_len_more}
 use Rattle.yds_plan.specs.declared.share.Share.{Share as Struct}
-use Rattle.yds_plan.specs.Filling.{structs_in}
+use Rattle.yds_plan.specs.Room.{structs_in}
 use Rattle.yds_plan.proofs.Drafts.{map_range_set}
 
 pub empty_more : (n : ℕ) → map (structs_in []) (range_with_len 0 (n + 1)) ≡ map (structs_in []) (range_with_len 0 n) ++ [] ∷ []

@@ -13,7 +13,7 @@ use Rattle.yds_plan.specs.declared.found.Group.{Group as Struct}
 use Rattle.yds_plan.specs.Views.{group_view}
 use Rattle.yds_plan.specs.Laid.{slows_after, level_of, levels_among}
 use Rattle.yds_plan.specs.Drafts.{among, empty_level, empty_levels, joins_before, level_of_one, with_more, with_group, AreGroupsWithin}
-use Rattle.yds_plan.proofs.Split.{in_range, not_here, is_here, range_more, sum_of_first, cond_at_most}
+use Rattle.yds_plan.proofs.KeySums.{in_range, not_here, is_here, range_more, sum_of_first, cond_at_most}
 use Rattle.yds_plan.proofs.Speeds.{among_above}
 
 -- values over a range, of which one is replaced

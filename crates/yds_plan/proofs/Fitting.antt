@@ -18,7 +18,7 @@ use Rattle.yds_plan.specs.declared.share.Share.{Share as Struct}
 use Rattle.yds_plan.specs.Found.{Group, Share, per_time, per_work, no_share}
 use Rattle.yds_plan.specs.Views.{share_view, shares_view}
 use Rattle.yds_plan.specs.Laid.{with_parts, slot_for, slots_from}
-use Rattle.yds_plan.specs.Filling.{IsWithin, CanFill}
+use Rattle.yds_plan.specs.Room.{IsWithin, CanFill}
 use Rattle.yds_plan.proofs.Divisors.{lowest}
 use Rattle.yds_plan.proofs.Buckets.{no_struct}
 use Rattle.yds_plan.proofs.Filled.{units_of, slots_from_length}

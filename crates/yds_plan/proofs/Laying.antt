@@ -21,11 +21,11 @@ use Rattle.yds_plan.specs.declared.found.Group.{Group as GroupStruct}
 use Rattle.yds_plan.specs.Found.{Group, Share, Found, IsFound, no_share, share_at, no_group, group_of, group_at, per_time, per_work, stretch_at, units_of_job}
 use Rattle.yds_plan.specs.Views.{share_view, shares_view, group_view}
 use Rattle.yds_plan.specs.Laid.{slots_from, shares_in, slots_in, slots_of}
-use Rattle.yds_plan.specs.Filling.{structs_in, CanFill}
-use Rattle.yds_plan.proofs.Split.{range_more, range_within}
+use Rattle.yds_plan.specs.Room.{structs_in, CanFill}
+use Rattle.yds_plan.proofs.KeySums.{range_more, range_within}
 use Rattle.yds_plan.proofs.Stretches.{few_stretches}
 use Rattle.yds_plan.proofs.Blocks.{all_of_blocks}
-use Rattle.yds_plan.proofs.Shares.{Serves, all_serve}
+use Rattle.yds_plan.proofs.Served.{Serves, all_serve}
 use Rattle.yds_plan.proofs.Filled.{IsOverTerms, over_terms, slots_of_jobs, slots_from_length}
 use Rattle.yds_plan.proofs.Schedule.{has_work, terms, room}
 use Rattle.yds_plan.proofs.Buckets.{vector_at}

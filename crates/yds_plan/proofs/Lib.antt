@@ -1,11 +1,11 @@
 pub mod Divisors
 pub mod Parts
-pub mod Split
+pub mod KeySums
 pub mod Stretches
 pub mod Joined
 pub mod Speeds
 pub mod Blocks
-pub mod Shares
+pub mod Served
 pub mod Filled
 pub mod Order
 pub mod Schedule

@@ -19,10 +19,10 @@ use Rattle.yds_model.proofs.Sums.{sum_by_same}
 use Rattle.yds_plan.specs.Found.{Group, Share, Found, IsFound, group_of, group_at, per_time, per_work, stretch_at, length_of}
 use Rattle.yds_plan.specs.Laid.{level_of, levels_among, level_of_place, together, members_of, stretches_of, joined, level_numbered, levels_of, slots_in, slots_of, shares_in}
 use Rattle.yds_plan.proofs.Divisors.{same_lowest, lowest}
-use Rattle.yds_plan.proofs.Split.{count_all, split_all, sum_by-filter}
+use Rattle.yds_plan.proofs.KeySums.{count_all, split_all, sum_by-filter}
 use Rattle.yds_plan.proofs.Stretches.{release_outside, deadline_outside, stretch_with, few_stretches}
 use Rattle.yds_plan.proofs.Blocks.{all_of_blocks}
-use Rattle.yds_plan.proofs.Shares.{Serves, all_serve}
+use Rattle.yds_plan.proofs.Served.{Serves, all_serve}
 use Rattle.yds_plan.proofs.Filled.{IsOverTerms, over_terms, slots_of_jobs, slots_from_length}
 use Rattle.yds_plan.proofs.Speeds.{AreGroups, level_rises, among_above, among_found, level_speed, level_has, level_slower, same_through}
 use Rattle.yds_plan.proofs.Schedule.{Stands, has_work, terms, all_stand, feasible, served_in_stretches}

@@ -17,10 +17,10 @@ use Rattle.yds_model.proofs.Sums.{sum_by-mul, sum_by_same, sum_by_zero}
 use Rattle.yds_plan.specs.Found.{Group, Share, Found, IsFound, IsInWindow, group_of, group_at, per_time, per_work, no_piece, stretch_at, length_of, units_of_job, units_in_stretch}
 use Rattle.yds_plan.specs.Laid.{slots_in, slots_of, shares_in}
 use Rattle.yds_plan.proofs.Divisors.{Lowest, lowest}
-use Rattle.yds_plan.proofs.Split.{in_range, not_here, sum_by-filter, sum_by-flat_map, split_all}
+use Rattle.yds_plan.proofs.KeySums.{in_range, not_here, sum_by-filter, sum_by-flat_map, split_all}
 use Rattle.yds_plan.proofs.Stretches.{stretch_forward, stretch_order, release_outside}
 use Rattle.yds_plan.proofs.Blocks.{map-flat_map, all_of_blocks, block_of_all, pairs_of_blocks}
-use Rattle.yds_plan.proofs.Shares.{Serves, IsBefore, all_serve, some_units, shares_in_order}
+use Rattle.yds_plan.proofs.Served.{Serves, IsBefore, all_serve, some_units, shares_in_order}
 use Rattle.yds_plan.proofs.Filled.{Fills, FollowsBy, fills, filled_pairs, filled_work, slots_of_jobs, jobs_at, units_of}
 use Rattle.yds_plan.proofs.Order.{Follows, StartsFrom, run_from_pairs, earliest_after}
 

@@ -2,4 +2,4 @@ pub mod Found
 pub mod Views
 pub mod Laid
 pub mod Drafts
-pub mod Filling
+pub mod Room

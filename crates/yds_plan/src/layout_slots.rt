@@ -8,7 +8,7 @@ ghost use Rattle.yds_slots.specs.Slot.{IsSlot};
 ghost use Rattle.yds_plan.specs.Found.{IsFound, per_time, per_work};
 ghost use Rattle.yds_plan.specs.Views.{shares_view, group_view, found_view};
 ghost use Rattle.yds_plan.specs.Laid.{with_parts, slots_from, slots_of};
-ghost use Rattle.yds_plan.specs.Filling.{structs_in, IsWithin, CanFill};
+ghost use Rattle.yds_plan.specs.Room.{structs_in, IsWithin, CanFill};
 
 use crate::found::{Found, Group};
 use crate::share::Share;

@@ -1,7 +1,7 @@
 use Rattle.std.proofs.Common.{◌∷◌, [], ◌++◌, ◌∙◌, sym, ap, map}
 use Rattle.std.proofs.lemmas.List.{map_push}
 use Rattle.std.specs.List.{range_with_len}
-use Rattle.yds_plan.specs.Filling.{structs_in}
+use Rattle.yds_plan.specs.Room.{structs_in}
 use Rattle.yds_plan.proofs.Buckets.{empty_more}
 use Rattle.yds_plan.proofs.layout_slots.empty_lists.Goals as goal
 

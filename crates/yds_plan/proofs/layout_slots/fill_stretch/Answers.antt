@@ -1,6 +1,6 @@
 use Rattle.std.proofs.Common.{◌≡◌, ◌+◌, ◌*◌, ◌≤◌, ◌∙◌, ap, arith, get_or, take}
 use Rattle.std.proofs.Math.Nat.{mul-le-mul_right, mul-le-mul_left}
-use Rattle.yds_plan.specs.Filling.{IsWithin}
+use Rattle.yds_plan.specs.Room.{IsWithin}
 use Rattle.yds_plan.specs.Views.{group_view}
 use Rattle.yds_plan.proofs.Buckets.{no_struct}
 use Rattle.yds_plan.proofs.Divisors.{lowest}

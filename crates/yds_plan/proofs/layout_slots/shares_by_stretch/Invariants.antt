@@ -1,6 +1,6 @@
 use Rattle.std.proofs.Common.{◌≡◌, map, take}
 use Rattle.std.specs.List.{range_with_len}
-use Rattle.yds_plan.specs.Filling.{structs_in}
+use Rattle.yds_plan.specs.Room.{structs_in}
 use Rattle.yds_plan.proofs.layout_slots.shares_by_stretch.Given as goal
 
 abbrev pub invariant-loop-share : goal.invariant-loop-share
