@@ -1,1 +1,4 @@
 pub mod Found
+pub mod Views
+pub mod Windows
+pub mod Fill

@@ -6,4 +6,11 @@
 //! are laws of that definition.
 #![tactic(auto)]
 
+mod finder;
+mod finder_amounts;
+mod finder_closure;
+mod finder_fill;
+mod finder_split;
+mod finder_windows;
+mod found;
 mod share;
