@@ -1,2 +1,4 @@
 mod Orders
 mod Fill
+mod Filling
+mod Ranges

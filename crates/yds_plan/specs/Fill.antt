@@ -1,7 +1,7 @@
 -- The fill of stretches with room by jobs that want units: each job, in order of deadline and number, takes the earliest
 -- room in its window.
-use Rattle.std.specs.Prelude.{◌≡◌, ℕ, ◌+◌, ◌<◌, ◌≤◌, ◌⊎◌, ◌==◌, nat_lt, min, List, length, slice_index, count_by}
-use Rattle.std.specs.List.{All, AllPairs}
+use Rattle.std.specs.Prelude.{◌≡◌, ℕ, ◌+◌, ◌<◌, ◌≤◌, ◌⊎◌, ◌==◌, nat_lt, min, if◌then◌else◌, List, length, take, slice_index, count_by}
+use Rattle.std.specs.List.{All, AllPairs, sum_by}
 use Rattle.yds_model.specs.Job.{Job}
 use Rattle.yds_model.specs.EarliestFirst.{ComesFirst}
 use Rattle.yds_plan.specs.declared.finder_windows.Window.{Window}
@@ -65,3 +65,16 @@ pub record IsFill (jobs : List Job) (windows : List Window) (wants rooms : List 
   pub room : (k : ℕ) → units_in_stretch shares k + slice_index rooms' k ≡ slice_index rooms k
   pub late : (j : ℕ) → j < length jobs → 1 ≤ slice_index wants' j → (k : ℕ) → IsIn windows j k → IsFullBefore jobs shares rooms' k j
   pub few : length shares + full_count rooms ≤ wanting_count wants + full_count rooms'
+
+-- The jobs before place i of the order have taken what they could.
+pub record IsFilling (jobs : List Job) (windows : List Window) (order wants rooms : List ℕ) (i : ℕ)
+    (shares : List Share) (wants' rooms' : List ℕ) : Type 0 where
+  pub taken : AreTaken jobs windows (length rooms) shares rooms'
+  pub same_wants : length wants' ≡ length wants
+  pub same_rooms : length rooms' ≡ length rooms
+  pub want : (j : ℕ) → units_of_job shares j + slice_index wants' j ≡ slice_index wants j
+  pub room : (k : ℕ) → units_in_stretch shares k + slice_index rooms' k ≡ slice_index rooms k
+  pub later : i < length order → All (λ share. Precedes jobs share.job (slice_index order i)) shares
+  pub late : (a : ℕ) → a < i → 1 ≤ slice_index wants' (slice_index order a) → (k : ℕ) → IsIn windows (slice_index order a) k →
+      IsFullBefore jobs shares rooms' k (slice_index order a)
+  pub few : length shares + full_count rooms ≤ sum_by (λ j. if nat_lt 0 (slice_index wants j) then 1 else 0) (take i order) + full_count rooms'

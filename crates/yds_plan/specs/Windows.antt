@@ -1,6 +1,7 @@
 -- Jobs' windows as ranges of stretches, and the order in which jobs are served.
 use Rattle.std.specs.Prelude.{◌≡◌, ℕ, ◌<◌, ◌≤◌, ◌↔◌, List, length, slice_index}
-use Rattle.std.specs.List.{slice_index_or}
+use Rattle.std.specs.List.{slice_index_or, range_with_len}
+use Rattle.std.specs.List.Sorted.{IsPermutation}
 use Rattle.yds_model.specs.Job.{Job}
 use Rattle.yds_model.specs.Event.{stretches}
 use Rattle.yds_model.specs.EarliestFirst.{ComesFirst}
@@ -33,4 +34,5 @@ Precedes jobs one other = (one ≡ other → ⊥) × ComesFirst jobs one other
 pub record IsOrder (jobs : List Job) (order : List ℕ) : Type 0 where
   pub known : (i : ℕ) → i < length order → slice_index order i < length jobs
   pub rising : (a b : ℕ) → a < b → b < length order → Precedes jobs (slice_index order a) (slice_index order b)
+  pub once : IsPermutation (range_with_len 0 (length jobs)) order
   pub each : (j : ℕ) → j < length jobs → (a : ℕ) × (a < length order) × (slice_index order a ≡ j)

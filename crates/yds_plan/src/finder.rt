@@ -56,7 +56,7 @@ fn advance(alloc: Global, instance: &Instance, found: &mut Found, top: u32) -> R
     let divisor = common_divisor(work, length);
     let wants = wants(alloc, instance.rows, &found.group_of_job, top, length / divisor)?;
     let rooms = rooms(alloc, instance.times, &found.group_of_stretch, top, work / divisor)?;
-    let filled = fill(alloc, &instance.windows, &instance.order, wants, rooms)?;
+    let filled = fill(alloc, instance.rows, &instance.windows, &instance.order, wants, rooms)?;
     if has_late(&filled.wants) {
         split(alloc, instance, found, top, &filled)?;
         Ok(top - 1)
