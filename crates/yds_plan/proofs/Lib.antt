@@ -2,3 +2,4 @@ mod Orders
 mod Fill
 mod Filling
 mod Ranges
+mod Closure

@@ -2,3 +2,4 @@ pub mod Found
 pub mod Views
 pub mod Windows
 pub mod Fill
+pub mod Closure

@@ -2,7 +2,7 @@
 use Rattle.std.specs.Prelude.{◌≡◌, ℕ, ◌<◌, ◌≤◌, ◌↔◌, List, length, slice_index}
 use Rattle.std.specs.List.{slice_index_or, range_with_len}
 use Rattle.std.specs.List.Sorted.{IsPermutation}
-use Rattle.yds_model.specs.Job.{Job}
+use Rattle.yds_model.specs.Job.{Job, job_at}
 use Rattle.yds_model.specs.Event.{stretches}
 use Rattle.yds_model.specs.EarliestFirst.{ComesFirst}
 use Rattle.yds_plan.specs.declared.finder_windows.Window.{Window}
@@ -24,6 +24,8 @@ pub record AreWindows (jobs : List Job) (windows : List Window) : Type 0 where
   pub all : length windows ≡ length jobs
   pub some : (j : ℕ) → j < length jobs → (window_at windows j).first < (window_at windows j).end
   pub inside : (j : ℕ) → j < length jobs → (window_at windows j).end ≤ length (stretches jobs)
+  pub ends : (i j : ℕ) → i < length jobs → j < length jobs → (job_at jobs i).deadline ≤ (job_at jobs j).deadline →
+      (window_at windows i).end ≤ (window_at windows j).end
   pub are : (j k : ℕ) → j < length jobs → k < length (stretches jobs) → (IsIn windows j k ↔ IsInWindow jobs j k)
 
 -- another job, which comes first
