@@ -3,3 +3,4 @@ mod Fill
 mod Filling
 mod Ranges
 mod Closure
+mod Balance

@@ -3,3 +3,4 @@ pub mod Views
 pub mod Windows
 pub mod Fill
 pub mod Closure
+pub mod Search
