@@ -4,3 +4,6 @@ mod Filling
 mod Ranges
 mod Closure
 mod Balance
+mod Shares
+mod Finished
+mod Split
