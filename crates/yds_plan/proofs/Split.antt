@@ -48,6 +48,12 @@ factor_some : (a b : ℕ) → 1 ≤ a * b → 1 ≤ b
 factor_some a zero some = omega arith
 factor_some a (suc b) some = omega arith
 
+product_some : (a b : ℕ) → 1 ≤ a → 1 ≤ b → 1 ≤ a * b
+product_some a b one other = grind arith
+
+below_is : (a b : ℕ) → a + 1 ≡ b + 1 → a ≡ b
+below_is a b same = omega arith
+
 -- a job that wanted something is one of the group
 own_job : (s : Splitting) (j : ℕ) → j < length s.jobs → 1 ≤ get_or s.wants j 0 →
     (group_of s.found.group_of_job j ≡ s.below + 1) × (1 ≤ (job_at s.jobs j).work)
@@ -297,4 +303,180 @@ new_boundary s = record {
         let mine = sym (other_stretch s k known (λ new. omega (arith, new, is))) ∙ is in
         omega (arith, s.filled.room k known, chosen (group_of s.found.group_of_stretch k) (s.below + 1) (s.p * length_of s.jobs k) mine, s.filled.fill.room k);
   };
+}
+
+alike_job : (s : Splitting) (j : ℕ) → j < length s.jobs → AreAlike (length s.found.groups) (group_of s.found.group_of_job j) (group_of s.new_jobs j)
+alike_job s j known = elim (s.split.job j (omega (arith, s.search.all_jobs))) [
+  | inl upper ↦ inr (omega (arith, upper.0, s.apart), omega (arith, upper.2, s.apart))
+  | inr same ↦ inl (sym same.1)
+]
+
+alike_stretch : (s : Splitting) (k : ℕ) → k < length (stretches s.jobs) → AreAlike (length s.found.groups) (group_of s.found.group_of_stretch k) (group_of s.new_stretches k)
+alike_stretch s k known = elim (s.split.stretch k (omega (arith, s.search.all_stretches))) [
+  | inl upper ↦ inr (omega (arith, upper.0, s.apart), omega (arith, upper.2, s.apart))
+  | inr same ↦ inl (sym same.1)
+]
+
+-- where a job with work is after the split
+job_after : (s : Splitting) (j : ℕ) → j < length s.jobs → 1 ≤ (job_at s.jobs j).work →
+    (group_of s.new_jobs j < length s.found.groups) ⊎ ((s.below ≤ group_of s.new_jobs j) × (group_of s.new_jobs j ≤ s.last))
+job_after s j known some = elim (s.split.job j (omega (arith, s.search.all_jobs))) [
+  | inl upper ↦ inr (omega (arith, upper.2), omega (arith, upper.2, s.within))
+  | inr same ↦ elim (s.search.with_work j known some) [
+    | inl finished ↦ inl (omega (arith, same.1, finished))
+    | inr later ↦ inr (omega (arith, same.1, later.0), omega (arith, same.1, later.1))
+  ]
+]
+
+stretch_after : (s : Splitting) (k : ℕ) → k < length (stretches s.jobs) →
+    (group_of s.new_stretches k < length s.found.groups) ⊎ (s.below ≤ group_of s.new_stretches k)
+stretch_after s k known = elim (s.split.stretch k (omega (arith, s.search.all_stretches))) [
+  | inl upper ↦ inr (omega (arith, upper.2))
+  | inr same ↦ elim (s.search.stretch k known) [
+    | inl finished ↦ inl (omega (arith, same.1, finished))
+    | inr later ↦ inr (omega (arith, same.1, later))
+  ]
+]
+
+-- a marked stretch of the group has a share of a job of the upper part
+covered_above : (s : Splitting) (k : ℕ) → k < length (stretches s.jobs) → group_of s.new_stretches k ≡ s.below →
+    (j : ℕ) × MayRun s.jobs s.windows j k × (group_of s.new_jobs j ≡ group_of s.new_stretches k)
+covered_above s k known new =
+    let upper = upper_stretch s k known new in
+    let found = some_share (λ share. share.stretch) s.shares k (omega (
+          arith,
+          s.filled.fill.room k,
+          s.closed.full k known upper.1,
+          s.filled.room k known,
+          chosen (group_of s.found.group_of_stretch k) (s.below + 1) (s.p * length_of s.jobs k) upper.0,
+          product_some s.p (length_of s.jobs k) s.filled.some_time (s.long k known),
+        )) in
+    let own = own_share s found.0 found.1 in
+    (
+      (share_at s.shares found.0).job,
+      subst (λ (n : ℕ). MayRun s.jobs s.windows (share_at s.shares found.0).job n) found.2 own.runs,
+      shared_job s found.0 found.1 (subst (λ (n : ℕ). IsMarked s.reaches n) (sym found.2) upper.1) ∙ sym new,
+    )
+
+covered_below : (s : Splitting) (k : ℕ) → k < length (stretches s.jobs) → (group_of s.new_stretches k ≡ s.below → ⊥) →
+    s.below ≤ group_of s.new_stretches k → group_of s.new_stretches k ≤ s.last →
+    (j : ℕ) × MayRun s.jobs s.windows j k × (group_of s.new_jobs j ≡ group_of s.new_stretches k)
+covered_below s k known other from upto =
+    let same = other_stretch s k known other in
+    let found = s.search.covered k known (omega (arith, same)) (omega (arith, same)) in
+    (found.0, found.1, elim (cases_eq (group_of s.found.group_of_job found.0) (s.below + 1)) [
+      | inl mine ↦ lower_job s found.0 k found.1.known found.1.inside (same ∙ sym found.2 ∙ mine) ∙ found.2 ∙ sym same
+      | inr apart ↦ kept_job s found.0 (group_of s.found.group_of_job found.0) found.1.known apart refl ∙ found.2 ∙ sym same
+    ])
+
+meets_after : (s : Splitting) (j : ℕ) → j < length s.jobs → 1 ≤ (job_at s.jobs j).work → s.below ≤ group_of s.new_jobs j →
+    (k : ℕ) × IsIn s.windows j k × (group_of s.new_stretches k ≡ group_of s.new_jobs j)
+meets_after s j known some from = elim (s.split.job j (omega (arith, s.search.all_jobs))) [
+  | inl upper ↦
+      let found = s.search.meets j known some (omega (arith, upper.0)) in
+      (found.0, found.1, upper_only s j known (record { mine = upper.0; only = upper.1 }) found.0 found.1 (found.2 ∙ upper.0) ∙ sym (below_is (group_of s.new_jobs j) s.below upper.2))
+  | inr same ↦ elim (cases_eq (group_of s.found.group_of_job j) (s.below + 1)) [
+    | inl mine ↦
+        let found = same.0 mine in
+        (found.0, found.1, found.2 ∙ sym mine ∙ sym same.1)
+    | inr apart ↦ elim (s.search.with_work j known some) [
+      | inl finished ↦ absurd (omega (arith, same.1, finished, s.apart))
+      | inr later ↦
+          let found = s.search.meets j known some later.0 in
+          (found.0, found.1,
+              kept_stretch s found.0 (group_of s.found.group_of_job j) (omega (arith, found.1.upto, s.windows_are.inside j known)) apart found.2 ∙ sym same.1)
+    ]
+  ]
+]
+
+not_after_split : (s : Splitting) (j k : ℕ) → MayRun s.jobs s.windows j k → group_of s.new_stretches k ≤ group_of s.new_jobs j
+not_after_split s j k runs =
+    let known : k < length (stretches s.jobs) = omega (arith, runs.inside.upto, s.windows_are.inside j runs.known) in
+    let before = s.search.not_after j k runs in
+    elim (s.split.job j (omega (arith, s.search.all_jobs, runs.known))) [
+      | inl upper ↦ elim (cases_eq (group_of s.found.group_of_stretch k) (s.below + 1)) [
+        | inl mine ↦ omega (arith, upper.2, upper_only s j runs.known (record { mine = upper.0; only = upper.1 }) k runs.inside mine)
+        | inr apart ↦ omega (arith, upper.0, upper.2, before, kept_stretch s k (group_of s.found.group_of_stretch k) known apart refl)
+      ]
+      | inr same ↦ elim (s.split.stretch k (omega (arith, s.search.all_stretches))) [
+        | inl moves ↦ omega (arith, moves.0, moves.2, same.1, before)
+        | inr stays ↦ omega (arith, stays.1, same.1, before)
+      ]
+    ]
+
+peopled_after : (s : Splitting) (c : ℕ) → s.below ≤ c → c ≤ s.last → (k : ℕ) × (k < length (stretches s.jobs)) × (group_of s.new_stretches k ≡ c)
+peopled_after s c from upto = elim (cases_eq c s.below) [
+  | inl upper ↦
+      let late = late_job s s.a_late.0 s.a_late.1 s.a_late.2 in
+      let found = s.search.meets s.a_late.0 s.a_late.1 late.1 (omega (arith, late.0)) in
+      let known : found.0 < length (stretches s.jobs) = omega (arith, found.1.upto, s.windows_are.inside s.a_late.0 s.a_late.1) in
+      (found.0, known, marked_stretch s found.0 known (found.2 ∙ late.0)
+          (s.closed.late s.a_late.0 found.0 (omega (arith, s.windows_are.all, s.a_late.1)) s.a_late.2 found.1) ∙ sym upper)
+  | inr other ↦ elim (cases_eq c (s.below + 1)) [
+    | inl lower ↦
+        let found = some_room s in
+        (found.0, found.1, elim (s.split.stretch found.0 (omega (arith, s.search.all_stretches, found.1))) [
+          | inl moves ↦ absurd (found.3 moves.1)
+          | inr same ↦ same.1 ∙ found.2 ∙ sym lower
+        ])
+    | inr above ↦
+        let found = s.search.peopled c (omega arith) upto in
+        (found.0, found.1, kept_stretch s found.0 c found.1 above found.2)
+  ]
+]
+
+between_after : (s : Splitting) (c : ℕ) → s.below ≤ c → c < s.last → IsBoundary s.jobs s.windows (moved s.found s.new_jobs s.new_stretches) c
+between_after s c from upto = elim (cases_eq c s.below) [
+  | inl upper ↦ subst (λ (n : ℕ). IsBoundary s.jobs s.windows (moved s.found s.new_jobs s.new_stretches) n) (sym upper) (new_boundary s)
+  | inr other ↦
+      let old = s.search.between c (omega arith) upto in
+      record {
+        p = old.p;
+        q = old.q;
+        shares = old.shares;
+        some = old.some;
+        inside = old.inside;
+        fast = elim (cases_eq c (s.below + 1)) [
+          | inl lower ↦
+              subst (λ (n : ℕ). IsFast s.jobs (moved s.found s.new_jobs s.new_stretches) n old.p old.q old.shares) (sym lower)
+              (lower_fast s old.p old.q old.shares old.inside (subst (λ (n : ℕ). IsFast s.jobs s.found n old.p old.q old.shares) lower old.fast))
+          | inr above ↦ kept_fast s c old.p old.q old.shares (omega arith) old.inside old.fast
+        ];
+        slow = kept_slow s (c + 1) old.p old.q old.shares (omega arith) old.inside old.slow;
+      }
+]
+
+-- after a split the search goes on with the upper part
+pub split_search : (s : Splitting) → IsSearch s.jobs s.windows (moved s.found s.new_jobs s.new_stretches) s.below s.last
+split_search s = record {
+  all_jobs = s.split.all_jobs ∙ s.search.all_jobs;
+  all_stretches = s.split.all_stretches ∙ s.search.all_stretches;
+  apart = s.apart;
+  range = omega (arith, s.within);
+  with_work = job_after s;
+  idle = λ j known none. elim (s.split.job j (omega (arith, s.search.all_jobs))) [
+    | inl upper ↦ absurd (omega (arith, s.search.idle j known none, upper.0, s.within))
+    | inr same ↦ omega (arith, s.search.idle j known none, same.1)
+  ];
+  stretch = stretch_after s;
+  covered = λ k known from upto. elim (cases_eq (group_of s.new_stretches k) s.below) [
+    | inl upper ↦ covered_above s k known upper
+    | inr other ↦ covered_below s k known other from upto
+  ];
+  meets = meets_after s;
+  not_after = not_after_split s;
+  peopled = peopled_after s;
+  between = between_after s;
+  lead = λ i last within.
+      let old = s.search.lead i last s.within in
+      record {
+        p = old.p;
+        q = old.q;
+        shares = old.shares;
+        some = old.some;
+        inside = old.inside;
+        fast = old.fast;
+        slow = upper_slow s old.p old.q old.shares old.inside old.slow;
+      };
+  finished = kept_finished s.jobs s.windows s.found s.new_jobs s.new_stretches (alike_job s) (alike_stretch s) s.search.finished;
 }
