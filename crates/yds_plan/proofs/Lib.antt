@@ -7,3 +7,4 @@ mod Balance
 mod Shares
 mod Finished
 mod Split
+mod Finish

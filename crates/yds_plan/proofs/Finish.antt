@@ -1,0 +1,226 @@
+-- A group without late jobs is finished.
+use Rattle.std.proofs.Common.{◌≡◌, ℕ, zero, suc, ◌+◌, ◌-◌, ◌*◌, ◌<◌, ◌≤◌, ◌≢◌, ◌⊎◌, ◌==◌, List, [], ◌∷◌, ◌++◌, ◌∙◌, length, get_or, refl, sym, ap, subst, inl, inr, arith}
+use Rattle.std.specs.Prelude.{if◌then◌else◌, cond, nat_lt}
+use Rattle.std.specs.List.{All, sum_by, count_by, range_with_len}
+use Rattle.std.proofs.lemmas.List.{length_push, length-append, get_or_append_left, get_or-append_right, get_or_push}
+use Rattle.std.proofs.lemmas.List.Elements.{All-append}
+use Rattle.std.proofs.lemmas.List.Sums.{sum_by-append, count_by-le-length}
+use Rattle.std.proofs.lemmas.Bool.{cases_lt, cases_eq}
+use Rattle.std.proofs.lemmas.Bool.Decides.{nat_tests}
+use Rattle.yds_model.specs.Job.{Job, job_at}
+use Rattle.yds_model.specs.Event.{stretches}
+use Rattle.yds_plan.specs.declared.finder_windows.Window.{Window}
+use Rattle.yds_plan.specs.Found.{Found, Group, Share, share_at, no_share, group_at, no_group, group_of, length_of, work_in, length_in, per_time, per_work, units_of_job, units_in_stretch, IsShare}
+use Rattle.yds_plan.specs.Windows.{window_at, IsIn, AreWindows}
+use Rattle.yds_plan.specs.Fill.{IsFill, IsPart, full_count, wanting_count}
+use Rattle.yds_plan.specs.Search.{IsFast, IsSlow, LieInWindows, IsBoundary, IsLead, IsFinished, MayRun, IsSearch, IsFilled, finished_count}
+use Rattle.yds_plan.proofs.Shares.{chosen, not_chosen, chosen_some, share_counts, no_units}
+use Rattle.yds_plan.proofs.Ranges.{over, over_same, over_at_most, over_add, over_one, over_list}
+use Rattle.yds_plan.proofs.Balance.{balance, fast_speed, slow_speed, speed_order}
+use Rattle.yds_plan.proofs.Finished.{moved, AreAlike, kept_finished}
+
+-- one number becomes another
+abbrev pub IsRenamed : ℕ → ℕ → ℕ → ℕ → Type 0
+IsRenamed from to one other = ((one ≡ from) × (other ≡ to)) ⊎ ((one ≡ from → ⊥) × (other ≡ one))
+
+-- all that is known when group `top` is finished
+pub record Finishing : Type 0 where
+  pub jobs : List Job
+  pub windows : List Window
+  pub found : Found
+  pub top : ℕ
+  pub last : ℕ
+  pub group : Group
+  pub wants : List ℕ
+  pub rooms : List ℕ
+  pub shares : List Share
+  pub wants_left : List ℕ
+  pub rooms_left : List ℕ
+  pub new_jobs : List ℕ
+  pub new_stretches : List ℕ
+  pub windows_are : AreWindows jobs windows
+  pub search : IsSearch jobs windows found top last
+  pub within : top ≤ last
+  pub filled : IsFilled jobs windows found top (per_time group) (per_work group) wants rooms shares wants_left rooms_left
+  pub served : (j : ℕ) → j < length jobs → get_or wants_left j 0 ≡ 0
+  pub full : (k : ℕ) → k < length (stretches jobs) → get_or rooms_left k 0 ≡ 0
+  pub work : group.work ≡ work_in jobs found.group_of_job top (length jobs)
+  pub length_is : group.length ≡ length_in jobs found.group_of_stretch top (length (stretches jobs))
+  pub some_work : 1 ≤ group.work
+  pub some_length : 1 ≤ group.length
+  pub all_jobs : length new_jobs ≡ length found.group_of_job
+  pub all_stretches : length new_stretches ≡ length found.group_of_stretch
+  pub job : (j : ℕ) → j < length jobs → IsRenamed top (length found.groups) (group_of found.group_of_job j) (group_of new_jobs j)
+  pub stretch : (k : ℕ) → k < length (stretches jobs) →
+      IsRenamed top (length found.groups) (group_of found.group_of_stretch k) (group_of new_stretches k)
+
+-- what is found then
+abbrev pub ended : Finishing → Found
+ended f = record {
+  groups = f.found.groups ++ f.group ∷ [];
+  group_of_job = f.new_jobs;
+  group_of_stretch = f.new_stretches;
+  shares = f.found.shares ++ f.shares;
+}
+
+-- no job and no stretch had the number that the group gets, but if it was its own
+job_number : (f : Finishing) (j : ℕ) → j < length f.jobs → group_of f.found.group_of_job j ≡ length f.found.groups → group_of f.found.group_of_job j ≡ f.top
+job_number f j known is = elim (cases_lt 0 (job_at f.jobs j).work) [
+  | inl some ↦ elim (f.search.with_work j known some) [
+    | inl finished ↦ absurd (omega (arith, finished, is))
+    | inr later ↦ omega (arith, later.0, is, f.search.apart)
+  ]
+  | inr none ↦ absurd (omega (arith, f.search.idle j known (omega arith), is, f.search.apart, f.within))
+]
+
+stretch_number : (f : Finishing) (k : ℕ) → k < length (stretches f.jobs) → group_of f.found.group_of_stretch k ≡ length f.found.groups →
+    group_of f.found.group_of_stretch k ≡ f.top
+stretch_number f k known is = elim (f.search.stretch k known) [
+  | inl finished ↦ absurd (omega (arith, finished, is))
+  | inr later ↦ omega (arith, later, is, f.search.apart)
+]
+
+alike_renamed : (groups top one other : ℕ) → groups ≤ top → IsRenamed top groups one other → AreAlike groups one other
+alike_renamed groups top one other apart renamed = elim renamed [
+  | inl both ↦ inr (omega (arith, both.0, apart), omega (arith, both.1))
+  | inr same ↦ inl (sym same.1)
+]
+
+-- the number afterwards tells whether it was the group's
+renamed_here : (groups top one other : ℕ) → groups ≤ top → (one ≡ groups → one ≡ top) → IsRenamed top groups one other → other ≡ groups → one ≡ top
+renamed_here groups top one other apart own renamed is = elim renamed [
+  | inl both ↦ both.0
+  | inr same ↦ own (sym same.1 ∙ is)
+]
+
+renamed_later : (groups top one other : ℕ) → groups ≤ top → IsRenamed top groups one other → top < other → one ≡ other
+renamed_later groups top one other apart renamed later = elim renamed [
+  | inl both ↦ absurd (omega (arith, both.1, apart, later))
+  | inr same ↦ sym same.1
+]
+
+renamed_before : (groups top one other : ℕ) → groups ≤ top → IsRenamed top groups one other → one < groups → other ≡ one
+renamed_before groups top one other apart renamed before = elim renamed [
+  | inl both ↦ absurd (omega (arith, both.0, apart, before))
+  | inr same ↦ same.1
+]
+
+renamed_same : (groups top one other : ℕ) → IsRenamed top groups one other → (one ≡ top → ⊥) → other ≡ one
+renamed_same groups top one other renamed apart = elim renamed [
+  | inl both ↦ absurd (apart both.0)
+  | inr same ↦ same.1
+]
+
+renamed_own : (groups top one other : ℕ) → IsRenamed top groups one other → one ≡ top → other ≡ groups
+renamed_own groups top one other renamed own = elim renamed [
+  | inl both ↦ both.1
+  | inr same ↦ absurd (same.0 own)
+]
+
+-- what the finished groups were is kept
+kept : (f : Finishing) → IsFinished f.jobs f.windows (moved f.found f.new_jobs f.new_stretches)
+kept f = kept_finished f.jobs f.windows f.found f.new_jobs f.new_stretches
+    (λ j known. alike_renamed (length f.found.groups) f.top (group_of f.found.group_of_job j) (group_of f.new_jobs j) f.search.apart (f.job j known))
+    (λ k known. alike_renamed (length f.found.groups) f.top (group_of f.found.group_of_stretch k) (group_of f.new_stretches k) f.search.apart (f.stretch k known))
+    f.search.finished
+
+-- what a share of the fill is of
+record Own (f : Finishing) (x : ℕ) : Type 0 where
+  runs : MayRun f.jobs f.windows (share_at f.shares x).job (share_at f.shares x).stretch
+  stretch_known : (share_at f.shares x).stretch < length (stretches f.jobs)
+  some : 1 ≤ (share_at f.shares x).units
+  job : group_of f.found.group_of_job (share_at f.shares x).job ≡ f.top
+  new_job : group_of f.new_jobs (share_at f.shares x).job ≡ length f.found.groups
+  stretch : group_of f.found.group_of_stretch (share_at f.shares x).stretch ≡ f.top
+  new_stretch : group_of f.new_stretches (share_at f.shares x).stretch ≡ length f.found.groups
+
+factor_some : (a b : ℕ) → 1 ≤ a * b → 1 ≤ b
+factor_some a zero some = omega arith
+factor_some a (suc b) some = omega arith
+
+own_share : (f : Finishing) (x : ℕ) → x < length f.shares → Own f x
+own_share f x within =
+    let part = f.filled.fill.taken.parts x no_share within in
+    let known : (share_at f.shares x).job < length f.jobs = omega (arith, part.known, f.windows_are.all) in
+    let known_stretch : (share_at f.shares x).stretch < length (stretches f.jobs) = omega (arith, part.known_stretch, f.filled.all_rooms) in
+    let job = chosen_some (group_of f.found.group_of_job (share_at f.shares x).job) f.top (per_work f.group * (job_at f.jobs (share_at f.shares x).job).work)
+          (get_or f.wants (share_at f.shares x).job 0) (f.filled.want (share_at f.shares x).job known)
+          (omega (arith, f.filled.fill.want (share_at f.shares x).job, share_counts (λ share. share.job) f.shares x within, part.some)) in
+    let stretch = chosen_some (group_of f.found.group_of_stretch (share_at f.shares x).stretch) f.top (per_time f.group * length_of f.jobs (share_at f.shares x).stretch)
+          (get_or f.rooms (share_at f.shares x).stretch 0) (f.filled.room (share_at f.shares x).stretch known_stretch)
+          (omega (arith, f.filled.fill.room (share_at f.shares x).stretch, share_counts (λ share. share.stretch) f.shares x within, part.some)) in
+    record {
+      runs = record {
+        known = known;
+        some = factor_some (per_work f.group) (job_at f.jobs (share_at f.shares x).job).work
+            (omega (arith, job.1, f.filled.fill.want (share_at f.shares x).job, share_counts (λ share. share.job) f.shares x within, part.some));
+        inside = part.inside;
+      };
+      stretch_known = known_stretch;
+      some = part.some;
+      job = job.0;
+      new_job = renamed_own (length f.found.groups) f.top (group_of f.found.group_of_job (share_at f.shares x).job) (group_of f.new_jobs (share_at f.shares x).job)
+          (f.job (share_at f.shares x).job known) job.0;
+      stretch = stretch.0;
+      new_stretch = renamed_own (length f.found.groups) f.top (group_of f.found.group_of_stretch (share_at f.shares x).stretch) (group_of f.new_stretches (share_at f.shares x).stretch)
+          (f.stretch (share_at f.shares x).stretch known_stretch) stretch.0;
+    }
+
+-- the groups before the new one, and the new one
+group_before : (f : Finishing) (i : ℕ) → i < length f.found.groups → group_at (f.found.groups ++ f.group ∷ []) i ≡ group_at f.found.groups i
+group_before f i within = get_or_append_left f.found.groups (f.group ∷ []) no_group i within
+
+group_here : (f : Finishing) (i : ℕ) → i ≡ length f.found.groups → group_at (f.found.groups ++ f.group ∷ []) i ≡ f.group
+group_here f i is = get_or_push f.found.groups f.group no_group i (sym is)
+
+-- a fact of each group, from that of each one before and that of the new one
+each_group : (f : Finishing) (P : ℕ → Group → Type 0) → ((i : ℕ) → i < length f.found.groups → P i (group_at f.found.groups i)) →
+    P (length f.found.groups) f.group → (i : ℕ) → i < length (f.found.groups ++ f.group ∷ []) → P i (group_at (f.found.groups ++ f.group ∷ []) i)
+each_group f P before here i within = elim (cases_lt i (length f.found.groups)) [
+  | inl old ↦ subst (P i) (sym (group_before f i old)) (before i old)
+  | inr new ↦
+      let is : i ≡ length f.found.groups = omega (arith, within, length_push f.found.groups f.group) in
+      subst (P i) (sym (group_here f i is)) (subst (λ (n : ℕ). P n f.group) (sym is) here)
+]
+
+-- the new group's number counts as the old one did
+renamed_chosen : (groups top one other value : ℕ) → groups ≤ top → (one ≡ groups → one ≡ top) → IsRenamed top groups one other →
+    (if one == top then value else 0) ≡ (if other == groups then value else 0)
+renamed_chosen groups top one other value apart own renamed = elim (cases_eq one top) [
+  | inl same ↦ chosen one top value same ∙ sym (chosen other groups value (renamed_own groups top one other renamed same))
+  | inr different ↦ not_chosen one top value different
+      ∙ sym (not_chosen other groups value (λ is. different (renamed_here groups top one other apart own renamed is)))
+]
+
+new_work : (f : Finishing) → f.group.work ≡ work_in f.jobs f.new_jobs (length f.found.groups) (length f.jobs)
+new_work f = f.work ∙ over_same (λ j. if group_of f.found.group_of_job j == f.top then (job_at f.jobs j).work else 0)
+    (λ j. if group_of f.new_jobs j == length f.found.groups then (job_at f.jobs j).work else 0) (length f.jobs)
+    (λ j known. renamed_chosen (length f.found.groups) f.top (group_of f.found.group_of_job j) (group_of f.new_jobs j) (job_at f.jobs j).work
+        f.search.apart (job_number f j known) (f.job j known))
+
+new_length : (f : Finishing) → f.group.length ≡ length_in f.jobs f.new_stretches (length f.found.groups) (length (stretches f.jobs))
+new_length f = f.length_is ∙ over_same (λ k. if group_of f.found.group_of_stretch k == f.top then length_of f.jobs k else 0)
+    (λ k. if group_of f.new_stretches k == length f.found.groups then length_of f.jobs k else 0) (length (stretches f.jobs))
+    (λ k known. renamed_chosen (length f.found.groups) f.top (group_of f.found.group_of_stretch k) (group_of f.new_stretches k) (length_of f.jobs k)
+        f.search.apart (stretch_number f k known) (f.stretch k known))
+
+-- the group is not faster than the one before it
+new_order : (f : Finishing) (i : ℕ) → i + 1 ≡ length f.found.groups →
+    f.group.work * (group_at f.found.groups i).length ≤ (group_at f.found.groups i).work * f.group.length
+new_order f i last =
+    let lead = f.search.lead i last f.within in
+    let slow = slow_speed f.jobs f.windows f.found f.top lead.p lead.q lead.shares lead.inside lead.slow in
+    speed_order (group_at f.found.groups i).work (group_at f.found.groups i).length f.group.work f.group.length lead.p lead.q lead.some lead.fast
+    (omega (arith, slow, ap (λ n. lead.q * n) f.work, ap (λ n. lead.p * n) f.length_is))
+
+each_order : (f : Finishing) (i : ℕ) → i + 1 < length (f.found.groups ++ f.group ∷ []) →
+    (group_at (f.found.groups ++ f.group ∷ []) (i + 1)).work * (group_at (f.found.groups ++ f.group ∷ []) i).length
+    ≤ (group_at (f.found.groups ++ f.group ∷ []) i).work * (group_at (f.found.groups ++ f.group ∷ []) (i + 1)).length
+each_order f i within =
+    let before : i < length f.found.groups = omega (arith, within, length_push f.found.groups f.group) in
+    subst (λ (g : Group). (group_at (f.found.groups ++ f.group ∷ []) (i + 1)).work * g.length ≤ g.work * (group_at (f.found.groups ++ f.group ∷ []) (i + 1)).length)
+    (sym (group_before f i before))
+    (each_group f (λ n g. n ≡ i + 1 → g.work * (group_at f.found.groups i).length ≤ (group_at f.found.groups i).work * g.length)
+        (λ n old is. subst (λ (n : ℕ). (group_at f.found.groups n).work * (group_at f.found.groups i).length ≤ (group_at f.found.groups i).work * (group_at f.found.groups n).length)
+            (sym is) (f.search.finished.order i (omega (arith, old, is))))
+        (λ is. new_order f i (sym is)) (i + 1) within refl)
