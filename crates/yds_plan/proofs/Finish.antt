@@ -1,9 +1,9 @@
 -- A group without late jobs is finished.
-use Rattle.std.proofs.Common.{◌≡◌, ℕ, zero, suc, ◌+◌, ◌-◌, ◌*◌, ◌<◌, ◌≤◌, ◌≢◌, ◌⊎◌, ◌==◌, List, [], ◌∷◌, ◌++◌, ◌∙◌, length, get_or, refl, sym, ap, subst, inl, inr, arith}
+use Rattle.std.proofs.Common.{◌≡◌, ℕ, zero, suc, ◌+◌, ◌-◌, ◌*◌, ◌<◌, ◌≤◌, ◌≢◌, ◌⊎◌, ◌==◌, Bool, true, false, List, [], ◌∷◌, ◌++◌, ◌∙◌, length, get_or, refl, sym, ap, subst, inl, inr, arith}
 use Rattle.std.specs.Prelude.{if◌then◌else◌, cond, nat_lt}
 use Rattle.std.specs.List.{All, sum_by, count_by, range_with_len}
 use Rattle.std.proofs.lemmas.List.{length_push, length-append, get_or_append_left, get_or-append_right, get_or_push}
-use Rattle.std.proofs.lemmas.List.Elements.{All-append}
+use Rattle.std.proofs.lemmas.List.Elements.{All-append, All-from_get_or}
 use Rattle.std.proofs.lemmas.List.Sums.{sum_by-append, count_by-le-length}
 use Rattle.std.proofs.lemmas.Bool.{cases_lt, cases_eq}
 use Rattle.std.proofs.lemmas.Bool.Decides.{nat_tests}
@@ -11,11 +11,12 @@ use Rattle.yds_model.specs.Job.{Job, job_at}
 use Rattle.yds_model.specs.Event.{stretches}
 use Rattle.yds_plan.specs.declared.finder_windows.Window.{Window}
 use Rattle.yds_plan.specs.Found.{Found, Group, Share, share_at, no_share, group_at, no_group, group_of, length_of, work_in, length_in, per_time, per_work, units_of_job, units_in_stretch, IsShare}
-use Rattle.yds_plan.specs.Windows.{window_at, IsIn, AreWindows}
+use Rattle.yds_model.specs.EarliestFirst.{ComesFirst}
+use Rattle.yds_plan.specs.Windows.{window_at, IsIn, AreWindows, Precedes}
 use Rattle.yds_plan.specs.Fill.{IsFill, IsPart, full_count, wanting_count}
 use Rattle.yds_plan.specs.Search.{IsFast, IsSlow, LieInWindows, IsBoundary, IsLead, IsFinished, MayRun, IsSearch, IsFilled, finished_count}
 use Rattle.yds_plan.proofs.Shares.{chosen, not_chosen, chosen_some, share_counts, no_units}
-use Rattle.yds_plan.proofs.Ranges.{over, over_same, over_at_most, over_add, over_one, over_list}
+use Rattle.yds_plan.proofs.Ranges.{over, over_same, over_at_most, over_add, over_ones, over_list}
 use Rattle.yds_plan.proofs.Balance.{balance, fast_speed, slow_speed, speed_order}
 use Rattle.yds_plan.proofs.Finished.{moved, AreAlike, kept_finished}
 
@@ -224,3 +225,253 @@ each_order f i within =
         (λ n old is. subst (λ (n : ℕ). (group_at f.found.groups n).work * (group_at f.found.groups i).length ≤ (group_at f.found.groups i).work * (group_at f.found.groups n).length)
             (sym is) (f.search.finished.order i (omega (arith, old, is))))
         (λ is. new_order f i (sym is)) (i + 1) within refl)
+
+-- the shares before the new ones, and the new ones
+share_before : (f : Finishing) (x : ℕ) → x < length f.found.shares → share_at (f.found.shares ++ f.shares) x ≡ share_at f.found.shares x
+share_before f x within = get_or_append_left f.found.shares f.shares no_share x within
+
+share_here : (f : Finishing) (x : ℕ) → length f.found.shares ≤ x → share_at (f.found.shares ++ f.shares) x ≡ share_at f.shares (x - length f.found.shares)
+share_here f x past = get_or-append_right f.found.shares f.shares (length f.found.shares) x no_share refl past
+
+all_shares : (f : Finishing) → All (IsShare f.jobs (ended f)) (f.found.shares ++ f.shares)
+all_shares f = All-append (IsShare f.jobs (ended f)) f.found.shares f.shares
+    (λ x d within.
+        let share = (kept f).shares x d within in
+        record {
+          known = share.known;
+          known_stretch = share.known_stretch;
+          some = share.some;
+          in_window = share.in_window;
+          grouped = omega (arith, share.grouped, length_push f.found.groups f.group);
+          same_group = share.same_group;
+        })
+    (All-from_get_or (IsShare f.jobs (ended f)) f.shares no_share (λ x within.
+        let own = own_share f x within in
+        record {
+          known = own.runs.known;
+          known_stretch = own.stretch_known;
+          some = own.some;
+          in_window = (f.windows_are.are (share_at f.shares x).job (share_at f.shares x).stretch own.runs.known own.stretch_known).0 own.runs.inside;
+          grouped = omega (arith, own.new_job, length_push f.found.groups f.group);
+          same_group = own.new_stretch ∙ sym own.new_job;
+        }))
+
+-- an old share is of a finished group
+old_job : (f : Finishing) (x : ℕ) → x < length f.found.shares → group_of f.new_jobs (share_at f.found.shares x).job < length f.found.groups
+old_job f x within = ((kept f).shares x no_share within).grouped
+
+old_stretch : (f : Finishing) (x : ℕ) → x < length f.found.shares → group_of f.new_stretches (share_at f.found.shares x).stretch < length f.found.groups
+old_stretch f x within =
+    let share = (kept f).shares x no_share within in
+    omega (arith, share.grouped, share.same_group)
+
+-- the units of a job are those before and those of the fill
+all_served : (f : Finishing) (j : ℕ) → j < length f.jobs → group_of f.new_jobs j < length (f.found.groups ++ f.group ∷ []) →
+    units_of_job (f.found.shares ++ f.shares) j ≡ per_work (group_at (f.found.groups ++ f.group ∷ []) (group_of f.new_jobs j)) * (job_at f.jobs j).work
+all_served f j known grouped = elim (f.job j known) [
+  | inl mine ↦ omega (
+      arith,
+      sum_by-append (λ share. if share.job == j then share.units else 0) f.found.shares f.shares,
+      no_units (λ share. share.job) f.found.shares j (λ x within is.
+          omega (arith, old_job f x within, ap (λ n. group_of f.new_jobs n) is, mine.1)),
+      f.filled.fill.want j,
+      f.served j known,
+      f.filled.want j known,
+      chosen (group_of f.found.group_of_job j) f.top (per_work f.group * (job_at f.jobs j).work) mine.0,
+      ap (λ g. per_work g * (job_at f.jobs j).work) (group_here f (group_of f.new_jobs j) mine.1),
+    )
+  | inr other ↦
+      let apart : group_of f.found.group_of_job j ≢ length f.found.groups = λ is. other.0 (job_number f j known is) in
+      let old : group_of f.new_jobs j < length f.found.groups = omega (arith, grouped, length_push f.found.groups f.group, other.1, apart) in
+      omega (
+        arith,
+        sum_by-append (λ share. if share.job == j then share.units else 0) f.found.shares f.shares,
+        f.filled.fill.want j,
+        f.filled.want j known,
+        not_chosen (group_of f.found.group_of_job j) f.top (per_work f.group * (job_at f.jobs j).work) other.0,
+        (kept f).served j known old,
+        ap (λ g. per_work g * (job_at f.jobs j).work) (group_before f (group_of f.new_jobs j) old),
+      )
+]
+
+all_full : (f : Finishing) (k : ℕ) → k < length (stretches f.jobs) → group_of f.new_stretches k < length (f.found.groups ++ f.group ∷ []) →
+    units_in_stretch (f.found.shares ++ f.shares) k ≡ per_time (group_at (f.found.groups ++ f.group ∷ []) (group_of f.new_stretches k)) * length_of f.jobs k
+all_full f k known grouped = elim (f.stretch k known) [
+  | inl mine ↦ omega (
+      arith,
+      sum_by-append (λ share. if share.stretch == k then share.units else 0) f.found.shares f.shares,
+      no_units (λ share. share.stretch) f.found.shares k (λ x within is.
+          omega (arith, old_stretch f x within, ap (λ n. group_of f.new_stretches n) is, mine.1)),
+      f.filled.fill.room k,
+      f.full k known,
+      f.filled.room k known,
+      chosen (group_of f.found.group_of_stretch k) f.top (per_time f.group * length_of f.jobs k) mine.0,
+      ap (λ g. per_time g * length_of f.jobs k) (group_here f (group_of f.new_stretches k) mine.1),
+    )
+  | inr other ↦
+      let apart : group_of f.found.group_of_stretch k ≢ length f.found.groups = λ is. other.0 (stretch_number f k known is) in
+      let old : group_of f.new_stretches k < length f.found.groups = omega (arith, grouped, length_push f.found.groups f.group, other.1, apart) in
+      omega (
+        arith,
+        sum_by-append (λ share. if share.stretch == k then share.units else 0) f.found.shares f.shares,
+        f.filled.fill.room k,
+        f.filled.room k known,
+        not_chosen (group_of f.found.group_of_stretch k) f.top (per_time f.group * length_of f.jobs k) other.0,
+        (kept f).full k known old,
+        ap (λ g. per_time g * length_of f.jobs k) (group_before f (group_of f.new_stretches k) old),
+      )
+]
+
+-- a fact of a pair of shares, from that of the four kinds of pairs
+each_pair : (f : Finishing) (R : ℕ → ℕ → Share → Share → Type 0) →
+    ((x y : ℕ) → x < length f.found.shares → y < length f.found.shares → R x y (share_at f.found.shares x) (share_at f.found.shares y)) →
+    ((x y : ℕ) → x < length f.found.shares → length f.found.shares ≤ y → y - length f.found.shares < length f.shares →
+        R x y (share_at f.found.shares x) (share_at f.shares (y - length f.found.shares))) →
+    ((x y : ℕ) → length f.found.shares ≤ x → x - length f.found.shares < length f.shares → y < length f.found.shares →
+        R x y (share_at f.shares (x - length f.found.shares)) (share_at f.found.shares y)) →
+    ((x y : ℕ) → length f.found.shares ≤ x → x - length f.found.shares < length f.shares →
+        length f.found.shares ≤ y → y - length f.found.shares < length f.shares →
+        R x y (share_at f.shares (x - length f.found.shares)) (share_at f.shares (y - length f.found.shares))) →
+    (x y : ℕ) → x < length (f.found.shares ++ f.shares) → y < length (f.found.shares ++ f.shares) →
+    R x y (share_at (f.found.shares ++ f.shares) x) (share_at (f.found.shares ++ f.shares) y)
+each_pair f R both first second neither x y within within' = elim (cases_lt x (length f.found.shares)) [
+  | inl old ↦ subst (λ (s : Share). R x y s (share_at (f.found.shares ++ f.shares) y)) (sym (share_before f x old)) (elim (cases_lt y (length f.found.shares)) [
+    | inl old' ↦ subst (R x y (share_at f.found.shares x)) (sym (share_before f y old')) (both x y old old')
+    | inr new' ↦ subst (R x y (share_at f.found.shares x)) (sym (share_here f y new')) (first x y old new' (omega (arith, within', length-append f.found.shares f.shares)))
+  ])
+  | inr new ↦
+      let in_range : x - length f.found.shares < length f.shares = omega (arith, within, length-append f.found.shares f.shares) in
+      subst (λ (s : Share). R x y s (share_at (f.found.shares ++ f.shares) y)) (sym (share_here f x new)) (elim (cases_lt y (length f.found.shares)) [
+        | inl old' ↦ subst (R x y (share_at f.shares (x - length f.found.shares))) (sym (share_before f y old')) (second x y new in_range old')
+        | inr new' ↦ subst (R x y (share_at f.shares (x - length f.found.shares))) (sym (share_here f y new'))
+            (neither x y new in_range new' (omega (arith, within', length-append f.found.shares f.shares)))
+      ])
+]
+
+all_in_order : (f : Finishing) (x y : ℕ) → x < y → y < length (f.found.shares ++ f.shares) →
+    (share_at (f.found.shares ++ f.shares) x).stretch ≡ (share_at (f.found.shares ++ f.shares) y).stretch →
+    Precedes f.jobs (share_at (f.found.shares ++ f.shares) x).job (share_at (f.found.shares ++ f.shares) y).job
+all_in_order f x y before within =
+    each_pair f (λ i j one other. i < j → one.stretch ≡ other.stretch → Precedes f.jobs one.job other.job)
+    (λ i j old old' less same. f.search.finished.in_order i j less old' same)
+    (λ i j old new' in_range less same.
+        absurd (omega (arith, old_stretch f i old, (own_share f (j - length f.found.shares) in_range).new_stretch, ap (λ n. group_of f.new_stretches n) same)))
+    (λ i j new in_range old' less same. absurd (omega (arith, less, new, old')))
+    (λ i j new in_range new' in_range' less same.
+        f.filled.fill.taken.ordered (i - length f.found.shares) (j - length f.found.shares) no_share (omega (arith, less, new)) in_range' same)
+    x y (omega (arith, before, within)) within before
+
+all_earliest : (f : Finishing) (x y : ℕ) → x < length (f.found.shares ++ f.shares) → y < length (f.found.shares ++ f.shares) →
+    group_of f.new_jobs (share_at (f.found.shares ++ f.shares) x).job ≡ group_of f.new_jobs (share_at (f.found.shares ++ f.shares) y).job →
+    IsIn f.windows (share_at (f.found.shares ++ f.shares) x).job (share_at (f.found.shares ++ f.shares) y).stretch →
+    (share_at (f.found.shares ++ f.shares) y).stretch < (share_at (f.found.shares ++ f.shares) x).stretch →
+    ComesFirst f.jobs (share_at (f.found.shares ++ f.shares) y).job (share_at (f.found.shares ++ f.shares) x).job
+all_earliest f x y within within' =
+    each_pair f (λ i j one other. group_of f.new_jobs one.job ≡ group_of f.new_jobs other.job → IsIn f.windows one.job other.stretch →
+        other.stretch < one.stretch → ComesFirst f.jobs other.job one.job)
+    (λ i j old old' same inside before. (kept f).earliest i j old old' same inside before)
+    (λ i j old new' in_range same inside before.
+        absurd (omega (arith, old_job f i old, (own_share f (j - length f.found.shares) in_range).new_job, same)))
+    (λ i j new in_range old' same inside before.
+        absurd (omega (arith, old_job f j old', (own_share f (i - length f.found.shares) in_range).new_job, same)))
+    (λ i j new in_range new' in_range' same inside before.
+        (f.filled.fill.taken.early (i - length f.found.shares) no_share in_range (share_at f.shares (j - length f.found.shares)).stretch inside.from before).before
+        (j - length f.found.shares) no_share in_range' refl)
+    x y within within'
+
+abbrev one_if : Bool → ℕ
+one_if test = if test then 1 else 0
+
+counted_here : (groups top one other : ℕ) → other ≡ groups → one ≡ top →
+    one_if (nat_lt other (groups + 1)) ≡ one_if (nat_lt other groups) + one_if (one == top)
+counted_here groups top one other is same = grind (arith, nat_tests)
+
+counted_there : (groups top one other : ℕ) → (one ≡ top → ⊥) → (other ≡ groups → ⊥) →
+    one_if (nat_lt other (groups + 1)) ≡ one_if (nat_lt other groups) + one_if (one == top)
+counted_there groups top one other different apart = grind (arith, nat_tests)
+
+counts_at_all : (test : Bool) (number top : ℕ) → number ≡ top → 1 ≤ one_if test + one_if (number == top)
+counts_at_all test number top same = omega (arith, chosen number top 1 same)
+
+counts_empty : (room : ℕ) (test : Bool) → room ≡ 0 → 1 ≤ one_if (room == 0) + one_if test
+counts_empty room test none = omega (arith, chosen room 0 1 none)
+
+counts_at_most : (test : Bool) (number top : ℕ) → number ≡ top → one_if test ≤ one_if (number == top)
+counts_at_most true number top same = omega (arith, chosen number top 1 same)
+counts_at_most false number top same = omega arith
+
+counts_nothing : (want : ℕ) (test : Bool) → want ≡ 0 → one_if (nat_lt 0 want) ≤ one_if test
+counts_nothing want test none = rw none (omega arith)
+
+renamed_counted : (groups top one other : ℕ) → groups ≤ top → (one ≡ groups → one ≡ top) → IsRenamed top groups one other →
+    one_if (nat_lt other (groups + 1)) ≡ one_if (nat_lt other groups) + one_if (one == top)
+renamed_counted groups top one other apart own renamed = elim (cases_eq one top) [
+  | inl same ↦ counted_here groups top one other (renamed_own groups top one other renamed same) same
+  | inr different ↦ counted_there groups top one other different (λ is. different (renamed_here groups top one other apart own renamed is))
+]
+
+-- a stretch without room at first isn't of the group, and a job that wants something is
+room_counted : (number top units room : ℕ) → room ≡ (if number == top then units else 0) → 1 ≤ one_if (room == 0) + one_if (number == top)
+room_counted number top units room is = elim (cases_eq number top) [
+  | inl same ↦ counts_at_all (room == 0) number top same
+  | inr other ↦ counts_empty room (number == top) (is ∙ not_chosen number top units other)
+]
+
+want_counted : (number top units want : ℕ) → want ≡ (if number == top then units else 0) → one_if (nat_lt 0 want) ≤ one_if (number == top)
+want_counted number top units want is = elim (cases_eq number top) [
+  | inl same ↦ counts_at_most (nat_lt 0 want) number top same
+  | inr other ↦ counts_nothing want (number == top) (is ∙ not_chosen number top units other)
+]
+
+all_few : (f : Finishing) → length (f.found.shares ++ f.shares) ≤
+    finished_count f.new_jobs (length (f.found.groups ++ f.group ∷ [])) (length f.jobs)
+    + finished_count f.new_stretches (length (f.found.groups ++ f.group ∷ [])) (length (stretches f.jobs))
+all_few f = omega (
+  arith,
+  length-append f.found.shares f.shares,
+  (kept f).few,
+  f.filled.fill.few,
+  -- stretches
+  count_by-le-length (λ room. room == 0) f.rooms_left,
+  f.filled.fill.same_rooms,
+  f.filled.all_rooms,
+  over_ones (length (stretches f.jobs)),
+  over_at_most (λ k. 1) (λ k. one_if (get_or f.rooms k 0 == 0) + one_if (group_of f.found.group_of_stretch k == f.top)) (length (stretches f.jobs))
+      (λ k known. room_counted (group_of f.found.group_of_stretch k) f.top (per_time f.group * length_of f.jobs k) (get_or f.rooms k 0) (f.filled.room k known)),
+  over_add (λ k. one_if (get_or f.rooms k 0 == 0)) (λ k. one_if (group_of f.found.group_of_stretch k == f.top)) (length (stretches f.jobs)),
+  ap (λ n. over n (λ k. one_if (get_or f.rooms k 0 == 0))) f.filled.all_rooms,
+  over_list (λ room. one_if (room == 0)) f.rooms 0,
+  ap (λ n. finished_count f.new_stretches n (length (stretches f.jobs))) (length_push f.found.groups f.group),
+  over_same (λ k. one_if (nat_lt (group_of f.new_stretches k) (length f.found.groups + 1)))
+      (λ k. one_if (nat_lt (group_of f.new_stretches k) (length f.found.groups)) + one_if (group_of f.found.group_of_stretch k == f.top)) (length (stretches f.jobs))
+      (λ k known. renamed_counted (length f.found.groups) f.top (group_of f.found.group_of_stretch k) (group_of f.new_stretches k) f.search.apart
+          (stretch_number f k known) (f.stretch k known)),
+  over_add (λ k. one_if (nat_lt (group_of f.new_stretches k) (length f.found.groups))) (λ k. one_if (group_of f.found.group_of_stretch k == f.top)) (length (stretches f.jobs)),
+  -- jobs
+  ap (λ n. over n (λ j. one_if (nat_lt 0 (get_or f.wants j 0)))) f.filled.all_wants,
+  over_list (λ want. one_if (nat_lt 0 want)) f.wants 0,
+  over_at_most (λ j. one_if (nat_lt 0 (get_or f.wants j 0))) (λ j. one_if (group_of f.found.group_of_job j == f.top)) (length f.jobs)
+      (λ j known. want_counted (group_of f.found.group_of_job j) f.top (per_work f.group * (job_at f.jobs j).work) (get_or f.wants j 0) (f.filled.want j known)),
+  ap (λ n. finished_count f.new_jobs n (length f.jobs)) (length_push f.found.groups f.group),
+  over_same (λ j. one_if (nat_lt (group_of f.new_jobs j) (length f.found.groups + 1)))
+      (λ j. one_if (nat_lt (group_of f.new_jobs j) (length f.found.groups)) + one_if (group_of f.found.group_of_job j == f.top)) (length f.jobs)
+      (λ j known. renamed_counted (length f.found.groups) f.top (group_of f.found.group_of_job j) (group_of f.new_jobs j) f.search.apart
+          (job_number f j known) (f.job j known)),
+  over_add (λ j. one_if (nat_lt (group_of f.new_jobs j) (length f.found.groups))) (λ j. one_if (group_of f.found.group_of_job j == f.top)) (length f.jobs),
+)
+
+-- what holds of the finished groups, with the new one
+all_finished : (f : Finishing) → IsFinished f.jobs f.windows (ended f)
+all_finished f = record {
+  some_work = each_group f (λ i g. 1 ≤ g.work) f.search.finished.some_work f.some_work;
+  some_length = each_group f (λ i g. 1 ≤ g.length) f.search.finished.some_length f.some_length;
+  works = each_group f (λ i g. g.work ≡ work_in f.jobs f.new_jobs i (length f.jobs)) (kept f).works (new_work f);
+  lengths = each_group f (λ i g. g.length ≡ length_in f.jobs f.new_stretches i (length (stretches f.jobs))) (kept f).lengths (new_length f);
+  order = each_order f;
+  shares = all_shares f;
+  served = all_served f;
+  full = all_full f;
+  in_order = all_in_order f;
+  earliest = all_earliest f;
+  few = all_few f;
+}

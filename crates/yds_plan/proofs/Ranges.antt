@@ -56,6 +56,10 @@ pub over_mul : (factor : ℕ) (f : ℕ → ℕ) (n : ℕ) → over n (λ k. fact
 over_mul factor f zero = omega arith
 over_mul factor f (suc n) = omega (arith, over_more (λ k. factor * f k) n, over_more f n, over_mul factor f n, ap (λ x. factor * x) (over_more f n))
 
+pub over_ones : (n : ℕ) → over n (λ k. 1) ≡ n
+over_ones zero = refl
+over_ones (suc n) = omega (arith, over_more (λ k. 1) n, over_ones n)
+
 -- the places of a list read one by one
 list_place : {X : Type 0} (xs : List X) (d : X) (k : ℕ) → k < length (map (λ n. get_or xs n d) (range_with_len 0 (length xs))) → k < length xs
 list_place xs d k within = omega (arith, within, length-map-range_with_len (λ n. get_or xs n d) 0 (length xs))
