@@ -475,3 +475,149 @@ all_finished f = record {
   earliest = all_earliest f;
   few = all_few f;
 }
+
+-- other groups are as fast and as slow as they were
+kept_fast : (f : Finishing) (c p q : ℕ) (shares : List Share) → f.top < c → LieInWindows f.jobs f.windows shares →
+    IsFast f.jobs f.found c p q shares → IsFast f.jobs (ended f) c p q shares
+kept_fast f c p q shares above inside fast = record {
+  full = λ k known is. fast.full k known
+      (renamed_later (length f.found.groups) f.top (group_of f.found.group_of_stretch k) (group_of f.new_stretches k) f.search.apart (f.stretch k known) (omega (arith, is, above)) ∙ is);
+  own = λ x within is.
+      let lies = inside x within in
+      let job = fast.own x within
+            (renamed_later (length f.found.groups) f.top (group_of f.found.group_of_stretch (share_at shares x).stretch) (group_of f.new_stretches (share_at shares x).stretch)
+            f.search.apart (f.stretch (share_at shares x).stretch lies.1) (omega (arith, is, above)) ∙ is) in
+      renamed_same (length f.found.groups) f.top (group_of f.found.group_of_job (share_at shares x).job) (group_of f.new_jobs (share_at shares x).job)
+          (f.job (share_at shares x).job lies.0) (λ same. omega (arith, same, job, above)) ∙ job;
+  most = λ j known is. fast.most j known
+      (renamed_later (length f.found.groups) f.top (group_of f.found.group_of_job j) (group_of f.new_jobs j) f.search.apart (f.job j known) (omega (arith, is, above)) ∙ is);
+}
+
+kept_slow : (f : Finishing) (c p q : ℕ) (shares : List Share) → f.top < c → LieInWindows f.jobs f.windows shares →
+    IsSlow f.jobs f.found c p q shares → IsSlow f.jobs (ended f) c p q shares
+kept_slow f c p q shares above inside slow = record {
+  served = λ j known is. slow.served j known
+      (renamed_later (length f.found.groups) f.top (group_of f.found.group_of_job j) (group_of f.new_jobs j) f.search.apart (f.job j known) (omega (arith, is, above)) ∙ is);
+  own = λ x within is.
+      let lies = inside x within in
+      let stretch = slow.own x within
+            (renamed_later (length f.found.groups) f.top (group_of f.found.group_of_job (share_at shares x).job) (group_of f.new_jobs (share_at shares x).job)
+            f.search.apart (f.job (share_at shares x).job lies.0) (omega (arith, is, above)) ∙ is) in
+      renamed_same (length f.found.groups) f.top (group_of f.found.group_of_stretch (share_at shares x).stretch) (group_of f.new_stretches (share_at shares x).stretch)
+          (f.stretch (share_at shares x).stretch lies.1) (λ same. omega (arith, same, stretch, above)) ∙ stretch;
+  room = λ k known is. slow.room k known
+      (renamed_later (length f.found.groups) f.top (group_of f.found.group_of_stretch k) (group_of f.new_stretches k) f.search.apart (f.stretch k known) (omega (arith, is, above)) ∙ is);
+}
+
+-- the finished group is not slower than the next one
+new_lead : (f : Finishing) (i : ℕ) → i + 1 ≡ length (f.found.groups ++ f.group ∷ []) → f.top < f.last → IsLead f.jobs f.windows (ended f) i (f.top + 1)
+new_lead f i is more =
+    let old = f.search.between f.top (omega arith) more in
+    let here : i ≡ length f.found.groups = omega (arith, is, length_push f.found.groups f.group) in
+    record {
+      p = old.p;
+      q = old.q;
+      shares = old.shares;
+      some = old.some;
+      inside = old.inside;
+      fast = subst (λ (g : Group). old.p * g.length ≤ old.q * g.work) (sym (group_here f i here))
+          (omega (arith, fast_speed f.jobs f.windows f.found f.top old.p old.q old.shares old.inside old.fast,
+              ap (λ n. old.q * n) f.work, ap (λ n. old.p * n) f.length_is));
+      slow = kept_slow f (f.top + 1) old.p old.q old.shares (omega arith) old.inside old.slow;
+    }
+
+-- a later group's stretch and job stay
+later_stretch : (f : Finishing) (k : ℕ) → k < length (stretches f.jobs) → f.top < group_of f.new_stretches k →
+    group_of f.found.group_of_stretch k ≡ group_of f.new_stretches k
+later_stretch f k known later =
+    renamed_later (length f.found.groups) f.top (group_of f.found.group_of_stretch k) (group_of f.new_stretches k) f.search.apart (f.stretch k known) later
+
+stays_job : (f : Finishing) (j : ℕ) → j < length f.jobs → f.top < group_of f.found.group_of_job j → group_of f.new_jobs j ≡ group_of f.found.group_of_job j
+stays_job f j known later =
+    renamed_same (length f.found.groups) f.top (group_of f.found.group_of_job j) (group_of f.new_jobs j) (f.job j known) (λ same. omega (arith, same, later))
+
+stays_stretch : (f : Finishing) (k : ℕ) → k < length (stretches f.jobs) → f.top < group_of f.found.group_of_stretch k →
+    group_of f.new_stretches k ≡ group_of f.found.group_of_stretch k
+stays_stretch f k known later =
+    renamed_same (length f.found.groups) f.top (group_of f.found.group_of_stretch k) (group_of f.new_stretches k) (f.stretch k known) (λ same. omega (arith, same, later))
+
+covered_after : (f : Finishing) (k : ℕ) → k < length (stretches f.jobs) → f.top + 1 ≤ group_of f.new_stretches k → group_of f.new_stretches k ≤ f.last →
+    (j : ℕ) × MayRun f.jobs f.windows j k × (group_of f.new_jobs j ≡ group_of f.new_stretches k)
+covered_after f k known from upto =
+    let same = later_stretch f k known (omega arith) in
+    let found = f.search.covered k known (omega (arith, same)) (omega (arith, same)) in
+    (found.0, found.1, stays_job f found.0 found.1.known (omega (arith, found.2, same)) ∙ found.2 ∙ same)
+
+meets_after : (f : Finishing) (j : ℕ) → j < length f.jobs → 1 ≤ (job_at f.jobs j).work → f.top + 1 ≤ group_of f.new_jobs j →
+    (k : ℕ) × IsIn f.windows j k × (group_of f.new_stretches k ≡ group_of f.new_jobs j)
+meets_after f j known some from =
+    let same = renamed_later (length f.found.groups) f.top (group_of f.found.group_of_job j) (group_of f.new_jobs j) f.search.apart (f.job j known) (omega arith) in
+    let found = f.search.meets j known some (omega (arith, same)) in
+    (found.0, found.1, stays_stretch f found.0 (omega (arith, found.1.upto, f.windows_are.inside j known)) (omega (arith, found.2, same)) ∙ found.2 ∙ same)
+
+not_after_end : (f : Finishing) (j k : ℕ) → MayRun f.jobs f.windows j k → group_of f.new_stretches k ≤ group_of f.new_jobs j
+not_after_end f j k runs =
+    let known : k < length (stretches f.jobs) = omega (arith, runs.inside.upto, f.windows_are.inside j runs.known) in
+    let before = f.search.not_after j k runs in
+    elim (f.stretch k known) [
+      | inl mine ↦ elim (f.job j runs.known) [
+        | inl both ↦ omega (arith, mine.1, both.1)
+        | inr same ↦ omega (arith, mine.0, mine.1, same.1, before, f.search.apart)
+      ]
+      | inr stays ↦ elim (f.job j runs.known) [
+        | inl both ↦ elim (f.search.stretch k known) [
+          | inl finished ↦ omega (arith, stays.1, both.1, finished)
+          | inr later ↦ absurd (stays.0 (omega (arith, later, both.0, before)))
+        ]
+        | inr same ↦ omega (arith, stays.1, same.1, before)
+      ]
+    ]
+
+later_number : (one other top : ℕ) → other ≡ one → top ≤ one → (one ≡ top → ⊥) → top + 1 ≤ other
+later_number one other top same later apart = elim (cases_eq one top) [
+  | inl here ↦ absurd (apart here)
+  | inr there ↦ omega (arith, same, later, there)
+]
+
+-- after a group is finished the search goes on with the next one
+pub finish_search : (f : Finishing) → IsSearch f.jobs f.windows (ended f) (f.top + 1) f.last
+finish_search f = record {
+  all_jobs = f.all_jobs ∙ f.search.all_jobs;
+  all_stretches = f.all_stretches ∙ f.search.all_stretches;
+  apart = omega (arith, length_push f.found.groups f.group, f.search.apart);
+  range = omega (arith, f.within);
+  with_work = λ j known some. elim (f.job j known) [
+    | inl both ↦ inl (omega (arith, both.1, length_push f.found.groups f.group))
+    | inr same ↦ elim (f.search.with_work j known some) [
+      | inl finished ↦ inl (omega (arith, same.1, finished, length_push f.found.groups f.group))
+      | inr later ↦ inr (later_number (group_of f.found.group_of_job j) (group_of f.new_jobs j) f.top same.1 later.0 same.0, omega (arith, same.1, later.1))
+    ]
+  ];
+  idle = λ j known none. omega (arith, f.search.idle j known none, stays_job f j known (omega (arith, f.search.idle j known none, f.within)));
+  stretch = λ k known. elim (f.stretch k known) [
+    | inl both ↦ inl (omega (arith, both.1, length_push f.found.groups f.group))
+    | inr same ↦ elim (f.search.stretch k known) [
+      | inl finished ↦ inl (omega (arith, same.1, finished, length_push f.found.groups f.group))
+      | inr later ↦ inr (later_number (group_of f.found.group_of_stretch k) (group_of f.new_stretches k) f.top same.1 later same.0)
+    ]
+  ];
+  covered = covered_after f;
+  meets = meets_after f;
+  not_after = not_after_end f;
+  peopled = λ c from upto.
+      let found = f.search.peopled c (omega arith) upto in
+      (found.0, found.1, stays_stretch f found.0 found.1 (omega (arith, found.2)) ∙ found.2);
+  between = λ c from upto.
+      let old = f.search.between c (omega arith) upto in
+      record {
+        p = old.p;
+        q = old.q;
+        shares = old.shares;
+        some = old.some;
+        inside = old.inside;
+        fast = kept_fast f c old.p old.q old.shares (omega arith) old.inside old.fast;
+        slow = kept_slow f (c + 1) old.p old.q old.shares (omega arith) old.inside old.slow;
+      };
+  lead = λ i is within. new_lead f i is (omega arith);
+  finished = all_finished f;
+}
