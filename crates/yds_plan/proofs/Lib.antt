@@ -7,4 +7,5 @@ mod Balance
 mod Shares
 mod Finished
 mod Split
+mod Times
 mod Finish
