@@ -27,7 +27,7 @@ other_zero : (k n value : ℕ) → n < k → (if k == n then value else 0) ≡ 0
 other_zero k n value above = grind (arith, nat_tests)
 
 -- one number's value, in a sum over all of them
-over_alone : (value : ℕ) (n k : ℕ) → k < n → over n (λ j. if k == j then value else 0) ≡ value
+pub over_alone : (value : ℕ) (n k : ℕ) → k < n → over n (λ j. if k == j then value else 0) ≡ value
 over_alone value zero k within = absurd (omega arith)
 over_alone value (suc n) k within =
     over_more (λ j. if k == j then value else 0) n

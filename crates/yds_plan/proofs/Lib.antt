@@ -8,4 +8,6 @@ mod Shares
 mod Finished
 mod Split
 mod Times
+mod Deadlines
+mod Places
 mod Finish

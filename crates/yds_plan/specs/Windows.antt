@@ -38,3 +38,14 @@ pub record IsOrder (jobs : List Job) (order : List ℕ) : Type 0 where
   pub rising : (a b : ℕ) → a < b → b < length order → Precedes jobs (slice_index order a) (slice_index order b)
   pub once : IsPermutation (range_with_len 0 (length jobs)) order
   pub each : (j : ℕ) → j < length jobs → (a : ℕ) × (a < length order) × (slice_index order a ≡ j)
+
+-- a time's place among rising times: those before it are earlier, those from it on are not
+pub record IsPlace (times : List ℕ) (time place : ℕ) : Type 0 where
+  pub within : place ≤ length times
+  pub before : (i : ℕ) → i < place → slice_index times i < time
+  pub from : (i : ℕ) → place ≤ i → i < length times → time ≤ slice_index times i
+
+-- a window from the place of the release to that of the deadline
+pub record IsWindowOf (times : List ℕ) (job : Job) (window : Window) : Type 0 where
+  pub first : IsPlace times job.release window.first
+  pub end : IsPlace times job.deadline window.end
