@@ -10,4 +10,5 @@ mod Split
 mod Times
 mod Deadlines
 mod Places
+mod Ends
 mod Finish

@@ -1,6 +1,6 @@
 -- The search for groups. Groups are numbered: the finished ones from 0, those that are still to be filled from `top` to
 -- `last`, the fastest first. What has a number above `last` is in no group.
-use Rattle.std.specs.Prelude.{◌≡◌, ℕ, ◌+◌, ◌*◌, ◌<◌, ◌≤◌, ◌⊎◌, ◌==◌, nat_lt, if◌then◌else◌, List, length, sum_by, slice_index}
+use Rattle.std.specs.Prelude.{◌≡◌, ℕ, ◌+◌, ◌*◌, ◌<◌, ◌≤◌, ◌⊎◌, ◌==◌, nat_lt, if◌then◌else◌, List, [], length, sum_by, slice_index}
 use Rattle.std.specs.List.{All, range_with_len}
 use Rattle.yds_model.specs.Job.{Job, job_at}
 use Rattle.yds_model.specs.Event.{stretches}
@@ -127,3 +127,15 @@ pub record IsSplit (windows : List Window) (reaches : List ℕ) (top : ℕ) (job
   pub job : (j : ℕ) → j < length jobs →
       ((group_of jobs j ≡ top) × ((k : ℕ) → IsIn windows j k → group_of stretches' k ≡ top → ⊥) × (group_of jobs' j + 1 ≡ top))
       ⊎ ((group_of jobs j ≡ top → (k : ℕ) × IsIn windows j k × (group_of stretches' k ≡ top)) × (group_of jobs' j ≡ group_of jobs j))
+
+-- the search begins with all jobs that want something in one group, and with the stretches in which one of them may run
+pub record IsBeginning (jobs : List Job) (windows : List Window) (found : Found) (last : ℕ) : Type 0 where
+  pub all_jobs : length found.group_of_job ≡ length jobs
+  pub all_stretches : length found.group_of_stretch ≡ length (stretches jobs)
+  pub job : (j : ℕ) → j < length jobs →
+      (((job_at jobs j).work ≡ 0) × (group_of found.group_of_job j ≡ last + 1)) ⊎ ((1 ≤ (job_at jobs j).work) × (group_of found.group_of_job j ≡ last))
+  pub stretch : (k : ℕ) → k < length (stretches jobs) →
+      (((j : ℕ) × MayRun jobs windows j k) × (group_of found.group_of_stretch k ≡ last))
+      ⊎ (((j : ℕ) → MayRun jobs windows j k → ⊥) × (group_of found.group_of_stretch k ≡ last + 1))
+  pub no_groups : found.groups ≡ []
+  pub no_shares : found.shares ≡ []
