@@ -11,4 +11,5 @@ mod Times
 mod Deadlines
 mod Places
 mod Ends
+mod Lowest
 mod Finish
