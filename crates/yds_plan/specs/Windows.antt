@@ -49,3 +49,8 @@ pub record IsPlace (times : List ℕ) (time place : ℕ) : Type 0 where
 pub record IsWindowOf (times : List ℕ) (job : Job) (window : Window) : Type 0 where
   pub first : IsPlace times job.release window.first
   pub end : IsPlace times job.deadline window.end
+
+-- windows so far
+pub record WindowsSoFar (times : List ℕ) (jobs : List Job) (n : ℕ) (windows : List Window) : Type 0 where
+  pub count : length windows ≡ n
+  pub each : (j : ℕ) → j < n → IsWindowOf times (job_at jobs j) (window_at windows j)
