@@ -14,15 +14,11 @@ use Rattle.yds_plan.specs.Found.{Found, Group, Share, share_at, no_share, group_
 use Rattle.yds_model.specs.EarliestFirst.{ComesFirst}
 use Rattle.yds_plan.specs.Windows.{window_at, IsIn, AreWindows, Precedes}
 use Rattle.yds_plan.specs.Fill.{IsFill, IsPart, full_count, wanting_count}
-use Rattle.yds_plan.specs.Search.{IsFast, IsSlow, LieInWindows, IsBoundary, IsLead, IsFinished, MayRun, IsSearch, IsFilled, finished_count}
+use Rattle.yds_plan.specs.Search.{IsFast, IsSlow, LieInWindows, IsBoundary, IsLead, IsFinished, MayRun, IsSearch, IsFilled, IsRenamed, finished_count}
 use Rattle.yds_plan.proofs.Shares.{chosen, not_chosen, chosen_some, share_counts, no_units}
 use Rattle.yds_plan.proofs.Ranges.{over, over_same, over_at_most, over_add, over_ones, over_list}
 use Rattle.yds_plan.proofs.Balance.{balance, fast_speed, slow_speed, speed_order}
 use Rattle.yds_plan.proofs.Finished.{moved, AreAlike, kept_finished}
-
--- one number becomes another
-abbrev pub IsRenamed : ℕ → ℕ → ℕ → ℕ → Type 0
-IsRenamed from to one other = ((one ≡ from) × (other ≡ to)) ⊎ ((one ≡ from → ⊥) × (other ≡ one))
 
 -- all that is known when group `top` is finished
 pub record Finishing : Type 0 where

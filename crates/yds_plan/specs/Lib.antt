@@ -4,3 +4,5 @@ pub mod Windows
 pub mod Fill
 pub mod Closure
 pub mod Search
+pub mod Amounts
+pub mod Instance

@@ -6,7 +6,7 @@ use Rattle.yds_model.specs.Job.{Job, job_at}
 use Rattle.yds_model.specs.Event.{stretches}
 use Rattle.yds_model.specs.EarliestFirst.{ComesFirst}
 use Rattle.yds_plan.specs.declared.finder_windows.Window.{Window}
-use Rattle.yds_plan.specs.Found.{Found, Share, share_at, group_at, group_of, length_of, work_in, length_in, per_time, per_work, units_of_job, units_in_stretch, IsShare}
+use Rattle.yds_plan.specs.Found.{Found, Group, Share, share_at, group_at, group_of, length_of, work_in, length_in, per_time, per_work, units_of_job, units_in_stretch, IsShare}
 use Rattle.yds_plan.specs.Windows.{window_at, IsIn, Precedes}
 use Rattle.yds_plan.specs.Fill.{IsFill}
 use Rattle.yds_plan.specs.Closure.{IsMarked}
@@ -117,16 +117,27 @@ pub record IsFilled (jobs : List Job) (windows : List Window) (found : Found) (t
   pub some_work : 1 ≤ q
   pub balanced : p * length_in jobs found.group_of_stretch top (length (stretches jobs)) ≡ q * work_in jobs found.group_of_job top (length jobs)
 
+-- one number becomes another
+abbrev pub IsRenamed : ℕ → ℕ → ℕ → ℕ → Type 0
+IsRenamed from to one other = ((one ≡ from) × (other ≡ to)) ⊎ ((one ≡ from → ⊥) × (other ≡ one))
+
+-- a marked stretch of group `top` moves to the group before it
+abbrev pub IsSplitStretch : List ℕ → ℕ → ℕ → ℕ → ℕ → Type 0
+IsSplitStretch reaches top k one other =
+    ((one ≡ top) × IsMarked reaches k × (other + 1 ≡ top)) ⊎ ((one ≡ top → IsMarked reaches k → ⊥) × (other ≡ one))
+
+-- a job of group `top` that meets no stretch of it moves to the group before it
+abbrev pub IsSplitJob : List Window → List ℕ → ℕ → ℕ → ℕ → ℕ → Type 0
+IsSplitJob windows stretches top j one other =
+    ((one ≡ top) × ((k : ℕ) → IsIn windows j k → group_of stretches k ≡ top → ⊥) × (other + 1 ≡ top))
+    ⊎ ((one ≡ top → (k : ℕ) × IsIn windows j k × (group_of stretches k ≡ top)) × (other ≡ one))
+
 -- Group `top` is split: its marked stretches, and its jobs that meet no other stretch of it, become the group before it.
 pub record IsSplit (windows : List Window) (reaches : List ℕ) (top : ℕ) (jobs stretches jobs' stretches' : List ℕ) : Type 0 where
   pub all_jobs : length jobs' ≡ length jobs
   pub all_stretches : length stretches' ≡ length stretches
-  pub stretch : (k : ℕ) → k < length stretches →
-      ((group_of stretches k ≡ top) × IsMarked reaches k × (group_of stretches' k + 1 ≡ top))
-      ⊎ ((group_of stretches k ≡ top → IsMarked reaches k → ⊥) × (group_of stretches' k ≡ group_of stretches k))
-  pub job : (j : ℕ) → j < length jobs →
-      ((group_of jobs j ≡ top) × ((k : ℕ) → IsIn windows j k → group_of stretches' k ≡ top → ⊥) × (group_of jobs' j + 1 ≡ top))
-      ⊎ ((group_of jobs j ≡ top → (k : ℕ) × IsIn windows j k × (group_of stretches' k ≡ top)) × (group_of jobs' j ≡ group_of jobs j))
+  pub stretch : (k : ℕ) → k < length stretches → IsSplitStretch reaches top k (group_of stretches k) (group_of stretches' k)
+  pub job : (j : ℕ) → j < length jobs → IsSplitJob windows stretches' top j (group_of jobs j) (group_of jobs' j)
 
 -- the search begins with all jobs that want something in one group, and with the stretches in which one of them may run
 pub record IsBeginning (jobs : List Job) (windows : List Window) (found : Found) (last : ℕ) : Type 0 where
@@ -139,3 +150,14 @@ pub record IsBeginning (jobs : List Job) (windows : List Window) (found : Found)
       ⊎ (((j : ℕ) → MayRun jobs windows j k → ⊥) × (group_of found.group_of_stretch k ≡ last + 1))
   pub no_groups : found.groups ≡ []
   pub no_shares : found.shares ≡ []
+
+-- a group has been filled at its average speed
+pub record IsAttempt (jobs : List Job) (windows : List Window) (found : Found) (top : ℕ) (group : Group)
+    (shares : List Share) (wants' rooms' : List ℕ) : Type 0 where
+  pub wants : List ℕ
+  pub rooms : List ℕ
+  pub filled : IsFilled jobs windows found top (per_time group) (per_work group) wants rooms shares wants' rooms'
+  pub work : group.work ≡ work_in jobs found.group_of_job top (length jobs)
+  pub length_is : group.length ≡ length_in jobs found.group_of_stretch top (length (stretches jobs))
+  pub some_work : 1 ≤ group.work
+  pub some_length : 1 ≤ group.length

@@ -1,18 +1,31 @@
+ghost use Rattle.std.specs.Prelude.{◌≡◌, ℕ, ◌^◌, ◌<◌, ◌≤◌, length, IfOk};
+ghost use Rattle.std.specs.List.{All};
+ghost use Rattle.yds_plan.specs.Views.{shares_view};
+ghost use Rattle.yds_plan.specs.Windows.{window_at};
+ghost use Rattle.yds_plan.specs.Closure.{AreLateReaches, AreShareReaches, AreReaches, IsKnownShare};
+
 use crate::finder_windows::Window;
 use crate::share::Share;
 use std::alloc::Global;
 use yds_model::Memory;
 
-/// For each stretch the least first stretch among the windows of late jobs that end with it, or `none`.
+/// For each stretch the least first stretch among the windows of late jobs that end with it, or the
+/// number of all stretches.
 pub(crate) fn late_reaches(
     alloc: Global,
     windows: &[Window],
     wants: &[u64],
-    stretches: usize,
-) -> Result<Vec<u32>, Memory> {
-    let mut reaches = vec![in alloc; stretches as u32; stretches]?;
-    for (job, window) in windows.iter().enumerate() {
+    stretches: u32,
+) -> Result<Vec<u32>, Memory>
+    requires same { length wants.now ≡ length windows.now }
+    requires some { (j : ℕ) → j < length windows.now → (window_at windows.now j).first < (window_at windows.now j).end }
+    requires inside { (j : ℕ) → j < length windows.now → (window_at windows.now j).end ≤ stretches }
+    ensures { IfOk result (λ reaches. AreLateReaches windows.now wants.now stretches reaches.items) }
+{
+    let mut reaches = vec![in alloc; stretches; stretches as usize]?;
+    for job in 0..windows.len() {
         if wants[job] > 0 {
+            let window = windows[job];
             let last = window.end as usize - 1;
             reaches[last] = reaches[last].min(window.first);
         }
@@ -20,14 +33,18 @@ pub(crate) fn late_reaches(
     Ok(reaches)
 }
 
-/// For each stretch the least first stretch among the windows of the jobs that have a share in it.
+/// For each stretch the least first stretch among the windows of the jobs that have a share in it, or
+/// the number of all stretches.
 pub(crate) fn share_reaches(
     alloc: Global,
     windows: &[Window],
     shares: &[Share],
-    stretches: usize,
-) -> Result<Vec<u32>, Memory> {
-    let mut reaches = vec![in alloc; stretches as u32; stretches]?;
+    stretches: u32,
+) -> Result<Vec<u32>, Memory>
+    requires { All (IsKnownShare (length windows.now) stretches) (shares_view shares.now) }
+    ensures { IfOk result (λ reaches. AreShareReaches windows.now (shares_view shares.now) stretches reaches.items) }
+{
+    let mut reaches = vec![in alloc; stretches; stretches as usize]?;
     for share in shares {
         let at = share.stretch as usize;
         let window = windows[share.job as usize];
@@ -38,11 +55,14 @@ pub(crate) fn share_reaches(
 
 /// How far to the left the late jobs reach over each stretch, directly or through shares: a stretch is
 /// closed upon where that isn't after it.
-pub(crate) fn closure(alloc: Global, late: &[u32], shared: &[u32]) -> Result<Vec<u32>, Memory> {
-    let stretches = late.len();
-    let mut reaches = vec![in alloc; stretches as u32; stretches]?;
-    let mut least = stretches as u32;
-    for at in (0..stretches).rev() {
+pub(crate) fn closure(alloc: Global, late: &[u32], shared: &[u32], stretches: u32) -> Result<Vec<u32>, Memory>
+    requires late { length late.now ≡ stretches }
+    requires shared { length shared.now ≡ stretches }
+    ensures { IfOk result (λ reaches. AreReaches late.now shared.now stretches reaches.items) }
+{
+    let mut reaches = vec![in alloc; stretches; stretches as usize]?;
+    let mut least = stretches;
+    for at in (0..stretches as usize).rev() {
         least = least.min(late[at]);
         if least as usize <= at {
             least = least.min(shared[at]);

@@ -10,6 +10,7 @@ mod finder;
 mod finder_amounts;
 mod finder_closure;
 mod finder_fill;
+mod finder_instance;
 mod finder_split;
 mod finder_windows;
 mod found;
