@@ -12,4 +12,5 @@ mod Deadlines
 mod Places
 mod Ends
 mod Lowest
+mod Amounts
 mod Finish

@@ -7,4 +7,4 @@ abbrev pub invariant-loop-number : goal.invariant-loop-number
 invariant-loop-number l = l.keys.items ≡ map (key_of l.rows) (range_with_len 0 l.number)
 
 abbrev pub invariant-loop-key : goal.invariant-loop-key
-invariant-loop-key l = l.order.items ≡ map number_of (take l.key-index l.keys.items)
+invariant-loop-key l = l.order.items ≡ map number_of (take l.key-index l.key-items)
