@@ -13,4 +13,5 @@ mod Places
 mod Ends
 mod Lowest
 mod Amounts
+mod Pointwise
 mod Finish
