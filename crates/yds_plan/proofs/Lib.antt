@@ -14,4 +14,5 @@ mod Ends
 mod Lowest
 mod Amounts
 mod Pointwise
+mod Reaches
 mod Finish
