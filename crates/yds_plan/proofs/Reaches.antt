@@ -115,3 +115,13 @@ reach_more late shared m next least reaches value so_far within is = record {
         ∙ ap (λ after. reach_from after (get_or late k 0) (get_or shared k 0) k) (sym (get_or-set_other reaches next (k + 1) value m (omega arith)))
   ];
 }
+
+-- the reaches of the first n jobs that are late
+abbrev pub LatesTo : List Window → List ℕ → ℕ → ℕ → List ℕ → Type 0
+LatesTo windows wants n m reaches =
+    IsLeastOf (λ j. 1 ≤ get_or wants j 0) (λ j. (window_at windows j).end - 1) (λ j. (window_at windows j).first) n m reaches
+
+-- and of the first n shares
+abbrev pub SharesTo : List Window → List Share → ℕ → ℕ → List ℕ → Type 0
+SharesTo windows shares n m reaches =
+    IsLeastOf (λ x. Unit {0}) (λ x. (share_at shares x).stretch) (λ x. (window_at windows (share_at shares x).job).first) n m reaches

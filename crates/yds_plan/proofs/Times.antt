@@ -165,3 +165,48 @@ stretch_long jobs k within =
 pub length_is : (jobs : List Job) (k : ℕ) → k < length (stretches jobs) →
     length_of jobs k ≡ get_or (event_points jobs) (k + 1) 0 - get_or (event_points jobs) k 0
 length_is jobs k within = ap (λ (piece : Piece). piece.to - piece.from) (stretch_is jobs k (stretch_next jobs k within))
+
+pub times_less : (jobs : List Job) → length (event_points jobs) - 1 ≡ length (stretches jobs)
+times_less [] = refl
+times_less (job ∷ jobs) = omega (arith, count_stretches (job ∷ jobs) (omega arith))
+
+pub few_stretches : (jobs : List Job) → length (stretches jobs) ≤ 2 * length jobs
+few_stretches jobs = omega (arith, times_less jobs, few_times jobs)
+
+-- no time is later than the bound
+abbrev Within : ℕ → List ℕ → Type 0
+Within most [] = Unit {0}
+Within most (time ∷ times) = (time ≤ most) × Within most times
+
+within_with : (most time : ℕ) (times : List ℕ) → time ≤ most → Within most times → Within most (with_time time times)
+within_with most time [] small within = (small, tt)
+within_with most time (first ∷ times) small within = elim (cases_lt time first) [
+  | inl before ↦ rw (lt-ltb time first before) (small, within)
+  | inr after ↦ elim (cases_eq time first) [
+    | inl same ↦ rw (le-ltb time first after, eq-eqb time first same) within
+    | inr other ↦ rw (le-ltb time first after, ne_eqb time first other) (within.0, within_with most time times small within.1)
+  ]
+]
+
+within_times : (most : ℕ) (jobs : List Job) → ((j : ℕ) → j < length jobs → IsJob (job_at jobs j)) → ((job : Job) → IsJob job → job.deadline ≤ most) →
+    Within most (event_points jobs)
+within_times most [] are due = tt
+within_times most (job ∷ jobs) are due =
+    let here : IsJob job = are 0 (omega arith) in
+    let small = due job here in
+    within_with most job.release (with_time job.deadline (event_points jobs)) (omega (arith, here.has_window, small))
+    (within_with most job.deadline (event_points jobs) small
+    (within_times most jobs (λ j known. are (suc j) (omega arith)) due))
+
+within_at : (most : ℕ) (times : List ℕ) (i : ℕ) → Within most times → get_or times i 0 ≤ most
+within_at most [] i within = omega arith
+within_at most (time ∷ times) zero within = within.0
+within_at most (time ∷ times) (suc i) within = within_at most times i within.1
+
+-- a stretch isn't longer than all time
+pub length_small : (jobs : List Job) (k : ℕ) → ((j : ℕ) → j < length jobs → IsJob (job_at jobs j)) → k < length (stretches jobs) → length_of jobs k ≤ 1000000000
+length_small jobs k are within = omega (
+  arith,
+  length_is jobs k within,
+  within_at 1000000000 (event_points jobs) (k + 1) (within_times 1000000000 jobs are (λ job is. omega (arith, is.time_in_range))),
+)

@@ -62,12 +62,12 @@ pub(crate) fn closure(alloc: Global, late: &[u32], shared: &[u32], stretches: u3
 {
     let mut reaches = vec![in alloc; stretches; stretches as usize]?;
     let mut least = stretches;
-    for at in (0..stretches as usize).rev() {
-        least = least.min(late[at]);
-        if least as usize <= at {
-            least = least.min(shared[at]);
+    for place in (0..stretches as usize).rev() {
+        least = least.min(late[place]);
+        if least as usize <= place {
+            least = least.min(shared[place]);
         }
-        reaches[at] = least;
+        reaches[place] = least;
     }
     Ok(reaches)
 }
