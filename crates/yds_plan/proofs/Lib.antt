@@ -16,3 +16,4 @@ mod Amounts
 mod Pointwise
 mod Reaches
 mod Finish
+mod Attempt

@@ -39,8 +39,3 @@ pub record AreClosed (windows : List Window) (m : ℕ) (shares : List Share) (wa
   pub full : (k : ℕ) → k < m → IsMarked reaches k → slice_index rooms k ≡ 0
   pub shared : (x k : ℕ) → x < length shares → IsMarked reaches (share_at shares x).stretch → IsIn windows (share_at shares x).job k → IsMarked reaches k
   pub late : (j k : ℕ) → j < length windows → 1 ≤ slice_index wants j → IsIn windows j k → IsMarked reaches k
-
--- a share of one of n jobs in one of m stretches
-pub record IsKnownShare (n m : ℕ) (share : Share) : Type 0 where
-  pub known : share.job < n
-  pub known_stretch : share.stretch < m

@@ -2,7 +2,8 @@ ghost use Rattle.std.specs.Prelude.{◌≡◌, ℕ, ◌^◌, ◌<◌, ◌≤◌,
 ghost use Rattle.std.specs.List.{All};
 ghost use Rattle.yds_plan.specs.Views.{shares_view};
 ghost use Rattle.yds_plan.specs.Windows.{window_at};
-ghost use Rattle.yds_plan.specs.Closure.{AreLateReaches, AreShareReaches, AreReaches, IsKnownShare};
+ghost use Rattle.yds_plan.specs.Fill.{IsPart};
+ghost use Rattle.yds_plan.specs.Closure.{AreLateReaches, AreShareReaches, AreReaches};
 
 use crate::finder_windows::Window;
 use crate::share::Share;
@@ -41,7 +42,7 @@ pub(crate) fn share_reaches(
     shares: &[Share],
     stretches: u32,
 ) -> Result<Vec<u32>, Memory>
-    requires { All (IsKnownShare (length windows.now) stretches) (shares_view shares.now) }
+    requires { All (IsPart windows.now (length windows.now) stretches) (shares_view shares.now) }
     ensures { IfOk result (λ reaches. AreShareReaches windows.now (shares_view shares.now) stretches reaches.items) }
 {
     let mut reaches = vec![in alloc; stretches; stretches as usize]?;
