@@ -17,3 +17,4 @@ mod Pointwise
 mod Reaches
 mod Finish
 mod Attempt
+mod Steps
