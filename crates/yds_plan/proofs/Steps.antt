@@ -12,7 +12,7 @@ use Rattle.yds_plan.specs.declared.finder_instance.Instance.{Instance}
 use Rattle.yds_plan.specs.Found.{Found, Group, Share, group_of, length_of, per_time, per_work}
 use Rattle.yds_plan.specs.Windows.{AreWindows}
 use Rattle.yds_plan.specs.Fill.{IsFill}
-use Rattle.yds_plan.specs.Closure.{AreLateReaches, AreShareReaches, AreReaches, AreClosed}
+use Rattle.yds_plan.specs.Closure.{AreLateReaches, AreShareReaches, AreReaches, AreClosed, AreAllReaches}
 use Rattle.yds_plan.specs.Search.{IsSearch, IsFilled, IsAttempt, IsRenamed, IsSplitStretch, IsSplitJob, IsSplit}
 use Rattle.yds_plan.specs.Instance.{IsInstance}
 use Rattle.yds_plan.proofs.Ranges.{over, over_at_most, over_add, over_one, over_zero, over_list}
@@ -241,3 +241,47 @@ pub renamed_at : (xs xs' ys : List ℕ) (top number number' : ℕ) → xs ≡ xs
 renamed_at xs xs' ys top number number' same same' renamed =
     subst (λ (n : ℕ). (k : ℕ) → k < length xs' → IsRenamed top n (group_of xs' k) (group_of ys k)) same'
     (subst (λ (list : List ℕ). (k : ℕ) → k < length list → IsRenamed top number (group_of list k) (group_of ys k)) same renamed)
+
+-- reaches, of lists that are the same
+pub reaches_at : (windows windows' : List Window) (wants wants' : List ℕ) (shares shares' : List Share) (m : ℕ) (reaches : List ℕ) →
+    windows ≡ windows' → wants ≡ wants' → shares ≡ shares' →
+    AreAllReaches windows wants shares m reaches → AreAllReaches windows' wants' shares' m reaches
+reaches_at windows windows' wants wants' shares shares' m reaches same same' same'' are =
+    subst (λ (xs : List Window). AreAllReaches xs wants' shares' m reaches) same
+    (subst (λ (xs : List ℕ). AreAllReaches windows xs shares' m reaches) same'
+    (subst (λ (xs : List Share). AreAllReaches windows wants xs m reaches) same'' are))
+
+-- a split, of lists that are the same
+pub split_at : (windows windows' : List Window) (reaches reaches' : List ℕ) (top : ℕ) (jobs jobs' stretches_ stretches' new_jobs new_stretches read : List ℕ) →
+    windows ≡ windows' → reaches ≡ reaches' → jobs ≡ jobs' → stretches_ ≡ stretches' → read ≡ new_stretches →
+    length new_jobs ≡ length jobs → length new_stretches ≡ length stretches_ →
+    ((k : ℕ) → k < length stretches_ → IsSplitStretch reaches top k (group_of stretches_ k) (group_of new_stretches k)) →
+    ((j : ℕ) → j < length jobs → IsSplitJob windows read top j (group_of jobs j) (group_of new_jobs j)) →
+    IsSplit windows' reaches' top jobs' stretches' new_jobs new_stretches
+split_at windows windows' reaches reaches' top jobs jobs' stretches_ stretches' new_jobs new_stretches read a b d e f all_jobs all_stretches stretch job =
+    subst (λ (xs : List Window). IsSplit xs reaches' top jobs' stretches' new_jobs new_stretches) a
+    (subst (λ (xs : List ℕ). IsSplit windows xs top jobs' stretches' new_jobs new_stretches) b
+    (subst (λ (xs : List ℕ). IsSplit windows reaches top xs stretches' new_jobs new_stretches) d
+    (subst (λ (xs : List ℕ). IsSplit windows reaches top jobs xs new_jobs new_stretches) e
+    (record {
+      all_jobs = all_jobs;
+      all_stretches = all_stretches;
+      stretch = stretch;
+      job = λ j known. subst (λ (xs : List ℕ). IsSplitJob windows xs top j (group_of jobs j) (group_of new_jobs j)) f (job j known);
+    }))))
+
+-- a group with late jobs is split, whatever its number
+pub split_top : (jobs : List Job) (instance : Instance) (found : Found) (top : ℕ) (group : Group) (shares : List Share) (wants' rooms' : List ℕ) (m : ℕ) (reaches : List ℕ)
+    (new_jobs new_stretches : List ℕ) → 1 ≤ top → IsInstance jobs instance → IsSearch jobs instance.windows.items found top 1000000 → top ≤ 1000000 →
+    IsAttempt jobs instance.windows.items found top group shares wants' rooms' → list_any (λ want. nat_lt 0 want) wants' ≡ true →
+    m ≡ length (stretches jobs) → AreAllReaches instance.windows.items wants' shares m reaches →
+    IsSplit instance.windows.items reaches top found.group_of_job found.group_of_stretch new_jobs new_stretches →
+    IsSearch jobs instance.windows.items (moved found new_jobs new_stretches) (top - 1) 1000000 × (sum new_stretches < sum found.group_of_stretch)
+split_top jobs instance found top group shares wants' rooms' m reaches new_jobs new_stretches some are search within attempt any all reach split =
+    let is : top ≡ top - 1 + 1 = omega arith in
+    split_step jobs instance found (top - 1) group shares wants' rooms' m reach.late reach.shared reaches new_jobs new_stretches are
+    (subst (λ (n : ℕ). IsSearch jobs instance.windows.items found n 1000000) is search)
+    (omega arith)
+    (subst (λ (n : ℕ). IsAttempt jobs instance.windows.items found n group shares wants' rooms') is attempt)
+    any all reach.lates reach.shareds reach.reach
+    (subst (λ (n : ℕ). IsSplit instance.windows.items reaches n found.group_of_job found.group_of_stretch new_jobs new_stretches) is split)

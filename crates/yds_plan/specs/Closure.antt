@@ -39,3 +39,11 @@ pub record AreClosed (windows : List Window) (m : ℕ) (shares : List Share) (wa
   pub full : (k : ℕ) → k < m → IsMarked reaches k → slice_index rooms k ≡ 0
   pub shared : (x k : ℕ) → x < length shares → IsMarked reaches (share_at shares x).stretch → IsIn windows (share_at shares x).job k → IsMarked reaches k
   pub late : (j k : ℕ) → j < length windows → 1 ≤ slice_index wants j → IsIn windows j k → IsMarked reaches k
+
+-- the reaches of late jobs, directly and through shares
+pub record AreAllReaches (windows : List Window) (wants : List ℕ) (shares : List Share) (m : ℕ) (reaches : List ℕ) : Type 0 where
+  pub late : List ℕ
+  pub shared : List ℕ
+  pub lates : AreLateReaches windows wants m late
+  pub shareds : AreShareReaches windows shares m shared
+  pub reach : AreReaches late shared m reaches

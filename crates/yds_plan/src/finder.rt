@@ -10,7 +10,7 @@ ghost use Rattle.yds_plan.specs.Search.{IsSearch, IsAttempt, IsBeginning};
 ghost use Rattle.yds_plan.specs.Instance.{IsInstance};
 
 use crate::finder_amounts::{greatest_divisor, scaled, total};
-use crate::finder_closure::{closure, late_reaches, share_reaches};
+use crate::finder_closure::reaches;
 use crate::finder_fill::{Filled, fill};
 use crate::finder_split::{rename, split_jobs, split_stretches};
 use crate::finder_instance::{Instance, prepare};
@@ -98,9 +98,8 @@ fn split(
     ensures smaller { OnOk result (sum found.new.group_of_stretch.items < sum found.old.group_of_stretch.items) }
 {
     let stretches = found.group_of_stretch.len() as u32;
-    let late = late_reaches(alloc, &instance.windows, &attempt.filled.wants, stretches)?;
-    let shared = share_reaches(alloc, &instance.windows, &attempt.filled.shares, stretches)?;
-    let reaches = closure(alloc, &late, &shared, stretches)?;
+    let filled = &attempt.filled;
+    let reaches = reaches(alloc, &instance.windows, &filled.wants, &filled.shares, stretches)?;
     split_stretches(&mut found.group_of_stretch, &reaches, top);
     split_jobs(&mut found.group_of_job, &instance.windows, &found.group_of_stretch, top);
     Ok(())

@@ -3,7 +3,7 @@ ghost use Rattle.std.specs.List.{All};
 ghost use Rattle.yds_plan.specs.Views.{shares_view};
 ghost use Rattle.yds_plan.specs.Windows.{window_at};
 ghost use Rattle.yds_plan.specs.Fill.{IsPart};
-ghost use Rattle.yds_plan.specs.Closure.{AreLateReaches, AreShareReaches, AreReaches};
+ghost use Rattle.yds_plan.specs.Closure.{AreLateReaches, AreShareReaches, AreReaches, AreAllReaches};
 
 use crate::finder_windows::Window;
 use crate::share::Share;
@@ -12,7 +12,7 @@ use yds_model::Memory;
 
 /// For each stretch the least first stretch among the windows of late jobs that end with it, or the
 /// number of all stretches.
-pub(crate) fn late_reaches(
+fn late_reaches(
     alloc: Global,
     windows: &[Window],
     wants: &[u64],
@@ -36,7 +36,7 @@ pub(crate) fn late_reaches(
 
 /// For each stretch the least first stretch among the windows of the jobs that have a share in it, or
 /// the number of all stretches.
-pub(crate) fn share_reaches(
+fn share_reaches(
     alloc: Global,
     windows: &[Window],
     shares: &[Share],
@@ -56,7 +56,7 @@ pub(crate) fn share_reaches(
 
 /// How far to the left the late jobs reach over each stretch, directly or through shares: a stretch is
 /// closed upon where that isn't after it.
-pub(crate) fn closure(alloc: Global, late: &[u32], shared: &[u32], stretches: u32) -> Result<Vec<u32>, Memory>
+fn closure(alloc: Global, late: &[u32], shared: &[u32], stretches: u32) -> Result<Vec<u32>, Memory>
     requires late { length late.now ≡ stretches }
     requires shared { length shared.now ≡ stretches }
     ensures { IfOk result (λ reaches. AreReaches late.now shared.now stretches reaches.items) }
@@ -70,5 +70,25 @@ pub(crate) fn closure(alloc: Global, late: &[u32], shared: &[u32], stretches: u3
         }
         reaches[place] = least;
     }
+    Ok(reaches)
+}
+
+/// How far to the left the late jobs reach over each stretch.
+pub(crate) fn reaches(
+    alloc: Global,
+    windows: &[Window],
+    wants: &[u64],
+    shares: &[Share],
+    stretches: u32,
+) -> Result<Vec<u32>, Memory>
+    requires same { length wants.now ≡ length windows.now }
+    requires some { (j : ℕ) → j < length windows.now → (window_at windows.now j).first < (window_at windows.now j).end }
+    requires inside { (j : ℕ) → j < length windows.now → (window_at windows.now j).end ≤ stretches }
+    requires parts { All (IsPart windows.now (length windows.now) stretches) (shares_view shares.now) }
+    ensures { IfOk result (λ reaches. AreAllReaches windows.now wants.now (shares_view shares.now) stretches reaches.items) }
+{
+    let late = late_reaches(alloc, windows, wants, stretches)?;
+    let shared = share_reaches(alloc, windows, shares, stretches)?;
+    let reaches = closure(alloc, &late, &shared, stretches)?;
     Ok(reaches)
 }
