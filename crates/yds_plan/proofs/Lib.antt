@@ -19,3 +19,23 @@ pub mod Buckets
 pub mod Fitting
 pub mod Bounds
 pub mod Laying
+mod Orders
+mod Fill
+mod Filling
+mod Ranges
+mod Closure
+mod Balance
+mod Shares
+mod Finished
+mod Split
+mod Times
+mod Deadlines
+mod Places
+mod Ends
+mod Lowest
+mod Amounts
+mod Pointwise
+mod Reaches
+mod Finish
+mod Attempt
+mod Steps

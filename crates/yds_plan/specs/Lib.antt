@@ -3,3 +3,9 @@ pub mod Views
 pub mod Laid
 pub mod Drafts
 pub mod Room
+pub mod Windows
+pub mod Fill
+pub mod Closure
+pub mod Search
+pub mod Amounts
+pub mod Instance
