@@ -31,7 +31,7 @@ use Rattle.yds_plan.proofs.Schedule.{has_work, terms, room}
 use Rattle.yds_plan.proofs.Buckets.{vector_at}
 use Rattle.yds_plan.proofs.Bounds.{group_work, group_length, stretch_in_range}
 use Rattle.yds_plan.proofs.Fitting.{HasGrain, grain_is}
-use Rattle.yds_plan.proofs.Plan.{slots_length}
+use Rattle.yds_plan.proofs.FoundPlan.{slots_length}
 
 -- a filtered list of structs, viewed, is the filtered view
 pub view_in : (shares : List Struct) (k : ℕ) → shares_view (structs_in shares k) ≡ shares_in (shares_view shares) k

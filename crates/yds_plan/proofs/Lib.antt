@@ -11,7 +11,7 @@ pub mod Order
 pub mod Schedule
 pub mod Levels
 pub mod LevelPieces
-pub mod Plan
+pub mod FoundPlan
 pub mod Drafts
 pub mod Extended
 pub mod DraftSteps
