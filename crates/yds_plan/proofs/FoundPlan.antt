@@ -1,5 +1,6 @@
 -- What the search finds makes a plan.
 use Rattle.std.proofs.Common.{◌≡◌, ℕ, zero, suc, ◌+◌, ◌-◌, ◌*◌, ◌/◌, ◌<◌, ◌≤◌, ◌==◌, ◌⊎◌, List, [], ◌∷◌, ◌∙◌, length, map, get_or, take, sym, refl, ap, arith, inl, inr}
+use Rattle.std.specs.Prelude.{Result, Ok, Err, IfOk}
 use Rattle.std.specs.List.{All, Contains, sum_by, flat_map, range_with_len}
 use Rattle.std.proofs.lemmas.Bool.{cases_lt}
 use Rattle.std.proofs.lemmas.List.{length-map}
@@ -16,6 +17,7 @@ use Rattle.yds_model.specs.Divisor.{common_divisor}
 use Rattle.yds_model.specs.Event.{stretches}
 use Rattle.yds_model.specs.Plan.{IsSlower, DontTouch, Rise, HasLevelDenominators, IsPlan}
 use Rattle.yds_model.proofs.Sums.{sum_by_same}
+use Rattle.yds_slots.specs.Schedule.{WrittenSchedule}
 use Rattle.yds_plan.specs.Found.{Group, Share, Found, IsFound, group_of, group_at, per_time, per_work, stretch_at, length_of}
 use Rattle.yds_plan.specs.Laid.{level_of, levels_among, level_of_place, together, members_of, stretches_of, joined, level_numbered, levels_of, slots_in, slots_of, shares_in}
 use Rattle.yds_plan.proofs.Divisors.{same_lowest, lowest}
@@ -239,3 +241,17 @@ module _ (jobs : List Job) (found : Found) (is : IsFound jobs found) where
 -- What is found makes a plan.
 pub found_makes_plan : (jobs : List Job) (found : Found) → IsFound jobs found → IsPlan jobs (slots_of jobs found) (levels_of jobs found)
 found_makes_plan = makes_plan
+
+-- two facts of a result's value make a third
+both_ok : {T E : Type 0} (P Q R : T → Type 0) → ((x : T) → P x → Q x → R x) → (r : Result T E) → IfOk r P → IfOk r Q → IfOk r R
+both_ok P Q R join (Ok x) first second = join x first second
+both_ok P Q R join (Err e) first second = tt
+
+-- slots and levels that are those of what was found make a plan
+pub laid_plan : {T E : Type 0} (jobs : List Job) (found : Found) (schedule : T → WrittenSchedule) (levels : T → List Level) (r : Result T E) →
+    IsFound jobs found → IfOk r (λ x. schedule x ≡ record { jobs = length jobs; slots = slots_of jobs found }) →
+    IfOk r (λ x. levels x ≡ levels_of jobs found) → IfOk r (λ x. IsPlan jobs (schedule x).slots (levels x))
+laid_plan jobs found schedule levels r is laid certified =
+    both_ok (λ x. schedule x ≡ record { jobs = length jobs; slots = slots_of jobs found }) (λ x. levels x ≡ levels_of jobs found)
+    (λ x. IsPlan jobs (schedule x).slots (levels x))
+    (λ x one other. rw (one, other) (found_makes_plan jobs found is)) r laid certified
