@@ -18,3 +18,4 @@ mod Reaches
 mod Finish
 mod Attempt
 mod Steps
+mod Begin
