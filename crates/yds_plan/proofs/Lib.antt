@@ -39,3 +39,4 @@ mod Reaches
 mod Finish
 mod Attempt
 mod Steps
+mod Begin

@@ -5,23 +5,19 @@ ghost use Rattle.yds_model.specs.Event.{event_points, stretches};
 ghost use Rattle.yds_model.specs.declared.limits.TheConstants.{MAX_JOBS};
 ghost use Rattle.yds_plan.specs.Found.{IsFound};
 ghost use Rattle.yds_plan.specs.Views.{found_view, group_view, shares_view};
-ghost use Rattle.yds_plan.specs.Windows.{AreWindows};
-ghost use Rattle.yds_plan.specs.Search.{IsSearch, IsAttempt, IsBeginning};
+ghost use Rattle.yds_plan.specs.Search.{IsSearch, IsAttempt};
+ghost use Rattle.yds_plan.specs.declared.finder_beginning.TheConstants.{LAST};
 ghost use Rattle.yds_plan.specs.Instance.{IsInstance};
 
 use crate::finder_amounts::{greatest_divisor, scaled, total};
+use crate::finder_beginning::{LAST, beginning, first_group};
 use crate::finder_closure::reaches;
 use crate::finder_fill::{Filled, fill};
 use crate::finder_split::{rename, split_jobs, split_stretches};
 use crate::finder_instance::{Instance, prepare};
-use crate::finder_windows::Window;
 use crate::found::{Found, Group};
 use std::alloc::Global;
 use yds_model::{JobRow, Memory};
-
-/// The number of the first group, which all jobs with work are in at first. Groups that aren't finished
-/// have numbers up to it, the fastest one the least.
-const LAST: u32 = 1_000_000;
 
 /// A group, filled at its average speed.
 #[derive(Drop)]
@@ -131,38 +127,6 @@ fn advance(
     }
 }
 
-/// All jobs with work in one group, with the stretches in which one of them may run.
-fn beginning(alloc: Global, rows: &[JobRow], windows: &[Window], stretches: usize) -> Result<Found, Memory>
-    requires windows { AreWindows rows.now windows.now }
-    requires stretches { stretches ≡ length (stretches rows.now) }
-    ensures { IfOk result (λ found. IsBeginning rows.now windows.now (found_view found) LAST) }
-{
-    let mut group_of_job = Vec::new(alloc);
-    let mut group_of_stretch = vec![in alloc; LAST + 1; stretches]?;
-    for job in 0..rows.len() {
-        let row = rows[job];
-        if row.work == 0 {
-            group_of_job.push(LAST + 1)?;
-        } else {
-            group_of_job.push(LAST)?;
-            cover(&mut group_of_stretch, windows[job]);
-        }
-    }
-    Ok(Found {
-        groups: Vec::new(alloc),
-        group_of_job,
-        group_of_stretch,
-        shares: Vec::new(alloc),
-    })
-}
-
-/// Puts the stretches of a window into the first group.
-fn cover(group_of_stretch: &mut Vec<u32>, window: Window) {
-    for stretch in window.first..window.end {
-        group_of_stretch[stretch as usize] = LAST;
-    }
-}
-
 /// Groups of jobs and stretches, the fastest first, with the shares of jobs in stretches.
 pub(crate) fn find(alloc: Global, rows: &[JobRow], times: &[u32]) -> Result<Found, Memory>
     requires few { length rows.now ≤ MAX_JOBS }
@@ -172,8 +136,7 @@ pub(crate) fn find(alloc: Global, rows: &[JobRow], times: &[u32]) -> Result<Foun
 {
     let instance = prepare(alloc, rows, times)?;
     let mut found = beginning(alloc, rows, &instance.windows, instance.lengths.len())?;
-    let any = rows.iter().any(|row| row.work > 0);
-    let mut top = if any { LAST } else { LAST + 1 };
+    let mut top = first_group(&instance.works);
     while top <= LAST {
         top = advance(alloc, rows, &instance, &mut found, top)?;
     }

@@ -8,6 +8,7 @@
 
 mod finder;
 mod finder_amounts;
+mod finder_beginning;
 mod finder_closure;
 mod finder_fill;
 mod finder_instance;
