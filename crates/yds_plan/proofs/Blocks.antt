@@ -1,11 +1,10 @@
 -- Lists that are joined from blocks, one for each number of a range: facts of elements and of pairs.
-use Rattle.std.proofs.Common.{◌≡◌, ℕ, zero, suc, ◌+◌, ◌<◌, ◌≤◌, List, [], ◌∷◌, ◌++◌, ◌∙◌, length, map, get_or, sym, refl, ap, arith}
+use Rattle.std.proofs.Common.{◌≡◌, ℕ, zero, suc, ◌+◌, ◌<◌, ◌≤◌, List, [], ◌∷◌, ◌++◌, ◌∙◌, length, map, sym, refl, ap, arith}
 use Rattle.std.specs.List.{All, AllPairs, Any, flat_map, range_with_len}
 use Rattle.std.proofs.lemmas.List.{map-append, length-append, get_or-append-add}
 use Rattle.std.proofs.lemmas.List.Concat.{flat_map-append}
 use Rattle.std.proofs.lemmas.List.Elements.{All-nil, All-cons, All-head, All-tail, All-append}
 use Rattle.yds_model.proofs.Lists.{AllPairs-append, Any-append_left}
-use Rattle.yds_plan.proofs.KeySums.{All-range}
 
 pub All-front : {X : Type 0} (P : X → Type 0) (xs ys : List X) → All P (xs ++ ys) → All P xs
 All-front P [] ys all = All-nil P

@@ -1,5 +1,5 @@
 -- What the groups have together is within the limits of levels.
-use Rattle.std.proofs.Common.{◌≡◌, ℕ, ◌+◌, ◌-◌, ◌*◌, ◌<◌, ◌≤◌, ◌==◌, List, [], ◌∷◌, ◌∙◌, length, map, get_or, sym, refl, ap, arith, inl, inr, Bool, true, false}
+use Rattle.std.proofs.Common.{ℕ, ◌+◌, ◌-◌, ◌*◌, ◌<◌, ◌≤◌, ◌==◌, List, [], ◌∷◌, length, get_or, ap, arith, Bool, true, false}
 use Rattle.std.specs.Prelude.{cond, nat_lt}
 use Rattle.std.specs.List.{All, sum_by, filter, flat_map, range_with_len}
 use Rattle.std.proofs.lemmas.Bool.{cond_both}
@@ -7,7 +7,7 @@ use Rattle.std.proofs.lemmas.List.Sums.{sum_by-cons, sum_by-le}
 use Rattle.std.proofs.lemmas.List.Elements.{All-nil, All-cons, All-head, All-tail}
 use Rattle.std.proofs.lemmas.List.FromFn.{length-range_with_len}
 use Rattle.std.proofs.Math.Nat.{mul-le-mul_right}
-use Rattle.yds_model.specs.declared.limits.TheConstants.{MAX_JOBS, MAX_LEVEL_LENGTH, MAX_LEVEL_WORK, MAX_TIME, MAX_WORK}
+use Rattle.yds_model.specs.declared.limits.TheConstants.{MAX_JOBS, MAX_TIME, MAX_WORK}
 use Rattle.yds_model.specs.Job.{Job, IsJob, no_job, job_at}
 use Rattle.yds_model.specs.Piece.{Piece, PiecesFrom, total_length}
 use Rattle.yds_model.specs.Event.{with_time, rising_times, event_points, neighbours, stretches}
@@ -157,8 +157,8 @@ module _ (jobs : List Job) (all : All IsJob jobs) where
     some_job : (i : ℕ) → i < length found.groups → 1 ≤ sum_by (λ j. cond (group_of found.group_of_job j == i) 1 0) (range_with_len 0 (length jobs))
     some_job i known =
         let most = sum_by_at_most (λ j. cond (group_of found.group_of_job j == i) (job_at jobs j).work 0)
-            (λ j. MAX_WORK * cond (group_of found.group_of_job j == i) 1 0) (range_with_len 0 (length jobs))
-            (λ k d within. scaled_cond _ _ MAX_WORK (work_at_most k d within)) in
+        (λ j. MAX_WORK * cond (group_of found.group_of_job j == i) 1 0) (range_with_len 0 (length jobs))
+        (λ k d within. scaled_cond _ _ MAX_WORK (work_at_most k d within)) in
         omega (
           arith,
           is.works i known,

@@ -1,7 +1,7 @@
 -- The shares of each stretch, list by list, on the way.
-use Rattle.std.proofs.Common.{◌≡◌, ℕ, suc, ◌+◌, ◌<◌, ◌≤◌, ◌==◌, List, [], ◌∷◌, ◌++◌, ◌∙◌, length, map, get_or, set, take, sym, refl, ap, arith, Bool, true, false}
+use Rattle.std.proofs.Common.{◌≡◌, ℕ, ◌+◌, ◌<◌, ◌==◌, List, [], ◌∷◌, ◌++◌, ◌∙◌, length, map, get_or, set, take, sym, refl, ap, arith}
 use Rattle.std.specs.Prelude.{cond}
-use Rattle.std.specs.List.{filter, range_with_len}
+use Rattle.std.specs.List.{range_with_len}
 use Rattle.std.proofs.lemmas.Bool.{eq-eqb, ne_eqb}
 use Rattle.std.proofs.lemmas.List.{append-nil, length-map, get_or-map, map-set}
 use Rattle.std.proofs.lemmas.List.Elements.{filter_more}
@@ -35,13 +35,13 @@ module _ (shares : List Struct) (i : ℕ) (share : Struct) (within : i < length 
       set lists share.stretch (list ++ share ∷ []) ≡ map (structs_in (take (i + 1) shares)) (range_with_len 0 count)
   bucket_step count lists list known are is =
       let here : list ≡ structs_in (take i shares) share.stretch =
-          is ∙ ap (λ some. get_or some share.stretch list) are
-          ∙ get_or-map-range_with_len (structs_in (take i shares)) 0 count share.stretch share.stretch list known (omega arith) in
+      is ∙ ap (λ some. get_or some share.stretch list) are
+      ∙ get_or-map-range_with_len (structs_in (take i shares)) 0 count share.stretch share.stretch list known (omega arith) in
       ap (λ some. set some share.stretch (list ++ share ∷ [])) are
       ∙ ap (λ some. set (map (structs_in (take i shares)) (range_with_len 0 count)) share.stretch (some ++ share ∷ [])) here
       ∙ ap (set (map (structs_in (take i shares)) (range_with_len 0 count)) share.stretch) bucket_here
       ∙ map_range_set [] (structs_in (take i shares)) (structs_in (take (i + 1) shares)) count share.stretch known
-          (λ k below other. bucket_other k other)
+      (λ k below other. bucket_other k other)
 
   -- the same for the lists' own vectors
   pub vector_step : {V : Type 0} (items : V → List Struct) (count : ℕ) (vectors : List V) (old new : V) → share.stretch < count →
@@ -50,11 +50,11 @@ module _ (shares : List Struct) (i : ℕ) (share : Struct) (within : i < length 
       map items (set vectors share.stretch new) ≡ map (structs_in (take (i + 1) shares)) (range_with_len 0 count)
   vector_step items count vectors old new known are is pushed =
       let long : share.stretch < length vectors =
-          omega (arith, length-map vectors items, ap length are, length-map-range_with_len (structs_in (take i shares)) 0 count) in
+      omega (arith, length-map vectors items, ap length are, length-map-range_with_len (structs_in (take i shares)) 0 count) in
       map-set items vectors share.stretch new
       ∙ ap (set (map items vectors) share.stretch) pushed
       ∙ bucket_step count (map items vectors) (items old) known are
-          (ap items is ∙ sym (get_or-map items vectors share.stretch old (items old) long))
+      (ap items is ∙ sym (get_or-map items vectors share.stretch old (items old) long))
 
 -- there are as many vectors as stretches
 pub vectors_count : {V : Type 0} (items : V → List Struct) (shares : List Struct) (count : ℕ) (vectors : List V) →

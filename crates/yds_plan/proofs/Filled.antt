@@ -1,5 +1,5 @@
 -- One stretch, filled from its start with the shares of one group.
-use Rattle.std.proofs.Common.{◌≡◌, ℕ, suc, ◌+◌, ◌-◌, ◌*◌, ◌<◌, ◌≤◌, ◌==◌, List, [], ◌∷◌, ◌∙◌, length, map, get_or, sym, refl, ap, arith}
+use Rattle.std.proofs.Common.{◌≡◌, ℕ, suc, ◌+◌, ◌-◌, ◌*◌, ◌<◌, ◌≤◌, ◌==◌, List, [], ◌∷◌, length, refl, arith}
 use Rattle.std.specs.Prelude.{cond}
 use Rattle.std.specs.List.{All, AllByRecursion, AllPairs, sum_by}
 use Rattle.std.proofs.lemmas.Bool.Decides.{nat_tests}
@@ -142,7 +142,7 @@ module _ (group : Group) (scale start : ℕ) (positive : 1 ≤ scale) (some_time
       let rest = slots_from group start (done + share.units) shares in
       let later = fills end (done + share.units) shares divided.1 (All-tail (λ share. 1 ≤ share.units) share shares some) (omega arith) in
       let jobs = jobs_at (R share.job) scale rest (slots_of_jobs (R share.job) group start (done + share.units) shares
-          (λ k d within. pairs 0 (suc k) d (omega arith) (omega arith))) in
+      (λ k d within. pairs 0 (suc k) d (omega arith) (omega arith))) in
       AllPairs-cons (FollowsBy R) _ (slots_at scale rest)
       (λ k d within. (after_of _ _ (per_time group) (start * per_time group + (done + share.units)) scale to (later k d within).from some_time, jobs k d within))
       (filled_pairs R end (done + share.units) shares divided.1 (All-tail (λ share. 1 ≤ share.units) share shares some) (omega arith)

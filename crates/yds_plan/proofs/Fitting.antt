@@ -1,7 +1,7 @@
 -- The slots of a stretch are within the limits of slots, and each can stand after those before it.
-use Rattle.std.proofs.Common.{◌≡◌, ℕ, zero, suc, ◌+◌, ◌-◌, ◌*◌, ◌/◌, ◌%◌, ◌<◌, ◌≤◌, ◌==◌, ◌⊎◌, List, [], ◌∷◌, ◌++◌, ◌∙◌, length, map, get_or, take, sym, refl, ap, arith, inl, inr, max, Bool, true, false}
+use Rattle.std.proofs.Common.{◌≡◌, ℕ, ◌+◌, ◌*◌, ◌/◌, ◌%◌, ◌<◌, ◌≤◌, ◌==◌, ◌⊎◌, List, [], ◌∷◌, ◌++◌, ◌∙◌, length, get_or, take, sym, refl, ap, arith, inl, inr, max}
 use Rattle.std.specs.Prelude.{cond}
-use Rattle.std.specs.List.{All, fold, sum_by}
+use Rattle.std.specs.List.{All, fold}
 use Rattle.std.proofs.lemmas.Bool.{cond_both, eqb-true}
 use Rattle.std.proofs.lemmas.List.Sums.{sum_by-cons, sum_by_push, sum_by_more_le, fold-append}
 use Rattle.std.proofs.lemmas.List.{append_assoc, length-append, length-map, length-take, take-map, take_more, get_or-map}
@@ -71,7 +71,7 @@ pub slots_more : (group : Group) (start done : ℕ) (shares : List Share) (share
 slots_more group start done [] share = let same : done + 0 ≡ done = omega arith in rw same refl
 slots_more group start done (first ∷ shares) share =
     let same : done + first.units + units_of shares ≡ done + units_of (first ∷ shares) =
-        omega (arith, sum_by-cons (λ (one : Share). one.units) first shares) in
+    omega (arith, sum_by-cons (λ (one : Share). one.units) first shares) in
     ap (λ slots. slot_for group start done first ∷ slots) (slots_more group start (done + first.units) shares share
     ∙ ap (λ n. slots_from group start (done + first.units) shares ++ slot_for group start n share ∷ []) same)
 
@@ -207,8 +207,8 @@ module _ (items : List Struct) (i : ℕ) (within : i < length items) where
   filled_next before now next group start done p q slot filled is_p is_q is_job is_from is_to is_work is_next =
       let share = share_view (get_or items i no_struct) in
       let here : slot ≡ slot_for group start done share =
-          same_slot _ _ _ _ _ _ _ _ is_job (is_from ∙ ap (with_parts start done) is_p)
-          (is_to ∙ ap (with_parts start (done + share.units)) is_p) (is_work ∙ ap (with_parts 0 share.units) is_q) in
+      same_slot _ _ _ _ _ _ _ _ is_job (is_from ∙ ap (with_parts start done) is_p)
+      (is_to ∙ ap (with_parts start (done + share.units)) is_p) (is_work ∙ ap (with_parts 0 share.units) is_q) in
       record {
         jobs_stay = ap (λ schedule. schedule.jobs) is_next ∙ filled.jobs_stay;
         laid =
@@ -216,9 +216,9 @@ module _ (items : List Struct) (i : ℕ) (within : i < length items) where
             ∙ ap (λ slots. slots ++ slot ∷ []) filled.laid
             ∙ append_assoc before.slots (slots_from group start 0 (shares_view (take i items))) (slot ∷ [])
             ∙ ap (λ one. before.slots ++ (slots_from group start 0 (shares_view (take i items)) ++ one ∷ []))
-                (here ∙ ap (λ n. slot_for group start n share) (filled.units ∙ (omega arith)))
+            (here ∙ ap (λ n. slot_for group start n share) (filled.units ∙ (omega arith)))
             ∙ ap (λ slots. before.slots ++ slots)
-                (sym (ap (slots_from group start 0) next_view ∙ slots_more group start 0 (shares_view (take i items)) share));
+            (sym (ap (slots_from group start 0) next_view ∙ slots_more group start 0 (shares_view (take i items)) share));
         units = rw (filled.units, next_view) (omega (
           arith,
           sum_by_push (λ (one : Share). one.units) (shares_view (take i items)) share,

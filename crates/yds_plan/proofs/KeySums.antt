@@ -1,5 +1,5 @@
 -- Sums over lists that are filtered, mapped and joined, and a sum that is split by a key.
-use Rattle.std.proofs.Common.{◌≡◌, ℕ, zero, suc, ◌+◌, ◌*◌, ◌<◌, ◌≤◌, ◌==◌, List, [], ◌∷◌, ◌++◌, ◌∙◌, length, map, get_or, take, sym, refl, ap, arith, inl, inr, Bool, true, false, add-one}
+use Rattle.std.proofs.Common.{◌≡◌, ℕ, zero, suc, ◌+◌, ◌<◌, ◌≤◌, ◌==◌, List, [], ◌∷◌, ◌++◌, ◌∙◌, length, map, get_or, take, sym, refl, ap, arith, inl, inr, Bool, true, false, add-one}
 use Rattle.std.specs.Prelude.{cond, nat_lt}
 use Rattle.std.specs.List.{All, sum_by, filter, flat_map, range_with_len}
 use Rattle.std.proofs.lemmas.Bool.{cases_eq, cases_lt, ne_eqb, eq-eqb, lt-ltb, le-ltb}
@@ -38,7 +38,7 @@ sums_swap f (x ∷ xs) ys =
     ∙ ap (λ n. sum_by (f x) ys + n) (sums_swap f xs ys)
     ∙ sym (sum_by-add (f x) (λ y. sum_by (λ one. f one y) xs) ys)
     ∙ sum_by_same (λ y. f x y + sum_by (λ one. f one y) xs) (λ y. sum_by (λ one. f one y) (x ∷ xs)) ys
-        (λ k d within. sym (sum_by-cons (λ one. f one (get_or ys k d)) x xs))
+    (λ k d within. sym (sum_by-cons (λ one. f one (get_or ys k d)) x xs))
 
 -- facts about each number of a range
 pub All-range : (P : ℕ → Type 0) (a n : ℕ) → ((i : ℕ) → i < n → P (a + i)) → All P (range_with_len a n)
@@ -99,10 +99,10 @@ pub split_sum : {X : Type 0} (key : X → ℕ) (f : X → ℕ) (n : ℕ) (xs : L
     ≡ sum_by (λ x. cond (nat_lt (key x) n) (f x) 0) xs
 split_sum key f n xs =
     sum_by_same (λ k. sum_by f (filter (λ x. key x == k) xs)) (λ k. sum_by (λ x. cond (key x == k) (f x) 0) xs) (range_with_len 0 n)
-        (λ i d within. sum_by-filter (λ x. key x == get_or (range_with_len 0 n) i d) f xs)
+    (λ i d within. sum_by-filter (λ x. key x == get_or (range_with_len 0 n) i d) f xs)
     ∙ sums_swap (λ k x. cond (key x == k) (f x) 0) (range_with_len 0 n) xs
     ∙ sum_by_same (λ x. sum_by (λ k. cond (key x == k) (f x) 0) (range_with_len 0 n)) (λ x. cond (nat_lt (key x) n) (f x) 0) xs
-        (λ i d within. one_of_range n (key (get_or xs i d)) (f (get_or xs i d)))
+    (λ i d within. one_of_range n (key (get_or xs i d)) (f (get_or xs i d)))
 
 -- where each key is below n, they are the whole sum
 pub split_all : {X : Type 0} (key : X → ℕ) (f : X → ℕ) (n : ℕ) (xs : List X) → All (λ x. key x < n) xs →
@@ -110,7 +110,7 @@ pub split_all : {X : Type 0} (key : X → ℕ) (f : X → ℕ) (n : ℕ) (xs : L
 split_all key f n xs below =
     split_sum key f n xs
     ∙ sum_by_same (λ x. cond (nat_lt (key x) n) (f x) 0) f xs
-        (λ i d within. ap (λ b. cond b (f (get_or xs i d)) 0) (lt-ltb (key (get_or xs i d)) n (below i d within)))
+    (λ i d within. ap (λ b. cond b (f (get_or xs i d)) 0) (lt-ltb (key (get_or xs i d)) n (below i d within)))
 
 pub cond_at_most : (b : Bool) (v : ℕ) → cond b v 0 ≤ v
 cond_at_most true v = omega arith

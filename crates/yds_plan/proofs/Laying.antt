@@ -1,24 +1,24 @@
 -- Stretch by stretch: each can be filled after those before it, and then one more is laid.
-use Rattle.std.proofs.Common.{◌≡◌, ℕ, zero, suc, ◌+◌, ◌-◌, ◌*◌, ◌/◌, ◌<◌, ◌≤◌, ◌==◌, ◌⊎◌, List, [], ◌∷◌, ◌++◌, ◌∙◌, length, map, get_or, sym, refl, ap, arith, inl, inr, Bool, true, false}
+use Rattle.std.proofs.Common.{◌≡◌, ℕ, ◌+◌, ◌*◌, ◌<◌, ◌≤◌, ◌==◌, ◌⊎◌, List, [], ◌∷◌, ◌++◌, ◌∙◌, length, map, get_or, sym, refl, ap, arith, inl, inr, Bool, true, false}
 use Rattle.std.specs.Prelude.{cond}
-use Rattle.std.specs.List.{All, sum_by, filter, flat_map, range_with_len}
+use Rattle.std.specs.List.{All, flat_map, range_with_len}
 use Rattle.std.proofs.lemmas.Bool.{cases_lt, eq-eqb}
 use Rattle.std.proofs.lemmas.List.{append-nil, nil_from_length, get_or-map}
 use Rattle.std.proofs.lemmas.List.Concat.{flat_map-append, length-flat_map}
 use Rattle.std.proofs.lemmas.List.Sums.{get_or-le-sum_by}
-use Rattle.std.proofs.lemmas.List.Elements.{All-nil, All-from_get_or, All-filter, All-weaker}
+use Rattle.std.proofs.lemmas.List.Elements.{All-from_get_or, All-filter, All-weaker}
 use Rattle.std.proofs.Math.Nat.{mul-le-mul_left, mul-le-mul_right}
-use Rattle.yds_model.specs.declared.limits.TheConstants.{MAX_JOBS, MAX_SLOT_WORK, MAX_SLOTS, MAX_TIME, MAX_WORK}
+use Rattle.yds_model.specs.declared.limits.TheConstants.{MAX_JOBS, MAX_SLOT_WORK, MAX_TIME, MAX_WORK}
 use Rattle.yds_model.specs.Job.{Job, IsJob, no_job, job_at}
 use Rattle.yds_model.specs.Slot.{WrittenSlot}
-use Rattle.yds_model.specs.Scale.{Fraction, of_whole}
+use Rattle.yds_model.specs.Scale.{Fraction}
 use Rattle.yds_model.specs.Audit.{grain_of}
-use Rattle.yds_model.specs.Event.{event_points, stretches}
+use Rattle.yds_model.specs.Event.{stretches}
 use Rattle.yds_model.specs.Plan.{IsOver}
 use Rattle.yds_slots.specs.Schedule.{WrittenSchedule}
 use Rattle.yds_plan.specs.declared.share.Share.{Share as Struct}
 use Rattle.yds_plan.specs.declared.found.Group.{Group as GroupStruct}
-use Rattle.yds_plan.specs.Found.{Group, Share, Found, IsFound, no_share, share_at, no_group, group_of, group_at, per_time, per_work, stretch_at, units_of_job}
+use Rattle.yds_plan.specs.Found.{Group, Share, Found, IsFound, no_share, share_at, no_group, group_of, group_at, per_time, per_work, stretch_at}
 use Rattle.yds_plan.specs.Views.{share_view, shares_view, group_view}
 use Rattle.yds_plan.specs.Laid.{slots_from, shares_in, slots_in, slots_of}
 use Rattle.yds_plan.specs.Room.{structs_in, CanFill}
@@ -84,14 +84,14 @@ module _ (jobs : List Job) (found : Found) (all : All IsJob jobs) (is : IsFound 
   units_at_most =
       All-from_get_or HasFewUnits found.shares no_share
       (λ x within.
-          let share = share_at found.shares x in
-          let part = get_or-le-sum_by (λ (one : Share). cond (one.job == share.job) one.units 0) found.shares x no_share within in
-          let mine = ap (λ b. cond b share.units 0) (eq-eqb share.job share.job refl) in
-          let facts = is.shares x no_share within in
-          let most : per_work (group_at found.groups (group_of found.group_of_job share.job)) * (job_at jobs share.job).work
-              ≤ per_work (group_at found.groups (group_of found.group_of_job share.job)) * MAX_WORK =
-              mul-le-mul_left _ (all share.job no_job facts.known).work_in_range in
-          omega (arith, part, mine, is.served share.job facts.known (has_work jobs found is share.job facts.known facts.grouped), most))
+      let share = share_at found.shares x in
+      let part = get_or-le-sum_by (λ (one : Share). cond (one.job == share.job) one.units 0) found.shares x no_share within in
+      let mine = ap (λ b. cond b share.units 0) (eq-eqb share.job share.job refl) in
+      let facts = is.shares x no_share within in
+      let most : per_work (group_at found.groups (group_of found.group_of_job share.job)) * (job_at jobs share.job).work
+      ≤ per_work (group_at found.groups (group_of found.group_of_job share.job)) * MAX_WORK =
+      mul-le-mul_left _ (all share.job no_job facts.known).work_in_range in
+      omega (arith, part, mine, is.served share.job facts.known (has_work jobs found is share.job facts.known facts.grouped), most))
 
   more_work : (q : ℕ) → q * MAX_WORK ≤ q * MAX_SLOT_WORK
   more_work q = let most : MAX_WORK ≤ MAX_SLOT_WORK = omega arith in mul-le-mul_left q most
@@ -125,9 +125,9 @@ module _ (jobs : List Job) (found : Found) (all : All IsJob jobs) (is : IsFound 
       grain_is (per_work (group_there k)) job (slots_up_to k) (terms jobs found is (group_of found.group_of_stretch k) grouped).some_second
       (All-weaker IsWritten (HasGrain (per_work (group_there k)) job)
       (λ slot written same.
-          let place : group_of found.group_of_stretch written.0 ≡ group_of found.group_of_stretch k =
-              written.1.same_group ∙ ap (group_of found.group_of_job) same ∙ sym serves.same_group in
-          rw (← place) (over_den _ slot.work written.2.work))
+      let place : group_of found.group_of_stretch written.0 ≡ group_of found.group_of_stretch k =
+      written.1.same_group ∙ ap (group_of found.group_of_job) same ∙ sym serves.same_group in
+      rw (← place) (over_den _ slot.work written.2.work))
       (slots_up_to k) (up_to_written k))
 
   can_fill : (k : ℕ) → k < length (stretches jobs) → group_of found.group_of_stretch k < length found.groups →
@@ -136,7 +136,7 @@ module _ (jobs : List Job) (found : Found) (all : All IsJob jobs) (is : IsFound 
       let g = group_of found.group_of_stretch k in
       let work : length jobs * MAX_WORK ≤ MAX_JOBS * MAX_WORK = mul-le-mul_right MAX_WORK few in
       let end : (stretch_at jobs k).to * per_time (group_there k) ≤ MAX_TIME * per_time (group_there k) =
-          mul-le-mul_right (per_time (group_there k)) (stretch_in_range jobs k all within) in
+      mul-le-mul_right (per_time (group_there k)) (stretch_in_range jobs k all within) in
       record {
         some_work = is.some_work g grouped;
         some_length = is.some_length g grouped;
@@ -168,9 +168,9 @@ module _ (jobs : List Job) (found : Found) (all : All IsJob jobs) (is : IsFound 
   laid_next k place schedule next group start shares laid is_place is_group is_start is_shares after =
       let here : group ≡ group_there k = is_group ∙ ap (group_at found.groups) is_place in
       let slots : slots_from group start 0 shares ≡ slots_in jobs found k =
-          ap (λ (g : Group). slots_from g start 0 shares) here
-          ∙ ap (λ n. slots_from (group_there k) n 0 shares) is_start
-          ∙ ap (slots_from (group_there k) (stretch_at jobs k).from 0) is_shares in
+      ap (λ (g : Group). slots_from g start 0 shares) here
+      ∙ ap (λ n. slots_from (group_there k) n 0 shares) is_start
+      ∙ ap (slots_from (group_there k) (stretch_at jobs k).from 0) is_shares in
       after
       ∙ ap (λ (s : WrittenSchedule). record { jobs = s.jobs; slots = s.slots ++ slots_from group start 0 shares }) laid
       ∙ ap (λ some. record { jobs = length jobs; slots = slots_up_to k ++ some }) slots

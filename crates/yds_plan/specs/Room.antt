@@ -1,5 +1,5 @@
 -- The shares of each stretch, as the program keeps them, and what a stretch needs so that its slots are within their limits.
-use Rattle.std.specs.Prelude.{◌≡◌, ℕ, ◌+◌, ◌*◌, ◌<◌, ◌≤◌, ◌⊎◌, List, length, map, sum_by, ◌==◌}
+use Rattle.std.specs.Prelude.{◌≡◌, ℕ, ◌+◌, ◌*◌, ◌<◌, ◌≤◌, ◌⊎◌, List, length, sum_by, ◌==◌}
 use Rattle.std.specs.List.{All, filter}
 use Rattle.yds_model.specs.declared.limits.TheConstants.{MAX_LEVEL_LENGTH, MAX_LEVEL_WORK, MAX_SLOTS, MAX_SLOT_WORK, MAX_TIME}
 use Rattle.yds_model.specs.Slot.{WrittenSlot}

@@ -41,7 +41,12 @@ fn certificate_of(alloc: Global, levels: Vec<Level>) -> Result<Certificate, Memo
 }
 
 /// The levels of what was found.
-fn levels_of_found(alloc: Global, rows: &[JobRow], times: &[u32], found: &Found) -> Result<Vec<Level>, Memory>
+fn levels_of_found(
+    alloc: Global,
+    rows: &[JobRow],
+    times: &[u32],
+    found: &Found,
+) -> Result<Vec<Level>, Memory>
     requires found { IsFound rows.now (found_view found.now) }
     requires jobs { All IsJob rows.now }
     requires few { length rows.now ≤ MAX_JOBS }
@@ -55,7 +60,12 @@ fn levels_of_found(alloc: Global, rows: &[JobRow], times: &[u32], found: &Found)
 }
 
 /// The plan of what was found.
-pub(crate) fn lay_out(alloc: Global, rows: &[JobRow], times: &[u32], found: &Found) -> Result<Planned, Memory>
+pub(crate) fn lay_out(
+    alloc: Global,
+    rows: &[JobRow],
+    times: &[u32],
+    found: &Found,
+) -> Result<Planned, Memory>
     requires found { IsFound rows.now (found_view found.now) }
     requires jobs { All IsJob rows.now }
     requires few { length rows.now ≤ MAX_JOBS }

@@ -29,7 +29,11 @@ fn empty_lists(alloc: Global, count: usize) -> Result<Vec<Vec<Share>>, Memory>
 }
 
 /// The shares of each stretch, in the order in which they were found.
-pub(crate) fn shares_by_stretch(alloc: Global, shares: &[Share], stretches: usize) -> Result<Vec<Vec<Share>>, Memory>
+pub(crate) fn shares_by_stretch(
+    alloc: Global,
+    shares: &[Share],
+    stretches: usize,
+) -> Result<Vec<Vec<Share>>, Memory>
     requires { All (λ share. share.stretch < stretches) shares.now }
     ensures { IfOk result (λ lists. map (λ list. list.items) lists.items ≡ map (structs_in shares.now) (range_with_len 0 stretches)) }
 {
@@ -90,11 +94,16 @@ fn slot_of(share: &Share, start: u32, done: u64, terms: Terms) -> Slot
 }
 
 /// Fills a stretch, from its start on, with these shares at the group's speed.
-pub(crate) fn fill_stretch(schedule: &mut Schedule, group: &Group, start: u32, shares: &[Share]) -> Result<(), Memory>
+pub(crate) fn fill_stretch(
+    schedule: &mut Schedule,
+    group: &Group,
+    start: u32,
+    shares: &[Share],
+) -> Result<(), Memory>
     requires { CanFill schedule.old.jobs schedule.old.slots (group_view group.now) start (shares_view shares.now) }
     ensures { IfOk result (λ _. schedule.new ≡ record {
-        jobs = schedule.old.jobs;
-        slots = schedule.old.slots ++ slots_from (group_view group.now) start 0 (shares_view shares.now);
+      jobs = schedule.old.jobs;
+      slots = schedule.old.slots ++ slots_from (group_view group.now) start 0 (shares_view shares.now);
     }) }
 {
     let terms = terms_of(group);
@@ -107,7 +116,12 @@ pub(crate) fn fill_stretch(schedule: &mut Schedule, group: &Group, start: u32, s
 }
 
 /// The slots of what was found, stretch by stretch.
-pub(crate) fn schedule_of(alloc: Global, rows: &[JobRow], times: &[u32], found: &Found) -> Result<Schedule, Memory>
+pub(crate) fn schedule_of(
+    alloc: Global,
+    rows: &[JobRow],
+    times: &[u32],
+    found: &Found,
+) -> Result<Schedule, Memory>
     requires found { IsFound rows.now (found_view found.now) }
     requires jobs { All IsJob rows.now }
     requires few { length rows.now ≤ MAX_JOBS }

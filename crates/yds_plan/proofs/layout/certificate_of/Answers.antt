@@ -1,5 +1,5 @@
 use Rattle.std.proofs.Common.{◌≡◌, [], ◌∷◌, ◌++◌, ◌∙◌, sym, ap, arith, length, length-append}
-use Rattle.std.proofs.lemmas.List.{append_assoc, append-nil}
+use Rattle.std.proofs.lemmas.List.{append_assoc}
 use Rattle.yds_plan.proofs.Blocks.{front_room}
 use Rattle.yds_plan.proofs.layout.certificate_of.Goals as goal
 use Rattle.yds_plan.proofs.layout.certificate_of.Goals.{In-Some}

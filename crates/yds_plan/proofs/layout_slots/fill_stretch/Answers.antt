@@ -1,9 +1,7 @@
-use Rattle.std.proofs.Common.{◌≡◌, ◌+◌, ◌*◌, ◌≤◌, ◌∙◌, ap, arith, get_or, take}
-use Rattle.std.proofs.Math.Nat.{mul-le-mul_right, mul-le-mul_left}
+use Rattle.std.proofs.Common.{arith, get_or}
 use Rattle.yds_plan.specs.Room.{IsWithin}
 use Rattle.yds_plan.specs.Views.{group_view}
 use Rattle.yds_plan.proofs.Buckets.{no_struct}
-use Rattle.yds_plan.proofs.Divisors.{lowest}
 use Rattle.yds_plan.proofs.Fitting.{within_next, known_next, grain_next, room_next, fits_next, filled_next, small_units}
 use Rattle.yds_plan.proofs.layout_slots.fill_stretch.Goals as goal
 use Rattle.yds_plan.proofs.layout_slots.fill_stretch.Goals.{In-loop-share}

@@ -1,5 +1,5 @@
-use Rattle.std.proofs.Common.{◌<◌, ◌+◌, ◌∙◌, sym, ap, arith, length, map, get_or}
-use Rattle.std.proofs.lemmas.List.{length-map, get_or-map, get_or_default}
+use Rattle.std.proofs.Common.{◌<◌, ◌∙◌, ap, arith, length, get_or}
+use Rattle.std.proofs.lemmas.List.{length-map, get_or-map}
 use Rattle.yds_model.specs.Event.{stretches}
 use Rattle.yds_plan.specs.Found.{no_share}
 use Rattle.yds_plan.specs.Views.{found_view, shares_view, group_view, share_view}
@@ -68,16 +68,16 @@ loop-stretch-preserved c =
           let read = w.in-Some.ensures.lookup in
           w.schedule-is
           ∙ laid_next c.args.rows.now (found_view c.args.found.now) c.requires.jobs c.requires.found c.requires.few k _ c.loop-stretch.schedule
-              w.fill_stretch.new.schedule (group_view w.in-Some.group.now) _ (shares_view w.deref-in-Some.result.now) c.loop-stretch.invariant place
-              (group_read groups c.deref-in-loop-stretch.result.now _ w.in-Some.group.now c.deref-in-loop-stretch.ensures.value read.3.0 read.1)
-              (ap (λ piece. piece.from) (stretch_between c.args.rows.now c.args.times.now k c.requires.times (inside here)))
-              (shares_read (λ list. list.items) c.deref.result.now c.args.found.now.shares.items c.len.result k c.in_ok-shares.shares.items
-              w.index.result.now w.deref-in-Some.result.now c.deref.ensures.value c.in_ok-shares.ensures (counted here) w.index.ensures
-              w.deref-in-Some.ensures.value)
-              w.in_ok-fill_stretch.ensures
+          w.fill_stretch.new.schedule (group_view w.in-Some.group.now) _ (shares_view w.deref-in-Some.result.now) c.loop-stretch.invariant place
+          (group_read groups c.deref-in-loop-stretch.result.now _ w.in-Some.group.now c.deref-in-loop-stretch.ensures.value read.3.0 read.1)
+          (ap (λ piece. piece.from) (stretch_between c.args.rows.now c.args.times.now k c.requires.times (inside here)))
+          (shares_read (λ list. list.items) c.deref.result.now c.args.found.now.shares.items c.len.result k c.in_ok-shares.shares.items
+          w.index.result.now w.deref-in-Some.result.now c.deref.ensures.value c.in_ok-shares.ensures (counted here) w.index.ensures
+          w.deref-in-Some.ensures.value)
+          w.in_ok-fill_stretch.ensures
       | in_default w ↦
           w.schedule-is
           ∙ laid_skip c.args.rows.now (found_view c.args.found.now) c.requires.jobs c.requires.found c.requires.few k _ c.loop-stretch.schedule
-              c.loop-stretch.invariant place
-              (omega (arith, w.in_default.ensures.lookup.3, ap length c.deref-in-loop-stretch.ensures.value, length-map groups group_view))
+          c.loop-stretch.invariant place
+          (omega (arith, w.in_default.ensures.lookup.3, ap length c.deref-in-loop-stretch.ensures.value, length-map groups group_view))
     ]

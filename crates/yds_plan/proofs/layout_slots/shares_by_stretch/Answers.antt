@@ -1,4 +1,4 @@
-use Rattle.std.proofs.Common.{◌≡◌, ◌+◌, ◌<◌, sym, ap, arith, length, get_or, take}
+use Rattle.std.proofs.Common.{arith, get_or, take}
 use Rattle.std.proofs.lemmas.List.{get_or_default}
 use Rattle.yds_plan.proofs.Buckets.{vector_step, vectors_count, no_struct}
 use Rattle.yds_plan.proofs.layout_slots.shares_by_stretch.Goals as goal
