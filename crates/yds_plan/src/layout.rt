@@ -1,9 +1,9 @@
-ghost use Rattle.std.specs.Prelude.{◌≡◌, ◌+◌, ◌<◌, ◌≤◌, length, IfOk};
+ghost use Rattle.std.specs.Prelude.{◌≡◌, ◌≤◌, length, IfOk};
 ghost use Rattle.std.specs.List.{All};
 ghost use Rattle.yds_model.specs.declared.limits.TheConstants.{MAX_JOBS, MAX_LEVELS, MAX_MEMBERS, MAX_PIECES};
 ghost use Rattle.yds_model.specs.Job.{IsJob};
 ghost use Rattle.yds_model.specs.Level.{all_members, all_pieces};
-ghost use Rattle.yds_model.specs.Event.{event_points, stretches};
+ghost use Rattle.yds_model.specs.Event.{event_points};
 ghost use Rattle.yds_plan.specs.Found.{IsFound};
 ghost use Rattle.yds_plan.specs.Views.{found_view};
 ghost use Rattle.yds_plan.specs.Laid.{slots_of, levels_of};

@@ -1,4 +1,4 @@
-ghost use Rattle.std.specs.Prelude.{◌≡◌, ℕ, ◌+◌, ◌<◌, ◌≤◌, List, length, map, slice_set, IfOk, IsTrue};
+ghost use Rattle.std.specs.Prelude.{◌≡◌, ◌<◌, ◌≤◌, length, map, slice_set, IfOk, IsTrue};
 ghost use Rattle.std.specs.List.{All, range_with_len};
 ghost use Rattle.yds_model.specs.Level.{level_at};
 ghost use Rattle.yds_model.specs.Event.{event_points, stretches};

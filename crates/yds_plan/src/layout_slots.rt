@@ -1,5 +1,5 @@
-ghost use Rattle.std.specs.Prelude.{◌≡◌, ℕ, ◌+◌, ◌/◌, ◌<◌, ◌≤◌, ◌++◌, ◌==◌, [], List, length, map, IfOk};
-ghost use Rattle.std.specs.List.{All, filter, range_with_len};
+ghost use Rattle.std.specs.Prelude.{◌≡◌, ◌+◌, ◌/◌, ◌<◌, ◌≤◌, ◌++◌, [], length, map, IfOk};
+ghost use Rattle.std.specs.List.{All, range_with_len};
 ghost use Rattle.yds_model.specs.declared.limits.TheConstants.{MAX_DENOMINATOR, MAX_JOBS, MAX_WHOLE};
 ghost use Rattle.yds_model.specs.Job.{IsJob};
 ghost use Rattle.yds_model.specs.Event.{event_points};

@@ -1,9 +1,9 @@
 //! The offline plan: the slots and the certificate that do, above every speed, the least work that any
 //! feasible schedule does.
 //!
-//! It stands on `yds_model`, `yds_slots` and `yds_certificate`. Its one promise is that `plan` answers a
-//! plan by the model's definition; that it is least, for every speed and every convex power function,
-//! are laws of that definition.
+//! It stands on `yds_model`, `yds_fraction`, `yds_slots`, `yds_certificate` and the event points of
+//! `yds_edf`. Its one promise is that `plan` answers a plan by the model's definition; that it is least,
+//! for every speed and every convex power function, are laws of that definition.
 #![tactic(auto)]
 
 mod finder;
@@ -24,3 +24,6 @@ mod share;
 
 pub use layout::Planned;
 pub use planning::plan;
+
+#[cfg(test)]
+mod tests;

@@ -24,11 +24,11 @@ loop-stretch-preserved c = elim c.if-left-gt0.branch [
       w.rooms-is
   | else-left-gt0 w ↦
       subst (λ (n : ℕ). IsServed c.args._jobs.now c.args.windows.now c.args.job c.args.want (shares_view c.args.shares.now.items) c.args.rooms.now
-        (c.loop-stretch.stretch + 1) n (shares_view c.if-left-gt0.shares.items) c.if-left-gt0.rooms) (sym w.left-is)
+      (c.loop-stretch.stretch + 1) n (shares_view c.if-left-gt0.shares.items) c.if-left-gt0.rooms) (sym w.left-is)
       (subst (λ (xs : List Share). IsServed c.args._jobs.now c.args.windows.now c.args.job c.args.want (shares_view c.args.shares.now.items) c.args.rooms.now
-        (c.loop-stretch.stretch + 1) c.loop-stretch.left xs c.if-left-gt0.rooms) (sym (ap (λ v. shares_view v.items) w.shares-is))
+      (c.loop-stretch.stretch + 1) c.loop-stretch.left xs c.if-left-gt0.rooms) (sym (ap (λ v. shares_view v.items) w.shares-is))
       (subst (λ (xs : List ℕ). IsServed c.args._jobs.now c.args.windows.now c.args.job c.args.want (shares_view c.args.shares.now.items) c.args.rooms.now
-        (c.loop-stretch.stretch + 1) c.loop-stretch.left (shares_view c.loop-stretch.shares.items) xs) (sym w.rooms-is)
+      (c.loop-stretch.stretch + 1) c.loop-stretch.left (shares_view c.loop-stretch.shares.items) xs) (sym w.rooms-is)
       (serve_passes c.args._jobs.now c.args.windows.now c.args.job c.args.want (shares_view c.args.shares.now.items) c.args.rooms.now
       c.loop-stretch.stretch c.loop-stretch.left (shares_view c.loop-stretch.shares.items) c.loop-stretch.rooms c.loop-stretch.invariant
       (λ some. omega (arith, w.else-left-gt0.either)))))
@@ -37,6 +37,6 @@ loop-stretch-preserved c = elim c.if-left-gt0.branch [
 pub returns : goal.returns
 returns c =
     let end : c.loop-stretch.stretch ≡ (window_at c.args.windows.now c.args.job).end =
-        omega (arith, c.loop-stretch.auto.stretch-end, c.requires) in
+    omega (arith, c.loop-stretch.auto.stretch-end, c.requires) in
     subst (λ (n : ℕ). IsServed c.args._jobs.now c.args.windows.now c.args.job c.args.want (shares_view c.args.shares.now.items) c.args.rooms.now
-        n c.loop-stretch.left (shares_view c.loop-stretch.shares.items) c.loop-stretch.rooms) end c.loop-stretch.invariant
+    n c.loop-stretch.left (shares_view c.loop-stretch.shares.items) c.loop-stretch.rooms) end c.loop-stretch.invariant

@@ -31,17 +31,22 @@ loop-job-preserved c = elim c.if-groups-job.branch [
   | then-groups-job+then-not-meets w ↦
       subst (λ (xs : List ℕ). IsDoneTo (IsSplitJob c.args.windows.now c.args.stretch_groups.now c.args.top) c.args.groups.now xs (c.loop-job.job + 1)) (sym w.groups-is)
       (done_writes (IsSplitJob c.args.windows.now c.args.stretch_groups.now c.args.top) c.args.groups.now c.loop-job.groups c.loop-job.job (c.args.top - 1) c.loop-job.invariant
-          (omega arith) (inl (w.if-groups-job.true,
-            not_met c.args.windows.now c.loop-job.job c.args.stretch_groups.now c.args.top w.meets.result w.meets.ensures w.if-not-meets.true,
-            omega (arith, c.requires.some))))
+      (omega arith) (inl (
+        w.if-groups-job.true,
+        not_met c.args.windows.now c.loop-job.job c.args.stretch_groups.now c.args.top w.meets.result w.meets.ensures w.if-not-meets.true,
+        omega (arith, c.requires.some),
+      )))
   | else-groups-job w ↦
       subst (λ (xs : List ℕ). IsDoneTo (IsSplitJob c.args.windows.now c.args.stretch_groups.now c.args.top) c.args.groups.now xs (c.loop-job.job + 1)) (sym w.groups-is)
       (done_keeps (IsSplitJob c.args.windows.now c.args.stretch_groups.now c.args.top) c.args.groups.now c.loop-job.groups c.loop-job.job c.loop-job.invariant
-          (inr (elim w.else-groups-job.branch [
-            | else-groups-job-via-then-groups-job+else-not-meets v ↦
-                λ same. met c.args.windows.now c.loop-job.job c.args.stretch_groups.now c.args.top v.meets.result v.meets.ensures v.if-not-meets.false
-            | else-groups-job-via-else-groups-job v ↦ λ same. absurd (v.if-groups-job.false same)
-          ], refl)))
+      (inr (
+        elim w.else-groups-job.branch [
+          | else-groups-job-via-then-groups-job+else-not-meets v ↦
+              λ same. met c.args.windows.now c.loop-job.job c.args.stretch_groups.now c.args.top v.meets.result v.meets.ensures v.if-not-meets.false
+          | else-groups-job-via-else-groups-job v ↦ λ same. absurd (v.if-groups-job.false same)
+        ],
+        refl,
+      )))
 ]
 
 pub returns : goal.returns
