@@ -1,6 +1,6 @@
 -- Lowest terms: a group's speed in lowest terms, and that equal speeds have the same.
-use Rattle.std.proofs.Common.{◌≡◌, ℕ, zero, suc, ◌+◌, ◌-◌, ◌*◌, ◌/◌, ◌%◌, ◌<◌, ◌≤◌, ◌∙◌, sym, refl, ap, arith}
-use Rattle.std.specs.Int.{IsGcd, ◌∣◌}
+use Rattle.std.proofs.Common.{◌≡◌, ℕ, zero, suc, ◌*◌, ◌/◌, ◌%◌, ◌<◌, ◌≤◌, ◌∙◌, sym, refl, ap, arith}
+use Rattle.std.specs.Int.{IsGcd}
 use Rattle.std.proofs.lemmas.Nat.Gcd.{IsGcd-from_zero, IsGcd-from_mod, same_from_IsGcd}
 use Rattle.std.proofs.Math.Nat.{mod-lt, mod_def, mul-div-mul_left, mul-sub, mul-zero, mul_comm, mul-pos, div-mul_cancel, eq_of_mul-eq-mul_right, mul-le-mul_right}
 use Rattle.yds_model.specs.Divisor.{divisor_within, common_divisor}
@@ -81,10 +81,10 @@ same_lowest a b c d some_a some_b some_c some_d same =
     let one = lowest a b some_a some_b in
     let other = lowest c d some_c some_d in
     let both : common_divisor (d * a) (d * b) ≡ common_divisor (b * c) (b * d) =
-        ap (λ n. common_divisor n (d * b)) (mul_comm d a ∙ same ∙ mul_comm c b) ∙ ap (common_divisor (b * c)) (mul_comm d b) in
+    ap (λ n. common_divisor n (d * b)) (mul_comm d a ∙ same ∙ mul_comm c b) ∙ ap (common_divisor (b * c)) (mul_comm d b) in
     let scaled : d * g ≡ b * h = sym (times_divisor d a b some_d) ∙ both ∙ times_divisor b c d some_b in
     let seconds : b / g ≡ d / h = eq_of_mul-eq-mul_right (g * h) (mul-pos one.some other.some) (b / g) (d / h)
-        (second_terms (b / g) g b (d / h) h d one.second other.second scaled) in
+    (second_terms (b / g) g b (d / h) h d one.second other.second scaled) in
     let firsts : a / g ≡ c / h = eq_of_mul-eq-mul_right (g * h * (b / g)) (mul-pos (mul-pos one.some other.some) one.some_second) (a / g) (c / h)
-        (first_terms (a / g) g a (c / h) h c (b / g) b d one.first other.first one.second (ap (λ n. n * h) seconds ∙ other.second) same) in
+    (first_terms (a / g) g a (c / h) h c (b / g) b d one.first other.first one.second (ap (λ n. n * h) seconds ∙ other.second) same) in
     (firsts, seconds)

@@ -1,8 +1,8 @@
 -- One more job or stretch in the levels on the way.
-use Rattle.std.proofs.Common.{◌≡◌, ℕ, suc, ◌+◌, ◌-◌, ◌<◌, ◌≤◌, ◌==◌, List, [], ◌∷◌, ◌++◌, ◌∙◌, length, map, get_or, set, sym, refl, ap, arith, inl, inr, Bool, true, false}
+use Rattle.std.proofs.Common.{◌≡◌, ℕ, ◌+◌, ◌<◌, ◌≤◌, ◌==◌, List, [], ◌∷◌, ◌++◌, ◌∙◌, length, map, get_or, set, sym, ap, arith, Bool, true, false}
 use Rattle.std.specs.Prelude.{cond}
 use Rattle.std.specs.List.{filter, range_with_len}
-use Rattle.std.proofs.lemmas.Bool.{cases_lt, eq-eqb, ne_eqb}
+use Rattle.std.proofs.lemmas.Bool.{eq-eqb, ne_eqb}
 use Rattle.std.proofs.lemmas.List.{append-nil, map-append}
 use Rattle.std.proofs.lemmas.List.Elements.{filter-append}
 use Rattle.std.proofs.lemmas.List.FromFn.{get_or-map-range_with_len, length-map-range_with_len}
@@ -11,11 +11,12 @@ use Rattle.yds_model.specs.Piece.{Piece}
 use Rattle.yds_model.specs.Level.{Level, no_level, level_at}
 use Rattle.yds_certificate.specs.Level.{with_member}
 use Rattle.yds_plan.specs.Found.{Found, group_of, stretch_at}
-use Rattle.yds_plan.specs.Laid.{level_of, levels_among, level_of_place, joined, together}
+use Rattle.yds_plan.specs.Laid.{level_of, levels_among, level_of_place, joined}
 use Rattle.yds_plan.specs.Drafts.{draft, drafts, extended, extended_level}
+use Rattle.yds_plan.proofs.KeySums.{range_more}
 use Rattle.yds_plan.proofs.Speeds.{among_above}
 use Rattle.yds_plan.proofs.Levels.{place_level, place_in_level}
-use Rattle.yds_plan.proofs.Drafts.{range_more, map_range_set, map_range_same}
+use Rattle.yds_plan.proofs.Drafts.{map_range_set, map_range_same}
 use Rattle.yds_plan.proofs.Extended.{joined_more}
 
 filter_more : (p : ℕ → Bool) (n : ℕ) → filter p (range_with_len 0 (n + 1)) ≡ filter p (range_with_len 0 n) ++ cond (p n) (n ∷ []) []
@@ -52,10 +53,10 @@ module _ (jobs : List Job) (found : Found) where
   stretch_here j k l same =
       let ks = filter (λ stretch. stretch_level stretch == l) (range_with_len 0 k) in
       let pieces : extended (joined (map (stretch_at jobs) ks)) (stretch_at jobs k)
-          ≡ joined (map (stretch_at jobs) (filter (λ stretch. stretch_level stretch == l) (range_with_len 0 (k + 1)))) =
-          sym (joined_more (map (stretch_at jobs) ks) (stretch_at jobs k))
-          ∙ ap joined (sym (map-append (stretch_at jobs) ks (k ∷ [])))
-          ∙ ap (λ some. joined (map (stretch_at jobs) some)) (sym (filter_takes (λ stretch. stretch_level stretch == l) k (eq-eqb (stretch_level k) l same))) in
+      ≡ joined (map (stretch_at jobs) (filter (λ stretch. stretch_level stretch == l) (range_with_len 0 (k + 1)))) =
+      sym (joined_more (map (stretch_at jobs) ks) (stretch_at jobs k))
+      ∙ ap joined (sym (map-append (stretch_at jobs) ks (k ∷ [])))
+      ∙ ap (λ some. joined (map (stretch_at jobs) some)) (sym (filter_takes (λ stretch. stretch_level stretch == l) k (eq-eqb (stretch_level k) l same))) in
       cc pieces
 
   draft_there : (j k l : ℕ) → l < count_of_levels → level_at (drafts jobs found j k) l ≡ draft jobs found j k l
@@ -114,7 +115,7 @@ module _ (jobs : List Job) (found : Found) where
   number_is numbers place number are within read =
       read ∙ ap (λ some. get_or some place number) are
       ∙ get_or-map-range_with_len (level_of found.groups) 0 (length found.groups) place place number
-          (omega (arith, numbers_length numbers are)) (omega arith)
+      (omega (arith, numbers_length numbers are)) (omega arith)
 
   pub number_within : (j k place number : ℕ) (numbers : List ℕ) (levels : List Level) → AreNumbers numbers → levels ≡ drafts jobs found j k →
       place < length numbers → number ≡ get_or numbers place number → number < length levels

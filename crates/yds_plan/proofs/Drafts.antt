@@ -1,27 +1,20 @@
 -- Levels on the way: each group joins the last level or makes a new one.
-use Rattle.std.proofs.Common.{◌≡◌, ℕ, zero, suc, ◌+◌, ◌-◌, ◌*◌, ◌<◌, ◌≤◌, ◌==◌, List, [], ◌∷◌, ◌++◌, ◌∙◌, length, map, get_or, set, take, sym, refl, ap, arith, inl, inr, Bool, true, false, not, add-one}
+use Rattle.std.proofs.Common.{◌≡◌, ℕ, zero, suc, ◌+◌, ◌-◌, ◌*◌, ◌<◌, ◌≤◌, ◌==◌, List, [], ◌∷◌, ◌++◌, ◌∙◌, length, map, get_or, set, sym, refl, ap, arith, inl, inr, Bool, true, false, not, add-one}
 use Rattle.std.specs.Prelude.{cond, nat_lt}
 use Rattle.std.specs.List.{sum_by, range_with_len}
 use Rattle.std.proofs.lemmas.Bool.{cases_lt, cases_eq, not-true, not-false, true≢false}
-use Rattle.std.proofs.lemmas.List.{ext_get_or, length-set, length-map, get_or-set_same, get_or-set_other, get_or-map, get_or_past, map-id}
-use Rattle.std.proofs.lemmas.List.FromFn.{length-range_with_len, get_or-map-range_with_len, length-map-range_with_len, map-range_with_len_more}
-use Rattle.std.proofs.lemmas.List.Sums.{sum_by_push, sum_by_more, sum_by_more_le}
+use Rattle.std.proofs.lemmas.List.{ext_get_or, length-set, get_or-set_same, get_or-set_other, get_or-map, get_or_past}
+use Rattle.std.proofs.lemmas.List.FromFn.{get_or-map-range_with_len, length-map-range_with_len, map-range_with_len_more}
+use Rattle.std.proofs.lemmas.List.Sums.{sum_by_push, sum_by_more_le}
 use Rattle.yds_model.specs.Level.{Level, no_level, level_at}
-use Rattle.yds_model.proofs.Sums.{sum_by_same, sum_by_at_most, sum_by_zero}
+use Rattle.yds_model.proofs.Sums.{sum_by_at_most, sum_by_zero}
 use Rattle.yds_plan.specs.Found.{Group, no_group, group_at}
 use Rattle.yds_plan.specs.declared.found.Group.{Group as Struct}
 use Rattle.yds_plan.specs.Views.{group_view}
 use Rattle.yds_plan.specs.Laid.{slows_after, level_of, levels_among}
-use Rattle.yds_plan.specs.Drafts.{among, empty_level, empty_levels, joins_before, level_of_one, with_more, with_group, AreGroupsWithin}
-use Rattle.yds_plan.proofs.Split.{in_range, not_here, is_here}
+use Rattle.yds_plan.specs.Drafts.{among, empty_level, empty_levels, joins_before, level_of_one, with_more, with_group}
+use Rattle.yds_plan.proofs.KeySums.{in_range, not_here, is_here, range_more, sum_of_first, cond_at_most}
 use Rattle.yds_plan.proofs.Speeds.{among_above}
-
--- a range, one longer
-pub range_more : (n : ℕ) → range_with_len 0 (n + 1) ≡ range_with_len 0 n ++ n ∷ []
-range_more n =
-    sym (map-id (range_with_len 0 (n + 1)))
-    ∙ map-range_with_len_more (λ k. k) 0 n n (omega arith)
-    ∙ ap (λ ks. ks ++ n ∷ []) (map-id (range_with_len 0 n))
 
 -- values over a range, of which one is replaced
 pub map_range_set : {X : Type 0} (d : X) (f g : ℕ → X) (n l : ℕ) → l < n → ((k : ℕ) → k < n → (k ≡ l → ⊥) → f k ≡ g k) →
@@ -30,14 +23,14 @@ map_range_set d f g n l below others =
     ext_get_or d _ _
     (length-set (map f (range_with_len 0 n)) l (g l) ∙ length-map-range_with_len f 0 n ∙ sym (length-map-range_with_len g 0 n))
     (λ i within.
-        let known : i < n = omega (arith, length-set (map f (range_with_len 0 n)) l (g l), length-map-range_with_len f 0 n) in
-        let there = get_or-map-range_with_len g 0 n i i d known (omega arith) in
-        elim (cases_eq i l) [
-          | inl same ↦ rw same (get_or-set_same (map f (range_with_len 0 n)) l (g l) d (omega (arith, length-map-range_with_len f 0 n))
-              ∙ sym (get_or-map-range_with_len g 0 n l l d below (omega arith)))
-          | inr other ↦ get_or-set_other (map f (range_with_len 0 n)) l i (g l) d other
-              ∙ get_or-map-range_with_len f 0 n i i d known (omega arith) ∙ others i known other ∙ sym there
-        ])
+    let known : i < n = omega (arith, length-set (map f (range_with_len 0 n)) l (g l), length-map-range_with_len f 0 n) in
+    let there = get_or-map-range_with_len g 0 n i i d known (omega arith) in
+    elim (cases_eq i l) [
+      | inl same ↦ rw same (get_or-set_same (map f (range_with_len 0 n)) l (g l) d (omega (arith, length-map-range_with_len f 0 n))
+          ∙ sym (get_or-map-range_with_len g 0 n l l d below (omega arith)))
+      | inr other ↦ get_or-set_other (map f (range_with_len 0 n)) l i (g l) d other
+          ∙ get_or-map-range_with_len f 0 n i i d known (omega arith) ∙ others i known other ∙ sym there
+    ])
 
 pub map_range_same : {X : Type 0} (d : X) (f g : ℕ → X) (n : ℕ) → ((k : ℕ) → k < n → f k ≡ g k) →
     map f (range_with_len 0 n) ≡ map g (range_with_len 0 n)
@@ -45,9 +38,9 @@ map_range_same d f g n same =
     ext_get_or d _ _
     (length-map-range_with_len f 0 n ∙ sym (length-map-range_with_len g 0 n))
     (λ i within.
-        let known : i < n = omega (arith, length-map-range_with_len f 0 n) in
-        get_or-map-range_with_len f 0 n i i d known (omega arith) ∙ same i known
-        ∙ sym (get_or-map-range_with_len g 0 n i i d known (omega arith)))
+    let known : i < n = omega (arith, length-map-range_with_len f 0 n) in
+    get_or-map-range_with_len f 0 n i i d known (omega arith) ∙ same i known
+    ∙ sym (get_or-map-range_with_len g 0 n i i d known (omega arith)))
 
 module _ (groups : List Group) where
   pub joining : (i : ℕ) → joins_before groups i ≡ true → level_of groups i + 1 ≡ levels_among groups i
@@ -68,8 +61,8 @@ module _ (groups : List Group) where
   among_none f i l past =
       sum_by_zero (λ k. cond (level_of groups k == l) (f (group_at groups k)) 0) (range_with_len 0 i)
       (λ k d within.
-          let at = in_range i k d within in
-          rw (at.1) (not_here (level_of groups k) l (f (group_at groups k)) (λ same. omega (arith, among_above groups i k at.0))))
+      let at = in_range i k d within in
+      rw (at.1) (not_here (level_of groups k) l (f (group_at groups k)) (λ same. omega (arith, among_above groups i k at.0))))
 
   among_other : (f : Group → ℕ) (i l : ℕ) → (l ≡ level_of groups i → ⊥) → among f groups i l ≡ among f groups (i + 1) l
   among_other f i l other =
@@ -88,9 +81,9 @@ module _ (groups : List Group) where
   level_new : (i : ℕ) → levels_among groups i ≤ level_of groups i → level_of_one (group_at groups i) ≡ empty_level groups (i + 1) (level_of groups i)
   level_new i past =
       let work : (group_at groups i).work ≡ among (λ group. group.work) groups (i + 1) (level_of groups i) =
-          omega (arith, among_here (λ group. group.work) i, among_none (λ group. group.work) i (level_of groups i) past) in
+      omega (arith, among_here (λ group. group.work) i, among_none (λ group. group.work) i (level_of groups i) past) in
       let long : (group_at groups i).length ≡ among (λ group. group.length) groups (i + 1) (level_of groups i) =
-          omega (arith, among_here (λ group. group.length) i, among_none (λ group. group.length) i (level_of groups i) past) in
+      omega (arith, among_here (λ group. group.length) i, among_none (λ group. group.length) i (level_of groups i) past) in
       cc (work, long)
 
   pub empty_length : (i : ℕ) → length (empty_levels groups i) ≡ levels_among groups i
@@ -102,8 +95,8 @@ module _ (groups : List Group) where
   joins_step i joins =
       let last : length (empty_levels groups i) - 1 ≡ level_of groups i = omega (arith, empty_length i, joining i joins) in
       let here : level_at (empty_levels groups i) (level_of groups i) ≡ empty_level groups i (level_of groups i) =
-          get_or-map-range_with_len (empty_level groups i) 0 (levels_among groups i) (level_of groups i) (level_of groups i) no_level
-          (omega (arith, joining i joins)) (omega arith) in
+      get_or-map-range_with_len (empty_level groups i) 0 (levels_among groups i) (level_of groups i) (level_of groups i) no_level
+      (omega (arith, joining i joins)) (omega arith) in
       let count : levels_among groups (i + 1) ≡ levels_among groups i = rw (add-one) (omega (arith, joining i joins)) in
       rw (last, here, level_more i, count)
       (map_range_set no_level (empty_level groups i) (empty_level groups (i + 1)) (levels_among groups i) (level_of groups i)
@@ -114,9 +107,9 @@ module _ (groups : List Group) where
       let number : level_of groups i ≡ levels_among groups i = parting i parts in
       let count : levels_among groups (i + 1) ≡ levels_among groups i + 1 = rw (add-one) (omega arith) in
       let front = map_range_same no_level (empty_level groups i) (empty_level groups (i + 1)) (levels_among groups i)
-          (λ k known. level_other i k (λ same. omega arith)) in
+      (λ k known. level_other i k (λ same. omega arith)) in
       let next : level_of_one (group_at groups i) ≡ empty_level groups (i + 1) (levels_among groups i) =
-          rw number at (level_new i (omega arith)) in
+      rw number at (level_new i (omega arith)) in
       rw (count, front, next)
       (sym (map-range_with_len_more (empty_level groups (i + 1)) 0 (levels_among groups i) (levels_among groups i) (omega arith)))
 
@@ -128,25 +121,13 @@ module _ (groups : List Group) where
   draft_step i = with_group_cases i (joins_before groups i) refl
 
   -- what a level has so far, and the next group, are within what all groups have
-  sum_of_first : (f : Group → ℕ) (i : ℕ) → i ≤ length groups → sum_by (λ k. f (group_at groups k)) (range_with_len 0 i) ≡ sum_by f (take i groups)
-  sum_of_first f zero within = refl
-  sum_of_first f (suc i) within =
-      ap (sum_by (λ k. f (group_at groups k))) (ap (range_with_len 0) (sym (add-one i)) ∙ range_more i)
-      ∙ sum_by_push (λ k. f (group_at groups k)) (range_with_len 0 i) i
-      ∙ ap (λ n. n + f (group_at groups i)) (sum_of_first f i (omega arith))
-      ∙ sym (ap (λ n. sum_by f (take n groups)) (sym (add-one i)) ∙ sum_by_more f groups i no_group (omega arith))
-
-  cond_at_most : (b : Bool) (v : ℕ) → cond b v 0 ≤ v
-  cond_at_most true v = omega arith
-  cond_at_most false v = omega arith
-
   among_within : (f : Group → ℕ) (i l : ℕ) → i < length groups → among f groups i l + f (group_at groups i) ≤ sum_by f groups
   among_within f i l within =
       omega (
         arith,
         sum_by_at_most (λ k. cond (level_of groups k == l) (f (group_at groups k)) 0) (λ k. f (group_at groups k)) (range_with_len 0 i)
             (λ k d inside. cond_at_most _ _),
-        sum_of_first f i (omega arith),
+        sum_of_first f groups no_group i (omega arith),
         sum_by_more_le f groups i no_group within,
       )
 

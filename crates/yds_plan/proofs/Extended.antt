@@ -1,9 +1,8 @@
 -- Joined pieces and one more: it joins the last one where they touch.
-use Rattle.std.proofs.Common.{◌≡◌, ℕ, suc, ◌-◌, ◌<◌, ◌==◌, List, [], ◌∷◌, ◌++◌, ◌∙◌, length, sym, refl, ap, arith, inl, inr, Bool, true, false}
-use Rattle.std.specs.Prelude.{cond, nat_lt, slice_set, slice_index_or}
+use Rattle.std.proofs.Common.{◌≡◌, ℕ, suc, ◌-◌, ◌==◌, List, [], ◌∷◌, ◌++◌, ◌∙◌, length, refl, ap, arith, inl, inr, Bool, true, false}
+use Rattle.std.specs.Prelude.{cond}
 use Rattle.std.proofs.lemmas.Bool.{cases_Bool, lt-ltb}
 use Rattle.yds_model.specs.Piece.{Piece}
-use Rattle.yds_plan.specs.Found.{no_piece}
 use Rattle.yds_plan.specs.Laid.{join, joined}
 use Rattle.yds_plan.specs.Drafts.{touches_last, with_next, extended}
 

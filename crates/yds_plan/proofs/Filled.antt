@@ -1,5 +1,5 @@
 -- One stretch, filled from its start with the shares of one group.
-use Rattle.std.proofs.Common.{◌≡◌, ℕ, suc, ◌+◌, ◌-◌, ◌*◌, ◌<◌, ◌≤◌, ◌==◌, List, [], ◌∷◌, ◌∙◌, length, map, get_or, sym, refl, ap, arith}
+use Rattle.std.proofs.Common.{◌≡◌, ℕ, suc, ◌+◌, ◌-◌, ◌*◌, ◌<◌, ◌≤◌, ◌==◌, List, [], ◌∷◌, length, refl, arith}
 use Rattle.std.specs.Prelude.{cond}
 use Rattle.std.specs.List.{All, AllByRecursion, AllPairs, sum_by}
 use Rattle.std.proofs.lemmas.Bool.Decides.{nat_tests}
@@ -10,7 +10,7 @@ use Rattle.std.proofs.Math.Nat.{mul-lt-mul_of_pos_right, lt_of_mul-lt-mul_right,
 use Rattle.yds_model.specs.Slot.{WrittenSlot, WholeSlot, IsDivided, slot_at_scale, slots_at}
 use Rattle.yds_model.specs.Plan.{IsOver}
 use Rattle.yds_plan.specs.Found.{Group, Share, per_time, per_work}
-use Rattle.yds_plan.specs.Laid.{with_parts, slots_from}
+use Rattle.yds_plan.specs.Laid.{slot_for, slots_from}
 use Rattle.yds_plan.proofs.Parts.{parts_value, parts_over}
 
 -- what is written over the terms of the group's speed
@@ -142,20 +142,11 @@ module _ (group : Group) (scale start : ℕ) (positive : 1 ≤ scale) (some_time
       let rest = slots_from group start (done + share.units) shares in
       let later = fills end (done + share.units) shares divided.1 (All-tail (λ share. 1 ≤ share.units) share shares some) (omega arith) in
       let jobs = jobs_at (R share.job) scale rest (slots_of_jobs (R share.job) group start (done + share.units) shares
-          (λ k d within. pairs 0 (suc k) d (omega arith) (omega arith))) in
+      (λ k d within. pairs 0 (suc k) d (omega arith) (omega arith))) in
       AllPairs-cons (FollowsBy R) _ (slots_at scale rest)
       (λ k d within. (after_of _ _ (per_time group) (start * per_time group + (done + share.units)) scale to (later k d within).from some_time, jobs k d within))
       (filled_pairs R end (done + share.units) shares divided.1 (All-tail (λ share. 1 ≤ share.units) share shares some) (omega arith)
       (λ i j d order within. pairs (suc i) (suc j) d (omega arith) (omega arith)))
-
--- the slot of a share
-abbrev pub slot_for : Group → ℕ → ℕ → Share → WrittenSlot
-slot_for group start done share = record {
-  job = share.job;
-  from = with_parts start done (per_time group);
-  to = with_parts start (done + share.units) (per_time group);
-  work = with_parts 0 share.units (per_work group);
-}
 
 -- the work that the slots give a job is that of its units
 pub filled_work : (group : Group) (scale start done job : ℕ) (shares : List Share) →

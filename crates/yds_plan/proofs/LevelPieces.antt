@@ -1,22 +1,21 @@
 -- The pieces of the levels of what was found.
-use Rattle.std.proofs.Common.{◌≡◌, ℕ, zero, suc, ◌+◌, ◌-◌, ◌*◌, ◌<◌, ◌≤◌, ◌==◌, ◌⊎◌, List, [], ◌∷◌, ◌∙◌, length, map, get_or, take, sym, refl, ap, arith, inl, inr}
-use Rattle.std.specs.List.{All, Any, sum_by, flat_map, range_with_len}
+use Rattle.std.proofs.Common.{◌≡◌, ℕ, ◌-◌, ◌<◌, ◌≤◌, ◌==◌, List, [], ◌∷◌, ◌∙◌, length, map, take, sym, refl, ap, arith, inl, inr}
+use Rattle.std.specs.List.{All, sum_by, flat_map, range_with_len}
 use Rattle.std.proofs.lemmas.Bool.{cases_order, eqb-true, eq-eqb}
 use Rattle.std.proofs.lemmas.List.{length-map}
 use Rattle.std.proofs.lemmas.List.Concat.{length-flat_map}
-use Rattle.std.proofs.lemmas.List.Sums.{sum_by-cons, sum_by-le-sum_by}
-use Rattle.std.proofs.lemmas.List.Elements.{All-map, All-filter, All-weaker, filter_passes}
+use Rattle.std.proofs.lemmas.List.Sums.{sum_by-le-sum_by}
+use Rattle.std.proofs.lemmas.List.Elements.{All-map, All-filter, filter_passes}
 use Rattle.std.proofs.lemmas.List.FromFn.{take-map-range_with_len, length-range_with_len}
 use Rattle.yds_model.specs.Job.{Job}
 use Rattle.yds_model.specs.Piece.{Piece, AreApart, PiecesFrom, Covers, total_length}
 use Rattle.yds_model.specs.Level.{Level, all_pieces}
 use Rattle.yds_model.specs.Plan.{DontTouch}
 use Rattle.yds_model.specs.Event.{stretches}
-use Rattle.yds_model.proofs.Sums.{sum_by_at_most}
-use Rattle.yds_plan.specs.Found.{Group, Found, group_of, stretch_at, length_of}
+use Rattle.yds_plan.specs.Found.{Found, group_of, stretch_at, length_of}
 use Rattle.yds_plan.specs.Laid.{level_of_place, levels_among, stretches_of, joined, level_numbered, levels_of}
-use Rattle.yds_plan.proofs.Split.{in_range, split_at_most, count_all, sum_by-map}
-use Rattle.yds_plan.proofs.Stretches.{Begins, run_begins, stretch_forward, stretch_order}
+use Rattle.yds_plan.proofs.KeySums.{in_range, split_at_most, count_all, sum_by-map}
+use Rattle.yds_plan.proofs.Stretches.{run_begins, stretch_order}
 use Rattle.yds_plan.proofs.Joined.{Holds, joined_run, joined_apart, joined_total, joined_length, joined_stays_apart, joined_covers, some_stretches_run, some_stretches_cover}
 use Rattle.yds_plan.proofs.Blocks.{flat_map-map, all_of_blocks, some_of_blocks}
 
@@ -70,8 +69,7 @@ module _ (jobs : List Job) (found : Found) where
 
   each_stretch : (l : ℕ) → All (IsOfLevel l) (stretches_of jobs found l)
   each_stretch l k d within =
-      let in_level = λ (j : ℕ). level_of_place found.groups (group_of found.group_of_stretch j) == l in
-      (
+      let in_level = λ (j : ℕ). level_of_place found.groups (group_of found.group_of_stretch j) == l in (
         All-filter in_level (λ j. j < length (stretches jobs)) (range_with_len 0 (length (stretches jobs)))
             (λ i e inside. let at = in_range (length (stretches jobs)) i e inside in rw (at.1) at.0) k d within,
         eqb-true _ l (filter_passes in_level (range_with_len 0 (length (stretches jobs))) k d within),
@@ -90,9 +88,9 @@ module _ (jobs : List Job) (found : Found) where
       All-map (λ piece. All (AreApart piece) (single other)) (stretch_at jobs) (stretches_of jobs found l)
       (λ i d within. All-map (AreApart _) (stretch_at jobs) (stretches_of jobs found other)
       (λ j e inside.
-          let one = each_stretch l i d within in
-          let two = each_stretch other j e inside in
-          stretches_apart _ _ one.0 two.0 (λ same. differ (sym one.1 ∙ ap level_of_stretch same ∙ two.1))))
+      let one = each_stretch l i d within in
+      let two = each_stretch other j e inside in
+      stretches_apart _ _ one.0 two.0 (λ same. differ (sym one.1 ∙ ap level_of_stretch same ∙ two.1))))
 
   -- what the definition of a proper certificate says of a level's pieces
   pub pieces_apart : (i : ℕ) → i < levels_among found.groups (length found.groups) →

@@ -1,19 +1,20 @@
 -- The levels of what was found: their members, and their sums.
-use Rattle.std.proofs.Common.{◌≡◌, ℕ, zero, suc, ◌+◌, ◌*◌, ◌<◌, ◌≤◌, ◌==◌, List, [], ◌∷◌, ◌∙◌, length, map, get_or, take, sym, refl, ap, arith, inl, inr, Bool, true, false}
+use Rattle.std.proofs.Common.{◌≡◌, ℕ, zero, suc, ◌+◌, ◌<◌, ◌≤◌, ◌==◌, List, [], ◌∷◌, ◌∙◌, length, get_or, sym, refl, ap, arith, inl, inr, Bool, true, false}
 use Rattle.std.specs.Prelude.{cond, nat_lt}
-use Rattle.std.specs.List.{All, Contains, sum_by, filter, flat_map, range_with_len}
+use Rattle.std.specs.List.{All, sum_by, filter, flat_map, range_with_len}
 use Rattle.std.proofs.lemmas.Bool.{cases_lt, cases_eq, lt-ltb, le-ltb, eqb-true}
 use Rattle.std.proofs.lemmas.List.Sums.{sum_by-le-sum_by}
-use Rattle.std.proofs.lemmas.List.Elements.{All-map, All-filter, All-contains, All-head, filter_passes}
-use Rattle.std.proofs.lemmas.List.FromFn.{get_or-map-range_with_len, length-map-range_with_len}
+use Rattle.std.proofs.lemmas.List.Elements.{All-map, All-filter, All-head, filter_passes}
+use Rattle.std.proofs.lemmas.List.FromFn.{get_or-map-range_with_len, length-map-range_with_len, length-range_with_len}
+use Rattle.std.proofs.lemmas.List.Concat.{length-flat_map}
 use Rattle.yds_model.specs.Numbers.{count}
-use Rattle.yds_model.specs.Job.{Job, job_at}
+use Rattle.yds_model.specs.Job.{Job}
 use Rattle.yds_model.specs.Level.{Level, no_level, level_at, all_members}
 use Rattle.yds_model.specs.Plan.{Rise}
 use Rattle.yds_model.proofs.Sums.{sum_by_same, sum_by_at_most, sum_by_zero}
-use Rattle.yds_plan.specs.Found.{Group, Found, IsFound, group_of, group_at, work_in}
+use Rattle.yds_plan.specs.Found.{Group, Found, group_of, group_at}
 use Rattle.yds_plan.specs.Laid.{level_of, levels_among, level_of_place, together, members_of, level_numbered, levels_of}
-use Rattle.yds_plan.proofs.Split.{All-range, in_range, sums_swap, not_here, is_here, one_of_range, split_sum, sum_by-filter, sum_by-flat_map}
+use Rattle.yds_plan.proofs.KeySums.{All-range, in_range, sums_swap, not_here, is_here, one_of_range, split_sum, split_at_most, count_all, sum_by-filter, sum_by-flat_map}
 use Rattle.yds_plan.proofs.Blocks.{flat_map-map}
 use Rattle.yds_plan.proofs.Speeds.{among_below}
 
@@ -68,24 +69,24 @@ group_sum groups places v n l f is known =
     let all = range_with_len 0 (length groups) in
     let each = range_with_len 0 n in
     sum_by_same (λ i. cond (level_of groups i == l) (f (group_at groups i)) 0)
-        (λ i. sum_by (λ j. cond (level_of groups i == l) (cond (group_of places j == i) (v j) 0) 0) each) all
-        (λ k d within.
-            let at = in_range (length groups) k d within in
-            rw (at.1) (ap (λ n. cond (level_of groups k == l) n 0) (is k at.0)
-            ∙ cond_sum (level_of groups k == l) (λ j. cond (group_of places j == k) (v j) 0) each))
+    (λ i. sum_by (λ j. cond (level_of groups i == l) (cond (group_of places j == i) (v j) 0) 0) each) all
+    (λ k d within.
+    let at = in_range (length groups) k d within in
+    rw (at.1) (ap (λ n. cond (level_of groups k == l) n 0) (is k at.0)
+    ∙ cond_sum (level_of groups k == l) (λ j. cond (group_of places j == k) (v j) 0) each))
     ∙ sums_swap (λ i j. cond (level_of groups i == l) (cond (group_of places j == i) (v j) 0) 0) all each
     ∙ sum_by_same (λ j. sum_by (λ i. cond (level_of groups i == l) (cond (group_of places j == i) (v j) 0) 0) all)
-        (λ j. cond (level_of_place groups (group_of places j) == l) (v j) 0) each
-        (λ k d within. one (get_or each k d))
+    (λ j. cond (level_of_place groups (group_of places j) == l) (v j) 0) each
+    (λ k d within. one (get_or each k d))
     ∙ sym (sum_by-filter (λ j. level_of_place groups (group_of places j) == l) v each)
   where
     one : (j : ℕ) → sum_by (λ i. cond (level_of groups i == l) (cond (group_of places j == i) (v j) 0) 0) (range_with_len 0 (length groups))
         ≡ cond (level_of_place groups (group_of places j) == l) (v j) 0
     one j =
         sum_by_same (λ i. cond (level_of groups i == l) (cond (group_of places j == i) (v j) 0) 0)
-            (λ i. cond (group_of places j == i) (cond (level_of groups (group_of places j) == l) (v j) 0) 0)
-            (range_with_len 0 (length groups))
-            (λ k d within. level_of_its_group groups l (group_of places j) (get_or (range_with_len 0 (length groups)) k d) (v j))
+        (λ i. cond (group_of places j == i) (cond (level_of groups (group_of places j) == l) (v j) 0) 0)
+        (range_with_len 0 (length groups))
+        (λ k d within. level_of_its_group groups l (group_of places j) (get_or (range_with_len 0 (length groups)) k d) (v j))
         ∙ one_of_range (length groups) (group_of places j) (cond (level_of groups (group_of places j) == l) (v j) 0)
         ∙ place_value groups l (group_of places j) (v j) known
 
@@ -159,7 +160,7 @@ member_count jobs found number =
     ap (count number) (members_joined jobs found)
     ∙ sum_by-flat_map (members_of jobs found) (λ other. cond (number == other) 1 0) (range_with_len 0 (levels_among found.groups (length found.groups)))
     ∙ split_sum (λ j. level_of_place found.groups (group_of found.group_of_job j)) (λ other. cond (number == other) 1 0)
-        (levels_among found.groups (length found.groups)) (range_with_len 0 (length jobs))
+    (levels_among found.groups (length found.groups)) (range_with_len 0 (length jobs))
 
 cond_at_most : (b : Bool) (v : ℕ) → cond b v 0 ≤ v
 cond_at_most true v = omega arith
@@ -189,7 +190,23 @@ pub member_once : (jobs : List Job) (found : Found) (number : ℕ) → number < 
 member_once jobs found number known below =
     member_count jobs found number
     ∙ sum_by_same (counted jobs found number) (λ j. cond (number == j) 1 0) (range_with_len 0 (length jobs))
-        (λ k d within. mine_alone (levels_among found.groups (length found.groups)) 1
-        (λ j. level_of_place found.groups (group_of found.group_of_job j)) number (get_or (range_with_len 0 (length jobs)) k d) below)
+    (λ k d within. mine_alone (levels_among found.groups (length found.groups)) 1
+    (λ j. level_of_place found.groups (group_of found.group_of_job j)) number (get_or (range_with_len 0 (length jobs)) k d) below)
     ∙ one_of_range (length jobs) number 1
     ∙ ap {B = ℕ} (λ b. cond b 1 0) (lt-ltb number (length jobs) known)
+
+-- there are no more members than jobs
+pub few_members : (jobs : List Job) (found : Found) → length (all_members (levels_of jobs found)) ≤ length jobs
+few_members jobs found =
+    let all = range_with_len 0 (levels_among found.groups (length found.groups)) in
+    omega (
+      arith,
+      ap length (members_joined jobs found),
+      length-flat_map (members_of jobs found) all,
+      sum_by-le-sum_by (λ l. length (members_of jobs found l)) (λ l. sum_by (λ j. 1) (members_of jobs found l)) all
+          (λ l. omega (arith, count_all (members_of jobs found l))),
+      split_at_most (λ j. level_of_place found.groups (group_of found.group_of_job j)) (λ j. 1)
+          (levels_among found.groups (length found.groups)) (range_with_len 0 (length jobs)),
+      count_all (range_with_len 0 (length jobs)),
+      length-range_with_len 0 (length jobs),
+    )

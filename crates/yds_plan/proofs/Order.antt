@@ -1,16 +1,16 @@
 -- Slots of which each follows those before it: they run one at a time, and by the earliest deadline.
-use Rattle.std.proofs.Common.{◌≡◌, ℕ, zero, suc, ◌+◌, ◌*◌, ◌<◌, ◌≤◌, ◌==◌, ◌⊎◌, List, [], ◌∷◌, ◌++◌, ◌∙◌, length, get_or, sym, refl, ap, arith, inl, inr}
+use Rattle.std.proofs.Common.{◌≡◌, ℕ, zero, suc, ◌*◌, ◌<◌, ◌≤◌, ◌==◌, List, [], ◌∷◌, ◌++◌, ◌∙◌, length, sym, refl, ap, arith, inl, inr}
 use Rattle.std.specs.Prelude.{cond}
-use Rattle.std.specs.List.{All, AllPairs, sum_by}
-use Rattle.std.proofs.lemmas.Bool.{cases_lt, cases_eq, ne_eqb}
+use Rattle.std.specs.List.{All, AllPairs}
+use Rattle.std.proofs.lemmas.Bool.{cases_eq, ne_eqb}
 use Rattle.std.proofs.lemmas.List.{append_assoc}
 use Rattle.std.proofs.lemmas.List.Sums.{sum_by-cons, sum_by-append}
-use Rattle.std.proofs.lemmas.List.Elements.{All-head, All-tail}
+use Rattle.std.proofs.lemmas.List.Elements.{All-head}
 use Rattle.yds_model.specs.Job.{Job, job_at}
 use Rattle.yds_model.specs.Slot.{WholeSlot, slot_at, work_given}
 use Rattle.yds_model.specs.Feasible.{RunFrom}
 use Rattle.yds_model.specs.Event.{LiesIn, stretches}
-use Rattle.yds_model.specs.EarliestFirst.{ComesFirst, IsFirstDue, EarliestAfter}
+use Rattle.yds_model.specs.EarliestFirst.{ComesFirst, EarliestAfter}
 
 -- what a slot and a later one of a plan are to each other
 pub record Follows (jobs : List Job) (scale : ℕ) (one other : WholeSlot) : Type 0 where
@@ -25,10 +25,13 @@ pub run_from_pairs : (jobs : List Job) (scale start : ℕ) (slots : List WholeSl
     AllPairs (Follows jobs scale) slots → RunFrom start slots
 run_from_pairs jobs scale start [] forward pairs = tt
 run_from_pairs jobs scale start (slot ∷ slots) forward pairs =
-    let first = All-head (StartsFrom start) slot slots forward in
-    (first.0, first.1, run_from_pairs jobs scale slot.to slots
-    (λ k d within. ((pairs 0 (suc k) d (omega arith) (omega arith)).after, (forward (suc k) d (omega arith)).1))
-    (λ i j d order within. pairs (suc i) (suc j) d (omega arith) (omega arith)))
+    let first = All-head (StartsFrom start) slot slots forward in (
+      first.0,
+      first.1,
+      run_from_pairs jobs scale slot.to slots
+          (λ k d within. ((pairs 0 (suc k) d (omega arith) (omega arith)).after, (forward (suc k) d (omega arith)).1))
+          (λ i j d order within. pairs (suc i) (suc j) d (omega arith) (omega arith)),
+    )
 
 -- a job that slots give work has one of them
 abbrev Given : List WholeSlot → ℕ → Type 0

@@ -1,27 +1,27 @@
 -- The slots of what was found: each lies in a stretch of its job's window, each follows those before it, and each job gets its work.
-use Rattle.std.proofs.Common.{◌≡◌, ℕ, ◌+◌, ◌-◌, ◌*◌, ◌/◌, ◌<◌, ◌≤◌, ◌==◌, ◌⊎◌, List, [], ◌∙◌, length, map, get_or, sym, refl, ap, arith, inl, inr, subst}
+use Rattle.std.proofs.Common.{◌≡◌, ℕ, ◌+◌, ◌-◌, ◌*◌, ◌<◌, ◌≤◌, ◌==◌, List, [], ◌∙◌, length, refl, ap, arith, inl, inr}
 use Rattle.std.specs.Prelude.{cond}
-use Rattle.std.specs.List.{All, AllByRecursion, AllPairs, Any, sum_by, flat_map, range_with_len}
+use Rattle.std.specs.List.{All, AllByRecursion, AllPairs, sum_by, flat_map, range_with_len}
 use Rattle.std.proofs.lemmas.Bool.{cases_lt, cases_eq}
 use Rattle.std.proofs.lemmas.List.{get_or_default}
 use Rattle.std.proofs.lemmas.List.Elements.{All-from_get_or, recursion_from_All, All-weaker}
 use Rattle.std.proofs.Math.Nat.{mul-le-mul_right, le_of_mul-le-mul_right, mul-sub, eq_of_mul-eq-mul_left}
 use Rattle.yds_model.specs.Job.{Job, job_at}
-use Rattle.yds_model.specs.Slot.{WrittenSlot, WholeSlot, no_slot, IsDivided, IsScale, slots_at, slot_at, work_given}
-use Rattle.yds_model.specs.Feasible.{RunFrom, IsInWindow as IsSlotInWindow, IsFeasibleAt}
+use Rattle.yds_model.specs.Slot.{WholeSlot, no_slot, IsDivided, IsScale, slots_at, work_given}
+use Rattle.yds_model.specs.Feasible.{IsInWindow as IsSlotInWindow, IsFeasibleAt}
 use Rattle.yds_model.specs.Piece.{Piece}
 use Rattle.yds_model.specs.Event.{LiesIn, IsUncut, stretches}
 use Rattle.yds_model.specs.EarliestFirst.{ComesFirst}
 use Rattle.yds_model.specs.Plan.{IsServedInStretches}
 use Rattle.yds_model.proofs.Sums.{sum_by-mul, sum_by_same, sum_by_zero}
-use Rattle.yds_plan.specs.Found.{Group, Share, Found, IsFound, IsInWindow, group_of, group_at, per_time, per_work, no_piece, stretch_at, length_of, units_of_job, units_in_stretch}
+use Rattle.yds_plan.specs.Found.{Share, Found, IsFound, group_of, group_at, per_time, per_work, no_piece, stretch_at}
 use Rattle.yds_plan.specs.Laid.{slots_in, slots_of, shares_in}
 use Rattle.yds_plan.proofs.Divisors.{Lowest, lowest}
-use Rattle.yds_plan.proofs.Split.{in_range, not_here, sum_by-filter, sum_by-flat_map, split_all}
+use Rattle.yds_plan.proofs.KeySums.{in_range, not_here, sum_by-filter, sum_by-flat_map, split_all}
 use Rattle.yds_plan.proofs.Stretches.{stretch_forward, stretch_order, release_outside}
 use Rattle.yds_plan.proofs.Blocks.{map-flat_map, all_of_blocks, block_of_all, pairs_of_blocks}
-use Rattle.yds_plan.proofs.Shares.{Serves, IsBefore, all_serve, some_units, shares_in_order}
-use Rattle.yds_plan.proofs.Filled.{Fills, FollowsBy, fills, filled_pairs, filled_work, slots_of_jobs, jobs_at, units_of}
+use Rattle.yds_plan.proofs.Served.{Serves, IsBefore, all_serve, some_units, shares_in_order}
+use Rattle.yds_plan.proofs.Filled.{fills, filled_pairs, filled_work, slots_of_jobs, jobs_at, units_of}
 use Rattle.yds_plan.proofs.Order.{Follows, StartsFrom, run_from_pairs, earliest_after}
 
 -- a slot serves its job in this stretch, at the speed of the stretch's group
@@ -67,18 +67,18 @@ module _ (jobs : List Job) (found : Found) (is : IsFound jobs found) where
         let long = stretch_forward jobs l within in
         let here = stretch_forward jobs k (omega arith) in
         let first : group_of found.group_of_stretch k ≤ group_of found.group_of_job b =
-            is.windows b k other.known (has_work b other.known other.grouped) (omega arith)
-            (record { released = released; due = omega (arith, other.in_window.due) }) in
+        is.windows b k other.known (has_work b other.known other.grouped) (omega arith)
+        (record { released = released; due = omega (arith, other.in_window.due) }) in
         let second : group_of found.group_of_stretch l ≤ group_of found.group_of_job a =
-            is.windows a l one.known (has_work a one.known one.grouped) within
-            (record { released = omega (arith, one.in_window.released); due = omega (arith, other.in_window.due) }) in
+        is.windows a l one.known (has_work a one.known one.grouped) within
+        (record { released = omega (arith, one.in_window.released); due = omega (arith, other.in_window.due) }) in
         earliest_of a b k l one other (omega (arith, one.same_group, other.same_group)) released order
   ]
 
   pub terms : (g : ℕ) → g < length found.groups → Lowest (group_at found.groups g).work (group_at found.groups g).length
   terms g known = lowest (group_at found.groups g).work (group_at found.groups g).length (is.some_work g known) (is.some_length g known)
 
-  room : (k : ℕ) → k < length (stretches jobs) → group_of found.group_of_stretch k < length found.groups →
+  pub room : (k : ℕ) → k < length (stretches jobs) → group_of found.group_of_stretch k < length found.groups →
       (stretch_at jobs k).from * per_time (group_at found.groups (group_of found.group_of_stretch k)) + 0 + units_of (shares_in found.shares k)
       ≤ (stretch_at jobs k).to * per_time (group_at found.groups (group_of found.group_of_stretch k))
   room k within grouped =
@@ -104,8 +104,8 @@ module _ (jobs : List Job) (found : Found) (is : IsFound jobs found) where
         let grouped : group_of found.group_of_stretch k < length found.groups = omega (arith, serves.same_group, serves.grouped) in
         let low = terms (group_of found.group_of_stretch k) grouped in
         let filled = fills (group_at found.groups (group_of found.group_of_stretch k)) scale (stretch_at jobs k).from divided.positive
-            low.some_first (stretch_at jobs k).to 0 (shares_in found.shares k) (block_divided k inside) (some_units jobs found is k)
-            (room k inside grouped) x d within in
+        low.some_first (stretch_at jobs k).to 0 (shares_in found.shares k) (block_divided k inside) (some_units jobs found is k)
+        (room k inside grouped) x d within in
         record {
           serves = serves;
           from = begin_of (stretch_at jobs k).from _ scale _ filled.from low.some_first;
@@ -120,8 +120,8 @@ module _ (jobs : List Job) (found : Found) (is : IsFound jobs found) where
         let grouped : group_of found.group_of_stretch k < length found.groups = omega (arith, serves.same_group, serves.grouped) in
         let low = terms (group_of found.group_of_stretch k) grouped in
         let follows = filled_pairs (group_at found.groups (group_of found.group_of_stretch k)) scale (stretch_at jobs k).from divided.positive
-            low.some_first (IsBefore jobs) (stretch_at jobs k).to 0 (shares_in found.shares k) (block_divided k inside)
-            (some_units jobs found is k) (room k inside grouped) (shares_in_order jobs found is k) i j d order within in
+        low.some_first (IsBefore jobs) (stretch_at jobs k).to 0 (shares_in found.shares k) (block_divided k inside)
+        (some_units jobs found is k) (room k inside grouped) (shares_in_order jobs found is k) i j d order within in
         record {
           after = follows.0;
           due = λ released. follows.1.1;
@@ -195,9 +195,9 @@ module _ (jobs : List Job) (found : Found) (is : IsFound jobs found) where
           (shares_in found.shares k) (block_divided k inside))
       | inr other ↦
           let no_work = sum_by_zero (λ (slot : WholeSlot). cond (job == slot.job) slot.work 0) (slots_at scale (slots_in jobs found k))
-              (λ x d within. not_here job _ _ (λ mine. other (rw (← mine) at (block_serves k x d within).same_group))) in
+          (λ x d within. not_here job _ _ (λ mine. other (rw (← mine) at (block_serves k x d within).same_group))) in
           let no_units = sum_by_zero (λ (share : Share). cond (share.job == job) share.units 0) (shares_in found.shares k)
-              (λ x d within. not_here _ job _ (λ mine. other (rw mine at (all_serve jobs found is k x d within).same_group))) in
+          (λ x d within. not_here _ job _ (λ mine. other (rw mine at (all_serve jobs found is k x d within).same_group))) in
           rw (no_work, no_units) (omega arith)
     ]
 
@@ -229,8 +229,8 @@ module _ (jobs : List Job) (found : Found) (is : IsFound jobs found) where
     no_work_given job known none =
         sum_by_zero (λ slot. cond (job == slot.job) slot.work 0) (slots_at scale (slots_of jobs found))
         (λ x d within.
-            let serves = (all_stand x d within).2.serves in
-            not_here job _ _ (λ same. omega (arith, is.idle job known (omega arith), rw (← same) at serves.grouped)))
+        let serves = (all_stand x d within).2.serves in
+        not_here job _ _ (λ same. omega (arith, is.idle job known (omega arith), rw (← same) at serves.grouped)))
 
     all_served : (job : ℕ) → job < length jobs → work_given (slots_at scale (slots_of jobs found)) job ≡ (job_at jobs job).work * scale
     all_served job known = elim (cases_lt (job_at jobs job).work 1) [

@@ -1,15 +1,15 @@
 -- The numbers of levels, and their speeds: groups of one level have its speed, and each level is slower than the one before.
-use Rattle.std.proofs.Common.{◌≡◌, ℕ, zero, suc, ◌+◌, ◌*◌, ◌/◌, ◌<◌, ◌≤◌, ◌==◌, List, ◌∙◌, length, get_or, sym, refl, ap, arith, inl, inr, Bool, true, false, add-one}
-use Rattle.std.specs.Prelude.{cond, nat_lt}
-use Rattle.std.specs.List.{sum_by, range_with_len}
-use Rattle.std.proofs.lemmas.Bool.{cases_lt, cases_eq, ltb-true, ltb-false, eqb-true, cond_both, eq-eqb}
+use Rattle.std.proofs.Common.{◌≡◌, ℕ, zero, suc, ◌+◌, ◌*◌, ◌<◌, ◌≤◌, ◌==◌, List, length, sym, refl, ap, arith, inl, inr, Bool, true, false, add-one}
+use Rattle.std.specs.Prelude.{cond}
+use Rattle.std.specs.List.{range_with_len}
+use Rattle.std.proofs.lemmas.Bool.{cases_lt, cases_eq, ltb-true, ltb-false, eqb-true, eq-eqb}
 use Rattle.std.proofs.lemmas.List.Sums.{get_or-le-sum_by}
-use Rattle.std.proofs.lemmas.List.FromFn.{length-range_with_len, get_or-range_with_len}
+use Rattle.std.proofs.lemmas.List.FromFn.{length-range_with_len}
 use Rattle.std.proofs.Math.Nat.{mul-pos, mul-lt-mul_of_pos_right, lt_of_mul-lt-mul_right, eq_of_mul-eq-mul_right}
 use Rattle.yds_model.proofs.Sums.{sum_by-mul, sum_by_same}
 use Rattle.yds_plan.specs.Found.{Group, group_at}
 use Rattle.yds_plan.specs.Laid.{slows_after, level_of, levels_among, together}
-use Rattle.yds_plan.proofs.Split.{in_range}
+use Rattle.yds_plan.proofs.KeySums.{in_range}
 
 -- groups with work and length, none faster than the one before
 pub record AreGroups (groups : List Group) : Type 0 where
@@ -129,7 +129,7 @@ module _ (groups : List Group) where
           rw last refl
       | inr below ↦
           let stays : slows_after groups j ≡ false = falls_not (slows_after groups j) (level_of groups j)
-              (omega (arith, same, level_rises i j below)) in
+          (omega (arith, same, level_rises i j below)) in
           let before : level_of groups i ≡ level_of groups j = omega (arith, same, ap {B = ℕ} (λ b. cond b 1 0) stays) in
           let order = rw add-one at (are.order j (omega arith)) in
           let notless = rw add-one at (ltb-false _ _ stays) in
@@ -174,7 +174,7 @@ module _ (groups : List Group) where
     pub level_has : (f : Group → ℕ) (i : ℕ) → i < length groups → f (group_at groups i) ≤ together f groups (level_of groups i)
     level_has f i known =
         let part = get_or-le-sum_by (λ (j : ℕ). cond (level_of groups j == level_of groups i) (f (group_at groups j)) 0)
-            (range_with_len 0 (length groups)) i 0 (omega (arith, length-range_with_len 0 (length groups))) in
+        (range_with_len 0 (length groups)) i 0 (omega (arith, length-range_with_len 0 (length groups))) in
         let is = in_range (length groups) i 0 (omega (arith, length-range_with_len 0 (length groups))) in
         omega (
           arith,

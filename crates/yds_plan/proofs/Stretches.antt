@@ -5,7 +5,7 @@ use Rattle.std.specs.List.{All, AllPairs, flat_map}
 use Rattle.std.proofs.lemmas.Bool.{cases_lt, cases_order, cond_both, ltb-true, lt-ltb, eqb-true, eqb-false, true≢false}
 use Rattle.std.proofs.lemmas.List.Elements.{All-nil, All-cons, All-weaker}
 use Rattle.std.proofs.lemmas.List.Kept.{AllPairs-cons}
-use Rattle.yds_model.specs.Job.{Job, no_job, job_at}
+use Rattle.yds_model.specs.Job.{Job, job_at}
 use Rattle.yds_model.specs.Piece.{Piece, PiecesFrom}
 use Rattle.yds_model.specs.Event.{with_time, rising_times, event_points, neighbours, stretches}
 use Rattle.yds_plan.specs.Found.{no_piece, stretch_at}

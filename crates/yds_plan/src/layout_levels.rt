@@ -1,4 +1,4 @@
-ghost use Rattle.std.specs.Prelude.{◌≡◌, ℕ, ◌+◌, ◌-◌, ◌*◌, ◌<◌, ◌≤◌, List, length, map, nat_lt, IfOk, IsTrue};
+ghost use Rattle.std.specs.Prelude.{◌≡◌, ◌+◌, ◌-◌, ◌*◌, ◌<◌, ◌≤◌, length, map, nat_lt, IfOk, IsTrue};
 ghost use Rattle.std.specs.List.{range_with_len};
 ghost use Rattle.yds_model.specs.Level.{level_at};
 ghost use Rattle.yds_plan.specs.Views.{group_view};
@@ -15,7 +15,8 @@ use yds_model::limits::{MAX_LEVEL_LENGTH, MAX_LEVEL_WORK};
 fn slows(before: &Group, next: &Group) -> bool
     ensures { result ≡ nat_lt (next.now.work * before.now.length) (before.now.work * next.now.length) }
 {
-    u128::from(next.work) * u128::from(before.length) < u128::from(before.work) * u128::from(next.length)
+    u128::from(next.work) * u128::from(before.length)
+        < u128::from(before.work) * u128::from(next.length)
 }
 
 /// Whether the group at this place has the speed of the one before it.
@@ -27,7 +28,12 @@ fn joins(groups: &[Group], place: usize) -> bool
 }
 
 /// The group joins the last level, or makes a level of its own.
-fn add_group(alloc: Global, levels: &mut Vec<Level>, joins: bool, group: &Group) -> Result<(), Memory>
+fn add_group(
+    alloc: Global,
+    levels: &mut Vec<Level>,
+    joins: bool,
+    group: &Group,
+) -> Result<(), Memory>
     requires some { IsTrue joins → 0 < length levels.old.items }
     requires some_work { 1 ≤ group.now.work }
     requires some_length { 1 ≤ group.now.length }
@@ -52,7 +58,10 @@ fn add_group(alloc: Global, levels: &mut Vec<Level>, joins: bool, group: &Group)
 }
 
 /// The groups' levels without pieces and members, and the number of each group's level.
-pub(crate) fn levels_of_groups(alloc: Global, groups: &[Group]) -> Result<(Vec<Level>, Vec<u32>), Memory>
+pub(crate) fn levels_of_groups(
+    alloc: Global,
+    groups: &[Group],
+) -> Result<(Vec<Level>, Vec<u32>), Memory>
     requires { AreGroupsWithin (map group_view groups.now) }
     ensures levels { IfOk result (λ r. r.0.items ≡ empty_levels (map group_view groups.now) (length groups.now)) }
     ensures numbers { IfOk result (λ r. r.1.items ≡ map (level_of (map group_view groups.now)) (range_with_len 0 (length groups.now))) }

@@ -1,4 +1,4 @@
-ghost use Rattle.std.specs.Prelude.{◌≡◌, ℕ, ◌+◌, ◌<◌, ◌≤◌, List, length, map, slice_set, IfOk, IsTrue};
+ghost use Rattle.std.specs.Prelude.{◌≡◌, ◌<◌, ◌≤◌, length, map, slice_set, IfOk, IsTrue};
 ghost use Rattle.std.specs.List.{All, range_with_len};
 ghost use Rattle.yds_model.specs.Level.{level_at};
 ghost use Rattle.yds_model.specs.Event.{event_points, stretches};
@@ -61,7 +61,12 @@ fn add_piece(levels: &mut Vec<Level>, number: usize, piece: Piece) -> Result<(),
 }
 
 /// Each job of a group becomes a member of the group's level.
-pub(crate) fn add_members(rows: &[JobRow], found: &Found, numbers: &[u32], levels: &mut Vec<Level>) -> Result<(), Memory>
+pub(crate) fn add_members(
+    rows: &[JobRow],
+    found: &Found,
+    numbers: &[u32],
+    levels: &mut Vec<Level>,
+) -> Result<(), Memory>
     requires numbers { numbers.now ≡ map (level_of (found_view found.now).groups) (range_with_len 0 (length (found_view found.now).groups)) }
     requires jobs { length found.now.group_of_job.items ≡ length rows.now }
     requires few { length rows.now ≤ MAX_JOBS }
@@ -77,7 +82,13 @@ pub(crate) fn add_members(rows: &[JobRow], found: &Found, numbers: &[u32], level
 }
 
 /// Each stretch of a group becomes a piece of the group's level, or a part of one.
-pub(crate) fn add_pieces(rows: &[JobRow], times: &[u32], found: &Found, numbers: &[u32], levels: &mut Vec<Level>) -> Result<(), Memory>
+pub(crate) fn add_pieces(
+    rows: &[JobRow],
+    times: &[u32],
+    found: &Found,
+    numbers: &[u32],
+    levels: &mut Vec<Level>,
+) -> Result<(), Memory>
     requires numbers { numbers.now ≡ map (level_of (found_view found.now).groups) (range_with_len 0 (length (found_view found.now).groups)) }
     requires times { times.now ≡ event_points rows.now }
     requires limit { All (λ time. time ≤ MAX_TIME) times.now }

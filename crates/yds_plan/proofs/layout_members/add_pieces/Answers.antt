@@ -33,11 +33,11 @@ loop-stretch-preserved c =
           let read = w.in-Some.ensures.lookup in
           ap (λ some. some.items) w.levels-is
           ∙ piece_step c.args.rows.now (found_view c.args.found.now) (length c.args.rows.now) c.loop-stretch.stretch _ w.in-Some.number.now _
-              c.args.numbers.now c.loop-stretch.levels.items w.add_piece.new.levels.items c.requires.numbers c.loop-stretch.invariant place
-              read.3.0 read.1 (stretch_between c.args.rows.now c.args.times.now c.loop-stretch.stretch c.requires.times within)
-              w.in_ok-add_piece.ensures
+          c.args.numbers.now c.loop-stretch.levels.items w.add_piece.new.levels.items c.requires.numbers c.loop-stretch.invariant place
+          read.3.0 read.1 (stretch_between c.args.rows.now c.args.times.now c.loop-stretch.stretch c.requires.times within)
+          w.in_ok-add_piece.ensures
       | in_default w ↦
           ap (λ some. some.items) w.levels-is
           ∙ piece_skip c.args.rows.now (found_view c.args.found.now) (length c.args.rows.now) c.loop-stretch.stretch _ c.args.numbers.now
-              c.loop-stretch.levels.items c.requires.numbers c.loop-stretch.invariant place w.in_default.ensures.lookup.3
+          c.loop-stretch.levels.items c.requires.numbers c.loop-stretch.invariant place w.in_default.ensures.lookup.3
     ]

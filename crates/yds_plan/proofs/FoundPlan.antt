@@ -1,31 +1,29 @@
 -- What the search finds makes a plan.
-use Rattle.std.proofs.Common.{◌≡◌, ℕ, zero, suc, ◌+◌, ◌-◌, ◌*◌, ◌/◌, ◌<◌, ◌≤◌, ◌==◌, ◌⊎◌, List, [], ◌∷◌, ◌∙◌, length, map, get_or, take, sym, refl, ap, arith, inl, inr}
-use Rattle.std.specs.List.{All, Contains, sum_by, flat_map, range_with_len}
-use Rattle.std.proofs.lemmas.Bool.{cases_lt}
+use Rattle.std.proofs.Common.{◌≡◌, ℕ, ◌+◌, ◌*◌, ◌<◌, ◌≤◌, List, ◌∙◌, length, get_or, sym, ap, arith, inl, inr}
+use Rattle.std.specs.Prelude.{Result, Ok, Err, IfOk}
+use Rattle.std.specs.List.{All, Contains, sum_by, range_with_len}
 use Rattle.std.proofs.lemmas.List.{length-map}
 use Rattle.std.proofs.lemmas.List.Concat.{length-flat_map}
-use Rattle.std.proofs.lemmas.List.Elements.{All-contains, All-weaker}
-use Rattle.std.proofs.Math.Nat.{eq_of_mul-eq-mul_right}
+use Rattle.std.proofs.lemmas.List.Elements.{All-contains}
 use Rattle.yds_model.specs.Numbers.{Each}
-use Rattle.yds_model.specs.Job.{Job, IsJob, job_at, work_of}
-use Rattle.yds_model.specs.Slot.{WrittenSlot, WholeSlot, no_slot, no_written_slot, IsScale, slot_at_scale, slots_at, slot_at, written_slot_at}
-use Rattle.yds_model.specs.Feasible.{IsFeasible}
-use Rattle.yds_model.specs.Level.{Level, level_at, all_members, all_pieces}
-use Rattle.yds_model.specs.Proper.{PiecesStand, StandsOnce, SumsAgree, IsNotFaster, IsWindowCovered, HasLevelSpeed, AreLevels, IsProper}
-use Rattle.yds_model.specs.Divisor.{common_divisor}
+use Rattle.yds_model.specs.Job.{Job, job_at, work_of}
+use Rattle.yds_model.specs.Slot.{WrittenSlot, no_slot, no_written_slot, IsScale, slot_at_scale, slots_at, written_slot_at}
+use Rattle.yds_model.specs.Level.{Level, level_at, all_members}
+use Rattle.yds_model.specs.Proper.{PiecesStand, StandsOnce, SumsAgree, IsWindowCovered, HasLevelSpeed, AreLevels}
 use Rattle.yds_model.specs.Event.{stretches}
 use Rattle.yds_model.specs.Plan.{IsSlower, DontTouch, Rise, HasLevelDenominators, IsPlan}
 use Rattle.yds_model.proofs.Sums.{sum_by_same}
-use Rattle.yds_plan.specs.Found.{Group, Share, Found, IsFound, group_of, group_at, per_time, per_work, stretch_at, length_of}
-use Rattle.yds_plan.specs.Laid.{level_of, levels_among, level_of_place, together, members_of, stretches_of, joined, level_numbered, levels_of, slots_in, slots_of, shares_in}
-use Rattle.yds_plan.proofs.Divisors.{same_lowest, lowest}
-use Rattle.yds_plan.proofs.Split.{count_all, split_all, sum_by-filter}
+use Rattle.yds_slots.specs.Schedule.{WrittenSchedule}
+use Rattle.yds_plan.specs.Found.{Found, IsFound, group_of, group_at, stretch_at, length_of}
+use Rattle.yds_plan.specs.Laid.{level_of, levels_among, together, members_of, stretches_of, level_numbered, levels_of, slots_in, slots_of, shares_in}
+use Rattle.yds_plan.proofs.Divisors.{same_lowest}
+use Rattle.yds_plan.proofs.KeySums.{count_all, split_all}
 use Rattle.yds_plan.proofs.Stretches.{release_outside, deadline_outside, stretch_with, few_stretches}
 use Rattle.yds_plan.proofs.Blocks.{all_of_blocks}
-use Rattle.yds_plan.proofs.Shares.{Serves, all_serve}
+use Rattle.yds_plan.proofs.Served.{Serves, all_serve}
 use Rattle.yds_plan.proofs.Filled.{IsOverTerms, over_terms, slots_of_jobs, slots_from_length}
 use Rattle.yds_plan.proofs.Speeds.{AreGroups, level_rises, among_above, among_found, level_speed, level_has, level_slower, same_through}
-use Rattle.yds_plan.proofs.Schedule.{Stands, has_work, terms, all_stand, feasible, served_in_stretches}
+use Rattle.yds_plan.proofs.Schedule.{has_work, terms, all_stand, feasible, served_in_stretches}
 use Rattle.yds_plan.proofs.Levels.{IsMember, place_level, group_sum, level_there, levels_length, each_level, members_joined, each_member, members_rise, member_at_most_once, member_once}
 use Rattle.yds_plan.proofs.LevelPieces.{pieces_apart, pieces_run, pieces_dont_touch, pieces_total, some_pieces, stretch_covered, few_pieces}
 
@@ -129,9 +127,9 @@ module _ (jobs : List Job) (found : Found) (is : IsFound jobs found) where
       let member = member_there i number within contains in
       let k = stretch_with jobs number time known from below in
       let released : (job_at jobs number).release ≤ (stretch_at jobs k.0).from =
-          elim (release_outside jobs number k.0 known k.1) [ inl h ↦ h | inr h ↦ absurd (omega (arith, k.3)) ] in
+      elim (release_outside jobs number k.0 known k.1) [ inl h ↦ h | inr h ↦ absurd (omega (arith, k.3)) ] in
       let due : (stretch_at jobs k.0).to ≤ (job_at jobs number).deadline =
-          elim (deadline_outside jobs number k.0 known k.1) [ inl h ↦ absurd (omega (arith, k.2)) | inr h ↦ h ] in
+      elim (deadline_outside jobs number k.0 known k.1) [ inl h ↦ absurd (omega (arith, k.2)) | inr h ↦ h ] in
       let first = is.windows number k.0 known (has_work jobs found is number known member.grouped) k.1 (record { released = released; due = due }) in
       let grouped : group_of found.group_of_stretch k.0 < length found.groups = omega (arith, member.grouped) in
       stretch_covered jobs found k.0 (i + 1) time k.1
@@ -166,18 +164,18 @@ module _ (jobs : List Job) (found : Found) (is : IsFound jobs found) where
       rw (members_joined jobs found)
       (all_of_blocks (λ number. 1 ≤ (job_at jobs number).work) (members_of jobs found) count_of_levels
       (λ l known k d within.
-          let member = each_member jobs found l known k d within in
-          has_work jobs found is _ member.known member.grouped))
+      let member = each_member jobs found l known k d within in
+      has_work jobs found is _ member.known member.grouped))
 
-  slots_length : length (slots_of jobs found) ≡ length found.shares
+  pub slots_length : length (slots_of jobs found) ≡ length found.shares
   slots_length =
       length-flat_map (slots_in jobs found) (range_with_len 0 (length (stretches jobs)))
       ∙ sum_by_same (λ k. length (slots_in jobs found k)) (λ k. sum_by (λ share. 1) (shares_in found.shares k))
-          (range_with_len 0 (length (stretches jobs)))
-          (λ k d within. slots_from_length _ _ 0 (shares_in found.shares (get_or (range_with_len 0 (length (stretches jobs))) k d))
-          ∙ sym (count_all (shares_in found.shares (get_or (range_with_len 0 (length (stretches jobs))) k d))))
+      (range_with_len 0 (length (stretches jobs)))
+      (λ k d within. slots_from_length _ _ 0 (shares_in found.shares (get_or (range_with_len 0 (length (stretches jobs))) k d))
+      ∙ sym (count_all (shares_in found.shares (get_or (range_with_len 0 (length (stretches jobs))) k d))))
       ∙ split_all (λ share. share.stretch) (λ share. 1) (length (stretches jobs)) found.shares
-          (λ k d within. (is.shares k d within).known_stretch)
+      (λ k d within. (is.shares k d within).known_stretch)
       ∙ count_all found.shares
 
   -- a slot is written over the terms of the group of its stretch
@@ -206,8 +204,8 @@ module _ (jobs : List Job) (found : Found) (is : IsFound jobs found) where
       let level : level_of found.groups g ≡ i = ap (level_of found.groups) serves.same_group ∙ member.level in
       let known : i < count_of_levels = omega (arith, levels_length jobs found) in
       let same = same_lowest (level_work i) (level_length i) (group_at found.groups g).work (group_at found.groups g).length
-          (some_level_work i known) (some_level_length i known) (is.some_work g grouped) (is.some_length g grouped)
-          (group_speed i g known grouped level) in
+      (some_level_work i known) (some_level_length i known) (is.some_work g grouped) (is.some_length g grouped)
+      (group_speed i g known grouped level) in
       rw (level_there jobs found i known) (record {
         from = rw (same.0) written.2.from;
         to = rw (same.0) written.2.to;
@@ -239,3 +237,17 @@ module _ (jobs : List Job) (found : Found) (is : IsFound jobs found) where
 -- What is found makes a plan.
 pub found_makes_plan : (jobs : List Job) (found : Found) → IsFound jobs found → IsPlan jobs (slots_of jobs found) (levels_of jobs found)
 found_makes_plan = makes_plan
+
+-- two facts of a result's value make a third
+both_ok : {T E : Type 0} (P Q R : T → Type 0) → ((x : T) → P x → Q x → R x) → (r : Result T E) → IfOk r P → IfOk r Q → IfOk r R
+both_ok P Q R join (Ok x) first second = join x first second
+both_ok P Q R join (Err e) first second = tt
+
+-- slots and levels that are those of what was found make a plan
+pub laid_plan : {T E : Type 0} (jobs : List Job) (found : Found) (schedule : T → WrittenSchedule) (levels : T → List Level) (r : Result T E) →
+    IsFound jobs found → IfOk r (λ x. schedule x ≡ record { jobs = length jobs; slots = slots_of jobs found }) →
+    IfOk r (λ x. levels x ≡ levels_of jobs found) → IfOk r (λ x. IsPlan jobs (schedule x).slots (levels x))
+laid_plan jobs found schedule levels r is laid certified =
+    both_ok (λ x. schedule x ≡ record { jobs = length jobs; slots = slots_of jobs found }) (λ x. levels x ≡ levels_of jobs found)
+    (λ x. IsPlan jobs (schedule x).slots (levels x))
+    (λ x one other. rw (one, other) (found_makes_plan jobs found is)) r laid certified
