@@ -1,0 +1,11 @@
+//! The auditor of schedules: whether slots are feasible for jobs, and if not, the first cause.
+//!
+//! It stands on `yds_model`, `yds_fraction` and `yds_slots`. Its promise is that the verdict is `Feasible` exactly
+//! where the slots are a feasible schedule, and otherwise the first cause in the order of the slots and then of the
+//! jobs. No call takes memory.
+#![tactic(auto)]
+
+mod point_speed;
+mod verdict;
+
+pub use verdict::Verdict;
