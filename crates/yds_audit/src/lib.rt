@@ -5,7 +5,10 @@
 //! jobs. No call takes memory.
 #![tactic(auto)]
 
+mod auditor;
+mod order;
 mod point_speed;
+mod slot_verdict;
 mod verdict;
 
 pub use verdict::Verdict;
