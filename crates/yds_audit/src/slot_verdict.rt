@@ -54,7 +54,7 @@ pub(crate) fn slot_verdict(
     ensures { MatchOption result
         (Stands rows.now (option_copied points.entry) slots.now i)
         (λ verdict. Each i (Stands rows.now (option_copied points.entry) slots.now) →
-            IsVerdict rows.now (option_copied points.entry) slots.now (verdict_view verdict)) }
+        IsVerdict rows.now (option_copied points.entry) slots.now (verdict_view verdict)) }
 {
     let slot = &slots[i];
     let row = &rows[slot.job as usize];
