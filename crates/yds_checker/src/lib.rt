@@ -6,6 +6,7 @@
 //! checked.
 #![tactic(auto)]
 
+mod home;
 mod order;
 mod speeds;
 mod sums;

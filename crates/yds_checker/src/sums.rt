@@ -36,3 +36,30 @@ fn lengths_together(pieces: &[Piece]) -> u64
     }
     length
 }
+
+/// Whether the level's work is its members' together, and its length its pieces'.
+fn sums_agree(rows: &[JobRow], levels: &[Level], i: usize) -> bool
+    requires within { i < length levels.now }
+    requires kept { IsCertificate levels.now }
+    requires known { All (λ level. All (λ number. number < length rows.now) level.members) levels.now }
+    ensures { IsTrue result ↔ SumsAgree rows.now levels.now i }
+{
+    let level = &levels[i];
+    level.work == works_together(rows, &level.members) && level.length == lengths_together(&level.pieces)
+}
+
+/// The first level whose work or length isn't that of its members or pieces, if there is one.
+pub(crate) fn first_wrong_sums(rows: &[JobRow], levels: &[Level]) -> Option<u32>
+    requires kept { IsCertificate levels.now }
+    requires known { All (λ level. All (λ number. number < length rows.now) level.members) levels.now }
+    ensures { MatchOption result
+        (Each (length levels.now) (SumsAgree rows.now levels.now))
+        (IsFirstFailure (length levels.now) (SumsAgree rows.now levels.now)) }
+{
+    for i in 0..levels.len() {
+        if !sums_agree(rows, levels, i) {
+            return Some(i as u32);
+        }
+    }
+    None
+}
