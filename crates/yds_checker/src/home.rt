@@ -46,6 +46,17 @@ fn settle(homes: &mut [Home], members: &[u32], level: u32)
     }
 }
 
+/// Notes where the members of all levels stand.
+fn settle_all(homes: &mut [Home], levels: &[Level])
+    requires few { length levels.now ≤ MAX_LEVELS }
+    requires known { All (λ level. All (λ job. job < length homes.old) level.members) levels.now }
+    ensures { AreHomes levels.now [] homes.old → AreHomes levels.now (all_members levels.now) homes.new }
+{
+    for (i, level) in levels.iter().enumerate() {
+        settle(homes, &level.members, i as u32);
+    }
+}
+
 /// Where each of so many jobs stands.
 pub(crate) fn homes_of(alloc: Global, jobs: usize, levels: &[Level]) -> Result<Vec<Home>, Memory>
     requires few { length levels.now ≤ MAX_LEVELS }
@@ -55,8 +66,6 @@ pub(crate) fn homes_of(alloc: Global, jobs: usize, levels: &[Level]) -> Result<V
 {
     let mut homes = Vec::new(alloc);
     homes.resize(jobs, Home::Nowhere)?;
-    for (i, level) in levels.iter().enumerate() {
-        settle(&mut homes, &level.members, i as u32);
-    }
+    settle_all(&mut homes, levels);
     Ok(homes)
 }

@@ -7,6 +7,7 @@
 #![tactic(auto)]
 
 mod home;
+mod member;
 mod order;
 mod speeds;
 mod sums;
