@@ -11,3 +11,4 @@ mod member;
 mod order;
 mod speeds;
 mod sums;
+mod windows;
