@@ -9,6 +9,7 @@
 mod home;
 mod member;
 mod order;
+mod pieces;
 mod speeds;
 mod sums;
 mod windows;

@@ -14,7 +14,7 @@ returns-in-In c =
         get_or_read c.args.rows.now c.args.job c.index-rows-job.result c.requires.known c.index-rows-job.is no_job in
     fact_in levels c.args.job c.in-In.level (λ (i : ℕ). IsConfined (job_at c.args.rows.now c.args.job) (all_pieces (take (i + 1) levels))) c.covers.result
     (home_at c.args.homes.now c.args.job) c.in-In.is (c.requires.homes c.args.job (rw c.requires.jobs c.requires.known))
-    ?
+    (rw (← row, ← c.row.view_is) c.covers.ensures)
 
 pub returns-in-Nowhere : goal.returns-in-Nowhere
 returns-in-Nowhere c =
