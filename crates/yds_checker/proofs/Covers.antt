@@ -1,8 +1,9 @@
 -- Some element of lists that are joined.
 use Rattle.std.proofs.Common.{◌≡◌, ℕ, zero, suc, ◌+◌, ◌<◌, ◌≤◌, ◌⊎◌, List, [], ◌∷◌, ◌++◌, length, get_or, take, arith, inl, inr, add-one}
-use Rattle.std.specs.List.{Any, flat_map}
+use Rattle.std.specs.List.{All, Any, flat_map}
 use Rattle.std.proofs.lemmas.List.{length-append}
 use Rattle.std.proofs.lemmas.List.Concat.{flat_map-cons}
+use Rattle.std.proofs.lemmas.List.Elements.{All-nil, All-cons, All-head, All-tail, All-append}
 use Rattle.yds_model.proofs.Lists.{Any-append_left, flat_map-take}
 
 -- some element of the second list
@@ -35,3 +36,25 @@ pub Any-next : {X A : Type 0} (P : A → Type 0) (f : X → List A) (xs : List X
     Any P (flat_map f (take (i + 1) xs)) → Any P (flat_map f (take i xs)) ⊎ Any P (f (get_or xs i d))
 Any-next P f xs i d within some =
     Any-append_cases P (flat_map f (take i xs)) (f (get_or xs i d)) (rw (add-one, flat_map-take f xs i d within) at some)
+
+-- what holds of each element of two lists holds of each of the first, and of the second
+All-first : {X : Type 0} (P : X → Type 0) (xs ys : List X) → All P (xs ++ ys) → All P xs
+All-first P [] ys all = All-nil P
+All-first P (x ∷ xs) ys all = All-cons P x xs (All-head P x (xs ++ ys) all) (All-first P xs ys (All-tail P x (xs ++ ys) all))
+
+All-second : {X : Type 0} (P : X → Type 0) (xs ys : List X) → All P (xs ++ ys) → All P ys
+All-second P [] ys all = all
+All-second P (x ∷ xs) ys all = All-second P xs ys (All-tail P x (xs ++ ys) all)
+
+-- what holds of each element of each part holds of each element of all parts, and back
+pub All-joined : {X A : Type 0} (P : A → Type 0) (f : X → List A) (xs : List X) → All (λ x. All P (f x)) xs → All P (flat_map f xs)
+All-joined P f [] all = All-nil P
+All-joined P f (x ∷ xs) all =
+    rw (flat_map-cons f x xs)
+    (All-append P (f x) (flat_map f xs) (All-head (λ y. All P (f y)) x xs all) (All-joined P f xs (All-tail (λ y. All P (f y)) x xs all)))
+
+pub All-parts : {X A : Type 0} (P : A → Type 0) (f : X → List A) (xs : List X) → All P (flat_map f xs) → All (λ x. All P (f x)) xs
+All-parts P f [] all = All-nil (λ x. All P (f x))
+All-parts P f (x ∷ xs) all =
+    let joined = rw (flat_map-cons f x xs) at all in
+    All-cons (λ y. All P (f y)) x xs (All-first P (f x) (flat_map f xs) joined) (All-parts P f xs (All-second P (f x) (flat_map f xs) joined))

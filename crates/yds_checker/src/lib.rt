@@ -6,7 +6,9 @@
 //! checked.
 #![tactic(auto)]
 
+mod checker;
 mod home;
+mod judgement;
 mod member;
 mod order;
 mod pieces;

@@ -51,13 +51,23 @@ fn are_apart_from_levels(pieces: &[Piece], levels: &[Level]) -> bool
     pieces.iter().all(|piece| is_apart_from_levels(piece, levels))
 }
 
-/// Whether the level has a piece, its pieces lie one after another, and none overlaps one of an earlier level.
+/// Whether the level has a piece, its pieces lie one after another, and none overlaps one of these earlier levels.
+fn stands_after(level: &Level, earlier: &[Level]) -> bool
+    ensures { IsTrue result ↔ ((1 ≤ length level.now.pieces) × PiecesFrom 0 level.now.pieces
+        × All (λ piece. All (λ other. All (AreApart piece) other.pieces) earlier.now) level.now.pieces) }
+{
+    if level.pieces.is_empty() || !are_in_order(&level.pieces) {
+        return false;
+    }
+    are_apart_from_levels(&level.pieces, earlier)
+}
+
+/// Whether the pieces of the level at this place stand among those of all levels.
 fn pieces_stand(levels: &[Level], i: usize) -> bool
     requires { i < length levels.now }
     ensures { IsTrue result ↔ PiecesStand levels.now i }
 {
-    let level = &levels[i];
-    !level.pieces.is_empty() && are_in_order(&level.pieces) && are_apart_from_levels(&level.pieces, &levels[..i])
+    stands_after(&levels[i], &levels[..i])
 }
 
 /// The first level whose pieces don't stand, if there is one.
