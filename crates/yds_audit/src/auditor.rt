@@ -13,6 +13,7 @@ use yds_fraction::Amount;
 use yds_hull::Point;
 use yds_model::JobRow;
 use yds_slots::{Schedule, Slot};
+use yds_table::Table;
 
 /// The verdict of the first slot with which something is wrong, if there is one.
 fn first_wrong_slot(rows: &[JobRow], slots: &[Slot], points: Option<&[Point]>) -> Option<Verdict>
@@ -79,14 +80,14 @@ fn verdict_of(rows: &[JobRow], schedule: &Schedule, points: Option<&[Point]>) ->
 
 /// Whether the schedule is feasible for the jobs, and if not, the first cause. With a table each slot has also to run
 /// at the speed of one of its points.
-pub fn audit(rows: &[JobRow], schedule: &Schedule, points: Option<&[Point]>) -> Verdict
+pub fn audit(rows: &[JobRow], schedule: &Schedule, table: Option<&Table>) -> Verdict
     requires jobs { schedule.now.jobs ≡ length rows.now }
     requires few { length rows.now ≤ MAX_JOBS }
-    ensures exact { IsVerdict rows.now (option_copied points.entry) schedule.now.slots (verdict_view result) }
-    ensures feasible { MatchOption (option_copied points.entry)
+    ensures exact { IsVerdict rows.now (option_copied table.entry) schedule.now.slots (verdict_view result) }
+    ensures feasible { MatchOption (option_copied table.entry)
         (result ≡ Verdict.Feasible ↔ IsFeasible rows.now schedule.now.slots)
         (λ points. result ≡ Verdict.Feasible ↔
         (IsFeasible rows.now schedule.now.slots × All (IsOnTable (Some points)) schedule.now.slots)) }
 {
-    verdict_of(rows, schedule, points)
+    verdict_of(rows, schedule, table.map(|table| table.points()))
 }

@@ -19,6 +19,7 @@ pub mod Judgements
 pub mod Divisor
 pub mod Lines
 pub mod Hull
+pub mod HullOf
 pub mod OneJob
 pub mod Curve
 pub mod Plans

@@ -16,7 +16,7 @@ use Rattle.yds_model.specs.Proper.{IsProper, AreLevels}
 use Rattle.yds_model.specs.Plan.{IsPlan}
 use Rattle.yds_model.specs.Audit.{Verdict, Feasible, IsVerdict, IsOnTable, AreSlots}
 use Rattle.yds_model.specs.Judgement.{Judgement, Accepted, IsJudgement}
-use Rattle.yds_model.specs.Table.{Point, point_at, AreRising, IsHullOf, IsAround, interpolated}
+use Rattle.yds_model.specs.Table.{Point, point_at, AreRising, IsHullOf, IsAround, interpolated, hull_of}
 
 -- Scale: reading a schedule at k times a scale keeps it feasible, both ways.
 abbrev pub ScaleKeepsFeasible : Type 0
@@ -97,6 +97,10 @@ HullIsLowest = (points hull : List Point) (p q i j k : ℕ) → AreRising points
     k + 1 < length hull → IsAround p q (point_at hull k) (point_at hull (k + 1)) →
     interpolated p q (point_at hull k) (point_at hull (k + 1)) * ((point_at points j).speed - (point_at points i).speed)
     ≤ interpolated p q (point_at points i) (point_at points j) * ((point_at hull (k + 1)).speed - (point_at hull k).speed)
+
+-- Hull: a table has one hull, the one that `hull_of` computes.
+abbrev pub HullIsComputed : Type 0
+HullIsComputed = (points hull : List Point) → AreRising points → IsHullOf points hull → hull ≡ hull_of points
 
 -- Audit: the verdict is 'feasible' exactly where the schedule is feasible.
 abbrev pub VerdictIsExact : Type 0

@@ -23,7 +23,7 @@ mod text_laws;
 
 pub use command::Command;
 pub use divisor_laws::{divisor_is_greatest, lowest_terms_are_one, multiple_is_least};
-pub use hull_laws::hull_is_lowest;
+pub use hull_laws::{hull_is_computed, hull_is_lowest};
 pub use job_row::JobRow;
 pub use judging_laws::{
     judgement_is_exact, judgement_is_unique, table_verdict_is_exact, verdict_is_exact,

@@ -1,3 +1,4 @@
 pub mod Grains
 pub mod Parts
 pub mod Shares
+pub mod Order

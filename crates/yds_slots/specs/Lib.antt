@@ -2,3 +2,4 @@ pub mod Slot
 pub mod Received
 pub mod Kept
 pub mod Schedule
+pub mod Between

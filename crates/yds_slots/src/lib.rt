@@ -8,6 +8,7 @@
 
 mod received;
 mod schedule;
+mod search;
 mod slot;
 
 pub use schedule::Schedule;

@@ -1,4 +1,4 @@
-ghost use Rattle.std.specs.Prelude.{◌≡◌, ℕ, ◌<◌, ◌≤◌, List, [], ◌∷◌, ◌++◌, length, vec_len, IfOk, OnOk, OnErr};
+ghost use Rattle.std.specs.Prelude.{◌≡◌, ℕ, ◌<◌, ◌≤◌, List, [], ◌∷◌, ◌++◌, length, take, drop, filter, vec_len, IfOk, OnOk, OnErr};
 ghost use Rattle.std.specs.List.Sorted.{IsPermutation, IsSortedByKey, IsStableByKey};
 ghost use Rattle.yds_fraction.specs.Order.{fraction_cmp};
 ghost use Rattle.std.specs.List.{All};
@@ -9,9 +9,11 @@ ghost use Rattle.yds_model.specs.Slot.{IsScale, slots_at, work_given};
 ghost use Rattle.yds_model.specs.Audit.{AreSlots, grain_of, given_of};
 ghost use Rattle.yds_fraction.specs.Mixed.{IsMixed};
 ghost use Rattle.yds_slots.specs.Slot.{IsSlot};
+ghost use Rattle.yds_slots.specs.Between.{RunInOrder, lies_between};
 ghost use Rattle.yds_slots.specs.Schedule.{WrittenSchedule, FitsGrain};
 
 use crate::received::Received;
+use crate::search::{end_of, first_from};
 use crate::slot::Slot;
 use std::alloc::Global;
 use std::marker::Model;
@@ -30,6 +32,7 @@ pub struct Schedule {
 
 impl Model for Schedule {
     ghost use Rattle.std.specs.Prelude.{length};
+    ghost use Rattle.yds_slots.specs.Between.{RunInOrder, lies_between};
     ghost use Rattle.yds_slots.specs.Schedule.{WrittenSchedule};
     ghost use Rattle.yds_slots.specs.Kept.{IsKept};
 
@@ -135,5 +138,17 @@ impl Schedule {
         ensures few { length self.now.slots ≤ MAX_SLOTS }
     {
         self.slots.as_slice()
+    }
+    /// The slots that begin at `from` or later and have ended by `to`: neighbours in the schedule.
+    ///
+    /// They are found by halves, as the slots run in order.
+    pub fn between(&self, from: u32, to: u32) -> &[Slot]
+        requires { RunInOrder self.now.slots }
+        ensures part { result.now ≡ filter (lies_between from to) self.now.slots }
+        ensures neighbours { (start : ℕ) × (result.now ≡ take (length result.now) (drop start self.now.slots)) }
+    {
+        let start = first_from(&self.slots, from);
+        let end = end_of(&self.slots, to).max(start);
+        &self.slots[start..end]
     }
 }

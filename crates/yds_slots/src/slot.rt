@@ -1,3 +1,6 @@
+ghost use Rattle.std.specs.Prelude.{◌≡◌};
+ghost use Rattle.yds_slots.specs.Between.{begins_before, ends_by};
+
 use std::marker::Model;
 use yds_fraction::{Amount, Moment};
 
@@ -29,4 +32,21 @@ impl Model for Slot {
     ghost invariant = { λ s. IsSlot (record { job = s.job; from = s.from; to = s.to; work = s.work }) };
 
     ghost inverse = { λ s. record { job = s.job; from = s.from; to = s.to; work = s.work } };
+}
+
+impl Slot {
+    /// Whether it begins before this time, which is whole: exactly where its start's whole part does.
+    pub(crate) fn begins_before(&self, time: u32) -> bool
+        ensures { result ≡ begins_before time self.now }
+    {
+        self.from.whole() < u64::from(time)
+    }
+
+    /// Whether it has ended by this time.
+    pub(crate) fn ends_by(&self, time: u32) -> bool
+        ensures { result ≡ ends_by time self.now }
+    {
+        self.to.whole() < u64::from(time)
+            || (self.to.whole() == u64::from(time) && self.to.num() == 0)
+    }
 }
