@@ -1,4 +1,4 @@
-use Rattle.std.proofs.Common.{◌≤◌, ◌∙◌, arith}
+use Rattle.std.proofs.Common.{arith}
 use Rattle.yds_audit.proofs.Neighbours.{overlap_told}
 use Rattle.yds_audit.proofs.slot_verdict.overlaps.Goals as goal
 
