@@ -1,6 +1,5 @@
 -- Where jobs stand when one more member is met.
-use Rattle.std.proofs.Common.{◌≡◌, ◌≢◌, ℕ, ◌+◌, ◌<◌, ◌≤◌, ◌==◌, List, [], ◌∷◌, ◌++◌, length, get_or, set, take, refl, ap, sym, ◌∙◌, subst, arith, inl, inr, cond, append_assoc, add-zero, add-one, length-set, get_or-set_same, get_or-set_other}
-use Rattle.std.specs.List.{Contains}
+use Rattle.std.proofs.Common.{◌≡◌, ◌≢◌, ℕ, ◌+◌, ◌<◌, ◌==◌, List, [], ◌∷◌, ◌++◌, length, get_or, set, take, refl, ap, sym, ◌∙◌, arith, inl, inr, cond, append_assoc, add-zero, add-one, length-set, get_or-set_same, get_or-set_other}
 use Rattle.std.proofs.lemmas.List.{take_more}
 use Rattle.std.proofs.lemmas.List.Sums.{sum_by_push}
 use Rattle.std.proofs.lemmas.Bool.{cases_eq, eq-eqb, ne_eqb}
@@ -39,7 +38,7 @@ homes_more levels before members i homes home within are is job inside =
     let met = before ++ take i members in
     let known : job < length homes = omega (arith, inside, length-set homes x home) in
     let joined : before ++ take (i + 1) members ≡ met ++ x ∷ [] =
-        ap (λ front. before ++ front) (take_more members i 0 within) ∙ sym (append_assoc before (take i members) (x ∷ [])) in
+    ap (λ front. before ++ front) (take_more members i 0 within) ∙ sym (append_assoc before (take i members) (x ∷ [])) in
     rw joined
     (elim (cases_eq job x) [
       | inl same ↦

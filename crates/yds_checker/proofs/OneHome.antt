@@ -1,7 +1,7 @@
 -- A job that stands at most once among all members is a member of one level at most.
-use Rattle.std.proofs.Common.{◌≡◌, ℕ, ◌+◌, ◌<◌, ◌≤◌, ◌==◌, List, [], ◌∷◌, ◌++◌, length, get_or, take, refl, ap, sym, ◌∙◌, arith, inl, inr, cond, Bool, subst, length-take, get_or-take, ◌⊎◌}
+use Rattle.std.proofs.Common.{◌≡◌, ℕ, ◌+◌, ◌<◌, ◌≤◌, ◌==◌, List, [], ◌∷◌, length, get_or, take, refl, ap, sym, ◌∙◌, arith, inl, inr, cond, Bool, subst, length-take, get_or-take, ◌⊎◌}
 use Rattle.std.specs.Prelude.{◌↔◌, IsTrue, sum_by}
-use Rattle.std.specs.List.{Contains, flat_map}
+use Rattle.std.specs.List.{Contains}
 use Rattle.std.proofs.lemmas.List.Concat.{flat_map-cons}
 use Rattle.std.proofs.lemmas.List.Sums.{sum_by-cons, sum_by-append, sum_by_more_le, get_or-le-sum_by}
 use Rattle.std.proofs.lemmas.Bool.{cases_lt, eq-eqb}

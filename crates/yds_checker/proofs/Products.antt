@@ -18,6 +18,6 @@ speed_of_products all long work from to time one other some_work some_from some_
     let law = speed_of_product all one from to time other some_from some_to some_time some_other sum other_multiple in
     let ends = from.den * to.den in
     let tied = tied_equality (numerator one * ends) (all * crossed_length from to * one.den) one.den work.den
-        (numerator work * long * ends) (all * crossed_length from to * work.den) some_work some_one
-        (work_crossed (numerator work) work.den (numerator one) one.den long ends multiple) (omega arith) in
+    (numerator work * long * ends) (all * crossed_length from to * work.den) some_work some_one
+    (work_crossed (numerator work) work.den (numerator one) one.den long ends multiple) (omega arith) in
     (λ same. tied.0 (law.0 same), λ has. law.1 (tied.1 has))

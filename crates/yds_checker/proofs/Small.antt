@@ -1,11 +1,10 @@
 -- Of slots that stand, a slot's work is at most its job's.
-use Rattle.std.proofs.Common.{◌≡◌, ℕ, ◌+◌, ◌*◌, ◌/◌, ◌<◌, ◌≤◌, ◌==◌, List, length, ap, sym, ◌∙◌, refl, subst, arith, None, cond}
+use Rattle.std.proofs.Common.{◌≡◌, ℕ, ◌+◌, ◌*◌, ◌/◌, ◌<◌, ◌≤◌, ◌==◌, List, length, sym, refl, arith, None, cond}
 use Rattle.std.proofs.lemmas.List.{length-map}
 use Rattle.std.proofs.lemmas.List.Sums.{get_or-le-sum_by}
 use Rattle.std.proofs.lemmas.Bool.{eq-eqb}
 use Rattle.std.proofs.Math.Nat.{le_of_mul-le-mul_right}
 use Rattle.yds_model.specs.Job.{Job, job_at}
-use Rattle.yds_model.specs.Scale.{at_scale}
 use Rattle.yds_model.specs.Slot.{WrittenSlot, WholeSlot, no_slot, slot_at, work_given, no_written_slot, slot_at_scale, slots_at, written_slot_at}
 use Rattle.yds_model.specs.Audit.{AllStand, AreSlots}
 use Rattle.yds_model.proofs.Scale.{scale_exists}
@@ -31,5 +30,5 @@ slot_work_small jobs slots i are all within =
     let feasible = stand_is_feasible jobs None slots some.0 are some.1 all in
     let served = feasible.served slot.job (are.known i no_written_slot within) in
     let given = one_given (slots_at some.0 slots) i (slot_at_scale some.0 slot) (omega (arith, within, length-map slots (slot_at_scale some.0)))
-        (sym (slot_read some.0 slots i within)) in
+    (sym (slot_read some.0 slots i within)) in
     whole_small slot.work.whole (slot.work.num * (some.0 / slot.work.den)) (job_at jobs slot.job).work some.0 some.1.positive (omega (arith, given, served))

@@ -30,8 +30,8 @@ pub(crate) fn first_wrong_member(rows: &[JobRow], homes: &[Home]) -> Option<u32>
     requires homes { length homes.now ≡ length rows.now }
     ensures { (levels : List LevelOfPlan) → AreHomes levels (all_members levels) homes.now →
         MatchOption result
-            (Each (length rows.now) (StandsOnce rows.now levels))
-            (IsFirstFailure (length rows.now) (StandsOnce rows.now levels)) }
+        (Each (length rows.now) (StandsOnce rows.now levels))
+        (IsFirstFailure (length rows.now) (StandsOnce rows.now levels)) }
 {
     for job in 0..rows.len() {
         if !stands_once(rows, homes, job) {

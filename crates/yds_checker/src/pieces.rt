@@ -41,14 +41,18 @@ fn is_apart_from_all(piece: &Piece, pieces: &[Piece]) -> bool
 fn is_apart_from_levels(piece: &Piece, levels: &[Level]) -> bool
     ensures { IsTrue result ↔ All (λ level. All (AreApart piece.now) level.pieces) levels.now }
 {
-    levels.iter().all(|level| is_apart_from_all(piece, &level.pieces))
+    levels
+        .iter()
+        .all(|level| is_apart_from_all(piece, &level.pieces))
 }
 
 /// Whether no piece overlaps one of these levels.
 fn are_apart_from_levels(pieces: &[Piece], levels: &[Level]) -> bool
     ensures { IsTrue result ↔ All (λ piece. All (λ level. All (AreApart piece) level.pieces) levels.now) pieces.now }
 {
-    pieces.iter().all(|piece| is_apart_from_levels(piece, levels))
+    pieces
+        .iter()
+        .all(|piece| is_apart_from_levels(piece, levels))
 }
 
 /// Whether the level has a piece, its pieces lie one after another, and none overlaps one of these earlier levels.

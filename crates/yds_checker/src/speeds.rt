@@ -44,7 +44,12 @@ fn has_speed(rows: &[JobRow], levels: &[Level], homes: &[Home], slots: &[Slot], 
 }
 
 /// The first slot that hasn't the speed of its job's level, if there is one.
-pub(crate) fn first_wrong_speed(rows: &[JobRow], levels: &[Level], homes: &[Home], slots: &[Slot]) -> Option<u32>
+pub(crate) fn first_wrong_speed(
+    rows: &[JobRow],
+    levels: &[Level],
+    homes: &[Home],
+    slots: &[Slot],
+) -> Option<u32>
     requires few { length slots.now ≤ MAX_SLOTS }
     requires agree { AreSlots (length rows.now) slots.now }
     requires jobs { length homes.now ≡ length rows.now }

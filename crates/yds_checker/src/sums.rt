@@ -45,7 +45,8 @@ fn sums_agree(rows: &[JobRow], levels: &[Level], i: usize) -> bool
     ensures { IsTrue result ↔ SumsAgree rows.now levels.now i }
 {
     let level = &levels[i];
-    level.work == works_together(rows, &level.members) && level.length == lengths_together(&level.pieces)
+    level.work == works_together(rows, &level.members)
+        && level.length == lengths_together(&level.pieces)
 }
 
 /// The first level whose work or length isn't that of its members or pieces, if there is one.

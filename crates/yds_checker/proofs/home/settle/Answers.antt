@@ -1,7 +1,5 @@
-use Rattle.std.proofs.Common.{◌≡◌, ◌<◌, ◌++◌, length, get_or, take, take_all, arith, subst}
-use Rattle.std.specs.List.{Contains}
+use Rattle.std.proofs.Common.{◌≡◌, ◌<◌, ◌++◌, length, get_or, take, take_all, arith}
 use Rattle.std.proofs.lemmas.List.Elements.{Contains-get_or}
-use Rattle.yds_model.specs.Level.{level_at}
 use Rattle.yds_checker.proofs.Homes.{homes_more}
 use Rattle.yds_checker.proofs.home.settle.Goals as goal
 
