@@ -4,3 +4,4 @@ pub mod Homes
 pub mod OneHome
 pub mod Small
 pub mod Covers
+pub mod Accepted

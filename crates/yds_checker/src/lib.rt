@@ -15,3 +15,6 @@ mod pieces;
 mod speeds;
 mod sums;
 mod windows;
+
+pub use checker::check;
+pub use judgement::Judgement;
