@@ -13,3 +13,6 @@ mod slot;
 
 pub use schedule::Schedule;
 pub use slot::Slot;
+
+#[cfg(test)]
+mod tests;
