@@ -1,0 +1,3 @@
+pub mod Grains
+pub mod Parts
+pub mod Shares

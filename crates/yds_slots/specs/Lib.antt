@@ -1,0 +1,4 @@
+pub mod Slot
+pub mod Received
+pub mod Kept
+pub mod Schedule

@@ -1,0 +1,109 @@
+ghost use Rattle.std.specs.Prelude.{◌≡◌, ℕ, ◌<◌, ◌≤◌, List, [], ◌∷◌, ◌++◌, length, IfOk, OnOk, OnErr};
+ghost use Rattle.std.specs.List.{All};
+ghost use Rattle.std.specs.Int.{◌∣◌};
+ghost use Rattle.yds_model.specs.declared.limits.TheConstants.{MAX_DENOMINATOR, MAX_SLOTS};
+ghost use Rattle.yds_model.specs.Scale.{at_scale};
+ghost use Rattle.yds_model.specs.Slot.{IsScale, slots_at, work_given};
+ghost use Rattle.yds_model.specs.Audit.{AreSlots, grain_of, given_of};
+ghost use Rattle.yds_fraction.specs.Mixed.{IsMixed};
+ghost use Rattle.yds_slots.specs.Slot.{IsSlot};
+ghost use Rattle.yds_slots.specs.Schedule.{WrittenSchedule, FitsGrain};
+
+use crate::received::Received;
+use crate::slot::Slot;
+use std::alloc::Global;
+use std::marker::Model;
+use yds_fraction::Amount;
+use yds_model::Memory;
+
+/// A schedule: slots of so many jobs, in their order.
+///
+/// Each slot's job is below the number of jobs, and there are at most `MAX_SLOTS` slots. The works of one
+/// job are alike: those that aren't whole have one denominator, the job's grain.
+#[derive(Drop)]
+pub struct Schedule {
+    slots: Vec<Slot>,
+    received: Vec<Received>,
+}
+
+impl Model for Schedule {
+    ghost use Rattle.std.specs.Prelude.{length};
+    ghost use Rattle.yds_slots.specs.Schedule.{WrittenSchedule};
+    ghost use Rattle.yds_slots.specs.Kept.{IsKept};
+
+    ghost Value = { WrittenSchedule };
+
+    ghost view = { λ s. record { jobs = length s.received.items; slots = s.slots.items } };
+
+    ghost invariant = { λ s. IsKept s.slots.items s.received.items };
+}
+
+impl Schedule {
+    /// No slots, of so many jobs.
+    pub fn new(alloc: Global, jobs: u32) -> Result<Schedule, Memory>
+        ensures { IfOk result (λ schedule. schedule ≡ record { jobs = jobs; slots = [] }) }
+    {
+        let mut schedule = Schedule {
+            slots: Vec::new(alloc),
+            received: Vec::new(alloc),
+        };
+        schedule.widen(jobs)?;
+        Ok(schedule)
+    }
+
+    /// Raises the number of jobs. The slots stay.
+    pub fn widen(&mut self, jobs: u32) -> Result<(), Memory>
+        requires { self.old.jobs ≤ jobs }
+        ensures ok { OnOk result (self.new ≡ record { jobs = jobs; slots = self.old.slots }) }
+        ensures err { OnErr result (self.new ≡ self.old) }
+    {
+        self.received.resize(jobs as usize, Received::nothing())?;
+        Ok(())
+    }
+
+    /// Puts the slot last.
+    pub fn push(&mut self, slot: Slot) -> Result<(), Memory>
+        requires known { slot.job < self.old.jobs }
+        requires grain { FitsGrain self.old.slots slot }
+        requires room { length self.old.slots < MAX_SLOTS }
+        ensures ok { OnOk result (self.new ≡ record { jobs = self.old.jobs; slots = self.old.slots ++ slot ∷ [] }) }
+        ensures err { OnErr result (self.new ≡ self.old) }
+    {
+        let job = slot.job as usize;
+        let received = self.received[job].with(slot.work);
+        self.slots.push(slot)?;
+        self.received[job] = received;
+        Ok(())
+    }
+
+    /// The denominator of the job's works that aren't whole, or 1.
+    pub fn grain(&self, job: u32) -> u64
+        requires { job < self.now.jobs }
+        ensures { result ≡ grain_of self.now.slots job }
+    {
+        let received = &self.received[job as usize];
+        received.grain
+    }
+
+    /// The work that the slots give the job, together.
+    pub fn given(&self, job: u32) -> Amount
+        requires { job < self.now.jobs }
+        ensures exact { result ≡ given_of self.now.slots job }
+        ensures at_scales { (scale : ℕ) → IsScale scale self.now.slots →
+            (result.den ∣ scale) × (at_scale scale result ≡ work_given (slots_at scale self.now.slots) job) }
+        ensures kept { IsMixed MAX_DENOMINATOR result }
+    {
+        let received = &self.received[job as usize];
+        received.given
+    }
+
+    /// The slots, in their order.
+    pub fn slots(&self) -> &[Slot]
+        ensures value { result.now ≡ self.now.slots }
+        ensures kept { All IsSlot self.now.slots }
+        ensures agree { AreSlots self.now.jobs self.now.slots }
+        ensures few { length self.now.slots ≤ MAX_SLOTS }
+    {
+        self.slots.as_slice()
+    }
+}
