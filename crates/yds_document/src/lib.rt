@@ -2,10 +2,16 @@
 //! energy, read from bytes and printed as text.
 #![tactic(auto)]
 
+mod fault;
+mod fields;
 mod grid;
+mod kinds;
 pub mod line;
+mod line_fault;
 mod printing;
 mod rows;
 
+pub use fault::DocFault;
 pub use grid::Grid;
 pub use line::Line;
+pub use yds_model::Reason;

@@ -1,0 +1,119 @@
+// What a line of each kind says, by its fields and by what the lines before it said.
+ghost use Rattle.std.specs.Prelude.{◌≡◌, ◌<◌, ◌≤◌, ◌∷◌, [], length, IfOk, IsTrue};
+ghost use Rattle.yds_model.specs.Entry.{JobEntry, LevelEntry, PieceEntry, MemberEntry, TicksEntry, GridEntry, EnergyEntry, SlotEntry};
+ghost use Rattle.yds_model.specs.Reading.{no_field, read_level, read_piece, read_ticks, read_grid, read_energy};
+ghost use Rattle.yds_model.specs.Spelling.{is_name};
+ghost use Rattle.yds_text.specs.Read.{field_read};
+ghost use Rattle.yds_document.specs.Given.{Gives};
+ghost use Rattle.yds_document.specs.Kinds.{new_name_of, known_job_of, job_of, member_of};
+
+use crate::fields::{fraction_in, number_in, small_in};
+use crate::grid::Grid;
+use crate::line_fault::LineFault;
+use yds_certificate::Piece;
+use yds_fraction::Amount;
+use yds_instance::Instance;
+use yds_model::limits::{
+    MAX_ENERGY, MAX_GRID, MAX_LEVEL_LENGTH, MAX_LEVEL_WORK, MAX_ROUNDED, MAX_TICKS, MAX_TIME,
+    MAX_WORK,
+};
+use yds_model::{JobRow, Reason};
+use yds_text::{Field, name};
+
+// A name that no job has yet.
+fn new_name<'a>(instance: &Instance<'a>, field: Field<'a>) -> Result<&'a str, LineFault>
+    ensures gives { Gives (λ name. name.now) result (new_name_of instance.now.names (field_read field.entry)) }
+    ensures named { IfOk result (λ name. IsTrue (is_name name.now)) }
+{
+    let Some(name) = name(field) else {
+        return Err(LineFault::at(field.column, Reason::BadName));
+    };
+    match instance.find(name) {
+        Some(_) => Err(LineFault::at(field.column, Reason::DuplicateName)),
+        None => Ok(name),
+    }
+}
+
+// The number of the job of this name.
+fn known_job(instance: &Instance<'_>, field: Field<'_>) -> Result<u32, LineFault>
+    ensures gives { Gives (λ job. job) result (known_job_of instance.now.names (field_read field.entry)) }
+    ensures known { IfOk result (λ job. job < length instance.now.jobs) }
+{
+    let Some(name) = name(field) else {
+        return Err(LineFault::at(field.column, Reason::BadName));
+    };
+    match instance.find(name) {
+        Some(job) => Ok(job),
+        None => Err(LineFault::at(field.column, Reason::UnknownName)),
+    }
+}
+
+// A job with a name of its own.
+pub(crate) fn job_in<'a>(
+    instance: &Instance<'a>,
+    name: Field<'a>,
+    release: Field<'a>,
+    deadline: Field<'a>,
+    work: Field<'a>,
+) -> Result<(&'a str, JobRow), LineFault>
+    ensures gives { Gives (λ said. JobEntry said.0.now said.1) result
+        (job_of instance.now.names (field_read name.entry) (field_read release.entry) (field_read deadline.entry) (field_read work.entry)) }
+    ensures named { IfOk result (λ said. IsTrue (is_name said.0.now)) }
+{
+    let name = new_name(instance, name)?;
+    let from = small_in(release, 0, MAX_TIME)?;
+    let to = small_in(deadline, 0, MAX_TIME)?;
+    let work = small_in(work, 0, MAX_WORK)?;
+    if from < to {
+        Ok((name, JobRow::new(from, to, work)))
+    } else {
+        Err(LineFault::at(deadline.column, Reason::EmptyWindow))
+    }
+}
+
+// The work and the length of a level.
+pub(crate) fn level_in(work: Field<'_>, length: Field<'_>) -> Result<(u64, u64), LineFault>
+    ensures gives { Gives (λ said. LevelEntry said.0 said.1) result (read_level (no_field ∷ field_read work.entry ∷ field_read length.entry ∷ [])) }
+    ensures work { IfOk result (λ said. (1 ≤ said.0) × (said.0 ≤ MAX_LEVEL_WORK)) }
+    ensures length { IfOk result (λ said. (1 ≤ said.1) × (said.1 ≤ MAX_LEVEL_LENGTH)) }
+{
+    let work = number_in(work, 1, MAX_LEVEL_WORK)?;
+    let length = number_in(length, 1, MAX_LEVEL_LENGTH)?;
+    Ok((work, length))
+}
+
+pub(crate) fn piece_in(from: Field<'_>, to: Field<'_>) -> Result<Piece, LineFault>
+    ensures gives { Gives (λ piece. PieceEntry piece) result (read_piece (no_field ∷ field_read from.entry ∷ field_read to.entry ∷ [])) }
+{
+    let from = small_in(from, 0, MAX_TIME)?;
+    let to = small_in(to, 0, MAX_TIME)?;
+    Ok(Piece { from, to })
+}
+
+pub(crate) fn member_in(instance: &Instance<'_>, name: Field<'_>) -> Result<u32, LineFault>
+    ensures gives { Gives (λ job. MemberEntry job) result (member_of instance.now.names (field_read name.entry)) }
+    ensures known { IfOk result (λ job. job < length instance.now.jobs) }
+{
+    known_job(instance, name)
+}
+
+pub(crate) fn ticks_in(ticks: Field<'_>) -> Result<u32, LineFault>
+    ensures gives { Gives (λ ticks. TicksEntry ticks) result (read_ticks (no_field ∷ field_read ticks.entry ∷ [])) }
+    ensures within { IfOk result (λ ticks. (1 ≤ ticks) × (ticks ≤ MAX_TICKS)) }
+{
+    small_in(ticks, 1, MAX_TICKS)
+}
+
+pub(crate) fn grid_in(grid: Field<'_>, rounded: Field<'_>) -> Result<Grid, LineFault>
+    ensures gives { Gives (λ grid. GridEntry grid) result (read_grid (no_field ∷ field_read grid.entry ∷ field_read rounded.entry ∷ [])) }
+{
+    let grid = small_in(grid, 1, MAX_GRID)?;
+    let rounded = small_in(rounded, 0, MAX_ROUNDED)?;
+    Ok(Grid { grid, rounded })
+}
+
+pub(crate) fn energy_in(energy: Field<'_>) -> Result<Amount, LineFault>
+    ensures gives { Gives (λ energy. EnergyEntry energy) result (read_energy (no_field ∷ field_read energy.entry ∷ [])) }
+{
+    fraction_in(energy, MAX_ENERGY)
+}
