@@ -1,1 +1,5 @@
 pub mod Printed
+pub mod Said
+pub mod Holds
+pub mod Grown
+pub mod Told

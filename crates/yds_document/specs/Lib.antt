@@ -1,3 +1,4 @@
 pub mod Grid
 pub mod Given
 pub mod Kinds
+pub mod Draft

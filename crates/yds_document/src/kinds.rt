@@ -1,8 +1,9 @@
 // What a line of each kind says, by its fields and by what the lines before it said.
-ghost use Rattle.std.specs.Prelude.{◌≡◌, ◌<◌, ◌≤◌, ◌∷◌, [], length, IfOk, IsTrue};
+ghost use Rattle.std.specs.Prelude.{◌≡◌, ◌<◌, ◌≤◌, ◌∷◌, [], length, IfOk, IsTrue, None};
 ghost use Rattle.yds_model.specs.Entry.{JobEntry, LevelEntry, PieceEntry, MemberEntry, TicksEntry, GridEntry, EnergyEntry, SlotEntry};
 ghost use Rattle.yds_model.specs.Reading.{no_field, read_level, read_piece, read_ticks, read_grid, read_energy};
 ghost use Rattle.yds_model.specs.Spelling.{is_name};
+ghost use Rattle.yds_instance.specs.Named.{number_of};
 ghost use Rattle.yds_text.specs.Read.{field_read};
 ghost use Rattle.yds_document.specs.Given.{Gives};
 ghost use Rattle.yds_document.specs.Kinds.{new_name_of, known_job_of, job_of, member_of};
@@ -24,6 +25,7 @@ use yds_text::{Field, name};
 fn new_name<'a>(instance: &Instance<'a>, field: Field<'a>) -> Result<&'a str, LineFault>
     ensures gives { Gives (λ name. name.now) result (new_name_of instance.now.names (field_read field.entry)) }
     ensures named { IfOk result (λ name. IsTrue (is_name name.now)) }
+    ensures new { IfOk result (λ name. number_of instance.now.names name.now ≡ None) }
 {
     let Some(name) = name(field) else {
         return Err(LineFault::at(field.column, Reason::BadName));
@@ -59,6 +61,7 @@ pub(crate) fn job_in<'a>(
     ensures gives { Gives (λ said. JobEntry said.0.now said.1) result
         (job_of instance.now.names (field_read name.entry) (field_read release.entry) (field_read deadline.entry) (field_read work.entry)) }
     ensures named { IfOk result (λ said. IsTrue (is_name said.0.now)) }
+    ensures new { IfOk result (λ said. number_of instance.now.names said.0.now ≡ None) }
 {
     let name = new_name(instance, name)?;
     let from = small_in(release, 0, MAX_TIME)?;

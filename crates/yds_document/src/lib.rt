@@ -2,11 +2,13 @@
 //! energy, read from bytes and printed as text.
 #![tactic(auto)]
 
+mod draft;
 mod fault;
 mod fields;
 mod grid;
 mod kinds;
 pub mod line;
+mod lines;
 mod line_fault;
 mod printing;
 mod rows;
