@@ -1,12 +1,13 @@
 -- The confinement bound, and what follows for a schedule that is explained, against each other schedule.
-use Rattle.std.proofs.Common.{ℕ, ◌+◌, ◌-◌, ◌*◌, ◌≤◌, List, ◌++◌, length, get_or, refl, arith, ap}
+use Rattle.std.proofs.Common.{ℕ, ◌+◌, ◌-◌, ◌*◌, ◌≤◌, List, [], ◌∷◌, ◌++◌, length, get_or, refl, arith, ap}
 use Rattle.std.proofs.lemmas.List.{take_at, drop_at}
 use Rattle.std.proofs.lemmas.List.Elements.{All-take, All-drop}
-use Rattle.std.proofs.Math.Nat.{mul-le-mul_left}
+use Rattle.std.proofs.Math.Nat.{mul-le-mul_left, le_of_mul-le-mul_left}
 use Rattle.yds_model.specs.Numbers.{count}
 use Rattle.yds_model.specs.Slot.{WholeSlot, WrittenSlot, IsDivided, IsScale, slots_at}
-use Rattle.yds_model.specs.Laws.{ConfinementBound, ExplainedIsLeast, LeastAmongWritten}
-use Rattle.yds_model.proofs.Sums.{sum_by-add, sum_by-mul, sum_by_at_most}
+use Rattle.yds_model.specs.Piece.{Piece}
+use Rattle.yds_model.specs.Laws.{ConfinementBound, ExplainedIsLeast, LeastAmongWritten, ServedAtSpeed}
+use Rattle.yds_model.proofs.Sums.{sum_by-add, sum_by-mul, sum_by_at_most, sum_by_zero}
 use Rattle.yds_model.proofs.Time.{time_within}
 use Rattle.yds_model.proofs.Group.{work_served}
 
@@ -49,7 +50,7 @@ explained_is_least jobs slots levels explains scale divided =
     }
 
 -- a scale of two schedules is one of the first
-scale_left : (scale : ℕ) (slots others : List WrittenSlot) → IsScale scale (slots ++ others) → IsScale scale slots
+pub scale_left : (scale : ℕ) (slots others : List WrittenSlot) → IsScale scale (slots ++ others) → IsScale scale slots
 scale_left scale slots others is = record {
   positive = is.positive;
   divided = rw (take_at slots others (length slots) refl) at
@@ -57,7 +58,7 @@ scale_left scale slots others is = record {
 }
 
 -- and of the other
-scale_right : (scale : ℕ) (slots others : List WrittenSlot) → IsScale scale (slots ++ others) → IsScale scale others
+pub scale_right : (scale : ℕ) (slots others : List WrittenSlot) → IsScale scale (slots ++ others) → IsScale scale others
 scale_right scale slots others is = record {
   positive = is.positive;
   divided = rw (drop_at slots others (length slots) refl) at
@@ -69,3 +70,14 @@ pub least_among_written : LeastAmongWritten
 least_among_written jobs slots others scale p q least feasible is positive =
     (least scale (scale_left scale slots others is)).least p q positive (slots_at scale others)
     (feasible scale (scale_right scale slots others is))
+
+-- nothing runs faster than the speed, so the interval alone, as one piece, has the room for the jobs confined to it
+pub served_at_speed : ServedAtSpeed
+served_at_speed jobs scale top from to slots members positive forward feasible slow different known inside =
+    let piece : Piece = record { from = from; to = to } in
+    le_of_mul-le-mul_left {k = scale} (omega (
+      arith,
+      confinement_bound jobs scale top 1 slots members (piece ∷ []) positive different known
+          (λ k d within time released due. (0, piece, omega arith, refl, (omega (arith, inside k d within), omega (arith, inside k d within)))) feasible,
+      sum_by_zero (λ slot. 1 * slot.work - top * (slot.to - slot.from)) slots (λ k d within. omega (arith, slow k d within)),
+    )) positive

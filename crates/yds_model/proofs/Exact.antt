@@ -84,14 +84,14 @@ falling_tail : (level : Level) (levels : List Level) → Each (length (level ∷
 falling_tail level levels falling i within last is = falling (suc i) (omega arith) (suc last) (omega arith)
 
 -- the levels above p/q go on after one that is above it
-above_fast : (p q : ℕ) (level : Level) (levels : List Level) → p * level.length < level.work * q →
+pub above_fast : (p q : ℕ) (level : Level) (levels : List Level) → p * level.length < level.work * q →
     levels_above p q (level ∷ levels) ≡ level ∷ levels_above p q levels
 above_fast p q level levels fast =
     take_while-cons (λ (one : Level). nat_lt (p * one.length) (one.work * q)) level levels
     ∙ ap (λ b. cond b (level ∷ levels_above p q levels) []) (lt-ltb _ _ fast)
 
 -- and end before one that isn't
-above_slow : (p q : ℕ) (level : Level) (levels : List Level) → level.work * q ≤ p * level.length →
+pub above_slow : (p q : ℕ) (level : Level) (levels : List Level) → level.work * q ≤ p * level.length →
     levels_above p q (level ∷ levels) ≡ []
 above_slow p q level levels slow =
     take_while-cons (λ (one : Level). nat_lt (p * one.length) (one.work * q)) level levels

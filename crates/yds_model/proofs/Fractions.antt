@@ -1,9 +1,10 @@
 -- What order, equality, sum and multiple of fractions say of their values at a scale.
-use Rattle.std.proofs.Common.{◌≡◌, ℕ, zero, suc, ◌+◌, ◌*◌, ◌/◌, ◌<◌, ◌≤◌, ap, sym, ◌∙◌, arith}
+use Rattle.std.proofs.Common.{◌≡◌, ℕ, zero, suc, ◌+◌, ◌*◌, ◌/◌, ◌<◌, ◌≤◌, ap, sym, ◌∙◌, arith, inl, inr}
 use Rattle.std.specs.Prelude.{◌↔◌}
 use Rattle.std.specs.Int.{◌∣◌}
 use Rattle.std.proofs.Math.Nat.{div-mul_cancel, mul-pos, mul-lt-mul_of_pos_right, lt_of_mul-lt-mul_right, eq_of_mul-eq-mul_right}
-use Rattle.yds_model.specs.Scale.{Fraction, at_scale, numerator}
+use Rattle.std.proofs.lemmas.Bool.{cases_lt}
+use Rattle.yds_model.specs.Scale.{Fraction, at_scale, numerator, IsLess, IsAtMost}
 use Rattle.yds_model.specs.Laws.{OrderIsOfValues, EqualityIsOfValues, SumIsOfValues, MultipleIsOfValues, OrderIsTransitive, EqualityIsTransitive, OrderAgreesWithEquality}
 
 -- a product that isn't 0 has no factor 0
@@ -114,4 +115,19 @@ order_agrees x y z dx dy dz same =
     let right = alike_right (numerator z) x.den y.den in (
       tied_order (numerator x * z.den) (numerator z * x.den) x.den y.den (numerator y * z.den) (numerator z * y.den) dy dx left right,
       tied_order (numerator z * x.den) (numerator x * z.den) x.den y.den (numerator z * y.den) (numerator y * z.den) dy dx right left,
+    )
+
+-- what is at most another is so at each common scale
+pub at_most_of_values : (x y : Fraction) (scale : ℕ) → 1 ≤ scale → x.den ∣ scale → y.den ∣ scale →
+    (IsAtMost x y ↔ (at_scale scale x ≤ at_scale scale y))
+at_most_of_values x y scale positive dx dy =
+    let order = order_of_values y x scale positive dy dx in (
+      λ most. elim (cases_lt (at_scale scale y) (at_scale scale x)) [
+        | inl less ↦ let below : IsLess y x = order.1 less in absurd (omega arith)
+        | inr within ↦ within
+      ],
+      λ most. elim (cases_lt (numerator y * x.den) (numerator x * y.den)) [
+        | inl less ↦ let below : at_scale scale y < at_scale scale x = order.0 less in absurd (omega arith)
+        | inr within ↦ within
+      ],
     )

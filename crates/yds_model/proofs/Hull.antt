@@ -4,7 +4,7 @@ use Rattle.std.specs.List.{All, AllByRecursion}
 use Rattle.std.proofs.lemmas.List.Elements.{All-cons, All-from_recursion}
 use Rattle.yds_model.specs.Laws.{HullIsLowest}
 use Rattle.std.proofs.Math.Nat.{mul-add, add-mul, mul-le-mul_left, mul-le-mul_right, le_of_mul-le-mul_left, le_of_mul-le-mul_right}
-use Rattle.yds_model.specs.Table.{Point, no_point, point_at, AreRising, IsOnOrBelow, IsAbove, IsConvex, GoesOn, IsAround, interpolated}
+use Rattle.yds_model.specs.Table.{Point, no_point, point_at, AreRising, IsOnOrBelow, IsAbove, IsConvex, GoesOn, IsHullOf, IsAround, interpolated}
 
 -- # Slopes and turns, by products without a difference
 
@@ -244,6 +244,26 @@ between p q a b l h rises line over_a over_b around edge =
     (weights a.speed b.speed l.speed h.speed (b.speed - a.speed) p q (b.speed * q - p) (p - a.speed * q) (h.speed * q - p) gap to_high from_low high)
     (weights_low a.speed b.speed l.speed (b.speed - a.speed) p q (b.speed * q - p) (p - a.speed * q) (p - l.speed * q) gap to_high from_low low)
 
+-- all points lie over the line through two neighbours of the hull, whose first point is the first of all
+edge_over : (point : Point) (points : List Point) (low high : Point) (hull : List Point) (k : ℕ) → RisesFrom low.speed points → point ≡ low →
+    GoesOn low points (high ∷ hull) → IsConvex (low ∷ high ∷ hull) → k < suc (length hull) →
+    All (IsOver (point_at (low ∷ high ∷ hull) k) (point_at (high ∷ hull) k)) (point ∷ points)
+edge_over point points low high hull k rises first goes convex inside =
+    let l : Point = point_at (low ∷ high ∷ hull) k in
+    let h : Point = point_at (high ∷ hull) k in
+    let on : AreOver low high l h points = over_line low high points hull k rises goes convex inside in
+    All-cons (IsOver l h) point points (subst (IsOver l h) (sym first) on.this) (All-from_recursion (IsOver l h) points on.all)
+
+pub hull_under : (points hull : List Point) (k : ℕ) → AreRising points → IsHullOf points hull → k + 1 < length hull →
+    All (IsOver (point_at hull k) (point_at hull (k + 1))) points
+hull_under [] [] k rising is_hull inside = absurd (omega arith)
+hull_under [] (low ∷ hull) k rising is_hull inside = absurd is_hull.part
+hull_under (point ∷ points) [] k rising is_hull inside = absurd is_hull.part
+hull_under (point ∷ points) (low ∷ []) k rising is_hull inside = absurd (omega arith)
+hull_under (point ∷ points) (low ∷ high ∷ hull) k rising is_hull inside =
+    let P : Point → Type 0 = λ x. RisesFrom x.speed points in
+    rw add-one (edge_over point points low high hull k (subst P is_hull.part.0 (rises_from point points rising)) is_hull.part.0 is_hull.part.1 is_hull.convex (omega arith))
+
 -- the first point is in the hull
 lowest : (point : Point) (points : List Point) (low high : Point) (hull : List Point) (p q i j k : ℕ) → RisesFrom low.speed points → point ≡ low →
     GoesOn low points (high ∷ hull) → IsConvex (low ∷ high ∷ hull) → 1 ≤ q → i < j → j < suc (length points) →
@@ -254,9 +274,7 @@ lowest : (point : Point) (points : List Point) (low high : Point) (hull : List P
 lowest point points low high hull p q i j k rises first goes convex some before within around inside edge =
     let l : Point = point_at (low ∷ high ∷ hull) k in
     let h : Point = point_at (high ∷ hull) k in
-    let on : AreOver low high l h points = over_line low high points hull k rises goes convex inside in
-    let over : All (IsOver l h) (point ∷ points) =
-    All-cons (IsOver l h) point points (subst (IsOver l h) (sym first) on.this) (All-from_recursion (IsOver l h) points on.all) in
+    let over : All (IsOver l h) (point ∷ points) = edge_over point points low high hull k rises first goes convex inside in
     let line : l.speed < h.speed = neighbours_rise low (high ∷ hull) k (hull_rises low points (high ∷ hull) low.speed rises goes) inside in
     let order : (point_at (point ∷ points) i).speed * q ≤ (point_at (point ∷ points) j).speed * q = omega arith in
     between p q (point_at (point ∷ points) i) (point_at (point ∷ points) j) l h

@@ -1,8 +1,9 @@
 -- The laws of the definitions. Each is the contract of a public function of this crate.
-use Rattle.std.specs.Prelude.{◌≡◌, ℕ, ◌+◌, ◌-◌, ◌*◌, ◌<◌, ◌≤◌, ◌↔◌, List, ◌++◌, length, Some, None}
+use Rattle.std.specs.Prelude.{◌≡◌, ℕ, ◌+◌, ◌-◌, ◌*◌, ◌/◌, ◌<◌, ◌≤◌, ◌↔◌, List, ◌++◌, length, Option, Some, None}
 use Rattle.std.specs.List.{All}
-use Rattle.std.specs.Int.{◌∣◌}
+use Rattle.std.specs.Int.{◌∣◌, IsGcd}
 use Rattle.yds_model.specs.Numbers.{AreDifferent}
+use Rattle.yds_model.specs.Divisor.{common_divisor, common_multiple}
 use Rattle.yds_model.specs.Job.{Job, job_at, work_of}
 use Rattle.yds_model.specs.Scale.{Fraction, at_scale, IsLess, IsSame, IsSum, IsMultiple}
 use Rattle.yds_model.specs.Slot.{WrittenSlot, WholeSlot, IsScale, IsSolid, slots_at}
@@ -13,9 +14,9 @@ use Rattle.yds_model.specs.Level.{Level, level_at}
 use Rattle.yds_model.specs.Explains.{Explains}
 use Rattle.yds_model.specs.Proper.{IsProper, AreLevels}
 use Rattle.yds_model.specs.Plan.{IsPlan}
-use Rattle.yds_model.specs.Audit.{Feasible, IsVerdict, IsOnTable, AreSlots}
-use Rattle.yds_model.specs.Judgement.{Accepted, IsJudgement}
-use Rattle.yds_model.specs.Table.{Point, point_at, AreRising, IsHullOf, IsAround, interpolated}
+use Rattle.yds_model.specs.Audit.{Verdict, Feasible, IsVerdict, IsOnTable, AreSlots}
+use Rattle.yds_model.specs.Judgement.{Judgement, Accepted, IsJudgement}
+use Rattle.yds_model.specs.Table.{Point, point_at, AreRising, IsHullOf, IsAround, interpolated, hull_of}
 
 -- Scale: reading a schedule at k times a scale keeps it feasible, both ways.
 abbrev pub ScaleKeepsFeasible : Type 0
@@ -97,6 +98,10 @@ HullIsLowest = (points hull : List Point) (p q i j k : ℕ) → AreRising points
     interpolated p q (point_at hull k) (point_at hull (k + 1)) * ((point_at points j).speed - (point_at points i).speed)
     ≤ interpolated p q (point_at points i) (point_at points j) * ((point_at hull (k + 1)).speed - (point_at hull k).speed)
 
+-- Hull: a table has one hull, the one that `hull_of` computes.
+abbrev pub HullIsComputed : Type 0
+HullIsComputed = (points hull : List Point) → AreRising points → IsHullOf points hull → hull ≡ hull_of points
+
 -- Audit: the verdict is 'feasible' exactly where the schedule is feasible.
 abbrev pub VerdictIsExact : Type 0
 VerdictIsExact = (jobs : List Job) (slots : List WrittenSlot) → AreSlots (length jobs) slots →
@@ -111,6 +116,16 @@ TableVerdictIsExact = (jobs : List Job) (points : List Point) (slots : List Writ
 abbrev pub JudgementIsExact : Type 0
 JudgementIsExact = (jobs : List Job) (slots : List WrittenSlot) (levels : List Level) → AreSlots (length jobs) slots → AreLevels jobs levels →
     (IsJudgement jobs slots levels Accepted ↔ IsProper jobs slots levels)
+
+-- Audit: two verdicts of the same jobs, table and slots are one.
+abbrev pub VerdictIsUnique : Type 0
+VerdictIsUnique = (jobs : List Job) (table : Option (List Point)) (slots : List WrittenSlot) (verdict other : Verdict) →
+    IsVerdict jobs table slots verdict → IsVerdict jobs table slots other → verdict ≡ other
+
+-- Check: two judgements of the same jobs, slots and levels are one.
+abbrev pub JudgementIsUnique : Type 0
+JudgementIsUnique = (jobs : List Job) (slots : List WrittenSlot) (levels : List Level) (judgement other : Judgement) →
+    IsJudgement jobs slots levels judgement → IsJudgement jobs slots levels other → judgement ≡ other
 
 -- A plan's schedule is least, and its levels explain it.
 abbrev pub PlansAreLeast : Type 0
@@ -132,3 +147,17 @@ ServedAtSpeed = (jobs : List Job) (scale top from to : ℕ) (slots : List WholeS
     AreDifferent members → All (λ number. number < length jobs) members →
     All (λ number. (from ≤ (job_at jobs number).release) × ((job_at jobs number).deadline ≤ to)) members →
     work_of jobs members ≤ top * (to - from)
+
+-- The greatest common divisor is one, and each common divisor divides it.
+abbrev pub DivisorIsGreatest : Type 0
+DivisorIsGreatest = (a b : ℕ) → IsGcd a b (common_divisor a b)
+
+-- The least common multiple is one, and divides each common multiple.
+abbrev pub MultipleIsLeast : Type 0
+MultipleIsLeast = (a b : ℕ) →
+    (a ∣ common_multiple a b) × (b ∣ common_multiple a b) × ((k : ℕ) → a ∣ k → b ∣ k → common_multiple a b ∣ k)
+
+-- Equal quotients have the same lowest terms.
+abbrev pub LowestTermsAreOne : Type 0
+LowestTermsAreOne = (a b c d : ℕ) → 1 ≤ b → 1 ≤ d → a * d ≡ c * b →
+    (a / common_divisor a b ≡ c / common_divisor c d) × (b / common_divisor a b ≡ d / common_divisor c d)

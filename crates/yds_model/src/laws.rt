@@ -1,4 +1,4 @@
-ghost use Rattle.yds_model.specs.Laws.{ConfinementBound, ExplainedIsLeast, LeastAmongWritten, ProperExplains};
+ghost use Rattle.yds_model.specs.Laws.{ConfinementBound, ExplainedIsLeast, LeastAmongWritten, ProperExplains, ServedAtSpeed};
 
 /// Different jobs that are confined to pieces of time force, in every feasible schedule and above each
 /// speed, an excess of at least the work that the pieces don't take at that speed.
@@ -20,4 +20,10 @@ pub fn explained_is_least()
 /// denominators of either are.
 pub fn least_among_written()
     ensures { LeastAmongWritten }
+{}
+
+/// A feasible schedule at or below a whole speed serves each interval: the work of the jobs whose windows lie
+/// in it is at most the speed times its length.
+pub fn served_at_speed()
+    ensures { ServedAtSpeed }
 {}

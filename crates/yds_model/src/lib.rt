@@ -7,23 +7,34 @@
 #![tactic(auto)]
 
 mod command;
+mod divisor_laws;
 mod hull_laws;
 mod job_row;
+mod judging_laws;
 mod laws;
 pub mod limits;
 mod memory;
 mod number_fault;
+mod plan_laws;
 mod reason;
 mod scale_laws;
 mod status;
 mod text_laws;
 
 pub use command::Command;
-pub use hull_laws::hull_is_lowest;
+pub use divisor_laws::{divisor_is_greatest, lowest_terms_are_one, multiple_is_least};
+pub use hull_laws::{hull_is_computed, hull_is_lowest};
 pub use job_row::JobRow;
-pub use laws::{confinement_bound, explained_is_least, least_among_written, proper_explains};
+pub use judging_laws::{
+    judgement_is_exact, judgement_is_unique, table_verdict_is_exact, verdict_is_exact,
+    verdict_is_unique,
+};
+pub use laws::{
+    confinement_bound, explained_is_least, least_among_written, proper_explains, served_at_speed,
+};
 pub use memory::Memory;
 pub use number_fault::NumberFault;
+pub use plan_laws::{plans_are_least, plans_have_the_same_levels};
 pub use reason::Reason;
 pub use scale_laws::{
     equality_is_of_values, equality_is_transitive, multiple_is_of_values, one_scale_decides,

@@ -1,13 +1,17 @@
 -- The grain of a job: the denominator of its works that aren't whole.
-use Rattle.std.proofs.Common.{◌≡◌, ℕ, ◌≤◌, ◌⊎◌, inl, inr, List, [], ◌∷◌, ◌++◌, max, refl, ap, ◌∙◌, arith, Bool, true, false}
+use Rattle.std.proofs.Common.{◌≡◌, ℕ, suc, ◌<◌, ◌≤◌, ◌⊎◌, inl, inr, List, [], ◌∷◌, ◌++◌, length, take, eqb-true, max, refl, sym, ap, ◌∙◌, arith, Bool, true, false}
 use Rattle.std.specs.Prelude.{◌==◌, if◌then◌else◌}
-use Rattle.std.specs.List.{All, fold}
+use Rattle.std.specs.List.{All, fold, slice_index_or}
+use Rattle.std.specs.List.Sorted.{IsPermutation}
+use Rattle.std.proofs.lemmas.List.Sorted.{All-permutation}
 use Rattle.std.proofs.Math.Nat.{le_trans}
-use Rattle.std.proofs.lemmas.Bool.{ne_eqb, eq-eqb}
+use Rattle.std.proofs.lemmas.Bool.{cases_lt, ne_eqb, eq-eqb}
 use Rattle.std.proofs.lemmas.List.Sums.{fold_push}
-use Rattle.std.proofs.lemmas.List.Elements.{All-tail}
-use Rattle.yds_model.specs.Slot.{WrittenSlot}
-use Rattle.yds_model.specs.Audit.{grain_of}
+use Rattle.std.proofs.lemmas.List.Elements.{All-tail, All-weaker}
+use Rattle.std.proofs.lemmas.List.{get_or_default, get_or-take, length-take}
+use Rattle.yds_slots.specs.Schedule.{FitsGrain}
+use Rattle.yds_model.specs.Slot.{WrittenSlot, written_slot_at, no_written_slot}
+use Rattle.yds_model.specs.Audit.{AreAlike, AreSlots, grain_of}
 
 -- the grain after one more slot
 pub grain_pushed : (slots : List WrittenSlot) (slot : WrittenSlot) (job : ℕ) →
@@ -59,3 +63,63 @@ pub fits_in : (grain more : ℕ) → (more ≡ 1) ⊎ ((grain ≡ 1) ⊎ (more �
 fits_in grain more (inl whole) positive = inl whole
 fits_in grain more (inr (inl plain)) positive = inr (omega arith)
 fits_in grain more (inr (inr same)) positive = inr (omega arith)
+
+-- # A grain that isn't 1 is the denominator of one of the job's works
+
+abbrev pub IsGrainOf : ℕ → ℕ → WrittenSlot → Type 0
+IsGrainOf job grain slot = (slot.job ≡ job) × (grain ≡ slot.work.den)
+
+greater_is : (mine : Bool) (a den : ℕ) → ((if mine then max a den else a) ≡ a) ⊎ ((mine ≡ true) × ((if mine then max a den else a) ≡ den))
+greater_is true a den = elim (cases_lt a den) [ inl less ↦ inr (refl, omega arith) | inr other ↦ inl (omega arith) ]
+greater_is false a den = inl refl
+
+grain_found_from : (job a : ℕ) (slots : List WrittenSlot) →
+    (let grain = fold (λ (grain : ℕ) (s : WrittenSlot). if s.job == job then max grain s.work.den else grain) a slots in
+    (grain ≡ a) ⊎ ((k : ℕ) × (k < length slots) × IsGrainOf job grain (written_slot_at slots k)))
+grain_found_from job a [] = inl refl
+grain_found_from job a (slot ∷ slots) = elim (grain_found_from job (if slot.job == job then max a slot.work.den else a) slots) [
+  | inl first ↦ elim (greater_is (slot.job == job) a slot.work.den) [
+    | inl same ↦ inl (first ∙ same)
+    | inr mine ↦ inr (0, omega arith, (eqb-true slot.job job mine.0, first ∙ mine.1))
+  ]
+  | inr later ↦ inr (suc later.0, omega (arith, later.1), later.2)
+]
+
+pub grain_found : (slots : List WrittenSlot) (job : ℕ) →
+    (grain_of slots job ≡ 1) ⊎ ((k : ℕ) × (k < length slots) × IsGrainOf job (grain_of slots job) (written_slot_at slots k))
+grain_found slots job = grain_found_from job 1 slots
+
+-- # Slots whose works agree fit one after another, in any order
+
+abbrev pub AgreesWith : WrittenSlot → WrittenSlot → Type 0
+AgreesWith slot other = slot.job ≡ other.job → AreAlike slot.work other.work
+
+agree_all : (jobs : ℕ) (slots : List WrittenSlot) → AreSlots jobs slots → All (λ slot. All (AgreesWith slot) slots) slots
+agree_all jobs slots are k d within j e inside same =
+    let one = get_or_default slots k d no_written_slot within in
+    let two = get_or_default slots j e no_written_slot inside in
+    rw (one, two) (are.alike k j within inside (rw (one, two) at same))
+
+pub agree_sorted : (jobs : ℕ) (slots sorted : List WrittenSlot) → IsPermutation slots sorted → AreSlots jobs slots → All (λ slot. All (AgreesWith slot) sorted) sorted
+agree_sorted jobs slots sorted same are =
+    All-permutation (λ slot. All (AgreesWith slot) sorted) slots sorted same
+    (All-weaker (λ slot. All (AgreesWith slot) slots) (λ slot. All (AgreesWith slot) sorted) (λ slot. All-permutation (AgreesWith slot) slots sorted same) slots (agree_all jobs slots are))
+
+fits_found : (more grain den : ℕ) → grain ≡ den → (more ≡ den) ⊎ ((more ≡ 1) ⊎ (den ≡ 1)) → (more ≡ 1) ⊎ ((grain ≡ 1) ⊎ (more ≡ grain))
+fits_found more grain den is (inl same) = inr (inr (same ∙ sym is))
+fits_found more grain den is (inr (inl whole)) = inl whole
+fits_found more grain den is (inr (inr plain)) = inr (inl (is ∙ plain))
+
+pub fits_next : (jobs : ℕ) (slots sorted : List WrittenSlot) (i : ℕ) (slot : WrittenSlot) → IsPermutation slots sorted → AreSlots jobs slots →
+    i < length sorted → slot ≡ slice_index_or sorted i slot → FitsGrain (take i sorted) slot
+fits_next jobs slots sorted i slot same are within is = elim (grain_found (take i sorted) slot.job) [
+  | inl plain ↦ inr (inl plain)
+  | inr found ↦
+      let inside : found.0 < i = omega (arith, found.1, length-take i sorted) in
+      let before : found.0 < length sorted = omega (arith, found.1, length-take i sorted) in
+      let read = get_or-take i sorted found.0 no_written_slot inside in
+      let agree : AgreesWith (slice_index_or sorted i slot) (slice_index_or sorted found.0 no_written_slot) =
+      agree_sorted jobs slots sorted same are i slot within found.0 no_written_slot before in
+      let alike : AreAlike slot.work (written_slot_at (take i sorted) found.0).work = rw (read, is) (agree (rw (← is, ← read) (sym found.2.0))) in
+      fits_found slot.work.den (grain_of (take i sorted) slot.job) (written_slot_at (take i sorted) found.0).work.den found.2.1 alike
+]

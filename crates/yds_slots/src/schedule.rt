@@ -1,4 +1,6 @@
-ghost use Rattle.std.specs.Prelude.{◌≡◌, ℕ, ◌<◌, ◌≤◌, List, [], ◌∷◌, ◌++◌, length, IfOk, OnOk, OnErr};
+ghost use Rattle.std.specs.Prelude.{◌≡◌, ℕ, ◌<◌, ◌≤◌, List, [], ◌∷◌, ◌++◌, length, vec_len, IfOk, OnOk, OnErr};
+ghost use Rattle.std.specs.List.Sorted.{IsPermutation, IsSortedByKey, IsStableByKey};
+ghost use Rattle.yds_fraction.specs.Order.{fraction_cmp};
 ghost use Rattle.std.specs.List.{All};
 ghost use Rattle.std.specs.Int.{◌∣◌};
 ghost use Rattle.yds_model.specs.declared.limits.TheConstants.{MAX_DENOMINATOR, MAX_SLOTS};
@@ -38,6 +40,16 @@ impl Model for Schedule {
     ghost invariant = { λ s. IsKept s.slots.items s.received.items };
 }
 
+/// The slots in rising order of their starts, equal ones in their given order.
+fn by_start(mut slots: Vec<Slot>) -> Result<Vec<Slot>, Memory>
+    ensures same { IfOk result (λ sorted. IsPermutation slots.items sorted.items) }
+    ensures rising { IfOk result (λ sorted. IsSortedByKey (λ slot. slot.from) fraction_cmp sorted.items) }
+    ensures stable { IfOk result (λ sorted. IsStableByKey (λ slot. slot.from) fraction_cmp slots.items sorted.items) }
+{
+    slots.sort_by_key(|slot| slot.from)?;
+    Ok(slots)
+}
+
 impl Schedule {
     /// No slots, of so many jobs.
     pub fn new(alloc: Global, jobs: u32) -> Result<Schedule, Memory>
@@ -48,6 +60,24 @@ impl Schedule {
             received: Vec::new(alloc),
         };
         schedule.widen(jobs)?;
+        Ok(schedule)
+    }
+
+    /// These slots of so many jobs, in rising order of the times at which they begin. Slots that begin together
+    /// stay in the order in which they are given.
+    pub fn sorted(alloc: Global, jobs: u32, slots: Vec<Slot>) -> Result<Schedule, Memory>
+        requires few { vec_len slots ≤ MAX_SLOTS }
+        requires agree { AreSlots jobs slots.items }
+        ensures jobs { IfOk result (λ schedule. schedule.jobs ≡ jobs) }
+        ensures same { IfOk result (λ schedule. IsPermutation slots.items schedule.slots) }
+        ensures rising { IfOk result (λ schedule. IsSortedByKey (λ slot. slot.from) fraction_cmp schedule.slots) }
+        ensures stable { IfOk result (λ schedule. IsStableByKey (λ slot. slot.from) fraction_cmp slots.items schedule.slots) }
+    {
+        let rising = by_start(slots)?;
+        let mut schedule = Schedule::new(alloc, jobs)?;
+        for slot in &rising {
+            schedule.push(*slot)?;
+        }
         Ok(schedule)
     }
 

@@ -8,7 +8,7 @@ use std::iter::FusedIterator;
 use std::marker::Model;
 
 /// A field of a line: one of its longest runs of bytes other than spaces and tabs.
-#[derive(Clone, Copy, Debug)]
+#[derive(Clone, Copy, Debug, PartialEq, Eq)]
 pub struct Field<'a> {
     /// Its bytes.
     pub text: &'a [u8],

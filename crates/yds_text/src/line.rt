@@ -9,7 +9,7 @@ use std::iter::FusedIterator;
 use std::marker::Model;
 
 /// A line of a text, without its line feed and without a carriage return before it.
-#[derive(Clone, Copy, Debug)]
+#[derive(Clone, Copy, Debug, PartialEq, Eq)]
 pub struct Line<'a> {
     /// Its bytes.
     pub text: &'a [u8],

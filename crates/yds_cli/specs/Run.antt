@@ -1,0 +1,45 @@
+-- What a run of the program does, by its status.
+use Rattle.std.specs.Prelude.{◌≡◌, ℕ, ◌+◌, ◌⊎◌, List, length, Option}
+use Rattle.std.specs.Io.KnownBytes.{Appends, Consumes, IsAtEnd}
+use Rattle.yds_model.specs.declared.limits.TheConstants.{MAX_INPUT}
+use Rattle.yds_model.specs.declared.command.Command.{Command}
+use Rattle.yds_model.specs.declared.status.Status.{Status}
+use Rattle.yds_model.specs.declared.status.Status.TheVariants as statuses
+use Rattle.yds_model.specs.Answer.{AnswersCommand, too_long_line}
+use Rattle.yds_port.specs.Sink.{AppendsFront, IsFlushed}
+
+-- the text was written whole and flushed, and the run ended with the text's status
+pub record WritesWhole (ended : Status) (text : List ℕ) (status : Status) (old new : Option (List ℕ)) (flushed : Option ℕ) : Type 0 where
+  pub said : status ≡ ended
+  pub whole : Appends old new text
+  pub all_flushed : IsFlushed new flushed
+
+-- What a run that ended so wrote of the text with this status: all of it, or after a fault a front of it. What was written
+-- after a fault of the source, or for want of memory, is a clause of its own.
+abbrev pub Outcome : Status → List ℕ → Status → Option (List ℕ) → Option (List ℕ) → Option ℕ → Type 0
+Outcome statuses.Memory text status old new flushed = Unit {0}
+Outcome statuses.ReadFault text status old new flushed = Unit {0}
+Outcome statuses.WriteFault text status old new flushed = AppendsFront text old new
+Outcome ended text status old new flushed = WritesWhole ended text status old new flushed
+
+-- what was written is the answer to these bytes
+pub record AnswersBytes (command : Option Command) (bytes : List ℕ) (result : Status) (old new : Option (List ℕ)) (flushed : Option ℕ) : Type 0 where
+  pub text : List ℕ
+  pub status : Status
+  pub answers : AnswersCommand command bytes text status
+  pub outcome : Outcome result text status old new flushed
+
+-- some bytes were taken, all that were left or one more than an input may have, and what was written is the answer to them
+pub record AnswersTaken (command : Option Command) (result : Status) (left rest old new : Option (List ℕ)) (flushed : Option ℕ) : Type 0 where
+  pub taken : List ℕ
+  pub consumed : Consumes left rest taken
+  pub ended : IsAtEnd rest ⊎ (length taken ≡ MAX_INPUT + 1)
+  pub answered : AnswersBytes command taken result old new flushed
+
+-- one byte more than an input may have was taken, and the run refused it as too long
+pub record IsTooLong (result : Status) (left rest old new : Option (List ℕ)) : Type 0 where
+  pub taken : List ℕ
+  pub consumed : Consumes left rest taken
+  pub beyond : length taken ≡ MAX_INPUT + 1
+  pub refused : result ≡ statuses.Refused
+  pub written : Appends old new too_long_line

@@ -1,0 +1,6 @@
+-- The words of the command line, as bytes.
+use Rattle.std.specs.Prelude.{ℕ, List, map, String, string_bytes}
+use Rattle.std.specs.declared.alloc.Global.{Global}
+
+abbrev pub words_of : List (String Global) → List (List ℕ)
+words_of words = map string_bytes words

@@ -1,0 +1,61 @@
+//! The program: `yds_cli plan` reads a document from standard input and writes the plan of its job, with
+//! the certificate that shows the plan to be least, to standard output.
+//!
+//! It stands on `yds_model`, `yds_port` and `yds_text`. It carries the promise that what was written is
+//! the answer of the definitions to the words and to all bytes of the input, whole and flushed, or that
+//! the status tells what came between: a fault that the source or the sink counted, or want of memory
+//! before the first byte was written.
+#![tactic(auto)]
+
+mod answer;
+mod compute;
+mod deliver;
+mod line;
+mod named_job;
+mod reader;
+mod run;
+mod words;
+mod writer;
+
+use run::run;
+use std::io::ErrorKind;
+use std::process::ExitCode;
+use std::rt::Env;
+use std::{env, io};
+use yds_model::Status;
+use yds_port::{StdSink, StdSource};
+
+/// The exit status where the words can't be taken for another cause than want of memory, as for a word
+/// that is no text.
+const NO_WORDS: u8 = 7;
+
+/// Takes the words from the environment, runs over standard input and standard output, and ends with
+/// the run's status. Nothing is written to standard error.
+fn main(rt: HostRuntime) -> ExitCode {
+    match command_words(&rt) {
+        Ok(words) => {
+            let mut source = StdSource::new(rt.stdin());
+            let mut sink = StdSink::new(rt.stdout());
+            ExitCode::from(run(rt.alloc(), &words, &mut source, &mut sink) as u8)
+        }
+        Err(error) => ExitCode::from(status_without_words(&error)),
+    }
+}
+
+/// The words of the command line, without the program's name.
+fn command_words(rt: &(impl Env + AllocGlobal)) -> io::Result<Vec<String>> {
+    let mut words = env::args(rt)?;
+    let _program = words.next();
+    Ok(words.collect(rt.alloc())?)
+}
+
+/// The exit status where the words couldn't be taken.
+fn status_without_words(error: &io::Error) -> u8 {
+    match error.kind() {
+        ErrorKind::OutOfMemory => Status::Memory as u8,
+        _ => NO_WORDS,
+    }
+}
+
+#[cfg(test)]
+mod tests;

@@ -1,0 +1,12 @@
+//! The laws of plans, each as the contract of a call that does nothing.
+ghost use Rattle.yds_model.specs.Laws.{PlansAreLeast, PlansHaveTheSameLevels};
+
+/// A plan's schedule is least, and the plan's levels explain it.
+pub fn plans_are_least()
+    ensures { PlansAreLeast }
+{}
+
+/// Two plans of the same jobs have as many levels, of the same works and lengths.
+pub fn plans_have_the_same_levels()
+    ensures { PlansHaveTheSameLevels }
+{}
