@@ -3,3 +3,5 @@ pub mod Said
 pub mod Holds
 pub mod Grown
 pub mod Told
+pub mod Grain
+pub mod Within

@@ -31,6 +31,10 @@ works_among slots job = filter_map (λ slot. if slot.job == job then Some slot.w
 abbrev pub fits_among : List WrittenSlot → ℕ → Fraction → Bool
 fits_among slots job work = list_all (are_alike work) (works_among slots job)
 
+-- the test of a denominator against the grain of its job
+abbrev pub fits_test : ℕ → ℕ → Bool
+fits_test den grain = (den == grain) || (den == 1) || (grain == 1)
+
 abbrev pub job_of : List (List ℕ) → Field → Field → Field → Field → Result Entry Spot
 job_of names a b c d = do
   name ← new_name_of names a

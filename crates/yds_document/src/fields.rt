@@ -1,7 +1,8 @@
 // The fields of a line: how many there are, and the numbers and fractions that they spell.
 ghost use Rattle.std.specs.Prelude.{◌≡◌, ◌≤◌, ◌∷◌, [], IfOk, ◌<◌, ◌^◌};
 ghost use Rattle.yds_model.specs.Reading.{past_end, number_in, fraction_in};
-ghost use Rattle.yds_model.specs.declared.limits.TheConstants.{MAX_WHOLE};
+ghost use Rattle.yds_model.specs.declared.limits.TheConstants.{MAX_WHOLE, MAX_DENOMINATOR};
+ghost use Rattle.yds_fraction.specs.Mixed.{IsMixed};
 ghost use Rattle.yds_text.specs.Read.{field_read};
 ghost use Rattle.yds_document.specs.Given.{Gives, Counts, ReadsNext, EndsThere};
 
@@ -34,9 +35,15 @@ pub(crate) fn small_in(field: Field<'_>, least: u32, most: u32) -> Result<u32, L
 pub(crate) fn fraction_in(field: Field<'_>, most: u64) -> Result<Amount, LineFault>
     requires { most ≤ MAX_WHOLE }
     ensures gives { Gives (λ x. x) result (fraction_in most (field_read field.entry)) }
+    ensures within { IfOk result (λ x. x.whole ≤ most) }
+    ensures kept { IfOk result (IsMixed MAX_DENOMINATOR) }
 {
     match mixed(field, most) {
-        Ok(value) => Ok(value),
+        Ok(value) => {
+            // Reading a part shows that the fraction is within its limits.
+            let _den = value.den();
+            Ok(value)
+        }
         Err(fault) => Err(LineFault::of_number(field.column, fault)),
     }
 }

@@ -6,7 +6,7 @@ ghost use Rattle.yds_model.specs.Spelling.{is_name};
 ghost use Rattle.yds_instance.specs.Named.{number_of};
 ghost use Rattle.yds_text.specs.Read.{field_read};
 ghost use Rattle.yds_document.specs.Given.{Gives};
-ghost use Rattle.yds_document.specs.Kinds.{new_name_of, known_job_of, job_of, member_of};
+ghost use Rattle.yds_document.specs.Kinds.{new_name_of, known_job_of, fits_among, fits_test, job_of, member_of, slot_of};
 
 use crate::fields::{fraction_in, number_in, small_in};
 use crate::grid::Grid;
@@ -15,10 +15,11 @@ use yds_certificate::Piece;
 use yds_fraction::Amount;
 use yds_instance::Instance;
 use yds_model::limits::{
-    MAX_ENERGY, MAX_GRID, MAX_LEVEL_LENGTH, MAX_LEVEL_WORK, MAX_ROUNDED, MAX_TICKS, MAX_TIME,
-    MAX_WORK,
+    MAX_ENERGY, MAX_GRID, MAX_LEVEL_LENGTH, MAX_LEVEL_WORK, MAX_ROUNDED, MAX_SLOT_WORK,
+    MAX_TICKS, MAX_TIME, MAX_WORK,
 };
 use yds_model::{JobRow, Reason};
+use yds_slots::{Schedule, Slot};
 use yds_text::{Field, name};
 
 // A name that no job has yet.
@@ -72,6 +73,56 @@ pub(crate) fn job_in<'a>(
     } else {
         Err(LineFault::at(deadline.column, Reason::EmptyWindow))
     }
+}
+
+// Whether the work is alike with each work that the schedule gives the job.
+fn fits_grain(schedule: &Schedule, job: u32, work: Amount) -> bool
+    requires { job < schedule.now.jobs }
+    ensures { result ≡ fits_among schedule.now.slots job work }
+{
+    // Reading the slots shows that the works of a job are alike.
+    let _slots = schedule.slots();
+    is_in_grain(work.den(), schedule.grain(job))
+}
+
+// Whether a work of this denominator fits the grain of its job.
+fn is_in_grain(den: u64, grain: u64) -> bool
+    ensures { result ≡ fits_test den grain }
+{
+    den == grain || den == 1 || grain == 1
+}
+
+// A slot, whose work is alike with those that its job got before.
+pub(crate) fn slot_in(
+    instance: &Instance<'_>,
+    schedule: &Schedule,
+    name: Field<'_>,
+    from: Field<'_>,
+    to: Field<'_>,
+    work: Field<'_>,
+) -> Result<Slot, LineFault>
+    requires { schedule.now.jobs ≡ length instance.now.jobs }
+    ensures gives { Gives (λ slot. SlotEntry slot) result
+        (slot_of instance.now.names schedule.now.slots (field_read name.entry) (field_read from.entry) (field_read to.entry) (field_read work.entry)) }
+    ensures known { IfOk result (λ slot. slot.job < length instance.now.jobs) }
+    ensures grain { IfOk result (λ slot. IsTrue (fits_among schedule.now.slots slot.job slot.work)) }
+{
+    let job = known_job(instance, name)?;
+    let begin = fraction_in(from, u64::from(MAX_TIME))?;
+    let end = fraction_in(to, u64::from(MAX_TIME))?;
+    let amount = fraction_in(work, MAX_SLOT_WORK)?;
+    if !begin.alike(end) {
+        return Err(LineFault::at(to.column, Reason::MixedEnds));
+    }
+    if !fits_grain(schedule, job, amount) {
+        return Err(LineFault::at(work.column, Reason::MixedGrain));
+    }
+    Ok(Slot {
+        job,
+        from: begin,
+        to: end,
+        work: amount,
+    })
 }
 
 // The work and the length of a level.
