@@ -1,5 +1,5 @@
 -- A hull is the one that `hull_of` computes: a point is in it just where it lies above no line between an earlier and a later point.
-use Rattle.std.proofs.Common.{◌≡◌, ℕ, suc, ◌+◌, ◌-◌, ◌*◌, ◌<◌, ◌≤◌, ◌⊎◌, inl, inr, List, [], ◌∷◌, ◌++◌, length, Bool, true, false, refl, sym, ap, ◌∙◌, subst, arith, append_assoc, add-one}
+use Rattle.std.proofs.Common.{◌≡◌, ℕ, suc, ◌+◌, ◌-◌, ◌*◌, ◌<◌, ◌≤◌, inl, inr, List, [], ◌∷◌, ◌++◌, length, Bool, true, false, refl, sym, ap, ◌∙◌, subst, arith, append_assoc, add-one}
 use Rattle.std.specs.Prelude.{if◌then◌else◌}
 use Rattle.std.specs.List.{All, Contains, list_any, slice_index_or}
 use Rattle.std.proofs.lemmas.Bool.{lt-ltb, le-ltb}
@@ -9,8 +9,8 @@ use Rattle.std.proofs.lemmas.List.{length-append, get_or_append_left, get_or-app
 use Rattle.std.proofs.Math.Seq.{get_or-append_seam}
 use Rattle.std.proofs.Math.Nat.{le_refl, mul-le-mul_left, le_of_mul-le-mul_left}
 use Rattle.yds_model.specs.Laws.{HullIsComputed}
-use Rattle.yds_model.specs.Table.{Point, point_at, AreRising, IsAbove, GoesOn, IsHullOf, is_above, is_left_out, hull_after, hull_of}
-use Rattle.yds_model.proofs.Hull.{IsOver, RisesFrom, rises_from, rises_below, next_rises, hull_under}
+use Rattle.yds_model.specs.Table.{Point, point_at, IsAbove, GoesOn, is_above, is_left_out, hull_after}
+use Rattle.yds_model.proofs.Hull.{IsOver, RisesFrom, rises_from, hull_under}
 
 -- # A point of the hull
 

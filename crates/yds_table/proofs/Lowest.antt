@@ -1,0 +1,52 @@
+-- A table with one more point.
+use Rattle.std.proofs.Common.{◌≡◌, ℕ, ◌-◌, ◌<◌, ◌≤◌, inl, inr, List, [], ◌∷◌, ◌++◌, length, suc, ap, ◌∙◌, subst, arith}
+use Rattle.std.proofs.lemmas.Bool.{cases_lt}
+use Rattle.std.proofs.lemmas.List.{length-append, take_all, take-append-le, get_or_append_left}
+use Rattle.std.proofs.lemmas.List.Elements.{All-push}
+use Rattle.yds_model.specs.declared.limits.TheConstants.{MAX_POINTS, MAX_GAPS}
+use Rattle.yds_model.specs.Divisor.{multiple_of_all}
+use Rattle.yds_model.specs.Table.{Point, no_point, point_at, AreRising, gaps_of, hull_multiple}
+use Rattle.yds_hull.specs.Limits.{IsPoint}
+use Rattle.yds_table.specs.Table.{IsPointTable, HasFineGaps, last_of}
+use Rattle.yds_table.specs.Gaps.{IsMultipleOf}
+use Rattle.yds_table.specs.Kept.{IsLowerHull, IsKept}
+
+pub rising_pushed : (points : List Point) (point : Point) → AreRising points → (last_of points).speed < point.speed → AreRising (points ++ point ∷ [])
+rising_pushed [] point rising above = tt
+rising_pushed (only ∷ []) point rising above = (above, tt)
+rising_pushed (first ∷ next ∷ points) point rising above =
+    let here : suc (suc (length points)) - 1 ≡ suc (suc (length points) - 1) = omega arith in
+    let P : ℕ → Type 0 = λ i. (point_at (first ∷ next ∷ points) i).speed < point.speed in
+    (rising.0, rising_pushed (next ∷ points) point rising.1 (subst P here above))
+
+pub gaps_pushed : (points : List Point) (point : Point) → HasFineGaps points → hull_multiple (points ++ point ∷ []) ≤ MAX_GAPS → HasFineGaps (points ++ point ∷ [])
+gaps_pushed points point fine last n some within = elim (cases_lt (length points) n) [
+  | inl whole ↦ rw (take_all n (points ++ point ∷ []) (omega (arith, length-append points (point ∷ [])))) last
+  | inr front ↦ rw (take-append-le n points (point ∷ []) front) (fine n some front)
+]
+
+pub table_pushed : (points : List Point) (point : Point) → IsPointTable points → IsPoint point → (last_of points).speed < point.speed → length points < MAX_POINTS →
+    hull_multiple (points ++ point ∷ []) ≤ MAX_GAPS → IsPointTable (points ++ point ∷ [])
+table_pushed points point table limits above room last = record {
+  table = record {
+    some = omega (arith, length-append points (point ∷ []));
+    idle = rw (get_or_append_left points (point ∷ []) no_point 0 table.table.some) table.table.idle;
+    rising = rising_pushed points point table.table.rising above;
+  };
+  few = omega (arith, length-append points (point ∷ []));
+  limits = All-push IsPoint points point table.limits limits;
+  gaps = gaps_pushed points point table.gaps last;
+}
+
+-- the fields of the table with the point
+pub kept_pushed : (points : List Point) (point : Point) (hull : List Point) (gaps : ℕ) → IsPointTable points → IsPoint point → (last_of points).speed < point.speed →
+    length points < MAX_POINTS → IsLowerHull (points ++ point ∷ []) hull → IsMultipleOf hull gaps → IsKept (points ++ point ∷ []) hull gaps
+kept_pushed points point hull gaps table limits above room lower multiple =
+    let whole : gaps ≡ hull_multiple (points ++ point ∷ []) = multiple.is ∙ ap (λ (all : List Point). multiple_of_all (gaps_of all)) lower.computed in
+    record {
+      table = table_pushed points point table limits above room (rw (← whole) multiple.within);
+      lower = lower;
+      is_multiple = whole;
+      some = multiple.some;
+      within = multiple.within;
+    }
