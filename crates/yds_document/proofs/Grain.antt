@@ -8,9 +8,8 @@ use Rattle.yds_model.specs.Scale.{Fraction}
 use Rattle.yds_model.specs.Slot.{WrittenSlot, written_slot_at, no_written_slot, IsSolid}
 use Rattle.yds_model.specs.Audit.{AreAlike, AreSlots, grain_of}
 use Rattle.yds_model.specs.Reading.{are_alike}
-use Rattle.yds_slots.specs.Schedule.{FitsGrain}
 use Rattle.yds_slots.proofs.Grains.{grain_found, grain_some}
-use Rattle.yds_document.specs.Kinds.{fits_among, fits_test}
+use Rattle.yds_document.specs.Kinds.{fits_among, fits_test, FitsGrainOf}
 
 -- # The grain is at least each denominator of the job's works
 
@@ -101,5 +100,5 @@ fits_parts den grain false true c same one plain fits = inl (eqb-true den 1 one)
 fits_parts den grain false false true same one plain fits = inr (inl (eqb-true grain 1 plain))
 fits_parts den grain false false false same one plain fits = absurd (false≢true fits)
 
-pub fits_grain : (slots : List WrittenSlot) (slot : WrittenSlot) → fits_test slot.work.den (grain_of slots slot.job) ≡ true → FitsGrain slots slot
-fits_grain slots slot fits = fits_parts slot.work.den (grain_of slots slot.job) _ _ _ refl refl refl fits
+pub fits_grain : (slots : List WrittenSlot) (job : ℕ) (work : Fraction) → fits_test work.den (grain_of slots job) ≡ true → FitsGrainOf slots job work
+fits_grain slots job work fits = fits_parts work.den (grain_of slots job) _ _ _ refl refl refl fits

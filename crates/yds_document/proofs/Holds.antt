@@ -7,20 +7,22 @@ use Rattle.yds_model.specs.Scale.{Fraction}
 use Rattle.yds_model.specs.Slot.{WrittenSlot}
 use Rattle.yds_model.specs.Piece.{Piece}
 use Rattle.yds_model.specs.Level.{Level}
+use Rattle.yds_model.specs.Table.{Point}
 use Rattle.yds_model.specs.Document.{Grid}
-use Rattle.yds_model.specs.Entry.{Entry, JobEntry, SlotEntry, LevelEntry, PieceEntry, MemberEntry, TicksEntry, GridEntry, EnergyEntry, name_said, job_said, slot_said, piece_said, member_said, ticks_said, grid_said, energy_said, levels_said}
+use Rattle.yds_model.specs.Entry.{Entry, JobEntry, PointEntry, SlotEntry, LevelEntry, PieceEntry, MemberEntry, TicksEntry, GridEntry, EnergyEntry, name_said, job_said, point_said, slot_said, piece_said, member_said, ticks_said, grid_said, energy_said, levels_said}
 use Rattle.yds_certificate.specs.Certificate.{with_last}
 use Rattle.yds_certificate.specs.Level.{with_piece, with_member}
 use Rattle.yds_instance.specs.Named.{Named}
 use Rattle.yds_slots.specs.Schedule.{WrittenSchedule}
 use Rattle.yds_document.specs.declared.draft.Draft.{Draft}
-use Rattle.yds_document.specs.Draft.{Holds, Takes, items_of}
+use Rattle.yds_document.specs.Draft.{Holds, Takes, items_of, points_of}
 use Rattle.yds_document.proofs.Said.{quiet, said, levels_quiet, levels_level, levels_piece, levels_member}
 
 pub holds_grid : (d : Draft) (grid : Grid) → d.grid ≡ None → Takes d (record d { grid = Some grid }) (GridEntry grid)
 holds_grid d grid first = λ earlier holds. record {
   names = quiet name_said earlier (GridEntry grid) _ refl holds.names;
   jobs = quiet job_said earlier (GridEntry grid) _ refl holds.jobs;
+  points = quiet point_said earlier (GridEntry grid) _ refl holds.points;
   slots = quiet slot_said earlier (GridEntry grid) _ refl holds.slots;
   levels = levels_quiet earlier (GridEntry grid) refl refl refl ∙ holds.levels;
   pieces = ap length (quiet piece_said earlier (GridEntry grid) _ refl refl) ∙ holds.pieces;
@@ -34,6 +36,7 @@ pub holds_energy : (d : Draft) (energy : Fraction) → d.energy ≡ None → Tak
 holds_energy d energy first = λ earlier holds. record {
   names = quiet name_said earlier (EnergyEntry energy) _ refl holds.names;
   jobs = quiet job_said earlier (EnergyEntry energy) _ refl holds.jobs;
+  points = quiet point_said earlier (EnergyEntry energy) _ refl holds.points;
   slots = quiet slot_said earlier (EnergyEntry energy) _ refl holds.slots;
   levels = levels_quiet earlier (EnergyEntry energy) refl refl refl ∙ holds.levels;
   pieces = ap length (quiet piece_said earlier (EnergyEntry energy) _ refl refl) ∙ holds.pieces;
@@ -47,6 +50,7 @@ pub holds_ticks : (d : Draft) (ticks : ℕ) → d.ticks ≡ None → Takes d (re
 holds_ticks d ticks first = λ earlier holds. record {
   names = quiet name_said earlier (TicksEntry ticks) _ refl holds.names;
   jobs = quiet job_said earlier (TicksEntry ticks) _ refl holds.jobs;
+  points = quiet point_said earlier (TicksEntry ticks) _ refl holds.points;
   slots = quiet slot_said earlier (TicksEntry ticks) _ refl holds.slots;
   levels = levels_quiet earlier (TicksEntry ticks) refl refl refl ∙ holds.levels;
   pieces = ap length (quiet piece_said earlier (TicksEntry ticks) _ refl refl) ∙ holds.pieces;
@@ -61,6 +65,7 @@ pub holds_job : (d : Draft) (instance : Named) (schedule : WrittenSchedule) (nam
 holds_job d instance schedule name job named same = λ earlier holds. record {
   names = said name_said earlier (JobEntry name job) name _ refl holds.names ∙ sym (ap (λ i. i.names) named);
   jobs = said job_said earlier (JobEntry name job) job _ refl holds.jobs ∙ sym (ap (λ i. i.jobs) named);
+  points = quiet point_said earlier (JobEntry name job) _ refl holds.points;
   slots = quiet slot_said earlier (JobEntry name job) _ refl holds.slots ∙ sym same;
   levels = levels_quiet earlier (JobEntry name job) refl refl refl ∙ holds.levels;
   pieces = ap length (quiet piece_said earlier (JobEntry name job) _ refl refl) ∙ holds.pieces;
@@ -74,6 +79,7 @@ pub holds_slot : (d : Draft) (schedule : WrittenSchedule) (slot : WrittenSlot) �
 holds_slot d schedule slot more = λ earlier holds. record {
   names = quiet name_said earlier (SlotEntry slot) _ refl holds.names;
   jobs = quiet job_said earlier (SlotEntry slot) _ refl holds.jobs;
+  points = quiet point_said earlier (SlotEntry slot) _ refl holds.points;
   slots = said slot_said earlier (SlotEntry slot) slot _ refl holds.slots ∙ sym more;
   levels = levels_quiet earlier (SlotEntry slot) refl refl refl ∙ holds.levels;
   pieces = ap length (quiet piece_said earlier (SlotEntry slot) _ refl refl) ∙ holds.pieces;
@@ -83,11 +89,26 @@ holds_slot d schedule slot more = λ earlier holds. record {
   energy = quiet energy_said earlier (SlotEntry slot) _ refl holds.energy;
 }
 
+pub holds_point : (d : Draft) (table : Option (List Point)) (point : Point) → points_of table ≡ points_of d.table ++ point ∷ [] → Takes d (record d { table = table }) (PointEntry point)
+holds_point d table point more = λ earlier holds. record {
+  names = quiet name_said earlier (PointEntry point) _ refl holds.names;
+  jobs = quiet job_said earlier (PointEntry point) _ refl holds.jobs;
+  points = said point_said earlier (PointEntry point) point _ refl holds.points ∙ sym more;
+  slots = quiet slot_said earlier (PointEntry point) _ refl holds.slots;
+  levels = levels_quiet earlier (PointEntry point) refl refl refl ∙ holds.levels;
+  pieces = ap length (quiet piece_said earlier (PointEntry point) _ refl refl) ∙ holds.pieces;
+  members = ap length (quiet member_said earlier (PointEntry point) _ refl refl) ∙ holds.members;
+  ticks = quiet ticks_said earlier (PointEntry point) _ refl holds.ticks;
+  grid = quiet grid_said earlier (PointEntry point) _ refl holds.grid;
+  energy = quiet energy_said earlier (PointEntry point) _ refl holds.energy;
+}
+
 pub holds_level : (d : Draft) (levels : List Level) (work len : ℕ) → levels ≡ d.certificate ++ record { work = work; length = len; pieces = []; members = [] } ∷ []
     → Takes d (record d { certificate = levels }) (LevelEntry work len)
 holds_level d levels work len more = λ earlier holds. record {
   names = quiet name_said earlier (LevelEntry work len) _ refl holds.names;
   jobs = quiet job_said earlier (LevelEntry work len) _ refl holds.jobs;
+  points = quiet point_said earlier (LevelEntry work len) _ refl holds.points;
   slots = quiet slot_said earlier (LevelEntry work len) _ refl holds.slots;
   levels = levels_level earlier work len ∙ ap (λ l. l ++ record { work = work; length = len; pieces = []; members = [] } ∷ []) holds.levels ∙ sym more;
   pieces = ap length (quiet piece_said earlier (LevelEntry work len) _ refl refl) ∙ holds.pieces;
@@ -102,6 +123,7 @@ pub holds_piece : (d : Draft) (levels : List Level) (piece : Piece) → levels �
 holds_piece d levels piece more = λ earlier holds. record {
   names = quiet name_said earlier (PieceEntry piece) _ refl holds.names;
   jobs = quiet job_said earlier (PieceEntry piece) _ refl holds.jobs;
+  points = quiet point_said earlier (PieceEntry piece) _ refl holds.points;
   slots = quiet slot_said earlier (PieceEntry piece) _ refl holds.slots;
   levels = levels_piece earlier piece ∙ ap (with_last (with_piece piece)) holds.levels ∙ sym more;
   pieces = ap length (said piece_said earlier (PieceEntry piece) piece _ refl refl) ∙ length_push _ _ ∙ ap (λ n. n + 1) holds.pieces;
@@ -116,6 +138,7 @@ pub holds_member : (d : Draft) (levels : List Level) (job : ℕ) → levels ≡ 
 holds_member d levels job more = λ earlier holds. record {
   names = quiet name_said earlier (MemberEntry job) _ refl holds.names;
   jobs = quiet job_said earlier (MemberEntry job) _ refl holds.jobs;
+  points = quiet point_said earlier (MemberEntry job) _ refl holds.points;
   slots = quiet slot_said earlier (MemberEntry job) _ refl holds.slots;
   levels = levels_member earlier job ∙ ap (with_last (with_member job)) holds.levels ∙ sym more;
   pieces = ap length (quiet piece_said earlier (MemberEntry job) _ refl refl) ∙ holds.pieces;

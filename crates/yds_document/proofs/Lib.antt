@@ -5,3 +5,5 @@ pub mod Grown
 pub mod Told
 pub mod Grain
 pub mod Within
+pub mod Parts
+pub mod Rising

@@ -13,8 +13,8 @@ kept_one none x = Ok (if none then of_whole x.whole else x)
 
 kept_parts : (within some few less none : Bool) (x y : Fraction) → (if within && some && few && less then kept_one none x else Err faults.OutOfRange) ≡ Ok y
     → (within ≡ true) × (y.whole ≡ x.whole)
-kept_parts true true true true true x y is = (refl, sym (ap (λ (z : Fraction). z.whole) cc))
-kept_parts true true true true false x y is = (refl, sym (ap (λ (z : Fraction). z.whole) cc))
+kept_parts true true true true true x y is = let same : of_whole x.whole ≡ y = cc in (refl, sym (ap (λ (z : Fraction). z.whole) same))
+kept_parts true true true true false x y is = let same : x ≡ y = cc in (refl, sym (ap (λ (z : Fraction). z.whole) same))
 kept_parts true true true false none x y is = cc
 kept_parts true true false less none x y is = cc
 kept_parts true false few less none x y is = cc

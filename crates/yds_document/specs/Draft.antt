@@ -3,8 +3,9 @@ use Rattle.std.specs.Prelude.{◌≡◌, ℕ, ◌<◌, ◌≤◌, List, [], ◌�
 use Rattle.std.specs.List.{All, filter_map}
 use Rattle.yds_model.specs.declared.limits.TheConstants.{MAX_TICKS}
 use Rattle.yds_model.specs.Level.{all_pieces, all_members}
+use Rattle.yds_model.specs.Table.{Point}
 use Rattle.yds_model.specs.Lines.{Field}
-use Rattle.yds_model.specs.Entry.{Entry, name_said, job_said, slot_said, piece_said, member_said, ticks_said, grid_said, energy_said, levels_said}
+use Rattle.yds_model.specs.Entry.{Entry, name_said, job_said, point_said, slot_said, piece_said, member_said, ticks_said, grid_said, energy_said, levels_said}
 use Rattle.yds_model.specs.Reading.{Spot, Kind, ◌>>=◌, count_fields, fields_wanted, read_kind}
 use Rattle.yds_document.specs.declared.draft.Draft.{Draft}
 use Rattle.yds_document.specs.declared.line_fault.LineFault.{LineFault}
@@ -14,6 +15,11 @@ use Rattle.yds_document.specs.Given.{Fails}
 abbrev pub items_of : {A : Type 0} → Option A → List A
 items_of None = []
 items_of (Some x) = x ∷ []
+
+-- the points of a table, where there is one
+abbrev pub points_of : Option (List Point) → List Point
+points_of None = []
+points_of (Some points) = points
 
 -- what a draft keeps by itself
 pub record IsDraft (draft : Draft) : Type 0 where
@@ -27,6 +33,7 @@ pub record IsDraft (draft : Draft) : Type 0 where
 pub record Holds (draft : Draft) (entries : List Entry) : Type 0 where
   pub names : filter_map name_said entries ≡ draft.instance.names
   pub jobs : filter_map job_said entries ≡ draft.instance.jobs
+  pub points : filter_map point_said entries ≡ points_of draft.table
   pub slots : filter_map slot_said entries ≡ draft.schedule.slots
   pub levels : levels_said entries ≡ draft.certificate
   pub pieces : length (filter_map piece_said entries) ≡ draft.pieces

@@ -2,3 +2,4 @@ pub mod Grid
 pub mod Given
 pub mod Kinds
 pub mod Draft
+pub mod Points

@@ -1,23 +1,30 @@
 // A document that is being read: what its lines said so far.
 ghost use Rattle.std.specs.Prelude.{◌≡◌, ◌<◌, ◌≤◌, [], ◌∷◌, length, None, OnOk, IsTrue, IfOk};
-ghost use Rattle.yds_model.specs.declared.limits.TheConstants.{MAX_JOBS, MAX_SLOTS, MAX_LEVELS, MAX_PIECES, MAX_MEMBERS, MAX_LEVEL_WORK, MAX_LEVEL_LENGTH, MAX_TICKS};
+ghost use Rattle.yds_model.specs.declared.limits.TheConstants.{MAX_JOBS, MAX_POINTS, MAX_SLOTS, MAX_LEVELS, MAX_PIECES, MAX_MEMBERS, MAX_LEVEL_WORK, MAX_LEVEL_LENGTH, MAX_TICKS};
 ghost use Rattle.yds_model.specs.Spelling.{is_name};
-ghost use Rattle.yds_model.specs.Entry.{JobEntry, SlotEntry, LevelEntry, PieceEntry, MemberEntry, TicksEntry, GridEntry, EnergyEntry};
+ghost use Rattle.yds_model.specs.Entry.{JobEntry, PointEntry, SlotEntry, LevelEntry, PieceEntry, MemberEntry, TicksEntry, GridEntry, EnergyEntry};
 ghost use Rattle.yds_instance.specs.Named.{number_of};
 ghost use Rattle.yds_slots.specs.Schedule.{FitsGrain};
-ghost use Rattle.yds_document.specs.Draft.{IsDraft, Holds, Takes};
+ghost use Rattle.yds_document.specs.Draft.{IsDraft, Holds, Takes, points_of};
+ghost use Rattle.yds_document.specs.Given.{Gives};
+ghost use Rattle.yds_document.specs.Kinds.{point_after};
 
 use crate::grid::Grid;
+use crate::line_fault::LineFault;
+use crate::points::{first_point, next_point};
 use std::alloc::Global;
 use yds_certificate::{Certificate, Level, Piece};
 use yds_fraction::Amount;
 use yds_instance::Instance;
 use yds_model::{JobRow, Memory};
+use yds_hull::Point;
 use yds_slots::{Schedule, Slot};
+use yds_table::Table;
 
 #[derive(Drop)]
 pub(crate) struct Draft<'a> {
     pub(crate) instance: Instance<'a>,
+    pub(crate) table: Option<Table>,
     pub(crate) schedule: Schedule,
     pub(crate) certificate: Certificate,
     // How many pieces the levels have together.
@@ -38,6 +45,7 @@ impl<'a> Draft<'a> {
         let schedule = Schedule::new(alloc, 0)?;
         Ok(Draft {
             instance: Instance::new(alloc),
+            table: None,
             schedule,
             certificate: Certificate::new(alloc),
             pieces: 0,
@@ -62,6 +70,31 @@ impl<'a> Draft<'a> {
             Ok(_) => Ok(()),
             // The name is new and there is room: only memory can be wanting.
             Err(_) => Err(Memory),
+        }
+    }
+
+    // Puts the point last, where it may stand there with its speed in this column.
+    pub(crate) fn add_point(
+        &mut self,
+        alloc: Global,
+        point: Point,
+        column: u32,
+    ) -> Result<(), LineFault>
+        requires kept { IsDraft self.old }
+        requires room { length (points_of self.old.table) < MAX_POINTS }
+        ensures kept { OnOk result (IsDraft self.new) }
+        ensures gives { Gives (λ done. PointEntry point) result (point_after (points_of self.old.table) point column) }
+        ensures takes { OnOk result (Takes self.old self.new (PointEntry point)) }
+    {
+        match &mut self.table {
+            Some(table) => {
+                next_point(table, point, column)?;
+                Ok(())
+            }
+            None => {
+                self.table = Some(first_point(alloc, point, column)?);
+                Ok(())
+            }
         }
     }
 

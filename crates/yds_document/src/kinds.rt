@@ -1,21 +1,26 @@
 // What a line of each kind says, by its fields and by what the lines before it said.
-ghost use Rattle.std.specs.Prelude.{◌≡◌, ◌<◌, ◌≤◌, ◌∷◌, [], length, IfOk, IsTrue, None};
+ghost use Rattle.std.specs.Prelude.{◌≡◌, ◌<◌, ◌≤◌, ◌/◌, ◌∷◌, [], length, IfOk, IsTrue, None};
 ghost use Rattle.yds_model.specs.Entry.{JobEntry, LevelEntry, PieceEntry, MemberEntry, TicksEntry, GridEntry, EnergyEntry, SlotEntry};
 ghost use Rattle.yds_model.specs.Reading.{no_field, read_level, read_piece, read_ticks, read_grid, read_energy};
+ghost use Rattle.yds_model.specs.declared.limits.TheConstants.{MAX_DENOMINATOR, MAX_WHOLE};
+ghost use Rattle.yds_model.specs.Scale.{of_parts};
+ghost use Rattle.yds_fraction.specs.Mixed.{IsMixed};
 ghost use Rattle.yds_model.specs.Spelling.{is_name};
 ghost use Rattle.yds_instance.specs.Named.{number_of};
+ghost use Rattle.yds_slots.specs.Schedule.{FitsGrain};
 ghost use Rattle.yds_text.specs.Read.{field_read};
 ghost use Rattle.yds_document.specs.Given.{Gives};
-ghost use Rattle.yds_document.specs.Kinds.{new_name_of, known_job_of, fits_among, fits_test, job_of, member_of, slot_of};
+ghost use Rattle.yds_document.specs.Kinds.{new_name_of, known_job_of, fits_among, fits_test, FitsGrainOf, job_of, member_of, slot_of, run_after, point_of};
 
 use crate::fields::{fraction_in, number_in, small_in};
 use crate::grid::Grid;
 use crate::line_fault::LineFault;
 use yds_certificate::Piece;
 use yds_fraction::Amount;
+use yds_hull::Point;
 use yds_instance::Instance;
 use yds_model::limits::{
-    MAX_ENERGY, MAX_GRID, MAX_LEVEL_LENGTH, MAX_LEVEL_WORK, MAX_ROUNDED, MAX_SLOT_WORK,
+    MAX_ENERGY, MAX_POINT_POWER, MAX_POINT_SPEED, MAX_GRID, MAX_LEVEL_LENGTH, MAX_LEVEL_WORK, MAX_ROUNDED, MAX_SLOT_WORK,
     MAX_TICKS, MAX_TIME, MAX_WORK,
 };
 use yds_model::{JobRow, Reason};
@@ -38,7 +43,7 @@ fn new_name<'a>(instance: &Instance<'a>, field: Field<'a>) -> Result<&'a str, Li
 }
 
 // The number of the job of this name.
-fn known_job(instance: &Instance<'_>, field: Field<'_>) -> Result<u32, LineFault>
+pub(crate) fn known_job(instance: &Instance<'_>, field: Field<'_>) -> Result<u32, LineFault>
     ensures gives { Gives (λ job. job) result (known_job_of instance.now.names (field_read field.entry)) }
     ensures known { IfOk result (λ job. job < length instance.now.jobs) }
 {
@@ -78,7 +83,8 @@ pub(crate) fn job_in<'a>(
 // Whether the work is alike with each work that the schedule gives the job.
 fn fits_grain(schedule: &Schedule, job: u32, work: Amount) -> bool
     requires { job < schedule.now.jobs }
-    ensures { result ≡ fits_among schedule.now.slots job work }
+    ensures value { result ≡ fits_among schedule.now.slots job work }
+    ensures fits { IsTrue result → FitsGrainOf schedule.now.slots job work }
 {
     // Reading the slots shows that the works of a job are alike.
     let _slots = schedule.slots();
@@ -105,7 +111,7 @@ pub(crate) fn slot_in(
     ensures gives { Gives (λ slot. SlotEntry slot) result
         (slot_of instance.now.names schedule.now.slots (field_read name.entry) (field_read from.entry) (field_read to.entry) (field_read work.entry)) }
     ensures known { IfOk result (λ slot. slot.job < length instance.now.jobs) }
-    ensures grain { IfOk result (λ slot. IsTrue (fits_among schedule.now.slots slot.job slot.work)) }
+    ensures grain { IfOk result (λ slot. FitsGrain schedule.now.slots slot) }
 {
     let job = known_job(instance, name)?;
     let begin = fraction_in(from, u64::from(MAX_TIME))?;
@@ -123,6 +129,62 @@ pub(crate) fn slot_in(
         to: end,
         work: amount,
     })
+}
+
+// A run from one tick to another at a speed: the slot of that speed times its time.
+pub(crate) fn run_in(
+    schedule: &Schedule,
+    ticks: u32,
+    job: u32,
+    fields: (Field<'_>, Field<'_>, Field<'_>),
+) -> Result<Slot, LineFault>
+    requires known { job < schedule.now.jobs }
+    requires ticks { (1 ≤ ticks) × (ticks ≤ MAX_TICKS) }
+    ensures gives { Gives (λ slot. SlotEntry slot) result
+        (run_after schedule.now.slots ticks job (field_read fields.entry.0) (field_read fields.entry.1) (field_read fields.entry.2)) }
+    ensures job { IfOk result (λ slot. slot.job ≡ job) }
+    ensures grain { IfOk result (λ slot. FitsGrain schedule.now.slots slot) }
+{
+    let (from, to, speed) = fields;
+    let most = u64::from(MAX_TIME) * u64::from(ticks);
+    let begin = number_in(from, 0, most)?;
+    let end = number_in(to, 0, most)?;
+    let rate = number_in(speed, 0, u64::from(MAX_WORK))?;
+    let parts = u128::from(rate) * u128::from(end.saturating_sub(begin));
+    if parts / u128::from(ticks) > u128::from(MAX_SLOT_WORK) {
+        return Err(LineFault::at(speed.column, Reason::OutOfRange));
+    }
+    let work = of_parts(parts, ticks);
+    if !fits_grain(schedule, job, work) {
+        return Err(LineFault::at(speed.column, Reason::MixedGrain));
+    }
+    Ok(Slot {
+        job,
+        from: of_parts(u128::from(begin), ticks),
+        to: of_parts(u128::from(end), ticks),
+        work,
+    })
+}
+
+// So many parts of one tick: whole where no part is left over.
+fn of_parts(parts: u128, ticks: u32) -> Amount
+    requires ticks { (1 ≤ ticks) × (ticks ≤ MAX_TICKS) }
+    requires whole { parts / ticks ≤ MAX_WHOLE }
+    ensures value { result ≡ of_parts parts ticks }
+    ensures whole { result.whole ≡ parts / ticks }
+    ensures kept { IsMixed MAX_DENOMINATOR result }
+{
+    let den = u128::from(ticks);
+    Amount::new((parts / den) as u64, (parts % den) as u64, u64::from(ticks))
+}
+
+// A point, of whatever speed.
+pub(crate) fn point_in(speed: Field<'_>, power: Field<'_>) -> Result<Point, LineFault>
+    ensures { Gives (λ point. point) result (point_of (field_read speed.entry) (field_read power.entry)) }
+{
+    let speed = small_in(speed, 0, MAX_POINT_SPEED)?;
+    let power = small_in(power, 0, MAX_POINT_POWER)?;
+    Ok(Point::new(speed, power))
 }
 
 // The work and the length of a level.

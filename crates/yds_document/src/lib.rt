@@ -10,6 +10,7 @@ mod kinds;
 pub mod line;
 mod lines;
 mod line_fault;
+mod points;
 mod printing;
 mod rows;
 
