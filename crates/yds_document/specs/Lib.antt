@@ -3,3 +3,4 @@ pub mod Given
 pub mod Kinds
 pub mod Draft
 pub mod Points
+pub mod LineKinds

@@ -8,6 +8,7 @@ mod fields;
 mod grid;
 mod kinds;
 pub mod line;
+mod line_kind;
 mod lines;
 mod line_fault;
 mod points;
