@@ -7,3 +7,4 @@ pub mod Grain
 pub mod Within
 pub mod Parts
 pub mod Rising
+pub mod Placed

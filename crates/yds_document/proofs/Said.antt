@@ -36,7 +36,7 @@ with_entry e level = record {
 }
 
 -- an entry is a level, or its lines belong to the level before it
-split : (e : Entry) → ((work : ℕ) × (len : ℕ) × (e ≡ LevelEntry work len)) ⊎ (is_level e ≡ false)
+pub split : (e : Entry) → ((work : ℕ) × (len : ℕ) × (e ≡ LevelEntry work len)) ⊎ (is_level e ≡ false)
 split (LevelEntry work len) = inl (work, len, refl)
 split (JobEntry name job) = inr refl
 split (PointEntry point) = inr refl
@@ -47,7 +47,7 @@ split (TicksEntry ticks) = inr refl
 split (GridEntry grid) = inr refl
 split (EnergyEntry energy) = inr refl
 
-levels_past : (e : Entry) (es : List Entry) → is_level e ≡ false → levels_said (e ∷ es) ≡ levels_said es
+pub levels_past : (e : Entry) (es : List Entry) → is_level e ≡ false → levels_said (e ∷ es) ≡ levels_said es
 levels_past (LevelEntry work len) es other = absurd (true≢false other)
 levels_past (JobEntry name job) es other = refl
 levels_past (PointEntry point) es other = refl

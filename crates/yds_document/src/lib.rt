@@ -2,6 +2,7 @@
 //! energy, read from bytes and printed as text.
 #![tactic(auto)]
 
+mod dispatch;
 mod draft;
 mod fault;
 mod fields;
