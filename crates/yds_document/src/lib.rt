@@ -3,6 +3,7 @@
 #![tactic(auto)]
 
 mod dispatch;
+mod document;
 mod draft;
 mod fault;
 mod fields;
@@ -14,9 +15,12 @@ mod lines;
 mod line_fault;
 mod points;
 mod printing;
+mod reader;
 mod rows;
 
+pub use document::Document;
 pub use fault::DocFault;
 pub use grid::Grid;
 pub use line::Line;
+pub use reader::read_document;
 pub use yds_model::Reason;
