@@ -120,7 +120,7 @@ room_left rooms place k units within room = elim (cases_eq k place) [
       omega (arith, own_units place k units other, get_or-set_other rooms place k (get_or rooms place 0 - units) 0 other)
 ]
 
-all_taken : (left room units : ℕ) → units ≡ min left room → 1 ≤ left - units → room - units ≡ 0
+pub all_taken : (left room units : ℕ) → units ≡ min left room → 1 ≤ left - units → room - units ≡ 0
 all_taken left room units is more = grind arith
 
 -- the stretches before the next one are full, also the one just taken from

@@ -1,6 +1,7 @@
 mod Orders
 mod Fill
 mod Filling
+mod Nexts
 mod Ranges
 mod Closure
 mod Balance
