@@ -16,6 +16,7 @@ mod Lowest
 mod Amounts
 mod Pointwise
 mod Reaches
+mod Nearest
 mod Finish
 mod Attempt
 mod Steps

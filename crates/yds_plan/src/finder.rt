@@ -97,7 +97,7 @@ fn split(
     let filled = &attempt.filled;
     let reaches = reaches(alloc, &instance.windows, &filled.wants, &filled.shares, stretches)?;
     split_stretches(&mut found.group_of_stretch, &reaches, top);
-    split_jobs(&mut found.group_of_job, &instance.windows, &found.group_of_stretch, top);
+    split_jobs(alloc, &mut found.group_of_job, &instance.windows, &found.group_of_stretch, top)?;
     Ok(())
 }
 

@@ -28,7 +28,7 @@ returns-clause-search c =
             (ap shares_view c.deref-3.ensures.value) c.in_ok-reaches.ensures)
         (split_at _ _ _ _ c.args.top _ _ _ _ c.split_jobs.new.groups c.split_stretches.new.groups _ c.deref-5.ensures.value c.deref-4.ensures.value
             c.deref_mut-2.ensures.value c.deref_mut.ensures.value (c.deref-6.ensures.value ∙ places)
-            c.split_jobs.auto.groups c.split_stretches.auto.groups c.split_stretches.ensures c.split_jobs.ensures)).0)
+            c.split_jobs.auto.groups c.split_stretches.auto.groups c.split_stretches.ensures c.in_ok-split_jobs.ensures)).0)
 
 pub returns-clause-smaller : goal.returns-clause-smaller
 returns-clause-smaller c =
@@ -44,4 +44,4 @@ returns-clause-smaller c =
             (ap shares_view c.deref-3.ensures.value) c.in_ok-reaches.ensures)
         (split_at _ _ _ _ c.args.top _ _ _ _ c.split_jobs.new.groups c.split_stretches.new.groups _ c.deref-5.ensures.value c.deref-4.ensures.value
             c.deref_mut-2.ensures.value c.deref_mut.ensures.value (c.deref-6.ensures.value ∙ places)
-            c.split_jobs.auto.groups c.split_stretches.auto.groups c.split_stretches.ensures c.split_jobs.ensures)).1
+            c.split_jobs.auto.groups c.split_stretches.auto.groups c.split_stretches.ensures c.in_ok-split_jobs.ensures)).1
