@@ -36,14 +36,14 @@ work_is : (jobs : List Job) (instance : Instance) (places : List ℕ) (top total
 work_is jobs instance places top total are is =
     is ∙ ap (λ n. amount_in instance.works.items places top n) are.all_works
     ∙ over_same (λ j. if group_of places j == top then get_or instance.works.items j 0 else 0) (λ j. if group_of places j == top then (job_at jobs j).work else 0) (length jobs)
-        (λ j known. ap (λ work. if group_of places j == top then work else 0) (are.work j known))
+    (λ j known. ap (λ work. if group_of places j == top then work else 0) (are.work j known))
 
 length_is : (jobs : List Job) (instance : Instance) (places : List ℕ) (top total : ℕ) → IsInstance jobs instance →
     total ≡ amount_in instance.lengths.items places top (length instance.lengths.items) → total ≡ length_in jobs places top (length (stretches jobs))
 length_is jobs instance places top total are is =
     is ∙ ap (λ n. amount_in instance.lengths.items places top n) are.all_lengths
     ∙ over_same (λ k. if group_of places k == top then get_or instance.lengths.items k 0 else 0) (λ k. if group_of places k == top then length_of jobs k else 0) (length (stretches jobs))
-        (λ k within. ap (λ length. if group_of places k == top then length else 0) (are.length_is k within))
+    (λ k within. ap (λ length. if group_of places k == top then length else 0) (are.length_is k within))
 
 -- the group has work and length
 some_length : (jobs : List Job) (instance : Instance) (found : Found) (top last : ℕ) → IsInstance jobs instance →
@@ -95,10 +95,22 @@ sums jobs instance found top last work length_ are search within is is' =
       some = positive;
       some_length = positive';
       lowest = lowest work length_ positive positive';
-      small = omega (arith, is, are.few, are.all_works, amount_small instance.works.items found.group_of_job top (length instance.works.items) 1000000
-          (λ j known. omega (arith, are.work j (omega (arith, are.all_works)), are.work_small j (omega (arith, are.all_works)))));
-      length_small = omega (arith, is', are.few_stretches, are.all_lengths, amount_small instance.lengths.items found.group_of_stretch top (length instance.lengths.items) 1000000000
-          (λ k known. omega (arith, are.length_is k (omega (arith, are.all_lengths)), are.length_small k (omega (arith, are.all_lengths)))));
+      small = omega (
+        arith,
+        is,
+        are.few,
+        are.all_works,
+        amount_small instance.works.items found.group_of_job top (length instance.works.items) 1000000
+            (λ j known. omega (arith, are.work j (omega (arith, are.all_works)), are.work_small j (omega (arith, are.all_works)))),
+      );
+      length_small = omega (
+        arith,
+        is',
+        are.few_stretches,
+        are.all_lengths,
+        amount_small instance.lengths.items found.group_of_stretch top (length instance.lengths.items) 1000000000
+            (λ k known. omega (arith, are.length_is k (omega (arith, are.all_lengths)), are.length_small k (omega (arith, are.all_lengths)))),
+      );
     }
 
 -- all units fit into 64 bits

@@ -66,12 +66,12 @@ gather key test n (share ∷ shares) within =
     over_same (λ j. if test j then units_at key (share ∷ shares) j else 0)
     (λ j. (if key share == j then (if test (key share) then share.units else 0) else 0) + (if test j then units_at key shares j else 0)) n
     (λ j below.
-        ap (λ sum. if test j then sum else 0) (sum_by-cons (λ one. if key one == j then one.units else 0) share shares)
-        ∙ tested_more (test j) (key share == j) share.units (units_at key shares j)
-        ∙ ap (λ first. first + (if test j then units_at key shares j else 0)) (tested_at test (key share) j share.units))
+    ap (λ sum. if test j then sum else 0) (sum_by-cons (λ one. if key one == j then one.units else 0) share shares)
+    ∙ tested_more (test j) (key share == j) share.units (units_at key shares j)
+    ∙ ap (λ first. first + (if test j then units_at key shares j else 0)) (tested_at test (key share) j share.units))
     ∙ over_add (λ j. if key share == j then (if test (key share) then share.units else 0) else 0) (λ j. if test j then units_at key shares j else 0) n
     ∙ ap (λ first. first + over n (λ j. if test j then units_at key shares j else 0))
-        (over_alone (if test (key share) then share.units else 0) n (key share) (within 0 share (omega arith)))
+    (over_alone (if test (key share) then share.units else 0) n (key share) (within 0 share (omega arith)))
     ∙ ap (λ rest. (if test (key share) then share.units else 0) + rest) (gather key test n shares (All-tail (λ one. key one < n) share shares within))
     ∙ sym (sum_by-cons (λ one. if test (key one) then one.units else 0) share shares)
 
@@ -146,9 +146,9 @@ fast_speed jobs windows found group p q shares inside fast = omega (
   sum_by_at_most (λ share. if group_of found.group_of_stretch share.stretch == group then share.units else 0)
       (λ share. if group_of found.group_of_job share.job == group then share.units else 0) shares
       (All-from_get_or (λ share. (if group_of found.group_of_stretch share.stretch == group then share.units else 0)
-          ≤ (if group_of found.group_of_job share.job == group then share.units else 0)) shares no_share
-          (λ x within. counted (group_of found.group_of_stretch (share_at shares x).stretch) group (group_of found.group_of_job (share_at shares x).job) group
-              (share_at shares x).units (fast.own x within))),
+      ≤ (if group_of found.group_of_job share.job == group then share.units else 0)) shares no_share
+      (λ x within. counted (group_of found.group_of_stretch (share_at shares x).stretch) group (group_of found.group_of_job (share_at shares x).job) group
+      (share_at shares x).units (fast.own x within))),
   gather (λ share. share.job) (λ j. group_of found.group_of_job j == group) (length jobs) shares
       (All-from_get_or (λ share. share.job < length jobs) shares no_share (λ x within. (inside x within).0)),
   over_at_most (λ j. if group_of found.group_of_job j == group then units_of_job shares j else 0)
@@ -172,9 +172,9 @@ slow_speed jobs windows found group p q shares inside slow = omega (
   sum_by_at_most (λ share. if group_of found.group_of_job share.job == group then share.units else 0)
       (λ share. if group_of found.group_of_stretch share.stretch == group then share.units else 0) shares
       (All-from_get_or (λ share. (if group_of found.group_of_job share.job == group then share.units else 0)
-          ≤ (if group_of found.group_of_stretch share.stretch == group then share.units else 0)) shares no_share
-          (λ x within. counted (group_of found.group_of_job (share_at shares x).job) group (group_of found.group_of_stretch (share_at shares x).stretch) group
-              (share_at shares x).units (slow.own x within))),
+      ≤ (if group_of found.group_of_stretch share.stretch == group then share.units else 0)) shares no_share
+      (λ x within. counted (group_of found.group_of_job (share_at shares x).job) group (group_of found.group_of_stretch (share_at shares x).stretch) group
+      (share_at shares x).units (slow.own x within))),
   gather (λ share. share.stretch) (λ k. group_of found.group_of_stretch k == group) (length (stretches jobs)) shares
       (All-from_get_or (λ share. share.stretch < length (stretches jobs)) shares no_share (λ x within. (inside x within).1)),
   over_at_most (λ k. if group_of found.group_of_stretch k == group then units_in_stretch shares k else 0)

@@ -58,10 +58,13 @@ begun_idle jobs windows last n groups places groups' so_far idle is =
       job = job_more jobs last n groups (last + 1) so_far.count so_far.job (inl (idle, refl));
       stretch = λ k within. elim (so_far.stretch k within) [
         | inl covered ↦ inl ((covered.0.0, omega (arith, covered.0.1), covered.0.2), covered.1)
-        | inr free ↦ inr ((λ j below runs. elim (cases_lt j n) [
+        | inr free ↦ inr (
+          (λ j below runs. elim (cases_lt j n) [
             | inl less ↦ free.0 j less runs
             | inr more ↦ let same : j ≡ n = omega arith in omega (arith, runs.some, idle, ap (λ i. (job_at jobs i).work) same)
-          ]), free.1)
+          ]),
+          free.1,
+        )
       ];
     })
 
@@ -72,10 +75,13 @@ stays : (jobs : List Job) (windows : List Window) (last n : ℕ) (groups places 
     ⊎ (((j : ℕ) → j < n + 1 → MayRun jobs windows j k → ⊥) × (group_of places' k ≡ last + 1))
 stays jobs windows last n groups places places' so_far k within same outside = elim (so_far.stretch k within) [
   | inl covered ↦ inl ((covered.0.0, omega (arith, covered.0.1), covered.0.2), same ∙ covered.1)
-  | inr free ↦ inr ((λ j below runs. elim (cases_lt j n) [
+  | inr free ↦ inr (
+    (λ j below runs. elim (cases_lt j n) [
       | inl less ↦ free.0 j less runs
       | inr more ↦ let is : j ≡ n = omega arith in outside (subst (λ (i : ℕ). IsIn windows i k) is runs.inside)
-    ]), same ∙ free.1)
+    ]),
+    same ∙ free.1,
+  )
 ]
 
 -- a job with work

@@ -95,11 +95,11 @@ open_shared jobs windows m shares wants rooms late shared reaches known p after 
       let found = known.lates.some p within (omega arith) in
       let j_known : found.0 < length jobs = omega (arith, found.1, known.windows_are.all) in
       let full = known.late_full found.0 j_known found.2 (share_at shares x).stretch
-          (record { from = omega (arith, found.4); upto = omega (arith, found.3) }) in
+      (record { from = omega (arith, found.4); upto = omega (arith, found.3) }) in
       let first : (window_at windows (share_at shares x).job).end ≤ (window_at windows found.0).end =
-          end_first jobs windows known.windows_are (share_at shares x).job found.0
-          (omega (arith, (known.taken.parts x no_share in_range).known, known.windows_are.all)) j_known
-          (full.before x no_share in_range refl) in
+      end_first jobs windows known.windows_are (share_at shares x).job found.0
+      (omega (arith, (known.taken.parts x no_share in_range).known, known.windows_are.all)) j_known
+      (full.before x no_share in_range refl) in
       absurd (omega (arith, found.3, first))
 ]
 
@@ -134,10 +134,10 @@ closed_marked jobs windows m shares wants rooms late shared reaches known p afte
               let found = known.shareds.some p within (omega arith) in
               let full = known.taken.early found.0 no_share found.1 (share_at shares x).stretch (omega (arith, found.3)) (omega (arith, found.2)) in
               let first : (window_at windows (share_at shares x).job).end ≤ (window_at windows (share_at shares found.0).job).end =
-                  end_first jobs windows known.windows_are (share_at shares x).job (share_at shares found.0).job
-                  (omega (arith, (known.taken.parts x no_share in_range).known, known.windows_are.all))
-                  (omega (arith, (known.taken.parts found.0 no_share found.1).known, known.windows_are.all))
-                  (full.before x no_share in_range refl) in
+              end_first jobs windows known.windows_are (share_at shares x).job (share_at shares found.0).job
+              (omega (arith, (known.taken.parts x no_share in_range).known, known.windows_are.all))
+              (omega (arith, (known.taken.parts found.0 no_share found.1).known, known.windows_are.all))
+              (full.before x no_share in_range refl) in
               open_shared jobs windows m shares wants rooms late shared reaches known p after within so_far found.0 k found.1
               (omega (arith, found.2)) (omega (arith, found.2)) (omega arith) (omega (arith, first, upto))
         ]
@@ -187,8 +187,12 @@ closed_passed jobs windows m shares wants rooms late shared reaches known p afte
         ]
       ];
       late = λ j k in_range some beyond inside. elim (cases_eq k p) [
-        | inl same ↦ absurd (omega (arith, inside.from, inside.upto,
-            late_here jobs windows m shares wants rooms late shared reaches known p after within so_far j in_range some (omega (arith, inside.upto))))
+        | inl same ↦ absurd (omega (
+          arith,
+          inside.from,
+          inside.upto,
+          late_here jobs windows m shares wants rooms late shared reaches known p after within so_far j in_range some (omega (arith, inside.upto)),
+        ))
         | inr other ↦ so_far.late j k in_range some (omega arith) inside
       ];
     }
@@ -204,7 +208,7 @@ closed_from jobs windows m shares wants rooms late shared reaches known zero p e
 closed_from jobs windows m shares wants rooms late shared reaches known (suc rest) p end =
     let within : p < m = omega arith in
     let so_far : ClosedFrom windows m shares wants rooms reaches (p + 1) (get_or reaches (p + 1) m) =
-        closed_from jobs windows m shares wants rooms late shared reaches known rest (p + 1) (omega arith) in
+    closed_from jobs windows m shares wants rooms late shared reaches known rest (p + 1) (omega arith) in
     let is : get_or reaches p m ≡ get_or reaches p 0 = get_or_default reaches p m 0 (omega (arith, known.reach.all)) in
     elim (reach_cases (get_or reaches (p + 1) m) (get_or late p 0) (get_or shared p 0) p (get_or reaches p m) (known.reach.step p within)) [
       | inl marked ↦ closed_marked jobs windows m shares wants rooms late shared reaches known p (get_or reaches (p + 1) m) (get_or reaches p m) within so_far is marked.0 marked.1

@@ -61,14 +61,14 @@ all_keys : (jobs : List Job) (sorted : List ℕ) → length jobs < 4294967296 �
     IsPermutation (map (key_of jobs) (range_with_len 0 (length jobs))) sorted → All (IsKey jobs) sorted
 all_keys jobs sorted small once = All-permutation (IsKey jobs) (map (key_of jobs) (range_with_len 0 (length jobs))) sorted once
     (λ i d within.
-        let below : i < length jobs = omega (arith, within, length-map-range_with_len (key_of jobs) 0 (length jobs)) in
-        let is : get_or (map (key_of jobs) (range_with_len 0 (length jobs))) i d ≡ key_of jobs i =
-            get_or-map-range_with_len (key_of jobs) 0 (length jobs) i i d below (omega arith) in
-        let number : number_of (key_of jobs i) ≡ i = number_back (job_at jobs i).deadline i (omega arith) in
-        subst (IsKey jobs) (sym is) (record {
-          known = omega (arith, number, below);
-          same = ap (key_of jobs) (sym number);
-        }))
+    let below : i < length jobs = omega (arith, within, length-map-range_with_len (key_of jobs) 0 (length jobs)) in
+    let is : get_or (map (key_of jobs) (range_with_len 0 (length jobs))) i d ≡ key_of jobs i =
+    get_or-map-range_with_len (key_of jobs) 0 (length jobs) i i d below (omega arith) in
+    let number : number_of (key_of jobs i) ≡ i = number_back (job_at jobs i).deadline i (omega arith) in
+    subst (IsKey jobs) (sym is) (record {
+      known = omega (arith, number, below);
+      same = ap (key_of jobs) (sym number);
+    }))
 
 range_at : (n i d : ℕ) → i < n → get_or (range_with_len 0 n) i d ≡ i
 range_at n i d below = omega (arith, get_or-range_with_len 0 n i d below)
@@ -78,13 +78,13 @@ numbers_back : (jobs : List Job) → length jobs < 4294967296 →
 numbers_back jobs small = same_lists (map number_of (map (key_of jobs) (range_with_len 0 (length jobs)))) (range_with_len 0 (length jobs))
     (omega (arith, length-map (map (key_of jobs) (range_with_len 0 (length jobs))) number_of, length-map (range_with_len 0 (length jobs)) (key_of jobs)))
     (λ k d within.
-        let in_keys : k < length (map (key_of jobs) (range_with_len 0 (length jobs))) =
-            omega (arith, within, length-map (map (key_of jobs) (range_with_len 0 (length jobs))) number_of) in
-        let below : k < length jobs = omega (arith, in_keys, length-map-range_with_len (key_of jobs) 0 (length jobs)) in
-        get_or-map number_of (map (key_of jobs) (range_with_len 0 (length jobs))) k 0 d in_keys
-        ∙ ap number_of (get_or-map-range_with_len (key_of jobs) 0 (length jobs) k k 0 below (omega arith))
-        ∙ number_back (job_at jobs k).deadline k (omega arith)
-        ∙ sym (range_at (length jobs) k d below))
+    let in_keys : k < length (map (key_of jobs) (range_with_len 0 (length jobs))) =
+    omega (arith, within, length-map (map (key_of jobs) (range_with_len 0 (length jobs))) number_of) in
+    let below : k < length jobs = omega (arith, in_keys, length-map-range_with_len (key_of jobs) 0 (length jobs)) in
+    get_or-map number_of (map (key_of jobs) (range_with_len 0 (length jobs))) k 0 d in_keys
+    ∙ ap number_of (get_or-map-range_with_len (key_of jobs) 0 (length jobs) k k 0 below (omega arith))
+    ∙ number_back (job_at jobs k).deadline k (omega arith)
+    ∙ sym (range_at (length jobs) k d below))
 
 -- sorted keys give the jobs in order
 pub keys_order : (jobs : List Job) (sorted order : List ℕ) → length jobs < 4294967296 →
@@ -93,32 +93,33 @@ pub keys_order : (jobs : List Job) (sorted order : List ℕ) → length jobs < 4
 keys_order jobs sorted order small once rises is =
     let keys = all_keys jobs sorted small once in
     let number : (i : ℕ) → i < length order → get_or order i 0 ≡ number_of (get_or sorted i 0) =
-        λ i within. ap (λ (xs : List ℕ). get_or xs i 0) is ∙ get_or-map number_of sorted i 0 0 (omega (arith, ap (λ (xs : List ℕ). length xs) is, length-map sorted number_of)) in
+    λ i within. ap (λ (xs : List ℕ). get_or xs i 0) is ∙ get_or-map number_of sorted i 0 0 (omega (arith, ap (λ (xs : List ℕ). length xs) is, length-map sorted number_of)) in
     let inside : (i : ℕ) → i < length order → i < length sorted =
-        λ i within. omega (arith, ap (λ (xs : List ℕ). length xs) is, length-map sorted number_of) in
+    λ i within. omega (arith, ap (λ (xs : List ℕ). length xs) is, length-map sorted number_of) in
     let all : IsPermutation (range_with_len 0 (length jobs)) order =
-        subst (λ (xs : List ℕ). IsPermutation xs order) (numbers_back jobs small)
-        (subst (λ (xs : List ℕ). IsPermutation (map number_of (map (key_of jobs) (range_with_len 0 (length jobs)))) xs) (sym is)
-        (IsPermutation-map number_of (map (key_of jobs) (range_with_len 0 (length jobs))) sorted once)) in
+    subst (λ (xs : List ℕ). IsPermutation xs order) (numbers_back jobs small)
+    (subst (λ (xs : List ℕ). IsPermutation (map number_of (map (key_of jobs) (range_with_len 0 (length jobs)))) xs) (sym is)
+    (IsPermutation-map number_of (map (key_of jobs) (range_with_len 0 (length jobs))) sorted once)) in
     record {
       known = λ i within. omega (arith, number i within, (keys i 0 (inside i within)).known);
       rising = λ a b before within.
           let within_a : a < length order = omega arith in
-          let known : get_or order b 0 < length jobs = omega (arith, number b within, (keys b 0 (inside b within)).known) in
-          (once_only order (length jobs) a b all before within known,
+          let known : get_or order b 0 < length jobs = omega (arith, number b within, (keys b 0 (inside b within)).known) in (
+            once_only order (length jobs) a b all before within known,
             keys_precede (job_at jobs (get_or order a 0)).deadline (get_or order a 0) (job_at jobs (get_or order b 0)).deadline (get_or order b 0)
-            (omega (
-              arith,
-              rises a b 0 (omega arith) (inside b within),
-              (keys a 0 (inside a within_a)).same,
-              (keys b 0 (inside b within)).same,
-              ap (key_of jobs) (number a within_a),
-              ap (key_of jobs) (number b within),
-            ))
-            (omega (arith, number a within_a, (keys a 0 (inside a within_a)).known, small)) (omega (arith, known, small)));
+                (omega (
+                  arith,
+                  rises a b 0 (omega arith) (inside b within),
+                  (keys a 0 (inside a within_a)).same,
+                  (keys b 0 (inside b within)).same,
+                  ap (key_of jobs) (number a within_a),
+                  ap (key_of jobs) (number b within),
+                ))
+                (omega (arith, number a within_a, (keys a 0 (inside a within_a)).known, small)) (omega (arith, known, small)),
+          );
       once = all;
       each = λ j below.
           let found = Contains-permutation (range_with_len 0 (length jobs)) order j all
-                (j, omega (arith, length-range_with_len 0 (length jobs)), range_at (length jobs) j j below) in
+          (j, omega (arith, length-range_with_len 0 (length jobs)), range_at (length jobs) j j below) in
           (found.0, found.1, get_or_default order found.0 0 j found.1 ∙ found.2);
     }

@@ -52,10 +52,10 @@ pub search_ends : (jobs : List Job) (windows : List Window) (found : Found) (las
     IsSearch jobs windows found top last → IsFound jobs found
 search_ends jobs windows found last top windows_are end search =
     let grouped : (j : ℕ) → j < length jobs → 1 ≤ (job_at jobs j).work → group_of found.group_of_job j < length found.groups =
-        λ j known some. elim (search.with_work j known some) [
-          | inl finished ↦ finished
-          | inr later ↦ absurd (omega (arith, later.0, later.1))
-        ] in
+    λ j known some. elim (search.with_work j known some) [
+      | inl finished ↦ finished
+      | inr later ↦ absurd (omega (arith, later.0, later.1))
+    ] in
     record {
       all_jobs = search.all_jobs;
       all_stretches = search.all_stretches;
@@ -77,8 +77,8 @@ search_ends jobs windows found last top windows_are end search =
           let other = search.finished.shares y no_share within' in
           search.finished.earliest x y within within' same
           ((windows_are.are (share_at found.shares x).job (share_at found.shares y).stretch one.known other.known_stretch).1
-            (in_window_before jobs (share_at found.shares x).job (share_at found.shares y).stretch (share_at found.shares x).stretch before one.known_stretch
-            released one.in_window)) before;
+          (in_window_before jobs (share_at found.shares x).job (share_at found.shares y).stretch (share_at found.shares x).stretch before one.known_stretch
+          released one.in_window)) before;
       few = omega (
         arith,
         search.finished.few,
@@ -120,11 +120,15 @@ first_stretch : (jobs : List Job) (windows : List Window) (found : Found) (last 
     (k : ℕ) × IsIn windows j k × (k < length (stretches jobs)) × (group_of found.group_of_stretch k ≡ last)
 first_stretch jobs windows found last are beginning j known some =
     let runs = first_runs jobs windows are j known some in
-    let within : (window_at windows j).first < length (stretches jobs) = omega (arith, are.some j known, are.inside j known) in
-    ((window_at windows j).first, runs.inside, within, elim (beginning.stretch (window_at windows j).first within) [
-      | inl covered ↦ covered.1
-      | inr idle ↦ absurd (idle.0 j runs)
-    ])
+    let within : (window_at windows j).first < length (stretches jobs) = omega (arith, are.some j known, are.inside j known) in (
+      (window_at windows j).first,
+      runs.inside,
+      within,
+      elim (beginning.stretch (window_at windows j).first within) [
+        | inl covered ↦ covered.1
+        | inr idle ↦ absurd (idle.0 j runs)
+      ],
+    )
 
 -- the search begins, where some job wants something
 pub search_begins : (jobs : List Job) (windows : List Window) (found : Found) (last top : ℕ) → AreWindows jobs windows →
@@ -134,13 +138,16 @@ pub search_begins : (jobs : List Job) (windows : List Window) (found : Found) (l
 search_begins jobs windows found last top are beginning start =
     let none : length found.groups ≡ 0 = ap (λ (xs : List Group). length xs) beginning.no_groups in
     let number : (j : ℕ) → j < length jobs → 1 ≤ (job_at jobs j).work → (group_of found.group_of_job j ≡ last) × (top ≡ last) =
-        λ j known some. elim (beginning.job j known) [
-          | inl idle ↦ absurd (omega (arith, idle.0))
-          | inr working ↦ (working.1, elim start [
-            | inl begins ↦ begins.1
-            | inr idle ↦ absurd (omega (arith, idle.0 j known, some))
-          ])
-        ] in
+    λ j known some. elim (beginning.job j known) [
+      | inl idle ↦ absurd (omega (arith, idle.0))
+      | inr working ↦ (
+        working.1,
+        elim start [
+          | inl begins ↦ begins.1
+          | inr idle ↦ absurd (omega (arith, idle.0 j known, some))
+        ],
+      )
+    ] in
     record {
       all_jobs = beginning.all_jobs;
       all_stretches = beginning.all_stretches;
@@ -214,12 +221,14 @@ pub few_groups : (jobs : List Job) (windows : List Window) (found : Found) (top 
     length found.groups ≤ length (stretches jobs)
 few_groups jobs windows found top last search = at_most_all (λ k. group_of found.group_of_stretch k) (length (stretches jobs)) 0 (length found.groups)
     (λ c from upto.
-        let lengths = search.finished.lengths c (omega arith) in
-        let some = search.finished.some_length c (omega arith) in
-        let found_there = over_some (λ k. if group_of found.group_of_stretch k == c then length_of jobs k else 0) (length (stretches jobs)) (omega (arith, lengths, some)) in
-        (found_there.0, found_there.1,
-            (chosen_some (group_of found.group_of_stretch found_there.0) c (length_of jobs found_there.0)
-                (if group_of found.group_of_stretch found_there.0 == c then length_of jobs found_there.0 else 0) refl found_there.2).0))
+    let lengths = search.finished.lengths c (omega arith) in
+    let some = search.finished.some_length c (omega arith) in
+    let found_there = over_some (λ k. if group_of found.group_of_stretch k == c then length_of jobs k else 0) (length (stretches jobs)) (omega (arith, lengths, some)) in (
+      found_there.0,
+      found_there.1,
+      (chosen_some (group_of found.group_of_stretch found_there.0) c (length_of jobs found_there.0)
+          (if group_of found.group_of_stretch found_there.0 == c then length_of jobs found_there.0 else 0) refl found_there.2).0,
+    ))
 
 few_from : (jobs : List Job) (windows : List Window) (found : Found) (top last left : ℕ) → IsSearch jobs windows found top last → top + left ≡ last + 1 →
     last + 1 ≤ top + length (stretches jobs)

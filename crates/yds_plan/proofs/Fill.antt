@@ -132,6 +132,7 @@ swept_more rooms next k left units within is more before upto = elim (cases_eq k
       subst P (sym same) (get_or-set_same rooms next (get_or rooms next 0 - units) 0 within ∙ all_taken left (get_or rooms next 0) units is more)
   | inr other ↦ get_or-set_other rooms next k (get_or rooms next 0 - units) 0 other ∙ before (omega arith)
 ]
+
 counts : (shares full full' shares' full'' left want units room : ℕ) → 1 ≤ left → 1 ≤ room → units ≡ min left room →
     shares' + full + min left 1 ≤ shares + full' + min want 1 →
     full'' + cond (room == 0) 1 0 ≡ full' + cond ((room - units) == 0) 1 0 →
@@ -161,8 +162,12 @@ serve_takes jobs windows job want shares rooms next left shares' rooms' so_far k
       wanted = omega (arith, so_far.wanted, sum_by_push (λ one. if one.job == job then one.units else 0) shares' share, same_units job units, most);
       others = λ i other. omega (arith, so_far.others i other, sum_by_push (λ one. if one.job == i then one.units else 0) shares' share, own_units job i units other);
       same_length = length-set rooms' next (get_or rooms' next 0 - units) ∙ so_far.same_length;
-      room = λ k. omega (arith, so_far.room k, sum_by_push (λ one. if one.stretch == k then one.units else 0) shares' share,
-          room_left rooms' next k units (omega (arith, so_far.same_length)) room);
+      room = λ k. omega (
+        arith,
+        so_far.room k,
+        sum_by_push (λ one. if one.stretch == k then one.units else 0) shares' share,
+        room_left rooms' next k units (omega (arith, so_far.same_length)) room,
+      );
       swept = λ more k from upto. swept_more rooms' next k left units (omega (arith, so_far.same_length)) is more
           (λ below. so_far.swept some k from below) upto;
       kept = λ k i full. full_keeps jobs shares' rooms' share (get_or rooms' next 0 - units) k i (so_far.kept k i full) free;
@@ -185,6 +190,6 @@ serve_took jobs windows job want shares rooms next left shares' rooms' so_far kn
     subst (λ (n : ℕ). IsServed jobs windows job want shares rooms (next + 1) n shares'' rooms'') (sym a)
     (subst (λ (xs : List Share). IsServed jobs windows job want shares rooms (next + 1) (left - units) xs rooms'') (sym b)
     (subst (λ (xs : List ℕ). IsServed jobs windows job want shares rooms (next + 1) (left - units)
-        (shares' ++ record { job = job; stretch = next; units = units } ∷ []) xs) (sym c)
+    (shares' ++ record { job = job; stretch = next; units = units } ∷ []) xs) (sym c)
     (serve_takes jobs windows job want shares rooms next left shares' rooms' so_far known (record { from = from; upto = upto })
-        within some free units is)))
+    within some free units is)))

@@ -87,8 +87,13 @@ fill_more jobs windows order wants rooms i shares wants' rooms' left shares' roo
             served.kept k (get_or order a 0)
             (so_far.late a (omega arith) (omega (arith, some, get_or-set_other wants' (get_or order i 0) (get_or order a 0) left 0 apart)) k inside)
       ];
-      few = omega (arith, served.few, so_far.few, sum_by_more (λ j. if nat_lt 0 (get_or wants j 0) then 1 else 0) order i 0 within,
-          wanted_once left (get_or wants' (get_or order i 0) 0) (get_or wants (get_or order i 0) 0) (units_of_job shares (get_or order i 0)) (so_far.want (get_or order i 0)));
+      few = omega (
+        arith,
+        served.few,
+        so_far.few,
+        sum_by_more (λ j. if nat_lt 0 (get_or wants j 0) then 1 else 0) order i 0 within,
+        wanted_once left (get_or wants' (get_or order i 0) 0) (get_or wants (get_or order i 0) 0) (units_of_job shares (get_or order i 0)) (so_far.want (get_or order i 0)),
+      );
     }
 
 abbrev wanted : List ℕ → ℕ → ℕ

@@ -141,11 +141,11 @@ own_share f x within =
     let known : (share_at f.shares x).job < length f.jobs = omega (arith, part.known, f.windows_are.all) in
     let known_stretch : (share_at f.shares x).stretch < length (stretches f.jobs) = omega (arith, part.known_stretch, f.filled.all_rooms) in
     let job = chosen_some (group_of f.found.group_of_job (share_at f.shares x).job) f.top (per_work f.group * (job_at f.jobs (share_at f.shares x).job).work)
-          (get_or f.wants (share_at f.shares x).job 0) (f.filled.want (share_at f.shares x).job known)
-          (omega (arith, f.filled.fill.want (share_at f.shares x).job, share_counts (λ share. share.job) f.shares x within, part.some)) in
+    (get_or f.wants (share_at f.shares x).job 0) (f.filled.want (share_at f.shares x).job known)
+    (omega (arith, f.filled.fill.want (share_at f.shares x).job, share_counts (λ share. share.job) f.shares x within, part.some)) in
     let stretch = chosen_some (group_of f.found.group_of_stretch (share_at f.shares x).stretch) f.top (per_time f.group * length_of f.jobs (share_at f.shares x).stretch)
-          (get_or f.rooms (share_at f.shares x).stretch 0) (f.filled.room (share_at f.shares x).stretch known_stretch)
-          (omega (arith, f.filled.fill.room (share_at f.shares x).stretch, share_counts (λ share. share.stretch) f.shares x within, part.some)) in
+    (get_or f.rooms (share_at f.shares x).stretch 0) (f.filled.room (share_at f.shares x).stretch known_stretch)
+    (omega (arith, f.filled.fill.room (share_at f.shares x).stretch, share_counts (λ share. share.stretch) f.shares x within, part.some)) in
     record {
       runs = record {
         known = known;
@@ -193,13 +193,13 @@ new_work : (f : Finishing) → f.group.work ≡ work_in f.jobs f.new_jobs (lengt
 new_work f = f.work ∙ over_same (λ j. if group_of f.found.group_of_job j == f.top then (job_at f.jobs j).work else 0)
     (λ j. if group_of f.new_jobs j == length f.found.groups then (job_at f.jobs j).work else 0) (length f.jobs)
     (λ j known. renamed_chosen (length f.found.groups) f.top (group_of f.found.group_of_job j) (group_of f.new_jobs j) (job_at f.jobs j).work
-        f.search.apart (job_number f j known) (f.job j known))
+    f.search.apart (job_number f j known) (f.job j known))
 
 new_length : (f : Finishing) → f.group.length ≡ length_in f.jobs f.new_stretches (length f.found.groups) (length (stretches f.jobs))
 new_length f = f.length_is ∙ over_same (λ k. if group_of f.found.group_of_stretch k == f.top then length_of f.jobs k else 0)
     (λ k. if group_of f.new_stretches k == length f.found.groups then length_of f.jobs k else 0) (length (stretches f.jobs))
     (λ k known. renamed_chosen (length f.found.groups) f.top (group_of f.found.group_of_stretch k) (group_of f.new_stretches k) (length_of f.jobs k)
-        f.search.apart (stretch_number f k known) (f.stretch k known))
+    f.search.apart (stretch_number f k known) (f.stretch k known))
 
 -- the group is not faster than the one before it
 new_order : (f : Finishing) (i : ℕ) → i + 1 ≡ length f.found.groups →
@@ -218,9 +218,9 @@ each_order f i within =
     subst (λ (g : Group). (group_at (f.found.groups ++ f.group ∷ []) (i + 1)).work * g.length ≤ g.work * (group_at (f.found.groups ++ f.group ∷ []) (i + 1)).length)
     (sym (group_before f i before))
     (each_group f (λ n g. n ≡ i + 1 → g.work * (group_at f.found.groups i).length ≤ (group_at f.found.groups i).work * g.length)
-        (λ n old is. subst (λ (n : ℕ). (group_at f.found.groups n).work * (group_at f.found.groups i).length ≤ (group_at f.found.groups i).work * (group_at f.found.groups n).length)
-            (sym is) (f.search.finished.order i (omega (arith, old, is))))
-        (λ is. new_order f i (sym is)) (i + 1) within refl)
+    (λ n old is. subst (λ (n : ℕ). (group_at f.found.groups n).work * (group_at f.found.groups i).length ≤ (group_at f.found.groups i).work * (group_at f.found.groups n).length)
+    (sym is) (f.search.finished.order i (omega (arith, old, is))))
+    (λ is. new_order f i (sym is)) (i + 1) within refl)
 
 -- the shares before the new ones, and the new ones
 share_before : (f : Finishing) (x : ℕ) → x < length f.found.shares → share_at (f.found.shares ++ f.shares) x ≡ share_at f.found.shares x
@@ -232,25 +232,25 @@ share_here f x past = get_or-append_right f.found.shares f.shares (length f.foun
 all_shares : (f : Finishing) → All (IsShare f.jobs (ended f)) (f.found.shares ++ f.shares)
 all_shares f = All-append (IsShare f.jobs (ended f)) f.found.shares f.shares
     (λ x d within.
-        let share = (kept f).shares x d within in
-        record {
-          known = share.known;
-          known_stretch = share.known_stretch;
-          some = share.some;
-          in_window = share.in_window;
-          grouped = omega (arith, share.grouped, length_push f.found.groups f.group);
-          same_group = share.same_group;
-        })
+    let share = (kept f).shares x d within in
+    record {
+      known = share.known;
+      known_stretch = share.known_stretch;
+      some = share.some;
+      in_window = share.in_window;
+      grouped = omega (arith, share.grouped, length_push f.found.groups f.group);
+      same_group = share.same_group;
+    })
     (All-from_get_or (IsShare f.jobs (ended f)) f.shares no_share (λ x within.
-        let own = own_share f x within in
-        record {
-          known = own.runs.known;
-          known_stretch = own.stretch_known;
-          some = own.some;
-          in_window = (f.windows_are.are (share_at f.shares x).job (share_at f.shares x).stretch own.runs.known own.stretch_known).0 own.runs.inside;
-          grouped = omega (arith, own.new_job, length_push f.found.groups f.group);
-          same_group = own.new_stretch ∙ sym own.new_job;
-        }))
+    let own = own_share f x within in
+    record {
+      known = own.runs.known;
+      known_stretch = own.stretch_known;
+      some = own.some;
+      in_window = (f.windows_are.are (share_at f.shares x).job (share_at f.shares x).stretch own.runs.known own.stretch_known).0 own.runs.inside;
+      grouped = omega (arith, own.new_job, length_push f.found.groups f.group);
+      same_group = own.new_stretch ∙ sym own.new_job;
+    }))
 
 -- an old share is of a finished group
 old_job : (f : Finishing) (x : ℕ) → x < length f.found.shares → group_of f.new_jobs (share_at f.found.shares x).job < length f.found.groups
@@ -266,16 +266,16 @@ all_served : (f : Finishing) (j : ℕ) → j < length f.jobs → group_of f.new_
     units_of_job (f.found.shares ++ f.shares) j ≡ per_work (group_at (f.found.groups ++ f.group ∷ []) (group_of f.new_jobs j)) * (job_at f.jobs j).work
 all_served f j known grouped = elim (f.job j known) [
   | inl mine ↦ omega (
-      arith,
-      sum_by-append (λ share. if share.job == j then share.units else 0) f.found.shares f.shares,
-      no_units (λ share. share.job) f.found.shares j (λ x within is.
-          omega (arith, old_job f x within, ap (λ n. group_of f.new_jobs n) is, mine.1)),
-      f.filled.fill.want j,
-      f.served j known,
-      f.filled.want j known,
-      chosen (group_of f.found.group_of_job j) f.top (per_work f.group * (job_at f.jobs j).work) mine.0,
-      ap (λ g. per_work g * (job_at f.jobs j).work) (group_here f (group_of f.new_jobs j) mine.1),
-    )
+    arith,
+    sum_by-append (λ share. if share.job == j then share.units else 0) f.found.shares f.shares,
+    no_units (λ share. share.job) f.found.shares j (λ x within is.
+        omega (arith, old_job f x within, ap (λ n. group_of f.new_jobs n) is, mine.1)),
+    f.filled.fill.want j,
+    f.served j known,
+    f.filled.want j known,
+    chosen (group_of f.found.group_of_job j) f.top (per_work f.group * (job_at f.jobs j).work) mine.0,
+    ap (λ g. per_work g * (job_at f.jobs j).work) (group_here f (group_of f.new_jobs j) mine.1),
+  )
   | inr other ↦
       let apart : group_of f.found.group_of_job j ≢ length f.found.groups = λ is. other.0 (job_number f j known is) in
       let old : group_of f.new_jobs j < length f.found.groups = omega (arith, grouped, length_push f.found.groups f.group, other.1, apart) in
@@ -294,16 +294,16 @@ all_full : (f : Finishing) (k : ℕ) → k < length (stretches f.jobs) → group
     units_in_stretch (f.found.shares ++ f.shares) k ≡ per_time (group_at (f.found.groups ++ f.group ∷ []) (group_of f.new_stretches k)) * length_of f.jobs k
 all_full f k known grouped = elim (f.stretch k known) [
   | inl mine ↦ omega (
-      arith,
-      sum_by-append (λ share. if share.stretch == k then share.units else 0) f.found.shares f.shares,
-      no_units (λ share. share.stretch) f.found.shares k (λ x within is.
-          omega (arith, old_stretch f x within, ap (λ n. group_of f.new_stretches n) is, mine.1)),
-      f.filled.fill.room k,
-      f.full k known,
-      f.filled.room k known,
-      chosen (group_of f.found.group_of_stretch k) f.top (per_time f.group * length_of f.jobs k) mine.0,
-      ap (λ g. per_time g * length_of f.jobs k) (group_here f (group_of f.new_stretches k) mine.1),
-    )
+    arith,
+    sum_by-append (λ share. if share.stretch == k then share.units else 0) f.found.shares f.shares,
+    no_units (λ share. share.stretch) f.found.shares k (λ x within is.
+        omega (arith, old_stretch f x within, ap (λ n. group_of f.new_stretches n) is, mine.1)),
+    f.filled.fill.room k,
+    f.full k known,
+    f.filled.room k known,
+    chosen (group_of f.found.group_of_stretch k) f.top (per_time f.group * length_of f.jobs k) mine.0,
+    ap (λ g. per_time g * length_of f.jobs k) (group_here f (group_of f.new_stretches k) mine.1),
+  )
   | inr other ↦
       let apart : group_of f.found.group_of_stretch k ≢ length f.found.groups = λ is. other.0 (stretch_number f k known is) in
       let old : group_of f.new_stretches k < length f.found.groups = omega (arith, grouped, length_push f.found.groups f.group, other.1, apart) in
@@ -322,12 +322,12 @@ all_full f k known grouped = elim (f.stretch k known) [
 each_pair : (f : Finishing) (R : ℕ → ℕ → Share → Share → Type 0) →
     ((x y : ℕ) → x < length f.found.shares → y < length f.found.shares → R x y (share_at f.found.shares x) (share_at f.found.shares y)) →
     ((x y : ℕ) → x < length f.found.shares → length f.found.shares ≤ y → y - length f.found.shares < length f.shares →
-        R x y (share_at f.found.shares x) (share_at f.shares (y - length f.found.shares))) →
+    R x y (share_at f.found.shares x) (share_at f.shares (y - length f.found.shares))) →
     ((x y : ℕ) → length f.found.shares ≤ x → x - length f.found.shares < length f.shares → y < length f.found.shares →
-        R x y (share_at f.shares (x - length f.found.shares)) (share_at f.found.shares y)) →
+    R x y (share_at f.shares (x - length f.found.shares)) (share_at f.found.shares y)) →
     ((x y : ℕ) → length f.found.shares ≤ x → x - length f.found.shares < length f.shares →
-        length f.found.shares ≤ y → y - length f.found.shares < length f.shares →
-        R x y (share_at f.shares (x - length f.found.shares)) (share_at f.shares (y - length f.found.shares))) →
+    length f.found.shares ≤ y → y - length f.found.shares < length f.shares →
+    R x y (share_at f.shares (x - length f.found.shares)) (share_at f.shares (y - length f.found.shares))) →
     (x y : ℕ) → x < length (f.found.shares ++ f.shares) → y < length (f.found.shares ++ f.shares) →
     R x y (share_at (f.found.shares ++ f.shares) x) (share_at (f.found.shares ++ f.shares) y)
 each_pair f R both first second neither x y within within' = elim (cases_lt x (length f.found.shares)) [
@@ -351,10 +351,10 @@ all_in_order f x y before within =
     each_pair f (λ i j one other. i < j → one.stretch ≡ other.stretch → Precedes f.jobs one.job other.job)
     (λ i j old old' less same. f.search.finished.in_order i j less old' same)
     (λ i j old new' in_range less same.
-        absurd (omega (arith, old_stretch f i old, (own_share f (j - length f.found.shares) in_range).new_stretch, ap (λ n. group_of f.new_stretches n) same)))
+    absurd (omega (arith, old_stretch f i old, (own_share f (j - length f.found.shares) in_range).new_stretch, ap (λ n. group_of f.new_stretches n) same)))
     (λ i j new in_range old' less same. absurd (omega (arith, less, new, old')))
     (λ i j new in_range new' in_range' less same.
-        f.filled.fill.taken.ordered (i - length f.found.shares) (j - length f.found.shares) no_share (omega (arith, less, new)) in_range' same)
+    f.filled.fill.taken.ordered (i - length f.found.shares) (j - length f.found.shares) no_share (omega (arith, less, new)) in_range' same)
     x y (omega (arith, before, within)) within before
 
 all_earliest : (f : Finishing) (x y : ℕ) → x < length (f.found.shares ++ f.shares) → y < length (f.found.shares ++ f.shares) →
@@ -364,15 +364,15 @@ all_earliest : (f : Finishing) (x y : ℕ) → x < length (f.found.shares ++ f.s
     ComesFirst f.jobs (share_at (f.found.shares ++ f.shares) y).job (share_at (f.found.shares ++ f.shares) x).job
 all_earliest f x y within within' =
     each_pair f (λ i j one other. group_of f.new_jobs one.job ≡ group_of f.new_jobs other.job → IsIn f.windows one.job other.stretch →
-        other.stretch < one.stretch → ComesFirst f.jobs other.job one.job)
+    other.stretch < one.stretch → ComesFirst f.jobs other.job one.job)
     (λ i j old old' same inside before. (kept f).earliest i j old old' same inside before)
     (λ i j old new' in_range same inside before.
-        absurd (omega (arith, old_job f i old, (own_share f (j - length f.found.shares) in_range).new_job, same)))
+    absurd (omega (arith, old_job f i old, (own_share f (j - length f.found.shares) in_range).new_job, same)))
     (λ i j new in_range old' same inside before.
-        absurd (omega (arith, old_job f j old', (own_share f (i - length f.found.shares) in_range).new_job, same)))
+    absurd (omega (arith, old_job f j old', (own_share f (i - length f.found.shares) in_range).new_job, same)))
     (λ i j new in_range new' in_range' same inside before.
-        (f.filled.fill.taken.early (i - length f.found.shares) no_share in_range (share_at f.shares (j - length f.found.shares)).stretch inside.from before).before
-        (j - length f.found.shares) no_share in_range' refl)
+    (f.filled.fill.taken.early (i - length f.found.shares) no_share in_range (share_at f.shares (j - length f.found.shares)).stretch inside.from before).before
+    (j - length f.found.shares) no_share in_range' refl)
     x y within within'
 
 abbrev one_if : Bool → ℕ
@@ -441,7 +441,7 @@ all_few f = omega (
   over_same (λ k. one_if (nat_lt (group_of f.new_stretches k) (length f.found.groups + 1)))
       (λ k. one_if (nat_lt (group_of f.new_stretches k) (length f.found.groups)) + one_if (group_of f.found.group_of_stretch k == f.top)) (length (stretches f.jobs))
       (λ k known. renamed_counted (length f.found.groups) f.top (group_of f.found.group_of_stretch k) (group_of f.new_stretches k) f.search.apart
-          (stretch_number f k known) (f.stretch k known)),
+      (stretch_number f k known) (f.stretch k known)),
   over_add (λ k. one_if (nat_lt (group_of f.new_stretches k) (length f.found.groups))) (λ k. one_if (group_of f.found.group_of_stretch k == f.top)) (length (stretches f.jobs)),
   -- jobs
   ap (λ n. over n (λ j. one_if (nat_lt 0 (get_or f.wants j 0)))) f.filled.all_wants,
@@ -452,7 +452,7 @@ all_few f = omega (
   over_same (λ j. one_if (nat_lt (group_of f.new_jobs j) (length f.found.groups + 1)))
       (λ j. one_if (nat_lt (group_of f.new_jobs j) (length f.found.groups)) + one_if (group_of f.found.group_of_job j == f.top)) (length f.jobs)
       (λ j known. renamed_counted (length f.found.groups) f.top (group_of f.found.group_of_job j) (group_of f.new_jobs j) f.search.apart
-          (job_number f j known) (f.job j known)),
+      (job_number f j known) (f.job j known)),
   over_add (λ j. one_if (nat_lt (group_of f.new_jobs j) (length f.found.groups))) (λ j. one_if (group_of f.found.group_of_job j == f.top)) (length f.jobs),
 )
 
@@ -481,10 +481,10 @@ kept_fast f c p q shares above inside fast = record {
   own = λ x within is.
       let lies = inside x within in
       let job = fast.own x within
-            (renamed_later (length f.found.groups) f.top (group_of f.found.group_of_stretch (share_at shares x).stretch) (group_of f.new_stretches (share_at shares x).stretch)
-            f.search.apart (f.stretch (share_at shares x).stretch lies.1) (omega (arith, is, above)) ∙ is) in
+      (renamed_later (length f.found.groups) f.top (group_of f.found.group_of_stretch (share_at shares x).stretch) (group_of f.new_stretches (share_at shares x).stretch)
+      f.search.apart (f.stretch (share_at shares x).stretch lies.1) (omega (arith, is, above)) ∙ is) in
       renamed_same (length f.found.groups) f.top (group_of f.found.group_of_job (share_at shares x).job) (group_of f.new_jobs (share_at shares x).job)
-          (f.job (share_at shares x).job lies.0) (λ same. omega (arith, same, job, above)) ∙ job;
+      (f.job (share_at shares x).job lies.0) (λ same. omega (arith, same, job, above)) ∙ job;
   most = λ j known is. fast.most j known
       (renamed_later (length f.found.groups) f.top (group_of f.found.group_of_job j) (group_of f.new_jobs j) f.search.apart (f.job j known) (omega (arith, is, above)) ∙ is);
 }
@@ -497,10 +497,10 @@ kept_slow f c p q shares above inside slow = record {
   own = λ x within is.
       let lies = inside x within in
       let stretch = slow.own x within
-            (renamed_later (length f.found.groups) f.top (group_of f.found.group_of_job (share_at shares x).job) (group_of f.new_jobs (share_at shares x).job)
-            f.search.apart (f.job (share_at shares x).job lies.0) (omega (arith, is, above)) ∙ is) in
+      (renamed_later (length f.found.groups) f.top (group_of f.found.group_of_job (share_at shares x).job) (group_of f.new_jobs (share_at shares x).job)
+      f.search.apart (f.job (share_at shares x).job lies.0) (omega (arith, is, above)) ∙ is) in
       renamed_same (length f.found.groups) f.top (group_of f.found.group_of_stretch (share_at shares x).stretch) (group_of f.new_stretches (share_at shares x).stretch)
-          (f.stretch (share_at shares x).stretch lies.1) (λ same. omega (arith, same, stretch, above)) ∙ stretch;
+      (f.stretch (share_at shares x).stretch lies.1) (λ same. omega (arith, same, stretch, above)) ∙ stretch;
   room = λ k known is. slow.room k known
       (renamed_later (length f.found.groups) f.top (group_of f.found.group_of_stretch k) (group_of f.new_stretches k) f.search.apart (f.stretch k known) (omega (arith, is, above)) ∙ is);
 }
@@ -517,8 +517,12 @@ new_lead f i is more =
       some = old.some;
       inside = old.inside;
       fast = subst (λ (g : Group). old.p * g.length ≤ old.q * g.work) (sym (group_here f i here))
-          (omega (arith, fast_speed f.jobs f.windows f.found f.top old.p old.q old.shares old.inside old.fast,
-              ap (λ n. old.q * n) f.work, ap (λ n. old.p * n) f.length_is));
+          (omega (
+            arith,
+            fast_speed f.jobs f.windows f.found f.top old.p old.q old.shares old.inside old.fast,
+            ap (λ n. old.q * n) f.work,
+            ap (λ n. old.p * n) f.length_is,
+          ));
       slow = kept_slow f (f.top + 1) old.p old.q old.shares (omega arith) old.inside old.slow;
     }
 

@@ -64,11 +64,11 @@ kept_finished jobs windows found jobs' stretches' alike alike' finished = record
   shares = λ x d within.
       let share = finished.shares x d within in
       let job : group_of found.group_of_job (get_or found.shares x d).job ≡ group_of jobs' (get_or found.shares x d).job =
-          alike_before (length found.groups) (group_of found.group_of_job (get_or found.shares x d).job) (group_of jobs' (get_or found.shares x d).job)
-          (alike (get_or found.shares x d).job share.known) share.grouped in
+      alike_before (length found.groups) (group_of found.group_of_job (get_or found.shares x d).job) (group_of jobs' (get_or found.shares x d).job)
+      (alike (get_or found.shares x d).job share.known) share.grouped in
       let stretch : group_of found.group_of_stretch (get_or found.shares x d).stretch ≡ group_of stretches' (get_or found.shares x d).stretch =
-          alike_before (length found.groups) (group_of found.group_of_stretch (get_or found.shares x d).stretch) (group_of stretches' (get_or found.shares x d).stretch)
-          (alike' (get_or found.shares x d).stretch share.known_stretch) (omega (arith, share.grouped, share.same_group)) in
+      alike_before (length found.groups) (group_of found.group_of_stretch (get_or found.shares x d).stretch) (group_of stretches' (get_or found.shares x d).stretch)
+      (alike' (get_or found.shares x d).stretch share.known_stretch) (omega (arith, share.grouped, share.same_group)) in
       record {
         known = share.known;
         known_stretch = share.known_stretch;

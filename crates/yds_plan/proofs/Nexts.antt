@@ -15,9 +15,9 @@ pub next_shorter : (rooms next : List ℕ) (place : ℕ) → IsNext rooms next �
 next_shorter rooms next place are within more =
     let after : get_or next place 0 < length next = are.inside place within in
     let here : get_or (set next place (get_or next (get_or next place 0) 0)) place 0 ≡ get_or next (get_or next place 0) 0 =
-        get_or-set_same next place (get_or next (get_or next place 0) 0) 0 within in
+    get_or-set_same next place (get_or next (get_or next place 0) 0) 0 within in
     let there : (k : ℕ) → k ≢ place → get_or (set next place (get_or next (get_or next place 0) 0)) k 0 ≡ get_or next k 0 =
-        λ k other. get_or-set_other next place k (get_or next (get_or next place 0) 0) 0 other in
+    λ k other. get_or-set_other next place k (get_or next (get_or next place 0) 0) 0 other in
     let same : length (set next place (get_or next (get_or next place 0) 0)) ≡ length next = length-set next place (get_or next (get_or next place 0) 0) in
     record {
       count = same ∙ are.count;

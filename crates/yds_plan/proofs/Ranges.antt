@@ -71,4 +71,4 @@ over_list f xs d =
     ∙ ap (sum_by f) (same_lists (map (λ k. get_or xs k d) (range_with_len 0 (length xs))) xs
     (length-map-range_with_len (λ k. get_or xs k d) 0 (length xs))
     (λ k e within. get_or-map-range_with_len (λ n. get_or xs n d) 0 (length xs) k k e (list_place xs d k within) (omega arith)
-        ∙ get_or_default xs k d e (list_place xs d k within)))
+    ∙ get_or_default xs k d e (list_place xs d k within)))

@@ -38,15 +38,20 @@ pub least_takes : (counts : ℕ → Type 0) (place value : ℕ → ℕ) (n m : �
     IsLeastOf counts place value (n + 1) m (set reaches (place n) (min (get_or reaches (place n) 0) (value n)))
 least_takes counts place value n m reaches so_far counted within small =
     let here : get_or (set reaches (place n) (min (get_or reaches (place n) 0) (value n))) (place n) 0 ≡ min (get_or reaches (place n) 0) (value n) =
-        get_or-set_same reaches (place n) (min (get_or reaches (place n) 0) (value n)) 0 (omega (arith, so_far.all)) in
+    get_or-set_same reaches (place n) (min (get_or reaches (place n) 0) (value n)) 0 (omega (arith, so_far.all)) in
     let there : (k : ℕ) → k ≢ place n → get_or (set reaches (place n) (min (get_or reaches (place n) 0) (value n))) k 0 ≡ get_or reaches k 0 =
-        λ k other. get_or-set_other reaches (place n) k (min (get_or reaches (place n) 0) (value n)) 0 other in
+    λ k other. get_or-set_other reaches (place n) k (min (get_or reaches (place n) 0) (value n)) 0 other in
     record {
       all = length-set reaches (place n) (min (get_or reaches (place n) 0) (value n)) ∙ so_far.all;
       least = λ i before counts_i. elim (cases_lt i n) [
         | inl less ↦ elim (cases_eq (place i) (place n)) [
-          | inl same ↦ omega (arith, here, so_far.least i less counts_i, ap (λ k. get_or reaches k 0) same,
-              ap (λ k. get_or (set reaches (place n) (min (get_or reaches (place n) 0) (value n))) k 0) same)
+          | inl same ↦ omega (
+            arith,
+            here,
+            so_far.least i less counts_i,
+            ap (λ k. get_or reaches k 0) same,
+            ap (λ k. get_or (set reaches (place n) (min (get_or reaches (place n) 0) (value n))) k 0) same,
+          )
           | inr other ↦ omega (arith, there (place i) other, so_far.least i less counts_i)
         ]
         | inr more ↦
@@ -59,7 +64,7 @@ least_takes counts place value n m reaches so_far counted within small =
             (found.0, omega (arith, found.1), found.2, found.3, found.4 ∙ sym (there k other))
         | inl same ↦
             let is : get_or (set reaches (place n) (min (get_or reaches (place n) 0) (value n))) k 0 ≡ min (get_or reaches (place n) 0) (value n) =
-                ap (λ j. get_or (set reaches (place n) (min (get_or reaches (place n) 0) (value n))) j 0) same ∙ here in
+            ap (λ j. get_or (set reaches (place n) (min (get_or reaches (place n) 0) (value n))) j 0) same ∙ here in
             elim (cases_lt (get_or reaches (place n) 0) (value n)) [
               | inl old ↦
                   let found = so_far.some (place n) within (omega (arith, old, small)) in

@@ -79,7 +79,7 @@ own_share s x within =
     let known : (share_at s.shares x).job < length s.jobs = omega (arith, part.known, s.windows_are.all) in
     let known_stretch : (share_at s.shares x).stretch < length (stretches s.jobs) = omega (arith, part.known_stretch, s.filled.all_rooms) in
     let mine = own_job s (share_at s.shares x).job known
-        (omega (arith, s.filled.fill.want (share_at s.shares x).job, share_counts (λ share. share.job) s.shares x within, part.some)) in
+    (omega (arith, s.filled.fill.want (share_at s.shares x).job, share_counts (λ share. share.job) s.shares x within, part.some)) in
     record {
       runs = record { known = known; some = mine.1; inside = part.inside };
       stretch_known = known_stretch;
@@ -180,13 +180,16 @@ some_room : (s : Splitting) → (k : ℕ) × (k < length (stretches s.jobs)) × 
     × (IsMarked s.reaches k → ⊥)
 some_room s =
     let found = over_some (λ k. get_or s.rooms_left k 0) (length (stretches s.jobs)) (omega (
-          arith,
-          balance s.jobs s.windows s.found (s.below + 1) s.p s.q s.wants s.rooms s.shares s.wants_left s.rooms_left s.windows_are.all s.filled,
-          over_one (λ j. get_or s.wants_left j 0) (length s.jobs) s.a_late.0 s.a_late.1,
-          s.a_late.2,
-        )) in
-    (found.0, found.1, own_stretch s found.0 found.1 (omega (arith, s.filled.fill.room found.0, found.2)),
-        λ marked. omega (arith, s.closed.full found.0 found.1 marked, found.2))
+      arith,
+      balance s.jobs s.windows s.found (s.below + 1) s.p s.q s.wants s.rooms s.shares s.wants_left s.rooms_left s.windows_are.all s.filled,
+      over_one (λ j. get_or s.wants_left j 0) (length s.jobs) s.a_late.0 s.a_late.1,
+      s.a_late.2,
+    )) in (
+      found.0,
+      found.1,
+      own_stretch s found.0 found.1 (omega (arith, s.filled.fill.room found.0, found.2)),
+      λ marked. omega (arith, s.closed.full found.0 found.1 marked, found.2),
+    )
 
 -- another group's stretch stays, and so does another group's job
 kept_stretch : (s : Splitting) (k c : ℕ) → k < length (stretches s.jobs) → (c ≡ s.below + 1 → ⊥) → group_of s.found.group_of_stretch k ≡ c → group_of s.new_stretches k ≡ c
@@ -279,12 +282,21 @@ new_boundary s = record {
   fast = record {
     full = λ k known is.
         let upper = upper_stretch s k known is in
-        omega (arith, s.filled.room k known, chosen (group_of s.found.group_of_stretch k) (s.below + 1) (s.p * length_of s.jobs k) upper.0,
-            s.filled.fill.room k, s.closed.full k known upper.1);
+        omega (
+          arith,
+          s.filled.room k known,
+          chosen (group_of s.found.group_of_stretch k) (s.below + 1) (s.p * length_of s.jobs k) upper.0,
+          s.filled.fill.room k,
+          s.closed.full k known upper.1,
+        );
     own = λ x within is. shared_job s x within (upper_stretch s (share_at s.shares x).stretch (own_share s x within).stretch_known is).1;
     most = λ j known is.
-        omega (arith, s.filled.want j known, chosen (group_of s.found.group_of_job j) (s.below + 1) (s.q * (job_at s.jobs j).work) (any_upper_job s j known is).mine,
-            s.filled.fill.want j);
+        omega (
+          arith,
+          s.filled.want j known,
+          chosen (group_of s.found.group_of_job j) (s.below + 1) (s.q * (job_at s.jobs j).work) (any_upper_job s j known is).mine,
+          s.filled.fill.want j,
+        );
   };
   slow = record {
     served = λ j known is. elim (cases_lt 0 (get_or s.wants_left j 0)) [
@@ -344,15 +356,14 @@ covered_above : (s : Splitting) (k : ℕ) → k < length (stretches s.jobs) → 
 covered_above s k known new =
     let upper = upper_stretch s k known new in
     let found = some_share (λ share. share.stretch) s.shares k (omega (
-          arith,
-          s.filled.fill.room k,
-          s.closed.full k known upper.1,
-          s.filled.room k known,
-          chosen (group_of s.found.group_of_stretch k) (s.below + 1) (s.p * length_of s.jobs k) upper.0,
-          product_some s.p (length_of s.jobs k) s.filled.some_time (s.long k known),
-        )) in
-    let own = own_share s found.0 found.1 in
-    (
+      arith,
+      s.filled.fill.room k,
+      s.closed.full k known upper.1,
+      s.filled.room k known,
+      chosen (group_of s.found.group_of_stretch k) (s.below + 1) (s.p * length_of s.jobs k) upper.0,
+      product_some s.p (length_of s.jobs k) s.filled.some_time (s.long k known),
+    )) in
+    let own = own_share s found.0 found.1 in (
       (share_at s.shares found.0).job,
       subst (λ (n : ℕ). MayRun s.jobs s.windows (share_at s.shares found.0).job n) found.2 own.runs,
       shared_job s found.0 found.1 (subst (λ (n : ℕ). IsMarked s.reaches n) (sym found.2) upper.1) ∙ sym new,
@@ -363,11 +374,14 @@ covered_below : (s : Splitting) (k : ℕ) → k < length (stretches s.jobs) → 
     (j : ℕ) × MayRun s.jobs s.windows j k × (group_of s.new_jobs j ≡ group_of s.new_stretches k)
 covered_below s k known other from upto =
     let same = other_stretch s k known other in
-    let found = s.search.covered k known (omega (arith, same)) (omega (arith, same)) in
-    (found.0, found.1, elim (cases_eq (group_of s.found.group_of_job found.0) (s.below + 1)) [
-      | inl mine ↦ lower_job s found.0 k found.1.known found.1.inside (same ∙ sym found.2 ∙ mine) ∙ found.2 ∙ sym same
-      | inr apart ↦ kept_job s found.0 (group_of s.found.group_of_job found.0) found.1.known apart refl ∙ found.2 ∙ sym same
-    ])
+    let found = s.search.covered k known (omega (arith, same)) (omega (arith, same)) in (
+      found.0,
+      found.1,
+      elim (cases_eq (group_of s.found.group_of_job found.0) (s.below + 1)) [
+        | inl mine ↦ lower_job s found.0 k found.1.known found.1.inside (same ∙ sym found.2 ∙ mine) ∙ found.2 ∙ sym same
+        | inr apart ↦ kept_job s found.0 (group_of s.found.group_of_job found.0) found.1.known apart refl ∙ found.2 ∙ sym same
+      ],
+    )
 
 meets_after : (s : Splitting) (j : ℕ) → j < length s.jobs → 1 ≤ (job_at s.jobs j).work → s.below ≤ group_of s.new_jobs j →
     (k : ℕ) × IsIn s.windows j k × (group_of s.new_stretches k ≡ group_of s.new_jobs j)
@@ -382,9 +396,11 @@ meets_after s j known some from = elim (s.split.job j (omega (arith, s.search.al
     | inr apart ↦ elim (s.search.with_work j known some) [
       | inl finished ↦ absurd (omega (arith, same.1, finished, s.apart))
       | inr later ↦
-          let found = s.search.meets j known some later.0 in
-          (found.0, found.1,
-              kept_stretch s found.0 (group_of s.found.group_of_job j) (omega (arith, found.1.upto, s.windows_are.inside j known)) apart found.2 ∙ sym same.1)
+          let found = s.search.meets j known some later.0 in (
+            found.0,
+            found.1,
+            kept_stretch s found.0 (group_of s.found.group_of_job j) (omega (arith, found.1.upto, s.windows_are.inside j known)) apart found.2 ∙ sym same.1,
+          )
     ]
   ]
 ]
@@ -409,16 +425,22 @@ peopled_after s c from upto = elim (cases_eq c s.below) [
   | inl upper ↦
       let late = late_job s s.a_late.0 s.a_late.1 s.a_late.2 in
       let found = s.search.meets s.a_late.0 s.a_late.1 late.1 (omega (arith, late.0)) in
-      let known : found.0 < length (stretches s.jobs) = omega (arith, found.1.upto, s.windows_are.inside s.a_late.0 s.a_late.1) in
-      (found.0, known, marked_stretch s found.0 known (found.2 ∙ late.0)
-          (s.closed.late s.a_late.0 found.0 (omega (arith, s.windows_are.all, s.a_late.1)) s.a_late.2 found.1) ∙ sym upper)
+      let known : found.0 < length (stretches s.jobs) = omega (arith, found.1.upto, s.windows_are.inside s.a_late.0 s.a_late.1) in (
+        found.0,
+        known,
+        marked_stretch s found.0 known (found.2 ∙ late.0)
+            (s.closed.late s.a_late.0 found.0 (omega (arith, s.windows_are.all, s.a_late.1)) s.a_late.2 found.1) ∙ sym upper,
+      )
   | inr other ↦ elim (cases_eq c (s.below + 1)) [
     | inl lower ↦
-        let found = some_room s in
-        (found.0, found.1, elim (s.split.stretch found.0 (omega (arith, s.search.all_stretches, found.1))) [
-          | inl moves ↦ absurd (found.3 moves.1)
-          | inr same ↦ same.1 ∙ found.2 ∙ sym lower
-        ])
+        let found = some_room s in (
+          found.0,
+          found.1,
+          elim (s.split.stretch found.0 (omega (arith, s.search.all_stretches, found.1))) [
+            | inl moves ↦ absurd (found.3 moves.1)
+            | inr same ↦ same.1 ∙ found.2 ∙ sym lower
+          ],
+        )
     | inr above ↦
         let found = s.search.peopled c (omega arith) upto in
         (found.0, found.1, kept_stretch s found.0 c found.1 above found.2)

@@ -164,9 +164,9 @@ closes jobs windows found top p q m wants rooms shares wants' rooms' late shared
     let same : m ≡ length rooms = all ∙ sym filled.all_rooms in
     subst (λ (n : ℕ). AreClosed windows n shares wants' rooms' reaches) filled.all_rooms
     (fill_closes jobs windows wants rooms shares wants' rooms' late shared reaches are filled.all_rooms filled.fill
-        (subst (λ (n : ℕ). AreLateReaches windows wants' n late) same lates)
-        (subst (λ (n : ℕ). AreShareReaches windows shares n shared) same shareds)
-        (subst (λ (n : ℕ). AreReaches late shared n reaches) same reach))
+    (subst (λ (n : ℕ). AreLateReaches windows wants' n late) same lates)
+    (subst (λ (n : ℕ). AreShareReaches windows shares n shared) same shareds)
+    (subst (λ (n : ℕ). AreReaches late shared n reaches) same reach))
 
 abbrev splitting : (jobs : List Job) (instance : Instance) (found : Found) (below : ℕ) (group : Group) (shares : List Share) (wants' rooms' : List ℕ) (m : ℕ) (late shared reaches : List ℕ)
     (new_jobs new_stretches : List ℕ) → IsInstance jobs instance → IsSearch jobs instance.windows.items found (below + 1) 1000000 → below + 1 ≤ 1000000 →
@@ -220,19 +220,21 @@ pub split_step : (jobs : List Job) (instance : Instance) (found : Found) (below 
     IsSearch jobs instance.windows.items (moved found new_jobs new_stretches) below 1000000 × (sum new_stretches < sum found.group_of_stretch)
 split_step jobs instance found below group shares wants' rooms' m late shared reaches new_jobs new_stretches are search within attempt any all lates shareds reach split =
     let after : IsSearch jobs instance.windows.items (moved found new_jobs new_stretches) below 1000000 =
-        split_search (splitting jobs instance found below group shares wants' rooms' m late shared reaches new_jobs new_stretches are search within attempt any all lates shareds reach split) in
+    split_search (splitting jobs instance found below group shares wants' rooms' m late shared reaches new_jobs new_stretches are search within attempt any all lates shareds reach split) in
     let there = after.peopled below (omega arith) (omega arith) in
-    let in_range : there.0 < length found.group_of_stretch = omega (arith, search.all_stretches, there.1) in
-    (after, sum_less new_stretches found.group_of_stretch there.0 split.all_stretches
-        (λ k known. split_most reaches (below + 1) k (group_of found.group_of_stretch k) (group_of new_stretches k) (split.stretch k known))
-        in_range
-        (elim (split.stretch there.0 in_range) [
-          | inl moves ↦ omega (arith, moves.0, moves.2)
-          | inr same ↦ elim (search.stretch there.0 there.1) [
-            | inl finished ↦ absurd (omega (arith, same.1, there.2, finished, few_enough jobs instance.windows.items found (below + 1) search are.few_stretches))
-            | inr later ↦ absurd (omega (arith, same.1, there.2, later))
-          ]
-        ]))
+    let in_range : there.0 < length found.group_of_stretch = omega (arith, search.all_stretches, there.1) in (
+      after,
+      sum_less new_stretches found.group_of_stretch there.0 split.all_stretches
+          (λ k known. split_most reaches (below + 1) k (group_of found.group_of_stretch k) (group_of new_stretches k) (split.stretch k known))
+          in_range
+          (elim (split.stretch there.0 in_range) [
+            | inl moves ↦ omega (arith, moves.0, moves.2)
+            | inr same ↦ elim (search.stretch there.0 there.1) [
+              | inl finished ↦ absurd (omega (arith, same.1, there.2, finished, few_enough jobs instance.windows.items found (below + 1) search are.few_stretches))
+              | inr later ↦ absurd (omega (arith, same.1, there.2, later))
+            ]
+          ]),
+    )
 
 -- what was renamed, in lists and with numbers that are the same
 pub renamed_at : (xs xs' ys : List ℕ) (top number number' : ℕ) → xs ≡ xs' → number ≡ number' →

@@ -116,8 +116,12 @@ length_with time (first ∷ times) = elim (cases_lt time first) [
 -- at most two event points a job
 pub few_times : (jobs : List Job) → length (event_points jobs) ≤ 2 * length jobs
 few_times [] = omega arith
-few_times (job ∷ jobs) = omega (arith, few_times jobs,
-    length_with job.deadline (event_points jobs), length_with job.release (with_time job.deadline (event_points jobs)))
+few_times (job ∷ jobs) = omega (
+  arith,
+  few_times jobs,
+  length_with job.deadline (event_points jobs),
+  length_with job.release (with_time job.deadline (event_points jobs)),
+)
 
 length_neighbours : (time : ℕ) (times : List ℕ) → length (neighbours (time ∷ times)) ≡ length times
 length_neighbours time [] = refl

@@ -102,4 +102,4 @@ abbrev pub IsTake : ℕ → ℕ → ℕ → List Share → List ℕ → ℕ → 
 IsTake job stretch left shares rooms left' shares' rooms' =
     ((1 ≤ left → slice_index rooms stretch ≡ 0) × (left' ≡ left) × (shares' ≡ shares) × (rooms' ≡ rooms))
     ⊎ ((units : ℕ) × (1 ≤ left) × (1 ≤ slice_index rooms stretch) × (units ≡ min left (slice_index rooms stretch)) × (left' ≡ left - units)
-        × (shares' ≡ shares ++ record { job = job; stretch = stretch; units = units } ∷ []) × (rooms' ≡ slice_set rooms stretch (slice_index rooms stretch - units)))
+    × (shares' ≡ shares ++ record { job = job; stretch = stretch; units = units } ∷ []) × (rooms' ≡ slice_set rooms stretch (slice_index rooms stretch - units)))

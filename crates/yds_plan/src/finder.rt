@@ -13,8 +13,8 @@ use crate::finder_amounts::{greatest_divisor, scaled, total};
 use crate::finder_beginning::{LAST, beginning, first_group};
 use crate::finder_closure::reaches;
 use crate::finder_fill::{Filled, fill};
-use crate::finder_split::{rename, split_jobs, split_stretches};
 use crate::finder_instance::{Instance, prepare};
+use crate::finder_split::{rename, split_jobs, split_stretches};
 use crate::found::{Found, Group};
 use std::alloc::Global;
 use yds_model::{JobRow, Memory};
@@ -48,9 +48,28 @@ fn fill_group(
     let work = total(&instance.works, &found.group_of_job, top);
     let length = total(&instance.lengths, &found.group_of_stretch, top);
     let divisor = greatest_divisor(work, length);
-    let wants = scaled(alloc, &instance.works, &found.group_of_job, top, length / divisor)?;
-    let rooms = scaled(alloc, &instance.lengths, &found.group_of_stretch, top, work / divisor)?;
-    let filled = fill(alloc, rows, &instance.windows, &instance.order, wants, rooms)?;
+    let wants = scaled(
+        alloc,
+        &instance.works,
+        &found.group_of_job,
+        top,
+        length / divisor,
+    )?;
+    let rooms = scaled(
+        alloc,
+        &instance.lengths,
+        &found.group_of_stretch,
+        top,
+        work / divisor,
+    )?;
+    let filled = fill(
+        alloc,
+        rows,
+        &instance.windows,
+        &instance.order,
+        wants,
+        rooms,
+    )?;
     Ok(Attempt {
         group: Group { work, length },
         filled,
@@ -58,7 +77,13 @@ fn fill_group(
 }
 
 /// A group without late jobs is finished.
-fn finish(rows: &[JobRow], instance: &Instance, found: &mut Found, top: u32, attempt: Attempt) -> Result<(), Memory>
+fn finish(
+    rows: &[JobRow],
+    instance: &Instance,
+    found: &mut Found,
+    top: u32,
+    attempt: Attempt,
+) -> Result<(), Memory>
     requires instance { IsInstance rows.now instance.now }
     requires search { IsSearch rows.now instance.now.windows.items (found_view found.old) top LAST }
     requires within { top ≤ LAST }
@@ -95,9 +120,21 @@ fn split(
 {
     let stretches = found.group_of_stretch.len() as u32;
     let filled = &attempt.filled;
-    let reaches = reaches(alloc, &instance.windows, &filled.wants, &filled.shares, stretches)?;
+    let reaches = reaches(
+        alloc,
+        &instance.windows,
+        &filled.wants,
+        &filled.shares,
+        stretches,
+    )?;
     split_stretches(&mut found.group_of_stretch, &reaches, top);
-    split_jobs(alloc, &mut found.group_of_job, &instance.windows, &found.group_of_stretch, top)?;
+    split_jobs(
+        alloc,
+        &mut found.group_of_job,
+        &instance.windows,
+        &found.group_of_stretch,
+        top,
+    )?;
     Ok(())
 }
 
@@ -150,12 +187,19 @@ mod tests {
 
     #[test]
     fn nested_jobs_are_three_groups(rt: HostRuntime) -> Result<(), Fail> {
-        let rows = [JobRow::new(0, 12, 4), JobRow::new(2, 10, 8), JobRow::new(4, 6, 6)];
+        let rows = [
+            JobRow::new(0, 12, 4),
+            JobRow::new(2, 10, 8),
+            JobRow::new(4, 6, 6),
+        ];
         let times = [0, 2, 4, 6, 10, 12];
         let found = find(rt.alloc(), &rows, &times)?;
         assert_eq!(rt; found.groups.len(), 3);
         assert_eq!(rt; found.group_of_job.as_slice(), [2, 1, 0].as_slice());
-        assert_eq!(rt; found.group_of_stretch.as_slice(), [2, 1, 0, 1, 2].as_slice());
+        assert_eq!(rt;
+            found.group_of_stretch.as_slice(),
+            [2, 1, 0, 1, 2].as_slice()
+        );
         Ok(())
     }
 }

@@ -73,7 +73,11 @@ pub(crate) fn scaled(
     let mut scaled = Vec::new(alloc);
     for i in 0..amounts.len() {
         let mine = groups[i] == group;
-        let units = if mine { factor * u64::from(amounts[i]) } else { 0 };
+        let units = if mine {
+            factor * u64::from(amounts[i])
+        } else {
+            0
+        };
         scaled.push(units)?;
     }
     Ok(scaled)

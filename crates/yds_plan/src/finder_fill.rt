@@ -129,7 +129,15 @@ pub(crate) fn fill(
     let mut next = numbers(alloc, rooms.len())?;
     for job in order {
         let at = *job as usize;
-        let left = serve(rows, windows, *job, wants[at], &mut rooms, &mut next, &mut shares)?;
+        let left = serve(
+            rows,
+            windows,
+            *job,
+            wants[at],
+            &mut rooms,
+            &mut next,
+            &mut shares,
+        )?;
         wants[at] = left;
     }
     Ok(Filled {

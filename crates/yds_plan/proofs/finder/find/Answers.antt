@@ -12,7 +12,7 @@ loop-top-init c =
     c.in_ok-instance.ensures.windows
     (subst (λ (xs : List Window). IsBeginning c.args.rows.now xs (found_view c.in_ok-found.found) 1000000) c.deref.ensures.value c.in_ok-found.ensures)
     (start_is c.args.rows.now c.in_ok-instance.instance c.deref-2.result.now c.first_group-top.result 1000000 c.in_ok-instance.ensures
-        c.deref-2.ensures.value c.first_group-top.ensures)
+    c.deref-2.ensures.value c.first_group-top.ensures)
 
 pub advance-requires-clause-some : goal.advance-requires-clause-some
 advance-requires-clause-some c = omega (

@@ -10,7 +10,7 @@ use Rattle.yds_plan.proofs.finder_closure.closure.Goals.{then-least-place, else-
 pub loop-place-init : goal.loop-place-init
 loop-place-init c =
     let all : length c.in_ok-reaches.reaches.items ≡ c.args.stretches =
-        ap (λ (xs : List ℕ). length xs) (c.in_ok-reaches.ensures.items_if_clones_equal (λ y same. same)) ∙ length-replicate c.args.stretches c.args.stretches in
+    ap (λ (xs : List ℕ). length xs) (c.in_ok-reaches.ensures.items_if_clones_equal (λ y same. same)) ∙ length-replicate c.args.stretches c.args.stretches in
     record {
       all = all;
       first = sym (get_or_past c.in_ok-reaches.reaches.items c.args.stretches c.args.stretches (omega (arith, all)));

@@ -21,28 +21,28 @@ loop-share-preserved c =
     let within : c.loop-share.share-index < length (shares_view c.args.shares.now) = omega (arith, length-map c.args.shares.now share_view) in
     let part = c.requires c.loop-share.share-index no_share within in
     let read : share_at (shares_view c.args.shares.now) c.loop-share.share-index
-            ≡ share_view (get_or c.args.shares.now c.loop-share.share-index (record { job = 0; stretch = 0; units = 0 })) =
-        get_or-map share_view c.args.shares.now c.loop-share.share-index (record { job = 0; stretch = 0; units = 0 }) no_share c.loop-share-test.true in
+    ≡ share_view (get_or c.args.shares.now c.loop-share.share-index (record { job = 0; stretch = 0; units = 0 })) =
+    get_or-map share_view c.args.shares.now c.loop-share.share-index (record { job = 0; stretch = 0; units = 0 }) no_share c.loop-share-test.true in
     let stretch : (share_at (shares_view c.args.shares.now) c.loop-share.share-index).stretch
-            ≡ (get_or c.args.shares.now c.loop-share.share-index (record { job = 0; stretch = 0; units = 0 })).stretch = ap (λ (share : Share). share.stretch) read in
+    ≡ (get_or c.args.shares.now c.loop-share.share-index (record { job = 0; stretch = 0; units = 0 })).stretch = ap (λ (share : Share). share.stretch) read in
     let is : c.min.result ≡ min (get_or c.loop-share.reaches.items (get_or c.args.shares.now c.loop-share.share-index (record { job = 0; stretch = 0; units = 0 })).stretch 0)
-            (window_at c.args.windows.now (get_or c.args.shares.now c.loop-share.share-index (record { job = 0; stretch = 0; units = 0 })).job).first =
-        c.min.ensures ∙ ap (λ (n : ℕ). min n (window_at c.args.windows.now (get_or c.args.shares.now c.loop-share.share-index (record { job = 0; stretch = 0; units = 0 })).job).first)
-            (c.index.ensures ∙ get_or_default c.loop-share.reaches.items _ _ 0 (omega (arith, part.known_stretch, c.loop-share.invariant.all, stretch))) in
+    (window_at c.args.windows.now (get_or c.args.shares.now c.loop-share.share-index (record { job = 0; stretch = 0; units = 0 })).job).first =
+    c.min.ensures ∙ ap (λ (n : ℕ). min n (window_at c.args.windows.now (get_or c.args.shares.now c.loop-share.share-index (record { job = 0; stretch = 0; units = 0 })).job).first)
+    (c.index.ensures ∙ get_or_default c.loop-share.reaches.items _ _ 0 (omega (arith, part.known_stretch, c.loop-share.invariant.all, stretch))) in
     subst (λ (n : ℕ). SharesTo c.args.windows.now (shares_view c.args.shares.now) (c.loop-share.share-index + 1) c.args.stretches
-        (set c.loop-share.reaches.items (get_or c.args.shares.now c.loop-share.share-index (record { job = 0; stretch = 0; units = 0 })).stretch n)) (sym is)
+    (set c.loop-share.reaches.items (get_or c.args.shares.now c.loop-share.share-index (record { job = 0; stretch = 0; units = 0 })).stretch n)) (sym is)
     (subst (λ (share : Share). SharesTo c.args.windows.now (shares_view c.args.shares.now) (c.loop-share.share-index + 1) c.args.stretches
-        (set c.loop-share.reaches.items share.stretch (min (get_or c.loop-share.reaches.items share.stretch 0) (window_at c.args.windows.now share.job).first))) read
+    (set c.loop-share.reaches.items share.stretch (min (get_or c.loop-share.reaches.items share.stretch 0) (window_at c.args.windows.now share.job).first))) read
     (least_takes (λ x. Unit {0}) (λ x. (share_at (shares_view c.args.shares.now) x).stretch)
-        (λ x. (window_at c.args.windows.now (share_at (shares_view c.args.shares.now) x).job).first)
-        c.loop-share.share-index c.args.stretches c.loop-share.reaches.items c.loop-share.invariant tt
-        part.known_stretch (omega (arith, part.known_stretch, part.inside.from))))
+    (λ x. (window_at c.args.windows.now (share_at (shares_view c.args.shares.now) x).job).first)
+    c.loop-share.share-index c.args.stretches c.loop-share.reaches.items c.loop-share.invariant tt
+    part.known_stretch (omega (arith, part.known_stretch, part.inside.from))))
 
 pub returns : goal.returns
 returns c =
     share_least c.args.windows.now (shares_view c.args.shares.now) c.args.stretches c.loop-share.reaches.items
     (subst (λ (n : ℕ). SharesTo c.args.windows.now (shares_view c.args.shares.now) n c.args.stretches c.loop-share.reaches.items)
-        (omega (arith, c.loop-share.auto.share-index-end, c.loop-share-test.false, length-map c.args.shares.now share_view)) c.loop-share.invariant)
+    (omega (arith, c.loop-share.auto.share-index-end, c.loop-share-test.false, length-map c.args.shares.now share_view)) c.loop-share.invariant)
 
 -- the share that is read is one of a job and a stretch that there are
 part_read : (n m : ℕ) (windows : List Window) (list : List shares.Share) (i : ℕ) → All (IsPart windows n m) (shares_view list) → i < length list →

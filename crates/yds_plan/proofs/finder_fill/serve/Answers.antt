@@ -10,10 +10,10 @@ loop-left-preserved c =
       served = serve_jumps c.args._jobs.now c.args.windows.now c.args.job c.args.want (shares_view c.args.shares.now.items) c.args.rooms.now
           (c.loop-left.stretch + 1) c.next_place-stretch-in-loop-left.result c.in_ok-left.left (shares_view c.take.new.shares.items) c.take.new.rooms
           (serve_take c.args._jobs.now c.args.windows.now c.args.job c.args.want (shares_view c.args.shares.now.items) c.args.rooms.now
-              c.loop-left.stretch c.loop-left.left (shares_view c.loop-left.shares.items) c.loop-left.rooms
-              c.in_ok-left.left (shares_view c.take.new.shares.items) c.take.new.rooms c.loop-left.invariant.served
-              c.requires.known c.loop-left.invariant.from c.if-stretch-window.true (omega (arith, c.requires.inside, c.if-stretch-window.true))
-              c.in_ok-left.ensures)
+          c.loop-left.stretch c.loop-left.left (shares_view c.loop-left.shares.items) c.loop-left.rooms
+          c.in_ok-left.left (shares_view c.take.new.shares.items) c.take.new.rooms c.loop-left.invariant.served
+          c.requires.known c.loop-left.invariant.from c.if-stretch-window.true (omega (arith, c.requires.inside, c.if-stretch-window.true))
+          c.in_ok-left.ensures)
           place.after place.full;
       next = c.next_place-stretch-in-loop-left.ensures.next;
       from = omega (arith, place.after, c.loop-left.invariant.from);

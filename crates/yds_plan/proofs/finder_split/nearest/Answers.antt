@@ -20,7 +20,7 @@ pub loop-place-preserved : goal.loop-place-preserved
 loop-place-preserved c =
     let back : c.loop-place.place - 1 + 1 ≡ c.loop-place.place = omega arith in
     let so_far : NearestFrom c.args.stretch_groups.now c.args.top (c.loop-place.place - 1 + 1) c.loop-place.last c.loop-place.nearest.items =
-        subst (λ (n : ℕ). NearestFrom c.args.stretch_groups.now c.args.top n c.loop-place.last c.loop-place.nearest.items) (sym back) c.loop-place.invariant in
+    subst (λ (n : ℕ). NearestFrom c.args.stretch_groups.now c.args.top n c.loop-place.last c.loop-place.nearest.items) (sym back) c.loop-place.invariant in
     nearest_more c.args.stretch_groups.now c.args.top (c.loop-place.place - 1) c.loop-place.last c.if-stretch_groups-place.last c.loop-place.nearest.items
     so_far (omega arith)
     (elim c.if-stretch_groups-place.branch [

@@ -12,11 +12,11 @@ loop-place-preserved c = elim c.if-groups-place.branch [
   | then-groups-place w ↦
       subst (λ (xs : List ℕ). IsDoneTo (λ k one other. IsRenamed c.args.from c.args.to one other) c.args.groups.now xs (c.loop-place.place + 1)) (sym w.groups-is)
       (done_writes (λ k one other. IsRenamed c.args.from c.args.to one other) c.args.groups.now c.loop-place.groups c.loop-place.place c.args.to c.loop-place.invariant
-          (omega arith) (inl (w.if-groups-place.true, refl)))
+      (omega arith) (inl (w.if-groups-place.true, refl)))
   | else-groups-place w ↦
       subst (λ (xs : List ℕ). IsDoneTo (λ k one other. IsRenamed c.args.from c.args.to one other) c.args.groups.now xs (c.loop-place.place + 1)) (sym w.groups-is)
       (done_keeps (λ k one other. IsRenamed c.args.from c.args.to one other) c.args.groups.now c.loop-place.groups c.loop-place.place c.loop-place.invariant
-          (inr (w.if-groups-place.false, refl)))
+      (inr (w.if-groups-place.false, refl)))
 ]
 
 pub returns : goal.returns

@@ -17,24 +17,29 @@ loop-job-preserved c =
     elim c.if-groups-job.branch [
       | then-groups-job+then-index-window w ↦
           let near = w.index.ensures ∙ get_or_default c.in_ok-nearest.nearest.items (window_at c.args.windows.now c.loop-job.job).first _ 0
-                (omega (arith, forward, inside, c.in_ok-nearest.ensures.count)) in
+          (omega (arith, forward, inside, c.in_ok-nearest.ensures.count)) in
           subst (λ (xs : List ℕ). IsDoneTo (IsSplitJob c.args.windows.now c.args.stretch_groups.now c.args.top) c.args.groups.now xs (c.loop-job.job + 1)) (sym w.groups-is)
           (done_writes (IsSplitJob c.args.windows.now c.args.stretch_groups.now c.args.top) c.args.groups.now c.loop-job.groups c.loop-job.job (c.args.top - 1) c.loop-job.invariant
-              (omega arith) (inl (w.if-groups-job.true,
-                window_misses c.args.stretch_groups.now c.args.top c.in_ok-nearest.nearest.items c.args.windows.now c.loop-job.job c.in_ok-nearest.ensures forward inside
-                    (omega (arith, near, w.if-index-window.true)),
-                omega (arith, c.requires.some))))
+          (omega arith) (inl (
+            w.if-groups-job.true,
+            window_misses c.args.stretch_groups.now c.args.top c.in_ok-nearest.nearest.items c.args.windows.now c.loop-job.job c.in_ok-nearest.ensures forward inside
+                (omega (arith, near, w.if-index-window.true)),
+            omega (arith, c.requires.some),
+          )))
       | else-groups-job w ↦
           subst (λ (xs : List ℕ). IsDoneTo (IsSplitJob c.args.windows.now c.args.stretch_groups.now c.args.top) c.args.groups.now xs (c.loop-job.job + 1)) (sym w.groups-is)
           (done_keeps (IsSplitJob c.args.windows.now c.args.stretch_groups.now c.args.top) c.args.groups.now c.loop-job.groups c.loop-job.job c.loop-job.invariant
-              (inr (elim w.else-groups-job.branch [
-                | else-groups-job-via-then-groups-job+else-index-window v ↦
-                    let near = v.index.ensures ∙ get_or_default c.in_ok-nearest.nearest.items (window_at c.args.windows.now c.loop-job.job).first _ 0
-                          (omega (arith, forward, inside, c.in_ok-nearest.ensures.count)) in
-                    λ same. window_meets c.args.stretch_groups.now c.args.top c.in_ok-nearest.nearest.items c.args.windows.now c.loop-job.job c.in_ok-nearest.ensures forward inside
-                        (omega (arith, near, v.if-index-window.false))
-                | else-groups-job-via-else-groups-job v ↦ λ same. absurd (v.if-groups-job.false same)
-              ], refl)))
+          (inr (
+            elim w.else-groups-job.branch [
+              | else-groups-job-via-then-groups-job+else-index-window v ↦
+                  let near = v.index.ensures ∙ get_or_default c.in_ok-nearest.nearest.items (window_at c.args.windows.now c.loop-job.job).first _ 0
+                  (omega (arith, forward, inside, c.in_ok-nearest.ensures.count)) in
+                  λ same. window_meets c.args.stretch_groups.now c.args.top c.in_ok-nearest.nearest.items c.args.windows.now c.loop-job.job c.in_ok-nearest.ensures forward inside
+                  (omega (arith, near, v.if-index-window.false))
+              | else-groups-job-via-else-groups-job v ↦ λ same. absurd (v.if-groups-job.false same)
+            ],
+            refl,
+          )))
     ]
 
 pub returns : goal.returns
