@@ -1,6 +1,5 @@
-use Rattle.std.proofs.Common.{ℕ, ◌+◌, ◌-◌, ◌≡◌, ◌<◌, ◌∙◌, List, ◌++◌, length, map, take, drop, sum, sym, ap, subst, arith}
+use Rattle.std.proofs.Common.{ℕ, ◌-◌, ◌≡◌, ◌<◌, ◌∙◌, List, ◌++◌, length, map, take, drop, sum, sym, ap, subst, arith}
 use Rattle.std.proofs.lemmas.List.{take_at}
-use Rattle.yds_model.specs.Event.{stretches}
 use Rattle.yds_plan.specs.Views.{found_view, group_view, shares_view}
 use Rattle.yds_plan.specs.Search.{IsSearch}
 use Rattle.yds_plan.proofs.Steps.{split_top, split_at, reaches_at}

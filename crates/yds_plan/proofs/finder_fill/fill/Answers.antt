@@ -1,6 +1,6 @@
-use Rattle.std.proofs.Common.{ℕ, ◌+◌, ◌≤◌, ◌<◌, ◌≡◌, get_or, sym, ap, subst, ◌∙◌, arith, inl, inr, length, List, set, take, drop, ◌++◌}
+use Rattle.std.proofs.Common.{ℕ, ◌+◌, ◌≡◌, get_or, sym, ap, subst, ◌∙◌, arith, length, List, set, take, drop, ◌++◌}
 use Rattle.std.proofs.lemmas.List.{take_at, get_or_default}
-use Rattle.yds_plan.specs.Views.{share_view, shares_view}
+use Rattle.yds_plan.specs.Views.{shares_view}
 use Rattle.yds_plan.specs.Fill.{AreTaken, IsServed, IsFilling, IsNext}
 use Rattle.yds_plan.specs.Windows.{window_at}
 use Rattle.yds_plan.proofs.Filling.{fill_more, fill_ends}

@@ -1,4 +1,4 @@
-use Rattle.std.proofs.Common.{◌≡◌, ◌-◌, length}
+use Rattle.std.proofs.Common.{◌-◌, length}
 use Rattle.yds_plan.specs.Fill.{IsNext, IsNextFrom}
 use Rattle.yds_plan.proofs.finder_fill.next_place.Given as goal
 
