@@ -12,6 +12,7 @@ mod judgement;
 mod member;
 mod order;
 mod pieces;
+mod placed;
 mod speeds;
 mod sums;
 mod windows;
