@@ -60,7 +60,7 @@ pub next_placed : (level : ℕ) (old now : List Placed) (pieces : List Piece) (i
     PlacesMore old now (take i pieces) level → PlacesMore old (now ++ placed_at level piece ∷ []) (take (i + 1) pieces) level
 next_placed level old now pieces i piece within is more levels time =
     let joined : take (i + 1) pieces ≡ take i pieces ++ piece ∷ [] =
-        take_more pieces i piece within ∙ ap (λ one. take i pieces ++ one ∷ []) (sym is) in
+    take_more pieces i piece within ∙ ap (λ one. take i pieces ++ one ∷ []) (sym is) in
     rw joined (more_placed level levels time old now (take i pieces) piece (more levels time))
 
 -- the first levels are placed, as far as they are among so many
@@ -109,8 +109,7 @@ Any-permutation P xs ys same some =
 -- in another order they hold the same
 pub sorted_placed : (levels : List Level) (placed sorted : List Placed) → ArePlaced levels placed → IsPermutation placed sorted → ArePlaced levels sorted
 sorted_placed levels placed sorted are same n time within =
-    let law = are n time within in
-    (
+    let law = are n time within in (
       λ covers. Any-permutation (HasTime n time) placed sorted same (law.0 covers),
       λ holds. law.1 (Any-permutation (HasTime n time) sorted placed (IsPermutation-sym placed sorted same) holds),
     )

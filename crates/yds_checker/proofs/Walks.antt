@@ -1,11 +1,11 @@
 -- A walk over pieces that lie one after another.
-use Rattle.std.proofs.Common.{◌≡◌, ℕ, zero, suc, ◌+◌, ◌<◌, ◌≤◌, ◌⊎◌, List, [], ◌∷◌, length, get_or, take, take_all, refl, ap, sym, ◌∙◌, subst, arith, inl, inr, get_or-take, length-take}
+use Rattle.std.proofs.Common.{◌≡◌, ℕ, zero, suc, ◌+◌, ◌<◌, ◌≤◌, ◌⊎◌, List, [], ◌∷◌, length, get_or, take, take_all, ap, sym, ◌∙◌, subst, arith, inl, inr, get_or-take, length-take}
 use Rattle.std.specs.List.{All}
 use Rattle.std.proofs.lemmas.List.{get_or_default}
 use Rattle.std.proofs.lemmas.List.Elements.{All-nil, All-cons, All-weaker, All-more}
 use Rattle.std.proofs.lemmas.Bool.{cases_lt}
 use Rattle.yds_checker.specs.declared.placed.Placed.{Placed}
-use Rattle.yds_checker.specs.Placed.{RunOf, HasTime, Holds}
+use Rattle.yds_checker.specs.Placed.{RunOf, Holds}
 
 -- they begin at the start or later
 run_begins : (start : ℕ) (placed : List Placed) → RunOf start placed → All (λ piece. start ≤ piece.from) placed

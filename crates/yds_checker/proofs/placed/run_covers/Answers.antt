@@ -1,6 +1,6 @@
-use Rattle.std.proofs.Common.{◌≡◌, ◌≤◌, sym, subst, arith, inl, inr}
+use Rattle.std.proofs.Common.{arith, inl, inr}
 use Rattle.std.proofs.lemmas.Bool.{cases_lt, false≢true, le-leb, leb-true}
-use Rattle.yds_checker.proofs.Walks.{Walked, not_held, none_held, walked_on, walked_by}
+use Rattle.yds_checker.proofs.Walks.{not_held, none_held, walked_on, walked_by}
 use Rattle.yds_checker.proofs.placed.run_covers.Goals as goal
 use Rattle.yds_checker.proofs.placed.run_covers.Goals.{then-time-piece-2-via-then-time-piece-2, then-time-piece-2-via-else-time-piece-2+then-levels-piece, then-time-piece+else-time-piece-2+else-levels-piece, else-time-piece}
 
@@ -8,12 +8,12 @@ pub returns-then-time-piece-2 : goal.returns-then-time-piece-2
 returns-then-time-piece-2 c = (
   λ no. absurd (false≢true no),
   λ each. absurd (not_held c.args.levels c.loop-piece.time c.loop-piece.piece-index c.args.placed.now _ c.requires c.loop-piece-test.true
-  c.loop-piece.invariant.ended c.if-time-piece.true
-  (elim c.then-time-piece-2.branch [
-    | then-time-piece-2-via-then-time-piece-2 w ↦ inl w.if-time-piece-2.true
-    | then-time-piece-2-via-else-time-piece-2+then-levels-piece w ↦ inr w.if-levels-piece.true
-  ])
-  (each c.loop-piece.time c.loop-piece.invariant.begun c.if-to-time.false)),
+      c.loop-piece.invariant.ended c.if-time-piece.true
+      (elim c.then-time-piece-2.branch [
+        | then-time-piece-2-via-then-time-piece-2 w ↦ inl w.if-time-piece-2.true
+        | then-time-piece-2-via-else-time-piece-2+then-levels-piece w ↦ inr w.if-levels-piece.true
+      ])
+      (each c.loop-piece.time c.loop-piece.invariant.begun c.if-to-time.false)),
 )
 
 pub loop-piece-preserved : goal.loop-piece-preserved
