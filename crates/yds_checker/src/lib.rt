@@ -19,3 +19,6 @@ mod windows;
 
 pub use checker::check;
 pub use judgement::Judgement;
+
+#[cfg(test)]
+mod tests;
