@@ -13,3 +13,6 @@ mod verdict;
 
 pub use auditor::audit;
 pub use verdict::Verdict;
+
+#[cfg(test)]
+mod tests;

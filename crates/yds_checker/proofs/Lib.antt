@@ -5,3 +5,5 @@ pub mod OneHome
 pub mod Small
 pub mod Covers
 pub mod Accepted
+pub mod Placing
+pub mod Walks

@@ -13,6 +13,7 @@ use crate::judgement::Judgement;
 use crate::member::first_wrong_member;
 use crate::order::first_faster;
 use crate::pieces::first_wrong_pieces;
+use crate::placed::placed_pieces;
 use crate::speeds::first_wrong_speed;
 use crate::sums::first_wrong_sums;
 use crate::windows::first_uncovered;
@@ -55,7 +56,8 @@ fn judgement_of(
     if let Some(level) = first_faster(levels) {
         return Ok(Judgement::Order(level));
     }
-    if let Some(job) = first_uncovered(rows, levels, &homes) {
+    let placed = placed_pieces(alloc, levels)?;
+    if let Some(job) = first_uncovered(rows, levels, &homes, &placed) {
         return Ok(Judgement::Window(job));
     }
     if let Some(slot) = first_wrong_speed(rows, levels, &homes, slots) {

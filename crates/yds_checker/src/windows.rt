@@ -1,14 +1,16 @@
-ghost use Rattle.std.specs.Prelude.{◌≡◌, ℕ, ◌<◌, ◌≤◌, ◌↔◌, IsTrue, length, MatchOption};
-ghost use Rattle.yds_model.specs.declared.limits.TheConstants.{MAX_JOBS};
+ghost use Rattle.std.specs.Prelude.{◌≡◌, ℕ, ◌<◌, ◌+◌, ◌≤◌, ◌↔◌, IsTrue, length, take, MatchOption};
+ghost use Rattle.yds_model.specs.declared.limits.TheConstants.{MAX_JOBS, MAX_LEVELS};
 ghost use Rattle.yds_model.specs.Numbers.{Each};
-ghost use Rattle.yds_model.specs.Piece.{Covers};
+ghost use Rattle.yds_model.specs.Piece.{Covers, IsConfined};
 ghost use Rattle.yds_model.specs.Level.{all_members, all_pieces};
 ghost use Rattle.yds_model.specs.Proper.{StandsOnce, IsWindowCovered};
 ghost use Rattle.yds_model.specs.Judgement.{IsFirstFailure};
 ghost use Rattle.yds_checker.specs.Home.{AreHomes};
 ghost use Rattle.yds_checker.specs.Cover.{CoversFrom};
+ghost use Rattle.yds_checker.specs.Placed.{RunOf, ArePlaced};
 
 use crate::home::Home;
+use crate::placed::{Placed, is_run, run_covers};
 use yds_certificate::{Level, Piece};
 use yds_model::JobRow;
 
@@ -54,34 +56,74 @@ fn covers(levels: &[Level], from: u32, to: u32) -> bool
     true
 }
 
+/// Whether the window is covered by the pieces of this level and of earlier ones.
+///
+/// Where the pieces of all levels lie one after another, which those of levels that stand do, one walk over them tells.
+fn is_window_covered(
+    levels: &[Level],
+    placed: &[Placed],
+    in_run: bool,
+    row: &JobRow,
+    level: u32,
+) -> bool
+    requires within { level < length levels.now }
+    requires few { length levels.now ≤ MAX_LEVELS }
+    requires placed { ArePlaced levels.now placed.now }
+    requires run { IsTrue in_run → RunOf 0 placed.now }
+    ensures { IsTrue result ↔ IsConfined row.now (all_pieces (take (level + 1) levels.now)) }
+{
+    if in_run {
+        run_covers(placed, level + 1, row.release, row.deadline)
+    } else {
+        covers(&levels[..level as usize + 1], row.release, row.deadline)
+    }
+}
+
 /// Whether the job's window is covered by the pieces of the level of which it is a member, if there is one, and of
 /// earlier levels.
-fn is_covered(rows: &[JobRow], levels: &[Level], homes: &[Home], job: usize) -> bool
+fn is_covered(
+    rows: &[JobRow],
+    levels: &[Level],
+    homes: &[Home],
+    placed: &[Placed],
+    in_run: bool,
+    job: usize,
+) -> bool
     requires known { job < length rows.now }
+    requires few { length levels.now ≤ MAX_LEVELS }
     requires jobs { length homes.now ≡ length rows.now }
     requires homes { AreHomes levels.now (all_members levels.now) homes.now }
     requires once { Each (length rows.now) (StandsOnce rows.now levels.now) }
+    requires placed { ArePlaced levels.now placed.now }
+    requires run { IsTrue in_run → RunOf 0 placed.now }
     ensures { IsTrue result ↔ IsWindowCovered rows.now levels.now job }
 {
-    let row = &rows[job];
     match homes[job] {
-        Home::In(level) => covers(&levels[..level as usize + 1], row.release, row.deadline),
+        Home::In(level) => is_window_covered(levels, placed, in_run, &rows[job], level),
         Home::Nowhere | Home::Often => true,
     }
 }
 
 /// The first job whose window isn't covered, if there is one.
-pub(crate) fn first_uncovered(rows: &[JobRow], levels: &[Level], homes: &[Home]) -> Option<u32>
+pub(crate) fn first_uncovered(
+    rows: &[JobRow],
+    levels: &[Level],
+    homes: &[Home],
+    placed: &[Placed],
+) -> Option<u32>
     requires few { length rows.now ≤ MAX_JOBS }
+    requires few_levels { length levels.now ≤ MAX_LEVELS }
     requires jobs { length homes.now ≡ length rows.now }
     requires homes { AreHomes levels.now (all_members levels.now) homes.now }
     requires once { Each (length rows.now) (StandsOnce rows.now levels.now) }
+    requires placed { ArePlaced levels.now placed.now }
     ensures { MatchOption result
         (Each (length rows.now) (IsWindowCovered rows.now levels.now))
         (IsFirstFailure (length rows.now) (IsWindowCovered rows.now levels.now)) }
 {
+    let in_run = is_run(placed);
     for job in 0..rows.len() {
-        if !is_covered(rows, levels, homes, job) {
+        if !is_covered(rows, levels, homes, placed, in_run, job) {
             return Some(job as u32);
         }
     }

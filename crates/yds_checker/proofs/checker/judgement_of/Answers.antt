@@ -93,3 +93,6 @@ returns-clause-exact c =
       ),
       rw (c.levels-levels.ensures.value, c.slots-slots.ensures.value) at c.in_default-first_wrong_speed.ensures,
     )
+
+pub first_uncovered-requires-clause-placed : goal.first_uncovered-requires-clause-placed
+first_uncovered-requires-clause-placed c = rw c.deref-3.ensures.value c.in_ok-placed.ensures

@@ -12,9 +12,9 @@ returns-in-In c =
     let levels = c.args.levels.now in
     let row : c.index-rows-job.result ≡ job_at c.args.rows.now c.args.job =
     get_or_read c.args.rows.now c.args.job c.index-rows-job.result c.requires.known c.index-rows-job.is no_job in
-    fact_in levels c.args.job c.in-In.level (λ (i : ℕ). IsConfined (job_at c.args.rows.now c.args.job) (all_pieces (take (i + 1) levels))) c.covers.result
-    (home_at c.args.homes.now c.args.job) c.in-In.is (c.requires.homes c.args.job (rw c.requires.jobs c.requires.known))
-    (rw (← row, ← c.row.view_is) c.covers.ensures)
+    fact_in levels c.args.job c.in-In.level (λ (i : ℕ). IsConfined (job_at c.args.rows.now c.args.job) (all_pieces (take (i + 1) levels)))
+    c.is_window_covered.result (home_at c.args.homes.now c.args.job) c.in-In.is (c.requires.homes c.args.job (rw c.requires.jobs c.requires.known))
+    (rw (← row) c.is_window_covered.ensures)
 
 pub returns-in-Nowhere : goal.returns-in-Nowhere
 returns-in-Nowhere c =
