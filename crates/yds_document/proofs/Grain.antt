@@ -1,14 +1,13 @@
 -- Whether a work is alike with each earlier work of its job: it goes by the job's grain.
-use Rattle.std.proofs.Common.{◌≡◌, ℕ, zero, suc, ◌<◌, ◌≤◌, ◌⊎◌, inl, inr, List, [], ◌∷◌, length, max, refl, sym, ap, ◌∙◌, subst, arith, Bool, true, false, Option, Some, None, eqb-true}
+use Rattle.std.proofs.Common.{◌≡◌, ℕ, zero, suc, ◌<◌, ◌≤◌, ◌⊎◌, inl, inr, List, [], ◌∷◌, length, max, refl, sym, ap, ◌∙◌, arith, Bool, true, false, eqb-true}
 use Rattle.std.specs.Prelude.{◌==◌, ◌||◌, if◌then◌else◌}
-use Rattle.std.specs.List.{All, list_all, filter_map, fold}
-use Rattle.std.proofs.lemmas.Bool.{cases_Bool, eq-eqb, ne_eqb, true≢false, false≢true}
+use Rattle.std.specs.List.{fold}
+use Rattle.std.proofs.lemmas.Bool.{cases_Bool, eq-eqb, true≢false, false≢true}
 use Rattle.std.proofs.Math.Nat.{le_trans}
 use Rattle.yds_model.specs.Scale.{Fraction}
 use Rattle.yds_model.specs.Slot.{WrittenSlot, written_slot_at, no_written_slot, IsSolid}
-use Rattle.yds_model.specs.Audit.{AreAlike, AreSlots, grain_of}
-use Rattle.yds_model.specs.Reading.{are_alike}
-use Rattle.yds_slots.proofs.Grains.{grain_found, grain_some}
+use Rattle.yds_model.specs.Audit.{AreSlots, grain_of}
+use Rattle.yds_slots.proofs.Grains.{grain_found}
 use Rattle.yds_document.specs.Kinds.{fits_among, fits_test, FitsGrainOf}
 
 -- # The grain is at least each denominator of the job's works

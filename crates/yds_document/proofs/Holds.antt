@@ -1,6 +1,5 @@
 -- What a draft holds after one more entry.
 use Rattle.std.proofs.Common.{◌≡◌, ℕ, ◌+◌, List, [], ◌∷◌, ◌++◌, length, Option, Some, None, refl, sym, ap, ◌∙◌}
-use Rattle.std.specs.List.{filter_map}
 use Rattle.std.proofs.lemmas.List.{length_push}
 use Rattle.yds_model.specs.Job.{Job}
 use Rattle.yds_model.specs.Scale.{Fraction}
@@ -9,13 +8,13 @@ use Rattle.yds_model.specs.Piece.{Piece}
 use Rattle.yds_model.specs.Level.{Level}
 use Rattle.yds_model.specs.Table.{Point}
 use Rattle.yds_model.specs.Document.{Grid}
-use Rattle.yds_model.specs.Entry.{Entry, JobEntry, PointEntry, SlotEntry, LevelEntry, PieceEntry, MemberEntry, TicksEntry, GridEntry, EnergyEntry, name_said, job_said, point_said, slot_said, piece_said, member_said, ticks_said, grid_said, energy_said, levels_said}
+use Rattle.yds_model.specs.Entry.{JobEntry, PointEntry, SlotEntry, LevelEntry, PieceEntry, MemberEntry, TicksEntry, GridEntry, EnergyEntry, name_said, job_said, point_said, slot_said, piece_said, member_said, ticks_said, grid_said, energy_said}
 use Rattle.yds_certificate.specs.Certificate.{with_last}
 use Rattle.yds_certificate.specs.Level.{with_piece, with_member}
 use Rattle.yds_instance.specs.Named.{Named}
 use Rattle.yds_slots.specs.Schedule.{WrittenSchedule}
 use Rattle.yds_document.specs.declared.draft.Draft.{Draft}
-use Rattle.yds_document.specs.Draft.{Holds, Takes, items_of, points_of}
+use Rattle.yds_document.specs.Draft.{Takes, items_of, points_of}
 use Rattle.yds_document.proofs.Said.{quiet, said, levels_quiet, levels_level, levels_piece, levels_member}
 
 pub holds_grid : (d : Draft) (grid : Grid) → d.grid ≡ None → Takes d (record d { grid = Some grid }) (GridEntry grid)

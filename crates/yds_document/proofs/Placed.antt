@@ -1,10 +1,9 @@
 -- Where a line may stand, by what the draft holds.
-use Rattle.std.proofs.Common.{◌≡◌, ℕ, suc, ◌+◌, ◌<◌, List, [], ◌∷◌, length, Option, Some, None, Bool, true, false, Result, Ok, Err, refl, sym, ap, ◌∙◌, subst, arith, add-one, inl, inr}
+use Rattle.std.proofs.Common.{◌≡◌, ℕ, suc, List, [], ◌∷◌, length, Option, Some, None, Bool, true, false, Result, Err, refl, sym, ap, ◌∙◌, subst, inl, inr}
 use Rattle.std.specs.Prelude.{is_some, is_none, nat_lt, ◌==◌, if◌then◌else◌}
 use Rattle.std.specs.List.{filter_map}
-use Rattle.yds_model.specs.Entry.{Entry, JobEntry, PointEntry, SlotEntry, LevelEntry, PieceEntry, MemberEntry, TicksEntry, GridEntry, EnergyEntry, name_said, job_said, is_level, levels_said, ticks_said, grid_said, energy_said}
+use Rattle.yds_model.specs.Entry.{Entry, JobEntry, PointEntry, SlotEntry, LevelEntry, PieceEntry, MemberEntry, TicksEntry, GridEntry, EnergyEntry, name_said, job_said, is_level, levels_said}
 use Rattle.yds_model.specs.Lines.{Field}
-use Rattle.yds_model.specs.Level.{Level}
 use Rattle.yds_model.specs.declared.limits.TheConstants.{MAX_JOBS, MAX_POINTS, MAX_SLOTS, MAX_LEVELS, MAX_PIECES, MAX_MEMBERS}
 use Rattle.yds_model.specs.declared.reason.Reason.{Reason}
 use Rattle.yds_model.specs.declared.reason.Reason.TheVariants as reasons
@@ -15,8 +14,8 @@ use Rattle.yds_document.specs.declared.line_fault.LineFault.TheVariants as fault
 use Rattle.yds_document.specs.declared.line_kind.LineKind.{LineKind}
 use Rattle.yds_document.specs.declared.line_kind.LineKind.TheVariants as kinds
 use Rattle.yds_document.specs.Given.{Fails}
-use Rattle.yds_document.specs.Draft.{Holds, Tells, HoldsMore, count_and_read, items_of}
-use Rattle.yds_document.specs.LineKinds.{line_kind, kind_told, follows_draft, has_room_in}
+use Rattle.yds_document.specs.Draft.{Holds, Tells, count_and_read, items_of}
+use Rattle.yds_document.specs.LineKinds.{line_kind, follows_draft, has_room_in}
 use Rattle.yds_document.proofs.Said.{split, levels_past}
 
 -- as many levels as level lines

@@ -1,5 +1,5 @@
 -- Lines that are written one after another, and what was appended so far.
-use Rattle.std.proofs.Common.{◌≡◌, ℕ, suc, take_all, refl, ◌+◌, ◌<◌, ◌≤◌, arith, List, [], ◌∷◌, ◌++◌, take, get_or, length, ◌∙◌, ap, sym, subst, Result, Ok, Err, IsErr, add-one}
+use Rattle.std.proofs.Common.{◌≡◌, ℕ, take_all, refl, ◌+◌, ◌<◌, ◌≤◌, arith, List, [], ◌∷◌, ◌++◌, take, get_or, length, ◌∙◌, ap, sym, subst, Result, Ok, Err, IsErr}
 use Rattle.std.specs.Prelude.{flat_map}
 use Rattle.std.specs.List.{zip}
 use Rattle.std.proofs.lemmas.Slice.Zip.{get_or-zip, length-zip}

@@ -1,17 +1,12 @@
 -- What one more entry adds to what the earlier ones said.
-use Rattle.std.proofs.Common.{◌≡◌, ℕ, suc, ◌+◌, ◌<◌, ◌≤◌, List, [], ◌∷◌, ◌++◌, length, Option, Some, None, Bool, true, false, not, cond, refl, sym, ap, ◌∙◌, arith, inl, inr, ◌⊎◌, subst}
-use Rattle.std.specs.List.{filter_map, take_while}
+use Rattle.std.proofs.Common.{◌≡◌, ℕ, List, [], ◌∷◌, ◌++◌, Option, false, not, cond, refl, sym, ap, ◌∙◌, inl, inr, ◌⊎◌}
+use Rattle.std.specs.List.{filter_map}
 use Rattle.std.proofs.lemmas.List.{append-nil}
 use Rattle.std.proofs.lemmas.Bool.{true≢false}
 use Rattle.std.proofs.lemmas.List.Elements.{filter_map-append}
 use Rattle.std.proofs.lemmas.List.Sums.{take_while-cons}
 use Rattle.yds_model.specs.Level.{Level}
 use Rattle.yds_model.specs.Piece.{Piece}
-use Rattle.yds_model.specs.Document.{Grid}
-use Rattle.yds_model.specs.Scale.{Fraction}
-use Rattle.yds_model.specs.Slot.{WrittenSlot}
-use Rattle.yds_model.specs.Job.{Job}
-use Rattle.yds_model.specs.Table.{Point}
 use Rattle.yds_model.specs.Entry.{Entry, JobEntry, PointEntry, SlotEntry, LevelEntry, PieceEntry, MemberEntry, TicksEntry, GridEntry, EnergyEntry, piece_said, member_said, is_level, until_level, levels_said}
 use Rattle.yds_certificate.specs.Certificate.{with_last}
 use Rattle.yds_certificate.specs.Level.{with_piece, with_member}

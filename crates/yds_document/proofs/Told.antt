@@ -1,13 +1,12 @@
 -- What a line is told to say, from the count of its fields and from the fields.
-use Rattle.std.proofs.Common.{◌≡◌, ℕ, List, [], ◌∷◌, ◌++◌, Bool, true, Option, Some, None, Result, Ok, Err, refl, sym, ap, ◌∙◌, subst}
+use Rattle.std.proofs.Common.{◌≡◌, ℕ, List, [], ◌∷◌, Bool, true, Option, Some, None, Result, Ok, Err, sym, ap, ◌∙◌, subst}
 use Rattle.std.specs.Option.{unwrap_or}
 use Rattle.std.specs.List.{filter_map, slice_index_or}
 use Rattle.yds_model.specs.declared.limits.TheConstants.{MAX_POINT_SPEED, MAX_POINT_POWER}
-use Rattle.yds_model.specs.declared.reason.Reason.{Reason}
 use Rattle.yds_model.specs.Slot.{WrittenSlot}
 use Rattle.yds_model.specs.Table.{Point}
 use Rattle.yds_model.specs.Lines.{Field}
-use Rattle.yds_model.specs.Entry.{Entry, PointEntry, name_said, slot_said, point_said, ticks_said}
+use Rattle.yds_model.specs.Entry.{Entry, name_said, slot_said, point_said, ticks_said}
 use Rattle.yds_model.specs.Reading.{Spot, Kind, JobLine, PointLine, SlotLine, RunLine, number_in, ◌>>=◌, count_fields, fields_wanted, read_kind}
 use Rattle.yds_document.specs.declared.draft.Draft.{Draft}
 use Rattle.yds_document.specs.declared.line_fault.LineFault.{LineFault}

@@ -1,6 +1,5 @@
 -- What a document is, and what a reader of its lines returned.
-use Rattle.std.specs.Prelude.{◌≡◌, ℕ, ◌<◌, List, [], ◌∷◌, length, Result, Ok, Err}
-use Rattle.std.specs.List.{All}
+use Rattle.std.specs.Prelude.{◌≡◌, List, ◌∷◌, Result, Ok, Err}
 use Rattle.yds_model.specs.Document.{Document as DocumentText}
 use Rattle.yds_model.specs.Lines.{Line}
 use Rattle.yds_model.specs.Entry.{Entry}

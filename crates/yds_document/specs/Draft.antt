@@ -1,5 +1,5 @@
 -- What the lines before a line said together, as it is kept while a document is read.
-use Rattle.std.specs.Prelude.{◌≡◌, ℕ, ◌<◌, ◌≤◌, List, [], ◌∷◌, ◌++◌, length, Option, Some, None, IfSome, Result, Ok, Err}
+use Rattle.std.specs.Prelude.{◌≡◌, ◌<◌, ◌≤◌, List, [], ◌∷◌, ◌++◌, length, Option, Some, None, IfSome, Result, Ok, Err}
 use Rattle.std.specs.List.{All, filter_map}
 use Rattle.yds_model.specs.declared.limits.TheConstants.{MAX_TICKS}
 use Rattle.yds_model.specs.Level.{all_pieces, all_members}

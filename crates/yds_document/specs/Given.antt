@@ -1,5 +1,5 @@
 -- What a reader of a field or of a line returned, against what the definition of reading says there.
-use Rattle.std.specs.Prelude.{◌≡◌, ◌≤◌, length, ℕ, List, [], ◌∷◌, Bool, true, Result, Ok, Err}
+use Rattle.std.specs.Prelude.{◌≡◌, ◌≤◌, length, ℕ, List, [], ◌∷◌, true, Result, Ok, Err}
 use Rattle.yds_model.specs.Lines.{Field}
 use Rattle.yds_model.specs.declared.reason.Reason.TheVariants as reasons
 use Rattle.yds_model.specs.Reading.{Spot, field_at, count_fields}

@@ -1,5 +1,5 @@
 -- What a line of each kind says by its fields and by what the lines before it say of names and slots.
-use Rattle.std.specs.Prelude.{◌≡◌, ◌⊎◌, ℕ, ◌*◌, ◌-◌, ◌/◌, List, [], ◌∷◌, ◌++◌, Option, Some, None, is_none, Result, Ok, Err, Bool, nat_lt, nat_le, ◌==◌, ◌||◌, if◌then◌else◌}
+use Rattle.std.specs.Prelude.{◌≡◌, ◌⊎◌, ℕ, ◌*◌, ◌-◌, ◌/◌, List, [], ◌∷◌, ◌++◌, Some, None, is_none, Result, Ok, Bool, nat_lt, nat_le, ◌==◌, ◌||◌, if◌then◌else◌}
 use Rattle.std.specs.List.{list_all, filter_map}
 use Rattle.yds_model.specs.declared.limits.TheConstants.{MAX_TIME, MAX_WORK, MAX_SLOT_WORK, MAX_POINT_SPEED, MAX_POINT_POWER, MAX_GAPS}
 use Rattle.yds_model.specs.declared.reason.Reason.TheVariants as reasons

@@ -1,4 +1,4 @@
-use Rattle.std.proofs.Common.{arith, ◌∙◌}
+use Rattle.std.proofs.Common.{arith}
 use Rattle.yds_document.proofs.Parts.{parts_alike, tick_within}
 use Rattle.yds_document.proofs.kinds.run_in.Goals as goal
 

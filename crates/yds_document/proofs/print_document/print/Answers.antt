@@ -2,7 +2,6 @@ use Rattle.std.proofs.Common.{refl, ◌++◌}
 use Rattle.std.specs.Prelude.{flat_map}
 use Rattle.yds_model.specs.Text.{job_lines, point_line, slot_line, level_lines, grid_lines, energy_lines}
 use Rattle.yds_document.specs.Draft.{points_of}
-use Rattle.yds_port.proofs.Delivery.{delivers_later, delivers_counted}
 use Rattle.yds_document.proofs.Printed.{first_failed, second_failed, third_delivers}
 use Rattle.yds_document.proofs.print_document.print.Goals as goal
 

@@ -1,4 +1,4 @@
-use Rattle.std.proofs.Common.{◌∙◌, sym}
+use Rattle.std.proofs.Common.{◌∙◌}
 use Rattle.yds_model.specs.Text.{job_line}
 use Rattle.yds_document.proofs.Printed.{item_printed, item_failed, all_printed, named_at, named_within, named_count}
 use Rattle.yds_document.proofs.printing.print_jobs.Goals as goal

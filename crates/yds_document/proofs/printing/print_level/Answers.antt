@@ -1,5 +1,5 @@
 use Rattle.std.proofs.Common.{◌∙◌, ap}
-use Rattle.std.specs.Prelude.{flat_map, List, [], ◌∷◌, codes, decimal}
+use Rattle.std.specs.Prelude.{flat_map, [], ◌∷◌, codes, decimal}
 use Rattle.yds_model.specs.Text.{line, piece_line, member_line}
 use Rattle.yds_document.proofs.Printed.{first_failed, second_failed, third_delivers}
 use Rattle.yds_document.proofs.printing.print_level.Goals as goal

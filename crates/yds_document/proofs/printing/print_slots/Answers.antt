@@ -1,4 +1,4 @@
-use Rattle.std.proofs.Common.{◌∙◌, sym, refl}
+use Rattle.std.proofs.Common.{◌∙◌, sym}
 use Rattle.yds_model.specs.Text.{slot_line}
 use Rattle.yds_document.proofs.Printed.{item_printed, item_failed}
 use Rattle.yds_document.proofs.printing.print_slots.Goals as goal

@@ -1,4 +1,4 @@
-use Rattle.std.proofs.Common.{Some, ◌∙◌, ap, sym, List, [], ◌∷◌, ◌++◌}
+use Rattle.std.proofs.Common.{Some, ◌∙◌, ap, sym, [], ◌∷◌, ◌++◌}
 use Rattle.yds_document.specs.Draft.{points_of}
 use Rattle.yds_document.proofs.Holds.{holds_point}
 use Rattle.yds_document.proofs.draft.Draft.add_point.Goals as goal
