@@ -27,8 +27,10 @@ fn works_of_a_job_in_thirds(rt: HostRuntime) -> Result<(), Fail> {
 }
 
 #[test]
-fn no_slots_in_order(rt: HostRuntime) -> Result<(), Fail> {
-    let schedule = Schedule::sorted(rt.alloc(), 3, Vec::new(rt.alloc()))?;
-    assert!(rt; schedule.between(0, 4).is_empty());
+fn no_slots(rt: HostRuntime) -> Result<(), Fail> {
+    let sorted = Schedule::sorted(rt.alloc(), 3, Vec::new(rt.alloc()))?;
+    assert!(rt; sorted.slots().is_empty());
+    let none = Schedule::new(rt.alloc(), 3)?;
+    assert!(rt; none.between(0, 4).is_empty());
     Ok(())
 }
