@@ -1,11 +1,10 @@
 -- Amounts of a group, one more and all of them.
-use Rattle.std.proofs.Common.{◌≡◌, ℕ, suc, ◌+◌, ◌*◌, ◌<◌, ◌≤◌, ◌==◌, List, ◌∙◌, length, get_or, refl, sym, ap, inl, inr, arith, add-one}
+use Rattle.std.proofs.Common.{◌≡◌, ℕ, ◌+◌, ◌*◌, ◌<◌, ◌≤◌, ◌==◌, List, get_or, ap, inl, inr, arith, add-one}
 use Rattle.std.specs.Prelude.{if◌then◌else◌}
-use Rattle.std.specs.List.{sum_by, range_with_len}
 use Rattle.std.proofs.lemmas.Bool.{cases_eq}
 use Rattle.yds_plan.specs.Found.{group_of}
 use Rattle.yds_plan.specs.Amounts.{amount_in}
-use Rattle.yds_plan.proofs.Ranges.{over_more, over_same, over_at_most, over_mul, over_ones}
+use Rattle.yds_plan.proofs.Ranges.{over_more, over_at_most, over_mul, over_ones}
 use Rattle.yds_plan.proofs.Shares.{chosen, not_chosen}
 
 -- one amount more, of the group or of another one

@@ -1,17 +1,16 @@
 -- A group is filled at its average speed.
-use Rattle.std.proofs.Common.{◌≡◌, ℕ, ◌+◌, ◌*◌, ◌/◌, ◌<◌, ◌≤◌, ◌==◌, List, ◌∙◌, length, get_or, refl, sym, ap, subst, inl, inr, arith}
+use Rattle.std.proofs.Common.{◌≡◌, ℕ, ◌*◌, ◌/◌, ◌<◌, ◌≤◌, ◌==◌, List, ◌∙◌, length, get_or, ap, subst, arith}
 use Rattle.std.specs.Prelude.{if◌then◌else◌}
-use Rattle.std.specs.List.{sum_by, range_with_len}
 use Rattle.std.proofs.lemmas.Nat.{mul-le}
 use Rattle.yds_model.specs.Job.{Job, job_at}
 use Rattle.yds_model.specs.Event.{stretches}
 use Rattle.yds_model.specs.Divisor.{common_divisor}
 use Rattle.yds_plan.specs.declared.finder_windows.Window.{Window}
 use Rattle.yds_plan.specs.declared.finder_instance.Instance.{Instance}
-use Rattle.yds_plan.specs.Found.{Found, Group, Share, group_of, length_of, work_in, length_in}
+use Rattle.yds_plan.specs.Found.{Found, Share, group_of, length_of, work_in, length_in}
 use Rattle.yds_plan.specs.Amounts.{amount_in, AreScaled}
 use Rattle.yds_plan.specs.Fill.{IsFill}
-use Rattle.yds_plan.specs.Search.{IsSearch, MayRun, IsFilled, IsAttempt}
+use Rattle.yds_plan.specs.Search.{IsSearch, IsAttempt}
 use Rattle.yds_plan.specs.Instance.{IsInstance}
 use Rattle.yds_plan.proofs.Ranges.{over_same, over_one}
 use Rattle.yds_plan.proofs.Amounts.{amount_small}

@@ -1,11 +1,11 @@
 -- Units counted by job and by stretch: what is left of wants is what is left of room, and what a group's speed is at most or
 -- at least.
-use Rattle.std.proofs.Common.{◌≡◌, ℕ, zero, suc, ◌+◌, ◌*◌, ◌<◌, ◌≤◌, ◌≢◌, ◌⊎◌, ◌==◌, Bool, true, false, List, [], ◌∷◌, ◌∙◌, length, get_or, refl, sym, ap, subst, inl, inr, arith, eq-eqb}
-use Rattle.std.specs.Prelude.{if◌then◌else◌, cond}
-use Rattle.std.specs.List.{All, sum_by, range_with_len}
+use Rattle.std.proofs.Common.{◌≡◌, ℕ, zero, suc, ◌+◌, ◌*◌, ◌<◌, ◌≤◌, ◌≢◌, ◌==◌, Bool, true, false, List, [], ◌∷◌, ◌∙◌, length, get_or, refl, sym, ap, inl, inr, arith, eq-eqb}
+use Rattle.std.specs.Prelude.{if◌then◌else◌}
+use Rattle.std.specs.List.{All, sum_by}
 use Rattle.std.proofs.lemmas.List.Elements.{All-tail, All-from_get_or}
 use Rattle.std.proofs.lemmas.List.Sums.{sum_by-cons}
-use Rattle.std.proofs.lemmas.Bool.{cases_lt, cases_eq, ne_eqb}
+use Rattle.std.proofs.lemmas.Bool.{cases_eq, ne_eqb}
 use Rattle.std.proofs.lemmas.Bool.Decides.{nat_tests}
 use Rattle.std.proofs.Math.Nat.{le_of_mul-le-mul_left, mul-le-mul_right}
 use Rattle.yds_model.proofs.Sums.{sum_by_at_most}
@@ -14,7 +14,7 @@ use Rattle.yds_model.specs.Event.{stretches}
 use Rattle.yds_plan.specs.declared.finder_windows.Window.{Window}
 use Rattle.yds_plan.specs.Found.{Found, Share, share_at, no_share, group_of, length_of, work_in, length_in, units_of_job, units_in_stretch}
 use Rattle.yds_plan.specs.Search.{IsFast, IsSlow, LieInWindows, IsFilled}
-use Rattle.yds_plan.proofs.Ranges.{over, over_more, over_same, over_at_most, over_zero, over_one, over_some, over_add, over_mul}
+use Rattle.yds_plan.proofs.Ranges.{over, over_more, over_same, over_at_most, over_zero, over_add, over_mul}
 
 -- the units of shares with this number, of a job or of a stretch
 abbrev units_at : (Share → ℕ) → List Share → ℕ → ℕ

@@ -1,14 +1,14 @@
 -- The beginning, job by job.
-use Rattle.std.proofs.Common.{◌≡◌, ℕ, zero, suc, ◌+◌, ◌<◌, ◌≤◌, ◌⊎◌, List, [], ◌∷◌, ◌++◌, ◌∙◌, length, get_or, replicate, refl, sym, ap, subst, inl, inr, arith}
+use Rattle.std.proofs.Common.{◌≡◌, ℕ, ◌+◌, ◌<◌, ◌≤◌, ◌⊎◌, List, [], ◌∷◌, ◌++◌, ◌∙◌, length, get_or, replicate, refl, sym, ap, subst, inl, inr, arith}
 use Rattle.std.proofs.lemmas.List.{get_or_append_left, get_or_push, length_push, length-replicate, get_or-replicate}
-use Rattle.std.proofs.lemmas.Bool.{cases_lt, cases_eq}
+use Rattle.std.proofs.lemmas.Bool.{cases_lt}
 use Rattle.yds_model.specs.Job.{Job, job_at}
 use Rattle.yds_model.specs.Event.{stretches}
 use Rattle.yds_plan.specs.declared.finder_windows.Window.{Window}
 use Rattle.yds_plan.specs.declared.finder_instance.Instance.{Instance}
 use Rattle.yds_plan.specs.Instance.{IsInstance}
 use Rattle.yds_plan.specs.Found.{Found, group_of}
-use Rattle.yds_plan.specs.Windows.{window_at, IsIn, AreWindows}
+use Rattle.yds_plan.specs.Windows.{window_at, IsIn}
 use Rattle.yds_plan.specs.Search.{MayRun, IsBeginning}
 
 -- the first n jobs have their numbers, and the stretches of their windows too

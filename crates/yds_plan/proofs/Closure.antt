@@ -1,16 +1,15 @@
 -- What the late jobs close upon is full, and nobody outside has a share in it.
-use Rattle.std.proofs.Common.{◌≡◌, ℕ, zero, suc, ◌+◌, ◌<◌, ◌≤◌, ◌⊎◌, min, List, ◌∙◌, length, get_or, refl, sym, ap, subst, inl, inr, arith, add-one}
-use Rattle.std.specs.Prelude.{if◌then◌else◌, nat_le}
+use Rattle.std.proofs.Common.{◌≡◌, ℕ, zero, suc, ◌+◌, ◌<◌, ◌≤◌, ◌⊎◌, min, List, length, get_or, refl, sym, ap, subst, inl, inr, arith}
 use Rattle.std.proofs.lemmas.List.{get_or_default, get_or_past}
 use Rattle.std.proofs.lemmas.Bool.{cases_lt, cases_eq}
 use Rattle.std.proofs.lemmas.Bool.Decides.{nat_tests}
-use Rattle.yds_model.specs.Job.{Job, job_at}
+use Rattle.yds_model.specs.Job.{Job}
 use Rattle.yds_model.specs.EarliestFirst.{ComesFirst}
 use Rattle.yds_model.specs.Event.{stretches}
 use Rattle.yds_plan.specs.declared.finder_windows.Window.{Window}
 use Rattle.yds_plan.specs.Found.{Share, share_at, no_share}
 use Rattle.yds_plan.specs.Windows.{window_at, IsIn, AreWindows}
-use Rattle.yds_plan.specs.Fill.{IsFullBefore, IsPart, AreTaken, IsFill}
+use Rattle.yds_plan.specs.Fill.{IsFullBefore, AreTaken, IsFill}
 use Rattle.yds_plan.specs.Closure.{AreLateReaches, AreShareReaches, AreReaches, IsMarked, AreClosed, reach_from}
 
 -- what one step from the right does

@@ -1,18 +1,15 @@
 -- How the search begins and what it has found at its end.
-use Rattle.std.proofs.Common.{◌≡◌, ℕ, zero, suc, ◌+◌, ◌-◌, ◌*◌, ◌<◌, ◌≤◌, ◌≢◌, ◌⊎◌, ◌==◌, List, [], ◌∙◌, length, get_or, refl, sym, ap, subst, inl, inr, arith}
+use Rattle.std.proofs.Common.{◌≡◌, ℕ, zero, suc, ◌+◌, ◌-◌, ◌<◌, ◌≤◌, ◌⊎◌, ◌==◌, List, [], ◌∙◌, length, refl, sym, ap, inl, inr, arith}
 use Rattle.std.specs.Prelude.{if◌then◌else◌, nat_lt}
-use Rattle.std.specs.List.{All, sum_by, range_with_len}
-use Rattle.std.proofs.lemmas.List.Elements.{All-nil}
-use Rattle.std.proofs.lemmas.Bool.{cases_lt, cases_eq}
 use Rattle.std.proofs.lemmas.Bool.Decides.{nat_tests}
 use Rattle.yds_model.specs.Job.{Job, job_at}
 use Rattle.yds_model.specs.Piece.{Piece}
 use Rattle.yds_model.specs.Event.{event_points, stretches}
 use Rattle.yds_plan.specs.declared.finder_windows.Window.{Window}
-use Rattle.yds_plan.specs.Found.{Found, Group, Share, share_at, no_share, group_of, length_of, stretch_at, units_of_job, units_in_stretch, IsShare, IsInWindow, IsFound}
+use Rattle.yds_plan.specs.Found.{Found, Group, Share, share_at, no_share, group_of, length_of, stretch_at, IsInWindow, IsFound}
 use Rattle.yds_plan.specs.Windows.{window_at, IsIn, AreWindows}
 use Rattle.yds_plan.specs.Search.{IsFinished, MayRun, IsSearch, IsBeginning, finished_count}
-use Rattle.yds_plan.proofs.Ranges.{over, over_more, over_at_most, over_ones, over_some, over_one, over_add, over_same}
+use Rattle.yds_plan.proofs.Ranges.{over, over_at_most, over_ones, over_some, over_one, over_add, over_same}
 use Rattle.yds_plan.proofs.Shares.{chosen, chosen_some}
 use Rattle.yds_plan.proofs.Times.{times_rise, stretch_is, stretch_next}
 

@@ -1,7 +1,7 @@
 -- The fill, share by share and job by job.
 use Rattle.std.proofs.Common.{◌≡◌, ℕ, ◌+◌, ◌-◌, ◌<◌, ◌≤◌, ◌≢◌, ◌⊎◌, ◌==◌, min, List, [], ◌∷◌, ◌++◌, ◌∙◌, length, get_or, set, refl, sym, ap, subst, inl, inr, arith}
 use Rattle.std.specs.Prelude.{cond, if◌then◌else◌}
-use Rattle.std.specs.List.{All, AllPairs, sum_by, count_by}
+use Rattle.std.specs.List.{All}
 use Rattle.std.proofs.lemmas.List.{get_or-set_same, get_or-set_other, length-set, length_push}
 use Rattle.std.proofs.lemmas.List.Elements.{All-push, All-weaker}
 use Rattle.std.proofs.lemmas.List.Quantifiers.{all_pairs_push}
@@ -11,7 +11,7 @@ use Rattle.std.proofs.lemmas.Bool.Decides.{nat_tests}
 use Rattle.yds_model.specs.Job.{Job, job_at}
 use Rattle.yds_model.specs.EarliestFirst.{ComesFirst}
 use Rattle.yds_plan.specs.declared.finder_windows.Window.{Window}
-use Rattle.yds_plan.specs.Found.{Share, units_of_job, units_in_stretch, no_share}
+use Rattle.yds_plan.specs.Found.{Share}
 use Rattle.yds_plan.specs.Windows.{window_at, IsIn, Precedes}
 use Rattle.yds_plan.specs.Fill.{IsFullBefore, IsPart, FoundFull, StandInOrder, AreTaken, IsServed, full_count}
 use Rattle.yds_plan.proofs.Orders.{comes_itself}
@@ -120,7 +120,7 @@ room_left rooms place k units within room = elim (cases_eq k place) [
       omega (arith, own_units place k units other, get_or-set_other rooms place k (get_or rooms place 0 - units) 0 other)
 ]
 
-all_taken : (left room units : ℕ) → units ≡ min left room → 1 ≤ left - units → room - units ≡ 0
+pub all_taken : (left room units : ℕ) → units ≡ min left room → 1 ≤ left - units → room - units ≡ 0
 all_taken left room units is more = grind arith
 
 -- the stretches before the next one are full, also the one just taken from

@@ -1,20 +1,18 @@
 -- The fill, job by job.
-use Rattle.std.proofs.Common.{◌≡◌, ℕ, ◌+◌, ◌-◌, ◌<◌, ◌≤◌, ◌≢◌, ◌⊎◌, ◌==◌, min, List, [], ◌∷◌, ◌++◌, ◌∙◌, length, get_or, set, take, refl, sym, ap, subst, inl, inr, arith}
+use Rattle.std.proofs.Common.{◌≡◌, ℕ, ◌+◌, ◌<◌, ◌≤◌, ◌≢◌, ◌⊎◌, min, List, [], ◌∙◌, length, get_or, set, refl, sym, ap, subst, inl, inr, arith}
 use Rattle.std.specs.Prelude.{cond, if◌then◌else◌, nat_lt}
-use Rattle.std.specs.List.{All, AllPairs, sum_by, count_by, range_with_len}
-use Rattle.std.specs.List.Sorted.{IsPermutation}
+use Rattle.std.specs.List.{sum_by, range_with_len}
 use Rattle.std.proofs.lemmas.List.{get_or-set_same, get_or-set_other, length-set, take_all}
 use Rattle.std.proofs.lemmas.List.Elements.{All-weaker, All-nil}
 use Rattle.std.proofs.lemmas.List.Sums.{sum_by_more}
 use Rattle.std.proofs.lemmas.List.Sorted.{sum_by-IsPermutation}
-use Rattle.std.proofs.lemmas.Bool.{cases_lt, cases_eq}
+use Rattle.std.proofs.lemmas.Bool.{cases_eq}
 use Rattle.std.proofs.lemmas.Bool.Decides.{nat_tests}
-use Rattle.yds_model.specs.Job.{Job, job_at}
-use Rattle.yds_model.specs.EarliestFirst.{ComesFirst}
+use Rattle.yds_model.specs.Job.{Job}
 use Rattle.yds_plan.specs.declared.finder_windows.Window.{Window}
-use Rattle.yds_plan.specs.Found.{Share, units_of_job, units_in_stretch}
-use Rattle.yds_plan.specs.Windows.{window_at, IsIn, Precedes, IsOrder, AreWindows}
-use Rattle.yds_plan.specs.Fill.{IsFullBefore, AreTaken, IsPart, FoundFull, StandInOrder, IsServed, IsFilling, IsFill, full_count, wanting_count}
+use Rattle.yds_plan.specs.Found.{Share, units_of_job}
+use Rattle.yds_plan.specs.Windows.{window_at, IsIn, Precedes, IsOrder}
+use Rattle.yds_plan.specs.Fill.{IsFullBefore, AreTaken, IsPart, FoundFull, IsServed, IsFilling, IsFill}
 use Rattle.yds_plan.proofs.Orders.{precedes_then}
 use Rattle.yds_plan.proofs.Fill.{come_before}
 use Rattle.yds_plan.proofs.Ranges.{over, over_list}

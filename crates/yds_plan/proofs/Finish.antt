@@ -1,7 +1,7 @@
 -- A group without late jobs is finished.
-use Rattle.std.proofs.Common.{◌≡◌, ℕ, zero, suc, ◌+◌, ◌-◌, ◌*◌, ◌<◌, ◌≤◌, ◌≢◌, ◌⊎◌, ◌==◌, Bool, true, false, List, [], ◌∷◌, ◌++◌, ◌∙◌, length, get_or, refl, sym, ap, subst, inl, inr, arith}
-use Rattle.std.specs.Prelude.{if◌then◌else◌, cond, nat_lt}
-use Rattle.std.specs.List.{All, sum_by, count_by, range_with_len}
+use Rattle.std.proofs.Common.{◌≡◌, ℕ, zero, suc, ◌+◌, ◌-◌, ◌*◌, ◌<◌, ◌≤◌, ◌≢◌, ◌==◌, Bool, true, false, List, [], ◌∷◌, ◌++◌, ◌∙◌, length, get_or, refl, sym, ap, subst, inl, inr, arith}
+use Rattle.std.specs.Prelude.{if◌then◌else◌, nat_lt}
+use Rattle.std.specs.List.{All}
 use Rattle.std.proofs.lemmas.List.{length_push, length-append, get_or_append_left, get_or-append_right, get_or_push}
 use Rattle.std.proofs.lemmas.List.Elements.{All-append, All-from_get_or}
 use Rattle.std.proofs.lemmas.List.Sums.{sum_by-append, count_by-le-length}
@@ -12,12 +12,11 @@ use Rattle.yds_model.specs.Event.{stretches}
 use Rattle.yds_plan.specs.declared.finder_windows.Window.{Window}
 use Rattle.yds_plan.specs.Found.{Found, Group, Share, share_at, no_share, group_at, no_group, group_of, length_of, work_in, length_in, per_time, per_work, units_of_job, units_in_stretch, IsShare}
 use Rattle.yds_model.specs.EarliestFirst.{ComesFirst}
-use Rattle.yds_plan.specs.Windows.{window_at, IsIn, AreWindows, Precedes}
-use Rattle.yds_plan.specs.Fill.{IsFill, IsPart, full_count, wanting_count}
-use Rattle.yds_plan.specs.Search.{IsFast, IsSlow, LieInWindows, IsBoundary, IsLead, IsFinished, MayRun, IsSearch, IsFilled, IsRenamed, finished_count}
+use Rattle.yds_plan.specs.Windows.{IsIn, AreWindows, Precedes}
+use Rattle.yds_plan.specs.Search.{IsFast, IsSlow, LieInWindows, IsLead, IsFinished, MayRun, IsSearch, IsFilled, IsRenamed, finished_count}
 use Rattle.yds_plan.proofs.Shares.{chosen, not_chosen, chosen_some, share_counts, no_units}
 use Rattle.yds_plan.proofs.Ranges.{over, over_same, over_at_most, over_add, over_ones, over_list}
-use Rattle.yds_plan.proofs.Balance.{balance, fast_speed, slow_speed, speed_order}
+use Rattle.yds_plan.proofs.Balance.{fast_speed, slow_speed, speed_order}
 use Rattle.yds_plan.proofs.Finished.{moved, AreAlike, kept_finished}
 
 -- all that is known when group `top` is finished

@@ -1,15 +1,13 @@
 -- What holds of the finished groups is kept where no job and no stretch of them moves.
-use Rattle.std.proofs.Common.{◌≡◌, ℕ, ◌+◌, ◌*◌, ◌<◌, ◌≤◌, ◌≢◌, ◌⊎◌, ◌==◌, List, ◌∙◌, length, get_or, refl, sym, ap, subst, inl, inr, arith}
+use Rattle.std.proofs.Common.{◌≡◌, ℕ, ◌*◌, ◌<◌, ◌≤◌, ◌⊎◌, ◌==◌, List, ◌∙◌, length, get_or, sym, ap, inl, inr, arith}
 use Rattle.std.specs.Prelude.{if◌then◌else◌, nat_lt}
-use Rattle.std.specs.List.{All, sum_by}
 use Rattle.std.proofs.lemmas.Bool.Decides.{nat_tests}
 use Rattle.yds_model.specs.Job.{Job, job_at}
 use Rattle.yds_model.specs.Event.{stretches}
 use Rattle.yds_plan.specs.declared.finder_windows.Window.{Window}
-use Rattle.yds_plan.specs.Found.{Found, Share, share_at, no_share, group_at, group_of, length_of, per_time, per_work, units_of_job, units_in_stretch, IsShare}
-use Rattle.yds_plan.specs.Windows.{IsIn}
+use Rattle.yds_plan.specs.Found.{Found, share_at, no_share, group_at, group_of, length_of, per_time, per_work}
 use Rattle.yds_plan.specs.Search.{IsFinished}
-use Rattle.yds_plan.proofs.Shares.{chosen, not_chosen}
+use Rattle.yds_plan.proofs.Shares.{not_chosen}
 use Rattle.yds_plan.proofs.Ranges.{over_same}
 
 -- the same groups and shares, with other jobs and stretches

@@ -22,6 +22,7 @@ pub mod Laying
 mod Orders
 mod Fill
 mod Filling
+mod Nexts
 mod Ranges
 mod Closure
 mod Balance
@@ -36,6 +37,7 @@ mod Lowest
 mod Amounts
 mod Pointwise
 mod Reaches
+mod Nearest
 mod Finish
 mod Attempt
 mod Steps

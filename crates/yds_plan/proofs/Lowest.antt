@@ -1,5 +1,5 @@
 -- The greatest common divisor divides, and what is left by it.
-use Rattle.std.proofs.Common.{◌≡◌, ℕ, zero, suc, ◌+◌, ◌*◌, ◌/◌, ◌%◌, ◌<◌, ◌≤◌, ◌∙◌, refl, sym, ap, subst, arith}
+use Rattle.std.proofs.Common.{◌≡◌, ℕ, zero, suc, ◌+◌, ◌*◌, ◌/◌, ◌%◌, ◌≤◌, ◌∙◌, refl, ap, arith}
 use Rattle.std.proofs.Math.Nat.{mul-div_cancel, div-le_self}
 use Rattle.yds_model.specs.Divisor.{divisor_within, common_divisor}
 

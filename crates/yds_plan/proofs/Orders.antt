@@ -1,5 +1,5 @@
 -- The order of jobs by deadline and number.
-use Rattle.std.proofs.Common.{◌≡◌, ℕ, ◌<◌, ◌≤◌, ◌⊎◌, List, refl, inl, inr, ap, arith}
+use Rattle.std.proofs.Common.{◌≡◌, ℕ, ◌<◌, ◌≤◌, ◌⊎◌, List, refl, inr, ap, arith}
 use Rattle.yds_model.specs.Job.{Job, job_at}
 use Rattle.yds_model.specs.EarliestFirst.{ComesFirst}
 use Rattle.yds_plan.specs.Windows.{Precedes}

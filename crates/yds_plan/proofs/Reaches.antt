@@ -1,11 +1,11 @@
 -- The least value at each place, over numbered items.
-use Rattle.std.proofs.Common.{◌≡◌, ℕ, ◌+◌, ◌-◌, ◌<◌, ◌≤◌, ◌≢◌, min, List, ◌∙◌, length, get_or, set, replicate, refl, sym, ap, subst, inl, inr, arith}
+use Rattle.std.proofs.Common.{◌≡◌, ℕ, ◌+◌, ◌-◌, ◌<◌, ◌≤◌, ◌≢◌, min, List, ◌∙◌, length, get_or, set, replicate, sym, ap, subst, inl, inr, arith}
 use Rattle.std.proofs.lemmas.List.{get_or-set_same, get_or-set_other, length-set, length-replicate, get_or-replicate}
 use Rattle.std.proofs.lemmas.Bool.{cases_lt, cases_eq}
 use Rattle.yds_plan.specs.declared.finder_windows.Window.{Window}
 use Rattle.yds_plan.specs.Found.{Share, share_at}
 use Rattle.yds_plan.specs.Windows.{window_at}
-use Rattle.yds_plan.specs.Closure.{AreLateReaches, AreShareReaches, AreReaches, reach_from}
+use Rattle.yds_plan.specs.Closure.{AreLateReaches, AreShareReaches, reach_from}
 
 -- of the first n items those that count have a place and a value; m stands where there is none
 pub record IsLeastOf (counts : ℕ → Type 0) (place value : ℕ → ℕ) (n m : ℕ) (reaches : List ℕ) : Type 0 where

@@ -1,19 +1,15 @@
 -- A group with late jobs is split in two.
-use Rattle.std.proofs.Common.{◌≡◌, ℕ, zero, suc, ◌+◌, ◌*◌, ◌<◌, ◌≤◌, ◌≢◌, ◌⊎◌, ◌==◌, List, ◌∙◌, length, get_or, refl, sym, ap, subst, inl, inr, arith}
-use Rattle.std.specs.Prelude.{if◌then◌else◌}
-use Rattle.std.specs.List.{All, sum_by, range_with_len}
+use Rattle.std.proofs.Common.{◌≡◌, ℕ, zero, suc, ◌+◌, ◌*◌, ◌<◌, ◌≤◌, ◌⊎◌, List, ◌∙◌, length, get_or, refl, sym, subst, inl, inr, arith}
 use Rattle.std.proofs.lemmas.Bool.{cases_lt, cases_eq}
-use Rattle.std.proofs.Math.Nat.{mul-pos}
 use Rattle.yds_model.specs.Job.{Job, job_at}
 use Rattle.yds_model.specs.Event.{stretches}
 use Rattle.yds_plan.specs.declared.finder_windows.Window.{Window}
-use Rattle.yds_plan.specs.Found.{Found, Share, share_at, no_share, group_at, group_of, length_of, units_of_job, units_in_stretch}
-use Rattle.yds_plan.specs.Windows.{window_at, IsIn, AreWindows}
-use Rattle.yds_plan.specs.Fill.{IsFill, IsPart}
+use Rattle.yds_plan.specs.Found.{Found, Share, share_at, no_share, group_of, length_of}
+use Rattle.yds_plan.specs.Windows.{IsIn, AreWindows}
 use Rattle.yds_plan.specs.Closure.{IsMarked, AreClosed}
-use Rattle.yds_plan.specs.Search.{IsFast, IsSlow, LieInWindows, IsBoundary, IsLead, IsFinished, MayRun, IsSearch, IsFilled, IsSplit}
-use Rattle.yds_plan.proofs.Shares.{chosen, not_chosen, chosen_some, share_counts, some_share}
-use Rattle.yds_plan.proofs.Ranges.{over, over_some, over_one}
+use Rattle.yds_plan.specs.Search.{IsFast, IsSlow, LieInWindows, IsBoundary, MayRun, IsSearch, IsFilled, IsSplit}
+use Rattle.yds_plan.proofs.Shares.{chosen, chosen_some, share_counts, some_share}
+use Rattle.yds_plan.proofs.Ranges.{over_some, over_one}
 use Rattle.yds_plan.proofs.Balance.{balance}
 use Rattle.yds_plan.proofs.Finished.{moved, AreAlike, kept_finished}
 

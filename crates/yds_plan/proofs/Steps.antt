@@ -1,17 +1,16 @@
 -- One step of the search: the fastest group is filled, and finished or split.
-use Rattle.std.proofs.Common.{◌≡◌, ℕ, zero, suc, ◌+◌, ◌-◌, ◌*◌, ◌<◌, ◌≤◌, ◌⊎◌, ◌==◌, Bool, true, false, List, [], ◌∷◌, ◌++◌, ◌∙◌, length, get_or, sum, refl, sym, ap, subst, inl, inr, arith}
+use Rattle.std.proofs.Common.{◌≡◌, ℕ, ◌+◌, ◌-◌, ◌<◌, ◌≤◌, ◌==◌, true, false, List, [], ◌∷◌, ◌++◌, ◌∙◌, length, get_or, sum, sym, ap, subst, inl, inr, arith}
 use Rattle.std.specs.Prelude.{if◌then◌else◌, nat_lt}
-use Rattle.std.specs.List.{sum_by, range_with_len, list_any}
+use Rattle.std.specs.List.{list_any}
 use Rattle.std.proofs.lemmas.List.{get_or_default}
 use Rattle.std.proofs.lemmas.List.Folds.{list_any_at, Any-from_list_any}
 use Rattle.std.proofs.lemmas.Bool.{cases_lt, cases_eq, lt-ltb, ltb-true}
-use Rattle.yds_model.specs.Job.{Job, job_at}
+use Rattle.yds_model.specs.Job.{Job}
 use Rattle.yds_model.specs.Event.{stretches}
 use Rattle.yds_plan.specs.declared.finder_windows.Window.{Window}
 use Rattle.yds_plan.specs.declared.finder_instance.Instance.{Instance}
-use Rattle.yds_plan.specs.Found.{Found, Group, Share, group_of, length_of, per_time, per_work}
+use Rattle.yds_plan.specs.Found.{Found, Group, Share, group_of, per_time, per_work}
 use Rattle.yds_plan.specs.Windows.{AreWindows}
-use Rattle.yds_plan.specs.Fill.{IsFill}
 use Rattle.yds_plan.specs.Closure.{AreLateReaches, AreShareReaches, AreReaches, AreClosed, AreAllReaches}
 use Rattle.yds_plan.specs.Search.{IsSearch, IsFilled, IsAttempt, IsRenamed, IsSplitStretch, IsSplitJob, IsSplit}
 use Rattle.yds_plan.specs.Instance.{IsInstance}
@@ -21,7 +20,7 @@ use Rattle.yds_plan.proofs.Shares.{chosen, not_chosen}
 use Rattle.yds_plan.proofs.Closure.{fill_closes}
 use Rattle.yds_plan.proofs.Ends.{few_groups, few_left}
 use Rattle.yds_plan.proofs.Finished.{moved}
-use Rattle.yds_plan.proofs.Finish.{Finishing, ended, finish_search}
+use Rattle.yds_plan.proofs.Finish.{Finishing, finish_search}
 use Rattle.yds_plan.proofs.Split.{Splitting, split_search}
 
 less_here : (k i one other : ℕ) → one ≤ other → (k ≡ i → one < other) → one + (if k == i then 1 else 0) ≤ other

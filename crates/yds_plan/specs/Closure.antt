@@ -1,7 +1,6 @@
 -- What late jobs close upon: the stretches of their windows, and those of the windows of jobs with a share in such a stretch.
 use Rattle.std.specs.Prelude.{◌≡◌, ℕ, ◌+◌, ◌<◌, ◌≤◌, nat_le, min, if◌then◌else◌, List, length, slice_index}
-use Rattle.std.specs.List.{slice_index_or, All}
-use Rattle.yds_model.specs.Job.{Job}
+use Rattle.std.specs.List.{slice_index_or}
 use Rattle.yds_plan.specs.declared.finder_windows.Window.{Window}
 use Rattle.yds_plan.specs.Found.{Share, share_at}
 use Rattle.yds_plan.specs.Windows.{window_at, IsIn}

@@ -1,6 +1,6 @@
 -- The fill of stretches with room by jobs that want units: each job, in order of deadline and number, takes the earliest
 -- room in its window.
-use Rattle.std.specs.Prelude.{◌≡◌, ℕ, ◌+◌, ◌<◌, ◌≤◌, ◌⊎◌, ◌==◌, nat_lt, min, if◌then◌else◌, List, length, take, slice_index, count_by}
+use Rattle.std.specs.Prelude.{◌≡◌, ℕ, ◌+◌, ◌-◌, ◌<◌, ◌≤◌, ◌⊎◌, ◌==◌, nat_lt, min, if◌then◌else◌, List, [], ◌∷◌, ◌++◌, length, take, slice_index, slice_set, count_by}
 use Rattle.std.specs.List.{All, AllPairs, sum_by}
 use Rattle.yds_model.specs.Job.{Job}
 use Rattle.yds_model.specs.EarliestFirst.{ComesFirst}
@@ -78,3 +78,28 @@ pub record IsFilling (jobs : List Job) (windows : List Window) (order wants room
   pub late : (a : ℕ) → a < i → 1 ≤ slice_index wants' (slice_index order a) → (k : ℕ) → IsIn windows (slice_index order a) k →
       IsFullBefore jobs shares rooms' k (slice_index order a)
   pub few : length shares + full_count rooms ≤ sum_by (λ j. if nat_lt 0 (slice_index wants j) then 1 else 0) (take i order) + full_count rooms'
+
+-- From each stretch one may go on to `next`, since all before that are full. There is one more place after the last stretch.
+pub record IsNext (rooms next : List ℕ) : Type 0 where
+  pub count : length next ≡ length rooms + 1
+  pub forward : (k : ℕ) → k < length next → k ≤ slice_index next k
+  pub inside : (k : ℕ) → k < length next → slice_index next k < length next
+  pub full : (k i : ℕ) → k < length next → k ≤ i → i < slice_index next k → slice_index rooms i ≡ 0
+
+-- a place at which one may go on, with only full stretches before it
+pub record IsNextFrom (rooms : List ℕ) (from place n : ℕ) : Type 0 where
+  pub after : from ≤ place
+  pub within : place < n
+  pub full : (i : ℕ) → from ≤ i → i < place → slice_index rooms i ≡ 0
+
+-- each number at its own place, up to the last one
+pub record IsNumbers (last : ℕ) (numbers : List ℕ) : Type 0 where
+  pub count : length numbers ≡ last + 1
+  pub each : (k : ℕ) → k < last + 1 → slice_index numbers k ≡ k
+
+-- A job has passed over a stretch, because it is done or the stretch is full, or has taken what it could.
+abbrev pub IsTake : ℕ → ℕ → ℕ → List Share → List ℕ → ℕ → List Share → List ℕ → Type 0
+IsTake job stretch left shares rooms left' shares' rooms' =
+    ((1 ≤ left → slice_index rooms stretch ≡ 0) × (left' ≡ left) × (shares' ≡ shares) × (rooms' ≡ rooms))
+    ⊎ ((units : ℕ) × (1 ≤ left) × (1 ≤ slice_index rooms stretch) × (units ≡ min left (slice_index rooms stretch)) × (left' ≡ left - units)
+    × (shares' ≡ shares ++ record { job = job; stretch = stretch; units = units } ∷ []) × (rooms' ≡ slice_set rooms stretch (slice_index rooms stretch - units)))

@@ -9,3 +9,4 @@ pub mod Closure
 pub mod Search
 pub mod Amounts
 pub mod Instance
+pub mod Nearest

@@ -7,7 +7,7 @@ use Rattle.yds_model.specs.Event.{stretches}
 use Rattle.yds_model.specs.EarliestFirst.{ComesFirst}
 use Rattle.yds_plan.specs.declared.finder_windows.Window.{Window}
 use Rattle.yds_plan.specs.Found.{Found, Group, Share, share_at, group_at, group_of, length_of, work_in, length_in, per_time, per_work, units_of_job, units_in_stretch, IsShare}
-use Rattle.yds_plan.specs.Windows.{window_at, IsIn, Precedes}
+use Rattle.yds_plan.specs.Windows.{IsIn, Precedes}
 use Rattle.yds_plan.specs.Fill.{IsFill}
 use Rattle.yds_plan.specs.Closure.{IsMarked}
 

@@ -1,5 +1,5 @@
 -- What the search's own structs stand for.
-use Rattle.std.specs.Prelude.{ℕ, List, map}
+use Rattle.std.specs.Prelude.{List, map}
 use Rattle.yds_plan.specs.declared.share.Share as shares
 use Rattle.yds_plan.specs.declared.found.Group as groups
 use Rattle.yds_plan.specs.declared.found.Found as founds

@@ -129,11 +129,12 @@ fn split(
     )?;
     split_stretches(&mut found.group_of_stretch, &reaches, top);
     split_jobs(
+        alloc,
         &mut found.group_of_job,
         &instance.windows,
         &found.group_of_stretch,
         top,
-    );
+    )?;
     Ok(())
 }
 

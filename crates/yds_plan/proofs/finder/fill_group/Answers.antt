@@ -1,8 +1,7 @@
-use Rattle.std.proofs.Common.{ℕ, ◌*◌, ◌/◌, ◌≡◌, ◌<◌, List, length, get_or, sym, subst, arith}
-use Rattle.yds_model.specs.Divisor.{common_divisor}
+use Rattle.std.proofs.Common.{ℕ, ◌*◌, ◌/◌, ◌<◌, List, length, get_or, sym, subst, arith}
 use Rattle.yds_plan.specs.Amounts.{AreScaled}
 use Rattle.yds_plan.specs.Views.{found_view, shares_view}
-use Rattle.yds_plan.proofs.Attempt.{AreSums, sums, amount_at, scaled_at, fill_at, works_fit, lengths_fit, attempt_is}
+use Rattle.yds_plan.proofs.Attempt.{sums, amount_at, scaled_at, fill_at, works_fit, lengths_fit, attempt_is}
 use Rattle.yds_plan.proofs.finder.fill_group.Goals as goal
 
 pub nonzero_div-length : goal.nonzero_div-length

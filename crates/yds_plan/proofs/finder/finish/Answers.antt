@@ -1,8 +1,7 @@
-use Rattle.std.proofs.Common.{ℕ, ◌+◌, ◌≡◌, ◌<◌, ◌∙◌, List, [], ◌∷◌, ◌++◌, length, map, take, drop, sum, sym, ap, subst, arith}
+use Rattle.std.proofs.Common.{ℕ, ◌+◌, ◌≡◌, ◌<◌, ◌∙◌, List, ◌++◌, length, map, take, drop, sum, sym, ap, subst, arith}
 use Rattle.std.proofs.lemmas.List.{take_at, map_push, map-append, length-map}
-use Rattle.yds_plan.specs.Found.{Found, group_of}
 use Rattle.yds_plan.specs.Views.{found_view, group_view, share_view, shares_view}
-use Rattle.yds_plan.specs.Search.{IsSearch, IsRenamed}
+use Rattle.yds_plan.specs.Search.{IsSearch}
 use Rattle.yds_plan.proofs.Steps.{finish_step, finish_smaller, renamed_at}
 use Rattle.yds_plan.proofs.finder.finish.Goals as goal
 

@@ -1,6 +1,5 @@
-use Rattle.std.proofs.Common.{ℕ, ◌+◌, ◌-◌, ◌≡◌, ◌<◌, ◌∙◌, List, ◌++◌, length, map, take, drop, sum, sym, ap, subst, arith}
+use Rattle.std.proofs.Common.{ℕ, ◌-◌, ◌≡◌, ◌<◌, ◌∙◌, List, ◌++◌, length, map, take, drop, sum, sym, ap, subst, arith}
 use Rattle.std.proofs.lemmas.List.{take_at}
-use Rattle.yds_model.specs.Event.{stretches}
 use Rattle.yds_plan.specs.Views.{found_view, group_view, shares_view}
 use Rattle.yds_plan.specs.Search.{IsSearch}
 use Rattle.yds_plan.proofs.Steps.{split_top, split_at, reaches_at}
@@ -35,7 +34,7 @@ returns-clause-search c =
     (ap shares_view c.deref-3.ensures.value) c.in_ok-reaches.ensures)
     (split_at _ _ _ _ c.args.top _ _ _ _ c.split_jobs.new.groups c.split_stretches.new.groups _ c.deref-5.ensures.value c.deref-4.ensures.value
     c.deref_mut-2.ensures.value c.deref_mut.ensures.value (c.deref-6.ensures.value ∙ places)
-    c.split_jobs.auto.groups c.split_stretches.auto.groups c.split_stretches.ensures c.split_jobs.ensures)).0)
+    c.split_jobs.auto.groups c.split_stretches.auto.groups c.split_stretches.ensures c.in_ok-split_jobs.ensures)).0)
 
 pub returns-clause-smaller : goal.returns-clause-smaller
 returns-clause-smaller c =
@@ -51,4 +50,4 @@ returns-clause-smaller c =
     (ap shares_view c.deref-3.ensures.value) c.in_ok-reaches.ensures)
     (split_at _ _ _ _ c.args.top _ _ _ _ c.split_jobs.new.groups c.split_stretches.new.groups _ c.deref-5.ensures.value c.deref-4.ensures.value
     c.deref_mut-2.ensures.value c.deref_mut.ensures.value (c.deref-6.ensures.value ∙ places)
-    c.split_jobs.auto.groups c.split_stretches.auto.groups c.split_stretches.ensures c.split_jobs.ensures)).1
+    c.split_jobs.auto.groups c.split_stretches.auto.groups c.split_stretches.ensures c.in_ok-split_jobs.ensures)).1

@@ -1,4 +1,4 @@
-use Rattle.std.proofs.Common.{ℕ, ◌-◌, ◌≤◌, length}
+use Rattle.std.proofs.Common.{◌-◌, ◌≤◌, length}
 use Rattle.yds_plan.specs.Amounts.{AreLengths}
 use Rattle.yds_plan.proofs.finder_amounts.lengths.Given as goal
 

@@ -1,9 +1,9 @@
-use Rattle.std.proofs.Common.{ℕ, ◌+◌, ◌≡◌, ◌≤◌, ◌<◌, ◌∙◌, List, [], ◌∷◌, ◌++◌, length, map, refl, sym, ap, subst, arith}
+use Rattle.std.proofs.Common.{ℕ, ◌+◌, ◌≡◌, ◌∙◌, List, length, map, sym, ap, subst, arith}
 use Rattle.std.proofs.lemmas.List.{get_or_read, take_at}
 use Rattle.yds_model.specs.Job.{Job, job_at, no_job}
 use Rattle.yds_plan.specs.Found.{group_of}
-use Rattle.yds_plan.specs.Views.{found_view, group_view, shares_view}
-use Rattle.yds_plan.proofs.Begin.{BegunTo, begun_none, begun_idle, begun_working, begun_all}
+use Rattle.yds_plan.specs.Views.{group_view, shares_view}
+use Rattle.yds_plan.proofs.Begin.{BegunTo, begun_idle, begun_working, begun_all}
 use Rattle.yds_plan.proofs.finder_beginning.beginning.Goals as goal
 use Rattle.yds_plan.proofs.finder_beginning.beginning.Goals.{then-row-eq0+in_ok-push, else-row-eq0+in_ok-push-2}
 

@@ -1,4 +1,3 @@
-use Rattle.std.proofs.Common.{◌-◌, length}
 use Rattle.yds_plan.proofs.Reaches.{ReachesFrom}
 use Rattle.yds_plan.proofs.finder_closure.closure.Given as goal
 

@@ -1,8 +1,7 @@
-use Rattle.std.proofs.Common.{ℕ, ◌+◌, ◌-◌, ◌≡◌, ◌≤◌, ◌<◌, ◌∙◌, min, List, length, get_or, set, refl, sym, ap, subst, inl, inr, arith}
+use Rattle.std.proofs.Common.{ℕ, ◌+◌, ◌-◌, ◌≡◌, ◌≤◌, ◌∙◌, min, List, get_or, set, sym, ap, subst, arith}
 use Rattle.std.proofs.lemmas.List.{get_or_default}
 use Rattle.yds_plan.specs.Windows.{window_at}
-use Rattle.yds_plan.proofs.Reaches.{LatesTo, IsLeastOf, least_none, least_skips, least_takes, late_least}
-use Rattle.yds_plan.specs.declared.finder_windows.Window.{Window}
+use Rattle.yds_plan.proofs.Reaches.{LatesTo, least_none, least_skips, least_takes, late_least}
 use Rattle.yds_plan.proofs.finder_closure.late_reaches.Goals as goal
 use Rattle.yds_plan.proofs.finder_closure.late_reaches.Goals.{then-wants-job-gt0, else-wants-job-gt0}
 

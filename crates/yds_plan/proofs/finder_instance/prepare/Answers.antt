@@ -1,7 +1,7 @@
-use Rattle.std.proofs.Common.{ℕ, ◌+◌, ◌-◌, ◌≡◌, ◌≤◌, ◌<◌, ◌∙◌, List, length, get_or, map, refl, sym, ap, subst, inl, inr, arith}
+use Rattle.std.proofs.Common.{ℕ, ◌+◌, ◌≡◌, ◌<◌, ◌∙◌, List, length, get_or, ap, arith}
 use Rattle.std.proofs.lemmas.List.{get_or-map, length-map}
 use Rattle.yds_model.specs.Job.{Job, IsJob, job_at, no_job}
-use Rattle.yds_model.specs.Event.{event_points, stretches}
+use Rattle.yds_model.specs.Event.{event_points}
 use Rattle.yds_plan.proofs.Times.{times_rise, few_stretches, times_less, stretch_long, length_is, length_small}
 use Rattle.yds_plan.proofs.finder_instance.prepare.Goals as goal
 

@@ -1,4 +1,4 @@
-use Rattle.std.proofs.Common.{ℕ, ◌+◌, ◌-◌, ◌≡◌, List, get_or, set, refl, sym, subst, inl, inr, arith}
+use Rattle.std.proofs.Common.{ℕ, ◌+◌, ◌-◌, List, refl, sym, subst, inl, inr, arith}
 use Rattle.yds_plan.specs.Search.{IsSplitStretch}
 use Rattle.yds_plan.proofs.Pointwise.{IsDoneTo, done_none, done_keeps, done_writes}
 use Rattle.yds_plan.proofs.finder_split.split_stretches.Goals as goal

@@ -1,4 +1,4 @@
-use Rattle.std.proofs.Common.{ℕ, ◌≡◌, ◌≤◌, ◌<◌, Ok, Err, List, length, get_or, ap, inl, inr, arith}
+use Rattle.std.proofs.Common.{ℕ, ◌≤◌, ◌<◌, Ok, Err, List, length, get_or, ap, inl, inr, arith}
 use Rattle.std.proofs.lemmas.List.Sorted.{searched}
 use Rattle.std.proofs.lemmas.Bool.{cases_eq}
 use Rattle.yds_plan.proofs.finder_windows.place.Goals as goal

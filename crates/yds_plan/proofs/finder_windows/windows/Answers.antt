@@ -1,4 +1,4 @@
-use Rattle.std.proofs.Common.{ℕ, ◌+◌, ◌≡◌, ◌≤◌, ◌<◌, ◌∙◌, List, [], ◌∷◌, ◌++◌, length, get_or, refl, sym, ap, subst, inl, inr, arith}
+use Rattle.std.proofs.Common.{ℕ, ◌+◌, ◌≡◌, ◌<◌, ◌∙◌, List, [], ◌∷◌, ◌++◌, length, get_or, sym, ap, subst, inl, inr, arith}
 use Rattle.std.proofs.lemmas.List.{get_or_read, get_or_append_left, get_or_push, length_push}
 use Rattle.std.proofs.lemmas.Bool.{cases_lt}
 use Rattle.yds_model.specs.Job.{Job, job_at, no_job}
@@ -51,15 +51,15 @@ loop-row-preserved c =
     let row = c.row.view_is ∙ get_or_read _ _ _ c.loop-row-test.true c.row-item.is no_job in
     subst (λ (xs : List Window). WindowsSoFar c.args.times.now c.args.rows.now (c.loop-row.row-index + 1) xs) (sym c.in_ok-push.ensures.items)
     (window_more c.args.times.now c.args.rows.now c.loop-row.row-index c.loop-row.windows.items
-        (record { first = c.place-first.result; end = c.place-end.result }) c.loop-row.invariant
-        (record {
-          first = subst (λ (job : Job). IsPlace c.args.times.now job.release c.place-first.result) row c.place-first.ensures;
-          end = subst (λ (job : Job). IsPlace c.args.times.now job.deadline c.place-end.result) row c.place-end.ensures;
-        }))
+    (record { first = c.place-first.result; end = c.place-end.result }) c.loop-row.invariant
+    (record {
+      first = subst (λ (job : Job). IsPlace c.args.times.now job.release c.place-first.result) row c.place-first.ensures;
+      end = subst (λ (job : Job). IsPlace c.args.times.now job.deadline c.place-end.result) row c.place-end.ensures;
+    }))
 
 pub returns : goal.returns
 returns c =
     windows_found c.args.rows.now c.loop-row.windows.items (λ j known. c.requires.jobs j no_job known)
     (omega (arith, c.loop-row.invariant.count))
     (λ j known. subst (λ (times : List ℕ). IsWindowOf times (job_at c.args.rows.now j) (window_at c.loop-row.windows.items j)) c.requires.times
-        (c.loop-row.invariant.each j (omega (arith, c.loop-row-test.false))))
+    (c.loop-row.invariant.each j (omega (arith, c.loop-row-test.false))))
