@@ -179,27 +179,3 @@ pub(crate) fn find(alloc: Global, rows: &[JobRow], times: &[u32]) -> Result<Foun
     }
     Ok(found)
 }
-
-#[cfg(test)]
-mod tests {
-    use super::*;
-    use std::test::Fail;
-
-    #[test]
-    fn nested_jobs_are_three_groups(rt: HostRuntime) -> Result<(), Fail> {
-        let rows = [
-            JobRow::new(0, 12, 4),
-            JobRow::new(2, 10, 8),
-            JobRow::new(4, 6, 6),
-        ];
-        let times = [0, 2, 4, 6, 10, 12];
-        let found = find(rt.alloc(), &rows, &times)?;
-        assert_eq!(rt; found.groups.len(), 3);
-        assert_eq!(rt; found.group_of_job.as_slice(), [2, 1, 0].as_slice());
-        assert_eq!(rt;
-            found.group_of_stretch.as_slice(),
-            [2, 1, 0, 1, 2].as_slice()
-        );
-        Ok(())
-    }
-}
