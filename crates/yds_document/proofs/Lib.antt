@@ -1,0 +1,10 @@
+pub mod Printed
+pub mod Said
+pub mod Holds
+pub mod Grown
+pub mod Told
+pub mod Grain
+pub mod Within
+pub mod Parts
+pub mod Rising
+pub mod Placed

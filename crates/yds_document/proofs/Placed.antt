@@ -1,0 +1,71 @@
+-- Where a line may stand, by what the draft holds.
+use Rattle.std.proofs.Common.{◌≡◌, ℕ, ◌+◌, ◌<◌, List, [], ◌∷◌, length, Option, Some, None, Bool, true, false, Result, Ok, Err, refl, sym, ap, ◌∙◌, subst, arith, add-one, inl, inr}
+use Rattle.std.specs.Prelude.{is_some, is_none, nat_lt, ◌==◌, if◌then◌else◌}
+use Rattle.std.specs.List.{filter_map}
+use Rattle.yds_model.specs.Entry.{Entry, LevelEntry, is_level, levels_said, ticks_said, grid_said, energy_said}
+use Rattle.yds_model.specs.Lines.{Field}
+use Rattle.yds_model.specs.Level.{Level}
+use Rattle.yds_model.specs.declared.limits.TheConstants.{MAX_JOBS, MAX_POINTS, MAX_SLOTS, MAX_LEVELS, MAX_PIECES, MAX_MEMBERS}
+use Rattle.yds_model.specs.declared.reason.Reason.TheVariants as reasons
+use Rattle.yds_model.specs.Reading.{Spot, Kind, ◌>>=◌, demand, refuse, may_follow, has_room, field_at, kind_of, read_fields}
+use Rattle.yds_document.specs.declared.draft.Draft.{Draft}
+use Rattle.yds_document.specs.declared.line_fault.LineFault.{LineFault}
+use Rattle.yds_document.specs.declared.line_fault.LineFault.TheVariants as faults
+use Rattle.yds_document.specs.declared.line_kind.LineKind.{LineKind}
+use Rattle.yds_document.specs.declared.line_kind.LineKind.TheVariants as kinds
+use Rattle.yds_document.specs.Given.{Fails}
+use Rattle.yds_document.specs.Draft.{Holds, Tells, HoldsMore, count_and_read, items_of}
+use Rattle.yds_document.specs.LineKinds.{line_kind, kind_told, follows_draft, has_room_in}
+use Rattle.yds_document.proofs.Said.{split, levels_past}
+
+level_if : Entry → Option Entry
+level_if entry = if is_level entry then Some entry else None
+
+-- as many levels as level lines
+levels_count : (es : List Entry) → length (filter_map (λ entry. if is_level entry then Some entry else None) es) ≡ length (levels_said es)
+levels_count [] = refl
+levels_count (e ∷ es) = elim (split e) [
+  | inl at ↦ ?
+  | inr past ↦ rw past (levels_count es ∙ ap length (sym (levels_past e es past)))
+]
+
+some_items : {A : Type 0} (o : Option A) → nat_lt 0 (length (items_of o)) ≡ is_some o
+some_items None = refl
+some_items (Some x) = refl
+
+none_items : {A : Type 0} (o : Option A) → (length (items_of o) == 0) ≡ is_none o
+none_items None = refl
+none_items (Some x) = refl
+
+pub follows_said : (kind : LineKind) (draft : Draft) (earlier : List Entry) → Holds draft earlier → follows_draft kind draft ≡ may_follow (line_kind kind) earlier
+follows_said kinds.Job draft earlier holds = refl
+follows_said kinds.Point draft earlier holds = refl
+follows_said kinds.Slot draft earlier holds = refl
+follows_said kinds.Level draft earlier holds = refl
+follows_said kinds.Piece draft earlier holds = ap (nat_lt 0) (sym (levels_count earlier ∙ ap length holds.levels))
+follows_said kinds.Member draft earlier holds = ap (nat_lt 0) (sym (levels_count earlier ∙ ap length holds.levels))
+follows_said kinds.Ticks draft earlier holds = sym (ap (λ l. length l == 0) holds.ticks ∙ none_items draft.ticks)
+follows_said kinds.Run draft earlier holds = sym (ap (λ l. nat_lt 0 (length l)) holds.ticks ∙ some_items draft.ticks)
+follows_said kinds.Grid draft earlier holds = sym (ap (λ l. length l == 0) holds.grid ∙ none_items draft.grid)
+follows_said kinds.Energy draft earlier holds = sym (ap (λ l. length l == 0) holds.energy ∙ none_items draft.energy)
+
+pub room_said : (kind : LineKind) (draft : Draft) (earlier : List Entry) → Holds draft earlier → length draft.instance.names ≡ length draft.instance.jobs → has_room_in kind draft ≡ has_room (line_kind kind) earlier
+room_said kinds.Job draft earlier holds same = ap (λ n. nat_lt n MAX_JOBS) (sym (ap length holds.names ∙ same))
+room_said kinds.Point draft earlier holds same = ap (λ n. nat_lt n MAX_POINTS) (sym (ap length holds.points))
+room_said kinds.Slot draft earlier holds same = ap (λ n. nat_lt n MAX_SLOTS) (sym (ap length holds.slots))
+room_said kinds.Run draft earlier holds same = ap (λ n. nat_lt n MAX_SLOTS) (sym (ap length holds.slots))
+room_said kinds.Level draft earlier holds same = ap (λ n. nat_lt n MAX_LEVELS) (sym (levels_count earlier ∙ ap length holds.levels))
+room_said kinds.Piece draft earlier holds same = ap (λ n. nat_lt n MAX_PIECES) (sym holds.pieces)
+room_said kinds.Member draft earlier holds same = ap (λ n. nat_lt n MAX_MEMBERS) (sym holds.members)
+room_said kinds.Ticks draft earlier holds same = refl
+room_said kinds.Grid draft earlier holds same = refl
+room_said kinds.Energy draft earlier holds same = refl
+
+-- # The line, by its kind
+
+read_as : List Entry → List Field → Option Kind → Result Entry Spot
+read_as earlier fields kind = elim kind [
+  | None ↦ refuse (field_at fields 0).column reasons.UnknownKind
+  | Some kind ↦ demand (may_follow kind earlier) (field_at fields 0).column reasons.Misplaced >>= (λ placed.
+      demand (has_room kind earlier) (field_at fields 0).column reasons.TooMany >>= (λ room. count_and_read kind earlier fields))
+]

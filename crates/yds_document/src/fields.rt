@@ -1,0 +1,113 @@
+// The fields of a line: how many there are, and the numbers and fractions that they spell.
+ghost use Rattle.std.specs.Prelude.{◌≡◌, ◌≤◌, ◌∷◌, [], IfOk, ◌<◌, ◌^◌};
+ghost use Rattle.yds_model.specs.Reading.{past_end, number_in, fraction_in};
+ghost use Rattle.yds_model.specs.declared.limits.TheConstants.{MAX_WHOLE, MAX_DENOMINATOR};
+ghost use Rattle.yds_fraction.specs.Mixed.{IsMixed};
+ghost use Rattle.yds_text.specs.Read.{field_read};
+ghost use Rattle.yds_document.specs.Given.{Gives, Counts, ReadsNext, EndsThere};
+
+use crate::line_fault::LineFault;
+use yds_fraction::Amount;
+use yds_model::Reason;
+use yds_text::{Field, Fields, mixed, number_from};
+
+// The number that the field spells.
+pub(crate) fn number_in(field: Field<'_>, least: u64, most: u64) -> Result<u64, LineFault>
+    ensures gives { Gives (λ n. n) result (number_in least most (field_read field.entry)) }
+    ensures within { IfOk result (λ n. (least ≤ n) × (n ≤ most)) }
+{
+    match number_from(field, least, most) {
+        Ok(number) => Ok(number),
+        Err(fault) => Err(LineFault::of_number(field.column, fault)),
+    }
+}
+
+// The same of a number of 32 bits.
+pub(crate) fn small_in(field: Field<'_>, least: u32, most: u32) -> Result<u32, LineFault>
+    ensures gives { Gives (λ n. n) result (number_in least most (field_read field.entry)) }
+    ensures within { IfOk result (λ n. (least ≤ n) × (n ≤ most)) }
+{
+    let number = number_in(field, u64::from(least), u64::from(most))?;
+    Ok(number as u32)
+}
+
+// The fraction that the field spells.
+pub(crate) fn fraction_in(field: Field<'_>, most: u64) -> Result<Amount, LineFault>
+    requires { most ≤ MAX_WHOLE }
+    ensures gives { Gives (λ x. x) result (fraction_in most (field_read field.entry)) }
+    ensures within { IfOk result (λ x. x.whole ≤ most) }
+    ensures kept { IfOk result (IsMixed MAX_DENOMINATOR) }
+{
+    match mixed(field, most) {
+        Ok(value) => {
+            // Reading a part shows that the fraction is within its limits.
+            let _den = value.den();
+            Ok(value)
+        }
+        Err(fault) => Err(LineFault::of_number(field.column, fault)),
+    }
+}
+
+// The next field, after the last one that was read.
+fn next_field<'a>(last: Field<'a>, fields: &mut Fields<'a>) -> Result<Field<'a>, LineFault>
+    ensures { ReadsNext result (past_end (field_read last.entry)) fields.old.fields fields.new.fields }
+{
+    match fields.next() {
+        Some(field) => Ok(field),
+        None => {
+            let column = last.column + last.text.len() as u32;
+            Err(LineFault::at(column, Reason::FieldCount))
+        }
+    }
+}
+
+// That no field is left.
+fn no_more(mut fields: Fields<'_>) -> Result<(), LineFault>
+    ensures { EndsThere result fields.entry.fields }
+{
+    match fields.next() {
+        Some(field) => Err(LineFault::at(field.column, Reason::FieldCount)),
+        None => Ok(()),
+    }
+}
+
+// The one field after the kind.
+pub(crate) fn one_field<'a>(
+    kind: Field<'a>,
+    mut fields: Fields<'a>,
+) -> Result<Field<'a>, LineFault>
+    ensures { Counts (λ x. field_read kind.entry ∷ field_read x ∷ []) result 1 (field_read kind.entry ∷ fields.entry.fields) }
+{
+    let first = next_field(kind, &mut fields)?;
+    no_more(fields)?;
+    Ok(first)
+}
+
+// The two fields after the kind.
+pub(crate) fn two_fields<'a>(
+    kind: Field<'a>,
+    mut fields: Fields<'a>,
+) -> Result<(Field<'a>, Field<'a>), LineFault>
+    ensures { Counts (λ x. field_read kind.entry ∷ field_read x.0 ∷ field_read x.1 ∷ []) result 2 (field_read kind.entry ∷ fields.entry.fields) }
+{
+    let first = next_field(kind, &mut fields)?;
+    let second = next_field(first, &mut fields)?;
+    no_more(fields)?;
+    Ok((first, second))
+}
+
+// The four fields after the kind.
+pub(crate) fn four_fields<'a>(
+    kind: Field<'a>,
+    mut fields: Fields<'a>,
+) -> Result<(Field<'a>, Field<'a>, Field<'a>, Field<'a>), LineFault>
+    ensures { Counts (λ x. field_read kind.entry ∷ field_read x.0 ∷ field_read x.1 ∷ field_read x.2 ∷ field_read x.3 ∷ []) result 4
+        (field_read kind.entry ∷ fields.entry.fields) }
+{
+    let first = next_field(kind, &mut fields)?;
+    let second = next_field(first, &mut fields)?;
+    let third = next_field(second, &mut fields)?;
+    let fourth = next_field(third, &mut fields)?;
+    no_more(fields)?;
+    Ok((first, second, third, fourth))
+}

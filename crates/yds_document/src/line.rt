@@ -1,0 +1,110 @@
+//! A line of text, made on the stack field by field.
+ghost use Rattle.std.specs.Prelude.{◌≡◌, ◌+◌, ◌≤◌, ◌∷◌, ◌++◌, [], length, decimal};
+ghost use Rattle.yds_model.specs.Text.{fraction_text};
+
+use arrayvec::ArrayString;
+use itoa::Buffer;
+use std::marker::Model;
+use yds_fraction::Amount;
+
+/// How many bytes a line has at most. The longest line of a document, that of a slot, has at most
+/// 4 + 65 + 3 * 63 + 1 of them.
+pub const LINE_BYTES: usize = 320;
+
+/// A line of text, made on the stack. A contract sees its bytes.
+#[derive(Drop)]
+pub struct Line {
+    text: ArrayString<LINE_BYTES>,
+}
+
+impl Model for Line {
+    ghost use Rattle.std.specs.Prelude.{ℕ, List};
+
+    ghost Value = { List ℕ };
+
+    ghost view = { λ line. line.text.bytes };
+}
+
+impl Line {
+    /// A line that begins with this word.
+    pub fn new(kind: &str) -> Line
+        requires { length kind.now ≤ LINE_BYTES }
+        ensures { result ≡ kind.now }
+    {
+        let mut text = ArrayString::new();
+        text.push_str(kind);
+        Line { text }
+    }
+
+    /// One more field, after a space.
+    pub fn field(mut self, field: &str) -> Line
+        requires { length self + 1 + length field.now ≤ LINE_BYTES }
+        ensures bytes { result ≡ self ++ 32 ∷ field.now }
+        ensures len { length result ≡ length self + 1 + length field.now }
+    {
+        self.text.push_str(" ");
+        self.text.push_str(field);
+        self
+    }
+
+    /// One more field with a number, after a space.
+    pub fn number(self, number: u64) -> Line
+        requires { length self + 21 ≤ LINE_BYTES }
+        ensures bytes { result ≡ self ++ 32 ∷ decimal number }
+        ensures short { length result ≤ length self + 21 }
+    {
+        self.field(Buffer::new().format(number))
+    }
+
+    /// One more field with a fraction, after a space: `W`, or `W+N/D` where the numerator isn't 0. It
+    /// isn't reduced.
+    pub fn fraction(mut self, value: Amount) -> Line
+        requires { length self + 63 ≤ LINE_BYTES }
+        ensures bytes { result ≡ self ++ 32 ∷ fraction_text value }
+        ensures short { length result ≤ length self + 63 }
+    {
+        self.text.push_str(" ");
+        self.mixed(value)
+    }
+
+    /// The same with no space before it.
+    pub fn mixed(mut self, value: Amount) -> Line
+        requires { length self + 62 ≤ LINE_BYTES }
+        ensures bytes { result ≡ self ++ fraction_text value }
+        ensures short { length result ≤ length self + 62 }
+    {
+        self.text.push_str(Buffer::new().format(value.whole()));
+        if value.num() == 0 {
+            return self;
+        }
+        self.part("+", value.num()).part("/", value.den())
+    }
+
+    // A sign and a number, with no space.
+    fn part(mut self, sign: &str, number: u64) -> Line
+        requires one { length sign.now ≡ 1 }
+        requires room { length self + 21 ≤ LINE_BYTES }
+        ensures bytes { result ≡ self ++ (sign.now ++ decimal number) }
+        ensures short { length result ≤ length self + 21 }
+    {
+        self.text.push_str(sign);
+        self.text.push_str(Buffer::new().format(number));
+        self
+    }
+
+    /// The line with its end.
+    pub fn end(mut self) -> Line
+        requires { length self + 1 ≤ LINE_BYTES }
+        ensures bytes { result ≡ self ++ 10 ∷ [] }
+    {
+        self.text.push_str("\n");
+        self
+    }
+
+    /// The line's bytes.
+    pub fn as_bytes(&self) -> &[u8]
+        ensures { result.now ≡ self.now }
+    {
+        self.text.as_str().as_bytes()
+    }
+}
