@@ -1,0 +1,4 @@
+pub mod Neighbours
+pub mod Speeds
+pub mod Works
+pub mod Feasible

@@ -1,0 +1,7 @@
+use Rattle.std.proofs.Common.{option_copied}
+use Rattle.yds_model.specs.Numbers.{Each}
+use Rattle.yds_model.specs.Audit.{Stands}
+use Rattle.yds_audit.proofs.auditor.first_wrong_slot.Given as goal
+
+abbrev pub invariant-loop-i : goal.invariant-loop-i
+invariant-loop-i l = Each l.i (Stands l.rows (option_copied l.points) l.slots)

@@ -1,0 +1,7 @@
+use Rattle.std.proofs.Common.{[], take}
+use Rattle.yds_model.specs.Level.{all_members}
+use Rattle.yds_checker.specs.Home.{AreHomes}
+use Rattle.yds_checker.proofs.home.settle_all.Given as goal
+
+abbrev pub invariant-loop-i : goal.invariant-loop-i
+invariant-loop-i l = AreHomes l.levels [] l.initial.homes → AreHomes l.levels (all_members (take l.i l.levels)) l.homes

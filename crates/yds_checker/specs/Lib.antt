@@ -1,0 +1,4 @@
+pub mod Home
+pub mod Speed
+pub mod Cover
+pub mod Judgement

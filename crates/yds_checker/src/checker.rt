@@ -1,0 +1,61 @@
+ghost use Rattle.std.specs.Prelude.{◌≡◌, ◌<◌, ◌≤◌, ◌↔◌, length, IfOk};
+ghost use Rattle.std.specs.List.{All};
+ghost use Rattle.yds_model.specs.declared.limits.TheConstants.{MAX_JOBS};
+ghost use Rattle.yds_model.specs.Excess.{IsLeast};
+ghost use Rattle.yds_model.specs.Proper.{IsProper};
+ghost use Rattle.yds_model.specs.Judgement.{IsJudgement};
+ghost use Rattle.yds_checker.specs.Judgement.{judgement_view};
+
+use crate::home::homes_of;
+use crate::judgement::Judgement;
+use crate::member::first_wrong_member;
+use crate::order::first_faster;
+use crate::pieces::first_wrong_pieces;
+use crate::speeds::first_wrong_speed;
+use crate::sums::first_wrong_sums;
+use crate::windows::first_uncovered;
+use std::alloc::Global;
+use yds_audit::{Verdict, audit};
+use yds_certificate::Certificate;
+use yds_model::{JobRow, Memory};
+use yds_slots::Schedule;
+
+/// The judgement of the seven conditions.
+fn judgement_of(
+    alloc: Global,
+    rows: &[JobRow],
+    schedule: &Schedule,
+    certificate: &Certificate,
+) -> Result<Judgement, Memory>
+    requires jobs { schedule.now.jobs ≡ length rows.now }
+    requires few { length rows.now ≤ MAX_JOBS }
+    requires known { All (λ level. All (λ number. number < length rows.now) level.members) certificate.now }
+    ensures { IfOk result (λ judgement. IsJudgement rows.now schedule.now.slots certificate.now (judgement_view judgement)) }
+{
+    let slots = schedule.slots();
+    let levels = certificate.levels();
+    match audit(rows, schedule, None) {
+        Verdict::Feasible => {}
+        verdict => return Ok(Judgement::Slots(verdict)),
+    }
+    if let Some(level) = first_wrong_pieces(levels) {
+        return Ok(Judgement::Pieces(level));
+    }
+    let homes = homes_of(alloc, rows.len(), levels)?;
+    if let Some(job) = first_wrong_member(rows, &homes) {
+        return Ok(Judgement::Members(job));
+    }
+    if let Some(level) = first_wrong_sums(rows, levels) {
+        return Ok(Judgement::Sums(level));
+    }
+    if let Some(level) = first_faster(levels) {
+        return Ok(Judgement::Order(level));
+    }
+    if let Some(job) = first_uncovered(rows, levels, &homes) {
+        return Ok(Judgement::Window(job));
+    }
+    if let Some(slot) = first_wrong_speed(rows, levels, &homes, slots) {
+        return Ok(Judgement::Speed(slot));
+    }
+    Ok(Judgement::Accepted)
+}
