@@ -13,9 +13,10 @@ use Rattle.yds_certificate.specs.Level.{with_member}
 use Rattle.yds_plan.specs.Found.{Found, group_of, stretch_at}
 use Rattle.yds_plan.specs.Laid.{level_of, levels_among, level_of_place, joined, together}
 use Rattle.yds_plan.specs.Drafts.{draft, drafts, extended, extended_level}
+use Rattle.yds_plan.proofs.KeySums.{range_more}
 use Rattle.yds_plan.proofs.Speeds.{among_above}
 use Rattle.yds_plan.proofs.Levels.{place_level, place_in_level}
-use Rattle.yds_plan.proofs.Drafts.{range_more, map_range_set, map_range_same}
+use Rattle.yds_plan.proofs.Drafts.{map_range_set, map_range_same}
 use Rattle.yds_plan.proofs.Extended.{joined_more}
 
 filter_more : (p : ℕ → Bool) (n : ℕ) → filter p (range_with_len 0 (n + 1)) ≡ filter p (range_with_len 0 n) ++ cond (p n) (n ∷ []) []

@@ -13,15 +13,8 @@ use Rattle.yds_plan.specs.declared.found.Group.{Group as Struct}
 use Rattle.yds_plan.specs.Views.{group_view}
 use Rattle.yds_plan.specs.Laid.{slows_after, level_of, levels_among}
 use Rattle.yds_plan.specs.Drafts.{among, empty_level, empty_levels, joins_before, level_of_one, with_more, with_group, AreGroupsWithin}
-use Rattle.yds_plan.proofs.Split.{in_range, not_here, is_here}
+use Rattle.yds_plan.proofs.KeySums.{in_range, not_here, is_here, range_more, sum_of_first, cond_at_most}
 use Rattle.yds_plan.proofs.Speeds.{among_above}
-
--- a range, one longer
-pub range_more : (n : ℕ) → range_with_len 0 (n + 1) ≡ range_with_len 0 n ++ n ∷ []
-range_more n =
-    sym (map-id (range_with_len 0 (n + 1)))
-    ∙ map-range_with_len_more (λ k. k) 0 n n (omega arith)
-    ∙ ap (λ ks. ks ++ n ∷ []) (map-id (range_with_len 0 n))
 
 -- values over a range, of which one is replaced
 pub map_range_set : {X : Type 0} (d : X) (f g : ℕ → X) (n l : ℕ) → l < n → ((k : ℕ) → k < n → (k ≡ l → ⊥) → f k ≡ g k) →
@@ -128,25 +121,13 @@ module _ (groups : List Group) where
   draft_step i = with_group_cases i (joins_before groups i) refl
 
   -- what a level has so far, and the next group, are within what all groups have
-  sum_of_first : (f : Group → ℕ) (i : ℕ) → i ≤ length groups → sum_by (λ k. f (group_at groups k)) (range_with_len 0 i) ≡ sum_by f (take i groups)
-  sum_of_first f zero within = refl
-  sum_of_first f (suc i) within =
-      ap (sum_by (λ k. f (group_at groups k))) (ap (range_with_len 0) (sym (add-one i)) ∙ range_more i)
-      ∙ sum_by_push (λ k. f (group_at groups k)) (range_with_len 0 i) i
-      ∙ ap (λ n. n + f (group_at groups i)) (sum_of_first f i (omega arith))
-      ∙ sym (ap (λ n. sum_by f (take n groups)) (sym (add-one i)) ∙ sum_by_more f groups i no_group (omega arith))
-
-  cond_at_most : (b : Bool) (v : ℕ) → cond b v 0 ≤ v
-  cond_at_most true v = omega arith
-  cond_at_most false v = omega arith
-
   among_within : (f : Group → ℕ) (i l : ℕ) → i < length groups → among f groups i l + f (group_at groups i) ≤ sum_by f groups
   among_within f i l within =
       omega (
         arith,
         sum_by_at_most (λ k. cond (level_of groups k == l) (f (group_at groups k)) 0) (λ k. f (group_at groups k)) (range_with_len 0 i)
             (λ k d inside. cond_at_most _ _),
-        sum_of_first f i (omega arith),
+        sum_of_first f groups no_group i (omega arith),
         sum_by_more_le f groups i no_group within,
       )
 

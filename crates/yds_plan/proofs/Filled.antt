@@ -10,7 +10,7 @@ use Rattle.std.proofs.Math.Nat.{mul-lt-mul_of_pos_right, lt_of_mul-lt-mul_right,
 use Rattle.yds_model.specs.Slot.{WrittenSlot, WholeSlot, IsDivided, slot_at_scale, slots_at}
 use Rattle.yds_model.specs.Plan.{IsOver}
 use Rattle.yds_plan.specs.Found.{Group, Share, per_time, per_work}
-use Rattle.yds_plan.specs.Laid.{with_parts, slots_from}
+use Rattle.yds_plan.specs.Laid.{slot_for, slots_from}
 use Rattle.yds_plan.proofs.Parts.{parts_value, parts_over}
 
 -- what is written over the terms of the group's speed
@@ -147,15 +147,6 @@ module _ (group : Group) (scale start : ℕ) (positive : 1 ≤ scale) (some_time
       (λ k d within. (after_of _ _ (per_time group) (start * per_time group + (done + share.units)) scale to (later k d within).from some_time, jobs k d within))
       (filled_pairs R end (done + share.units) shares divided.1 (All-tail (λ share. 1 ≤ share.units) share shares some) (omega arith)
       (λ i j d order within. pairs (suc i) (suc j) d (omega arith) (omega arith)))
-
--- the slot of a share
-abbrev pub slot_for : Group → ℕ → ℕ → Share → WrittenSlot
-slot_for group start done share = record {
-  job = share.job;
-  from = with_parts start done (per_time group);
-  to = with_parts start (done + share.units) (per_time group);
-  work = with_parts 0 share.units (per_work group);
-}
 
 -- the work that the slots give a job is that of its units
 pub filled_work : (group : Group) (scale start done job : ℕ) (shares : List Share) →

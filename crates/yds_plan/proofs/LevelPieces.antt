@@ -15,7 +15,7 @@ use Rattle.yds_model.specs.Event.{stretches}
 use Rattle.yds_model.proofs.Sums.{sum_by_at_most}
 use Rattle.yds_plan.specs.Found.{Group, Found, group_of, stretch_at, length_of}
 use Rattle.yds_plan.specs.Laid.{level_of_place, levels_among, stretches_of, joined, level_numbered, levels_of}
-use Rattle.yds_plan.proofs.Split.{in_range, split_at_most, count_all, sum_by-map}
+use Rattle.yds_plan.proofs.KeySums.{in_range, split_at_most, count_all, sum_by-map}
 use Rattle.yds_plan.proofs.Stretches.{Begins, run_begins, stretch_forward, stretch_order}
 use Rattle.yds_plan.proofs.Joined.{Holds, joined_run, joined_apart, joined_total, joined_length, joined_stays_apart, joined_covers, some_stretches_run, some_stretches_cover}
 use Rattle.yds_plan.proofs.Blocks.{flat_map-map, all_of_blocks, some_of_blocks}

@@ -5,7 +5,8 @@ use Rattle.std.specs.List.{All, Contains, sum_by, filter, flat_map, range_with_l
 use Rattle.std.proofs.lemmas.Bool.{cases_lt, cases_eq, lt-ltb, le-ltb, eqb-true}
 use Rattle.std.proofs.lemmas.List.Sums.{sum_by-le-sum_by}
 use Rattle.std.proofs.lemmas.List.Elements.{All-map, All-filter, All-contains, All-head, filter_passes}
-use Rattle.std.proofs.lemmas.List.FromFn.{get_or-map-range_with_len, length-map-range_with_len}
+use Rattle.std.proofs.lemmas.List.FromFn.{get_or-map-range_with_len, length-map-range_with_len, length-range_with_len}
+use Rattle.std.proofs.lemmas.List.Concat.{length-flat_map}
 use Rattle.yds_model.specs.Numbers.{count}
 use Rattle.yds_model.specs.Job.{Job, job_at}
 use Rattle.yds_model.specs.Level.{Level, no_level, level_at, all_members}
@@ -13,7 +14,7 @@ use Rattle.yds_model.specs.Plan.{Rise}
 use Rattle.yds_model.proofs.Sums.{sum_by_same, sum_by_at_most, sum_by_zero}
 use Rattle.yds_plan.specs.Found.{Group, Found, IsFound, group_of, group_at, work_in}
 use Rattle.yds_plan.specs.Laid.{level_of, levels_among, level_of_place, together, members_of, level_numbered, levels_of}
-use Rattle.yds_plan.proofs.Split.{All-range, in_range, sums_swap, not_here, is_here, one_of_range, split_sum, sum_by-filter, sum_by-flat_map}
+use Rattle.yds_plan.proofs.KeySums.{All-range, in_range, sums_swap, not_here, is_here, one_of_range, split_sum, split_at_most, count_all, sum_by-filter, sum_by-flat_map}
 use Rattle.yds_plan.proofs.Blocks.{flat_map-map}
 use Rattle.yds_plan.proofs.Speeds.{among_below}
 
@@ -193,3 +194,19 @@ member_once jobs found number known below =
         (λ j. level_of_place found.groups (group_of found.group_of_job j)) number (get_or (range_with_len 0 (length jobs)) k d) below)
     ∙ one_of_range (length jobs) number 1
     ∙ ap {B = ℕ} (λ b. cond b 1 0) (lt-ltb number (length jobs) known)
+
+-- there are no more members than jobs
+pub few_members : (jobs : List Job) (found : Found) → length (all_members (levels_of jobs found)) ≤ length jobs
+few_members jobs found =
+    let all = range_with_len 0 (levels_among found.groups (length found.groups)) in
+    omega (
+      arith,
+      ap length (members_joined jobs found),
+      length-flat_map (members_of jobs found) all,
+      sum_by-le-sum_by (λ l. length (members_of jobs found l)) (λ l. sum_by (λ j. 1) (members_of jobs found l)) all
+          (λ l. omega (arith, count_all (members_of jobs found l))),
+      split_at_most (λ j. level_of_place found.groups (group_of found.group_of_job j)) (λ j. 1)
+          (levels_among found.groups (length found.groups)) (range_with_len 0 (length jobs)),
+      count_all (range_with_len 0 (length jobs)),
+      length-range_with_len 0 (length jobs),
+    )

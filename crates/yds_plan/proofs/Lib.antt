@@ -1,17 +1,42 @@
 pub mod Divisors
 pub mod Parts
-pub mod Split
+pub mod KeySums
 pub mod Stretches
 pub mod Joined
 pub mod Speeds
 pub mod Blocks
-pub mod Shares
+pub mod Served
 pub mod Filled
 pub mod Order
 pub mod Schedule
 pub mod Levels
 pub mod LevelPieces
-pub mod Plan
+pub mod FoundPlan
 pub mod Drafts
 pub mod Extended
 pub mod DraftSteps
+pub mod Buckets
+pub mod Fitting
+pub mod Bounds
+pub mod Laying
+mod Orders
+mod Fill
+mod Filling
+mod Ranges
+mod Closure
+mod Balance
+mod Shares
+mod Finished
+mod Split
+mod Times
+mod Deadlines
+mod Places
+mod Ends
+mod Lowest
+mod Amounts
+mod Pointwise
+mod Reaches
+mod Finish
+mod Attempt
+mod Steps
+mod Begin

@@ -17,10 +17,10 @@ use Rattle.yds_model.proofs.Sums.{sum_by-mul, sum_by_same, sum_by_zero}
 use Rattle.yds_plan.specs.Found.{Group, Share, Found, IsFound, IsInWindow, group_of, group_at, per_time, per_work, no_piece, stretch_at, length_of, units_of_job, units_in_stretch}
 use Rattle.yds_plan.specs.Laid.{slots_in, slots_of, shares_in}
 use Rattle.yds_plan.proofs.Divisors.{Lowest, lowest}
-use Rattle.yds_plan.proofs.Split.{in_range, not_here, sum_by-filter, sum_by-flat_map, split_all}
+use Rattle.yds_plan.proofs.KeySums.{in_range, not_here, sum_by-filter, sum_by-flat_map, split_all}
 use Rattle.yds_plan.proofs.Stretches.{stretch_forward, stretch_order, release_outside}
 use Rattle.yds_plan.proofs.Blocks.{map-flat_map, all_of_blocks, block_of_all, pairs_of_blocks}
-use Rattle.yds_plan.proofs.Shares.{Serves, IsBefore, all_serve, some_units, shares_in_order}
+use Rattle.yds_plan.proofs.Served.{Serves, IsBefore, all_serve, some_units, shares_in_order}
 use Rattle.yds_plan.proofs.Filled.{Fills, FollowsBy, fills, filled_pairs, filled_work, slots_of_jobs, jobs_at, units_of}
 use Rattle.yds_plan.proofs.Order.{Follows, StartsFrom, run_from_pairs, earliest_after}
 
@@ -78,7 +78,7 @@ module _ (jobs : List Job) (found : Found) (is : IsFound jobs found) where
   pub terms : (g : ℕ) → g < length found.groups → Lowest (group_at found.groups g).work (group_at found.groups g).length
   terms g known = lowest (group_at found.groups g).work (group_at found.groups g).length (is.some_work g known) (is.some_length g known)
 
-  room : (k : ℕ) → k < length (stretches jobs) → group_of found.group_of_stretch k < length found.groups →
+  pub room : (k : ℕ) → k < length (stretches jobs) → group_of found.group_of_stretch k < length found.groups →
       (stretch_at jobs k).from * per_time (group_at found.groups (group_of found.group_of_stretch k)) + 0 + units_of (shares_in found.shares k)
       ≤ (stretch_at jobs k).to * per_time (group_at found.groups (group_of found.group_of_stretch k))
   room k within grouped =

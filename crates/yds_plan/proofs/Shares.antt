@@ -1,66 +1,57 @@
--- The shares of one stretch: what each is, and their order.
-use Rattle.std.proofs.Common.{◌≡◌, ℕ, ◌+◌, ◌*◌, ◌<◌, ◌≤◌, ◌==◌, List, ◌∙◌, length, get_or, sym, refl, ap, arith}
-use Rattle.std.specs.List.{All, AllPairs, filter}
-use Rattle.std.proofs.lemmas.Bool.{eqb-true}
-use Rattle.std.proofs.lemmas.List.{get_or_default}
-use Rattle.std.proofs.lemmas.List.Elements.{All-from_get_or, All-filter, filter_passes}
-use Rattle.std.proofs.lemmas.List.Kept.{AllPairs-filter}
-use Rattle.yds_model.specs.Job.{Job}
-use Rattle.yds_model.specs.Event.{stretches}
-use Rattle.yds_model.specs.EarliestFirst.{ComesFirst}
-use Rattle.yds_plan.specs.Found.{Share, Found, IsFound, IsInWindow, group_of, no_share, share_at}
-use Rattle.yds_plan.specs.Laid.{shares_in}
+-- Shares and the units that they sum up to.
+use Rattle.std.proofs.Common.{◌≡◌, ℕ, zero, suc, ◌+◌, ◌*◌, ◌<◌, ◌≤◌, ◌≢◌, ◌==◌, List, [], ◌∷◌, ◌++◌, ◌∙◌, length, get_or, refl, sym, ap, subst, inl, inr, arith, eq-eqb}
+use Rattle.std.specs.Prelude.{if◌then◌else◌, cond}
+use Rattle.std.specs.List.{All, sum_by}
+use Rattle.std.proofs.lemmas.List.Sums.{sum_by-cons, get_or-le-sum_by}
+use Rattle.std.proofs.lemmas.Bool.{cases_lt, cases_eq, ne_eqb}
+use Rattle.yds_plan.specs.Found.{Share, share_at, no_share}
 
--- a job has a share in a stretch
-pub record Serves (jobs : List Job) (found : Found) (k job : ℕ) : Type 0 where
-  pub known : job < length jobs
-  pub in_window : IsInWindow jobs job k
-  pub grouped : group_of found.group_of_job job < length found.groups
-  pub same_group : group_of found.group_of_stretch k ≡ group_of found.group_of_job job
-  pub place : ℕ
-  pub within : place < length found.shares
-  pub job_is : (share_at found.shares place).job ≡ job
-  pub stretch_is : (share_at found.shares place).stretch ≡ k
+-- the units of shares with this number, of a job or of a stretch
+abbrev pub units_at : (Share → ℕ) → List Share → ℕ → ℕ
+units_at key shares number = sum_by (λ share. if key share == number then share.units else 0) shares
 
--- a job is another and comes first
-abbrev pub IsBefore : List Job → ℕ → ℕ → Type 0
-IsBefore jobs first other = (first ≡ other → ⊥) × ComesFirst jobs first other
+pub chosen : (number group value : ℕ) → number ≡ group → (if number == group then value else 0) ≡ value
+chosen number group value same = rw (eq-eqb number group same) refl
 
-module _ (jobs : List Job) (found : Found) (is : IsFound jobs found) where
-  serves_at : (k x : ℕ) → x < length found.shares → (share_at found.shares x).stretch ≡ k →
-      Serves jobs found k (share_at found.shares x).job
-  serves_at k x within same =
-      let share = is.shares x no_share within in
-      record {
-        known = share.known;
-        in_window = rw same at share.in_window;
-        grouped = share.grouped;
-        same_group = rw same at share.same_group;
-        place = x;
-        within = within;
-        job_is = refl;
-        stretch_is = same;
-      }
+pub not_chosen : (number group value : ℕ) → (number ≡ group → ⊥) → (if number == group then value else 0) ≡ 0
+not_chosen number group value other = rw (ne_eqb number group other) refl
 
-  passed : (k : ℕ) → All (λ share. share.stretch ≡ k) (shares_in found.shares k)
-  passed k i d within = eqb-true _ _ (filter_passes (λ (share : Share). share.stretch == k) found.shares i d within)
+-- what is more than nothing was chosen
+pub chosen_some : (number group value is : ℕ) → is ≡ (if number == group then value else 0) → 1 ≤ is → (number ≡ group) × (is ≡ value)
+chosen_some number group value is same some = elim (cases_eq number group) [
+  | inl here ↦ (here, same ∙ chosen number group value here)
+  | inr other ↦ absurd (omega (arith, same, not_chosen number group value other))
+]
 
-  pub all_serve : (k : ℕ) → All (λ share. Serves jobs found k share.job) (shares_in found.shares k)
-  all_serve k i d within =
-      All-filter (λ share. share.stretch == k) (λ share. share.stretch ≡ k → Serves jobs found k share.job) found.shares
-      (All-from_get_or (λ (share : Share). share.stretch ≡ k → Serves jobs found k share.job) found.shares no_share (λ x below same. serves_at k x below same))
-      i d within (passed k i d within)
+-- a share's own units are among those of its number
+pub share_counts : (key : Share → ℕ) (shares : List Share) (x : ℕ) → x < length shares →
+    (share_at shares x).units ≤ units_at key shares (key (share_at shares x))
+share_counts key shares x within = omega (
+  arith,
+  get_or-le-sum_by (λ share. if key share == key (share_at shares x) then share.units else 0) shares x no_share within,
+  chosen (key (share_at shares x)) (key (share_at shares x)) (share_at shares x).units refl,
+)
 
-  pub some_units : (k : ℕ) → All (λ share. 1 ≤ share.units) (shares_in found.shares k)
-  some_units k =
-      All-filter (λ share. share.stretch == k) (λ share. 1 ≤ share.units) found.shares (λ i d within. (is.shares i d within).some)
+-- where there are units there is a share
+pub some_share : (key : Share → ℕ) (shares : List Share) (number : ℕ) → 1 ≤ units_at key shares number →
+    (x : ℕ) × (x < length shares) × (key (share_at shares x) ≡ number)
+some_share key [] number some = absurd (omega arith)
+some_share key (share ∷ shares) number some = elim (cases_eq (key share) number) [
+  | inl here ↦ (0, omega arith, here)
+  | inr other ↦
+      let found = some_share key shares number (omega (
+        arith,
+        some,
+        sum_by-cons (λ one. if key one == number then one.units else 0) share shares,
+        not_chosen (key share) number share.units other,
+      )) in
+      (suc found.0, omega (arith, found.1), found.2)
+]
 
-  in_order : AllPairs (λ one other. one.stretch ≡ other.stretch → IsBefore jobs one.job other.job) found.shares
-  in_order i j d order within =
-      rw (get_or_default found.shares i d no_share (omega arith), get_or_default found.shares j d no_share within)
-      (λ same. is.in_order i j order within same)
-
-  pub shares_in_order : (k : ℕ) → AllPairs (λ one other. IsBefore jobs one.job other.job) (shares_in found.shares k)
-  shares_in_order k i j d order within =
-      AllPairs-filter (λ one other. one.stretch ≡ other.stretch → IsBefore jobs one.job other.job) (λ share. share.stretch == k)
-      found.shares in_order i j d order within (passed k i d (omega arith) ∙ sym (passed k j d within))
+-- no units where there is no share
+pub no_units : (key : Share → ℕ) (shares : List Share) (number : ℕ) →
+    ((x : ℕ) → x < length shares → key (share_at shares x) ≡ number → ⊥) → units_at key shares number ≡ 0
+no_units key shares number none = elim (cases_lt 0 (units_at key shares number)) [
+  | inr nothing ↦ omega arith
+  | inl some ↦ let found = some_share key shares number some in absurd (none found.0 found.1 found.2)
+]

@@ -9,7 +9,7 @@ use Rattle.std.proofs.Math.Nat.{mul-pos, mul-lt-mul_of_pos_right, lt_of_mul-lt-m
 use Rattle.yds_model.proofs.Sums.{sum_by-mul, sum_by_same}
 use Rattle.yds_plan.specs.Found.{Group, group_at}
 use Rattle.yds_plan.specs.Laid.{slows_after, level_of, levels_among, together}
-use Rattle.yds_plan.proofs.Split.{in_range}
+use Rattle.yds_plan.proofs.KeySums.{in_range}
 
 -- groups with work and length, none faster than the one before
 pub record AreGroups (groups : List Group) : Type 0 where

@@ -16,15 +16,19 @@ with_parts whole parts den =
     if parts % den == 0 then of_whole (whole + parts / den)
     else record { whole = whole + parts / den; num = parts % den; den = den }
 
--- One share after another, without a gap, in a stretch that begins at `start`, where `done` units are done before them.
-abbrev pub slots_from : Group → ℕ → ℕ → List Share → List WrittenSlot
-slots_from group start done [] = []
-slots_from group start done (share ∷ shares) = record {
+-- the slot of a share, in a stretch that begins at `start`, where `done` units are done before it
+abbrev pub slot_for : Group → ℕ → ℕ → Share → WrittenSlot
+slot_for group start done share = record {
   job = share.job;
   from = with_parts start done (per_time group);
   to = with_parts start (done + share.units) (per_time group);
   work = with_parts 0 share.units (per_work group);
-} ∷ slots_from group start (done + share.units) shares
+}
+
+-- one share after another, without a gap
+abbrev pub slots_from : Group → ℕ → ℕ → List Share → List WrittenSlot
+slots_from group start done [] = []
+slots_from group start done (share ∷ shares) = slot_for group start done share ∷ slots_from group start (done + share.units) shares
 
 -- the shares of a stretch, in the order in which they were found
 abbrev pub shares_in : List Share → ℕ → List Share

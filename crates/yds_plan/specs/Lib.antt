@@ -2,3 +2,10 @@ pub mod Found
 pub mod Views
 pub mod Laid
 pub mod Drafts
+pub mod Room
+pub mod Windows
+pub mod Fill
+pub mod Closure
+pub mod Search
+pub mod Amounts
+pub mod Instance

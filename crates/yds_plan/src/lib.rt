@@ -6,7 +6,21 @@
 //! are laws of that definition.
 #![tactic(auto)]
 
+mod finder;
+mod finder_amounts;
+mod finder_beginning;
+mod finder_closure;
+mod finder_fill;
+mod finder_instance;
+mod finder_split;
+mod finder_windows;
 mod found;
+mod layout;
 mod layout_levels;
 mod layout_members;
+mod layout_slots;
+mod planning;
 mod share;
+
+pub use layout::Planned;
+pub use planning::plan;

@@ -1,5 +1,6 @@
 -- What the search finds makes a plan.
 use Rattle.std.proofs.Common.{◌≡◌, ℕ, zero, suc, ◌+◌, ◌-◌, ◌*◌, ◌/◌, ◌<◌, ◌≤◌, ◌==◌, ◌⊎◌, List, [], ◌∷◌, ◌∙◌, length, map, get_or, take, sym, refl, ap, arith, inl, inr}
+use Rattle.std.specs.Prelude.{Result, Ok, Err, IfOk}
 use Rattle.std.specs.List.{All, Contains, sum_by, flat_map, range_with_len}
 use Rattle.std.proofs.lemmas.Bool.{cases_lt}
 use Rattle.std.proofs.lemmas.List.{length-map}
@@ -16,13 +17,14 @@ use Rattle.yds_model.specs.Divisor.{common_divisor}
 use Rattle.yds_model.specs.Event.{stretches}
 use Rattle.yds_model.specs.Plan.{IsSlower, DontTouch, Rise, HasLevelDenominators, IsPlan}
 use Rattle.yds_model.proofs.Sums.{sum_by_same}
+use Rattle.yds_slots.specs.Schedule.{WrittenSchedule}
 use Rattle.yds_plan.specs.Found.{Group, Share, Found, IsFound, group_of, group_at, per_time, per_work, stretch_at, length_of}
 use Rattle.yds_plan.specs.Laid.{level_of, levels_among, level_of_place, together, members_of, stretches_of, joined, level_numbered, levels_of, slots_in, slots_of, shares_in}
 use Rattle.yds_plan.proofs.Divisors.{same_lowest, lowest}
-use Rattle.yds_plan.proofs.Split.{count_all, split_all, sum_by-filter}
+use Rattle.yds_plan.proofs.KeySums.{count_all, split_all, sum_by-filter}
 use Rattle.yds_plan.proofs.Stretches.{release_outside, deadline_outside, stretch_with, few_stretches}
 use Rattle.yds_plan.proofs.Blocks.{all_of_blocks}
-use Rattle.yds_plan.proofs.Shares.{Serves, all_serve}
+use Rattle.yds_plan.proofs.Served.{Serves, all_serve}
 use Rattle.yds_plan.proofs.Filled.{IsOverTerms, over_terms, slots_of_jobs, slots_from_length}
 use Rattle.yds_plan.proofs.Speeds.{AreGroups, level_rises, among_above, among_found, level_speed, level_has, level_slower, same_through}
 use Rattle.yds_plan.proofs.Schedule.{Stands, has_work, terms, all_stand, feasible, served_in_stretches}
@@ -169,7 +171,7 @@ module _ (jobs : List Job) (found : Found) (is : IsFound jobs found) where
           let member = each_member jobs found l known k d within in
           has_work jobs found is _ member.known member.grouped))
 
-  slots_length : length (slots_of jobs found) ≡ length found.shares
+  pub slots_length : length (slots_of jobs found) ≡ length found.shares
   slots_length =
       length-flat_map (slots_in jobs found) (range_with_len 0 (length (stretches jobs)))
       ∙ sum_by_same (λ k. length (slots_in jobs found k)) (λ k. sum_by (λ share. 1) (shares_in found.shares k))
@@ -239,3 +241,17 @@ module _ (jobs : List Job) (found : Found) (is : IsFound jobs found) where
 -- What is found makes a plan.
 pub found_makes_plan : (jobs : List Job) (found : Found) → IsFound jobs found → IsPlan jobs (slots_of jobs found) (levels_of jobs found)
 found_makes_plan = makes_plan
+
+-- two facts of a result's value make a third
+both_ok : {T E : Type 0} (P Q R : T → Type 0) → ((x : T) → P x → Q x → R x) → (r : Result T E) → IfOk r P → IfOk r Q → IfOk r R
+both_ok P Q R join (Ok x) first second = join x first second
+both_ok P Q R join (Err e) first second = tt
+
+-- slots and levels that are those of what was found make a plan
+pub laid_plan : {T E : Type 0} (jobs : List Job) (found : Found) (schedule : T → WrittenSchedule) (levels : T → List Level) (r : Result T E) →
+    IsFound jobs found → IfOk r (λ x. schedule x ≡ record { jobs = length jobs; slots = slots_of jobs found }) →
+    IfOk r (λ x. levels x ≡ levels_of jobs found) → IfOk r (λ x. IsPlan jobs (schedule x).slots (levels x))
+laid_plan jobs found schedule levels r is laid certified =
+    both_ok (λ x. schedule x ≡ record { jobs = length jobs; slots = slots_of jobs found }) (λ x. levels x ≡ levels_of jobs found)
+    (λ x. IsPlan jobs (schedule x).slots (levels x))
+    (λ x one other. rw (one, other) (found_makes_plan jobs found is)) r laid certified

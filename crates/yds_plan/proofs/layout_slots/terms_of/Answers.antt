@@ -1,0 +1,23 @@
+use Rattle.std.proofs.Common.{◌≡◌, ◌/◌, ap, arith}
+use Rattle.std.proofs.lemmas.Nat.Gcd.{same_from_IsGcd}
+use Rattle.yds_model.specs.Divisor.{common_divisor}
+use Rattle.yds_plan.proofs.Divisors.{divisor_is, lowest}
+use Rattle.yds_plan.proofs.layout_slots.terms_of.Goals as goal
+use Rattle.yds_plan.proofs.layout_slots.terms_of.Goals.{After-gcd-divisor}
+
+divisor : (c : After-gcd-divisor) → c.gcd-divisor.result ≡ common_divisor c.args.group.now.work c.args.group.now.length
+divisor c = same_from_IsGcd _ _ _ _ c.gcd-divisor.ensures (divisor_is c.args.group.now.work c.args.group.now.length)
+
+pub nonzero_div-result : goal.nonzero_div-result
+nonzero_div-result c =
+    omega (arith, divisor c, (lowest c.args.group.now.work c.args.group.now.length c.requires.some_work c.requires.some_length).some)
+
+pub nonzero_div-result-2 : goal.nonzero_div-result-2
+nonzero_div-result-2 c =
+    omega (arith, divisor c, (lowest c.args.group.now.work c.args.group.now.length c.requires.some_work c.requires.some_length).some)
+
+pub returns-clause-per_time : goal.returns-clause-per_time
+returns-clause-per_time c = ap (λ n. c.args.group.now.work / n) (divisor c)
+
+pub returns-clause-per_work : goal.returns-clause-per_work
+returns-clause-per_work c = ap (λ n. c.args.group.now.length / n) (divisor c)

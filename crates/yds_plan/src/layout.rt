@@ -1,0 +1,73 @@
+ghost use Rattle.std.specs.Prelude.{◌≡◌, ◌+◌, ◌<◌, ◌≤◌, length, IfOk};
+ghost use Rattle.std.specs.List.{All};
+ghost use Rattle.yds_model.specs.declared.limits.TheConstants.{MAX_JOBS, MAX_LEVELS, MAX_MEMBERS, MAX_PIECES};
+ghost use Rattle.yds_model.specs.Job.{IsJob};
+ghost use Rattle.yds_model.specs.Level.{all_members, all_pieces};
+ghost use Rattle.yds_model.specs.Event.{event_points, stretches};
+ghost use Rattle.yds_plan.specs.Found.{IsFound};
+ghost use Rattle.yds_plan.specs.Views.{found_view};
+ghost use Rattle.yds_plan.specs.Laid.{slots_of, levels_of};
+
+use crate::found::Found;
+use crate::layout_levels::levels_of_groups;
+use crate::layout_members::{add_members, add_pieces};
+use crate::layout_slots::schedule_of;
+use std::alloc::Global;
+use yds_certificate::{Certificate, Level};
+use yds_model::{JobRow, Memory};
+use yds_slots::Schedule;
+
+/// A plan: a schedule of least work above every speed, and the certificate that shows it.
+#[derive(Drop)]
+pub struct Planned {
+    /// The slots, in order of time, one for a job and stretch between event points.
+    pub schedule: Schedule,
+    /// The levels, the fastest first.
+    pub certificate: Certificate,
+}
+
+/// The levels as a certificate.
+fn certificate_of(alloc: Global, levels: Vec<Level>) -> Result<Certificate, Memory>
+    requires levels { length levels.items ≤ MAX_LEVELS }
+    requires pieces { length (all_pieces levels.items) ≤ MAX_PIECES }
+    requires members { length (all_members levels.items) ≤ MAX_MEMBERS }
+    ensures { IfOk result (λ certificate. certificate ≡ levels.items) }
+{
+    let mut certificate = Certificate::new(alloc);
+    for level in levels {
+        certificate.push(level)?;
+    }
+    Ok(certificate)
+}
+
+/// The levels of what was found.
+fn levels_of_found(alloc: Global, rows: &[JobRow], times: &[u32], found: &Found) -> Result<Vec<Level>, Memory>
+    requires found { IsFound rows.now (found_view found.now) }
+    requires jobs { All IsJob rows.now }
+    requires few { length rows.now ≤ MAX_JOBS }
+    requires times { times.now ≡ event_points rows.now }
+    ensures { IfOk result (λ levels. levels.items ≡ levels_of rows.now (found_view found.now)) }
+{
+    let (mut levels, numbers) = levels_of_groups(alloc, &found.groups)?;
+    add_members(rows, found, &numbers, &mut levels)?;
+    add_pieces(rows, times, found, &numbers, &mut levels)?;
+    Ok(levels)
+}
+
+/// The plan of what was found.
+pub(crate) fn lay_out(alloc: Global, rows: &[JobRow], times: &[u32], found: &Found) -> Result<Planned, Memory>
+    requires found { IsFound rows.now (found_view found.now) }
+    requires jobs { All IsJob rows.now }
+    requires few { length rows.now ≤ MAX_JOBS }
+    requires times { times.now ≡ event_points rows.now }
+    ensures schedule { IfOk result (λ planned. planned.schedule ≡ record { jobs = length rows.now; slots = slots_of rows.now (found_view found.now) }) }
+    ensures certificate { IfOk result (λ planned. planned.certificate ≡ levels_of rows.now (found_view found.now)) }
+{
+    let schedule = schedule_of(alloc, rows, times, found)?;
+    let levels = levels_of_found(alloc, rows, times, found)?;
+    let certificate = certificate_of(alloc, levels)?;
+    Ok(Planned {
+        schedule,
+        certificate,
+    })
+}

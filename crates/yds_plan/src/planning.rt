@@ -1,0 +1,36 @@
+ghost use Rattle.std.specs.Prelude.{◌≡◌, ◌≤◌, length, take, IfOk};
+ghost use Rattle.std.specs.List.{All};
+ghost use Rattle.yds_model.specs.declared.limits.TheConstants.{MAX_JOBS};
+ghost use Rattle.yds_model.specs.Job.{IsJob};
+ghost use Rattle.yds_model.specs.Plan.{IsPlan};
+
+use crate::finder::find;
+use crate::layout::{Planned, lay_out};
+use std::alloc::Global;
+use yds_edf::events;
+use yds_model::{JobRow, Memory};
+
+/// Shows that each row is a job within the limits, which is what a row keeps: reading it shows so.
+fn read_rows(rows: &[JobRow])
+    ensures { All IsJob rows.now }
+{
+    for row in rows {
+        let _release = row.release;
+    }
+}
+
+/// The offline plan of Yao, Demers and Shenker (FOCS 1995): a schedule that does, above every speed, the
+/// least work that any feasible schedule does, and the certificate that shows it.
+///
+/// The jobs are in earliest-deadline order. Each slot lies in one stretch between event points, and there
+/// is one for a job and stretch. The certificate's levels fall strictly in speed.
+pub fn plan(alloc: Global, rows: &[JobRow]) -> Result<Planned, Memory>
+    requires { length rows.now ≤ MAX_JOBS }
+    ensures plan { IfOk result (λ planned. IsPlan rows.now planned.schedule.slots planned.certificate) }
+    ensures jobs { IfOk result (λ planned. planned.schedule.jobs ≡ length rows.now) }
+{
+    read_rows(rows);
+    let times = events(alloc, rows)?;
+    let found = find(alloc, rows, &times)?;
+    lay_out(alloc, rows, &times, &found)
+}
