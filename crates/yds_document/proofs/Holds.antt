@@ -147,4 +147,3 @@ holds_member d levels job more = λ earlier holds. record {
   grid = quiet grid_said earlier (MemberEntry job) _ refl holds.grid;
   energy = quiet energy_said earlier (MemberEntry job) _ refl holds.energy;
 }
-

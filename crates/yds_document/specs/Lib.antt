@@ -4,3 +4,4 @@ pub mod Kinds
 pub mod Draft
 pub mod Points
 pub mod LineKinds
+pub mod Documents

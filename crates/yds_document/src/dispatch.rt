@@ -11,9 +11,7 @@ use crate::line_fault::LineFault;
 use crate::line_kind::LineKind;
 use std::alloc::Global;
 use yds_model::Reason;
-use yds_model::limits::{
-    MAX_JOBS, MAX_LEVELS, MAX_MEMBERS, MAX_PIECES, MAX_POINTS, MAX_SLOTS,
-};
+use yds_model::limits::{MAX_JOBS, MAX_LEVELS, MAX_MEMBERS, MAX_PIECES, MAX_POINTS, MAX_SLOTS};
 use yds_table::Table;
 use yds_text::{Field, Fields};
 

@@ -15,9 +15,9 @@ use crate::points::{first_point, next_point};
 use std::alloc::Global;
 use yds_certificate::{Certificate, Level, Piece};
 use yds_fraction::Amount;
+use yds_hull::Point;
 use yds_instance::Instance;
 use yds_model::{JobRow, Memory};
-use yds_hull::Point;
 use yds_slots::{Schedule, Slot};
 use yds_table::Table;
 

@@ -72,10 +72,7 @@ fn no_more(mut fields: Fields<'_>) -> Result<(), LineFault>
 }
 
 // The one field after the kind.
-pub(crate) fn one_field<'a>(
-    kind: Field<'a>,
-    mut fields: Fields<'a>,
-) -> Result<Field<'a>, LineFault>
+pub(crate) fn one_field<'a>(kind: Field<'a>, mut fields: Fields<'a>) -> Result<Field<'a>, LineFault>
     ensures { Counts (λ x. field_read kind.entry ∷ field_read x ∷ []) result 1 (field_read kind.entry ∷ fields.entry.fields) }
 {
     let first = next_field(kind, &mut fields)?;

@@ -20,8 +20,8 @@ use yds_fraction::Amount;
 use yds_hull::Point;
 use yds_instance::Instance;
 use yds_model::limits::{
-    MAX_ENERGY, MAX_POINT_POWER, MAX_POINT_SPEED, MAX_GRID, MAX_LEVEL_LENGTH, MAX_LEVEL_WORK, MAX_ROUNDED, MAX_SLOT_WORK,
-    MAX_TICKS, MAX_TIME, MAX_WORK,
+    MAX_ENERGY, MAX_GRID, MAX_LEVEL_LENGTH, MAX_LEVEL_WORK, MAX_POINT_POWER, MAX_POINT_SPEED,
+    MAX_ROUNDED, MAX_SLOT_WORK, MAX_TICKS, MAX_TIME, MAX_WORK,
 };
 use yds_model::{JobRow, Reason};
 use yds_slots::{Schedule, Slot};

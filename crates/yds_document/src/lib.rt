@@ -1,22 +1,37 @@
-//! Documents: jobs with their names, operating points, slots, the levels of a certificate, a grid and an
-//! energy, read from bytes and printed as text.
+//! Documents: jobs with their names, operating points, the slots of a schedule, the levels of a
+//! certificate, a grid and an energy, read from bytes and printed as text.
+//!
+//! It stands on the crates of its parts, on `yds_text` for the fields of a line and on `yds_port` for the
+//! sink. It carries the promise that a document is read exactly as the definition of reading in
+//! `yds_model` says, faults with their places among it, and that what is printed is the canonical text,
+//! or after a fault of the sink a front of it. A line is made on the stack, so printing takes no memory.
 #![tactic(auto)]
 
 mod dispatch;
+mod document;
 mod draft;
 mod fault;
 mod fields;
 mod grid;
 mod kinds;
 pub mod line;
+mod line_fault;
 mod line_kind;
 mod lines;
-mod line_fault;
 mod points;
+mod print_document;
 mod printing;
+mod reader;
 mod rows;
 
+pub use document::Document;
 pub use fault::DocFault;
 pub use grid::Grid;
 pub use line::Line;
+pub use print_document::print;
+pub use printing::write_mixed;
+pub use reader::read_document;
 pub use yds_model::Reason;
+
+#[cfg(test)]
+mod tests;

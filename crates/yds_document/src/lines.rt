@@ -12,8 +12,8 @@ ghost use Rattle.yds_document.specs.Kinds.{run_of};
 use crate::draft::Draft;
 use crate::fields::{four_fields, one_field, two_fields};
 use crate::kinds::{
-    energy_in, grid_in, job_in, known_job, level_in, member_in, piece_in, point_in, run_in, slot_in,
-    ticks_in,
+    energy_in, grid_in, job_in, known_job, level_in, member_in, piece_in, point_in, run_in,
+    slot_in, ticks_in,
 };
 use crate::line_fault::LineFault;
 use std::alloc::Global;
@@ -21,11 +21,7 @@ use yds_slots::Slot;
 use yds_text::{Field, Fields};
 
 impl<'a> Draft<'a> {
-    pub(crate) fn read_job(
-        &mut self,
-        kind: Field<'a>,
-        fields: Fields<'a>,
-    ) -> Result<(), LineFault>
+    pub(crate) fn read_job(&mut self, kind: Field<'a>, fields: Fields<'a>) -> Result<(), LineFault>
         requires kept { IsDraft self.old }
         requires room { length self.old.instance.jobs < MAX_JOBS }
         ensures kept { OnOk result (IsDraft self.new) }
@@ -108,11 +104,7 @@ impl<'a> Draft<'a> {
         Ok(())
     }
 
-    pub(crate) fn read_grid(
-        &mut self,
-        kind: Field<'a>,
-        fields: Fields<'a>,
-    ) -> Result<(), LineFault>
+    pub(crate) fn read_grid(&mut self, kind: Field<'a>, fields: Fields<'a>) -> Result<(), LineFault>
         requires kept { IsDraft self.old }
         requires first { self.old.grid ≡ None }
         ensures kept { OnOk result (IsDraft self.new) }
@@ -157,11 +149,7 @@ impl<'a> Draft<'a> {
         Ok(())
     }
 
-    pub(crate) fn read_slot(
-        &mut self,
-        kind: Field<'a>,
-        fields: Fields<'a>,
-    ) -> Result<(), LineFault>
+    pub(crate) fn read_slot(&mut self, kind: Field<'a>, fields: Fields<'a>) -> Result<(), LineFault>
         requires kept { IsDraft self.old }
         requires room { length self.old.schedule.slots < MAX_SLOTS }
         ensures kept { OnOk result (IsDraft self.new) }
@@ -173,11 +161,7 @@ impl<'a> Draft<'a> {
         Ok(())
     }
 
-    pub(crate) fn read_run(
-        &mut self,
-        kind: Field<'a>,
-        fields: Fields<'a>,
-    ) -> Result<(), LineFault>
+    pub(crate) fn read_run(&mut self, kind: Field<'a>, fields: Fields<'a>) -> Result<(), LineFault>
         requires kept { IsDraft self.old }
         requires room { length self.old.schedule.slots < MAX_SLOTS }
         ensures kept { OnOk result (IsDraft self.new) }

@@ -12,7 +12,7 @@ returns-in_err-slot-clause-reads c = λ earlier holds.
     passed _ _ _ _ _ (err_from_is_err_and _ c.from_residual-in_err-slot.ensures.1)
     (fields_failed RunLine earlier _ _ _ f.ensures
     (subst (Fails c.in_err-slot.field-0.0) (run_same earlier _ _ _ (field_read c.args.kind) (field_read f.name) (field_read f.from) (field_read f.to) (field_read f.speed) holds.names holds.slots
-      (ticks_held earlier _ _ holds.ticks c.unwrap_or-ticks.ensures))
+    (ticks_held earlier _ _ holds.ticks c.unwrap_or-ticks.ensures))
     c.in_err-slot.ensures.gives))
 
 pub returns-clause-reads : goal.returns-clause-reads
@@ -20,5 +20,5 @@ returns-clause-reads c = λ earlier holds.
     let f = c.in_ok-name in
     holds_more RunLine earlier _ _ _ c.args.self.now _ f.ensures
     (sym (run_same earlier _ _ _ (field_read c.args.kind) (field_read f.name) (field_read f.from) (field_read f.to) (field_read f.speed) holds.names holds.slots
-      (ticks_held earlier _ _ holds.ticks c.unwrap_or-ticks.ensures)) ∙ c.in_ok-slot.ensures.gives)
+    (ticks_held earlier _ _ holds.ticks c.unwrap_or-ticks.ensures)) ∙ c.in_ok-slot.ensures.gives)
     holds c.in_ok-add_slot.ensures.takes

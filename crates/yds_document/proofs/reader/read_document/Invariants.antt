@@ -1,0 +1,17 @@
+use Rattle.std.proofs.Common.{◌≡◌, List, []}
+use Rattle.yds_model.specs.Lines.{lines_of}
+use Rattle.yds_model.specs.Entry.{Entry}
+use Rattle.yds_model.specs.Reading.{live_lines, read_after}
+use Rattle.yds_document.specs.Draft.{IsDraft, Holds}
+use Rattle.yds_document.proofs.reader.read_document.Given as goal
+
+-- the draft holds what the lines so far said, and the rest of the lines decides
+abbrev pub invariant-loop-line : goal.invariant-loop-line
+invariant-loop-line l = record {
+  can_next : (goal.iterator-loop-line).can_next l.line-iterator;
+  finite : (goal.iterator-loop-line).is_finite l.line-iterator;
+  kept : IsDraft l.draft;
+  entries : List Entry;
+  holds : Holds l.draft entries;
+  rest : read_after [] (live_lines (lines_of l.bytes)) ≡ read_after entries (live_lines l.line-iterator.lines);
+}

@@ -1,0 +1,44 @@
+-- What a document is, and what a reader of its lines returned.
+use Rattle.std.specs.Prelude.{◌≡◌, ℕ, ◌<◌, List, [], ◌∷◌, length, Result, Ok, Err}
+use Rattle.std.specs.List.{All}
+use Rattle.yds_model.specs.Document.{Document as DocumentText}
+use Rattle.yds_model.specs.Lines.{Line}
+use Rattle.yds_model.specs.Entry.{Entry}
+use Rattle.yds_model.specs.Reading.{Fault, live_lines, read_after}
+use Rattle.yds_document.specs.declared.draft.Draft.{Draft}
+use Rattle.yds_document.specs.declared.document.Document.{Document}
+use Rattle.yds_document.specs.declared.fault.DocFault.{DocFault}
+use Rattle.yds_document.specs.declared.fault.DocFault.TheVariants as faults
+use Rattle.yds_document.specs.Draft.{Holds, points_of}
+
+-- the document that this one is: its lines without their spelling
+abbrev pub document_view : Document → DocumentText
+document_view document = record {
+  names = document.instance.names;
+  jobs = document.instance.jobs;
+  points = points_of document.table;
+  slots = document.schedule.slots;
+  levels = document.certificate;
+  grid = document.grid;
+  energy = document.energy;
+}
+
+-- the definition says this fault, unless memory ran out
+abbrev pub DocFails : {Y : Type 0} → DocFault → Result Y Fault → Type 0
+DocFails (faults.At line column reason) read = read ≡ Err (record { line = line; column = column; reason = reason })
+DocFails faults.Memory read = Unit {0}
+
+-- the bytes are read as this document, or the definition says the fault
+abbrev pub GivesDocument : Result Document DocFault → Result DocumentText Fault → Type 0
+GivesDocument (Ok document) read = read ≡ Ok (document_view document)
+GivesDocument (Err fault) read = DocFails fault read
+
+-- after a line the draft holds what the lines so far said
+pub record HoldsOn (line : Line) (earlier : List Entry) (draft : Draft) : Type 0 where
+  pub entries : List Entry
+  pub holds : Holds draft entries
+  pub same : (lines : List Line) → read_after earlier (live_lines (line ∷ lines)) ≡ read_after entries (live_lines lines)
+
+abbrev pub TellsLine : Result (Unit {0}) DocFault → Line → List Entry → Draft → Type 0
+TellsLine (Ok done) line earlier draft = HoldsOn line earlier draft
+TellsLine (Err fault) line earlier draft = (lines : List Line) → DocFails fault (read_after earlier (live_lines (line ∷ lines)))

@@ -1,0 +1,60 @@
+ghost use Rattle.std.specs.Prelude.{◌≡◌, ◌<◌, length};
+ghost use Rattle.std.specs.List.{All};
+
+use crate::grid::Grid;
+use yds_certificate::Certificate;
+use yds_fraction::Amount;
+use yds_instance::Instance;
+use yds_slots::Schedule;
+use yds_table::Table;
+
+/// A document: jobs with their names, operating points, the slots of a schedule, the levels of a
+/// certificate, a grid and an energy.
+///
+/// The schedule is of as many jobs as the instance has, and each member of a level is one of them.
+#[derive(Drop)]
+pub struct Document<'a> {
+    /// The jobs with their names.
+    pub instance: Instance<'a>,
+    /// The table of operating points, where there is one.
+    pub table: Option<Table>,
+    /// The slots.
+    pub schedule: Schedule,
+    /// The levels.
+    pub certificate: Certificate,
+    /// The grid of the policy that made the slots, where there is one.
+    pub grid: Option<Grid>,
+    /// The energy that the slots take, where it is said.
+    pub energy: Option<Amount>,
+    pub ghost scheduled: { schedule.jobs ≡ length instance.jobs },
+    pub ghost members_known: { All (λ level. All (λ job. job < length instance.jobs) level.members) certificate },
+}
+
+impl<'a> Document<'a> {
+    /// The document of the same jobs and table with these slots, levels, grid and energy. Takes no memory.
+    pub fn with_answer(
+        self,
+        schedule: Schedule,
+        certificate: Certificate,
+        grid: Option<Grid>,
+        energy: Option<Amount>,
+    ) -> Document<'a>
+        requires scheduled { schedule.jobs ≡ length self.instance.jobs }
+        requires members_known { All (λ level. All (λ job. job < length self.instance.jobs) level.members) certificate }
+        ensures instance { result.instance ≡ self.entry.instance }
+        ensures table { result.table ≡ self.entry.table }
+        ensures schedule { result.schedule ≡ schedule }
+        ensures certificate { result.certificate ≡ certificate }
+        ensures grid { result.grid ≡ grid }
+        ensures energy { result.energy ≡ energy }
+    {
+        Document {
+            instance: self.instance,
+            table: self.table,
+            schedule,
+            certificate,
+            grid,
+            energy,
+        }
+    }
+}

@@ -1,0 +1,65 @@
+ghost use Rattle.std.specs.Prelude.{◌≡◌, ℕ, ◌≤◌, [], List, length, OnOk};
+ghost use Rattle.yds_model.specs.declared.limits.TheConstants.{MAX_BYTES};
+ghost use Rattle.yds_model.specs.Entry.{Entry};
+ghost use Rattle.yds_model.specs.Reading.{reading};
+ghost use Rattle.yds_document.specs.Draft.{IsDraft, Holds};
+ghost use Rattle.yds_document.specs.Documents.{GivesDocument, TellsLine};
+
+use crate::document::Document;
+use crate::draft::Draft;
+use crate::fault::DocFault;
+use crate::line_fault::LineFault;
+use std::alloc::Global;
+use yds_text::{Line, lines};
+
+/// Reads the document that the bytes are, line by line.
+///
+/// Fails as `At` exactly where a line has a fault, with the first fault of the first such line, or as
+/// `Memory` for want of memory.
+pub fn read_document<'a>(alloc: Global, bytes: &'a [u8]) -> Result<Document<'a>, DocFault>
+    requires { length bytes.now ≤ MAX_BYTES }
+    ensures { GivesDocument result (reading bytes.now) }
+{
+    let mut draft = match Draft::new(alloc) {
+        Ok(draft) => draft,
+        Err(_) => return Err(DocFault::Memory),
+    };
+    for line in lines(bytes) {
+        draft.read_line(alloc, line)?;
+    }
+    Ok(Document {
+        instance: draft.instance,
+        table: draft.table,
+        schedule: draft.schedule,
+        certificate: draft.certificate,
+        grid: draft.grid,
+        energy: draft.energy,
+    })
+}
+
+impl<'a> Draft<'a> {
+    // What a line adds: nothing, where it has no field or begins with `#`.
+    fn read_line(&mut self, alloc: Global, line: Line<'a>) -> Result<(), DocFault>
+        requires kept { IsDraft self.old }
+        ensures kept { OnOk result (IsDraft self.new) }
+        ensures tells { (start : ℕ) (earlier : List Entry) → Holds self.old earlier
+            → TellsLine result (record { number = line.entry.number; start = start; text = line.entry.text.now }) earlier self.new }
+    {
+        let mut fields = line.fields();
+        let Some(first) = fields.next() else {
+            return Ok(());
+        };
+        if first.text.first() == Some(&b'#') {
+            return Ok(());
+        }
+        match self.read_fields(alloc, first, fields) {
+            Ok(()) => Ok(()),
+            Err(LineFault::At { column, reason }) => Err(DocFault::At {
+                line: line.number,
+                column,
+                reason,
+            }),
+            Err(LineFault::Memory) => Err(DocFault::Memory),
+        }
+    }
+}
