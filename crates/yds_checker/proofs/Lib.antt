@@ -4,3 +4,6 @@ pub mod Homes
 pub mod OneHome
 pub mod Small
 pub mod Covers
+pub mod Accepted
+pub mod Placing
+pub mod Walks

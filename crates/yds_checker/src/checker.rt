@@ -2,8 +2,10 @@ ghost use Rattle.std.specs.Prelude.{◌≡◌, ◌<◌, ◌≤◌, ◌↔◌, le
 ghost use Rattle.std.specs.List.{All};
 ghost use Rattle.yds_model.specs.declared.limits.TheConstants.{MAX_JOBS};
 ghost use Rattle.yds_model.specs.Excess.{IsLeast};
+ghost use Rattle.yds_model.specs.Audit.{AreSlots};
 ghost use Rattle.yds_model.specs.Proper.{IsProper};
 ghost use Rattle.yds_model.specs.Judgement.{IsJudgement};
+ghost use Rattle.yds_certificate.specs.Certificate.{IsCertificate};
 ghost use Rattle.yds_checker.specs.Judgement.{judgement_view};
 
 use crate::home::homes_of;
@@ -30,7 +32,9 @@ fn judgement_of(
     requires jobs { schedule.now.jobs ≡ length rows.now }
     requires few { length rows.now ≤ MAX_JOBS }
     requires known { All (λ level. All (λ number. number < length rows.now) level.members) certificate.now }
-    ensures { IfOk result (λ judgement. IsJudgement rows.now schedule.now.slots certificate.now (judgement_view judgement)) }
+    ensures exact { IfOk result (λ judgement. IsJudgement rows.now schedule.now.slots certificate.now (judgement_view judgement)) }
+    ensures agree { AreSlots schedule.now.jobs schedule.now.slots }
+    ensures kept { IsCertificate certificate.now }
 {
     let slots = schedule.slots();
     let levels = certificate.levels();
@@ -58,4 +62,24 @@ fn judgement_of(
         return Ok(Judgement::Speed(slot));
     }
     Ok(Judgement::Accepted)
+}
+
+/// Whether the certificate is proper for the jobs and the schedule, and if not, the first condition that fails. An
+/// accepted schedule is least: above no speed does it do more work than any feasible schedule.
+pub fn check(
+    alloc: Global,
+    rows: &[JobRow],
+    schedule: &Schedule,
+    certificate: &Certificate,
+) -> Result<Judgement, Memory>
+    requires jobs { schedule.now.jobs ≡ length rows.now }
+    requires few { length rows.now ≤ MAX_JOBS }
+    requires known { All (λ level. All (λ number. number < length rows.now) level.members) certificate.now }
+    ensures exact { IfOk result (λ judgement. IsJudgement rows.now schedule.now.slots certificate.now (judgement_view judgement)) }
+    ensures accepted { IfOk result (λ judgement.
+        judgement ≡ Judgement.Accepted ↔ IsProper rows.now schedule.now.slots certificate.now) }
+    ensures least { IfOk result (λ judgement. judgement ≡ Judgement.Accepted → IsLeast rows.now schedule.now.slots) }
+{
+    let judgement = judgement_of(alloc, rows, schedule, certificate)?;
+    Ok(judgement)
 }

@@ -12,6 +12,10 @@ mod judgement;
 mod member;
 mod order;
 mod pieces;
+mod placed;
 mod speeds;
 mod sums;
 mod windows;
+
+pub use checker::check;
+pub use judgement::Judgement;

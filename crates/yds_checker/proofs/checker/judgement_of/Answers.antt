@@ -5,8 +5,8 @@ use Rattle.yds_model.specs.Proper.{StandsOnce}
 use Rattle.yds_checker.specs.Home.{AreHomes}
 use Rattle.yds_checker.proofs.checker.judgement_of.Goals as goal
 
-pub returns-in-Some-first_wrong_sums : goal.returns-in-Some-first_wrong_sums
-returns-in-Some-first_wrong_sums c =
+pub returns-in-Some-first_wrong_sums-clause-exact : goal.returns-in-Some-first_wrong_sums-clause-exact
+returns-in-Some-first_wrong_sums-clause-exact c =
     let levels = c.args.certificate.now in
     let homes : AreHomes levels (all_members levels) c.deref.result.now =
     rw (c.deref.ensures.value, ← c.levels-levels.ensures.value) c.in_ok-homes.ensures.homes in
@@ -15,8 +15,8 @@ returns-in-Some-first_wrong_sums c =
       rw c.levels-levels.ensures.value at c.in-Some-first_wrong_sums.ensures,
     )
 
-pub returns-in-Some-first_faster : goal.returns-in-Some-first_faster
-returns-in-Some-first_faster c =
+pub returns-in-Some-first_faster-clause-exact : goal.returns-in-Some-first_faster-clause-exact
+returns-in-Some-first_faster-clause-exact c =
     let levels = c.args.certificate.now in
     let homes : AreHomes levels (all_members levels) c.deref.result.now =
     rw (c.deref.ensures.value, ← c.levels-levels.ensures.value) c.in_ok-homes.ensures.homes in
@@ -34,8 +34,8 @@ first_uncovered-requires-clause-once c =
     let homes : AreHomes levels (all_members levels) c.deref.result.now = rw c.deref.ensures.value c.in_ok-homes.ensures.homes in
     c.in_default-first_wrong_member.ensures levels homes
 
-pub returns-in-Some-first_uncovered : goal.returns-in-Some-first_uncovered
-returns-in-Some-first_uncovered c =
+pub returns-in-Some-first_uncovered-clause-exact : goal.returns-in-Some-first_uncovered-clause-exact
+returns-in-Some-first_uncovered-clause-exact c =
     let levels = c.args.certificate.now in
     let homes : AreHomes levels (all_members levels) c.deref.result.now =
     rw (c.deref.ensures.value, ← c.levels-levels.ensures.value) c.in_ok-homes.ensures.homes in
@@ -56,8 +56,8 @@ first_wrong_speed-requires-clause-once c =
     let homes : AreHomes levels (all_members levels) c.deref.result.now = rw c.deref.ensures.value c.in_ok-homes.ensures.homes in
     c.in_default-first_wrong_member.ensures levels homes
 
-pub returns-in-Some-first_wrong_speed : goal.returns-in-Some-first_wrong_speed
-returns-in-Some-first_wrong_speed c =
+pub returns-in-Some-first_wrong_speed-clause-exact : goal.returns-in-Some-first_wrong_speed-clause-exact
+returns-in-Some-first_wrong_speed-clause-exact c =
     let levels = c.args.certificate.now in
     let homes : AreHomes levels (all_members levels) c.deref.result.now =
     rw (c.deref.ensures.value, ← c.levels-levels.ensures.value) c.in_ok-homes.ensures.homes in
@@ -75,8 +75,8 @@ returns-in-Some-first_wrong_speed c =
       rw (c.levels-levels.ensures.value, c.slots-slots.ensures.value) at c.in-Some-first_wrong_speed.ensures,
     )
 
-pub returns : goal.returns
-returns c =
+pub returns-clause-exact : goal.returns-clause-exact
+returns-clause-exact c =
     let levels = c.args.certificate.now in
     let homes : AreHomes levels (all_members levels) c.deref.result.now =
     rw (c.deref.ensures.value, ← c.levels-levels.ensures.value) c.in_ok-homes.ensures.homes in

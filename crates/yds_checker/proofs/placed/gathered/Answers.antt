@@ -1,0 +1,19 @@
+use Rattle.std.proofs.Common.{◌≡◌, ◌∙◌, min, length, ap, sym, arith}
+use Rattle.std.proofs.lemmas.List.{get_or_read}
+use Rattle.yds_model.specs.Level.{Level, no_level, level_at}
+use Rattle.yds_checker.proofs.Placing.{next_gathered}
+use Rattle.yds_checker.proofs.placed.gathered.Goals as goal
+
+pub loop-i-preserved : goal.loop-i-preserved
+loop-i-preserved c =
+    let levels = c.args.levels.now in
+    let i = c.loop-i.i in
+    let here : c.index-levels-i.result ≡ level_at levels i = get_or_read levels i c.index-levels-i.result c.loop-i-test.true c.index-levels-i.is no_level in
+    let same : c.deref.result.now ≡ (level_at levels i).pieces =
+        c.deref.ensures.value ∙ (ap (λ (one : Level). one.pieces) c.level.view_is ∙ ap (λ (one : Level). one.pieces) here) in
+    next_gathered levels i c.loop-i.placed.items c.place.new.placed.items c.loop-i-test.true c.loop-i.invariant (rw same at c.in_ok-place.ensures)
+
+pub returns : goal.returns
+returns c = λ n time within.
+    let same : min n c.loop-i.i ≡ n = omega (arith, within, c.loop-i-test.false) in
+    rw same at (c.loop-i.invariant n time within)
