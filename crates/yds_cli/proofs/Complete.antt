@@ -1,71 +1,85 @@
 -- From the bytes that were taken to all bytes of the input.
-use Rattle.std.proofs.Common.{◌≡◌, ℕ, ◌+◌, ◌<◌, List, [], ◌++◌, length, Option, Some, None, subst, sym, ap, ◌∙◌, arith, inl, inr, length-append, lt-ltb}
+use Rattle.std.proofs.Common.{◌≡◌, ℕ, ◌+◌, ◌<◌, ◌≤◌, List, [], ◌++◌, length, Option, Some, None, subst, sym, ap, ◌∙◌, arith, inl, inr, true, false, refl, length-append, lt-ltb, le-ltb}
 use Rattle.std.specs.Prelude.{◌⊎◌, ◌≢◌, nat_lt, IfSome}
 use Rattle.std.proofs.lemmas.List.{append-nil}
+use Rattle.std.specs.Io.KnownBytes.{Appends, Consumes, IsAtEnd}
 use Rattle.yds_model.specs.declared.limits.TheConstants.{MAX_INPUT}
-use Rattle.yds_model.specs.declared.command.Command.{Command}
 use Rattle.yds_model.specs.declared.status.Status.{Status}
-use Rattle.yds_model.specs.declared.status.Status.TheVariants as statuses
-use Rattle.yds_model.specs.Answer.{AnswersInput}
-use Rattle.yds_cli.proofs.Answered.{IsAnswered, input_is_answered}
-use Rattle.yds_cli.specs.Run.{AnswersBytes, AnswersTaken, Outcome}
+use Rattle.yds_model.specs.Request.{Request}
+use Rattle.yds_model.specs.RequestAnswer.{RequestAnswers, RequestAnswersInput, RequestAnswersReading}
+use Rattle.yds_model.specs.Reading.{reading}
+use Rattle.yds_model.specs.PlanAnswer.{HoldsReadHeadline}
+use Rattle.yds_cli.specs.declared.command.Command.{Command}
+use Rattle.yds_cli.specs.declared.command.Command.TheVariants as commands
+use Rattle.yds_cli.specs.Words.{request_view}
+use Rattle.yds_cli.specs.Run.{AnswersBytes, AnswersTaken, PlansTaken, Outcome}
+
+-- no command answers without an input
+pub input_answers : (command : Command) (input text : List ℕ) (status : Status)
+    → RequestAnswers (Some (request_view command)) input text status ≡ RequestAnswersInput (request_view command) (nat_lt MAX_INPUT (length input)) input text status
+input_answers commands.Plan input text status = refl
+input_answers commands.Check input text status = refl
+input_answers (commands.Audit true) input text status = refl
+input_answers (commands.Audit false) input text status = refl
+
+-- the answer to an input that isn't too long
+pub short_answers : (command : Command) (input text : List ℕ) (status : Status) → length input ≤ MAX_INPUT
+    → RequestAnswersReading (request_view command) (reading input) text status → RequestAnswers (Some (request_view command)) input text status
+short_answers command input text status short answers =
+    rw (input_answers command input text status, le-ltb MAX_INPUT (length input) short) answers
 
 -- more bytes than an input may have, and any bytes after them, are refused alike
-beyond_with_more : (command : Command) (taken more : List ℕ) (text : List ℕ) (status : Status) → MAX_INPUT < length taken
-    → AnswersInput command (nat_lt MAX_INPUT (length taken)) taken text status
-    → AnswersInput command (nat_lt MAX_INPUT (length (taken ++ more))) (taken ++ more) text status
-beyond_with_more command taken more text status beyond answers =
+beyond_with_more : (request : Request) (taken more : List ℕ) (text : List ℕ) (status : Status) → MAX_INPUT < length taken
+    → RequestAnswersInput request (nat_lt MAX_INPUT (length taken)) taken text status
+    → RequestAnswersInput request (nat_lt MAX_INPUT (length (taken ++ more))) (taken ++ more) text status
+beyond_with_more request taken more text status beyond answers =
     let long : MAX_INPUT < length (taken ++ more) = omega (arith, length-append taken more) in
     rw (lt-ltb MAX_INPUT (length (taken ++ more)) long) (rw (lt-ltb MAX_INPUT (length taken) beyond) at answers)
 
+more_answers : (command : Command) (taken more : List ℕ) (text : List ℕ) (status : Status) → MAX_INPUT < length taken
+    → RequestAnswers (Some (request_view command)) taken text status → RequestAnswers (Some (request_view command)) (taken ++ more) text status
+more_answers commands.Plan taken more text status beyond answers = beyond_with_more (request_view commands.Plan) taken more text status beyond answers
+more_answers commands.Check taken more text status beyond answers = beyond_with_more (request_view commands.Check) taken more text status beyond answers
+more_answers (commands.Audit true) taken more text status beyond answers =
+    beyond_with_more (request_view (commands.Audit true)) taken more text status beyond answers
+more_answers (commands.Audit false) taken more text status beyond answers =
+    beyond_with_more (request_view (commands.Audit false)) taken more text status beyond answers
+
 all_taken : (command : Command) (result : Status) (input taken rest : List ℕ) (old new : Option (List ℕ)) (flushed : Option ℕ)
     → input ≡ taken ++ rest → (rest ≡ []) ⊎ (length taken ≡ MAX_INPUT + 1)
-    → AnswersBytes (Some command) taken result old new flushed → AnswersBytes (Some command) input result old new flushed
+    → AnswersBytes (Some (request_view command)) taken result old new flushed → AnswersBytes (Some (request_view command)) input result old new flushed
 all_taken command result input taken rest old new flushed is (inl end) answered =
     let whole : input ≡ taken = is ∙ ap (λ l. taken ++ l) end ∙ append-nil taken in
-    subst (λ bytes. AnswersBytes (Some command) bytes result old new flushed) (sym whole) answered
+    subst (λ bytes. AnswersBytes (Some (request_view command)) bytes result old new flushed) (sym whole) answered
 all_taken command result input taken rest old new flushed is (inr long) answered = record {
   text = answered.text;
   status = answered.status;
-  answers = subst (λ bytes. AnswersInput command (nat_lt MAX_INPUT (length bytes)) bytes answered.text answered.status) (sym is)
-      (beyond_with_more command taken rest answered.text answered.status (omega arith) answered.answers);
+  answers = subst (λ bytes. RequestAnswers (Some (request_view command)) bytes answered.text answered.status) (sym is)
+      (more_answers command taken rest answered.text answered.status (omega arith) answered.answers);
   outcome = answered.outcome;
 }
 
 -- the answer to what was taken is the answer to the whole input, where that is told
-answers_input : (command : Command) (result : Status) (left rest old new : Option (List ℕ)) (flushed : Option ℕ)
-    → AnswersTaken (Some command) result left rest old new flushed
-    → IfSome left (λ input. AnswersBytes (Some command) input result old new flushed)
+pub answers_input : (command : Command) (result : Status) (left rest old new : Option (List ℕ)) (flushed : Option ℕ)
+    → AnswersTaken (Some (request_view command)) result left rest old new flushed
+    → IfSome left (λ input. AnswersBytes (Some (request_view command)) input result old new flushed)
 answers_input command result None rest old new flushed answered = tt
 answers_input command result (Some input) None old new flushed answered = absurd answered.consumed
 answers_input command result (Some input) (Some rest) old new flushed answered =
     all_taken command result input answered.taken rest old new flushed answered.consumed answered.ended answered.answered
 
--- any answer will do for a run that told none
-untold : (command : Command) (result : Status) (left old new : Option (List ℕ)) (flushed : Option ℕ)
-    → ((text : List ℕ) (status : Status) → Outcome result text status old new flushed)
-    → IfSome left (λ input. AnswersBytes (Some command) input result old new flushed)
-untold command result None old new flushed free = tt
-untold command result (Some input) old new flushed free =
-    let answered : IsAnswered command (nat_lt MAX_INPUT (length input)) input = input_is_answered command (nat_lt MAX_INPUT (length input)) input in record {
-      text = answered.text;
-      status = answered.status;
-      answers = answered.answers;
-      outcome = free answered.text answered.status;
-    }
-
-named_completes : (command : Command) (result : Status) (left rest old new : Option (List ℕ)) (flushed : Option ℕ)
-    → (result ≢ statuses.Memory → result ≢ statuses.ReadFault → AnswersTaken (Some command) result left rest old new flushed)
-    → IfSome left (λ input. AnswersBytes (Some command) input result old new flushed)
-named_completes command statuses.Memory left rest old new flushed answers = untold command statuses.Memory left old new flushed (λ text status. tt)
-named_completes command statuses.ReadFault left rest old new flushed answers = untold command statuses.ReadFault left old new flushed (λ text status. tt)
-named_completes command result left rest old new flushed answers =
-    answers_input command result left rest old new flushed (answers (λ same. absurd (cc)) (λ same. absurd (cc)))
-
-pub completes : (named : Option Command) (command : Command) (result : Status) (left rest old new : Option (List ℕ)) (flushed : Option ℕ)
-    → Some command ≡ named
-    → (result ≢ statuses.Memory → result ≢ statuses.ReadFault → AnswersTaken (Some command) result left rest old new flushed)
+pub completes : (named : Option Request) (command : Command) (result : Status) (left rest old new : Option (List ℕ)) (flushed : Option ℕ)
+    → Some (request_view command) ≡ named → AnswersTaken (Some (request_view command)) result left rest old new flushed
     → IfSome left (λ input. AnswersBytes named input result old new flushed)
-completes named command result left rest old new flushed is answers =
+completes named command result left rest old new flushed is answered =
     subst (λ named. IfSome left (λ input. AnswersBytes named input result old new flushed)) is
-    (named_completes command result left rest old new flushed answers)
+    (answers_input command result left rest old new flushed answered)
+
+-- a plan of what was taken is one of the whole input
+pub plans_input : (left rest old new : Option (List ℕ)) → PlansTaken left rest old new
+    → IfSome left (λ input. (text : List ℕ) × Appends old new text × HoldsReadHeadline input text)
+plans_input None rest old new plans = tt
+plans_input (Some input) None old new plans = absurd plans.consumed
+plans_input (Some input) (Some rest) old new plans =
+    let whole : plans.taken ≡ input = sym (plans.consumed ∙ ap (λ l. plans.taken ++ l) plans.ended ∙ append-nil plans.taken) in
+    (plans.text, plans.written, subst (λ bytes. HoldsReadHeadline bytes plans.text) whole plans.holds)

@@ -1,10 +1,5 @@
-pub mod Lines
 pub mod Delivered
+pub mod AskedWords
+pub mod ToldLines
 pub mod Planned
-pub mod Windows
-pub mod Answered
 pub mod Complete
-pub mod Headline
-pub mod Fields
-pub mod LiveLines
-pub mod JobLine

@@ -1,4 +1,5 @@
 pub mod Words
 pub mod Answer
+pub mod Told
+pub mod Planned
 pub mod Run
-pub mod OneJobLine

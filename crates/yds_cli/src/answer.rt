@@ -1,7 +1,7 @@
 ghost use Rattle.std.specs.Prelude.{◌≡◌};
 ghost use Rattle.yds_cli.specs.Answer.{answer_status};
 
-use crate::named_job::NamedJob;
+use yds_document::{Document, Line, Reason};
 use yds_model::Status;
 
 /// What the program answers.
@@ -11,14 +11,26 @@ pub enum Answer<'a> {
     Usage,
     /// The input is longer than a document may be.
     TooLong,
-    /// The input is no document of at most one job.
-    NotYet,
-    /// A plan of no job.
-    Nothing,
-    /// A plan of a job without work, which needs no slot.
-    Idle(NamedJob<'a>),
-    /// A plan of a job with work, which runs over its whole window.
-    Planned(NamedJob<'a>),
+    /// The input is no document.
+    Refused {
+        /// The number of the line that has a fault, from 1.
+        line: u32,
+        /// The place in that line, from 1 in bytes.
+        column: u32,
+        /// What is wrong there.
+        reason: Reason,
+    },
+    /// A table of operating points is wanted, and the document has none.
+    NoTable,
+    /// A document with its plan.
+    Planned(Document<'a>),
+    /// A verdict on slots, or a judgement of levels.
+    Told {
+        /// The line that tells it.
+        line: Line,
+        /// Whether it is that the slots are feasible, or the levels proper.
+        holds: bool,
+    },
 }
 
 impl Answer<'_> {
@@ -28,8 +40,9 @@ impl Answer<'_> {
     {
         match self {
             Answer::Usage => Status::Usage,
-            Answer::TooLong | Answer::NotYet => Status::Refused,
-            Answer::Nothing | Answer::Idle(_) | Answer::Planned(_) => Status::Done,
+            Answer::TooLong | Answer::Refused { .. } | Answer::NoTable => Status::Refused,
+            Answer::Planned(_) => Status::Done,
+            Answer::Told { holds, .. } => { if *holds { Status::Done } else { Status::No } }
         }
     }
 }

@@ -1,57 +1,125 @@
-ghost use Rattle.std.specs.Prelude.{◌≡◌, ◌≤◌, length, Some};
+ghost use Rattle.std.specs.Prelude.{◌≡◌, ◌≤◌, length, IfOk, option_copied};
 ghost use Rattle.yds_model.specs.declared.limits.TheConstants.{MAX_INPUT};
-ghost use Rattle.yds_model.specs.OneJob.{one_job_document};
-ghost use Rattle.yds_model.specs.Answer.{AnswersDocument};
-ghost use Rattle.yds_cli.specs.Answer.{answer_text, answer_status, document_of, document_said_by};
+ghost use Rattle.yds_model.specs.Reading.{reading};
+ghost use Rattle.yds_model.specs.RequestAnswer.{RequestAnswersReading, RequestAnswersDocument, AuditsOnPoints};
+ghost use Rattle.yds_model.specs.AuditAnswer.{AuditAnswer, CheckAnswer};
+ghost use Rattle.yds_model.specs.PlanAnswer.{HoldsReadHeadline};
+ghost use Rattle.yds_model.specs.Judgement.{IsJudgement};
+ghost use Rattle.yds_checker.specs.Judgement.{judgement_view};
+ghost use Rattle.yds_document.specs.Documents.{document_view};
+ghost use Rattle.yds_cli.specs.Answer.{answer_text, answer_status};
+ghost use Rattle.yds_cli.specs.Words.{request_view};
+ghost use Rattle.yds_cli.specs.Planned.{IsPlanned};
 
 use crate::answer::Answer;
-use crate::named_job::NamedJob;
-use crate::reader::{OneJob, read_one_job};
-use yds_model::Command;
+use crate::command::Command;
+use crate::told::{is_accepted, is_feasible, judgement_line, verdict_line};
+use std::alloc::Global;
+use yds_audit::audit;
+use yds_checker::{Judgement, check};
+use yds_document::{DocFault, Document, read_document};
+use yds_model::{Memory, Status};
+use yds_plan::plan;
+use yds_table::Table;
 
-/// The command's answer to an input that isn't too long. It takes no memory.
-pub fn compute<'a>(command: Command, bytes: &'a [u8]) -> Answer<'a>
+/// The command's answer to an input that isn't too long.
+pub fn compute<'a>(alloc: Global, command: Command, bytes: &'a [u8]) -> Result<Answer<'a>, Memory>
     requires { length bytes.now ≤ MAX_INPUT }
-    ensures { AnswersDocument command (one_job_document bytes.now) (answer_text result) (answer_status result) }
+    ensures answers { IfOk result (λ answer.
+        RequestAnswersReading (request_view command) (reading bytes.now) (answer_text answer) (answer_status answer)) }
+    ensures headline { command ≡ Command.Plan → IfOk result (λ answer.
+        answer_status answer ≡ Status.Done → HoldsReadHeadline bytes.now (answer_text answer)) }
+{
+    match read_document(alloc, bytes) {
+        Ok(document) => answer_document(alloc, command, document),
+        Err(
+            DocFault::At {
+                line,
+                column,
+                reason,
+            },
+        ) => Ok(Answer::Refused {
+            line,
+            column,
+            reason,
+        }),
+        Err(DocFault::Memory) => Err(Memory),
+    }
+}
+
+/// The command's answer to a document.
+fn answer_document<'a>(
+    alloc: Global,
+    command: Command,
+    document: Document<'a>,
+) -> Result<Answer<'a>, Memory>
+    ensures answers { IfOk result (λ answer.
+        RequestAnswersDocument (request_view command) (document_view document.entry) (answer_text answer) (answer_status answer)) }
+    ensures planned { command ≡ Command.Plan → IfOk result (IsPlanned (document_view document.entry)) }
 {
     match command {
-        Command::Plan => plan(bytes),
+        Command::Plan => plan_document(alloc, document),
+        Command::Check => check_document(alloc, &document),
+        Command::Audit { points: false } => Ok(audit_document(&document, None)),
+        Command::Audit { points: true } => Ok(audit_on_points(&document)),
     }
 }
 
-/// The plan of the input's document.
-fn plan<'a>(bytes: &'a [u8]) -> Answer<'a>
-    requires { length bytes.now ≤ MAX_INPUT }
-    ensures { AnswersDocument Command.Plan (one_job_document bytes.now) (answer_text result) (answer_status result) }
+/// The document with the plan of its jobs.
+fn plan_document<'a>(alloc: Global, document: Document<'a>) -> Result<Answer<'a>, Memory>
+    ensures planned { IfOk result (IsPlanned (document_view document.entry)) }
 {
-    match read_one_job(bytes) {
-        Some(document) => plan_document(&document),
-        None => Answer::NotYet,
+    let planned = plan(alloc, document.instance.rows())?;
+    // Reading the slots and the levels shows that they are within the limits.
+    let _slots = planned.schedule.slots();
+    let _levels = planned.certificate.levels();
+    Ok(Answer::Planned(document.with_answer(planned.schedule, planned.certificate, None, None)))
+}
+
+/// The judgement of the document's levels.
+fn check_document<'a>(alloc: Global, document: &Document<'a>) -> Result<Answer<'a>, Memory>
+    ensures { IfOk result (λ answer.
+        CheckAnswer (document_view document.now) (answer_text answer) (answer_status answer)) }
+{
+    let rows = document.instance.rows();
+    match check(alloc, rows, &document.schedule, &document.certificate) {
+        Ok(judgement) => Ok(judgement_told(document, &judgement)),
+        Err(error) => Err(error),
     }
 }
 
-/// The plan of a document that was read.
-fn plan_document<'a>(document: &OneJob<'a>) -> Answer<'a>
-    ensures { AnswersDocument Command.Plan (Some (document_said_by document.now)) (answer_text result) (answer_status result) }
+/// The answer that tells a judgement of the document's levels.
+fn judgement_told<'a>(document: &Document<'a>, judgement: &Judgement) -> Answer<'a>
+    requires { IsJudgement (document_view document.now).jobs (document_view document.now).slots (document_view document.now).levels (judgement_view judgement.now) }
+    ensures { CheckAnswer (document_view document.now) (answer_text result) (answer_status result) }
 {
-    match document {
-        OneJob::Absent => Answer::Nothing,
-        OneJob::Present(named) => plan_job(named),
+    Answer::Told {
+        line: judgement_line(document, judgement),
+        holds: is_accepted(judgement),
     }
 }
 
-/// The plan of one job, which needs no slot where the job has no work.
-fn plan_job<'a>(named: &NamedJob<'a>) -> Answer<'a>
-    ensures { AnswersDocument Command.Plan (Some (document_of named.now)) (answer_text result) (answer_status result) }
+/// The verdict on the document's slots by its operating points.
+fn audit_on_points<'a>(document: &Document<'a>) -> Answer<'a>
+    ensures { AuditsOnPoints (document_view document.now) (document_view document.now).points (answer_text result) (answer_status result) }
 {
-    let job = named.job;
-    let named = NamedJob {
-        name: named.name,
-        job,
-    };
-    if job.work == 0 {
-        Answer::Idle(named)
-    } else {
-        Answer::Planned(named)
+    match &document.table {
+        Some(table) => {
+            // A table has a point.
+            let _points = table.points();
+            audit_document(document, Some(table))
+        }
+        None => Answer::NoTable,
+    }
+}
+
+/// The verdict on the document's slots.
+fn audit_document<'a>(document: &Document<'a>, table: Option<&Table>) -> Answer<'a>
+    ensures { AuditAnswer (document_view document.now) (option_copied table.entry) (answer_text result) (answer_status result) }
+{
+    let verdict = audit(document.instance.rows(), &document.schedule, table);
+    Answer::Told {
+        line: verdict_line(document, &verdict),
+        holds: is_feasible(&verdict),
     }
 }

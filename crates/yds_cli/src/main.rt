@@ -1,19 +1,20 @@
-//! The program: `yds_cli plan` reads a document from standard input and writes the plan of its job, with
-//! the certificate that shows the plan to be least, to standard output.
+//! The program: it reads a document from standard input and writes its answer to standard output. `plan`
+//! writes the plan of the document's jobs, with the certificate that shows the plan to be least; `check`
+//! judges the document's levels, and `audit` its slots, with `--points` by its operating points too.
 //!
-//! It stands on `yds_model`, `yds_port` and `yds_text`. It carries the promise that what was written is
+//! It stands on `yds_document`, which reads and prints, on `yds_plan`, `yds_checker` and `yds_audit`, which
+//! answer, and on `yds_port`, which gives and takes bytes. It carries the promise that what was written is
 //! the answer of the definitions to the words and to all bytes of the input, whole and flushed, or that
 //! the status tells what came between: a fault that the source or the sink counted, or want of memory
 //! before the first byte was written.
 #![tactic(auto)]
 
 mod answer;
+mod command;
 mod compute;
 mod deliver;
-mod line;
-mod named_job;
-mod reader;
 mod run;
+mod told;
 mod words;
 mod writer;
 
@@ -57,5 +58,7 @@ fn status_without_words(error: &io::Error) -> u8 {
     }
 }
 
+#[cfg(test)]
+mod rows;
 #[cfg(test)]
 mod tests;

@@ -1,18 +1,20 @@
-ghost use Rattle.std.specs.Prelude.{◌≡◌, ◌≢◌, ◌⊎◌, ◌<◌, ◌≤◌, ◌∷◌, [], ℕ, List, codes, Some, None, IsSome, IfSome};
+ghost use Rattle.std.specs.Prelude.{◌≡◌, ◌≢◌, ◌⊎◌, ◌<◌, ◌≤◌, ◌∷◌, [], ℕ, List, length, codes, Some, None, IsSome, IfSome};
+ghost use Rattle.yds_model.specs.declared.limits.TheConstants.{MAX_INPUT};
 ghost use Rattle.std.specs.Io.KnownBytes.{Appends, Keeps, IsAtEnd};
-ghost use Rattle.yds_model.specs.Words.{command_of, usage_line};
-ghost use Rattle.yds_model.specs.PlanAnswer.{HoldsHeadline};
+ghost use Rattle.yds_model.specs.Words.{usage_line};
+ghost use Rattle.yds_model.specs.PlanAnswer.{HoldsReadHeadline};
 ghost use Rattle.yds_port.specs.Count.{Rose};
-ghost use Rattle.yds_cli.specs.Words.{words_of};
-ghost use Rattle.yds_cli.specs.Run.{Outcome, AnswersBytes, AnswersTaken, IsTooLong};
+ghost use Rattle.yds_cli.specs.Words.{words_of, asked, request_view};
+ghost use Rattle.yds_cli.specs.Run.{Outcome, AnswersBytes, AnswersTaken, IsTooLong, PlansTaken};
 
 use crate::answer::Answer;
+use crate::command::Command;
 use crate::compute::compute;
 use crate::deliver::deliver;
 use crate::words::Words;
 use std::alloc::Global;
 use yds_model::limits::MAX_INPUT;
-use yds_model::{Command, Status};
+use yds_model::{Memory, Status};
 use yds_port::{ReadAllFault, Sink, Source, read_all};
 
 /// Runs the command that the words name: reads the source to its end, computes the answer, writes its
@@ -36,28 +38,28 @@ pub fn run<S: Source, K: Sink>(
     ensures sink_rose { K.faults sink.old < K.faults sink.new → result ≡ Status.WriteFault }
 
     // Words that name no command.
-    ensures unread { command_of (words_of words.now) ≡ None → source.new ≡ source.old }
-    ensures usage { command_of (words_of words.now) ≡ None → (result ≡ Status.Usage) ⊎ (result ≡ Status.WriteFault) }
-    ensures usage_text { command_of (words_of words.now) ≡ None
+    ensures unread { asked (words_of words.now) ≡ None → source.new ≡ source.old }
+    ensures usage { asked (words_of words.now) ≡ None → (result ≡ Status.Usage) ⊎ (result ≡ Status.WriteFault) }
+    ensures usage_text { asked (words_of words.now) ≡ None
         → Outcome result usage_line Status.Usage (K.written sink.old) (K.written sink.new) (K.flushed sink.new) }
 
     ensures nothing_written { (result ≡ Status.Memory) ⊎ (result ≡ Status.ReadFault) → sink.new ≡ sink.old }
 
     // What was written is the answer to the bytes that were taken, whether or not the source tells them ..
-    ensures answer { IsSome (command_of (words_of words.now)) → result ≢ Status.Memory → result ≢ Status.ReadFault
-        → AnswersTaken (command_of (words_of words.now)) result (S.left source.old) (S.left source.new) (K.written sink.old) (K.written sink.new) (K.flushed sink.new) }
+    ensures answer { IsSome (asked (words_of words.now)) → result ≢ Status.Memory → result ≢ Status.ReadFault
+        → AnswersTaken (asked (words_of words.now)) result (S.left source.old) (S.left source.new) (K.written sink.old) (K.written sink.new) (K.flushed sink.new) }
 
     // .. and, where it tells them, to all of them.
-    ensures complete { IfSome (S.left source.old) (λ input.
-        AnswersBytes (command_of (words_of words.now)) input result (K.written sink.old) (K.written sink.new) (K.flushed sink.new)) }
-    ensures read_to_end { IsSome (command_of (words_of words.now))
+    ensures complete { result ≢ Status.Memory → result ≢ Status.ReadFault → IfSome (S.left source.old) (λ input.
+        AnswersBytes (asked (words_of words.now)) input result (K.written sink.old) (K.written sink.new) (K.flushed sink.new)) }
+    ensures read_to_end { IsSome (asked (words_of words.now))
         → (result ≡ Status.Done) ⊎ (result ≡ Status.No) ⊎ (result ≡ Status.Refused)
         → IsAtEnd (S.left source.new) ⊎ IsTooLong result (S.left source.old) (S.left source.new) (K.written sink.old) (K.written sink.new) }
 
-    // A plan that was written gives every job its work in its window and, for every speed, does no more
-    // work above it than any feasible schedule.
+    // A plan that was written is read again as the document with that plan, which gives every job its
+    // work in its window and, for every speed, does no more work above it than any feasible schedule.
     ensures headline { words_of words.now ≡ codes "plan" ∷ [] → result ≡ Status.Done
-        → IfSome (S.left source.old) (λ input. (text : List ℕ) × Appends (K.written sink.old) (K.written sink.new) text × HoldsHeadline input text) }
+        → IfSome (S.left source.old) (λ input. (text : List ℕ) × Appends (K.written sink.old) (K.written sink.new) text × HoldsReadHeadline input text) }
 {
     match Words::read(words) {
         Some(command) => run_command(alloc, command, source, sink),
@@ -80,12 +82,33 @@ fn run_command<S: Source, K: Sink>(
     ensures sink_rose { K.faults sink.old < K.faults sink.new → result ≡ Status.WriteFault }
     ensures nothing_written { (result ≡ Status.Memory) ⊎ (result ≡ Status.ReadFault) → sink.new ≡ sink.old }
     ensures answer { result ≢ Status.Memory → result ≢ Status.ReadFault
-        → AnswersTaken (Some command) result (S.left source.old) (S.left source.new) (K.written sink.old) (K.written sink.new) (K.flushed sink.new) }
+        → AnswersTaken (Some (request_view command)) result (S.left source.old) (S.left source.new) (K.written sink.old) (K.written sink.new) (K.flushed sink.new) }
+    ensures headline { command ≡ Command.Plan → result ≡ Status.Done
+        → PlansTaken (S.left source.old) (S.left source.new) (K.written sink.old) (K.written sink.new) }
 {
     match read_all(alloc, source, MAX_INPUT) {
-        Ok(bytes) => deliver(&compute(command, &bytes), sink),
+        Ok(bytes) => answer_bytes(alloc, command, &bytes, sink),
         Err(ReadAllFault::TooLong) => deliver(&Answer::TooLong, sink),
         Err(ReadAllFault::ReadFault) => Status::ReadFault,
         Err(ReadAllFault::Memory) => Status::Memory,
+    }
+}
+
+/// Answers the bytes with the command.
+fn answer_bytes<K: Sink>(alloc: Global, command: Command, bytes: &[u8], sink: &mut K) -> Status
+    requires { length bytes.now ≤ MAX_INPUT }
+    ensures sink_later { K.faults sink.old ≤ K.faults sink.new }
+    ensures no_read_fault { result ≢ Status.ReadFault }
+    ensures write_fault { result ≡ Status.WriteFault → Rose (K.faults sink.old) (K.faults sink.new) }
+    ensures sink_rose { K.faults sink.old < K.faults sink.new → result ≡ Status.WriteFault }
+    ensures nothing_written { result ≡ Status.Memory → sink.new ≡ sink.old }
+    ensures answer { result ≢ Status.Memory
+        → AnswersBytes (Some (request_view command)) bytes.now result (K.written sink.old) (K.written sink.new) (K.flushed sink.new) }
+    ensures headline { command ≡ Command.Plan → result ≡ Status.Done
+        → (text : List ℕ) × Appends (K.written sink.old) (K.written sink.new) text × HoldsReadHeadline bytes.now text }
+{
+    match compute(alloc, command, bytes) {
+        Ok(answer) => deliver(&answer, sink),
+        Err(Memory) => Status::Memory,
     }
 }

@@ -1,21 +1,12 @@
 use super::*;
+use crate::rows::ROWS;
 use std::alloc::{AllocError, Global};
 use std::test::Fail;
 use yds_port::{MemorySink, MemorySource, read_all};
 
-const USAGE: &[u8] =
-    b"usage: yds_cli plan | round | avr --grid G | oa --grid G | check | audit [--points] | report [--json] | trial SEED JOBS | expand | admit TOP | curve | compare --grid G\n";
-
 const ONE_JOB: &[u8] = b"job a 0 4 8\n";
 
 const PLAN: &[u8] = b"job a 0 4 8\nslot a 0 4 8\nlevel 8 4\npiece 0 4\nmember a\n";
-
-const LATE_JOB: &[u8] = b"job a 999999 1000000 1000000\n";
-
-const LATE_PLAN: &[u8] =
-    b"job a 999999 1000000 1000000\nslot a 999999 1000000 1000000\nlevel 1000000 1\npiece 999999 1000000\nmember a\n";
-
-const NOT_YET: &[u8] = b"refused not-yet\n";
 
 // The words between the spaces of a text.
 fn words(alloc: Global, text: &str) -> Result<Vec<String>, AllocError> {
@@ -34,60 +25,17 @@ fn source(alloc: Global, input: &[u8], failing: u32) -> Result<MemorySource, All
 
 #[test]
 fn the_answer_to_each_input(rt: HostRuntime) -> Result<(), Fail> {
-    let cases = [
-        ("plan", ONE_JOB, Status::Done, PLAN),
-        ("plan", b"".as_slice(), Status::Done, b"".as_slice()),
-        ("plan", LATE_JOB, Status::Done, LATE_PLAN),
-        ("plan", b"job a 0 4 8".as_slice(), Status::Done, PLAN),
-        (
-            "plan",
-            b"# one\r\n\r\n\tjob a\t0 4  8 \r\n".as_slice(),
-            Status::Done,
-            PLAN,
-        ),
-        (
-            "plan",
-            b"job a 0 4 0\n".as_slice(),
-            Status::Done,
-            b"job a 0 4 0\n".as_slice(),
-        ),
-        (
-            "plan",
-            b"job a 0 4 8\njob b 0 4 8\n".as_slice(),
-            Status::Refused,
-            NOT_YET,
-        ),
-        (
-            "plan",
-            b"job a 4 4 8\n".as_slice(),
-            Status::Refused,
-            NOT_YET,
-        ),
-        (
-            "plan",
-            b"job a 0 4 08\n".as_slice(),
-            Status::Refused,
-            NOT_YET,
-        ),
-        ("plan", b"point 0 1\n".as_slice(), Status::Refused, NOT_YET),
-        ("plan plan", ONE_JOB, Status::Usage, USAGE),
-        ("avr --grid 0", ONE_JOB, Status::Usage, USAGE),
-        ("admit 0", ONE_JOB, Status::Usage, USAGE),
-        ("", ONE_JOB, Status::Usage, USAGE),
-    ];
-    for (text, input, status, want) in cases {
-        for piece in [1, 4] {
-            let words = words(rt.alloc(), text)?;
-            let bytes = input.to_vec(rt.alloc())?;
-            let mut source = MemorySource::new(bytes, piece, Vec::new(rt.alloc()));
-            let mut sink = MemorySink::with_room(rt.alloc(), 500, piece, Vec::new(rt.alloc()))?;
-            assert_eq!(rt;
-                run(rt.alloc(), &words, &mut source, &mut sink),
-                status,
-                "{text}"
-            );
-            assert_eq!(rt; sink.bytes(), want, "{text}");
-        }
+    for (text, input, status, want) in ROWS {
+        let words = words(rt.alloc(), text)?;
+        let bytes = input.as_bytes().to_vec(rt.alloc())?;
+        let mut source = MemorySource::new(bytes, 4, Vec::new(rt.alloc()));
+        let mut sink = MemorySink::with_room(rt.alloc(), 500, 4, Vec::new(rt.alloc()))?;
+        assert_eq!(rt;
+            run(rt.alloc(), &words, &mut source, &mut sink),
+            status,
+            "{text}: {input}"
+        );
+        assert_eq!(rt; sink.bytes(), want.as_bytes(), "{text}: {input}");
     }
     Ok(())
 }
