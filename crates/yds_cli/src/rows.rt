@@ -7,7 +7,7 @@ pub const USAGE: &str =
     "usage: yds_cli plan | round | avr --grid G | oa --grid G | check | audit [--points] | report [--json] | trial SEED JOBS | expand | admit TOP | curve | compare --grid G\n";
 
 /// The words with spaces between them, the document, the status and the whole answer.
-pub const ROWS: [(&str, &str, Status, &str); 81] = [
+pub const ROWS: [(&str, &str, Status, &str); 83] = [
     (
         "audit",
         "job a 0 4 4\njob b 0 2 4\nslot b 0 2 4\nslot a 2 4 4\n# refuse c from 0 to 4 work 9 top 2\n",
@@ -443,6 +443,18 @@ pub const ROWS: [(&str, &str, Status, &str); 81] = [
         "job a 0 4 8\nslot a 0 1 0+1/2\nslot a 1 2 0+1/3\n",
         Status::Refused,
         "refused 3 12 MixedGrain\n",
+    ),
+    (
+        "plan",
+        "job a 0 4 8\nslot é 0 1 1\n",
+        Status::Refused,
+        "refused 2 6 BadName\n",
+    ),
+    (
+        "plan",
+        "point 0 0\npoint 1 0\npoint 2 0\npoint 3 0\npoint 4 0\npoint 5 0\npoint 6 0\npoint 7 0\npoint 8 0\npoint 9 0\npoint 10 0\npoint 11 0\npoint 12 0\npoint 13 0\npoint 14 0\npoint 15 0\npoint 16 0\npoint 17 0\npoint 18 0\npoint 19 0\npoint 20 0\npoint 21 0\npoint 22 0\npoint 23 0\npoint 24 0\npoint 25 0\npoint 26 0\npoint 27 0\npoint 28 0\npoint 29 0\npoint 30 0\npoint 31 0\npoint 32 0\npoint 33 0\npoint 34 0\npoint 35 0\npoint 36 0\npoint 37 0\npoint 38 0\npoint 39 0\npoint 40 0\npoint 41 0\npoint 42 0\npoint 43 0\npoint 44 0\npoint 45 0\npoint 46 0\npoint 47 0\npoint 48 0\npoint 49 0\npoint 50 0\npoint 51 0\npoint 52 0\npoint 53 0\npoint 54 0\npoint 55 0\npoint 56 0\npoint 57 0\npoint 58 0\npoint 59 0\npoint 60 0\npoint 61 0\npoint 62 0\npoint 63 0\npoint 64 0\n",
+        Status::Refused,
+        "refused 65 1 TooMany\n",
     ),
     ("admit 0", "job a 0 4 8\n", Status::Usage, USAGE),
     ("avr", "job a 0 4 8\n", Status::Usage, USAGE),
