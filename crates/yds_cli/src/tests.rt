@@ -2,6 +2,7 @@ use super::*;
 use crate::rows::ROWS;
 use std::alloc::{AllocError, Global};
 use std::test::Fail;
+use yds_model::Memory;
 use yds_port::{MemorySink, MemorySource, read_all};
 
 const ONE_JOB: &[u8] = b"job a 0 4 8\n";
@@ -23,18 +24,21 @@ fn source(alloc: Global, input: &[u8], failing: u32) -> Result<MemorySource, All
     Ok(MemorySource::new(bytes, 4, [failing].to_vec(alloc)?))
 }
 
+// The status and the text of a run with these words over this input, read and written in pieces of four bytes.
+fn answer(alloc: Global, text: &str, input: &str) -> Result<(Status, MemorySink), Memory> {
+    let words = words(alloc, text)?;
+    let bytes = input.as_bytes().to_vec(alloc)?;
+    let mut source = MemorySource::new(bytes, 4, Vec::new(alloc));
+    let mut sink = MemorySink::with_room(alloc, 500, 4, Vec::new(alloc))?;
+    let status = run(alloc, &words, &mut source, &mut sink);
+    Ok((status, sink))
+}
+
 #[test]
 fn the_answer_to_each_input(rt: HostRuntime) -> Result<(), Fail> {
-    for (text, input, status, want) in ROWS {
-        let words = words(rt.alloc(), text)?;
-        let bytes = input.as_bytes().to_vec(rt.alloc())?;
-        let mut source = MemorySource::new(bytes, 4, Vec::new(rt.alloc()));
-        let mut sink = MemorySink::with_room(rt.alloc(), 500, 4, Vec::new(rt.alloc()))?;
-        assert_eq!(rt;
-            run(rt.alloc(), &words, &mut source, &mut sink),
-            status,
-            "{text}: {input}"
-        );
+    for (text, input, status, want) in &ROWS {
+        let (ended, sink) = answer(rt.alloc(), text, input)?;
+        assert_eq!(rt; ended, *status, "{text}: {input}");
         assert_eq!(rt; sink.bytes(), want.as_bytes(), "{text}: {input}");
     }
     Ok(())
