@@ -27,7 +27,6 @@ pub mod Divisor
 pub mod Lines
 pub mod Hull
 pub mod HullOf
-pub mod OneJob
 pub mod Curve
 pub mod Plans
 pub mod Energy
@@ -46,3 +45,4 @@ pub mod Short
 pub mod Inverse
 pub mod Grown
 pub mod Within
+pub mod PlanText
