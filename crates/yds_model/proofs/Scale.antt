@@ -55,14 +55,14 @@ given_split : (k work : ℕ) (mine : Bool) → (if mine then k * work else 0) �
 given_split k work true = refl
 given_split k work false = omega arith
 
-finer_work : (k : ℕ) (slots : List WholeSlot) (job : ℕ) → work_given (map (finer k) slots) job ≡ k * work_given slots job
+pub finer_work : (k : ℕ) (slots : List WholeSlot) (job : ℕ) → work_given (map (finer k) slots) job ≡ k * work_given slots job
 finer_work k slots job =
     finer_sum k (λ slot. if job == slot.job then slot.work else 0) (λ slot. given_split k slot.work (job == slot.job)) slots
 
 pub excess_scaled : ScaleMultipliesExcess
 excess_scaled slots scale k p q is = ap (excess p q) (finer_slots k scale slots is) ∙ finer_excess k p q (slots_at scale slots)
 
-shifted : (n k scale : ℕ) → n * (k * scale) ≡ k * (n * scale)
+pub shifted : (n k scale : ℕ) → n * (k * scale) ≡ k * (n * scale)
 shifted n k scale = omega arith
 
 -- Feasible at a scale is feasible at k times it, and back.

@@ -1,0 +1,187 @@
+-- The law of scale for the runs of the policies: a run at a scale is one at each multiple of it.
+use Rattle.std.proofs.Common.{◌≡◌, ℕ, zero, suc, ◌+◌, ◌-◌, ◌*◌, ◌<◌, ◌≤◌, List, [], ◌∷◌, ◌++◌, map, get_or, length, min, refl, ap, sym, subst, ◌∙◌, arith, inl, inr, Bool, true, false}
+use Rattle.std.specs.Prelude.{cond, nat_le, nat_lt, ◌&&◌, sum_by}
+use Rattle.std.specs.List.{All, filter}
+use Rattle.std.proofs.lemmas.Bool.{cases_lt, lt-ltb, le-ltb, le-leb, lt-leb}
+use Rattle.std.proofs.lemmas.List.{map-append, length-map, get_or-map}
+use Rattle.std.proofs.lemmas.List.Elements.{All-map, All-weaker, filter_agree}
+use Rattle.std.proofs.Math.Nat.{mul-sub, mul-zero, mul-pos, mul-le-mul_left, mul-lt-mul_of_pos_left, le_of_mul-le-mul_left, lt_of_mul-lt-mul_left, min-eq_left, min-eq_right}
+use Rattle.yds_model.specs.Job.{Job, job_at}
+use Rattle.yds_model.specs.Slot.{WrittenSlot, WholeSlot, IsScale, slots_at, work_given, no_slot, slot_at}
+use Rattle.yds_model.specs.Piece.{Piece}
+use Rattle.yds_model.specs.Event.{stretches, LiesIn, IsUncut}
+use Rattle.yds_model.specs.EarliestFirst.{IsFirstDue, EarliestAfter}
+use Rattle.yds_model.specs.Plan.{IsServedInStretches}
+use Rattle.yds_model.specs.Policy.{pending_at, numbers_of, slots_in, FillsAtSpeed, ServesCapacity, IsRunAt}
+use Rattle.yds_model.specs.AverageRate.{terms_of, pending_units, average_rate}
+use Rattle.yds_model.proofs.Sums.{sum_by-mul, sum_by_same}
+use Rattle.yds_model.proofs.Scale.{finer, finer_slots, finer_work, shifted, feasible_finer}
+
+-- numbers that are both multiplied by k are in the order that they were in
+le_scaled : (k a b : ℕ) → 1 ≤ k → nat_le (k * a) (k * b) ≡ nat_le a b
+le_scaled k a b some = elim (cases_lt b a) [
+  | inl less ↦ lt-leb (k * a) (k * b) (mul-lt-mul_of_pos_left less some) ∙ sym (lt-leb a b less)
+  | inr more ↦ le-leb (k * a) (k * b) (mul-le-mul_left k more) ∙ sym (le-leb a b more)
+]
+
+lt_scaled : (k a b : ℕ) → 1 ≤ k → nat_lt (k * a) (k * b) ≡ nat_lt a b
+lt_scaled k a b some = elim (cases_lt a b) [
+  | inl less ↦ lt-ltb (k * a) (k * b) (mul-lt-mul_of_pos_left less some) ∙ sym (lt-ltb a b less)
+  | inr more ↦ le-ltb (k * a) (k * b) (mul-le-mul_left k more) ∙ sym (le-ltb a b more)
+]
+
+min_scaled : (k a b : ℕ) → min (k * a) (k * b) ≡ k * min a b
+min_scaled k a b = elim (cases_lt b a) [
+  | inl less ↦ min-eq_right (mul-le-mul_left k (omega arith)) ∙ ap (λ n. k * n) (sym (min-eq_right (omega arith)))
+  | inr more ↦ min-eq_left (mul-le-mul_left k more) ∙ ap (λ n. k * n) (sym (min-eq_left more))
+]
+
+-- a capacity that isn't 0 is served where its slots fill the stretch
+serves_some : (grid scale capacity : ℕ) (stretch : Piece) (slots : List WholeSlot) → 1 ≤ capacity →
+    FillsAtSpeed capacity (grid * (stretch.to - stretch.from) * scale) (stretch.from * scale) (stretch.to * scale) (slots_in scale stretch slots) →
+    ServesCapacity grid scale capacity stretch slots
+serves_some grid scale zero stretch slots more fills = absurd (omega arith)
+serves_some grid scale (suc capacity) stretch slots more fills = fills
+
+-- slots that pass a test are finer where the finer slots pass one that agrees with it
+kept_finer : (k : ℕ) (kept : Bool) (slot : WholeSlot) (slots : List WholeSlot) →
+    cond kept (finer k slot ∷ map (finer k) slots) (map (finer k) slots) ≡ map (finer k) (cond kept (slot ∷ slots) slots)
+kept_finer k true slot slots = refl
+kept_finer k false slot slots = refl
+
+filter_finer : (k : ℕ) (fine test : WholeSlot → Bool) → ((slot : WholeSlot) → fine (finer k slot) ≡ test slot) → (slots : List WholeSlot) →
+    filter fine (map (finer k) slots) ≡ map (finer k) (filter test slots)
+filter_finer k fine test same [] = refl
+filter_finer k fine test same (slot ∷ slots) =
+    rw (same slot, filter_finer k fine test same slots) (kept_finer k (test slot) slot (filter test slots))
+
+-- a slot's speed stays what it is
+speed_finer : (k capacity per work from to : ℕ) → work * per ≡ capacity * (to - from) →
+    k * work * (k * per) ≡ k * capacity * (k * to - k * from)
+speed_finer k capacity per work from to speed = rw (← mul-sub k to from) (omega (arith, ap (λ n. k * k * n) speed))
+
+-- the slots run from k times one time to k times another, at the same speed
+fills_finer : (k capacity per from to : ℕ) (slots : List WholeSlot) → FillsAtSpeed capacity per from to slots →
+    FillsAtSpeed (k * capacity) (k * per) (k * from) (k * to) (map (finer k) slots)
+fills_finer k capacity per from to [] fills = ap (λ n. k * n) fills
+fills_finer k capacity per from to (slot ∷ slots) fills = (
+  ap (λ n. k * n) fills.0,
+  speed_finer k capacity per slot.work slot.from slot.to fills.1,
+  fills_finer k capacity per slot.to to slots fills.2,
+)
+
+module _ (jobs : List Job) (k scale : ℕ) (some : 1 ≤ k) where
+  swapped : (grid pending : ℕ) → grid * (k * pending) ≡ k * (grid * pending)
+  swapped grid pending = omega arith
+
+  grouped : (terms : ℕ) → k * scale * terms ≡ k * (scale * terms)
+  grouped terms = omega arith
+
+  -- work that is pending, in parts that are k times as fine
+  pending_finer : (slots : List WholeSlot) (time job : ℕ) →
+      pending_at jobs (k * scale) (map (finer k) slots) time job ≡ k * pending_at jobs scale slots time job
+  pending_finer slots time job =
+      let done = filter_finer k (λ slot. nat_le slot.to (time * (k * scale))) (λ slot. nat_le slot.to (time * scale))
+          (λ slot. rw (shifted time k scale) (le_scaled k slot.to (time * scale) some)) slots in
+      rw (done, finer_work k (filter (λ slot. nat_le slot.to (time * scale)) slots) job, shifted (job_at jobs job).work k scale)
+      (sym (mul-sub k ((job_at jobs job).work * scale) (work_given (filter (λ slot. nat_le slot.to (time * scale)) slots) job)))
+
+  -- and of some jobs together
+  pending_sum_finer : (slots : List WholeSlot) (time : ℕ) (numbers : List ℕ) →
+      sum_by (λ job. pending_at jobs (k * scale) (map (finer k) slots) time job) numbers
+      ≡ k * sum_by (λ job. pending_at jobs scale slots time job) numbers
+  pending_sum_finer slots time numbers =
+      sum_by_same (λ job. pending_at jobs (k * scale) (map (finer k) slots) time job) (λ job. k * pending_at jobs scale slots time job) numbers
+      (λ i job within. pending_finer slots time (get_or numbers i job))
+      ∙ sum_by-mul k (λ job. pending_at jobs scale slots time job) numbers
+
+  -- a stretch's slots are the finer ones of those that it had
+  slots_in_finer : (stretch : Piece) (slots : List WholeSlot) →
+      slots_in (k * scale) stretch (map (finer k) slots) ≡ map (finer k) (slots_in scale stretch slots)
+  slots_in_finer stretch slots =
+      filter_finer k (λ slot. nat_le (stretch.from * (k * scale)) slot.from && nat_le slot.to (stretch.to * (k * scale)))
+      (λ slot. nat_le (stretch.from * scale) slot.from && nat_le slot.to (stretch.to * scale))
+      (λ slot. rw (shifted stretch.from k scale, shifted stretch.to k scale, le_scaled k (stretch.from * scale) slot.from some,
+      le_scaled k slot.to (stretch.to * scale) some) refl) slots
+
+  -- a stretch that serves so much serves k times as much
+  serves_finer : (grid capacity : ℕ) (stretch : Piece) (slots : List WholeSlot) → ServesCapacity grid scale capacity stretch slots →
+      ServesCapacity grid (k * scale) (k * capacity) stretch (map (finer k) slots)
+  serves_finer grid zero stretch slots serves = rw (mul-zero k) (slots_in_finer stretch slots ∙ ap (map (finer k)) serves)
+  serves_finer grid (suc capacity) stretch slots serves =
+      serves_some grid (k * scale) (k * suc capacity) stretch (map (finer k) slots) (mul-pos some (omega arith))
+      (rw (slots_in_finer stretch slots, shifted (grid * (stretch.to - stretch.from)) k scale, shifted stretch.from k scale, shifted stretch.to k scale)
+      (fills_finer k (suc capacity) (grid * (stretch.to - stretch.from) * scale) (stretch.from * scale) (stretch.to * scale)
+      (slots_in scale stretch slots) serves))
+
+  -- a slot that comes first comes first
+  first_due_finer : (before : List WholeSlot) (slot : WholeSlot) → IsFirstDue jobs scale before slot →
+      IsFirstDue jobs (k * scale) (map (finer k) before) (finer k slot)
+  first_due_finer before slot due other inside released left =
+      due other inside (le_of_mul-le-mul_left (rw (shifted (job_at jobs other).release k scale) at released) some)
+      (lt_of_mul-lt-mul_left k (rw (finer_work k before other, shifted (job_at jobs other).work k scale) at left))
+
+  -- so the order of deadlines is kept
+  earliest_finer : (before slots : List WholeSlot) → EarliestAfter jobs scale before slots →
+      EarliestAfter jobs (k * scale) (map (finer k) before) (map (finer k) slots)
+  earliest_finer before [] earliest = tt
+  earliest_finer before (slot ∷ slots) earliest = (
+    first_due_finer before slot earliest.0,
+    subst (λ done. EarliestAfter jobs (k * scale) done (map (finer k) slots)) (map-append (finer k) before (slot ∷ []))
+        (earliest_finer (before ++ slot ∷ []) slots earliest.1),
+  )
+
+  -- a slot lies in a stretch where the finer one does
+  lies_finer : (slot : WholeSlot) (stretch : Piece) → LiesIn scale slot stretch → LiesIn (k * scale) (finer k slot) stretch
+  lies_finer slot stretch lies = record {
+    from = rw (shifted stretch.from k scale) (mul-le-mul_left k lies.from);
+    to = rw (shifted stretch.to k scale) (mul-le-mul_left k lies.to);
+  }
+
+  lies_coarser : (slot : WholeSlot) (stretch : Piece) → LiesIn (k * scale) (finer k slot) stretch → LiesIn scale slot stretch
+  lies_coarser slot stretch lies = record {
+    from = le_of_mul-le-mul_left (rw (shifted stretch.from k scale) at lies.from) some;
+    to = le_of_mul-le-mul_left (rw (shifted stretch.to k scale) at lies.to) some;
+  }
+
+  uncut_finer : (slot : WholeSlot) → IsUncut jobs scale slot → IsUncut jobs (k * scale) (finer k slot)
+  uncut_finer slot uncut = (uncut.0, uncut.1, uncut.2, uncut.3, lies_finer slot uncut.1 uncut.4)
+
+  -- the finer slot at a place
+  finer_read : (slots : List WholeSlot) (i : ℕ) → i < length slots → slot_at (map (finer k) slots) i ≡ finer k (slot_at slots i)
+  finer_read slots i within = get_or-map (finer k) slots i no_slot no_slot within
+
+  served_finer : (slots : List WholeSlot) → IsServedInStretches jobs scale slots → IsServedInStretches jobs (k * scale) (map (finer k) slots)
+  served_finer slots served = record {
+    earliest_first = earliest_finer [] slots served.earliest_first;
+    uncut = All-map (IsUncut jobs (k * scale)) (finer k) slots
+        (All-weaker (IsUncut jobs scale) (λ slot. IsUncut jobs (k * scale) (finer k slot)) uncut_finer slots served.uncut);
+    once = λ i j order inside.
+        let j_inside : j < length slots = omega (arith, length-map slots (finer k)) in
+        let i_read = finer_read slots i (omega arith) in
+        let j_read = finer_read slots j j_inside in
+        rw (i_read, j_read) (λ same s stretch within first second. served.once i j order j_inside same s stretch within
+        (lies_coarser (slot_at slots i) (get_or (stretches jobs) s stretch) first) (lies_coarser (slot_at slots j) (get_or (stretches jobs) s stretch) second));
+  }
+
+  -- a run that serves a policy's capacities serves k times them at k times the scale
+  run_finer : (grid : ℕ) (capacity fine : Piece → ℕ) (slots : List WholeSlot) → ((stretch : Piece) → fine stretch ≡ k * capacity stretch) →
+      IsRunAt jobs grid scale capacity slots → IsRunAt jobs grid (k * scale) fine (map (finer k) slots)
+  run_finer grid capacity fine slots same run = record {
+    feasible = feasible_finer jobs k scale slots some run.feasible;
+    served = served_finer slots run.served;
+    few = rw (length-map slots (finer k)) run.few;
+    each = λ i stretch within.
+        let one = get_or (stretches jobs) i stretch in
+        rw (same one) (serves_finer grid (capacity one) one slots (run.each i stretch within));
+  }
+
+  -- and the capacities of Average Rate are so
+  average_rate_finer : (grid : ℕ) (slots : List WholeSlot) (stretch : Piece) →
+      average_rate jobs grid (k * scale) (map (finer k) slots) stretch ≡ k * average_rate jobs grid scale slots stretch
+  average_rate_finer grid slots stretch =
+      let live = filter (λ job. nat_le (job_at jobs job).release stretch.from) (numbers_of jobs) in
+      rw (pending_sum_finer slots stretch.from live)
+      (ap (λ n. min n (k * scale * terms_of jobs grid stretch)) (swapped grid (sum_by (λ job. pending_at jobs scale slots stretch.from job) live))
+      ∙ ap (λ n. min (k * pending_units jobs grid scale slots stretch) n) (grouped (terms_of jobs grid stretch))
+      ∙ min_scaled k (pending_units jobs grid scale slots stretch) (scale * terms_of jobs grid stretch))
