@@ -9,7 +9,7 @@ use Rattle.yds_model.specs.Slot.{WrittenSlot}
 use Rattle.yds_model.specs.Piece.{Piece, AreApart}
 use Rattle.yds_model.specs.Level.{Level}
 use Rattle.yds_model.specs.Proper.{PiecesStand, StandsOnce, SumsAgree, IsNotFaster, IsWindowCovered}
-use Rattle.yds_model.specs.Audit.{Stands, IsAfterOthers, GetsItsWork, IsVerdict, Feasible, WrongWork}
+use Rattle.yds_model.specs.Audit.{Stands, IsAfterOthers, GetsItsWork, IsVerdict, WrongWork}
 use Rattle.yds_model.specs.Judgement.{Judgement, Accepted, Window, IsJudgement}
 use Rattle.yds_model.proofs.OneJudgement.{judgement_is_unique}
 

@@ -1,13 +1,22 @@
 -- The two policies, tried on small runs on the grid 1, at the scale of their slots.
-use Rattle.std.proofs.Common.{◌≡◌, List, [], ◌∷◌, refl}
+use Rattle.std.proofs.Common.{◌≡◌, ℕ, zero, suc, ◌*◌, ◌/◌, ◌<◌, List, [], ◌∷◌, take, refl, sym, subst, arith, inl, inr}
 use Rattle.std.specs.Prelude.{count_by}
-use Rattle.yds_model.specs.Job.{Job}
+use Rattle.std.specs.List.{All}
+use Rattle.std.specs.Int.{◌∣◌}
+use Rattle.std.proofs.lemmas.List.Elements.{All-from_recursion}
+use Rattle.std.proofs.lemmas.Nat.Gcd.{dvd_refl}
+use Rattle.std.proofs.Math.Nat.{one-dvd, div-mul_cancel, mul-one}
+use Rattle.yds_model.specs.Job.{Job, job_at}
 use Rattle.yds_model.specs.Scale.{of_whole, of_parts}
-use Rattle.yds_model.specs.Slot.{WrittenSlot, slots_at}
-use Rattle.yds_model.specs.Event.{stretches}
-use Rattle.yds_model.specs.Policy.{ServesCapacity}
-use Rattle.yds_model.specs.AverageRate.{average_rate, average_rate_rounds}
-use Rattle.yds_model.specs.OptimalAvailable.{optimal_available, optimal_available_rounds}
+use Rattle.yds_model.specs.Slot.{WrittenSlot, IsDivided, IsScale, slots_at, slot_at, no_written_slot, work_given}
+use Rattle.yds_model.specs.Feasible.{IsInWindow, IsFeasibleAt}
+use Rattle.yds_model.specs.EarliestFirst.{IsFirstDue}
+use Rattle.yds_model.specs.Event.{stretches, LiesIn, IsUncut}
+use Rattle.yds_model.specs.Plan.{IsServedInStretches}
+use Rattle.yds_model.specs.Policy.{ServesCapacity, IsRunAt}
+use Rattle.yds_model.specs.AverageRate.{average_rate, average_rate_rounds, IsAverageRateRun}
+use Rattle.yds_model.specs.OptimalAvailable.{optimal_available, optimal_available_rounds, IsOptimalAvailableRun}
+use Rattle.yds_model.proofs.RunScale.{average_rate_run_scaled, optimal_available_run_scaled, optimal_available_rounds_scaled}
 
 -- Average Rate: a from 0 to 3 with work 2, b from 1 to 3 with work 2
 abbrev rate_jobs : List Job
@@ -39,6 +48,97 @@ second_served = (refl, refl, (refl, refl, refl))
 rate_rounds : count_by (average_rate_rounds rate_jobs 1) (stretches rate_jobs) ≡ 2
 rate_rounds = refl
 
+-- At scale 3 the slots are a run: feasible, in order of the deadlines, uncut, one for a job and stretch, and at those capacities.
+rate_served : (number : ℕ) → number < 2 → work_given (slots_at 3 rate_slots) number ≡ (job_at rate_jobs number).work * 3
+rate_served zero within = refl
+rate_served (suc zero) within = refl
+rate_served (suc (suc number)) within = absurd (omega arith)
+
+rate_feasible : IsFeasibleAt rate_jobs 3 (slots_at 3 rate_slots)
+rate_feasible = record {
+  one_at_a_time = (omega arith, omega arith, (omega arith, omega arith, (omega arith, omega arith, tt)));
+  in_windows = All-from_recursion (IsInWindow rate_jobs 3) (slots_at 3 rate_slots) (omega arith, (omega arith, (omega arith, tt)));
+  served = rate_served;
+}
+
+rate_first : IsFirstDue rate_jobs 3 [] (slot_at (slots_at 3 rate_slots) 0)
+rate_first zero inside released left = inr (refl, omega arith)
+rate_first (suc zero) inside released left = absurd (omega arith)
+rate_first (suc (suc other)) inside released left = absurd (omega arith)
+
+rate_second : IsFirstDue rate_jobs 3 (take 1 (slots_at 3 rate_slots)) (slot_at (slots_at 3 rate_slots) 1)
+rate_second zero inside released left = inr (refl, omega arith)
+rate_second (suc zero) inside released left = inr (refl, omega arith)
+rate_second (suc (suc other)) inside released left = absurd (omega arith)
+
+rate_third : IsFirstDue rate_jobs 3 (take 2 (slots_at 3 rate_slots)) (slot_at (slots_at 3 rate_slots) 2)
+rate_third zero inside released left = absurd (omega arith)
+rate_third (suc zero) inside released left = inr (refl, omega arith)
+rate_third (suc (suc other)) inside released left = absurd (omega arith)
+
+rate_once : (i j : ℕ) → i < j → j < 3 → (slot_at (slots_at 3 rate_slots) i).job ≡ (slot_at (slots_at 3 rate_slots) j).job →
+    All (λ stretch. LiesIn 3 (slot_at (slots_at 3 rate_slots) i) stretch → LiesIn 3 (slot_at (slots_at 3 rate_slots) j) stretch → ⊥) (stretches rate_jobs)
+rate_once zero zero order inside same = absurd (omega arith)
+rate_once zero (suc zero) order inside same =
+    All-from_recursion (λ stretch. LiesIn 3 (slot_at (slots_at 3 rate_slots) 0) stretch → LiesIn 3 (slot_at (slots_at 3 rate_slots) 1) stretch → ⊥)
+    (stretches rate_jobs) (λ first second. absurd (omega (arith, second.to)), (λ first second. absurd (omega (arith, first.from)), tt))
+rate_once zero (suc (suc zero)) order inside same = absurd (omega (arith, same))
+rate_once (suc zero) zero order inside same = absurd (omega arith)
+rate_once (suc zero) (suc zero) order inside same = absurd (omega arith)
+rate_once (suc zero) (suc (suc zero)) order inside same = absurd (omega (arith, same))
+rate_once (suc (suc i)) j order inside same = absurd (omega arith)
+rate_once i (suc (suc (suc j))) order inside same = absurd (omega arith)
+
+rate_in_stretches : IsServedInStretches rate_jobs 3 (slots_at 3 rate_slots)
+rate_in_stretches = record {
+  earliest_first = (rate_first, (rate_second, (rate_third, tt)));
+  uncut = All-from_recursion (IsUncut rate_jobs 3) (slots_at 3 rate_slots) (
+    (0, record { from = 0; to = 1 }, omega arith, refl, record { from = omega arith; to = omega arith }),
+    (
+      (1, record { from = 1; to = 3 }, omega arith, refl, record { from = omega arith; to = omega arith }),
+      ((1, record { from = 1; to = 3 }, omega arith, refl, record { from = omega arith; to = omega arith }), tt),
+    ),
+  );
+  once = rate_once;
+}
+
+rate_run : IsRunAt rate_jobs 1 3 (average_rate rate_jobs 1 3 (slots_at 3 rate_slots)) (slots_at 3 rate_slots)
+rate_run = record {
+  feasible = rate_feasible;
+  served = rate_in_stretches;
+  few = omega arith;
+  each = All-from_recursion (λ stretch. ServesCapacity 1 3 (average_rate rate_jobs 1 3 (slots_at 3 rate_slots) stretch) stretch (slots_at 3 rate_slots))
+      (stretches rate_jobs) (first_served, (second_served, tt));
+}
+
+rate_thirds : IsScale 3 rate_slots
+rate_thirds = record {
+  positive = omega arith;
+  divided = All-from_recursion (IsDivided 3) rate_slots (
+    record { from = one-dvd 3; to = one-dvd 3; work = one-dvd 3 },
+    (
+      record { from = one-dvd 3; to = dvd_refl 3; work = one-dvd 3 },
+      (record { from = dvd_refl 3; to = one-dvd 3; work = one-dvd 3 }, tt),
+    ),
+  );
+}
+
+-- each scale of the slots is a multiple of 3, so they are a run at each
+rate_at_each : (scale : ℕ) → IsScale scale rate_slots →
+    IsRunAt rate_jobs 1 scale (average_rate rate_jobs 1 scale (slots_at scale rate_slots)) (slots_at scale rate_slots)
+rate_at_each scale is =
+    let divides : 3 ∣ scale = (is.divided 1 no_written_slot (omega arith)).to in
+    let same : scale / 3 * 3 ≡ scale = div-mul_cancel 3 divides in
+    subst (λ (n : ℕ). IsRunAt rate_jobs 1 n (average_rate rate_jobs 1 n (slots_at n rate_slots)) (slots_at n rate_slots)) same
+    (average_rate_run_scaled rate_jobs 1 (scale / 3) 3 rate_slots (omega (arith, same, is.positive)) rate_thirds rate_run)
+
+-- the slots are a run of Average Rate that rounds at two event points, and not one that rounds at none
+rate_accepted : IsAverageRateRun rate_jobs 1 2 rate_slots
+rate_accepted = record { run = rate_at_each; rounds = refl }
+
+rate_refused : IsAverageRateRun rate_jobs 1 0 rate_slots → ⊥
+rate_refused is = absurd (omega (arith, is.rounds))
+
 -- Optimal Available: a from 0 to 3 with work 2, b from 1 to 2 with work 1
 abbrev available_jobs : List Job
 available_jobs = record { release = 0; deadline = 3; work = 2 } ∷ record { release = 1; deadline = 2; work = 1 } ∷ []
@@ -61,3 +161,102 @@ units_at_2 = refl
 -- it rounds at 0 alone
 available_rounds : count_by (optimal_available_rounds available_jobs 1 1 (slots_at 1 available_slots)) (stretches available_jobs) ≡ 1
 available_rounds = refl
+
+-- At scale 1 the slots are a run.
+available_served : (number : ℕ) → number < 2 → work_given (slots_at 1 available_slots) number ≡ (job_at available_jobs number).work * 1
+available_served zero within = refl
+available_served (suc zero) within = refl
+available_served (suc (suc number)) within = absurd (omega arith)
+
+available_feasible : IsFeasibleAt available_jobs 1 (slots_at 1 available_slots)
+available_feasible = record {
+  one_at_a_time = (omega arith, omega arith, (omega arith, omega arith, (omega arith, omega arith, tt)));
+  in_windows = All-from_recursion (IsInWindow available_jobs 1) (slots_at 1 available_slots) (omega arith, (omega arith, (omega arith, tt)));
+  served = available_served;
+}
+
+available_first : IsFirstDue available_jobs 1 [] (slot_at (slots_at 1 available_slots) 0)
+available_first zero inside released left = inr (refl, omega arith)
+available_first (suc zero) inside released left = absurd (omega arith)
+available_first (suc (suc other)) inside released left = absurd (omega arith)
+
+available_second : IsFirstDue available_jobs 1 (take 1 (slots_at 1 available_slots)) (slot_at (slots_at 1 available_slots) 1)
+available_second zero inside released left = inl (omega arith)
+available_second (suc zero) inside released left = inr (refl, omega arith)
+available_second (suc (suc other)) inside released left = absurd (omega arith)
+
+available_third : IsFirstDue available_jobs 1 (take 2 (slots_at 1 available_slots)) (slot_at (slots_at 1 available_slots) 2)
+available_third zero inside released left = inr (refl, omega arith)
+available_third (suc zero) inside released left = absurd (omega arith)
+available_third (suc (suc other)) inside released left = absurd (omega arith)
+
+available_once : (i j : ℕ) → i < j → j < 3 → (slot_at (slots_at 1 available_slots) i).job ≡ (slot_at (slots_at 1 available_slots) j).job →
+    All (λ stretch. LiesIn 1 (slot_at (slots_at 1 available_slots) i) stretch → LiesIn 1 (slot_at (slots_at 1 available_slots) j) stretch → ⊥)
+    (stretches available_jobs)
+available_once zero zero order inside same = absurd (omega arith)
+available_once zero (suc zero) order inside same = absurd (omega (arith, same))
+available_once zero (suc (suc zero)) order inside same =
+    All-from_recursion (λ stretch. LiesIn 1 (slot_at (slots_at 1 available_slots) 0) stretch → LiesIn 1 (slot_at (slots_at 1 available_slots) 2) stretch → ⊥)
+    (stretches available_jobs) (
+      λ first second. absurd (omega (arith, second.to)),
+      (λ first second. absurd (omega (arith, second.to)), (λ first second. absurd (omega (arith, first.from)), tt)),
+    )
+available_once (suc zero) zero order inside same = absurd (omega arith)
+available_once (suc zero) (suc zero) order inside same = absurd (omega arith)
+available_once (suc zero) (suc (suc zero)) order inside same = absurd (omega (arith, same))
+available_once (suc (suc i)) j order inside same = absurd (omega arith)
+available_once i (suc (suc (suc j))) order inside same = absurd (omega arith)
+
+available_in_stretches : IsServedInStretches available_jobs 1 (slots_at 1 available_slots)
+available_in_stretches = record {
+  earliest_first = (available_first, (available_second, (available_third, tt)));
+  uncut = All-from_recursion (IsUncut available_jobs 1) (slots_at 1 available_slots) (
+    (0, record { from = 0; to = 1 }, omega arith, refl, record { from = omega arith; to = omega arith }),
+    (
+      (1, record { from = 1; to = 2 }, omega arith, refl, record { from = omega arith; to = omega arith }),
+      ((2, record { from = 2; to = 3 }, omega arith, refl, record { from = omega arith; to = omega arith }), tt),
+    ),
+  );
+  once = available_once;
+}
+
+available_run : IsRunAt available_jobs 1 1 (optimal_available available_jobs 1 1 (slots_at 1 available_slots)) (slots_at 1 available_slots)
+available_run = record {
+  feasible = available_feasible;
+  served = available_in_stretches;
+  few = omega arith;
+  each = All-from_recursion (λ stretch. ServesCapacity 1 1 (optimal_available available_jobs 1 1 (slots_at 1 available_slots) stretch) stretch (slots_at 1 available_slots))
+      (stretches available_jobs) ((refl, refl, refl), ((refl, refl, refl), ((refl, refl, refl), tt)));
+}
+
+available_whole : IsScale 1 available_slots
+available_whole = record {
+  positive = omega arith;
+  divided = All-from_recursion (IsDivided 1) available_slots (
+    record { from = one-dvd 1; to = one-dvd 1; work = one-dvd 1 },
+    (
+      record { from = one-dvd 1; to = one-dvd 1; work = one-dvd 1 },
+      (record { from = one-dvd 1; to = one-dvd 1; work = one-dvd 1 }, tt),
+    ),
+  );
+}
+
+-- each scale is a multiple of 1, so they are a run at each, and it rounds at one event point
+available_at_each : (scale : ℕ) → IsScale scale available_slots →
+    IsRunAt available_jobs 1 scale (optimal_available available_jobs 1 scale (slots_at scale available_slots)) (slots_at scale available_slots)
+available_at_each scale is =
+    subst (λ (n : ℕ). IsRunAt available_jobs 1 n (optimal_available available_jobs 1 n (slots_at n available_slots)) (slots_at n available_slots))
+    (mul-one scale) (optimal_available_run_scaled available_jobs 1 scale 1 available_slots is.positive available_whole available_run)
+
+available_rounds_at_each : (scale : ℕ) → IsScale scale available_slots →
+    1 ≡ count_by (optimal_available_rounds available_jobs 1 scale (slots_at scale available_slots)) (stretches available_jobs)
+available_rounds_at_each scale is =
+    subst (λ (n : ℕ). 1 ≡ count_by (optimal_available_rounds available_jobs 1 n (slots_at n available_slots)) (stretches available_jobs)) (mul-one scale)
+    (sym (optimal_available_rounds_scaled available_jobs 1 scale 1 available_slots is.positive available_whole))
+
+-- the slots are a run of Optimal Available that rounds at one event point, and not one that rounds at none
+available_accepted : IsOptimalAvailableRun available_jobs 1 1 available_slots
+available_accepted = record { run = available_at_each; rounds = available_rounds_at_each }
+
+available_refused : IsOptimalAvailableRun available_jobs 1 0 available_slots → ⊥
+available_refused is = absurd (omega (arith, is.rounds 1 available_whole))

@@ -1,19 +1,21 @@
 -- The law of scale for the runs of the policies: a run at a scale is one at each multiple of it.
 use Rattle.std.proofs.Common.{◌≡◌, ℕ, zero, suc, ◌+◌, ◌-◌, ◌*◌, ◌<◌, ◌≤◌, List, [], ◌∷◌, ◌++◌, map, get_or, length, min, refl, ap, sym, subst, ◌∙◌, arith, inl, inr, Bool, true, false}
-use Rattle.std.specs.Prelude.{cond, nat_le, nat_lt, ◌&&◌, sum_by}
-use Rattle.std.specs.List.{All, filter}
-use Rattle.std.proofs.lemmas.Bool.{cases_lt, lt-ltb, le-ltb, le-leb, lt-leb}
+use Rattle.std.specs.Prelude.{cond, nat_le, nat_lt, ◌==◌, ◌&&◌, not, sum_by, count_by}
+use Rattle.std.specs.List.{filter, list_all}
+use Rattle.std.proofs.lemmas.Bool.{cases_lt, cases_eq, lt-ltb, le-ltb, le-leb, lt-leb, eq-eqb, ne_eqb}
 use Rattle.std.proofs.lemmas.List.{map-append, length-map, get_or-map}
 use Rattle.std.proofs.lemmas.List.Elements.{All-map, All-weaker, filter_agree}
-use Rattle.std.proofs.Math.Nat.{mul-sub, mul-zero, mul-pos, mul-le-mul_left, mul-lt-mul_of_pos_left, le_of_mul-le-mul_left, lt_of_mul-lt-mul_left, min-eq_left, min-eq_right}
+use Rattle.std.proofs.Math.Nat.{mul-sub, mul-zero, mul-pos, mul-le-mul_left, mul-lt-mul_of_pos_left, le_of_mul-le-mul_left, lt_of_mul-lt-mul_left, min-eq_left, min-eq_right, eq_of_mul-eq-mul_left, le-div_iff_mul-le, div-lt_iff_lt-mul, div-eq_of_lt-le, div-zero}
+use Rattle.std.proofs.lemmas.List.Sums.{length-filter}
 use Rattle.yds_model.specs.Job.{Job, job_at}
 use Rattle.yds_model.specs.Slot.{WrittenSlot, WholeSlot, IsScale, slots_at, work_given, no_slot, slot_at}
 use Rattle.yds_model.specs.Piece.{Piece}
 use Rattle.yds_model.specs.Event.{stretches, LiesIn, IsUncut}
 use Rattle.yds_model.specs.EarliestFirst.{IsFirstDue, EarliestAfter}
 use Rattle.yds_model.specs.Plan.{IsServedInStretches}
-use Rattle.yds_model.specs.Policy.{pending_at, numbers_of, slots_in, FillsAtSpeed, ServesCapacity, IsRunAt}
+use Rattle.yds_model.specs.Policy.{div_up, pending_at, numbers_of, slots_in, FillsAtSpeed, ServesCapacity, IsRunAt}
 use Rattle.yds_model.specs.AverageRate.{terms_of, pending_units, average_rate}
+use Rattle.yds_model.specs.OptimalAvailable.{pending_jobs, due_units, pending_deadlines, asked, units_asked, optimal_available, optimal_available_rounds}
 use Rattle.yds_model.proofs.Sums.{sum_by-mul, sum_by_same}
 use Rattle.yds_model.proofs.Scale.{finer, finer_slots, finer_work, shifted, feasible_finer}
 
@@ -35,6 +37,48 @@ min_scaled k a b = elim (cases_lt b a) [
   | inl less ↦ min-eq_right (mul-le-mul_left k (omega arith)) ∙ ap (λ n. k * n) (sym (min-eq_right (omega arith)))
   | inr more ↦ min-eq_left (mul-le-mul_left k more) ∙ ap (λ n. k * n) (sym (min-eq_left more))
 ]
+
+eq_scaled : (k a b : ℕ) → 1 ≤ k → (k * a == k * b) ≡ (a == b)
+eq_scaled k a b some = elim (cases_eq a b) [
+  | inl same ↦ eq-eqb (k * a) (k * b) (ap (λ n. k * n) same) ∙ sym (eq-eqb a b same)
+  | inr other ↦ ne_eqb (k * a) (k * b) (λ both. other (eq_of_mul-eq-mul_left k some a b both)) ∙ sym (ne_eqb a b other)
+]
+
+positive_scaled : (k a : ℕ) → 1 ≤ k → nat_lt 0 (k * a) ≡ nat_lt 0 a
+positive_scaled k a some = ap (λ n. nat_lt n (k * a)) (sym (mul-zero k)) ∙ lt_scaled k 0 a some
+
+-- bounds of a quotient that is rounded up, without what is taken off
+ceiling_low : (x y n : ℕ) → 1 ≤ y → n * y ≤ x + (y - 1) → n * y + 1 ≤ x + y
+ceiling_low x y n positive low = omega arith
+
+ceiling_high : (x y n : ℕ) → 1 ≤ y → x + (y - 1) < (n + 1) * y → x + y ≤ (n + 1) * y
+ceiling_high x y n positive high = omega arith
+
+-- a quotient of two numbers that are both multiplied by k is rounded up to what it was
+ceiling_scaled : (k x y n : ℕ) → 1 ≤ k → 1 ≤ y → n ≡ div_up x y → div_up (k * x) (k * y) ≡ n
+ceiling_scaled k x y n some positive is =
+    let low : n * y ≤ x + (y - 1) = (le-div_iff_mul-le {k = y} {x = n} {y = x + (y - 1)} positive).0 (omega (arith, is)) in
+    let high : x + (y - 1) < (n + 1) * y = (div-lt_iff_lt-mul {k = y} {x = x + (y - 1)} {y = n + 1} positive).0 (omega (arith, is)) in
+    let more : 1 ≤ k * y = mul-pos some positive in
+    div-eq_of_lt-le (k * y)
+    (omega (arith, more, mul-le-mul_left k (ceiling_low x y n positive low)))
+    (omega (arith, more, mul-le-mul_left k (ceiling_high x y n positive high)))
+
+div_up_scaled : (k x y : ℕ) → 1 ≤ k → div_up (k * x) (k * y) ≡ div_up x y
+div_up_scaled k x zero some = rw (mul-zero k) (div-zero (k * x + (0 - 1)) ∙ sym (div-zero (x + (0 - 1))))
+div_up_scaled k x (suc y) some = ceiling_scaled k x (suc y) (div_up x (suc y)) some (omega arith) refl
+
+-- functions that agree at each element give the same list, the same answer for all and the same count
+map_agree : {X Y : Type 0} (f g : X → Y) → ((x : X) → f x ≡ g x) → (xs : List X) → map f xs ≡ map g xs
+map_agree f g same [] = refl
+map_agree f g same (x ∷ xs) = rw (same x, map_agree f g same xs) refl
+
+list_all_agree : {X : Type 0} (p q : X → Bool) → ((x : X) → p x ≡ q x) → (xs : List X) → list_all p xs ≡ list_all q xs
+list_all_agree p q same [] = refl
+list_all_agree p q same (x ∷ xs) = rw (same x, list_all_agree p q same xs) refl
+
+count_by_agree : {X : Type 0} (p q : X → Bool) → ((x : X) → p x ≡ q x) → (xs : List X) → count_by p xs ≡ count_by q xs
+count_by_agree p q same xs = sym (length-filter p xs) ∙ ap length (filter_agree p q same xs) ∙ length-filter q xs
 
 -- a capacity that isn't 0 is served where its slots fill the stretch
 serves_some : (grid scale capacity : ℕ) (stretch : Piece) (slots : List WholeSlot) → 1 ≤ capacity →
@@ -74,6 +118,9 @@ module _ (jobs : List Job) (k scale : ℕ) (some : 1 ≤ k) where
   swapped : (grid pending : ℕ) → grid * (k * pending) ≡ k * (grid * pending)
   swapped grid pending = omega arith
 
+  scaled_length : (due len : ℕ) → k * due * len ≡ k * (due * len)
+  scaled_length due len = omega arith
+
   grouped : (terms : ℕ) → k * scale * terms ≡ k * (scale * terms)
   grouped terms = omega arith
 
@@ -82,7 +129,7 @@ module _ (jobs : List Job) (k scale : ℕ) (some : 1 ≤ k) where
       pending_at jobs (k * scale) (map (finer k) slots) time job ≡ k * pending_at jobs scale slots time job
   pending_finer slots time job =
       let done = filter_finer k (λ slot. nat_le slot.to (time * (k * scale))) (λ slot. nat_le slot.to (time * scale))
-          (λ slot. rw (shifted time k scale) (le_scaled k slot.to (time * scale) some)) slots in
+      (λ slot. rw (shifted time k scale) (le_scaled k slot.to (time * scale) some)) slots in
       rw (done, finer_work k (filter (λ slot. nat_le slot.to (time * scale)) slots) job, shifted (job_at jobs job).work k scale)
       (sym (mul-sub k ((job_at jobs job).work * scale) (work_given (filter (λ slot. nat_le slot.to (time * scale)) slots) job)))
 
@@ -101,8 +148,12 @@ module _ (jobs : List Job) (k scale : ℕ) (some : 1 ≤ k) where
   slots_in_finer stretch slots =
       filter_finer k (λ slot. nat_le (stretch.from * (k * scale)) slot.from && nat_le slot.to (stretch.to * (k * scale)))
       (λ slot. nat_le (stretch.from * scale) slot.from && nat_le slot.to (stretch.to * scale))
-      (λ slot. rw (shifted stretch.from k scale, shifted stretch.to k scale, le_scaled k (stretch.from * scale) slot.from some,
-      le_scaled k slot.to (stretch.to * scale) some) refl) slots
+      (λ slot. rw (
+        shifted stretch.from k scale,
+        shifted stretch.to k scale,
+        le_scaled k (stretch.from * scale) slot.from some,
+        le_scaled k slot.to (stretch.to * scale) some,
+      ) refl) slots
 
   -- a stretch that serves so much serves k times as much
   serves_finer : (grid capacity : ℕ) (stretch : Piece) (slots : List WholeSlot) → ServesCapacity grid scale capacity stretch slots →
@@ -185,3 +236,92 @@ module _ (jobs : List Job) (k scale : ℕ) (some : 1 ≤ k) where
       (ap (λ n. min n (k * scale * terms_of jobs grid stretch)) (swapped grid (sum_by (λ job. pending_at jobs scale slots stretch.from job) live))
       ∙ ap (λ n. min (k * pending_units jobs grid scale slots stretch) n) (grouped (terms_of jobs grid stretch))
       ∙ min_scaled k (pending_units jobs grid scale slots stretch) (scale * terms_of jobs grid stretch))
+
+  -- what Optimal Available looks at: the jobs that are pending, and by when
+  pending_jobs_finer : (slots : List WholeSlot) (stretch : Piece) →
+      pending_jobs jobs (k * scale) (map (finer k) slots) stretch ≡ pending_jobs jobs scale slots stretch
+  pending_jobs_finer slots stretch =
+      filter_agree (λ job. nat_le (job_at jobs job).release stretch.from && nat_lt 0 (pending_at jobs (k * scale) (map (finer k) slots) stretch.from job))
+      (λ job. nat_le (job_at jobs job).release stretch.from && nat_lt 0 (pending_at jobs scale slots stretch.from job))
+      (λ job. rw (pending_finer slots stretch.from job, positive_scaled k (pending_at jobs scale slots stretch.from job) some) refl) (numbers_of jobs)
+
+  due_units_finer : (grid : ℕ) (slots : List WholeSlot) (stretch : Piece) (deadline : ℕ) →
+      due_units jobs grid (k * scale) (map (finer k) slots) stretch deadline ≡ k * due_units jobs grid scale slots stretch deadline
+  due_units_finer grid slots stretch deadline =
+      let due = filter (λ job. nat_le (job_at jobs job).deadline deadline) (pending_jobs jobs scale slots stretch) in
+      rw (pending_jobs_finer slots stretch, pending_sum_finer slots stretch.from due)
+      (swapped grid (sum_by (λ job. pending_at jobs scale slots stretch.from job) due))
+
+  pending_deadlines_finer : (slots : List WholeSlot) (stretch : Piece) →
+      pending_deadlines jobs (k * scale) (map (finer k) slots) stretch ≡ pending_deadlines jobs scale slots stretch
+  pending_deadlines_finer slots stretch = ap (λ numbers. map (λ job. (job_at jobs job).deadline) numbers) (pending_jobs_finer slots stretch)
+
+  -- each deadline asks for as many units
+  asked_finer : (grid : ℕ) (slots : List WholeSlot) (stretch : Piece) (deadline : ℕ) →
+      asked jobs grid (k * scale) (map (finer k) slots) stretch deadline ≡ asked jobs grid scale slots stretch deadline
+  asked_finer grid slots stretch deadline =
+      let due = due_units jobs grid scale slots stretch deadline in
+      rw (due_units_finer grid slots stretch deadline, grouped (deadline - stretch.from), scaled_length due (stretch.to - stretch.from))
+      (div_up_scaled k (due * (stretch.to - stretch.from)) (scale * (deadline - stretch.from)) some)
+
+  units_asked_finer : (grid : ℕ) (slots : List WholeSlot) (stretch : Piece) →
+      units_asked jobs grid (k * scale) (map (finer k) slots) stretch ≡ units_asked jobs grid scale slots stretch
+  units_asked_finer grid slots stretch =
+      rw (
+        pending_deadlines_finer slots stretch,
+        map_agree (asked jobs grid (k * scale) (map (finer k) slots) stretch)
+            (asked jobs grid scale slots stretch) (asked_finer grid slots stretch) (pending_deadlines jobs scale slots stretch),
+      ) refl
+
+  -- so its capacities are k times what they were, and it rounds where it did
+  optimal_available_finer : (grid : ℕ) (slots : List WholeSlot) (stretch : Piece) →
+      optimal_available jobs grid (k * scale) (map (finer k) slots) stretch ≡ k * optimal_available jobs grid scale slots stretch
+  optimal_available_finer grid slots stretch = rw (units_asked_finer grid slots stretch) (grouped (units_asked jobs grid scale slots stretch))
+
+  rounds_finer : (grid : ℕ) (slots : List WholeSlot) (stretch : Piece) →
+      optimal_available_rounds jobs grid (k * scale) (map (finer k) slots) stretch ≡ optimal_available_rounds jobs grid scale slots stretch
+  rounds_finer grid slots stretch =
+      let units = units_asked jobs grid scale slots stretch in
+      let fine = λ (deadline : ℕ). not (due_units jobs grid (k * scale) (map (finer k) slots) stretch deadline * (stretch.to - stretch.from)
+      == units * (k * scale * (deadline - stretch.from))) in
+      let test = λ (deadline : ℕ). not (due_units jobs grid scale slots stretch deadline * (stretch.to - stretch.from)
+      == units * (scale * (deadline - stretch.from))) in
+      let agree : list_all fine (pending_deadlines jobs scale slots stretch) ≡ list_all test (pending_deadlines jobs scale slots stretch) =
+      list_all_agree fine test (λ deadline. rw (
+        due_units_finer grid slots stretch deadline,
+        scaled_length (due_units jobs grid scale slots stretch deadline) (stretch.to - stretch.from),
+        grouped (deadline - stretch.from),
+        swapped units (scale * (deadline - stretch.from)),
+        eq_scaled k (due_units jobs grid scale slots stretch deadline * (stretch.to - stretch.from)) (units * (scale * (deadline - stretch.from))) some,
+      ) refl)
+      (pending_deadlines jobs scale slots stretch) in
+      rw (units_asked_finer grid slots stretch, pending_deadlines_finer slots stretch, agree) refl
+
+-- Average Rate: a written run at a scale is one at each multiple of it
+pub average_rate_run_scaled : (jobs : List Job) (grid k scale : ℕ) (slots : List WrittenSlot) → 1 ≤ k → IsScale scale slots →
+    IsRunAt jobs grid scale (average_rate jobs grid scale (slots_at scale slots)) (slots_at scale slots) →
+    IsRunAt jobs grid (k * scale) (average_rate jobs grid (k * scale) (slots_at (k * scale) slots)) (slots_at (k * scale) slots)
+average_rate_run_scaled jobs grid k scale slots some is run =
+    let whole = slots_at scale slots in
+    subst (λ fine. IsRunAt jobs grid (k * scale) (average_rate jobs grid (k * scale) fine) fine) (sym (finer_slots k scale slots is))
+    (run_finer jobs k scale some grid (average_rate jobs grid scale whole) (average_rate jobs grid (k * scale) (map (finer k) whole)) whole
+    (average_rate_finer jobs k scale some grid whole) run)
+
+-- Optimal Available: the same
+pub optimal_available_run_scaled : (jobs : List Job) (grid k scale : ℕ) (slots : List WrittenSlot) → 1 ≤ k → IsScale scale slots →
+    IsRunAt jobs grid scale (optimal_available jobs grid scale (slots_at scale slots)) (slots_at scale slots) →
+    IsRunAt jobs grid (k * scale) (optimal_available jobs grid (k * scale) (slots_at (k * scale) slots)) (slots_at (k * scale) slots)
+optimal_available_run_scaled jobs grid k scale slots some is run =
+    let whole = slots_at scale slots in
+    subst (λ fine. IsRunAt jobs grid (k * scale) (optimal_available jobs grid (k * scale) fine) fine) (sym (finer_slots k scale slots is))
+    (run_finer jobs k scale some grid (optimal_available jobs grid scale whole) (optimal_available jobs grid (k * scale) (map (finer k) whole)) whole
+    (optimal_available_finer jobs k scale some grid whole) run)
+
+-- and it rounds at as many event points
+pub optimal_available_rounds_scaled : (jobs : List Job) (grid k scale : ℕ) (slots : List WrittenSlot) → 1 ≤ k → IsScale scale slots →
+    count_by (optimal_available_rounds jobs grid (k * scale) (slots_at (k * scale) slots)) (stretches jobs)
+    ≡ count_by (optimal_available_rounds jobs grid scale (slots_at scale slots)) (stretches jobs)
+optimal_available_rounds_scaled jobs grid k scale slots some is =
+    ap (λ fine. count_by (optimal_available_rounds jobs grid (k * scale) fine) (stretches jobs)) (finer_slots k scale slots is)
+    ∙ count_by_agree (optimal_available_rounds jobs grid (k * scale) (map (finer k) (slots_at scale slots)))
+    (optimal_available_rounds jobs grid scale (slots_at scale slots)) (rounds_finer jobs k scale some grid (slots_at scale slots)) (stretches jobs)
