@@ -17,6 +17,7 @@ use Rattle.yds_model.proofs.OneJudgement.{judgement_is_unique}
 abbrev jobs : List Job
 jobs = record { release = 0; deadline = 10; work = 10 } ∷ record { release = 4; deadline = 6; work = 6 } ∷ []
 
+-- a runs before and after b
 abbrev slots : List WrittenSlot
 slots =
     record { job = 0; from = of_whole 0; to = of_whole 4; work = of_whole 5 }
@@ -28,6 +29,7 @@ after_first : IsAfterOthers slots 1
 after_first zero next = omega arith
 after_first (suc before) next = absurd (omega arith)
 
+-- the third too
 after_second : IsAfterOthers slots 2
 after_second zero next = absurd (omega arith)
 after_second (suc zero) next = omega arith
@@ -53,9 +55,11 @@ too_little = record { stand = stand; within = omega arith; before = served_befor
 abbrev lone_job : List Job
 lone_job = record { release = 0; deadline = 4; work = 4 } ∷ []
 
+-- a's slot
 abbrev lone_slot : List WrittenSlot
 lone_slot = record { job = 0; from = of_whole 0; to = of_whole 2; work = of_whole 4 } ∷ []
 
+-- the level, whose one piece ends at 2
 abbrev lone_level : List Level
 lone_level = record { work = 4; length = 2; pieces = record { from = 0; to = 2 } ∷ []; members = 0 ∷ [] } ∷ []
 
@@ -64,6 +68,7 @@ lone_stands : (i : ℕ) → i < 1 → Stands lone_job None lone_slot i
 lone_stands zero within = record { forward = omega arith; after = λ before next. absurd (omega arith); released = omega arith; due = omega arith; on_table = tt }
 lone_stands (suc i) within = absurd (omega arith)
 
+-- and gets its work
 lone_served : (job : ℕ) → job < 1 → GetsItsWork lone_job lone_slot job
 lone_served zero within = refl
 lone_served (suc job) within = absurd (omega arith)
@@ -73,14 +78,17 @@ lone_pieces : (i : ℕ) → i < 1 → PiecesStand lone_level i
 lone_pieces zero within = record { some = omega arith; in_order = (omega arith, omega arith, tt); apart = λ k one inside. All-from_recursion (AreApart _) [] tt }
 lone_pieces (suc i) within = absurd (omega arith)
 
+-- a is a member of it, once
 lone_member : (job : ℕ) → job < 1 → StandsOnce lone_job lone_level job
 lone_member zero within = record { at_most_once = omega arith; with_work = λ some. refl }
 lone_member (suc job) within = absurd (omega arith)
 
+-- its work is a's, and its length its piece's
 lone_sums : (i : ℕ) → i < 1 → SumsAgree lone_job lone_level i
 lone_sums zero within = record { work = refl; length = refl }
 lone_sums (suc i) within = absurd (omega arith)
 
+-- and there is none before it
 lone_order : (i : ℕ) → i < 1 → IsNotFaster lone_level i
 lone_order i within before next = absurd (omega arith)
 
@@ -89,6 +97,7 @@ too_short : (k : ℕ) (one : Piece) → k < 1 → slice_index_or (record { from 
 too_short zero one within is due = absurd (omega (arith, ap (λ (piece : Piece). piece.to) is))
 too_short (suc k) one within is due = absurd (omega arith)
 
+-- so a's window isn't covered
 left_out : IsWindowCovered lone_job lone_level 0 → ⊥
 left_out covered =
     let some = covered 0 (omega arith) (0, omega arith, refl) 2 (omega arith) (omega arith) in
@@ -105,5 +114,6 @@ not_covered = (
 not_accepted : IsJudgement lone_job lone_slot lone_level Accepted → ⊥
 not_accepted accepted = left_out (accepted.0.1 0 (omega arith))
 
+-- by the law that judgements are unique: each judgement is this one
 just_one : (judgement : Judgement) → IsJudgement lone_job lone_slot lone_level judgement → judgement ≡ Window 0
 just_one judgement is = judgement_is_unique lone_job lone_slot lone_level judgement (Window 0) is not_covered

@@ -26,31 +26,36 @@ le_scaled k a b some = elim (cases_lt b a) [
   | inr more ↦ le-leb (k * a) (k * b) (mul-le-mul_left k more) ∙ sym (le-leb a b more)
 ]
 
+-- and so is the strict order
 lt_scaled : (k a b : ℕ) → 1 ≤ k → nat_lt (k * a) (k * b) ≡ nat_lt a b
 lt_scaled k a b some = elim (cases_lt a b) [
   | inl less ↦ lt-ltb (k * a) (k * b) (mul-lt-mul_of_pos_left less some) ∙ sym (lt-ltb a b less)
   | inr more ↦ le-ltb (k * a) (k * b) (mul-le-mul_left k more) ∙ sym (le-ltb a b more)
 ]
 
+-- the lesser of two multiples is the multiple of the lesser
 min_scaled : (k a b : ℕ) → min (k * a) (k * b) ≡ k * min a b
 min_scaled k a b = elim (cases_lt b a) [
   | inl less ↦ min-eq_right (mul-le-mul_left k (omega arith)) ∙ ap (λ n. k * n) (sym (min-eq_right (omega arith)))
   | inr more ↦ min-eq_left (mul-le-mul_left k more) ∙ ap (λ n. k * n) (sym (min-eq_left more))
 ]
 
+-- multiples are equal where the numbers are
 eq_scaled : (k a b : ℕ) → 1 ≤ k → (k * a == k * b) ≡ (a == b)
 eq_scaled k a b some = elim (cases_eq a b) [
   | inl same ↦ eq-eqb (k * a) (k * b) (ap (λ n. k * n) same) ∙ sym (eq-eqb a b same)
   | inr other ↦ ne_eqb (k * a) (k * b) (λ both. other (eq_of_mul-eq-mul_left k some a b both)) ∙ sym (ne_eqb a b other)
 ]
 
+-- and positive where they are
 positive_scaled : (k a : ℕ) → 1 ≤ k → nat_lt 0 (k * a) ≡ nat_lt 0 a
 positive_scaled k a some = ap (λ n. nat_lt n (k * a)) (sym (mul-zero k)) ∙ lt_scaled k 0 a some
 
--- bounds of a quotient that is rounded up, without what is taken off
+-- the bounds of a quotient that is rounded up: the lower one
 ceiling_low : (x y n : ℕ) → 1 ≤ y → n * y ≤ x + (y - 1) → n * y + 1 ≤ x + y
 ceiling_low x y n positive low = omega arith
 
+-- the upper bound
 ceiling_high : (x y n : ℕ) → 1 ≤ y → x + (y - 1) < (n + 1) * y → x + y ≤ (n + 1) * y
 ceiling_high x y n positive high = omega arith
 
@@ -64,19 +69,22 @@ ceiling_scaled k x y n some positive is =
     (omega (arith, more, mul-le-mul_left k (ceiling_low x y n positive low)))
     (omega (arith, more, mul-le-mul_left k (ceiling_high x y n positive high)))
 
+-- so for each divisor, also 0
 div_up_scaled : (k x y : ℕ) → 1 ≤ k → div_up (k * x) (k * y) ≡ div_up x y
 div_up_scaled k x zero some = rw (mul-zero k) (div-zero (k * x + (0 - 1)) ∙ sym (div-zero (x + (0 - 1))))
 div_up_scaled k x (suc y) some = ceiling_scaled k x (suc y) (div_up x (suc y)) some (omega arith) refl
 
--- functions that agree at each element give the same list, the same answer for all and the same count
+-- functions that agree at each element give the same list
 map_agree : {X Y : Type 0} (f g : X → Y) → ((x : X) → f x ≡ g x) → (xs : List X) → map f xs ≡ map g xs
 map_agree f g same [] = refl
 map_agree f g same (x ∷ xs) = rw (same x, map_agree f g same xs) refl
 
+-- the same answer for all
 list_all_agree : {X : Type 0} (p q : X → Bool) → ((x : X) → p x ≡ q x) → (xs : List X) → list_all p xs ≡ list_all q xs
 list_all_agree p q same [] = refl
 list_all_agree p q same (x ∷ xs) = rw (same x, list_all_agree p q same xs) refl
 
+-- the same count
 count_by_agree : {X : Type 0} (p q : X → Bool) → ((x : X) → p x ≡ q x) → (xs : List X) → count_by p xs ≡ count_by q xs
 count_by_agree p q same xs = sym (length-filter p xs) ∙ ap length (filter_agree p q same xs) ∙ length-filter q xs
 
@@ -93,6 +101,7 @@ kept_finer : (k : ℕ) (kept : Bool) (slot : WholeSlot) (slots : List WholeSlot)
 kept_finer k true slot slots = refl
 kept_finer k false slot slots = refl
 
+-- so the filtered finer slots are the finer filtered ones
 filter_finer : (k : ℕ) (fine test : WholeSlot → Bool) → ((slot : WholeSlot) → fine (finer k slot) ≡ test slot) → (slots : List WholeSlot) →
     filter fine (map (finer k) slots) ≡ map (finer k) (filter test slots)
 filter_finer k fine test same [] = refl
@@ -115,14 +124,9 @@ fills_finer k capacity per from to (slot ∷ slots) fills = (
 )
 
 module _ (jobs : List Job) (k scale : ℕ) (some : 1 ≤ k) where
-  swapped : (grid pending : ℕ) → grid * (k * pending) ≡ k * (grid * pending)
-  swapped grid pending = omega arith
-
-  scaled_length : (due len : ℕ) → k * due * len ≡ k * (due * len)
-  scaled_length due len = omega arith
-
-  grouped : (terms : ℕ) → k * scale * terms ≡ k * (scale * terms)
-  grouped terms = omega arith
+  -- a product with k in front is k times the product
+  grouped : (a b : ℕ) → k * a * b ≡ k * (a * b)
+  grouped a b = omega arith
 
   -- work that is pending, in parts that are k times as fine
   pending_finer : (slots : List WholeSlot) (time job : ℕ) →
@@ -189,12 +193,14 @@ module _ (jobs : List Job) (k scale : ℕ) (some : 1 ≤ k) where
     to = rw (shifted stretch.to k scale) (mul-le-mul_left k lies.to);
   }
 
+  -- and back
   lies_coarser : (slot : WholeSlot) (stretch : Piece) → LiesIn (k * scale) (finer k slot) stretch → LiesIn scale slot stretch
   lies_coarser slot stretch lies = record {
     from = le_of_mul-le-mul_left (rw (shifted stretch.from k scale) at lies.from) some;
     to = le_of_mul-le-mul_left (rw (shifted stretch.to k scale) at lies.to) some;
   }
 
+  -- so a slot that lies in one stretch still does
   uncut_finer : (slot : WholeSlot) → IsUncut jobs scale slot → IsUncut jobs (k * scale) (finer k slot)
   uncut_finer slot uncut = (uncut.0, uncut.1, uncut.2, uncut.3, lies_finer slot uncut.1 uncut.4)
 
@@ -202,6 +208,7 @@ module _ (jobs : List Job) (k scale : ℕ) (some : 1 ≤ k) where
   finer_read : (slots : List WholeSlot) (i : ℕ) → i < length slots → slot_at (map (finer k) slots) i ≡ finer k (slot_at slots i)
   finer_read slots i within = get_or-map (finer k) slots i no_slot no_slot within
 
+  -- so slots that are served in stretches still are
   served_finer : (slots : List WholeSlot) → IsServedInStretches jobs scale slots → IsServedInStretches jobs (k * scale) (map (finer k) slots)
   served_finer slots served = record {
     earliest_first = earliest_finer [] slots served.earliest_first;
@@ -233,8 +240,8 @@ module _ (jobs : List Job) (k scale : ℕ) (some : 1 ≤ k) where
   average_rate_finer grid slots stretch =
       let live = filter (λ job. nat_le (job_at jobs job).release stretch.from) (numbers_of jobs) in
       rw (pending_sum_finer slots stretch.from live)
-      (ap (λ n. min n (k * scale * terms_of jobs grid stretch)) (swapped grid (sum_by (λ job. pending_at jobs scale slots stretch.from job) live))
-      ∙ ap (λ n. min (k * pending_units jobs grid scale slots stretch) n) (grouped (terms_of jobs grid stretch))
+      (ap (λ n. min n (k * scale * terms_of jobs grid stretch)) (shifted grid k (sum_by (λ job. pending_at jobs scale slots stretch.from job) live))
+      ∙ ap (λ n. min (k * pending_units jobs grid scale slots stretch) n) (grouped scale (terms_of jobs grid stretch))
       ∙ min_scaled k (pending_units jobs grid scale slots stretch) (scale * terms_of jobs grid stretch))
 
   -- what Optimal Available looks at: the jobs that are pending, and by when
@@ -245,13 +252,15 @@ module _ (jobs : List Job) (k scale : ℕ) (some : 1 ≤ k) where
       (λ job. nat_le (job_at jobs job).release stretch.from && nat_lt 0 (pending_at jobs scale slots stretch.from job))
       (λ job. rw (pending_finer slots stretch.from job, positive_scaled k (pending_at jobs scale slots stretch.from job) some) refl) (numbers_of jobs)
 
+  -- what is due by a deadline, in finer parts
   due_units_finer : (grid : ℕ) (slots : List WholeSlot) (stretch : Piece) (deadline : ℕ) →
       due_units jobs grid (k * scale) (map (finer k) slots) stretch deadline ≡ k * due_units jobs grid scale slots stretch deadline
   due_units_finer grid slots stretch deadline =
       let due = filter (λ job. nat_le (job_at jobs job).deadline deadline) (pending_jobs jobs scale slots stretch) in
       rw (pending_jobs_finer slots stretch, pending_sum_finer slots stretch.from due)
-      (swapped grid (sum_by (λ job. pending_at jobs scale slots stretch.from job) due))
+      (shifted grid k (sum_by (λ job. pending_at jobs scale slots stretch.from job) due))
 
+  -- and the deadlines
   pending_deadlines_finer : (slots : List WholeSlot) (stretch : Piece) →
       pending_deadlines jobs (k * scale) (map (finer k) slots) stretch ≡ pending_deadlines jobs scale slots stretch
   pending_deadlines_finer slots stretch = ap (λ numbers. map (λ job. (job_at jobs job).deadline) numbers) (pending_jobs_finer slots stretch)
@@ -261,9 +270,10 @@ module _ (jobs : List Job) (k scale : ℕ) (some : 1 ≤ k) where
       asked jobs grid (k * scale) (map (finer k) slots) stretch deadline ≡ asked jobs grid scale slots stretch deadline
   asked_finer grid slots stretch deadline =
       let due = due_units jobs grid scale slots stretch deadline in
-      rw (due_units_finer grid slots stretch deadline, grouped (deadline - stretch.from), scaled_length due (stretch.to - stretch.from))
+      rw (due_units_finer grid slots stretch deadline, grouped scale (deadline - stretch.from), grouped due (stretch.to - stretch.from))
       (div_up_scaled k (due * (stretch.to - stretch.from)) (scale * (deadline - stretch.from)) some)
 
+  -- so the greatest number is the same
   units_asked_finer : (grid : ℕ) (slots : List WholeSlot) (stretch : Piece) →
       units_asked jobs grid (k * scale) (map (finer k) slots) stretch ≡ units_asked jobs grid scale slots stretch
   units_asked_finer grid slots stretch =
@@ -276,8 +286,9 @@ module _ (jobs : List Job) (k scale : ℕ) (some : 1 ≤ k) where
   -- so its capacities are k times what they were, and it rounds where it did
   optimal_available_finer : (grid : ℕ) (slots : List WholeSlot) (stretch : Piece) →
       optimal_available jobs grid (k * scale) (map (finer k) slots) stretch ≡ k * optimal_available jobs grid scale slots stretch
-  optimal_available_finer grid slots stretch = rw (units_asked_finer grid slots stretch) (grouped (units_asked jobs grid scale slots stretch))
+  optimal_available_finer grid slots stretch = rw (units_asked_finer grid slots stretch) (grouped scale (units_asked jobs grid scale slots stretch))
 
+  -- where no deadline asked just that much, none does
   rounds_finer : (grid : ℕ) (slots : List WholeSlot) (stretch : Piece) →
       optimal_available_rounds jobs grid (k * scale) (map (finer k) slots) stretch ≡ optimal_available_rounds jobs grid scale slots stretch
   rounds_finer grid slots stretch =
@@ -289,9 +300,9 @@ module _ (jobs : List Job) (k scale : ℕ) (some : 1 ≤ k) where
       let agree : list_all fine (pending_deadlines jobs scale slots stretch) ≡ list_all test (pending_deadlines jobs scale slots stretch) =
       list_all_agree fine test (λ deadline. rw (
         due_units_finer grid slots stretch deadline,
-        scaled_length (due_units jobs grid scale slots stretch deadline) (stretch.to - stretch.from),
-        grouped (deadline - stretch.from),
-        swapped units (scale * (deadline - stretch.from)),
+        grouped (due_units jobs grid scale slots stretch deadline) (stretch.to - stretch.from),
+        grouped scale (deadline - stretch.from),
+        shifted units k (scale * (deadline - stretch.from)),
         eq_scaled k (due_units jobs grid scale slots stretch deadline * (stretch.to - stretch.from)) (units * (scale * (deadline - stretch.from))) some,
       ) refl)
       (pending_deadlines jobs scale slots stretch) in

@@ -19,26 +19,31 @@ use Rattle.yds_model.specs.Judgement.{Accepted, HasWrittenSpeed, IsJudgement}
 use Rattle.yds_model.proofs.Scale.{one_scale_decides}
 use Rattle.yds_model.proofs.Judgements.{speeds_at_scale, judgement_is_exact}
 
--- the jobs and their slots
+-- the jobs a, b and c
 abbrev jobs : List Job
 jobs = record { release = 0; deadline = 12; work = 4 } ∷ record { release = 2; deadline = 10; work = 8 } ∷ record { release = 4; deadline = 6; work = 6 } ∷ []
 
+-- a fraction in thirds
 abbrev third : ℕ → ℕ → Fraction
 third whole num = record { whole = whole; num = num; den = 3 }
 
+-- a slot with whole ends
 abbrev slot : ℕ → ℕ → ℕ → Fraction → WrittenSlot
 slot job from to work = record { job = job; from = of_whole from; to = of_whole to; work = work }
 
+-- the slots
 abbrev slots : List WrittenSlot
 slots = slot 0 0 2 (of_whole 2) ∷ slot 1 2 4 (third 2 2) ∷ slot 2 4 6 (of_whole 6) ∷ slot 1 6 10 (third 5 1) ∷ slot 0 10 12 (of_whole 2) ∷ []
 
--- at scale 3 the slots run one after another, and b gets three times its work
+-- at scale 3 the slots run one after another
 in_turn : RunFrom 0 (slots_at 3 slots)
 in_turn = search arith
 
+-- b gets 8, in thirds
 served_b : work_given (slots_at 3 slots) 1 ≡ 24
 served_b = refl
 
+-- and 8 as it is written
 given_b : given_of slots 1 ≡ of_whole 8
 given_b = refl
 
@@ -84,6 +89,7 @@ feasible_at_each = one_scale_decides jobs slots 3 thirds feasible
 abbrev longer : List WrittenSlot
 longer = slot 0 0 3 (of_whole 2) ∷ slot 1 2 4 (third 2 2) ∷ []
 
+-- so the slots don't run one after another
 not_in_turn : RunFrom 0 (slots_at 3 longer) → ⊥
 not_in_turn run = absurd (omega (arith, run.2))
 
@@ -91,22 +97,27 @@ not_in_turn run = absurd (omega (arith, run.2))
 abbrev more : List WrittenSlot
 more = slot 0 0 2 (of_whole 2) ∷ slot 1 2 4 (third 3 2) ∷ slot 2 4 6 (of_whole 6) ∷ slot 1 6 10 (third 5 1) ∷ slot 0 10 12 (of_whole 2) ∷ []
 
+-- so b gets a unit more than it wants
 not_served : work_given (slots_at 3 more) 1 ≡ 27
 not_served = refl
 
--- the excess above the speeds 0, 1, 4/3, 2 and 3, times the speed's denominator and the scale
+-- The excess above five speeds, times the speed's denominator and the scale: above 0 all work.
 above_0 : excess 0 1 (slots_at 3 slots) ≡ 54
 above_0 = refl
 
+-- above 1 six units
 above_1 : excess 1 1 (slots_at 3 slots) ≡ 18
 above_1 = refl
 
+-- above 4/3 ten thirds
 above_4_3 : excess 4 3 (slots_at 3 slots) ≡ 30
 above_4_3 = refl
 
+-- above 2 two
 above_2 : excess 2 1 (slots_at 3 slots) ≡ 6
 above_2 = refl
 
+-- above 3 nothing
 above_3 : excess 3 1 (slots_at 3 slots) ≡ 0
 above_3 = refl
 
@@ -114,15 +125,19 @@ above_3 = refl
 abbrev piece : ℕ → ℕ → Piece
 piece from to = record { from = from; to = to }
 
+-- c's level
 abbrev level_c : Level
 level_c = record { work = 6; length = 2; pieces = piece 4 6 ∷ []; members = 2 ∷ [] }
 
+-- b's level
 abbrev level_b : Level
 level_b = record { work = 8; length = 6; pieces = piece 2 4 ∷ piece 6 10 ∷ []; members = 1 ∷ [] }
 
+-- a's level
 abbrev level_a : Level
 level_a = record { work = 4; length = 4; pieces = piece 0 2 ∷ piece 10 12 ∷ []; members = 0 ∷ [] }
 
+-- fastest first
 abbrev levels : List Level
 levels = level_c ∷ level_b ∷ level_a ∷ []
 
@@ -319,10 +334,11 @@ are_slots = record {
 accepted : IsJudgement jobs slots levels Accepted
 accepted = (judgement_is_exact jobs slots levels are_slots well_formed).1 proper
 
--- above the speed 1 stand the first two levels, above 4/3 the first alone
+-- above the speed 1 stand the first two levels
 above_one : levels_above 1 1 levels ≡ level_c ∷ level_b ∷ []
 above_one = refl
 
+-- 4/3 is the second level's speed, so it isn't above it
 above_four_thirds : levels_above 4 3 levels ≡ level_c ∷ []
 above_four_thirds = refl
 
@@ -330,22 +346,27 @@ above_four_thirds = refl
 not_in_order : IsProper jobs slots (level_c ∷ level_a ∷ level_b ∷ []) → ⊥
 not_in_order proper = absurd (omega (arith, proper.order 2 (omega arith) 1 refl))
 
--- b made a member of the first level, b's second piece cut by one, and b's work raised by one: a sum doesn't agree
+-- b made a member of the first level besides
 abbrev two_members : Level
 two_members = record { work = 6; length = 2; pieces = piece 4 6 ∷ []; members = 2 ∷ 1 ∷ [] }
 
+-- the work isn't its members'
 not_its_members : IsProper jobs slots (two_members ∷ level_b ∷ level_a ∷ []) → ⊥
 not_its_members proper = absurd (omega (arith, (proper.sums 0 (omega arith)).work))
 
+-- b's second piece cut by one
 abbrev shorter : Level
 shorter = record { work = 8; length = 6; pieces = piece 2 4 ∷ piece 6 9 ∷ []; members = 1 ∷ [] }
 
+-- the length isn't its pieces'
 not_its_pieces : IsProper jobs slots (level_c ∷ shorter ∷ level_a ∷ []) → ⊥
 not_its_pieces proper = absurd (omega (arith, (proper.sums 1 (omega arith)).length))
 
+-- b's work raised by one
 abbrev raised : Level
 raised = record { work = 9; length = 6; pieces = piece 2 4 ∷ piece 6 10 ∷ []; members = 1 ∷ [] }
 
+-- the work isn't its members' either
 not_its_work : IsProper jobs slots (level_c ∷ raised ∷ level_a ∷ []) → ⊥
 not_its_work proper = absurd (omega (arith, (proper.sums 1 (omega arith)).work))
 
@@ -353,10 +374,12 @@ not_its_work proper = absurd (omega (arith, (proper.sums 1 (omega arith)).work))
 abbrev overlapping : Level
 overlapping = record { work = 8; length = 7; pieces = piece 2 5 ∷ piece 6 10 ∷ []; members = 1 ∷ [] }
 
+-- neither ends before the other begins
 not_apart : AreApart (piece 2 5) (piece 4 6) → ⊥
 not_apart (inl before) = absurd (omega arith)
 not_apart (inr after) = absurd (omega arith)
 
+-- so the pieces don't stand
 overlaps : IsProper jobs slots (level_c ∷ overlapping ∷ level_a ∷ []) → ⊥
 overlaps proper = not_apart ((proper.pieces 1 (omega arith)).apart 0 (piece 2 5) (omega arith) 0 (piece 4 6) (omega arith))
 
@@ -376,6 +399,7 @@ not_there (suc (suc zero)) one within is due = absurd (omega (arith, ap (λ (p :
 not_there (suc (suc (suc zero))) one within is due = absurd (omega (arith, ap (λ (p : Piece). p.to) is))
 not_there (suc (suc (suc (suc k)))) one within is due = absurd (omega arith)
 
+-- so a's window isn't covered
 not_covered : IsProper jobs slots (level_c ∷ level_b ∷ cut_off ∷ []) → ⊥
 not_covered proper =
     let some = proper.windows 0 (omega arith) 2 (omega arith) (0, omega arith, refl) 11 (omega arith) (omega arith) in
@@ -385,5 +409,6 @@ not_covered proper =
 abbrev uneven : List WrittenSlot
 uneven = slot 0 0 2 (of_whole 1) ∷ slot 1 2 4 (third 2 2) ∷ slot 2 4 6 (of_whole 6) ∷ slot 1 6 10 (third 5 1) ∷ slot 0 10 12 (of_whole 3) ∷ []
 
+-- the first has half of it
 not_its_speed : HasWrittenSpeed levels uneven 0 → ⊥
 not_its_speed has = absurd (omega (arith, has 2 (omega arith) (0, omega arith, refl)))
