@@ -20,7 +20,7 @@ den_positive scale d positive divides = factor_positive (scale / d) d scale (div
 scaled : (whole num d quotient scale : ℕ) → quotient * d ≡ scale → (whole * scale + num * quotient) * d ≡ (whole * d + num) * scale
 scaled whole num d quotient scale e = omega (arith, ap (λ n. num * n) e)
 
--- with whole part and numerator
+-- so it is for a fraction whose denominator divides the scale
 pub value-den : (scale : ℕ) (x : Fraction) → x.den ∣ scale → at_scale scale x * x.den ≡ numerator x * scale
 value-den scale x divides = scaled x.whole x.num x.den (scale / x.den) scale (div-mul_cancel x.den divides)
 
@@ -62,11 +62,11 @@ equality_of_values x y scale positive dx dy =
     (times (at_scale scale x) x.den (numerator x) scale y.den (value-den scale x dx))
     (times_left (at_scale scale y) y.den (numerator y) scale x.den (value-den scale y dy))
 
--- the value of a sum's two sides, over the three denominators
+-- two values together, over three denominators
 sum_over : (u v a b d e f s : ℕ) → u * d ≡ a * s → v * e ≡ b * s → (u + v) * (d * e * f) ≡ (a * e + b * d) * f * s
 sum_over u v a b d e f s h k = omega (arith, ap (λ n. n * (e * f)) h, ap (λ n. n * (d * f)) k)
 
--- one side
+-- a value over its own denominator and a factor
 value_over : (w c f g s : ℕ) → w * f ≡ c * s → w * (g * f) ≡ c * g * s
 value_over w c f g s h = omega (arith, ap (λ n. n * g) h)
 

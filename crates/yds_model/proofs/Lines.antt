@@ -26,12 +26,12 @@ lines_from-last number start byte [] none =
 lines_from-last number start byte (next ∷ bytes) none =
     rw (ne_eqb byte 10 (All-head (λ byte. byte ≢ 10) byte (next ∷ bytes) none), lines_from-last number (start + 1) next bytes (All-tail (λ byte. byte ≢ 10) byte (next ∷ bytes) none)) refl
 
--- there are no more lines than bytes
+-- a byte in front makes at most one line more
 length-in_front-le : (number start byte : ℕ) (lines : List Line) → length (in_front number start byte lines) ≤ length lines + 1
 length-in_front-le number start byte [] = omega arith
 length-in_front-le number start byte (line ∷ lines) = omega arith
 
--- from a place on
+-- so there are no more lines than bytes
 pub length-lines_from-le : (number start : ℕ) (bytes : List ℕ) → length (lines_from number start bytes) ≤ length bytes
 length-lines_from-le number start [] = omega arith
 length-lines_from-le number start (byte ∷ bytes) =
@@ -244,13 +244,13 @@ fields_from-last column [] some full = absurd (omega arith)
 fields_from-last column (byte ∷ field) some full =
     ap (λ bytes. fields_from column (byte ∷ bytes)) (sym (append-nil field)) ∙ fields_from-run column byte field [] full tt
 
--- there are no more fields than bytes
+-- a byte in front makes at most one field more
 length-joined-le : (column byte : ℕ) (fields : List Field) → length (joined column byte fields) ≤ length fields + 1
 length-joined-le column byte [] = omega arith
 length-joined-le column byte (field ∷ fields) =
     elim (field.column == column + 1) as (λ test. length (cond test (record { column = column; text = byte ∷ field.text } ∷ fields) (record { column = column; text = byte ∷ [] } ∷ field ∷ fields)) ≤ length (field ∷ fields) + 1) [ true ↦ omega arith | false ↦ omega arith ]
 
--- from a column on
+-- so there are no more fields than bytes
 pub length-fields_from-le : (column : ℕ) (bytes : List ℕ) → length (fields_from column bytes) ≤ length bytes
 length-fields_from-le column [] = omega arith
 length-fields_from-le column (byte ∷ bytes) =

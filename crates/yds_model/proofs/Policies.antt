@@ -1,5 +1,5 @@
 -- The two policies, tried on a small run of each on the grid 1: at the scale of its slots, and at each.
-use Rattle.std.proofs.Common.{◌≡◌, ℕ, zero, suc, ◌*◌, ◌/◌, ◌<◌, List, [], ◌∷◌, take, refl, sym, subst, arith, inl, inr}
+use Rattle.std.proofs.Common.{◌≡◌, ℕ, zero, suc, ◌*◌, ◌/◌, ◌<◌, List, [], ◌∷◌, map, take, refl, sym, subst, arith, inl, inr}
 use Rattle.std.specs.Prelude.{count_by}
 use Rattle.std.specs.List.{All}
 use Rattle.std.specs.Int.{◌∣◌}
@@ -288,3 +288,26 @@ available_accepted = record { run = available_at_each; rounds = available_rounds
 -- with the count 0 they are refused
 available_refused : IsOptimalAvailableRun available_jobs 1 0 available_slots → ⊥
 available_refused is = absurd (omega (arith, is.rounds 1 available_whole))
+
+-- On the grid 6 it asks for just what is due: 4 units until 1, and 7 until 2 and until 3. Slots are whole at scale 42.
+abbrev fine_slots : List WrittenSlot
+fine_slots =
+    record { job = 0; from = of_whole 0; to = of_whole 1; work = record { whole = 0; num = 4; den = 6 } }
+    ∷ record { job = 1; from = of_whole 1; to = of_parts 13 7; work = of_whole 1 }
+    ∷ record { job = 0; from = of_parts 13 7; to = of_whole 2; work = of_parts 1 6 }
+    ∷ record { job = 0; from = of_whole 2; to = of_whole 3; work = of_parts 7 6 } ∷ []
+
+-- the units, times the scale
+fine_units : map (optimal_available available_jobs 6 42 (slots_at 42 fine_slots)) (stretches available_jobs) ≡ 4 * 42 ∷ 7 * 42 ∷ 7 * 42 ∷ []
+fine_units = refl
+
+-- the slots serve that much
+fine_served : All (λ stretch. ServesCapacity 6 42 (optimal_available available_jobs 6 42 (slots_at 42 fine_slots) stretch) stretch (slots_at 42 fine_slots))
+    (stretches available_jobs)
+fine_served =
+    All-from_recursion (λ stretch. ServesCapacity 6 42 (optimal_available available_jobs 6 42 (slots_at 42 fine_slots) stretch) stretch (slots_at 42 fine_slots))
+    (stretches available_jobs) ((refl, refl, refl), ((refl, refl, (refl, refl, refl)), ((refl, refl, refl), tt)))
+
+-- and it rounds nowhere
+fine_rounds : count_by (optimal_available_rounds available_jobs 6 42 (slots_at 42 fine_slots)) (stretches available_jobs) ≡ 0
+fine_rounds = refl

@@ -121,7 +121,7 @@ pub decimal_none : (other n : ℕ) → n < 2 ^ 64 → other < 48 → All (λ byt
 decimal_none other n small apart =
     All-weaker (λ byte. is_digit byte ≡ true) (λ byte. (byte == other) ≡ false) (λ byte. digit_other byte other apart) (decimal n) (decimal_digits n small)
 
--- since each is a digit
+-- the same as an inequality
 pub decimal_without : (other n : ℕ) → n < 2 ^ 64 → other < 48 → All (λ byte. byte ≢ other) (decimal n)
 decimal_without other n small apart =
     All-weaker (λ byte. (byte == other) ≡ false) (λ byte. byte ≢ other) (λ byte differs. eqb-false byte other differs) (decimal n) (decimal_none other n small apart)

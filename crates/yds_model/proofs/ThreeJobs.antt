@@ -15,7 +15,7 @@ use Rattle.yds_model.specs.Piece.{Piece, AreApart, IsConfined}
 use Rattle.yds_model.specs.Level.{Level, level_at, levels_above, all_pieces}
 use Rattle.yds_model.specs.Proper.{PiecesStand, StandsOnce, SumsAgree, IsNotFaster, IsWindowCovered, AreLevels, IsProper}
 use Rattle.yds_model.specs.Audit.{AreAlike, AreSlots, crossed_length, given_of}
-use Rattle.yds_model.specs.Judgement.{Accepted, HasWrittenSpeed, IsJudgement}
+use Rattle.yds_model.specs.Judgement.{Accepted, Order, HasWrittenSpeed, IsJudgement}
 use Rattle.yds_model.proofs.Scale.{one_scale_decides}
 use Rattle.yds_model.proofs.Judgements.{speeds_at_scale, judgement_is_exact}
 
@@ -343,8 +343,69 @@ above_four_thirds : levels_above 4 3 levels ≡ level_c ∷ []
 above_four_thirds = refl
 
 -- Small changes of the levels, none of which leaves them proper. The second and third level exchanged: the later one is faster.
-not_in_order : IsProper jobs slots (level_c ∷ level_a ∷ level_b ∷ []) → ⊥
-not_in_order proper = absurd (omega (arith, proper.order 2 (omega arith) 1 refl))
+abbrev exchanged : List Level
+exchanged = level_c ∷ level_a ∷ level_b ∷ []
+
+-- b has 8 in 6 time units, and a before it 4 in 4
+slower_first : IsNotFaster exchanged 2 → ⊥
+slower_first slower = absurd (omega (arith, slower 1 refl))
+
+-- so the levels aren't proper
+not_in_order : IsProper jobs slots exchanged → ⊥
+not_in_order proper = slower_first (proper.order 2 (omega arith))
+
+-- All else is as it was: the pieces stand,
+exchanged_pieces : (i : ℕ) → i < 3 → PiecesStand exchanged i
+exchanged_pieces zero within = record {
+  some = omega arith;
+  in_order = (omega arith, omega arith, tt);
+  apart = λ k one inside. All-from_recursion (AreApart _) [] tt;
+}
+exchanged_pieces (suc zero) within = record {
+  some = omega arith;
+  in_order = (omega arith, omega arith, (omega arith, omega arith, tt));
+  apart = All-from_recursion (λ one. All (AreApart one) (all_pieces (take 1 exchanged))) level_a.pieces (
+    All-from_recursion (AreApart (piece 0 2)) (piece 4 6 ∷ []) (inl (omega arith), tt),
+    (All-from_recursion (AreApart (piece 10 12)) (piece 4 6 ∷ []) (inr (omega arith), tt), tt),
+  );
+}
+exchanged_pieces (suc (suc zero)) within = record {
+  some = omega arith;
+  in_order = (omega arith, omega arith, (omega arith, omega arith, tt));
+  apart = All-from_recursion (λ one. All (AreApart one) (all_pieces (take 2 exchanged))) level_b.pieces (
+    All-from_recursion (AreApart (piece 2 4)) (piece 4 6 ∷ piece 0 2 ∷ piece 10 12 ∷ []) (inl (omega arith), (inr (omega arith), (inl (omega arith), tt))),
+    (All-from_recursion (AreApart (piece 6 10)) (piece 4 6 ∷ piece 0 2 ∷ piece 10 12 ∷ []) (inr (omega arith), (inr (omega arith), (inl (omega arith), tt))), tt),
+  );
+}
+exchanged_pieces (suc (suc (suc i))) within = absurd (omega arith)
+
+-- each job is a member once,
+exchanged_members : (number : ℕ) → number < 3 → StandsOnce jobs exchanged number
+exchanged_members zero within = record { at_most_once = omega arith; with_work = λ some. refl }
+exchanged_members (suc zero) within = record { at_most_once = omega arith; with_work = λ some. refl }
+exchanged_members (suc (suc zero)) within = record { at_most_once = omega arith; with_work = λ some. refl }
+exchanged_members (suc (suc (suc number))) within = absurd (omega arith)
+
+-- the sums agree,
+exchanged_sums : (i : ℕ) → i < 3 → SumsAgree jobs exchanged i
+exchanged_sums zero within = record { work = refl; length = refl }
+exchanged_sums (suc zero) within = record { work = refl; length = refl }
+exchanged_sums (suc (suc zero)) within = record { work = refl; length = refl }
+exchanged_sums (suc (suc (suc i))) within = absurd (omega arith)
+
+-- and up to the second level so is the order,
+exchanged_order : (i : ℕ) → i < 2 → IsNotFaster exchanged i
+exchanged_order zero within before next = absurd (omega arith)
+exchanged_order (suc zero) within zero next = omega arith
+exchanged_order (suc zero) within (suc before) next = absurd (omega arith)
+exchanged_order (suc (suc i)) within before next = absurd (omega arith)
+
+-- so the judgement is that the third level is out of order
+order_broken : IsJudgement jobs slots exchanged (Order 2)
+order_broken = (
+  (((accepted.0.0.0.0.0.0, exchanged_pieces), exchanged_members), exchanged_sums),
+  record { within = omega arith; before = exchanged_order; fails = slower_first },
+)
 
 -- b made a member of the first level besides
 abbrev two_members : Level
