@@ -51,7 +51,7 @@ goes_to low high [] hull goes = absurd goes
 goes_to low high (point ∷ points) hull (inl reached) = (0, omega arith, reached.0)
 goes_to low high (point ∷ points) hull (inr left) = let rest = goes_to low high points hull left.1 in (suc rest.0, omega (arith, rest.1), rest.2)
 
--- so a point above a line between an earlier and a later one is left out
+-- a point above a line between an earlier and a later one is left out
 pub goes_out : (earlier later : List Point) (low high point : Point) → Contains earlier low → Contains later high → IsAbove low high point →
     is_left_out earlier point later ≡ true
 goes_out earlier later low high point first last above =
