@@ -16,6 +16,7 @@ pub mod Front
 pub mod Explained
 pub mod Fractions
 pub mod Scale
+pub mod RunScale
 pub mod Grain
 pub mod Runs
 pub mod Verdicts

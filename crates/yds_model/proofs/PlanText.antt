@@ -44,6 +44,7 @@ uncounted : (number : ℕ) (numbers : List ℕ) → count number numbers ≤ 0 �
 uncounted number numbers none k d within = λ same.
     omega (arith, get_or-le-sum_by (λ other. cond (number == other) 1 0) numbers k d within, ap {B = ℕ} (λ b. cond b 1 0) (eq-eqb number (get_or numbers k d) same))
 
+-- numbers of which none stands twice differ in pairs
 different_pairs : (numbers : List ℕ) → AreDifferent numbers → AllPairs (λ x y. x ≢ y) numbers
 different_pairs [] different = λ i j d order within. absurd (omega (arith, within))
 different_pairs (x ∷ xs) different =
@@ -51,6 +52,7 @@ different_pairs (x ∷ xs) different =
     (uncounted x xs (omega (arith, different x, count-cons x x xs, ap {B = ℕ} (λ b. cond b 1 0) (eq-eqb x x refl))))
     (different_pairs xs (λ number. omega (arith, different number, count-cons number x xs)))
 
+-- so there are no more of them than numbers below their limit
 few_different : (numbers : List ℕ) (n : ℕ) → AreDifferent numbers → All (λ number. number < n) numbers → length numbers ≤ n
 few_different numbers n different known =
     length-le_from_distinct_below numbers n (IsDistinct-from_AllPairs Decides-eqb numbers (different_pairs numbers different))
@@ -58,10 +60,12 @@ few_different numbers n different known =
 
 -- Each level has a member, so there are no more levels than members.
 
+-- work that is the members' together is some member's
 some_member : (jobs : List Job) (work : ℕ) (members : List ℕ) → 1 ≤ work → work ≡ work_of jobs members → 1 ≤ length members
 some_member jobs work [] some same = absurd (omega (arith, some, same))
 some_member jobs work (number ∷ numbers) some same = omega arith
 
+-- levels with a member each are no more than the members
 no_more_levels : (levels : List Level) → All (λ level. 1 ≤ length level.members) levels → length levels ≤ length (all_members levels)
 no_more_levels [] some = omega arith
 no_more_levels (level ∷ levels) some =
@@ -77,6 +81,7 @@ pub record IsSmall (levels : List Level) : Type 0 where
   pub few_levels : length levels ≤ MAX_JOBS
   pub few_members : length (all_members levels) ≤ MAX_JOBS
 
+-- so a plan of jobs within their limit has few levels and members
 plan_is_small : (jobs : List Job) (slots : List WrittenSlot) (levels : List Level) → length jobs ≤ MAX_JOBS → IsProper jobs slots levels →
     All (λ number. number < length jobs) (all_members levels) → IsSmall levels
 plan_is_small jobs slots levels few proper known =
@@ -118,6 +123,7 @@ pub record IsReadAgain (input text : List ℕ) (document : Document) (slots : Li
   pub read_again : reading text ≡ Ok (with_plan document slots levels)
   pub short : length text ≤ MAX_INPUT
 
+-- the text of a plan is read as the document with the plan
 read_again : (input text : List ℕ) (document : Document) (slots : List WrittenSlot) (levels : List Level) →
     reading input ≡ Ok document → PlansDocument document text slots levels → IsReadAgain input text document slots levels
 read_again input text document slots levels read plans =
@@ -137,6 +143,7 @@ read_again input text document slots levels read plans =
       );
     }
 
+-- the input is read as a document, and the text as it with a plan of it
 abbrev IsPlanRead : List ℕ → List ℕ → Type 0
 IsPlanRead input text = (document : Document) × (slots : List WrittenSlot) × (levels : List Level) × IsReadAgain input text document slots levels
 
@@ -146,15 +153,18 @@ plan_of_reading input text (Ok document) is (done, (slots, levels, plans)) =
     (document, slots, levels, read_again input text document slots levels (sym is) plans)
 plan_of_reading input text (Err fault) is answers = absurd (done_not_refused answers.ended)
 
+-- so what it writes then is read again
 plan_of_input : (input text : List ℕ) (long : Bool) → AnswersInput AskPlan long input text Done → IsPlanRead input text
 plan_of_input input text true answers = absurd (done_not_refused answers.ended)
 plan_of_input input text false answers = plan_of_reading input text (reading input) refl answers
 
+-- and so is what `plan` writes where it is done
 plan_read : (input text : List ℕ) → AnswersRequest (Some AskPlan) input text Done → IsPlanRead input text
 plan_read input text answers = plan_of_input input text (nat_lt MAX_INPUT (length input)) answers
 
 -- The laws.
 
+-- from the plan that is read again the headline follows
 headline_of : (input text : List ℕ) → IsPlanRead input text → HoldsHeadline input text
 headline_of input text (document, slots, levels, is) =
     let proper = is.plans.plan.proper in
@@ -173,6 +183,7 @@ headline_of input text (document, slots, levels, is) =
       },
     )
 
+-- the law: where `plan` is done, its answer holds the headline
 pub plans_hold_the_headline : PlansHoldTheHeadline
 plans_hold_the_headline input text answers = headline_of input text (plan_read input text answers)
 
@@ -183,6 +194,7 @@ slots_agree count slots fit = record {
   known = fit.known;
   alike = fit.grains;
 } where
+  -- a slot within the limits has denominators of at least 1
   solid : (slot : WrittenSlot) → IsSlot slot → IsSolid slot
   solid slot is = record {
     from = omega (arith, is.from.below_one);
@@ -196,6 +208,7 @@ answers_document : (request : Request) (text told : List ℕ) (document : Docume
 answers_document request text told document short read answers =
     rw (le-ltb MAX_INPUT (length text) short, read) answers
 
+-- `audit` answers the text of a plan with 'feasible'
 audited : (input text : List ℕ) → IsPlanRead input text → AnswersRequest (Some AskAudit) text (codes "feasible\n") Done
 audited input text (document, slots, levels, is) =
     answers_document AskAudit text (codes "feasible\n") (with_plan document slots levels) is.short is.read_again record {
@@ -205,9 +218,11 @@ audited input text (document, slots, levels, is) =
       ended = refl;
     }
 
+-- the law of it
 pub plan_texts_are_feasible : PlansAreFeasible
 plan_texts_are_feasible input text answers = audited input text (plan_read input text answers)
 
+-- `check` answers it with 'accepted'
 checked : (input text : List ℕ) → IsPlanRead input text → AnswersRequest (Some AskCheck) text (codes "accepted\n") Done
 checked input text (document, slots, levels, is) =
     answers_document AskCheck text (codes "accepted\n") (with_plan document slots levels) is.short is.read_again record {
@@ -218,5 +233,6 @@ checked input text (document, slots, levels, is) =
       ended = refl;
     }
 
+-- the law of it
 pub plan_texts_are_accepted : PlansAreAccepted
 plan_texts_are_accepted input text answers = checked input text (plan_read input text answers)
