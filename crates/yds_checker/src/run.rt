@@ -48,7 +48,7 @@ fn begun_before(placed: &[Placed], time: u32) -> usize
 }
 
 impl Run {
-    /// Of these pieces.
+    /// The run of these pieces.
     pub(crate) fn new(alloc: Global, placed: Vec<Placed>) -> Result<Run, Memory>
         requires { AreInTurn placed.items }
         ensures { IfOk result (λ run. run ≡ placed.items) }

@@ -4,7 +4,7 @@ use Rattle.yds_checker.proofs.windows.first_uncovered.Goals as goal
 
 pub returns-then-not-is_covered : goal.returns-then-not-is_covered
 returns-then-not-is_covered c = λ levels settled run. record {
-  within = c.loop-job-test.true;
+  within = omega (arith, c.loop-job-test.true);
   before = c.loop-job.invariant levels settled run;
   fails = λ covered. false≢true ((c.if-not-is_covered.ensures levels settled run).1 covered);
 }
