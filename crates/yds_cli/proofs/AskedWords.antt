@@ -1,15 +1,13 @@
 -- What words ask for of what is built.
-use Rattle.std.proofs.Common.{◌≡◌, ℕ, ◌≤◌, length, arith, List, [], ◌∷◌, Bool, true, false, Option, Some, None, Result, Ok, Err, refl, sym, ◌∙◌}
-use Rattle.std.specs.Prelude.{codes, String, string_bytes, option_map, if◌then◌else◌}
+use Rattle.std.proofs.Common.{◌≡◌, ℕ, ◌≤◌, length, arith, List, [], ◌∷◌, Bool, true, false, Some, None, Result, Ok, Err, refl, sym}
+use Rattle.std.specs.Prelude.{codes, String, string_bytes, if◌then◌else◌}
 use Rattle.std.specs.Str.{bytes_eq}
 use Rattle.std.specs.declared.alloc.Global.{Global}
 use Rattle.yds_model.specs.declared.limits.TheConstants.{MAX_GRID, MAX_SEED, MAX_TRIAL_JOBS}
 use Rattle.yds_model.specs.declared.number_fault.NumberFault.{NumberFault}
 use Rattle.yds_model.specs.Spelling.{number_at}
-use Rattle.yds_model.specs.Request.{Request, AskAverageRate, AskOptimalAvailable, AskTrial, AskPlan, request_of_grid, request_of_trial, request_of_three, request_of}
-use Rattle.yds_cli.specs.declared.command.Command.{Command}
-use Rattle.yds_cli.specs.declared.command.Command.TheVariants as commands
-use Rattle.yds_cli.specs.Words.{words_of, built, asked, request_view}
+use Rattle.yds_model.specs.Request.{AskAverageRate, AskOptimalAvailable, request_of_grid, request_of_trial, request_of_three}
+use Rattle.yds_cli.specs.Words.{words_of, built, asked}
 
 grid_not_built : (avr oa : Bool) (grid : ℕ) → built (if avr then Some (AskAverageRate grid) else (if oa then Some (AskOptimalAvailable grid) else None)) ≡ None
 grid_not_built true oa grid = refl
@@ -44,10 +42,3 @@ three_or_more (a ∷ []) many = absurd (omega (arith, many))
 three_or_more (a ∷ b ∷ []) many = absurd (omega (arith, many))
 three_or_more (a ∷ b ∷ c ∷ []) many = three_words (string_bytes a) (string_bytes b) (string_bytes c)
 three_or_more (a ∷ b ∷ c ∷ d ∷ words) many = refl
-
--- the word that asks for a plan
-pub asks_plan : (command : Command) (words : List (List ℕ)) → words ≡ codes "plan" ∷ [] → Some (request_view command) ≡ asked words → command ≡ commands.Plan
-asks_plan commands.Plan words plan same = refl
-asks_plan commands.Check words plan same = absurd (cc)
-asks_plan (commands.Audit true) words plan same = absurd (cc)
-asks_plan (commands.Audit false) words plan same = absurd (cc)

@@ -1,6 +1,5 @@
--- A document that was read, with its plan: what is written of it holds the headline.
-use Rattle.std.proofs.Common.{◌≡◌, ℕ, ◌<◌, ◌≤◌, List, [], ◌∷◌, length, Some, None, Result, Ok, Err, refl, subst, sym, ap, ◌∙◌}
-use Rattle.std.specs.Prelude.{IfOk}
+-- A document with the plan of its jobs: what the planner gives is within the limits of a document.
+use Rattle.std.proofs.Common.{◌≡◌, ℕ, ◌<◌, ◌≤◌, List, [], ◌∷◌, length, None, refl, ap}
 use Rattle.std.specs.List.{All}
 use Rattle.std.proofs.lemmas.List.Elements.{All-weaker, All-nil, All-append, All-head, All-tail}
 use Rattle.yds_model.specs.declared.limits.TheConstants.{MAX_DENOMINATOR, MAX_TIME, MAX_SLOT_WORK, MAX_SLOTS}
@@ -15,72 +14,18 @@ use Rattle.yds_certificate.specs.Level.{IsLevel as LevelKept}
 use Rattle.yds_certificate.specs.Certificate.{IsCertificate}
 use Rattle.yds_document.specs.declared.document.Document.{Document as DocumentKept}
 use Rattle.yds_document.specs.Documents.{document_view}
-use Rattle.yds_model.specs.Document.{Document}
 use Rattle.yds_model.specs.Text.{canonical_text}
-use Rattle.yds_model.specs.Reading.{reading}
-use Rattle.yds_model.specs.RoundTrip.{IsDocument, IsFraction, IsSlot, IsPiece, IsLevel, AreSlotsOf, AreLevelsOf}
+use Rattle.yds_model.specs.RoundTrip.{IsFraction, IsSlot, IsPiece, IsLevel, AreSlotsOf, AreLevelsOf}
 use Rattle.yds_model.specs.Slot.{WrittenSlot}
 use Rattle.yds_model.specs.Piece.{Piece}
 use Rattle.yds_model.specs.Level.{Level, all_members}
-use Rattle.yds_model.specs.PlanAnswer.{HoldsReadHeadline, with_plan}
-use Rattle.yds_model.specs.RequestAnswer.{RequestAnswersDocument}
+use Rattle.yds_model.specs.PlanAnswer.{with_plan}
+use Rattle.yds_model.specs.Answer.{AnswersDocument}
 use Rattle.yds_model.specs.Request.{AskPlan}
-use Rattle.yds_model.proofs.Bound.{explained_is_least}
-use Rattle.yds_model.proofs.Explained.{proper_explains}
-use Rattle.yds_model.proofs.RoundTrip.{printed_is_read}
-use Rattle.yds_model.proofs.Within.{read_is_within_limits}
-use Rattle.yds_model.specs.declared.memory.Memory.{Memory}
-use Rattle.yds_model.specs.declared.status.Status.TheVariants.{Done}
-use Rattle.yds_cli.specs.declared.answer.Answer.{Answer}
 use Rattle.yds_cli.specs.declared.answer.Answer.TheVariants as answers
 use Rattle.yds_cli.specs.Answer.{answer_text, answer_status}
-use Rattle.yds_cli.specs.Planned.{IsPlanned}
 
--- a plan answers
-pub plan_answers : (document : Document) (answer : Answer) → IsPlanned document answer
-    → RequestAnswersDocument AskPlan document (answer_text answer) (answer_status answer)
-plan_answers document answer planned = (planned.done, (planned.slots, planned.levels, planned.plans))
-
--- a document within the limits stays so with a plan within them
-with_plan_fits : (document : Document) (slots : List WrittenSlot) (levels : List Level) → IsDocument document
-    → AreSlotsOf (length document.jobs) slots → AreLevelsOf (length document.jobs) levels → IsDocument (with_plan document slots levels)
-with_plan_fits document slots levels fits slots_fit levels_fit = record {
-  jobs = fits.jobs;
-  points = fits.points;
-  slots = subst (λ count. AreSlotsOf count slots) (sym fits.jobs.one_name_each) slots_fit;
-  levels = subst (λ count. AreLevelsOf count levels) (sym fits.jobs.one_name_each) levels_fit;
-  grid = tt;
-  energy = tt;
-}
-
--- what is written of a document that was read
-plan_holds : (input : List ℕ) (document : Document) (answer : Answer)
-    → reading input ≡ Ok document → IsPlanned document answer → HoldsReadHeadline input (answer_text answer)
-plan_holds input document answer read planned =
-    let proper = planned.plans.plan.proper in
-    let explained = proper_explains document.jobs planned.slots planned.levels proper in
-    let fits : IsDocument (with_plan document planned.slots planned.levels) =
-    with_plan_fits document planned.slots planned.levels (read_is_within_limits input document read) planned.slots_fit planned.levels_fit in (
-      document,
-      planned.slots,
-      planned.levels,
-      record {
-        read = read;
-        written = planned.plans.written;
-        read_again = ap reading planned.plans.written ∙ printed_is_read (with_plan document planned.slots planned.levels) fits;
-        feasible = proper.feasible;
-        least = explained_is_least document.jobs planned.slots planned.levels explained;
-        proper = proper;
-        explained = explained;
-      },
-    )
-
-pub plans_hold : (input : List ℕ) (document : Document) (result : Result Answer Memory) → reading input ≡ Ok document
-    → IfOk result (IsPlanned document) → IfOk result (λ answer. answer_status answer ≡ Done → HoldsReadHeadline input (answer_text answer))
-plans_hold input document (Ok answer) read planned = λ done. plan_holds input document answer read planned
-plans_hold input document (Err memory) read planned = tt
-
--- # What a planned document keeps
+-- What the parts of a plan keep.
 
 fraction_fits : (most : ℕ) (x : Fraction) → IsMixed MAX_DENOMINATOR x → x.whole ≤ most → IsFraction most x
 fraction_fits most x mixed within = record {
@@ -142,12 +87,17 @@ same_text old new schedule levels instance table slots certificate grid energy =
 pub document_planned : (old new : DocumentKept) (schedule : WrittenSchedule) (levels : List Level)
     → new.instance ≡ old.instance → new.table ≡ old.table → new.schedule ≡ schedule → new.certificate ≡ levels → new.grid ≡ None → new.energy ≡ None
     → IsPlan old.instance.jobs schedule.slots levels → AreSlotsOf (length old.instance.jobs) schedule.slots → AreLevelsOf (length old.instance.jobs) levels
-    → IsPlanned (document_view old) (answers.Planned new)
-document_planned old new schedule levels instance table slots certificate grid energy plan slots_fit levels_fit = record {
-  slots = schedule.slots;
-  levels = levels;
-  plans = record { plan = plan; written = ap canonical_text (same_text old new schedule levels instance table slots certificate grid energy) };
-  slots_fit = slots_fit;
-  levels_fit = levels_fit;
-  done = refl;
-}
+    → AnswersDocument AskPlan (document_view old) (answer_text (answers.Planned new)) (answer_status (answers.Planned new))
+document_planned old new schedule levels instance table slots certificate grid energy plan slots_fit levels_fit = (
+  refl,
+  (
+    schedule.slots,
+    levels,
+    record {
+      plan = plan;
+      slots_fit = slots_fit;
+      levels_fit = levels_fit;
+      written = ap canonical_text (same_text old new schedule levels instance table slots certificate grid energy);
+    },
+  ),
+)

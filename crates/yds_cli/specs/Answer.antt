@@ -3,9 +3,9 @@ use Rattle.std.specs.Prelude.{ℕ, List, Bool, true, false}
 use Rattle.yds_model.specs.declared.status.Status.{Status}
 use Rattle.yds_model.specs.declared.status.Status.TheVariants as statuses
 use Rattle.yds_model.specs.Text.{canonical_text}
-use Rattle.yds_model.specs.Words.{usage_line}
+use Rattle.yds_model.specs.Request.{usage_line}
 use Rattle.yds_model.specs.Answer.{too_long_line}
-use Rattle.yds_model.specs.RequestAnswer.{refusal_line, no_table_line}
+use Rattle.yds_model.specs.Answer.{refusal_line, no_table_line}
 use Rattle.yds_document.specs.Documents.{document_view}
 use Rattle.yds_cli.specs.declared.answer.Answer.{Answer}
 use Rattle.yds_cli.specs.declared.answer.Answer.TheVariants as answers

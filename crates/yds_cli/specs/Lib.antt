@@ -1,5 +1,4 @@
 pub mod Words
 pub mod Answer
 pub mod Told
-pub mod Planned
 pub mod Run

@@ -5,9 +5,8 @@ use Rattle.yds_model.specs.declared.limits.TheConstants.{MAX_INPUT}
 use Rattle.yds_model.specs.declared.status.Status.{Status}
 use Rattle.yds_model.specs.declared.status.Status.TheVariants as statuses
 use Rattle.yds_model.specs.Answer.{too_long_line}
-use Rattle.yds_model.specs.PlanAnswer.{HoldsReadHeadline}
 use Rattle.yds_model.specs.Request.{Request}
-use Rattle.yds_model.specs.RequestAnswer.{RequestAnswers}
+use Rattle.yds_model.specs.Answer.{AnswersRequest}
 use Rattle.yds_port.specs.Sink.{AppendsFront, IsFlushed}
 
 -- the text was written whole and flushed, and the run ended with the text's status
@@ -28,7 +27,7 @@ Outcome ended text status old new flushed = WritesWhole ended text status old ne
 pub record AnswersBytes (request : Option Request) (bytes : List ℕ) (result : Status) (old new : Option (List ℕ)) (flushed : Option ℕ) : Type 0 where
   pub text : List ℕ
   pub status : Status
-  pub answers : RequestAnswers request bytes text status
+  pub answers : AnswersRequest request bytes text status
   pub outcome : Outcome result text status old new flushed
 
 -- some bytes were taken, all that were left or one more than an input may have, and what was written is the answer to them
@@ -45,12 +44,3 @@ pub record IsTooLong (result : Status) (left rest old new : Option (List ℕ)) :
   pub beyond : length taken ≡ MAX_INPUT + 1
   pub refused : result ≡ statuses.Refused
   pub written : Appends old new too_long_line
-
--- all bytes that were left were taken, and what was written holds the headline for them
-pub record PlansTaken (left rest old new : Option (List ℕ)) : Type 0 where
-  pub taken : List ℕ
-  pub text : List ℕ
-  pub consumed : Consumes left rest taken
-  pub ended : IsAtEnd rest
-  pub written : Appends old new text
-  pub holds : HoldsReadHeadline taken text

@@ -2,7 +2,7 @@
 use Rattle.std.specs.Prelude.{ℕ, ◌<◌, ◌≤◌, List, [], ◌∷◌, codes, flat_map, length}
 use Rattle.yds_model.specs.Document.{Document}
 use Rattle.yds_model.specs.Audit.{Verdict, Feasible, Backward, Overlap, Early, Late, OffPoint, WrongWork}
-use Rattle.yds_model.specs.Judgement.{Judgement, Accepted, Slots, Pieces, Members, Sums, Order, Window, Speed}
+use Rattle.yds_model.specs.Judgement.{Judgement, Slots, Members, Window}
 
 -- each word after a space
 abbrev pub spaced : List (List ℕ) → List ℕ

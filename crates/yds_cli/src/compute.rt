@@ -1,15 +1,14 @@
 ghost use Rattle.std.specs.Prelude.{◌≡◌, ◌≤◌, length, IfOk, option_copied};
 ghost use Rattle.yds_model.specs.declared.limits.TheConstants.{MAX_INPUT};
 ghost use Rattle.yds_model.specs.Reading.{reading};
-ghost use Rattle.yds_model.specs.RequestAnswer.{RequestAnswersReading, RequestAnswersDocument, AuditsOnPoints};
+ghost use Rattle.yds_model.specs.Answer.{AnswersReading, AnswersDocument, AuditsOnPoints};
 ghost use Rattle.yds_model.specs.AuditAnswer.{AuditAnswer, CheckAnswer};
-ghost use Rattle.yds_model.specs.PlanAnswer.{HoldsReadHeadline};
+ghost use Rattle.yds_model.specs.Request.{AskPlan};
 ghost use Rattle.yds_model.specs.Judgement.{IsJudgement};
 ghost use Rattle.yds_checker.specs.Judgement.{judgement_view};
 ghost use Rattle.yds_document.specs.Documents.{document_view};
 ghost use Rattle.yds_cli.specs.Answer.{answer_text, answer_status};
 ghost use Rattle.yds_cli.specs.Words.{request_view};
-ghost use Rattle.yds_cli.specs.Planned.{IsPlanned};
 
 use crate::answer::Answer;
 use crate::command::Command;
@@ -18,17 +17,15 @@ use std::alloc::Global;
 use yds_audit::audit;
 use yds_checker::{Judgement, check};
 use yds_document::{DocFault, Document, read_document};
-use yds_model::{Memory, Status};
+use yds_model::Memory;
 use yds_plan::plan;
 use yds_table::Table;
 
 /// The command's answer to an input that isn't too long.
 pub fn compute<'a>(alloc: Global, command: Command, bytes: &'a [u8]) -> Result<Answer<'a>, Memory>
     requires { length bytes.now ≤ MAX_INPUT }
-    ensures answers { IfOk result (λ answer.
-        RequestAnswersReading (request_view command) (reading bytes.now) (answer_text answer) (answer_status answer)) }
-    ensures headline { command ≡ Command.Plan → IfOk result (λ answer.
-        answer_status answer ≡ Status.Done → HoldsReadHeadline bytes.now (answer_text answer)) }
+    ensures { IfOk result (λ answer.
+        AnswersReading (request_view command) (reading bytes.now) (answer_text answer) (answer_status answer)) }
 {
     match read_document(alloc, bytes) {
         Ok(document) => answer_document(alloc, command, document),
@@ -53,9 +50,8 @@ fn answer_document<'a>(
     command: Command,
     document: Document<'a>,
 ) -> Result<Answer<'a>, Memory>
-    ensures answers { IfOk result (λ answer.
-        RequestAnswersDocument (request_view command) (document_view document.entry) (answer_text answer) (answer_status answer)) }
-    ensures planned { command ≡ Command.Plan → IfOk result (IsPlanned (document_view document.entry)) }
+    ensures { IfOk result (λ answer.
+        AnswersDocument (request_view command) (document_view document.entry) (answer_text answer) (answer_status answer)) }
 {
     match command {
         Command::Plan => plan_document(alloc, document),
@@ -67,7 +63,8 @@ fn answer_document<'a>(
 
 /// The document with the plan of its jobs.
 fn plan_document<'a>(alloc: Global, document: Document<'a>) -> Result<Answer<'a>, Memory>
-    ensures planned { IfOk result (IsPlanned (document_view document.entry)) }
+    ensures { IfOk result (λ answer.
+        AnswersDocument AskPlan (document_view document.entry) (answer_text answer) (answer_status answer)) }
 {
     let planned = plan(alloc, document.instance.rows())?;
     // Reading the slots and the levels shows that they are within the limits.

@@ -1,11 +1,11 @@
 ghost use Rattle.std.specs.Prelude.{◌≡◌, ◌≢◌, ◌⊎◌, ◌<◌, ◌≤◌, ◌∷◌, [], ℕ, List, length, codes, Some, None, IsSome, IfSome};
 ghost use Rattle.yds_model.specs.declared.limits.TheConstants.{MAX_INPUT};
 ghost use Rattle.std.specs.Io.KnownBytes.{Appends, Keeps, IsAtEnd};
-ghost use Rattle.yds_model.specs.Words.{usage_line};
-ghost use Rattle.yds_model.specs.PlanAnswer.{HoldsReadHeadline};
+ghost use Rattle.yds_model.specs.Request.{usage_line};
+ghost use Rattle.yds_model.specs.PlanAnswer.{HoldsHeadline};
 ghost use Rattle.yds_port.specs.Count.{Rose};
 ghost use Rattle.yds_cli.specs.Words.{words_of, asked, request_view};
-ghost use Rattle.yds_cli.specs.Run.{Outcome, AnswersBytes, AnswersTaken, IsTooLong, PlansTaken};
+ghost use Rattle.yds_cli.specs.Run.{Outcome, AnswersBytes, AnswersTaken, IsTooLong};
 
 use crate::answer::Answer;
 use crate::command::Command;
@@ -59,7 +59,7 @@ pub fn run<S: Source, K: Sink>(
     // A plan that was written is read again as the document with that plan, which gives every job its
     // work in its window and, for every speed, does no more work above it than any feasible schedule.
     ensures headline { words_of words.now ≡ codes "plan" ∷ [] → result ≡ Status.Done
-        → IfSome (S.left source.old) (λ input. (text : List ℕ) × Appends (K.written sink.old) (K.written sink.new) text × HoldsReadHeadline input text) }
+        → IfSome (S.left source.old) (λ input. (text : List ℕ) × Appends (K.written sink.old) (K.written sink.new) text × HoldsHeadline input text) }
 {
     match Words::read(words) {
         Some(command) => run_command(alloc, command, source, sink),
@@ -83,8 +83,6 @@ fn run_command<S: Source, K: Sink>(
     ensures nothing_written { (result ≡ Status.Memory) ⊎ (result ≡ Status.ReadFault) → sink.new ≡ sink.old }
     ensures answer { result ≢ Status.Memory → result ≢ Status.ReadFault
         → AnswersTaken (Some (request_view command)) result (S.left source.old) (S.left source.new) (K.written sink.old) (K.written sink.new) (K.flushed sink.new) }
-    ensures headline { command ≡ Command.Plan → result ≡ Status.Done
-        → PlansTaken (S.left source.old) (S.left source.new) (K.written sink.old) (K.written sink.new) }
 {
     match read_all(alloc, source, MAX_INPUT) {
         Ok(bytes) => answer_bytes(alloc, command, &bytes, sink),
@@ -104,8 +102,6 @@ fn answer_bytes<K: Sink>(alloc: Global, command: Command, bytes: &[u8], sink: &m
     ensures nothing_written { result ≡ Status.Memory → sink.new ≡ sink.old }
     ensures answer { result ≢ Status.Memory
         → AnswersBytes (Some (request_view command)) bytes.now result (K.written sink.old) (K.written sink.new) (K.flushed sink.new) }
-    ensures headline { command ≡ Command.Plan → result ≡ Status.Done
-        → (text : List ℕ) × Appends (K.written sink.old) (K.written sink.new) text × HoldsReadHeadline bytes.now text }
 {
     match compute(alloc, command, bytes) {
         Ok(answer) => deliver(&answer, sink),

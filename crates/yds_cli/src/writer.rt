@@ -2,7 +2,7 @@
 //! taken.
 
 ghost use Rattle.std.specs.Prelude.{◌≡◌};
-ghost use Rattle.yds_model.specs.RequestAnswer.{refusal_line};
+ghost use Rattle.yds_model.specs.Answer.{refusal_line};
 ghost use Rattle.yds_port.specs.Sink.{Delivers};
 ghost use Rattle.yds_cli.specs.Answer.{answer_text};
 

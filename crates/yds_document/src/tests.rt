@@ -1,10 +1,59 @@
-//! One table of refusals and one document that is read and printed again.
-use crate::{DocFault, Document, Reason, print, read_document};
+//! One table of refusals, a document that is read and printed again, and one with an answer.
+use crate::{DocFault, Document, Reason, print, read_document, write_mixed};
+use std::alloc::Global;
+use std::process::Abort;
 use std::test::Fail;
+use yds_certificate::Certificate;
+use yds_fraction::{Amount, Moment};
+use yds_model::limits::MAX_BYTES;
 use yds_port::MemorySink;
+use yds_slots::{Schedule, Slot};
 
-fn refusal(read: &Result<Document<'_>, DocFault>) -> Option<(u32, u32, Reason)> {
-    match read {
+/// Documents, each with the line, the column and the reason of its refusal, or None where it is read.
+pub static ROWS: [(&str, Option<(u32, u32, Reason)>); 25] = [
+    ("jobs a 0 4 8\n", Some((1, 1, Reason::UnknownKind))),
+    ("# a\n\nrun a 0 1 1\n", Some((3, 1, Reason::Misplaced))),
+    ("grid 1 0\ngrid 1 0\n", Some((2, 1, Reason::Misplaced))),
+    ("job a 0 4 8 9\n", Some((1, 13, Reason::FieldCount))),
+    ("job a 0 4\n", Some((1, 10, Reason::FieldCount))),
+    (
+        "job a 0 4 8\njob a 0 4 8\n",
+        Some((2, 5, Reason::DuplicateName)),
+    ),
+    ("level 4 4\nmember b\n", Some((2, 8, Reason::UnknownName))),
+    ("job a 01 4 8\n", Some((1, 7, Reason::BadNumber))),
+    ("level 0 4\n", Some((1, 7, Reason::OutOfRange))),
+    ("job a 4 4 8\n", Some((1, 9, Reason::EmptyWindow))),
+    (
+        "job a 0 4 8\nslot a 0+1/2 1+1/3 1\n",
+        Some((2, 14, Reason::MixedEnds)),
+    ),
+    (
+        "job a 0 4 8\nslot a 0 1 0+1/2\nslot a 1 2 0+1/3\n",
+        Some((3, 12, Reason::MixedGrain)),
+    ),
+    ("point 1 1\n", Some((1, 7, Reason::NoIdle))),
+    ("point 0 0\npoint 0 1\n", Some((2, 7, Reason::NotRising))),
+    ("job a 0 4 0\n", None),
+    ("member a\n", Some((1, 1, Reason::Misplaced))),
+    ("level 4 4\nmember\n", Some((2, 7, Reason::FieldCount))),
+    ("level 4 4\nmember \u{7f}\n", Some((2, 8, Reason::BadName))),
+    ("ticks 4\nticks 4 5\n", Some((2, 1, Reason::Misplaced))),
+    ("\tticks  4 5\n", Some((1, 11, Reason::FieldCount))),
+    ("ticks 0\n", Some((1, 7, Reason::OutOfRange))),
+    ("energy 1+2/\n", Some((1, 8, Reason::BadNumber))),
+    ("energy 1+2/2\n", Some((1, 8, Reason::OutOfRange))),
+    (
+        "energy 1000000000000000001\n",
+        Some((1, 8, Reason::OutOfRange)),
+    ),
+    ("level 9\nenergy x\n", Some((1, 8, Reason::FieldCount))),
+];
+
+// Where the text is refused, and why.
+fn refusal(rt: &impl Abort, alloc: Global, text: &str) -> Option<(u32, u32, Reason)> {
+    assert!(rt; text.len() <= MAX_BYTES);
+    match read_document(alloc, text.as_bytes()) {
         Ok(_) | Err(DocFault::Memory) => None,
         Err(
             DocFault::At {
@@ -12,41 +61,14 @@ fn refusal(read: &Result<Document<'_>, DocFault>) -> Option<(u32, u32, Reason)> 
                 column,
                 reason,
             },
-        ) => Some((*line, *column, *reason)),
+        ) => Some((line, column, reason)),
     }
 }
 
 #[test]
 fn the_first_fault_is_told_with_its_place(rt: HostRuntime) {
-    let cases = [
-        ("jobs a 0 4 8\n", Some((1, 1, Reason::UnknownKind))),
-        ("# a\n\nrun a 0 1 1\n", Some((3, 1, Reason::Misplaced))),
-        ("grid 1 0\ngrid 1 0\n", Some((2, 1, Reason::Misplaced))),
-        ("job a 0 4 8 9\n", Some((1, 13, Reason::FieldCount))),
-        ("job a 0 4\n", Some((1, 10, Reason::FieldCount))),
-        (
-            "job a 0 4 8\njob a 0 4 8\n",
-            Some((2, 5, Reason::DuplicateName)),
-        ),
-        ("level 4 4\nmember b\n", Some((2, 8, Reason::UnknownName))),
-        ("job a 01 4 8\n", Some((1, 7, Reason::BadNumber))),
-        ("level 0 4\n", Some((1, 7, Reason::OutOfRange))),
-        ("job a 4 4 8\n", Some((1, 9, Reason::EmptyWindow))),
-        (
-            "job a 0 4 8\nslot a 0+1/2 1+1/3 1\n",
-            Some((2, 14, Reason::MixedEnds)),
-        ),
-        (
-            "job a 0 4 8\nslot a 0 1 0+1/2\nslot a 1 2 0+1/3\n",
-            Some((3, 12, Reason::MixedGrain)),
-        ),
-        ("point 1 1\n", Some((1, 7, Reason::NoIdle))),
-        ("point 0 0\npoint 0 1\n", Some((2, 7, Reason::NotRising))),
-        ("job a 0 4 0\n", None),
-    ];
-    for (text, fault) in cases {
-        let read = read_document(rt.alloc(), text.as_bytes());
-        assert_eq!(rt; refusal(&read), fault, "{text}");
+    for (text, fault) in &ROWS {
+        assert_eq!(rt; refusal(&rt, rt.alloc(), text), *fault, "{text}");
     }
 }
 
@@ -60,5 +82,37 @@ fn a_document_of_each_kind_is_printed_as_it_is_read(rt: HostRuntime) -> Result<(
     let document = read_document(rt.alloc(), text)?;
     print(&document, &mut sink)?;
     assert_eq!(rt; sink.bytes(), printed.as_slice());
+    Ok(())
+}
+
+// The document's slot and grid give way to those of the answer.
+#[test]
+fn a_document_with_an_answer(rt: HostRuntime) -> Result<(), Fail> {
+    let text = b"job a 0 3 2\nslot a 0 3 2\ngrid 5 1\n";
+    let printed = b"job a 0 3 2\nslot a 1 1+4/6 0+1/2\nenergy 3+2/4\n";
+    let mut sink = MemorySink::with_room(rt.alloc(), 200, 200, Vec::new(rt.alloc()))?;
+    let document = read_document(rt.alloc(), text)?;
+    assert_eq!(rt; document.instance.rows().len(), 1);
+    let mut schedule = Schedule::new(rt.alloc(), 1)?;
+    schedule.push(Slot {
+        job: 0,
+        from: Moment::from_whole(1),
+        to: Moment::new(1, 4, 6),
+        work: Amount::new(0, 1, 2),
+    })?;
+    let energy = Amount::new(3, 2, 4);
+    let answer = document.with_answer(schedule, Certificate::new(rt.alloc()), None, Some(energy));
+    print(&answer, &mut sink)?;
+    assert_eq!(rt; sink.bytes(), printed.as_slice());
+    Ok(())
+}
+
+#[test]
+fn fractions_as_they_are_written(rt: HostRuntime) -> Result<(), Fail> {
+    let mut sink = MemorySink::with_room(rt.alloc(), 20, 20, Vec::new(rt.alloc()))?;
+    write_mixed(Amount::from_whole(70), &mut sink)?;
+    assert_eq!(rt; sink.bytes(), b"70".as_slice());
+    write_mixed(Amount::new(1, 4, 6), &mut sink)?;
+    assert_eq!(rt; sink.bytes(), b"701+4/6".as_slice());
     Ok(())
 }

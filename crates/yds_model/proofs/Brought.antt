@@ -19,16 +19,19 @@ pub record IsWord (text : List ℕ) : Type 0 where
   pub some : 0 < length text
   pub visible : All (λ byte. 33 ≤ byte) text
 
+-- a visible byte is no blank
 visible_full : (byte : ℕ) → 33 ≤ byte → is_blank byte ≡ false
 visible_full byte visible =
     or_from (byte == 32) (byte == 9) (ne_eqb byte 32 (λ (same : byte ≡ 32). omega arith)) (ne_eqb byte 9 (λ (same : byte ≡ 9). omega arith))
 
+-- so a word is a field without a blank in it
 word_full : (text : List ℕ) → IsWord text → IsFull text
 word_full text word = record {
   some = word.some;
   full = All-weaker (λ byte. 33 ≤ byte) (λ byte. is_blank byte ≡ false) visible_full text word.visible;
 }
 
+-- and so are words
 words_full : (texts : List (List ℕ)) → AllByRecursion IsWord texts → AllByRecursion IsFull texts
 words_full [] words = tt
 words_full (text ∷ texts) words = (word_full text words.0, words_full texts words.1)
@@ -39,6 +42,7 @@ words_without other low texts words =
     All-weaker (λ byte. 32 ≤ byte) (λ byte. byte ≢ other) (λ byte (high : 32 ≤ byte) (same : byte ≡ other). omega arith) (join_with_byte 32 texts)
     (All-join (λ byte. 32 ≤ byte) texts (omega arith) (high texts words))
   where
+    -- each byte of words is a space or greater
     high : (texts : List (List ℕ)) → AllByRecursion IsWord texts → AllByRecursion (All (λ byte. 32 ≤ byte)) texts
     high [] words = tt
     high (text ∷ texts) words =
@@ -48,13 +52,16 @@ words_without other low texts words =
 abbrev pub live_from : ℕ → ℕ → List ℕ → List Line
 live_from number start bytes = live_lines (map trimmed (lines_from number start bytes))
 
+-- a line that isn't skipped is read
 live_lines-line : (line : Line) (lines : List Line) → is_skipped line ≡ false → live_lines (line ∷ lines) ≡ line ∷ live_lines lines
 live_lines-line line lines live = rw live refl
 
+-- the entry of a line is read before those of the lines after it
 read_after-line : (earlier : List Entry) (line : Line) (lines : List Line) (entry : Entry) → read_line earlier line ≡ Ok entry →
     read_after earlier (line ∷ lines) ≡ read_after (earlier ++ entry ∷ []) lines
 read_after-line earlier first lines entry is = rw (is, read_after) refl
 
+-- a line is read as its fields are
 read_line-fields : (earlier : List Entry) (line : Line) (fields : List Field) (entry : Entry) → fields_of line.text ≡ fields →
     read_fields earlier fields ≡ Ok entry → read_line earlier line ≡ Ok entry
 read_line-fields earlier line fields entry same is = rw (same, is) refl
@@ -84,9 +91,11 @@ Brings before bytes after = (earlier : List Entry) → Says earlier before → (
     (entries : List Entry) × (next : ℕ) × (place : ℕ) × Says entries after
     × (read_after earlier (live_from number start (bytes ++ rest)) ≡ read_after entries (live_from next place rest))
 
+-- no byte brings nothing
 pub Brings-nil : (before : Document) → Brings before [] before
 Brings-nil before earlier said number start rest = (earlier, number, start, said, refl)
 
+-- bytes that bring a document to a second one, and that to a third, bring it there together
 pub Brings-append : (before middle after : Document) (front back : List ℕ) → Brings before front middle → Brings middle back after →
     Brings before (front ++ back) after
 Brings-append before middle after front back first second earlier said number start rest =
@@ -118,6 +127,7 @@ Brings-rest state text all before (x ∷ after) is each =
     (each before x after is)
     (Brings-rest state text all (before ++ x ∷ []) after (append_assoc before (x ∷ []) after ∙ is) each)
 
+-- where the text of each element brings what is said of those before it to what is said with it, the text of all brings it to all
 pub Brings-each : {X : Type 0} (state : List X → Document) (text : X → List ℕ) (all : List X) →
     ((before : List X) (x : X) (after : List X) → before ++ x ∷ after ≡ all → Brings (state before) (text x) (state (before ++ x ∷ []))) →
     Brings (state []) (flat_map text all) (state all)

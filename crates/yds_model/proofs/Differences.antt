@@ -12,18 +12,23 @@ use Rattle.yds_model.specs.Energy.{greatest, total}
 abbrev pub IsDifference : ℕ → ℕ → ℤ → Type 0
 IsDifference a b z = up z + b ≡ a + down z
 
+-- a - b is one
 pub difference_of : (a b : ℕ) → IsDifference a b (pos a -ℤ pos b)
 difference_of a b = omega (arith, ints)
 
+-- k times a difference is one of k times its two numbers
 pub difference_times : (k a b : ℕ) (z : ℤ) → IsDifference a b z → IsDifference (k * a) (k * b) (pos k *ℤ z)
 difference_times k a b z is = omega (arith, ints, ap (λ n. k * n) is)
 
+-- the sum of two differences is one of the sums
 pub difference_plus : (a b c d : ℕ) (x y : ℤ) → IsDifference a b x → IsDifference c d y → IsDifference (a + c) (b + d) (x +ℤ y)
 difference_plus a b c d x y first second = omega (arith, ints, first, second)
 
+-- differences are ordered as their numbers are, each with the other's second
 pub difference_at_most : (a b c d : ℕ) (x y : ℤ) → IsDifference a b x → IsDifference c d y → a + d ≤ c + b → x ≤ℤ y
 difference_at_most a b c d x y first second order = omega (arith, ints, first, second, order)
 
+-- the order of signed numbers goes on from one to the next
 pub at_most_in_turn : (x y z : ℤ) → x ≤ℤ y → y ≤ℤ z → x ≤ℤ z
 at_most_in_turn x y z first second = omega (arith, ints, first, second)
 
@@ -35,6 +40,7 @@ difference_first a b c d x y first second order = omega (arith, ints, clamps, fi
 pub difference_second : (a b c d : ℕ) (x y : ℤ) → IsDifference a b x → IsDifference c d y → a + d ≤ c + b → IsDifference c d (int_max x y)
 difference_second a b c d x y first second order = omega (arith, ints, clamps, first, second, order)
 
+-- of three numbers the greatest is the same from either side
 max_assoc : (x y z : ℤ) → int_max (int_max x y) z ≡ int_max x (int_max y z)
 max_assoc x y z = omega (arith, ints, clamps)
 
@@ -43,17 +49,21 @@ pub greatest-cons : (x y : ℤ) (zs : List ℤ) → greatest x (y ∷ zs) ≡ in
 greatest-cons x y [] = refl
 greatest-cons x y (z ∷ zs) = greatest-cons (int_max x y) z zs ∙ max_assoc x y (greatest z zs) ∙ ap (int_max x) (sym (greatest-cons y z zs))
 
+-- a sum that begins with one more is more by it
 total_from : (a b : ℤ) (zs : List ℤ) → fold (λ a n. a +ℤ n) (a +ℤ b) zs ≡ a +ℤ fold (λ a n. a +ℤ n) b zs
 total_from a b [] = refl
 total_from a b (z ∷ zs) =
     ap (λ x. fold (λ a n. a +ℤ n) x zs) (the_sum a b z) ∙ total_from a (b +ℤ z) zs
   where
+    -- of three numbers the sum is the same from either side
     the_sum : (x y z : ℤ) → (x +ℤ y) +ℤ z ≡ x +ℤ (y +ℤ z)
     the_sum x y z = omega (arith, ints)
 
+-- the sum of a list with one number more is more by it
 pub total-cons : (z : ℤ) (zs : List ℤ) → total (z ∷ zs) ≡ z +ℤ total zs
 total-cons z zs = ap (λ x. fold (λ a n. a +ℤ n) x zs) (swapped z) ∙ total_from z (pos 0) zs
   where
+    -- 0 may be added on either side
     swapped : (z : ℤ) → pos 0 +ℤ z ≡ z +ℤ pos 0
     swapped z = omega (arith, ints)
 

@@ -16,12 +16,15 @@ use Rattle.yds_model.proofs.Differences.{IsDifference, difference_at_most, total
 use Rattle.yds_model.proofs.Hinges.{gains, losses, turn, hinges, lines_are, product-cons}
 use Rattle.yds_model.proofs.Horizon.{same_work, busy_and_idle}
 
+-- how long the slot takes
 abbrev time_of : WholeSlot → ℕ
 time_of slot = slot.to - slot.from
 
+-- the hinges of all slots together
 abbrev all_hinges : ℕ → List Point → List WholeSlot → ℕ
 all_hinges before points slots = sum_by (λ slot. hinges before points (time_of slot) slot.work) slots
 
+-- the work of all slots together
 abbrev all_work : List WholeSlot → ℕ
 all_work slots = sum_by (λ slot. slot.work) slots
 
@@ -45,6 +48,7 @@ hinges_at_most jobs scale before low high (next ∷ points) slots others least f
       hinges_at_most jobs scale (before * (high.speed - low.speed)) high next points slots others least feasible,
     )
 
+-- a sum of two terms with weights is the sums with these weights
 sum_of_two : (a b : ℕ) (f g : WholeSlot → ℕ) (slots : List WholeSlot) →
     sum_by (λ slot. a * f slot + b * g slot) slots ≡ a * sum_by f slots + b * sum_by g slots
 sum_of_two a b f g slots =
@@ -57,6 +61,7 @@ gains_together low high slots =
     sum_of_two low.power high.power (λ slot. high.speed * time_of slot) (λ slot. slot.work) slots
     ∙ ap (λ n. low.power * n + high.power * all_work slots) (sum_by-mul high.speed time_of slots)
 
+-- and so is what is taken off it
 losses_together : (low high : Point) (slots : List WholeSlot) →
     sum_by (λ slot. losses low high (time_of slot) slot.work) slots ≡ losses low high (busy slots) (all_work slots)
 losses_together low high slots =
@@ -110,6 +115,7 @@ sides others p r f all low whole busy busy_2 idle idle_2 work work_2 hinges hing
       more,
     )
 
+-- the law: a schedule that is least has at most the energy of each feasible one
 pub least_is_cheapest : LeastIsCheapest
 least_is_cheapest jobs [] scale slots others table convex least feasible = absurd (omega (arith, table.some))
 least_is_cheapest jobs (point ∷ []) scale slots others table convex least feasible =
@@ -120,6 +126,7 @@ least_is_cheapest jobs (point ∷ []) scale slots others table convex least feas
       ap (λ n. point.power * n) (busy_and_idle jobs scale others feasible),
     ))
   where
+    -- a table of one point gives its power for all time, whatever runs
     alone : (jobs : List Job) (point : Point) (scale : ℕ) (slots : List WholeSlot) →
         IsDifference (point.power * busy slots + point.power * idle jobs scale slots) 0 (interpolated_energy jobs (point ∷ []) scale slots)
     alone jobs point scale slots =
@@ -139,5 +146,6 @@ least_is_cheapest jobs (low ∷ high ∷ points) scale slots others table convex
     (busy_and_idle jobs scale slots least.feasible) (busy_and_idle jobs scale others feasible)
     (same_work jobs scale slots others least.feasible feasible) (hinges_at_most jobs scale 1 low high points slots others least feasible))
   where
+    -- the first point is idle, so the first gap is the second point's speed
     gap : high.speed - low.speed ≡ high.speed
     gap = omega (arith, table.idle)

@@ -6,6 +6,7 @@ use Rattle.yds_model.specs.Slot.{WholeSlot}
 use Rattle.yds_model.specs.Table.{Point}
 use Rattle.yds_model.specs.Energy.{idle, interpolated_power, interpolated_energy}
 
+-- the first job from 0 to 10 with work 10, the second from 4 to 6 with work 6
 abbrev jobs : List Job
 jobs = record { release = 0; deadline = 10; work = 10 } ∷ record { release = 4; deadline = 6; work = 6 } ∷ []
 
@@ -18,9 +19,11 @@ slots =
     ∷ record { job = 0; from = 12; to = 17; work = 10 }
     ∷ []
 
+-- speed 0 at no power, 2 at 4 and 4 at 10
 abbrev points : List Point
 points = record { speed = 0; power = 0 } ∷ record { speed = 2; power = 4 } ∷ record { speed = 4; power = 10 } ∷ []
 
+-- the processor is idle for 3 of the 10 time units
 idle_time : idle jobs 2 slots ≡ 6
 idle_time = refl
 
@@ -32,6 +35,7 @@ energy = refl
 abbrev costly : List Point
 costly = record { speed = 0; power = 3 } ∷ record { speed = 2; power = 4 } ∷ record { speed = 4; power = 10 } ∷ []
 
+-- so 9 more
 with_idle_power : interpolated_energy jobs costly 2 slots ≡ pos ((34 + 9) * 2 * 4)
 with_idle_power = refl
 

@@ -56,6 +56,7 @@ module _ (jobs : List Job) (levels : List Level) (scale : ℕ) (slots : List Who
   -- each slot's job stands once among all members, or has no work: so their slots' excess is the whole
   excess_shared : (p q : ℕ) → excess p q slots ≡ group (term p q) (all_members levels) slots
   excess_shared p q = sum_by_same (term p q) (λ slot. count slot.job (all_members levels) * term p q slot) slots each where
+    -- each slot by itself
     each : All (λ slot. term p q slot ≡ count slot.job (all_members levels) * term p q slot) slots
     each k d within =
         let slot = get_or slots k d in

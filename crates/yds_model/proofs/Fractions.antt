@@ -12,6 +12,7 @@ factor_positive : (quotient d scale : ℕ) → quotient * d ≡ scale → 1 ≤ 
 factor_positive quotient zero scale e positive = omega arith
 factor_positive quotient (suc d) scale e positive = omega arith
 
+-- so a divisor of a scale is at least 1
 pub den_positive : (scale d : ℕ) → 1 ≤ scale → d ∣ scale → 1 ≤ d
 den_positive scale d positive divides = factor_positive (scale / d) d scale (div-mul_cancel d divides) positive
 
@@ -19,6 +20,7 @@ den_positive scale d positive divides = factor_positive (scale / d) d scale (div
 scaled : (whole num d quotient scale : ℕ) → quotient * d ≡ scale → (whole * scale + num * quotient) * d ≡ (whole * d + num) * scale
 scaled whole num d quotient scale e = omega (arith, ap (λ n. num * n) e)
 
+-- so it is for a fraction whose denominator divides the scale
 pub value-den : (scale : ℕ) (x : Fraction) → x.den ∣ scale → at_scale scale x * x.den ≡ numerator x * scale
 value-den scale x divides = scaled x.whole x.num x.den (scale / x.den) scale (div-mul_cancel x.den divides)
 
@@ -29,6 +31,7 @@ tied_order a b k s u v some_s some_k e f = (
   λ below. lt_of_mul-lt-mul_right s (rw (← e, ← f) (mul-lt-mul_of_pos_right below some_k)),
 )
 
+-- and are equal as those are
 pub tied_equality : (a b k s u v : ℕ) → 1 ≤ s → 1 ≤ k → u * k ≡ a * s → v * k ≡ b * s → (a ≡ b ↔ (u ≡ v))
 tied_equality a b k s u v some_s some_k e f = (
   λ same. eq_of_mul-eq-mul_right k some_k u v (e ∙ ap (λ n. n * s) same ∙ sym f),
@@ -39,9 +42,11 @@ tied_equality a b k s u v some_s some_k e f = (
 times : (u d a s e : ℕ) → u * d ≡ a * s → u * (d * e) ≡ a * e * s
 times u d a s e h = omega (arith, ap (λ n. n * e) h)
 
+-- with the factor on the other side
 times_left : (u d a s e : ℕ) → u * d ≡ a * s → u * (e * d) ≡ a * e * s
 times_left u d a s e h = omega (arith, ap (λ n. n * e) h)
 
+-- the law: order by cross products is the order of the values
 pub order_of_values : OrderIsOfValues
 order_of_values x y scale positive dx dy =
     tied_order (numerator x * y.den) (numerator y * x.den) (x.den * y.den) scale (at_scale scale x) (at_scale scale y)
@@ -49,6 +54,7 @@ order_of_values x y scale positive dx dy =
     (times (at_scale scale x) x.den (numerator x) scale y.den (value-den scale x dx))
     (times_left (at_scale scale y) y.den (numerator y) scale x.den (value-den scale y dy))
 
+-- the law: and equality is equality of the values
 pub equality_of_values : EqualityIsOfValues
 equality_of_values x y scale positive dx dy =
     tied_equality (numerator x * y.den) (numerator y * x.den) (x.den * y.den) scale (at_scale scale x) (at_scale scale y)
@@ -56,13 +62,15 @@ equality_of_values x y scale positive dx dy =
     (times (at_scale scale x) x.den (numerator x) scale y.den (value-den scale x dx))
     (times_left (at_scale scale y) y.den (numerator y) scale x.den (value-den scale y dy))
 
--- the value of a sum's two sides, over the three denominators
+-- two values together, over three denominators
 sum_over : (u v a b d e f s : ℕ) → u * d ≡ a * s → v * e ≡ b * s → (u + v) * (d * e * f) ≡ (a * e + b * d) * f * s
 sum_over u v a b d e f s h k = omega (arith, ap (λ n. n * (e * f)) h, ap (λ n. n * (d * f)) k)
 
+-- a value over its own denominator and a factor
 value_over : (w c f g s : ℕ) → w * f ≡ c * s → w * (g * f) ≡ c * g * s
 value_over w c f g s h = omega (arith, ap (λ n. n * g) h)
 
+-- the law: a sum by cross products is the sum of the values
 pub sum_of_values : SumIsOfValues
 sum_of_values x y z scale positive dx dy dz =
     tied_equality (numerator z * (x.den * y.den)) ((numerator x * y.den + numerator y * x.den) * z.den) (x.den * y.den * z.den) scale
@@ -71,9 +79,11 @@ sum_of_values x y z scale positive dx dy dz =
     (value_over (at_scale scale z) (numerator z) z.den (x.den * y.den) scale (value-den scale z dz))
     (sum_over (at_scale scale x) (at_scale scale y) (numerator x) (numerator y) x.den y.den z.den scale (value-den scale x dx) (value-den scale y dy))
 
+-- a multiple of a value, over both denominators
 multiple_over : (k u a d f s : ℕ) → u * d ≡ a * s → k * u * (d * f) ≡ k * a * f * s
 multiple_over k u a d f s h = omega (arith, ap (λ n. k * (n * f)) h)
 
+-- the law: a multiple by cross products is the multiple of the values
 pub multiple_of_values : MultipleIsOfValues
 multiple_of_values k x z scale positive dx dz =
     tied_equality (numerator z * x.den) (k * numerator x * z.den) (x.den * z.den) scale (at_scale scale z) (k * at_scale scale x)
@@ -88,16 +98,19 @@ less_through a b c d e f some_d some_f one two =
     let second : b * f * d < c * e * d = mul-lt-mul_of_pos_right two some_d in
     lt_of_mul-lt-mul_right e (omega arith)
 
+-- the law of it
 pub order_transitive : OrderIsTransitive
 order_transitive x y z dx _ dz one two =
     less_through (numerator x) (numerator y) (numerator z) x.den y.den z.den dx dz one two
 
+-- a/d = b/e and b/e = c/f give a/d = c/f
 same_through : (a b c d e f : ℕ) → 1 ≤ e → a * e ≡ b * d → b * f ≡ c * e → a * f ≡ c * d
 same_through a b c d e f some one two =
     let first : a * e * f ≡ b * d * f = ap (λ n. n * f) one in
     let second : b * f * d ≡ c * e * d = ap (λ n. n * d) two in
     eq_of_mul-eq-mul_right e some (a * f) (c * d) (omega arith)
 
+-- the law of it
 pub equality_transitive : EqualityIsTransitive
 equality_transitive x y z _ dy _ one two =
     same_through (numerator x) (numerator y) (numerator z) x.den y.den z.den dy one two
@@ -106,9 +119,11 @@ equality_transitive x y z _ dy _ one two =
 alike_left : (a b c d e f : ℕ) → a * e ≡ b * d → b * f * d ≡ a * f * e
 alike_left a b c d e f h = omega (arith, ap (λ n. n * f) h)
 
+-- factors in another order
 alike_right : (c d e : ℕ) → c * e * d ≡ c * d * e
 alike_right c d e = omega arith
 
+-- the law: equal fractions are ordered alike
 pub order_agrees : OrderAgreesWithEquality
 order_agrees x y z dx dy dz same =
     let left = alike_left (numerator x) (numerator y) (numerator z) x.den y.den z.den same in

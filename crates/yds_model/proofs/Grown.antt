@@ -24,11 +24,13 @@ use Rattle.yds_model.specs.RoundTrip.{IsFraction, AreAlike, AreDifferentNames, A
 use Rattle.yds_model.proofs.Said.{empty_level, with_entry, last_longer}
 use Rattle.yds_model.proofs.Inverse.{demand_ok, whole_fits}
 
+-- a place below n + 1 lies below n or is n
 place_cases : (i n : ℕ) → i < n + 1 → (i < n) ⊎ (i ≡ n)
 place_cases i n within = elim (cases_lt i n) [ inl less ↦ inl less | inr more ↦ inr (omega arith) ]
 
 -- ---- jobs
 
+-- where nothing is chosen, the test failed
 chosen : (found : Bool) (n : ℕ) → (if found then Some n else None) ≡ None → found ≡ false
 chosen true n none = absurd (cc)
 chosen false n none = refl
@@ -41,6 +43,7 @@ other_name names name i none within is =
     let fails : bytes_eq (name_at names i) name ≡ false = fails_before_first (λ other. bytes_eq other name) names i [] (omega (arith, end, within)) in
     false≢true (sym fails ∙ (bytes_eq-Decides (name_at names i) name).1 is)
 
+-- so it is different from them
 different_more : (names : List (List ℕ)) (name : List ℕ) → AreDifferentNames names → position (λ other. bytes_eq other name) names ≡ None → AreDifferentNames (names ++ name ∷ [])
 different_more names name different none i j i_within j_within same =
     let last : name_at (names ++ name ∷ []) (length names) ≡ name = get_or_push names name [] (length names) refl in
@@ -56,6 +59,7 @@ different_more names name different none i j i_within j_within same =
       ]
     ]
 
+-- jobs with their names stay within the limits with one more
 pub jobs_more : (names : List (List ℕ)) (jobs : List Job) (name : List ℕ) (job : Job) → AreNamedJobs names jobs → length names < MAX_JOBS → is_name name ≡ true →
     position (λ other. bytes_eq other name) names ≡ None → IsJob job → AreNamedJobs (names ++ name ∷ []) (jobs ++ job ∷ [])
 jobs_more names jobs name job are room named new fits = record {
@@ -68,11 +72,13 @@ jobs_more names jobs name job are room named new fits = record {
 
 -- ---- points
 
+-- points that rise still do with a faster one
 rising_more : (first : Point) (others : List Point) (point : Point) → AreRising (first ∷ others) → (point_at (first ∷ others) (length others)).speed < point.speed →
     AreRising (first ∷ others ++ point ∷ [])
 rising_more first [] point rising faster = (faster, tt)
 rising_more first (next ∷ others) point rising faster = (rising.0, rising_more next others point rising.1 faster)
 
+-- a table with one more point that follows it is a table
 table_more : (points : List Point) (point : Point) (column : ℕ) (follows : Bool) → (points ≡ []) ⊎ IsTable points →
     follows_points points point.speed column ≡ Ok follows → IsTable (points ++ point ∷ [])
 table_more [] point column follows table is = record { some = omega arith; idle = eqb-true point.speed 0 (demand_ok (point.speed == 0) column reasons.NoIdle follows is); rising = tt }
@@ -83,6 +89,7 @@ table_more (first ∷ others) point column follows (inr table) is =
     (demand_ok (nat_lt (point_at (first ∷ others) (length others)).speed point.speed) column reasons.NotRising follows is) in
     record { some = omega arith; idle = table.idle; rising = rising_more first others point table.rising faster }
 
+-- and points stay within the limits
 pub points_more : (points : List Point) (point : Point) (column : ℕ) (follows : Bool) → ArePoints points → length points < MAX_POINTS → IsPoint point →
     follows_points points point.speed column ≡ Ok follows → hull_multiple (points ++ point ∷ []) ≤ MAX_GAPS → ArePoints (points ++ point ∷ [])
 points_more points point column follows are room fits rises gaps = record {
@@ -109,12 +116,14 @@ parts_fit most parts den some in_range within = elim (cases_Bool (parts % den ==
   })
 ]
 
+-- the denominator of parts is 1 or the one that is given
 parts_den : (parts den : ℕ) → ((of_parts parts den).den ≡ 1) ⊎ ((of_parts parts den).den ≡ den)
 parts_den parts den = elim (cases_Bool (parts % den == 0)) [
   | inl none ↦ inl (rw none refl)
   | inr other ↦ inr (rw other refl)
 ]
 
+-- so any two of one denominator are alike
 pub parts_alike : (one other den : ℕ) → AreAlike (of_parts one den) (of_parts other den)
 parts_alike one other den = elim (parts_den one den) [
   | inl plain ↦ inr (inl plain)
@@ -124,6 +133,7 @@ parts_alike one other den = elim (parts_den one den) [
   ]
 ]
 
+-- works that pass the test of it are alike
 pub alike_from_test : (x y : Fraction) → are_alike x y ≡ true → AreAlike x y
 alike_from_test x y alike = elim (cases_Bool (x.den == y.den)) [
   | inl same ↦ inl (eqb-true x.den y.den same)
@@ -133,6 +143,7 @@ alike_from_test x y alike = elim (cases_Bool (x.den == y.den)) [
   ]
 ]
 
+-- each is alike with the other
 alike_both : (x y : Fraction) → AreAlike x y → AreAlike y x
 alike_both x y (inl same) = inl (sym same)
 alike_both x y (inr (inl plain)) = inr (inr plain)
@@ -152,6 +163,7 @@ grain_alike job work (slot ∷ slots) alike = elim (cases_eq slot.job job) [
       All-cons (λ slot. slot.job ≡ job → AreAlike work slot.work) slot slots (λ this. absurd (other this)) (grain_alike job work slots (rw (ne_eqb slot.job job other) at alike))
 ]
 
+-- works of one job stay alike with one more
 grains_more : (slots : List WrittenSlot) (slot : WrittenSlot) → AreInGrain slots → All (λ other. other.job ≡ slot.job → AreAlike slot.work other.work) slots →
     AreInGrain (slots ++ slot ∷ [])
 grains_more slots slot grains alike i j i_within j_within same =
@@ -178,9 +190,11 @@ grains_more slots slot grains alike i j i_within j_within same =
           ]
     ]
   where
+    -- equal slots have works that are alike in the same way
     moved_alike : {a b c d : WrittenSlot} → a ≡ c → b ≡ d → AreAlike a.work b.work → AreAlike c.work d.work
     moved_alike {a} {b} {c} {d} first second alike = subst (λ slot. AreAlike c.work slot.work) second (subst (λ slot. AreAlike slot.work b.work) first alike)
 
+-- slots stay within the limits with one more
 pub slots_more : (count : ℕ) (slots : List WrittenSlot) (slot : WrittenSlot) → AreSlotsOf count slots → length slots < MAX_SLOTS → IsSlot slot → slot.job < count →
     list_all (are_alike slot.work) (filter_map (λ other. if other.job == slot.job then Some other.work else None) slots) ≡ true →
     AreSlotsOf count (slots ++ slot ∷ [])
@@ -202,6 +216,7 @@ slots_of_more few many slots more are = record {
 
 -- ---- levels
 
+-- levels of so many jobs are levels of more jobs
 pub levels_of_more : (few many : ℕ) (levels : List Level) → few ≤ many → AreLevelsOf few levels → AreLevelsOf many levels
 levels_of_more few many levels more are = record {
   few = are.few;
@@ -211,6 +226,7 @@ levels_of_more few many levels more are = record {
   known = All-weaker (λ job. job < few) (λ job. job < many) (λ job (known : job < few). omega (arith, known, more)) (all_members levels) are.known;
 }
 
+-- levels stay within the limits with one more that is empty
 pub levels_more : (count : ℕ) (levels : List Level) (work long : ℕ) → AreLevelsOf count levels → length levels < MAX_LEVELS → IsLevel (empty_level work long) →
     AreLevelsOf count (levels ++ empty_level work long ∷ [])
 levels_more count levels work long are room fits =
@@ -231,6 +247,7 @@ All-front : {X : Type 0} (P : X → Type 0) (xs : List X) (x : X) → All P (xs 
 All-front P xs x all k d within =
     subst P (get_or_append_left xs (x ∷ []) d k within) (all k d (omega (arith, within, length_push xs x)))
 
+-- what holds of each element holds of the last
 All-last : {X : Type 0} (P : X → Type 0) (xs : List X) (x : X) → All P (xs ++ x ∷ []) → P x
 All-last P xs x all = subst P (get_or_push xs x x (length xs) refl) (all (length xs) x (omega (arith, length_push xs x)))
 

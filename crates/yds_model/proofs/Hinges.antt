@@ -9,16 +9,20 @@ use Rattle.yds_model.specs.Table.{Point, AreRising, IsConvex, IsOnOrBelow, gaps_
 use Rattle.yds_model.specs.Energy.{product, on_line, on_lines, greatest}
 use Rattle.yds_model.proofs.Differences.{IsDifference, difference_of, difference_times, difference_plus, difference_first, difference_second, greatest-cons}
 
+-- a product that begins with a factor is that factor times the rest
 product_from : (a n : ℕ) (ns : List ℕ) → fold (λ a n. a * n) (a * n) ns ≡ a * fold (λ a n. a * n) n ns
 product_from a n [] = refl
 product_from a n (m ∷ ns) = ap (λ x. fold (λ a n. a * n) x ns) (regrouped a n m) ∙ product_from a (n * m) ns
   where
+    -- of three factors the product is the same from either side
     regrouped : (x y z : ℕ) → (x * y) * z ≡ x * (y * z)
     regrouped x y z = omega arith
 
+-- the product of a list with one factor more is that factor times it
 pub product-cons : (n : ℕ) (ns : List ℕ) → product (n ∷ ns) ≡ n * product ns
 product-cons n ns = ap (λ x. fold (λ a n. a * n) x ns) (swapped n) ∙ product_from n 1 ns
   where
+    -- 1 may be a factor on either side
     swapped : (x : ℕ) → 1 * x ≡ x * 1
     swapped x = omega arith
 
@@ -28,9 +32,11 @@ product-cons n ns = ap (λ x. fold (λ a n. a * n) x ns) (swapped n) ∙ product
 abbrev pub gains : Point → Point → ℕ → ℕ → ℕ
 gains low high time work = low.power * (high.speed * time) + high.power * work
 
+-- and what is taken off
 abbrev pub losses : Point → Point → ℕ → ℕ → ℕ
 losses low high time work = low.power * work + high.power * (low.speed * time)
 
+-- so the number is their difference
 pub line_is : (low high : Point) (time work : ℕ) → IsDifference (gains low high time work) (losses low high time work) (on_line low high time work)
 line_is low high time work =
     difference_plus (low.power * (high.speed * time)) (low.power * work) (high.power * work) (high.power * (low.speed * time)) _ _
@@ -57,6 +63,7 @@ turned low high next power low_power next_power g d c time work first second ben
       ap (λ n. n * (high * time)) bend,
     )
 
+-- beyond the middle point the later line gains what the turn says
 later_gains : (low high next : Point) (time work : ℕ) → low.speed < high.speed → high.speed < next.speed → IsOnOrBelow low next high →
     (high.speed - low.speed) * gains high next time work + (next.speed - high.speed) * losses low high time work + turn low high next * (high.speed * time)
     ≡ (high.speed - low.speed) * losses high next time work + (next.speed - high.speed) * gains low high time work + turn low high next * work

@@ -19,17 +19,21 @@ given_below : List WholeSlot → ℕ → ℕ
 given_below slots zero = 0
 given_below slots (suc n) = work_given slots n + given_below slots n
 
+-- no slots give no work
 given_none : (n : ℕ) → given_below [] n ≡ 0
 unfolding given_below
 given_none zero = refl
 given_none (suc n) = omega (arith, given_none n)
 
+-- a slot's part of its own job's work is its work
 part_own : (number job work : ℕ) → number ≡ job → (if number == job then work else 0) ≡ work
 part_own number job work same = grind (arith, nat_tests)
 
+-- and of another job's nothing
 part_other : (number job work : ℕ) → (number ≡ job → ⊥) → (if number == job then work else 0) ≡ 0
 part_other number job work other = grind (arith, nat_tests)
 
+-- one slot more gives a job that part
 given-cons : (slot : WholeSlot) (slots : List WholeSlot) (n : ℕ) →
     work_given (slot ∷ slots) n ≡ (if n == slot.job then slot.work else 0) + work_given slots n
 given-cons slot slots n = sum_by-cons (λ (other : WholeSlot). if n == other.job then other.work else 0) slot slots
@@ -41,6 +45,7 @@ before_own slot slots zero within = refl
 before_own slot slots (suc n) within =
     omega (arith, given-cons slot slots n, part_other n slot.job slot.work (λ same. omega arith), before_own slot slots n (omega arith))
 
+-- and it is counted once the numbers go beyond that job's
 after_own : (slot : WholeSlot) (slots : List WholeSlot) (n : ℕ) → slot.job < n → given_below (slot ∷ slots) n ≡ slot.work + given_below slots n
 unfolding given_below
 after_own slot slots zero within = absurd (omega arith)
@@ -51,6 +56,7 @@ after_own slot slots (suc n) within = elim (cases_eq n slot.job) [
       omega (arith, given-cons slot slots n, part_other n slot.job slot.work other, after_own slot slots n later)
 ]
 
+-- so all work is given to jobs
 all_given : (slots : List WholeSlot) (n : ℕ) → All (λ slot. slot.job < n) slots → sum_by (λ slot. slot.work) slots ≡ given_below slots n
 all_given [] n known = sym (given_none n)
 all_given (slot ∷ slots) n known =
@@ -61,12 +67,14 @@ all_given (slot ∷ slots) n known =
       all_given slots n (All-tail (λ other. other.job < n) slot slots known),
     )
 
+-- slots that give each job the same give the same to all jobs below a number
 given_same : (slots others : List WholeSlot) (n : ℕ) → ((number : ℕ) → number < n → work_given slots number ≡ work_given others number) →
     given_below slots n ≡ given_below others n
 unfolding given_below
 given_same slots others zero same = refl
 given_same slots others (suc n) same = omega (arith, same n (omega arith), given_same slots others n (λ number within. same number (omega arith)))
 
+-- so all feasible schedules of the same jobs have the same work
 pub same_work : (jobs : List Job) (scale : ℕ) (slots others : List WholeSlot) → IsFeasibleAt jobs scale slots → IsFeasibleAt jobs scale others →
     sum_by (λ slot. slot.work) slots ≡ sum_by (λ slot. slot.work) others
 same_work jobs scale slots others feasible other_feasible =
@@ -81,16 +89,19 @@ deadlines_from : (jobs : List Job) (from : ℕ) → from ≤ fold (λ time job. 
 deadlines_from [] from = omega arith
 deadlines_from (job ∷ jobs) from = omega (arith, deadlines_from jobs (max from job.deadline))
 
+-- no deadline is beyond the greatest one
 deadlines_below : (jobs : List Job) (from number : ℕ) → number < length jobs →
     (job_at jobs number).deadline ≤ fold (λ time job. max time job.deadline) from jobs
 deadlines_below [] from number within = absurd (omega arith)
 deadlines_below (job ∷ jobs) from zero within = omega (arith, deadlines_from jobs (max from job.deadline))
 deadlines_below (job ∷ jobs) from (suc number) within = deadlines_below jobs (max from job.deadline) number (omega arith)
 
+-- a fold by the lesser doesn't rise
 releases_from : (jobs : List Job) (from : ℕ) → fold (λ time job. min time job.release) from jobs ≤ from
 releases_from [] from = omega arith
 releases_from (job ∷ jobs) from = omega (arith, releases_from jobs (min from job.release))
 
+-- no release is before the least one
 releases_above : (jobs : List Job) (from number : ℕ) → number < length jobs →
     fold (λ time job. min time job.release) from jobs ≤ (job_at jobs number).release
 releases_above [] from number within = absurd (omega arith)

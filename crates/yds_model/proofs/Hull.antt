@@ -20,13 +20,16 @@ IsOver low high point =
     low.power * high.speed + high.power * point.speed + point.power * low.speed
     ≤ point.power * high.speed + low.power * point.speed + high.power * low.speed
 
+-- a multiple of a gap
 times_gap : (k a b : ℕ) → a ≤ b → k * (b - a) + k * a ≡ k * b
 times_gap k a b within = sym (mul-add k (b - a) a) ∙ ap (λ n. k * n) (omega arith)
 
+-- then the line to the point from low is at most as steep as that from it to high
 pub flatter_below : (low high mid : Point) → low.speed ≤ mid.speed → mid.speed ≤ high.speed → IsOnOrBelow low high mid → IsFlatter low mid mid high
 flatter_below low high mid from to below =
     omega (arith, times_gap mid.power low.speed high.speed (omega arith), times_gap low.power mid.speed high.speed to, times_gap high.power low.speed mid.speed from)
 
+-- where it is above, the line from it on is flatter than the whole one, and the line up to it steeper
 pub flatter_above : (low high mid : Point) → low.speed ≤ mid.speed → mid.speed ≤ high.speed → IsAbove low high mid → IsFlatter mid high low high × IsFlatter low high low mid
 flatter_above low high mid from to above = (
   omega (arith, times_gap mid.power low.speed high.speed (omega arith), times_gap low.power mid.speed high.speed to, times_gap high.power low.speed mid.speed from),
@@ -38,13 +41,16 @@ abbrev ByGaps : Point → Point → Point → Point → Type 0
 ByGaps a b c d =
     (d.speed - c.speed) * b.power + (b.speed - a.speed) * c.power ≤ (b.speed - a.speed) * d.power + (d.speed - c.speed) * a.power
 
+-- a gap times a number
 gap_times : (k a b : ℕ) → a ≤ b → (b - a) * k + a * k ≡ b * k
 gap_times k a b within = sym (add-mul (b - a) a k) ∙ ap (λ n. n * k) (omega arith)
 
+-- from speeds to their gaps
 to_gaps : (a b c d : Point) → a.speed ≤ b.speed → c.speed ≤ d.speed → IsFlatter a b c d → ByGaps a b c d
 to_gaps a b c d first second flatter =
     omega (arith, gap_times b.power c.speed d.speed second, gap_times c.power a.speed b.speed first, gap_times d.power a.speed b.speed first, gap_times a.power c.speed d.speed second)
 
+-- and back
 from_gaps : (a b c d : Point) → a.speed ≤ b.speed → c.speed ≤ d.speed → ByGaps a b c d → IsFlatter a b c d
 from_gaps a b c d first second flatter =
     omega (arith, gap_times b.power c.speed d.speed second, gap_times c.power a.speed b.speed first, gap_times d.power a.speed b.speed first, gap_times a.power c.speed d.speed second)
@@ -54,6 +60,7 @@ cancelled : (a b c d e f u v w : ℕ) → 0 < v → v * b + u * c ≤ u * d + v 
 cancelled a b c d e f u v w some first second =
     le_of_mul-le-mul_left {k = v} (omega (arith, mul-le-mul_left w first, mul-le-mul_left u second)) some
 
+-- so of three slopes, each at most the next, the first is at most the last
 pub flatter_flatter : (a b c d e f : Point) → a.speed ≤ b.speed → c.speed < d.speed → e.speed ≤ f.speed →
     IsFlatter a b c d → IsFlatter c d e f → IsFlatter a b e f
 flatter_flatter a b c d e f one two three first second =
@@ -68,14 +75,17 @@ abbrev pub RisesFrom : ℕ → List Point → Type 0
 RisesFrom speed [] = Unit {0}
 RisesFrom speed (point ∷ points) = (speed < point.speed) × RisesFrom point.speed points
 
+-- points that rise do so from the first one's speed on
 pub rises_from : (point : Point) (points : List Point) → AreRising (point ∷ points) → RisesFrom point.speed points
 rises_from point [] rising = tt
 rises_from point (next ∷ points) rising = (rising.0, rises_from next points rising.1)
 
+-- and back
 pub rising_again : (point : Point) (points : List Point) → RisesFrom point.speed points → AreRising (point ∷ points)
 rising_again point [] rises = tt
 rising_again point (next ∷ points) rises = (rises.0, rising_again next points rises.1)
 
+-- and from each lower speed on
 pub rises_below : (low high : ℕ) (points : List Point) → low ≤ high → RisesFrom high points → RisesFrom low points
 rises_below low high [] within rises = tt
 rises_below low high (point ∷ points) within rises = (omega arith, rises.1)
@@ -88,6 +98,7 @@ next_rises low high (point ∷ points) hull speed rises (inl reached) =
 next_rises low high (point ∷ points) hull speed rises (inr left) =
     let later : point.speed < high.speed = next_rises low high points hull point.speed rises.1 left.1 in omega arith
 
+-- so the hull rises where the points do
 pub hull_rises : (low : Point) (points hull : List Point) (speed : ℕ) → RisesFrom speed points → GoesOn low points hull → RisesFrom speed hull
 hull_rises low [] [] speed rises goes = tt
 hull_rises low [] (high ∷ hull) speed rises goes = absurd goes
@@ -98,6 +109,7 @@ hull_rises low (point ∷ points) (high ∷ hull) speed rises (inl reached) =
 hull_rises low (point ∷ points) (high ∷ hull) speed rises (inr left) =
     hull_rises low points (high ∷ hull) speed (rises_below speed point.speed points (omega arith) rises.1) left.1
 
+-- and each point of it is faster than the one before
 pub neighbours_rise : (low : Point) (hull : List Point) (k : ℕ) → RisesFrom low.speed hull → k < length hull →
     (point_at (low ∷ hull) k).speed < (point_at hull k).speed
 neighbours_rise low [] k rises within = absurd (omega arith)
@@ -106,9 +118,11 @@ neighbours_rise low (high ∷ hull) (suc k) rises within = neighbours_rise high 
 
 -- # All points lie over the line through two neighbours of the hull
 
+-- a line that is at least as steep as l-h, and begins over it, ends over it
 over_next : (l h low high : Point) → IsOver l h low → IsFlatter l h low high → IsOver l h high
 over_next l h low high over flatter = omega arith
 
+-- and one that is at most as steep, and ends over it, begins over it
 over_before : (l h low high : Point) → IsOver l h high → IsFlatter low high l h → IsOver l h low
 over_before l h low high over flatter = omega arith
 
@@ -117,6 +131,7 @@ abbrev GoesSteeper : Point → Point → Point → List Point → Type 0
 GoesSteeper l h low [] = Unit {0}
 GoesSteeper l h low (high ∷ hull) = IsFlatter l h low high
 
+-- so beyond the next point too, since the hull is convex
 steeper_next : (l h low high : Point) (points hull : List Point) → l.speed < h.speed → low.speed < high.speed → RisesFrom high.speed points →
     GoesOn high points hull → IsConvex (low ∷ high ∷ hull) → IsFlatter l h low high → GoesSteeper l h high hull
 steeper_next l h low high points [] line gap rises goes convex steeper = tt
@@ -124,11 +139,13 @@ steeper_next l h low high points (later ∷ hull) line gap rises goes convex ste
     let rest : high.speed < later.speed = next_rises high later points hull high.speed rises goes in
     flatter_flatter l h low high high later (omega arith) gap (omega arith) steeper (flatter_below low later high (omega arith) (omega arith) convex.0)
 
+-- a convex hull without its first point is convex
 convex_tail : (low : Point) (hull : List Point) → IsConvex (low ∷ hull) → IsConvex hull
 convex_tail low [] convex = tt
 convex_tail low (high ∷ []) convex = tt
 convex_tail low (high ∷ later ∷ hull) convex = convex.1
 
+-- so from a point of the hull on, all points lie over it
 over_after : (l h low : Point) (points hull : List Point) → l.speed < h.speed → RisesFrom low.speed points → GoesOn low points hull →
     IsConvex (low ∷ hull) → IsOver l h low → GoesSteeper l h low hull → AllByRecursion (IsOver l h) points
 over_after l h low [] hull line rises goes convex over steeper = tt
@@ -157,6 +174,7 @@ record AreOver (low high l h : Point) (points : List Point) : Type 0 where
   all : AllByRecursion (IsOver l h) points
   flatter : IsFlatter low high l h
 
+-- so for each edge of the hull, whichever it is
 over_line : (low high : Point) (points hull : List Point) (k : ℕ) → RisesFrom low.speed points → GoesOn low points (high ∷ hull) →
     IsConvex (low ∷ high ∷ hull) → k < length (high ∷ hull) →
     AreOver low high (point_at (low ∷ high ∷ hull) k) (point_at (high ∷ hull) k) points
@@ -210,11 +228,13 @@ weights a b l h e p q A B C gap to_high from_low high =
     let both : A + B ≡ e * q = omega (arith, ap (λ n. n * q) gap) in
     omega (arith, ap (λ n. h * n) both, ap (λ n. e * n) high, ap (λ n. a * n) both, ap (λ n. e * n) from_low, ap (λ n. n * B) gap)
 
+-- the same for the lower end of the hull's edge
 weights_low : (a b l e p q A B D : ℕ) → a + e ≡ b → p + A ≡ b * q → a * q + B ≡ p → l * q + D ≡ p → a * A + b * B ≡ e * D + (l * A + l * B)
 weights_low a b l e p q A B D gap to_high from_low low =
     let both : A + B ≡ e * q = omega (arith, ap (λ n. n * q) gap) in
     omega (arith, ap (λ n. l * n) both, ap (λ n. e * n) low, ap (λ n. a * n) both, ap (λ n. e * n) from_low, ap (λ n. n * B) gap)
 
+-- an end of each kind, with its weight
 mixed : (a b l h x y z w d e A B C D : ℕ) → l + d ≡ h →
     z * h + w * a + x * l ≤ x * h + z * a + w * l → z * h + w * b + y * l ≤ y * h + z * b + w * l →
     h * A + h * B ≡ e * C + (a * A + b * B) → a * A + b * B ≡ e * D + (l * A + l * B) →
@@ -230,6 +250,7 @@ mixed a b l h x y z w d e A B C D gap over_a over_b high low =
       ap (λ n. y * n * B) gap,
     )
 
+-- so between two points over the line, the line between them runs over it
 between : (p q : ℕ) (a b l h : Point) → a.speed ≤ b.speed → l.speed ≤ h.speed → IsOver l h a → IsOver l h b →
     IsAround p q a b → IsAround p q l h →
     interpolated p q l h * (b.speed - a.speed) ≤ interpolated p q a b * (h.speed - l.speed)
@@ -254,6 +275,7 @@ edge_over point points low high hull k rises first goes convex inside =
     let on : AreOver low high l h points = over_line low high points hull k rises goes convex inside in
     All-cons (IsOver l h) point points (subst (IsOver l h) (sym first) on.this) (All-from_recursion (IsOver l h) points on.all)
 
+-- so all points lie over the line through any two neighbours
 pub hull_under : (points hull : List Point) (k : ℕ) → AreRising points → IsHullOf points hull → k + 1 < length hull →
     All (IsOver (point_at hull k) (point_at hull (k + 1))) points
 hull_under [] [] k rising is_hull inside = absurd (omega arith)
@@ -281,6 +303,7 @@ lowest point points low high hull p q i j k rises first goes convex some before 
     (le_of_mul-le-mul_right order some) (omega arith)
     (over i no_point (omega arith)) (over j no_point (omega arith)) around edge
 
+-- the law: the hull's line is at most the line between any two points
 pub hull_is_lowest : HullIsLowest
 hull_is_lowest [] hull p q i j k rising is_hull some before within around inside edge = absurd (omega arith)
 hull_is_lowest (point ∷ points) [] p q i j k rising is_hull some before within around inside edge = absurd (omega arith)

@@ -16,6 +16,7 @@ use Rattle.yds_model.proofs.Hull.{IsOver, RisesFrom, rises_from, rising_again, h
 
 -- # The hull is a table
 
+-- the hull rises
 pub hull_rising : (points hull : List Point) → AreRising points → IsHullOf points hull → AreRising hull
 hull_rising points [] rising is_hull = tt
 hull_rising [] (low ∷ hull) rising is_hull = absurd is_hull.part
@@ -23,6 +24,7 @@ hull_rising (point ∷ points) (low ∷ hull) rising is_hull =
     let P : Point → Type 0 = λ x. RisesFrom x.speed points in
     rising_again low hull (hull_rises low points hull low.speed (subst P is_hull.part.0 (rises_from point points rising)) is_hull.part.1)
 
+-- and begins where the table does
 pub hull_first : (points hull : List Point) → IsHullOf points hull → point_at points 0 ≡ point_at hull 0
 hull_first [] [] is_hull = refl
 hull_first [] (low ∷ hull) is_hull = absurd is_hull.part
@@ -40,6 +42,7 @@ under_point front low high low_power high_power speed power time rises over =
     let gap : low + (high - low) ≡ high = omega (arith, rises) in
     omega (arith, mul-le-mul_left (front * time) over, ap (λ n. front * power * time * n) gap)
 
+-- the same as a signed number
 line_under : (front : ℕ) (low high point : Point) (time : ℕ) → low.speed < high.speed → IsOver low high point →
     (pos front *ℤ on_line low high time (point.speed * time)) ≤ℤ pos (front * (high.speed - low.speed) * (point.power * time))
 line_under front low high point time rises over =
@@ -53,12 +56,15 @@ line_under front low high point time rises over =
 abbrev IsOverAll : Point → List Point → Type 0
 IsOverAll point hull = (k : ℕ) → k + 1 < length hull → IsOver (point_at hull k) (point_at hull (k + 1)) point
 
+-- so it is over each line of the hull's rest
 over_rest : (point low high : Point) (hull : List Point) → IsOverAll point (low ∷ high ∷ hull) → IsOverAll point (high ∷ hull)
 over_rest point low high hull over k within = rw add-one (rw add-one at (over (suc k) (omega arith)))
 
+-- the greater of two numbers below a third is below it
 both_under : (x y z : ℤ) → x ≤ℤ z → y ≤ℤ z → int_max x y ≤ℤ z
 both_under x y z first second = omega (arith, ints, clamps, first, second)
 
+-- a bound may be replaced by one that is equal
 at_most_same : (a b : ℕ) (z : ℤ) → a ≡ b → z ≤ℤ pos a → z ≤ℤ pos b
 at_most_same a b z same under = omega (arith, ints, same, under)
 
@@ -74,6 +80,7 @@ lines_under before low high [] point time rising over =
     subst (λ n. (pos (before * 1) *ℤ on_line low high time (point.speed * time)) ≤ℤ pos (n * (point.power * time)))
     (regrouped before 1 (high.speed - low.speed)) line
   where
+    -- of three factors the product is the same from either side
     regrouped : (x y z : ℕ) → x * y * z ≡ x * (y * z)
     regrouped x y z = omega arith
 lines_under before low high (next ∷ hull) point time rising over =
@@ -111,6 +118,7 @@ slot_under (first ∷ points) (low ∷ high ∷ hull) point time rising is_hull 
 
 -- # All slots
 
+-- so the slots' energy by the hull is at most what they spend at the points
 slots_under : (points hull : List Point) (slots : List WholeSlot) (spent : ℕ) → AreRising points → IsHullOf points hull →
     SpendsAtPoints points slots spent →
     total (map (λ slot. interpolated_power hull (slot.to - slot.from) slot.work) slots) ≤ℤ pos (product (gaps_of hull) * spent)
@@ -123,6 +131,7 @@ slots_under points hull (slot ∷ slots) spent rising is_hull (point, rest, on, 
     rw (total-cons (power slot) (map power slots))
     (omega (arith, ints, first, slots_under points hull slots rest rising is_hull spends, ap (λ n. product (gaps_of hull) * n) is))
 
+-- the law: a schedule on the points costs at least what the hull gives it
 pub points_cost_at_least_the_hull : PointsCostAtLeastTheHull
 points_cost_at_least_the_hull jobs points hull scale energy slots rising is_hull (spent, spends, is) =
     omega (

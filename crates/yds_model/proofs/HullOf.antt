@@ -26,6 +26,7 @@ under_by s e t u g a b L H P Q some edge at to before after =
     omega (arith, ap (λ n. L * n) to, ap (λ n. H * n) to, ap (λ n. L * n) edge, ap (λ n. H * n) edge, ap (λ n. Q * n) edge) in
     le_of_mul-le-mul_left {k = g} (omega (arith, mul-le-mul_left b first, mul-le-mul_left a second)) some
 
+-- the same for points of the table
 under : (low high l h : Point) → low.speed < high.speed → l.speed < high.speed → high.speed < h.speed → IsOver low high l → IsOver low high h →
     high.power * (h.speed - l.speed) ≤ l.power * (h.speed - high.speed) + h.power * (high.speed - l.speed)
 under low high l h edge before after over_l over_h =
@@ -50,6 +51,7 @@ goes_to low high [] hull goes = absurd goes
 goes_to low high (point ∷ points) hull (inl reached) = (0, omega arith, reached.0)
 goes_to low high (point ∷ points) hull (inr left) = let rest = goes_to low high points hull left.1 in (suc rest.0, omega (arith, rest.1), rest.2)
 
+-- a point above a line between an earlier and a later one is left out
 pub goes_out : (earlier later : List Point) (low high point : Point) → Contains earlier low → Contains later high → IsAbove low high point →
     is_left_out earlier point later ≡ true
 goes_out earlier later low high point first last above =
@@ -63,27 +65,33 @@ abbrev EdgesUnder : List Point → Point → List Point → Type 0
 EdgesUnder all low [] = Unit {0}
 EdgesUnder all low (high ∷ hull) = All (IsOver low high) all × EdgesUnder all high hull
 
+-- so for the hull's edges by their places
 edges_under : (all : List Point) (low : Point) (hull : List Point) → ((k : ℕ) → k < length hull → All (IsOver (point_at (low ∷ hull) k) (point_at hull k)) all) →
     EdgesUnder all low hull
 edges_under all low [] each = tt
 edges_under all low (high ∷ hull) each = (each 0 (omega arith), edges_under all high hull (λ k within. each (suc k) (omega arith)))
 
+-- later points are faster
 later_rise : (speed : ℕ) (points : List Point) → RisesFrom speed points → All (λ point. speed < point.speed) points
 later_rise speed [] rises = All-nil (λ point. speed < point.speed)
 later_rise speed (point ∷ points) rises =
     All-cons (λ other. speed < other.speed) point points rises.0
     (All-weaker (λ other. point.speed < other.speed) (λ other. speed < other.speed) (λ other after. omega arith) points (later_rise point.speed points rises.1))
 
+-- what a list has, it has with one more
 contains_pushed : (xs : List Point) (y x : Point) → Contains xs x → Contains (xs ++ y ∷ []) x
 contains_pushed xs y x found =
     (found.0, omega (arith, found.1, length-append xs (y ∷ [])), get_or_append_left xs (y ∷ []) x found.0 found.1 ∙ found.2)
 
+-- and it has that one
 contains_last : (xs : List Point) (y : Point) → Contains (xs ++ y ∷ []) y
 contains_last xs y = (length xs, omega (arith, length-append xs (y ∷ [])), get_or-append_seam xs y [] y)
 
+-- what holds of each element of two lists holds of the first one's
 All-left : (P : Point → Type 0) (xs ys : List Point) → All P (xs ++ ys) → All P xs
 All-left P xs ys all k d within = subst P (get_or_append_left xs ys d k within) (all k d (omega (arith, length-append xs ys)))
 
+-- and of the second one's
 All-right : (P : Point → Type 0) (xs ys : List Point) → All P (xs ++ ys) → All P ys
 All-right P xs ys all k d within = subst P (get_or-append-add xs ys k d) (all (length xs + k) d (omega (arith, length-append xs ys)))
 
@@ -119,6 +127,7 @@ computed earlier (point ∷ points) speed low (high ∷ hull) first before edge 
     (All-weaker (λ l. l.speed ≤ speed) (λ l. l.speed ≤ point.speed) (λ l at. omega arith) earlier before) (le_refl point.speed))
     (omega arith) rises.1 left.1 (subst (λ (all : List Point). EdgesUnder all low (high ∷ hull)) (sym (append_assoc earlier (point ∷ []) points)) edges)
 
+-- the law: a table has one hull, the one that is computed
 pub hull_is_computed : HullIsComputed
 hull_is_computed [] [] rising is_hull = refl
 hull_is_computed [] (low ∷ hull) rising is_hull = absurd is_hull.part

@@ -11,6 +11,7 @@ use Rattle.std.proofs.lemmas.Slice.Eq.{bytes_eq-Decides}
 use Rattle.yds_model.specs.Document.{name_at}
 use Rattle.yds_model.specs.RoundTrip.{AreDifferentNames}
 
+-- the test tells different names apart
 bytes_differ : (a b : List ℕ) → (a ≡ b → ⊥) → bytes_eq a b ≡ false
 bytes_differ a b differ = elim (cases_Bool (bytes_eq a b)) [
   | inl same ↦ absurd (differ ((bytes_eq-Decides a b).0 same))

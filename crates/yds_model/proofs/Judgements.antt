@@ -49,7 +49,7 @@ HasSpeeds levels slot = (i : ℕ) → i < length levels → Contains (level_at l
     slot.work * (level_at levels i).length ≡ (level_at levels i).work * (slot.to - slot.from)
 
 -- a written slot that has them has them at a scale
-speeds_at_scale : (levels : List Level) (slots : List WrittenSlot) (scale : ℕ) → IsScale scale slots → (s : ℕ) → s < length slots →
+pub speeds_at_scale : (levels : List Level) (slots : List WrittenSlot) (scale : ℕ) → IsScale scale slots → (s : ℕ) → s < length slots →
     HasWrittenSpeed levels slots s → HasLevelSpeed levels (slots_at scale slots) s
 speeds_at_scale levels slots scale is s within has =
     subst (HasSpeeds levels) (sym (slot_read scale slots s within))

@@ -25,9 +25,11 @@ use Rattle.yds_model.proofs.Printed.{decimal_word, name_word, fraction_word, fra
 
 -- ---- jobs
 
+-- the fields of a job's line
 abbrev pub job_texts : List ℕ → Job → List (List ℕ)
 job_texts name job = codes "job" ∷ name ∷ decimal job.release ∷ decimal job.deadline ∷ decimal job.work ∷ []
 
+-- they are read as the job
 pub job_read : (earlier : List Entry) (name : List ℕ) (job : Job) → IsJob job → is_name name ≡ true → job_named earlier name ≡ None →
     length (filter_map name_said earlier) < MAX_JOBS → read_fields earlier (spaced 1 (job_texts name job)) ≡ Ok (JobEntry name job)
 job_read earlier name job fits named new room =
@@ -41,6 +43,7 @@ job_read earlier name job fits named new room =
       lt-ltb job.release job.deadline fits.has_window,
     ) refl
 
+-- and each is a word
 pub job_words : (name : List ℕ) (job : Job) → is_name name ≡ true → IsJob job → AllByRecursion IsWord (job_texts name job)
 job_words name job named fits =
     let release : IsWord (decimal job.release) = decimal_word job.release (omega (arith, fits.has_window, fits.time_in_range)) in
@@ -50,6 +53,7 @@ job_words name job named fits =
 
 -- ---- slots
 
+-- one of three tests that passes makes their disjunction pass
 one_of_three : (a b c : Bool) → (a ≡ true) ⊎ ((b ≡ true) ⊎ (c ≡ true)) → (a || b || c) ≡ true
 one_of_three true b c some = refl
 one_of_three false true c some = refl
@@ -58,6 +62,7 @@ one_of_three false false false (inl one) = one
 one_of_three false false false (inr (inl one)) = one
 one_of_three false false false (inr (inr one)) = one
 
+-- works that are alike pass the test of it
 pub alike_test : (x y : Fraction) → AreAlike x y → are_alike x y ≡ true
 alike_test x y (inl same) = one_of_three (x.den == y.den) (x.den == 1) (y.den == 1) (inl (eq-eqb x.den y.den same))
 alike_test x y (inr (inl one)) = one_of_three (x.den == y.den) (x.den == 1) (y.den == 1) (inr (inl (eq-eqb x.den 1 one)))
@@ -76,9 +81,11 @@ grain_test job work (slot ∷ slots) alike =
       | inr other ↦ rw (ne_eqb slot.job job other) rest
     ]
 
+-- the fields of a slot's line
 abbrev pub slot_texts : List ℕ → WrittenSlot → List (List ℕ)
 slot_texts name slot = codes "slot" ∷ name ∷ fraction_text slot.from ∷ fraction_text slot.to ∷ fraction_text slot.work ∷ []
 
+-- they are read as the slot
 pub slot_read : (earlier : List Entry) (name : List ℕ) (slot : WrittenSlot) → IsSlot slot → is_name name ≡ true → job_named earlier name ≡ Some slot.job →
     fits_grain earlier slot.job slot.work ≡ true → length (filter_map slot_said earlier) < MAX_SLOTS →
     read_fields earlier (spaced 1 (slot_texts name slot)) ≡ Ok (SlotEntry slot)
@@ -94,6 +101,7 @@ slot_read earlier name slot fits named known grain room =
       grain,
     ) refl
 
+-- and each is a word
 pub slot_words : (name : List ℕ) (slot : WrittenSlot) → is_name name ≡ true → IsSlot slot → AllByRecursion IsWord (slot_texts name slot)
 slot_words name slot named fits =
     let from : IsWord (fraction_text slot.from) = fraction_word MAX_TIME slot.from (omega arith) fits.from in
@@ -103,9 +111,11 @@ slot_words name slot named fits =
 
 -- ---- points
 
+-- the fields of a point's line
 abbrev pub point_texts : Point → List (List ℕ)
 point_texts point = codes "point" ∷ decimal point.speed ∷ decimal point.power ∷ []
 
+-- they are read as the point
 pub point_read : (earlier : List Entry) (point : Point) → IsPoint point → length (filter_map point_said earlier) < MAX_POINTS →
     ((column : ℕ) → follows_points (filter_map point_said earlier) point.speed column ≡ Ok true) →
     hull_multiple (filter_map point_said earlier ++ point ∷ []) ≤ MAX_GAPS → read_fields earlier (spaced 1 (point_texts point)) ≡ Ok (PointEntry point)
@@ -118,6 +128,7 @@ point_read earlier point fits room follows gaps =
       le-leb (hull_multiple (filter_map point_said earlier ++ point ∷ [])) MAX_GAPS gaps,
     ) refl
 
+-- and each is a word
 pub point_words : (point : Point) → IsPoint point → AllByRecursion IsWord (point_texts point)
 point_words point fits =
     let speed : IsWord (decimal point.speed) = decimal_word point.speed (omega (arith, fits.speed_in_range)) in
@@ -130,6 +141,7 @@ rising_front : (first : Point) (others : List Point) (point : Point) (after : Li
 rising_front first [] point after rising = rising.0
 rising_front first (next ∷ others) point after rising = rising_front next others point after rising.1
 
+-- so a point of a table follows those before it
 pub follows_front : (before : List Point) (point : Point) (after : List Point) → IsTable (before ++ point ∷ after) → (column : ℕ) →
     follows_points before point.speed column ≡ Ok true
 follows_front [] point after table column = rw (eq-eqb point.speed 0 table.idle) refl
@@ -138,9 +150,11 @@ follows_front (first ∷ others) point after table column =
 
 -- ---- levels, their pieces and their members
 
+-- the fields of a level's line
 abbrev pub level_texts : Level → List (List ℕ)
 level_texts level = codes "level" ∷ decimal level.work ∷ decimal level.length ∷ []
 
+-- they are read as the level's work and length
 pub level_read : (earlier : List Entry) (level : Level) → IsLevel level → length (levels_said earlier) < MAX_LEVELS →
     read_fields earlier (spaced 1 (level_texts level)) ≡ Ok (LevelEntry level.work level.length)
 level_read earlier level fits room =
@@ -151,15 +165,18 @@ level_read earlier level fits room =
       number_at-decimal 1 MAX_LEVEL_LENGTH level.length (omega (arith, fits.length_in_range)) fits.has_length fits.length_in_range,
     ) refl
 
+-- and each is a word
 pub level_words : (level : Level) → IsLevel level → AllByRecursion IsWord (level_texts level)
 level_words level fits =
     let work : IsWord (decimal level.work) = decimal_word level.work (omega (arith, fits.work_in_range)) in
     let long : IsWord (decimal level.length) = decimal_word level.length (omega (arith, fits.length_in_range)) in
     (name_word (codes "level") refl, (work, (long, tt)))
 
+-- the fields of a piece's line
 abbrev pub piece_texts : Piece → List (List ℕ)
 piece_texts piece = codes "piece" ∷ decimal piece.from ∷ decimal piece.to ∷ []
 
+-- they are read as the piece
 pub piece_read : (earlier : List Entry) (piece : Piece) → IsPiece piece → 0 < length (levels_said earlier) → length (filter_map piece_said earlier) < MAX_PIECES →
     read_fields earlier (spaced 1 (piece_texts piece)) ≡ Ok (PieceEntry piece)
 piece_read earlier piece fits some room =
@@ -171,15 +188,18 @@ piece_read earlier piece fits some room =
       number_at-decimal 0 MAX_TIME piece.to (omega (arith, fits.to_in_range)) (omega arith) fits.to_in_range,
     ) refl
 
+-- and each is a word
 pub piece_words : (piece : Piece) → IsPiece piece → AllByRecursion IsWord (piece_texts piece)
 piece_words piece fits =
     let from : IsWord (decimal piece.from) = decimal_word piece.from (omega (arith, fits.from_in_range)) in
     let to : IsWord (decimal piece.to) = decimal_word piece.to (omega (arith, fits.to_in_range)) in
     (name_word (codes "piece") refl, (from, (to, tt)))
 
+-- the fields of a member's line
 abbrev pub member_texts : List ℕ → List (List ℕ)
 member_texts name = codes "member" ∷ name ∷ []
 
+-- they are read as the member's number
 pub member_read : (earlier : List Entry) (name : List ℕ) (job : ℕ) → is_name name ≡ true → job_named earlier name ≡ Some job →
     0 < length (levels_said earlier) → length (filter_map member_said earlier) < MAX_MEMBERS →
     read_fields earlier (spaced 1 (member_texts name)) ≡ Ok (MemberEntry job)
@@ -192,14 +212,17 @@ member_read earlier name job named known some room =
       known,
     ) refl
 
+-- and each is a word
 pub member_words : (name : List ℕ) → is_name name ≡ true → AllByRecursion IsWord (member_texts name)
 member_words name named = (name_word (codes "member") refl, (name_word name named, tt))
 
 -- ---- the grid and the energy
 
+-- the fields of the grid's line
 abbrev pub grid_texts : Grid → List (List ℕ)
 grid_texts grid = codes "grid" ∷ decimal grid.grid ∷ decimal grid.rounded ∷ []
 
+-- they are read as the grid
 pub grid_read : (earlier : List Entry) (grid : Grid) → IsGrid grid → filter_map grid_said earlier ≡ [] →
     read_fields earlier (spaced 1 (grid_texts grid)) ≡ Ok (GridEntry grid)
 grid_read earlier grid fits none =
@@ -209,18 +232,22 @@ grid_read earlier grid fits none =
       number_at-decimal 0 MAX_ROUNDED grid.rounded (omega (arith, fits.rounded_in_range)) (omega arith) fits.rounded_in_range,
     ) refl
 
+-- and each is a word
 pub grid_words : (grid : Grid) → IsGrid grid → AllByRecursion IsWord (grid_texts grid)
 grid_words grid fits =
     let one : IsWord (decimal grid.grid) = decimal_word grid.grid (omega (arith, fits.grid_in_range)) in
     let rounded : IsWord (decimal grid.rounded) = decimal_word grid.rounded (omega (arith, fits.rounded_in_range)) in
     (name_word (codes "grid") refl, (one, (rounded, tt)))
 
+-- the fields of the energy's line
 abbrev pub energy_texts : Fraction → List (List ℕ)
 energy_texts energy = codes "energy" ∷ fraction_text energy ∷ []
 
+-- they are read as the energy
 pub energy_read : (earlier : List Entry) (energy : Fraction) → IsFraction MAX_ENERGY energy → filter_map energy_said earlier ≡ [] →
     read_fields earlier (spaced 1 (energy_texts energy)) ≡ Ok (EnergyEntry energy)
 energy_read earlier energy fits none = rw (none, fraction_read MAX_ENERGY energy (omega arith) fits) refl
 
+-- and each is a word
 pub energy_words : (energy : Fraction) → IsFraction MAX_ENERGY energy → AllByRecursion IsWord (energy_texts energy)
 energy_words energy fits = (name_word (codes "energy") refl, (fraction_word MAX_ENERGY energy (omega arith) fits, tt))

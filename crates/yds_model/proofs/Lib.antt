@@ -16,6 +16,7 @@ pub mod Front
 pub mod Explained
 pub mod Fractions
 pub mod Scale
+pub mod RunScale
 pub mod Grain
 pub mod Runs
 pub mod Verdicts
@@ -27,7 +28,6 @@ pub mod Divisor
 pub mod Lines
 pub mod Hull
 pub mod HullOf
-pub mod OneJob
 pub mod Curve
 pub mod Plans
 pub mod Energy
@@ -46,3 +46,4 @@ pub mod Short
 pub mod Inverse
 pub mod Grown
 pub mod Within
+pub mod PlanText

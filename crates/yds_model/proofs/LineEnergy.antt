@@ -11,11 +11,13 @@ use Rattle.yds_model.specs.EnergyLaws.{LinesAreAtMostEnergy}
 use Rattle.yds_model.proofs.Differences.{difference_times, difference_at_most, at_most_in_turn, greatest-cons}
 use Rattle.yds_model.proofs.Hinges.{product-cons}
 
+-- a multiple of a number is at most that of the greater of it and another
 times_first : (n : ℕ) (x y : ℤ) → (pos n *ℤ x) ≤ℤ (pos n *ℤ int_max x y)
 times_first n x y =
     let order : up x + down (int_max x y) ≤ up (int_max x y) + down x = omega (arith, clamps) in
     omega (arith, ints, mul-le-mul_left n order)
 
+-- and so is what is at most a multiple of the other
 times_second : (n : ℕ) (x y z : ℤ) → z ≤ℤ (pos n *ℤ y) → z ≤ℤ (pos n *ℤ int_max x y)
 times_second n x y z under =
     let order : up y + down (int_max x y) ≤ up (int_max x y) + down y = omega (arith, clamps) in
@@ -29,9 +31,11 @@ own_gap all gap others line is =
     (difference_times gap (others * up line) (others * down line) _ (difference_times others (up line) (down line) line refl))
     (omega (arith, ap (λ n. n * up line) is, ap (λ n. n * down line) is))
 
+-- an equal factor may take the place of one
 same_times : (a b : ℕ) (line z : ℤ) → a ≡ b → (pos a *ℤ line) ≤ℤ z → (pos b *ℤ line) ≤ℤ z
 same_times a b line z same under = subst (λ n. (pos n *ℤ line) ≤ℤ z) same under
 
+-- each line, times all gaps, is at most its own gap times the greatest number of the lines
 lines_at_most : (before : ℕ) (low high : Point) (points : List Point) (k time work : ℕ) → k + 1 < length (low ∷ high ∷ points) →
     (pos (before * product (gaps_of (low ∷ high ∷ points))) *ℤ on_line (point_at (low ∷ high ∷ points) k) (point_at (high ∷ points) k) time work)
     ≤ℤ (pos ((point_at (high ∷ points) k).speed - (point_at (low ∷ high ∷ points) k).speed) *ℤ
@@ -62,6 +66,7 @@ lines_at_most before low high (next ∷ points) (suc k) time work within =
     (omega (arith, ap (λ n. before * n) (product-cons gap (gaps_of (high ∷ next ∷ points)))))
     (lines_at_most (before * gap) high next points k time work (omega arith))))
 
+-- the law: the energy is at least what each line gives
 pub lines_are_at_most_energy : LinesAreAtMostEnergy
 lines_are_at_most_energy [] k time work within = absurd (omega arith)
 lines_are_at_most_energy (point ∷ []) k time work within = absurd (omega arith)

@@ -26,11 +26,12 @@ lines_from-last number start byte [] none =
 lines_from-last number start byte (next ∷ bytes) none =
     rw (ne_eqb byte 10 (All-head (λ byte. byte ≢ 10) byte (next ∷ bytes) none), lines_from-last number (start + 1) next bytes (All-tail (λ byte. byte ≢ 10) byte (next ∷ bytes) none)) refl
 
--- there are no more lines than bytes
+-- a byte in front makes at most one line more
 length-in_front-le : (number start byte : ℕ) (lines : List Line) → length (in_front number start byte lines) ≤ length lines + 1
 length-in_front-le number start byte [] = omega arith
 length-in_front-le number start byte (line ∷ lines) = omega arith
 
+-- so there are no more lines than bytes
 pub length-lines_from-le : (number start : ℕ) (bytes : List ℕ) → length (lines_from number start bytes) ≤ length bytes
 length-lines_from-le number start [] = omega arith
 length-lines_from-le number start (byte ∷ bytes) =
@@ -48,16 +49,19 @@ lines_from-written number start text rest none =
 
 -- ---- carriage returns
 
+-- one carriage return at the end goes
 pub without_return-end : (front : List ℕ) → without_return (front ++ 13 ∷ []) ≡ front
 without_return-end [] = refl
 without_return-end (byte ∷ []) = refl
 without_return-end (byte ∷ next ∷ front) = ap (λ bytes. byte ∷ bytes) (without_return-end (next ∷ front))
 
+-- another byte at the end stays
 pub without_return-other : (front : List ℕ) (byte : ℕ) → byte ≢ 13 → without_return (front ++ byte ∷ []) ≡ front ++ byte ∷ []
 without_return-other [] byte other = rw (ne_eqb byte 13 other) refl
 without_return-other (first ∷ []) byte other = rw (ne_eqb byte 13 other) refl
 without_return-other (first ∷ next ∷ front) byte other = ap (λ bytes. first ∷ bytes) (without_return-other (next ∷ front) byte other)
 
+-- and a text without carriage returns stays
 pub without_return-none : (text : List ℕ) → All (λ byte. byte ≢ 13) text → without_return text ≡ text
 without_return-none [] none = refl
 without_return-none (byte ∷ []) none = rw (ne_eqb byte 13 (All-head (λ byte. byte ≢ 13) byte [] none)) refl
@@ -71,15 +75,18 @@ abbrev pub StartsFrom : ℕ → List Field → Type 0
 StartsFrom column [] = Unit {0}
 StartsFrom column (field ∷ fields) = column ≤ field.column
 
+-- a byte in front makes a field at its column
 StartsFrom-joined : (column byte : ℕ) (fields : List Field) → StartsFrom column (joined column byte fields)
 StartsFrom-joined column byte [] = omega arith
 StartsFrom-joined column byte (field ∷ fields) =
     elim (field.column == column + 1) as (λ test. StartsFrom column (cond test (record { column = column; text = byte ∷ field.text } ∷ fields) (record { column = column; text = byte ∷ [] } ∷ field ∷ fields))) [ true ↦ omega arith | false ↦ omega arith ]
 
+-- later than a column is later than the one before it
 StartsFrom-weaker : (column : ℕ) (fields : List Field) → StartsFrom (column + 1) fields → StartsFrom column fields
 StartsFrom-weaker column [] later = tt
 StartsFrom-weaker column (field ∷ fields) later = omega arith
 
+-- the fields from a column on stand there or later
 pub StartsFrom-fields_from : (column : ℕ) (bytes : List ℕ) → StartsFrom column (fields_from column bytes)
 StartsFrom-fields_from column [] = tt
 StartsFrom-fields_from column (byte ∷ bytes) =
@@ -106,9 +113,11 @@ abbrev pub EndsField : List ℕ → Type 0
 EndsField [] = Unit {0}
 EndsField (byte ∷ bytes) = is_blank byte ≡ true
 
+-- a blank at the front is passed over
 fields_from-blank : (column byte : ℕ) (bytes : List ℕ) → is_blank byte ≡ true → fields_from column (byte ∷ bytes) ≡ fields_from (column + 1) bytes
 fields_from-blank column byte bytes blank = rw blank refl
 
+-- another byte is the first of a field
 fields_from-full : (column byte : ℕ) (bytes : List ℕ) → is_blank byte ≡ false → fields_from column (byte ∷ bytes) ≡ joined column byte (fields_from (column + 1) bytes)
 fields_from-full column byte bytes full = rw full refl
 
@@ -131,6 +140,7 @@ fields_from-run column byte (next ∷ bytes) rest full ends =
 drop_next : (n : ℕ) (byte : ℕ) (bytes : List ℕ) → drop (1 + n) (byte ∷ bytes) ≡ drop n bytes
 drop_next n byte bytes = rw (one-add n) refl
 
+-- the same of the front
 take_next : (n : ℕ) (byte : ℕ) (bytes : List ℕ) → take (1 + n) (byte ∷ bytes) ≡ byte ∷ take n bytes
 take_next n byte bytes = rw (one-add n) refl
 
@@ -167,6 +177,7 @@ full_before (byte ∷ bytes) =
           (All-cons (λ byte. is_blank byte ≡ false) byte (take (position_or_len is_blank bytes) bytes) full (full_before bytes))
     ]
 
+-- what is left begins with a blank, or is nothing
 blank_after : (bytes : List ℕ) → EndsField (drop (position_or_len is_blank bytes) bytes)
 blank_after [] = tt
 blank_after (byte ∷ bytes) =
@@ -233,12 +244,13 @@ fields_from-last column [] some full = absurd (omega arith)
 fields_from-last column (byte ∷ field) some full =
     ap (λ bytes. fields_from column (byte ∷ bytes)) (sym (append-nil field)) ∙ fields_from-run column byte field [] full tt
 
--- there are no more fields than bytes
+-- a byte in front makes at most one field more
 length-joined-le : (column byte : ℕ) (fields : List Field) → length (joined column byte fields) ≤ length fields + 1
 length-joined-le column byte [] = omega arith
 length-joined-le column byte (field ∷ fields) =
     elim (field.column == column + 1) as (λ test. length (cond test (record { column = column; text = byte ∷ field.text } ∷ fields) (record { column = column; text = byte ∷ [] } ∷ field ∷ fields)) ≤ length (field ∷ fields) + 1) [ true ↦ omega arith | false ↦ omega arith ]
 
+-- so there are no more fields than bytes
 pub length-fields_from-le : (column : ℕ) (bytes : List ℕ) → length (fields_from column bytes) ≤ length bytes
 length-fields_from-le column [] = omega arith
 length-fields_from-le column (byte ∷ bytes) =
@@ -266,6 +278,7 @@ pub record IsFull (text : List ℕ) : Type 0 where
   pub some : 0 < length text
   pub full : All (λ byte. is_blank byte ≡ false) text
 
+-- texts with one blank between are read as these fields
 pub fields_from-join : (column : ℕ) (texts : List (List ℕ)) → AllByRecursion IsFull texts → fields_from column (join_with_byte 32 texts) ≡ spaced column texts
 fields_from-join column [] full = refl
 fields_from-join column (text ∷ []) full = fields_from-last column text full.0.some full.0.full

@@ -8,6 +8,7 @@ use Rattle.yds_model.proofs.Differences.{at_most_in_turn}
 use Rattle.yds_model.proofs.Energy.{least_is_cheapest}
 use Rattle.yds_model.proofs.HullEnergy.{hull_first, hull_rising, points_cost_at_least_the_hull}
 
+-- the law: a plan costs at most what each feasible schedule does, by a convex table
 pub plans_cost_least : PlansCostLeast
 plans_cost_least jobs slots levels points scale others plan table convex is feasible =
     least_is_cheapest jobs points scale (slots_at scale slots) others table convex ((plans_are_least jobs slots levels plan).0 scale is) feasible
@@ -18,6 +19,7 @@ hull_some [] [] table is_hull = table.some
 hull_some (point ∷ points) [] table is_hull = absurd is_hull.part
 hull_some points (low ∷ hull) table is_hull = omega arith
 
+-- with a first point, idle, and rising
 hull_table : (points hull : List Point) → IsTable points → IsHullOf points hull → IsTable hull
 hull_table points hull table is_hull = record {
   some = hull_some points hull table is_hull;

@@ -18,21 +18,25 @@ use Rattle.yds_model.proofs.Brought.{IsWord}
 
 -- ---- words
 
+-- a number in base ten is a word
 pub decimal_word : (n : ℕ) → n < 2 ^ 64 → IsWord (decimal n)
 decimal_word n small = record {
   some = decimal_nonempty n small;
   visible = All-weaker (λ byte. is_digit byte ≡ true) (λ byte. 33 ≤ byte) high (decimal n) (decimal_digits n small);
 }
   where
+    -- a digit is visible
     high : (byte : ℕ) → is_digit byte ≡ true → 33 ≤ byte
     high byte digit = let range = digit_range byte digit in omega (arith, range.0)
 
+-- bytes that pass the test of it are visible
 visible_bytes : (text : List ℕ) → list_all (λ byte. nat_le 33 byte && nat_le byte 126) text ≡ true → All (λ byte. 33 ≤ byte) text
 visible_bytes [] visible = All-nil (λ byte. 33 ≤ byte)
 visible_bytes (byte ∷ text) visible =
     let parts = and_parts (nat_le 33 byte && nat_le byte 126) (list_all (λ byte. nat_le 33 byte && nat_le byte 126) text) visible in
     All-cons (λ byte. 33 ≤ byte) byte text (leb-true 33 byte (and_parts (nat_le 33 byte) (nat_le byte 126) parts.0).0) (visible_bytes text parts.1)
 
+-- a name is a word
 pub name_word : (name : List ℕ) → is_name name ≡ true → IsWord name
 name_word name named =
     let parts = and_parts _ _ named in
@@ -47,16 +51,19 @@ position-middle p [] byte rest none one = rw one refl
 position-middle p (first ∷ front) byte rest none one =
     rw (All-head (λ byte. p byte ≡ false) first front none, position-middle p front byte rest (All-tail (λ byte. p byte ≡ false) first front none) one) (omega arith)
 
+-- what comes before it is that front
 before-middle : (p : ℕ → Bool) (front : List ℕ) (byte : ℕ) (rest : List ℕ) → All (λ byte. p byte ≡ false) front → p byte ≡ true →
     before_first p (front ++ byte ∷ rest) ≡ front
 before-middle p front byte rest none one =
     ap (λ (n : ℕ). take n (front ++ byte ∷ rest)) (position-middle p front byte rest none one) ∙ take-append_seam front (byte ∷ rest)
 
+-- what comes after it is the rest
 after-middle : (p : ℕ → Bool) (front : List ℕ) (byte : ℕ) (rest : List ℕ) → All (λ byte. p byte ≡ false) front → p byte ≡ true →
     after_first p (front ++ byte ∷ rest) ≡ rest
 after-middle p front byte rest none one =
     ap (λ (n : ℕ). drop (n + 1) (front ++ byte ∷ rest)) (position-middle p front byte rest none one) ∙ drop-append-add front (byte ∷ rest) 1
 
+-- and some byte passes the test
 any-middle : (p : ℕ → Bool) (front : List ℕ) (byte : ℕ) (rest : List ℕ) → p byte ≡ true → list_any p (front ++ byte ∷ rest) ≡ true
 any-middle p [] byte rest one = rw one refl
 any-middle p (first ∷ front) byte rest one = rw (any-middle p front byte rest one) (or-true (p first))
@@ -66,6 +73,7 @@ digits_then_plus : (front rest : List ℕ) → All (λ byte. is_digit byte ≡ t
 digits_then_plus [] rest digits = false≢true (All-head (λ byte. is_digit byte ≡ true) 43 rest digits)
 digits_then_plus (first ∷ front) rest digits = digits_then_plus front rest (All-tail (λ byte. is_digit byte ≡ true) first (front ++ 43 ∷ rest) digits)
 
+-- since a plus is no digit
 no_number : (front rest : List ℕ) → is_number (front ++ 43 ∷ rest) ≡ false
 no_number front rest = elim (cases_Bool (is_number (front ++ 43 ∷ rest))) [
   | inl number ↦ absurd (digits_then_plus front rest (number_digits (front ++ 43 ∷ rest) number))
@@ -86,6 +94,7 @@ plain_fraction most x fits none =
     ap {B = Fraction} (λ (num : ℕ). record { whole = x.whole; num = num; den = 1 }) (sym none)
     ∙ ap {B = Fraction} (λ (den : ℕ). record { whole = x.whole; num = x.num; den = den }) (sym (fits.whole_is_plain none))
 
+-- so reading changes nothing of it
 kept_same : (most : ℕ) (x : Fraction) → IsFraction most x → kept most x ≡ Ok x
 kept_same most x fits =
     rw (
@@ -105,6 +114,7 @@ whole_read most x small fits none =
     let within : x.whole < 2 ^ 64 = omega (arith, fits.whole_in_range) in
     rw (is_number-decimal x.whole within, digits_value-decimal x.whole within) (ap (kept most) (plain_fraction most x fits none) ∙ kept_same most x fits)
 
+-- a fraction with a part is read back from its text
 mixed_read : (most : ℕ) (x : Fraction) → most < 2 ^ 64 → IsFraction most x →
     fraction_at most (decimal x.whole ++ (43 ∷ (decimal x.num ++ 47 ∷ decimal x.den))) ≡ Ok x
 mixed_read most x small fits =
@@ -128,12 +138,14 @@ mixed_read most x small fits =
       digits_value-decimal x.den den,
     ) (kept_same most x fits)
 
+-- and so is each fraction
 pub fraction_read : (most : ℕ) (x : Fraction) → most < 2 ^ 64 → IsFraction most x → fraction_at most (fraction_text x) ≡ Ok x
 fraction_read most x small fits = elim (cases_Bool (x.num == 0)) [
   | inl none ↦ rw none (whole_read most x small fits (eqb-true x.num 0 none))
   | inr some ↦ rw some (ap (fraction_at most) (mixed_text x.whole x.num x.den) ∙ mixed_read most x small fits)
 ]
 
+-- what is printed of it is a word
 pub fraction_word : (most : ℕ) (x : Fraction) → most < 2 ^ 64 → IsFraction most x → IsWord (fraction_text x)
 fraction_word most x small fits =
     let whole : IsWord (decimal x.whole) = decimal_word x.whole (omega (arith, fits.whole_in_range)) in

@@ -28,10 +28,12 @@ use Rattle.yds_model.proofs.KindsRead.{job_texts, job_words, job_read, point_tex
 
 -- ---- an element of a list, and those before it
 
+-- the list is as long as its three parts
 length_before : {X : Type 0} (all before : List X) (x : X) (after : List X) → before ++ x ∷ after ≡ all → length all ≡ length before + 1 + length after
 length_before all before x after is =
     let long : length all ≡ length before + length (x ∷ after) = ap length (sym is) ∙ length-append before (x ∷ after) in omega arith
 
+-- what holds of each element of the list holds of this one
 All-middle : {X : Type 0} (P : X → Type 0) (all before : List X) (x : X) (after : List X) → before ++ x ∷ after ≡ all → All P all → P x
 All-middle P all before x after is holds =
     let long = length_before all before x after is in
@@ -40,17 +42,21 @@ All-middle P all before x after is holds =
 
 -- ---- what was read after each part
 
+-- after the jobs: they and their names
 abbrev after_jobs : Document → Document
 after_jobs d = record { names = d.names; jobs = d.jobs; points = []; slots = []; levels = []; grid = None; energy = None }
 
+-- after the points: besides them the points
 abbrev after_points : Document → Document
 after_points d = record { names = d.names; jobs = d.jobs; points = d.points; slots = []; levels = []; grid = None; energy = None }
 
+-- after the slots: besides them the slots
 abbrev after_slots : Document → Document
 after_slots d = record { names = d.names; jobs = d.jobs; points = d.points; slots = d.slots; levels = []; grid = None; energy = None }
 
 -- ---- jobs
 
+-- the first jobs with their names
 abbrev some_jobs : List (List ℕ × Job) → Document
 some_jobs named = record {
   names = map (λ (one : List ℕ × Job). one.0) named;
@@ -62,16 +68,20 @@ some_jobs named = record {
   energy = None;
 }
 
+-- the lines of the jobs bring nothing to all of them
 jobs_brought : (d : Document) → IsDocument d → Brings no_document (job_lines d.names d.jobs) (after_jobs d)
 jobs_brought d fits =
     subst (λ after. Brings no_document (job_lines d.names d.jobs) after) whole (Brings-each some_jobs (λ named. job_line named.0 named.1) (zip d.names d.jobs) each)
   where
+    -- there are as many names as jobs
     same : length d.jobs ≡ length d.names
     same = sym fits.jobs.one_name_each
 
+    -- all pairs of them are the document's
     whole : some_jobs (zip d.names d.jobs) ≡ after_jobs d
     whole = rw (firsts-zip d.names d.jobs same, seconds-zip d.names d.jobs same) refl
 
+    -- each job's line brings those before it to those with it
     each : (before : List (List ℕ × Job)) (x : List ℕ × Job) (after : List (List ℕ × Job)) → before ++ x ∷ after ≡ zip d.names d.jobs →
         Brings (some_jobs before) (job_line x.0 x.1) (some_jobs (before ++ x ∷ []))
     each before x after is =
@@ -96,6 +106,7 @@ jobs_brought d fits =
 
 -- ---- slots
 
+-- the document after the points, with the first slots
 abbrev some_slots : Document → List WrittenSlot → Document
 some_slots d slots = record { names = d.names; jobs = d.jobs; points = d.points; slots = slots; levels = []; grid = None; energy = None }
 
@@ -113,9 +124,11 @@ alike_before slots before slot after grains is =
     subst (λ slot. AreAlike slot.work (get_or before k no_written_slot).work) here
     (subst (λ other. AreAlike (written_slot_at slots (length before)).work other.work) there alike))
 
+-- the lines of the slots bring the points to all of the slots
 slots_brought : (d : Document) → IsDocument d → Brings (after_points d) (flat_map (slot_line d.names) d.slots) (after_slots d)
 slots_brought d fits = Brings-each (some_slots d) (slot_line d.names) d.slots each
   where
+    -- each slot's line brings those before it to those with it
     each : (before : List WrittenSlot) (slot : WrittenSlot) (after : List WrittenSlot) → before ++ slot ∷ after ≡ d.slots →
         Brings (some_slots d before) (slot_line d.names slot) (some_slots d (before ++ slot ∷ []))
     each before slot after is =
@@ -137,6 +150,7 @@ slots_brought d fits = Brings-each (some_slots d) (slot_line d.names) d.slots ea
 
 -- ---- points
 
+-- the document after the jobs, with the first points
 abbrev some_points : Document → List Point → Document
 some_points d points = record { names = d.names; jobs = d.jobs; points = points; slots = []; levels = []; grid = None; energy = None }
 
@@ -145,14 +159,17 @@ table_of : (points before : List Point) (point : Point) (after : List Point) →
     IsTable (before ++ point ∷ after)
 table_of points before point after is (inl none) = absurd (middle_is_some before point after (is ∙ none))
   where
+    -- a list with this element isn't empty
     middle_is_some : (before : List Point) (point : Point) (after : List Point) → before ++ point ∷ after ≡ [] → ⊥
     middle_is_some [] point after none = cc
     middle_is_some (first ∷ before) point after none = cc
 table_of points before point after is (inr table) = subst IsTable (sym is) table
 
+-- the lines of the points bring the jobs to all of the points
 points_brought : (d : Document) → IsDocument d → Brings (after_jobs d) (flat_map point_line d.points) (after_points d)
 points_brought d fits = Brings-each (some_points d) point_line d.points each
   where
+    -- each point's line brings those before it to those with it
     each : (before : List Point) (point : Point) (after : List Point) → before ++ point ∷ after ≡ d.points →
         Brings (some_points d before) (point_line point) (some_points d (before ++ point ∷ []))
     each before point after is =
@@ -173,6 +190,7 @@ points_brought d fits = Brings-each (some_points d) point_line d.points each
 
 -- ---- levels
 
+-- the document after the slots, with the first levels
 abbrev some_levels : Document → List Level → Document
 some_levels d levels = record { names = d.names; jobs = d.jobs; points = d.points; slots = d.slots; levels = levels; grid = None; energy = None }
 
@@ -189,6 +207,7 @@ joined_middle f all before x after is front a back here =
     ∙ sym (flat_map-append f before (x ∷ after))
     ∙ ap (flat_map f) is
 
+-- a piece's line brings its level's pieces before it to those with it
 piece_brought : (d : Document) → IsDocument d → (before : List Level) (level : Level) (after : List Level) → before ++ level ∷ after ≡ d.levels →
     (front : List Piece) (piece : Piece) (back : List Piece) → front ++ piece ∷ back ≡ level.pieces →
     Brings (within_level d before level front []) (piece_line piece) (within_level d before level (front ++ piece ∷ []) [])
@@ -211,6 +230,7 @@ piece_brought d fits before level after is front piece back here =
       says-last earlier before so_far (PieceEntry piece) (within_level d before level front []) refl kind refl says,
     ))
 
+-- a member's line brings its level's members before it to those with it
 member_brought : (d : Document) → IsDocument d → (before : List Level) (level : Level) (after : List Level) → before ++ level ∷ after ≡ d.levels →
     (front : List ℕ) (member : ℕ) (back : List ℕ) → front ++ member ∷ back ≡ level.members →
     Brings (within_level d before level level.pieces front) (member_line d.names member) (within_level d before level level.pieces (front ++ member ∷ []))
@@ -239,6 +259,7 @@ member_brought d fits before level after is front member back here =
       subst (λ pieces. Says (earlier ++ MemberEntry member ∷ []) (within_level d before level pieces (front ++ member ∷ []))) (append-nil level.pieces) said,
     ))
 
+-- so the lines of a level bring those before it to those with it
 level_brought : (d : Document) → IsDocument d → (before : List Level) (level : Level) (after : List Level) → before ++ level ∷ after ≡ d.levels →
     Brings (some_levels d before) (level_lines d.names level) (some_levels d (before ++ level ∷ []))
 level_brought d fits before level after is =
@@ -262,14 +283,17 @@ level_brought d fits before level after is =
     (Brings-append (some_levels d before) (within_level d before level [] []) (within_level d before level level.pieces []) (line (level_texts level)) (flat_map piece_line level.pieces) head pieces)
     members
 
+-- and the lines of the levels bring the slots to all of the levels
 levels_brought : (d : Document) → IsDocument d → Brings (after_slots d) (flat_map (level_lines d.names) d.levels) (some_levels d d.levels)
 levels_brought d fits = Brings-each (some_levels d) (level_lines d.names) d.levels (level_brought d fits)
 
 -- ---- the grid and the energy
 
+-- the document after the levels, with a grid and an energy
 abbrev with_both : Document → Option Grid → Option Fraction → Document
 with_both d grid energy = record { names = d.names; jobs = d.jobs; points = d.points; slots = d.slots; levels = d.levels; grid = grid; energy = energy }
 
+-- the grid's line, where there is one, brings the grid
 grid_brought : (d : Document) (grid : Option Grid) → MatchOption grid (Unit {0}) IsGrid → Brings (some_levels d d.levels) (grid_lines grid) (with_both d grid None)
 grid_brought d None fits = Brings-nil (some_levels d d.levels)
 grid_brought d (Some grid) fits =
@@ -278,6 +302,7 @@ grid_brought d (Some grid) fits =
     let none : filter_map grid_said earlier ≡ [] = none_first (filter_map grid_said earlier) (ap (λ (d : Document). d.grid) says.said) in
     (GridEntry grid, grid_read earlier grid fits none, says-grid earlier grid (some_levels d d.levels) refl says))
 
+-- the energy's line, where there is one, brings the energy
 energy_brought : (d : Document) (energy : Option Fraction) → MatchOption energy (Unit {0}) (IsFraction MAX_ENERGY) →
     Brings (with_both d d.grid None) (energy_lines energy) (with_both d d.grid energy)
 energy_brought d None fits = Brings-nil (with_both d d.grid None)
@@ -289,6 +314,7 @@ energy_brought d (Some energy) fits =
 
 -- ---- the whole
 
+-- the law: the text of a document within the limits is read as the document
 pub printed_is_read : PrintedIsRead
 printed_is_read d fits =
     let jobs : List ℕ = job_lines d.names d.jobs in
@@ -306,5 +332,6 @@ printed_is_read d fits =
     read_whole (canonical_text d) d
     (Brings-append no_document after_grid d (jobs ++ points ++ slots ++ levels ++ grid) energy five (energy_brought d d.energy fits.energy))
 
+-- the law: the same of jobs and slots alone
 pub jobs_and_slots_are_read : JobsAndSlotsAreRead
 jobs_and_slots_are_read d fits only = printed_is_read d fits

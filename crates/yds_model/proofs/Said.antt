@@ -29,6 +29,7 @@ none_said said entries entry is =
 
 -- ---- the levels
 
+-- the entries until a level, with one more at the front
 until_level-cons : (first : Entry) (entries : List Entry) → until_level (first ∷ entries) ≡ cond (not (is_level first)) (first ∷ until_level entries) []
 until_level-cons first entries = take_while-cons (λ entry. not (is_level entry)) first entries
 
@@ -67,6 +68,7 @@ levels_said-same (_ ∷ entries) entry other no_piece no_member = levels_said-sa
 abbrev pub empty_level : ℕ → ℕ → Level
 empty_level work length = record { work = work; length = length; pieces = []; members = [] }
 
+-- the line of a level says one more, which is empty
 levels_said-level : (entries : List Entry) (work length : ℕ) → levels_said (entries ++ LevelEntry work length ∷ []) ≡ levels_said entries ++ empty_level work length ∷ []
 levels_said-level [] work length = refl
 levels_said-level (LevelEntry first_work first_length ∷ entries) work length =
@@ -106,6 +108,7 @@ with_entry entry level = record {
   members = level.members ++ filter_map member_said (entry ∷ []);
 }
 
+-- a list with a last element isn't empty
 end_is_some : (before : List Level) (level : Level) → before ++ level ∷ [] ≡ [] → ⊥
 end_is_some [] level none = cc
 end_is_some (first ∷ before) level none = cc
@@ -149,6 +152,7 @@ says_other entries entry d after no_piece no_member same said says = record {
   members = none_said member_said entries entry no_member ∙ says.members ∙ ap all_members (sym same);
 }
 
+-- the document with one more job
 abbrev pub with_job : List ℕ → Job → Document → Document
 with_job name job d = record {
   names = d.names ++ name ∷ [];
@@ -160,6 +164,7 @@ with_job name job d = record {
   energy = d.energy;
 }
 
+-- what is said with the line of a job
 said-job : (entries : List Entry) (name : List ℕ) (job : Job) →
     document_said (entries ++ JobEntry name job ∷ []) ≡ with_job name job (document_said entries)
 said-job entries name job =
@@ -174,10 +179,12 @@ said-job entries name job =
       none_said energy_said entries entry refl,
     ) refl
 
+-- so the document has one more job
 pub says-job : (entries : List Entry) (name : List ℕ) (job : Job) (d : Document) → Says entries d → Says (entries ++ JobEntry name job ∷ []) (with_job name job d)
 says-job entries name job d says =
     says_other entries (JobEntry name job) d (with_job name job d) refl refl refl (said-job entries name job ∙ ap (with_job name job) says.said) says
 
+-- the document with one more point
 abbrev pub with_point : Point → Document → Document
 with_point point d = record {
   names = d.names;
@@ -189,6 +196,7 @@ with_point point d = record {
   energy = d.energy;
 }
 
+-- what is said with the line of a point
 said-point : (entries : List Entry) (point : Point) → document_said (entries ++ PointEntry point ∷ []) ≡ with_point point (document_said entries)
 said-point entries point =
     let entry : Entry = PointEntry point in
@@ -202,10 +210,12 @@ said-point entries point =
       none_said energy_said entries entry refl,
     ) refl
 
+-- so the document has one more point
 pub says-point : (entries : List Entry) (point : Point) (d : Document) → Says entries d → Says (entries ++ PointEntry point ∷ []) (with_point point d)
 says-point entries point d says =
     says_other entries (PointEntry point) d (with_point point d) refl refl refl (said-point entries point ∙ ap (with_point point) says.said) says
 
+-- the document with one more slot
 abbrev pub with_slot : WrittenSlot → Document → Document
 with_slot slot d = record {
   names = d.names;
@@ -217,6 +227,7 @@ with_slot slot d = record {
   energy = d.energy;
 }
 
+-- what is said with the line of a slot
 said-slot : (entries : List Entry) (slot : WrittenSlot) → document_said (entries ++ SlotEntry slot ∷ []) ≡ with_slot slot (document_said entries)
 said-slot entries slot =
     let entry : Entry = SlotEntry slot in
@@ -230,6 +241,7 @@ said-slot entries slot =
       none_said energy_said entries entry refl,
     ) refl
 
+-- so the document has one more slot
 pub says-slot : (entries : List Entry) (slot : WrittenSlot) (d : Document) → Says entries d → Says (entries ++ SlotEntry slot ∷ []) (with_slot slot d)
 says-slot entries slot d says =
     says_other entries (SlotEntry slot) d (with_slot slot d) refl refl refl (said-slot entries slot ∙ ap (with_slot slot) says.said) says
@@ -239,11 +251,13 @@ pub none_first : {X : Type 0} (xs : List X) → first_of_them xs ≡ None → xs
 none_first [] none = refl
 none_first (x ∷ xs) none = cc
 
+-- where nothing of a kind was said, the entry's is the first
 first_said : {X : Type 0} (said : Entry → Option X) (entries : List Entry) (entry : Entry) (x : X) → said entry ≡ Some x →
     first_of_them (filter_map said entries) ≡ None → first_of_them (filter_map said (entries ++ entry ∷ [])) ≡ Some x
 first_said said entries entry x is none =
     ap first_of_them (more_said said entries entry x is ∙ ap (λ xs. xs ++ x ∷ []) (none_first (filter_map said entries) none))
 
+-- the document with a grid
 abbrev pub with_grid : Grid → Document → Document
 with_grid grid d = record {
   names = d.names;
@@ -255,6 +269,7 @@ with_grid grid d = record {
   energy = d.energy;
 }
 
+-- what is said with the line of a grid
 said-grid : (entries : List Entry) (grid : Grid) → (document_said entries).grid ≡ None →
     document_said (entries ++ GridEntry grid ∷ []) ≡ with_grid grid (document_said entries)
 said-grid entries grid none =
@@ -269,11 +284,13 @@ said-grid entries grid none =
       none_said energy_said entries entry refl,
     ) refl
 
+-- so the document has the grid
 pub says-grid : (entries : List Entry) (grid : Grid) (d : Document) → d.grid ≡ None → Says entries d → Says (entries ++ GridEntry grid ∷ []) (with_grid grid d)
 says-grid entries grid d none says =
     says_other entries (GridEntry grid) d (with_grid grid d) refl refl refl
     (said-grid entries grid (ap (λ (d : Document). d.grid) says.said ∙ none) ∙ ap (with_grid grid) says.said) says
 
+-- the document with an energy
 abbrev pub with_energy : Fraction → Document → Document
 with_energy energy d = record {
   names = d.names;
@@ -285,6 +302,7 @@ with_energy energy d = record {
   energy = Some energy;
 }
 
+-- what is said with the line of an energy
 said-energy : (entries : List Entry) (energy : Fraction) → (document_said entries).energy ≡ None →
     document_said (entries ++ EnergyEntry energy ∷ []) ≡ with_energy energy (document_said entries)
 said-energy entries energy none =
@@ -299,6 +317,7 @@ said-energy entries energy none =
       first_said energy_said entries entry energy refl none,
     ) refl
 
+-- so the document has the energy
 pub says-energy : (entries : List Entry) (energy : Fraction) (d : Document) → d.energy ≡ None → Says entries d →
     Says (entries ++ EnergyEntry energy ∷ []) (with_energy energy d)
 says-energy entries energy d none says =
@@ -321,6 +340,7 @@ said-ticks entries ticks =
 
 -- ---- the levels of the document
 
+-- the document with other levels
 abbrev pub with_levels : List Level → Document → Document
 with_levels levels d = record {
   names = d.names;
@@ -341,6 +361,7 @@ pub record IsOfLevels (entry : Entry) : Type 0 where
   pub grid : grid_said entry ≡ None
   pub energy : energy_said entry ≡ None
 
+-- so what is said with it differs in the levels alone
 said-levels : (entries : List Entry) (entry : Entry) (levels : List Level) → IsOfLevels entry → levels_said (entries ++ entry ∷ []) ≡ levels →
     document_said (entries ++ entry ∷ []) ≡ with_levels levels (document_said entries)
 said-levels entries entry levels kind are =
@@ -354,6 +375,7 @@ said-levels entries entry levels kind are =
       none_said energy_said entries entry kind.energy,
     ) refl
 
+-- the line of a level makes one more level, which is empty
 pub says-level : (entries : List Entry) (work length : ℕ) (d : Document) → Says entries d →
     Says (entries ++ LevelEntry work length ∷ []) (with_levels (d.levels ++ empty_level work length ∷ []) d)
 says-level entries work length d says =

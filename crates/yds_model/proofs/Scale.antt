@@ -17,6 +17,7 @@ use Rattle.yds_model.specs.Laws.{ScaleKeepsFeasible, ScaleMultipliesExcess, OneS
 abbrev pub finer : ℕ → WholeSlot → WholeSlot
 finer k slot = record { job = slot.job; from = k * slot.from; to = k * slot.to; work = k * slot.work }
 
+-- a fraction whose part's quotient is k times another's
 value_split : (whole num k scale quotient finer : ℕ) → finer ≡ k * quotient → whole * (k * scale) + num * finer ≡ k * (whole * scale + num * quotient)
 value_split whole num k scale quotient finer e = omega (arith, ap (λ n. num * n) e)
 
@@ -24,15 +25,18 @@ value_split whole num k scale quotient finer e = omega (arith, ap (λ n. num * n
 pub finer_value : (k scale : ℕ) (x : Fraction) → x.den ∣ scale → at_scale (k * scale) x ≡ k * at_scale scale x
 finer_value k scale x divides = value_split x.whole x.num k scale (scale / x.den) (k * scale / x.den) (mul-div_assoc x.den k divides)
 
+-- a slot at k times a scale of it
 pub finer_slot : (k scale : ℕ) (slot : WrittenSlot) → IsDivided scale slot → slot_at_scale (k * scale) slot ≡ finer k (slot_at_scale scale slot)
 finer_slot k scale slot divided =
     cc (finer_value k scale slot.from divided.from, finer_value k scale slot.to divided.to, finer_value k scale slot.work divided.work)
 
+-- slots at k times a scale of them, one by one
 finer_each : (k scale : ℕ) (slots : List WrittenSlot) → AllByRecursion (IsDivided scale) slots →
     slots_at (k * scale) slots ≡ map (finer k) (slots_at scale slots)
 finer_each k scale [] _ = refl
 finer_each k scale (slot ∷ slots) divided = cc (finer_slot k scale slot divided.0, finer_each k scale slots divided.1)
 
+-- and together
 pub finer_slots : (k scale : ℕ) (slots : List WrittenSlot) → IsScale scale slots → slots_at (k * scale) slots ≡ map (finer k) (slots_at scale slots)
 finer_slots k scale slots is = finer_each k scale slots (recursion_from_All (IsDivided scale) slots is.divided)
 
@@ -43,26 +47,32 @@ finer_sum k f each [] = omega arith
 finer_sum k f each (slot ∷ slots) =
     omega (arith, sum_by-cons f (finer k slot) (map (finer k) slots), sum_by-cons f slot slots, each slot, finer_sum k f each slots, ap (λ n. k * n) (sum_by-cons f slot slots))
 
+-- what a finer slot does above p/q is k times what the slot does
 excess_split : (k p q work from to : ℕ) → q * (k * work) - p * (k * to - k * from) ≡ k * (q * work - p * (to - from))
 excess_split k p q work from to =
     rw (mul-sub k (q * work) (p * (to - from)), ← mul-sub k to from) (omega arith)
 
+-- so the excess is k times what it was
 finer_excess : (k p q : ℕ) (slots : List WholeSlot) → excess p q (map (finer k) slots) ≡ k * excess p q slots
 finer_excess k p q slots =
     finer_sum k (λ slot. q * slot.work - p * (slot.to - slot.from)) (λ slot. excess_split k p q slot.work slot.from slot.to) slots
 
+-- a finer slot gives a job k times the work, or nothing as before
 given_split : (k work : ℕ) (mine : Bool) → (if mine then k * work else 0) ≡ k * (if mine then work else 0)
 given_split k work true = refl
 given_split k work false = omega arith
 
-finer_work : (k : ℕ) (slots : List WholeSlot) (job : ℕ) → work_given (map (finer k) slots) job ≡ k * work_given slots job
+-- so a job is given k times the work
+pub finer_work : (k : ℕ) (slots : List WholeSlot) (job : ℕ) → work_given (map (finer k) slots) job ≡ k * work_given slots job
 finer_work k slots job =
     finer_sum k (λ slot. if job == slot.job then slot.work else 0) (λ slot. given_split k slot.work (job == slot.job)) slots
 
+-- the law: at k times a scale each excess is k times what it was
 pub excess_scaled : ScaleMultipliesExcess
 excess_scaled slots scale k p q is = ap (excess p q) (finer_slots k scale slots is) ∙ finer_excess k p q (slots_at scale slots)
 
-shifted : (n k scale : ℕ) → n * (k * scale) ≡ k * (n * scale)
+-- a product with k between is k times the product
+pub shifted : (n k scale : ℕ) → n * (k * scale) ≡ k * (n * scale)
 shifted n k scale = omega arith
 
 -- Feasible at a scale is feasible at k times it, and back.
@@ -71,11 +81,13 @@ run_finer k start [] some run = tt
 run_finer k start (slot ∷ slots) some run =
     (mul-le-mul_left k run.0, mul-lt-mul_of_pos_left run.1 some, run_finer k slot.to slots some run.2)
 
+-- and did before
 run_coarser : (k start : ℕ) (slots : List WholeSlot) → 1 ≤ k → RunFrom (k * start) (map (finer k) slots) → RunFrom start slots
 run_coarser k start [] some run = tt
 run_coarser k start (slot ∷ slots) some run =
     (le_of_mul-le-mul_left run.0 some, lt_of_mul-lt-mul_left k run.1, run_coarser k slot.to slots some run.2)
 
+-- a slot in its job's window still is
 window_finer : (jobs : List Job) (k scale : ℕ) (slot : WholeSlot) → IsInWindow jobs scale slot → IsInWindow jobs (k * scale) (finer k slot)
 window_finer jobs k scale slot window = record {
   known = window.known;
@@ -83,6 +95,7 @@ window_finer jobs k scale slot window = record {
   due = rw (shifted (job_at jobs slot.job).deadline k scale) (mul-le-mul_left k window.due);
 }
 
+-- and was before
 window_coarser : (jobs : List Job) (k scale : ℕ) (slot : WholeSlot) → 1 ≤ k → IsInWindow jobs (k * scale) (finer k slot) → IsInWindow jobs scale slot
 window_coarser jobs k scale slot some window = record {
   known = window.known;
@@ -90,17 +103,20 @@ window_coarser jobs k scale slot some window = record {
   due = le_of_mul-le-mul_left (rw (shifted (job_at jobs slot.job).deadline k scale) at window.due) some;
 }
 
+-- and so are all slots
 windows_finer : (jobs : List Job) (k scale : ℕ) (slots : List WholeSlot) → AllByRecursion (IsInWindow jobs scale) slots →
     AllByRecursion (IsInWindow jobs (k * scale)) (map (finer k) slots)
 windows_finer jobs k scale [] windows = tt
 windows_finer jobs k scale (slot ∷ slots) windows = (window_finer jobs k scale slot windows.0, windows_finer jobs k scale slots windows.1)
 
+-- and were before
 windows_coarser : (jobs : List Job) (k scale : ℕ) (slots : List WholeSlot) → 1 ≤ k →
     AllByRecursion (IsInWindow jobs (k * scale)) (map (finer k) slots) → AllByRecursion (IsInWindow jobs scale) slots
 windows_coarser jobs k scale [] some windows = tt
 windows_coarser jobs k scale (slot ∷ slots) some windows =
     (window_coarser jobs k scale slot some windows.0, windows_coarser jobs k scale slots some windows.1)
 
+-- so a feasible schedule is feasible at k times its scale
 pub feasible_finer : (jobs : List Job) (k scale : ℕ) (slots : List WholeSlot) → 1 ≤ k → IsFeasibleAt jobs scale slots →
     IsFeasibleAt jobs (k * scale) (map (finer k) slots)
 feasible_finer jobs k scale slots some feasible = record {
@@ -110,6 +126,7 @@ feasible_finer jobs k scale slots some feasible = record {
   served = λ number known. finer_work k slots number ∙ ap (λ n. k * n) (feasible.served number known) ∙ sym (shifted (job_at jobs number).work k scale);
 }
 
+-- and one that is so was feasible before
 pub feasible_coarser : (jobs : List Job) (k scale : ℕ) (slots : List WholeSlot) → 1 ≤ k → IsFeasibleAt jobs (k * scale) (map (finer k) slots) →
     IsFeasibleAt jobs scale slots
 feasible_coarser jobs k scale slots some feasible = record {
@@ -120,6 +137,7 @@ feasible_coarser jobs k scale slots some feasible = record {
       (sym (finer_work k slots number) ∙ feasible.served number known ∙ shifted (job_at jobs number).work k scale);
 }
 
+-- the law of both
 pub feasible_scaled : ScaleKeepsFeasible
 feasible_scaled jobs slots scale k is some =
     let e = finer_slots k scale slots is in (
@@ -142,6 +160,7 @@ coarsest k scale slot divided = record {
   work = dvd-mul_left_of_dvd slot.work.den divided.work k;
 }
 
+-- a slot's denominators divide their product, and each multiple of it
 product_divided : (scale : ℕ) (slot : WrittenSlot) → IsDivided (slot.from.den * slot.to.den * slot.work.den * scale) slot
 product_divided scale slot = record {
   from = dvd-mul_right_of_dvd _ (dvd-mul_right_of_dvd _ (dvd-mul_right _ _) _) _;
@@ -163,5 +182,6 @@ scale_of (slot ∷ slots) solid =
       },
     )
 
+-- the law: so there is one
 pub scale_exists : ScaleExists
 scale_exists slots solid = scale_of slots (recursion_from_All IsSolid slots solid)

@@ -22,11 +22,13 @@ use Rattle.yds_model.proofs.KindsRead.{level_texts}
 
 -- ---- fields
 
+-- a name has at most its greatest length
 name_short : (name : List ℕ) → is_name name ≡ true → length name ≤ MAX_NAME
 name_short name named =
     let parts = and_parts _ _ named in
     leb-true (length name) MAX_NAME (and_parts _ _ parts.0).1
 
+-- and so has the name of each number, or none
 names_short : (names : List (List ℕ)) → All (λ name. is_name name ≡ true) names → (job : ℕ) → length (name_at names job) ≤ MAX_NAME
 names_short [] named job = omega arith
 names_short (name ∷ names) named zero = name_short name (All-head (λ name. is_name name ≡ true) name names named)
@@ -59,6 +61,7 @@ abbrev fields_length : List (List ℕ) → ℕ
 fields_length [] = 0
 fields_length (text ∷ texts) = length text + 1 + fields_length texts
 
+-- a line is as long as that
 line_length : (text : List ℕ) (texts : List (List ℕ)) → length (line (text ∷ texts)) ≡ fields_length (text ∷ texts)
 line_length text [] = omega (arith, length-append text (10 ∷ []))
 line_length text (next ∷ texts) =
@@ -70,6 +73,7 @@ line_length text (next ∷ texts) =
       length-append (join_with_byte 32 (next ∷ texts)) (10 ∷ []),
     )
 
+-- a job's line, by its fields
 job_short : (name : List ℕ) (job : Job) → is_name name ≡ true → IsJob job → length (job_line name job) ≤ 99
 job_short name job named fits =
     let release : length (decimal job.release) ≤ 10 = length-decimal-le 10 job.release (omega arith) (omega (arith, fits.has_window, fits.time_in_range)) (omega (arith, fits.has_window, fits.time_in_range)) in
@@ -77,12 +81,14 @@ job_short name job named fits =
     let work : length (decimal job.work) ≤ 7 = length-decimal-le 7 job.work (omega arith) (omega (arith, fits.work_in_range)) (omega (arith, fits.work_in_range)) in
     omega (arith, line_length (codes "job") (name ∷ decimal job.release ∷ decimal job.deadline ∷ decimal job.work ∷ []), name_short name named, release, deadline, work)
 
+-- a point's line
 point_short : (point : Point) → IsPoint point → length (point_line point) ≤ 19
 point_short point fits =
     let speed : length (decimal point.speed) ≤ 4 = length-decimal-le 4 point.speed (omega arith) (omega (arith, fits.speed_in_range)) (omega (arith, fits.speed_in_range)) in
     let power : length (decimal point.power) ≤ 7 = length-decimal-le 7 point.power (omega arith) (omega (arith, fits.power_in_range)) (omega (arith, fits.power_in_range)) in
     omega (arith, line_length (codes "point") (decimal point.speed ∷ decimal point.power ∷ []), speed, power)
 
+-- a slot's line
 slot_short : (names : List (List ℕ)) (slot : WrittenSlot) → length (name_at names slot.job) ≤ MAX_NAME → IsSlot slot → length (slot_line names slot) ≤ 226
 slot_short names slot named fits =
     let name : List ℕ = name_at names slot.job in
@@ -91,31 +97,37 @@ slot_short names slot named fits =
     let work : length (fraction_text slot.work) ≤ 53 = fraction_short 13 MAX_SLOT_WORK slot.work (omega arith) (omega arith) (omega arith) fits.work in
     omega (arith, line_length (codes "slot") (name ∷ fraction_text slot.from ∷ fraction_text slot.to ∷ fraction_text slot.work ∷ []), named, from, to, work)
 
+-- a level's line
 level_short : (level : Level) → IsLevel level → length (line (level_texts level)) ≤ 28
 level_short level fits =
     let work : length (decimal level.work) ≤ 10 = length-decimal-le 10 level.work (omega arith) (omega (arith, fits.work_in_range)) (omega (arith, fits.work_in_range)) in
     let long : length (decimal level.length) ≤ 10 = length-decimal-le 10 level.length (omega arith) (omega (arith, fits.length_in_range)) (omega (arith, fits.length_in_range)) in
     omega (arith, line_length (codes "level") (decimal level.work ∷ decimal level.length ∷ []), work, long)
 
+-- a piece's line
 piece_short : (piece : Piece) → IsPiece piece → length (piece_line piece) ≤ 28
 piece_short piece fits =
     let from : length (decimal piece.from) ≤ 10 = length-decimal-le 10 piece.from (omega arith) (omega (arith, fits.from_in_range)) (omega (arith, fits.from_in_range)) in
     let to : length (decimal piece.to) ≤ 10 = length-decimal-le 10 piece.to (omega arith) (omega (arith, fits.to_in_range)) (omega (arith, fits.to_in_range)) in
     omega (arith, line_length (codes "piece") (decimal piece.from ∷ decimal piece.to ∷ []), from, to)
 
+-- a member's line
 member_short : (names : List (List ℕ)) (job : ℕ) → length (name_at names job) ≤ MAX_NAME → length (member_line names job) ≤ 72
 member_short names job named = omega (arith, line_length (codes "member") (name_at names job ∷ []), named)
 
+-- the grid's line
 grid_short : (grid : Grid) → IsGrid grid → length (grid_lines (Some grid)) ≤ 21
 grid_short grid fits =
     let one : length (decimal grid.grid) ≤ 7 = length-decimal-le 7 grid.grid (omega arith) (omega (arith, fits.grid_in_range)) (omega (arith, fits.grid_in_range)) in
     let rounded : length (decimal grid.rounded) ≤ 7 = length-decimal-le 7 grid.rounded (omega arith) (omega (arith, fits.rounded_in_range)) (omega (arith, fits.rounded_in_range)) in
     omega (arith, line_length (codes "grid") (decimal grid.grid ∷ decimal grid.rounded ∷ []), one, rounded)
 
+-- the energy's line
 energy_short : (energy : Fraction) → IsFraction MAX_ENERGY energy → length (energy_lines (Some energy)) ≤ 67
 energy_short energy fits =
     omega (arith, line_length (codes "energy") (fraction_text energy ∷ []), fraction_short 19 MAX_ENERGY energy (omega arith) (omega arith) (omega arith) fits)
 
+-- the law: the lines of each kind are at most so long
 pub lines_are_short : LinesAreShort
 lines_are_short = record {
   job = job_short;
@@ -147,6 +159,7 @@ lines_short text most (x ∷ xs) short =
       mul-suc most (length xs),
     )
 
+-- the lines of the jobs together
 jobs_short : (names : List (List ℕ)) (jobs : List Job) → All (λ name. is_name name ≡ true) names → All IsJob jobs → length (job_lines names jobs) ≤ 99 * length jobs
 jobs_short [] jobs named fit = omega arith
 jobs_short (name ∷ names) [] named fit = omega arith
@@ -158,6 +171,7 @@ jobs_short (name ∷ names) (job ∷ jobs) named fit =
       jobs_short names jobs (All-tail (λ name. is_name name ≡ true) name names named) (All-tail IsJob job jobs fit),
     )
 
+-- the lines of the levels, their pieces and their members
 levels_short : (names : List (List ℕ)) (levels : List Level) → ((job : ℕ) → length (name_at names job) ≤ MAX_NAME) → All IsLevel levels →
     length (flat_map (level_lines names) levels) ≤ 28 * length levels + 28 * length (all_pieces levels) + 72 * length (all_members levels)
 levels_short names [] named fit = omega arith
@@ -180,14 +194,17 @@ levels_short names (level ∷ levels) named fit =
       length-append level.members (all_members levels),
     )
 
+-- the grid's line, where there is one
 grid_lines_short : (grid : Option Grid) → MatchOption grid (Unit {0}) IsGrid → length (grid_lines grid) ≤ 21
 grid_lines_short None fits = omega arith
 grid_lines_short (Some grid) fits = grid_short grid fits
 
+-- the energy's line, where there is one
 energy_lines_short : (energy : Option Fraction) → MatchOption energy (Unit {0}) (IsFraction MAX_ENERGY) → length (energy_lines energy) ≤ 67
 energy_lines_short None fits = omega arith
 energy_lines_short (Some energy) fits = energy_short energy fits
 
+-- the law: so the whole text is at most so long
 pub text_is_short : TextIsShort
 text_is_short d fits few_slots few_levels few_pieces few_members =
     let names : (job : ℕ) → length (name_at d.names job) ≤ MAX_NAME = names_short d.names fits.jobs.names_fit in

@@ -17,6 +17,7 @@ pub digits_value_after-le : (value : ℕ) (digits : List ℕ) → value ≤ digi
 digits_value_after-le value [] = omega arith
 digits_value_after-le value (digit ∷ digits) = omega (arith, digits_value_after-le (value * 10 + digit_value digit) digits)
 
+-- visible bytes are ASCII
 visible_ascii : (text : List ℕ) → list_all (λ byte. nat_le 33 byte && nat_le byte 126) text ≡ true → IsAscii text
 visible_ascii [] visible = IsAscii-nil
 visible_ascii (byte ∷ text) visible =
@@ -28,6 +29,7 @@ visible_ascii (byte ∷ text) visible =
 pub name_utf8 : (text : List ℕ) → is_name text ≡ true → IsUtf8 text
 name_utf8 text named = IsUtf8-from_ascii text (visible_ascii text (and_parts _ _ named).1)
 
+-- what passes the test of digits has only digits
 all_digits : (text : List ℕ) → list_all is_digit text ≡ true → All (λ byte. is_digit byte ≡ true) text
 all_digits [] digits = All-nil (λ byte. is_digit byte ≡ true)
 all_digits (byte ∷ text) digits =
@@ -51,6 +53,7 @@ number_digits (byte ∷ next ∷ text) number =
       | inr other ↦ all_digits (byte ∷ next ∷ text) (rw other at number)
     ]
 
+-- and digits pass it
 list_all-digits : (text : List ℕ) → AllDigits 10 text → list_all is_digit text ≡ true
 list_all-digits [] digits = refl
 list_all-digits (byte ∷ text) digits =
@@ -90,15 +93,18 @@ number_at-decimal least most n small low high =
 
 -- ---- digits are no blanks, line ends, pluses or slashes
 
+-- a digit is one of the bytes from 48 to 57
 pub digit_range : (byte : ℕ) → is_digit byte ≡ true → (48 ≤ byte) × (byte ≤ 57)
 digit_range byte digit =
     let parts = and_parts (nat_le 48 byte) (nat_le byte 57) digit in (leb-true 48 byte parts.0, leb-true byte 57 parts.1)
 
+-- so it is no byte below 48
 digit_other : (byte other : ℕ) → other < 48 → is_digit byte ≡ true → (byte == other) ≡ false
 digit_other byte other apart digit =
     let range = digit_range byte digit in
     ne_eqb byte other (λ (same : byte ≡ other). omega arith)
 
+-- and no blank
 digit_no_blank : (byte : ℕ) → is_digit byte ≡ true → is_blank byte ≡ false
 digit_no_blank byte digit = or_from (byte == 32) (byte == 9) (digit_other byte 32 (omega arith) digit) (digit_other byte 9 (omega arith) digit)
 
@@ -106,6 +112,7 @@ digit_no_blank byte digit = or_from (byte == 32) (byte == 9) (digit_other byte 3
 pub decimal_digits : (n : ℕ) → n < 2 ^ 64 → All (λ byte. is_digit byte ≡ true) (decimal n)
 decimal_digits n small = number_digits (decimal n) (is_number-decimal n small)
 
+-- none is a blank
 pub decimal_no_blank : (n : ℕ) → n < 2 ^ 64 → All (λ byte. is_blank byte ≡ false) (decimal n)
 decimal_no_blank n small = All-weaker (λ byte. is_digit byte ≡ true) (λ byte. is_blank byte ≡ false) digit_no_blank (decimal n) (decimal_digits n small)
 
@@ -114,6 +121,7 @@ pub decimal_none : (other n : ℕ) → n < 2 ^ 64 → other < 48 → All (λ byt
 decimal_none other n small apart =
     All-weaker (λ byte. is_digit byte ≡ true) (λ byte. (byte == other) ≡ false) (λ byte. digit_other byte other apart) (decimal n) (decimal_digits n small)
 
+-- the same as an inequality
 pub decimal_without : (other n : ℕ) → n < 2 ^ 64 → other < 48 → All (λ byte. byte ≢ other) (decimal n)
 decimal_without other n small apart =
     All-weaker (λ byte. (byte == other) ≡ false) (λ byte. byte ≢ other) (λ byte differs. eqb-false byte other differs) (decimal n) (decimal_none other n small apart)

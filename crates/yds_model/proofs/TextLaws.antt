@@ -17,10 +17,12 @@ abbrev FirstAt : ℕ → List Line → Type 0
 FirstAt start [] = Unit {0}
 FirstAt start (line ∷ lines) = line.start ≡ start
 
+-- a byte in front of lines begins the first one
 FirstAt-in_front : (number start byte : ℕ) (lines : List Line) → FirstAt start (in_front number start byte lines)
 FirstAt-in_front number start byte [] = refl
 FirstAt-in_front number start byte (line ∷ lines) = refl
 
+-- so the lines from a place on begin there
 FirstAt-lines_from : (number start : ℕ) (bytes : List ℕ) → FirstAt start (lines_from number start bytes)
 FirstAt-lines_from number start [] = tt
 FirstAt-lines_from number start (byte ∷ bytes) =
@@ -29,6 +31,7 @@ FirstAt-lines_from number start (byte ∷ bytes) =
       | inr other ↦ rw other (FirstAt-in_front number start byte (lines_from number (start + 1) bytes))
     ]
 
+-- lines that are slices still are with a byte in front
 slices_in_front : (number start byte : ℕ) (whole bytes : List ℕ) (lines : List Line) → drop start whole ≡ byte ∷ bytes →
     FirstAt (start + 1) lines → AllByRecursion (IsLineSlice whole) lines → AllByRecursion (IsLineSlice whole) (in_front number start byte lines)
 slices_in_front number start byte whole bytes [] here first slices = (ap (take 1) (sym here), tt)
@@ -38,6 +41,7 @@ slices_in_front number start byte whole bytes (line ∷ lines) here first slices
     ap (λ text. byte ∷ text) (slices.0 ∙ ap (take (length line.text)) rest) in
     (more ∙ ap (take (length (byte ∷ line.text))) (sym here), slices.1)
 
+-- so the lines from a place on are slices
 slices_from : (number start : ℕ) (whole bytes : List ℕ) → drop start whole ≡ bytes → AllByRecursion (IsLineSlice whole) (lines_from number start bytes)
 slices_from number start whole [] here = tt
 slices_from number start whole (byte ∷ bytes) here =
@@ -59,24 +63,29 @@ without_return-front (byte ∷ []) =
 without_return-front (byte ∷ next ∷ text) =
     let front = without_return-front (next ∷ text) in (omega arith, ap (λ text. byte ∷ text) front.1)
 
+-- so it is a slice too
 slice_trimmed : (whole : List ℕ) (line : Line) → IsLineSlice whole line → IsLineSlice whole (trimmed line)
 slice_trimmed whole line slice =
     let front = without_return-front line.text in
     front.1 ∙ ap (take (length (without_return line.text))) slice ∙ take-take (length (without_return line.text)) (length line.text) (drop line.start whole) front.0
 
+-- and all are
 slices_trimmed : (whole : List ℕ) (lines : List Line) → AllByRecursion (IsLineSlice whole) lines → AllByRecursion (IsLineSlice whole) (map trimmed lines)
 slices_trimmed whole [] slices = tt
 slices_trimmed whole (line ∷ lines) slices = (slice_trimmed whole line slices.0, slices_trimmed whole lines slices.1)
 
+-- lines that rise from a place on do so from each earlier one
 LinesRise-lower : (low high : ℕ) (lines : List Line) → low ≤ high → LinesRise high lines → LinesRise low lines
 LinesRise-lower low high [] lower rise = tt
 LinesRise-lower low high (line ∷ lines) lower rise = (omega arith, rise.1)
 
+-- lines that rise still do with a byte in front
 rise_in_front : (number start byte : ℕ) (lines : List Line) → FirstAt (start + 1) lines → LinesRise (start + 1) lines → LinesRise start (in_front number start byte lines)
 rise_in_front number start byte [] first rise = (omega arith, tt)
 rise_in_front number start byte (line ∷ lines) first rise =
     (omega arith, LinesRise-lower (start + length (byte ∷ line.text) + 1) (line.start + length line.text + 1) lines (omega arith) rise.1)
 
+-- so the lines from a place on rise
 rise_from : (number start : ℕ) (bytes : List ℕ) → LinesRise start (lines_from number start bytes)
 rise_from number start [] = tt
 rise_from number start (byte ∷ bytes) =
@@ -86,6 +95,7 @@ rise_from number start (byte ∷ bytes) =
           rw other (rise_in_front number start byte (lines_from number (start + 1) bytes) (FirstAt-lines_from number (start + 1) bytes) (rise_from number (start + 1) bytes))
     ]
 
+-- and they rise without carriage returns
 rise_trimmed : (start : ℕ) (lines : List Line) → LinesRise start lines → LinesRise start (map trimmed lines)
 rise_trimmed start [] rise = tt
 rise_trimmed start (line ∷ lines) rise =
@@ -95,6 +105,7 @@ rise_trimmed start (line ∷ lines) rise =
           (rise_trimmed (line.start + length line.text + 1) lines rise.1),
     )
 
+-- the law of both
 pub lines_are_slices : LinesAreSlices
 lines_are_slices bytes = (
   All-from_recursion (IsLineSlice bytes) (map trimmed (lines_from 1 0 bytes)) (slices_trimmed bytes (lines_from 1 0 bytes) (slices_from 1 0 bytes bytes refl)),
@@ -118,6 +129,7 @@ more_bytes before byte whole bytes field here next slice other same =
     let more : byte ∷ field.text ≡ take (length (byte ∷ field.text)) (byte ∷ bytes) = ap (λ text. byte ∷ text) rest in
     more ∙ ap (take (length (byte ∷ field.text))) (sym here) ∙ ap (λ (n : ℕ). take (length (byte ∷ field.text)) (drop n whole)) place
 
+-- fields that are slices still are with a byte in front
 slices_joined : (before byte : ℕ) (whole bytes : List ℕ) (fields : List Field) → drop before whole ≡ byte ∷ bytes →
     AllByRecursion (IsFieldSlice whole) fields → AllByRecursion (IsFieldSlice whole) (joined (before + 1) byte fields)
 slices_joined before byte whole bytes [] here slices = (one_byte before byte whole bytes here, tt)
@@ -127,6 +139,7 @@ slices_joined before byte whole bytes (field ∷ fields) here slices =
       | inr apart ↦ rw apart (one_byte before byte whole bytes here, slices)
     ]
 
+-- so the fields from a place on are slices
 field_slices : (before : ℕ) (whole bytes : List ℕ) → drop before whole ≡ bytes → AllByRecursion (IsFieldSlice whole) (fields_from (before + 1) bytes)
 field_slices before whole [] here = tt
 field_slices before whole (byte ∷ bytes) here =
@@ -136,10 +149,12 @@ field_slices before whole (byte ∷ bytes) here =
       | inr full ↦ rw full (slices_joined before byte whole bytes (fields_from (before + 1 + 1) bytes) here rest)
     ]
 
+-- fields that rise from a column on do so from each earlier one
 FieldsRise-lower : (low high : ℕ) (fields : List Field) → low ≤ high → FieldsRise high fields → FieldsRise low fields
 FieldsRise-lower low high [] lower rise = tt
 FieldsRise-lower low high (field ∷ fields) lower rise = (omega arith, rise.1)
 
+-- fields that rise still do with a byte in front
 rise_joined : (column byte : ℕ) (fields : List Field) → FieldsRise (column + 1) fields → FieldsRise column (joined column byte fields)
 rise_joined column byte [] rise = (omega arith, tt)
 rise_joined column byte (field ∷ fields) rise =
@@ -152,6 +167,7 @@ rise_joined column byte (field ∷ fields) rise =
           rw apart (omega arith, (omega arith, rise.1))
     ]
 
+-- so the fields from a column on rise
 field_rise : (column : ℕ) (bytes : List ℕ) → FieldsRise column (fields_from column bytes)
 field_rise column [] = tt
 field_rise column (byte ∷ bytes) =
@@ -161,6 +177,7 @@ field_rise column (byte ∷ bytes) =
       | inr full ↦ rw full (rise_joined column byte (fields_from (column + 1) bytes) rest)
     ]
 
+-- the law of both
 pub fields_are_slices : FieldsAreSlices
 fields_are_slices text = (
   All-from_recursion (IsFieldSlice text) (fields_from (0 + 1) text) (field_slices 0 text text refl),

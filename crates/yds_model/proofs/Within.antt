@@ -26,6 +26,7 @@ use Rattle.yds_model.proofs.Inverse.{demand_ok, one_step, two_steps, four_steps,
 use Rattle.yds_model.proofs.Grown.{jobs_more, points_more, slots_more, slots_of_more, levels_of_more, levels_more, last_level_more, alike_from_test, parts_fit, parts_alike}
 use Rattle.yds_model.proofs.RoundTrip.{printed_is_read}
 
+-- a number of ticks within its limits
 pub record IsTicks (ticks : ℕ) : Type 0 where
   pub some : 1 ≤ ticks
   pub in_range : ticks ≤ MAX_TICKS
@@ -51,6 +52,7 @@ no_ticks entries entry d after read none says fits = record {
 
 -- ---- each kind of line
 
+-- a job's line
 job_within : (entries : List Entry) (d : Document) (fields : List Field) (entry : Entry) → IsRead entries d → has_room JobLine entries ≡ true →
     read_job entries fields ≡ Ok entry → IsSaid (entries ++ entry ∷ [])
 job_within entries d fields entry read room is =
@@ -81,6 +83,7 @@ job_within entries d fields entry read room is =
       energy = read.fits.energy;
     }))
 
+-- a point's line
 point_within : (entries : List Entry) (d : Document) (fields : List Field) (entry : Entry) → IsRead entries d → has_room PointLine entries ≡ true →
     read_point entries fields ≡ Ok entry → IsSaid (entries ++ entry ∷ [])
 point_within entries d fields entry read room is =
@@ -133,6 +136,7 @@ one_slot entries d slot read fits known alike room =
       energy = read.fits.energy;
     })
 
+-- a slot's line
 slot_within : (entries : List Entry) (d : Document) (fields : List Field) (entry : Entry) → IsRead entries d → has_room SlotLine entries ≡ true →
     read_slot entries fields ≡ Ok entry → IsSaid (entries ++ entry ∷ [])
 slot_within entries d fields entry read room is =
@@ -162,6 +166,7 @@ first_ticks : (ticks : List ℕ) → All IsTicks ticks → IsTicks (slice_index_
 first_ticks [] all = record { some = omega arith; in_range = omega arith }
 first_ticks (first ∷ others) all = All-head IsTicks first others all
 
+-- the line of a run, in parts of the ticks that hold
 run_within : (entries : List Entry) (d : Document) (fields : List Field) (entry : Entry) (ticks : ℕ) → IsRead entries d → IsTicks ticks → has_room RunLine entries ≡ true →
     read_run_at ticks entries fields ≡ Ok entry → IsSaid (entries ++ entry ∷ [])
 run_within entries d fields entry ticks read grain_of_time room is =
@@ -210,6 +215,7 @@ levels_within entries d levels entry read none says fits =
 levels_are : (entries : List Entry) (d : Document) → IsRead entries d → length (filter_map (λ entry. if is_level entry then Some entry else None) entries) ≡ length d.levels
 levels_are entries d read = levels_counted entries ∙ ap (λ (d : Document). length d.levels) read.says.said
 
+-- a level's line
 level_within : (entries : List Entry) (d : Document) (fields : List Field) (entry : Entry) → IsRead entries d → has_room LevelLine entries ≡ true →
     read_level fields ≡ Ok entry → IsSaid (entries ++ entry ∷ [])
 level_within entries d fields entry read room is =
@@ -230,6 +236,7 @@ record HasLast (levels : List Level) : Type 0 where
   last : Level
   is : levels ≡ before ++ last ∷ []
 
+-- and levels of which there are some have one
 has_last : (levels : List Level) → 0 < length levels → HasLast levels
 has_last [] some = absurd (omega arith)
 has_last (level ∷ []) some = record { before = []; last = level; is = refl }
@@ -250,10 +257,12 @@ last_within entries d entry read some other kind none pieces members few_pieces 
     (last_level_more (length d.names) last.before last.last entry all pieces members
     (omega (arith, few_pieces, ap {B = ℕ} length all_of_pieces)) (omega (arith, few_members, ap {B = ℕ} length all_of_members)))
 
+-- where an entry of a level was read, the document has a level
 some_level : (entries : List Entry) (d : Document) → IsRead entries d → nat_lt 0 (length (filter_map (λ entry. if is_level entry then Some entry else None) entries)) ≡ true → 0 < length d.levels
 some_level entries d read after =
     omega (arith, levels_are entries d read, ltb-true 0 (length (filter_map (λ entry. if is_level entry then Some entry else None) entries)) after)
 
+-- a piece's line
 piece_within : (entries : List Entry) (d : Document) (fields : List Field) (entry : Entry) → IsRead entries d → may_follow PieceLine entries ≡ true → has_room PieceLine entries ≡ true →
     read_piece fields ≡ Ok entry → IsSaid (entries ++ entry ∷ [])
 piece_within entries d fields entry read after room is =
@@ -270,6 +279,7 @@ piece_within entries d fields entry read after room is =
     (omega (arith, ltb-true (length (filter_map piece_said entries)) MAX_PIECES room))
     (omega (arith, ap {B = ℕ} length members, read.fits.levels.few_members)))
 
+-- a member's line
 member_within : (entries : List Entry) (d : Document) (fields : List Field) (entry : Entry) → IsRead entries d → may_follow MemberLine entries ≡ true → has_room MemberLine entries ≡ true →
     read_member entries fields ≡ Ok entry → IsSaid (entries ++ entry ∷ [])
 member_within entries d fields entry read after room is =
@@ -284,6 +294,7 @@ member_within entries d fields entry read after room is =
     (omega (arith, ap {B = ℕ} length pieces, read.fits.levels.few_pieces))
     (omega (arith, ltb-true (length (filter_map member_said entries)) MAX_MEMBERS room)))
 
+-- a line of ticks
 ticks_within : (entries : List Entry) (d : Document) (fields : List Field) (entry : Entry) → IsRead entries d → read_ticks fields ≡ Ok entry → IsSaid (entries ++ entry ∷ [])
 ticks_within entries d fields entry read is =
     let parts = one_step (number_in 1 MAX_TICKS (field_at fields 1)) (λ ticks. Ok (TicksEntry ticks)) entry is in
@@ -303,6 +314,7 @@ no_first : {X : Type 0} (xs : List X) → (length xs == 0) ≡ true → first_of
 no_first [] none = refl
 no_first (x ∷ xs) none = let long : length (x ∷ xs) ≡ 0 = eqb-true (length (x ∷ xs)) 0 none in absurd (omega arith)
 
+-- the grid's line
 grid_within : (entries : List Entry) (d : Document) (fields : List Field) (entry : Entry) → IsRead entries d → may_follow GridLine entries ≡ true →
     read_grid fields ≡ Ok entry → IsSaid (entries ++ entry ∷ [])
 grid_within entries d fields entry read first is =
@@ -321,6 +333,7 @@ grid_within entries d fields entry read first is =
       energy = read.fits.energy;
     }))
 
+-- the energy's line
 energy_within : (entries : List Entry) (d : Document) (fields : List Field) (entry : Entry) → IsRead entries d → may_follow EnergyLine entries ≡ true →
     read_energy fields ≡ Ok entry → IsSaid (entries ++ entry ∷ [])
 energy_within entries d fields entry read first is =
@@ -337,6 +350,7 @@ energy_within entries d fields entry read first is =
       energy = fits;
     }))
 
+-- so a line of each kind keeps the limits
 kind_within : (kind : Kind) (entries : List Entry) (d : Document) (fields : List Field) (entry : Entry) → IsRead entries d → may_follow kind entries ≡ true → has_room kind entries ≡ true →
     read_kind kind entries fields ≡ Ok entry → IsSaid (entries ++ entry ∷ [])
 kind_within JobLine entries d fields entry read after room is = job_within entries d fields entry read room is
@@ -353,11 +367,13 @@ kind_within EnergyLine entries d fields entry read after room is = energy_within
 
 -- ---- the lines
 
+-- a line that is read keeps the limits
 line_within : (entries : List Entry) (d : Document) (line : Line) (entry : Entry) → IsRead entries d → read_line entries line ≡ Ok entry → IsSaid (entries ++ entry ∷ [])
 line_within entries d line entry read is =
     let parts = fields_ok entries (fields_of line.text) entry (on_line_ok line.number (read_fields entries (fields_of line.text)) entry is) in
     kind_within parts.0 entries d (fields_of line.text) entry read parts.1 parts.2 parts.3
   where
+    -- what succeeds with its line's number succeeds without it
     on_line_ok : (number : ℕ) (read : Result Entry Spot) (entry : Entry) → on_line number read ≡ Ok entry → read ≡ Ok entry
     on_line_ok number (Ok made) entry is = let same : made ≡ entry = cc in ap Ok same
     on_line_ok number (Err spot) entry is = absurd (cc)
@@ -372,16 +388,19 @@ read_first : (earlier : List Entry) (lines : List Line) (entries : List Entry) (
 read_first earlier lines entries (Ok entry) is = (entry, refl, is)
 read_first earlier lines entries (Err fault) is = absurd (cc)
 
+-- so lines that are read one after another keep them
 lines_within : (earlier : List Entry) (lines : List Line) (entries : List Entry) → IsSaid earlier → read_after earlier lines ≡ Ok entries → IsSaid entries
 lines_within earlier [] entries said is = let same : earlier ≡ entries = cc in subst IsSaid same said
 lines_within earlier (line ∷ lines) entries said is =
     let first = read_first earlier lines entries (read_line earlier line) is in
     lines_within (earlier ++ first.0 ∷ []) lines entries (line_within earlier said.document line first.0 said.is first.1) first.2
 
+-- without points the multiple of the gaps is within its limit
 no_gaps : (points : List Point) → points ≡ [] → hull_multiple points ≤ MAX_GAPS
 no_gaps [] none = omega arith
 no_gaps (point ∷ points) none = absurd (cc)
 
+-- no lines say an empty document, which is within the limits
 no_lines : IsSaid []
 no_lines = record {
   document = no_document;
@@ -399,18 +418,22 @@ no_lines = record {
   };
 }
 
+-- the document of entries, or the fault that came in their place
 abbrev document_of : Result (List Entry) Fault → Result Document Fault
 document_of read = elim read [ Ok entries ↦ Ok (document_said entries) | Err fault ↦ Err fault ]
 
+-- a document that is read is what some entries say
 document_read : (read : Result (List Entry) Fault) (d : Document) → document_of read ≡ Ok d → (entries : List Entry) × (read ≡ Ok entries) × (document_said entries ≡ d)
 document_read (Ok entries) d is = (entries, refl, cc)
 document_read (Err fault) d is = absurd (cc)
 
+-- the law: a document that is read is within the limits
 pub read_is_within_limits : ReadIsWithinLimits
 read_is_within_limits bytes d is =
     let all = document_read (read_after [] (live_lines (lines_of bytes))) d is in
     let said = lines_within [] (live_lines (lines_of bytes)) all.0 no_lines all.1 in
     subst IsDocument (sym said.is.says.said ∙ all.2) said.is.fits
 
+-- the law: its canonical text is read as the document
 pub canonical_text_is_read : CanonicalTextIsRead
 canonical_text_is_read bytes d is = printed_is_read d (read_is_within_limits bytes d is)

@@ -1,6 +1,6 @@
 -- The answer of `plan`: the document's jobs and points, with the slots and the levels of a plan of its jobs. And the
 -- headline, which is what a reader wants to know of such a text.
-use Rattle.std.specs.Prelude.{◌≡◌, ℕ, List, Some, None, Ok}
+use Rattle.std.specs.Prelude.{◌≡◌, ℕ, List, length, None, Ok}
 use Rattle.yds_model.specs.Slot.{WrittenSlot}
 use Rattle.yds_model.specs.Level.{Level}
 use Rattle.yds_model.specs.Feasible.{IsFeasible}
@@ -10,8 +10,8 @@ use Rattle.yds_model.specs.Proper.{IsProper}
 use Rattle.yds_model.specs.Plan.{IsPlan}
 use Rattle.yds_model.specs.Document.{Document}
 use Rattle.yds_model.specs.Text.{canonical_text}
-use Rattle.yds_model.specs.OneJob.{one_job_document}
 use Rattle.yds_model.specs.Reading.{reading}
+use Rattle.yds_model.specs.RoundTrip.{AreSlotsOf, AreLevelsOf}
 
 -- the same jobs and points, with these slots and levels, and nothing else
 abbrev pub with_plan : Document → List WrittenSlot → List Level → Document
@@ -25,29 +25,20 @@ with_plan document slots levels = record {
   energy = None;
 }
 
+-- the text is that of the document with a plan of its jobs, whose slots and levels are within the limits of a document
 pub record PlansDocument (document : Document) (text : List ℕ) (slots : List WrittenSlot) (levels : List Level) : Type 0 where
   pub plan : IsPlan document.jobs slots levels
+  pub slots_fit : AreSlotsOf (length document.jobs) slots
+  pub levels_fit : AreLevelsOf (length document.jobs) levels
   pub written : text ≡ canonical_text (with_plan document slots levels)
 
 abbrev pub IsPlanText : Document → List ℕ → Type 0
 IsPlanText document text = (slots : List WrittenSlot) × (levels : List Level) × PlansDocument document text slots levels
 
--- The headline: the input is a document; what was written is a document with the same jobs and points, whose slots give every
--- job its work inside its window and, for every speed, do no more work above it than any feasible schedule, as the written
--- levels show.
+-- The headline: the input is a document; what was written is read again as a document with the same jobs and points, whose
+-- slots give every job its work inside its window and, for every speed, do no more work above it than any feasible schedule, as
+-- the written levels show.
 pub record Headline (input text : List ℕ) (document : Document) (slots : List WrittenSlot) (levels : List Level) : Type 0 where
-  pub read : one_job_document input ≡ Some document
-  pub written : text ≡ canonical_text (with_plan document slots levels)
-  pub feasible : IsFeasible document.jobs slots
-  pub least : IsLeast document.jobs slots
-  pub proper : IsProper document.jobs slots levels
-  pub explained : Explains document.jobs slots levels
-
-abbrev pub HoldsHeadline : List ℕ → List ℕ → Type 0
-HoldsHeadline input text = (document : Document) × (slots : List WrittenSlot) × (levels : List Level) × Headline input text document slots levels
-
--- The same for every document that is read, where besides what was written is read again as the document with its plan.
-pub record ReadHeadline (input text : List ℕ) (document : Document) (slots : List WrittenSlot) (levels : List Level) : Type 0 where
   pub read : reading input ≡ Ok document
   pub written : text ≡ canonical_text (with_plan document slots levels)
   pub read_again : reading text ≡ Ok (with_plan document slots levels)
@@ -56,5 +47,5 @@ pub record ReadHeadline (input text : List ℕ) (document : Document) (slots : L
   pub proper : IsProper document.jobs slots levels
   pub explained : Explains document.jobs slots levels
 
-abbrev pub HoldsReadHeadline : List ℕ → List ℕ → Type 0
-HoldsReadHeadline input text = (document : Document) × (slots : List WrittenSlot) × (levels : List Level) × ReadHeadline input text document slots levels
+abbrev pub HoldsHeadline : List ℕ → List ℕ → Type 0
+HoldsHeadline input text = (document : Document) × (slots : List WrittenSlot) × (levels : List Level) × Headline input text document slots levels

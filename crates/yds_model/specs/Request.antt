@@ -56,3 +56,7 @@ request_of (word ∷ []) = request_of_word word
 request_of (word ∷ option ∷ []) = request_of_two word option
 request_of (word ∷ next ∷ last ∷ []) = request_of_three word next last
 request_of (word ∷ next ∷ last ∷ more ∷ words) = None
+
+-- the line that names every command of the program
+abbrev pub usage_line : List ℕ
+usage_line = codes "usage: yds_cli plan | round | avr --grid G | oa --grid G | check | audit [--points] | report [--json] | trial SEED JOBS | expand | admit TOP | curve | compare --grid G\n"

@@ -6,7 +6,6 @@
 //! certificate shows. None of its calls takes memory.
 #![tactic(auto)]
 
-mod command;
 mod divisor_laws;
 mod energy_laws;
 mod hull_laws;
@@ -23,7 +22,6 @@ mod scale_laws;
 mod status;
 mod text_laws;
 
-pub use command::Command;
 pub use divisor_laws::{divisor_is_greatest, lowest_terms_are_one, multiple_is_least};
 pub use energy_laws::{
     least_is_cheapest, lines_are_at_most_energy, plans_cost_least, plans_cost_least_on_points,
@@ -40,7 +38,10 @@ pub use laws::{
 };
 pub use memory::Memory;
 pub use number_fault::NumberFault;
-pub use plan_laws::{plans_are_least, plans_have_the_same_levels};
+pub use plan_laws::{
+    plan_texts_are_accepted, plan_texts_are_feasible, plans_are_least, plans_have_the_same_levels,
+    plans_hold_the_headline,
+};
 pub use reading_laws::{jobs_and_slots_are_read, lines_are_short, printed_is_read, text_is_short};
 pub use reason::Reason;
 pub use scale_laws::{

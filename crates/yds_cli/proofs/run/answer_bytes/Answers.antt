@@ -6,6 +6,6 @@ pub returns-in-Ok-clause-answer : goal.returns-in-Ok-clause-answer
 returns-in-Ok-clause-answer g c = λ memory. record {
   text = answer_text c.in-Ok.answer;
   status = answer_status c.in-Ok.answer;
-  answers = short_answers c.args.command c.args.bytes.now (answer_text c.in-Ok.answer) (answer_status c.in-Ok.answer) c.requires c.in-Ok.ensures.answers;
+  answers = short_answers c.args.command c.args.bytes.now (answer_text c.in-Ok.answer) (answer_status c.in-Ok.answer) c.requires c.in-Ok.ensures;
   outcome = c.deliver.ensures.outcome;
 }

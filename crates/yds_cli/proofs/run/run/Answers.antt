@@ -1,5 +1,6 @@
-use Rattle.yds_cli.proofs.AskedWords.{asks_plan}
-use Rattle.yds_cli.proofs.Complete.{completes, plans_input}
+use Rattle.std.proofs.Common.{ap}
+use Rattle.yds_cli.specs.Words.{asked}
+use Rattle.yds_cli.proofs.Complete.{completes, headline}
 use Rattle.yds_cli.proofs.run.run.Goals as goal
 
 pub returns-in-Some-clause-complete : goal.returns-in-Some-clause-complete
@@ -8,4 +9,5 @@ returns-in-Some-clause-complete g c =
 
 pub returns-in-Some-clause-headline : goal.returns-in-Some-clause-headline
 returns-in-Some-clause-headline g c =
-    λ plan done. plans_input _ _ _ _ (c.run_command.ensures.headline (asks_plan _ _ plan c.in-Some.ensures) done)
+    λ plan done. headline _ _ _ _ _ _ (ap asked plan) done
+    (completes _ _ _ _ _ _ _ _ c.in-Some.ensures (c.run_command.ensures.answer (λ is. absurd cc) (λ is. absurd cc)))
