@@ -3,7 +3,12 @@ pub mod Parts
 pub mod Homes
 pub mod OneHome
 pub mod Small
-pub mod Covers
 pub mod Accepted
+pub mod Counts
+pub mod Units
 pub mod Placing
-pub mod Walks
+pub mod Apart
+pub mod Standing
+pub mod Nodes
+pub mod Turns
+pub mod Confined

@@ -1,5 +1,7 @@
 pub mod Home
 pub mod Speed
-pub mod Cover
 pub mod Judgement
 pub mod Placed
+pub mod Standing
+pub mod Heights
+pub mod Run

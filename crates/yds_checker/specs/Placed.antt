@@ -1,27 +1,41 @@
--- The pieces of all levels in one list, each with the number of its level.
-use Rattle.std.specs.Prelude.{ℕ, ◌<◌, ◌≤◌, ◌⊎◌, ◌↔◌, List, [], ◌∷◌, length, take}
-use Rattle.std.specs.List.{Any}
-use Rattle.yds_model.specs.Piece.{Piece, Covers}
+-- The pieces of the first levels in one list, each with the number of its level.
+use Rattle.std.specs.Prelude.{◌≡◌, ℕ, ◌+◌, ◌<◌, ◌≤◌, ◌&&◌, Bool, List, take, cond, count_by, nat_lt, nat_le}
+use Rattle.std.specs.List.{All}
+use Rattle.std.specs.List.Sorted.{IsNonDecreasingBy}
+use Rattle.yds_model.specs.Piece.{Piece}
 use Rattle.yds_model.specs.Level.{Level, all_pieces}
 use Rattle.yds_checker.specs.declared.placed.Placed.{Placed}
 
--- they lie one after another, from this time on, and each takes time
-abbrev pub RunOf : ℕ → List Placed → Type 0
-RunOf start [] = Unit {0}
-RunOf start (piece ∷ pieces) = (start ≤ piece.from) × (piece.from < piece.to) × RunOf piece.to pieces
+-- whether the unit of time that begins then lies between two times
+abbrev pub has_unit : ℕ → ℕ → ℕ → Bool
+has_unit time from to = nat_le from time && nat_lt time to
 
--- a piece of one of the first so many levels has the unit of time that begins then
-abbrev pub HasTime : ℕ → ℕ → Placed → Type 0
-HasTime levels time piece = (piece.level < levels) × (piece.from ≤ time) × (time < piece.to)
+-- how many of the pieces have the unit of time that begins then
+abbrev pub covering : ℕ → List Piece → ℕ
+covering time pieces = count_by (λ piece. has_unit time piece.from piece.to) pieces
 
-abbrev pub Holds : ℕ → List Placed → ℕ → Type 0
-Holds levels placed time = Any (HasTime levels time) placed
+-- how many of those of the first so many levels have it
+abbrev pub holding : ℕ → ℕ → List Placed → ℕ
+holding levels time placed = count_by (λ piece. nat_lt piece.level levels && has_unit time piece.from piece.to) placed
 
--- in the longer list the pieces of this level hold time too
-abbrev pub PlacesMore : List Placed → List Placed → List Piece → ℕ → Type 0
-PlacesMore placed longer pieces level = (levels time : ℕ) →
-    (Holds levels longer time ↔ (Holds levels placed time ⊎ ((level < levels) × Covers pieces time)))
+-- no unit of time lies in two pieces of the first so many levels
+abbrev pub AreApartBelow : ℕ → List Placed → Type 0
+AreApartBelow levels placed = (time : ℕ) → holding levels time placed ≤ 1
 
--- the pieces of the first so many levels hold what those levels cover
-abbrev pub ArePlaced : List Level → List Placed → Type 0
-ArePlaced levels placed = (n time : ℕ) → n ≤ length levels → (Covers (all_pieces (take n levels)) time ↔ Holds n placed time)
+-- the piece takes time, and its level is one of the first so many
+abbrev pub IsPlaced : ℕ → Placed → Type 0
+IsPlaced levels piece = (piece.level < levels) × (piece.from < piece.to)
+
+-- the longer list has the pieces of one level more
+pub record PlacesMore (placed longer : List Placed) (pieces : List Piece) (level : ℕ) : Type 0 where
+  pub each : (levels : ℕ) → level < levels → All (IsPlaced levels) placed → All (IsPlaced levels) longer
+  pub same : (levels time : ℕ) → holding levels time longer ≡ holding levels time placed + cond (nat_lt level levels) (covering time pieces) 0
+
+-- the list has the pieces of the first so many levels: it holds each unit of time as often as they cover it
+pub record ArePlaced (levels : List Level) (count : ℕ) (placed : List Placed) : Type 0 where
+  pub each : All (IsPlaced count) placed
+  pub same : (n time : ℕ) → n ≤ count → holding n time placed ≡ covering time (all_pieces (take n levels))
+
+-- they begin in rising order
+abbrev pub AreRising : List Placed → Type 0
+AreRising placed = IsNonDecreasingBy (λ piece. piece.from) placed

@@ -12,8 +12,8 @@ use crate::home::homes_of;
 use crate::judgement::Judgement;
 use crate::member::first_wrong_member;
 use crate::order::first_faster;
-use crate::pieces::first_wrong_pieces;
-use crate::placed::placed_pieces;
+use crate::pieces::{Standing, standing_of};
+use crate::run::Run;
 use crate::speeds::first_wrong_speed;
 use crate::sums::first_wrong_sums;
 use crate::windows::first_uncovered;
@@ -43,9 +43,10 @@ fn judgement_of(
         Verdict::Feasible => {}
         verdict => return Ok(Judgement::Slots(verdict)),
     }
-    if let Some(level) = first_wrong_pieces(levels) {
-        return Ok(Judgement::Pieces(level));
-    }
+    let placed = match standing_of(alloc, levels)? {
+        Standing::Apart(placed) => placed,
+        Standing::Wrong(level) => return Ok(Judgement::Pieces(level)),
+    };
     let homes = homes_of(alloc, rows.len(), levels)?;
     if let Some(job) = first_wrong_member(rows, &homes) {
         return Ok(Judgement::Members(job));
@@ -56,8 +57,8 @@ fn judgement_of(
     if let Some(level) = first_faster(levels) {
         return Ok(Judgement::Order(level));
     }
-    let placed = placed_pieces(alloc, levels)?;
-    if let Some(job) = first_uncovered(rows, levels, &homes, &placed) {
+    let run = Run::new(alloc, placed)?;
+    if let Some(job) = first_uncovered(rows, &homes, &run) {
         return Ok(Judgement::Window(job));
     }
     if let Some(slot) = first_wrong_speed(rows, levels, &homes, slots) {

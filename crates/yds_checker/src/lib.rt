@@ -7,12 +7,14 @@
 #![tactic(auto)]
 
 mod checker;
+mod heights;
 mod home;
 mod judgement;
 mod member;
 mod order;
 mod pieces;
 mod placed;
+mod run;
 mod speeds;
 mod sums;
 mod windows;

@@ -1,8 +1,8 @@
-ghost use Rattle.std.specs.Prelude.{◌≡◌, ℕ, ◌<◌, ◌≤◌, ◌↔◌, ◌⊎◌, IsTrue, IfOk, OnOk};
+ghost use Rattle.std.specs.Prelude.{◌+◌, ◌<◌, ◌≤◌, ◌↔◌, IsTrue, IfOk, OnOk, length};
+ghost use Rattle.std.specs.List.{All};
 ghost use Rattle.yds_model.specs.declared.limits.TheConstants.{MAX_LEVELS};
-ghost use Rattle.yds_model.specs.Piece.{Covers};
-ghost use Rattle.std.specs.Prelude.{length};
-ghost use Rattle.yds_checker.specs.Placed.{RunOf, Holds, ArePlaced, PlacesMore};
+ghost use Rattle.yds_model.specs.Piece.{IsForward};
+ghost use Rattle.yds_checker.specs.Placed.{PlacesMore, ArePlaced, AreRising, AreApartBelow};
 
 use std::alloc::Global;
 use yds_certificate::{Level, Piece};
@@ -12,15 +12,16 @@ use yds_model::Memory;
 #[derive(Clone, Copy, Debug)]
 pub(crate) struct Placed {
     /// The time at which it begins.
-    from: u32,
+    pub(crate) from: u32,
     /// The time at which it ends.
-    to: u32,
+    pub(crate) to: u32,
     /// The number of its level.
-    level: u32,
+    pub(crate) level: u32,
 }
 
 /// Puts the pieces of a level last.
 fn place(placed: &mut Vec<Placed>, pieces: &[Piece], level: u32) -> Result<(), Memory>
+    requires { All IsForward pieces.now }
     ensures { OnOk result (PlacesMore placed.old.items placed.new.items pieces.now level) }
 {
     for piece in pieces {
@@ -33,10 +34,11 @@ fn place(placed: &mut Vec<Placed>, pieces: &[Piece], level: u32) -> Result<(), M
     Ok(())
 }
 
-/// The pieces of all levels, in no order.
+/// The pieces of these levels, in no order.
 fn gathered(alloc: Global, levels: &[Level]) -> Result<Vec<Placed>, Memory>
-    requires { length levels.now ≤ MAX_LEVELS }
-    ensures { IfOk result (λ placed. ArePlaced levels.now placed.items) }
+    requires few { length levels.now ≤ MAX_LEVELS }
+    requires forward { All (λ level. All IsForward level.pieces) levels.now }
+    ensures { IfOk result (λ placed. ArePlaced levels.now (length levels.now) placed.items) }
 {
     let mut placed = Vec::new(alloc);
     for (i, level) in levels.iter().enumerate() {
@@ -45,46 +47,56 @@ fn gathered(alloc: Global, levels: &[Level]) -> Result<Vec<Placed>, Memory>
     Ok(placed)
 }
 
-/// The pieces of all levels, in rising order of the times at which they begin.
+/// The pieces of these levels, in rising order of the times at which they begin.
 pub(crate) fn placed_pieces(alloc: Global, levels: &[Level]) -> Result<Vec<Placed>, Memory>
-    requires { length levels.now ≤ MAX_LEVELS }
-    ensures { IfOk result (λ placed. ArePlaced levels.now placed.items) }
+    requires few { length levels.now ≤ MAX_LEVELS }
+    requires forward { All (λ level. All IsForward level.pieces) levels.now }
+    ensures placed { IfOk result (λ placed. ArePlaced levels.now (length levels.now) placed.items) }
+    ensures rising { IfOk result (λ placed. AreRising placed.items) }
 {
     let mut placed = gathered(alloc, levels)?;
     placed.sort_by_key(|piece| piece.from)?;
     Ok(placed)
 }
 
-/// Whether the pieces lie one after another, and each takes time.
-pub(crate) fn is_run(placed: &[Placed]) -> bool
-    ensures { IsTrue result ↔ RunOf 0 placed.now }
+/// Whether no two pieces of the first so many levels overlap.
+fn are_apart(placed: &[Placed], levels: u32) -> bool
+    requires rising { AreRising placed.now }
+    requires each { All (λ piece. piece.from < piece.to) placed.now }
+    ensures { IsTrue result ↔ AreApartBelow levels placed.now }
 {
     let mut end = 0;
     for piece in placed {
-        if piece.from < end || piece.to <= piece.from {
-            return false;
+        if piece.level < levels {
+            if piece.from < end {
+                return false;
+            }
+            end = piece.to;
         }
-        end = piece.to;
     }
     true
 }
 
-/// Whether each unit of time from one time to another lies in a piece of the first so many levels.
-pub(crate) fn run_covers(placed: &[Placed], levels: u32, from: u32, to: u32) -> bool
-    requires { RunOf 0 placed.now }
-    ensures { IsTrue result ↔ ((time : ℕ) → from ≤ time → time < to → Holds levels placed.now time) }
+/// The greatest number, up to this one, of first levels of which no two pieces overlap.
+pub(crate) fn levels_apart(placed: &[Placed], levels: u32) -> u32
+    requires rising { AreRising placed.now }
+    requires each { All (λ piece. piece.from < piece.to) placed.now }
+    ensures bound { result ≤ levels }
+    ensures apart { AreApartBelow result placed.now }
+    ensures greatest { result < levels → AreApartBelow (result + 1) placed.now → ⊥ }
 {
-    let mut time = from;
-    for piece in placed {
-        if to <= time {
-            return true;
-        }
-        if time < piece.to {
-            if time < piece.from || levels <= piece.level {
-                return false;
-            }
-            time = piece.to;
+    if are_apart(placed, levels) {
+        return levels;
+    }
+    let mut apart = 0;
+    let mut not_apart = levels;
+    while apart + 1 < not_apart {
+        let middle = apart + (not_apart - apart) / 2;
+        if are_apart(placed, middle) {
+            apart = middle;
+        } else {
+            not_apart = middle;
         }
     }
-    to <= time
+    apart
 }

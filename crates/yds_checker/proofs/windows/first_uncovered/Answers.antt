@@ -1,8 +1,17 @@
 use Rattle.std.proofs.Common.{below_more, refl, arith}
+use Rattle.std.proofs.lemmas.Bool.{false≢true}
 use Rattle.yds_checker.proofs.windows.first_uncovered.Goals as goal
 
+pub returns-then-not-is_covered : goal.returns-then-not-is_covered
+returns-then-not-is_covered c = λ levels settled run. record {
+  within = omega (arith, c.loop-job-test.true);
+  before = c.loop-job.invariant levels settled run;
+  fails = λ covered. false≢true ((c.if-not-is_covered.ensures levels settled run).1 covered);
+}
+
 pub loop-job-preserved : goal.loop-job-preserved
-loop-job-preserved c = below_more _ _ c.loop-job.invariant (c.if-not-is_covered.ensures.0 refl)
+loop-job-preserved c = λ levels settled run.
+    below_more _ _ (c.loop-job.invariant levels settled run) ((c.if-not-is_covered.ensures levels settled run).0 refl)
 
 pub returns : goal.returns
-returns c = λ job within. c.loop-job.invariant job (omega arith)
+returns c = λ levels settled run job within. c.loop-job.invariant levels settled run job (omega arith)
