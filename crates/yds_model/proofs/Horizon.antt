@@ -87,7 +87,7 @@ deadlines_below [] from number within = absurd (omega arith)
 deadlines_below (job ∷ jobs) from zero within = omega (arith, deadlines_from jobs (max from job.deadline))
 deadlines_below (job ∷ jobs) from (suc number) within = deadlines_below jobs (max from job.deadline) number (omega arith)
 
-releases_from : (jobs : List Job) (from : ℕ) → fold (λ time job. min time job.release) from jobs ≤ from
+pub releases_from : (jobs : List Job) (from : ℕ) → fold (λ time job. min time job.release) from jobs ≤ from
 releases_from [] from = omega arith
 releases_from (job ∷ jobs) from = omega (arith, releases_from jobs (min from job.release))
 
