@@ -1,6 +1,7 @@
 //! A line of text, made on the stack field by field.
-ghost use Rattle.std.specs.Prelude.{◌≡◌, ◌+◌, ◌≤◌, ◌∷◌, ◌++◌, [], length, decimal};
+ghost use Rattle.std.specs.Prelude.{◌≡◌, ◌+◌, ◌≤◌, ◌∷◌, ◌++◌, [], length, decimal, replicate};
 ghost use Rattle.yds_model.specs.Text.{fraction_text};
+ghost use Rattle.yds_model.specs.ReportAnswer.{right};
 
 use arrayvec::ArrayString;
 use itoa::Buffer;
@@ -54,6 +55,44 @@ impl Line {
         ensures short { length result ≤ length self + 21 }
     {
         self.field(Buffer::new().format(number))
+    }
+
+    /// One more field with a number at the right of so many places, after a space. A number of more digits
+    /// is written whole.
+    pub fn column(mut self, places: usize, number: u64) -> Line
+        requires few { places ≤ 20 }
+        requires room { length self + 21 ≤ LINE_BYTES }
+        ensures bytes { result ≡ self ++ 32 ∷ right places number }
+        ensures short { length result ≤ length self + 21 }
+    {
+        self.text.push_str(" ");
+        self.right(places, number)
+    }
+
+    /// The same with no space before it.
+    pub fn right(self, places: usize, number: u64) -> Line
+        requires few { places ≤ 20 }
+        requires room { length self + 20 ≤ LINE_BYTES }
+        ensures bytes { result ≡ self ++ right places number }
+        ensures short { length result ≤ length self + 20 }
+    {
+        let mut buffer = Buffer::new();
+        let digits = buffer.format(number);
+        let mut line = self.spaces(places.saturating_sub(digits.len()));
+        line.text.push_str(digits);
+        line
+    }
+
+    // So many spaces.
+    fn spaces(mut self, count: usize) -> Line
+        requires { length self + count ≤ LINE_BYTES }
+        ensures bytes { result ≡ self ++ replicate count 32 }
+        ensures len { length result ≡ length self + count }
+    {
+        for _ in 0..count {
+            self.text.push_str(" ");
+        }
+        self
     }
 
     /// One more field with a fraction, after a space: `W`, or `W+N/D` where the numerator isn't 0. It

@@ -1,10 +1,15 @@
 -- Two numbers over their greatest common divisor.
-use Rattle.std.proofs.Common.{◌≡◌, ℕ, zero, suc, ◌+◌, ◌*◌, ◌/◌, ◌<◌, ◌≤◌, ap, subst, sym, ◌∙◌, arith}
+use Rattle.std.proofs.Common.{◌≡◌, ℕ, zero, suc, ◌+◌, ◌*◌, ◌/◌, ◌%◌, ◌<◌, ◌≤◌, ap, subst, sym, ◌∙◌, refl, arith, Bool, true, false, eqb-true}
+use Rattle.std.specs.Prelude.{◌==◌, if◌then◌else◌}
 use Rattle.std.specs.Int.{◌∣◌, IsGcd}
-use Rattle.std.proofs.Math.Nat.{div-mul_cancel, div-le_self, one-dvd, mul-dvd-mul_left, dvd_of_mul-dvd-mul_left, dvd-mul_right, zero-mul, lt_of_mul-lt-mul_right}
+use Rattle.std.proofs.lemmas.Nat.Gcd.{same_from_IsGcd}
+use Rattle.std.proofs.Math.Nat.{div-one, div-mul_cancel, div-le_self, one-dvd, mul-dvd-mul_left, dvd_of_mul-dvd-mul_left, dvd-mul_right, zero-mul, lt_of_mul-lt-mul_right}
+use Rattle.yds_model.specs.Divisor.{common_divisor}
+use Rattle.yds_model.specs.Scale.{Fraction, of_whole, of_parts}
+use Rattle.yds_model.proofs.Divisor.{divisor_is_greatest, lowest_terms_are_one}
 use Rattle.yds_model.proofs.Fractions.{den_positive}
 use Rattle.yds_fraction.specs.Ratio.{IsRatio}
-use Rattle.yds_fraction.specs.Mixed.{IsMixed}
+use Rattle.yds_fraction.specs.Mixed.{IsMixed, fraction_of}
 
 -- a number of at least 1 has no common divisor 0 with another
 pub IsGcd-positive : (n d g : ℕ) → 1 ≤ d → IsGcd n d g → 1 ≤ g
@@ -77,3 +82,22 @@ IsSame-lowest whole num den g greatest = omega (arith, same_lowest num den g gre
 
 pub parts_divide : (den g : ℕ) → g ∣ den → den / g ∣ den
 parts_divide den g divides = subst (λ (n : ℕ). den / g ∣ n) (div-mul_cancel g divides) (dvd-mul_right (den / g) g)
+
+-- an equal quotient that no number above 1 divides has the numbers over their greatest common divisor
+pub lowest_is : (a b c d : ℕ) → 1 ≤ b → 1 ≤ d → a * d ≡ c * b → IsGcd c d 1 → (c ≡ a / common_divisor a b) × (d ≡ b / common_divisor a b)
+lowest_is a b c d some_b some_d same lowest =
+    let one : common_divisor c d ≡ 1 = same_from_IsGcd c d (common_divisor c d) 1 (divisor_is_greatest c d) lowest in
+    let terms = lowest_terms_are_one a b c d some_b some_d same in
+    (sym (terms.0 ∙ ap (λ n. c / n) one ∙ div-one c), sym (terms.1 ∙ ap (λ n. d / n) one ∙ div-one d))
+
+-- # So many parts as a fraction
+
+fraction_of_parts_by : (p d : ℕ) (plain : Bool) → (p % d == 0) ≡ plain
+    → (let x : Fraction = record { whole = p / d; num = p % d; den = if plain then 1 else d } in x)
+    ≡ (if plain then of_whole (p / d) else record { whole = p / d; num = p % d; den = d })
+fraction_of_parts_by p d true none = ap (λ n. let x : Fraction = record { whole = p / d; num = n; den = 1 } in x) (eqb-true (p % d) 0 none)
+fraction_of_parts_by p d false some = refl
+
+-- the quotient and the rest, as a fraction, are so many parts
+pub fraction_of_parts : (p d : ℕ) → fraction_of (p / d) (p % d) d ≡ of_parts p d
+fraction_of_parts p d = fraction_of_parts_by p d (p % d == 0) refl

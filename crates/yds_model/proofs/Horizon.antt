@@ -97,7 +97,7 @@ deadlines_below (job ∷ jobs) from zero within = omega (arith, deadlines_from j
 deadlines_below (job ∷ jobs) from (suc number) within = deadlines_below jobs (max from job.deadline) number (omega arith)
 
 -- a fold by the lesser doesn't rise
-releases_from : (jobs : List Job) (from : ℕ) → fold (λ time job. min time job.release) from jobs ≤ from
+pub releases_from : (jobs : List Job) (from : ℕ) → fold (λ time job. min time job.release) from jobs ≤ from
 releases_from [] from = omega arith
 releases_from (job ∷ jobs) from = omega (arith, releases_from jobs (min from job.release))
 

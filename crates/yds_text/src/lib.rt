@@ -14,7 +14,7 @@ mod spelling;
 pub use field::{Field, Fields};
 pub use fraction::mixed;
 pub use line::{Line, LineIter, lines};
-pub use spelling::{name, number, number_from};
+pub use spelling::{name, number, number_from, number_of};
 pub use yds_model::NumberFault;
 
 #[cfg(test)]

@@ -1,5 +1,5 @@
 //! What fields spell: numbers and names.
-ghost use Rattle.std.specs.Prelude.{◌≡◌, ℕ, ◌^◌, ◌≤◌, ◌&&◌, nat_le, true, All, IfSome, IfNone, IsTrue, IsFalse, MatchOption, if◌then◌else◌};
+ghost use Rattle.std.specs.Prelude.{◌≡◌, ℕ, ◌^◌, ◌≤◌, ◌&&◌, nat_le, true, All, IfOk, IfSome, IfNone, IsTrue, IsFalse, MatchOption, if◌then◌else◌};
 ghost use Rattle.std.specs.List.{list_all};
 ghost use Rattle.std.specs.Str.Parse.{digits_value};
 ghost use Rattle.yds_model.specs.Spelling.{number_at, is_digit, is_number, is_name};
@@ -21,10 +21,19 @@ pub fn number(field: Field<'_>, most: u64) -> Result<u64, NumberFault>
 pub fn number_from(field: Field<'_>, least: u64, most: u64) -> Result<u64, NumberFault>
     ensures { result ≡ number_at least most field.entry.text.now }
 {
-    if !is_number(field.text) {
+    number_of(field.text, least, most)
+}
+
+/// The same of bytes that stand by themselves, as a word of the command line.
+pub fn number_of(text: &[u8], least: u64, most: u64) -> Result<u64, NumberFault>
+    ensures value { result ≡ number_at least most text.now }
+    ensures at_least { IfOk result (λ number. least ≤ number) }
+    ensures at_most { IfOk result (λ number. number ≤ most) }
+{
+    if !is_number(text) {
         return Err(NumberFault::BadNumber);
     }
-    let value = at_most(field.text, most)?;
+    let value = at_most(text, most)?;
     if least <= value {
         Ok(value)
     } else {

@@ -1,0 +1,42 @@
+ghost use Rattle.std.specs.Prelude.{◌≡◌, ◌<◌, ◌≤◌, IsErr};
+ghost use Rattle.std.specs.List.{flat_map, enumerate_from};
+ghost use Rattle.yds_model.specs.ReportAnswer.{level_row, report_text};
+ghost use Rattle.yds_port.specs.Sink.{Delivers};
+
+use crate::report_lines::{idle_line, jobs_line, level_line};
+use yds_certificate::Level;
+use yds_document::Document;
+use yds_plan::Planned;
+use yds_port::{Sink, WriteFault, write_all};
+
+/// Appends the report of a plan of the document's jobs, or after a fault a front of it: a line with the
+/// number of the jobs, their work, the first release and the last deadline; for each level a line with its
+/// number from 1, its work, its length and its speed in lowest terms, in work per time unit; and a line with
+/// the time in which nothing runs, in time units. Takes no memory.
+pub fn report<K: Sink>(
+    document: &Document<'_>,
+    plan: &Planned,
+    sink: &mut K,
+) -> Result<(), WriteFault>
+    ensures delivers { Delivers result (report_text document.now.instance.jobs plan.now.certificate) (K.written sink.old) (K.written sink.new) (K.faults sink.old) (K.faults sink.new) }
+    ensures flushed_stays { K.flushed sink.new ≡ K.flushed sink.old }
+    ensures later { K.faults sink.old ≤ K.faults sink.new }
+    ensures counted { K.faults sink.old < K.faults sink.new → IsErr result }
+{
+    let rows = document.instance.rows();
+    let levels = plan.certificate.levels();
+    write_all(sink, jobs_line(rows).as_bytes())?;
+    write_levels(levels, sink)?;
+    write_all(sink, idle_line(rows, levels).as_bytes())
+}
+
+// A line for each level, in their order.
+fn write_levels<K: Sink>(levels: &[Level], sink: &mut K) -> Result<(), WriteFault>
+    ensures delivers { Delivers result (flat_map level_row (enumerate_from 1 levels.now)) (K.written sink.old) (K.written sink.new) (K.faults sink.old) (K.faults sink.new) }
+    ensures flushed_stays { K.flushed sink.new ≡ K.flushed sink.old }
+{
+    for (place, level) in levels.iter().enumerate() {
+        write_all(sink, level_line(place as u64 + 1, level).as_bytes())?;
+    }
+    Ok(())
+}

@@ -1,0 +1,25 @@
+//! The report of three jobs and of none, worked by hand.
+use crate::report;
+use std::test::Fail;
+use yds_document::read_document;
+use yds_plan::plan;
+use yds_port::MemorySink;
+
+#[test]
+fn a_plan_is_reported_level_by_level(rt: HostRuntime) -> Result<(), Fail> {
+    let cases = [
+        (
+            "job a 0 12 4\njob b 2 10 8\njob c 4 6 6\n",
+            "jobs 3 work 18 from 0 to 12\n    1          6          2 3\n    2          8          6 1+1/3\n    3          4          4 1\nidle 0\n",
+        ),
+        ("", "jobs 0 work 0 from 0 to 0\nidle 0\n"),
+    ];
+    for (text, want) in cases {
+        let document = read_document(rt.alloc(), text.as_bytes())?;
+        let planned = plan(rt.alloc(), document.instance.rows())?;
+        let mut sink = MemorySink::with_room(rt.alloc(), 300, 300, Vec::new(rt.alloc()))?;
+        report(&document, &planned, &mut sink)?;
+        assert_eq!(rt; sink.bytes(), want.as_bytes(), "{text}");
+    }
+    Ok(())
+}
