@@ -7,7 +7,7 @@ pub const USAGE: &str =
     "usage: yds_cli plan | round | avr --grid G | oa --grid G | check | audit [--points] | report [--json] | trial SEED JOBS | expand | admit TOP | curve | compare --grid G\n";
 
 /// The words with spaces between them, the document, the status and the whole answer.
-pub static ROWS: [(&str, &str, Status, &str); 83] = [
+pub static ROWS: [(&str, &str, Status, &str); 91] = [
     (
         "audit",
         "job a 0 4 4\njob b 0 2 4\nslot b 0 2 4\nslot a 2 4 4\n# refuse c from 0 to 4 work 9 top 2\n",
@@ -456,6 +456,39 @@ pub static ROWS: [(&str, &str, Status, &str); 83] = [
         Status::Refused,
         "refused 65 1 TooMany\n",
     ),
+    (
+        "report",
+        "job a 0 12 4\njob b 2 10 8\njob c 4 6 6\n",
+        Status::Done,
+        "jobs 3 work 18 from 0 to 12\n    1          6          2 3\n    2          8          6 1+1/3\n    3          4          4 1\nidle 0\n",
+    ),
+    (
+        "report",
+        "",
+        Status::Done,
+        "jobs 0 work 0 from 0 to 0\nidle 0\n",
+    ),
+    (
+        "trial 0 0",
+        "",
+        Status::Done,
+        "jobs 0\nlevels 0\nslots 0\npeak none\naccepted\n",
+    ),
+    (
+        "trial 0 1",
+        "",
+        Status::Done,
+        "jobs 1\nlevels 1\nslots 1\npeak 53709 18257\naccepted\n",
+    ),
+    (
+        "trial 0 2",
+        "",
+        Status::Done,
+        "jobs 2\nlevels 2\nslots 2\npeak 53709 18257\naccepted\n",
+    ),
+    ("trial 0 1001", "", Status::Usage, USAGE),
+    ("trial 4294967296 1", "", Status::Usage, USAGE),
+    ("trial 0 01", "", Status::Usage, USAGE),
     ("admit 0", "job a 0 4 8\n", Status::Usage, USAGE),
     ("avr", "job a 0 4 8\n", Status::Usage, USAGE),
     ("avr --grid 0", "job a 0 4 8\n", Status::Usage, USAGE),

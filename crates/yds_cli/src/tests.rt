@@ -45,6 +45,18 @@ fn the_answer_to_each_input(rt: HostRuntime) -> Result<(), Fail> {
 }
 
 #[test]
+fn a_trial_of_a_thousand_jobs_is_the_same_each_time(rt: HostRuntime) -> Result<(), Fail> {
+    let (first_ended, first) = answer(rt.alloc(), "trial 0 1000", "")?;
+    let (second_ended, second) = answer(rt.alloc(), "trial 0 1000", "")?;
+    assert_eq!(rt; first_ended, Status::Done);
+    assert_eq!(rt; second_ended, Status::Done);
+    assert_eq!(rt; first.bytes(), second.bytes());
+    let want = b"jobs 1000\nlevels 22\nslots 2964\npeak 46599 114\naccepted\n";
+    assert_eq!(rt; first.bytes(), want.as_slice());
+    Ok(())
+}
+
+#[test]
 fn an_input_of_the_greatest_size_and_one_byte_more(rt: HostRuntime) -> Result<(), Fail> {
     let cases = [
         (8_388_608, Status::Done, b"".as_slice()),
