@@ -1,5 +1,5 @@
 -- From the bytes that were taken to all bytes of the input.
-use Rattle.std.proofs.Common.{◌≡◌, ◌≢◌, ℕ, ◌+◌, ◌<◌, ◌≤◌, List, [], ◌++◌, length, Option, Some, None, subst, sym, ap, ◌∙◌, arith, inl, inr, true, false, refl, length-append, lt-ltb, le-ltb}
+use Rattle.std.proofs.Common.{◌≡◌, ◌≢◌, ℕ, ◌+◌, ◌<◌, ◌≤◌, List, [], ◌++◌, length, Option, Some, None, subst, sym, ap, ◌∙◌, arith, inl, inr, refl, length-append, lt-ltb, le-ltb}
 use Rattle.std.specs.Prelude.{◌⊎◌, nat_lt, IfSome}
 use Rattle.std.proofs.lemmas.List.{append-nil}
 use Rattle.std.specs.Io.KnownBytes.{Appends}

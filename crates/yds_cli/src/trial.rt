@@ -25,7 +25,8 @@ pub struct Summary {
     pub peak: Option<(u64, u64)>,
 }
 
-/// A linear congruential generator of numbers below 65,536, the upper halves of its states.
+/// A linear congruential generator, with the constants of Numerical Recipes. It gives numbers below 65,536,
+/// the upper halves of its states.
 #[derive(Drop)]
 struct Generator {
     state: u32,
