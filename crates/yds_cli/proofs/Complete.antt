@@ -1,34 +1,37 @@
 -- From the bytes that were taken to all bytes of the input.
-use Rattle.std.proofs.Common.{◌≡◌, ℕ, ◌+◌, ◌<◌, ◌≤◌, List, [], ◌++◌, length, Option, Some, None, subst, sym, ap, ◌∙◌, arith, inl, inr, true, false, refl, length-append, lt-ltb, le-ltb}
+use Rattle.std.proofs.Common.{◌≡◌, ◌≢◌, ℕ, ◌+◌, ◌<◌, ◌≤◌, List, [], ◌++◌, length, Option, Some, None, subst, sym, ap, ◌∙◌, arith, inl, inr, refl, length-append, lt-ltb, le-ltb}
 use Rattle.std.specs.Prelude.{◌⊎◌, nat_lt, IfSome}
 use Rattle.std.proofs.lemmas.List.{append-nil}
 use Rattle.std.specs.Io.KnownBytes.{Appends}
 use Rattle.yds_model.specs.declared.limits.TheConstants.{MAX_INPUT}
 use Rattle.yds_model.specs.declared.status.Status.{Status}
-use Rattle.yds_model.specs.declared.status.Status.TheVariants.{Done}
-use Rattle.yds_model.specs.Request.{Request, AskPlan}
+use Rattle.yds_model.specs.declared.status.Status.TheVariants.{Done, Memory}
+use Rattle.yds_model.specs.Request.{Request, AskPlan, AskRound, AskAverageRate, AskOptimalAvailable, AskCheck, AskAudit, AskAuditOnPoints, AskReport, AskTrial}
 use Rattle.yds_model.specs.Answer.{AnswersRequest, AnswersInput, AnswersReading}
 use Rattle.yds_model.specs.Reading.{reading}
 use Rattle.yds_model.specs.PlanAnswer.{HoldsHeadline}
 use Rattle.yds_model.proofs.PlanText.{plans_hold_the_headline}
-use Rattle.yds_cli.specs.declared.command.Command.{Command}
-use Rattle.yds_cli.specs.declared.command.Command.TheVariants as commands
-use Rattle.yds_cli.specs.Words.{request_view}
+use Rattle.yds_cli.specs.Words.{IsTrial, ReadsInput}
 use Rattle.yds_cli.specs.Run.{AnswersBytes, AnswersTaken, Outcome}
 
--- no command answers without an input
-pub input_answers : (command : Command) (input text : List ℕ) (status : Status)
-    → AnswersRequest (Some (request_view command)) input text status ≡ AnswersInput (request_view command) (nat_lt MAX_INPUT (length input)) input text status
-input_answers commands.Plan input text status = refl
-input_answers commands.Check input text status = refl
-input_answers (commands.Audit true) input text status = refl
-input_answers (commands.Audit false) input text status = refl
+-- a request that reads an input answers that input
+pub input_answers : (request : Request) (input text : List ℕ) (status : Status) → ReadsInput (Some request)
+    → AnswersRequest (Some request) input text status ≡ AnswersInput request (nat_lt MAX_INPUT (length input)) input text status
+input_answers AskPlan input text status reads = refl
+input_answers AskRound input text status reads = refl
+input_answers (AskAverageRate grid) input text status reads = refl
+input_answers (AskOptimalAvailable grid) input text status reads = refl
+input_answers AskCheck input text status reads = refl
+input_answers AskAudit input text status reads = refl
+input_answers AskAuditOnPoints input text status reads = refl
+input_answers AskReport input text status reads = refl
+input_answers (AskTrial seed jobs) input text status reads = absurd reads
 
 -- the answer to an input that isn't too long
-pub short_answers : (command : Command) (input text : List ℕ) (status : Status) → length input ≤ MAX_INPUT
-    → AnswersReading (request_view command) (reading input) text status → AnswersRequest (Some (request_view command)) input text status
-short_answers command input text status short answers =
-    rw (input_answers command input text status, le-ltb MAX_INPUT (length input) short) answers
+pub short_answers : (request : Request) (input text : List ℕ) (status : Status) → ReadsInput (Some request) → length input ≤ MAX_INPUT
+    → AnswersReading request (reading input) text status → AnswersRequest (Some request) input text status
+short_answers request input text status reads short answers =
+    rw (input_answers request input text status reads, le-ltb MAX_INPUT (length input) short) answers
 
 -- more bytes than an input may have, and any bytes after them, are refused alike
 beyond_with_more : (request : Request) (taken more : List ℕ) (text : List ℕ) (status : Status) → MAX_INPUT < length taken
@@ -38,44 +41,69 @@ beyond_with_more request taken more text status beyond answers =
     let long : MAX_INPUT < length (taken ++ more) = omega (arith, length-append taken more) in
     rw (lt-ltb MAX_INPUT (length (taken ++ more)) long) (rw (lt-ltb MAX_INPUT (length taken) beyond) at answers)
 
-more_answers : (command : Command) (taken more : List ℕ) (text : List ℕ) (status : Status) → MAX_INPUT < length taken
-    → AnswersRequest (Some (request_view command)) taken text status → AnswersRequest (Some (request_view command)) (taken ++ more) text status
-more_answers commands.Plan taken more text status beyond answers = beyond_with_more (request_view commands.Plan) taken more text status beyond answers
-more_answers commands.Check taken more text status beyond answers = beyond_with_more (request_view commands.Check) taken more text status beyond answers
-more_answers (commands.Audit true) taken more text status beyond answers =
-    beyond_with_more (request_view (commands.Audit true)) taken more text status beyond answers
-more_answers (commands.Audit false) taken more text status beyond answers =
-    beyond_with_more (request_view (commands.Audit false)) taken more text status beyond answers
+more_answers : (request : Request) (taken more : List ℕ) (text : List ℕ) (status : Status) → ReadsInput (Some request) → MAX_INPUT < length taken
+    → AnswersRequest (Some request) taken text status → AnswersRequest (Some request) (taken ++ more) text status
+more_answers request taken more text status reads beyond answers =
+    let Same : Type 0 → Type 0 = λ answered. answered in
+    subst Same (sym (input_answers request (taken ++ more) text status reads))
+    (beyond_with_more request taken more text status beyond (subst Same (input_answers request taken text status reads) answers))
 
-all_taken : (command : Command) (result : Status) (input taken rest : List ℕ) (old new : Option (List ℕ)) (flushed : Option ℕ)
-    → input ≡ taken ++ rest → (rest ≡ []) ⊎ (length taken ≡ MAX_INPUT + 1)
-    → AnswersBytes (Some (request_view command)) taken result old new flushed → AnswersBytes (Some (request_view command)) input result old new flushed
-all_taken command result input taken rest old new flushed is (inl end) answered =
+all_taken : (request : Request) (result : Status) (input taken rest : List ℕ) (old new : Option (List ℕ)) (flushed : Option ℕ)
+    → ReadsInput (Some request) → input ≡ taken ++ rest → (rest ≡ []) ⊎ (length taken ≡ MAX_INPUT + 1)
+    → AnswersBytes (Some request) taken result old new flushed → AnswersBytes (Some request) input result old new flushed
+all_taken request result input taken rest old new flushed reads is (inl end) answered =
     let whole : input ≡ taken = is ∙ ap (λ l. taken ++ l) end ∙ append-nil taken in
-    subst (λ bytes. AnswersBytes (Some (request_view command)) bytes result old new flushed) (sym whole) answered
-all_taken command result input taken rest old new flushed is (inr long) answered = record {
+    subst (λ bytes. AnswersBytes (Some request) bytes result old new flushed) (sym whole) answered
+all_taken request result input taken rest old new flushed reads is (inr long) answered = record {
   text = answered.text;
   status = answered.status;
-  answers = subst (λ bytes. AnswersRequest (Some (request_view command)) bytes answered.text answered.status) (sym is)
-      (more_answers command taken rest answered.text answered.status (omega arith) answered.answers);
+  answers = subst (λ bytes. AnswersRequest (Some request) bytes answered.text answered.status) (sym is)
+      (more_answers request taken rest answered.text answered.status reads (omega arith) answered.answers);
   outcome = answered.outcome;
 }
 
 -- the answer to what was taken is the answer to the whole input, where that is told
-pub answers_input : (command : Command) (result : Status) (left rest old new : Option (List ℕ)) (flushed : Option ℕ)
-    → AnswersTaken (Some (request_view command)) result left rest old new flushed
-    → IfSome left (λ input. AnswersBytes (Some (request_view command)) input result old new flushed)
-answers_input command result None rest old new flushed answered = tt
-answers_input command result (Some input) None old new flushed answered = absurd answered.consumed
-answers_input command result (Some input) (Some rest) old new flushed answered =
-    all_taken command result input answered.taken rest old new flushed answered.consumed answered.ended answered.answered
+answers_input : (request : Request) (result : Status) (left rest old new : Option (List ℕ)) (flushed : Option ℕ)
+    → ReadsInput (Some request) → AnswersTaken (Some request) result left rest old new flushed
+    → IfSome left (λ input. AnswersBytes (Some request) input result old new flushed)
+answers_input request result None rest old new flushed reads answered = tt
+answers_input request result (Some input) None old new flushed reads answered = absurd answered.consumed
+answers_input request result (Some input) (Some rest) old new flushed reads answered =
+    all_taken request result input answered.taken rest old new flushed reads answered.consumed answered.ended answered.answered
 
-pub completes : (named : Option Request) (command : Command) (result : Status) (left rest old new : Option (List ℕ)) (flushed : Option ℕ)
-    → Some (request_view command) ≡ named → AnswersTaken (Some (request_view command)) result left rest old new flushed
+-- a request reads an input or is a trial
+reads_or_not : (request : Request) → ReadsInput (Some request) ⊎ IsTrial (Some request)
+reads_or_not AskPlan = inl tt
+reads_or_not AskRound = inl tt
+reads_or_not (AskAverageRate grid) = inl tt
+reads_or_not (AskOptimalAvailable grid) = inl tt
+reads_or_not AskCheck = inl tt
+reads_or_not AskAudit = inl tt
+reads_or_not AskAuditOnPoints = inl tt
+reads_or_not AskReport = inl tt
+reads_or_not (AskTrial seed jobs) = inr tt
+
+for_each_input : (left : Option (List ℕ)) (P : List ℕ → Type 0) → ((input : List ℕ) → P input) → IfSome left P
+for_each_input None P answers = tt
+for_each_input (Some input) P answers = answers input
+
+-- what was written is the answer to all of the input, where that is told: for a trial it is the answer to each input
+pub completes : (named : Option Request) (request : Request) (result : Status) (left rest old new : Option (List ℕ)) (flushed : Option ℕ)
+    → Some request ≡ named → (ReadsInput (Some request) → AnswersTaken (Some request) result left rest old new flushed)
+    → (IsTrial (Some request) → (input : List ℕ) → AnswersBytes (Some request) input result old new flushed)
     → IfSome left (λ input. AnswersBytes named input result old new flushed)
-completes named command result left rest old new flushed is answered =
-    subst (λ named. IfSome left (λ input. AnswersBytes named input result old new flushed)) is
-    (answers_input command result left rest old new flushed answered)
+completes named request result left rest old new flushed is taken tried =
+    subst (λ asks. IfSome left (λ input. AnswersBytes asks input result old new flushed)) is (elim (reads_or_not request) [
+      | inl reads ↦ answers_input request result left rest old new flushed reads (taken reads)
+      | inr trial ↦ for_each_input left (λ input. AnswersBytes (Some request) input result old new flushed) (tried trial)
+    ])
+
+-- so is what the words ask for, where they ask for a trial
+pub trial_named : (named : Option Request) (request : Request) (result : Status) (old new : Option (List ℕ)) (flushed : Option ℕ) → Some request ≡ named
+    → (IsTrial (Some request) → result ≢ Memory → (input : List ℕ) → AnswersBytes (Some request) input result old new flushed)
+    → IsTrial named → result ≢ Memory → (input : List ℕ) → AnswersBytes named input result old new flushed
+trial_named named request result old new flushed is answers =
+    subst (λ asks. IsTrial asks → result ≢ Memory → (input : List ℕ) → AnswersBytes asks input result old new flushed) is answers
 
 -- what `plan` wrote whole holds the headline
 plan_headline : (input : List ℕ) (result : Status) (old new : Option (List ℕ)) (flushed : Option ℕ) → result ≡ Done

@@ -3,3 +3,4 @@ pub mod AskedWords
 pub mod ToldLines
 pub mod Planned
 pub mod Complete
+pub mod Drawn

@@ -6,9 +6,11 @@ use Rattle.yds_model.specs.Text.{canonical_text}
 use Rattle.yds_model.specs.Request.{usage_line}
 use Rattle.yds_model.specs.Answer.{too_long_line}
 use Rattle.yds_model.specs.Answer.{refusal_line, no_table_line}
+use Rattle.yds_model.specs.ReportAnswer.{report_text}
 use Rattle.yds_document.specs.Documents.{document_view}
 use Rattle.yds_cli.specs.declared.answer.Answer.{Answer}
 use Rattle.yds_cli.specs.declared.answer.Answer.TheVariants as answers
+use Rattle.yds_cli.specs.Trial.{summary_text}
 
 abbrev pub answer_text : Answer → List ℕ
 answer_text answers.Usage = usage_line
@@ -17,6 +19,8 @@ answer_text (answers.Refused line column reason) = refusal_line (record { line =
 answer_text answers.NoTable = no_table_line
 answer_text (answers.Planned document) = canonical_text (document_view document)
 answer_text (answers.Told line holds) = line
+answer_text (answers.Reported document planned) = report_text document.instance.jobs planned.certificate
+answer_text (answers.Tried summary) = summary_text summary
 
 -- the status that goes with a verdict or a judgement
 abbrev pub told_status : Bool → Status
@@ -30,3 +34,5 @@ answer_status (answers.Refused line column reason) = statuses.Refused
 answer_status answers.NoTable = statuses.Refused
 answer_status (answers.Planned document) = statuses.Done
 answer_status (answers.Told line holds) = told_status holds
+answer_status (answers.Reported document planned) = statuses.Done
+answer_status (answers.Tried summary) = statuses.Done

@@ -1,4 +1,5 @@
 pub mod Words
+pub mod Trial
 pub mod Answer
 pub mod Told
 pub mod Run

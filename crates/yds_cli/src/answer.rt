@@ -1,8 +1,10 @@
 ghost use Rattle.std.specs.Prelude.{◌≡◌};
 ghost use Rattle.yds_cli.specs.Answer.{answer_status};
 
+use crate::trial::Summary;
 use yds_document::{Document, Line, Reason};
 use yds_model::Status;
+use yds_plan::Planned;
 
 /// What the program answers.
 #[derive(Drop)]
@@ -31,6 +33,10 @@ pub enum Answer<'a> {
         /// Whether it is that the slots are feasible, or the levels proper.
         holds: bool,
     },
+    /// A document, and a plan of its jobs that is told as a table.
+    Reported(Document<'a>, Planned),
+    /// The numbers of a trial.
+    Tried(Summary),
 }
 
 impl Answer<'_> {
@@ -41,7 +47,7 @@ impl Answer<'_> {
         match self {
             Answer::Usage => Status::Usage,
             Answer::TooLong | Answer::Refused { .. } | Answer::NoTable => Status::Refused,
-            Answer::Planned(_) => Status::Done,
+            Answer::Planned(_) | Answer::Reported(..) | Answer::Tried(_) => Status::Done,
             Answer::Told { holds, .. } => { if *holds { Status::Done } else { Status::No } }
         }
     }

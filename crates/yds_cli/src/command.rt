@@ -10,4 +10,13 @@ pub enum Command {
         /// Whether each slot has also to run at the speed of one of the document's operating points.
         points: bool,
     },
+    /// The plan of the document's jobs as a table of its levels.
+    Report,
+    /// The numbers of a plan of drawn jobs.
+    Trial {
+        /// The number from which the jobs are drawn.
+        seed: u32,
+        /// How many jobs are drawn.
+        jobs: u32,
+    },
 }

@@ -1,18 +1,20 @@
-ghost use Rattle.std.specs.Prelude.{◌≡◌, ◌≤◌, length, IfOk, option_copied};
-ghost use Rattle.yds_model.specs.declared.limits.TheConstants.{MAX_INPUT};
+ghost use Rattle.std.specs.Prelude.{◌≡◌, ◌≤◌, length, IfOk, Some, option_copied};
+ghost use Rattle.yds_model.specs.declared.limits.TheConstants.{MAX_INPUT, MAX_TRIAL_JOBS};
 ghost use Rattle.yds_model.specs.Reading.{reading};
 ghost use Rattle.yds_model.specs.Answer.{AnswersReading, AnswersDocument, AuditsOnPoints};
 ghost use Rattle.yds_model.specs.AuditAnswer.{AuditAnswer, CheckAnswer};
-ghost use Rattle.yds_model.specs.Request.{AskPlan};
+ghost use Rattle.yds_model.specs.Request.{AskPlan, AskReport};
+ghost use Rattle.yds_model.specs.ReportAnswer.{TrialAnswer};
 ghost use Rattle.yds_model.specs.Judgement.{IsJudgement};
 ghost use Rattle.yds_checker.specs.Judgement.{judgement_view};
 ghost use Rattle.yds_document.specs.Documents.{document_view};
 ghost use Rattle.yds_cli.specs.Answer.{answer_text, answer_status};
-ghost use Rattle.yds_cli.specs.Words.{request_view};
+ghost use Rattle.yds_cli.specs.Words.{request_view, ReadsInput};
 
 use crate::answer::Answer;
 use crate::command::Command;
 use crate::told::{is_accepted, is_feasible, judgement_line, verdict_line};
+use crate::trial::trial;
 use std::alloc::Global;
 use yds_audit::audit;
 use yds_checker::{Judgement, check};
@@ -23,7 +25,8 @@ use yds_table::Table;
 
 /// The command's answer to an input that isn't too long.
 pub fn compute<'a>(alloc: Global, command: Command, bytes: &'a [u8]) -> Result<Answer<'a>, Memory>
-    requires { length bytes.now ≤ MAX_INPUT }
+    requires reads { ReadsInput (Some (request_view command)) }
+    requires short { length bytes.now ≤ MAX_INPUT }
     ensures { IfOk result (λ answer.
         AnswersReading (request_view command) (reading bytes.now) (answer_text answer) (answer_status answer)) }
 {
@@ -50,6 +53,7 @@ fn answer_document<'a>(
     command: Command,
     document: Document<'a>,
 ) -> Result<Answer<'a>, Memory>
+    requires { ReadsInput (Some (request_view command)) }
     ensures { IfOk result (λ answer.
         AnswersDocument (request_view command) (document_view document.entry) (answer_text answer) (answer_status answer)) }
 {
@@ -58,6 +62,8 @@ fn answer_document<'a>(
         Command::Check => check_document(alloc, &document),
         Command::Audit { points: false } => Ok(audit_document(&document, None)),
         Command::Audit { points: true } => Ok(audit_on_points(&document)),
+        Command::Report => report_document(alloc, document),
+        Command::Trial { .. } => unreachable!(),
     }
 }
 
@@ -71,6 +77,23 @@ fn plan_document<'a>(alloc: Global, document: Document<'a>) -> Result<Answer<'a>
     let _slots = planned.schedule.slots();
     let _levels = planned.certificate.levels();
     Ok(Answer::Planned(document.with_answer(planned.schedule, planned.certificate, None, None)))
+}
+
+/// The document, with a plan of its jobs that is told as a table.
+fn report_document<'a>(alloc: Global, document: Document<'a>) -> Result<Answer<'a>, Memory>
+    ensures { IfOk result (λ answer.
+        AnswersDocument AskReport (document_view document.entry) (answer_text answer) (answer_status answer)) }
+{
+    let planned = plan(alloc, document.instance.rows())?;
+    Ok(Answer::Reported(document, planned))
+}
+
+/// The answer to a trial, which no input is read for.
+pub fn compute_trial(alloc: Global, seed: u32, jobs: u32) -> Result<Answer<'static>, Memory>
+    requires { jobs ≤ MAX_TRIAL_JOBS }
+    ensures { IfOk result (λ answer. TrialAnswer seed jobs (answer_text answer) (answer_status answer)) }
+{
+    Ok(Answer::Tried(trial(alloc, seed, jobs)?))
 }
 
 /// The judgement of the document's levels.

@@ -1,9 +1,10 @@
 //! The program: it reads a document from standard input and writes its answer to standard output. `plan`
 //! writes the plan of the document's jobs, with the certificate that shows the plan to be least; `check`
-//! judges the document's levels, and `audit` its slots, with `--points` by its operating points too.
+//! judges the document's levels, and `audit` its slots, with `--points` by its operating points too;
+//! `report` tells the plan as a table, and `trial` plans drawn jobs and tells the numbers of their plan.
 //!
 //! It stands on `yds_document`, which reads and prints, on `yds_plan`, `yds_checker` and `yds_audit`, which
-//! answer, and on `yds_port`, which gives and takes bytes. It carries the promise that what was written is
+//! answer, on `yds_report` for the table, and on `yds_port`, which gives and takes bytes. It carries the promise that what was written is
 //! the answer of the definitions to the words and to all bytes of the input, whole and flushed, or that
 //! the status tells what came between: a fault that the source or the sink counted, or want of memory
 //! before the first byte was written.
@@ -15,6 +16,7 @@ mod compute;
 mod deliver;
 mod run;
 mod told;
+mod trial;
 mod words;
 mod writer;
 

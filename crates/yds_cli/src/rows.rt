@@ -462,3 +462,40 @@ pub static ROWS: [(&str, &str, Status, &str); 83] = [
     ("", "job a 0 4 8\n", Status::Usage, USAGE),
     ("plan plan", "job a 0 4 8\n", Status::Usage, USAGE),
 ];
+
+/// The same of reports and trials.
+pub static REPORTS_AND_TRIALS: [(&str, &str, Status, &str); 8] = [
+    (
+        "report",
+        "job a 0 12 4\njob b 2 10 8\njob c 4 6 6\n",
+        Status::Done,
+        "jobs 3 work 18 from 0 to 12\n    1          6          2 3\n    2          8          6 1+1/3\n    3          4          4 1\nidle 0\n",
+    ),
+    (
+        "report",
+        "",
+        Status::Done,
+        "jobs 0 work 0 from 0 to 0\nidle 0\n",
+    ),
+    (
+        "trial 0 0",
+        "",
+        Status::Done,
+        "jobs 0\nlevels 0\nslots 0\npeak none\naccepted\n",
+    ),
+    (
+        "trial 0 1",
+        "",
+        Status::Done,
+        "jobs 1\nlevels 1\nslots 1\npeak 53709 18257\naccepted\n",
+    ),
+    (
+        "trial 0 2",
+        "",
+        Status::Done,
+        "jobs 2\nlevels 2\nslots 2\npeak 53709 18257\naccepted\n",
+    ),
+    ("trial 0 1001", "", Status::Usage, USAGE),
+    ("trial 4294967296 1", "", Status::Usage, USAGE),
+    ("trial 0 01", "", Status::Usage, USAGE),
+];

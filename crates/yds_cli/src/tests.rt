@@ -1,5 +1,5 @@
 use super::*;
-use crate::rows::ROWS;
+use crate::rows::{REPORTS_AND_TRIALS, ROWS};
 use std::alloc::{AllocError, Global};
 use std::test::Fail;
 use yds_model::Memory;
@@ -41,6 +41,28 @@ fn the_answer_to_each_input(rt: HostRuntime) -> Result<(), Fail> {
         assert_eq!(rt; ended, *status, "{text}: {input}");
         assert_eq!(rt; sink.bytes(), want.as_bytes(), "{text}: {input}");
     }
+    Ok(())
+}
+
+#[test]
+fn the_answers_of_reports_and_trials(rt: HostRuntime) -> Result<(), Fail> {
+    for (text, input, status, want) in &REPORTS_AND_TRIALS {
+        let (ended, sink) = answer(rt.alloc(), text, input)?;
+        assert_eq!(rt; ended, *status, "{text}: {input}");
+        assert_eq!(rt; sink.bytes(), want.as_bytes(), "{text}: {input}");
+    }
+    Ok(())
+}
+
+#[test]
+fn a_trial_of_a_thousand_jobs_is_the_same_each_time(rt: HostRuntime) -> Result<(), Fail> {
+    let (first_ended, first) = answer(rt.alloc(), "trial 0 1000", "")?;
+    let (second_ended, second) = answer(rt.alloc(), "trial 0 1000", "")?;
+    assert_eq!(rt; first_ended, Status::Done);
+    assert_eq!(rt; second_ended, Status::Done);
+    assert_eq!(rt; first.bytes(), second.bytes());
+    let want = b"jobs 1000\nlevels 22\nslots 2964\npeak 46599 114\naccepted\n";
+    assert_eq!(rt; first.bytes(), want.as_slice());
     Ok(())
 }
 

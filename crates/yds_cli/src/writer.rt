@@ -1,14 +1,17 @@
 //! Writing an answer. A line is made on the stack, and a document is printed line by line: no memory is
 //! taken.
 
-ghost use Rattle.std.specs.Prelude.{◌≡◌};
+ghost use Rattle.std.specs.Prelude.{◌≡◌, ◌≤◌, length};
 ghost use Rattle.yds_model.specs.Answer.{refusal_line};
 ghost use Rattle.yds_port.specs.Sink.{Delivers};
 ghost use Rattle.yds_cli.specs.Answer.{answer_text};
+ghost use Rattle.yds_cli.specs.Trial.{count_line, count_lines, peak_line, summary_text};
 
 use crate::answer::Answer;
+use crate::trial::Summary;
 use yds_document::{Line, Reason, print};
 use yds_port::{Sink, WriteFault, write_all};
+use yds_report::report;
 
 /// The line that names the program's commands.
 const USAGE_LINE: &[u8] =
@@ -30,6 +33,8 @@ pub fn write_answer<K: Sink>(answer: &Answer<'_>, sink: &mut K) -> Result<(), Wr
         } => write_all(sink, refusal(*line, *column, *reason).as_bytes()),
         Answer::Planned(document) => print(document, sink),
         Answer::Told { line, .. } => write_all(sink, line.as_bytes()),
+        Answer::Reported(document, planned) => report(document, planned, sink),
+        Answer::Tried(summary) => write_summary(summary, sink),
     }
 }
 
@@ -42,4 +47,42 @@ fn refusal(line: u32, column: u32, reason: Reason) -> Line
         .number(u64::from(column))
         .field(reason.word())
         .end()
+}
+
+/// Appends the lines of a trial, or after a fault a front of them.
+fn write_summary<K: Sink>(summary: &Summary, sink: &mut K) -> Result<(), WriteFault>
+    ensures delivers { Delivers result (summary_text summary.now) (K.written sink.old) (K.written sink.new) (K.faults sink.old) (K.faults sink.new) }
+    ensures flushed_stays { K.flushed sink.new ≡ K.flushed sink.old }
+{
+    write_counts(summary, sink)?;
+    write_all(sink, peak_line(summary.peak).as_bytes())?;
+    write_all(sink, b"accepted\n")
+}
+
+/// Appends the lines of a trial's counts.
+fn write_counts<K: Sink>(summary: &Summary, sink: &mut K) -> Result<(), WriteFault>
+    ensures delivers { Delivers result (count_lines summary.now) (K.written sink.old) (K.written sink.new) (K.faults sink.old) (K.faults sink.new) }
+    ensures flushed_stays { K.flushed sink.new ≡ K.flushed sink.old }
+{
+    write_all(sink, count_line("jobs", summary.jobs).as_bytes())?;
+    write_all(sink, count_line("levels", summary.levels).as_bytes())?;
+    write_all(sink, count_line("slots", summary.slots).as_bytes())
+}
+
+/// The line of a count.
+fn count_line(what: &str, count: u32) -> Line
+    requires { length what.now ≤ 6 }
+    ensures { result ≡ count_line what.now count }
+{
+    Line::new(what).number(u64::from(count)).end()
+}
+
+/// The line of the first level's work and length.
+fn peak_line(peak: Option<(u64, u64)>) -> Line
+    ensures { result ≡ peak_line peak }
+{
+    match peak {
+        Some((work, length)) => Line::new("peak").number(work).number(length).end(),
+        None => Line::new("peak").field("none").end(),
+    }
 }

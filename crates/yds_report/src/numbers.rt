@@ -1,5 +1,5 @@
 // The numbers of a report: sums and ends of jobs and levels, and the speed of a level.
-ghost use Rattle.std.specs.Prelude.{◌≡◌, ◌*◌, ◌/◌, ◌≤◌, length, sum_by};
+ghost use Rattle.std.specs.Prelude.{◌≡◌, ◌/◌, ◌≤◌, length, sum_by};
 ghost use Rattle.std.specs.List.{All};
 ghost use Rattle.yds_model.specs.declared.limits.TheConstants.{MAX_JOBS, MAX_LEVELS};
 ghost use Rattle.yds_model.specs.Job.{IsJob};
@@ -52,5 +52,9 @@ pub(crate) fn speed_of(level: &Level) -> Amount
         (level.now.length / common_divisor level.now.work level.now.length) }
 {
     let speed = level.speed().reduced();
-    Amount::new(speed.num() / speed.den(), speed.num() % speed.den(), speed.den())
+    Amount::new(
+        speed.num() / speed.den(),
+        speed.num() % speed.den(),
+        speed.den(),
+    )
 }

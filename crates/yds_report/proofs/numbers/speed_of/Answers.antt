@@ -1,4 +1,4 @@
-use Rattle.std.proofs.Common.{◌≡◌, ◌/◌, ◌%◌, ap, subst, ◌∙◌, sym}
+use Rattle.std.proofs.Common.{◌≡◌, ◌/◌, ◌%◌, ap, subst, ◌∙◌}
 use Rattle.yds_fraction.specs.Mixed.{fraction_of}
 use Rattle.yds_model.specs.Divisor.{common_divisor}
 use Rattle.yds_model.specs.Scale.{of_parts, IsSameQuotient}

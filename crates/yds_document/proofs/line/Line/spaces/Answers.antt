@@ -14,4 +14,3 @@ pub loop-preserved : goal.loop-preserved
 loop-preserved c =
     c.push_str.ensures.bytes ∙ ap (λ l. l ++ 32 ∷ []) c.loop.invariant ∙ append_assoc c.args.self (replicate c.loop.counter 32) (32 ∷ [])
     ∙ ap (λ l. c.args.self ++ l) (sym (replicate_next c.loop.counter 32))
-
