@@ -1,21 +1,19 @@
 -- The fill, job by job.
 use Rattle.std.proofs.Common.{◌≡◌, ℕ, ◌+◌, ◌<◌, ◌≤◌, ◌≢◌, ◌⊎◌, min, List, [], ◌∙◌, length, get_or, set, refl, sym, ap, subst, inl, inr, arith}
-use Rattle.std.specs.Prelude.{cond, if◌then◌else◌, nat_lt}
-use Rattle.std.specs.List.{sum_by, range_with_len}
+use Rattle.std.specs.Prelude.{if◌then◌else◌, nat_lt}
+use Rattle.std.specs.List.{sum_by}
 use Rattle.std.proofs.lemmas.List.{get_or-set_same, get_or-set_other, length-set, take_all}
 use Rattle.std.proofs.lemmas.List.Elements.{All-weaker, All-nil}
 use Rattle.std.proofs.lemmas.List.Sums.{sum_by_more}
-use Rattle.std.proofs.lemmas.List.Sorted.{sum_by-IsPermutation}
 use Rattle.std.proofs.lemmas.Bool.{cases_eq}
 use Rattle.std.proofs.lemmas.Bool.Decides.{nat_tests}
 use Rattle.yds_model.specs.Job.{Job}
 use Rattle.yds_plan.specs.declared.finder_windows.Window.{Window}
 use Rattle.yds_plan.specs.Found.{Share, units_of_job}
-use Rattle.yds_plan.specs.Windows.{window_at, IsIn, Precedes, IsOrder}
-use Rattle.yds_plan.specs.Fill.{IsFullBefore, AreTaken, IsPart, FoundFull, IsServed, IsFilling, IsFill}
+use Rattle.yds_plan.specs.Windows.{window_at, IsIn, Precedes}
+use Rattle.yds_plan.specs.Fill.{IsFullBefore, AreTaken, IsPart, FoundFull, IsServed, IsFilling, IsFill, AreServed}
 use Rattle.yds_plan.proofs.Orders.{precedes_then}
 use Rattle.yds_plan.proofs.Fill.{come_before}
-use Rattle.yds_plan.proofs.Ranges.{over, over_list}
 
 -- nobody has taken anything
 pub fill_begins : (jobs : List Job) (windows : List Window) (order wants rooms : List ℕ) →
@@ -47,7 +45,7 @@ wanted_once left want given units is = grind (arith, nat_tests)
 -- one job more
 pub fill_more : (jobs : List Job) (windows : List Window) (order wants rooms : List ℕ) (i : ℕ)
     (shares : List Share) (wants' rooms' : List ℕ) (left : ℕ) (shares' : List Share) (rooms'' : List ℕ) →
-    IsOrder jobs order → length wants ≡ length jobs → i < length order →
+    AreServed jobs wants order → length wants ≡ length jobs → i < length order →
     IsFilling jobs windows order wants rooms i shares wants' rooms' →
     IsServed jobs windows (get_or order i 0) (get_or wants' (get_or order i 0) 0) shares rooms'
     (window_at windows (get_or order i 0)).end left shares' rooms'' →
@@ -100,7 +98,7 @@ wanted wants j = if nat_lt 0 (get_or wants j 0) then 1 else 0
 -- everybody has taken what they could
 pub fill_ends : (jobs : List Job) (windows : List Window) (order wants rooms : List ℕ) (i : ℕ)
     (shares : List Share) (wants' rooms' : List ℕ) →
-    IsOrder jobs order → length wants ≡ length jobs → length order ≤ i →
+    AreServed jobs wants order → length wants ≡ length jobs → length order ≤ i →
     IsFilling jobs windows order wants rooms i shares wants' rooms' →
     IsFill jobs windows wants rooms shares wants' rooms'
 fill_ends jobs windows order wants rooms i shares wants' rooms' ordered all end filling = record {
@@ -110,15 +108,8 @@ fill_ends jobs windows order wants rooms i shares wants' rooms' ordered all end 
   want = filling.want;
   room = filling.room;
   late = λ j known some k inside.
-      let found = ordered.each j known in
+      let found = ordered.each j known (omega (arith, some, filling.want j)) in
       let P : ℕ → Type 0 = λ n. 1 ≤ get_or wants' n 0 → IsIn windows n k → IsFullBefore jobs shares rooms' k n in
       subst P found.2 (λ more within. filling.late found.0 (omega (arith, found.1)) more k within) some inside;
-  few = omega (
-    arith,
-    filling.few,
-    ap (sum_by (wanted wants)) (take_all i order end),
-    sum_by-IsPermutation (wanted wants) (range_with_len 0 (length jobs)) order ordered.once,
-    ap (λ (n : ℕ). over n (wanted wants)) all,
-    over_list (λ want. cond (nat_lt 0 want) 1 0) wants 0,
-  );
+  few = omega (arith, filling.few, ap (sum_by (wanted wants)) (take_all i order end), ordered.few);
 }

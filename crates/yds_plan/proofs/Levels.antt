@@ -14,7 +14,7 @@ use Rattle.yds_model.specs.Plan.{Rise}
 use Rattle.yds_model.proofs.Sums.{sum_by_same, sum_by_at_most, sum_by_zero}
 use Rattle.yds_plan.specs.Found.{Group, Found, group_of, group_at}
 use Rattle.yds_plan.specs.Laid.{level_of, levels_among, level_of_place, together, members_of, level_numbered, levels_of}
-use Rattle.yds_plan.proofs.KeySums.{All-range, in_range, sums_swap, not_here, is_here, one_of_range, split_sum, split_at_most, count_all, sum_by-filter, sum_by-flat_map}
+use Rattle.yds_plan.proofs.KeySums.{All-range, in_range, sums_swap, not_here, is_here, one_of_range, split_sum, split_at_most, cond_at_most, count_all, sum_by-filter, sum_by-flat_map}
 use Rattle.yds_plan.proofs.Blocks.{flat_map-map}
 use Rattle.yds_plan.proofs.Speeds.{among_below}
 
@@ -161,10 +161,6 @@ member_count jobs found number =
     ∙ sum_by-flat_map (members_of jobs found) (λ other. cond (number == other) 1 0) (range_with_len 0 (levels_among found.groups (length found.groups)))
     ∙ split_sum (λ j. level_of_place found.groups (group_of found.group_of_job j)) (λ other. cond (number == other) 1 0)
     (levels_among found.groups (length found.groups)) (range_with_len 0 (length jobs))
-
-cond_at_most : (b : Bool) (v : ℕ) → cond b v 0 ≤ v
-cond_at_most true v = omega arith
-cond_at_most false v = omega arith
 
 pub member_at_most_once : (jobs : List Job) (found : Found) (number : ℕ) → count number (all_members (levels_of jobs found)) ≤ 1
 member_at_most_once jobs found number =

@@ -36,9 +36,11 @@ mod Ends
 mod Lowest
 mod Amounts
 mod Pointwise
+mod Numbers
+mod Waiting
 mod Reaches
-mod Nearest
 mod Finish
 mod Attempt
 mod Steps
+mod Dividing
 mod Begin

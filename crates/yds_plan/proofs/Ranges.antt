@@ -1,22 +1,20 @@
 -- Sums over the numbers below n.
-use Rattle.std.proofs.Common.{◌≡◌, ℕ, zero, suc, ◌+◌, ◌*◌, ◌<◌, ◌≤◌, List, inl, inr, [], ◌∷◌, ◌++◌, ◌∙◌, length, get_or, map, refl, sym, ap, arith, add-one}
+use Rattle.std.proofs.Common.{◌≡◌, ℕ, zero, suc, ◌+◌, ◌*◌, ◌<◌, ◌≤◌, List, inl, inr, ◌∙◌, length, get_or, map, refl, sym, ap, arith, add-one}
 use Rattle.std.specs.List.{sum_by, range_with_len}
-use Rattle.std.proofs.lemmas.List.{map-id, same_lists, get_or_default}
-use Rattle.std.proofs.lemmas.List.FromFn.{map-range_with_len_more, length-map-range_with_len, get_or-map-range_with_len}
+use Rattle.std.proofs.lemmas.List.{same_lists, get_or_default}
+use Rattle.std.proofs.lemmas.List.FromFn.{length-map-range_with_len, get_or-map-range_with_len}
 use Rattle.std.proofs.lemmas.List.Sums.{sum_by_push}
 use Rattle.std.proofs.lemmas.List.Folds.{fold-map}
 use Rattle.std.proofs.lemmas.Bool.{cases_lt}
+use Rattle.yds_plan.proofs.KeySums.{range_more}
 
 -- the sum of f over the numbers below n
 abbrev pub over : ℕ → (ℕ → ℕ) → ℕ
 over n f = sum_by f (range_with_len 0 n)
 
-range_more : (n : ℕ) → range_with_len 0 (suc n) ≡ range_with_len 0 n ++ n ∷ []
-range_more n = rw (map-id, map-id, add-one) at (map-range_with_len_more (λ (k : ℕ). k) 0 n n (omega arith))
-
 -- one number more
 pub over_more : (f : ℕ → ℕ) (n : ℕ) → over (suc n) f ≡ over n f + f n
-over_more f n = ap (sum_by f) (range_more n) ∙ sum_by_push f (range_with_len 0 n) n
+over_more f n = ap (sum_by f) (ap (range_with_len 0) (sym (add-one n)) ∙ range_more n) ∙ sum_by_push f (range_with_len 0 n) n
 
 pub over_same : (f g : ℕ → ℕ) (n : ℕ) → ((k : ℕ) → k < n → f k ≡ g k) → over n f ≡ over n g
 over_same f g zero same = refl

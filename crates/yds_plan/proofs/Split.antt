@@ -7,6 +7,7 @@ use Rattle.yds_plan.specs.declared.finder_windows.Window.{Window}
 use Rattle.yds_plan.specs.Found.{Found, Share, share_at, no_share, group_of, length_of}
 use Rattle.yds_plan.specs.Windows.{IsIn, AreWindows}
 use Rattle.yds_plan.specs.Closure.{IsMarked, AreClosed}
+use Rattle.yds_plan.specs.Numbers.{IsOneOf}
 use Rattle.yds_plan.specs.Search.{IsFast, IsSlow, LieInWindows, IsBoundary, MayRun, IsSearch, IsFilled, IsSplit}
 use Rattle.yds_plan.proofs.Shares.{chosen, chosen_some, share_counts, some_share}
 use Rattle.yds_plan.proofs.Ranges.{over_some, over_one}
@@ -28,6 +29,7 @@ pub record Splitting : Type 0 where
   pub wants_left : List ℕ
   pub rooms_left : List ℕ
   pub reaches : List ℕ
+  pub own : List ℕ
   pub new_jobs : List ℕ
   pub new_stretches : List ℕ
   pub windows_are : AreWindows jobs windows
@@ -36,7 +38,8 @@ pub record Splitting : Type 0 where
   pub within : below + 1 ≤ last
   pub apart : length found.groups ≤ below
   pub filled : IsFilled jobs windows found (below + 1) p q wants rooms shares wants_left rooms_left
-  pub closed : AreClosed windows (length (stretches jobs)) shares wants_left rooms_left reaches
+  pub own_all : (k : ℕ) → k < length (stretches jobs) → group_of found.group_of_stretch k ≡ below + 1 → IsOneOf own k
+  pub closed : AreClosed windows own shares wants_left rooms_left reaches
   pub split : IsSplit windows reaches (below + 1) found.group_of_job found.group_of_stretch new_jobs new_stretches
   pub a_late : (j : ℕ) × (j < length jobs) × (1 ≤ get_or wants_left j 0)
 
@@ -113,7 +116,7 @@ other_stretch s k known other = elim (s.split.stretch k (omega (arith, s.search.
 
 -- a job of which all stretches in the group are marked is one of the upper part
 confined_job : (s : Splitting) (j : ℕ) → j < length s.jobs → group_of s.found.group_of_job j ≡ s.below + 1 →
-    ((k : ℕ) → IsIn s.windows j k → IsMarked s.reaches k) → group_of s.new_jobs j ≡ s.below
+    ((k : ℕ) → IsIn s.windows j k → IsOneOf s.own k → IsMarked s.reaches k) → group_of s.new_jobs j ≡ s.below
 confined_job s j known mine marked = elim (s.split.job j (omega (arith, s.search.all_jobs))) [
   | inl upper ↦ omega (arith, upper.2)
   | inr same ↦
@@ -121,7 +124,9 @@ confined_job s j known mine marked = elim (s.split.job j (omega (arith, s.search
       let in_range : meets.0 < length (stretches s.jobs) = omega (arith, meets.1.upto, s.windows_are.inside j known) in
       elim (s.split.stretch meets.0 (omega (arith, s.search.all_stretches, in_range))) [
         | inl upper ↦ absurd (omega (arith, upper.2, meets.2))
-        | inr kept ↦ absurd (kept.0 (omega (arith, kept.1, meets.2)) (marked meets.0 meets.1))
+        | inr kept ↦
+            let same_group : group_of s.found.group_of_stretch meets.0 ≡ s.below + 1 = omega (arith, kept.1, meets.2) in
+            absurd (kept.0 same_group (marked meets.0 meets.1 (s.own_all meets.0 in_range same_group)))
       ]
 ]
 
@@ -130,14 +135,14 @@ shared_job : (s : Splitting) (x : ℕ) → x < length s.shares → IsMarked s.re
     group_of s.new_jobs (share_at s.shares x).job ≡ s.below
 shared_job s x within marked =
     let own = own_share s x within in
-    confined_job s (share_at s.shares x).job own.runs.known own.job (λ k inside. s.closed.shared x k within marked inside)
+    confined_job s (share_at s.shares x).job own.runs.known own.job (λ k inside one. s.closed.shared x k within marked inside one)
 
 -- who is late is one of the upper part
 late_job : (s : Splitting) (j : ℕ) → j < length s.jobs → 1 ≤ get_or s.wants_left j 0 →
     (group_of s.found.group_of_job j ≡ s.below + 1) × (1 ≤ (job_at s.jobs j).work) × (group_of s.new_jobs j ≡ s.below)
 late_job s j known some =
     let mine = own_job s j known (omega (arith, s.filled.fill.want j)) in
-    (mine.0, mine.1, confined_job s j known mine.0 (λ k inside. s.closed.late j k (omega (arith, s.windows_are.all)) some inside))
+    (mine.0, mine.1, confined_job s j known mine.0 (λ k inside one. s.closed.late j k (omega (arith, s.windows_are.all)) some inside one))
 
 -- a job of the upper part was one of the group, and has only marked stretches of it
 record Upper (s : Splitting) (j : ℕ) : Type 0 where
@@ -180,11 +185,12 @@ some_room s =
       balance s.jobs s.windows s.found (s.below + 1) s.p s.q s.wants s.rooms s.shares s.wants_left s.rooms_left s.windows_are.all s.filled,
       over_one (λ j. get_or s.wants_left j 0) (length s.jobs) s.a_late.0 s.a_late.1,
       s.a_late.2,
-    )) in (
+    )) in
+    let mine = own_stretch s found.0 found.1 (omega (arith, s.filled.fill.room found.0, found.2)) in (
       found.0,
       found.1,
-      own_stretch s found.0 found.1 (omega (arith, s.filled.fill.room found.0, found.2)),
-      λ marked. omega (arith, s.closed.full found.0 found.1 marked, found.2),
+      mine,
+      λ marked. omega (arith, s.closed.full found.0 (s.own_all found.0 found.1 mine) marked, found.2),
     )
 
 -- another group's stretch stays, and so does another group's job
@@ -283,7 +289,7 @@ new_boundary s = record {
           s.filled.room k known,
           chosen (group_of s.found.group_of_stretch k) (s.below + 1) (s.p * length_of s.jobs k) upper.0,
           s.filled.fill.room k,
-          s.closed.full k known upper.1,
+          s.closed.full k (s.own_all k known upper.0) upper.1,
         );
     own = λ x within is. shared_job s x within (upper_stretch s (share_at s.shares x).stretch (own_share s x within).stretch_known is).1;
     most = λ j known is.
@@ -354,7 +360,7 @@ covered_above s k known new =
     let found = some_share (λ share. share.stretch) s.shares k (omega (
       arith,
       s.filled.fill.room k,
-      s.closed.full k known upper.1,
+      s.closed.full k (s.own_all k known upper.0) upper.1,
       s.filled.room k known,
       chosen (group_of s.found.group_of_stretch k) (s.below + 1) (s.p * length_of s.jobs k) upper.0,
       product_some s.p (length_of s.jobs k) s.filled.some_time (s.long k known),
@@ -425,7 +431,7 @@ peopled_after s c from upto = elim (cases_eq c s.below) [
         found.0,
         known,
         marked_stretch s found.0 known (found.2 ∙ late.0)
-            (s.closed.late s.a_late.0 found.0 (omega (arith, s.windows_are.all, s.a_late.1)) s.a_late.2 found.1) ∙ sym upper,
+            (s.closed.late s.a_late.0 found.0 (omega (arith, s.windows_are.all, s.a_late.1)) s.a_late.2 found.1 (s.own_all found.0 known (found.2 ∙ late.0))) ∙ sym upper,
       )
   | inr other ↦ elim (cases_eq c (s.below + 1)) [
     | inl lower ↦

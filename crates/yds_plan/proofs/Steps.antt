@@ -11,13 +11,13 @@ use Rattle.yds_plan.specs.declared.finder_windows.Window.{Window}
 use Rattle.yds_plan.specs.declared.finder_instance.Instance.{Instance}
 use Rattle.yds_plan.specs.Found.{Found, Group, Share, group_of, per_time, per_work}
 use Rattle.yds_plan.specs.Windows.{AreWindows}
-use Rattle.yds_plan.specs.Closure.{AreLateReaches, AreShareReaches, AreReaches, AreClosed, AreAllReaches}
+use Rattle.yds_plan.specs.Numbers.{IsOneOf}
+use Rattle.yds_plan.specs.Closure.{AreClosed}
 use Rattle.yds_plan.specs.Search.{IsSearch, IsFilled, IsAttempt, IsRenamed, IsSplitStretch, IsSplitJob, IsSplit}
 use Rattle.yds_plan.specs.Instance.{IsInstance}
 use Rattle.yds_plan.proofs.Ranges.{over, over_at_most, over_add, over_one, over_zero, over_list}
 use Rattle.yds_plan.proofs.Balance.{over_alone, balance}
 use Rattle.yds_plan.proofs.Shares.{chosen, not_chosen}
-use Rattle.yds_plan.proofs.Closure.{fill_closes}
 use Rattle.yds_plan.proofs.Ends.{few_groups, few_left}
 use Rattle.yds_plan.proofs.Finished.{moved}
 use Rattle.yds_plan.proofs.Finish.{Finishing, finish_search}
@@ -51,34 +51,19 @@ sum_less xs ys k same most within less = omega (
 )
 
 -- there are fewer groups than the numbers leave between the finished ones and the others
-few_enough : (jobs : List Job) (windows : List Window) (found : Found) (top : ℕ) → IsSearch jobs windows found top 1000000 →
+pub few_enough : (jobs : List Job) (windows : List Window) (found : Found) (top : ℕ) → IsSearch jobs windows found top 1000000 →
     length (stretches jobs) ≤ 8000 → length found.groups + 1 < top
 few_enough jobs windows found top search few =
     omega (arith, few_groups jobs windows found top 1000000 search, few_left jobs windows found top 1000000 search)
 
--- nobody wants anything
-none_want : (wants : List ℕ) → list_any (λ want. nat_lt 0 want) wants ≡ false → (j : ℕ) → j < length wants → get_or wants j 0 ≡ 0
-none_want wants none j within = elim (cases_lt 0 (get_or wants j 0)) [
-  | inr nothing ↦ omega arith
-  | inl some ↦ let any = list_any_at (λ want. nat_lt 0 want) wants j 0 within (lt-ltb 0 (get_or wants j 0) some) in cc
-]
-
--- somebody wants something
-some_wants : (wants : List ℕ) → list_any (λ want. nat_lt 0 want) wants ≡ true → (j : ℕ) × (j < length wants) × (1 ≤ get_or wants j 0)
-some_wants wants any =
-    let found = Any-from_list_any (λ want. nat_lt 0 want) wants any in
-    (found.0, found.2, omega (arith, ltb-true 0 found.1 found.4, found.3, get_or_default wants found.0 found.1 0 found.2))
-
 abbrev finishing : (jobs : List Job) (instance : Instance) (found : Found) (top : ℕ) (group : Group) (shares : List Share) (wants' rooms' : List ℕ)
     (new_jobs new_stretches : List ℕ) → IsInstance jobs instance → IsSearch jobs instance.windows.items found top 1000000 → top ≤ 1000000 →
-    IsAttempt jobs instance.windows.items found top group shares wants' rooms' → list_any (λ want. nat_lt 0 want) wants' ≡ false →
+    IsAttempt jobs instance.windows.items found top group shares wants' rooms' → ((j : ℕ) → j < length jobs → get_or wants' j 0 ≡ 0) →
     length new_jobs ≡ length found.group_of_job → length new_stretches ≡ length found.group_of_stretch →
     ((j : ℕ) → j < length found.group_of_job → IsRenamed top (length found.groups) (group_of found.group_of_job j) (group_of new_jobs j)) →
     ((k : ℕ) → k < length found.group_of_stretch → IsRenamed top (length found.groups) (group_of found.group_of_stretch k) (group_of new_stretches k)) →
     Finishing
 finishing jobs instance found top group shares wants' rooms' new_jobs new_stretches are search within attempt served all_jobs all_stretches job stretch =
-    let wants_length : length wants' ≡ length jobs = attempt.filled.fill.same_wants ∙ attempt.filled.all_wants in
-    let nobody : (j : ℕ) → j < length jobs → get_or wants' j 0 ≡ 0 = λ j known. none_want wants' served j (omega (arith, wants_length)) in
     record {
       jobs = jobs;
       windows = instance.windows.items;
@@ -97,12 +82,12 @@ finishing jobs instance found top group shares wants' rooms' new_jobs new_stretc
       search = search;
       within = within;
       filled = attempt.filled;
-      served = nobody;
+      served = served;
       full = λ k known. omega (
         arith,
         over_one (λ i. get_or rooms' i 0) (length (stretches jobs)) k known,
         balance jobs instance.windows.items found top (per_time group) (per_work group) attempt.wants attempt.rooms shares wants' rooms' are.windows.all attempt.filled,
-        over_zero (λ j. get_or wants' j 0) (length jobs) nobody,
+        over_zero (λ j. get_or wants' j 0) (length jobs) served,
       );
       work = attempt.work;
       length_is = attempt.length_is;
@@ -130,7 +115,7 @@ renamed_less top to one other less renamed own = elim renamed [
 pub finish_step : (jobs : List Job) (instance : Instance) (found : Found) (top : ℕ) (group : Group) (shares : List Share) (wants' rooms' : List ℕ)
     (groups' : List Group) (new_jobs new_stretches : List ℕ) (shares' : List Share) → IsInstance jobs instance →
     IsSearch jobs instance.windows.items found top 1000000 → top ≤ 1000000 →
-    IsAttempt jobs instance.windows.items found top group shares wants' rooms' → list_any (λ want. nat_lt 0 want) wants' ≡ false →
+    IsAttempt jobs instance.windows.items found top group shares wants' rooms' → ((j : ℕ) → j < length jobs → get_or wants' j 0 ≡ 0) →
     groups' ≡ found.groups ++ group ∷ [] → shares' ≡ found.shares ++ shares →
     length new_jobs ≡ length found.group_of_job → length new_stretches ≡ length found.group_of_stretch →
     ((j : ℕ) → j < length found.group_of_job → IsRenamed top (length found.groups) (group_of found.group_of_job j) (group_of new_jobs j)) →
@@ -154,27 +139,13 @@ finish_smaller jobs instance found top new_stretches are search within all_stret
     in_range
     (renamed_less top (length found.groups) (group_of found.group_of_stretch there.0) (group_of new_stretches there.0) (omega (arith, less)) (stretch there.0 in_range) there.2)
 
--- what late jobs close upon, of lists for the number of all stretches
-closes : (jobs : List Job) (windows : List Window) (found : Found) (top p q m : ℕ) (wants rooms : List ℕ) (shares : List Share) (wants' rooms' late shared reaches : List ℕ) →
-    AreWindows jobs windows → IsFilled jobs windows found top p q wants rooms shares wants' rooms' → m ≡ length (stretches jobs) →
-    AreLateReaches windows wants' m late → AreShareReaches windows shares m shared → AreReaches late shared m reaches →
-    AreClosed windows (length (stretches jobs)) shares wants' rooms' reaches
-closes jobs windows found top p q m wants rooms shares wants' rooms' late shared reaches are filled all lates shareds reach =
-    let same : m ≡ length rooms = all ∙ sym filled.all_rooms in
-    subst (λ (n : ℕ). AreClosed windows n shares wants' rooms' reaches) filled.all_rooms
-    (fill_closes jobs windows wants rooms shares wants' rooms' late shared reaches are filled.all_rooms filled.fill
-    (subst (λ (n : ℕ). AreLateReaches windows wants' n late) same lates)
-    (subst (λ (n : ℕ). AreShareReaches windows shares n shared) same shareds)
-    (subst (λ (n : ℕ). AreReaches late shared n reaches) same reach))
-
-abbrev splitting : (jobs : List Job) (instance : Instance) (found : Found) (below : ℕ) (group : Group) (shares : List Share) (wants' rooms' : List ℕ) (m : ℕ) (late shared reaches : List ℕ)
+abbrev splitting : (jobs : List Job) (instance : Instance) (found : Found) (below : ℕ) (group : Group) (shares : List Share) (wants' rooms' own reaches : List ℕ)
     (new_jobs new_stretches : List ℕ) → IsInstance jobs instance → IsSearch jobs instance.windows.items found (below + 1) 1000000 → below + 1 ≤ 1000000 →
-    IsAttempt jobs instance.windows.items found (below + 1) group shares wants' rooms' → list_any (λ want. nat_lt 0 want) wants' ≡ true →
-    m ≡ length (stretches jobs) →
-    AreLateReaches instance.windows.items wants' m late → AreShareReaches instance.windows.items shares m shared → AreReaches late shared m reaches →
+    IsAttempt jobs instance.windows.items found (below + 1) group shares wants' rooms' → ((j : ℕ) × (j < length jobs) × (1 ≤ get_or wants' j 0)) →
+    ((k : ℕ) → k < length (stretches jobs) → group_of found.group_of_stretch k ≡ below + 1 → IsOneOf own k) →
+    AreClosed instance.windows.items own shares wants' rooms' reaches →
     IsSplit instance.windows.items reaches (below + 1) found.group_of_job found.group_of_stretch new_jobs new_stretches → Splitting
-splitting jobs instance found below group shares wants' rooms' m late shared reaches new_jobs new_stretches are search within attempt any all lates shareds reach split =
-    let some = some_wants wants' any in
+splitting jobs instance found below group shares wants' rooms' own reaches new_jobs new_stretches are search within attempt any all closed split =
     record {
       jobs = jobs;
       windows = instance.windows.items;
@@ -189,6 +160,7 @@ splitting jobs instance found below group shares wants' rooms' m late shared rea
       wants_left = wants';
       rooms_left = rooms';
       reaches = reaches;
+      own = own;
       new_jobs = new_jobs;
       new_stretches = new_stretches;
       windows_are = are.windows;
@@ -197,10 +169,10 @@ splitting jobs instance found below group shares wants' rooms' m late shared rea
       within = within;
       apart = omega (arith, few_enough jobs instance.windows.items found (below + 1) search are.few_stretches);
       filled = attempt.filled;
-      closed = closes jobs instance.windows.items found (below + 1) (per_time group) (per_work group) m attempt.wants attempt.rooms shares wants' rooms' late shared reaches
-          are.windows attempt.filled all lates shareds reach;
+      own_all = all;
+      closed = closed;
       split = split;
-      a_late = (some.0, omega (arith, some.1, attempt.filled.fill.same_wants, attempt.filled.all_wants), some.2);
+      a_late = any;
     }
 
 split_most : (reaches : List ℕ) (top k one other : ℕ) → IsSplitStretch reaches top k one other → other ≤ one
@@ -210,16 +182,16 @@ split_most reaches top k one other split = elim split [
 ]
 
 -- a group is split
-pub split_step : (jobs : List Job) (instance : Instance) (found : Found) (below : ℕ) (group : Group) (shares : List Share) (wants' rooms' : List ℕ) (m : ℕ) (late shared reaches : List ℕ)
+pub split_step : (jobs : List Job) (instance : Instance) (found : Found) (below : ℕ) (group : Group) (shares : List Share) (wants' rooms' own reaches : List ℕ)
     (new_jobs new_stretches : List ℕ) → IsInstance jobs instance → IsSearch jobs instance.windows.items found (below + 1) 1000000 → below + 1 ≤ 1000000 →
-    IsAttempt jobs instance.windows.items found (below + 1) group shares wants' rooms' → list_any (λ want. nat_lt 0 want) wants' ≡ true →
-    m ≡ length (stretches jobs) →
-    AreLateReaches instance.windows.items wants' m late → AreShareReaches instance.windows.items shares m shared → AreReaches late shared m reaches →
+    IsAttempt jobs instance.windows.items found (below + 1) group shares wants' rooms' → ((j : ℕ) × (j < length jobs) × (1 ≤ get_or wants' j 0)) →
+    ((k : ℕ) → k < length (stretches jobs) → group_of found.group_of_stretch k ≡ below + 1 → IsOneOf own k) →
+    AreClosed instance.windows.items own shares wants' rooms' reaches →
     IsSplit instance.windows.items reaches (below + 1) found.group_of_job found.group_of_stretch new_jobs new_stretches →
     IsSearch jobs instance.windows.items (moved found new_jobs new_stretches) below 1000000 × (sum new_stretches < sum found.group_of_stretch)
-split_step jobs instance found below group shares wants' rooms' m late shared reaches new_jobs new_stretches are search within attempt any all lates shareds reach split =
+split_step jobs instance found below group shares wants' rooms' own reaches new_jobs new_stretches are search within attempt any all closed split =
     let after : IsSearch jobs instance.windows.items (moved found new_jobs new_stretches) below 1000000 =
-    split_search (splitting jobs instance found below group shares wants' rooms' m late shared reaches new_jobs new_stretches are search within attempt any all lates shareds reach split) in
+    split_search (splitting jobs instance found below group shares wants' rooms' own reaches new_jobs new_stretches are search within attempt any all closed split) in
     let there = after.peopled below (omega arith) (omega arith) in
     let in_range : there.0 < length found.group_of_stretch = omega (arith, search.all_stretches, there.1) in (
       after,
@@ -235,54 +207,19 @@ split_step jobs instance found below group shares wants' rooms' m late shared re
           ]),
     )
 
--- what was renamed, in lists and with numbers that are the same
-pub renamed_at : (xs xs' ys : List ℕ) (top number number' : ℕ) → xs ≡ xs' → number ≡ number' →
-    ((k : ℕ) → k < length xs → IsRenamed top number (group_of xs k) (group_of ys k)) →
-    (k : ℕ) → k < length xs' → IsRenamed top number' (group_of xs' k) (group_of ys k)
-renamed_at xs xs' ys top number number' same same' renamed =
-    subst (λ (n : ℕ). (k : ℕ) → k < length xs' → IsRenamed top n (group_of xs' k) (group_of ys k)) same'
-    (subst (λ (list : List ℕ). (k : ℕ) → k < length list → IsRenamed top number (group_of list k) (group_of ys k)) same renamed)
-
--- reaches, of lists that are the same
-pub reaches_at : (windows windows' : List Window) (wants wants' : List ℕ) (shares shares' : List Share) (m : ℕ) (reaches : List ℕ) →
-    windows ≡ windows' → wants ≡ wants' → shares ≡ shares' →
-    AreAllReaches windows wants shares m reaches → AreAllReaches windows' wants' shares' m reaches
-reaches_at windows windows' wants wants' shares shares' m reaches same same' same'' are =
-    subst (λ (xs : List Window). AreAllReaches xs wants' shares' m reaches) same
-    (subst (λ (xs : List ℕ). AreAllReaches windows xs shares' m reaches) same'
-    (subst (λ (xs : List Share). AreAllReaches windows wants xs m reaches) same'' are))
-
--- a split, of lists that are the same
-pub split_at : (windows windows' : List Window) (reaches reaches' : List ℕ) (top : ℕ) (jobs jobs' stretches_ stretches' new_jobs new_stretches read : List ℕ) →
-    windows ≡ windows' → reaches ≡ reaches' → jobs ≡ jobs' → stretches_ ≡ stretches' → read ≡ new_stretches →
-    length new_jobs ≡ length jobs → length new_stretches ≡ length stretches_ →
-    ((k : ℕ) → k < length stretches_ → IsSplitStretch reaches top k (group_of stretches_ k) (group_of new_stretches k)) →
-    ((j : ℕ) → j < length jobs → IsSplitJob windows read top j (group_of jobs j) (group_of new_jobs j)) →
-    IsSplit windows' reaches' top jobs' stretches' new_jobs new_stretches
-split_at windows windows' reaches reaches' top jobs jobs' stretches_ stretches' new_jobs new_stretches read a b d e f all_jobs all_stretches stretch job =
-    subst (λ (xs : List Window). IsSplit xs reaches' top jobs' stretches' new_jobs new_stretches) a
-    (subst (λ (xs : List ℕ). IsSplit windows xs top jobs' stretches' new_jobs new_stretches) b
-    (subst (λ (xs : List ℕ). IsSplit windows reaches top xs stretches' new_jobs new_stretches) d
-    (subst (λ (xs : List ℕ). IsSplit windows reaches top jobs xs new_jobs new_stretches) e
-    (record {
-      all_jobs = all_jobs;
-      all_stretches = all_stretches;
-      stretch = stretch;
-      job = λ j known. subst (λ (xs : List ℕ). IsSplitJob windows xs top j (group_of jobs j) (group_of new_jobs j)) f (job j known);
-    }))))
-
 -- a group with late jobs is split, whatever its number
-pub split_top : (jobs : List Job) (instance : Instance) (found : Found) (top : ℕ) (group : Group) (shares : List Share) (wants' rooms' : List ℕ) (m : ℕ) (reaches : List ℕ)
+pub split_top : (jobs : List Job) (instance : Instance) (found : Found) (top : ℕ) (group : Group) (shares : List Share) (wants' rooms' own reaches : List ℕ)
     (new_jobs new_stretches : List ℕ) → 1 ≤ top → IsInstance jobs instance → IsSearch jobs instance.windows.items found top 1000000 → top ≤ 1000000 →
-    IsAttempt jobs instance.windows.items found top group shares wants' rooms' → list_any (λ want. nat_lt 0 want) wants' ≡ true →
-    m ≡ length (stretches jobs) → AreAllReaches instance.windows.items wants' shares m reaches →
+    IsAttempt jobs instance.windows.items found top group shares wants' rooms' → ((j : ℕ) × (j < length jobs) × (1 ≤ get_or wants' j 0)) →
+    ((k : ℕ) → k < length (stretches jobs) → group_of found.group_of_stretch k ≡ top → IsOneOf own k) →
+    AreClosed instance.windows.items own shares wants' rooms' reaches →
     IsSplit instance.windows.items reaches top found.group_of_job found.group_of_stretch new_jobs new_stretches →
     IsSearch jobs instance.windows.items (moved found new_jobs new_stretches) (top - 1) 1000000 × (sum new_stretches < sum found.group_of_stretch)
-split_top jobs instance found top group shares wants' rooms' m reaches new_jobs new_stretches some are search within attempt any all reach split =
+split_top jobs instance found top group shares wants' rooms' own reaches new_jobs new_stretches some are search within attempt any all closed split =
     let is : top ≡ top - 1 + 1 = omega arith in
-    split_step jobs instance found (top - 1) group shares wants' rooms' m reach.late reach.shared reaches new_jobs new_stretches are
+    split_step jobs instance found (top - 1) group shares wants' rooms' own reaches new_jobs new_stretches are
     (subst (λ (n : ℕ). IsSearch jobs instance.windows.items found n 1000000) is search)
     (omega arith)
     (subst (λ (n : ℕ). IsAttempt jobs instance.windows.items found n group shares wants' rooms') is attempt)
-    any all reach.lates reach.shareds reach.reach
+    any (λ k known mine. all k known (mine ∙ sym is)) closed
     (subst (λ (n : ℕ). IsSplit instance.windows.items reaches n found.group_of_job found.group_of_stretch new_jobs new_stretches) is split)

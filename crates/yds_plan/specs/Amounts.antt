@@ -7,11 +7,6 @@ use Rattle.yds_plan.specs.Found.{group_of}
 abbrev pub amount_in : List ℕ → List ℕ → ℕ → ℕ → ℕ
 amount_in amounts groups group n = sum_by (λ i. if group_of groups i == group then slice_index amounts i else 0) (range_with_len 0 n)
 
--- each of them times a factor, and 0 for those in other groups
-pub record AreScaled (amounts groups : List ℕ) (group factor n : ℕ) (scaled : List ℕ) : Type 0 where
-  pub count : length scaled ≡ n
-  pub each : (i : ℕ) → i < n → slice_index scaled i ≡ (if group_of groups i == group then factor * slice_index amounts i else 0)
-
 -- from each time to the next
 pub record AreLengths (times : List ℕ) (n : ℕ) (lengths : List ℕ) : Type 0 where
   pub count : length lengths ≡ n

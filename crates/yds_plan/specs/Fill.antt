@@ -7,6 +7,7 @@ use Rattle.yds_model.specs.EarliestFirst.{ComesFirst}
 use Rattle.yds_plan.specs.declared.finder_windows.Window.{Window}
 use Rattle.yds_plan.specs.Found.{Share, units_of_job, units_in_stretch}
 use Rattle.yds_plan.specs.Windows.{window_at, IsIn, Precedes}
+use Rattle.yds_plan.specs.Numbers.{IsOneOf}
 
 -- the stretch has no room, and who has a share in it comes before the job
 pub record IsFullBefore (jobs : List Job) (shares : List Share) (rooms : List ℕ) (k job : ℕ) : Type 0 where
@@ -78,6 +79,19 @@ pub record IsFilling (jobs : List Job) (windows : List Window) (order wants room
   pub late : (a : ℕ) → a < i → 1 ≤ slice_index wants' (slice_index order a) → (k : ℕ) → IsIn windows (slice_index order a) k →
       IsFullBefore jobs shares rooms' k (slice_index order a)
   pub few : length shares + full_count rooms ≤ sum_by (λ j. if nat_lt 0 (slice_index wants j) then 1 else 0) (take i order) + full_count rooms'
+
+-- Numbers of jobs that are served in this order: all that want units, none before one that precedes it.
+pub record AreServed (jobs : List Job) (wants own : List ℕ) : Type 0 where
+  pub known : (i : ℕ) → i < length own → slice_index own i < length jobs
+  pub rising : (a b : ℕ) → a < b → b < length own → Precedes jobs (slice_index own a) (slice_index own b)
+  pub each : (j : ℕ) → j < length jobs → 1 ≤ slice_index wants j → IsOneOf own j
+  pub few : sum_by (λ j. if nat_lt 0 (slice_index wants j) then 1 else 0) own ≤ wanting_count wants
+
+-- Numbers of stretches, rising, with all that have room.
+pub record AreOpen (own rooms : List ℕ) : Type 0 where
+  pub rising : (a b : ℕ) → a < b → b < length own → slice_index own a < slice_index own b
+  pub known : (p : ℕ) → p < length own → slice_index own p < length rooms
+  pub covers : (k : ℕ) → 1 ≤ slice_index rooms k → IsOneOf own k
 
 -- From each stretch one may go on to `next`, since all before that are full. There is one more place after the last stretch.
 pub record IsNext (rooms next : List ℕ) : Type 0 where

@@ -9,4 +9,6 @@ pub mod Closure
 pub mod Search
 pub mod Amounts
 pub mod Instance
-pub mod Nearest
+pub mod Numbers
+pub mod Beginning
+pub mod Waiting

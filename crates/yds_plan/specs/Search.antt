@@ -1,6 +1,6 @@
 -- The search for groups. Groups are numbered: the finished ones from 0, those that are still to be filled from `top` to
 -- `last`, the fastest first. What has a number above `last` is in no group.
-use Rattle.std.specs.Prelude.{◌≡◌, ℕ, ◌+◌, ◌*◌, ◌<◌, ◌≤◌, ◌⊎◌, ◌==◌, nat_lt, if◌then◌else◌, List, [], length, sum_by, slice_index}
+use Rattle.std.specs.Prelude.{◌≡◌, ℕ, ◌+◌, ◌-◌, ◌*◌, ◌<◌, ◌≤◌, ◌⊎◌, ◌==◌, nat_lt, nat_le, if◌then◌else◌, List, [], length, sum_by, slice_index}
 use Rattle.std.specs.List.{All, range_with_len}
 use Rattle.yds_model.specs.Job.{Job, job_at}
 use Rattle.yds_model.specs.Event.{stretches}
@@ -10,6 +10,7 @@ use Rattle.yds_plan.specs.Found.{Found, Group, Share, share_at, group_at, group_
 use Rattle.yds_plan.specs.Windows.{IsIn, Precedes}
 use Rattle.yds_plan.specs.Fill.{IsFill}
 use Rattle.yds_plan.specs.Closure.{IsMarked}
+use Rattle.yds_plan.specs.Numbers.{IsOneOf}
 
 -- A group is not slower than p / q: shares fill its stretches at that speed, and are all of its own jobs.
 pub record IsFast (jobs : List Job) (found : Found) (group p q : ℕ) (shares : List Share) : Type 0 where
@@ -121,6 +122,15 @@ pub record IsFilled (jobs : List Job) (windows : List Window) (found : Found) (t
 abbrev pub IsRenamed : ℕ → ℕ → ℕ → ℕ → Type 0
 IsRenamed from to one other = ((one ≡ from) × (other ≡ to)) ⊎ ((one ≡ from → ⊥) × (other ≡ one))
 
+-- the new number of a stretch of group `top`: a marked one moves to the group before it
+abbrev pub split_stretch : List ℕ → ℕ → ℕ → ℕ
+split_stretch reaches top k = if nat_le (slice_index reaches k) k then top - 1 else top
+
+-- the new number of a job of group `top`, of which these stretches are left: who meets none of them moves to the group before it
+abbrev pub IsJobNumber : List Window → List ℕ → ℕ → ℕ → ℕ → Type 0
+IsJobNumber windows left top j number =
+    (((k : ℕ) → IsIn windows j k → IsOneOf left k → ⊥) × (number ≡ top - 1)) ⊎ (((k : ℕ) × IsIn windows j k × IsOneOf left k) × (number ≡ top))
+
 -- a marked stretch of group `top` moves to the group before it
 abbrev pub IsSplitStretch : List ℕ → ℕ → ℕ → ℕ → ℕ → Type 0
 IsSplitStretch reaches top k one other =
@@ -161,3 +171,7 @@ pub record IsAttempt (jobs : List Job) (windows : List Window) (found : Found) (
   pub length_is : group.length ≡ length_in jobs found.group_of_stretch top (length (stretches jobs))
   pub some_work : 1 ≤ group.work
   pub some_length : 1 ≤ group.length
+
+-- only a group's numbers change, and become no greater
+abbrev pub AreMovedFrom : ℕ → List ℕ → List ℕ → Type 0
+AreMovedFrom group old new = (i : ℕ) → (group_of new i ≡ group_of old i) ⊎ ((group_of old i ≡ group) × (group_of new i ≤ group))

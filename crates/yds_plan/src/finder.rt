@@ -1,141 +1,34 @@
-ghost use Rattle.std.specs.Prelude.{◌≡◌, ℕ, ◌+◌, ◌-◌, ◌<◌, ◌≤◌, true, false, List, length, sum, nat_lt, IfOk, OnOk};
-ghost use Rattle.std.specs.List.{All, list_any};
+ghost use Rattle.std.specs.Prelude.{◌≡◌, ◌+◌, ◌*◌, ◌<◌, ◌≤◌, ◌⊎◌, length, sum, IfOk, OnOk};
+ghost use Rattle.std.specs.List.{All};
 ghost use Rattle.yds_model.specs.Job.{IsJob};
-ghost use Rattle.yds_model.specs.Event.{event_points, stretches};
+ghost use Rattle.yds_model.specs.Event.{event_points};
 ghost use Rattle.yds_model.specs.declared.limits.TheConstants.{MAX_JOBS};
 ghost use Rattle.yds_plan.specs.Found.{IsFound};
-ghost use Rattle.yds_plan.specs.Views.{found_view, group_view, shares_view};
-ghost use Rattle.yds_plan.specs.Search.{IsSearch, IsAttempt};
+ghost use Rattle.yds_plan.specs.Views.{found_view, part_view, parts_view};
+ghost use Rattle.yds_plan.specs.Search.{IsSearch};
 ghost use Rattle.yds_plan.specs.declared.finder_beginning.TheConstants.{LAST};
 ghost use Rattle.yds_plan.specs.Instance.{IsInstance};
+ghost use Rattle.yds_plan.specs.Waiting.{IsWaiting, IsStack, IsBlank, AreWithin, HasReaches};
 
-use crate::finder_amounts::{greatest_divisor, scaled, total};
+use crate::finder_amounts::clear;
+use crate::finder_attempt::fill_group;
 use crate::finder_beginning::{LAST, beginning, first_group};
-use crate::finder_closure::reaches;
-use crate::finder_fill::{Filled, fill};
 use crate::finder_instance::{Instance, prepare};
-use crate::finder_split::{rename, split_jobs, split_stretches};
-use crate::found::{Found, Group};
+use crate::finder_step::conclude;
+use crate::finder_waiting::{Waiting, all_numbers, members};
+use crate::finder_workspace::{Workspace, blank_workspace};
+use crate::found::Found;
 use std::alloc::Global;
 use yds_model::{JobRow, Memory};
 
-/// A group, filled at its average speed.
-#[derive(Drop)]
-struct Attempt {
-    group: Group,
-    filled: Filled,
-}
-
-fn has_late(wants: &[u64]) -> bool
-    ensures { result ≡ list_any (λ want. nat_lt 0 want) wants.now }
+/// The workspace is blank again, once a group is done with.
+fn clear_all(space: &mut Workspace, waiting: &Waiting)
+    requires within { AreWithin (part_view waiting.now) space.old.wants.items space.old.rooms.items }
+    requires reaches { HasReaches (length space.old.rooms.items) space.old.reaches }
+    ensures { IsBlank (length space.old.wants.items) (length space.old.rooms.items) space.new }
 {
-    wants.iter().any(|want| *want > 0)
-}
-
-/// Fills the fastest group at its average speed.
-fn fill_group(
-    alloc: Global,
-    rows: &[JobRow],
-    instance: &Instance,
-    found: &Found,
-    top: u32,
-) -> Result<Attempt, Memory>
-    requires instance { IsInstance rows.now instance.now }
-    requires search { IsSearch rows.now instance.now.windows.items (found_view found.now) top LAST }
-    requires within { top ≤ LAST }
-    ensures { IfOk result (λ attempt. IsAttempt rows.now instance.now.windows.items (found_view found.now) top (group_view attempt.group) (shares_view attempt.filled.shares.items) attempt.filled.wants.items attempt.filled.rooms.items) }
-{
-    let work = total(&instance.works, &found.group_of_job, top);
-    let length = total(&instance.lengths, &found.group_of_stretch, top);
-    let divisor = greatest_divisor(work, length);
-    let wants = scaled(
-        alloc,
-        &instance.works,
-        &found.group_of_job,
-        top,
-        length / divisor,
-    )?;
-    let rooms = scaled(
-        alloc,
-        &instance.lengths,
-        &found.group_of_stretch,
-        top,
-        work / divisor,
-    )?;
-    let filled = fill(
-        alloc,
-        rows,
-        &instance.windows,
-        &instance.order,
-        wants,
-        rooms,
-    )?;
-    Ok(Attempt {
-        group: Group { work, length },
-        filled,
-    })
-}
-
-/// A group without late jobs is finished.
-fn finish(
-    rows: &[JobRow],
-    instance: &Instance,
-    found: &mut Found,
-    top: u32,
-    attempt: Attempt,
-) -> Result<(), Memory>
-    requires instance { IsInstance rows.now instance.now }
-    requires search { IsSearch rows.now instance.now.windows.items (found_view found.old) top LAST }
-    requires within { top ≤ LAST }
-    requires attempt { IsAttempt rows.now instance.now.windows.items (found_view found.old) top (group_view attempt.group) (shares_view attempt.filled.shares.items) attempt.filled.wants.items attempt.filled.rooms.items }
-    requires served { list_any (λ want. nat_lt 0 want) attempt.filled.wants.items ≡ false }
-    ensures search { OnOk result (IsSearch rows.now instance.now.windows.items (found_view found.new) (top + 1) LAST) }
-    ensures smaller { OnOk result (sum found.new.group_of_stretch.items < sum found.old.group_of_stretch.items) }
-{
-    let number = found.groups.len() as u32;
-    found.groups.push(attempt.group)?;
-    found.shares.extend_from_slice(&attempt.filled.shares)?;
-    rename(&mut found.group_of_job, top, number);
-    rename(&mut found.group_of_stretch, top, number);
-    Ok(())
-}
-
-/// A group with late jobs is split: what they close upon becomes a faster group before it.
-fn split(
-    alloc: Global,
-    rows: &[JobRow],
-    instance: &Instance,
-    found: &mut Found,
-    top: u32,
-    attempt: &Attempt,
-) -> Result<(), Memory>
-    requires instance { IsInstance rows.now instance.now }
-    requires search { IsSearch rows.now instance.now.windows.items (found_view found.old) top LAST }
-    requires within { top ≤ LAST }
-    requires some { 1 ≤ top }
-    requires attempt { IsAttempt rows.now instance.now.windows.items (found_view found.old) top (group_view attempt.now.group) (shares_view attempt.now.filled.shares.items) attempt.now.filled.wants.items attempt.now.filled.rooms.items }
-    requires late { list_any (λ want. nat_lt 0 want) attempt.now.filled.wants.items ≡ true }
-    ensures search { OnOk result (IsSearch rows.now instance.now.windows.items (found_view found.new) (top - 1) LAST) }
-    ensures smaller { OnOk result (sum found.new.group_of_stretch.items < sum found.old.group_of_stretch.items) }
-{
-    let stretches = found.group_of_stretch.len() as u32;
-    let filled = &attempt.filled;
-    let reaches = reaches(
-        alloc,
-        &instance.windows,
-        &filled.wants,
-        &filled.shares,
-        stretches,
-    )?;
-    split_stretches(&mut found.group_of_stretch, &reaches, top);
-    split_jobs(
-        alloc,
-        &mut found.group_of_job,
-        &instance.windows,
-        &found.group_of_stretch,
-        top,
-    )?;
-    Ok(())
+    clear(&mut space.wants, &waiting.jobs);
+    clear(&mut space.rooms, &waiting.stretches);
 }
 
 /// Fills the fastest group at its average speed, and finishes or splits it. Answers the number of the
@@ -145,23 +38,61 @@ fn advance(
     rows: &[JobRow],
     instance: &Instance,
     found: &mut Found,
+    stack: &mut Vec<Waiting>,
+    waiting: &Waiting,
     top: u32,
+    space: &mut Workspace,
 ) -> Result<u32, Memory>
     requires instance { IsInstance rows.now instance.now }
     requires search { IsSearch rows.now instance.now.windows.items (found_view found.old) top LAST }
     requires within { top ≤ LAST }
     requires some { 1 ≤ top }
+    requires stack { IsStack instance.now.order.items (found_view found.old) (top + 1) LAST (parts_view stack.old.items) }
+    requires waiting { IsWaiting instance.now.order.items (found_view found.old) top (part_view waiting.now) }
+    requires space { IsBlank (length rows.now) (length instance.now.lengths.items) space.old }
     ensures search { IfOk result (λ next. IsSearch rows.now instance.now.windows.items (found_view found.new) next LAST) }
+    ensures stack { IfOk result (λ next. IsStack instance.now.order.items (found_view found.new) next LAST (parts_view stack.new.items)) }
     ensures smaller { OnOk result (sum found.new.group_of_stretch.items < sum found.old.group_of_stretch.items) }
+    ensures space { OnOk result (IsBlank (length rows.now) (length instance.now.lengths.items) space.new) }
 {
-    let attempt = fill_group(alloc, rows, instance, found, top)?;
-    if has_late(&attempt.filled.wants) {
-        split(alloc, rows, instance, found, top, &attempt)?;
-        Ok(top - 1)
-    } else {
-        finish(rows, instance, found, top, attempt)?;
-        Ok(top + 1)
+    let attempt = fill_group(alloc, rows, instance, found, top, waiting, space)?;
+    let next = conclude(
+        alloc,
+        rows,
+        instance,
+        found,
+        stack,
+        waiting,
+        top,
+        attempt,
+        &space.wants,
+        &space.rooms,
+        &mut space.reaches,
+    )?;
+    clear_all(space, waiting);
+    Ok(next)
+}
+
+/// The first group waits, where some job has work.
+fn first_stack(
+    alloc: Global,
+    instance: &Instance,
+    found: &Found,
+    top: u32,
+) -> Result<Vec<Waiting>, Memory>
+    requires start { (top ≡ LAST) ⊎ (top ≡ LAST + 1) }
+    requires few { length found.now.group_of_stretch.items ≤ 2 * MAX_JOBS }
+    requires order { All (λ j. j < length found.now.group_of_job.items) instance.now.order.items }
+    ensures { IfOk result (λ stack. IsStack instance.now.order.items (found_view found.now) top LAST (parts_view stack.items)) }
+{
+    let mut stack = Vec::new(alloc);
+    if top <= LAST {
+        let all = all_numbers(alloc, found.group_of_stretch.len())?;
+        let jobs = members(alloc, &instance.order, &found.group_of_job, LAST)?;
+        let stretches = members(alloc, &all, &found.group_of_stretch, LAST)?;
+        stack.push(Waiting { jobs, stretches })?;
     }
+    Ok(stack)
 }
 
 /// Groups of jobs and stretches, the fastest first, with the shares of jobs in stretches.
@@ -173,9 +104,13 @@ pub(crate) fn find(alloc: Global, rows: &[JobRow], times: &[u32]) -> Result<Foun
 {
     let instance = prepare(alloc, rows, times)?;
     let mut found = beginning(alloc, rows, &instance.windows, instance.lengths.len())?;
+    let mut space = blank_workspace(alloc, rows.len(), instance.lengths.len())?;
     let mut top = first_group(&instance.works);
-    while top <= LAST {
-        top = advance(alloc, rows, &instance, &mut found, top)?;
+    let mut stack = first_stack(alloc, &instance, &found, top)?;
+    while let Some(waiting) = stack.pop() {
+        top = advance(
+            alloc, rows, &instance, &mut found, &mut stack, &waiting, top, &mut space,
+        )?;
     }
     Ok(found)
 }

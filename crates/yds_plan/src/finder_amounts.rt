@@ -1,7 +1,9 @@
-ghost use Rattle.std.specs.Prelude.{◌≡◌, ℕ, ◌+◌, ◌-◌, ◌*◌, ◌^◌, ◌<◌, ◌≤◌, length, map, slice_index, IfOk};
+ghost use Rattle.std.specs.Prelude.{◌≡◌, ℕ, ◌+◌, ◌-◌, ◌*◌, ◌^◌, ◌<◌, ◌≤◌, length, map, sum_by, slice_index, IfOk};
+ghost use Rattle.std.specs.List.{All};
 ghost use Rattle.yds_model.specs.Divisor.{common_divisor};
 ghost use Rattle.yds_model.specs.declared.limits.TheConstants.{MAX_JOBS};
-ghost use Rattle.yds_plan.specs.Amounts.{amount_in, AreScaled, AreLengths};
+ghost use Rattle.yds_plan.specs.Amounts.{AreLengths};
+ghost use Rattle.yds_plan.specs.Numbers.{AreWritten};
 
 use std::alloc::Global;
 use yds_model::{JobRow, Memory};
@@ -43,42 +45,38 @@ pub(crate) fn lengths(alloc: Global, times: &[u32]) -> Result<Vec<u32>, Memory>
     Ok(lengths)
 }
 
-/// The sum of the amounts of a group.
-pub(crate) fn total(amounts: &[u32], groups: &[u32], group: u32) -> u64
-    requires few { length amounts.now ≤ 2 * MAX_JOBS }
-    requires same { length groups.now ≡ length amounts.now }
-    ensures { result ≡ amount_in amounts.now groups.now group (length amounts.now) }
+/// The sum of the amounts with these numbers.
+pub(crate) fn total(amounts: &[u32], numbers: &[u32]) -> u64
+    requires few { length numbers.now ≤ 2 * MAX_JOBS }
+    requires known { All (λ i. i < length amounts.now) numbers.now }
+    ensures { result ≡ sum_by (λ i. slice_index amounts.now i) numbers.now }
 {
     let mut total: u64 = 0;
-    for i in 0..amounts.len() {
-        if groups[i] == group {
-            total += u64::from(amounts[i]);
-        }
+    for i in numbers {
+        total += u64::from(amounts[*i as usize]);
     }
     total
 }
 
-/// The amounts of a group in units, of which there are so many for one, and 0 for other amounts.
-pub(crate) fn scaled(
-    alloc: Global,
-    amounts: &[u32],
-    groups: &[u32],
-    group: u32,
-    factor: u64,
-) -> Result<Vec<u64>, Memory>
-    requires same { length groups.now ≡ length amounts.now }
+/// The amounts with these numbers in units, of which there are so many for one.
+pub(crate) fn scale(amounts: &[u32], numbers: &[u32], factor: u64, scaled: &mut [u64])
+    requires same { length scaled.old ≡ length amounts.now }
+    requires known { All (λ i. i < length amounts.now) numbers.now }
     requires fits { (i : ℕ) → i < length amounts.now → factor * slice_index amounts.now i < 2 ^ 64 }
-    ensures { IfOk result (λ scaled. AreScaled amounts.now groups.now group factor (length amounts.now) scaled.items) }
+    ensures { AreWritten (λ i value. value ≡ factor * slice_index amounts.now i) numbers.now (length numbers.now) scaled.old scaled.new }
 {
-    let mut scaled = Vec::new(alloc);
-    for i in 0..amounts.len() {
-        let mine = groups[i] == group;
-        let units = if mine {
-            factor * u64::from(amounts[i])
-        } else {
-            0
-        };
-        scaled.push(units)?;
+    for i in numbers {
+        let at = *i as usize;
+        scaled[at] = factor * u64::from(amounts[at]);
     }
-    Ok(scaled)
+}
+
+/// Nothing at these numbers.
+pub(crate) fn clear(amounts: &mut [u64], numbers: &[u32])
+    requires { All (λ i. i < length amounts.old) numbers.now }
+    ensures { AreWritten (λ i value. value ≡ 0) numbers.now (length numbers.now) amounts.old amounts.new }
+{
+    for i in numbers {
+        amounts[*i as usize] = 0;
+    }
 }

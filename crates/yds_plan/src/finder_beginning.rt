@@ -1,9 +1,9 @@
 ghost use Rattle.std.specs.Prelude.{◌≡◌, ℕ, ◌+◌, ◌<◌, ◌≤◌, ◌⊎◌, length, slice_index, IfOk};
 ghost use Rattle.yds_model.specs.Event.{stretches};
-ghost use Rattle.yds_plan.specs.Found.{group_of};
 ghost use Rattle.yds_plan.specs.Views.{found_view};
 ghost use Rattle.yds_plan.specs.Windows.{AreWindows};
 ghost use Rattle.yds_plan.specs.Search.{IsBeginning};
+ghost use Rattle.yds_plan.specs.Beginning.{AreFarthest, AreCovered, AreWorking};
 
 use crate::finder_windows::Window;
 use crate::found::Found;
@@ -26,17 +26,57 @@ pub(crate) fn first_group(works: &[u32]) -> u32
     LAST + 1
 }
 
-/// Puts the stretches of a window into the first group.
-fn cover(groups: &mut [u32], window: Window)
-    requires forward { window.first ≤ window.end }
-    requires inside { window.end ≤ length groups.old }
-    ensures covered { (k : ℕ) → window.first ≤ k → k < window.end → group_of groups.new k ≡ LAST }
-    ensures before { (k : ℕ) → k < window.first → group_of groups.new k ≡ group_of groups.old k }
-    ensures after { (k : ℕ) → window.end ≤ k → group_of groups.new k ≡ group_of groups.old k }
+/// For each stretch the greatest end of the windows that begin with it, of jobs with work, or 0.
+fn farthest(
+    alloc: Global,
+    rows: &[JobRow],
+    windows: &[Window],
+    count: usize,
+) -> Result<Vec<u32>, Memory>
+    requires windows { AreWindows rows.now windows.now }
+    requires count { count ≡ length (stretches rows.now) }
+    ensures { IfOk result (λ ends. AreFarthest rows.now windows.now (length rows.now) count ends.items) }
 {
-    for stretch in window.first..window.end {
-        groups[stretch as usize] = LAST;
+    let mut ends = vec![in alloc; 0; count]?;
+    for job in 0..rows.len() {
+        let row = rows[job];
+        if row.work > 0 {
+            let window = windows[job];
+            let at = window.first as usize;
+            ends[at] = ends[at].max(window.end);
+        }
     }
+    Ok(ends)
+}
+
+/// The first group's number for each stretch in which a job with work may run, and a greater one for each other.
+fn cover(alloc: Global, ends: &[u32]) -> Result<Vec<u32>, Memory>
+    ensures { IfOk result (λ groups. AreCovered ends.now (length ends.now) groups.items) }
+{
+    let mut groups = Vec::new(alloc);
+    let mut end = 0;
+    for (stretch, next) in ends.iter().enumerate() {
+        end = end.max(*next);
+        let group = if end as usize > stretch {
+            LAST
+        } else {
+            LAST + 1
+        };
+        groups.push(group)?;
+    }
+    Ok(groups)
+}
+
+/// The first group's number for each job with work, and a greater one for each other.
+fn working(alloc: Global, rows: &[JobRow]) -> Result<Vec<u32>, Memory>
+    ensures { IfOk result (λ groups. AreWorking rows.now (length rows.now) groups.items) }
+{
+    let mut groups = Vec::new(alloc);
+    for row in rows {
+        let group = if row.work > 0 { LAST } else { LAST + 1 };
+        groups.push(group)?;
+    }
+    Ok(groups)
 }
 
 /// All jobs with work in one group, with the stretches in which one of them may run.
@@ -50,21 +90,11 @@ pub(crate) fn beginning(
     requires count { count ≡ length (stretches rows.now) }
     ensures { IfOk result (λ found. IsBeginning rows.now windows.now (found_view found) LAST) }
 {
-    let mut group_of_job = Vec::new(alloc);
-    let mut group_of_stretch = vec![in alloc; LAST + 1; count]?;
-    for job in 0..rows.len() {
-        let row = rows[job];
-        if row.work == 0 {
-            group_of_job.push(LAST + 1)?;
-        } else {
-            group_of_job.push(LAST)?;
-            cover(&mut group_of_stretch, windows[job]);
-        }
-    }
+    let ends = farthest(alloc, rows, windows, count)?;
     Ok(Found {
         groups: Vec::new(alloc),
-        group_of_job,
-        group_of_stretch,
+        group_of_job: working(alloc, rows)?,
+        group_of_stretch: cover(alloc, &ends)?,
         shares: Vec::new(alloc),
     })
 }

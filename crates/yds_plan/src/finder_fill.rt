@@ -1,34 +1,24 @@
 ghost use Rattle.std.specs.Prelude.{◌≡◌, ℕ, ◌+◌, ◌-◌, ◌*◌, ◌^◌, ◌<◌, ◌≤◌, length, IfOk, OnOk};
-ghost use Rattle.std.specs.List.{All};
+ghost use Rattle.std.specs.List.{All, slice_index_or};
 ghost use Rattle.yds_model.specs.Event.{stretches};
 ghost use Rattle.yds_model.specs.declared.limits.TheConstants.{MAX_JOBS};
 ghost use Rattle.yds_plan.specs.Views.{shares_view};
-ghost use Rattle.yds_plan.specs.Windows.{window_at, IsOrder, AreWindows, Precedes};
-ghost use Rattle.yds_plan.specs.Fill.{AreTaken, IsServed, IsFill, IsNext, IsNextFrom, IsNumbers, IsTake};
+ghost use Rattle.yds_plan.specs.Windows.{window_at, AreWindows, Precedes};
+ghost use Rattle.yds_plan.specs.Fill.{AreTaken, AreServed, AreOpen, IsServed, IsFill, IsNext, IsNextFrom, IsNumbers, IsTake};
+ghost use Rattle.yds_plan.specs.Numbers.{values_at};
 
-use crate::finder_windows::Window;
+use crate::finder_windows::{Window, place};
 use crate::share::Share;
 use std::alloc::Global;
 use yds_model::{JobRow, Memory};
 
-/// The shares that jobs took, and what is left: of each job's want and of each stretch's room.
-#[derive(Debug, Drop)]
-pub(crate) struct Filled {
-    /// The shares, in the order in which the jobs took them.
-    pub shares: Vec<Share>,
-    /// For each job the units that it still wants.
-    pub wants: Vec<u64>,
-    /// For each stretch the units that still have room.
-    pub rooms: Vec<u64>,
-}
-
-/// The first place from here on at which a stretch may have room. `_rooms` is named for the contract
-/// alone.
-fn next_place(_rooms: &[u64], next: &mut [u32], from: u32) -> u32
-    requires next { IsNext _rooms.now next.old }
+/// The first place from here on at which a stretch may have room. The stretches and `_rooms` are named for
+/// the contract alone.
+fn next_place(_stretches: &[u32], _rooms: &[u64], next: &mut [u32], from: u32) -> u32
+    requires next { IsNext (values_at _stretches.now _rooms.now) next.old }
     requires within { from < length next.old }
-    ensures next { IsNext _rooms.now next.new }
-    ensures place { IsNextFrom _rooms.now from result (length next.old) }
+    ensures next { IsNext (values_at _stretches.now _rooms.now) next.new }
+    ensures place { IsNextFrom (values_at _stretches.now _rooms.now) from result (length next.old) }
 {
     let mut place = from;
     while next[place as usize] > place {
@@ -37,6 +27,16 @@ fn next_place(_rooms: &[u64], next: &mut [u32], from: u32) -> u32
         place = after;
     }
     place
+}
+
+/// The stretch at this place, or `end` where there is none.
+fn stretch_at(own_stretches: &[u32], place: u32, end: u32) -> u32
+    ensures { result ≡ slice_index_or own_stretches.now place end }
+{
+    match own_stretches.get(place as usize) {
+        Some(stretch) => *stretch,
+        None => end,
+    }
 }
 
 /// A job takes what it can in one stretch, and still wants so many units then.
@@ -69,6 +69,7 @@ fn take(
 fn serve(
     _jobs: &[JobRow],
     windows: &[Window],
+    own_stretches: &[u32],
     job: u32,
     want: u64,
     rooms: &mut [u64],
@@ -78,21 +79,27 @@ fn serve(
     requires known { job < length windows.now }
     requires inside { (window_at windows.now job).end ≤ length rooms.old }
     requires nonempty { (window_at windows.now job).first ≤ (window_at windows.now job).end }
-    requires next { IsNext rooms.old next.old }
+    requires own { AreOpen own_stretches.now rooms.old }
+    requires few { length own_stretches.now ≤ 2 * MAX_JOBS }
+    requires next { IsNext (values_at own_stretches.now rooms.old) next.old }
     requires taken { AreTaken _jobs.now windows.now (length rooms.old) (shares_view shares.old.items) rooms.old }
     requires later { All (λ share. Precedes _jobs.now share.job job) (shares_view shares.old.items) }
     ensures served { IfOk result (λ left. IsServed _jobs.now windows.now job want (shares_view shares.old.items) rooms.old (window_at windows.now job).end left (shares_view shares.new.items) rooms.new) }
-    ensures next { OnOk result (IsNext rooms.new next.new) }
+    ensures own { OnOk result (AreOpen own_stretches.now rooms.new) }
+    ensures next { OnOk result (IsNext (values_at own_stretches.now rooms.new) next.new) }
 {
     let window = windows[job as usize];
+    let from = place(own_stretches, window.first);
+    let mut place = next_place(own_stretches, rooms, next, from);
+    let mut stretch = stretch_at(own_stretches, place, window.end);
     let mut left = want;
-    let mut stretch = next_place(rooms, next, window.first);
     while left > 0 && stretch < window.end {
         left = take(job, stretch, left, rooms, shares)?;
         if left > 0 {
-            next[stretch as usize] = stretch + 1;
+            next[place as usize] = place + 1;
         }
-        stretch = next_place(rooms, next, stretch + 1);
+        place = next_place(own_stretches, rooms, next, place + 1);
+        stretch = stretch_at(own_stretches, place, window.end);
     }
     Ok(left)
 }
@@ -109,40 +116,39 @@ fn numbers(alloc: Global, last: usize) -> Result<Vec<u32>, Memory>
     Ok(numbers)
 }
 
-/// Each job in this order takes the earliest room in its window.
+/// Each of a group's jobs, in order, takes the earliest room in its window.
 pub(crate) fn fill(
     alloc: Global,
     rows: &[JobRow],
     windows: &[Window],
-    order: &[u32],
-    mut wants: Vec<u64>,
-    mut rooms: Vec<u64>,
-) -> Result<Filled, Memory>
+    own_jobs: &[u32],
+    own_stretches: &[u32],
+    wants: &mut [u64],
+    rooms: &mut [u64],
+) -> Result<Vec<Share>, Memory>
     requires windows { AreWindows rows.now windows.now }
-    requires order { IsOrder rows.now order.now }
-    requires wants { length wants.items ≡ length rows.now }
-    requires rooms { length rooms.items ≡ length (stretches rows.now) }
-    requires few { length rooms.items ≤ 2 * MAX_JOBS }
-    ensures { IfOk result (λ filled. IsFill rows.now windows.now wants.items rooms.items (shares_view filled.shares.items) filled.wants.items filled.rooms.items) }
+    requires jobs { AreServed rows.now wants.old own_jobs.now }
+    requires own { AreOpen own_stretches.now rooms.old }
+    requires few { length own_stretches.now ≤ 2 * MAX_JOBS }
+    requires wants { length wants.old ≡ length rows.now }
+    requires rooms { length rooms.old ≡ length (stretches rows.now) }
+    ensures { IfOk result (λ shares. IsFill rows.now windows.now wants.old rooms.old (shares_view shares.items) wants.new rooms.new) }
 {
     let mut shares = Vec::new(alloc);
-    let mut next = numbers(alloc, rooms.len())?;
-    for job in order {
+    let mut next = numbers(alloc, own_stretches.len())?;
+    for job in own_jobs {
         let at = *job as usize;
         let left = serve(
             rows,
             windows,
+            own_stretches,
             *job,
             wants[at],
-            &mut rooms,
+            rooms,
             &mut next,
             &mut shares,
         )?;
         wants[at] = left;
     }
-    Ok(Filled {
-        shares,
-        wants,
-        rooms,
-    })
+    Ok(shares)
 }

@@ -1,76 +1,67 @@
-ghost use Rattle.std.specs.Prelude.{◌≡◌, ℕ, ◌*◌, ◌<◌, ◌≤◌, length, IfOk, OnOk};
+ghost use Rattle.std.specs.Prelude.{◌≡◌, ℕ, ◌*◌, ◌-◌, ◌<◌, ◌≤◌, true, false, length, slice_index};
+ghost use Rattle.std.specs.List.{All};
 ghost use Rattle.yds_model.specs.declared.limits.TheConstants.{MAX_JOBS};
-ghost use Rattle.yds_plan.specs.Found.{group_of};
 ghost use Rattle.yds_plan.specs.Windows.{window_at};
-ghost use Rattle.yds_plan.specs.Search.{IsRenamed, IsSplitStretch, IsSplitJob};
-ghost use Rattle.yds_plan.specs.Nearest.{AreNearest};
+ghost use Rattle.yds_plan.specs.Numbers.{AreWritten};
+ghost use Rattle.yds_plan.specs.Search.{split_stretch, IsJobNumber};
 
-use crate::finder_windows::Window;
-use std::alloc::Global;
-use yds_model::Memory;
+use crate::finder_windows::{Window, place};
 
-/// Gives all of one group another number.
-pub(crate) fn rename(groups: &mut [u32], from: u32, to: u32)
-    ensures { (k : ℕ) → k < length groups.old → IsRenamed from to (group_of groups.old k) (group_of groups.new k) }
+/// Gives these jobs or stretches another group's number.
+pub(crate) fn rename(groups: &mut [u32], numbers: &[u32], to: u32)
+    requires { All (λ i. i < length groups.old) numbers.now }
+    ensures { AreWritten (λ i value. value ≡ to) numbers.now (length numbers.now) groups.old groups.new }
 {
-    for place in 0..groups.len() {
-        if groups[place] == from {
-            groups[place] = to;
-        }
+    for i in numbers {
+        groups[*i as usize] = to;
     }
 }
 
-/// Moves the stretches of group `top` that are closed upon to the group before it.
-pub(crate) fn split_stretches(groups: &mut [u32], reaches: &[u32], top: u32)
+/// Moves those of the stretches of group `top` that are closed upon to the group before it.
+pub(crate) fn split_stretches(groups: &mut [u32], own_stretches: &[u32], reaches: &[u32], top: u32)
     requires some { 1 ≤ top }
     requires same { length reaches.now ≡ length groups.old }
-    ensures { (k : ℕ) → k < length groups.old → IsSplitStretch reaches.now top k (group_of groups.old k) (group_of groups.new k) }
+    requires known { All (λ k. k < length groups.old) own_stretches.now }
+    ensures { AreWritten (λ k value. value ≡ split_stretch reaches.now top k) own_stretches.now (length own_stretches.now) groups.old groups.new }
 {
-    for stretch in 0..groups.len() {
-        if groups[stretch] == top && reaches[stretch] as usize <= stretch {
-            groups[stretch] = top - 1;
-        }
+    for stretch in own_stretches {
+        let marked = reaches[*stretch as usize] <= *stretch;
+        groups[*stretch as usize] = if marked { top - 1 } else { top };
     }
 }
 
-/// For each stretch the first one from it on that is in group `top`, or the number of all stretches.
-fn nearest(alloc: Global, stretch_groups: &[u32], top: u32) -> Result<Vec<u32>, Memory>
-    requires { length stretch_groups.now ≤ 2 * MAX_JOBS }
-    ensures { IfOk result (λ nearest. AreNearest stretch_groups.now top nearest.items) }
+/// Whether the window has none of these stretches.
+fn misses(own_stretches: &[u32], window: Window) -> bool
+    requires few { length own_stretches.now ≤ 2 * MAX_JOBS }
+    requires rising { (a b : ℕ) → a < b → b < length own_stretches.now → slice_index own_stretches.now a < slice_index own_stretches.now b }
+    ensures none { result ≡ true → (p : ℕ) → p < length own_stretches.now → window.first ≤ slice_index own_stretches.now p → window.end ≤ slice_index own_stretches.now p }
+    ensures some { result ≡ false → (p : ℕ) × (p < length own_stretches.now) × (window.first ≤ slice_index own_stretches.now p) × (slice_index own_stretches.now p < window.end) }
 {
-    let count = stretch_groups.len();
-    let mut nearest = vec![in alloc; count as u32; count]?;
-    let mut last = count as u32;
-    for place in (0..count).rev() {
-        if stretch_groups[place] == top {
-            last = place as u32;
-        }
-        nearest[place] = last;
+    let next = place(own_stretches, window.first);
+    match own_stretches.get(next as usize) {
+        Some(stretch) => *stretch >= window.end,
+        None => true,
     }
-    Ok(nearest)
 }
 
-/// Moves the jobs of group `top` that meet no stretch of it to the group before it.
+/// Moves those of the jobs of group `top` that meet none of the stretches that are left of it to the group
+/// before it.
 pub(crate) fn split_jobs(
-    alloc: Global,
     groups: &mut [u32],
+    own_jobs: &[u32],
     windows: &[Window],
-    stretch_groups: &[u32],
+    left: &[u32],
     top: u32,
-) -> Result<(), Memory>
+)
     requires some { 1 ≤ top }
-    requires few { length stretch_groups.now ≤ 2 * MAX_JOBS }
+    requires few { length left.now ≤ 2 * MAX_JOBS }
+    requires rising { (a b : ℕ) → a < b → b < length left.now → slice_index left.now a < slice_index left.now b }
     requires same { length windows.now ≡ length groups.old }
-    requires forward { (j : ℕ) → j < length groups.old → (window_at windows.now j).first < (window_at windows.now j).end }
-    requires inside { (j : ℕ) → j < length groups.old → (window_at windows.now j).end ≤ length stretch_groups.now }
-    ensures { OnOk result ((j : ℕ) → j < length groups.old → IsSplitJob windows.now stretch_groups.now top j (group_of groups.old j) (group_of groups.new j)) }
+    requires known { All (λ j. j < length groups.old) own_jobs.now }
+    ensures { AreWritten (IsJobNumber windows.now left.now top) own_jobs.now (length own_jobs.now) groups.old groups.new }
 {
-    let nearest = nearest(alloc, stretch_groups, top)?;
-    for job in 0..groups.len() {
-        let window = windows[job];
-        if groups[job] == top && nearest[window.first as usize] >= window.end {
-            groups[job] = top - 1;
-        }
+    for job in own_jobs {
+        let misses = misses(left, windows[*job as usize]);
+        groups[*job as usize] = if misses { top - 1 } else { top };
     }
-    Ok(())
 }

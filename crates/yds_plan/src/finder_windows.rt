@@ -21,7 +21,7 @@ pub(crate) struct Window {
 }
 
 /// How many of these times are earlier than `time`.
-fn place(times: &[u32], time: u32) -> u32
+pub(crate) fn place(times: &[u32], time: u32) -> u32
     requires few { length times.now ≤ 2 * MAX_JOBS }
     requires rising { (i j : ℕ) → i < j → j < length times.now → slice_index times.now i < slice_index times.now j }
     ensures { IsPlace times.now time result }

@@ -8,12 +8,16 @@
 
 mod finder;
 mod finder_amounts;
+mod finder_attempt;
 mod finder_beginning;
 mod finder_closure;
 mod finder_fill;
 mod finder_instance;
 mod finder_split;
+mod finder_step;
+mod finder_waiting;
 mod finder_windows;
+mod finder_workspace;
 mod found;
 mod layout;
 mod layout_levels;

@@ -1,16 +1,22 @@
-use Rattle.std.proofs.Common.{arith}
-use Rattle.yds_plan.proofs.Amounts.{amount_more, amount_other}
+use Rattle.std.proofs.Common.{get_or, ap, arith}
+use Rattle.std.specs.List.{sum_by}
+use Rattle.std.proofs.lemmas.List.{take_all}
+use Rattle.std.proofs.lemmas.List.Sums.{sum_by_more}
 use Rattle.yds_plan.proofs.finder_amounts.total.Goals as goal
-use Rattle.yds_plan.proofs.finder_amounts.total.Goals.{then-groups-i, else-groups-i}
 
 pub loop-i-preserved : goal.loop-i-preserved
-loop-i-preserved c = elim c.if-groups-i.branch [
-  | then-groups-i w ↦ record {
-    sum = omega (arith, w.total-is, c.loop-i.invariant.sum, amount_more c.args.amounts.now c.args.groups.now c.args.group c.loop-i.i w.if-groups-i.true);
-    small = omega (arith, w.total-is, c.loop-i.invariant.small, c.type_inv.amounts c.loop-i.i);
-  }
-  | else-groups-i w ↦ record {
-    sum = omega (arith, w.total-is, c.loop-i.invariant.sum, amount_other c.args.amounts.now c.args.groups.now c.args.group c.loop-i.i w.if-groups-i.false);
-    small = omega (arith, w.total-is, c.loop-i.invariant.small);
-  }
-]
+loop-i-preserved c = record {
+  sum = omega (
+    arith,
+    c.loop-i.invariant.sum,
+    sum_by_more (λ i. get_or c.args.amounts.now i 0) c.args.numbers.now c.loop-i.i-index 0 c.loop-i-test.true,
+  );
+  small = omega (arith, c.loop-i.invariant.small, c.type_inv.amounts (get_or c.args.numbers.now c.loop-i.i-index 0));
+}
+
+pub returns : goal.returns
+returns c = omega (
+  arith,
+  c.loop-i.invariant.sum,
+  ap (sum_by (λ i. get_or c.args.amounts.now i 0)) (take_all c.loop-i.i-index c.args.numbers.now (omega (arith, c.loop-i-test.false))),
+)

@@ -1,37 +1,51 @@
-use Rattle.std.proofs.Common.{ℕ, ◌+◌, ◌-◌, ◌≡◌, ◌≤◌, ◌∙◌, min, List, get_or, set, sym, ap, subst, arith}
-use Rattle.std.proofs.lemmas.List.{get_or_default}
+use Rattle.std.proofs.Common.{ℕ, ◌+◌, ◌≤◌, ◌<◌, ◌∙◌, ◌≡◌, min, List, length, get_or, set, refl, sym, ap, subst, arith}
 use Rattle.yds_plan.specs.Windows.{window_at}
+use Rattle.yds_plan.specs.Closure.{IsLastBefore}
 use Rattle.yds_plan.proofs.Reaches.{LatesTo, least_none, least_skips, least_takes, late_least}
 use Rattle.yds_plan.proofs.finder_closure.late_reaches.Goals as goal
 use Rattle.yds_plan.proofs.finder_closure.late_reaches.Goals.{then-wants-job-gt0, else-wants-job-gt0}
 
+pub last_before-last-requires-clause-some : goal.last_before-last-requires-clause-some
+last_before-last-requires-clause-some c =
+    let meets = c.requires.jobs.meets c.loop-job.job-index c.loop-job-test.true in
+    (meets.2.0, meets.2.1, omega (arith, meets.2.2, meets.1.upto))
+
 pub loop-job-init : goal.loop-job-init
 loop-job-init c =
-    least_none (λ j. 1 ≤ get_or c.args.wants.now j 0) (λ j. (window_at c.args.windows.now j).end - 1) (λ j. (window_at c.args.windows.now j).first)
-    c.args.stretches c.in_ok-reaches.reaches.items (c.in_ok-reaches.ensures.items_if_clones_equal (λ y same. same))
+    least_none (λ i. 1 ≤ get_or c.args.wants.now (get_or c.args.own_jobs.now i 0) 0)
+    (λ i p. IsLastBefore c.args.own_stretches.now (window_at c.args.windows.now (get_or c.args.own_jobs.now i 0)).end p)
+    (λ i. (window_at c.args.windows.now (get_or c.args.own_jobs.now i 0)).first) c.args.own_stretches.now (length c.args.reaches.now)
+    c.args.reaches.now c.set_all.new.reaches refl c.set_all.ensures
 
 pub loop-job-preserved : goal.loop-job-preserved
-loop-job-preserved c = elim c.if-wants-job-gt0.branch [
-  | then-wants-job-gt0 w ↦
-      let some = c.requires.some c.loop-job.job (omega arith) in
-      let inside = c.requires.inside c.loop-job.job (omega arith) in
-      let is : w.min.result ≡ min (get_or c.loop-job.reaches.items ((window_at c.args.windows.now c.loop-job.job).end - 1) 0) (window_at c.args.windows.now c.loop-job.job).first =
-      w.min.ensures ∙ ap (λ n. min n (window_at c.args.windows.now c.loop-job.job).first)
-      (w.index.ensures ∙ get_or_default c.loop-job.reaches.items ((window_at c.args.windows.now c.loop-job.job).end - 1) _ 0
-      (omega (arith, some, inside, c.loop-job.invariant.all))) in
-      subst (λ (xs : List ℕ). LatesTo c.args.windows.now c.args.wants.now (c.loop-job.job + 1) c.args.stretches xs)
-      (sym (ap (λ v. v.items) w.reaches-is ∙ ap (λ n. set c.loop-job.reaches.items ((window_at c.args.windows.now c.loop-job.job).end - 1) n) is))
-      (least_takes (λ j. 1 ≤ get_or c.args.wants.now j 0) (λ j. (window_at c.args.windows.now j).end - 1) (λ j. (window_at c.args.windows.now j).first)
-      c.loop-job.job c.args.stretches c.loop-job.reaches.items c.loop-job.invariant w.if-wants-job-gt0.true
-      (omega (arith, some, inside)) (omega (arith, some, inside)))
-  | else-wants-job-gt0 w ↦
-      subst (λ (xs : List ℕ). LatesTo c.args.windows.now c.args.wants.now (c.loop-job.job + 1) c.args.stretches xs) (sym (ap (λ v. v.items) w.reaches-is))
-      (least_skips (λ j. 1 ≤ get_or c.args.wants.now j 0) (λ j. (window_at c.args.windows.now j).end - 1) (λ j. (window_at c.args.windows.now j).first)
-      c.loop-job.job c.args.stretches c.loop-job.reaches.items c.loop-job.invariant (λ late. omega (arith, late, w.if-wants-job-gt0.false)))
-]
+loop-job-preserved c =
+    let counts : ℕ → Type 0 = λ i. 1 ≤ get_or c.args.wants.now (get_or c.args.own_jobs.now i 0) 0 in
+    elim c.if-wants-job-gt0.branch [
+      | then-wants-job-gt0 w ↦
+          let last = w.last_before-last.ensures in
+          let known = c.requires.jobs.known_stretch w.last_before-last.result last.within in
+          subst (λ (xs : List ℕ). LatesTo c.args.windows.now c.args.wants.now c.args.own_jobs.now c.args.own_stretches.now (c.loop-job.job-index + 1) (length c.args.reaches.now) xs)
+          (sym (w.reaches-is ∙ ap (λ n. set c.loop-job.reaches (get_or c.args.own_stretches.now w.last_before-last.result 0) n) w.min.ensures))
+          (least_takes (λ i. 1 ≤ get_or c.args.wants.now (get_or c.args.own_jobs.now i 0) 0)
+          (λ i p. IsLastBefore c.args.own_stretches.now (window_at c.args.windows.now (get_or c.args.own_jobs.now i 0)).end p)
+          (λ i. (window_at c.args.windows.now (get_or c.args.own_jobs.now i 0)).first) c.args.own_stretches.now c.loop-job.job-index (length c.args.reaches.now)
+          w.last_before-last.result c.loop-job.reaches c.requires.jobs.rising c.loop-job.invariant w.if-wants-job-gt0.true last last.within known
+          (omega (
+            arith,
+            (c.requires.jobs.meets c.loop-job.job-index c.loop-job-test.true).1.from,
+            (c.requires.jobs.meets c.loop-job.job-index c.loop-job-test.true).1.upto,
+            c.requires.jobs.inside c.loop-job.job-index c.loop-job-test.true,
+          )))
+      | else-wants-job-gt0 w ↦
+          subst (λ (xs : List ℕ). LatesTo c.args.windows.now c.args.wants.now c.args.own_jobs.now c.args.own_stretches.now (c.loop-job.job-index + 1) (length c.args.reaches.now) xs)
+          (sym w.reaches-is)
+          (least_skips (λ i. 1 ≤ get_or c.args.wants.now (get_or c.args.own_jobs.now i 0) 0)
+          (λ i p. IsLastBefore c.args.own_stretches.now (window_at c.args.windows.now (get_or c.args.own_jobs.now i 0)).end p)
+          (λ i. (window_at c.args.windows.now (get_or c.args.own_jobs.now i 0)).first) c.args.own_stretches.now c.loop-job.job-index (length c.args.reaches.now)
+          c.loop-job.reaches c.loop-job.invariant (λ late. omega (arith, late, w.if-wants-job-gt0.false)))
+    ]
 
 pub returns : goal.returns
 returns c =
-    late_least c.args.windows.now c.args.wants.now c.args.stretches c.loop-job.reaches.items c.requires.some
-    (subst (λ (n : ℕ). LatesTo c.args.windows.now c.args.wants.now n c.args.stretches c.loop-job.reaches.items)
-    (omega (arith, c.loop-job.auto.job-end, c.loop-job-test.false)) c.loop-job.invariant)
+    late_least c.args.windows.now c.args.wants.now c.args.own_jobs.now c.args.own_stretches.now (length c.args.reaches.now) c.loop-job.job-index c.loop-job.reaches
+    c.requires.jobs (omega (arith, c.loop-job-test.false)) (omega (arith, c.loop-job.auto.job-index-end)) c.loop-job.invariant

@@ -1,66 +1,60 @@
 use Rattle.std.proofs.Common.{ℕ, ◌+◌, ◌≡◌, get_or, sym, ap, subst, ◌∙◌, arith, length, List, set, take, drop, ◌++◌}
-use Rattle.std.proofs.lemmas.List.{take_at, get_or_default}
+use Rattle.std.proofs.lemmas.List.{take_at}
+use Rattle.yds_plan.specs.declared.share.Share as shares
+use Rattle.yds_plan.specs.Found.{Share}
 use Rattle.yds_plan.specs.Views.{shares_view}
-use Rattle.yds_plan.specs.Fill.{AreTaken, IsServed, IsFilling, IsNext}
-use Rattle.yds_plan.specs.Windows.{window_at}
-use Rattle.yds_plan.proofs.Filling.{fill_more, fill_ends}
+use Rattle.yds_plan.specs.Fill.{AreTaken, IsFilling, IsNext, IsNumbers}
+use Rattle.yds_plan.specs.Numbers.{values_at}
+use Rattle.yds_plan.proofs.Numbers.{values_count}
+use Rattle.yds_plan.proofs.Filling.{fill_begins, fill_more, fill_ends}
+use Rattle.yds_plan.proofs.Nexts.{next_begins}
 use Rattle.yds_plan.proofs.finder_fill.fill.Goals as goal
+
+pub loop-job-init : goal.loop-job-init
+loop-job-init c = record {
+  filling = subst (λ (xs : List Share). IsFilling c.args.rows.now c.args.windows.now c.args.own_jobs.now c.args.wants.now c.args.rooms.now 0 xs c.args.wants.now c.args.rooms.now)
+      (sym (ap shares_view c.new-shares.ensures.items))
+      (fill_begins c.args.rows.now c.args.windows.now c.args.own_jobs.now c.args.wants.now c.args.rooms.now);
+  own = c.requires.own;
+  next = next_begins (values_at c.args.own_stretches.now c.args.rooms.now) c.in_ok-next.next.items
+      (subst (λ (n : ℕ). IsNumbers n c.in_ok-next.next.items) (sym (values_count c.args.own_stretches.now c.args.rooms.now)) c.in_ok-next.ensures);
+}
 
 pub serve-requires : goal.serve-requires
 serve-requires c =
-    let known = c.requires.order.known c.loop-job.job-index (omega arith) in
-    let all = c.requires.windows.all in
+    let known = c.requires.jobs.known c.loop-job.job-index (omega arith) in
     record {
-      known = omega arith;
+      known = omega (arith, known, c.requires.windows.all);
       inside = omega (
         arith,
-        c.requires.windows.inside (get_or c.args.order.now c.loop-job.job-index 0) known,
-        ap (λ (xs : List ℕ). length xs) c.deref_mut.ensures.value,
+        c.requires.windows.inside (get_or c.args.own_jobs.now c.loop-job.job-index 0) known,
         c.requires.rooms,
         c.loop-job.invariant.filling.same_rooms,
       );
-      nonempty = omega (arith, c.requires.windows.some (get_or c.args.order.now c.loop-job.job-index 0) known);
-      taken = subst (λ (xs : List ℕ). AreTaken c.args.rows.now c.args.windows.now (length xs) (shares_view c.loop-job.shares.items) xs)
-          (sym c.deref_mut.ensures.value)
-          (subst (λ (m : ℕ). AreTaken c.args.rows.now c.args.windows.now m (shares_view c.loop-job.shares.items) c.loop-job.rooms.items)
-          (sym c.loop-job.invariant.filling.same_rooms) c.loop-job.invariant.filling.taken);
-      next = subst (λ (xs : List ℕ). IsNext xs c.deref_mut-in-loop-job.result.now) (sym c.deref_mut.ensures.value)
-          (subst (λ (xs : List ℕ). IsNext c.loop-job.rooms.items xs) (sym c.deref_mut-in-loop-job.ensures.value) c.loop-job.invariant.next);
+      nonempty = omega (arith, c.requires.windows.some (get_or c.args.own_jobs.now c.loop-job.job-index 0) known);
+      own = c.loop-job.invariant.own;
+      few = c.requires.few;
+      next = subst (λ (xs : List ℕ). IsNext (values_at c.args.own_stretches.now c.loop-job.rooms) xs) (sym c.deref_mut.ensures.value) c.loop-job.invariant.next;
+      taken = subst (λ (m : ℕ). AreTaken c.args.rows.now c.args.windows.now m (shares_view c.loop-job.shares.items) c.loop-job.rooms)
+          (sym c.loop-job.invariant.filling.same_rooms) c.loop-job.invariant.filling.taken;
       later = c.loop-job.invariant.filling.later (omega arith);
     }
 
 pub loop-job-preserved : goal.loop-job-preserved
 loop-job-preserved c =
-    let known = c.requires.order.known c.loop-job.job-index (omega arith) in
-    let job : ℕ = get_or c.args.order.now c.loop-job.job-index 0 in
-    let want : c.index.result.now ≡ get_or c.loop-job.wants.items (get_or c.args.order.now c.loop-job.job-index 0) 0 =
-    c.index.ensures ∙ get_or_default c.loop-job.wants.items (get_or c.args.order.now c.loop-job.job-index 0) _ 0
-    (omega (arith, known, c.requires.wants, c.loop-job.invariant.filling.same_wants)) in
-    let rooms : take c.loop-job.rooms.len (c.serve.new.rooms ++ drop (length c.serve.new.rooms) c.loop-job.rooms.items) ≡ c.serve.new.rooms =
-    take_at _ _ _ (c.serve.auto.rooms ∙ c.deref_mut.ensures.len) in
     let next : take c.loop-job.next.len (c.serve.new.next ++ drop (length c.serve.new.next) c.loop-job.next.items) ≡ c.serve.new.next =
-    take_at _ _ _ (c.serve.auto.next ∙ c.deref_mut-in-loop-job.ensures.len) in
+    take_at _ _ _ (c.serve.auto.next ∙ c.deref_mut.ensures.len) in
     record {
-      filling = subst (λ (xs : List ℕ). IsFilling c.args.rows.now c.args.windows.now c.args.order.now c.args.wants.items c.args.rooms.items (c.loop-job.job-index + 1)
-          (shares_view c.serve.new.shares.items) (set c.loop-job.wants.items (get_or c.args.order.now c.loop-job.job-index 0) c.in_ok-left.left) xs)
-          (sym (take_at _ _ _ (c.serve.auto.rooms ∙ c.deref_mut.ensures.len)))
-          (fill_more c.args.rows.now c.args.windows.now c.args.order.now c.args.wants.items c.args.rooms.items c.loop-job.job-index
-          (shares_view c.loop-job.shares.items) c.loop-job.wants.items c.loop-job.rooms.items c.in_ok-left.left
-          (shares_view c.serve.new.shares.items) c.serve.new.rooms c.requires.order c.requires.wants (omega arith) c.loop-job.invariant.filling
-          (subst (λ (xs : List ℕ). IsServed c.args.rows.now c.args.windows.now (get_or c.args.order.now c.loop-job.job-index 0)
-          (get_or c.loop-job.wants.items (get_or c.args.order.now c.loop-job.job-index 0) 0) (shares_view c.loop-job.shares.items) xs
-          (window_at c.args.windows.now (get_or c.args.order.now c.loop-job.job-index 0)).end c.in_ok-left.left
-          (shares_view c.serve.new.shares.items) c.serve.new.rooms) c.deref_mut.ensures.value
-          (subst (λ (n : ℕ). IsServed c.args.rows.now c.args.windows.now (get_or c.args.order.now c.loop-job.job-index 0)
-          n (shares_view c.loop-job.shares.items) c.deref_mut.result.now
-          (window_at c.args.windows.now (get_or c.args.order.now c.loop-job.job-index 0)).end c.in_ok-left.left
-          (shares_view c.serve.new.shares.items) c.serve.new.rooms) want c.in_ok-left.ensures.served)));
-      next = subst (λ (xs : List ℕ). IsNext xs (take c.loop-job.next.len (c.serve.new.next ++ drop (length c.serve.new.next) c.loop-job.next.items))) (sym rooms)
-          (subst (λ (xs : List ℕ). IsNext c.serve.new.rooms xs) (sym next) c.in_ok-left.ensures.next);
+      filling = fill_more c.args.rows.now c.args.windows.now c.args.own_jobs.now c.args.wants.now c.args.rooms.now c.loop-job.job-index
+          (shares_view c.loop-job.shares.items) c.loop-job.wants c.loop-job.rooms c.in_ok-left.left
+          (shares_view c.serve.new.shares.items) c.serve.new.rooms c.requires.jobs c.requires.wants (omega arith) c.loop-job.invariant.filling
+          c.in_ok-left.ensures.served;
+      own = c.in_ok-left.ensures.own;
+      next = subst (λ (xs : List ℕ). IsNext (values_at c.args.own_stretches.now c.serve.new.rooms) xs) (sym next) c.in_ok-left.ensures.next;
     }
 
 pub returns : goal.returns
 returns c =
-    fill_ends c.args.rows.now c.args.windows.now c.args.order.now c.args.wants.items c.args.rooms.items c.loop-job.job-index
-    (shares_view c.loop-job.shares.items) c.loop-job.wants.items c.loop-job.rooms.items c.requires.order c.requires.wants (omega arith)
+    fill_ends c.args.rows.now c.args.windows.now c.args.own_jobs.now c.args.wants.now c.args.rooms.now c.loop-job.job-index
+    (shares_view c.loop-job.shares.items) c.loop-job.wants c.loop-job.rooms c.requires.jobs c.requires.wants (omega arith)
     c.loop-job.invariant.filling

@@ -1,11 +1,12 @@
 use Rattle.std.proofs.Common.{◌-◌, length}
 use Rattle.yds_plan.specs.Fill.{IsNext, IsNextFrom}
+use Rattle.yds_plan.specs.Numbers.{values_at}
 use Rattle.yds_plan.proofs.finder_fill.next_place.Given as goal
 
 abbrev pub invariant-loop-place : goal.invariant-loop-place
 invariant-loop-place l = record {
-  next : IsNext l._rooms l.next;
-  place : IsNextFrom l._rooms l.from l.place (length l.next);
+  next : IsNext (values_at l._stretches l._rooms) l.next;
+  place : IsNextFrom (values_at l._stretches l._rooms) l.from l.place (length l.next);
 }
 
 abbrev pub decreases-loop-place : goal.decreases-loop-place

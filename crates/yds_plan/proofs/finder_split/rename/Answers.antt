@@ -1,23 +1,17 @@
-use Rattle.std.proofs.Common.{ℕ, ◌+◌, List, refl, sym, subst, inl, inr, arith}
-use Rattle.yds_plan.specs.Search.{IsRenamed}
-use Rattle.yds_plan.proofs.Pointwise.{IsDoneTo, done_none, done_keeps, done_writes}
+use Rattle.std.proofs.Common.{◌≡◌, ℕ, ◌*◌, ◌-◌, get_or, length, refl, subst, arith}
+use Rattle.yds_plan.specs.Numbers.{AreWritten}
+use Rattle.yds_plan.proofs.Numbers.{written_none, written_more}
 use Rattle.yds_plan.proofs.finder_split.rename.Goals as goal
-use Rattle.yds_plan.proofs.finder_split.rename.Goals.{then-groups-place, else-groups-place}
 
-pub loop-place-init : goal.loop-place-init
-loop-place-init c = done_none (λ k one other. IsRenamed c.args.from c.args.to one other) c.args.groups.now
+pub loop-i-init : goal.loop-i-init
+loop-i-init c = written_none (λ i value. value ≡ c.args.to) c.args.numbers.now c.args.groups.now
 
-pub loop-place-preserved : goal.loop-place-preserved
-loop-place-preserved c = elim c.if-groups-place.branch [
-  | then-groups-place w ↦
-      subst (λ (xs : List ℕ). IsDoneTo (λ k one other. IsRenamed c.args.from c.args.to one other) c.args.groups.now xs (c.loop-place.place + 1)) (sym w.groups-is)
-      (done_writes (λ k one other. IsRenamed c.args.from c.args.to one other) c.args.groups.now c.loop-place.groups c.loop-place.place c.args.to c.loop-place.invariant
-      (omega arith) (inl (w.if-groups-place.true, refl)))
-  | else-groups-place w ↦
-      subst (λ (xs : List ℕ). IsDoneTo (λ k one other. IsRenamed c.args.from c.args.to one other) c.args.groups.now xs (c.loop-place.place + 1)) (sym w.groups-is)
-      (done_keeps (λ k one other. IsRenamed c.args.from c.args.to one other) c.args.groups.now c.loop-place.groups c.loop-place.place c.loop-place.invariant
-      (inr (w.if-groups-place.false, refl)))
-]
+pub loop-i-preserved : goal.loop-i-preserved
+loop-i-preserved c =
+    written_more (λ i value. value ≡ c.args.to) c.args.numbers.now c.loop-i.i-index c.args.groups.now c.loop-i.groups (c.args.to) c.loop-i.invariant
+    (omega (arith, c.loop-i.invariant.count, c.requires c.loop-i.i-index 0 c.loop-i-test.true)) refl
 
 pub returns : goal.returns
-returns c = λ k within. c.loop-place.invariant.done k (omega arith)
+returns c =
+    subst (λ (n : ℕ). AreWritten (λ i value. value ≡ c.args.to) c.args.numbers.now n c.args.groups.now c.loop-i.groups)
+    (omega (arith, c.loop-i.auto.i-index-end, c.loop-i-test.false)) c.loop-i.invariant

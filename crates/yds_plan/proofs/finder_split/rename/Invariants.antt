@@ -1,6 +1,6 @@
-use Rattle.yds_plan.specs.Search.{IsRenamed}
-use Rattle.yds_plan.proofs.Pointwise.{IsDoneTo}
+use Rattle.std.proofs.Common.{◌≡◌, ℕ, ◌*◌, ◌-◌, get_or}
+use Rattle.yds_plan.specs.Numbers.{AreWritten}
 use Rattle.yds_plan.proofs.finder_split.rename.Given as goal
 
-abbrev pub invariant-loop-place : goal.invariant-loop-place
-invariant-loop-place l = IsDoneTo (λ k one other. IsRenamed l.from l.to one other) l.initial.groups l.groups l.place
+abbrev pub invariant-loop-i : goal.invariant-loop-i
+invariant-loop-i l = AreWritten (λ i value. value ≡ l.to) l.numbers l.i-index l.initial.groups l.groups

@@ -1,29 +1,36 @@
-use Rattle.std.proofs.Common.{ℕ, ◌+◌, ◌-◌, List, refl, sym, subst, inl, inr, arith}
-use Rattle.yds_plan.specs.Search.{IsSplitStretch}
-use Rattle.yds_plan.proofs.Pointwise.{IsDoneTo, done_none, done_keeps, done_writes}
+use Rattle.std.proofs.Common.{◌≡◌, ℕ, ◌-◌, ◌<◌, ◌≤◌, length, get_or, subst, arith}
+use Rattle.std.specs.Prelude.{nat_le, if◌then◌else◌}
+use Rattle.std.proofs.lemmas.Bool.Decides.{nat_tests}
+use Rattle.yds_plan.specs.Numbers.{AreWritten}
+use Rattle.yds_plan.specs.Search.{split_stretch}
+use Rattle.yds_plan.proofs.Numbers.{written_none, written_more}
 use Rattle.yds_plan.proofs.finder_split.split_stretches.Goals as goal
-use Rattle.yds_plan.proofs.finder_split.split_stretches.Goals.{then-groups-stretch+then-reaches-stretch, else-groups-stretch, else-groups-stretch-via-then-groups-stretch+else-reaches-stretch, else-groups-stretch-via-else-groups-stretch}
+use Rattle.yds_plan.proofs.finder_split.split_stretches.Goals.{then-marked, else-marked}
+
+moves : (reach k top value : ℕ) → reach ≤ k → value ≡ top - 1 → value ≡ (if nat_le reach k then top - 1 else top)
+moves reach k top value marked is = grind (arith, nat_tests)
+
+stays : (reach k top value : ℕ) → k < reach → value ≡ top → value ≡ (if nat_le reach k then top - 1 else top)
+stays reach k top value beyond is = grind (arith, nat_tests)
 
 pub loop-stretch-init : goal.loop-stretch-init
-loop-stretch-init c = done_none (IsSplitStretch c.args.reaches.now c.args.top) c.args.groups.now
+loop-stretch-init c = written_none (λ k value. value ≡ split_stretch c.args.reaches.now c.args.top k) c.args.own_stretches.now c.args.groups.now
 
 pub loop-stretch-preserved : goal.loop-stretch-preserved
-loop-stretch-preserved c = elim c.if-groups-stretch.branch [
-  | then-groups-stretch+then-reaches-stretch w ↦
-      subst (λ (xs : List ℕ). IsDoneTo (IsSplitStretch c.args.reaches.now c.args.top) c.args.groups.now xs (c.loop-stretch.stretch + 1)) (sym w.groups-is)
-      (done_writes (IsSplitStretch c.args.reaches.now c.args.top) c.args.groups.now c.loop-stretch.groups c.loop-stretch.stretch (c.args.top - 1) c.loop-stretch.invariant
-      (omega arith) (inl (w.if-groups-stretch.true, w.if-reaches-stretch.true, omega (arith, c.requires.some))))
-  | else-groups-stretch w ↦
-      subst (λ (xs : List ℕ). IsDoneTo (IsSplitStretch c.args.reaches.now c.args.top) c.args.groups.now xs (c.loop-stretch.stretch + 1)) (sym w.groups-is)
-      (done_keeps (IsSplitStretch c.args.reaches.now c.args.top) c.args.groups.now c.loop-stretch.groups c.loop-stretch.stretch c.loop-stretch.invariant
-      (inr (
-        elim w.else-groups-stretch.branch [
-          | else-groups-stretch-via-then-groups-stretch+else-reaches-stretch v ↦ λ same marked. omega (arith, v.if-reaches-stretch.false, marked)
-          | else-groups-stretch-via-else-groups-stretch v ↦ λ same marked. v.if-groups-stretch.false same
-        ],
-        refl,
-      )))
-]
+loop-stretch-preserved c =
+    written_more (λ k value. value ≡ split_stretch c.args.reaches.now c.args.top k) c.args.own_stretches.now c.loop-stretch.stretch-index
+    c.args.groups.now c.loop-stretch.groups c.if-marked.groups c.loop-stretch.invariant
+    (omega (arith, c.loop-stretch.invariant.count, c.requires.known c.loop-stretch.stretch-index 0 c.loop-stretch-test.true))
+    (elim c.if-marked.branch [
+      | then-marked w ↦
+          moves (get_or c.args.reaches.now (get_or c.args.own_stretches.now c.loop-stretch.stretch-index 0) 0)
+          (get_or c.args.own_stretches.now c.loop-stretch.stretch-index 0) c.args.top c.if-marked.groups w.if-marked.true w.groups-is
+      | else-marked w ↦
+          stays (get_or c.args.reaches.now (get_or c.args.own_stretches.now c.loop-stretch.stretch-index 0) 0)
+          (get_or c.args.own_stretches.now c.loop-stretch.stretch-index 0) c.args.top c.if-marked.groups w.if-marked.false w.groups-is
+    ])
 
 pub returns : goal.returns
-returns c = λ k within. c.loop-stretch.invariant.done k (omega arith)
+returns c =
+    subst (λ (n : ℕ). AreWritten (λ k value. value ≡ split_stretch c.args.reaches.now c.args.top k) c.args.own_stretches.now n c.args.groups.now c.loop-stretch.groups)
+    (omega (arith, c.loop-stretch.auto.stretch-index-end, c.loop-stretch-test.false)) c.loop-stretch.invariant

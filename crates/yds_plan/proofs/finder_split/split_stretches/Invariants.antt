@@ -1,6 +1,7 @@
-use Rattle.yds_plan.specs.Search.{IsSplitStretch}
-use Rattle.yds_plan.proofs.Pointwise.{IsDoneTo}
+use Rattle.std.proofs.Common.{◌≡◌, ℕ}
+use Rattle.yds_plan.specs.Numbers.{AreWritten}
+use Rattle.yds_plan.specs.Search.{split_stretch}
 use Rattle.yds_plan.proofs.finder_split.split_stretches.Given as goal
 
 abbrev pub invariant-loop-stretch : goal.invariant-loop-stretch
-invariant-loop-stretch l = IsDoneTo (IsSplitStretch l.reaches l.top) l.initial.groups l.groups l.stretch
+invariant-loop-stretch l = AreWritten (λ k value. value ≡ split_stretch l.reaches l.top k) l.own_stretches l.stretch-index l.initial.groups l.groups
