@@ -7,7 +7,7 @@ ghost use Rattle.yds_plan.specs.Windows.{window_at, AreWindows, Precedes};
 ghost use Rattle.yds_plan.specs.Fill.{AreTaken, AreServed, AreOpen, IsServed, IsFill, IsNext, IsNextFrom, IsNumbers, IsTake};
 ghost use Rattle.yds_plan.specs.Numbers.{values_at};
 
-use crate::finder_windows::{Window, place};
+use crate::finder_windows::{Window, place_near};
 use crate::share::Share;
 use std::alloc::Global;
 use yds_model::{JobRow, Memory};
@@ -70,6 +70,7 @@ fn serve(
     _jobs: &[JobRow],
     windows: &[Window],
     own_stretches: &[u32],
+    guesses: &[u32],
     job: u32,
     want: u64,
     rooms: &mut [u64],
@@ -89,7 +90,7 @@ fn serve(
     ensures next { OnOk result (IsNext (values_at own_stretches.now rooms.new) next.new) }
 {
     let window = windows[job as usize];
-    let from = place(own_stretches, window.first);
+    let from = place_near(own_stretches, window.first, guesses, window.first);
     let mut place = next_place(own_stretches, rooms, next, from);
     let mut stretch = stretch_at(own_stretches, place, window.end);
     let mut left = want;
@@ -123,6 +124,7 @@ pub(crate) fn fill(
     windows: &[Window],
     own_jobs: &[u32],
     own_stretches: &[u32],
+    guesses: &[u32],
     wants: &mut [u64],
     rooms: &mut [u64],
 ) -> Result<Vec<Share>, Memory>
@@ -142,6 +144,7 @@ pub(crate) fn fill(
             rows,
             windows,
             own_stretches,
+            guesses,
             *job,
             wants[at],
             rooms,
