@@ -110,7 +110,7 @@ fn numbers(alloc: Global, last: usize) -> Result<Vec<u32>, Memory>
     requires { last < 2 ^ 32 - 1 }
     ensures { IfOk result (λ numbers. IsNumbers last numbers.items) }
 {
-    let mut numbers = Vec::new(alloc);
+    let mut numbers = Vec::with_capacity(alloc, last + 1)?;
     for number in 0..last + 1 {
         numbers.push(number as u32)?;
     }
@@ -136,7 +136,7 @@ pub(crate) fn fill(
     requires rooms { length rooms.old ≡ length (stretches rows.now) }
     ensures { IfOk result (λ shares. IsFill rows.now windows.now wants.old rooms.old (shares_view shares.items) wants.new rooms.new) }
 {
-    let mut shares = Vec::new(alloc);
+    let mut shares = Vec::with_capacity(alloc, own_jobs.len())?;
     let mut next = numbers(alloc, own_stretches.len())?;
     for job in own_jobs {
         let at = *job as usize;
