@@ -1,11 +1,12 @@
 -- The shares of each stretch, as the program keeps them, and what a stretch needs so that its slots are within their limits.
 use Rattle.std.specs.Prelude.{◌≡◌, ℕ, ◌+◌, ◌*◌, ◌<◌, ◌≤◌, ◌⊎◌, List, length, sum_by, ◌==◌}
-use Rattle.std.specs.List.{All, filter}
+use Rattle.std.specs.List.{All, filter, slice_index_or}
 use Rattle.yds_model.specs.declared.limits.TheConstants.{MAX_LEVEL_LENGTH, MAX_LEVEL_WORK, MAX_SLOTS, MAX_SLOT_WORK, MAX_TIME}
 use Rattle.yds_model.specs.Slot.{WrittenSlot}
 use Rattle.yds_model.specs.Audit.{grain_of}
 use Rattle.yds_plan.specs.declared.share.Share.{Share as Struct}
-use Rattle.yds_plan.specs.Found.{Group, Share, per_time, per_work}
+use Rattle.yds_plan.specs.declared.layout_slots.Terms.{Terms}
+use Rattle.yds_plan.specs.Found.{Group, Share, group_at, per_time, per_work}
 
 abbrev pub structs_in : List Struct → ℕ → List Struct
 structs_in shares k = filter (λ share. share.stretch == k) shares
@@ -30,3 +31,12 @@ pub record CanFill (jobs : ℕ) (slots : List WrittenSlot) (group : Group) (star
   pub known : All (λ share. share.job < jobs) shares
   pub units : All (λ share. share.units ≤ per_work group * MAX_SLOT_WORK) shares
   pub grains : All (λ share. (grain_of slots share.job ≡ 1) ⊎ (grain_of slots share.job ≡ per_work group)) shares
+
+abbrev pub no_terms : Terms
+no_terms = record { per_time = 0; per_work = 0 }
+
+-- the terms of the first n groups' speeds
+pub record AreTerms (groups : List Group) (n : ℕ) (terms : List Terms) : Type 0 where
+  pub count : length terms ≡ n
+  pub times : (i : ℕ) → i < n → (slice_index_or terms i no_terms).per_time ≡ per_time (group_at groups i)
+  pub works : (i : ℕ) → i < n → (slice_index_or terms i no_terms).per_work ≡ per_work (group_at groups i)

@@ -16,6 +16,7 @@ use crate::finder_beginning::{LAST, beginning, first_group};
 use crate::finder_instance::{Instance, prepare};
 use crate::finder_step::conclude;
 use crate::finder_waiting::{Waiting, all_numbers, members};
+use crate::finder_windows::guess_places;
 use crate::finder_workspace::{Workspace, blank_workspace};
 use crate::found::Found;
 use std::alloc::Global;
@@ -55,6 +56,12 @@ fn advance(
     ensures smaller { OnOk result (sum found.new.group_of_stretch.items < sum found.old.group_of_stretch.items) }
     ensures space { OnOk result (IsBlank (length rows.now) (length instance.now.lengths.items) space.new) }
 {
+    guess_places(
+        &mut space.reaches.guesses,
+        &waiting.stretches,
+        &found.group_of_stretch,
+        top,
+    );
     let attempt = fill_group(alloc, rows, instance, found, top, waiting, space)?;
     let next = conclude(
         alloc,

@@ -79,6 +79,7 @@ pub(crate) fn fill_group(
         &instance.windows,
         &waiting.jobs,
         &waiting.stretches,
+        &space.reaches.guesses,
         &mut space.wants,
         &mut space.rooms,
     )?;

@@ -8,7 +8,7 @@ ghost use Rattle.yds_plan.specs.Numbers.{AreWritten, IsOneOf};
 ghost use Rattle.yds_plan.specs.Waiting.{HasReaches};
 ghost use Rattle.yds_plan.specs.Closure.{AreClosing, IsLastBefore, AreLateReaches, AreShareReaches, AreReaches, AreAllReaches};
 
-use crate::finder_windows::{Window, place};
+use crate::finder_windows::{Window, place_near};
 use crate::share::Share;
 
 /// For each stretch how far to the left jobs reach that close upon it. Only a group's own stretches count;
@@ -21,6 +21,8 @@ pub(crate) struct Reaches {
     pub shared: Vec<u32>,
     /// How far the late jobs reach over it, directly or through shares.
     pub all: Vec<u32>,
+    /// A guess at its place among the group's own stretches.
+    pub guesses: Vec<u32>,
 }
 
 /// One number for each of these stretches.
@@ -34,13 +36,13 @@ fn set_all(reaches: &mut [u32], own_stretches: &[u32], number: u32)
 }
 
 /// The place of the last of these stretches before `end`.
-fn last_before(own_stretches: &[u32], end: u32) -> usize
+fn last_before(own_stretches: &[u32], guesses: &[u32], end: u32) -> usize
     requires few { length own_stretches.now ≤ 2 * MAX_JOBS }
     requires rising { (a b : ℕ) → a < b → b < length own_stretches.now → slice_index own_stretches.now a < slice_index own_stretches.now b }
     requires some { (p : ℕ) × (p < length own_stretches.now) × (slice_index own_stretches.now p < end) }
     ensures { IsLastBefore own_stretches.now end result }
 {
-    place(own_stretches, end) as usize - 1
+    place_near(own_stretches, end, guesses, end) as usize - 1
 }
 
 /// For each stretch the least first stretch among the windows of late jobs that have it as their last one.
@@ -48,6 +50,7 @@ fn late_reaches(
     windows: &[Window],
     own_jobs: &[u32],
     own_stretches: &[u32],
+    guesses: &[u32],
     wants: &[u64],
     reaches: &mut [u32],
 )
@@ -61,7 +64,7 @@ fn late_reaches(
     for job in own_jobs {
         if wants[*job as usize] > 0 {
             let window = windows[*job as usize];
-            let last = last_before(own_stretches, window.end);
+            let last = last_before(own_stretches, guesses, window.end);
             let at = own_stretches[last] as usize;
             reaches[at] = reaches[at].min(window.first);
         }
@@ -125,7 +128,14 @@ pub(crate) fn reach(
     ensures reach { AreAllReaches windows.now wants.now own_stretches.now (shares_view shares.now) (length reaches.old.all.items) reaches.new.all.items }
     ensures kept { HasReaches (length reaches.old.all.items) reaches.new }
 {
-    late_reaches(windows, own_jobs, own_stretches, wants, &mut reaches.late);
+    late_reaches(
+        windows,
+        own_jobs,
+        own_stretches,
+        &reaches.guesses,
+        wants,
+        &mut reaches.late,
+    );
     share_reaches(windows, own_stretches, shares, &mut reaches.shared);
     closure(
         own_stretches,

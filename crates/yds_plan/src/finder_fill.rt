@@ -7,7 +7,7 @@ ghost use Rattle.yds_plan.specs.Windows.{window_at, AreWindows, Precedes};
 ghost use Rattle.yds_plan.specs.Fill.{AreTaken, AreServed, AreOpen, IsServed, IsFill, IsNext, IsNextFrom, IsNumbers, IsTake};
 ghost use Rattle.yds_plan.specs.Numbers.{values_at};
 
-use crate::finder_windows::{Window, place};
+use crate::finder_windows::{Window, place_near};
 use crate::share::Share;
 use std::alloc::Global;
 use yds_model::{JobRow, Memory};
@@ -70,6 +70,7 @@ fn serve(
     _jobs: &[JobRow],
     windows: &[Window],
     own_stretches: &[u32],
+    guesses: &[u32],
     job: u32,
     want: u64,
     rooms: &mut [u64],
@@ -89,7 +90,7 @@ fn serve(
     ensures next { OnOk result (IsNext (values_at own_stretches.now rooms.new) next.new) }
 {
     let window = windows[job as usize];
-    let from = place(own_stretches, window.first);
+    let from = place_near(own_stretches, window.first, guesses, window.first);
     let mut place = next_place(own_stretches, rooms, next, from);
     let mut stretch = stretch_at(own_stretches, place, window.end);
     let mut left = want;
@@ -109,7 +110,7 @@ fn numbers(alloc: Global, last: usize) -> Result<Vec<u32>, Memory>
     requires { last < 2 ^ 32 - 1 }
     ensures { IfOk result (λ numbers. IsNumbers last numbers.items) }
 {
-    let mut numbers = Vec::new(alloc);
+    let mut numbers = Vec::with_capacity(alloc, last + 1)?;
     for number in 0..last + 1 {
         numbers.push(number as u32)?;
     }
@@ -123,6 +124,7 @@ pub(crate) fn fill(
     windows: &[Window],
     own_jobs: &[u32],
     own_stretches: &[u32],
+    guesses: &[u32],
     wants: &mut [u64],
     rooms: &mut [u64],
 ) -> Result<Vec<Share>, Memory>
@@ -134,7 +136,7 @@ pub(crate) fn fill(
     requires rooms { length rooms.old ≡ length (stretches rows.now) }
     ensures { IfOk result (λ shares. IsFill rows.now windows.now wants.old rooms.old (shares_view shares.items) wants.new rooms.new) }
 {
-    let mut shares = Vec::new(alloc);
+    let mut shares = Vec::with_capacity(alloc, own_jobs.len())?;
     let mut next = numbers(alloc, own_stretches.len())?;
     for job in own_jobs {
         let at = *job as usize;
@@ -142,6 +144,7 @@ pub(crate) fn fill(
             rows,
             windows,
             own_stretches,
+            guesses,
             *job,
             wants[at],
             rooms,

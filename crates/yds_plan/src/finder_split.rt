@@ -5,7 +5,7 @@ ghost use Rattle.yds_plan.specs.Windows.{window_at};
 ghost use Rattle.yds_plan.specs.Numbers.{AreWritten};
 ghost use Rattle.yds_plan.specs.Search.{split_stretch, IsJobNumber};
 
-use crate::finder_windows::{Window, place};
+use crate::finder_windows::{Window, place_near};
 
 /// Gives these jobs or stretches another group's number.
 pub(crate) fn rename(groups: &mut [u32], numbers: &[u32], to: u32)
@@ -31,13 +31,13 @@ pub(crate) fn split_stretches(groups: &mut [u32], own_stretches: &[u32], reaches
 }
 
 /// Whether the window has none of these stretches.
-fn misses(own_stretches: &[u32], window: Window) -> bool
+fn misses(own_stretches: &[u32], guesses: &[u32], window: Window) -> bool
     requires few { length own_stretches.now ≤ 2 * MAX_JOBS }
     requires rising { (a b : ℕ) → a < b → b < length own_stretches.now → slice_index own_stretches.now a < slice_index own_stretches.now b }
     ensures none { result ≡ true → (p : ℕ) → p < length own_stretches.now → window.first ≤ slice_index own_stretches.now p → window.end ≤ slice_index own_stretches.now p }
     ensures some { result ≡ false → (p : ℕ) × (p < length own_stretches.now) × (window.first ≤ slice_index own_stretches.now p) × (slice_index own_stretches.now p < window.end) }
 {
-    let next = place(own_stretches, window.first);
+    let next = place_near(own_stretches, window.first, guesses, window.first);
     match own_stretches.get(next as usize) {
         Some(stretch) => *stretch >= window.end,
         None => true,
@@ -51,6 +51,7 @@ pub(crate) fn split_jobs(
     own_jobs: &[u32],
     windows: &[Window],
     left: &[u32],
+    guesses: &[u32],
     top: u32,
 )
     requires some { 1 ≤ top }
@@ -61,7 +62,7 @@ pub(crate) fn split_jobs(
     ensures { AreWritten (IsJobNumber windows.now left.now top) own_jobs.now (length own_jobs.now) groups.old groups.new }
 {
     for job in own_jobs {
-        let misses = misses(left, windows[*job as usize]);
+        let misses = misses(left, guesses, windows[*job as usize]);
         groups[*job as usize] = if misses { top - 1 } else { top };
     }
 }

@@ -11,6 +11,7 @@ use crate::finder_closure::{Reaches, reach};
 use crate::finder_instance::Instance;
 use crate::finder_split::{rename, split_jobs, split_stretches};
 use crate::finder_waiting::{Waiting, members};
+use crate::finder_windows::guess_places;
 use crate::found::Found;
 use std::alloc::Global;
 use yds_model::{JobRow, Memory};
@@ -89,11 +90,18 @@ fn split(
         top,
     );
     let left = members(alloc, &waiting.stretches, &found.group_of_stretch, top)?;
+    guess_places(
+        &mut reaches.guesses,
+        &waiting.stretches,
+        &found.group_of_stretch,
+        top,
+    );
     split_jobs(
         &mut found.group_of_job,
         &waiting.jobs,
         &instance.windows,
         &left,
+        &reaches.guesses,
         top,
     );
     Ok(())

@@ -24,7 +24,7 @@ pub(crate) fn members(
     requires { All (λ i. i < length groups.now) numbers.now }
     ensures { IfOk result (λ members. members.items ≡ numbers_in groups.now group numbers.now) }
 {
-    let mut members = Vec::new(alloc);
+    let mut members = Vec::with_capacity(alloc, numbers.len())?;
     for i in numbers {
         if groups[*i as usize] == group {
             members.push(*i)?;
@@ -38,7 +38,7 @@ pub(crate) fn all_numbers(alloc: Global, count: usize) -> Result<Vec<u32>, Memor
     requires { count < 2 ^ 32 }
     ensures { IfOk result (λ numbers. numbers.items ≡ range_with_len 0 count) }
 {
-    let mut numbers = Vec::new(alloc);
+    let mut numbers = Vec::with_capacity(alloc, count)?;
     for number in 0..count {
         numbers.push(number as u32)?;
     }

@@ -1,4 +1,4 @@
-ghost use Rattle.std.specs.Prelude.{◌≡◌, ℕ, ◌*◌, ◌<◌, ◌≤◌, length, slice_index, IfOk};
+ghost use Rattle.std.specs.Prelude.{◌≡◌, ℕ, ◌*◌, ◌<◌, ◌≤◌, true, length, slice_index, IfOk};
 ghost use Rattle.std.specs.List.{All};
 ghost use Rattle.yds_model.specs.Job.{Job, IsJob};
 ghost use Rattle.yds_model.specs.Event.{event_points};
@@ -21,7 +21,7 @@ pub(crate) struct Window {
 }
 
 /// How many of these times are earlier than `time`.
-pub(crate) fn place(times: &[u32], time: u32) -> u32
+fn place(times: &[u32], time: u32) -> u32
     requires few { length times.now ≤ 2 * MAX_JOBS }
     requires rising { (i j : ℕ) → i < j → j < length times.now → slice_index times.now i < slice_index times.now j }
     ensures { IsPlace times.now time result }
@@ -29,6 +29,49 @@ pub(crate) fn place(times: &[u32], time: u32) -> u32
     match times.binary_search(&time) {
         Ok(place) => place as u32,
         Err(place) => place as u32,
+    }
+}
+
+/// Whether so many of these times are earlier than `time`.
+fn is_place(times: &[u32], time: u32, guess: usize) -> bool
+    requires { (i j : ℕ) → i < j → j < length times.now → slice_index times.now i < slice_index times.now j }
+    ensures { result ≡ true → IsPlace times.now time guess }
+{
+    if guess > times.len() {
+        return false;
+    }
+    if guess > 0 && times[guess - 1] >= time {
+        return false;
+    }
+    guess == times.len() || time <= times[guess]
+}
+
+/// How many of these times are earlier than `time`, at once where the guess with number `at` is right.
+pub(crate) fn place_near(times: &[u32], time: u32, guesses: &[u32], at: u32) -> u32
+    requires few { length times.now ≤ 2 * MAX_JOBS }
+    requires rising { (i j : ℕ) → i < j → j < length times.now → slice_index times.now i < slice_index times.now j }
+    ensures { IsPlace times.now time result }
+{
+    if let Some(guess) = guesses.get(at as usize) {
+        if is_place(times, time, *guess as usize) {
+            return *guess;
+        }
+    }
+    place(times, time)
+}
+
+/// A guess for each of these stretches: how many of those before it are in the group.
+pub(crate) fn guess_places(guesses: &mut [u32], own_stretches: &[u32], groups: &[u32], group: u32)
+    requires { length own_stretches.now ≤ 2 * MAX_JOBS }
+{
+    let mut count: u32 = 0;
+    for stretch in own_stretches {
+        if let Some(guess) = guesses.get_mut(*stretch as usize) {
+            *guess = count;
+        }
+        if groups.get(*stretch as usize) == Some(&group) {
+            count += 1;
+        }
     }
 }
 

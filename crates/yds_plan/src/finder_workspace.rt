@@ -32,6 +32,7 @@ pub(crate) fn blank_workspace(
             late: vec![in alloc; 0; stretches]?,
             shared: vec![in alloc; 0; stretches]?,
             all: vec![in alloc; 0; stretches]?,
+            guesses: vec![in alloc; 0; stretches]?,
         },
     })
 }

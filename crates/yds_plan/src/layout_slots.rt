@@ -1,14 +1,14 @@
-ghost use Rattle.std.specs.Prelude.{◌≡◌, ◌+◌, ◌/◌, ◌<◌, ◌≤◌, ◌++◌, [], length, map, IfOk};
+ghost use Rattle.std.specs.Prelude.{◌≡◌, ℕ, ◌+◌, ◌/◌, ◌<◌, ◌≤◌, ◌++◌, [], length, map, IfOk};
 ghost use Rattle.std.specs.List.{All, range_with_len};
 ghost use Rattle.yds_model.specs.declared.limits.TheConstants.{MAX_DENOMINATOR, MAX_JOBS, MAX_WHOLE};
 ghost use Rattle.yds_model.specs.Job.{IsJob};
 ghost use Rattle.yds_model.specs.Event.{event_points};
 ghost use Rattle.yds_fraction.specs.Mixed.{IsMixed};
 ghost use Rattle.yds_slots.specs.Slot.{IsSlot};
-ghost use Rattle.yds_plan.specs.Found.{IsFound, per_time, per_work};
+ghost use Rattle.yds_plan.specs.Found.{IsFound, group_at, per_time, per_work};
 ghost use Rattle.yds_plan.specs.Views.{shares_view, group_view, found_view};
 ghost use Rattle.yds_plan.specs.Laid.{with_parts, slots_from, slots_of};
-ghost use Rattle.yds_plan.specs.Room.{structs_in, IsWithin, CanFill};
+ghost use Rattle.yds_plan.specs.Room.{structs_in, IsWithin, CanFill, AreTerms};
 
 use crate::found::{Found, Group};
 use crate::share::Share;
@@ -76,6 +76,18 @@ fn terms_of(group: &Group) -> Terms
     }
 }
 
+/// The terms of each group's speed.
+fn terms_of_groups(alloc: Global, groups: &[Group]) -> Result<Vec<Terms>, Memory>
+    requires { (i : ℕ) → i < length groups.now → (1 ≤ (group_at (map group_view groups.now) i).work) × (1 ≤ (group_at (map group_view groups.now) i).length) }
+    ensures { IfOk result (λ terms. AreTerms (map group_view groups.now) (length groups.now) terms.items) }
+{
+    let mut terms: Vec<Terms> = Vec::with_capacity(alloc, groups.len())?;
+    for group in groups {
+        terms.push(terms_of(group))?;
+    }
+    Ok(terms)
+}
+
 /// The slot of a share, in a stretch from `start` on, where `done` units are done before it.
 fn slot_of(share: &Share, start: u32, done: u64, terms: Terms) -> Slot
     requires { IsWithin terms.per_time terms.per_work start done share.now.units }
@@ -93,20 +105,23 @@ fn slot_of(share: &Share, start: u32, done: u64, terms: Terms) -> Slot
     }
 }
 
-/// Fills a stretch, from its start on, with these shares at the group's speed.
-pub(crate) fn fill_stretch(
+/// Fills a stretch, from its start on, with these shares at the group's speed. `_group` is named for the
+/// contract alone.
+fn fill_stretch(
     schedule: &mut Schedule,
-    group: &Group,
+    _group: &Group,
+    terms: Terms,
     start: u32,
     shares: &[Share],
 ) -> Result<(), Memory>
-    requires { CanFill schedule.old.jobs schedule.old.slots (group_view group.now) start (shares_view shares.now) }
+    requires per_time { terms.per_time ≡ per_time (group_view _group.now) }
+    requires per_work { terms.per_work ≡ per_work (group_view _group.now) }
+    requires fits { CanFill schedule.old.jobs schedule.old.slots (group_view _group.now) start (shares_view shares.now) }
     ensures { IfOk result (λ _. schedule.new ≡ record {
       jobs = schedule.old.jobs;
-      slots = schedule.old.slots ++ slots_from (group_view group.now) start 0 (shares_view shares.now);
+      slots = schedule.old.slots ++ slots_from (group_view _group.now) start 0 (shares_view shares.now);
     }) }
 {
-    let terms = terms_of(group);
     let mut done: u64 = 0;
     for share in shares {
         schedule.push(slot_of(share, start, done, terms))?;
@@ -129,10 +144,18 @@ pub(crate) fn schedule_of(
     ensures { IfOk result (λ schedule. schedule ≡ record { jobs = length rows.now; slots = slots_of rows.now (found_view found.now) }) }
 {
     let shares = shares_by_stretch(alloc, &found.shares, found.group_of_stretch.len())?;
+    let terms = terms_of_groups(alloc, &found.groups)?;
     let mut schedule = Schedule::new(alloc, rows.len() as u32)?;
     for (stretch, place) in found.group_of_stretch.iter().enumerate() {
         if let Some(group) = found.groups.get(*place as usize) {
-            fill_stretch(&mut schedule, group, times[stretch], &shares[stretch])?;
+            let speed = terms[*place as usize];
+            fill_stretch(
+                &mut schedule,
+                group,
+                speed,
+                times[stretch],
+                &shares[stretch],
+            )?;
         }
     }
     Ok(schedule)

@@ -1,9 +1,18 @@
-use Rattle.std.proofs.Common.{ℕ, length, get_or, arith}
+use Rattle.std.proofs.Common.{ℕ, List, length, get_or, ap, arith}
 use Rattle.std.specs.List.{range_with_len}
 use Rattle.yds_plan.specs.Views.{found_view, shares_view, part_view}
-use Rattle.yds_plan.proofs.Attempt.{part_known, part_stretch_known, range_one}
+use Rattle.yds_plan.proofs.Attempt.{part_known, part_stretch_known, part_few, range_one}
 use Rattle.yds_plan.proofs.Waiting.{wanting_own, roomy_own}
 use Rattle.yds_plan.proofs.finder.advance.Goals as goal
+
+pub guess_places-requires : goal.guess_places-requires
+guess_places-requires c = omega (
+  arith,
+  ap (λ (xs : List ℕ). length xs) c.deref.ensures.value,
+  (part_few c.args.instance.now.order.items (found_view c.args.found.now) c.args.top (part_view c.args.waiting.now) c.requires.waiting).1,
+  c.requires.search.all_stretches,
+  c.requires.instance.few_stretches,
+)
 
 pub clear_all-requires-clause-within : goal.clear_all-requires-clause-within
 clear_all-requires-clause-within c =

@@ -13,7 +13,7 @@ use Rattle.yds_plan.proofs.finder_fill.fill.Goals as goal
 pub loop-job-init : goal.loop-job-init
 loop-job-init c = record {
   filling = subst (λ (xs : List Share). IsFilling c.args.rows.now c.args.windows.now c.args.own_jobs.now c.args.wants.now c.args.rooms.now 0 xs c.args.wants.now c.args.rooms.now)
-      (sym (ap shares_view c.new-shares.ensures.items))
+      (sym (ap shares_view c.in_ok-shares.ensures.items))
       (fill_begins c.args.rows.now c.args.windows.now c.args.own_jobs.now c.args.wants.now c.args.rooms.now);
   own = c.requires.own;
   next = next_begins (values_at c.args.own_stretches.now c.args.rooms.now) c.in_ok-next.next.items

@@ -19,16 +19,16 @@ loop-left-init c =
           (window_at c.args.windows.now c.args.job).first c.stretch_at-stretch.result c.args.want (shares_view c.args.shares.now.items) c.args.rooms.now
           (serve_begins c.args._jobs.now c.args.windows.now c.args.job c.args.want (shares_view c.args.shares.now.items) c.args.rooms.now
           c.requires.taken c.requires.later)
-          (first_after c.args.own_stretches.now (values_at c.args.own_stretches.now c.args.rooms.now) c.place-from.result c.next_place-place.result
-          (length c.args.next.now) (window_at c.args.windows.now c.args.job).first (window_at c.args.windows.now c.args.job).end c.stretch_at-stretch.result c.place-from.ensures found c.requires.nonempty c.stretch_at-stretch.ensures)
-          (λ k above below. passed_full c.args.own_stretches.now c.args.rooms.now c.place-from.result c.next_place-place.result (length c.args.next.now)
+          (first_after c.args.own_stretches.now (values_at c.args.own_stretches.now c.args.rooms.now) c.place_near-from.result c.next_place-place.result
+          (length c.args.next.now) (window_at c.args.windows.now c.args.job).first (window_at c.args.windows.now c.args.job).end c.stretch_at-stretch.result c.place_near-from.ensures found c.requires.nonempty c.stretch_at-stretch.ensures)
+          (λ k above below. passed_full c.args.own_stretches.now c.args.rooms.now c.place_near-from.result c.next_place-place.result (length c.args.next.now)
           (window_at c.args.windows.now c.args.job).first (window_at c.args.windows.now c.args.job).end k c.requires.own found
-          (from_first c.args.own_stretches.now c.place-from.result (window_at c.args.windows.now c.args.job).first c.place-from.ensures) above
+          (from_first c.args.own_stretches.now c.place_near-from.result (window_at c.args.windows.now c.args.job).first c.place_near-from.ensures) above
           (omega (arith, below, c.stretch_at-stretch.ensures)));
       next = c.next_place-place.ensures.next;
       own = c.requires.own;
-      from = first_after c.args.own_stretches.now (values_at c.args.own_stretches.now c.args.rooms.now) c.place-from.result c.next_place-place.result
-          (length c.args.next.now) (window_at c.args.windows.now c.args.job).first (window_at c.args.windows.now c.args.job).end c.stretch_at-stretch.result c.place-from.ensures found c.requires.nonempty c.stretch_at-stretch.ensures;
+      from = first_after c.args.own_stretches.now (values_at c.args.own_stretches.now c.args.rooms.now) c.place_near-from.result c.next_place-place.result
+          (length c.args.next.now) (window_at c.args.windows.now c.args.job).first (window_at c.args.windows.now c.args.job).end c.stretch_at-stretch.result c.place_near-from.ensures found c.requires.nonempty c.stretch_at-stretch.ensures;
       stretch_is = c.stretch_at-stretch.ensures;
       within = omega (arith, found.within, c.next_place-place.auto.next);
     }

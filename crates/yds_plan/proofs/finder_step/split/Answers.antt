@@ -6,7 +6,6 @@ use Rattle.yds_plan.specs.Found.{Share, share_at, no_share}
 use Rattle.yds_plan.specs.Views.{found_view, group_view, shares_view, part_view}
 use Rattle.yds_plan.specs.Numbers.{IsOneOf, AreWritten, numbers_in}
 use Rattle.yds_plan.specs.Closure.{AreClosing, AreAllReaches}
-use Rattle.yds_plan.specs.Waiting.{HasReaches}
 use Rattle.yds_plan.specs.Search.{IsSearch, IsJobNumber, split_stretch, AreMovedFrom}
 use Rattle.yds_plan.proofs.Attempt.{few_in, known_at, part_known, part_stretch_known, part_few, range_one, written_same}
 use Rattle.yds_plan.proofs.Numbers.{in_order}
@@ -58,6 +57,15 @@ members-requires c =
     (sym (ap (λ (xs : List ℕ). length xs) (c.deref-8.ensures.value ∙ (take_at _ _ _ (c.split_stretches.auto.groups ∙ c.deref_mut.ensures.len))) ∙ c.split_stretches.auto.groups ∙ ap (λ (xs : List ℕ). length xs) c.deref_mut.ensures.value))
     (part_stretch_known c.args.instance.now.order.items (found_view c.args.found.now) c.args.top (part_view c.args.waiting.now) c.requires.waiting)
 
+pub guess_places-requires : goal.guess_places-requires
+guess_places-requires c = omega (
+  arith,
+  ap (λ (xs : List ℕ). length xs) c.deref-9.ensures.value,
+  (part_few c.args.instance.now.order.items (found_view c.args.found.now) c.args.top (part_view c.args.waiting.now) c.requires.waiting).1,
+  c.requires.search.all_stretches,
+  c.requires.instance.few_stretches,
+)
+
 pub split_jobs-requires-clause-few : goal.split_jobs-requires-clause-few
 split_jobs-requires-clause-few c =
     let places : take c.args.found.now.group_of_stretch.len (c.split_stretches.new.groups ++ drop (length c.split_stretches.new.groups) c.args.found.now.group_of_stretch.items) ≡ c.split_stretches.new.groups =
@@ -67,7 +75,7 @@ split_jobs-requires-clause-few c =
     ∙ ap (numbers_in c.split_stretches.new.groups c.args.top) c.deref-7.ensures.value in
     omega (
       arith,
-      ap (λ (xs : List ℕ). length xs) (c.deref-11.ensures.value ∙ left),
+      ap (λ (xs : List ℕ). length xs) (c.deref-13.ensures.value ∙ left),
       few_in c.split_stretches.new.groups c.args.top c.args.waiting.now.stretches.items,
       (part_few c.args.instance.now.order.items (found_view c.args.found.now) c.args.top (part_view c.args.waiting.now) c.requires.waiting).1,
       c.requires.search.all_stretches,
@@ -81,14 +89,14 @@ split_jobs-requires-clause-rising c =
     let left : c.in_ok-left.left.items ≡ numbers_in c.split_stretches.new.groups c.args.top c.args.waiting.now.stretches.items =
     c.in_ok-left.ensures ∙ ap (λ (xs : List ℕ). numbers_in xs c.args.top c.deref-7.result.now) (c.deref-8.ensures.value ∙ places)
     ∙ ap (numbers_in c.split_stretches.new.groups c.args.top) c.deref-7.ensures.value in
-    subst (λ (xs : List ℕ). (a b : ℕ) → a < b → b < length xs → get_or xs a 0 < get_or xs b 0) (sym (c.deref-11.ensures.value ∙ left))
+    subst (λ (xs : List ℕ). (a b : ℕ) → a < b → b < length xs → get_or xs a 0 < get_or xs b 0) (sym (c.deref-13.ensures.value ∙ left))
     (in_order (λ a b. a < b) c.split_stretches.new.groups c.args.top c.args.waiting.now.stretches.items
     (part_rising c.args.instance.now.order.items (found_view c.args.found.now) c.args.top (part_view c.args.waiting.now) c.requires.waiting))
 
 pub split_jobs-requires-clause-known : goal.split_jobs-requires-clause-known
 split_jobs-requires-clause-known c =
-    known_at c.deref-9.result.now c.args.waiting.now.jobs.items (length c.deref_mut-2.result.now) (length c.args._rows.now) c.deref-9.ensures.value
-    (sym (ap (λ (xs : List ℕ). length xs) c.deref_mut-2.ensures.value ∙ c.requires.search.all_jobs))
+    known_at c.deref-11.result.now c.args.waiting.now.jobs.items (length c.deref_mut-3.result.now) (length c.args._rows.now) c.deref-11.ensures.value
+    (sym (ap (λ (xs : List ℕ). length xs) c.deref_mut-3.ensures.value ∙ c.requires.search.all_jobs))
     (part_known c.args._rows.now c.args.instance.now.order.items (found_view c.args.found.now) c.args.top (part_view c.args.waiting.now) c.requires.instance.order c.requires.waiting)
 
 pub returns : goal.returns
@@ -99,7 +107,7 @@ returns c =
     c.in_ok-left.ensures ∙ ap (λ (xs : List ℕ). numbers_in xs c.args.top c.deref-7.result.now) (c.deref-8.ensures.value ∙ places)
     ∙ ap (numbers_in c.split_stretches.new.groups c.args.top) c.deref-7.ensures.value in
     let jobs : take c.args.found.now.group_of_job.len (c.split_jobs.new.groups ++ drop (length c.split_jobs.new.groups) c.args.found.now.group_of_job.items) ≡ c.split_jobs.new.groups =
-    take_at _ _ _ (c.split_jobs.auto.groups ∙ c.deref_mut-2.ensures.len) in
+    take_at _ _ _ (c.split_jobs.auto.groups ∙ c.deref_mut-3.ensures.len) in
     let all = divided c.args._rows.now c.args.instance.now (found_view c.args.found.now) c.args.top (group_view c.args.attempt.now.group) (shares_view c.args.attempt.now.shares.items)
     c.args.wants.now c.args._rooms.now (part_view c.args.waiting.now) (length c.args.reaches.now.all.items) c.reach.new.reaches.all.items c.in_ok-left.left.items c.split_jobs.new.groups c.split_stretches.new.groups
     c.requires.some c.requires.instance c.requires.search c.requires.within c.requires.waiting c.requires.attempt c.requires.late
@@ -112,11 +120,11 @@ returns c =
     c.deref-5.result.now c.args.waiting.now.stretches.items c.deref_mut.result.now c.args.found.now.group_of_stretch.items c.split_stretches.new.groups
     (λ k value is. is ∙ ap (λ (xs : List ℕ). split_stretch xs c.args.top k) c.deref-6.ensures.value) c.deref-5.ensures.value c.deref_mut.ensures.value c.split_stretches.ensures)
     left
-    (written_same (IsJobNumber c.deref-10.result.now c.deref-11.result.now c.args.top) (IsJobNumber c.args.instance.now.windows.items c.in_ok-left.left.items c.args.top)
-    c.deref-9.result.now c.args.waiting.now.jobs.items c.deref_mut-2.result.now c.args.found.now.group_of_job.items c.split_jobs.new.groups
-    (λ j value is. subst (λ (xs : List Window). IsJobNumber xs c.in_ok-left.left.items c.args.top j value) c.deref-10.ensures.value
-    (subst (λ (xs : List ℕ). IsJobNumber c.deref-10.result.now xs c.args.top j value) c.deref-11.ensures.value is))
-    c.deref-9.ensures.value c.deref_mut-2.ensures.value c.split_jobs.ensures) in
+    (written_same (IsJobNumber c.deref-12.result.now c.deref-13.result.now c.args.top) (IsJobNumber c.args.instance.now.windows.items c.in_ok-left.left.items c.args.top)
+    c.deref-11.result.now c.args.waiting.now.jobs.items c.deref_mut-3.result.now c.args.found.now.group_of_job.items c.split_jobs.new.groups
+    (λ j value is. subst (λ (xs : List Window). IsJobNumber xs c.in_ok-left.left.items c.args.top j value) c.deref-12.ensures.value
+    (subst (λ (xs : List ℕ). IsJobNumber c.deref-12.result.now xs c.args.top j value) c.deref-13.ensures.value is))
+    c.deref-11.ensures.value c.deref_mut-3.ensures.value c.split_jobs.ensures) in
     record {
       search = subst (λ (xs : List ℕ). IsSearch c.args._rows.now c.args.instance.now.windows.items
           (record {
@@ -135,5 +143,9 @@ returns c =
       smaller = subst (λ (xs : List ℕ). sum xs < sum c.args.found.now.group_of_stretch.items) (sym places) all.0.1;
       jobs = subst (λ (xs : List ℕ). AreMovedFrom c.args.top c.args.found.now.group_of_job.items xs) (sym jobs) all.1;
       stretches = subst (λ (xs : List ℕ). AreMovedFrom c.args.top c.args.found.now.group_of_stretch.items xs) (sym places) all.2;
-      reaches = subst (λ (n : ℕ). HasReaches n c.reach.new.reaches) c.requires.reaches.all c.reach.ensures.kept;
+      reaches = record {
+        late = c.reach.ensures.kept.late ∙ c.requires.reaches.all;
+        shared = c.reach.ensures.kept.shared ∙ c.requires.reaches.all;
+        all = c.reach.ensures.kept.all ∙ c.requires.reaches.all;
+      };
     }

@@ -1,7 +1,10 @@
-use Rattle.std.proofs.Common.{◌<◌, ◌∙◌, ap, arith, length, get_or}
-use Rattle.std.proofs.lemmas.List.{length-map, get_or-map}
+use Rattle.std.proofs.Common.{ℕ, ◌≡◌, ◌<◌, ◌∙◌, List, map, sym, ap, subst, arith, length, get_or}
+use Rattle.std.proofs.lemmas.List.{length-map, get_or-map, get_or_default}
 use Rattle.yds_model.specs.Event.{stretches}
-use Rattle.yds_plan.specs.Found.{no_share}
+use Rattle.yds_plan.specs.declared.found.Group.{Group as GroupStruct}
+use Rattle.yds_plan.specs.declared.layout_slots.Terms.{Terms}
+use Rattle.yds_plan.specs.Room.{AreTerms, no_terms}
+use Rattle.yds_plan.specs.Found.{Group, group_at, per_time, per_work, no_share}
 use Rattle.yds_plan.specs.Views.{found_view, shares_view, group_view, share_view}
 use Rattle.yds_plan.proofs.Stretches.{times_within, stretch_between}
 use Rattle.yds_plan.proofs.Buckets.{vectors_count}
@@ -42,9 +45,40 @@ index-requires c =
       vectors_count (λ list. list.items) c.deref.result.now c.len.result c.in_ok-shares.shares.items c.in_ok-shares.ensures,
     )
 
-pub fill_stretch-requires : goal.fill_stretch-requires
-fill_stretch-requires c =
-    let here = (goal.at.fill_stretch-requires c).In-loop-stretch in
+-- the terms of the group that is read
+terms_read : (items listed : List GroupStruct) (place : ℕ) (view : Group) (terms : List Terms) (speed : Terms) → listed ≡ items →
+    AreTerms (map group_view listed) (length listed) terms → place < length items → view ≡ group_at (map group_view items) place → speed ≡ get_or terms place speed →
+    (speed.per_time ≡ per_time view) × (speed.per_work ≡ per_work view)
+terms_read items listed place view terms speed same are within is read =
+    let here : AreTerms (map group_view items) (length items) terms = subst (λ (xs : List GroupStruct). AreTerms (map group_view xs) (length xs) terms) same are in
+    let at : speed ≡ get_or terms place no_terms = read ∙ get_or_default terms place speed no_terms (omega (arith, within, here.count)) in (
+      ap (λ (one : Terms). one.per_time) at ∙ here.times place within ∙ ap per_time (sym is),
+      ap (λ (one : Terms). one.per_work) at ∙ here.works place within ∙ ap per_work (sym is),
+    )
+
+pub fill_stretch-requires-clause-per_time : goal.fill_stretch-requires-clause-per_time
+fill_stretch-requires-clause-per_time c =
+    let read = c.in-Some.ensures.lookup in
+    let groups = c.args.found.now.groups.items in
+    (terms_read c.args.found.now.groups.items c.deref-2.result.now (get_or c.deref-place-items.result.now c.loop-stretch.stretch 0) (group_view c.in-Some.group.now)
+    c.in_ok-terms.terms.items c.index-speed.result.now c.deref-2.ensures.value c.in_ok-terms.ensures
+    (omega (arith, read.3.0, ap length c.deref-in-loop-stretch.ensures.value))
+    (group_read groups c.deref-in-loop-stretch.result.now _ c.in-Some.group.now c.deref-in-loop-stretch.ensures.value read.3.0 read.1)
+    c.index-speed.ensures).0
+
+pub fill_stretch-requires-clause-per_work : goal.fill_stretch-requires-clause-per_work
+fill_stretch-requires-clause-per_work c =
+    let read = c.in-Some.ensures.lookup in
+    let groups = c.args.found.now.groups.items in
+    (terms_read c.args.found.now.groups.items c.deref-2.result.now (get_or c.deref-place-items.result.now c.loop-stretch.stretch 0) (group_view c.in-Some.group.now)
+    c.in_ok-terms.terms.items c.index-speed.result.now c.deref-2.ensures.value c.in_ok-terms.ensures
+    (omega (arith, read.3.0, ap length c.deref-in-loop-stretch.ensures.value))
+    (group_read groups c.deref-in-loop-stretch.result.now _ c.in-Some.group.now c.deref-in-loop-stretch.ensures.value read.3.0 read.1)
+    c.index-speed.ensures).1
+
+pub fill_stretch-requires-clause-fits : goal.fill_stretch-requires-clause-fits
+fill_stretch-requires-clause-fits c =
+    let here = (goal.at.fill_stretch-requires-clause-fits c).In-loop-stretch in
     let k = c.loop-stretch.stretch in
     let read = c.in-Some.ensures.lookup in
     let groups = c.args.found.now.groups.items in

@@ -1,0 +1,17 @@
+use Rattle.std.proofs.Common.{ℕ, ◌≤◌, map, get_or, subst, arith}
+use Rattle.std.proofs.lemmas.List.{get_or-map}
+use Rattle.yds_plan.specs.Found.{Group, no_group}
+use Rattle.yds_plan.specs.Views.{group_view}
+use Rattle.yds_plan.proofs.layout_slots.terms_of_groups.Goals as goal
+
+pub terms_of-requires-clause-some_work : goal.terms_of-requires-clause-some_work
+terms_of-requires-clause-some_work c =
+    subst (λ (group : Group). 1 ≤ group.work)
+    (get_or-map group_view c.args.groups.now c.loop-group.group-index (record { work = 0; length = 0 }) no_group c.loop-group-test.true)
+    (c.requires c.loop-group.group-index c.loop-group-test.true).0
+
+pub terms_of-requires-clause-some_length : goal.terms_of-requires-clause-some_length
+terms_of-requires-clause-some_length c =
+    subst (λ (group : Group). 1 ≤ group.length)
+    (get_or-map group_view c.args.groups.now c.loop-group.group-index (record { work = 0; length = 0 }) no_group c.loop-group-test.true)
+    (c.requires c.loop-group.group-index c.loop-group-test.true).1
