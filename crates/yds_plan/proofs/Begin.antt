@@ -1,16 +1,16 @@
 -- The beginning, stretch by stretch.
 use Rattle.std.proofs.Common.{◌≡◌, ℕ, ◌+◌, ◌<◌, ◌≤◌, ◌⊎◌, max, List, [], ◌∷◌, ◌++◌, ◌∙◌, length, get_or, refl, sym, ap, subst, inl, inr, arith}
 use Rattle.std.proofs.lemmas.List.{get_or_append_left, get_or_push, length_push}
-use Rattle.std.proofs.lemmas.Bool.{cases_lt, cases_eq}
+use Rattle.std.proofs.lemmas.Bool.{cases_lt}
 use Rattle.yds_model.specs.Job.{Job, job_at}
 use Rattle.yds_model.specs.Event.{stretches}
 use Rattle.yds_plan.specs.declared.finder_windows.Window.{Window}
 use Rattle.yds_plan.specs.declared.finder_instance.Instance.{Instance}
 use Rattle.yds_plan.specs.Instance.{IsInstance}
 use Rattle.yds_plan.specs.Found.{Found, group_of}
-use Rattle.yds_plan.specs.Windows.{window_at, IsIn, AreWindows}
+use Rattle.yds_plan.specs.Windows.{window_at}
 use Rattle.yds_plan.specs.Beginning.{AreFarthest, IsReached, AreCovered, AreWorking}
-use Rattle.yds_plan.specs.Search.{MayRun, IsBeginning}
+use Rattle.yds_plan.specs.Search.{IsBeginning}
 
 -- the first n stretches have their numbers, and `end` is the greatest of their ends
 pub record IsCovering (ends : List ℕ) (n end : ℕ) (groups : List ℕ) : Type 0 where

@@ -1,13 +1,12 @@
 -- A group with late jobs, of its own lists, is split.
-use Rattle.std.proofs.Common.{◌≡◌, ℕ, ◌+◌, ◌-◌, ◌<◌, ◌≤◌, List, ◌∙◌, length, get_or, sum, refl, sym, ap, subst, inl, inr, arith}
+use Rattle.std.proofs.Common.{◌≡◌, ℕ, ◌-◌, ◌<◌, ◌≤◌, List, ◌∙◌, length, get_or, sum, refl, sym, subst, inl, inr, arith}
 use Rattle.std.specs.List.{range_with_len}
 use Rattle.std.proofs.lemmas.Bool.{cases_lt}
 use Rattle.yds_model.specs.Job.{Job, job_at}
 use Rattle.yds_model.specs.Event.{stretches}
 use Rattle.yds_plan.specs.declared.finder_windows.Window.{Window}
 use Rattle.yds_plan.specs.declared.finder_instance.Instance.{Instance}
-use Rattle.yds_plan.specs.Found.{Found, Group, Share, share_at, group_of, per_time, per_work}
-use Rattle.yds_plan.specs.Windows.{window_at, IsIn}
+use Rattle.yds_plan.specs.Found.{Found, Group, Share, group_of, per_time, per_work}
 use Rattle.yds_plan.specs.Numbers.{IsOneOf, numbers_in, AreWritten}
 use Rattle.yds_plan.specs.Closure.{AreAllReaches, AreClosing}
 use Rattle.yds_plan.specs.Search.{IsSearch, IsAttempt, IsJobNumber, split_stretch, AreMovedFrom}

@@ -35,7 +35,6 @@ mod Places
 mod Ends
 mod Lowest
 mod Amounts
-mod Pointwise
 mod Numbers
 mod Waiting
 mod Reaches

@@ -1,19 +1,15 @@
 -- One step of the search: the fastest group is filled, and finished or split.
-use Rattle.std.proofs.Common.{◌≡◌, ℕ, ◌+◌, ◌-◌, ◌<◌, ◌≤◌, ◌==◌, true, false, List, [], ◌∷◌, ◌++◌, ◌∙◌, length, get_or, sum, sym, ap, subst, inl, inr, arith}
-use Rattle.std.specs.Prelude.{if◌then◌else◌, nat_lt}
-use Rattle.std.specs.List.{list_any}
-use Rattle.std.proofs.lemmas.List.{get_or_default}
-use Rattle.std.proofs.lemmas.List.Folds.{list_any_at, Any-from_list_any}
-use Rattle.std.proofs.lemmas.Bool.{cases_lt, cases_eq, lt-ltb, ltb-true}
+use Rattle.std.proofs.Common.{◌≡◌, ℕ, ◌+◌, ◌-◌, ◌<◌, ◌≤◌, ◌==◌, List, [], ◌∷◌, ◌++◌, ◌∙◌, length, get_or, sum, sym, ap, subst, inl, inr, arith}
+use Rattle.std.specs.Prelude.{if◌then◌else◌}
+use Rattle.std.proofs.lemmas.Bool.{cases_eq}
 use Rattle.yds_model.specs.Job.{Job}
 use Rattle.yds_model.specs.Event.{stretches}
 use Rattle.yds_plan.specs.declared.finder_windows.Window.{Window}
 use Rattle.yds_plan.specs.declared.finder_instance.Instance.{Instance}
 use Rattle.yds_plan.specs.Found.{Found, Group, Share, group_of, per_time, per_work}
-use Rattle.yds_plan.specs.Windows.{AreWindows}
 use Rattle.yds_plan.specs.Numbers.{IsOneOf}
 use Rattle.yds_plan.specs.Closure.{AreClosed}
-use Rattle.yds_plan.specs.Search.{IsSearch, IsFilled, IsAttempt, IsRenamed, IsSplitStretch, IsSplitJob, IsSplit}
+use Rattle.yds_plan.specs.Search.{IsSearch, IsAttempt, IsRenamed, IsSplitStretch, IsSplit}
 use Rattle.yds_plan.specs.Instance.{IsInstance}
 use Rattle.yds_plan.proofs.Ranges.{over, over_at_most, over_add, over_one, over_zero, over_list}
 use Rattle.yds_plan.proofs.Balance.{over_alone, balance}

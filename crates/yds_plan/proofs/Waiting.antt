@@ -1,17 +1,16 @@
 -- The lists of groups that wait, and how they change when a group is finished or split.
-use Rattle.std.proofs.Common.{◌≡◌, ℕ, ◌+◌, ◌-◌, ◌*◌, ◌<◌, ◌≤◌, ◌⊎◌, ◌==◌, List, [], ◌∷◌, ◌++◌, ◌∙◌, length, map, get_or, refl, sym, ap, subst, inl, inr, arith, eq-eqb}
+use Rattle.std.proofs.Common.{◌≡◌, ℕ, ◌+◌, ◌-◌, ◌*◌, ◌<◌, ◌≤◌, ◌⊎◌, ◌==◌, List, [], ◌∷◌, ◌++◌, ◌∙◌, length, get_or, refl, sym, ap, subst, inl, inr, arith}
 use Rattle.std.specs.Prelude.{nat_le, if◌then◌else◌}
 use Rattle.std.specs.List.{range_with_len}
-use Rattle.std.proofs.lemmas.List.{get_or_past, get_or_default, get_or_append_left, get_or_push, length_push}
-use Rattle.std.proofs.lemmas.Bool.{cases_lt, cases_eq, ne_eqb}
+use Rattle.std.proofs.lemmas.List.{get_or_past, get_or_append_left, get_or_push, length_push}
+use Rattle.std.proofs.lemmas.Bool.{cases_lt, ne_eqb}
 use Rattle.std.proofs.lemmas.Bool.Decides.{nat_tests}
 use Rattle.yds_model.specs.Job.{Job, job_at}
 use Rattle.yds_model.specs.Event.{stretches}
 use Rattle.yds_plan.specs.declared.finder_windows.Window.{Window}
 use Rattle.yds_plan.specs.Found.{Found, Share, share_at, no_share, group_of, length_of}
-use Rattle.yds_plan.specs.Windows.{window_at, IsIn, AreWindows, IsOrder}
+use Rattle.yds_plan.specs.Windows.{AreWindows}
 use Rattle.yds_plan.specs.Numbers.{IsOneOf, numbers_in, AreWritten}
-use Rattle.yds_plan.specs.Closure.{IsMarked}
 use Rattle.yds_plan.specs.Search.{IsFilled, IsRenamed, IsSplitStretch, IsSplitJob, IsJobNumber, split_stretch, AreMovedFrom, IsSearch}
 use Rattle.yds_plan.specs.Waiting.{Part, part_at, no_part, part_in, IsWaiting, IsStack}
 use Rattle.yds_plan.proofs.Numbers.{one_or_none, written_at, written_off, in_group, in_has, in_same, in_twice}
@@ -191,14 +190,6 @@ stack_push order found top last parts part stack waiting = record {
         (subst (λ (n : ℕ). IsWaiting order found n part) (omega (arith, stack.count, here)) waiting)
   ];
 }
-
-pub stack_none : (order : List ℕ) (found : Found) (top last : ℕ) (parts : List Part) → parts ≡ [] → top ≡ last + 1 → IsStack order found top last parts
-stack_none order found top last parts none is =
-    let empty : length parts ≡ 0 = ap (λ (xs : List Part). length xs) none in
-    record {
-      count = omega (arith, empty, is);
-      each = λ i within. absurd (omega (arith, empty, within));
-    }
 
 -- of a split group the members of a part that were members of the group
 part_waits : (order : List ℕ) (found new : Found) (top group : ℕ) (part : Part) → length new.group_of_stretch ≡ length found.group_of_stretch →

@@ -1,5 +1,5 @@
 -- Amounts by number, of those that are in a group.
-use Rattle.std.specs.Prelude.{◌≡◌, ℕ, ◌+◌, ◌-◌, ◌*◌, ◌<◌, ◌==◌, if◌then◌else◌, List, length, sum_by, slice_index}
+use Rattle.std.specs.Prelude.{◌≡◌, ℕ, ◌+◌, ◌-◌, ◌<◌, ◌==◌, if◌then◌else◌, List, length, sum_by, slice_index}
 use Rattle.std.specs.List.{range_with_len}
 use Rattle.yds_plan.specs.Found.{group_of}
 

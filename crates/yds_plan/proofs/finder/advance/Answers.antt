@@ -1,4 +1,4 @@
-use Rattle.std.proofs.Common.{ℕ, List, length, get_or, ap, arith}
+use Rattle.std.proofs.Common.{ℕ, List, length, ap, arith}
 use Rattle.std.specs.List.{range_with_len}
 use Rattle.yds_plan.specs.Views.{found_view, shares_view, part_view}
 use Rattle.yds_plan.proofs.Attempt.{part_known, part_stretch_known, part_few, range_one}

@@ -1,4 +1,4 @@
-use Rattle.std.proofs.Common.{◌≡◌, ℕ, ◌*◌, ◌-◌, get_or, length, refl, subst, arith}
+use Rattle.std.proofs.Common.{◌≡◌, ℕ, refl, subst, arith}
 use Rattle.yds_plan.specs.Numbers.{AreWritten}
 use Rattle.yds_plan.proofs.Numbers.{written_none, written_more}
 use Rattle.yds_plan.proofs.finder_amounts.clear.Goals as goal

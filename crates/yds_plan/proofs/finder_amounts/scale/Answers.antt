@@ -1,4 +1,4 @@
-use Rattle.std.proofs.Common.{◌≡◌, ℕ, ◌*◌, ◌-◌, get_or, length, refl, ap, subst, arith}
+use Rattle.std.proofs.Common.{◌≡◌, ℕ, ◌*◌, get_or, ap, subst, arith}
 use Rattle.yds_plan.specs.Numbers.{AreWritten}
 use Rattle.yds_plan.proofs.Numbers.{written_none, written_more}
 use Rattle.yds_plan.proofs.finder_amounts.scale.Goals as goal

@@ -1,4 +1,4 @@
-use Rattle.std.proofs.Common.{◌≡◌, ℕ, ◌*◌, ◌-◌, get_or}
+use Rattle.std.proofs.Common.{◌≡◌, ◌*◌, get_or}
 use Rattle.yds_plan.specs.Numbers.{AreWritten}
 use Rattle.yds_plan.proofs.finder_amounts.scale.Given as goal
 

@@ -1,9 +1,8 @@
 use Rattle.std.proofs.Common.{ℕ, ◌*◌, ◌/◌, ◌<◌, ◌≡◌, ◌∙◌, List, ◌++◌, take, drop, length, get_or, sym, ap, subst, arith}
 use Rattle.std.proofs.lemmas.List.{take_at}
-use Rattle.yds_plan.specs.declared.finder_windows.Window.{Window}
-use Rattle.yds_plan.specs.Fill.{AreServed, AreOpen, IsFill}
+use Rattle.yds_plan.specs.Fill.{AreServed, AreOpen}
 use Rattle.yds_plan.specs.Search.{IsAttempt}
-use Rattle.yds_plan.specs.Views.{found_view, group_view, shares_view, part_view}
+use Rattle.yds_plan.specs.Views.{found_view, shares_view, part_view}
 use Rattle.yds_model.specs.Divisor.{common_divisor}
 use Rattle.yds_plan.proofs.Attempt.{known_at, part_known, part_stretch_known, part_few, order_few, sums_of, units_of, served_is, open_is, works_fit, lengths_fit, attempt_is, fill_same}
 use Rattle.yds_plan.proofs.finder_attempt.fill_group.Goals as goal

@@ -1,4 +1,4 @@
-use Rattle.std.proofs.Common.{◌-◌, ◌+◌, ◌≤◌, ◌<◌, length, arith, inl, inr}
+use Rattle.std.proofs.Common.{◌-◌, ◌≤◌, arith, inl, inr}
 use Rattle.std.proofs.lemmas.Bool.{cases_lt}
 use Rattle.yds_plan.proofs.finder_closure.last_before.Goals as goal
 

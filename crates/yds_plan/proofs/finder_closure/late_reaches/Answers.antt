@@ -1,4 +1,4 @@
-use Rattle.std.proofs.Common.{ℕ, ◌+◌, ◌≤◌, ◌<◌, ◌∙◌, ◌≡◌, min, List, length, get_or, set, refl, sym, ap, subst, arith}
+use Rattle.std.proofs.Common.{ℕ, ◌+◌, ◌≤◌, ◌∙◌, List, length, get_or, set, refl, sym, ap, subst, arith}
 use Rattle.yds_plan.specs.Windows.{window_at}
 use Rattle.yds_plan.specs.Closure.{IsLastBefore}
 use Rattle.yds_plan.proofs.Reaches.{LatesTo, least_none, least_skips, least_takes, late_least}

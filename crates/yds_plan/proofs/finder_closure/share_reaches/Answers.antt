@@ -1,13 +1,11 @@
-use Rattle.std.proofs.Common.{ℕ, ◌+◌, ◌≡◌, ◌<◌, ◌∙◌, min, List, length, get_or, set, refl, sym, ap, subst, arith}
+use Rattle.std.proofs.Common.{ℕ, ◌+◌, ◌≡◌, ◌<◌, min, List, length, get_or, set, refl, sym, subst, arith}
 use Rattle.std.specs.List.{All}
 use Rattle.std.proofs.lemmas.List.{get_or-map, length-map}
-use Rattle.yds_plan.specs.declared.finder_windows.Window.{Window}
 use Rattle.yds_plan.specs.declared.share.Share as shares
 use Rattle.yds_plan.specs.Found.{Share, share_at, no_share}
 use Rattle.yds_plan.specs.Views.{share_view, shares_view}
 use Rattle.yds_plan.specs.Windows.{window_at}
 use Rattle.yds_plan.specs.Fill.{IsPart}
-use Rattle.yds_plan.specs.Numbers.{IsOneOf}
 use Rattle.yds_plan.proofs.Reaches.{SharesTo, least_none, least_takes, share_least}
 use Rattle.yds_plan.proofs.finder_closure.share_reaches.Goals as goal
 

@@ -1,6 +1,5 @@
-use Rattle.std.proofs.Common.{ℕ, ◌+◌, ◌≡◌, get_or, sym, ap, subst, ◌∙◌, arith, length, List, set, take, drop, ◌++◌}
+use Rattle.std.proofs.Common.{ℕ, ◌≡◌, get_or, sym, ap, subst, ◌∙◌, arith, length, List, take, drop, ◌++◌}
 use Rattle.std.proofs.lemmas.List.{take_at}
-use Rattle.yds_plan.specs.declared.share.Share as shares
 use Rattle.yds_plan.specs.Found.{Share}
 use Rattle.yds_plan.specs.Views.{shares_view}
 use Rattle.yds_plan.specs.Fill.{AreTaken, IsFilling, IsNext, IsNumbers}

@@ -1,4 +1,4 @@
-use Rattle.std.proofs.Common.{◌<◌, ◌+◌, ◌≡◌, ◌∙◌, length, get_or, ap, sym, subst, arith, List, ℕ}
+use Rattle.std.proofs.Common.{◌<◌, ◌+◌, ◌∙◌, length, get_or, ap, sym, subst, arith, List, ℕ}
 use Rattle.yds_plan.specs.Views.{shares_view}
 use Rattle.yds_plan.specs.Windows.{window_at}
 use Rattle.yds_plan.specs.Fill.{IsNext}

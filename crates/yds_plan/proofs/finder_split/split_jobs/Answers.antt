@@ -1,5 +1,4 @@
-use Rattle.std.proofs.Common.{ℕ, ◌-◌, ◌<◌, length, get_or, refl, inl, inr, subst, arith}
-use Rattle.yds_plan.specs.Windows.{window_at}
+use Rattle.std.proofs.Common.{ℕ, get_or, refl, inl, inr, subst, arith}
 use Rattle.yds_plan.specs.Numbers.{AreWritten}
 use Rattle.yds_plan.specs.Search.{IsJobNumber}
 use Rattle.yds_plan.proofs.Numbers.{written_none, written_more}

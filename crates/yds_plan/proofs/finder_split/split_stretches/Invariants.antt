@@ -1,4 +1,4 @@
-use Rattle.std.proofs.Common.{◌≡◌, ℕ}
+use Rattle.std.proofs.Common.{◌≡◌}
 use Rattle.yds_plan.specs.Numbers.{AreWritten}
 use Rattle.yds_plan.specs.Search.{split_stretch}
 use Rattle.yds_plan.proofs.finder_split.split_stretches.Given as goal

@@ -1,10 +1,8 @@
-use Rattle.std.proofs.Common.{ℕ, ◌+◌, ◌-◌, ◌≡◌, ◌<◌, ◌≤◌, ◌∙◌, List, length, get_or, refl, sym, ap, subst, inl, inr, arith}
-use Rattle.std.specs.List.{range_with_len}
+use Rattle.std.proofs.Common.{ℕ, ◌-◌, ◌<◌, ◌≤◌, ◌∙◌, List, length, get_or, refl, sym, ap, subst, inl, inr, arith}
 use Rattle.std.proofs.lemmas.Bool.{cases_lt}
-use Rattle.yds_plan.specs.Found.{per_time, per_work}
 use Rattle.yds_plan.specs.Numbers.{IsOneOf}
 use Rattle.yds_plan.specs.Waiting.{Part, IsStack}
-use Rattle.yds_plan.specs.Views.{found_view, group_view, shares_view, part_view, parts_view}
+use Rattle.yds_plan.specs.Views.{found_view, shares_view, part_view, parts_view}
 use Rattle.yds_plan.proofs.Attempt.{known_at, part_known, part_stretch_known}
 use Rattle.yds_plan.proofs.Steps.{few_enough}
 use Rattle.yds_plan.proofs.Waiting.{wanting_own, stack_kept, stack_split}

@@ -1,10 +1,10 @@
-use Rattle.std.proofs.Common.{ℕ, ◌+◌, ◌-◌, ◌≡◌, ◌≤◌, ◌<◌, ◌∙◌, List, ◌++◌, length, get_or, map, take, drop, sum, refl, sym, ap, subst, arith}
+use Rattle.std.proofs.Common.{ℕ, ◌-◌, ◌≡◌, ◌<◌, ◌∙◌, List, ◌++◌, length, get_or, map, take, drop, sum, sym, ap, subst, arith}
 use Rattle.std.specs.List.{All, range_with_len}
 use Rattle.std.proofs.lemmas.List.{take_at, get_or_default}
 use Rattle.yds_plan.specs.declared.finder_windows.Window.{Window}
 use Rattle.yds_plan.specs.Found.{Share, share_at, no_share}
 use Rattle.yds_plan.specs.Views.{found_view, group_view, shares_view, part_view}
-use Rattle.yds_plan.specs.Numbers.{IsOneOf, AreWritten, numbers_in}
+use Rattle.yds_plan.specs.Numbers.{IsOneOf, numbers_in}
 use Rattle.yds_plan.specs.Closure.{AreClosing, AreAllReaches}
 use Rattle.yds_plan.specs.Search.{IsSearch, IsJobNumber, split_stretch, AreMovedFrom}
 use Rattle.yds_plan.proofs.Attempt.{few_in, known_at, part_known, part_stretch_known, part_few, range_one, written_same}

@@ -1,4 +1,4 @@
-use Rattle.std.proofs.Common.{ℕ, ◌≤◌, map, get_or, subst, arith}
+use Rattle.std.proofs.Common.{◌≤◌, subst}
 use Rattle.std.proofs.lemmas.List.{get_or-map}
 use Rattle.yds_plan.specs.Found.{Group, no_group}
 use Rattle.yds_plan.specs.Views.{group_view}
