@@ -21,7 +21,7 @@ mod words;
 mod writer;
 
 use run::run;
-use std::io::ErrorKind;
+use std::io::{BufWriter, ErrorKind};
 use std::process::ExitCode;
 use std::rt::Env;
 use std::{env, io};
@@ -32,17 +32,25 @@ use yds_port::{StdSink, StdSource};
 /// that is no text.
 const NO_WORDS: u8 = 7;
 
+/// How many bytes of the output are gathered before they are written, at most.
+const OUTPUT_BUFFER: usize = 65_536;
+
 /// Takes the words from the environment, runs over standard input and standard output, and ends with
 /// the run's status. Nothing is written to standard error.
 fn main(rt: HostRuntime) -> ExitCode {
-    match command_words(&rt) {
-        Ok(words) => {
-            let mut source = StdSource::new(rt.stdin());
-            let mut sink = StdSink::new(rt.stdout());
-            ExitCode::from(run(rt.alloc(), &words, &mut source, &mut sink) as u8)
-        }
+    match run_words(&rt) {
+        Ok(status) => ExitCode::from(status as u8),
         Err(error) => ExitCode::from(status_without_words(&error)),
     }
+}
+
+/// Runs over standard input, and over standard output with a buffer before it, which `run` flushes.
+fn run_words(rt: &HostRuntime) -> io::Result<Status> {
+    let words = command_words(rt)?;
+    let output = BufWriter::with_capacity(rt.alloc(), OUTPUT_BUFFER, rt.stdout())?;
+    let mut source = StdSource::new(rt.stdin());
+    let mut sink = StdSink::new(output);
+    Ok(run(rt.alloc(), &words, &mut source, &mut sink))
 }
 
 /// The words of the command line, without the program's name.
