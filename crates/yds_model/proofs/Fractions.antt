@@ -42,9 +42,9 @@ tied_equality a b k s u v some_s some_k e f = (
 times : (u d a s e : ℕ) → u * d ≡ a * s → u * (d * e) ≡ a * e * s
 times u d a s e h = omega (arith, ap (λ n. n * e) h)
 
--- with the factor on the other side
-times_left : (u d a s e : ℕ) → u * d ≡ a * s → u * (e * d) ≡ a * e * s
-times_left u d a s e h = omega (arith, ap (λ n. n * e) h)
+-- a value over a factor and its own denominator
+value_over : (w c f g s : ℕ) → w * f ≡ c * s → w * (g * f) ≡ c * g * s
+value_over w c f g s h = omega (arith, ap (λ n. n * g) h)
 
 -- the law: order by cross products is the order of the values
 pub order_of_values : OrderIsOfValues
@@ -52,7 +52,7 @@ order_of_values x y scale positive dx dy =
     tied_order (numerator x * y.den) (numerator y * x.den) (x.den * y.den) scale (at_scale scale x) (at_scale scale y)
     positive (mul-pos (den_positive scale x.den positive dx) (den_positive scale y.den positive dy))
     (times (at_scale scale x) x.den (numerator x) scale y.den (value-den scale x dx))
-    (times_left (at_scale scale y) y.den (numerator y) scale x.den (value-den scale y dy))
+    (value_over (at_scale scale y) (numerator y) y.den x.den scale (value-den scale y dy))
 
 -- the law: and equality is equality of the values
 pub equality_of_values : EqualityIsOfValues
@@ -60,15 +60,11 @@ equality_of_values x y scale positive dx dy =
     tied_equality (numerator x * y.den) (numerator y * x.den) (x.den * y.den) scale (at_scale scale x) (at_scale scale y)
     positive (mul-pos (den_positive scale x.den positive dx) (den_positive scale y.den positive dy))
     (times (at_scale scale x) x.den (numerator x) scale y.den (value-den scale x dx))
-    (times_left (at_scale scale y) y.den (numerator y) scale x.den (value-den scale y dy))
+    (value_over (at_scale scale y) (numerator y) y.den x.den scale (value-den scale y dy))
 
 -- two values together, over three denominators
 sum_over : (u v a b d e f s : ℕ) → u * d ≡ a * s → v * e ≡ b * s → (u + v) * (d * e * f) ≡ (a * e + b * d) * f * s
 sum_over u v a b d e f s h k = omega (arith, ap (λ n. n * (e * f)) h, ap (λ n. n * (d * f)) k)
-
--- a value over its own denominator and a factor
-value_over : (w c f g s : ℕ) → w * f ≡ c * s → w * (g * f) ≡ c * g * s
-value_over w c f g s h = omega (arith, ap (λ n. n * g) h)
 
 -- the law: a sum by cross products is the sum of the values
 pub sum_of_values : SumIsOfValues
@@ -80,7 +76,7 @@ sum_of_values x y z scale positive dx dy dz =
     (sum_over (at_scale scale x) (at_scale scale y) (numerator x) (numerator y) x.den y.den z.den scale (value-den scale x dx) (value-den scale y dy))
 
 -- a multiple of a value, over both denominators
-multiple_over : (k u a d f s : ℕ) → u * d ≡ a * s → k * u * (d * f) ≡ k * a * f * s
+pub multiple_over : (k u a d f s : ℕ) → u * d ≡ a * s → k * u * (d * f) ≡ k * a * f * s
 multiple_over k u a d f s h = omega (arith, ap (λ n. k * (n * f)) h)
 
 -- the law: a multiple by cross products is the multiple of the values
@@ -104,7 +100,7 @@ order_transitive x y z dx _ dz one two =
     less_through (numerator x) (numerator y) (numerator z) x.den y.den z.den dx dz one two
 
 -- a/d = b/e and b/e = c/f give a/d = c/f
-same_through : (a b c d e f : ℕ) → 1 ≤ e → a * e ≡ b * d → b * f ≡ c * e → a * f ≡ c * d
+pub same_through : (a b c d e f : ℕ) → 1 ≤ e → a * e ≡ b * d → b * f ≡ c * e → a * f ≡ c * d
 same_through a b c d e f some one two =
     let first : a * e * f ≡ b * d * f = ap (λ n. n * f) one in
     let second : b * f * d ≡ c * e * d = ap (λ n. n * d) two in

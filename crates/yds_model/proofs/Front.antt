@@ -20,7 +20,7 @@ pieces_begin start (piece ∷ pieces) run =
     (pieces_begin piece.to pieces run.2))
 
 -- each of them takes time
-pieces_forward : (start : ℕ) (pieces : List Piece) → PiecesFrom start pieces → All IsForward pieces
+pub pieces_forward : (start : ℕ) (pieces : List Piece) → PiecesFrom start pieces → All IsForward pieces
 pieces_forward start [] run = All-nil IsForward
 pieces_forward start (piece ∷ pieces) run =
     All-cons IsForward piece pieces run.1 (pieces_forward piece.to pieces run.2)
@@ -35,7 +35,7 @@ pieces_apart start (piece ∷ pieces) run =
     (pieces_apart piece.to pieces run.2)
 
 -- pieces that are apart are so in either order
-apart_turned : (one other : Piece) → AreApart one other → AreApart other one
+pub apart_turned : (one other : Piece) → AreApart one other → AreApart other one
 apart_turned one other (inl before) = inr before
 apart_turned one other (inr after) = inl after
 

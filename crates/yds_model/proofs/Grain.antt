@@ -19,17 +19,17 @@ abbrev grain_from : ℕ → ℕ → List WrittenSlot → ℕ
 grain_from job most slots = fold (λ grain slot. if slot.job == job then max grain slot.work.den else grain) most slots
 
 -- one step of it
-step_grows : (b : Bool) (most den : ℕ) → most ≤ (if b then max most den else most)
+pub step_grows : (b : Bool) (most den : ℕ) → most ≤ (if b then max most den else most)
 step_grows true most den = le-max_left most den
 step_grows false most den = le_refl most
 
 -- and takes in the denominator of a slot of the job
-step_takes : (b : Bool) (most den : ℕ) → b ≡ true → den ≤ (if b then max most den else most)
+pub step_takes : (b : Bool) (most den : ℕ) → b ≡ true → den ≤ (if b then max most den else most)
 step_takes true most den is = le-max_right most den
 step_takes false most den is = absurd (cc)
 
 -- it stays, or is that denominator
-step_reached : (b : Bool) (most den : ℕ) →
+pub step_reached : (b : Bool) (most den : ℕ) →
     ((if b then max most den else most) ≡ most) ⊎ ((b ≡ true) × ((if b then max most den else most) ≡ den))
 step_reached true most den = elim (cases_lt most den) [
   | inl less ↦ inr (refl, omega arith)

@@ -25,7 +25,7 @@ use Rattle.yds_model.proofs.Said.{empty_level, with_entry, last_longer}
 use Rattle.yds_model.proofs.Inverse.{demand_ok, whole_fits}
 
 -- a place below n + 1 lies below n or is n
-place_cases : (i n : ℕ) → i < n + 1 → (i < n) ⊎ (i ≡ n)
+pub place_cases : (i n : ℕ) → i < n + 1 → (i < n) ⊎ (i ≡ n)
 place_cases i n within = elim (cases_lt i n) [ inl less ↦ inl less | inr more ↦ inr (omega arith) ]
 
 -- ---- jobs
@@ -117,7 +117,7 @@ parts_fit most parts den some in_range within = elim (cases_Bool (parts % den ==
 ]
 
 -- the denominator of parts is 1 or the one that is given
-parts_den : (parts den : ℕ) → ((of_parts parts den).den ≡ 1) ⊎ ((of_parts parts den).den ≡ den)
+pub parts_den : (parts den : ℕ) → ((of_parts parts den).den ≡ 1) ⊎ ((of_parts parts den).den ≡ den)
 parts_den parts den = elim (cases_Bool (parts % den == 0)) [
   | inl none ↦ inl (rw none refl)
   | inr other ↦ inr (rw other refl)
@@ -248,7 +248,7 @@ All-front P xs x all k d within =
     subst P (get_or_append_left xs (x ∷ []) d k within) (all k d (omega (arith, within, length_push xs x)))
 
 -- what holds of each element holds of the last
-All-last : {X : Type 0} (P : X → Type 0) (xs : List X) (x : X) → All P (xs ++ x ∷ []) → P x
+pub All-last : {X : Type 0} (P : X → Type 0) (xs : List X) (x : X) → All P (xs ++ x ∷ []) → P x
 All-last P xs x all = subst P (get_or_push xs x x (length xs) refl) (all (length xs) x (omega (arith, length_push xs x)))
 
 -- the last level gets a piece or a member

@@ -26,11 +26,11 @@ given_none zero = refl
 given_none (suc n) = omega (arith, given_none n)
 
 -- a slot's part of its own job's work is its work
-part_own : (number job work : ℕ) → number ≡ job → (if number == job then work else 0) ≡ work
+pub part_own : (number job work : ℕ) → number ≡ job → (if number == job then work else 0) ≡ work
 part_own number job work same = grind (arith, nat_tests)
 
 -- and of another job's nothing
-part_other : (number job work : ℕ) → (number ≡ job → ⊥) → (if number == job then work else 0) ≡ 0
+pub part_other : (number job work : ℕ) → (number ≡ job → ⊥) → (if number == job then work else 0) ≡ 0
 part_other number job work other = grind (arith, nat_tests)
 
 -- one slot more gives a job that part

@@ -4,9 +4,8 @@ use Rattle.std.specs.Prelude.{if◌then◌else◌}
 use Rattle.std.specs.List.{All, Contains, list_any, slice_index_or}
 use Rattle.std.proofs.lemmas.Bool.{lt-ltb, le-ltb}
 use Rattle.std.proofs.lemmas.List.Folds.{list_any_none, list_any_at}
-use Rattle.std.proofs.lemmas.List.Elements.{All-push, All-weaker, All-tail, All-nil, All-cons}
+use Rattle.std.proofs.lemmas.List.Elements.{All-push, Contains-push, All-weaker, All-tail, All-nil, All-cons}
 use Rattle.std.proofs.lemmas.List.{length-append, get_or_append_left, get_or-append-add}
-use Rattle.std.proofs.Math.Seq.{get_or-append_seam}
 use Rattle.std.proofs.Math.Nat.{le_refl, mul-le-mul_left, le_of_mul-le-mul_left}
 use Rattle.yds_model.specs.Laws.{HullIsComputed}
 use Rattle.yds_model.specs.Table.{Point, point_at, IsAbove, GoesOn, is_above, is_left_out, hull_after}
@@ -83,10 +82,6 @@ contains_pushed : (xs : List Point) (y x : Point) → Contains xs x → Contains
 contains_pushed xs y x found =
     (found.0, omega (arith, found.1, length-append xs (y ∷ [])), get_or_append_left xs (y ∷ []) x found.0 found.1 ∙ found.2)
 
--- and it has that one
-contains_last : (xs : List Point) (y : Point) → Contains (xs ++ y ∷ []) y
-contains_last xs y = (length xs, omega (arith, length-append xs (y ∷ [])), get_or-append_seam xs y [] y)
-
 -- what holds of each element of two lists holds of the first one's
 All-left : (P : Point → Type 0) (xs ys : List Point) → All P (xs ++ ys) → All P xs
 All-left P xs ys all k d within = subst P (get_or_append_left xs ys d k within) (all k d (omega (arith, length-append xs ys)))
@@ -112,7 +107,7 @@ computed earlier (point ∷ points) speed low (high ∷ hull) first before edge 
     (All-left (IsOver low high) earlier (point ∷ points) edges.0)
     (All-tail (IsOver low high) point points (All-right (IsOver low high) earlier (point ∷ points) edges.0)) in
     let rest : hull_after (earlier ++ point ∷ []) points ≡ hull =
-    computed (earlier ++ point ∷ []) points point.speed high hull (subst (Contains (earlier ++ point ∷ [])) e (contains_last earlier point))
+    computed (earlier ++ point ∷ []) points point.speed high hull (subst (Contains (earlier ++ point ∷ [])) e (Contains-push earlier point))
     (All-push (λ l. l.speed ≤ point.speed) earlier point
     (All-weaker (λ l. l.speed ≤ speed) (λ l. l.speed ≤ point.speed) (λ l at. omega arith) earlier before) (le_refl point.speed))
     (omega arith) rises.1 reached.1 (subst (λ (all : List Point). EdgesUnder all high hull) (sym (append_assoc earlier (point ∷ []) points)) edges.1) in

@@ -10,7 +10,7 @@ use Rattle.yds_model.specs.Proper.{HasLevelSpeed}
 use Rattle.yds_model.specs.Audit.{crossed_length}
 use Rattle.yds_model.specs.Judgement.{HasWrittenSpeed}
 use Rattle.yds_model.specs.Laws.{JudgementIsExact}
-use Rattle.yds_model.proofs.Fractions.{den_positive, value-den, tied_equality}
+use Rattle.yds_model.proofs.Fractions.{den_positive, value-den, multiple_over, tied_equality}
 use Rattle.yds_model.proofs.Scale.{scale_exists}
 use Rattle.yds_model.proofs.Runs.{slot_read}
 use Rattle.yds_model.proofs.Verdicts.{verdict_is_exact}
@@ -24,10 +24,6 @@ crossed_scaled u v a b d e scale f g =
 work_over : (w c f g scale long : ℕ) → w * f ≡ c * scale → w * long * (g * f) ≡ c * long * g * scale
 work_over w c f g scale long e = omega (arith, ap (λ n. n * (long * g)) e)
 
--- and the level's work times the slot's length
-length_over : (time g crossed scale f all : ℕ) → time * g ≡ crossed * scale → all * time * (g * f) ≡ all * crossed * f * scale
-length_over time g crossed scale f all e = omega (arith, ap (λ n. n * (all * f)) e)
-
 -- a slot has a level's speed by cross products exactly where it has it at a scale
 speed_of_values : (all long scale : ℕ) (slot : WrittenSlot) → 1 ≤ scale → IsDivided scale slot →
     ((numerator slot.work * long * (slot.from.den * slot.to.den) ≡ all * crossed_length slot.from slot.to * slot.work.den)
@@ -39,7 +35,7 @@ speed_of_values all long scale slot positive divided =
     (mul-pos (mul-pos (den_positive scale slot.from.den positive divided.from) (den_positive scale slot.to.den positive divided.to))
     (den_positive scale slot.work.den positive divided.work))
     (work_over (at_scale scale slot.work) (numerator slot.work) slot.work.den ends scale long (value-den scale slot.work divided.work))
-    (length_over (at_scale scale slot.to - at_scale scale slot.from) ends (crossed_length slot.from slot.to) scale slot.work.den all
+    (multiple_over all (at_scale scale slot.to - at_scale scale slot.from) (crossed_length slot.from slot.to) ends slot.work.den scale
     (crossed_scaled (at_scale scale slot.from) (at_scale scale slot.to) (numerator slot.from) (numerator slot.to) slot.from.den slot.to.den scale
     (value-den scale slot.from divided.from) (value-den scale slot.to divided.to)))
 
