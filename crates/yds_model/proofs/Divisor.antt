@@ -16,7 +16,7 @@ mod_times (suc t) a b some =
     ap (λ n. n % (suc t * b)) whole ∙ mul-add-mod_self_left (suc t * b) (a / b) (suc t * (a % b)) ∙ mod-eq_of_lt short
 
 -- enough turns end at the greatest common divisor
-pub within_is_greatest : (turns a b : ℕ) → b ≤ turns → IsGcd a b (divisor_within turns a b)
+within_is_greatest : (turns a b : ℕ) → b ≤ turns → IsGcd a b (divisor_within turns a b)
 within_is_greatest zero a b enough = IsGcd-from_zero a b (omega arith)
 within_is_greatest (suc turns) a zero enough = IsGcd-from_zero a zero refl
 within_is_greatest (suc turns) a (suc b) enough =

@@ -19,17 +19,17 @@ abbrev grain_from : ℕ → ℕ → List WrittenSlot → ℕ
 grain_from job most slots = fold (λ grain slot. if slot.job == job then max grain slot.work.den else grain) most slots
 
 -- one step of it
-pub step_grows : (b : Bool) (most den : ℕ) → most ≤ (if b then max most den else most)
+step_grows : (b : Bool) (most den : ℕ) → most ≤ (if b then max most den else most)
 step_grows true most den = le-max_left most den
 step_grows false most den = le_refl most
 
 -- and takes in the denominator of a slot of the job
-pub step_takes : (b : Bool) (most den : ℕ) → b ≡ true → den ≤ (if b then max most den else most)
+step_takes : (b : Bool) (most den : ℕ) → b ≡ true → den ≤ (if b then max most den else most)
 step_takes true most den is = le-max_right most den
 step_takes false most den is = absurd (cc)
 
 -- it stays, or is that denominator
-pub step_reached : (b : Bool) (most den : ℕ) →
+step_reached : (b : Bool) (most den : ℕ) →
     ((if b then max most den else most) ≡ most) ⊎ ((b ≡ true) × ((if b then max most den else most) ≡ den))
 step_reached true most den = elim (cases_lt most den) [
   | inl less ↦ inr (refl, omega arith)
@@ -45,7 +45,7 @@ grain_grows job most (slot ∷ slots) =
     omega (arith, step_grows (slot.job == job) most slot.work.den, grain_grows job next slots)
 
 -- and at least each denominator of the job's works
-grain_takes : (job most : ℕ) (slots : List WrittenSlot) →
+pub grain_takes : (job most : ℕ) (slots : List WrittenSlot) →
     All (λ slot. slot.job ≡ job → slot.work.den ≤ grain_from job most slots) slots
 grain_takes job most [] = All-nil (λ slot. slot.job ≡ job → slot.work.den ≤ most)
 grain_takes job most (slot ∷ slots) =
@@ -59,7 +59,7 @@ grain_takes job most (slot ∷ slots) =
     (grain_takes job next slots)
 
 -- it is the first, or the denominator of a work of the job
-grain_reached : (job most : ℕ) (slots : List WrittenSlot) →
+pub grain_reached : (job most : ℕ) (slots : List WrittenSlot) →
     (grain_from job most slots ≡ most) ⊎ Any (λ slot. (slot.job ≡ job) × (grain_from job most slots ≡ slot.work.den)) slots
 grain_reached job most [] = inl refl
 grain_reached job most (slot ∷ slots) =

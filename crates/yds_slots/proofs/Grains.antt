@@ -1,17 +1,17 @@
 -- The grain of a job: the denominator of its works that aren't whole.
-use Rattle.std.proofs.Common.{◌≡◌, ℕ, suc, ◌<◌, ◌≤◌, ◌⊎◌, inl, inr, List, [], ◌∷◌, ◌++◌, length, take, eqb-true, max, refl, sym, ap, ◌∙◌, arith, Bool, true, false}
+use Rattle.std.proofs.Common.{◌≡◌, ℕ, ◌<◌, ◌≤◌, ◌⊎◌, inl, inr, List, [], ◌∷◌, ◌++◌, length, take, max, refl, sym, ap, ◌∙◌, arith, Bool}
 use Rattle.std.specs.Prelude.{◌==◌, if◌then◌else◌}
 use Rattle.std.specs.List.{All, fold, slice_index_or}
 use Rattle.std.specs.List.Sorted.{IsPermutation}
 use Rattle.std.proofs.lemmas.List.Sorted.{All-permutation}
-use Rattle.std.proofs.Math.Nat.{le_trans}
-use Rattle.std.proofs.lemmas.Bool.{cases_lt, ne_eqb, eq-eqb}
+use Rattle.std.proofs.lemmas.Bool.{ne_eqb, eq-eqb}
 use Rattle.std.proofs.lemmas.List.Sums.{fold_push}
 use Rattle.std.proofs.lemmas.List.Elements.{All-tail, All-weaker}
 use Rattle.std.proofs.lemmas.List.{get_or_default, get_or-take, length-take}
 use Rattle.yds_slots.specs.Schedule.{FitsGrain}
 use Rattle.yds_model.specs.Slot.{WrittenSlot, written_slot_at, no_written_slot}
 use Rattle.yds_model.specs.Audit.{AreAlike, AreSlots, grain_of}
+use Rattle.yds_model.proofs.Grain.{grain_reached}
 
 -- the grain after one more slot
 pub grain_pushed : (slots : List WrittenSlot) (slot : WrittenSlot) (job : ℕ) →
@@ -26,18 +26,7 @@ pub grain_same : (slots : List WrittenSlot) (slot : WrittenSlot) (job : ℕ) →
 grain_same slots slot job same =
     grain_pushed slots slot job ∙ ap (λ (b : Bool). if b then max (grain_of slots job) slot.work.den else grain_of slots job) (eq-eqb slot.job job same)
 
-grows : (mine : Bool) (a den : ℕ) → a ≤ (if mine then max a den else a)
-grows true a den = omega arith
-grows false a den = omega arith
-
--- # A grain is at least 1, and stays 1 for a job without slots
-
-grain_from : (job a : ℕ) (slots : List WrittenSlot) → a ≤ fold (λ (grain : ℕ) (s : WrittenSlot). if s.job == job then max grain s.work.den else grain) a slots
-grain_from job a [] = omega arith
-grain_from job a (slot ∷ slots) = le_trans (grows (slot.job == job) a slot.work.den) (grain_from job (if slot.job == job then max a slot.work.den else a) slots)
-
-pub grain_some : (slots : List WrittenSlot) (job : ℕ) → 1 ≤ grain_of slots job
-grain_some slots job = grain_from job 1 slots
+-- # A grain stays 1 for a job without slots
 
 none_from : (job a : ℕ) (slots : List WrittenSlot) → All (λ slot. ¬ (slot.job ≡ job)) slots →
     fold (λ (grain : ℕ) (s : WrittenSlot). if s.job == job then max grain s.work.den else grain) a slots ≡ a
@@ -69,25 +58,14 @@ fits_in grain more (inr (inr same)) positive = inr (omega arith)
 abbrev pub IsGrainOf : ℕ → ℕ → WrittenSlot → Type 0
 IsGrainOf job grain slot = (slot.job ≡ job) × (grain ≡ slot.work.den)
 
-greater_is : (mine : Bool) (a den : ℕ) → ((if mine then max a den else a) ≡ a) ⊎ ((mine ≡ true) × ((if mine then max a den else a) ≡ den))
-greater_is true a den = elim (cases_lt a den) [ inl less ↦ inr (refl, omega arith) | inr other ↦ inl (omega arith) ]
-greater_is false a den = inl refl
-
-grain_found_from : (job a : ℕ) (slots : List WrittenSlot) →
-    (let grain = fold (λ (grain : ℕ) (s : WrittenSlot). if s.job == job then max grain s.work.den else grain) a slots in
-    (grain ≡ a) ⊎ ((k : ℕ) × (k < length slots) × IsGrainOf job grain (written_slot_at slots k)))
-grain_found_from job a [] = inl refl
-grain_found_from job a (slot ∷ slots) = elim (grain_found_from job (if slot.job == job then max a slot.work.den else a) slots) [
-  | inl first ↦ elim (greater_is (slot.job == job) a slot.work.den) [
-    | inl same ↦ inl (first ∙ same)
-    | inr mine ↦ inr (0, omega arith, (eqb-true slot.job job mine.0, first ∙ mine.1))
-  ]
-  | inr later ↦ inr (suc later.0, omega (arith, later.1), later.2)
-]
-
 pub grain_found : (slots : List WrittenSlot) (job : ℕ) →
     (grain_of slots job ≡ 1) ⊎ ((k : ℕ) × (k < length slots) × IsGrainOf job (grain_of slots job) (written_slot_at slots k))
-grain_found slots job = grain_found_from job 1 slots
+grain_found slots job = elim (grain_reached job 1 slots) [
+  | inl first ↦ inl first
+  | inr found ↦
+      let same = get_or_default slots found.0 found.1 no_written_slot found.2 in
+      inr (found.0, found.2, rw (← same, found.3) found.4)
+]
 
 -- # Slots whose works agree fit one after another, in any order
 

@@ -48,15 +48,6 @@ of_parts_value_by p g false e = omega (arith, ap (λ n. n * g) (div-add-mod p g)
 pub of_parts_value : (p g : ℕ) → numerator (of_parts p g) * g ≡ p * (of_parts p g).den
 of_parts_value p g = of_parts_value_by p g (p % g == 0) refl
 
--- its denominator
-of_parts_den_by : (p g : ℕ) (plain : Bool) → (p % g == 0) ≡ plain →
-    (let x : Fraction = if plain then of_whole (p / g) else record { whole = p / g; num = p % g; den = g } in (x.den ≡ 1) ⊎ (x.den ≡ g))
-of_parts_den_by p g true e = inl refl
-of_parts_den_by p g false e = inr refl
-
-pub of_parts_den : (p g : ℕ) → ((of_parts p g).den ≡ 1) ⊎ ((of_parts p g).den ≡ g)
-of_parts_den p g = of_parts_den_by p g (p % g == 0) refl
-
 whole_parts : (w g p : ℕ) → 1 ≤ g → p ≡ w * g → (p / g ≡ w) × (p % g ≡ 0)
 whole_parts w g p some e =
     let plain : p ≡ w * g + 0 = omega arith in rw plain (div-mul-add w g 0 some, mod-mul-add w g 0 some)

@@ -8,19 +8,20 @@ use Rattle.std.proofs.lemmas.List.Sums.{sum_by_push, sum_by-cons}
 use Rattle.std.proofs.lemmas.List.Elements.{All-push, All-tail}
 use Rattle.std.proofs.Math.Nat.{one-dvd, div-mul_cancel, div-one}
 use Rattle.std.proofs.lemmas.Nat.Gcd.{dvd_refl}
-use Rattle.std.proofs.Math.Seq.{get_or-append_seam}
 use Rattle.yds_model.specs.declared.limits.TheConstants.{MAX_DENOMINATOR, MAX_SLOTS, MAX_SLOT_WORK}
 use Rattle.yds_model.specs.Scale.{Fraction, of_whole, at_scale, numerator}
 use Rattle.yds_model.specs.Slot.{WrittenSlot, WholeSlot, IsDivided, IsScale, slot_at_scale, slots_at, work_given}
 use Rattle.yds_model.specs.Audit.{grain_of}
 use Rattle.yds_model.proofs.Sums.{sum_by_zero}
+use Rattle.yds_model.proofs.Grain.{grain_positive}
+use Rattle.yds_model.proofs.Grown.{All-last, parts_den}
 use Rattle.yds_fraction.specs.Mixed.{IsMixed, Adds, common_den}
 use Rattle.yds_slots.specs.Slot.{IsSlot}
 use Rattle.yds_slots.specs.Received.{Share}
 use Rattle.yds_slots.specs.Kept.{IsInGrain, IsShareOf, nothing, share_at, IsKept}
 use Rattle.yds_slots.specs.Schedule.{FitsGrain}
-use Rattle.yds_slots.proofs.Grains.{grain_other, grain_same, grain_some, grain_none, fits_on, fits_in}
-use Rattle.yds_slots.proofs.Parts.{parts_at, parts_pushed, IsWholeFor, parts_finer, of_parts_value, of_parts_den, of_parts_is, summed}
+use Rattle.yds_slots.proofs.Grains.{grain_other, grain_same, grain_none, fits_on, fits_in}
+use Rattle.yds_slots.proofs.Parts.{parts_at, parts_pushed, IsWholeFor, parts_finer, of_parts_value, of_parts_is, summed}
 
 -- # A job without slots
 
@@ -113,9 +114,6 @@ All-front : {X : Type 0} (P : X → Type 0) (xs ys : List X) → All P (xs ++ ys
 All-front P xs ys all k d within =
     subst P (get_or_append_left xs ys d k within) (all k d (omega (arith, length-append xs ys)))
 
-All-last : {X : Type 0} (P : X → Type 0) (xs : List X) (x : X) → All P (xs ++ x ∷ []) → P x
-All-last P xs x all = subst P (get_or-append_seam xs x [] x) (all (length xs) x (omega (arith, length-append xs (x ∷ []))))
-
 scale_front : (scale : ℕ) (slots : List WrittenSlot) (slot : WrittenSlot) → IsScale scale (slots ++ slot ∷ []) → IsScale scale slots
 scale_front scale slots slot is = record { positive = is.positive; divided = All-front (IsDivided scale) slots (slot ∷ []) is.divided }
 
@@ -182,13 +180,13 @@ share_same slots slot job share after same grains fits kept is grain adds =
     let more = slot.work.den in
     let h = max g more in
     let q = parts_at h slots job in
-    let some : 1 ≤ g = grain_some slots job in
+    let some : 1 ≤ g = grain_positive slots job in
     let positive : 1 ≤ more = kept.work.has_parts in
     let fits_job : (more ≡ 1) ⊎ ((g ≡ 1) ⊎ (more ≡ g)) = subst (λ (j : ℕ). (more ≡ 1) ⊎ ((grain_of slots j ≡ 1) ⊎ (more ≡ grain_of slots j))) same fits in
     let x : numerator share.given * g ≡ p * share.given.den =
     let P : Fraction → Type 0 = λ f. numerator f * g ≡ p * f.den in subst P (sym is.given) (of_parts_value p g) in
     let parts : (share.given.den ≡ 1) ⊎ (share.given.den ≡ g) =
-    let P : Fraction → Type 0 = λ f. (f.den ≡ 1) ⊎ (f.den ≡ g) in subst P (sym is.given) (of_parts_den p g) in
+    let P : Fraction → Type 0 = λ f. (f.den ≡ 1) ⊎ (f.den ≡ g) in subst P (sym is.given) (parts_den p g) in
     let finer : q * g ≡ p * h = finer_by p q g more some (λ plain. parts_finer h slots job (whole_so_far slots job grains plain) ∙ ap (λ (n : ℕ). parts_at n slots job * h) (sym plain)) fits_job (λ stays. ap (λ (n : ℕ). parts_at n slots job) stays) in
     let z : numerator after.given * h ≡ (q + numerator slot.work * (h / more)) * after.given.den =
     summed (numerator share.given) share.given.den (numerator slot.work) more (numerator after.given) after.given.den g h p q (h / more) some is.mixed.has_parts positive
@@ -217,7 +215,7 @@ grain_kept slots slot old fits positive is =
     elim (cases_eq slot.job old.job) [
       | inl same ↦
           rw (grain_same slots slot old.job same)
-          (fits_on old.work.den (grain_of slots old.job) slot.work.den (grain_some slots old.job) is
+          (fits_on old.work.den (grain_of slots old.job) slot.work.den (grain_positive slots old.job) is
           (subst (λ (j : ℕ). (slot.work.den ≡ 1) ⊎ ((grain_of slots j ≡ 1) ⊎ (slot.work.den ≡ grain_of slots j))) same fits) positive)
       | inr other ↦ rw (grain_other slots slot old.job other) is
     ]
