@@ -1,10 +1,10 @@
 -- The number of a name, and what an instance keeps as a job with a new name comes.
-use Rattle.std.proofs.Common.{◌≡◌, ℕ, ◌+◌, ◌<◌, ◌≤◌, ◌⊎◌, Bool, true, false, cond, not, List, [], ◌∷◌, ◌++◌, Option, Some, None, Result, Ok, Err, is_ok, if◌then◌else◌, length, ltb, refl, sym, ap, ◌∙◌, inl, inr, arith, map}
+use Rattle.std.proofs.Common.{◌≡◌, ℕ, ◌+◌, ◌<◌, ◌≤◌, Bool, true, false, cond, not, List, [], ◌∷◌, ◌++◌, Option, Some, None, Result, Ok, Err, is_ok, if◌then◌else◌, length, ltb, refl, sym, ap, ◌∙◌, inl, inr, arith, map}
 use Rattle.std.specs.List.{Contains, slice_index_or, prefix_len, position_or_len, position, list_any}
 use Rattle.std.specs.Option.{MatchOption}
 use Rattle.std.specs.Str.{bytes_eq}
 use Rattle.std.specs.Borrow.{Bor}
-use Rattle.std.proofs.lemmas.Bool.{cases_lt, cases_Bool, false≢true, ltb-false}
+use Rattle.std.proofs.lemmas.Bool.{cases_Bool, false≢true, ltb-false}
 use Rattle.std.proofs.lemmas.Slice.Eq.{bytes_eq-Decides}
 use Rattle.std.proofs.lemmas.List.{length-map, map-append, length_push, get_or_push, get_or_append_left}
 use Rattle.std.proofs.lemmas.List.Sums.{fails_before_first}
@@ -17,6 +17,7 @@ use Rattle.yds_model.specs.declared.limits.TheConstants.{MAX_JOBS}
 use Rattle.yds_instance.specs.Named.{Named, IsInstance, AreDifferentNames, number_of}
 use Rattle.yds_model.specs.Document.{name_at}
 use Rattle.yds_model.specs.Spelling.{is_name}
+use Rattle.yds_model.proofs.Grown.{place_cases}
 
 -- # The number of a name
 
@@ -101,9 +102,6 @@ pub rows_pushed : {T E : Type 0} (rows reserved grown : List Job) (row : Job) (p
     grown ≡ rows ++ row ∷ []
 rows_pushed rows reserved grown row (Ok done) _ same is ok = is ∙ ap (λ xs. xs ++ row ∷ []) same
 rows_pushed rows reserved grown row (Err fault) done same is ok = cc
-
-place_cases : (i n : ℕ) → i < n + 1 → (i < n) ⊎ (i ≡ n)
-place_cases i n within = elim (cases_lt i n) [ inl less ↦ inl less | inr more ↦ inr (omega arith) ]
 
 other_differs : (names : List (List ℕ)) (name : List ℕ) (i : ℕ) → number_of names name ≡ None → i < length names → name_at names i ≡ name → ⊥
 other_differs names name i none within is =
