@@ -6,13 +6,14 @@ use Rattle.std.specs.List.Sorted.{IsPermutation, IsNonDecreasing, IsNonDecreasin
 use Rattle.std.proofs.lemmas.Bool.{lt-ltb, le-ltb, ne_eqb, eq-eqb, cases_lt, cases_eq, false≢true}
 use Rattle.std.proofs.Math.Bool.{and_comm, and-false, false-and}
 use Rattle.std.proofs.lemmas.List.{length-append}
-use Rattle.std.proofs.lemmas.List.Elements.{All-nil, All-cons, All-tail, All-append, recursion_from_All, All-from_recursion}
+use Rattle.std.proofs.lemmas.List.Elements.{All-tail, All-append, recursion_from_All, All-from_recursion}
 use Rattle.std.proofs.lemmas.List.Sorted.{All-permutation, sum_by-IsPermutation, length_permutation, Contains-permutation, IsPermutation-sym}
 use Rattle.std.proofs.lemmas.List.Sums.{sum_by-append, sum_by-cons}
 use Rattle.std.proofs.lemmas.Map.Keys.{IsDistinct-IsPermutation, IsStrictlyIncreasing-from_distinct}
 use Rattle.yds_model.specs.Numbers.{count}
 use Rattle.yds_model.specs.Piece.{Piece, IsForward, AreApart, PiecesFrom, Covers}
 use Rattle.yds_model.specs.Level.{Level}
+use Rattle.yds_model.proofs.Front.{pieces_forward}
 use Rattle.yds_certificate.specs.Merging.{IsOrderly, IsNewTo, IsJoined, AreTogether}
 use Rattle.yds_certificate.proofs.Cover.{Covers-append}
 
@@ -72,10 +73,6 @@ distinct_pieces start (piece ∷ pieces) run = (
   distinct_pieces piece.to pieces run.2,
 )
 
-forward_all : (start : ℕ) (pieces : List Piece) → PiecesFrom start pieces → All IsForward pieces
-forward_all start [] run = All-nil IsForward
-forward_all start (piece ∷ pieces) run = All-cons IsForward piece pieces run.1 (forward_all piece.to pieces run.2)
-
 abbrev StartsBy : ℕ → List Piece → Type 0
 StartsBy start [] = Unit {0}
 StartsBy start (piece ∷ pieces) = start ≤ piece.from
@@ -113,7 +110,7 @@ sorted_pieces first second sorted one two apart same rising =
     IsDistinct-IsPermutation overlaps overlaps_both (first ++ second) sorted same
     (distinct_append overlaps first second (distinct_pieces 0 first one) (distinct_pieces 0 second two) across) in
     let forward : All IsForward sorted =
-    All-permutation IsForward (first ++ second) sorted same (All-append IsForward first second (forward_all 0 first one) (forward_all 0 second two)) in
+    All-permutation IsForward (first ++ second) sorted same (All-append IsForward first second (pieces_forward 0 first one) (pieces_forward 0 second two)) in
     sorted_from 0 sorted forward none rising (starts_at_all sorted)
 
 covered_again : (pieces others : List Piece) (time : ℕ) → IsPermutation pieces others → Covers pieces time → Covers others time
