@@ -8,6 +8,7 @@ use Rattle.std.proofs.lemmas.List.Sums.{sum_by-cons}
 use Rattle.std.proofs.lemmas.List.Elements.{All-contains, All-from_recursion}
 use Rattle.std.proofs.lemmas.Bool.{cases_lt, cases_eq, cases_order, cases_Bool, lt-ltb, le-ltb, eq-eqb, ne_eqb, true≢false}
 use Rattle.yds_model.specs.Job.{job_at}
+use Rattle.yds_model.proofs.Time.{none_times}
 use Rattle.yds_edf.specs.declared.entry.Entry.{Entry}
 use Rattle.yds_edf.specs.Entries.{comes_first, entries_of}
 use Rattle.yds_edf.specs.Pending.{has_arrived}
@@ -38,9 +39,6 @@ entries_times entries left h = elim (cases_lt left 1) [
   | inl none ↦ omega (arith, ap (λ n. n * left) (let e : entries ≡ 0 = omega arith in e))
   | inr some ↦ omega (arith, ap (λ n. n * left) (let e : entries ≡ 1 = omega arith in e))
 ]
-
-no_entries_times : (entries left : ℕ) → entries < 1 → entries * left ≡ 0
-no_entries_times entries left h = omega (arith, ap (λ n. n * left) (let e : entries ≡ 0 = omega arith in e))
 
 -- an entry at the top comes before each other by time, tie and number
 pub in_entry_order : (x y : Reverse Entry) → is_lt (comes_first x y) ≡ false →
@@ -91,7 +89,7 @@ module _ (tied : TiedQueue) (waiting ready : List (Reverse Entry)) (units : ℕ)
         rw arrived (one, entries_times (entries_of ready number) (units_left tied.queue number) one)
     | inr not_yet ↦
         let none = none_pending number not_yet in
-        rw not_yet (omega (arith, none), no_entries_times (entries_of ready number) (units_left tied.queue number) none)
+        rw not_yet (omega (arith, none), none_times (entries_of ready number) (units_left tied.queue number) none)
   ]
 
   -- the sum that the engine keeps is that of all pending units

@@ -15,10 +15,11 @@ use Rattle.yds_model.specs.Piece.{Piece}
 use Rattle.yds_model.specs.Plan.{IsOver}
 use Rattle.yds_model.proofs.Divisor.{divisor_is_greatest, divisor_positive}
 use Rattle.yds_model.proofs.Fractions.{value-den, den_positive}
-use Rattle.yds_fraction.specs.Mixed.{IsMixed, AreAlike, fraction_of}
+use Rattle.yds_model.proofs.Grown.{parts_alike}
+use Rattle.yds_fraction.specs.Mixed.{IsMixed, fraction_of}
 use Rattle.yds_fraction.proofs.Values.{written}
 use Rattle.yds_slots.specs.Slot.{IsSlot}
-use Rattle.yds_slots.proofs.Parts.{of_parts_value, of_parts_den, of_parts_is}
+use Rattle.yds_slots.proofs.Parts.{of_parts_value, of_parts_is}
 use Rattle.yds_edf.specs.Shares.{JobShare, total_units}
 use Rattle.yds_edf.specs.Laid.{length_of, time_step, time_den, IsLaidSlot, FollowFrom, end_of, IsLaid}
 
@@ -69,16 +70,6 @@ whole_parts : (n den : ℕ) → 1 ≤ den → of_parts (n * den) den ≡ of_whol
 whole_parts n den some =
     let rest : (n * den) % den ≡ 0 = mod-eq-zero_of_dvd den (dvd-mul_left den n) in
     rw (eq-eqb ((n * den) % den) 0 rest) (ap of_whole (mul-div_cancel n some))
-
--- two of the same parts are alike
-alike_parts : (p q den : ℕ) → AreAlike (of_parts p den) (of_parts q den)
-alike_parts p q den = elim (of_parts_den p den) [
-  | inl one ↦ inr (inl one)
-  | inr first ↦ elim (of_parts_den q den) [
-    | inl one ↦ inr (inr one)
-    | inr second ↦ inl (first ∙ sym second)
-  ]
-]
 
 -- The numbers of one share: its slot runs from a to b at the scale and gets the work w, where K units were served before it and it
 -- has u. The stretch begins at f and has the length len = L * g, its capacity is C = D * g.
@@ -325,7 +316,7 @@ slot_kept start long step parts served units grain job from to work from_is to_i
       from = from_kept;
       to = to_kept;
       work = work_kept;
-      ends_alike = rw (from_is, to_is) (alike_parts (start * parts + served * step) (start * parts + (served + units) * step) parts);
+      ends_alike = rw (from_is, to_is) (parts_alike (start * parts + served * step) (start * parts + (served + units) * step) parts);
       from_in_range = rw (from_is, of_parts_whole (start * parts + served * step) parts) (omega (
         arith,
         ends,
