@@ -5,13 +5,13 @@ use Rattle.std.proofs.lemmas.Bool.{cases_eq}
 use Rattle.yds_plan.specs.Found.{group_of}
 use Rattle.yds_plan.specs.Amounts.{amount_in}
 use Rattle.yds_plan.proofs.Ranges.{over_at_most, over_mul, over_ones}
-use Rattle.yds_plan.proofs.Shares.{chosen, not_chosen}
+use Rattle.yds_model.proofs.Horizon.{part_own, part_other}
 
 -- amounts that are each at most so much are together at most as many times that
 amount_one : (number group amount most : ℕ) → amount ≤ most → (if number == group then amount else 0) ≤ most * 1
 amount_one number group amount most small = elim (cases_eq number group) [
-  | inl same ↦ omega (arith, chosen number group amount same)
-  | inr other ↦ omega (arith, not_chosen number group amount other)
+  | inl same ↦ omega (arith, part_own number group amount same)
+  | inr other ↦ omega (arith, part_other number group amount other)
 ]
 
 pub amount_small : (amounts groups : List ℕ) (group n most : ℕ) → ((i : ℕ) → i < n → get_or amounts i 0 ≤ most) →

@@ -27,7 +27,8 @@ use Rattle.yds_plan.proofs.KeySums.{sum_by-filter, cond_at_most}
 use Rattle.yds_plan.proofs.Numbers.{one_or_none, written_at, written_off, in_group, in_known, in_has, in_order}
 use Rattle.yds_plan.proofs.Ranges.{over, over_same, over_one, over_list}
 use Rattle.yds_plan.proofs.Amounts.{amount_small}
-use Rattle.yds_plan.proofs.Shares.{chosen, not_chosen, chosen_some}
+use Rattle.yds_model.proofs.Horizon.{part_own, part_other}
+use Rattle.yds_plan.proofs.Shares.{chosen_some}
 use Rattle.yds_plan.proofs.Lowest.{IsLowest, lowest}
 
 -- a total, of lists that are the same
@@ -79,10 +80,10 @@ scaled_is amounts groups numbers whole group factor n old new same all written n
   | inl one ↦
       let mine : group_of groups j ≡ group = in_group groups group whole j (subst (λ (xs : List ℕ). IsOneOf xs j) same one) in
       written_at (λ i value. value ≡ factor * get_or amounts i 0) numbers old new j written one
-      ∙ sym (chosen (group_of groups j) group (factor * get_or amounts j 0) mine)
+      ∙ sym (part_own (group_of groups j) group (factor * get_or amounts j 0) mine)
   | inr other ↦
       written_off (λ i value. value ≡ factor * get_or amounts i 0) numbers old new j written other ∙ none j
-      ∙ sym (not_chosen (group_of groups j) group (factor * get_or amounts j 0)
+      ∙ sym (part_other (group_of groups j) group (factor * get_or amounts j 0)
       (λ mine. other (subst (λ (xs : List ℕ). IsOneOf xs j) (sym same) (in_has groups group whole j (all j known) mine))))
 ]
 
@@ -221,7 +222,7 @@ some_length jobs instance found top last are search within =
     omega (
       arith,
       over_one (λ k. if group_of found.group_of_stretch k == top then length_of jobs k else 0) (length (stretches jobs)) there.0 there.1,
-      chosen (group_of found.group_of_stretch there.0) top (length_of jobs there.0) there.2,
+      part_own (group_of found.group_of_stretch there.0) top (length_of jobs there.0) there.2,
       are.length_some there.0 there.1,
     )
 
@@ -233,7 +234,7 @@ some_work jobs instance found top last are search within =
     omega (
       arith,
       over_one (λ j. if group_of found.group_of_job j == top then (job_at jobs j).work else 0) (length jobs) who.0 who.1.known,
-      chosen (group_of found.group_of_job who.0) top (job_at jobs who.0).work (who.2 ∙ there.2),
+      part_own (group_of found.group_of_job who.0) top (job_at jobs who.0).work (who.2 ∙ there.2),
       who.1.some,
     )
 

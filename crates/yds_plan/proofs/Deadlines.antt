@@ -11,7 +11,7 @@ use Rattle.std.proofs.lemmas.Bool.{cases_lt}
 use Rattle.yds_model.specs.Job.{Job, job_at}
 use Rattle.yds_plan.specs.Windows.{IsOrder}
 use Rattle.yds_plan.proofs.Balance.{over_alone}
-use Rattle.yds_plan.proofs.Shares.{chosen}
+use Rattle.yds_model.proofs.Horizon.{part_own}
 
 -- a deadline and a number in one
 abbrev pub key_of : List Job → ℕ → ℕ
@@ -38,8 +38,8 @@ once_only order n a b once before within known same = omega (
   two_terms (λ x. if get_or order b 0 == x then 1 else 0) order a b before within,
   sum_by-IsPermutation (λ x. if get_or order b 0 == x then 1 else 0) (range_with_len 0 n) order once,
   over_alone 1 n (get_or order b 0) known,
-  chosen (get_or order b 0) (get_or order b 0) 1 refl,
-  chosen (get_or order b 0) (get_or order a 0) 1 (sym same),
+  part_own (get_or order b 0) (get_or order b 0) 1 refl,
+  part_own (get_or order b 0) (get_or order a 0) 1 (sym same),
 )
 
 -- keys in order are jobs in order

@@ -10,7 +10,8 @@ use Rattle.yds_plan.specs.Found.{Found, Group, Share, share_at, no_share, group_
 use Rattle.yds_plan.specs.Windows.{window_at, IsIn, AreWindows}
 use Rattle.yds_plan.specs.Search.{IsFinished, MayRun, IsSearch, IsBeginning, finished_count}
 use Rattle.yds_plan.proofs.Ranges.{over, over_at_most, over_ones, over_some, over_one, over_add, over_same}
-use Rattle.yds_plan.proofs.Shares.{chosen, chosen_some}
+use Rattle.yds_model.proofs.Horizon.{part_own}
+use Rattle.yds_plan.proofs.Shares.{chosen_some}
 use Rattle.yds_plan.proofs.Times.{times_rise, stretch_is, stretch_next}
 
 abbrev count_one : ℕ → ℕ → ℕ
@@ -202,7 +203,7 @@ many places m low (suc r) each =
           (λ k below. counted_more (places k) (low + r)),
       over_add (λ k. count_one (places k) (low + r)) (λ k. if places k == low + r then 1 else 0) m,
       over_one (λ k. if places k == low + r then 1 else 0) m here.0 here.1,
-      chosen (places here.0) (low + r) 1 here.2,
+      part_own (places here.0) (low + r) 1 here.2,
     )
 
 at_most_all : (places : ℕ → ℕ) (m low r : ℕ) → ((c : ℕ) → low ≤ c → c < low + r → (k : ℕ) × (k < m) × (places k ≡ c)) → r ≤ m

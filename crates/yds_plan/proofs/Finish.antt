@@ -14,7 +14,8 @@ use Rattle.yds_plan.specs.Found.{Found, Group, Share, share_at, no_share, group_
 use Rattle.yds_model.specs.EarliestFirst.{ComesFirst}
 use Rattle.yds_plan.specs.Windows.{IsIn, AreWindows, Precedes}
 use Rattle.yds_plan.specs.Search.{IsFast, IsSlow, LieInWindows, IsLead, IsFinished, MayRun, IsSearch, IsFilled, IsRenamed, finished_count}
-use Rattle.yds_plan.proofs.Shares.{chosen, not_chosen, chosen_some, share_counts, no_units}
+use Rattle.yds_model.proofs.Horizon.{part_own, part_other}
+use Rattle.yds_plan.proofs.Shares.{chosen_some, share_counts, no_units}
 use Rattle.yds_plan.proofs.Ranges.{over, over_same, over_at_most, over_add, over_ones, over_list}
 use Rattle.yds_plan.proofs.Balance.{fast_speed, slow_speed, speed_order}
 use Rattle.yds_plan.proofs.Finished.{moved, AreAlike, kept_finished}
@@ -183,9 +184,9 @@ each_group f P before here i within = elim (cases_lt i (length f.found.groups)) 
 renamed_chosen : (groups top one other value : ℕ) → groups ≤ top → (one ≡ groups → one ≡ top) → IsRenamed top groups one other →
     (if one == top then value else 0) ≡ (if other == groups then value else 0)
 renamed_chosen groups top one other value apart own renamed = elim (cases_eq one top) [
-  | inl same ↦ chosen one top value same ∙ sym (chosen other groups value (renamed_own groups top one other renamed same))
-  | inr different ↦ not_chosen one top value different
-      ∙ sym (not_chosen other groups value (λ is. different (renamed_here groups top one other apart own renamed is)))
+  | inl same ↦ part_own one top value same ∙ sym (part_own other groups value (renamed_own groups top one other renamed same))
+  | inr different ↦ part_other one top value different
+      ∙ sym (part_other other groups value (λ is. different (renamed_here groups top one other apart own renamed is)))
 ]
 
 new_work : (f : Finishing) → f.group.work ≡ work_in f.jobs f.new_jobs (length f.found.groups) (length f.jobs)
@@ -272,7 +273,7 @@ all_served f j known grouped = elim (f.job j known) [
     f.filled.fill.want j,
     f.served j known,
     f.filled.want j known,
-    chosen (group_of f.found.group_of_job j) f.top (per_work f.group * (job_at f.jobs j).work) mine.0,
+    part_own (group_of f.found.group_of_job j) f.top (per_work f.group * (job_at f.jobs j).work) mine.0,
     ap (λ g. per_work g * (job_at f.jobs j).work) (group_here f (group_of f.new_jobs j) mine.1),
   )
   | inr other ↦
@@ -283,7 +284,7 @@ all_served f j known grouped = elim (f.job j known) [
         sum_by-append (λ share. if share.job == j then share.units else 0) f.found.shares f.shares,
         f.filled.fill.want j,
         f.filled.want j known,
-        not_chosen (group_of f.found.group_of_job j) f.top (per_work f.group * (job_at f.jobs j).work) other.0,
+        part_other (group_of f.found.group_of_job j) f.top (per_work f.group * (job_at f.jobs j).work) other.0,
         (kept f).served j known old,
         ap (λ g. per_work g * (job_at f.jobs j).work) (group_before f (group_of f.new_jobs j) old),
       )
@@ -300,7 +301,7 @@ all_full f k known grouped = elim (f.stretch k known) [
     f.filled.fill.room k,
     f.full k known,
     f.filled.room k known,
-    chosen (group_of f.found.group_of_stretch k) f.top (per_time f.group * length_of f.jobs k) mine.0,
+    part_own (group_of f.found.group_of_stretch k) f.top (per_time f.group * length_of f.jobs k) mine.0,
     ap (λ g. per_time g * length_of f.jobs k) (group_here f (group_of f.new_stretches k) mine.1),
   )
   | inr other ↦
@@ -311,7 +312,7 @@ all_full f k known grouped = elim (f.stretch k known) [
         sum_by-append (λ share. if share.stretch == k then share.units else 0) f.found.shares f.shares,
         f.filled.fill.room k,
         f.filled.room k known,
-        not_chosen (group_of f.found.group_of_stretch k) f.top (per_time f.group * length_of f.jobs k) other.0,
+        part_other (group_of f.found.group_of_stretch k) f.top (per_time f.group * length_of f.jobs k) other.0,
         (kept f).full k known old,
         ap (λ g. per_time g * length_of f.jobs k) (group_before f (group_of f.new_stretches k) old),
       )
@@ -386,13 +387,13 @@ counted_there : (groups top one other : ℕ) → (one ≡ top → ⊥) → (othe
 counted_there groups top one other different apart = grind (arith, nat_tests)
 
 counts_at_all : (test : Bool) (number top : ℕ) → number ≡ top → 1 ≤ one_if test + one_if (number == top)
-counts_at_all test number top same = omega (arith, chosen number top 1 same)
+counts_at_all test number top same = omega (arith, part_own number top 1 same)
 
 counts_empty : (room : ℕ) (test : Bool) → room ≡ 0 → 1 ≤ one_if (room == 0) + one_if test
-counts_empty room test none = omega (arith, chosen room 0 1 none)
+counts_empty room test none = omega (arith, part_own room 0 1 none)
 
 counts_at_most : (test : Bool) (number top : ℕ) → number ≡ top → one_if test ≤ one_if (number == top)
-counts_at_most true number top same = omega (arith, chosen number top 1 same)
+counts_at_most true number top same = omega (arith, part_own number top 1 same)
 counts_at_most false number top same = omega arith
 
 counts_nothing : (want : ℕ) (test : Bool) → want ≡ 0 → one_if (nat_lt 0 want) ≤ one_if test
@@ -409,13 +410,13 @@ renamed_counted groups top one other apart own renamed = elim (cases_eq one top)
 room_counted : (number top units room : ℕ) → room ≡ (if number == top then units else 0) → 1 ≤ one_if (room == 0) + one_if (number == top)
 room_counted number top units room is = elim (cases_eq number top) [
   | inl same ↦ counts_at_all (room == 0) number top same
-  | inr other ↦ counts_empty room (number == top) (is ∙ not_chosen number top units other)
+  | inr other ↦ counts_empty room (number == top) (is ∙ part_other number top units other)
 ]
 
 want_counted : (number top units want : ℕ) → want ≡ (if number == top then units else 0) → one_if (nat_lt 0 want) ≤ one_if (number == top)
 want_counted number top units want is = elim (cases_eq number top) [
   | inl same ↦ counts_at_most (nat_lt 0 want) number top same
-  | inr other ↦ counts_nothing want (number == top) (is ∙ not_chosen number top units other)
+  | inr other ↦ counts_nothing want (number == top) (is ∙ part_other number top units other)
 ]
 
 all_few : (f : Finishing) → length (f.found.shares ++ f.shares) ≤

@@ -7,7 +7,7 @@ use Rattle.yds_model.specs.Event.{stretches}
 use Rattle.yds_plan.specs.declared.finder_windows.Window.{Window}
 use Rattle.yds_plan.specs.Found.{Found, share_at, no_share, group_at, group_of, length_of, per_time, per_work}
 use Rattle.yds_plan.specs.Search.{IsFinished}
-use Rattle.yds_plan.proofs.Shares.{not_chosen}
+use Rattle.yds_model.proofs.Horizon.{part_other}
 use Rattle.yds_plan.proofs.Ranges.{over_same}
 
 -- the same groups and shares, with other jobs and stretches
@@ -22,7 +22,7 @@ pub alike_chosen : (groups one other i value : ℕ) → i < groups → AreAlike 
     (if one == i then value else 0) ≡ (if other == i then value else 0)
 alike_chosen groups one other i value finished alike = elim alike [
   | inl same ↦ ap (λ n. if n == i then value else 0) same
-  | inr both ↦ not_chosen one i value (λ same. omega (arith, both.0, same)) ∙ sym (not_chosen other i value (λ same. omega (arith, both.1, same)))
+  | inr both ↦ part_other one i value (λ same. omega (arith, both.0, same)) ∙ sym (part_other other i value (λ same. omega (arith, both.1, same)))
 ]
 
 pub alike_finished : (groups one other : ℕ) → AreAlike groups one other → other < groups → one ≡ other

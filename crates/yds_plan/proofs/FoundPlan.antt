@@ -13,16 +13,17 @@ use Rattle.yds_model.specs.Proper.{PiecesStand, StandsOnce, SumsAgree, IsWindowC
 use Rattle.yds_model.specs.Event.{stretches}
 use Rattle.yds_model.specs.Plan.{IsSlower, DontTouch, Rise, HasLevelDenominators, IsPlan}
 use Rattle.yds_model.proofs.Sums.{sum_by_same}
+use Rattle.yds_model.proofs.Fractions.{same_through}
+use Rattle.yds_model.proofs.Divisor.{lowest_terms_are_one}
 use Rattle.yds_slots.specs.Schedule.{WrittenSchedule}
 use Rattle.yds_plan.specs.Found.{Found, IsFound, group_of, group_at, stretch_at, length_of}
 use Rattle.yds_plan.specs.Laid.{level_of, levels_among, together, members_of, stretches_of, level_numbered, levels_of, slots_in, slots_of, shares_in}
-use Rattle.yds_plan.proofs.Divisors.{same_lowest}
 use Rattle.yds_plan.proofs.KeySums.{count_all, split_all}
 use Rattle.yds_plan.proofs.Stretches.{release_outside, deadline_outside, stretch_with, few_stretches}
 use Rattle.yds_plan.proofs.Blocks.{all_of_blocks}
 use Rattle.yds_plan.proofs.Served.{Serves, all_serve}
 use Rattle.yds_plan.proofs.Filled.{IsOverTerms, over_terms, slots_of_jobs, slots_from_length}
-use Rattle.yds_plan.proofs.Speeds.{AreGroups, level_rises, among_above, among_found, level_speed, level_has, level_slower, same_through}
+use Rattle.yds_plan.proofs.Speeds.{AreGroups, level_rises, among_above, among_found, level_speed, level_has, level_slower}
 use Rattle.yds_plan.proofs.Schedule.{has_work, terms, all_stand, feasible, served_in_stretches}
 use Rattle.yds_plan.proofs.Levels.{IsMember, place_level, group_sum, level_there, levels_length, each_level, members_joined, each_member, members_rise, member_at_most_once, member_once}
 use Rattle.yds_plan.proofs.LevelPieces.{pieces_apart, pieces_run, pieces_dont_touch, pieces_total, some_pieces, stretch_covered, few_pieces}
@@ -203,8 +204,8 @@ module _ (jobs : List Job) (found : Found) (is : IsFound jobs found) where
       let grouped : g < length found.groups = omega (arith, serves.same_group, serves.grouped) in
       let level : level_of found.groups g ≡ i = ap (level_of found.groups) serves.same_group ∙ member.level in
       let known : i < count_of_levels = omega (arith, levels_length jobs found) in
-      let same = same_lowest (level_work i) (level_length i) (group_at found.groups g).work (group_at found.groups g).length
-      (some_level_work i known) (some_level_length i known) (is.some_work g grouped) (is.some_length g grouped)
+      let same = lowest_terms_are_one (level_work i) (level_length i) (group_at found.groups g).work (group_at found.groups g).length
+      (some_level_length i known) (is.some_length g grouped)
       (group_speed i g known grouped level) in
       rw (level_there jobs found i known) (record {
         from = rw (same.0) written.2.from;

@@ -12,6 +12,7 @@ use Rattle.yds_model.specs.Piece.{Piece, AreApart, PiecesFrom, Covers, total_len
 use Rattle.yds_model.specs.Level.{Level, all_pieces}
 use Rattle.yds_model.specs.Plan.{DontTouch}
 use Rattle.yds_model.specs.Event.{stretches}
+use Rattle.yds_model.proofs.Front.{apart_turned}
 use Rattle.yds_plan.specs.Found.{Found, group_of, stretch_at, length_of}
 use Rattle.yds_plan.specs.Laid.{level_of_place, levels_among, stretches_of, joined, level_numbered, levels_of}
 use Rattle.yds_plan.proofs.KeySums.{in_range, split_at_most, count_all, sum_by-map}
@@ -26,16 +27,12 @@ pieces_joined jobs found i within =
     ap all_pieces (take-map-range_with_len (level_numbered jobs found) 0 (levels_among found.groups (length found.groups)) i within)
     ∙ flat_map-map (λ level. level.pieces) (level_numbered jobs found) (range_with_len 0 i)
 
-swap_apart : (one other : Piece) → AreApart one other → AreApart other one
-swap_apart one other (inl h) = inr h
-swap_apart one other (inr h) = inl h
-
 -- each of some pieces is apart from each of others, and the other way round
 abbrev pub AllApart : List Piece → List Piece → Type 0
 AllApart pieces others = All (λ piece. All (AreApart piece) others) pieces
 
 apart_back : (pieces others : List Piece) → AllApart pieces others → AllApart others pieces
-apart_back pieces others apart k d within j e inside = swap_apart _ _ (apart j e inside k d within)
+apart_back pieces others apart k d within j e inside = apart_turned _ _ (apart j e inside k d within)
 
 joined_from : (pieces others : List Piece) → PiecesFrom 0 pieces → AllApart pieces others → AllApart pieces (joined others)
 joined_from pieces others run apart k d within =

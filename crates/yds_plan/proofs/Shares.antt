@@ -1,26 +1,21 @@
 -- Shares and the units that they sum up to.
-use Rattle.std.proofs.Common.{◌≡◌, ℕ, suc, ◌<◌, ◌≤◌, ◌==◌, List, [], ◌∷◌, ◌∙◌, length, refl, inl, inr, arith, eq-eqb}
+use Rattle.std.proofs.Common.{◌≡◌, ℕ, suc, ◌<◌, ◌≤◌, ◌==◌, List, [], ◌∷◌, ◌∙◌, length, refl, inl, inr, arith}
 use Rattle.std.specs.Prelude.{if◌then◌else◌}
 use Rattle.std.specs.List.{sum_by}
 use Rattle.std.proofs.lemmas.List.Sums.{sum_by-cons, get_or-le-sum_by}
-use Rattle.std.proofs.lemmas.Bool.{cases_lt, cases_eq, ne_eqb}
+use Rattle.std.proofs.lemmas.Bool.{cases_lt, cases_eq}
+use Rattle.yds_model.proofs.Horizon.{part_own, part_other}
 use Rattle.yds_plan.specs.Found.{Share, share_at, no_share}
 
 -- the units of shares with this number, of a job or of a stretch
 abbrev pub units_at : (Share → ℕ) → List Share → ℕ → ℕ
 units_at key shares number = sum_by (λ share. if key share == number then share.units else 0) shares
 
-pub chosen : (number group value : ℕ) → number ≡ group → (if number == group then value else 0) ≡ value
-chosen number group value same = rw (eq-eqb number group same) refl
-
-pub not_chosen : (number group value : ℕ) → (number ≡ group → ⊥) → (if number == group then value else 0) ≡ 0
-not_chosen number group value other = rw (ne_eqb number group other) refl
-
 -- what is more than nothing was chosen
 pub chosen_some : (number group value is : ℕ) → is ≡ (if number == group then value else 0) → 1 ≤ is → (number ≡ group) × (is ≡ value)
 chosen_some number group value is same some = elim (cases_eq number group) [
-  | inl here ↦ (here, same ∙ chosen number group value here)
-  | inr other ↦ absurd (omega (arith, same, not_chosen number group value other))
+  | inl here ↦ (here, same ∙ part_own number group value here)
+  | inr other ↦ absurd (omega (arith, same, part_other number group value other))
 ]
 
 -- a share's own units are among those of its number
@@ -29,7 +24,7 @@ pub share_counts : (key : Share → ℕ) (shares : List Share) (x : ℕ) → x <
 share_counts key shares x within = omega (
   arith,
   get_or-le-sum_by (λ share. if key share == key (share_at shares x) then share.units else 0) shares x no_share within,
-  chosen (key (share_at shares x)) (key (share_at shares x)) (share_at shares x).units refl,
+  part_own (key (share_at shares x)) (key (share_at shares x)) (share_at shares x).units refl,
 )
 
 -- where there are units there is a share
@@ -43,7 +38,7 @@ some_share key (share ∷ shares) number some = elim (cases_eq (key share) numbe
         arith,
         some,
         sum_by-cons (λ one. if key one == number then one.units else 0) share shares,
-        not_chosen (key share) number share.units other,
+        part_other (key share) number share.units other,
       )) in
       (suc found.0, omega (arith, found.1), found.2)
 ]

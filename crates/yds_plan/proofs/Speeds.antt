@@ -5,8 +5,9 @@ use Rattle.std.specs.List.{range_with_len}
 use Rattle.std.proofs.lemmas.Bool.{cases_lt, cases_eq, ltb-true, ltb-false, eqb-true, eq-eqb}
 use Rattle.std.proofs.lemmas.List.Sums.{get_or-le-sum_by}
 use Rattle.std.proofs.lemmas.List.FromFn.{length-range_with_len}
-use Rattle.std.proofs.Math.Nat.{mul-pos, mul-lt-mul_of_pos_right, lt_of_mul-lt-mul_right, eq_of_mul-eq-mul_right}
+use Rattle.std.proofs.Math.Nat.{mul-pos, mul-lt-mul_of_pos_right, lt_of_mul-lt-mul_right}
 use Rattle.yds_model.proofs.Sums.{sum_by-mul, sum_by_same}
+use Rattle.yds_model.proofs.Fractions.{same_through}
 use Rattle.yds_plan.specs.Found.{Group, group_at}
 use Rattle.yds_plan.specs.Laid.{slows_after, level_of, levels_among, together}
 use Rattle.yds_plan.proofs.KeySums.{in_range}
@@ -17,13 +18,6 @@ pub record AreGroups (groups : List Group) : Type 0 where
   pub some_length : (i : ℕ) → i < length groups → 1 ≤ (group_at groups i).length
   pub order : (i : ℕ) → i + 1 < length groups →
       (group_at groups (i + 1)).work * (group_at groups i).length ≤ (group_at groups i).work * (group_at groups (i + 1)).length
-
--- a/d = b/e and b/e = c/f give a/d = c/f
-pub same_through : (a b c d e f : ℕ) → 1 ≤ e → a * e ≡ b * d → b * f ≡ c * e → a * f ≡ c * d
-same_through a b c d e f some one two =
-    let first : a * e * f ≡ b * d * f = ap (λ n. n * f) one in
-    let second : b * f * d ≡ c * e * d = ap (λ n. n * d) two in
-    eq_of_mul-eq-mul_right e some (a * f) (c * d) (omega arith)
 
 -- a/b = c/d < e/f = g/h give a/b < g/h
 less_between : (a b c d e f g h : ℕ) → 1 ≤ b → 1 ≤ h → a * d ≡ c * b → g * f ≡ e * h → c * f < e * d → a * h < g * b

@@ -9,7 +9,8 @@ use Rattle.yds_plan.specs.Windows.{IsIn, AreWindows}
 use Rattle.yds_plan.specs.Closure.{IsMarked, AreClosed}
 use Rattle.yds_plan.specs.Numbers.{IsOneOf}
 use Rattle.yds_plan.specs.Search.{IsFast, IsSlow, LieInWindows, IsBoundary, MayRun, IsSearch, IsFilled, IsSplit}
-use Rattle.yds_plan.proofs.Shares.{chosen, chosen_some, share_counts, some_share}
+use Rattle.yds_model.proofs.Horizon.{part_own}
+use Rattle.yds_plan.proofs.Shares.{chosen_some, share_counts, some_share}
 use Rattle.yds_plan.proofs.Ranges.{over_some, over_one}
 use Rattle.yds_plan.proofs.Balance.{balance}
 use Rattle.yds_plan.proofs.Finished.{moved, AreAlike, kept_finished}
@@ -287,7 +288,7 @@ new_boundary s = record {
         omega (
           arith,
           s.filled.room k known,
-          chosen (group_of s.found.group_of_stretch k) (s.below + 1) (s.p * length_of s.jobs k) upper.0,
+          part_own (group_of s.found.group_of_stretch k) (s.below + 1) (s.p * length_of s.jobs k) upper.0,
           s.filled.fill.room k,
           s.closed.full k (s.own_all k known upper.0) upper.1,
         );
@@ -296,7 +297,7 @@ new_boundary s = record {
         omega (
           arith,
           s.filled.want j known,
-          chosen (group_of s.found.group_of_job j) (s.below + 1) (s.q * (job_at s.jobs j).work) (any_upper_job s j known is).mine,
+          part_own (group_of s.found.group_of_job j) (s.below + 1) (s.q * (job_at s.jobs j).work) (any_upper_job s j known is).mine,
           s.filled.fill.want j,
         );
   };
@@ -305,7 +306,7 @@ new_boundary s = record {
       | inl late ↦ absurd (omega (arith, (late_job s j known late).2, is))
       | inr served ↦
           let mine = sym (other_job s j known (λ new. omega (arith, new, is))) ∙ is in
-          omega (arith, s.filled.want j known, chosen (group_of s.found.group_of_job j) (s.below + 1) (s.q * (job_at s.jobs j).work) mine, s.filled.fill.want j)
+          omega (arith, s.filled.want j known, part_own (group_of s.found.group_of_job j) (s.below + 1) (s.q * (job_at s.jobs j).work) mine, s.filled.fill.want j)
     ];
     own = λ x within is.
         let own = own_share s x within in
@@ -315,7 +316,7 @@ new_boundary s = record {
         ];
     room = λ k known is.
         let mine = sym (other_stretch s k known (λ new. omega (arith, new, is))) ∙ is in
-        omega (arith, s.filled.room k known, chosen (group_of s.found.group_of_stretch k) (s.below + 1) (s.p * length_of s.jobs k) mine, s.filled.fill.room k);
+        omega (arith, s.filled.room k known, part_own (group_of s.found.group_of_stretch k) (s.below + 1) (s.p * length_of s.jobs k) mine, s.filled.fill.room k);
   };
 }
 
@@ -362,7 +363,7 @@ covered_above s k known new =
       s.filled.fill.room k,
       s.closed.full k (s.own_all k known upper.0) upper.1,
       s.filled.room k known,
-      chosen (group_of s.found.group_of_stretch k) (s.below + 1) (s.p * length_of s.jobs k) upper.0,
+      part_own (group_of s.found.group_of_stretch k) (s.below + 1) (s.p * length_of s.jobs k) upper.0,
       product_some s.p (length_of s.jobs k) s.filled.some_time (s.long k known),
     )) in
     let own = own_share s found.0 found.1 in (

@@ -13,7 +13,7 @@ use Rattle.yds_plan.specs.Search.{IsSearch, IsAttempt, IsRenamed, IsSplitStretch
 use Rattle.yds_plan.specs.Instance.{IsInstance}
 use Rattle.yds_plan.proofs.Ranges.{over, over_at_most, over_add, over_one, over_zero, over_list}
 use Rattle.yds_plan.proofs.Balance.{over_alone, balance}
-use Rattle.yds_plan.proofs.Shares.{chosen, not_chosen}
+use Rattle.yds_model.proofs.Horizon.{part_own, part_other}
 use Rattle.yds_plan.proofs.Ends.{few_groups, few_left}
 use Rattle.yds_plan.proofs.Finished.{moved}
 use Rattle.yds_plan.proofs.Finish.{Finishing, finish_search}
@@ -21,8 +21,8 @@ use Rattle.yds_plan.proofs.Split.{Splitting, split_search}
 
 less_here : (k i one other : ℕ) → one ≤ other → (k ≡ i → one < other) → one + (if k == i then 1 else 0) ≤ other
 less_here k i one other most less = elim (cases_eq k i) [
-  | inl same ↦ omega (arith, chosen k i 1 same, less same)
-  | inr different ↦ omega (arith, not_chosen k i 1 different)
+  | inl same ↦ omega (arith, part_own k i 1 same, less same)
+  | inr different ↦ omega (arith, part_other k i 1 different)
 ]
 
 -- terms that are at most others, and once less
