@@ -1,36 +1,13 @@
 -- Whether a work is alike with each earlier work of its job: it goes by the job's grain.
-use Rattle.std.proofs.Common.{◌≡◌, ℕ, zero, suc, ◌<◌, ◌≤◌, ◌⊎◌, inl, inr, List, [], ◌∷◌, length, max, refl, sym, ap, ◌∙◌, arith, Bool, true, false, eqb-true}
-use Rattle.std.specs.Prelude.{◌==◌, ◌||◌, if◌then◌else◌}
-use Rattle.std.specs.List.{fold}
+use Rattle.std.proofs.Common.{◌≡◌, ℕ, zero, suc, ◌<◌, ◌≤◌, ◌⊎◌, inl, inr, List, [], ◌∷◌, length, refl, sym, ap, ◌∙◌, arith, Bool, true, false, eqb-true}
+use Rattle.std.specs.Prelude.{◌==◌, ◌||◌}
 use Rattle.std.proofs.lemmas.Bool.{cases_Bool, eq-eqb, true≢false, false≢true}
-use Rattle.std.proofs.Math.Nat.{le_trans}
 use Rattle.yds_model.specs.Scale.{Fraction}
 use Rattle.yds_model.specs.Slot.{WrittenSlot, written_slot_at, no_written_slot, IsSolid}
 use Rattle.yds_model.specs.Audit.{AreSlots, grain_of}
+use Rattle.yds_model.proofs.Grain.{grain_takes}
 use Rattle.yds_slots.proofs.Grains.{grain_found}
 use Rattle.yds_document.specs.Kinds.{fits_among, fits_test, FitsGrainOf}
-
--- # The grain is at least each denominator of the job's works
-
-max_covers : (mine : Bool) (a den : ℕ) → mine ≡ true → den ≤ (if mine then max a den else a)
-max_covers true a den is = omega arith
-max_covers false a den is = absurd (false≢true is)
-
-max_keeps : (mine : Bool) (a den : ℕ) → a ≤ (if mine then max a den else a)
-max_keeps true a den = omega arith
-max_keeps false a den = omega arith
-
-abbrev step : ℕ → ℕ → WrittenSlot → ℕ
-step job grain slot = if slot.job == job then max grain slot.work.den else grain
-
-fold_from : (job a : ℕ) (slots : List WrittenSlot) → a ≤ fold (step job) a slots
-fold_from job a [] = omega arith
-fold_from job a (slot ∷ slots) = le_trans (max_keeps (slot.job == job) a slot.work.den) (fold_from job (step job a slot) slots)
-
-covers_from : (job a : ℕ) (slots : List WrittenSlot) (k : ℕ) → k < length slots → (written_slot_at slots k).job ≡ job → (written_slot_at slots k).work.den ≤ fold (step job) a slots
-covers_from job a [] k within mine = absurd (omega arith)
-covers_from job a (slot ∷ slots) zero within mine = le_trans (max_covers (slot.job == job) a slot.work.den (eq-eqb slot.job job mine)) (fold_from job (step job a slot) slots)
-covers_from job a (slot ∷ slots) (suc k) within mine = covers_from job (step job a slot) slots k (omega arith) mine
 
 -- # Each work of the job is whole or has the grain
 
@@ -38,7 +15,7 @@ in_grain : (jobs : ℕ) (slots : List WrittenSlot) (k : ℕ) → AreSlots jobs s
     → ((written_slot_at slots k).work.den ≡ 1) ⊎ ((written_slot_at slots k).work.den ≡ grain_of slots (written_slot_at slots k).job)
 in_grain jobs slots k are within =
     let job = (written_slot_at slots k).job in
-    let covered : (written_slot_at slots k).work.den ≤ grain_of slots job = covers_from job 1 slots k within refl in
+    let covered : (written_slot_at slots k).work.den ≤ grain_of slots job = grain_takes job 1 slots k no_written_slot within refl in
     let solid : IsSolid (written_slot_at slots k) = are.solid k no_written_slot within in
     elim (grain_found slots job) [
       | inl plain ↦ inl (omega (arith, solid.work))

@@ -1,13 +1,14 @@
 -- Where a line may stand, by what the draft holds.
-use Rattle.std.proofs.Common.{◌≡◌, ℕ, suc, List, [], ◌∷◌, length, Option, Some, None, Bool, true, false, Result, Err, refl, sym, ap, ◌∙◌, subst, inl, inr}
-use Rattle.std.specs.Prelude.{is_some, is_none, nat_lt, ◌==◌, if◌then◌else◌}
+use Rattle.std.proofs.Common.{◌≡◌, ℕ, suc, List, [], ◌∷◌, length, Option, Some, None, Bool, true, false, Result, Err, refl, sym, ap, ◌∙◌, subst}
+use Rattle.std.specs.Prelude.{is_some, is_none, nat_lt, ◌==◌}
 use Rattle.std.specs.List.{filter_map}
-use Rattle.yds_model.specs.Entry.{Entry, JobEntry, PointEntry, SlotEntry, LevelEntry, PieceEntry, MemberEntry, TicksEntry, GridEntry, EnergyEntry, name_said, job_said, is_level, levels_said}
+use Rattle.yds_model.specs.Entry.{Entry, JobEntry, PointEntry, SlotEntry, LevelEntry, PieceEntry, MemberEntry, TicksEntry, GridEntry, EnergyEntry, name_said, job_said}
 use Rattle.yds_model.specs.Lines.{Field}
 use Rattle.yds_model.specs.declared.limits.TheConstants.{MAX_JOBS, MAX_POINTS, MAX_SLOTS, MAX_LEVELS, MAX_PIECES, MAX_MEMBERS}
 use Rattle.yds_model.specs.declared.reason.Reason.{Reason}
 use Rattle.yds_model.specs.declared.reason.Reason.TheVariants as reasons
 use Rattle.yds_model.specs.Reading.{Spot, Kind, ◌>>=◌, demand, refuse, may_follow, has_room, field_at, kind_of, read_fields}
+use Rattle.yds_model.proofs.Said.{levels_counted}
 use Rattle.yds_document.specs.declared.draft.Draft.{Draft}
 use Rattle.yds_document.specs.declared.line_fault.LineFault.{LineFault}
 use Rattle.yds_document.specs.declared.line_fault.LineFault.TheVariants as faults
@@ -16,15 +17,6 @@ use Rattle.yds_document.specs.declared.line_kind.LineKind.TheVariants as kinds
 use Rattle.yds_document.specs.Given.{Fails}
 use Rattle.yds_document.specs.Draft.{Holds, Tells, count_and_read, items_of}
 use Rattle.yds_document.specs.LineKinds.{line_kind, follows_draft, has_room_in}
-use Rattle.yds_document.proofs.Said.{split, levels_past}
-
--- as many levels as level lines
-levels_count : (es : List Entry) → length (filter_map (λ entry. if is_level entry then Some entry else None) es) ≡ length (levels_said es)
-levels_count [] = refl
-levels_count (e ∷ es) = elim (split e) [
-  | inl at ↦ subst (λ (x : Entry). length (filter_map (λ entry. if is_level entry then Some entry else None) (x ∷ es)) ≡ length (levels_said (x ∷ es))) (sym at.2) (ap suc (levels_count es))
-  | inr past ↦ rw past (levels_count es ∙ ap length (sym (levels_past e es past)))
-]
 
 names_count : (es : List Entry) → length (filter_map name_said es) ≡ length (filter_map job_said es)
 names_count [] = refl
@@ -51,8 +43,8 @@ follows_said kinds.Job draft earlier holds = refl
 follows_said kinds.Point draft earlier holds = refl
 follows_said kinds.Slot draft earlier holds = refl
 follows_said kinds.Level draft earlier holds = refl
-follows_said kinds.Piece draft earlier holds = ap (nat_lt 0) (sym (levels_count earlier ∙ ap length holds.levels))
-follows_said kinds.Member draft earlier holds = ap (nat_lt 0) (sym (levels_count earlier ∙ ap length holds.levels))
+follows_said kinds.Piece draft earlier holds = ap (nat_lt 0) (sym (levels_counted earlier ∙ ap length holds.levels))
+follows_said kinds.Member draft earlier holds = ap (nat_lt 0) (sym (levels_counted earlier ∙ ap length holds.levels))
 follows_said kinds.Ticks draft earlier holds = sym (ap (λ l. length l == 0) holds.ticks ∙ none_items draft.ticks)
 follows_said kinds.Run draft earlier holds = sym (ap (λ l. nat_lt 0 (length l)) holds.ticks ∙ some_items draft.ticks)
 follows_said kinds.Grid draft earlier holds = sym (ap (λ l. length l == 0) holds.grid ∙ none_items draft.grid)
@@ -63,7 +55,7 @@ room_said kinds.Job draft earlier holds = ap (λ n. nat_lt n MAX_JOBS) (sym (nam
 room_said kinds.Point draft earlier holds = ap (λ n. nat_lt n MAX_POINTS) (sym (ap length holds.points))
 room_said kinds.Slot draft earlier holds = ap (λ n. nat_lt n MAX_SLOTS) (sym (ap length holds.slots))
 room_said kinds.Run draft earlier holds = ap (λ n. nat_lt n MAX_SLOTS) (sym (ap length holds.slots))
-room_said kinds.Level draft earlier holds = ap (λ n. nat_lt n MAX_LEVELS) (sym (levels_count earlier ∙ ap length holds.levels))
+room_said kinds.Level draft earlier holds = ap (λ n. nat_lt n MAX_LEVELS) (sym (levels_counted earlier ∙ ap length holds.levels))
 room_said kinds.Piece draft earlier holds = ap (λ n. nat_lt n MAX_PIECES) (sym holds.pieces)
 room_said kinds.Member draft earlier holds = ap (λ n. nat_lt n MAX_MEMBERS) (sym holds.members)
 room_said kinds.Ticks draft earlier holds = refl

@@ -2,12 +2,12 @@
 use Rattle.std.proofs.Common.{◌≡◌, ℕ, List, [], ◌∷◌, ◌++◌, Option, false, not, cond, refl, sym, ap, ◌∙◌, inl, inr, ◌⊎◌}
 use Rattle.std.specs.List.{filter_map}
 use Rattle.std.proofs.lemmas.List.{append-nil}
-use Rattle.std.proofs.lemmas.Bool.{true≢false}
 use Rattle.std.proofs.lemmas.List.Elements.{filter_map-append}
 use Rattle.std.proofs.lemmas.List.Sums.{take_while-cons}
 use Rattle.yds_model.specs.Level.{Level}
 use Rattle.yds_model.specs.Piece.{Piece}
 use Rattle.yds_model.specs.Entry.{Entry, JobEntry, PointEntry, SlotEntry, LevelEntry, PieceEntry, MemberEntry, TicksEntry, GridEntry, EnergyEntry, piece_said, member_said, is_level, until_level, levels_said}
+use Rattle.yds_model.proofs.Said.{levels_said-other}
 use Rattle.yds_certificate.specs.Certificate.{with_last}
 use Rattle.yds_certificate.specs.Level.{with_piece, with_member}
 
@@ -42,17 +42,6 @@ split (TicksEntry ticks) = inr refl
 split (GridEntry grid) = inr refl
 split (EnergyEntry energy) = inr refl
 
-pub levels_past : (e : Entry) (es : List Entry) → is_level e ≡ false → levels_said (e ∷ es) ≡ levels_said es
-levels_past (LevelEntry work len) es other = absurd (true≢false other)
-levels_past (JobEntry name job) es other = refl
-levels_past (PointEntry point) es other = refl
-levels_past (SlotEntry slot) es other = refl
-levels_past (PieceEntry piece) es other = refl
-levels_past (MemberEntry job) es other = refl
-levels_past (TicksEntry ticks) es other = refl
-levels_past (GridEntry grid) es other = refl
-levels_past (EnergyEntry energy) es other = refl
-
 until_past : (e : Entry) (es : List Entry) → is_level e ≡ false → until_level (e ∷ es) ≡ e ∷ until_level es
 until_past e es other = take_while-cons (λ entry. not (is_level entry)) e es ∙ ap (λ b. cond (not b) (e ∷ until_level es) []) other
 
@@ -64,7 +53,7 @@ none_until : (es : List Entry) → levels_said es ≡ [] → until_level es ≡ 
 none_until [] none = refl
 none_until (e ∷ es) none = elim (split e) [
   | inl at ↦ let h : levels_said (LevelEntry at.0 at.1 ∷ es) ≡ [] = ap (λ x. levels_said (x ∷ es)) (sym at.2) ∙ none in cc
-  | inr other ↦ until_past e es other ∙ ap (λ l. e ∷ l) (none_until es (sym (levels_past e es other) ∙ none))
+  | inr other ↦ until_past e es other ∙ ap (λ l. e ∷ l) (none_until es (sym (levels_said-other e es other) ∙ none))
 ]
 
 some_until : (es : List Entry) (more : Entry) (first : Level) (rest : List Level) → levels_said es ≡ first ∷ rest → until_level (es ++ more ∷ []) ≡ until_level es
@@ -72,14 +61,14 @@ some_until [] more first rest some = cc
 some_until (e ∷ es) more first rest some = elim (split e) [
   | inl at ↦ ap (λ x. until_level (x ∷ (es ++ more ∷ []))) at.2 ∙ until_at_level at.0 at.1 (es ++ more ∷ []) ∙ sym (until_at_level at.0 at.1 es)
       ∙ ap (λ x. until_level (x ∷ es)) (sym at.2)
-  | inr other ↦ until_past e (es ++ more ∷ []) other ∙ ap (λ l. e ∷ l) (some_until es more first rest (sym (levels_past e es other) ∙ some)) ∙ sym (until_past e es other)
+  | inr other ↦ until_past e (es ++ more ∷ []) other ∙ ap (λ l. e ∷ l) (some_until es more first rest (sym (levels_said-other e es other) ∙ some)) ∙ sym (until_past e es other)
 ]
 
 none_more : (es : List Entry) (e : Entry) → is_level e ≡ false → levels_said es ≡ [] → levels_said (es ++ e ∷ []) ≡ []
-none_more [] e other none = levels_past e [] other
+none_more [] e other none = levels_said-other e [] other
 none_more (x ∷ es) e other none = elim (split x) [
   | inl at ↦ let h : levels_said (LevelEntry at.0 at.1 ∷ es) ≡ [] = ap (λ y. levels_said (y ∷ es)) (sym at.2) ∙ none in cc
-  | inr past ↦ levels_past x (es ++ e ∷ []) past ∙ none_more es e other (sym (levels_past x es past) ∙ none)
+  | inr past ↦ levels_said-other x (es ++ e ∷ []) past ∙ none_more es e other (sym (levels_said-other x es past) ∙ none)
 ]
 
 level_before : ℕ → ℕ → List Entry → Level
@@ -103,10 +92,10 @@ unfolding level_before
 at_level work len es e rest other = ap (λ l. level_before work len (es ++ e ∷ []) ∷ l) rest ∙ grown work len es e (levels_said es) other refl
 
 levels_more : (es : List Entry) (e : Entry) → is_level e ≡ false → levels_said (es ++ e ∷ []) ≡ with_last (with_entry e) (levels_said es)
-levels_more [] e other = levels_past e [] other
+levels_more [] e other = levels_said-other e [] other
 levels_more (x ∷ es) e other = elim (split x) [
   | inl at ↦ ap (λ y. levels_said (y ∷ (es ++ e ∷ []))) at.2 ∙ at_level at.0 at.1 es e (levels_more es e other) other ∙ ap (λ y. with_last (with_entry e) (levels_said (y ∷ es))) (sym at.2)
-  | inr past ↦ levels_past x (es ++ e ∷ []) past ∙ levels_more es e other ∙ ap (with_last (with_entry e)) (sym (levels_past x es past))
+  | inr past ↦ levels_said-other x (es ++ e ∷ []) past ∙ levels_more es e other ∙ ap (with_last (with_entry e)) (sym (levels_said-other x es past))
 ]
 
 with_last_same : (f g : Level → Level) → ((level : Level) → f level ≡ g level) → (levels : List Level) → with_last f levels ≡ with_last g levels
@@ -153,8 +142,8 @@ levels_level [] work len = refl
 levels_level (x ∷ es) work len = elim (split x) [
   | inl at ↦ ap (λ y. levels_said (y ∷ (es ++ LevelEntry work len ∷ []))) at.2 ∙ at_level_level at.0 at.1 work len es (levels_level es work len)
       ∙ ap (λ y. levels_said (y ∷ es) ++ record { work = work; length = len; pieces = []; members = [] } ∷ []) (sym at.2)
-  | inr past ↦ levels_past x (es ++ LevelEntry work len ∷ []) past ∙ levels_level es work len
-      ∙ ap (λ l. l ++ record { work = work; length = len; pieces = []; members = [] } ∷ []) (sym (levels_past x es past))
+  | inr past ↦ levels_said-other x (es ++ LevelEntry work len ∷ []) past ∙ levels_level es work len
+      ∙ ap (λ l. l ++ record { work = work; length = len; pieces = []; members = [] } ∷ []) (sym (levels_said-other x es past))
 ]
 
 pub levels_piece : (es : List Entry) (piece : Piece) → levels_said (es ++ PieceEntry piece ∷ []) ≡ with_last (with_piece piece) (levels_said es)
