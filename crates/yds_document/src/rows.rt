@@ -25,72 +25,84 @@ pub(crate) fn job_line(name: &str, job: &JobRow) -> Line
     requires { length name.now ≤ 64 }
     ensures { result ≡ job_line name.now job.now }
 {
-    Line::new("job")
-        .field(name)
-        .number(u64::from(job.release))
-        .number(u64::from(job.deadline))
-        .number(u64::from(job.work))
-        .end()
+    let mut line = Line::new("job");
+    line.push_field(name);
+    line.push_number(u64::from(job.release));
+    line.push_number(u64::from(job.deadline));
+    line.push_number(u64::from(job.work));
+    line.push_end();
+    line
 }
 
 pub(crate) fn point_line(point: &Point) -> Line
     ensures { result ≡ point_line point.now }
 {
-    Line::new("point")
-        .number(u64::from(point.speed))
-        .number(u64::from(point.power))
-        .end()
+    let mut line = Line::new("point");
+    line.push_number(u64::from(point.speed));
+    line.push_number(u64::from(point.power));
+    line.push_end();
+    line
 }
 
 pub(crate) fn slot_line(instance: &Instance<'_>, slot: &Slot) -> Line
     requires { slot.now.job < length instance.now.jobs }
     ensures { result ≡ slot_line instance.now.names slot.now }
 {
-    Line::new("slot")
-        .field(name_of(instance, slot.job))
-        .fraction(slot.from)
-        .fraction(slot.to)
-        .fraction(slot.work)
-        .end()
+    let mut line = Line::new("slot");
+    line.push_field(name_of(instance, slot.job));
+    line.push_fraction(slot.from);
+    line.push_fraction(slot.to);
+    line.push_fraction(slot.work);
+    line.push_end();
+    line
 }
 
 // The line of a level, without those of its pieces and members.
 pub(crate) fn level_line(level: &Level) -> Line
     ensures { result ≡ line (codes "level" ∷ decimal level.now.work ∷ decimal level.now.length ∷ []) }
 {
-    Line::new("level")
-        .number(level.work)
-        .number(level.length)
-        .end()
+    let mut line = Line::new("level");
+    line.push_number(level.work);
+    line.push_number(level.length);
+    line.push_end();
+    line
 }
 
 pub(crate) fn piece_line(piece: &Piece) -> Line
     ensures { result ≡ piece_line piece.now }
 {
-    Line::new("piece")
-        .number(u64::from(piece.from))
-        .number(u64::from(piece.to))
-        .end()
+    let mut line = Line::new("piece");
+    line.push_number(u64::from(piece.from));
+    line.push_number(u64::from(piece.to));
+    line.push_end();
+    line
 }
 
 pub(crate) fn member_line(instance: &Instance<'_>, job: u32) -> Line
     requires { job < length instance.now.jobs }
     ensures { result ≡ member_line instance.now.names job }
 {
-    Line::new("member").field(name_of(instance, job)).end()
+    let mut line = Line::new("member");
+    line.push_field(name_of(instance, job));
+    line.push_end();
+    line
 }
 
 pub(crate) fn grid_line(grid: Grid) -> Line
     ensures { result ≡ line (codes "grid" ∷ decimal grid.grid ∷ decimal grid.rounded ∷ []) }
 {
-    Line::new("grid")
-        .number(u64::from(grid.grid))
-        .number(u64::from(grid.rounded))
-        .end()
+    let mut line = Line::new("grid");
+    line.push_number(u64::from(grid.grid));
+    line.push_number(u64::from(grid.rounded));
+    line.push_end();
+    line
 }
 
 pub(crate) fn energy_line(energy: Amount) -> Line
     ensures { result ≡ line (codes "energy" ∷ fraction_text energy ∷ []) }
 {
-    Line::new("energy").fraction(energy).end()
+    let mut line = Line::new("energy");
+    line.push_fraction(energy);
+    line.push_end();
+    line
 }
