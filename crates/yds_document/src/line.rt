@@ -37,6 +37,15 @@ impl Line {
         Line { text }
     }
 
+    // The line begins anew with this word, in the same place.
+    pub(crate) fn restart(&mut self, kind: &str)
+        requires { length kind.now ≤ LINE_BYTES }
+        ensures { self.new ≡ kind.now }
+    {
+        self.text.clear();
+        self.text.push_str(kind);
+    }
+
     /// One more field, after a space.
     pub fn field(mut self, field: &str) -> Line
         requires { length self + 1 + length field.now ≤ LINE_BYTES }
