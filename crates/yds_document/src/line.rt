@@ -37,24 +37,52 @@ impl Line {
         Line { text }
     }
 
+    // The line begins anew with this word, in the same place.
+    pub(crate) fn restart(&mut self, kind: &str)
+        requires { length kind.now ≤ LINE_BYTES }
+        ensures { self.new ≡ kind.now }
+    {
+        self.text.clear();
+        self.text.push_str(kind);
+    }
+
     /// One more field, after a space.
     pub fn field(mut self, field: &str) -> Line
         requires { length self + 1 + length field.now ≤ LINE_BYTES }
         ensures bytes { result ≡ self ++ 32 ∷ field.now }
         ensures len { length result ≡ length self + 1 + length field.now }
     {
-        self.text.push_str(" ");
-        self.text.push_str(field);
+        self.push_field(field);
         self
     }
 
+    // The same in place: nothing is moved.
+    pub(crate) fn push_field(&mut self, field: &str)
+        requires { length self.old + 1 + length field.now ≤ LINE_BYTES }
+        ensures bytes { self.new ≡ self.old ++ 32 ∷ field.now }
+        ensures len { length self.new ≡ length self.old + 1 + length field.now }
+    {
+        self.text.push_str(" ");
+        self.text.push_str(field);
+    }
+
     /// One more field with a number, after a space.
-    pub fn number(self, number: u64) -> Line
+    pub fn number(mut self, number: u64) -> Line
         requires { length self + 21 ≤ LINE_BYTES }
         ensures bytes { result ≡ self ++ 32 ∷ decimal number }
         ensures short { length result ≤ length self + 21 }
     {
-        self.field(Buffer::new().format(number))
+        self.push_number(number);
+        self
+    }
+
+    // The same in place.
+    pub(crate) fn push_number(&mut self, number: u64)
+        requires { length self.old + 21 ≤ LINE_BYTES }
+        ensures bytes { self.new ≡ self.old ++ 32 ∷ decimal number }
+        ensures short { length self.new ≤ length self.old + 21 }
+    {
+        self.push_field(Buffer::new().format(number));
     }
 
     /// One more field with a number at the right of so many places, after a space. A number of more digits
@@ -102,8 +130,18 @@ impl Line {
         ensures bytes { result ≡ self ++ 32 ∷ fraction_text value }
         ensures short { length result ≤ length self + 63 }
     {
+        self.push_fraction(value);
+        self
+    }
+
+    // The same in place.
+    pub(crate) fn push_fraction(&mut self, value: Amount)
+        requires { length self.old + 63 ≤ LINE_BYTES }
+        ensures bytes { self.new ≡ self.old ++ 32 ∷ fraction_text value }
+        ensures short { length self.new ≤ length self.old + 63 }
+    {
         self.text.push_str(" ");
-        self.mixed(value)
+        self.push_mixed(value);
     }
 
     /// The same with no space before it.
@@ -112,23 +150,32 @@ impl Line {
         ensures bytes { result ≡ self ++ fraction_text value }
         ensures short { length result ≤ length self + 62 }
     {
+        self.push_mixed(value);
+        self
+    }
+
+    // The same in place.
+    fn push_mixed(&mut self, value: Amount)
+        requires { length self.old + 62 ≤ LINE_BYTES }
+        ensures bytes { self.new ≡ self.old ++ fraction_text value }
+        ensures short { length self.new ≤ length self.old + 62 }
+    {
         self.text.push_str(Buffer::new().format(value.whole()));
-        if value.num() == 0 {
-            return self;
+        if value.num() != 0 {
+            self.push_part("+", value.num());
+            self.push_part("/", value.den());
         }
-        self.part("+", value.num()).part("/", value.den())
     }
 
     // A sign and a number, with no space.
-    fn part(mut self, sign: &str, number: u64) -> Line
+    fn push_part(&mut self, sign: &str, number: u64)
         requires one { length sign.now ≡ 1 }
-        requires room { length self + 21 ≤ LINE_BYTES }
-        ensures bytes { result ≡ self ++ (sign.now ++ decimal number) }
-        ensures short { length result ≤ length self + 21 }
+        requires room { length self.old + 21 ≤ LINE_BYTES }
+        ensures bytes { self.new ≡ self.old ++ (sign.now ++ decimal number) }
+        ensures short { length self.new ≤ length self.old + 21 }
     {
         self.text.push_str(sign);
         self.text.push_str(Buffer::new().format(number));
-        self
     }
 
     /// The line with its end.
@@ -136,8 +183,16 @@ impl Line {
         requires { length self + 1 ≤ LINE_BYTES }
         ensures bytes { result ≡ self ++ 10 ∷ [] }
     {
-        self.text.push_str("\n");
+        self.push_end();
         self
+    }
+
+    // The same in place.
+    pub(crate) fn push_end(&mut self)
+        requires { length self.old + 1 ≤ LINE_BYTES }
+        ensures { self.new ≡ self.old ++ 10 ∷ [] }
+    {
+        self.text.push_str("\n");
     }
 
     /// The line's bytes.

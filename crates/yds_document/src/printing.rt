@@ -1,4 +1,4 @@
-// Printing a document: each line is made on the stack, and written with one call.
+// Printing a document: each line is made on the stack, in the place of the one before it, and written with one call.
 ghost use Rattle.std.specs.Prelude.{◌≡◌, ◌<◌, ◌≤◌, length, IsErr};
 ghost use Rattle.std.specs.List.{All, flat_map};
 ghost use Rattle.yds_model.specs.Text.{job_lines, point_line, slot_line, level_lines, piece_line, member_line, grid_lines, energy_lines, fraction_text};
@@ -7,8 +7,7 @@ ghost use Rattle.yds_port.specs.Sink.{Delivers};
 use crate::grid::Grid;
 use crate::line::Line;
 use crate::rows::{
-    energy_line, grid_line, job_line, level_line, member_line, name_of, piece_line, point_line,
-    slot_line,
+    name_of, put_energy, put_grid, put_job, put_level, put_member, put_piece, put_point, put_slot,
 };
 use yds_certificate::{Level, Piece};
 use yds_fraction::Amount;
@@ -23,8 +22,9 @@ pub(crate) fn print_jobs<K: Sink>(instance: &Instance<'_>, sink: &mut K) -> Resu
     ensures flushed_stays { K.flushed sink.new ≡ K.flushed sink.old }
 {
     let rows = instance.rows();
+    let mut line = Line::new("");
     for (job, row) in rows.iter().enumerate() {
-        let line = job_line(name_of(instance, job as u32), row);
+        put_job(&mut line, name_of(instance, job as u32), row);
         write_all(sink, line.as_bytes())?;
     }
     Ok(())
@@ -35,8 +35,10 @@ pub(crate) fn print_points<K: Sink>(points: &[Point], sink: &mut K) -> Result<()
     ensures delivers { Delivers result (flat_map point_line points.now) (K.written sink.old) (K.written sink.new) (K.faults sink.old) (K.faults sink.new) }
     ensures flushed_stays { K.flushed sink.new ≡ K.flushed sink.old }
 {
+    let mut line = Line::new("");
     for point in points {
-        write_all(sink, point_line(point).as_bytes())?;
+        put_point(&mut line, point);
+        write_all(sink, line.as_bytes())?;
     }
     Ok(())
 }
@@ -51,8 +53,10 @@ pub(crate) fn print_slots<K: Sink>(
     ensures delivers { Delivers result (flat_map (slot_line instance.now.names) slots.now) (K.written sink.old) (K.written sink.new) (K.faults sink.old) (K.faults sink.new) }
     ensures flushed_stays { K.flushed sink.new ≡ K.flushed sink.old }
 {
+    let mut line = Line::new("");
     for slot in slots {
-        write_all(sink, slot_line(instance, slot).as_bytes())?;
+        put_slot(&mut line, instance, slot);
+        write_all(sink, line.as_bytes())?;
     }
     Ok(())
 }
@@ -67,8 +71,9 @@ pub(crate) fn print_levels<K: Sink>(
     ensures delivers { Delivers result (flat_map (level_lines instance.now.names) levels.now) (K.written sink.old) (K.written sink.new) (K.faults sink.old) (K.faults sink.new) }
     ensures flushed_stays { K.flushed sink.new ≡ K.flushed sink.old }
 {
+    let mut line = Line::new("");
     for level in levels {
-        print_level(instance, level, sink)?;
+        print_level(instance, level, &mut line, sink)?;
     }
     Ok(())
 }
@@ -77,23 +82,26 @@ pub(crate) fn print_levels<K: Sink>(
 fn print_level<K: Sink>(
     instance: &Instance<'_>,
     level: &Level,
+    line: &mut Line,
     sink: &mut K,
 ) -> Result<(), WriteFault>
     requires { All (λ job. job < length instance.now.jobs) level.now.members }
     ensures delivers { Delivers result (level_lines instance.now.names level.now) (K.written sink.old) (K.written sink.new) (K.faults sink.old) (K.faults sink.new) }
     ensures flushed_stays { K.flushed sink.new ≡ K.flushed sink.old }
 {
-    write_all(sink, level_line(level).as_bytes())?;
-    print_pieces(&level.pieces, sink)?;
-    print_members(instance, &level.members, sink)
+    put_level(line, level);
+    write_all(sink, line.as_bytes())?;
+    print_pieces(&level.pieces, line, sink)?;
+    print_members(instance, &level.members, line, sink)
 }
 
-fn print_pieces<K: Sink>(pieces: &[Piece], sink: &mut K) -> Result<(), WriteFault>
+fn print_pieces<K: Sink>(pieces: &[Piece], line: &mut Line, sink: &mut K) -> Result<(), WriteFault>
     ensures delivers { Delivers result (flat_map piece_line pieces.now) (K.written sink.old) (K.written sink.new) (K.faults sink.old) (K.faults sink.new) }
     ensures flushed_stays { K.flushed sink.new ≡ K.flushed sink.old }
 {
     for piece in pieces {
-        write_all(sink, piece_line(piece).as_bytes())?;
+        put_piece(line, piece);
+        write_all(sink, line.as_bytes())?;
     }
     Ok(())
 }
@@ -101,6 +109,7 @@ fn print_pieces<K: Sink>(pieces: &[Piece], sink: &mut K) -> Result<(), WriteFaul
 fn print_members<K: Sink>(
     instance: &Instance<'_>,
     members: &[u32],
+    line: &mut Line,
     sink: &mut K,
 ) -> Result<(), WriteFault>
     requires { All (λ job. job < length instance.now.jobs) members.now }
@@ -108,7 +117,8 @@ fn print_members<K: Sink>(
     ensures flushed_stays { K.flushed sink.new ≡ K.flushed sink.old }
 {
     for member in members {
-        write_all(sink, member_line(instance, *member).as_bytes())?;
+        put_member(line, instance, *member);
+        write_all(sink, line.as_bytes())?;
     }
     Ok(())
 }
@@ -119,7 +129,11 @@ pub(crate) fn print_grid<K: Sink>(grid: Option<Grid>, sink: &mut K) -> Result<()
     ensures flushed_stays { K.flushed sink.new ≡ K.flushed sink.old }
 {
     match grid {
-        Some(grid) => write_all(sink, grid_line(grid).as_bytes()),
+        Some(grid) => {
+            let mut line = Line::new("");
+            put_grid(&mut line, grid);
+            write_all(sink, line.as_bytes())
+        }
         None => Ok(()),
     }
 }
@@ -130,7 +144,11 @@ pub(crate) fn print_energy<K: Sink>(energy: Option<Amount>, sink: &mut K) -> Res
     ensures flushed_stays { K.flushed sink.new ≡ K.flushed sink.old }
 {
     match energy {
-        Some(energy) => write_all(sink, energy_line(energy).as_bytes()),
+        Some(energy) => {
+            let mut line = Line::new("");
+            put_energy(&mut line, energy);
+            write_all(sink, line.as_bytes())
+        }
         None => Ok(()),
     }
 }

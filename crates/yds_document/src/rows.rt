@@ -1,4 +1,4 @@
-// The line of each row of a document.
+// The line of each row of a document, put in the place of the line before it.
 ghost use Rattle.std.specs.Prelude.{◌≡◌, ◌<◌, ◌≤◌, [], ◌∷◌, length, codes, decimal};
 ghost use Rattle.yds_model.specs.Text.{line, fraction_text, job_line, point_line, slot_line, piece_line, member_line};
 ghost use Rattle.yds_model.specs.Document.{name_at};
@@ -21,76 +21,80 @@ pub(crate) fn name_of<'a>(instance: &Instance<'a>, job: u32) -> &'a str
     instance.name(job)
 }
 
-pub(crate) fn job_line(name: &str, job: &JobRow) -> Line
+pub(crate) fn put_job(text: &mut Line, name: &str, job: &JobRow)
     requires { length name.now ≤ 64 }
-    ensures { result ≡ job_line name.now job.now }
+    ensures { text.new ≡ job_line name.now job.now }
 {
-    Line::new("job")
-        .field(name)
-        .number(u64::from(job.release))
-        .number(u64::from(job.deadline))
-        .number(u64::from(job.work))
-        .end()
+    text.restart("job");
+    text.push_field(name);
+    text.push_number(u64::from(job.release));
+    text.push_number(u64::from(job.deadline));
+    text.push_number(u64::from(job.work));
+    text.push_end();
 }
 
-pub(crate) fn point_line(point: &Point) -> Line
-    ensures { result ≡ point_line point.now }
+pub(crate) fn put_point(text: &mut Line, point: &Point)
+    ensures { text.new ≡ point_line point.now }
 {
-    Line::new("point")
-        .number(u64::from(point.speed))
-        .number(u64::from(point.power))
-        .end()
+    text.restart("point");
+    text.push_number(u64::from(point.speed));
+    text.push_number(u64::from(point.power));
+    text.push_end();
 }
 
-pub(crate) fn slot_line(instance: &Instance<'_>, slot: &Slot) -> Line
+pub(crate) fn put_slot(text: &mut Line, instance: &Instance<'_>, slot: &Slot)
     requires { slot.now.job < length instance.now.jobs }
-    ensures { result ≡ slot_line instance.now.names slot.now }
+    ensures { text.new ≡ slot_line instance.now.names slot.now }
 {
-    Line::new("slot")
-        .field(name_of(instance, slot.job))
-        .fraction(slot.from)
-        .fraction(slot.to)
-        .fraction(slot.work)
-        .end()
+    text.restart("slot");
+    text.push_field(name_of(instance, slot.job));
+    text.push_fraction(slot.from);
+    text.push_fraction(slot.to);
+    text.push_fraction(slot.work);
+    text.push_end();
 }
 
 // The line of a level, without those of its pieces and members.
-pub(crate) fn level_line(level: &Level) -> Line
-    ensures { result ≡ line (codes "level" ∷ decimal level.now.work ∷ decimal level.now.length ∷ []) }
+pub(crate) fn put_level(text: &mut Line, level: &Level)
+    ensures { text.new ≡ line (codes "level" ∷ decimal level.now.work ∷ decimal level.now.length ∷ []) }
 {
-    Line::new("level")
-        .number(level.work)
-        .number(level.length)
-        .end()
+    text.restart("level");
+    text.push_number(level.work);
+    text.push_number(level.length);
+    text.push_end();
 }
 
-pub(crate) fn piece_line(piece: &Piece) -> Line
-    ensures { result ≡ piece_line piece.now }
+pub(crate) fn put_piece(text: &mut Line, piece: &Piece)
+    ensures { text.new ≡ piece_line piece.now }
 {
-    Line::new("piece")
-        .number(u64::from(piece.from))
-        .number(u64::from(piece.to))
-        .end()
+    text.restart("piece");
+    text.push_number(u64::from(piece.from));
+    text.push_number(u64::from(piece.to));
+    text.push_end();
 }
 
-pub(crate) fn member_line(instance: &Instance<'_>, job: u32) -> Line
+pub(crate) fn put_member(text: &mut Line, instance: &Instance<'_>, job: u32)
     requires { job < length instance.now.jobs }
-    ensures { result ≡ member_line instance.now.names job }
+    ensures { text.new ≡ member_line instance.now.names job }
 {
-    Line::new("member").field(name_of(instance, job)).end()
+    text.restart("member");
+    text.push_field(name_of(instance, job));
+    text.push_end();
 }
 
-pub(crate) fn grid_line(grid: Grid) -> Line
-    ensures { result ≡ line (codes "grid" ∷ decimal grid.grid ∷ decimal grid.rounded ∷ []) }
+pub(crate) fn put_grid(text: &mut Line, grid: Grid)
+    ensures { text.new ≡ line (codes "grid" ∷ decimal grid.grid ∷ decimal grid.rounded ∷ []) }
 {
-    Line::new("grid")
-        .number(u64::from(grid.grid))
-        .number(u64::from(grid.rounded))
-        .end()
+    text.restart("grid");
+    text.push_number(u64::from(grid.grid));
+    text.push_number(u64::from(grid.rounded));
+    text.push_end();
 }
 
-pub(crate) fn energy_line(energy: Amount) -> Line
-    ensures { result ≡ line (codes "energy" ∷ fraction_text energy ∷ []) }
+pub(crate) fn put_energy(text: &mut Line, energy: Amount)
+    ensures { text.new ≡ line (codes "energy" ∷ fraction_text energy ∷ []) }
 {
-    Line::new("energy").fraction(energy).end()
+    text.restart("energy");
+    text.push_fraction(energy);
+    text.push_end();
 }

@@ -8,14 +8,14 @@ returns-in_err-write_all-clause-delivers g c =
     let kept = c.rows-rows.ensures in
     item_failed _ (λ named. job_line named.0 named.1) _ _ _ _ _ _ _ _ _ _ _ c.from_residual.ensures.0 (named_within _ _ _ _ kept.kept.one_name_each kept.jobs c.loop-job-test.true)
     (named_at _ _ _ _ _ _ kept.kept.one_name_each kept.jobs c.loop-job-test.true c.name_of.ensures.name c.index-rows-job.is)
-    (c.as_bytes.ensures ∙ c.job_line-line.ensures) c.loop-job.invariant.printed c.in_err-write_all.ensures.delivers
+    (c.as_bytes.ensures ∙ c.put_job.ensures) c.loop-job.invariant.printed c.in_err-write_all.ensures.delivers
 
 pub loop-job-preserved : goal.loop-job-preserved
 loop-job-preserved g c = record {
   printed = let kept = c.rows-rows.ensures in
       item_printed (λ named. job_line named.0 named.1) _ _ _ _ _ _ _ _ _ _ _ (named_within _ _ _ _ kept.kept.one_name_each kept.jobs c.loop-job-test.true)
       (named_at _ _ _ _ _ _ kept.kept.one_name_each kept.jobs c.loop-job-test.true c.name_of.ensures.name c.index-rows-job.is)
-      (c.as_bytes.ensures ∙ c.job_line-line.ensures) c.loop-job.invariant.printed c.in_ok-write_all.ensures.delivers;
+      (c.as_bytes.ensures ∙ c.put_job.ensures) c.loop-job.invariant.printed c.in_ok-write_all.ensures.delivers;
   flushed_stays = c.write_all.ensures.flushed_stays ∙ c.loop-job.invariant.flushed_stays;
 }
 

@@ -9,14 +9,14 @@ returns-in_err-write_all-clause-delivers g c =
     let level = c.args.level.now in
     first_failed _ (line (codes "level" ∷ decimal level.work ∷ decimal level.length ∷ [])) (flat_map piece_line level.pieces)
     (flat_map (member_line c.args.instance.now.names) level.members) _ _ _ _ _
-    c.from_residual.ensures.0 (c.as_bytes.ensures ∙ c.level_line.ensures) c.in_err-write_all.ensures.delivers
+    c.from_residual.ensures.0 (c.as_bytes.ensures ∙ c.put_level.ensures) c.in_err-write_all.ensures.delivers
 
 pub returns-in_err-print_pieces-clause-delivers : goal.returns-in_err-print_pieces-clause-delivers
 returns-in_err-print_pieces-clause-delivers g c =
     let level = c.args.level.now in
     second_failed _ (line (codes "level" ∷ decimal level.work ∷ decimal level.length ∷ [])) (flat_map piece_line level.pieces)
     (flat_map (member_line c.args.instance.now.names) level.members) _ _ _ _ _ _ _ _
-    c.from_residual-in_err-print_pieces.ensures.0 (c.as_bytes.ensures ∙ c.level_line.ensures) c.in_ok-write_all.ensures.delivers
+    c.from_residual-in_err-print_pieces.ensures.0 (c.as_bytes.ensures ∙ c.put_level.ensures) c.in_ok-write_all.ensures.delivers
     (ap (flat_map piece_line) (c.deref.ensures.value ∙ ap (λ l. l.pieces) c.level.view_is)) c.in_err-print_pieces.ensures.delivers
 
 pub returns-clause-delivers : goal.returns-clause-delivers
@@ -24,6 +24,6 @@ returns-clause-delivers g c =
     let level = c.args.level.now in
     third_delivers _ (line (codes "level" ∷ decimal level.work ∷ decimal level.length ∷ [])) (flat_map piece_line level.pieces)
     (flat_map (member_line c.args.instance.now.names) level.members) _ _ _ _ _ _ _ _ _ _ _
-    (c.as_bytes.ensures ∙ c.level_line.ensures) c.in_ok-write_all.ensures.delivers
+    (c.as_bytes.ensures ∙ c.put_level.ensures) c.in_ok-write_all.ensures.delivers
     (ap (flat_map piece_line) (c.deref.ensures.value ∙ ap (λ l. l.pieces) c.level.view_is)) c.in_ok-print_pieces.ensures.delivers
     (ap (flat_map (member_line c.args.instance.now.names)) (c.deref-2.ensures.value ∙ ap (λ l. l.members) c.level.view_is)) c.print_members.ensures.delivers

@@ -5,12 +5,12 @@ use Rattle.yds_document.proofs.printing.print_pieces.Goals as goal
 
 pub returns-in_err-write_all-clause-delivers : goal.returns-in_err-write_all-clause-delivers
 returns-in_err-write_all-clause-delivers g c =
-    item_failed _ piece_line _ _ _ _ _ _ _ _ _ _ _ c.from_residual.ensures.0 c.loop-piece-test.true (sym c.piece-item.is) (c.as_bytes.ensures ∙ c.piece_line.ensures)
+    item_failed _ piece_line _ _ _ _ _ _ _ _ _ _ _ c.from_residual.ensures.0 c.loop-piece-test.true (sym c.piece-item.is) (c.as_bytes.ensures ∙ c.put_piece.ensures)
     c.loop-piece.invariant.printed c.in_err-write_all.ensures.delivers
 
 pub loop-piece-preserved : goal.loop-piece-preserved
 loop-piece-preserved g c = record {
-  printed = item_printed piece_line _ _ _ _ _ _ _ _ _ _ _ c.loop-piece-test.true (sym c.piece-item.is) (c.as_bytes.ensures ∙ c.piece_line.ensures)
+  printed = item_printed piece_line _ _ _ _ _ _ _ _ _ _ _ c.loop-piece-test.true (sym c.piece-item.is) (c.as_bytes.ensures ∙ c.put_piece.ensures)
       c.loop-piece.invariant.printed c.in_ok-write_all.ensures.delivers;
   flushed_stays = c.write_all.ensures.flushed_stays ∙ c.loop-piece.invariant.flushed_stays;
 }
