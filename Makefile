@@ -20,7 +20,7 @@ tool:
 	@command -v rt >/dev/null 2>&1 || { echo "make: the command 'rt' of the Rattle toolchain is not on the PATH; install the kit that README.md names." >&2; exit 1; }
 
 $(BINARY): $(SOURCES) | tool
-	@echo "Proving and building $(PROGRAM); the first time this takes a few minutes."
+	@echo "Proving and building $(PROGRAM); the first time this takes about a quarter of an hour."
 	@mkdir -p build
 	@cd crates/$(PROGRAM) && rt run $(PROGRAM) -- plan </dev/null >../../build/log 2>&1 || { tail -n 40 ../../build/log >&2; exit 1; }
 	@cp crates/$(PROGRAM)/out/$(PROGRAM) $@
