@@ -17,7 +17,7 @@ use Rattle.yds_model.specs.declared.limits.TheConstants.{MAX_JOBS}
 use Rattle.yds_instance.specs.Named.{Named, IsInstance, AreDifferentNames, number_of}
 use Rattle.yds_model.specs.Document.{name_at}
 use Rattle.yds_model.specs.Spelling.{is_name}
-use Rattle.yds_model.proofs.Grown.{place_cases}
+use Rattle.yds_model.proofs.Lists.{place_cases}
 
 -- # The number of a name
 

@@ -12,7 +12,7 @@ use Rattle.yds_model.specs.Slot.{WrittenSlot, WholeSlot, IsDivided, IsScale, slo
 use Rattle.yds_model.specs.Feasible.{IsInWindow, IsFeasibleAt, IsFeasible}
 use Rattle.yds_model.specs.Table.{Point}
 use Rattle.yds_model.specs.Audit.{grain_of, parts_given, IsOnTable, release_of, deadline_of, Stands, GetsItsWork, AllStand, AreSlots}
-use Rattle.yds_model.specs.Laws.{VerdictIsExact, TableVerdictIsExact}
+use Rattle.yds_model.specs.AuditLaws.{VerdictIsExact, TableVerdictIsExact}
 use Rattle.yds_model.proofs.Fractions.{order_of_values, at_most_of_values}
 use Rattle.yds_model.proofs.Scale.{scale_exists}
 use Rattle.yds_model.proofs.Grain.{grain_positive, given_scaled}

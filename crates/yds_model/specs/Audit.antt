@@ -4,7 +4,7 @@ use Rattle.std.specs.Prelude.{◌≡◌, ◌≢◌, ℕ, ◌+◌, ◌-◌, ◌*�
 use Rattle.std.specs.List.{All, Any}
 use Rattle.yds_model.specs.Numbers.{Each}
 use Rattle.yds_model.specs.Job.{Job, job_at}
-use Rattle.yds_model.specs.Scale.{Fraction, of_whole, of_parts, numerator, IsLess, IsAtMost}
+use Rattle.yds_model.specs.Scale.{Fraction, of_whole, of_parts, numerator, AreAlike, IsLess, IsAtMost}
 use Rattle.yds_model.specs.Slot.{WrittenSlot, written_slot_at, IsSolid}
 use Rattle.yds_model.specs.Table.{Point}
 
@@ -124,9 +124,6 @@ IsVerdict jobs table slots (WrongWork job given wanted) = IsWrongWork jobs table
 
 -- what the types of the program keep of slots: denominators of at least 1, jobs that are known, and works of one job that are
 -- whole or have one denominator
-abbrev pub AreAlike : Fraction → Fraction → Type 0
-AreAlike x y = (x.den ≡ y.den) ⊎ ((x.den ≡ 1) ⊎ (y.den ≡ 1))
-
 pub record AreSlots (jobs : ℕ) (slots : List WrittenSlot) : Type 0 where
   pub solid : All IsSolid slots
   pub known : All (λ slot. slot.job < jobs) slots

@@ -13,6 +13,7 @@ pub mod Table
 pub mod Lines
 pub mod Spelling
 pub mod Reason
+pub mod Status
 pub mod Document
 pub mod Text
 pub mod Entry
@@ -23,7 +24,6 @@ pub mod Plan
 pub mod Audit
 pub mod Judgement
 pub mod Energy
-pub mod EnergyLaws
 pub mod Policy
 pub mod AverageRate
 pub mod OptimalAvailable
@@ -34,7 +34,8 @@ pub mod RoundAnswer
 pub mod ReportAnswer
 pub mod Request
 pub mod Answer
-pub mod PlanText
-pub mod TextLaws
-pub mod RoundTrip
-pub mod Laws
+pub mod Within
+pub mod ScaleLaws
+pub mod DivisorLaws
+pub mod HullLaws
+pub mod AuditLaws

@@ -11,7 +11,7 @@ use Rattle.yds_model.specs.Plan.{IsPlan}
 use Rattle.yds_model.specs.Document.{Document}
 use Rattle.yds_model.specs.Text.{canonical_text}
 use Rattle.yds_model.specs.Reading.{reading}
-use Rattle.yds_model.specs.RoundTrip.{AreSlotsOf, AreLevelsOf}
+use Rattle.yds_model.specs.Within.{AreSlotsOf, AreLevelsOf}
 
 -- the same jobs and points, with these slots and levels, and nothing else
 abbrev pub with_plan : Document → List WrittenSlot → List Level → Document

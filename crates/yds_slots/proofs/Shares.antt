@@ -14,7 +14,8 @@ use Rattle.yds_model.specs.Slot.{WrittenSlot, WholeSlot, IsDivided, IsScale, slo
 use Rattle.yds_model.specs.Audit.{grain_of}
 use Rattle.yds_model.proofs.Sums.{sum_by_zero}
 use Rattle.yds_model.proofs.Grain.{grain_positive}
-use Rattle.yds_model.proofs.Grown.{All-last, parts_den}
+use Rattle.yds_model.proofs.Fractions.{parts_den}
+use Rattle.yds_model.proofs.Lists.{All-last}
 use Rattle.yds_fraction.specs.Mixed.{IsMixed, Adds, common_den}
 use Rattle.yds_slots.specs.Slot.{IsSlot}
 use Rattle.yds_slots.specs.Received.{Share}
