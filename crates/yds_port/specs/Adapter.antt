@@ -28,18 +28,18 @@ abbrev pub flush_calls : {W : Type 0} → StdSink W → ℕ
 flush_calls sink = sink.flushes
 
 -- A reader's answer: a read of no byte is the end, and each error a fault.
-abbrev pub taken_of : {E : Type 0} → Result ℕ E → Taken
-taken_of (Ok zero) = End
-taken_of (Ok (suc n)) = BytesTaken (suc n)
-taken_of (Err e) = NotRead
+abbrev pub taken_by : {E : Type 0} → Result ℕ E → Taken
+taken_by (Ok zero) = End
+taken_by (Ok (suc n)) = BytesTaken (suc n)
+taken_by (Err e) = NotRead
 
 -- A writer's answer to a piece that isn't empty: a write of no byte is a fault, as each error is.
-abbrev pub given_of : {E : Type 0} → Result ℕ E → Given
-given_of (Ok zero) = NotWritten
-given_of (Ok (suc n)) = BytesGiven (suc n)
-given_of (Err e) = NotWritten
+abbrev pub given_by : {E : Type 0} → Result ℕ E → Given
+given_by (Ok zero) = NotWritten
+given_by (Ok (suc n)) = BytesGiven (suc n)
+given_by (Err e) = NotWritten
 
 -- A writer's answer to a flush: each error is a fault.
-abbrev pub flushed_of : {T E : Type 0} → Result T E → Flushed
-flushed_of (Ok x) = Done
-flushed_of (Err e) = NotFlushed
+abbrev pub flushed_by : {T E : Type 0} → Result T E → Flushed
+flushed_by (Ok x) = Done
+flushed_by (Err e) = NotFlushed

@@ -1,5 +1,5 @@
 ghost use Rattle.std.specs.Prelude.{◌≡◌, None};
-ghost use Rattle.yds_port.specs.Adapter.{given_of, flushed_of};
+ghost use Rattle.yds_port.specs.Adapter.{given_by, flushed_by};
 
 use crate::sink::{Flushed, Given, Sink};
 use std::io;
@@ -43,7 +43,7 @@ impl<W: Write> Sink for StdSink<W> {
     ghost faults = { write_faults };
 
     fn write(&mut self, piece: &[u8]) -> Given {
-        let given = given_of(self.inner.write(piece));
+        let given = given_by(self.inner.write(piece));
         if given == Given::Failed {
             self.faults = self.faults.saturating_add(1);
         }
@@ -52,7 +52,7 @@ impl<W: Write> Sink for StdSink<W> {
 
     fn flush(&mut self) -> Flushed {
         self.flushes = self.flushes.saturating_add(1);
-        let flushed = flushed_of(self.inner.flush());
+        let flushed = flushed_by(self.inner.flush());
         if flushed == Flushed::Failed {
             self.faults = self.faults.saturating_add(1);
         }
@@ -61,8 +61,8 @@ impl<W: Write> Sink for StdSink<W> {
 }
 
 /// What a writer's answer to a piece that isn't empty means to a sink. A write of no byte failed.
-fn given_of(answer: io::Result<usize>) -> Given
-    ensures { result ≡ given_of answer }
+fn given_by(answer: io::Result<usize>) -> Given
+    ensures { result ≡ given_by answer }
 {
     match answer {
         Ok(0) => Given::Failed,
@@ -72,8 +72,8 @@ fn given_of(answer: io::Result<usize>) -> Given
 }
 
 /// What a writer's answer to a flush means to a sink.
-fn flushed_of(answer: io::Result<()>) -> Flushed
-    ensures { result ≡ flushed_of answer }
+fn flushed_by(answer: io::Result<()>) -> Flushed
+    ensures { result ≡ flushed_by answer }
 {
     match answer {
         Ok(()) => Flushed::Done,

@@ -1,5 +1,5 @@
 ghost use Rattle.std.specs.Prelude.{◌≡◌};
-ghost use Rattle.yds_port.specs.Adapter.{taken_of};
+ghost use Rattle.yds_port.specs.Adapter.{taken_by};
 
 use crate::source::{Source, Taken};
 use std::io;
@@ -31,7 +31,7 @@ impl<R: Read> Source for StdSource<R> {
     ghost faults = { read_faults };
 
     fn read(&mut self, into: &mut [u8]) -> Taken {
-        let taken = taken_of(self.inner.read(into));
+        let taken = taken_by(self.inner.read(into));
         if taken == Taken::Failed {
             self.faults = self.faults.saturating_add(1);
         }
@@ -40,8 +40,8 @@ impl<R: Read> Source for StdSource<R> {
 }
 
 /// What a reader's answer means to a source. A read of no byte is the end.
-fn taken_of(answer: io::Result<usize>) -> Taken
-    ensures { result ≡ taken_of answer }
+fn taken_by(answer: io::Result<usize>) -> Taken
+    ensures { result ≡ taken_by answer }
 {
     match answer {
         Ok(0) => Taken::End,
