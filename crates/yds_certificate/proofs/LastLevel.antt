@@ -11,8 +11,9 @@ use Rattle.yds_model.specs.declared.limits.TheConstants.{MAX_PIECES, MAX_MEMBERS
 use Rattle.yds_model.specs.Numbers.{count}
 use Rattle.yds_model.specs.Piece.{Piece, AreApart}
 use Rattle.yds_model.specs.Level.{Level, level_at, all_members, all_pieces}
-use Rattle.yds_certificate.specs.Piece.{IsPiece}
-use Rattle.yds_certificate.specs.Level.{IsLevel, with_piece, with_member}
+use Rattle.yds_model.specs.Within.{IsPiece}
+use Rattle.yds_model.specs.Within.{IsLevel}
+use Rattle.yds_certificate.specs.Level.{with_piece, with_member}
 use Rattle.yds_certificate.specs.Certificate.{IsCertificate, with_last}
 use Rattle.yds_certificate.specs.Merging.{IsNewTo, AreTogether, last_level}
 
