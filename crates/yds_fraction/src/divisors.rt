@@ -1,4 +1,4 @@
-ghost use Rattle.std.specs.Prelude.{◌≡◌, ◌≤◌, ◌<◌, ◌↔◌, IsNone, IfSome};
+ghost use Rattle.std.specs.Prelude.{◌≡◌, ◌≤◌, ◌<◌, MatchOption};
 ghost use Rattle.std.specs.Int.{IsGcd};
 ghost use Rattle.yds_model.specs.Divisor.{common_divisor, common_multiple};
 
@@ -21,8 +21,7 @@ pub fn gcd(a: u64, b: u64) -> u64
 pub fn lcm_within(a: u64, b: u64, limit: u64) -> Option<u64>
     requires first { 1 ≤ a }
     requires second { 1 ≤ b }
-    ensures above { IsNone result ↔ (limit < common_multiple a b) }
-    ensures value { IfSome result (λ multiple. multiple ≡ common_multiple a b) }
+    ensures { MatchOption result (limit < common_multiple a b) (λ multiple. (multiple ≡ common_multiple a b) × (multiple ≤ limit)) }
 {
     let multiple = u128::from(a / gcd(a, b)) * u128::from(b);
     if multiple <= u128::from(limit) {
