@@ -1,7 +1,7 @@
 -- The law of scale: what a written schedule is at a multiple of one of its scales.
 use Rattle.std.proofs.Common.{◌≡◌, ℕ, ◌+◌, ◌-◌, ◌*◌, ◌/◌, ◌≤◌, List, [], ◌∷◌, map, ap, subst, sym, ◌∙◌, refl, arith, Bool, true, false}
 use Rattle.std.specs.Prelude.{sum_by, ◌==◌, if◌then◌else◌}
-use Rattle.std.specs.List.{AllByRecursion}
+use Rattle.std.specs.List.{All, AllByRecursion}
 use Rattle.std.specs.Int.{◌∣◌}
 use Rattle.std.proofs.lemmas.List.Sums.{sum_by-cons}
 use Rattle.std.proofs.lemmas.List.Elements.{recursion_from_All, All-from_recursion, All-nil, All-cons, All-weaker}
@@ -11,6 +11,7 @@ use Rattle.yds_model.specs.Scale.{Fraction, at_scale}
 use Rattle.yds_model.specs.Slot.{WrittenSlot, WholeSlot, IsDivided, IsScale, IsSolid, slot_at_scale, slots_at, work_given}
 use Rattle.yds_model.specs.Feasible.{RunFrom, IsInWindow, IsFeasibleAt}
 use Rattle.yds_model.specs.Excess.{excess}
+use Rattle.yds_model.proofs.Fractions.{den_positive}
 use Rattle.yds_model.specs.ScaleLaws.{ScaleKeepsFeasible, ScaleMultipliesExcess, OneScaleDecides, ScaleExists}
 
 -- the slot in parts that are k times as fine
@@ -145,12 +146,29 @@ feasible_scaled jobs slots scale k is some =
       λ feasible. feasible_coarser jobs k scale (slots_at scale slots) some (subst (IsFeasibleAt jobs (k * scale)) e feasible),
     )
 
+-- slots that have a scale have denominators of at least 1
+pub solid_of_scale : (slots : List WrittenSlot) (scale : ℕ) → IsScale scale slots → All IsSolid slots
+solid_of_scale slots scale is = All-weaker (IsDivided scale) IsSolid
+    (λ slot divided. record {
+      from = den_positive scale slot.from.den is.positive divided.from;
+      to = den_positive scale slot.to.den is.positive divided.to;
+      work = den_positive scale slot.work.den is.positive divided.work;
+    }) slots is.divided
+
 -- up by the other scale, and down by the first
-pub one_scale_decides : OneScaleDecides
-one_scale_decides jobs slots scale is feasible other is_other =
+at_other_scale : (jobs : List Job) (slots : List WrittenSlot) (scale : ℕ) → IsScale scale slots → IsFeasibleAt jobs scale (slots_at scale slots) →
+    (other : ℕ) → IsScale other slots → IsFeasibleAt jobs other (slots_at other slots)
+at_other_scale jobs slots scale is feasible other is_other =
     let finest = (feasible_scaled jobs slots scale other is is_other.positive).0 feasible in
     (feasible_scaled jobs slots other scale is_other is.positive).1
     (subst (λ (both : ℕ). IsFeasibleAt jobs both (slots_at both slots)) (mul_comm other scale) finest)
+
+-- the law: one scale decides
+pub one_scale_decides : OneScaleDecides
+one_scale_decides jobs slots scale is feasible = record {
+  solid = solid_of_scale slots scale is;
+  holds = at_other_scale jobs slots scale is feasible;
+}
 
 -- a multiple of a scale is one
 coarsest : (k scale : ℕ) (slot : WrittenSlot) → IsDivided scale slot → IsDivided (k * scale) slot

@@ -1,14 +1,15 @@
 -- Rounding a plan to the operating points: where a level's speed is a point of the table's lower hull its slots stay; elsewhere each
 -- stretch runs first at the faster of the two points around the speed and then at the slower, so long that it does the same work.
 -- Two points are enough: Ishihara and Yasuura (ISLPED 1998).
-use Rattle.std.specs.Prelude.{◌≡◌, ℕ, zero, suc, ◌+◌, ◌-◌, ◌*◌, ◌/◌, ◌<◌, ◌≤◌, ◌⊎◌, List, [], ◌∷◌, ◌++◌, length, ◌==◌, if◌then◌else◌}
+use Rattle.std.specs.Prelude.{◌≡◌, ℕ, zero, suc, ◌+◌, ◌-◌, ◌*◌, ◌/◌, ◌<◌, ◌≤◌, ◌⊎◌, List, [], ◌∷◌, ◌++◌, length, map, ◌==◌, if◌then◌else◌}
 use Rattle.std.specs.List.{All, Contains, Any}
+use Rattle.yds_model.specs.Numbers.{AreDifferent}
 use Rattle.yds_model.specs.Job.{Job}
 use Rattle.yds_model.specs.Scale.{Fraction, numerator}
-use Rattle.yds_model.specs.Slot.{WrittenSlot, WholeSlot, IsScale, slots_at, work_given}
+use Rattle.yds_model.specs.Slot.{WrittenSlot, WholeSlot, IsSolid, IsScale, AtEachScale, slots_at, work_given}
 use Rattle.yds_model.specs.Piece.{Piece}
 use Rattle.yds_model.specs.Level.{Level}
-use Rattle.yds_model.specs.Divisor.{common_divisor, common_multiple}
+use Rattle.yds_model.specs.Divisor.{common_divisor, common_multiple, IsLowest}
 use Rattle.yds_model.specs.Table.{Point, point_at, hull_of}
 use Rattle.yds_model.specs.Event.{stretches}
 use Rattle.yds_model.specs.Plan.{IsOver}
@@ -73,7 +74,7 @@ pub record HasSplitDenominators (level : Level) (gap speed : ℕ) (slot : Writte
   pub work : IsOver (speed_den level * gap) slot.work
 
 -- What is written for one stretch: nothing where the plan has nothing there, the plan's slots where the speed is a point's, and a
--- split elsewhere.
+-- split elsewhere, in which a job has at most one slot at each of the two points.
 pub record KeepsStretch (hull : List Point) (level : Level) (planned written : List WrittenSlot) : Type 0 where
   pub at_point : Any (HasPointSpeed level) hull
   pub kept : written ≡ planned
@@ -87,6 +88,8 @@ pub record SplitsStretch (hull : List Point) (level : Level) (stretch : Piece) (
   pub parts : written ≡ fast ++ slow
   pub split : (scale : ℕ) → IsScale scale (planned ++ written) →
       IsSplitAt scale level low high stretch (slots_at scale planned) (slots_at scale fast) (slots_at scale slow)
+  pub fast_once : AreDifferent (map (λ slot. slot.job) fast)
+  pub slow_once : AreDifferent (map (λ slot. slot.job) slow)
   pub fast_denominators : All (HasSplitDenominators level (high.speed - low.speed) high.speed) fast
   pub slow_denominators : All (HasSplitDenominators level (high.speed - low.speed) low.speed) slow
 
@@ -105,15 +108,18 @@ RoundsStretches hull levels (stretch ∷ others) planned written =
     × All (λ slot. (stretch.from * slot.from.den ≤ numerator slot.from) × (numerator slot.to ≤ stretch.to * slot.to.den)) here
     × RoundsStretch hull levels stretch here made × RoundsStretches hull levels others later made_later
 
--- each slot runs at a point's speed, and the fraction is the schedule's energy on the points
-abbrev pub IsEnergyOf : List Job → List Point → List WrittenSlot → Fraction → Type 0
-IsEnergyOf jobs points slots energy = (scale : ℕ) → IsScale scale slots →
-    (spent : ℕ) × IsEnergyOnPoints jobs points scale (slots_at scale slots) spent × (spent * energy.den ≡ numerator energy * scale)
+-- at each scale each slot runs at a point's speed, and the fraction is the schedule's energy on the points
+pub record IsEnergyOf (jobs : List Job) (points : List Point) (slots : List WrittenSlot) (energy : Fraction) : Type 0 where
+  pub has_parts : 1 ≤ energy.den
+  pub at_scales : AtEachScale slots (λ scale whole.
+      (spent : ℕ) × IsEnergyOnPoints jobs points scale whole spent × (spent * energy.den ≡ numerator energy * scale))
 
--- A plan's slots are rounded to these, whose energy is this fraction in lowest terms.
+-- A plan's slots are rounded to these, at most five for each job, whose energy is this fraction in lowest terms.
 pub record IsRounding (jobs : List Job) (points : List Point) (planned : List WrittenSlot) (levels : List Level)
     (written : List WrittenSlot) (energy : Fraction) : Type 0 where
+  pub solid : All IsSolid (planned ++ written)
   pub fast_enough : All (λ level. IsTooFast points level → ⊥) levels
   pub rounds : RoundsStretches (hull_of points) levels (stretches jobs) planned written
+  pub few_slots : length written ≤ 5 * length jobs
   pub energy_of : IsEnergyOf jobs points written energy
-  pub lowest : common_divisor energy.num energy.den ≡ 1
+  pub lowest : IsLowest energy

@@ -10,6 +10,7 @@ use Rattle.yds_model.specs.Level.{Level, all_members, all_pieces}
 use Rattle.yds_model.specs.Table.{Point, IsTable, hull_multiple}
 use Rattle.yds_model.specs.Document.{Document, Grid, name_at}
 use Rattle.yds_model.specs.Spelling.{is_name}
+use Rattle.yds_model.specs.Text.{canonical_text}
 
 -- a fraction as the program keeps it: below one beside its whole part, and with the denominator 1 where that is all
 pub record IsFraction (most : ℕ) (x : Fraction) : Type 0 where
@@ -91,3 +92,8 @@ pub record IsDocument (document : Document) : Type 0 where
   pub levels : AreLevelsOf (length document.names) document.levels
   pub grid : MatchOption document.grid (Unit {0}) IsGrid
   pub energy : MatchOption document.energy (Unit {0}) (IsFraction MAX_ENERGY)
+
+-- the text is the canonical one of a document within the limits, so it is read again as that document
+pub record IsTextOf (document : Document) (text : List ℕ) : Type 0 where
+  pub possible : IsDocument document
+  pub written : text ≡ canonical_text document
