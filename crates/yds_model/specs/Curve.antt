@@ -11,6 +11,7 @@ use Rattle.yds_model.specs.Divisor.{in_lowest_terms}
 
 -- The fraction is the least excess above the speed p/q, as work: every feasible schedule has at least that, and some has just that.
 pub record IsLeastExcess (jobs : List Job) (p q : ℕ) (x : Fraction) : Type 0 where
+  pub is_speed : 1 ≤ q
   pub has_parts : 1 ≤ x.den
   pub least : (scale : ℕ) (slots : List WholeSlot) → 1 ≤ scale → IsFeasibleAt jobs scale slots →
       numerator x * (q * scale) ≤ excess p q slots * x.den

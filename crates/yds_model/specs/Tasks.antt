@@ -56,12 +56,12 @@ fills_horizon horizon task = (task.offset == 0) && (task.deadline == task.period
 abbrev pub has_work : Task → Bool
 has_work task = nat_le 1 task.work
 
--- the work of all jobs, and the horizon
-abbrev pub whole_level : TaskSet → ℕ × ℕ
-whole_level set = (sum_by (λ job. job.work) (jobs_of_tasks set), horizon_of set)
-
 -- The one level of each plan of the jobs, its work and its length: where the jobs of every task follow one another without a gap
 -- from 0 to the horizon, and some task has work.
+abbrev pub level_until : ℕ → TaskSet → Option (ℕ × ℕ)
+level_until horizon set =
+    if list_all (fills_horizon horizon) set.tasks && list_any has_work set.tasks
+    then Some (sum_by (λ job. job.work) (jobs_of_tasks set), horizon) else None
+
 abbrev pub one_level : TaskSet → Option (ℕ × ℕ)
-one_level set =
-    if list_all (fills_horizon (horizon_of set)) set.tasks && list_any has_work set.tasks then Some (whole_level set) else None
+one_level set = elim set.horizon [ None ↦ None | Some horizon ↦ level_until horizon set ]
