@@ -6,7 +6,7 @@ use Rattle.std.proofs.lemmas.List.Elements.{All-push}
 use Rattle.yds_model.specs.declared.limits.TheConstants.{MAX_POINTS, MAX_GAPS}
 use Rattle.yds_model.specs.Divisor.{multiple_of_all}
 use Rattle.yds_model.specs.Table.{Point, no_point, point_at, AreRising, gaps_of, hull_multiple}
-use Rattle.yds_hull.specs.Limits.{IsPoint}
+use Rattle.yds_model.specs.Within.{IsPoint}
 use Rattle.yds_table.specs.Table.{IsPointTable, HasFineGaps, last_of}
 use Rattle.yds_table.specs.Gaps.{IsMultipleOf}
 use Rattle.yds_table.specs.Kept.{IsLowerHull, IsKept}

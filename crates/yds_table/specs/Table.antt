@@ -3,7 +3,7 @@ use Rattle.std.specs.Prelude.{ℕ, ◌-◌, ◌≤◌, List, length, take}
 use Rattle.std.specs.List.{All}
 use Rattle.yds_model.specs.declared.limits.TheConstants.{MAX_POINTS, MAX_GAPS}
 use Rattle.yds_model.specs.Table.{Point, point_at, IsTable, hull_multiple}
-use Rattle.yds_hull.specs.Limits.{IsPoint}
+use Rattle.yds_model.specs.Within.{IsPoint}
 
 -- the multiple of the gaps of the hull of each front of the points is within the limit
 abbrev pub HasFineGaps : List Point → Type 0

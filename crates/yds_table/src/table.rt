@@ -2,7 +2,7 @@ ghost use Rattle.std.specs.Prelude.{◌≡◌, ◌*◌, ◌<◌, ◌≤◌, ◌�
 ghost use Rattle.std.specs.List.{All};
 ghost use Rattle.yds_model.specs.declared.limits.TheConstants.{MAX_POINTS, MAX_GAPS};
 ghost use Rattle.yds_model.specs.Table.{point_at, AreRising, IsHullOf, hull_of, hull_multiple};
-ghost use Rattle.yds_hull.specs.Limits.{IsPoint};
+ghost use Rattle.yds_model.specs.Within.{IsPoint};
 ghost use Rattle.yds_table.specs.Table.{IsPointTable, last_of};
 ghost use Rattle.yds_table.specs.Around.{IsAboveTop, AreAround, IsSlower, IsFirstAtLeast};
 ghost use Rattle.yds_table.specs.Fault.{IsCauseAtFirst, IsCause};
