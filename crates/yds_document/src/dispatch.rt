@@ -9,6 +9,7 @@ ghost use Rattle.yds_document.specs.LineKinds.{line_kind, follows_draft, has_roo
 use crate::draft::Draft;
 use crate::line_fault::LineFault;
 use crate::line_kind::LineKind;
+use crate::{energy, grid, job, level, member, piece, point, run, slot, ticks};
 use std::alloc::Global;
 use yds_model::Reason;
 use yds_model::limits::{MAX_JOBS, MAX_LEVELS, MAX_MEMBERS, MAX_PIECES, MAX_POINTS, MAX_SLOTS};
@@ -60,16 +61,16 @@ impl<'a> Draft<'a> {
         ensures reads { Reads (line_kind kind) (field_read first.entry ∷ rest.entry.fields) result self.old self.new }
     {
         match kind {
-            LineKind::Job => self.read_job(first, rest),
-            LineKind::Point => self.read_point(alloc, first, rest),
-            LineKind::Slot => self.read_slot(first, rest),
-            LineKind::Level => self.read_level(alloc, first, rest),
-            LineKind::Piece => self.read_piece(first, rest),
-            LineKind::Member => self.read_member(first, rest),
-            LineKind::Ticks => self.read_ticks(first, rest),
-            LineKind::Run => self.read_run(first, rest),
-            LineKind::Grid => self.read_grid(first, rest),
-            LineKind::Energy => self.read_energy(first, rest),
+            LineKind::Job => job::read(self, first, rest),
+            LineKind::Point => point::read(self, alloc, first, rest),
+            LineKind::Slot => slot::read(self, first, rest),
+            LineKind::Level => level::read(self, alloc, first, rest),
+            LineKind::Piece => piece::read(self, first, rest),
+            LineKind::Member => member::read(self, first, rest),
+            LineKind::Ticks => ticks::read(self, first, rest),
+            LineKind::Run => run::read(self, first, rest),
+            LineKind::Grid => grid::read(self, first, rest),
+            LineKind::Energy => energy::read(self, first, rest),
         }
     }
 
