@@ -9,7 +9,8 @@ use Rattle.yds_model.specs.Lines.{Field}
 use Rattle.yds_model.specs.declared.limits.TheConstants.{MAX_JOBS, MAX_POINTS, MAX_SLOTS, MAX_LEVELS, MAX_PIECES, MAX_MEMBERS}
 use Rattle.yds_model.specs.declared.reason.Reason.{Reason}
 use Rattle.yds_model.specs.declared.reason.Reason.TheVariants as reasons
-use Rattle.yds_model.specs.Reading.{Spot, Kind, ◌>>=◌, demand, refuse, may_follow, has_room, field_at, kind_of, read_fields}
+use Rattle.yds_model.specs.Fields.{Spot, ◌>>=◌, demand, refuse, field_at}
+use Rattle.yds_model.specs.Reading.{Kind, may_follow, has_room, kind_of, read_fields}
 use Rattle.yds_model.proofs.Said.{levels_counted}
 use Rattle.yds_document.specs.declared.draft.Draft.{Draft}
 use Rattle.yds_document.specs.declared.line_fault.LineFault.{LineFault}
@@ -63,7 +64,7 @@ room_said kinds.Energy draft earlier kept holds = refl
 
 -- # The line, by its kind
 
-abbrev read_as : List Entry → List Field → Option Kind → Result Entry Spot
+abbrev read_as : List Entry → List Field → Option Kind → Result Entry (Spot Reason)
 read_as earlier fields kind = elim kind [
   | None ↦ refuse (field_at fields 0).column reasons.UnknownKind
   | Some kind ↦ demand (may_follow kind earlier) (field_at fields 0).column reasons.Misplaced >>= (λ placed.
@@ -71,7 +72,7 @@ read_as earlier fields kind = elim kind [
 ]
 
 -- what stands after the test of the place, and after that of the room
-abbrev placed_as : List Entry → List Field → Kind → Bool → Bool → Result Entry Spot
+abbrev placed_as : List Entry → List Field → Kind → Bool → Bool → Result Entry (Spot Reason)
 placed_as earlier fields kind follows room =
     demand follows (field_at fields 0).column reasons.Misplaced >>= (λ placed.
     demand room (field_at fields 0).column reasons.TooMany >>= (λ some. count_and_read kind earlier fields))
@@ -95,7 +96,7 @@ pub told_by_kind : (earlier : List Entry) (fields : List Field) (kind : LineKind
     → IsDraft draft → Holds draft earlier → follows_draft kind draft ≡ true → has_room_in kind draft ≡ true → Tells result (count_and_read (line_kind kind) earlier fields) new earlier
     → Tells result (read_fields earlier fields) new earlier
 told_by_kind earlier fields kind draft new result is kept holds placed some told =
-    subst (λ (r : Result Entry Spot). Tells result r new earlier) (sym (by_kind earlier fields kind draft true true is kept holds placed some)) told
+    subst (λ (r : Result Entry (Spot Reason)). Tells result r new earlier) (sym (by_kind earlier fields kind draft true true is kept holds placed some)) told
 
-pub fails_at : (fault : LineFault) (read : Result Entry Spot) (column : ℕ) (reason : Reason) → fault ≡ faults.At column reason → read ≡ Err (record { column = column; reason = reason }) → Fails fault read
+pub fails_at : (fault : LineFault) (read : Result Entry (Spot Reason)) (column : ℕ) (reason : Reason) → fault ≡ faults.At column reason → read ≡ Err (record { column = column; reason = reason }) → Fails fault read
 fails_at fault read column reason is fails = subst (λ (f : LineFault). Fails f read) (sym is) fails

@@ -7,7 +7,7 @@ use Rattle.yds_model.specs.declared.limits.TheConstants.{MAX_GAPS}
 use Rattle.yds_model.specs.declared.reason.Reason.TheVariants as reasons
 use Rattle.yds_model.specs.Table.{Point, point_at, AreRising, hull_multiple}
 use Rattle.yds_model.specs.Entry.{PointEntry}
-use Rattle.yds_model.specs.Reading.{refuse}
+use Rattle.yds_model.specs.Fields.{refuse}
 use Rattle.yds_table.specs.Table.{IsPointTable, last_of}
 use Rattle.yds_table.specs.Fault.{IsCause}
 use Rattle.yds_table.specs.declared.fault.TableFault.{TableFault}

@@ -2,12 +2,15 @@
 use Rattle.std.proofs.Common.{◌≡◌, ℕ, List, [], ◌∷◌, Bool, true, Option, Some, None, Result, Ok, Err, sym, ap, ◌∙◌, subst}
 use Rattle.std.specs.Option.{unwrap_or}
 use Rattle.std.specs.List.{filter_map, slice_index_or}
+use Rattle.yds_model.specs.declared.reason.Reason.{Reason}
+use Rattle.yds_model.specs.declared.reason.Reason.TheVariants as reasons
 use Rattle.yds_model.specs.declared.limits.TheConstants.{MAX_POINT_SPEED, MAX_POINT_POWER}
 use Rattle.yds_model.specs.Table.{Point}
 use Rattle.yds_model.specs.Lines.{Field}
 use Rattle.yds_model.specs.Document.{Document}
 use Rattle.yds_model.specs.Entry.{Entry, point_said, ticks_said}
-use Rattle.yds_model.specs.Reading.{Spot, Kind, JobLine, PointLine, SlotLine, RunLine, number_in, ◌>>=◌, count_fields, fields_wanted, read_kind}
+use Rattle.yds_model.specs.Fields.{Spot, ◌>>=◌, count_fields}
+use Rattle.yds_model.specs.Reading.{Kind, JobLine, PointLine, SlotLine, RunLine, number_in, fields_wanted, read_kind}
 use Rattle.yds_document.specs.declared.draft.Draft.{Draft}
 use Rattle.yds_document.specs.declared.line_fault.LineFault.{LineFault}
 use Rattle.yds_document.specs.declared.line_fault.LineFault.TheVariants.{At, Memory}
@@ -19,24 +22,24 @@ use Rattle.yds_document.specs.Point.{point_of, point_after, read_point_after}
 use Rattle.yds_document.specs.Draft.{Holds, HoldsMore, Takes, Tells, count_and_read, items_of, points_of}
 
 -- an error that is passed on
-pub passed : (r : Result (Unit {0}) LineFault) (e : LineFault) (read : Result Entry Spot) (draft : Draft) (es : List Entry)
+pub passed : (r : Result (Unit {0}) LineFault) (e : LineFault) (read : Result Entry (Spot Reason)) (draft : Draft) (es : List Entry)
     → (y : LineFault) × (r ≡ Err y) × (y ≡ e) → Fails e read → Tells r read draft es
 passed r e read draft es told failed =
     subst (λ (t : Result (Unit {0}) LineFault). Tells t read draft es) (sym told.1) (subst (λ (f : LineFault). Fails f read) (sym told.2) failed)
 
-counted_read : (kind : Kind) (earlier : List Entry) (fields cells : List Field) → (fields ≡ cells) × (count_fields (fields_wanted kind) fields ≡ Ok true)
+counted_read : (kind : Kind) (earlier : List Entry) (fields cells : List Field) → (fields ≡ cells) × (count_fields reasons.FieldCount (fields_wanted kind) fields ≡ Ok true)
     → count_and_read kind earlier fields ≡ read_kind kind earlier cells
 counted_read kind earlier fields cells counted =
-    ap (λ (r : Result Bool Spot). r >>= (λ all. read_kind kind earlier fields)) counted.1 ∙ ap (read_kind kind earlier) counted.0
+    ap (λ (r : Result Bool (Spot Reason)). r >>= (λ all. read_kind kind earlier fields)) counted.1 ∙ ap (read_kind kind earlier) counted.0
 
 -- the fields are as many as they ought to be, and one of them is refused
 pub fields_failed : (kind : Kind) (earlier : List Entry) (fields cells : List Field) (fault : LineFault)
-    → (fields ≡ cells) × (count_fields (fields_wanted kind) fields ≡ Ok true) → Fails fault (read_kind kind earlier cells) → Fails fault (count_and_read kind earlier fields)
+    → (fields ≡ cells) × (count_fields reasons.FieldCount (fields_wanted kind) fields ≡ Ok true) → Fails fault (read_kind kind earlier cells) → Fails fault (count_and_read kind earlier fields)
 fields_failed kind earlier fields cells fault counted failed = subst (Fails fault) (sym (counted_read kind earlier fields cells counted)) failed
 
 -- the entry that the fields say is held
 pub holds_more : (kind : Kind) (earlier : List Entry) (fields cells : List Field) (entry : Entry) (old new : Draft)
-    → (fields ≡ cells) × (count_fields (fields_wanted kind) fields ≡ Ok true) → read_kind kind earlier cells ≡ Ok entry → Holds old earlier → Takes old new entry
+    → (fields ≡ cells) × (count_fields reasons.FieldCount (fields_wanted kind) fields ≡ Ok true) → read_kind kind earlier cells ≡ Ok entry → Holds old earlier → Takes old new entry
     → HoldsMore (count_and_read kind earlier fields) new earlier
 holds_more kind earlier fields cells entry old new counted said holds takes =
     record { entry = entry; said = counted_read kind earlier fields cells counted ∙ said; holds = takes earlier holds }
@@ -61,7 +64,7 @@ run_same draft earlier ticks k a b c d holds is =
     sym (ap (λ (said : Document). run_of said.names said.slots (slice_index_or (filter_map ticks_said earlier) 0 1) a b c d) holds.said
     ∙ ap (λ (t : ℕ). run_of draft.instance.names draft.schedule.slots t a b c d) (ticks_held earlier draft.ticks ticks holds.ticks is))
 
-point_numbers : (points : List Point) (r p : Result ℕ Spot) (a : Field) (point : Point)
+point_numbers : (points : List Point) (r p : Result ℕ (Spot Reason)) (a : Field) (point : Point)
     → (r >>= (λ speed. p >>= (λ power. Ok (record { speed = speed; power = power })))) ≡ Ok point
     → (r >>= (λ speed. p >>= (λ power. point_after points (record { speed = speed; power = power }) a.column))) ≡ point_after points point a.column
 point_numbers points (Ok speed) (Ok power) a point is =
@@ -74,10 +77,10 @@ pub point_same : (draft : Draft) (earlier : List Entry) (k a b : Field) (point :
 point_same draft earlier k a b point holds is =
     sym (ap (λ (said : Document). read_point_after said.points a b) holds.said ∙ point_numbers (points_of draft.table) (number_in 0 MAX_POINT_SPEED a) (number_in 0 MAX_POINT_POWER b) a point is)
 
-abbrev point_parts : Result ℕ Spot → Result ℕ Spot → Result Point Spot
+abbrev point_parts : Result ℕ (Spot Reason) → Result ℕ (Spot Reason) → Result Point (Spot Reason)
 point_parts r p = r >>= (λ speed. p >>= (λ power. Ok (record { speed = speed; power = power })))
 
-point_refused : (points : List Point) (r p : Result ℕ Spot) (a : Field) (spot : Spot)
+point_refused : (points : List Point) (r p : Result ℕ (Spot Reason)) (a : Field) (spot : Spot Reason)
     → point_parts r p ≡ Err spot
     → (r >>= (λ speed. p >>= (λ power. point_after points (record { speed = speed; power = power }) a.column))) ≡ Err spot
 point_refused points (Ok speed) (Ok power) a spot is = cc

@@ -1,13 +1,16 @@
 -- What the lines before a line said together, as it is kept while a document is read.
 use Rattle.std.specs.Prelude.{◌≡◌, ◌<◌, ◌≤◌, List, [], ◌∷◌, ◌++◌, length, Option, Some, None, IfSome, Result, Ok, Err}
 use Rattle.std.specs.List.{All, filter_map}
+use Rattle.yds_model.specs.declared.reason.Reason.{Reason}
+use Rattle.yds_model.specs.declared.reason.Reason.TheVariants as reasons
 use Rattle.yds_model.specs.declared.limits.TheConstants.{MAX_TICKS, MAX_ENERGY}
 use Rattle.yds_model.specs.Level.{all_pieces, all_members}
 use Rattle.yds_model.specs.Table.{Point}
 use Rattle.yds_model.specs.Lines.{Field}
 use Rattle.yds_model.specs.Document.{Document}
 use Rattle.yds_model.specs.Entry.{Entry, piece_said, member_said, ticks_said, document_said}
-use Rattle.yds_model.specs.Reading.{Spot, Kind, ◌>>=◌, count_fields, fields_wanted, read_kind}
+use Rattle.yds_model.specs.Fields.{Spot, ◌>>=◌, count_fields}
+use Rattle.yds_model.specs.Reading.{Kind, fields_wanted, read_kind}
 use Rattle.yds_document.specs.declared.draft.Draft.{Draft}
 use Rattle.yds_document.specs.declared.line_fault.LineFault.{LineFault}
 use Rattle.yds_document.specs.Fields.{Fails}
@@ -55,19 +58,19 @@ abbrev pub Takes : Draft → Draft → Entry → Type 0
 Takes old new entry = (earlier : List Entry) → Holds old earlier → Holds new (earlier ++ entry ∷ [])
 
 -- the definition says an entry, and the draft holds it too
-pub record HoldsMore (read : Result Entry Spot) (draft : Draft) (earlier : List Entry) : Type 0 where
+pub record HoldsMore (read : Result Entry (Spot Reason)) (draft : Draft) (earlier : List Entry) : Type 0 where
   pub entry : Entry
   pub said : read ≡ Ok entry
   pub holds : Holds draft (earlier ++ entry ∷ [])
 
-abbrev pub Tells : Result (Unit {0}) LineFault → Result Entry Spot → Draft → List Entry → Type 0
+abbrev pub Tells : Result (Unit {0}) LineFault → Result Entry (Spot Reason) → Draft → List Entry → Type 0
 Tells (Ok done) read draft earlier = HoldsMore read draft earlier
 Tells (Err fault) read draft earlier = Fails fault read
 
 -- the count of the fields, and then the fields of a line of this kind
-abbrev pub count_and_read : Kind → List Entry → List Field → Result Entry Spot
+abbrev pub count_and_read : Kind → List Entry → List Field → Result Entry (Spot Reason)
 count_and_read kind earlier fields = do
-  counted ← count_fields (fields_wanted kind) fields
+  counted ← count_fields reasons.FieldCount (fields_wanted kind) fields
   read_kind kind earlier fields
 
 -- a line of this kind is told after whatever entries the draft held

@@ -2,12 +2,14 @@
 use Rattle.std.specs.Prelude.{◌≡◌, ◌⊎◌, ℕ, List, Some, None, Result, Ok, Bool, ◌==◌, ◌||◌, if◌then◌else◌}
 use Rattle.std.specs.List.{list_all, filter_map}
 use Rattle.yds_model.specs.declared.limits.TheConstants.{MAX_TIME, MAX_SLOT_WORK}
+use Rattle.yds_model.specs.declared.reason.Reason.{Reason}
 use Rattle.yds_model.specs.declared.reason.Reason.TheVariants as reasons
 use Rattle.yds_model.specs.Scale.{Fraction}
 use Rattle.yds_model.specs.Slot.{WrittenSlot}
 use Rattle.yds_model.specs.Lines.{Field}
 use Rattle.yds_model.specs.Entry.{Entry, SlotEntry}
-use Rattle.yds_model.specs.Reading.{Spot, ◌>>=◌, demand, fraction_in, are_alike}
+use Rattle.yds_model.specs.Fields.{Spot, ◌>>=◌, demand}
+use Rattle.yds_model.specs.Reading.{fraction_in, are_alike}
 use Rattle.yds_model.specs.Audit.{grain_of}
 use Rattle.yds_document.specs.Fields.{known_job_of}
 
@@ -26,7 +28,7 @@ fits_test den grain = (den == grain) || (den == 1) || (grain == 1)
 abbrev pub FitsGrainOf : List WrittenSlot → ℕ → Fraction → Type 0
 FitsGrainOf slots job work = (work.den ≡ 1) ⊎ ((grain_of slots job ≡ 1) ⊎ (work.den ≡ grain_of slots job))
 
-abbrev pub slot_of : List (List ℕ) → List WrittenSlot → Field → Field → Field → Field → Result Entry Spot
+abbrev pub slot_of : List (List ℕ) → List WrittenSlot → Field → Field → Field → Field → Result Entry (Spot Reason)
 slot_of names slots a b c d = do
   job ← known_job_of names a
   from ← fraction_in MAX_TIME b

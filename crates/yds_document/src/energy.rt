@@ -2,7 +2,8 @@
 ghost use Rattle.std.specs.Prelude.{◌≡◌, ◌≤◌, ◌∷◌, [], codes, None, OnOk, IfOk};
 ghost use Rattle.yds_model.specs.declared.limits.TheConstants.{MAX_ENERGY};
 ghost use Rattle.yds_model.specs.Entry.{EnergyEntry};
-ghost use Rattle.yds_model.specs.Reading.{EnergyLine, no_field, read_energy};
+ghost use Rattle.yds_model.specs.Fields.{no_field};
+ghost use Rattle.yds_model.specs.Reading.{EnergyLine, read_energy};
 ghost use Rattle.yds_model.specs.Text.{line, fraction_text, energy_lines};
 ghost use Rattle.yds_port.specs.Sink.{Delivers};
 ghost use Rattle.yds_text.specs.Read.{field_read};

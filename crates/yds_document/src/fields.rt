@@ -1,7 +1,8 @@
 // What the fields of a line are tried for: how many there are, a number, a fraction, a name.
 ghost use Rattle.std.specs.Prelude.{◌≡◌, ◌<◌, ◌≤◌, ◌∷◌, [], length, None, IfOk, IsTrue};
 ghost use Rattle.yds_model.specs.declared.limits.TheConstants.{MAX_WHOLE, MAX_DENOMINATOR};
-ghost use Rattle.yds_model.specs.Reading.{past_end, number_in, fraction_in};
+ghost use Rattle.yds_model.specs.Fields.{past_end};
+ghost use Rattle.yds_model.specs.Reading.{number_in, fraction_in};
 ghost use Rattle.yds_model.specs.Spelling.{is_name};
 ghost use Rattle.yds_fraction.specs.Mixed.{IsMixed};
 ghost use Rattle.yds_instance.specs.Named.{number_of};

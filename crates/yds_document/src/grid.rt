@@ -1,7 +1,8 @@
 //! The grid of a policy run, and its line.
 ghost use Rattle.std.specs.Prelude.{◌≡◌, ◌∷◌, [], codes, decimal, None, OnOk};
 ghost use Rattle.yds_model.specs.Entry.{GridEntry};
-ghost use Rattle.yds_model.specs.Reading.{GridLine, no_field, read_grid};
+ghost use Rattle.yds_model.specs.Fields.{no_field};
+ghost use Rattle.yds_model.specs.Reading.{GridLine, read_grid};
 ghost use Rattle.yds_model.specs.Text.{line, grid_lines};
 ghost use Rattle.yds_port.specs.Sink.{Delivers};
 ghost use Rattle.yds_text.specs.Read.{field_read};

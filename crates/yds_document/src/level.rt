@@ -3,7 +3,8 @@ ghost use Rattle.std.specs.Prelude.{◌≡◌, ◌<◌, ◌≤◌, ◌∷◌, []
 ghost use Rattle.std.specs.List.{All, flat_map};
 ghost use Rattle.yds_model.specs.declared.limits.TheConstants.{MAX_LEVELS, MAX_LEVEL_WORK, MAX_LEVEL_LENGTH};
 ghost use Rattle.yds_model.specs.Entry.{LevelEntry};
-ghost use Rattle.yds_model.specs.Reading.{LevelLine, no_field, read_level};
+ghost use Rattle.yds_model.specs.Fields.{no_field};
+ghost use Rattle.yds_model.specs.Reading.{LevelLine, read_level};
 ghost use Rattle.yds_model.specs.Text.{line, level_lines};
 ghost use Rattle.yds_port.specs.Sink.{Delivers};
 ghost use Rattle.yds_text.specs.Read.{field_read};

@@ -3,7 +3,8 @@ ghost use Rattle.std.specs.Prelude.{◌≡◌, ◌<◌, ◌≤◌, ◌∷◌, []
 ghost use Rattle.std.specs.List.{flat_map};
 ghost use Rattle.yds_model.specs.declared.limits.TheConstants.{MAX_PIECES};
 ghost use Rattle.yds_model.specs.Entry.{PieceEntry};
-ghost use Rattle.yds_model.specs.Reading.{PieceLine, no_field, read_piece};
+ghost use Rattle.yds_model.specs.Fields.{no_field};
+ghost use Rattle.yds_model.specs.Reading.{PieceLine, read_piece};
 ghost use Rattle.yds_model.specs.Text.{piece_line};
 ghost use Rattle.yds_port.specs.Sink.{Delivers};
 ghost use Rattle.yds_text.specs.Read.{field_read};

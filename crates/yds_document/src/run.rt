@@ -18,7 +18,7 @@ use crate::line_fault::LineFault;
 use crate::slot::{add, fits_grain};
 use yds_fraction::Amount;
 use yds_model::Reason;
-use yds_model::limits::{MAX_SLOT_WORK, MAX_TIME, MAX_WORK};
+use yds_model::limits::{MAX_RUN_SPEED, MAX_SLOT_WORK, MAX_TIME};
 use yds_slots::{Schedule, Slot};
 use yds_text::{Field, Fields};
 
@@ -76,7 +76,7 @@ fn slot_at(
     let most = u64::from(MAX_TIME) * u64::from(ticks);
     let begin = number_in(from, 0, most)?;
     let end = number_in(to, 0, most)?;
-    let rate = number_in(speed, 0, u64::from(MAX_WORK))?;
+    let rate = number_in(speed, 0, u64::from(MAX_RUN_SPEED))?;
     let parts = u128::from(rate) * u128::from(end.saturating_sub(begin));
     if parts / u128::from(ticks) > u128::from(MAX_SLOT_WORK) {
         return Err(LineFault::at(speed.column, Reason::OutOfRange));

@@ -2,7 +2,8 @@
 ghost use Rattle.std.specs.Prelude.{◌≡◌, ◌≤◌, ◌∷◌, [], None, OnOk, IfOk};
 ghost use Rattle.yds_model.specs.declared.limits.TheConstants.{MAX_TICKS};
 ghost use Rattle.yds_model.specs.Entry.{TicksEntry};
-ghost use Rattle.yds_model.specs.Reading.{TicksLine, no_field, read_ticks};
+ghost use Rattle.yds_model.specs.Fields.{no_field};
+ghost use Rattle.yds_model.specs.Reading.{TicksLine, read_ticks};
 ghost use Rattle.yds_text.specs.Read.{field_read};
 ghost use Rattle.yds_document.specs.Draft.{IsDraft, Reads, Takes};
 ghost use Rattle.yds_document.specs.Fields.{Gives};
