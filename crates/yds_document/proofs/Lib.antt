@@ -7,3 +7,4 @@ pub mod FractionField
 pub mod RunParts
 pub mod PointTable
 pub mod Placed
+pub mod Limits

@@ -1,4 +1,3 @@
-pub mod Grid
 pub mod Fields
 pub mod Job
 pub mod Point

@@ -1,10 +1,12 @@
 // The line of the energy that the slots take.
-ghost use Rattle.std.specs.Prelude.{◌≡◌, ◌≤◌, ◌∷◌, [], codes, None, OnOk, IfOk};
+ghost use Rattle.std.specs.Prelude.{◌≡◌, ◌≤◌, ◌∷◌, [], codes, None, OnOk, IfOk, MatchOption};
+ghost use Rattle.std.specs.Option.{ForSome};
 ghost use Rattle.yds_model.specs.declared.limits.TheConstants.{MAX_ENERGY};
 ghost use Rattle.yds_model.specs.Entry.{EnergyEntry};
 ghost use Rattle.yds_model.specs.Fields.{no_field};
 ghost use Rattle.yds_model.specs.Reading.{EnergyLine, read_energy};
 ghost use Rattle.yds_model.specs.Text.{line, fraction_text, energy_lines};
+ghost use Rattle.yds_model.specs.Within.{IsFraction};
 ghost use Rattle.yds_port.specs.Sink.{Delivers};
 ghost use Rattle.yds_text.specs.Read.{field_read};
 ghost use Rattle.yds_document.specs.Draft.{IsDraft, Reads, Takes};
@@ -52,6 +54,16 @@ fn add(draft: &mut Draft<'_>, energy: Amount)
     ensures takes { Takes draft.old draft.new (EnergyEntry energy) }
 {
     draft.energy = Some(energy);
+}
+
+// Reading an energy shows that it is within its limits.
+pub(crate) fn show_limits(energy: Option<Amount>)
+    requires { ForSome energy (λ energy. energy.whole ≤ MAX_ENERGY) }
+    ensures { MatchOption energy (Unit {0}) (IsFraction MAX_ENERGY) }
+{
+    if let Some(energy) = energy {
+        let _den = energy.den();
+    }
 }
 
 // Makes the line of an energy.

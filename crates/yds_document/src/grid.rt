@@ -1,9 +1,10 @@
 //! The grid of a policy run, and its line.
-ghost use Rattle.std.specs.Prelude.{◌≡◌, ◌∷◌, [], codes, decimal, None, OnOk};
+ghost use Rattle.std.specs.Prelude.{◌≡◌, ◌∷◌, [], codes, decimal, None, OnOk, MatchOption};
 ghost use Rattle.yds_model.specs.Entry.{GridEntry};
 ghost use Rattle.yds_model.specs.Fields.{no_field};
 ghost use Rattle.yds_model.specs.Reading.{GridLine, read_grid};
 ghost use Rattle.yds_model.specs.Text.{line, grid_lines};
+ghost use Rattle.yds_model.specs.Within.{IsGrid};
 ghost use Rattle.yds_port.specs.Sink.{Delivers};
 ghost use Rattle.yds_text.specs.Read.{field_read};
 ghost use Rattle.yds_document.specs.Draft.{IsDraft, Reads, Takes};
@@ -31,7 +32,7 @@ pub struct Grid {
 
 impl Model for Grid {
     ghost use Rattle.yds_model.specs.Document.{Grid as GridOfRun};
-    ghost use Rattle.yds_document.specs.Grid.{IsGrid};
+    ghost use Rattle.yds_model.specs.Within.{IsGrid};
 
     ghost Value = { GridOfRun };
 
@@ -75,6 +76,15 @@ fn add(draft: &mut Draft<'_>, grid: Grid)
     ensures takes { Takes draft.old draft.new (GridEntry grid) }
 {
     draft.grid = Some(grid);
+}
+
+// Reading a grid shows that it is within its limits.
+pub(crate) fn show_limits(grid: Option<Grid>)
+    ensures { MatchOption grid (Unit {0}) IsGrid }
+{
+    if let Some(grid) = grid {
+        let _grid = grid.grid;
+    }
 }
 
 // Makes the line of a grid.

@@ -5,6 +5,7 @@ ghost use Rattle.yds_model.specs.declared.limits.TheConstants.{MAX_POINTS};
 ghost use Rattle.yds_model.specs.Entry.{PointEntry};
 ghost use Rattle.yds_model.specs.Reading.{PointLine};
 ghost use Rattle.yds_model.specs.Text.{point_line};
+ghost use Rattle.yds_model.specs.Within.{ArePoints};
 ghost use Rattle.yds_port.specs.Sink.{Delivers};
 ghost use Rattle.yds_text.specs.Read.{field_read};
 ghost use Rattle.yds_document.specs.Draft.{IsDraft, Reads, Takes, points_of};
@@ -107,6 +108,17 @@ fn next_point(table: &mut Table, point: Point, column: u32) -> Result<(), LineFa
             Ok(())
         }
         Err(fault) => Err(of_table(fault, column)),
+    }
+}
+
+// The points of a table, where there is one.
+pub(crate) fn points_in(table: &Option<Table>) -> &[Point]
+    ensures value { result.now ≡ points_of table.now }
+    ensures kept { ArePoints (points_of table.now) }
+{
+    match table {
+        Some(table) => table.points(),
+        None => &[],
     }
 }
 

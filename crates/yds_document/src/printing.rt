@@ -2,24 +2,29 @@
 ghost use Rattle.std.specs.Prelude.{◌≡◌, ◌<◌, ◌≤◌, ◌++◌, length, IsErr};
 ghost use Rattle.std.specs.List.{flat_map};
 ghost use Rattle.yds_model.specs.Text.{canonical_text, job_lines, point_line, slot_line, level_lines, fraction_text};
+ghost use Rattle.yds_model.specs.Within.{IsDocument};
 ghost use Rattle.yds_port.specs.Sink.{Delivers};
 ghost use Rattle.yds_document.specs.Draft.{points_of};
 ghost use Rattle.yds_document.specs.Documents.{document_view};
 
 use crate::document::Document;
 use crate::line_buffer::LineBuffer;
+use crate::point::points_in;
 use crate::{energy, grid, job, level, point, slot};
 use yds_fraction::Amount;
 use yds_port::{Sink, WriteFault, write_all};
-use yds_table::Table;
 
 /// Appends the document's text, line by line, or after a fault a front of it. Takes no memory.
+///
+/// Every document is within the limits, so its text is read again as the same document.
 pub fn print<K: Sink>(document: &Document<'_>, sink: &mut K) -> Result<(), WriteFault>
     ensures delivers { Delivers result (canonical_text (document_view document.now)) (K.written sink.old) (K.written sink.new) (K.faults sink.old) (K.faults sink.new) }
     ensures flushed_stays { K.flushed sink.new ≡ K.flushed sink.old }
     ensures later { K.faults sink.old ≤ K.faults sink.new }
     ensures counted { K.faults sink.old < K.faults sink.new → IsErr result }
+    ensures possible { IsDocument (document_view document.now) }
 {
+    document.show_limits();
     print_plan(document, sink)?;
     grid::print(document.grid, sink)?;
     energy::print(document.energy, sink)
@@ -42,17 +47,7 @@ fn print_rows<K: Sink>(document: &Document<'_>, sink: &mut K) -> Result<(), Writ
     ensures flushed_stays { K.flushed sink.new ≡ K.flushed sink.old }
 {
     job::print(&document.instance, sink)?;
-    print_table(&document.table, sink)
-}
-
-fn print_table<K: Sink>(table: &Option<Table>, sink: &mut K) -> Result<(), WriteFault>
-    ensures delivers { Delivers result (flat_map point_line (points_of table.now)) (K.written sink.old) (K.written sink.new) (K.faults sink.old) (K.faults sink.new) }
-    ensures flushed_stays { K.flushed sink.new ≡ K.flushed sink.old }
-{
-    match table {
-        Some(table) => point::print(table.points(), sink),
-        None => Ok(()),
-    }
+    point::print(points_in(&document.table), sink)
 }
 
 /// Appends the fraction as it is written, `W`, or `W+N/D` where the numerator isn't 0, or after a fault a
