@@ -1,14 +1,14 @@
 -- What a schedule spends on the operating points, where each stretch runs at one speed: in each stretch at the points of the lower hull
 -- around its speed, as long at each as gives that speed.
-use Rattle.std.specs.Prelude.{◌≡◌, ℕ, ◌+◌, ◌-◌, ◌*◌, ◌/◌, ◌<◌, ◌≤◌, List, [], ◌∷◌, length, sum_by, nat_le, ◌==◌, if◌then◌else◌}
-use Rattle.std.specs.List.{slice_index_or}
-use Rattle.yds_model.specs.Numbers.{Each}
+use Rattle.std.specs.Prelude.{◌≡◌, ℕ, ◌-◌, ◌*◌, ◌/◌, ◌≤◌, List, [], ◌∷◌, length, map, sum_by, nat_le, ◌==◌, if◌then◌else◌}
+use Rattle.std.specs.List.{All, slice_index_or}
+use Rattle.yds_model.specs.Numbers.{IsFirstFailure}
 use Rattle.yds_model.specs.Job.{Job}
-use Rattle.yds_model.specs.Scale.{Fraction, numerator, of_whole}
+use Rattle.yds_model.specs.Scale.{Fraction}
 use Rattle.yds_model.specs.Slot.{WrittenSlot, WholeSlot, AtEachScale}
 use Rattle.yds_model.specs.Piece.{Piece}
-use Rattle.yds_model.specs.Table.{Point, point_at, hull_of, hull_multiple}
-use Rattle.yds_model.specs.Divisor.{IsLowest}
+use Rattle.yds_model.specs.Table.{Point, hull_of, hull_multiple}
+use Rattle.yds_model.specs.Divisor.{in_lowest_terms}
 use Rattle.yds_model.specs.Event.{stretches}
 use Rattle.yds_model.specs.Policy.{slots_in}
 use Rattle.yds_model.specs.Rounding.{top_of}
@@ -17,8 +17,8 @@ use Rattle.yds_model.specs.Rounding.{top_of}
 abbrev pub work_in : ℕ → Piece → List WholeSlot → ℕ
 work_in scale stretch slots = sum_by (λ slot. slot.work) (slots_in scale stretch slots)
 
--- The time of so much `time`, in which `work` is done, that is spent at the hull's point of this speed, times the common multiple of the
--- hull's gaps: `(work - low * time) / (high - low)` at the faster of the two points around the speed, and the rest at the slower.
+-- A stretch of so much `time`, in which `work` is done: how long it runs at the hull's point of this speed, times the common multiple of
+-- the hull's gaps. At the faster of the two points around its speed it runs for `(work - low * time) / (high - low)`, and the rest at the slower.
 abbrev pub time_at : ℕ → ℕ → ℕ → List Point → ℕ → ℕ
 time_at multiple time work [] speed = 0
 time_at multiple time work (point ∷ []) speed = if speed == point.speed then time * multiple else 0
@@ -38,26 +38,22 @@ all_time_at jobs points scale slots speed =
 abbrev pub all_energy : List Job → List Point → ℕ → List WholeSlot → ℕ
 all_energy jobs points scale slots = sum_by (λ point. point.power * all_time_at jobs points scale slots point.speed) points
 
--- the fraction, in lowest terms, is so many parts of the scale and of the multiple
-pub record IsPartsOf (points : List Point) (scale parts : ℕ) (x : Fraction) : Type 0 where
-  pub has_parts : 1 ≤ x.den
-  pub lowest : IsLowest x
-  pub value : numerator x * (scale * hull_multiple points) ≡ parts * x.den
+-- so many parts of the scale and of that multiple, as a fraction in lowest terms
+abbrev pub in_parts : List Point → ℕ → ℕ → Fraction
+in_parts points scale parts = in_lowest_terms parts (scale * hull_multiple points)
 
--- an energy, and the time at each point of a table
+-- an energy, and the time at each point of a table, in order
 pub record Spent : Type 0 where
   pub energy : Fraction
   pub times : List Fraction
 
-abbrev pub time_of : Spent → ℕ → Fraction
-time_of spent i = slice_index_or spent.times i (of_whole 0)
+-- what the slots spend at a scale
+pub record IsSpentAt (jobs : List Job) (points : List Point) (spent : Spent) (scale : ℕ) (slots : List WholeSlot) : Type 0 where
+  pub energy : spent.energy ≡ in_parts points scale (all_energy jobs points scale slots)
+  pub times : spent.times ≡ map (λ point. in_parts points scale (all_time_at jobs points scale slots point.speed)) points
 
--- what the slots spend, at each scale
-pub record IsSpent (jobs : List Job) (points : List Point) (slots : List WrittenSlot) (spent : Spent) : Type 0 where
-  pub one_each : length spent.times ≡ length points
-  pub energy : AtEachScale slots (λ scale whole. IsPartsOf points scale (all_energy jobs points scale whole) spent.energy)
-  pub times : AtEachScale slots (λ scale whole.
-      Each (length points) (λ i. IsPartsOf points scale (all_time_at jobs points scale whole (point_at points i).speed) (time_of spent i)))
+abbrev pub IsSpent : List Job → List Point → List WrittenSlot → Spent → Type 0
+IsSpent jobs points slots spent = AtEachScale slots (IsSpentAt jobs points spent)
 
 -- the top point is fast enough for the stretch
 abbrev pub HoldsStretch : List Point → ℕ → List WholeSlot → Piece → Type 0
@@ -67,25 +63,19 @@ abbrev pub stretch_at : List Job → ℕ → Piece
 stretch_at jobs i = slice_index_or (stretches jobs) i (record { from = 0; to = 0 })
 
 -- The stretch is the first for which the top point is too slow, and serves so many units of the grid.
-pub record IsTooFastIn (jobs : List Job) (points : List Point) (grid : ℕ) (slots : List WrittenSlot) (units i : ℕ) : Type 0 where
-  pub within : i < length (stretches jobs)
-  pub before : AtEachScale slots (λ scale whole. Each i (λ j. HoldsStretch points scale whole (stretch_at jobs j)))
-  pub too_fast : AtEachScale slots (λ scale whole. HoldsStretch points scale whole (stretch_at jobs i) → ⊥)
-  pub is_units : AtEachScale slots (λ scale whole. units * scale ≡ grid * work_in scale (stretch_at jobs i) whole)
+pub record IsTooSlowFor (jobs : List Job) (points : List Point) (grid : ℕ) (slots : List WrittenSlot) (units from to : ℕ) : Type 0 where
+  pub place : ℕ
+  pub is_stretch : stretch_at jobs place ≡ record { from = from; to = to }
+  pub first : AtEachScale slots (λ scale whole. IsFirstFailure (length (stretches jobs)) (λ i. HoldsStretch points scale whole (stretch_at jobs i)) place)
+  pub is_units : AtEachScale slots (λ scale whole. units * scale ≡ grid * work_in scale (stretch_at jobs place) whole)
 
 -- a policy's side: what its run spends, or the first stretch for which the top point is too slow
 pub data Side : Type 0 where
   Spends : (spent : Spent) → Side
   TooSlowFor : (units from to : ℕ) → Side
 
-pub record IsTooSlowFor (jobs : List Job) (points : List Point) (grid : ℕ) (slots : List WrittenSlot) (units from to : ℕ) : Type 0 where
-  pub place : ℕ
-  pub first : IsTooFastIn jobs points grid slots units place
-  pub is_from : from ≡ (stretch_at jobs place).from
-  pub is_to : to ≡ (stretch_at jobs place).to
-
 pub record HoldsAll (jobs : List Job) (points : List Point) (slots : List WrittenSlot) (spent : Spent) : Type 0 where
-  pub holds : AtEachScale slots (λ scale whole. Each (length (stretches jobs)) (λ i. HoldsStretch points scale whole (stretch_at jobs i)))
+  pub holds : AtEachScale slots (λ scale whole. All (HoldsStretch points scale whole) (stretches jobs))
   pub is_spent : IsSpent jobs points slots spent
 
 abbrev pub IsSide : List Job → List Point → ℕ → List WrittenSlot → Side → Type 0

@@ -1,4 +1,4 @@
--- The least excess of jobs above each speed: what every schedule has to do faster. Between the speeds of a plan's levels it goes in a
+-- The least excess of jobs above each speed: what every feasible schedule has to do faster. Between the speeds of a plan's levels it goes in a
 -- straight line.
 use Rattle.std.specs.Prelude.{◌≡◌, ℕ, ◌-◌, ◌*◌, ◌≤◌, List, ◌∷◌, map, reverse, sum_by}
 use Rattle.yds_model.specs.Job.{Job}

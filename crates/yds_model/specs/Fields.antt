@@ -34,10 +34,11 @@ no_field = record { column = 0; text = [] }
 abbrev pub field_at : List Field → ℕ → Field
 field_at fields i = slice_index_or fields i no_field
 
--- just so many fields stand after the kind: else the first one too many is named, or the byte after the last one's end
+-- the column after the field's last byte
 abbrev pub past_end : Field → ℕ
 past_end field = field.column + length field.text
 
+-- just so many fields stand after the kind: else the first one too many is named, or the byte after the last one's end
 abbrev pub count_fields : {R : Type 0} → R → ℕ → List Field → Result Bool (Spot R)
 count_fields reason wanted fields =
     if nat_lt (wanted + 1) (length fields) then refuse (field_at fields (wanted + 1)).column reason

@@ -7,9 +7,9 @@ use Rattle.yds_model.specs.Job.{Job}
 use Rattle.yds_model.specs.Slot.{WrittenSlot}
 use Rattle.yds_model.specs.Level.{Level}
 use Rattle.yds_model.specs.Plan.{IsPlan}
-use Rattle.yds_model.specs.Energy.{last_deadline, horizon}
+use Rattle.yds_model.specs.Energy.{first_release, last_deadline, horizon}
 use Rattle.yds_model.specs.Document.{Document}
-use Rattle.yds_model.specs.ReportAnswer.{first_time, speed_text}
+use Rattle.yds_model.specs.ReportAnswer.{speed_text}
 
 -- a level as an object; its speed, a fraction in lowest terms, is a string
 abbrev pub level_json : Level → List ℕ
@@ -19,7 +19,7 @@ level_json level =
 -- the numbers of the report; 44 is a comma
 abbrev pub report_json : List Job → List Level → List ℕ
 report_json jobs levels =
-    codes "{\"from\":" ++ decimal (first_time jobs)
+    codes "{\"from\":" ++ decimal (first_release jobs)
     ++ codes ",\"idle\":" ++ decimal (horizon jobs - sum_by (λ level. level.length) levels)
     ++ codes ",\"jobs\":" ++ decimal (length jobs)
     ++ codes ",\"levels\":[" ++ join_with_byte 44 (map level_json levels)

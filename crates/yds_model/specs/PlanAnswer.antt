@@ -10,22 +10,14 @@ use Rattle.yds_model.specs.Excess.{IsLeast}
 use Rattle.yds_model.specs.Explains.{Explains}
 use Rattle.yds_model.specs.Proper.{IsProper}
 use Rattle.yds_model.specs.Plan.{IsPlan}
-use Rattle.yds_model.specs.Document.{Document}
+use Rattle.yds_model.specs.Document.{Document, with_answer}
 use Rattle.yds_model.specs.Text.{canonical_text}
 use Rattle.yds_model.specs.Reading.{reading}
 use Rattle.yds_model.specs.Within.{IsTextOf}
 
 -- the same jobs and points, with these slots and levels, and nothing else
 abbrev pub with_plan : Document → List WrittenSlot → List Level → Document
-with_plan document slots levels = record {
-  names = document.names;
-  jobs = document.jobs;
-  points = document.points;
-  slots = slots;
-  levels = levels;
-  grid = None;
-  energy = None;
-}
+with_plan document slots levels = with_answer document slots levels None None
 
 -- the text is that of the document with a plan of its jobs
 pub record PlanAnswer (document : Document) (text : List ℕ) (status : Status) : Type 0 where

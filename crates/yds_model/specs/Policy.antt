@@ -3,13 +3,12 @@
 use Rattle.std.specs.Prelude.{◌≡◌, ℕ, zero, suc, ◌+◌, ◌-◌, ◌*◌, ◌/◌, ◌≤◌, List, [], ◌∷◌, length, sum_by, nat_le, ◌&&◌}
 use Rattle.std.specs.List.{All, Contains, filter, range_with_len}
 use Rattle.yds_model.specs.Job.{Job, job_at}
-use Rattle.yds_model.specs.Scale.{numerator}
 use Rattle.yds_model.specs.Slot.{WrittenSlot, WholeSlot, work_given}
 use Rattle.yds_model.specs.Piece.{Piece}
 use Rattle.yds_model.specs.Feasible.{IsFeasibleAt}
-use Rattle.yds_model.specs.Event.{stretches}
+use Rattle.yds_model.specs.Event.{stretches, LiesWritten}
 use Rattle.yds_model.specs.Divisor.{common_divisor}
-use Rattle.yds_model.specs.Audit.{crossed_length}
+use Rattle.yds_model.specs.Audit.{HasSpeed}
 use Rattle.yds_model.specs.Plan.{IsOver, IsServedInStretches}
 
 -- x divided by y, rounded up
@@ -58,10 +57,9 @@ pub record IsRunAt (jobs : List Job) (grid scale : ℕ) (capacity : Piece → �
 pub record HasRunDenominators (jobs : List Job) (grid : ℕ) (slot : WrittenSlot) : Type 0 where
   pub stretch : Piece
   pub is_stretch : Contains (stretches jobs) stretch
-  pub begins : stretch.from * slot.from.den ≤ numerator slot.from
-  pub ends : numerator slot.to ≤ stretch.to * slot.to.den
+  pub lies : LiesWritten slot stretch
   pub units : ℕ
-  pub speed : numerator slot.work * (slot.from.den * slot.to.den) * (grid * (stretch.to - stretch.from)) ≡ units * crossed_length slot.from slot.to * slot.work.den
+  pub speed : HasSpeed units (grid * (stretch.to - stretch.from)) slot
   pub work : IsOver grid slot.work
   pub from : IsOver (units / common_divisor units (stretch.to - stretch.from)) slot.from
   pub to : IsOver (units / common_divisor units (stretch.to - stretch.from)) slot.to

@@ -24,16 +24,18 @@ speed_text level =
 abbrev pub level_row : ℕ × Level → List ℕ
 level_row numbered = line (right 5 numbered.0 ∷ right 10 numbered.1.work ∷ right 10 numbered.1.length ∷ speed_text numbered.1 ∷ [])
 
-abbrev pub first_time : List Job → ℕ
-first_time [] = 0
-first_time (job ∷ jobs) = first_release (job ∷ jobs)
+-- the line of the jobs: how many, their work together, the first release and the last deadline
+abbrev pub jobs_row : List Job → List ℕ
+jobs_row jobs =
+    line (codes "jobs" ∷ decimal (length jobs) ∷ codes "work" ∷ decimal (sum_by (λ job. job.work) jobs)
+    ∷ codes "from" ∷ decimal (first_release jobs) ∷ codes "to" ∷ decimal (last_deadline jobs) ∷ [])
+
+-- the line of the time in which nothing runs
+abbrev pub idle_row : List Job → List Level → List ℕ
+idle_row jobs levels = line (codes "idle" ∷ decimal (horizon jobs - sum_by (λ level. level.length) levels) ∷ [])
 
 abbrev pub report_text : List Job → List Level → List ℕ
-report_text jobs levels =
-    line (codes "jobs" ∷ decimal (length jobs) ∷ codes "work" ∷ decimal (sum_by (λ job. job.work) jobs)
-    ∷ codes "from" ∷ decimal (first_time jobs) ∷ codes "to" ∷ decimal (last_deadline jobs) ∷ [])
-    ++ flat_map level_row (enumerate_from 1 levels)
-    ++ line (codes "idle" ∷ decimal (horizon jobs - sum_by (λ level. level.length) levels) ∷ [])
+report_text jobs levels = jobs_row jobs ++ flat_map level_row (enumerate_from 1 levels) ++ idle_row jobs levels
 
 pub record ReportAnswer (document : Document) (text : List ℕ) (status : Status) : Type 0 where
   pub slots : List WrittenSlot

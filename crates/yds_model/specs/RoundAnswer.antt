@@ -5,7 +5,7 @@ use Rattle.yds_model.specs.declared.status.Status.TheVariants as statuses
 use Rattle.yds_model.specs.Scale.{Fraction}
 use Rattle.yds_model.specs.Slot.{WrittenSlot}
 use Rattle.yds_model.specs.Level.{Level}
-use Rattle.yds_model.specs.Document.{Document, with_slots}
+use Rattle.yds_model.specs.Document.{Document, with_answer}
 use Rattle.yds_model.specs.Text.{line}
 use Rattle.yds_model.specs.Within.{IsTextOf}
 use Rattle.yds_model.specs.Plan.{IsPlan}
@@ -29,7 +29,7 @@ pub record RoundedAnswer (document : Document) (text : List ℕ) (status : Statu
   pub slots : List WrittenSlot
   pub energy : Fraction
   pub rounded : IsRounding document.jobs document.points planned levels slots energy
-  pub said : IsTextOf (with_slots document slots None (Some energy)) text
+  pub said : IsTextOf (with_answer document slots [] None (Some energy)) text
   pub ended : status ≡ statuses.Done
 
 abbrev pub RoundAnswer : Document → List ℕ → Status → Type 0

@@ -4,7 +4,7 @@ use Rattle.std.specs.Prelude.{ℕ, ◌+◌, ◌-◌, ◌*◌, ◌/◌, ◌%◌, 
 use Rattle.std.specs.List.{flat_map, range_with_len, list_all, list_any}
 use Rattle.yds_model.specs.Job.{Job}
 
--- times from the offset on; a job's deadline comes `deadline` after its release
+-- its first job is released at the offset, and one more after each period; a job's deadline comes `deadline` after its release
 pub record Task : Type 0 where
   pub name : List ℕ
   pub offset : ℕ
