@@ -8,7 +8,7 @@ use Rattle.yds_model.specs.Numbers.{Each}
 use Rattle.yds_model.specs.Piece.{Piece, IsForward, AreApart}
 use Rattle.yds_model.specs.Level.{Level, no_level, level_at, all_pieces}
 use Rattle.yds_model.specs.Proper.{PiecesStand}
-use Rattle.yds_model.specs.Judgement.{IsFirstFailure}
+use Rattle.yds_model.specs.Numbers.{IsFirstFailure}
 use Rattle.yds_model.proofs.Lists.{flat_map-take}
 use Rattle.yds_model.proofs.Front.{pieces_forward}
 use Rattle.yds_checker.specs.declared.placed.Placed.{Placed}

@@ -4,7 +4,7 @@ use Rattle.yds_model.specs.Numbers.{Each}
 use Rattle.yds_model.specs.Piece.{PiecesFrom}
 use Rattle.yds_model.specs.Level.{Level}
 use Rattle.yds_model.specs.Proper.{PiecesStand}
-use Rattle.yds_model.specs.Judgement.{IsFirstFailure}
+use Rattle.yds_model.specs.Numbers.{IsFirstFailure}
 use Rattle.yds_checker.specs.declared.placed.Placed.{Placed}
 use Rattle.yds_checker.specs.declared.pieces.Standing.{Standing}
 use Rattle.yds_checker.specs.declared.pieces.Standing.TheVariants.{Apart, Wrong}

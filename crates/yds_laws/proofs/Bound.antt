@@ -36,18 +36,21 @@ confinement_bound jobs scale p q slots members pieces positive different known c
 
 -- the bound of the jobs that explain a schedule holds of every other
 pub explained_is_least : ExplainedIsLeast
-explained_is_least jobs slots levels explains scale divided =
-    let at = explains scale divided in
-    record {
-      feasible = at.feasible;
-      least = λ p q positive others feasible.
-          let forces = at.forced p q positive in
-          omega (
-            arith,
-            forces.exact,
-            confinement_bound jobs scale p q others _ _ divided.positive forces.different forces.known forces.confined feasible,
-          );
-    }
+explained_is_least jobs slots levels explains = record {
+  solid = explains.solid;
+  holds = λ scale divided.
+      let at = explains.holds scale divided in
+      record {
+        feasible = at.feasible;
+        least = λ p q positive others feasible.
+            let forces = at.forced p q positive in
+            omega (
+              arith,
+              forces.exact,
+              confinement_bound jobs scale p q others _ _ divided.positive forces.different forces.known forces.confined feasible,
+            );
+      };
+}
 
 -- a scale of two schedules is one of the first
 pub scale_left : (scale : ℕ) (slots others : List WrittenSlot) → IsScale scale (slots ++ others) → IsScale scale slots
@@ -68,8 +71,8 @@ scale_right scale slots others is = record {
 -- at a scale of both, a written schedule is one of the others
 pub least_among_written : LeastAmongWritten
 least_among_written jobs slots others scale p q least feasible is positive =
-    (least scale (scale_left scale slots others is)).least p q positive (slots_at scale others)
-    (feasible scale (scale_right scale slots others is))
+    (least.holds scale (scale_left scale slots others is)).least p q positive (slots_at scale others)
+    (feasible.holds scale (scale_right scale slots others is))
 
 -- nothing runs faster than the speed, so the interval alone, as one piece, has the room for the jobs confined to it
 pub served_at_speed : ServedAtSpeed

@@ -118,7 +118,10 @@ module _ (jobs : List Job) (levels : List Level) (scale : ℕ) (slots : List Who
 
 -- and at each scale of the schedule
 pub proper_explains : ProperExplains
-proper_explains jobs slots levels proper scale divided =
-    proper_explains_at jobs levels scale (slots_at scale slots) proper.well_formed (proper.feasible scale divided)
-    proper.members proper.pieces proper.sums proper.order proper.windows
-    (λ s within. proper.speeds scale divided s (rw (length-map slots (slot_at_scale scale)) at within))
+proper_explains jobs slots levels proper = record {
+  solid = proper.feasible.solid;
+  holds = λ scale divided.
+      proper_explains_at jobs levels scale (slots_at scale slots) proper.well_formed (proper.feasible.holds scale divided)
+      proper.members proper.pieces proper.sums proper.order proper.windows
+      (λ s within. proper.speeds scale divided s (rw (length-map slots (slot_at_scale scale)) at within));
+}

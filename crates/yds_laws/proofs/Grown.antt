@@ -20,7 +20,8 @@ use Rattle.yds_model.specs.Document.{name_at}
 use Rattle.yds_model.specs.Spelling.{is_name}
 use Rattle.yds_model.specs.Entry.{Entry, piece_said, member_said}
 use Rattle.yds_model.specs.Reading.{are_alike, follows_points}
-use Rattle.yds_model.specs.Within.{IsFraction, AreDifferentNames, AreInGrain, IsPoint, IsSlot, IsPiece, IsLevel, AreNamedJobs, ArePoints, AreSlotsOf, AreLevelsOf}
+use Rattle.yds_model.specs.Within.{IsFraction, AreDifferentNames, IsPoint, IsSlot, IsPiece, IsLevel, AreNamedJobs, ArePoints, AreSlotsOf, AreLevelsOf}
+use Rattle.yds_model.specs.Audit.{AreInGrain}
 use Rattle.yds_model.specs.Scale.{AreAlike}
 use Rattle.yds_model.proofs.Lists.{place_cases, All-front, All-last}
 use Rattle.yds_model.proofs.Said.{empty_level, with_entry, last_longer}

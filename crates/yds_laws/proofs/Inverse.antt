@@ -15,7 +15,8 @@ use Rattle.yds_model.specs.Lines.{Field}
 use Rattle.yds_model.specs.Spelling.{is_number, is_mixed, mixed_of, kept, number_at, fraction_at, is_name}
 use Rattle.yds_model.specs.declared.reason.Reason.TheVariants as reasons
 use Rattle.yds_model.specs.Entry.{Entry, name_said, job_named}
-use Rattle.yds_model.specs.Reading.{Spot, ◌>>=◌, refuse, demand, Kind, kind_of, fields_wanted, may_follow, has_room, field_at, count_fields, in_field, number_in, fraction_in, new_name, known_job, read_kind, read_fields}
+use Rattle.yds_model.specs.Fields.{Spot, ◌>>=◌, refuse, demand, field_at, count_fields, in_field}
+use Rattle.yds_model.specs.Reading.{Kind, kind_of, fields_wanted, may_follow, has_room, reason_of, number_in, fraction_in, new_name, known_job, read_kind, read_fields}
 use Rattle.yds_model.specs.Within.{IsFraction}
 
 -- ---- steps one after another
@@ -30,20 +31,20 @@ demand_ok true column reason b is = refl
 demand_ok false column reason b is = absurd (cc)
 
 -- where a step and what comes after it succeed, the step gave a value and the rest the entry
-pub one_step : {A : Type 0} (m : Result A Spot) (after : A → Result Entry Spot) (entry : Entry) → (m >>= after) ≡ Ok entry →
+pub one_step : {A : Type 0} (m : Result A (Spot Reason)) (after : A → Result Entry (Spot Reason)) (entry : Entry) → (m >>= after) ≡ Ok entry →
     (a : A) × (m ≡ Ok a) × (after a ≡ Ok entry)
 one_step (Ok a) after entry is = (a, refl, is)
 one_step (Err spot) after entry is = absurd (cc)
 
 -- the same of two steps
-pub two_steps : {A B : Type 0} (m : Result A Spot) (n : Result B Spot) (after : A → B → Result Entry Spot) (entry : Entry) →
+pub two_steps : {A B : Type 0} (m : Result A (Spot Reason)) (n : Result B (Spot Reason)) (after : A → B → Result Entry (Spot Reason)) (entry : Entry) →
     (m >>= (λ a. n >>= (λ b. after a b))) ≡ Ok entry → (a : A) × (b : B) × (m ≡ Ok a) × (n ≡ Ok b) × (after a b ≡ Ok entry)
 two_steps (Ok a) (Ok b) after entry is = (a, b, refl, refl, is)
 two_steps (Ok a) (Err spot) after entry is = absurd (cc)
 two_steps (Err spot) n after entry is = absurd (cc)
 
 -- and of four
-pub four_steps : {A B C D : Type 0} (m : Result A Spot) (n : Result B Spot) (o : Result C Spot) (p : Result D Spot) (after : A → B → C → D → Result Entry Spot) (entry : Entry) →
+pub four_steps : {A B C D : Type 0} (m : Result A (Spot Reason)) (n : Result B (Spot Reason)) (o : Result C (Spot Reason)) (p : Result D (Spot Reason)) (after : A → B → C → D → Result Entry (Spot Reason)) (entry : Entry) →
     (m >>= (λ a. n >>= (λ b. o >>= (λ c. p >>= (λ d. after a b c d))))) ≡ Ok entry →
     (a : A) × (b : B) × (c : C) × (d : D) × (m ≡ Ok a) × (n ≡ Ok b) × (o ≡ Ok c) × (p ≡ Ok d) × (after a b c d ≡ Ok entry)
 four_steps m n o p after entry is =
@@ -52,13 +53,13 @@ four_steps m n o p after entry is =
     (front.0, front.1, back.0, back.1, front.2, front.3, back.2, back.3, back.4)
 
 -- what was made is the entry
-pub entry_made : (made entry : Entry) → Gives Entry Spot (Ok made) entry → made ≡ entry
+pub entry_made : (made entry : Entry) → Gives Entry (Spot Reason) (Ok made) entry → made ≡ entry
 entry_made made entry is = cc
 
 -- ---- numbers, fractions and names
 
 -- a number that a field gives is the one that its text was read as
-in_field_ok : {A : Type 0} (field : Field) (read : Result A NumberFault) (x : A) → in_field field read ≡ Ok x → read ≡ Ok x
+in_field_ok : {A : Type 0} (field : Field) (read : Result A NumberFault) (x : A) → in_field reason_of field read ≡ Ok x → read ≡ Ok x
 in_field_ok field (Ok y) x is = let same : y ≡ x = cc in ap Ok same
 in_field_ok field (Err fault) x is = absurd (cc)
 
@@ -162,20 +163,20 @@ known_ok earlier field job is =
 
 -- an entry of a line is one of its kind, for which there is room and which may stand there
 room_from : (earlier : List Entry) (fields : List Field) (entry : Entry) (kind : Option Kind) →
-    Gives Entry Spot (elim kind [
+    Gives Entry (Spot Reason) (elim kind [
       | None ↦ refuse (field_at fields 0).column reasons.UnknownKind
       | Some kind ↦ do
         placed ← demand (may_follow kind earlier) (field_at fields 0).column reasons.Misplaced
         room ← demand (has_room kind earlier) (field_at fields 0).column reasons.TooMany
-        counted ← count_fields (fields_wanted kind) fields
+        counted ← count_fields reasons.FieldCount (fields_wanted kind) fields
         read_kind kind earlier fields
     ]) entry → (kind : Kind) × (may_follow kind earlier ≡ true) × (has_room kind earlier ≡ true) × (read_kind kind earlier fields ≡ Ok entry)
 room_from earlier fields entry None is = absurd (cc)
 room_from earlier fields entry (Some kind) is =
     let placed = demand (may_follow kind earlier) (field_at fields 0).column reasons.Misplaced in
     let room = demand (has_room kind earlier) (field_at fields 0).column reasons.TooMany in
-    let two = two_steps placed room (λ a b. count_fields (fields_wanted kind) fields >>= (λ counted. read_kind kind earlier fields)) entry is in
-    let one = one_step (count_fields (fields_wanted kind) fields) (λ counted. read_kind kind earlier fields) entry two.4 in (
+    let two = two_steps placed room (λ a b. count_fields reasons.FieldCount (fields_wanted kind) fields >>= (λ counted. read_kind kind earlier fields)) entry is in
+    let one = one_step (count_fields reasons.FieldCount (fields_wanted kind) fields) (λ counted. read_kind kind earlier fields) entry two.4 in (
       kind,
       demand_ok (may_follow kind earlier) (field_at fields 0).column reasons.Misplaced two.0 two.2,
       demand_ok (has_room kind earlier) (field_at fields 0).column reasons.TooMany two.1 two.3,

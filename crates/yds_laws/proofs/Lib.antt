@@ -1,3 +1,4 @@
+pub mod Places
 mod Examples
 mod ThreeJobs
 mod Policies

@@ -6,7 +6,8 @@ use Rattle.yds_model.specs.Slot.{WrittenSlot}
 use Rattle.yds_model.specs.Level.{Level}
 use Rattle.yds_model.specs.Proper.{PiecesStand, StandsOnce, SumsAgree, IsNotFaster, IsWindowCovered}
 use Rattle.yds_model.specs.Audit.{Verdict, Feasible, IsVerdict}
-use Rattle.yds_model.specs.Judgement.{Judgement, Accepted, Slots, Pieces, Members, Sums, Order, Window, Speed, HasWrittenSpeed, IsFirstFailure, SlotsHold, PiecesHold, MembersHold, SumsHold, OrderHolds, WindowsHold, IsJudgement}
+use Rattle.yds_model.specs.Judgement.{Judgement, Accepted, Slots, Pieces, Members, Sums, Order, Window, Speed, HasWrittenSpeed, SlotsHold, PiecesHold, MembersHold, SumsHold, OrderHolds, WindowsHold, IsJudgement}
+use Rattle.yds_model.specs.Numbers.{IsFirstFailure}
 use Rattle.yds_laws.specs.Laws.{JudgementIsUnique}
 use Rattle.yds_model.proofs.FirstFailure.{IsFirst, each_none, each_more, one_stage, one_place}
 use Rattle.yds_model.proofs.OneVerdict.{verdict_is_unique}

@@ -1,7 +1,7 @@
 -- What the answer of `plan` is worth: its text is read again as the document with its plan, `audit` answers it with
 -- 'feasible' and `check` with 'accepted'.
 use Rattle.std.proofs.Common.{◌≡◌, ℕ, ◌<◌, ◌≤◌, ◌==◌, Bool, true, false, List, [], ◌∷◌, length, get_or, Some, Result, Ok, Err, refl, sym, ap, subst, ◌∙◌, arith, inl, inr, le-ltb, eq-eqb, eqb-true}
-use Rattle.std.specs.Prelude.{cond, codes, nat_lt, ◌≢◌}
+use Rattle.std.specs.Prelude.{cond, codes, ◌≢◌}
 use Rattle.std.specs.List.{All, AllPairs}
 use Rattle.std.proofs.lemmas.Bool.{cases_lt}
 use Rattle.std.proofs.lemmas.Bool.Decides.{Decides-eqb}
@@ -13,27 +13,29 @@ use Rattle.std.proofs.lemmas.Map.Made.{IsDistinct-from_AllPairs}
 use Rattle.std.proofs.lemmas.Map.Views.{Contains-from_any}
 use Rattle.std.proofs.lemmas.Map.Steps.{length-le_from_distinct_below}
 use Rattle.yds_model.specs.declared.limits.TheConstants.{MAX_INPUT, MAX_JOBS}
+use Rattle.yds_model.specs.declared.reason.Reason.{Reason}
 use Rattle.yds_model.specs.declared.status.Status.TheVariants.{Done, Refused}
 use Rattle.yds_model.specs.Numbers.{count, AreDifferent}
 use Rattle.yds_model.specs.Job.{Job, work_of}
 use Rattle.yds_model.specs.Slot.{WrittenSlot, IsSolid}
 use Rattle.yds_model.specs.Level.{Level, level_at, no_level, all_members}
 use Rattle.yds_model.specs.Proper.{IsProper}
+use Rattle.yds_model.specs.Plan.{IsPlan}
 use Rattle.yds_model.specs.Audit.{AreSlots, Feasible}
 use Rattle.yds_model.specs.Judgement.{Accepted}
 use Rattle.yds_model.specs.Document.{Document}
-use Rattle.yds_model.specs.Reading.{Fault, reading}
-use Rattle.yds_model.specs.Within.{IsDocument, IsSlot, AreSlotsOf, AreLevelsOf}
-use Rattle.yds_model.specs.PlanAnswer.{with_plan, PlansDocument, HoldsHeadline}
-use Rattle.yds_model.specs.Request.{Request, AskPlan, AskAudit, AskCheck}
-use Rattle.yds_model.specs.Answer.{AnswersInput, AnswersReading, AnswersRequest}
+use Rattle.yds_model.specs.Fields.{Fault}
+use Rattle.yds_model.specs.Reading.{reading}
+use Rattle.yds_model.specs.Within.{IsDocument, IsSlot, AreSlotsOf, IsTextOf}
+use Rattle.yds_model.specs.PlanAnswer.{with_plan, HoldsHeadline}
+use Rattle.yds_model.specs.Request.{Question, AskPlan, AskAudit, AskCheck, OfDocument}
+use Rattle.yds_model.specs.Answer.{AnswersReading, UnlessTooLong, is_too_long, AnswersRequest}
 use Rattle.yds_laws.specs.PlanText.{PlansHoldTheHeadline, PlansAreFeasible, PlansAreAccepted}
 use Rattle.yds_model.proofs.Lists.{count-cons, counted_contains}
 use Rattle.yds_laws.proofs.Bound.{explained_is_least}
 use Rattle.yds_laws.proofs.Explained.{proper_explains}
 use Rattle.yds_laws.proofs.RoundTrip.{printed_is_read}
 use Rattle.yds_laws.proofs.Short.{text_is_short}
-use Rattle.yds_laws.proofs.Within.{read_is_within_limits}
 use Rattle.yds_model.proofs.Verdicts.{verdict_is_exact}
 use Rattle.yds_laws.proofs.Judgements.{judgement_is_exact}
 
@@ -104,42 +106,34 @@ plan_is_small jobs slots levels few proper known =
 done_not_refused : Done ≡ Refused → ⊥
 done_not_refused same = absurd cc
 
--- a document within the limits stays so with a plan within them
-with_plan_fits : (document : Document) (slots : List WrittenSlot) (levels : List Level) → IsDocument document →
-    AreSlotsOf (length document.jobs) slots → AreLevelsOf (length document.jobs) levels → IsDocument (with_plan document slots levels)
-with_plan_fits document slots levels fits slots_fit levels_fit = record {
-  jobs = fits.jobs;
-  points = fits.points;
-  slots = subst (λ count. AreSlotsOf count slots) (sym fits.jobs.one_name_each) slots_fit;
-  levels = subst (λ count. AreLevelsOf count levels) (sym fits.jobs.one_name_each) levels_fit;
-  grid = tt;
-  energy = tt;
-}
-
 -- a plan of a document that was read, and the reading of its text
 pub record IsReadAgain (input text : List ℕ) (document : Document) (slots : List WrittenSlot) (levels : List Level) : Type 0 where
   pub read : reading input ≡ Ok document
-  pub plans : PlansDocument document text slots levels
+  pub plan : IsPlan document.jobs slots levels
+  pub said : IsTextOf (with_plan document slots levels) text
   pub read_again : reading text ≡ Ok (with_plan document slots levels)
   pub short : length text ≤ MAX_INPUT
 
 -- the text of a plan is read as the document with the plan
 read_again : (input text : List ℕ) (document : Document) (slots : List WrittenSlot) (levels : List Level) →
-    reading input ≡ Ok document → PlansDocument document text slots levels → IsReadAgain input text document slots levels
-read_again input text document slots levels read plans =
-    let within = read_is_within_limits input document read in
-    let fits = with_plan_fits document slots levels within plans.slots_fit plans.levels_fit in
-    let few : length document.jobs ≤ MAX_JOBS = within.jobs.few in
-    let small = plan_is_small document.jobs slots levels few plans.plan.proper plans.levels_fit.known in
+    reading input ≡ Ok document → IsPlan document.jobs slots levels → IsTextOf (with_plan document slots levels) text →
+    IsReadAgain input text document slots levels
+read_again input text document slots levels read plan said =
+    let fits = said.possible in
+    let few : length document.jobs ≤ MAX_JOBS = fits.jobs.few in
+    let known : All (λ number. number < length document.jobs) (all_members levels) =
+    subst (λ count. All (λ number. number < count) (all_members levels)) fits.jobs.one_name_each fits.levels.known in
+    let small = plan_is_small document.jobs slots levels few plan.proper known in
     record {
       read = read;
-      plans = plans;
-      read_again = ap reading plans.written ∙ printed_is_read (with_plan document slots levels) fits;
+      plan = plan;
+      said = said;
+      read_again = ap reading said.written ∙ printed_is_read (with_plan document slots levels) fits;
       short = omega (
         arith,
-        ap length plans.written,
-        text_is_short (with_plan document slots levels) fits (omega (arith, few, plans.plan.few_slots)) small.few_levels
-            (omega (arith, few, plans.plan.few_pieces)) small.few_members,
+        ap length said.written,
+        text_is_short (with_plan document slots levels) fits (omega (arith, few, plan.few_slots)) small.few_levels
+            (omega (arith, few, plan.few_pieces)) small.few_members,
       );
     }
 
@@ -148,33 +142,33 @@ abbrev IsPlanRead : List ℕ → List ℕ → Type 0
 IsPlanRead input text = (document : Document) × (slots : List WrittenSlot) × (levels : List Level) × IsReadAgain input text document slots levels
 
 -- `plan` is done where the input is read as a document
-plan_of_reading : (input text : List ℕ) (read : Result Document Fault) → read ≡ reading input → AnswersReading AskPlan read text Done → IsPlanRead input text
-plan_of_reading input text (Ok document) is (done, (slots, levels, plans)) =
-    (document, slots, levels, read_again input text document slots levels (sym is) plans)
+plan_of_reading : (input text : List ℕ) (read : Result Document (Fault Reason)) → read ≡ reading input → AnswersReading AskPlan read text Done → IsPlanRead input text
+plan_of_reading input text (Ok document) is answer =
+    (document, answer.slots, answer.levels, read_again input text document answer.slots answer.levels (sym is) answer.plan answer.said)
 plan_of_reading input text (Err fault) is answers = absurd (done_not_refused answers.ended)
 
 -- so what it writes then is read again
-plan_of_input : (input text : List ℕ) (long : Bool) → AnswersInput AskPlan long input text Done → IsPlanRead input text
+plan_of_input : (input text : List ℕ) (long : Bool) → UnlessTooLong long (AnswersReading AskPlan (reading input)) text Done → IsPlanRead input text
 plan_of_input input text true answers = absurd (done_not_refused answers.ended)
 plan_of_input input text false answers = plan_of_reading input text (reading input) refl answers
 
 -- and so is what `plan` writes where it is done
-plan_read : (input text : List ℕ) → AnswersRequest (Some AskPlan) input text Done → IsPlanRead input text
-plan_read input text answers = plan_of_input input text (nat_lt MAX_INPUT (length input)) answers
+plan_read : (input text : List ℕ) → AnswersRequest (Some (OfDocument AskPlan)) input text Done → IsPlanRead input text
+plan_read input text answers = plan_of_input input text (is_too_long input) answers
 
 -- The laws.
 
 -- from the plan that is read again the headline follows
 headline_of : (input text : List ℕ) → IsPlanRead input text → HoldsHeadline input text
 headline_of input text (document, slots, levels, is) =
-    let proper = is.plans.plan.proper in
+    let proper = is.plan.proper in
     let explained = proper_explains document.jobs slots levels proper in (
       document,
       slots,
       levels,
       record {
         read = is.read;
-        written = is.plans.written;
+        written = is.said.written;
         read_again = is.read_again;
         feasible = proper.feasible;
         least = explained_is_least document.jobs slots levels explained;
@@ -202,18 +196,24 @@ slots_agree count slots fit = record {
     work = omega (arith, is.work.below_one);
   }
 
+-- and so are those of a possible document with a plan
+plan_slots_agree : (document : Document) (slots : List WrittenSlot) (levels : List Level) → IsDocument (with_plan document slots levels) →
+    AreSlots (length document.jobs) slots
+plan_slots_agree document slots levels fits =
+    subst (λ count. AreSlots count slots) fits.jobs.one_name_each (slots_agree (length document.names) slots fits.slots)
+
 -- the answer to a text that is short and read as a document
-answers_document : (request : Request) (text told : List ℕ) (document : Document) → length text ≤ MAX_INPUT → reading text ≡ Ok document →
-    AnswersReading request (Ok document) told Done → AnswersInput request (nat_lt MAX_INPUT (length text)) text told Done
-answers_document request text told document short read answers =
+answers_document : (question : Question) (text told : List ℕ) (document : Document) → length text ≤ MAX_INPUT → reading text ≡ Ok document →
+    AnswersReading question (Ok document) told Done → UnlessTooLong (is_too_long text) (AnswersReading question (reading text)) told Done
+answers_document question text told document short read answers =
     rw (le-ltb MAX_INPUT (length text) short, read) answers
 
 -- `audit` answers the text of a plan with 'feasible'
-audited : (input text : List ℕ) → IsPlanRead input text → AnswersRequest (Some AskAudit) text (codes "feasible\n") Done
+audited : (input text : List ℕ) → IsPlanRead input text → AnswersRequest (Some (OfDocument AskAudit)) text (codes "feasible\n") Done
 audited input text (document, slots, levels, is) =
     answers_document AskAudit text (codes "feasible\n") (with_plan document slots levels) is.short is.read_again record {
       verdict = Feasible;
-      is_verdict = (verdict_is_exact document.jobs slots (slots_agree (length document.jobs) slots is.plans.slots_fit)).1 is.plans.plan.proper.feasible;
+      is_verdict = (verdict_is_exact document.jobs slots (plan_slots_agree document slots levels is.said.possible)).1 is.plan.proper.feasible;
       said = refl;
       ended = refl;
     }
@@ -223,12 +223,12 @@ pub plan_texts_are_feasible : PlansAreFeasible
 plan_texts_are_feasible input text answers = audited input text (plan_read input text answers)
 
 -- `check` answers it with 'accepted'
-checked : (input text : List ℕ) → IsPlanRead input text → AnswersRequest (Some AskCheck) text (codes "accepted\n") Done
+checked : (input text : List ℕ) → IsPlanRead input text → AnswersRequest (Some (OfDocument AskCheck)) text (codes "accepted\n") Done
 checked input text (document, slots, levels, is) =
     answers_document AskCheck text (codes "accepted\n") (with_plan document slots levels) is.short is.read_again record {
       judgement = Accepted;
-      is_judgement = (judgement_is_exact document.jobs slots levels (slots_agree (length document.jobs) slots is.plans.slots_fit)
-          is.plans.plan.proper.well_formed).1 is.plans.plan.proper;
+      is_judgement = (judgement_is_exact document.jobs slots levels (plan_slots_agree document slots levels is.said.possible)
+          is.plan.proper.well_formed).1 is.plan.proper;
       said = refl;
       ended = refl;
     }

@@ -36,7 +36,7 @@ plan_excess : (jobs : List Job) (slots : List WrittenSlot) (levels : List Level)
 plan_excess jobs slots levels scale p q plan is some =
     omega (
       arith,
-      ((proper_explains jobs slots levels plan.proper scale is).forced p q some).exact,
+      (((proper_explains jobs slots levels plan.proper).holds scale is).forced p q some).exact,
       ap (λ n. scale * n) (curve_above jobs p q levels (plan_falls jobs slots levels plan) (plan_sums_up jobs slots levels plan)),
     )
 
@@ -46,8 +46,8 @@ plans_do_the_same : (jobs : List Job) (slots others : List WrittenSlot) (levels 
 plans_do_the_same jobs slots others levels others_levels scale plan other is p q some =
     let left = scale_left scale slots others is in
     let right = scale_right scale slots others is in
-    let one = (plans_are_least jobs slots levels plan).0 scale left in
-    let two = (plans_are_least jobs others others_levels other).0 scale right in
+    let one = (plans_are_least jobs slots levels plan).0.holds scale left in
+    let two = (plans_are_least jobs others others_levels other).0.holds scale right in
     eq_of_mul-eq-mul_left scale is.positive (curve p q levels) (curve p q others_levels)
     (omega (
       arith,
@@ -59,7 +59,7 @@ plans_do_the_same jobs slots others levels others_levels scale plan other is p q
 
 -- at a scale of both schedules
 pub plans_have_the_same_levels : PlansHaveTheSameLevels
-plans_have_the_same_levels jobs slots others levels others_levels solid others_solid plan other =
-    let scale = scale_exists (slots ++ others) (All-append IsSolid slots others solid others_solid) in
+plans_have_the_same_levels jobs slots others levels others_levels plan other =
+    let scale = scale_exists (slots ++ others) (All-append IsSolid slots others plan.proper.feasible.solid other.proper.feasible.solid) in
     same_levels levels others_levels (plan_falls jobs slots levels plan) (plan_falls jobs others others_levels other)
     (plans_do_the_same jobs slots others levels others_levels scale.0 plan other scale.1)

@@ -11,7 +11,7 @@ use Rattle.yds_laws.proofs.HullEnergy.{hull_first, hull_rising, points_cost_at_l
 -- the law: a plan costs at most what each feasible schedule does, by a convex table
 pub plans_cost_least : PlansCostLeast
 plans_cost_least jobs slots levels points scale others plan table convex is feasible =
-    least_is_cheapest jobs points scale (slots_at scale slots) others table convex ((plans_are_least jobs slots levels plan).0 scale is) feasible
+    least_is_cheapest jobs points scale (slots_at scale slots) others table convex ((plans_are_least jobs slots levels plan).0.holds scale is) feasible
 
 -- the hull of a table is a table
 hull_some : (points hull : List Point) → IsTable points → IsHullOf points hull → 1 ≤ length hull

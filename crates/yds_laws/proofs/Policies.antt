@@ -1,22 +1,36 @@
 -- The two policies, tried on a small run of each on the grid 1: at the scale of its slots, and at each.
-use Rattle.std.proofs.Common.{◌≡◌, ℕ, zero, suc, ◌*◌, ◌/◌, ◌<◌, List, [], ◌∷◌, map, take, refl, sym, subst, arith, inl, inr}
+use Rattle.std.proofs.Common.{◌≡◌, ℕ, ◌*◌, List, [], ◌∷◌, length, map, refl, sym, arith, inl, inr}
 use Rattle.std.specs.Prelude.{count_by}
 use Rattle.std.specs.List.{All}
-use Rattle.std.specs.Int.{◌∣◌}
 use Rattle.std.proofs.lemmas.List.Elements.{All-from_recursion}
 use Rattle.std.proofs.lemmas.Nat.Gcd.{dvd_refl}
-use Rattle.std.proofs.Math.Nat.{one-dvd, div-mul_cancel, mul-one}
+use Rattle.std.proofs.Math.Nat.{one-dvd}
 use Rattle.yds_model.specs.Job.{Job, job_at}
 use Rattle.yds_model.specs.Scale.{of_whole, of_parts}
-use Rattle.yds_model.specs.Slot.{WrittenSlot, IsDivided, IsScale, slots_at, slot_at, no_written_slot, work_given}
+use Rattle.yds_model.specs.Slot.{WrittenSlot, WholeSlot, AtEachScale, IsDivided, IsScale, slots_at, slot_at, no_written_slot, work_given}
 use Rattle.yds_model.specs.Feasible.{IsInWindow, IsFeasibleAt}
-use Rattle.yds_model.specs.EarliestFirst.{IsFirstDue}
+use Rattle.yds_model.specs.EarliestFirst.{ComesFirst, MayRun, IsFirstDue, IsEarliestFirst}
 use Rattle.yds_model.specs.Event.{stretches, LiesIn, IsUncut}
 use Rattle.yds_model.specs.Plan.{IsServedInStretches}
 use Rattle.yds_model.specs.Policy.{ServesCapacity, IsRunAt}
 use Rattle.yds_model.specs.AverageRate.{average_rate, average_rate_rounds, IsAverageRateRun}
 use Rattle.yds_model.specs.OptimalAvailable.{optimal_available, optimal_available_rounds, IsOptimalAvailableRun}
+use Rattle.yds_model.proofs.Scale.{least_scale_of}
+use Rattle.yds_laws.proofs.Places.{AtPlaces, each_place, each_pair}
 use Rattle.yds_laws.proofs.RunScale.{average_rate_run_scaled, optimal_available_run_scaled, optimal_available_rounds_scaled}
+
+-- what comes first among the jobs that may run, one by one
+first_of_jobs : (jobs : List Job) (scale : ℕ) (before : List WholeSlot) (slot : WholeSlot) → MayRun jobs scale slot.from before slot.job →
+    AtPlaces (length jobs) (λ other. MayRun jobs scale slot.from before other → ComesFirst jobs slot.job other) → IsFirstDue jobs scale before slot
+first_of_jobs jobs scale before slot may each = record {
+  may_run = may;
+  first = each_place (length jobs) (λ other. MayRun jobs scale slot.from before other → ComesFirst jobs slot.job other) each;
+}
+
+-- two slots of one job lie in different stretches
+abbrev IsOnce : List Job → ℕ → List WholeSlot → ℕ → ℕ → Type 0
+IsOnce jobs scale slots i j = (slot_at slots i).job ≡ (slot_at slots j).job →
+    All (λ stretch. LiesIn scale (slot_at slots i) stretch → LiesIn scale (slot_at slots j) stretch → ⊥) (stretches jobs)
 
 -- Average Rate: a from 0 to 3 with work 2, b from 1 to 3 with work 2
 abbrev rate_jobs : List Job
@@ -53,56 +67,42 @@ second_served = (refl, refl, (refl, refl, refl))
 rate_rounds : count_by (average_rate_rounds rate_jobs 1) (stretches rate_jobs) ≡ 2
 rate_rounds = refl
 
--- At scale 3 the slots are a run. Each job gets its work,
-rate_served : (number : ℕ) → number < 2 → work_given (slots_at 3 rate_slots) number ≡ (job_at rate_jobs number).work * 3
-rate_served zero within = refl
-rate_served (suc zero) within = refl
-rate_served (suc (suc number)) within = absurd (omega arith)
-
--- one job at a time, in its window, and all are served
+-- At scale 3 the slots are a run: one job at a time, in its window, and all are served.
 rate_feasible : IsFeasibleAt rate_jobs 3 (slots_at 3 rate_slots)
 rate_feasible = record {
   one_at_a_time = (omega arith, omega arith, (omega arith, omega arith, (omega arith, omega arith, tt)));
   in_windows = All-from_recursion (IsInWindow rate_jobs 3) (slots_at 3 rate_slots) (omega arith, (omega arith, (omega arith, tt)));
-  served = rate_served;
+  served = each_place 2 (λ number. work_given (slots_at 3 rate_slots) number ≡ (job_at rate_jobs number).work * 3) (refl, (refl, tt));
 }
 
--- at 0 a alone may run
-rate_first : IsFirstDue rate_jobs 3 [] (slot_at (slots_at 3 rate_slots) 0)
-rate_first zero inside released left = inr (refl, omega arith)
-rate_first (suc zero) inside released left = absurd (omega arith)
-rate_first (suc (suc other)) inside released left = absurd (omega arith)
+-- At 0 a alone may run, at 1 a and b have the same deadline and a stands first, and at 5/3 a is done.
+rate_earliest : IsEarliestFirst rate_jobs 3 (slots_at 3 rate_slots)
+rate_earliest = (
+  first_of_jobs _ _ _ _ (record { released = omega arith; pending = omega arith }) (λ may. inr (refl, omega arith), (λ may. absurd (omega (arith, may.released)), tt)),
+  (
+    first_of_jobs _ _ _ _ (record { released = omega arith; pending = omega arith }) (λ may. inr (refl, omega arith), (λ may. inr (refl, omega arith), tt)),
+    (first_of_jobs _ _ _ _ (record { released = omega arith; pending = omega arith }) (λ may. absurd (omega (arith, may.pending)), (λ may. inr (refl, omega arith), tt)), tt),
+  ),
+)
 
--- at 1 a and b have the same deadline, and a stands first
-rate_second : IsFirstDue rate_jobs 3 (take 1 (slots_at 3 rate_slots)) (slot_at (slots_at 3 rate_slots) 1)
-rate_second zero inside released left = inr (refl, omega arith)
-rate_second (suc zero) inside released left = inr (refl, omega arith)
-rate_second (suc (suc other)) inside released left = absurd (omega arith)
+-- a's two slots lie in different stretches, and b has one
+rate_once : AtPlaces 3 (λ j. AtPlaces j (λ i. IsOnce rate_jobs 3 (slots_at 3 rate_slots) i j))
+rate_once = (
+  tt,
+  (
+    (
+      λ same. All-from_recursion (λ stretch. LiesIn 3 (slot_at (slots_at 3 rate_slots) 0) stretch → LiesIn 3 (slot_at (slots_at 3 rate_slots) 1) stretch → ⊥)
+          (stretches rate_jobs) (λ first second. absurd (omega (arith, second.to)), (λ first second. absurd (omega (arith, first.from)), tt)),
+      tt,
+    ),
+    ((λ same. absurd (omega (arith, same)), (λ same. absurd (omega (arith, same)), tt)), tt),
+  ),
+)
 
--- at 5/3 a is done
-rate_third : IsFirstDue rate_jobs 3 (take 2 (slots_at 3 rate_slots)) (slot_at (slots_at 3 rate_slots) 2)
-rate_third zero inside released left = absurd (omega arith)
-rate_third (suc zero) inside released left = inr (refl, omega arith)
-rate_third (suc (suc other)) inside released left = absurd (omega arith)
-
--- a's two slots lie in different stretches
-rate_once : (i j : ℕ) → i < j → j < 3 → (slot_at (slots_at 3 rate_slots) i).job ≡ (slot_at (slots_at 3 rate_slots) j).job →
-    All (λ stretch. LiesIn 3 (slot_at (slots_at 3 rate_slots) i) stretch → LiesIn 3 (slot_at (slots_at 3 rate_slots) j) stretch → ⊥) (stretches rate_jobs)
-rate_once zero zero order inside same = absurd (omega arith)
-rate_once zero (suc zero) order inside same =
-    All-from_recursion (λ stretch. LiesIn 3 (slot_at (slots_at 3 rate_slots) 0) stretch → LiesIn 3 (slot_at (slots_at 3 rate_slots) 1) stretch → ⊥)
-    (stretches rate_jobs) (λ first second. absurd (omega (arith, second.to)), (λ first second. absurd (omega (arith, first.from)), tt))
-rate_once zero (suc (suc zero)) order inside same = absurd (omega (arith, same))
-rate_once (suc zero) zero order inside same = absurd (omega arith)
-rate_once (suc zero) (suc zero) order inside same = absurd (omega arith)
-rate_once (suc zero) (suc (suc zero)) order inside same = absurd (omega (arith, same))
-rate_once (suc (suc i)) j order inside same = absurd (omega arith)
-rate_once i (suc (suc (suc j))) order inside same = absurd (omega arith)
-
--- so they are in order, uncut, and one for a job and stretch
+-- So they are in order, uncut, and one for a job and stretch.
 rate_in_stretches : IsServedInStretches rate_jobs 3 (slots_at 3 rate_slots)
 rate_in_stretches = record {
-  earliest_first = (rate_first, (rate_second, (rate_third, tt)));
+  earliest_first = rate_earliest;
   uncut = All-from_recursion (IsUncut rate_jobs 3) (slots_at 3 rate_slots) (
     (0, record { from = 0; to = 1 }, omega arith, refl, record { from = omega arith; to = omega arith }),
     (
@@ -110,7 +110,7 @@ rate_in_stretches = record {
       ((1, record { from = 1; to = 3 }, omega arith, refl, record { from = omega arith; to = omega arith }), tt),
     ),
   );
-  once = rate_once;
+  once = each_pair 3 (IsOnce rate_jobs 3 (slots_at 3 rate_slots)) rate_once;
 }
 
 -- so they are a run
@@ -137,13 +137,9 @@ rate_thirds = record {
 }
 
 -- each scale of the slots is a multiple of 3, so they are a run at each
-rate_at_each : (scale : ℕ) → IsScale scale rate_slots →
-    IsRunAt rate_jobs 1 scale (average_rate rate_jobs 1 scale (slots_at scale rate_slots)) (slots_at scale rate_slots)
-rate_at_each scale is =
-    let divides : 3 ∣ scale = (is.divided 1 no_written_slot (omega arith)).to in
-    let same : scale / 3 * 3 ≡ scale = div-mul_cancel 3 divides in
-    subst (λ (n : ℕ). IsRunAt rate_jobs 1 n (average_rate rate_jobs 1 n (slots_at n rate_slots)) (slots_at n rate_slots)) same
-    (average_rate_run_scaled rate_jobs 1 (scale / 3) 3 rate_slots (omega (arith, same, is.positive)) rate_thirds rate_run)
+rate_at_each : AtEachScale rate_slots (λ scale whole. IsRunAt rate_jobs 1 scale (average_rate rate_jobs 1 scale whole) whole)
+rate_at_each = least_scale_of rate_slots (λ scale whole. IsRunAt rate_jobs 1 scale (average_rate rate_jobs 1 scale whole) whole) 3 rate_thirds
+    (λ scale is. (is.divided 1 no_written_slot (omega arith)).to) (λ k some. average_rate_run_scaled rate_jobs 1 k 3 rate_slots some rate_thirds rate_run)
 
 -- the slots are a run of Average Rate that rounds at two event points
 rate_accepted : IsAverageRateRun rate_jobs 1 2 rate_slots
@@ -180,60 +176,48 @@ units_at_2 = refl
 available_rounds : count_by (optimal_available_rounds available_jobs 1 1 (slots_at 1 available_slots)) (stretches available_jobs) ≡ 1
 available_rounds = refl
 
--- At scale 1 the slots are a run. Each job gets its work,
-available_served : (number : ℕ) → number < 2 → work_given (slots_at 1 available_slots) number ≡ (job_at available_jobs number).work * 1
-available_served zero within = refl
-available_served (suc zero) within = refl
-available_served (suc (suc number)) within = absurd (omega arith)
-
--- one job at a time, in its window, and all are served
+-- At scale 1 the slots are a run: one job at a time, in its window, and all are served.
 available_feasible : IsFeasibleAt available_jobs 1 (slots_at 1 available_slots)
 available_feasible = record {
   one_at_a_time = (omega arith, omega arith, (omega arith, omega arith, (omega arith, omega arith, tt)));
   in_windows = All-from_recursion (IsInWindow available_jobs 1) (slots_at 1 available_slots) (omega arith, (omega arith, (omega arith, tt)));
-  served = available_served;
+  served = each_place 2 (λ number. work_given (slots_at 1 available_slots) number ≡ (job_at available_jobs number).work * 1) (refl, (refl, tt));
 }
 
--- at 0 a alone may run
-available_first : IsFirstDue available_jobs 1 [] (slot_at (slots_at 1 available_slots) 0)
-available_first zero inside released left = inr (refl, omega arith)
-available_first (suc zero) inside released left = absurd (omega arith)
-available_first (suc (suc other)) inside released left = absurd (omega arith)
+-- At 0 a alone may run, at 1 b has the earlier deadline, and at 2 b is done.
+available_earliest : IsEarliestFirst available_jobs 1 (slots_at 1 available_slots)
+available_earliest = (
+  first_of_jobs _ _ _ _ (record { released = omega arith; pending = omega arith }) (λ may. inr (refl, omega arith), (λ may. absurd (omega (arith, may.released)), tt)),
+  (
+    first_of_jobs _ _ _ _ (record { released = omega arith; pending = omega arith }) (λ may. inl (omega arith), (λ may. inr (refl, omega arith), tt)),
+    (first_of_jobs _ _ _ _ (record { released = omega arith; pending = omega arith }) (λ may. inr (refl, omega arith), (λ may. absurd (omega (arith, may.pending)), tt)), tt),
+  ),
+)
 
--- at 1 b has the earlier deadline
-available_second : IsFirstDue available_jobs 1 (take 1 (slots_at 1 available_slots)) (slot_at (slots_at 1 available_slots) 1)
-available_second zero inside released left = inl (omega arith)
-available_second (suc zero) inside released left = inr (refl, omega arith)
-available_second (suc (suc other)) inside released left = absurd (omega arith)
+-- a's two slots lie in different stretches, and b has one
+available_once : AtPlaces 3 (λ j. AtPlaces j (λ i. IsOnce available_jobs 1 (slots_at 1 available_slots) i j))
+available_once = (
+  tt,
+  (
+    (λ same. absurd (omega (arith, same)), tt),
+    (
+      (
+        λ same. All-from_recursion (λ stretch. LiesIn 1 (slot_at (slots_at 1 available_slots) 0) stretch → LiesIn 1 (slot_at (slots_at 1 available_slots) 2) stretch → ⊥)
+            (stretches available_jobs) (
+              λ first second. absurd (omega (arith, second.to)),
+              (λ first second. absurd (omega (arith, second.to)), (λ first second. absurd (omega (arith, first.from)), tt)),
+            ),
+        (λ same. absurd (omega (arith, same)), tt),
+      ),
+      tt,
+    ),
+  ),
+)
 
--- at 2 b is done
-available_third : IsFirstDue available_jobs 1 (take 2 (slots_at 1 available_slots)) (slot_at (slots_at 1 available_slots) 2)
-available_third zero inside released left = inr (refl, omega arith)
-available_third (suc zero) inside released left = absurd (omega arith)
-available_third (suc (suc other)) inside released left = absurd (omega arith)
-
--- a's two slots lie in different stretches
-available_once : (i j : ℕ) → i < j → j < 3 → (slot_at (slots_at 1 available_slots) i).job ≡ (slot_at (slots_at 1 available_slots) j).job →
-    All (λ stretch. LiesIn 1 (slot_at (slots_at 1 available_slots) i) stretch → LiesIn 1 (slot_at (slots_at 1 available_slots) j) stretch → ⊥)
-    (stretches available_jobs)
-available_once zero zero order inside same = absurd (omega arith)
-available_once zero (suc zero) order inside same = absurd (omega (arith, same))
-available_once zero (suc (suc zero)) order inside same =
-    All-from_recursion (λ stretch. LiesIn 1 (slot_at (slots_at 1 available_slots) 0) stretch → LiesIn 1 (slot_at (slots_at 1 available_slots) 2) stretch → ⊥)
-    (stretches available_jobs) (
-      λ first second. absurd (omega (arith, second.to)),
-      (λ first second. absurd (omega (arith, second.to)), (λ first second. absurd (omega (arith, first.from)), tt)),
-    )
-available_once (suc zero) zero order inside same = absurd (omega arith)
-available_once (suc zero) (suc zero) order inside same = absurd (omega arith)
-available_once (suc zero) (suc (suc zero)) order inside same = absurd (omega (arith, same))
-available_once (suc (suc i)) j order inside same = absurd (omega arith)
-available_once i (suc (suc (suc j))) order inside same = absurd (omega arith)
-
--- so they are in order, uncut, and one for a job and stretch
+-- So they are in order, uncut, and one for a job and stretch.
 available_in_stretches : IsServedInStretches available_jobs 1 (slots_at 1 available_slots)
 available_in_stretches = record {
-  earliest_first = (available_first, (available_second, (available_third, tt)));
+  earliest_first = available_earliest;
   uncut = All-from_recursion (IsUncut available_jobs 1) (slots_at 1 available_slots) (
     (0, record { from = 0; to = 1 }, omega arith, refl, record { from = omega arith; to = omega arith }),
     (
@@ -241,7 +225,7 @@ available_in_stretches = record {
       ((2, record { from = 2; to = 3 }, omega arith, refl, record { from = omega arith; to = omega arith }), tt),
     ),
   );
-  once = available_once;
+  once = each_pair 3 (IsOnce available_jobs 1 (slots_at 1 available_slots)) available_once;
 }
 
 -- so they are a run
@@ -268,18 +252,16 @@ available_whole = record {
 }
 
 -- each scale is a multiple of 1, so they are a run at each
-available_at_each : (scale : ℕ) → IsScale scale available_slots →
-    IsRunAt available_jobs 1 scale (optimal_available available_jobs 1 scale (slots_at scale available_slots)) (slots_at scale available_slots)
-available_at_each scale is =
-    subst (λ (n : ℕ). IsRunAt available_jobs 1 n (optimal_available available_jobs 1 n (slots_at n available_slots)) (slots_at n available_slots))
-    (mul-one scale) (optimal_available_run_scaled available_jobs 1 scale 1 available_slots is.positive available_whole available_run)
+available_at_each : AtEachScale available_slots (λ scale whole. IsRunAt available_jobs 1 scale (optimal_available available_jobs 1 scale whole) whole)
+available_at_each =
+    least_scale_of available_slots (λ scale whole. IsRunAt available_jobs 1 scale (optimal_available available_jobs 1 scale whole) whole) 1 available_whole
+    (λ scale is. one-dvd scale) (λ k some. optimal_available_run_scaled available_jobs 1 k 1 available_slots some available_whole available_run)
 
 -- and it rounds at one event point at each
-available_rounds_at_each : (scale : ℕ) → IsScale scale available_slots →
-    1 ≡ count_by (optimal_available_rounds available_jobs 1 scale (slots_at scale available_slots)) (stretches available_jobs)
-available_rounds_at_each scale is =
-    subst (λ (n : ℕ). 1 ≡ count_by (optimal_available_rounds available_jobs 1 n (slots_at n available_slots)) (stretches available_jobs)) (mul-one scale)
-    (sym (optimal_available_rounds_scaled available_jobs 1 scale 1 available_slots is.positive available_whole))
+available_rounds_at_each : AtEachScale available_slots (λ scale whole. 1 ≡ count_by (optimal_available_rounds available_jobs 1 scale whole) (stretches available_jobs))
+available_rounds_at_each =
+    least_scale_of available_slots (λ scale whole. 1 ≡ count_by (optimal_available_rounds available_jobs 1 scale whole) (stretches available_jobs)) 1 available_whole
+    (λ scale is. one-dvd scale) (λ k some. sym (optimal_available_rounds_scaled available_jobs 1 k 1 available_slots some available_whole))
 
 -- the slots are a run of Optimal Available that rounds at one event point
 available_accepted : IsOptimalAvailableRun available_jobs 1 1 available_slots
@@ -287,7 +269,7 @@ available_accepted = record { run = available_at_each; rounds = available_rounds
 
 -- with the count 0 they are refused
 available_refused : IsOptimalAvailableRun available_jobs 1 0 available_slots → ⊥
-available_refused is = absurd (omega (arith, is.rounds 1 available_whole))
+available_refused is = absurd (omega (arith, is.rounds.holds 1 available_whole))
 
 -- On the grid 6 it asks for just what is due: 4 units until 1, and 7 until 2 and until 3. Slots are whole at scale 42.
 abbrev fine_slots : List WrittenSlot

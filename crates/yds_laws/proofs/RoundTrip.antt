@@ -20,7 +20,8 @@ use Rattle.yds_model.specs.Spelling.{is_name}
 use Rattle.yds_model.specs.Entry.{JobEntry, PointEntry, SlotEntry, LevelEntry, PieceEntry, MemberEntry, GridEntry, EnergyEntry, name_said, point_said, slot_said, piece_said, member_said, grid_said, energy_said, levels_said, job_named}
 use Rattle.yds_model.specs.Text.{line, job_line, job_lines, point_line, slot_line, piece_line, member_line, level_lines, grid_lines, energy_lines, canonical_text}
 use Rattle.yds_model.specs.Reading.{follows_points, are_alike, fits_grain}
-use Rattle.yds_model.specs.Within.{IsFraction, IsDocument, IsPoint, IsSlot, AreInGrain, IsLevel, IsPiece, IsGrid}
+use Rattle.yds_model.specs.Within.{IsFraction, IsDocument, IsPoint, IsSlot, IsLevel, IsPiece, IsGrid}
+use Rattle.yds_model.specs.Audit.{AreInGrain}
 use Rattle.yds_model.specs.Scale.{AreAlike}
 use Rattle.yds_laws.specs.RoundTrip.{JobsAndSlotsAreRead, PrintedIsRead}
 use Rattle.yds_model.proofs.Said.{Says, with_job, says-job, says-point, says-slot, says-level, IsOfLevels, says-last, says-grid, says-energy, none_first}

@@ -11,10 +11,10 @@ use Rattle.yds_model.specs.Job.{Job, job_at}
 use Rattle.yds_model.specs.Slot.{WrittenSlot, WholeSlot, IsScale, slots_at, work_given, no_slot, slot_at}
 use Rattle.yds_model.specs.Piece.{Piece}
 use Rattle.yds_model.specs.Event.{stretches, LiesIn, IsUncut}
-use Rattle.yds_model.specs.EarliestFirst.{IsFirstDue, EarliestAfter}
+use Rattle.yds_model.specs.EarliestFirst.{MayRun, IsFirstDue, EarliestAfter}
 use Rattle.yds_model.specs.Plan.{IsServedInStretches}
-use Rattle.yds_model.specs.Policy.{div_up, pending_at, numbers_of, slots_in, FillsAtSpeed, ServesCapacity, IsRunAt}
-use Rattle.yds_model.specs.AverageRate.{terms_of, pending_units, average_rate}
+use Rattle.yds_model.specs.Policy.{div_up, pending_at, numbers_of, pending_units, slots_in, FillsAtSpeed, ServesCapacity, IsRunAt}
+use Rattle.yds_model.specs.AverageRate.{terms_of, average_rate}
 use Rattle.yds_model.specs.OptimalAvailable.{pending_jobs, due_units, pending_deadlines, asked, units_asked, optimal_available, optimal_available_rounds}
 use Rattle.yds_model.proofs.Sums.{sum_by-mul, sum_by_same}
 use Rattle.yds_model.proofs.Scale.{finer, finer_slots, finer_work, shifted, feasible_finer}
@@ -169,12 +169,29 @@ module _ (jobs : List Job) (k scale : ℕ) (some : 1 ≤ k) where
       (fills_finer k (suc capacity) (grid * (stretch.to - stretch.from) * scale) (stretch.from * scale) (stretch.to * scale)
       (slots_in scale stretch slots) serves))
 
-  -- a slot that comes first comes first
+  -- a job that may run may run
+  may_run_finer : (before : List WholeSlot) (time number : ℕ) → MayRun jobs scale time before number →
+      MayRun jobs (k * scale) (k * time) (map (finer k) before) number
+  may_run_finer before time number may = record {
+    released = rw (shifted (job_at jobs number).release k scale) (mul-le-mul_left k may.released);
+    pending = rw (finer_work k before number, shifted (job_at jobs number).work k scale) (mul-lt-mul_of_pos_left may.pending some);
+  }
+
+  -- and back
+  may_run_coarser : (before : List WholeSlot) (time number : ℕ) → MayRun jobs (k * scale) (k * time) (map (finer k) before) number →
+      MayRun jobs scale time before number
+  may_run_coarser before time number may = record {
+    released = le_of_mul-le-mul_left (rw (shifted (job_at jobs number).release k scale) at may.released) some;
+    pending = lt_of_mul-lt-mul_left k (rw (finer_work k before number, shifted (job_at jobs number).work k scale) at may.pending);
+  }
+
+  -- so a slot that comes first comes first
   first_due_finer : (before : List WholeSlot) (slot : WholeSlot) → IsFirstDue jobs scale before slot →
       IsFirstDue jobs (k * scale) (map (finer k) before) (finer k slot)
-  first_due_finer before slot due other inside released left =
-      due other inside (le_of_mul-le-mul_left (rw (shifted (job_at jobs other).release k scale) at released) some)
-      (lt_of_mul-lt-mul_left k (rw (finer_work k before other, shifted (job_at jobs other).work k scale) at left))
+  first_due_finer before slot due = record {
+    may_run = may_run_finer before slot.from slot.job due.may_run;
+    first = λ other inside may. due.first other inside (may_run_coarser before slot.from other may);
+  }
 
   -- so the order of deadlines is kept
   earliest_finer : (before slots : List WholeSlot) → EarliestAfter jobs scale before slots →

@@ -7,7 +7,8 @@ use Rattle.std.proofs.Math.Nat.{div-le_of_le-mul}
 use Rattle.std.proofs.lemmas.Bool.{leb-true, ltb-true}
 use Rattle.std.proofs.lemmas.List.{length_push, take_all}
 use Rattle.std.proofs.lemmas.List.Elements.{All-nil, All-cons, All-push, All-head}
-use Rattle.yds_model.specs.declared.limits.TheConstants.{MAX_JOBS, MAX_TIME, MAX_WORK, MAX_POINTS, MAX_POINT_SPEED, MAX_POINT_POWER, MAX_GAPS, MAX_SLOTS, MAX_SLOT_WORK, MAX_LEVELS, MAX_LEVEL_WORK, MAX_LEVEL_LENGTH, MAX_PIECES, MAX_MEMBERS, MAX_TICKS, MAX_DENOMINATOR, MAX_GRID, MAX_ROUNDED, MAX_ENERGY}
+use Rattle.yds_model.specs.declared.limits.TheConstants.{MAX_JOBS, MAX_TIME, MAX_WORK, MAX_RUN_SPEED, MAX_POINTS, MAX_POINT_SPEED, MAX_POINT_POWER, MAX_GAPS, MAX_SLOTS, MAX_SLOT_WORK, MAX_LEVELS, MAX_LEVEL_WORK, MAX_LEVEL_LENGTH, MAX_PIECES, MAX_MEMBERS, MAX_TICKS, MAX_DENOMINATOR, MAX_GRID, MAX_ROUNDED, MAX_ENERGY}
+use Rattle.yds_model.specs.declared.reason.Reason.{Reason}
 use Rattle.yds_model.specs.declared.reason.Reason.TheVariants as reasons
 use Rattle.yds_model.specs.Job.{Job, IsJob}
 use Rattle.yds_model.specs.Scale.{of_parts}
@@ -19,7 +20,8 @@ use Rattle.yds_model.specs.Document.{Document, Grid, no_document}
 use Rattle.yds_model.specs.Lines.{Line, Field, lines_of, fields_of}
 use Rattle.yds_model.specs.Spelling.{is_name}
 use Rattle.yds_model.specs.Entry.{Entry, JobEntry, PointEntry, SlotEntry, LevelEntry, PieceEntry, MemberEntry, TicksEntry, GridEntry, EnergyEntry, name_said, point_said, slot_said, piece_said, member_said, ticks_said, grid_said, energy_said, is_level, first_of_them, document_said}
-use Rattle.yds_model.specs.Reading.{Spot, Fault, ◌>>=◌, demand, Kind, JobLine, PointLine, SlotLine, LevelLine, PieceLine, MemberLine, TicksLine, RunLine, GridLine, EnergyLine, may_follow, has_room, field_at, number_in, fraction_in, new_name, known_job, are_alike, fits_grain, follows_points, read_job, read_point, read_slot, read_level, read_piece, read_member, read_ticks, read_run_at, read_grid, read_energy, read_kind, read_fields, on_line, read_line, live_lines, read_after}
+use Rattle.yds_model.specs.Fields.{Spot, Fault, ◌>>=◌, demand, field_at, on_line}
+use Rattle.yds_model.specs.Reading.{Kind, JobLine, PointLine, SlotLine, LevelLine, PieceLine, MemberLine, TicksLine, RunLine, GridLine, EnergyLine, may_follow, has_room, number_in, fraction_in, new_name, known_job, are_alike, fits_grain, follows_points, read_job, read_point, read_slot, read_level, read_piece, read_member, read_ticks, read_run_at, read_grid, read_energy, read_kind, read_fields, read_line, live_lines, read_after}
 use Rattle.yds_model.specs.Within.{IsFraction, IsDocument, AreLevelsOf, IsPoint, IsSlot, IsPiece, IsLevel, IsGrid}
 use Rattle.yds_laws.specs.RoundTrip.{ReadIsWithinLimits, CanonicalTextIsRead}
 use Rattle.yds_model.proofs.Said.{Says, says_other, none_said, more_said, with_job, says-job, with_point, says-point, with_slot, says-slot, with_levels, empty_level, says-level, with_entry, IsOfLevels, says-last, with_grid, says-grid, with_energy, says-energy, said-ticks, levels_counted}
@@ -173,7 +175,7 @@ run_within : (entries : List Entry) (d : Document) (fields : List Field) (entry 
     read_run_at ticks entries fields ≡ Ok entry → IsSaid (entries ++ entry ∷ [])
 run_within entries d fields entry ticks read grain_of_time room is =
     let parts =
-    four_steps (known_job entries (field_at fields 1)) (number_in 0 (MAX_TIME * ticks) (field_at fields 2)) (number_in 0 (MAX_TIME * ticks) (field_at fields 3)) (number_in 0 MAX_WORK (field_at fields 4))
+    four_steps (known_job entries (field_at fields 1)) (number_in 0 (MAX_TIME * ticks) (field_at fields 2)) (number_in 0 (MAX_TIME * ticks) (field_at fields 3)) (number_in 0 MAX_RUN_SPEED (field_at fields 4))
     (λ job from to speed. demand (nat_le (speed * (to - from) / ticks) MAX_SLOT_WORK) (field_at fields 4).column reasons.OutOfRange
     >>= (λ small. demand (fits_grain entries job (of_parts (speed * (to - from)) ticks)) (field_at fields 4).column reasons.MixedGrain
     >>= (λ grain. Ok (SlotEntry (record { job = job; from = of_parts from ticks; to = of_parts to ticks; work = of_parts (speed * (to - from)) ticks }))))) entry is in
@@ -376,16 +378,16 @@ line_within entries d line entry read is =
     kind_within parts.0 entries d (fields_of line.text) entry read parts.1 parts.2 parts.3
   where
     -- what succeeds with its line's number succeeds without it
-    on_line_ok : (number : ℕ) (read : Result Entry Spot) (entry : Entry) → on_line number read ≡ Ok entry → read ≡ Ok entry
+    on_line_ok : (number : ℕ) (read : Result Entry (Spot Reason)) (entry : Entry) → on_line number read ≡ Ok entry → read ≡ Ok entry
     on_line_ok number (Ok made) entry is = let same : made ≡ entry = cc in ap Ok same
     on_line_ok number (Err spot) entry is = absurd (cc)
 
 -- the lines after a line that was read, or its fault
-abbrev read_on : List Entry → List Line → Result Entry Fault → Result (List Entry) Fault
+abbrev read_on : List Entry → List Line → Result Entry (Fault Reason) → Result (List Entry) (Fault Reason)
 read_on earlier lines read = elim read [ Ok entry ↦ read_after (earlier ++ entry ∷ []) lines | Err fault ↦ Err fault ]
 
 -- so the line was read, and the lines after it
-read_first : (earlier : List Entry) (lines : List Line) (entries : List Entry) (read : Result Entry Fault) →
+read_first : (earlier : List Entry) (lines : List Line) (entries : List Entry) (read : Result Entry (Fault Reason)) →
     read_on earlier lines read ≡ Ok entries → (entry : Entry) × (read ≡ Ok entry) × (read_after (earlier ++ entry ∷ []) lines ≡ Ok entries)
 read_first earlier lines entries (Ok entry) is = (entry, refl, is)
 read_first earlier lines entries (Err fault) is = absurd (cc)
@@ -421,11 +423,11 @@ no_lines = record {
 }
 
 -- the document of entries, or the fault that came in their place
-abbrev document_of : Result (List Entry) Fault → Result Document Fault
+abbrev document_of : Result (List Entry) (Fault Reason) → Result Document (Fault Reason)
 document_of read = elim read [ Ok entries ↦ Ok (document_said entries) | Err fault ↦ Err fault ]
 
 -- a document that is read is what some entries say
-document_read : (read : Result (List Entry) Fault) (d : Document) → document_of read ≡ Ok d → (entries : List Entry) × (read ≡ Ok entries) × (document_said entries ≡ d)
+document_read : (read : Result (List Entry) (Fault Reason)) (d : Document) → document_of read ≡ Ok d → (entries : List Entry) × (read ≡ Ok entries) × (document_said entries ≡ d)
 document_read (Ok entries) d is = (entries, refl, cc)
 document_read (Err fault) d is = absurd (cc)
 

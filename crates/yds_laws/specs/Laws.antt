@@ -1,9 +1,9 @@
 -- The laws of schedules, certificates and plans. Each is the contract of a public function of this crate.
-use Rattle.std.specs.Prelude.{◌≡◌, ℕ, ◌+◌, ◌-◌, ◌*◌, ◌/◌, ◌<◌, ◌≤◌, ◌↔◌, List, ◌++◌, length}
+use Rattle.std.specs.Prelude.{◌≡◌, ℕ, ◌+◌, ◌-◌, ◌*◌, ◌<◌, ◌≤◌, ◌↔◌, List, ◌++◌, length}
 use Rattle.std.specs.List.{All}
 use Rattle.yds_model.specs.Numbers.{AreDifferent}
 use Rattle.yds_model.specs.Job.{Job, job_at, work_of}
-use Rattle.yds_model.specs.Slot.{WrittenSlot, WholeSlot, IsScale, IsSolid, slots_at}
+use Rattle.yds_model.specs.Slot.{WrittenSlot, WholeSlot, IsScale, slots_at}
 use Rattle.yds_model.specs.Feasible.{IsFeasibleAt, IsFeasible}
 use Rattle.yds_model.specs.Excess.{excess, IsLeast}
 use Rattle.yds_model.specs.Piece.{Piece, IsConfined, total_length}
@@ -56,7 +56,7 @@ PlansAreLeast = (jobs : List Job) (slots : List WrittenSlot) (levels : List Leve
 -- Two plans of the same jobs have the same levels by work and length.
 abbrev pub PlansHaveTheSameLevels : Type 0
 PlansHaveTheSameLevels = (jobs : List Job) (slots others : List WrittenSlot) (levels others_levels : List Level) →
-    All IsSolid slots → All IsSolid others → IsPlan jobs slots levels → IsPlan jobs others others_levels →
+    IsPlan jobs slots levels → IsPlan jobs others others_levels →
     (length levels ≡ length others_levels)
     × ((i : ℕ) → i < length levels → ((level_at levels i).work ≡ (level_at others_levels i).work) × ((level_at levels i).length ≡ (level_at others_levels i).length))
 

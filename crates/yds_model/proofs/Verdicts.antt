@@ -131,12 +131,12 @@ all_stand_exactly : (jobs : List Job) (table : Option (List Point)) (slots : Lis
     (AllStand jobs table slots ↔ (IsFeasible jobs slots × All (IsOnTable table) slots))
 all_stand_exactly jobs table slots are = (
   λ all. (
-    λ scale is. stand_is_feasible jobs table slots scale are is all,
+    record { solid = are.solid; holds = λ scale is. stand_is_feasible jobs table slots scale are is all },
     All-from_get_or (IsOnTable table) slots no_written_slot (λ i within. (all.stand i within).on_table),
   ),
   λ both.
       let some = scale_exists slots are.solid in
-      feasible_stand jobs table slots some.0 are some.1 (both.0 some.0 some.1) both.1,
+      feasible_stand jobs table slots some.0 are some.1 (both.0.holds some.0 some.1) both.1,
 )
 
 -- with a table

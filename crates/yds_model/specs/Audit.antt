@@ -22,6 +22,11 @@ pub data Verdict : Type 0 where
 abbrev pub crossed_length : Fraction → Fraction → ℕ
 crossed_length from to = numerator to * from.den - numerator from * to.den
 
+-- the slot's speed is num/den, by cross products
+abbrev pub HasSpeed : ℕ → ℕ → WrittenSlot → Type 0
+HasSpeed num den slot =
+    numerator slot.work * den * (slot.from.den * slot.to.den) ≡ num * crossed_length slot.from slot.to * slot.work.den
+
 -- the slot runs at this whole speed
 abbrev pub RunsAt : ℕ → WrittenSlot → Type 0
 RunsAt speed slot = numerator slot.work * (slot.from.den * slot.to.den) ≡ speed * crossed_length slot.from slot.to * slot.work.den
@@ -122,10 +127,14 @@ IsVerdict jobs table slots (Late i) = IsLate jobs table slots i
 IsVerdict jobs table slots (OffPoint i) = IsOffPoint jobs table slots i
 IsVerdict jobs table slots (WrongWork job given wanted) = IsWrongWork jobs table slots job given wanted
 
+-- the works of one job are alike
+abbrev pub AreInGrain : List WrittenSlot → Type 0
+AreInGrain slots = (i j : ℕ) → i < length slots → j < length slots →
+    (written_slot_at slots i).job ≡ (written_slot_at slots j).job → AreAlike (written_slot_at slots i).work (written_slot_at slots j).work
+
 -- what the types of the program keep of slots: denominators of at least 1, jobs that are known, and works of one job that are
 -- whole or have one denominator
 pub record AreSlots (jobs : ℕ) (slots : List WrittenSlot) : Type 0 where
   pub solid : All IsSolid slots
   pub known : All (λ slot. slot.job < jobs) slots
-  pub alike : (i j : ℕ) → i < length slots → j < length slots → (written_slot_at slots i).job ≡ (written_slot_at slots j).job →
-      AreAlike (written_slot_at slots i).work (written_slot_at slots j).work
+  pub alike : AreInGrain slots

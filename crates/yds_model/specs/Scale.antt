@@ -53,6 +53,3 @@ IsLessQuotient x y = x.num * y.den < y.num * x.den
 
 abbrev pub IsSameQuotient : Quotient → Quotient → Type 0
 IsSameQuotient x y = x.num * y.den ≡ y.num * x.den
-
-abbrev pub IsAtMostQuotient : Quotient → Quotient → Type 0
-IsAtMostQuotient x y = x.num * y.den ≤ y.num * x.den

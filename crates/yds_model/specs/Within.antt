@@ -4,12 +4,14 @@ use Rattle.std.specs.List.{All}
 use Rattle.yds_model.specs.declared.limits.TheConstants.{MAX_JOBS, MAX_TIME, MAX_POINTS, MAX_POINT_SPEED, MAX_POINT_POWER, MAX_GAPS, MAX_DENOMINATOR, MAX_SLOT_WORK, MAX_ENERGY, MAX_LEVEL_WORK, MAX_LEVEL_LENGTH, MAX_SLOTS, MAX_LEVELS, MAX_PIECES, MAX_MEMBERS, MAX_GRID, MAX_ROUNDED}
 use Rattle.yds_model.specs.Job.{Job, IsJob}
 use Rattle.yds_model.specs.Scale.{Fraction, AreAlike}
-use Rattle.yds_model.specs.Slot.{WrittenSlot, written_slot_at}
+use Rattle.yds_model.specs.Slot.{WrittenSlot}
 use Rattle.yds_model.specs.Piece.{Piece}
 use Rattle.yds_model.specs.Level.{Level, all_members, all_pieces}
 use Rattle.yds_model.specs.Table.{Point, IsTable, hull_multiple}
+use Rattle.yds_model.specs.Audit.{AreInGrain}
 use Rattle.yds_model.specs.Document.{Document, Grid, name_at}
 use Rattle.yds_model.specs.Spelling.{is_name}
+use Rattle.yds_model.specs.Text.{canonical_text}
 
 -- a fraction as the program keeps it: below one beside its whole part, and with the denominator 1 where that is all
 pub record IsFraction (most : ℕ) (x : Fraction) : Type 0 where
@@ -31,11 +33,6 @@ pub record IsSlot (slot : WrittenSlot) : Type 0 where
   pub to : IsFraction MAX_TIME slot.to
   pub work : IsFraction MAX_SLOT_WORK slot.work
   pub ends_alike : AreAlike slot.from slot.to
-
--- the works of one job are alike
-abbrev pub AreInGrain : List WrittenSlot → Type 0
-AreInGrain slots = (i j : ℕ) → i < length slots → j < length slots →
-    (written_slot_at slots i).job ≡ (written_slot_at slots j).job → AreAlike (written_slot_at slots i).work (written_slot_at slots j).work
 
 pub record IsPiece (piece : Piece) : Type 0 where
   pub from_in_range : piece.from ≤ MAX_TIME
@@ -91,3 +88,8 @@ pub record IsDocument (document : Document) : Type 0 where
   pub levels : AreLevelsOf (length document.names) document.levels
   pub grid : MatchOption document.grid (Unit {0}) IsGrid
   pub energy : MatchOption document.energy (Unit {0}) (IsFraction MAX_ENERGY)
+
+-- the text is the canonical one of a document within the limits, so it is read again as that document
+pub record IsTextOf (document : Document) (text : List ℕ) : Type 0 where
+  pub possible : IsDocument document
+  pub written : text ≡ canonical_text document

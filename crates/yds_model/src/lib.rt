@@ -13,9 +13,11 @@ mod memory;
 mod number_fault;
 mod reason;
 mod status;
+mod task_reason;
 
 pub use job_row::JobRow;
 pub use memory::Memory;
 pub use number_fault::NumberFault;
 pub use reason::Reason;
 pub use status::Status;
+pub use task_reason::TaskReason;
