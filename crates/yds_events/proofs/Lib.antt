@@ -1,0 +1,4 @@
+pub mod Rising
+pub mod Times
+pub mod Neighbours
+pub mod Places
