@@ -1,30 +1,48 @@
 # Builds, tries, tests and installs yds_cli.
 #
-#   make            proves the program and builds build/yds_cli
+#   make            proves every crate and builds build/yds_cli
+#   make run        the same, and plans the document EXAMPLE with it
 #   make try        runs the program on DOCUMENT with the word COMMAND, unproved, within seconds
 #   make test       the gate: every proof, test, refused edit and stored run
 #   make install    copies build/yds_cli to PREFIX/bin
+#
+# JOBS crates are proved side by side, each in up to 2 GB of memory.
 
+SHELL := /bin/bash
 PROGRAM := yds_cli
 BINARY := build/$(PROGRAM)
 SOURCES := crates.txt $(shell find crates -path '*/out' -prune -o \( -name '*.rt' -o -name '*.antt' \) -print)
+CRATES := $(shell grep -c '^[a-z]' crates.txt)
+JOBS ?= $(shell nproc)
 PREFIX ?= /usr/local
+EXAMPLE ?= examples/three-jobs.txt
 DOCUMENT ?= examples/one-job.txt
 COMMAND ?= plan
 
-.PHONY: all try test install clean tool
+.PHONY: all run try test install clean tool
 
 all: $(BINARY)
 
 tool:
 	@command -v rt >/dev/null 2>&1 || { echo "make: the command 'rt' of the Rattle toolchain is not on the PATH; install the kit that README.md names." >&2; exit 1; }
 
+# A line for each crate that is proved. How long it took is kept for the next time.
 $(BINARY): $(SOURCES) | tool
-	@echo "Proving and building $(PROGRAM); the first time this takes about a quarter of an hour."
 	@mkdir -p build
-	@cd crates/$(PROGRAM) && rt run $(PROGRAM) -- plan </dev/null >../../build/log 2>&1 || { tail -n 40 ../../build/log >&2; exit 1; }
+	@echo "Proving $(CRATES) crates, $(JOBS) side by side$$(test -f build/seconds && echo "; the last time this took $$(cat build/seconds) seconds")."
+	@set -o pipefail; began=$$(date +%s); \
+	rt all check --jobs $(JOBS) 2>&1 | tee build/log \
+	| awk -v n=$(CRATES) '/^== / && $$2 != "summary" { printf "crate %d of %d: %s\n", ++k, n, $$2; fflush() }' \
+	&& echo "Building $(PROGRAM)." \
+	&& (cd crates/$(PROGRAM) && rt run $(PROGRAM) -- plan </dev/null) >>build/log 2>&1 \
+	|| { tail -n 40 build/log >&2; exit 1; }; \
+	echo $$(($$(date +%s) - began)) >build/seconds
 	@cp crates/$(PROGRAM)/out/$(PROGRAM) $@
-	@echo "Built $@."
+	@echo "Built $@ in $$(cat build/seconds) seconds."
+
+run: $(BINARY)
+	@echo "$(BINARY) plan < $(EXAMPLE)"
+	@$(BINARY) plan <$(EXAMPLE)
 
 try: tool
 	@cd crates/$(PROGRAM) && rt try $(PROGRAM) -- $(COMMAND) <../../$(DOCUMENT)

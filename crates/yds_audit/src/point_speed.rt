@@ -3,8 +3,7 @@ ghost use Rattle.std.specs.List.{All, Any};
 ghost use Rattle.yds_model.specs.declared.limits.TheConstants.{MAX_POINT_SPEED};
 ghost use Rattle.yds_model.specs.Scale.{IsLess};
 ghost use Rattle.yds_model.specs.Audit.{RunsAt, IsOnTable};
-ghost use Rattle.yds_slots.specs.Slot.{IsSlot};
-ghost use Rattle.yds_hull.specs.Limits.{IsPoint};
+ghost use Rattle.yds_model.specs.Within.{IsSlot, IsPoint};
 
 use yds_hull::Point;
 use yds_slots::Slot;

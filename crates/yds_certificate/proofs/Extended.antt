@@ -8,7 +8,7 @@ use Rattle.std.proofs.lemmas.Bool.{cases_lt}
 use Rattle.std.proofs.lemmas.List.Elements.{All-push, All-set}
 use Rattle.std.proofs.Math.Seq.{get_or-append_seam}
 use Rattle.yds_model.specs.Piece.{Piece, Covers, total_length}
-use Rattle.yds_certificate.specs.Piece.{IsPiece}
+use Rattle.yds_model.specs.Within.{IsPiece}
 use Rattle.yds_certificate.specs.Merging.{AreSeparate, end_of, IsInPiece, Touches, IsExtended}
 use Rattle.yds_certificate.proofs.Cover.{Covers-cons, Covers-append}
 

@@ -11,9 +11,9 @@ use Rattle.yds_model.specs.declared.limits.TheConstants.{MAX_PIECES, MAX_MEMBERS
 use Rattle.yds_model.specs.Numbers.{count}
 use Rattle.yds_model.specs.Piece.{Piece, AreApart}
 use Rattle.yds_model.specs.Level.{Level, level_at, all_members, all_pieces}
-use Rattle.yds_model.proofs.Lists.{All-right}
-use Rattle.yds_certificate.specs.Piece.{IsPiece}
-use Rattle.yds_certificate.specs.Level.{IsLevel, with_piece, with_member}
+use Rattle.yds_model.specs.Within.{IsPiece, IsLevel}
+use Rattle.yds_model.proofs.Lists.{All-back}
+use Rattle.yds_certificate.specs.Level.{with_piece, with_member}
 use Rattle.yds_certificate.specs.Certificate.{IsCertificate, with_last}
 use Rattle.yds_certificate.specs.Merging.{IsNewTo, AreTogether, last_level}
 
@@ -100,7 +100,7 @@ last_pieces P (only ∷ []) some all =
 last_pieces P (first ∷ next ∷ levels) some all =
     rw (last_cons first (next ∷ levels) (omega arith))
     (last_pieces P (next ∷ levels) (omega arith)
-    (All-right P first.pieces (all_pieces (next ∷ levels)) (subst (All P) (flat_map-cons (λ (l : Level). l.pieces) first (next ∷ levels)) all)))
+    (All-back P first.pieces (all_pieces (next ∷ levels)) (subst (All P) (flat_map-cons (λ (l : Level). l.pieces) first (next ∷ levels)) all)))
 
 -- a number that is no member is none of the last level
 last_members : (number : ℕ) (levels : List Level) → 1 ≤ length levels → count number (all_members levels) ≡ 0 → count number (last_level levels).members ≡ 0

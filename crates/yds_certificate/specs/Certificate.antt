@@ -3,7 +3,7 @@ use Rattle.std.specs.Prelude.{◌≤◌, List, [], ◌∷◌, length}
 use Rattle.std.specs.List.{All}
 use Rattle.yds_model.specs.declared.limits.TheConstants.{MAX_LEVELS, MAX_PIECES, MAX_MEMBERS}
 use Rattle.yds_model.specs.Level.{Level, all_members, all_pieces}
-use Rattle.yds_certificate.specs.Level.{IsLevel}
+use Rattle.yds_model.specs.Within.{IsLevel}
 
 pub record IsCertificate (levels : List Level) : Type 0 where
   pub each : All IsLevel levels

@@ -1,4 +1,3 @@
-pub mod Piece
 pub mod Level
 pub mod Certificate
 pub mod Merging

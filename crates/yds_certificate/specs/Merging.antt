@@ -6,7 +6,7 @@ use Rattle.yds_model.specs.declared.limits.TheConstants.{MAX_LEVEL_WORK, MAX_LEV
 use Rattle.yds_model.specs.Numbers.{count}
 use Rattle.yds_model.specs.Piece.{Piece, AreApart, PiecesFrom, Covers, total_length}
 use Rattle.yds_model.specs.Level.{Level, level_at}
-use Rattle.yds_certificate.specs.Piece.{IsPiece}
+use Rattle.yds_model.specs.Within.{IsPiece}
 use Rattle.yds_certificate.specs.Certificate.{with_last}
 
 -- the pieces each take time, and between one and the next lies time

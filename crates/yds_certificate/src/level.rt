@@ -27,7 +27,7 @@ pub struct Level {
 
 impl Model for Level {
     ghost use Rattle.yds_model.specs.Level.{Level as LevelOfPlan};
-    ghost use Rattle.yds_certificate.specs.Level.{IsLevel};
+    ghost use Rattle.yds_model.specs.Within.{IsLevel};
 
     ghost Value = { LevelOfPlan };
 

@@ -13,7 +13,7 @@ pub struct Piece {
 
 impl Model for Piece {
     ghost use Rattle.yds_model.specs.Piece.{Piece as PieceOfTime};
-    ghost use Rattle.yds_certificate.specs.Piece.{IsPiece};
+    ghost use Rattle.yds_model.specs.Within.{IsPiece};
 
     ghost Value = { PieceOfTime };
 

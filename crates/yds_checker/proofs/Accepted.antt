@@ -10,11 +10,11 @@ use Rattle.yds_model.specs.Excess.{IsLeast}
 use Rattle.yds_model.specs.Proper.{IsProper, AreLevels}
 use Rattle.yds_model.specs.Audit.{AreSlots}
 use Rattle.yds_model.specs.Judgement.{Accepted, IsJudgement}
-use Rattle.yds_model.proofs.Bound.{explained_is_least}
-use Rattle.yds_model.proofs.Explained.{proper_explains}
-use Rattle.yds_model.proofs.Judgements.{judgement_is_exact}
-use Rattle.yds_model.proofs.OneJudgement.{judgement_is_unique}
-use Rattle.yds_certificate.specs.Level.{IsLevel}
+use Rattle.yds_laws.proofs.Bound.{explained_is_least}
+use Rattle.yds_laws.proofs.Explained.{proper_explains}
+use Rattle.yds_laws.proofs.Judgements.{judgement_is_exact}
+use Rattle.yds_laws.proofs.OneJudgement.{judgement_is_unique}
+use Rattle.yds_model.specs.Within.{IsLevel}
 use Rattle.yds_certificate.specs.Certificate.{IsCertificate}
 use Rattle.yds_checker.specs.declared.judgement.Judgement.{Judgement}
 use Rattle.yds_checker.specs.declared.judgement.Judgement.TheVariants as judgements

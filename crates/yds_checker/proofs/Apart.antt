@@ -5,7 +5,7 @@ use Rattle.std.specs.List.{All}
 use Rattle.std.proofs.lemmas.Bool.{cases_Bool, cases_lt}
 use Rattle.std.proofs.lemmas.List.Sums.{sum_by_more}
 use Rattle.yds_checker.specs.declared.placed.Placed.{Placed}
-use Rattle.yds_checker.specs.Placed.{has_unit, holding, AreApartBelow, AreRising}
+use Rattle.yds_checker.specs.Placed.{has_unit, holding, AreApartBelow, AreByStart}
 use Rattle.yds_checker.specs.Heights.{no_placed, placed_at}
 use Rattle.yds_checker.proofs.Units.{Holds, holds_decides, held_twice, unheld, apart_in_none}
 
@@ -74,7 +74,7 @@ walked_on placed levels end i within low after forward walked = record {
 }
 
 -- a piece that begins before the end of an earlier one overlaps it
-pub overlapping : (placed : List Placed) (levels end i : ℕ) → AreRising placed → All (λ piece. piece.from < piece.to) placed → i < length placed →
+pub overlapping : (placed : List Placed) (levels end i : ℕ) → AreByStart placed → All (λ piece. piece.from < piece.to) placed → i < length placed →
     (placed_at placed i).level < levels → (placed_at placed i).from < end → Walked placed levels end i → AreApartBelow levels placed → ⊥
 overlapping placed levels end i rising each within low early walked apart =
     let found = walked.last (omega (arith, early)) in

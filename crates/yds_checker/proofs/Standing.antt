@@ -1,26 +1,21 @@
 -- Levels whose pieces stand, and the list of all their pieces.
-use Rattle.std.proofs.Common.{◌≡◌, ℕ, zero, suc, ◌+◌, ◌<◌, ◌≤◌, List, [], ◌∷◌, length, get_or, take, max, cond, arith, below_more, inl, inr, add-one, length-take, get_or-take}
+use Rattle.std.proofs.Common.{◌≡◌, ℕ, zero, suc, ◌+◌, ◌<◌, ◌≤◌, List, length, get_or, take, max, cond, arith, below_more, inl, inr, add-one, length-take, get_or-take}
 use Rattle.std.specs.List.{All}
 use Rattle.std.proofs.lemmas.Bool.{cases_lt}
 use Rattle.std.proofs.lemmas.List.{get_or_default}
-use Rattle.std.proofs.lemmas.List.Elements.{All-nil, All-cons}
 use Rattle.std.proofs.lemmas.List.Sums.{sum_by-append}
 use Rattle.yds_model.specs.Numbers.{Each}
-use Rattle.yds_model.specs.Piece.{Piece, IsForward, AreApart, PiecesFrom}
+use Rattle.yds_model.specs.Piece.{Piece, IsForward, AreApart}
 use Rattle.yds_model.specs.Level.{Level, no_level, level_at, all_pieces}
 use Rattle.yds_model.specs.Proper.{PiecesStand}
-use Rattle.yds_model.specs.Judgement.{IsFirstFailure}
+use Rattle.yds_model.specs.Numbers.{IsFirstFailure}
 use Rattle.yds_model.proofs.Lists.{flat_map-take}
+use Rattle.yds_model.proofs.Front.{pieces_forward}
 use Rattle.yds_checker.specs.declared.placed.Placed.{Placed}
-use Rattle.yds_checker.specs.Placed.{has_unit, covering, ArePlaced, AreRising, AreApartBelow}
+use Rattle.yds_checker.specs.Placed.{has_unit, covering, ArePlaced, AreByStart, AreApartBelow}
 use Rattle.yds_checker.specs.Standing.{IsOrdered, AreInRun}
 use Rattle.yds_checker.proofs.Parts.{All-joined}
 use Rattle.yds_checker.proofs.Units.{no_piece, covered_at, covered_where, in_order_once, apart_in_fewer}
-
--- pieces one after another each take time
-pub all_forward : (start : ℕ) (pieces : List Piece) → PiecesFrom start pieces → All IsForward pieces
-all_forward start [] run = All-nil IsForward
-all_forward start (piece ∷ pieces) run = All-cons IsForward piece pieces run.1 (all_forward piece.to pieces run.2)
 
 -- of levels in order each piece takes time
 pub front_forward : (levels : List Level) (count : ℕ) → count ≤ length levels → Each count (λ i. IsOrdered (level_at levels i)) →
@@ -29,7 +24,7 @@ front_forward levels count few ordered i d within =
     let before : i < count = omega (arith, within, length-take count levels) in
     let inside : i < length levels = omega (arith, before, few) in
     rw (get_or-take count levels i d before, get_or_default levels i d no_level inside)
-    (all_forward 0 (level_at levels i).pieces (ordered i before).in_order)
+    (pieces_forward 0 (level_at levels i).pieces (ordered i before).in_order)
 
 -- the pieces of one level more cover each unit of time as often as those before and its own together
 covering_more : (time : ℕ) (levels : List Level) (n : ℕ) → n < length levels →
@@ -82,7 +77,7 @@ level_stands levels i within ordered once =
     let level = level_at levels i in
     let early = all_pieces (take i levels) in
     let order = ordered i (omega arith) in
-    let own = all_forward 0 level.pieces order.in_order in
+    let own = pieces_forward 0 level.pieces order.in_order in
     let earlier : All IsForward early =
     All-joined IsForward (λ (one : Level). one.pieces) (take i levels) (front_forward levels i (omega arith) (λ k less. ordered k (omega arith))) in
     record {
@@ -126,7 +121,7 @@ first_wrong levels ordered apart placed few order wrong are less once not_once w
 
 -- and where there are none, all stand, and the list is a run
 pub all_in_run : (levels : List Level) (ordered apart : ℕ) (placed : List Placed) → ordered ≤ length levels → ArePlaced levels ordered placed →
-    AreRising placed → apart ≤ ordered → AreApartBelow apart placed → length levels ≤ apart → AreInRun levels placed
+    AreByStart placed → apart ≤ ordered → AreApartBelow apart placed → length levels ≤ apart → AreInRun levels placed
 all_in_run levels ordered apart placed few are rising less once all =
     let same : ordered ≡ length levels = omega arith in
     let last : apart ≡ length levels = omega arith in

@@ -37,5 +37,5 @@ pub record ArePlaced (levels : List Level) (count : ℕ) (placed : List Placed) 
   pub same : (n time : ℕ) → n ≤ count → holding n time placed ≡ covering time (all_pieces (take n levels))
 
 -- they begin in rising order
-abbrev pub AreRising : List Placed → Type 0
-AreRising placed = IsNonDecreasingBy (λ piece. piece.from) placed
+abbrev pub AreByStart : List Placed → Type 0
+AreByStart placed = IsNonDecreasingBy (λ piece. piece.from) placed

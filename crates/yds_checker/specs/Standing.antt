@@ -4,11 +4,11 @@ use Rattle.yds_model.specs.Numbers.{Each}
 use Rattle.yds_model.specs.Piece.{PiecesFrom}
 use Rattle.yds_model.specs.Level.{Level}
 use Rattle.yds_model.specs.Proper.{PiecesStand}
-use Rattle.yds_model.specs.Judgement.{IsFirstFailure}
+use Rattle.yds_model.specs.Numbers.{IsFirstFailure}
 use Rattle.yds_checker.specs.declared.placed.Placed.{Placed}
 use Rattle.yds_checker.specs.declared.pieces.Standing.{Standing}
 use Rattle.yds_checker.specs.declared.pieces.Standing.TheVariants.{Apart, Wrong}
-use Rattle.yds_checker.specs.Placed.{ArePlaced, AreRising, AreApartBelow}
+use Rattle.yds_checker.specs.Placed.{ArePlaced, AreByStart, AreApartBelow}
 
 -- the level has a piece, and its pieces lie one after another
 pub record IsOrdered (level : Level) : Type 0 where
@@ -18,7 +18,7 @@ pub record IsOrdered (level : Level) : Type 0 where
 -- the pieces of all levels in rising order, of which no two overlap
 pub record AreInRun (levels : List Level) (placed : List Placed) : Type 0 where
   pub kept : ArePlaced levels (length levels) placed
-  pub rising : AreRising placed
+  pub rising : AreByStart placed
   pub apart : AreApartBelow (length levels) placed
 
 -- what is found is so

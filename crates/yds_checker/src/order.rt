@@ -2,7 +2,7 @@ ghost use Rattle.std.specs.Prelude.{◌≡◌, ◌<◌, ◌≤◌, ◌↔◌, Is
 ghost use Rattle.yds_model.specs.declared.limits.TheConstants.{MAX_LEVELS};
 ghost use Rattle.yds_model.specs.Numbers.{Each};
 ghost use Rattle.yds_model.specs.Proper.{IsNotFaster};
-ghost use Rattle.yds_model.specs.Judgement.{IsFirstFailure};
+ghost use Rattle.yds_model.specs.Numbers.{IsFirstFailure};
 
 use yds_certificate::Level;
 

@@ -2,7 +2,7 @@ ghost use Rattle.std.specs.Prelude.{◌+◌, ◌<◌, ◌≤◌, ◌↔◌, IsTr
 ghost use Rattle.std.specs.List.{All};
 ghost use Rattle.yds_model.specs.declared.limits.TheConstants.{MAX_LEVELS};
 ghost use Rattle.yds_model.specs.Piece.{IsForward};
-ghost use Rattle.yds_checker.specs.Placed.{PlacesMore, ArePlaced, AreRising, AreApartBelow};
+ghost use Rattle.yds_checker.specs.Placed.{PlacesMore, ArePlaced, AreByStart, AreApartBelow};
 
 use std::alloc::Global;
 use yds_certificate::{Level, Piece};
@@ -52,7 +52,7 @@ pub(crate) fn placed_pieces(alloc: Global, levels: &[Level]) -> Result<Vec<Place
     requires few { length levels.now ≤ MAX_LEVELS }
     requires forward { All (λ level. All IsForward level.pieces) levels.now }
     ensures placed { IfOk result (λ placed. ArePlaced levels.now (length levels.now) placed.items) }
-    ensures rising { IfOk result (λ placed. AreRising placed.items) }
+    ensures rising { IfOk result (λ placed. AreByStart placed.items) }
 {
     let mut placed = gathered(alloc, levels)?;
     placed.sort_by_key(|piece| piece.from)?;
@@ -61,7 +61,7 @@ pub(crate) fn placed_pieces(alloc: Global, levels: &[Level]) -> Result<Vec<Place
 
 /// Whether no two pieces of the first so many levels overlap.
 fn are_apart(placed: &[Placed], levels: u32) -> bool
-    requires rising { AreRising placed.now }
+    requires rising { AreByStart placed.now }
     requires each { All (λ piece. piece.from < piece.to) placed.now }
     ensures { IsTrue result ↔ AreApartBelow levels placed.now }
 {
@@ -79,7 +79,7 @@ fn are_apart(placed: &[Placed], levels: u32) -> bool
 
 /// The greatest number, up to this one, of first levels of which no two pieces overlap.
 pub(crate) fn levels_apart(placed: &[Placed], levels: u32) -> u32
-    requires rising { AreRising placed.now }
+    requires rising { AreByStart placed.now }
     requires each { All (λ piece. piece.from < piece.to) placed.now }
     ensures bound { result ≤ levels }
     ensures apart { AreApartBelow result placed.now }

@@ -5,7 +5,7 @@ ghost use Rattle.yds_model.specs.Numbers.{Each};
 ghost use Rattle.yds_model.specs.Job.{work_of};
 ghost use Rattle.yds_model.specs.Piece.{total_length};
 ghost use Rattle.yds_model.specs.Proper.{SumsAgree};
-ghost use Rattle.yds_model.specs.Judgement.{IsFirstFailure};
+ghost use Rattle.yds_model.specs.Numbers.{IsFirstFailure};
 ghost use Rattle.yds_certificate.specs.Certificate.{IsCertificate};
 
 use yds_certificate::{Level, Piece};

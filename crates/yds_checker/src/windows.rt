@@ -3,7 +3,7 @@ ghost use Rattle.yds_model.specs.declared.limits.TheConstants.{MAX_JOBS};
 ghost use Rattle.yds_model.specs.Numbers.{Each};
 ghost use Rattle.yds_model.specs.Level.{Level as LevelOfPlan};
 ghost use Rattle.yds_model.specs.Proper.{IsWindowCovered};
-ghost use Rattle.yds_model.specs.Judgement.{IsFirstFailure};
+ghost use Rattle.yds_model.specs.Numbers.{IsFirstFailure};
 ghost use Rattle.yds_checker.specs.Home.{AreSettled};
 ghost use Rattle.yds_checker.specs.Standing.{AreInRun};
 

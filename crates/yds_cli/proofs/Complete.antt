@@ -10,7 +10,7 @@ use Rattle.yds_model.specs.Request.{Request, AskPlan, AskRound, AskAverageRate, 
 use Rattle.yds_model.specs.Answer.{AnswersRequest, AnswersInput, AnswersReading}
 use Rattle.yds_model.specs.Reading.{reading}
 use Rattle.yds_model.specs.PlanAnswer.{HoldsHeadline}
-use Rattle.yds_model.proofs.PlanText.{plans_hold_the_headline}
+use Rattle.yds_laws.proofs.PlanText.{plans_hold_the_headline}
 use Rattle.yds_cli.specs.Words.{IsTrial, ReadsInput}
 use Rattle.yds_cli.specs.Run.{AnswersBytes, AnswersTaken, Outcome}
 

@@ -15,7 +15,7 @@ use Rattle.yds_certificate.specs.Certificate.{IsCertificate}
 use Rattle.yds_document.specs.declared.document.Document.{Document as DocumentKept}
 use Rattle.yds_document.specs.Documents.{document_view}
 use Rattle.yds_model.specs.Text.{canonical_text}
-use Rattle.yds_model.specs.RoundTrip.{IsFraction, IsSlot, IsPiece, IsLevel, AreSlotsOf, AreLevelsOf}
+use Rattle.yds_model.specs.Within.{IsFraction, IsSlot, IsPiece, IsLevel, AreSlotsOf, AreLevelsOf}
 use Rattle.yds_model.specs.Slot.{WrittenSlot}
 use Rattle.yds_model.specs.Piece.{Piece}
 use Rattle.yds_model.specs.Level.{Level, all_members}

@@ -1,10 +1,10 @@
 pub mod Printed
-pub mod Said
-pub mod Holds
-pub mod Grown
+pub mod LevelGrown
+pub mod Held
 pub mod Told
-pub mod Grain
-pub mod Within
-pub mod Parts
-pub mod Rising
+pub mod SlotGrain
+pub mod FractionField
+pub mod RunParts
+pub mod PointTable
 pub mod Placed
+pub mod Limits

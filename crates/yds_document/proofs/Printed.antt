@@ -70,6 +70,10 @@ pub failed_more : {T E : Type 0} (r : Result T E) (front back : List ℕ) (a b :
 failed_more (Ok x) front back a b m n failed part = cc
 failed_more (Err e) front back a b m n failed part = (AppendsFront-longer front back a b part.0, part.1)
 
+-- the same text
+pub delivers_same : {T E : Type 0} (r : Result T E) (text other : List ℕ) (a b : Option (List ℕ)) (m n : ℕ) → text ≡ other → Delivers r text a b m n → Delivers r other a b m n
+delivers_same r text other a b m n is told = subst (λ l. Delivers r l a b m n) is told
+
 -- a text of three parts: the first fails, the second fails, or the third is the last call
 pub first_failed : {T E : Type 0} (r : Result T E) (one two three text : List ℕ) (a b : Option (List ℕ)) (m n : ℕ)
     → IsErr r → text ≡ one → AppendsFront text a b × Rose m n → Delivers r (one ++ two ++ three) a b m n

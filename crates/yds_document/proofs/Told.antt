@@ -2,67 +2,69 @@
 use Rattle.std.proofs.Common.{◌≡◌, ℕ, List, [], ◌∷◌, Bool, true, Option, Some, None, Result, Ok, Err, sym, ap, ◌∙◌, subst}
 use Rattle.std.specs.Option.{unwrap_or}
 use Rattle.std.specs.List.{filter_map, slice_index_or}
+use Rattle.yds_model.specs.declared.reason.Reason.{Reason}
+use Rattle.yds_model.specs.declared.reason.Reason.TheVariants as reasons
 use Rattle.yds_model.specs.declared.limits.TheConstants.{MAX_POINT_SPEED, MAX_POINT_POWER}
-use Rattle.yds_model.specs.Slot.{WrittenSlot}
 use Rattle.yds_model.specs.Table.{Point}
 use Rattle.yds_model.specs.Lines.{Field}
-use Rattle.yds_model.specs.Entry.{Entry, name_said, slot_said, point_said, ticks_said}
-use Rattle.yds_model.specs.Reading.{Spot, Kind, JobLine, PointLine, SlotLine, RunLine, number_in, ◌>>=◌, count_fields, fields_wanted, read_kind}
+use Rattle.yds_model.specs.Document.{Document}
+use Rattle.yds_model.specs.Entry.{Entry, point_said, ticks_said}
+use Rattle.yds_model.specs.Fields.{Spot, ◌>>=◌, count_fields}
+use Rattle.yds_model.specs.Reading.{Kind, JobLine, PointLine, SlotLine, RunLine, number_in, fields_wanted, read_kind}
 use Rattle.yds_document.specs.declared.draft.Draft.{Draft}
 use Rattle.yds_document.specs.declared.line_fault.LineFault.{LineFault}
 use Rattle.yds_document.specs.declared.line_fault.LineFault.TheVariants.{At, Memory}
-use Rattle.yds_document.specs.Given.{Fails}
-use Rattle.yds_document.specs.Kinds.{job_of, slot_of, run_of, point_of, point_after, read_point_after}
-use Rattle.yds_document.specs.Draft.{Holds, HoldsMore, Takes, Tells, count_and_read, items_of}
+use Rattle.yds_document.specs.Fields.{Fails}
+use Rattle.yds_document.specs.Job.{job_of}
+use Rattle.yds_document.specs.Slot.{slot_of}
+use Rattle.yds_document.specs.Run.{run_of}
+use Rattle.yds_document.specs.Point.{point_of, point_after, read_point_after}
+use Rattle.yds_document.specs.Draft.{Holds, HoldsMore, Takes, Tells, count_and_read, items_of, points_of}
 
 -- an error that is passed on
-pub passed : (r : Result (Unit {0}) LineFault) (e : LineFault) (read : Result Entry Spot) (draft : Draft) (es : List Entry)
+pub passed : (r : Result (Unit {0}) LineFault) (e : LineFault) (read : Result Entry (Spot Reason)) (draft : Draft) (es : List Entry)
     → (y : LineFault) × (r ≡ Err y) × (y ≡ e) → Fails e read → Tells r read draft es
 passed r e read draft es told failed =
     subst (λ (t : Result (Unit {0}) LineFault). Tells t read draft es) (sym told.1) (subst (λ (f : LineFault). Fails f read) (sym told.2) failed)
 
-counted_read : (kind : Kind) (earlier : List Entry) (fields cells : List Field) → (fields ≡ cells) × (count_fields (fields_wanted kind) fields ≡ Ok true)
+counted_read : (kind : Kind) (earlier : List Entry) (fields cells : List Field) → (fields ≡ cells) × (count_fields reasons.FieldCount (fields_wanted kind) fields ≡ Ok true)
     → count_and_read kind earlier fields ≡ read_kind kind earlier cells
 counted_read kind earlier fields cells counted =
-    ap (λ (r : Result Bool Spot). r >>= (λ all. read_kind kind earlier fields)) counted.1 ∙ ap (read_kind kind earlier) counted.0
+    ap (λ (r : Result Bool (Spot Reason)). r >>= (λ all. read_kind kind earlier fields)) counted.1 ∙ ap (read_kind kind earlier) counted.0
 
 -- the fields are as many as they ought to be, and one of them is refused
 pub fields_failed : (kind : Kind) (earlier : List Entry) (fields cells : List Field) (fault : LineFault)
-    → (fields ≡ cells) × (count_fields (fields_wanted kind) fields ≡ Ok true) → Fails fault (read_kind kind earlier cells) → Fails fault (count_and_read kind earlier fields)
+    → (fields ≡ cells) × (count_fields reasons.FieldCount (fields_wanted kind) fields ≡ Ok true) → Fails fault (read_kind kind earlier cells) → Fails fault (count_and_read kind earlier fields)
 fields_failed kind earlier fields cells fault counted failed = subst (Fails fault) (sym (counted_read kind earlier fields cells counted)) failed
-
--- the names that the draft holds are those that the lines said
-pub job_failed : (earlier : List Entry) (names : List (List ℕ)) (k a b c d : Field) (fault : LineFault) → filter_map name_said earlier ≡ names
-    → Fails fault (job_of names a b c d) → Fails fault (read_kind JobLine earlier (k ∷ a ∷ b ∷ c ∷ d ∷ []))
-job_failed earlier names k a b c d fault same failed = subst (λ (l : List (List ℕ)). Fails fault (job_of l a b c d)) (sym same) failed
 
 -- the entry that the fields say is held
 pub holds_more : (kind : Kind) (earlier : List Entry) (fields cells : List Field) (entry : Entry) (old new : Draft)
-    → (fields ≡ cells) × (count_fields (fields_wanted kind) fields ≡ Ok true) → read_kind kind earlier cells ≡ Ok entry → Holds old earlier → Takes old new entry
+    → (fields ≡ cells) × (count_fields reasons.FieldCount (fields_wanted kind) fields ≡ Ok true) → read_kind kind earlier cells ≡ Ok entry → Holds old earlier → Takes old new entry
     → HoldsMore (count_and_read kind earlier fields) new earlier
 holds_more kind earlier fields cells entry old new counted said holds takes =
     record { entry = entry; said = counted_read kind earlier fields cells counted ∙ said; holds = takes earlier holds }
 
 -- # What the draft holds in place of the earlier entries
 
-pub slot_same : (earlier : List Entry) (names : List (List ℕ)) (slots : List WrittenSlot) (k a b c d : Field) → filter_map name_said earlier ≡ names → filter_map slot_said earlier ≡ slots
-    → slot_of names slots a b c d ≡ read_kind SlotLine earlier (k ∷ a ∷ b ∷ c ∷ d ∷ [])
-slot_same earlier names slots k a b c d named given =
-    sym (ap (λ (n : List (List ℕ)). slot_of n (filter_map slot_said earlier) a b c d) named ∙ ap (λ (s : List WrittenSlot). slot_of names s a b c d) given)
-
-pub run_same : (earlier : List Entry) (names : List (List ℕ)) (slots : List WrittenSlot) (ticks : ℕ) (k a b c d : Field) → filter_map name_said earlier ≡ names → filter_map slot_said earlier ≡ slots
-    → slice_index_or (filter_map ticks_said earlier) 0 1 ≡ ticks → run_of names slots ticks a b c d ≡ read_kind RunLine earlier (k ∷ a ∷ b ∷ c ∷ d ∷ [])
-run_same earlier names slots ticks k a b c d named given ticked =
-    sym (ap (λ (n : List (List ℕ)). run_of n (filter_map slot_said earlier) (slice_index_or (filter_map ticks_said earlier) 0 1) a b c d) named
-    ∙ ap (λ (s : List WrittenSlot). run_of names s (slice_index_or (filter_map ticks_said earlier) 0 1) a b c d) given
-    ∙ ap (λ (t : ℕ). run_of names slots t a b c d) ticked)
-
-pub ticks_held : (earlier : List Entry) (held : Option ℕ) (ticks : ℕ) → filter_map ticks_said earlier ≡ items_of held → ticks ≡ unwrap_or held 1
+ticks_held : (earlier : List Entry) (held : Option ℕ) (ticks : ℕ) → filter_map ticks_said earlier ≡ items_of held → ticks ≡ unwrap_or held 1
     → slice_index_or (filter_map ticks_said earlier) 0 1 ≡ ticks
 ticks_held earlier None ticks are is = ap (λ (l : List ℕ). slice_index_or l 0 1) are ∙ sym is
 ticks_held earlier (Some n) ticks are is = ap (λ (l : List ℕ). slice_index_or l 0 1) are ∙ sym is
 
-point_numbers : (points : List Point) (r p : Result ℕ Spot) (a : Field) (point : Point)
+pub job_same : (draft : Draft) (earlier : List Entry) (k a b c d : Field) → Holds draft earlier → job_of draft.instance.names a b c d ≡ read_kind JobLine earlier (k ∷ a ∷ b ∷ c ∷ d ∷ [])
+job_same draft earlier k a b c d holds = sym (ap (λ (said : Document). job_of said.names a b c d) holds.said)
+
+pub slot_same : (draft : Draft) (earlier : List Entry) (k a b c d : Field) → Holds draft earlier
+    → slot_of draft.instance.names draft.schedule.slots a b c d ≡ read_kind SlotLine earlier (k ∷ a ∷ b ∷ c ∷ d ∷ [])
+slot_same draft earlier k a b c d holds = sym (ap (λ (said : Document). slot_of said.names said.slots a b c d) holds.said)
+
+pub run_same : (draft : Draft) (earlier : List Entry) (ticks : ℕ) (k a b c d : Field) → Holds draft earlier → ticks ≡ unwrap_or draft.ticks 1
+    → run_of draft.instance.names draft.schedule.slots ticks a b c d ≡ read_kind RunLine earlier (k ∷ a ∷ b ∷ c ∷ d ∷ [])
+run_same draft earlier ticks k a b c d holds is =
+    sym (ap (λ (said : Document). run_of said.names said.slots (slice_index_or (filter_map ticks_said earlier) 0 1) a b c d) holds.said
+    ∙ ap (λ (t : ℕ). run_of draft.instance.names draft.schedule.slots t a b c d) (ticks_held earlier draft.ticks ticks holds.ticks is))
+
+point_numbers : (points : List Point) (r p : Result ℕ (Spot Reason)) (a : Field) (point : Point)
     → (r >>= (λ speed. p >>= (λ power. Ok (record { speed = speed; power = power })))) ≡ Ok point
     → (r >>= (λ speed. p >>= (λ power. point_after points (record { speed = speed; power = power }) a.column))) ≡ point_after points point a.column
 point_numbers points (Ok speed) (Ok power) a point is =
@@ -70,15 +72,15 @@ point_numbers points (Ok speed) (Ok power) a point is =
 point_numbers points (Ok speed) (Err e) a point is = cc
 point_numbers points (Err e) p a point is = cc
 
-pub point_same : (earlier : List Entry) (points : List Point) (k a b : Field) (point : Point) → filter_map point_said earlier ≡ points → point_of a b ≡ Ok point
-    → point_after points point a.column ≡ read_kind PointLine earlier (k ∷ a ∷ b ∷ [])
-point_same earlier points k a b point are is =
-    sym (ap (λ (l : List Point). read_point_after l a b) are ∙ point_numbers points (number_in 0 MAX_POINT_SPEED a) (number_in 0 MAX_POINT_POWER b) a point is)
+pub point_same : (draft : Draft) (earlier : List Entry) (k a b : Field) (point : Point) → Holds draft earlier → point_of a b ≡ Ok point
+    → point_after (points_of draft.table) point a.column ≡ read_kind PointLine earlier (k ∷ a ∷ b ∷ [])
+point_same draft earlier k a b point holds is =
+    sym (ap (λ (said : Document). read_point_after said.points a b) holds.said ∙ point_numbers (points_of draft.table) (number_in 0 MAX_POINT_SPEED a) (number_in 0 MAX_POINT_POWER b) a point is)
 
-abbrev point_parts : Result ℕ Spot → Result ℕ Spot → Result Point Spot
+abbrev point_parts : Result ℕ (Spot Reason) → Result ℕ (Spot Reason) → Result Point (Spot Reason)
 point_parts r p = r >>= (λ speed. p >>= (λ power. Ok (record { speed = speed; power = power })))
 
-point_refused : (points : List Point) (r p : Result ℕ Spot) (a : Field) (spot : Spot)
+point_refused : (points : List Point) (r p : Result ℕ (Spot Reason)) (a : Field) (spot : Spot Reason)
     → point_parts r p ≡ Err spot
     → (r >>= (λ speed. p >>= (λ power. point_after points (record { speed = speed; power = power }) a.column))) ≡ Err spot
 point_refused points (Ok speed) (Ok power) a spot is = cc

@@ -1,9 +1,11 @@
 -- What a document is, and what a reader of its lines returned.
 use Rattle.std.specs.Prelude.{◌≡◌, List, ◌∷◌, Result, Ok, Err}
+use Rattle.yds_model.specs.declared.reason.Reason.{Reason}
 use Rattle.yds_model.specs.Document.{Document as DocumentText}
 use Rattle.yds_model.specs.Lines.{Line}
 use Rattle.yds_model.specs.Entry.{Entry}
-use Rattle.yds_model.specs.Reading.{Fault, live_lines, read_after}
+use Rattle.yds_model.specs.Fields.{Fault}
+use Rattle.yds_model.specs.Reading.{live_lines, read_after}
 use Rattle.yds_document.specs.declared.draft.Draft.{Draft}
 use Rattle.yds_document.specs.declared.document.Document.{Document}
 use Rattle.yds_document.specs.declared.fault.DocFault.{DocFault}
@@ -23,12 +25,12 @@ document_view document = record {
 }
 
 -- the definition says this fault, unless memory ran out
-abbrev pub DocFails : {Y : Type 0} → DocFault → Result Y Fault → Type 0
+abbrev pub DocFails : {Y : Type 0} → DocFault → Result Y (Fault Reason) → Type 0
 DocFails (faults.At line column reason) read = read ≡ Err (record { line = line; column = column; reason = reason })
 DocFails faults.Memory read = Unit {0}
 
 -- the bytes are read as this document, or the definition says the fault
-abbrev pub GivesDocument : Result Document DocFault → Result DocumentText Fault → Type 0
+abbrev pub GivesDocument : Result Document DocFault → Result DocumentText (Fault Reason) → Type 0
 GivesDocument (Ok document) read = read ≡ Ok (document_view document)
 GivesDocument (Err fault) read = DocFails fault read
 

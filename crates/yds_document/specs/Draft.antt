@@ -1,15 +1,19 @@
 -- What the lines before a line said together, as it is kept while a document is read.
 use Rattle.std.specs.Prelude.{◌≡◌, ◌<◌, ◌≤◌, List, [], ◌∷◌, ◌++◌, length, Option, Some, None, IfSome, Result, Ok, Err}
 use Rattle.std.specs.List.{All, filter_map}
-use Rattle.yds_model.specs.declared.limits.TheConstants.{MAX_TICKS}
+use Rattle.yds_model.specs.declared.reason.Reason.{Reason}
+use Rattle.yds_model.specs.declared.reason.Reason.TheVariants as reasons
+use Rattle.yds_model.specs.declared.limits.TheConstants.{MAX_TICKS, MAX_ENERGY}
 use Rattle.yds_model.specs.Level.{all_pieces, all_members}
 use Rattle.yds_model.specs.Table.{Point}
 use Rattle.yds_model.specs.Lines.{Field}
-use Rattle.yds_model.specs.Entry.{Entry, name_said, job_said, point_said, slot_said, piece_said, member_said, ticks_said, grid_said, energy_said, levels_said}
-use Rattle.yds_model.specs.Reading.{Spot, Kind, ◌>>=◌, count_fields, fields_wanted, read_kind}
+use Rattle.yds_model.specs.Document.{Document}
+use Rattle.yds_model.specs.Entry.{Entry, piece_said, member_said, ticks_said, document_said}
+use Rattle.yds_model.specs.Fields.{Spot, ◌>>=◌, count_fields}
+use Rattle.yds_model.specs.Reading.{Kind, fields_wanted, read_kind}
 use Rattle.yds_document.specs.declared.draft.Draft.{Draft}
 use Rattle.yds_document.specs.declared.line_fault.LineFault.{LineFault}
-use Rattle.yds_document.specs.Given.{Fails}
+use Rattle.yds_document.specs.Fields.{Fails}
 
 -- the item, where there is one
 abbrev pub items_of : {A : Type 0} → Option A → List A
@@ -28,38 +32,45 @@ pub record IsDraft (draft : Draft) : Type 0 where
   pub members : draft.members ≡ length (all_members draft.certificate)
   pub known : All (λ level. All (λ job. job < length draft.instance.jobs) level.members) draft.certificate
   pub ticks : IfSome draft.ticks (λ ticks. (1 ≤ ticks) × (ticks ≤ MAX_TICKS))
+  pub energy : IfSome draft.energy (λ energy. energy.whole ≤ MAX_ENERGY)
+
+-- the document that the lines said so far
+abbrev pub document_of : Draft → Document
+document_of draft = record {
+  names = draft.instance.names;
+  jobs = draft.instance.jobs;
+  points = points_of draft.table;
+  slots = draft.schedule.slots;
+  levels = draft.certificate;
+  grid = draft.grid;
+  energy = draft.energy;
+}
 
 -- the draft holds what these entries said
 pub record Holds (draft : Draft) (entries : List Entry) : Type 0 where
-  pub names : filter_map name_said entries ≡ draft.instance.names
-  pub jobs : filter_map job_said entries ≡ draft.instance.jobs
-  pub points : filter_map point_said entries ≡ points_of draft.table
-  pub slots : filter_map slot_said entries ≡ draft.schedule.slots
-  pub levels : levels_said entries ≡ draft.certificate
-  pub pieces : length (filter_map piece_said entries) ≡ draft.pieces
-  pub members : length (filter_map member_said entries) ≡ draft.members
+  pub said : document_said entries ≡ document_of draft
+  pub pieces : filter_map piece_said entries ≡ all_pieces draft.certificate
+  pub members : filter_map member_said entries ≡ all_members draft.certificate
   pub ticks : filter_map ticks_said entries ≡ items_of draft.ticks
-  pub grid : filter_map grid_said entries ≡ items_of draft.grid
-  pub energy : filter_map energy_said entries ≡ items_of draft.energy
 
 -- after whatever entries the draft held, it holds one more
 abbrev pub Takes : Draft → Draft → Entry → Type 0
 Takes old new entry = (earlier : List Entry) → Holds old earlier → Holds new (earlier ++ entry ∷ [])
 
 -- the definition says an entry, and the draft holds it too
-pub record HoldsMore (read : Result Entry Spot) (draft : Draft) (earlier : List Entry) : Type 0 where
+pub record HoldsMore (read : Result Entry (Spot Reason)) (draft : Draft) (earlier : List Entry) : Type 0 where
   pub entry : Entry
   pub said : read ≡ Ok entry
   pub holds : Holds draft (earlier ++ entry ∷ [])
 
-abbrev pub Tells : Result (Unit {0}) LineFault → Result Entry Spot → Draft → List Entry → Type 0
+abbrev pub Tells : Result (Unit {0}) LineFault → Result Entry (Spot Reason) → Draft → List Entry → Type 0
 Tells (Ok done) read draft earlier = HoldsMore read draft earlier
 Tells (Err fault) read draft earlier = Fails fault read
 
 -- the count of the fields, and then the fields of a line of this kind
-abbrev pub count_and_read : Kind → List Entry → List Field → Result Entry Spot
+abbrev pub count_and_read : Kind → List Entry → List Field → Result Entry (Spot Reason)
 count_and_read kind earlier fields = do
-  counted ← count_fields (fields_wanted kind) fields
+  counted ← count_fields reasons.FieldCount (fields_wanted kind) fields
   read_kind kind earlier fields
 
 -- a line of this kind is told after whatever entries the draft held

@@ -1,7 +1,9 @@
-pub mod Grid
-pub mod Given
-pub mod Kinds
+pub mod Fields
+pub mod Job
+pub mod Point
+pub mod Slot
+pub mod Run
+pub mod Member
 pub mod Draft
-pub mod Points
 pub mod LineKinds
 pub mod Documents

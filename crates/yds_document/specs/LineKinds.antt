@@ -35,7 +35,7 @@ follows_draft _ draft = true
 
 -- one more line of the kind may stand there
 abbrev pub has_room_in : LineKind → Draft → Bool
-has_room_in kinds.Job draft = nat_lt (length draft.instance.jobs) MAX_JOBS
+has_room_in kinds.Job draft = nat_lt (length draft.instance.names) MAX_JOBS
 has_room_in kinds.Point draft = nat_lt (length (points_of draft.table)) MAX_POINTS
 has_room_in kinds.Slot draft = nat_lt (length draft.schedule.slots) MAX_SLOTS
 has_room_in kinds.Run draft = nat_lt (length draft.schedule.slots) MAX_SLOTS

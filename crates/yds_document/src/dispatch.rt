@@ -1,18 +1,19 @@
 // A line of whatever kind: whether it may stand there, and what it adds to a draft.
-ghost use Rattle.std.specs.Prelude.{◌≡◌, ◌∷◌, [], List, OnOk, IsTrue, length};
+ghost use Rattle.std.specs.Prelude.{◌≡◌, ◌∷◌, [], List, OnOk, IsTrue};
 ghost use Rattle.yds_model.specs.Entry.{Entry};
 ghost use Rattle.yds_model.specs.Reading.{read_fields};
 ghost use Rattle.yds_text.specs.Read.{field_read};
-ghost use Rattle.yds_document.specs.Draft.{IsDraft, Holds, Tells, Reads, points_of};
+ghost use Rattle.yds_document.specs.Draft.{IsDraft, Holds, Tells, Reads};
 ghost use Rattle.yds_document.specs.LineKinds.{line_kind, follows_draft, has_room_in};
 
 use crate::draft::Draft;
 use crate::line_fault::LineFault;
 use crate::line_kind::LineKind;
+use crate::point::points_in;
+use crate::{energy, grid, job, level, member, piece, point, run, slot, ticks};
 use std::alloc::Global;
 use yds_model::Reason;
 use yds_model::limits::{MAX_JOBS, MAX_LEVELS, MAX_MEMBERS, MAX_PIECES, MAX_POINTS, MAX_SLOTS};
-use yds_table::Table;
 use yds_text::{Field, Fields};
 
 impl<'a> Draft<'a> {
@@ -36,7 +37,7 @@ impl<'a> Draft<'a> {
     {
         match kind {
             LineKind::Job => self.instance.rows().len() < MAX_JOBS,
-            LineKind::Point => point_count(&self.table) < MAX_POINTS,
+            LineKind::Point => points_in(&self.table).len() < MAX_POINTS,
             LineKind::Slot | LineKind::Run => self.schedule.slots().len() < MAX_SLOTS,
             LineKind::Level => self.certificate.levels().len() < MAX_LEVELS,
             LineKind::Piece => self.pieces < MAX_PIECES,
@@ -60,16 +61,16 @@ impl<'a> Draft<'a> {
         ensures reads { Reads (line_kind kind) (field_read first.entry ∷ rest.entry.fields) result self.old self.new }
     {
         match kind {
-            LineKind::Job => self.read_job(first, rest),
-            LineKind::Point => self.read_point(alloc, first, rest),
-            LineKind::Slot => self.read_slot(first, rest),
-            LineKind::Level => self.read_level(alloc, first, rest),
-            LineKind::Piece => self.read_piece(first, rest),
-            LineKind::Member => self.read_member(first, rest),
-            LineKind::Ticks => self.read_ticks(first, rest),
-            LineKind::Run => self.read_run(first, rest),
-            LineKind::Grid => self.read_grid(first, rest),
-            LineKind::Energy => self.read_energy(first, rest),
+            LineKind::Job => job::read(self, first, rest),
+            LineKind::Point => point::read(self, alloc, first, rest),
+            LineKind::Slot => slot::read(self, first, rest),
+            LineKind::Level => level::read(self, alloc, first, rest),
+            LineKind::Piece => piece::read(self, first, rest),
+            LineKind::Member => member::read(self, first, rest),
+            LineKind::Ticks => ticks::read(self, first, rest),
+            LineKind::Run => run::read(self, first, rest),
+            LineKind::Grid => grid::read(self, first, rest),
+            LineKind::Energy => energy::read(self, first, rest),
         }
     }
 
@@ -94,14 +95,5 @@ impl<'a> Draft<'a> {
             return Err(LineFault::at(first.column, Reason::TooMany));
         }
         self.read_kind(alloc, kind, first, rest)
-    }
-}
-
-fn point_count(table: &Option<Table>) -> usize
-    ensures { result ≡ length (points_of table.now) }
-{
-    match table {
-        Some(table) => table.points().len(),
-        None => 0,
     }
 }

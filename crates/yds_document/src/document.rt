@@ -1,7 +1,11 @@
-ghost use Rattle.std.specs.Prelude.{◌≡◌, ◌<◌, length};
+ghost use Rattle.std.specs.Prelude.{◌≡◌, ◌<◌, ◌≤◌, length};
 ghost use Rattle.std.specs.List.{All};
+ghost use Rattle.std.specs.Option.{ForSome};
+ghost use Rattle.yds_model.specs.declared.limits.TheConstants.{MAX_ENERGY};
 
 use crate::grid::Grid;
+use crate::point::points_in;
+use crate::{energy, grid};
 use yds_certificate::Certificate;
 use yds_fraction::Amount;
 use yds_instance::Instance;
@@ -11,7 +15,8 @@ use yds_table::Table;
 /// A document: jobs with their names, operating points, the slots of a schedule, the levels of a
 /// certificate, a grid and an energy.
 ///
-/// The schedule is of as many jobs as the instance has, and each member of a level is one of them.
+/// The schedule is of as many jobs as the instance has, each member of a level is one of them, and the energy's
+/// whole part is at most `MAX_ENERGY`. So a document is within the limits, and its text is read again as the same.
 #[derive(Drop)]
 pub struct Document<'a> {
     /// The jobs with their names.
@@ -28,9 +33,25 @@ pub struct Document<'a> {
     pub energy: Option<Amount>,
     pub ghost scheduled: { schedule.jobs ≡ length instance.jobs },
     pub ghost members_known: { All (λ level. All (λ job. job < length instance.jobs) level.members) certificate },
+    pub ghost energy_in_range: { ForSome energy (λ energy. energy.whole ≤ MAX_ENERGY) },
 }
 
 impl<'a> Document<'a> {
+    ghost use Rattle.yds_model.specs.Within.{IsDocument};
+    ghost use Rattle.yds_document.specs.Documents.{document_view};
+
+    // Reading the parts shows that each is within its limits.
+    pub(crate) fn show_limits(&self)
+        ensures { IsDocument (document_view self.now) }
+    {
+        let _rows = self.instance.rows();
+        let _points = points_in(&self.table);
+        let _slots = self.schedule.slots();
+        let _levels = self.certificate.levels();
+        grid::show_limits(self.grid);
+        energy::show_limits(self.energy);
+    }
+
     /// The document of the same jobs and table with these slots, levels, grid and energy. Takes no memory.
     pub fn with_answer(
         self,
@@ -41,20 +62,24 @@ impl<'a> Document<'a> {
     ) -> Document<'a>
         requires scheduled { schedule.jobs ≡ length self.instance.jobs }
         requires members_known { All (λ level. All (λ job. job < length self.instance.jobs) level.members) certificate }
+        requires energy_in_range { ForSome energy (λ energy. energy.whole ≤ MAX_ENERGY) }
         ensures instance { result.instance ≡ self.entry.instance }
         ensures table { result.table ≡ self.entry.table }
         ensures schedule { result.schedule ≡ schedule }
         ensures certificate { result.certificate ≡ certificate }
         ensures grid { result.grid ≡ grid }
         ensures energy { result.energy ≡ energy }
+        ensures possible { IsDocument (document_view result) }
     {
-        Document {
+        let document = Document {
             instance: self.instance,
             table: self.table,
             schedule,
             certificate,
             grid,
             energy,
-        }
+        };
+        document.show_limits();
+        document
     }
 }

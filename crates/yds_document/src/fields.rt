@@ -1,15 +1,19 @@
-// The fields of a line: how many there are, and the numbers and fractions that they spell.
-ghost use Rattle.std.specs.Prelude.{◌≡◌, ◌≤◌, ◌∷◌, [], IfOk, ◌<◌, ◌^◌};
-ghost use Rattle.yds_model.specs.Reading.{past_end, number_in, fraction_in};
+// What the fields of a line are tried for: how many there are, a number, a fraction, a name.
+ghost use Rattle.std.specs.Prelude.{◌≡◌, ◌<◌, ◌≤◌, ◌∷◌, [], length, None, IfOk, IsTrue};
 ghost use Rattle.yds_model.specs.declared.limits.TheConstants.{MAX_WHOLE, MAX_DENOMINATOR};
+ghost use Rattle.yds_model.specs.Fields.{past_end};
+ghost use Rattle.yds_model.specs.Reading.{number_in, fraction_in};
+ghost use Rattle.yds_model.specs.Spelling.{is_name};
 ghost use Rattle.yds_fraction.specs.Mixed.{IsMixed};
+ghost use Rattle.yds_instance.specs.Named.{number_of};
 ghost use Rattle.yds_text.specs.Read.{field_read};
-ghost use Rattle.yds_document.specs.Given.{Gives, Counts, ReadsNext, EndsThere};
+ghost use Rattle.yds_document.specs.Fields.{Gives, Counts, ReadsNext, EndsThere, new_name_of, known_job_of};
 
 use crate::line_fault::LineFault;
 use yds_fraction::Amount;
+use yds_instance::Instance;
 use yds_model::Reason;
-use yds_text::{Field, Fields, mixed, number_from};
+use yds_text::{Field, Fields, mixed, name, number_from};
 
 // The number that the field spells.
 pub(crate) fn number_in(field: Field<'_>, least: u64, most: u64) -> Result<u64, LineFault>
@@ -107,4 +111,33 @@ pub(crate) fn four_fields<'a>(
     let fourth = next_field(third, &mut fields)?;
     no_more(fields)?;
     Ok((first, second, third, fourth))
+}
+
+// A name that no job has yet.
+pub(crate) fn new_name<'a>(instance: &Instance<'a>, field: Field<'a>) -> Result<&'a str, LineFault>
+    ensures gives { Gives (λ name. name.now) result (new_name_of instance.now.names (field_read field.entry)) }
+    ensures named { IfOk result (λ name. IsTrue (is_name name.now)) }
+    ensures new { IfOk result (λ name. number_of instance.now.names name.now ≡ None) }
+{
+    let Some(name) = name(field) else {
+        return Err(LineFault::at(field.column, Reason::BadName));
+    };
+    match instance.find(name) {
+        Some(_) => Err(LineFault::at(field.column, Reason::DuplicateName)),
+        None => Ok(name),
+    }
+}
+
+// The number of the job of this name.
+pub(crate) fn known_job(instance: &Instance<'_>, field: Field<'_>) -> Result<u32, LineFault>
+    ensures gives { Gives (λ job. job) result (known_job_of instance.now.names (field_read field.entry)) }
+    ensures known { IfOk result (λ job. job < length instance.now.jobs) }
+{
+    let Some(name) = name(field) else {
+        return Err(LineFault::at(field.column, Reason::BadName));
+    };
+    match instance.find(name) {
+        Some(job) => Ok(job),
+        None => Err(LineFault::at(field.column, Reason::UnknownName)),
+    }
 }

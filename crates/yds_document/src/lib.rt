@@ -10,26 +10,29 @@
 mod dispatch;
 mod document;
 mod draft;
+mod energy;
 mod fault;
 mod fields;
 mod grid;
-mod kinds;
-pub mod line;
+mod job;
+mod level;
+pub mod line_buffer;
 mod line_fault;
 mod line_kind;
-mod lines;
-mod points;
-mod print_document;
+mod member;
+mod piece;
+mod point;
 mod printing;
 mod reader;
-mod rows;
+mod run;
+mod slot;
+mod ticks;
 
 pub use document::Document;
 pub use fault::DocFault;
 pub use grid::Grid;
-pub use line::Line;
-pub use print_document::print;
-pub use printing::write_mixed;
+pub use line_buffer::LineBuffer;
+pub use printing::{print, write_mixed};
 pub use reader::read_document;
 pub use yds_model::Reason;
 

@@ -1,9 +1,10 @@
-ghost use Rattle.std.specs.Prelude.{◌≡◌, ℕ, ◌≤◌, [], List, length, OnOk};
+ghost use Rattle.std.specs.Prelude.{◌≡◌, ℕ, ◌≤◌, [], List, length, OnOk, IfOk};
 ghost use Rattle.yds_model.specs.declared.limits.TheConstants.{MAX_BYTES};
 ghost use Rattle.yds_model.specs.Entry.{Entry};
 ghost use Rattle.yds_model.specs.Reading.{reading};
+ghost use Rattle.yds_model.specs.Within.{IsDocument};
 ghost use Rattle.yds_document.specs.Draft.{IsDraft, Holds};
-ghost use Rattle.yds_document.specs.Documents.{GivesDocument, TellsLine};
+ghost use Rattle.yds_document.specs.Documents.{GivesDocument, TellsLine, document_view};
 
 use crate::document::Document;
 use crate::draft::Draft;
@@ -18,7 +19,8 @@ use yds_text::{Line, lines};
 /// `Memory` for want of memory.
 pub fn read_document<'a>(alloc: Global, bytes: &'a [u8]) -> Result<Document<'a>, DocFault>
     requires { length bytes.now ≤ MAX_BYTES }
-    ensures { GivesDocument result (reading bytes.now) }
+    ensures exact { GivesDocument result (reading bytes.now) }
+    ensures possible { IfOk result (λ document. IsDocument (document_view document)) }
 {
     let mut draft = match Draft::new(alloc) {
         Ok(draft) => draft,
@@ -27,14 +29,16 @@ pub fn read_document<'a>(alloc: Global, bytes: &'a [u8]) -> Result<Document<'a>,
     for line in lines(bytes) {
         draft.read_line(alloc, line)?;
     }
-    Ok(Document {
+    let document = Document {
         instance: draft.instance,
         table: draft.table,
         schedule: draft.schedule,
         certificate: draft.certificate,
         grid: draft.grid,
         energy: draft.energy,
-    })
+    };
+    document.show_limits();
+    Ok(document)
 }
 
 impl<'a> Draft<'a> {

@@ -10,7 +10,7 @@ use yds_port::MemorySink;
 use yds_slots::{Schedule, Slot};
 
 /// Documents, each with the line, the column and the reason of its refusal, or None where it is read.
-pub static ROWS: [(&str, Option<(u32, u32, Reason)>); 25] = [
+pub static REFUSALS: [(&str, Option<(u32, u32, Reason)>); 25] = [
     ("jobs a 0 4 8\n", Some((1, 1, Reason::UnknownKind))),
     ("# a\n\nrun a 0 1 1\n", Some((3, 1, Reason::Misplaced))),
     ("grid 1 0\ngrid 1 0\n", Some((2, 1, Reason::Misplaced))),
@@ -67,7 +67,7 @@ fn refusal(rt: &impl Abort, alloc: Global, text: &str) -> Option<(u32, u32, Reas
 
 #[test]
 fn the_first_fault_is_told_with_its_place(rt: HostRuntime) {
-    for (text, fault) in &ROWS {
+    for (text, fault) in &REFUSALS {
         assert_eq!(rt; refusal(&rt, rt.alloc(), text), *fault, "{text}");
     }
 }

@@ -15,7 +15,7 @@ use Rattle.yds_model.specs.Piece.{Piece}
 use Rattle.yds_model.specs.Plan.{IsOver}
 use Rattle.yds_model.proofs.Divisor.{divisor_is_greatest, divisor_positive}
 use Rattle.yds_model.proofs.Fractions.{value-den, den_positive}
-use Rattle.yds_model.proofs.Grown.{parts_alike}
+use Rattle.yds_model.proofs.Fractions.{parts_alike}
 use Rattle.yds_fraction.specs.Mixed.{IsMixed, fraction_of}
 use Rattle.yds_fraction.proofs.Values.{written}
 use Rattle.yds_slots.specs.Slot.{IsSlot}

@@ -1,4 +1,4 @@
-pub mod Multiples
+pub mod Kept
 pub mod Lowest
 pub mod Values
 pub mod WholeFirst

@@ -9,6 +9,7 @@ use Rattle.yds_model.specs.Scale.{Fraction, of_whole, of_parts}
 use Rattle.yds_model.proofs.Divisor.{divisor_is_greatest, lowest_terms_are_one}
 use Rattle.yds_model.proofs.Fractions.{den_positive}
 use Rattle.yds_fraction.specs.Ratio.{IsRatio}
+use Rattle.yds_fraction.proofs.Kept.{some_parts}
 use Rattle.yds_fraction.specs.Mixed.{IsMixed, fraction_of}
 
 -- a number of at least 1 has no common divisor 0 with another
@@ -67,14 +68,17 @@ pub IsMixed-lowest : (most_den whole num den g : ℕ) → IsMixed most_den (reco
     IsMixed most_den (record { whole = whole; num = num / g; den = den / g })
 IsMixed-lowest most_den whole num den g kept greatest =
     let small = div-le_self den g in
-    let in_range = kept.den_in_range in
+    let fraction = kept.fraction in
+    let some = some_parts _ fraction in
     record {
       limit = kept.limit;
-      whole_in_range = kept.whole_in_range;
-      below_one = lesser_lowest num den g kept.below_one greatest;
-      has_parts = parts_lowest num den g kept.has_parts greatest;
-      den_in_range = omega arith;
-      whole_is_plain = plain_lowest num den g kept.has_parts kept.whole_is_plain greatest;
+      fraction = record {
+        whole_in_range = fraction.whole_in_range;
+        below_one = lesser_lowest num den g fraction.below_one greatest;
+        den_in_range = let in_range = fraction.den_in_range in omega arith;
+        whole_is_plain = plain_lowest num den g some fraction.whole_is_plain greatest;
+      };
+      den_in_range = let in_range = kept.den_in_range in omega arith;
     }
 
 pub IsSame-lowest : (whole num den g : ℕ) → IsGcd num den g → (whole * den + num) * (den / g) ≡ (whole * (den / g) + num / g) * den

@@ -6,8 +6,9 @@ use Rattle.std.proofs.lemmas.Bool.{cases_lt}
 use Rattle.yds_model.proofs.Fractions.{equality_of_values, sum_of_values, multiple_of_values}
 use Rattle.std.proofs.lemmas.Nat.Gcd.{dvd_trans}
 use Rattle.std.proofs.Math.Nat.{one-dvd, div-le_of_le-mul, mul_comm, mul-le-mul_left, eq_of_mul-eq-mul_right, div-add-mod, le_of_mul-le-mul_right, mul-le-mul_right, lt_of_mul-lt-mul_right, mul-pos}
-use Rattle.yds_model.specs.Scale.{Fraction, at_scale, numerator, IsSame, IsSum, IsMultiple}
-use Rattle.yds_fraction.specs.Mixed.{IsMixed, fraction_of, IsInParts, AtScalesWith, AreAlike, common_den, whole_of_sum, CanAdd, Adds, CanSubtract, Subtracts, whole_of_multiple, Multiplies, SumCarriesOne, MultipleCarriesFactor}
+use Rattle.yds_model.specs.Scale.{Fraction, at_scale, numerator, AreAlike, IsSame, IsSum, IsMultiple}
+use Rattle.yds_fraction.proofs.Kept.{some_parts}
+use Rattle.yds_fraction.specs.Mixed.{IsMixed, fraction_of, IsInParts, AtScalesWith, common_den, whole_of_sum, CanAdd, Adds, CanSubtract, Subtracts, whole_of_multiple, Multiplies, SumCarriesOne, MultipleCarriesFactor}
 
 -- a fraction of denominator d over another denominator g: either d is g, or the fraction is whole
 rebased : (w n d g : ℕ) → (d ≡ g) ⊎ (n ≡ 0) → (w * d + n) * g ≡ (w * g + n) * d
@@ -41,7 +42,7 @@ sum_by p q x y z d e f g some hx hy hz =
     eq_of_mul-eq-mul_right g some (z * (d * e)) ((x * e + y * d) * f) (left ∙ sym right)
 
 some_common : (most_den : ℕ) (x y : Fraction) → IsMixed most_den x → 1 ≤ common_den x y
-some_common most_den x y kept = let some = kept.has_parts in omega arith
+some_common most_den x y kept = let some = some_parts _ kept.fraction in omega arith
 
 carried : (a n g : ℕ) → (a + n / g) * g + n % g ≡ a * g + n
 carried a n g = omega (arith, div-add-mod n g)
@@ -105,8 +106,8 @@ carry_small n m g below_n below_m =
 pub Adds-written : (most_den : ℕ) (x y z : Fraction) → IsMixed most_den x → IsMixed most_den y → CanAdd x y →
     z ≡ fraction_of (whole_of_sum x y) ((x.num + y.num) % common_den x y) (common_den x y) → IsMixed most_den z → Adds most_den x y z
 Adds-written most_den x y z kept_x kept_y can e kept =
-    let below_x = kept_x.below_one in
-    let below_y = kept_y.below_one in
+    let below_x = kept_x.fraction.below_one in
+    let below_y = kept_y.fraction.below_one in
     let carry = carry_small x.num y.num (common_den x y) (omega arith) (omega arith) in
     let sum = IsSum-written most_den x y kept_x kept_y can.alike in
     subst (λ (w : Fraction). Adds most_den x y w) (sym e) (record {
@@ -146,7 +147,7 @@ parts_at_most : (most_den : ℕ) (x y : Fraction) → IsMixed most_den x → IsM
     y.whole * common_den x y + y.num ≤ x.whole * common_den x y + x.num
 parts_at_most most_den x y kept_x kept_y can =
     let g = common_den x y in
-    at_most_common (x.whole * g + x.num) (y.whole * g + y.num) (numerator x) (numerator y) x.den y.den g kept_x.has_parts kept_y.has_parts
+    at_most_common (x.whole * g + x.num) (y.whole * g + y.num) (numerator x) (numerator y) x.den y.den g (some_parts _ kept_x.fraction) (some_parts _ kept_y.fraction)
     (rebased x.whole x.num x.den g (common_left most_den x y kept_x kept_y can.alike))
     (rebased y.whole y.num y.den g (common_right most_den x y kept_x kept_y can.alike))
     can.at_most
@@ -188,7 +189,7 @@ pub Subtracts-plain : (most_den : ℕ) (x y z : Fraction) → IsMixed most_den x
     z ≡ fraction_of (x.whole - y.whole) (x.num - y.num) (common_den x y) → IsMixed most_den z → Subtracts most_den x y z
 Subtracts-plain most_den x y z kept_x kept_y can enough e kept =
     let g = common_den x y in
-    let below = kept_x.below_one in
+    let below = kept_x.fraction.below_one in
     let whole = whole_at_most x.whole y.whole x.num y.num g (parts_at_most most_den x y kept_x kept_y can) (omega arith) in
     left_over most_den (x.whole - y.whole) (x.num - y.num) x y z kept_x kept_y can.alike (omega arith)
     (taken x.whole y.whole x.num y.num g (x.whole - y.whole) (x.num - y.num) (omega arith) (omega arith)) e kept
@@ -197,7 +198,7 @@ pub Subtracts-borrowed : (most_den : ℕ) (x y z : Fraction) → IsMixed most_de
     z ≡ fraction_of (x.whole - y.whole - 1) (x.num + common_den x y - y.num) (common_den x y) → IsMixed most_den z → Subtracts most_den x y z
 Subtracts-borrowed most_den x y z kept_x kept_y can short e kept =
     let g = common_den x y in
-    let below = kept_y.below_one in
+    let below = kept_y.fraction.below_one in
     let whole = whole_below x.whole y.whole x.num y.num g (parts_at_most most_den x y kept_x kept_y can) short in
     left_over most_den (x.whole - y.whole - 1) (x.num + g - y.num) x y z kept_x kept_y can.alike (omega arith)
     (borrowed x.whole y.whole x.num y.num g (x.whole - y.whole - 1) (x.num + g - y.num) (omega arith) (omega arith)) e kept

@@ -10,6 +10,7 @@ use Rattle.std.proofs.lemmas.Cmp.{ranked}
 use Rattle.std.proofs.Math.Nat.{mul-le-mul_right, mul-lt-mul_of_pos_right}
 use Rattle.yds_model.specs.Scale.{Fraction, Quotient, at_scale, numerator, IsLess, IsSame, IsLessQuotient, IsSameQuotient}
 use Rattle.yds_fraction.specs.Order.{parts, quotient_cmp, fraction_cmp, OrderOfQuotients, OrderOfFractions}
+use Rattle.yds_fraction.proofs.Kept.{some_parts}
 use Rattle.yds_fraction.specs.Mixed.{IsMixed, AtScales}
 
 -- the lesser whole part is below by one at least
@@ -41,9 +42,9 @@ whole_first most_den x y kept_x kept_y =
     let whole = nat_cmp x.whole y.whole in
     let rest = nat_cmp (x.num * y.den) (y.num * x.den) in
     nat_cmp_is (numerator x * y.den) (numerator y * x.den) (ordering_then whole rest)
-    (MatchOrdering-whole_first x.whole x.num x.den y.whole y.num y.den kept_x.below_one kept_y.below_one whole rest
+    (MatchOrdering-whole_first x.whole x.num x.den y.whole y.num y.den kept_x.fraction.below_one kept_y.fraction.below_one whole rest
     (ranked x.whole y.whole whole refl) (ranked (x.num * y.den) (y.num * x.den) rest refl))
-    ∙ sym (quotient_cmp-of_some (record { num = numerator x; den = x.den }) (record { num = numerator y; den = y.den }) kept_x.has_parts kept_y.has_parts)
+    ∙ sym (quotient_cmp-of_some (record { num = numerator x; den = x.den }) (record { num = numerator y; den = y.den }) (some_parts _ kept_x.fraction) (some_parts _ kept_y.fraction))
 
 -- the answer of `cmp` says how the values stand
 pub MatchOrdering-quotients : (x y : Quotient) (r : Ordering) → 1 ≤ x.den → 1 ≤ y.den → r ≡ quotient_cmp x y →

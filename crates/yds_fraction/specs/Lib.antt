@@ -1,4 +1,3 @@
-pub mod Divisors
 pub mod Order
 pub mod Ratio
 pub mod OrderLaws

@@ -1,21 +1,20 @@
 -- What a `Mixed` keeps, and what its operators give.
-use Rattle.std.specs.Prelude.{◌≡◌, ℕ, ◌+◌, ◌*◌, ◌/◌, ◌<◌, ◌≤◌, ◌⊎◌, ◌==◌, if◌then◌else◌, max}
+use Rattle.std.specs.Prelude.{◌≡◌, ℕ, ◌+◌, ◌*◌, ◌/◌, ◌<◌, ◌≤◌, ◌==◌, if◌then◌else◌, max}
 use Rattle.std.specs.Int.{◌∣◌}
 use Rattle.yds_model.specs.declared.limits.TheConstants.{MAX_DENOMINATOR, MAX_WHOLE}
-use Rattle.yds_model.specs.Scale.{Fraction, at_scale, IsAtMost, IsSum, IsMultiple}
+use Rattle.yds_model.specs.Scale.{Fraction, at_scale, AreAlike, IsAtMost, IsSum, IsMultiple}
+use Rattle.yds_model.specs.Within.{IsFraction}
 
 -- a greatest denominator that a type may have
 pub record IsLimit (most_den : ℕ) : Type 0 where
   pub some : 1 ≤ most_den
   pub in_range : most_den ≤ MAX_DENOMINATOR
 
+-- a fraction as the program keeps it, in parts of at most the type's limit
 pub record IsMixed (most_den : ℕ) (x : Fraction) : Type 0 where
   pub limit : IsLimit most_den
-  pub whole_in_range : x.whole ≤ MAX_WHOLE
-  pub below_one : x.num < x.den
-  pub has_parts : 1 ≤ x.den
+  pub fraction : IsFraction MAX_WHOLE x
   pub den_in_range : x.den ≤ most_den
-  pub whole_is_plain : x.num ≡ 0 → x.den ≡ 1
 
 -- the fraction, with the denominator 1 where it is whole
 abbrev pub fraction_of : ℕ → ℕ → ℕ → Fraction
@@ -24,10 +23,6 @@ fraction_of whole num den = record { whole = whole; num = num; den = if num == 0
 -- it is written in these parts, or is whole
 abbrev pub IsInParts : ℕ → Fraction → Type 0
 IsInParts den x = x.den ≡ (if x.num == 0 then 1 else den)
-
--- the denominators are equal, or one of them is 1
-abbrev pub AreAlike : Fraction → Fraction → Type 0
-AreAlike x y = (x.den ≡ y.den) ⊎ ((x.den ≡ 1) ⊎ (y.den ≡ 1))
 
 -- of two fractions that are alike, the denominator in which both can be written
 abbrev pub common_den : Fraction → Fraction → ℕ

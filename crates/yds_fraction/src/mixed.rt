@@ -1,18 +1,17 @@
-ghost use Rattle.std.specs.Prelude.{◌≡◌, ◌<◌, ◌≤◌, ◌↔◌, IsTrue, Some, refl};
+ghost use Rattle.std.specs.Prelude.{◌≡◌, ◌<◌, ◌≤◌, ◌/◌, ◌↔◌, IsTrue, Some, refl};
 ghost use Rattle.std.specs.Int.{◌∣◌, IsGcd};
 ghost use Rattle.std.specs.Cmp.{partial_equiv_from_equiv};
 ghost use Rattle.std.specs.Ordering.{MatchOrdering};
-ghost use Rattle.yds_model.specs.Scale.{of_whole, at_scale, IsLess, IsSame};
+ghost use Rattle.yds_model.specs.Scale.{of_whole, of_parts, at_scale, AreAlike, IsLess, IsSame};
+ghost use Rattle.yds_model.specs.Text.{fraction_text};
 ghost use Rattle.yds_fraction.specs.Order.{fraction_cmp, fraction_same};
 ghost use Rattle.yds_fraction.specs.OrderLaws.{fraction_total, fraction_equivalence, fraction_order};
-ghost use Rattle.yds_fraction.specs.Text.{fraction_text};
 ghost use Rattle.yds_fraction.specs.Mixed.{
   IsLimit,
   IsMixed,
   fraction_of,
   AtScales,
   AtScalesWith,
-  AreAlike,
   CanAdd,
   Adds,
   CanSubtract,
@@ -87,6 +86,20 @@ impl<const D: u64> Mixed<D> {
             num,
             den: if num == 0 { 1 } else { den },
         }
+    }
+
+    /// So many parts, of which `den` make one: whole where no part is left over.
+    pub fn of_parts(parts: u128, den: u64) -> Self
+        requires limit { IsLimit D }
+        requires some { 1 ≤ den }
+        requires den_in_range { den ≤ D }
+        requires whole_in_range { parts / den ≤ MAX_WHOLE }
+        ensures value { result ≡ of_parts parts den }
+        ensures whole { result.whole ≡ parts / den }
+        ensures kept { IsMixed D result }
+    {
+        let each = u128::from(den);
+        Mixed::new((parts / each) as u64, (parts % each) as u64, den)
     }
 
     /// The whole part.

@@ -7,7 +7,7 @@ use Rattle.std.proofs.lemmas.List.{get_or_push, get_or_read, append-nil, get_or_
 use Rattle.std.proofs.lemmas.List.Elements.{All-pop}
 use Rattle.yds_model.specs.Table.{Point, no_point, point_at, AreRising, IsOnOrBelow, IsAbove, IsConvex, GoesOn}
 use Rattle.yds_model.proofs.Hull.{RisesFrom, rises_from, rising_again, rises_below, next_rises, hull_rises}
-use Rattle.yds_hull.specs.Limits.{IsPoint}
+use Rattle.yds_model.specs.Within.{IsPoint}
 use Rattle.yds_hull.specs.Ends.{EndsAbove, StaysPart}
 
 -- # Order

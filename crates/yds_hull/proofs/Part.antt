@@ -5,7 +5,7 @@ use Rattle.std.proofs.lemmas.List.{take_more, take_all}
 use Rattle.std.proofs.lemmas.List.Elements.{All-push}
 use Rattle.yds_model.specs.Table.{Point, point_at, AreRising, IsConvex, GoesOn, IsPartOf, IsHullOf}
 use Rattle.yds_model.proofs.Hull.{RisesFrom, rises_from, rising_again, hull_rises}
-use Rattle.yds_hull.specs.Limits.{IsPoint}
+use Rattle.yds_model.specs.Within.{IsPoint}
 use Rattle.yds_hull.specs.Ends.{StaysPart}
 
 goes_pushed : (low next : Point) (points hull : List Point) → GoesOn low points hull → GoesOn low (points ++ next ∷ []) (hull ++ next ∷ [])

@@ -1,7 +1,7 @@
 ghost use Rattle.std.specs.Prelude.{◌≡◌, ℕ, ◌-◌, ◌<◌, ◌≤◌, ◌↔◌, List, [], ◌∷◌, ◌++◌, length, IsTrue, IfOk, vec_len};
 ghost use Rattle.std.specs.List.{All};
 ghost use Rattle.yds_model.specs.Table.{point_at, AreRising, IsAbove, IsConvex, IsPartOf, IsHullOf};
-ghost use Rattle.yds_hull.specs.Limits.{IsPoint};
+ghost use Rattle.yds_model.specs.Within.{IsPoint};
 ghost use Rattle.yds_hull.specs.Ends.{EndsAbove, StaysPart};
 
 use crate::operating_point::Point;

@@ -1,5 +1,5 @@
 ghost use Rattle.std.specs.Prelude.{◌≡◌, ◌≤◌};
-ghost use Rattle.yds_hull.specs.Limits.{IsPoint};
+ghost use Rattle.yds_model.specs.Within.{IsPoint};
 
 use std::marker::Model;
 
@@ -16,7 +16,7 @@ pub struct Point {
 
 impl Model for Point {
     ghost use Rattle.yds_model.specs.Table.{Point as TablePoint};
-    ghost use Rattle.yds_hull.specs.Limits.{IsPoint};
+    ghost use Rattle.yds_model.specs.Within.{IsPoint};
 
     ghost Value = { TablePoint };
 

@@ -14,10 +14,11 @@ use Rattle.std.proofs.lemmas.List.Elements.{All-push}
 use Rattle.indexmap.specs.IndexSet.{insert_key}
 use Rattle.yds_model.specs.Job.{Job, IsJob}
 use Rattle.yds_model.specs.declared.limits.TheConstants.{MAX_JOBS}
-use Rattle.yds_instance.specs.Named.{Named, IsInstance, AreDifferentNames, number_of}
+use Rattle.yds_model.specs.Within.{AreDifferentNames, AreNamedJobs}
+use Rattle.yds_instance.specs.Named.{Named, number_of}
 use Rattle.yds_model.specs.Document.{name_at}
 use Rattle.yds_model.specs.Spelling.{is_name}
-use Rattle.yds_model.proofs.Grown.{place_cases}
+use Rattle.yds_model.proofs.Lists.{place_cases}
 
 -- # The number of a name
 
@@ -70,7 +71,7 @@ has_name names name number is =
     let found = position-Some (λ other. bytes_eq other name) names number [] is in
     (found.0, (bytes_eq-Decides (name_at names number) name).0 found.1)
 
-pub number_says : (named : Named) (name : List ℕ) (number : Option ℕ) → IsInstance named → number ≡ number_of named.names name →
+pub number_says : (named : Named) (name : List ℕ) (number : Option ℕ) → AreNamedJobs named.names named.jobs → number ≡ number_of named.names name →
     MatchOption number (Contains named.names name → ⊥) (λ n. (n < length named.jobs) × (name_at named.names n ≡ name))
 number_says named name None kept is = not_contained named.names name (sym is)
 number_says named name (Some n) kept is =
@@ -122,12 +123,12 @@ different_pushed names name different none i j i_within j_within same =
       ]
     ]
 
-pub instance_pushed : (named : Named) (name : List ℕ) (job : Job) → IsInstance named → length named.jobs < MAX_JOBS → is_name name ≡ true → IsJob job →
-    number_of named.names name ≡ None → IsInstance (record { names = named.names ++ name ∷ []; jobs = named.jobs ++ job ∷ [] })
-instance_pushed named name job kept room name_fits job_fits none = record {
-  one_name_each = omega (arith, length_push named.names name, length_push named.jobs job, kept.one_name_each);
-  few = omega (arith, length_push named.jobs job);
-  names_fit = All-push (λ other. is_name other ≡ true) named.names name kept.names_fit name_fits;
-  jobs_fit = All-push IsJob named.jobs job kept.jobs_fit job_fits;
-  different = different_pushed named.names name kept.different none;
+pub named_pushed : (names : List (List ℕ)) (jobs : List Job) (name : List ℕ) (job : Job) → AreNamedJobs names jobs → length jobs < MAX_JOBS → is_name name ≡ true → IsJob job →
+    number_of names name ≡ None → AreNamedJobs (names ++ name ∷ []) (jobs ++ job ∷ [])
+named_pushed names jobs name job kept room name_fits job_fits none = record {
+  one_name_each = omega (arith, length_push names name, length_push jobs job, kept.one_name_each);
+  few = omega (arith, length_push jobs job);
+  names_fit = All-push (λ other. is_name other ≡ true) names name kept.names_fit name_fits;
+  different = different_pushed names name kept.different none;
+  jobs_fit = All-push IsJob jobs job kept.jobs_fit job_fits;
 }

@@ -2,7 +2,8 @@ ghost use Rattle.std.specs.Prelude.{◌≡◌, ℕ, ◌<◌, ◌≤◌, ◌↔�
 ghost use Rattle.std.specs.List.{Contains};
 ghost use Rattle.yds_model.specs.Document.{name_at};
 ghost use Rattle.yds_model.specs.Spelling.{is_name};
-ghost use Rattle.yds_instance.specs.Named.{Named, IsInstance, number_of};
+ghost use Rattle.yds_model.specs.Within.{AreNamedJobs};
+ghost use Rattle.yds_instance.specs.Named.{Named, number_of};
 
 use crate::fault::AddFault;
 use indexmap::IndexSet;
@@ -23,13 +24,14 @@ pub struct Instance<'a> {
 
 impl<'a> Model for Instance<'a> {
     ghost use Rattle.std.specs.Prelude.{map};
-    ghost use Rattle.yds_instance.specs.Named.{Named, IsInstance};
+    ghost use Rattle.yds_model.specs.Within.{AreNamedJobs};
+    ghost use Rattle.yds_instance.specs.Named.{Named};
 
     ghost Value = { Named };
 
     ghost view = { λ i. record { names = map (λ name. name.now) i.names.keys; jobs = i.rows.items } };
 
-    ghost invariant = { λ i. IsInstance (record { names = map (λ name. name.now) i.names.keys; jobs = i.rows.items }) };
+    ghost invariant = { λ i. AreNamedJobs (map (λ name. name.now) i.names.keys) i.rows.items };
 }
 
 impl<'a> Instance<'a> {
@@ -76,7 +78,7 @@ impl<'a> Instance<'a> {
     pub fn name(&self, job: u32) -> &'a str
         requires { job < length self.now.jobs }
         ensures name { result.now ≡ name_at self.now.names job }
-        ensures kept { IsInstance self.now }
+        ensures kept { AreNamedJobs self.now.names self.now.jobs }
     {
         self.names[job as usize]
     }
@@ -84,7 +86,7 @@ impl<'a> Instance<'a> {
     /// The jobs, each at the place of its number.
     pub fn rows(&self) -> &[JobRow]
         ensures jobs { result.now ≡ self.now.jobs }
-        ensures kept { IsInstance self.now }
+        ensures kept { AreNamedJobs self.now.names self.now.jobs }
     {
         self.rows.as_slice()
     }
@@ -93,7 +95,7 @@ impl<'a> Instance<'a> {
     pub fn find(&self, name: &str) -> Option<u32>
         ensures number { result ≡ number_of self.now.names name.now }
         ensures found { MatchOption result (¬ (Contains self.now.names name.now)) (λ number. (number < length self.now.jobs) × (name_at self.now.names number ≡ name.now)) }
-        ensures kept { IsInstance self.now }
+        ensures kept { AreNamedJobs self.now.names self.now.jobs }
     {
         let index = self.names.get_index_of(name)?;
         Some(index as u32)

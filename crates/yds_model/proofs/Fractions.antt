@@ -1,11 +1,11 @@
 -- What order, equality, sum and multiple of fractions say of their values at a scale.
-use Rattle.std.proofs.Common.{◌≡◌, ℕ, zero, suc, ◌+◌, ◌*◌, ◌/◌, ◌<◌, ◌≤◌, ap, sym, ◌∙◌, arith, inl, inr}
+use Rattle.std.proofs.Common.{◌≡◌, ℕ, zero, suc, ◌+◌, ◌*◌, ◌/◌, ◌%◌, ◌<◌, ◌≤◌, ◌⊎◌, ◌==◌, ap, sym, ◌∙◌, arith, inl, inr, refl}
 use Rattle.std.specs.Prelude.{◌↔◌}
 use Rattle.std.specs.Int.{◌∣◌}
 use Rattle.std.proofs.Math.Nat.{div-mul_cancel, mul-pos, mul-lt-mul_of_pos_right, lt_of_mul-lt-mul_right, eq_of_mul-eq-mul_right}
-use Rattle.std.proofs.lemmas.Bool.{cases_lt}
-use Rattle.yds_model.specs.Scale.{Fraction, at_scale, numerator, IsLess, IsAtMost}
-use Rattle.yds_model.specs.Laws.{OrderIsOfValues, EqualityIsOfValues, SumIsOfValues, MultipleIsOfValues, OrderIsTransitive, EqualityIsTransitive, OrderAgreesWithEquality}
+use Rattle.std.proofs.lemmas.Bool.{cases_lt, cases_Bool}
+use Rattle.yds_model.specs.Scale.{Fraction, at_scale, numerator, of_parts, AreAlike, IsLess, IsAtMost}
+use Rattle.yds_model.specs.ScaleLaws.{OrderIsOfValues, EqualityIsOfValues, SumIsOfValues, MultipleIsOfValues, OrderIsTransitive, EqualityIsTransitive, OrderAgreesWithEquality}
 
 -- a product that isn't 0 has no factor 0
 factor_positive : (quotient d scale : ℕ) → quotient * d ≡ scale → 1 ≤ scale → 1 ≤ d
@@ -142,3 +142,20 @@ at_most_of_values x y scale positive dx dy =
         | inr within ↦ within
       ],
     )
+
+-- the denominator of parts is 1 or the one that is given
+pub parts_den : (parts den : ℕ) → ((of_parts parts den).den ≡ 1) ⊎ ((of_parts parts den).den ≡ den)
+parts_den parts den = elim (cases_Bool (parts % den == 0)) [
+  | inl none ↦ inl (rw none refl)
+  | inr other ↦ inr (rw other refl)
+]
+
+-- so any two of one denominator are alike
+pub parts_alike : (one other den : ℕ) → AreAlike (of_parts one den) (of_parts other den)
+parts_alike one other den = elim (parts_den one den) [
+  | inl plain ↦ inr (inl plain)
+  | inr first ↦ elim (parts_den other den) [
+    | inl plain ↦ inr (inr plain)
+    | inr second ↦ inl (first ∙ sym second)
+  ]
+]

@@ -2,7 +2,7 @@
 use Rattle.std.proofs.Common.{◌≡◌, ℕ, ◌+◌, ◌-◌, ◌*◌, ◌<◌, ◌≤◌, List, [], ◌∷◌, length, zero, suc, sym, ap, ◌∙◌, subst, inl, inr, arith, add-one}
 use Rattle.std.specs.List.{All, AllByRecursion}
 use Rattle.std.proofs.lemmas.List.Elements.{All-cons, All-from_recursion}
-use Rattle.yds_model.specs.Laws.{HullIsLowest}
+use Rattle.yds_model.specs.HullLaws.{HullIsLowest}
 use Rattle.std.proofs.Math.Nat.{mul-add, add-mul, mul-le-mul_left, mul-le-mul_right, le_of_mul-le-mul_left, le_of_mul-le-mul_right}
 use Rattle.yds_model.specs.Table.{Point, no_point, point_at, AreRising, IsOnOrBelow, IsAbove, IsConvex, GoesOn, IsHullOf, IsAround, interpolated}
 

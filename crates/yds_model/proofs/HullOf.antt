@@ -7,9 +7,9 @@ use Rattle.std.proofs.lemmas.List.Folds.{list_any_none, list_any_at}
 use Rattle.std.proofs.lemmas.List.Elements.{All-push, Contains-push, All-weaker, All-tail, All-nil, All-cons}
 use Rattle.std.proofs.lemmas.List.{length-append, get_or_append_left, get_or-append-add}
 use Rattle.std.proofs.Math.Nat.{le_refl, mul-le-mul_left, le_of_mul-le-mul_left}
-use Rattle.yds_model.specs.Laws.{HullIsComputed}
+use Rattle.yds_model.specs.HullLaws.{HullIsComputed}
 use Rattle.yds_model.specs.Table.{Point, point_at, IsAbove, GoesOn, is_above, is_left_out, hull_after}
-use Rattle.yds_model.proofs.Lists.{All-left, All-right}
+use Rattle.yds_model.proofs.Lists.{All-front, All-back}
 use Rattle.yds_model.proofs.Hull.{IsOver, RisesFrom, rises_from, hull_under}
 
 -- # A point of the hull
@@ -97,8 +97,8 @@ computed earlier (point ∷ points) speed low (high ∷ hull) first before edge 
     let stays : is_left_out earlier high points ≡ false =
     stays_in earlier points low high (omega arith)
     (All-weaker (λ l. l.speed ≤ speed) (λ l. l.speed < high.speed) (λ l at. omega arith) earlier before) after
-    (All-left (IsOver low high) earlier (point ∷ points) edges.0)
-    (All-tail (IsOver low high) point points (All-right (IsOver low high) earlier (point ∷ points) edges.0)) in
+    (All-front (IsOver low high) earlier (point ∷ points) edges.0)
+    (All-tail (IsOver low high) point points (All-back (IsOver low high) earlier (point ∷ points) edges.0)) in
     let rest : hull_after (earlier ++ point ∷ []) points ≡ hull =
     computed (earlier ++ point ∷ []) points point.speed high hull (subst (Contains (earlier ++ point ∷ [])) e (Contains-push earlier point))
     (All-push (λ l. l.speed ≤ point.speed) earlier point

@@ -1,12 +1,12 @@
 -- Lists: how often a number stands in one, and facts about elements and pairs of lists that are joined.
-use Rattle.std.proofs.Common.{◌≡◌, ℕ, suc, ◌+◌, ◌<◌, ◌≤◌, ◌==◌, List, [], ◌∷◌, ◌++◌, ◌∙◌, length, get_or, take, arith, inl, inr, ap, subst, add-one}
+use Rattle.std.proofs.Common.{◌≡◌, ℕ, suc, ◌+◌, ◌<◌, ◌≤◌, ◌==◌, ◌⊎◌, List, [], ◌∷◌, ◌++◌, ◌∙◌, length, get_or, take, arith, inl, inr, ap, add-one, subst, refl}
 use Rattle.std.specs.List.{All, AllPairs, Any, Contains, flat_map}
-use Rattle.std.proofs.lemmas.List.{take_more, append-nil, length-append, get_or_append_left, get_or-append-add}
+use Rattle.std.proofs.lemmas.List.{take_more, append-nil, length-append, length_push, get_or_append_left, get_or-append-add, get_or_push}
 use Rattle.std.proofs.lemmas.List.Concat.{flat_map-append}
 use Rattle.std.proofs.lemmas.List.Elements.{All-append, All-tail}
 use Rattle.std.proofs.lemmas.List.Kept.{AllPairs-cons}
 use Rattle.std.proofs.lemmas.List.Sums.{sum_by-cons}
-use Rattle.std.proofs.lemmas.Bool.{cases_eq, ne_eqb}
+use Rattle.std.proofs.lemmas.Bool.{cases_eq, cases_lt, ne_eqb}
 use Rattle.std.specs.Prelude.{cond}
 use Rattle.yds_model.specs.Numbers.{count}
 
@@ -26,11 +26,11 @@ counted_contains number (x ∷ xs) h = elim (cases_eq number x) [
 ]
 
 -- what holds of each element of two lists together holds of those of the first, and of those of the second
-pub All-left : {X : Type 0} (P : X → Type 0) (xs ys : List X) → All P (xs ++ ys) → All P xs
-All-left P xs ys all k d within = subst P (get_or_append_left xs ys d k within) (all k d (omega (arith, length-append xs ys)))
+pub All-front : {X : Type 0} (P : X → Type 0) (xs ys : List X) → All P (xs ++ ys) → All P xs
+All-front P xs ys all k d within = subst P (get_or_append_left xs ys d k within) (all k d (omega (arith, length-append xs ys)))
 
-pub All-right : {X : Type 0} (P : X → Type 0) (xs ys : List X) → All P (xs ++ ys) → All P ys
-All-right P xs ys all k d within = subst P (get_or-append-add xs ys k d) (all (length xs + k) d (omega (arith, length-append xs ys)))
+pub All-back : {X : Type 0} (P : X → Type 0) (xs ys : List X) → All P (xs ++ ys) → All P ys
+All-back P xs ys all k d within = subst P (get_or-append-add xs ys k d) (all (length xs + k) d (omega (arith, length-append xs ys)))
 
 -- some element of a list is one of a longer list
 pub Any-append_left : {X : Type 0} (P : X → Type 0) (xs ys : List X) → Any P xs → Any P (xs ++ ys)
@@ -60,3 +60,11 @@ flat_map-take f xs i d within =
     ap (flat_map f) (rw add-one at (take_more xs i d within))
     ∙ flat_map-append f (take i xs) (get_or xs i d ∷ [])
     ∙ ap (λ ys. flat_map f (take i xs) ++ ys) (append-nil (f (get_or xs i d)))
+
+-- a place below n + 1 lies below n or is n
+pub place_cases : (i n : ℕ) → i < n + 1 → (i < n) ⊎ (i ≡ n)
+place_cases i n within = elim (cases_lt i n) [ inl less ↦ inl less | inr more ↦ inr (omega arith) ]
+
+-- what holds of each element holds of the last
+pub All-last : {X : Type 0} (P : X → Type 0) (xs : List X) (x : X) → All P (xs ++ x ∷ []) → P x
+All-last P xs x all = subst P (get_or_push xs x x (length xs) refl) (all (length xs) x (omega (arith, length_push xs x)))

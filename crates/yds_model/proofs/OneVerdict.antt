@@ -6,7 +6,7 @@ use Rattle.yds_model.specs.Scale.{IsLess, IsAtMost}
 use Rattle.yds_model.specs.Slot.{WrittenSlot, written_slot_at}
 use Rattle.yds_model.specs.Table.{Point}
 use Rattle.yds_model.specs.Audit.{Verdict, Feasible, Backward, Overlap, Early, Late, OffPoint, WrongWork, IsOnTable, IsAfterOthers, release_of, deadline_of, given_of, Stands, GetsItsWork, ComesTo, IsVerdict}
-use Rattle.yds_model.specs.Laws.{VerdictIsUnique}
+use Rattle.yds_model.specs.AuditLaws.{VerdictIsUnique}
 use Rattle.yds_model.proofs.FirstFailure.{IsFirst, each_none, each_more, first_is_one, one_stage, one_place}
 
 module _ (jobs : List Job) (table : Option (List Point)) (slots : List WrittenSlot) where

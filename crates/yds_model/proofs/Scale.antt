@@ -1,17 +1,18 @@
 -- The law of scale: what a written schedule is at a multiple of one of its scales.
-use Rattle.std.proofs.Common.{◌≡◌, ℕ, ◌+◌, ◌-◌, ◌*◌, ◌/◌, ◌≤◌, List, [], ◌∷◌, map, ap, subst, sym, ◌∙◌, refl, arith, Bool, true, false}
-use Rattle.std.specs.Prelude.{sum_by, ◌==◌, if◌then◌else◌}
-use Rattle.std.specs.List.{AllByRecursion}
+use Rattle.std.proofs.Common.{◌≡◌, ℕ, zero, suc, ◌+◌, ◌-◌, ◌*◌, ◌/◌, ◌≤◌, List, [], ◌∷◌, map, ap, subst, sym, ◌∙◌, refl, arith, Bool, true, false}
+use Rattle.std.specs.Prelude.{sum_by, ◌==◌, if◌then◌else◌, ◌↔◌}
+use Rattle.std.specs.List.{All, AllByRecursion}
 use Rattle.std.specs.Int.{◌∣◌}
 use Rattle.std.proofs.lemmas.List.Sums.{sum_by-cons}
 use Rattle.std.proofs.lemmas.List.Elements.{recursion_from_All, All-from_recursion, All-nil, All-cons, All-weaker}
-use Rattle.std.proofs.Math.Nat.{mul-div_assoc, mul_comm, mul-zero, mul-pos, mul-sub, mul-le-mul_left, mul-lt-mul_of_pos_left, le_of_mul-le-mul_left, lt_of_mul-lt-mul_left, eq_of_mul-eq-mul_left, dvd-mul_left, dvd-mul_right, dvd-mul_left_of_dvd, dvd-mul_right_of_dvd}
+use Rattle.std.proofs.Math.Nat.{mul-div_assoc, div-mul_cancel, mul_comm, mul-zero, mul-pos, mul-sub, mul-le-mul_left, mul-lt-mul_of_pos_left, le_of_mul-le-mul_left, lt_of_mul-lt-mul_left, eq_of_mul-eq-mul_left, dvd-mul_left, dvd-mul_right, dvd-mul_left_of_dvd, dvd-mul_right_of_dvd}
 use Rattle.yds_model.specs.Job.{Job, job_at}
 use Rattle.yds_model.specs.Scale.{Fraction, at_scale}
-use Rattle.yds_model.specs.Slot.{WrittenSlot, WholeSlot, IsDivided, IsScale, IsSolid, slot_at_scale, slots_at, work_given}
+use Rattle.yds_model.specs.Slot.{WrittenSlot, WholeSlot, IsDivided, IsScale, IsSolid, AtEachScale, slot_at_scale, slots_at, work_given}
 use Rattle.yds_model.specs.Feasible.{RunFrom, IsInWindow, IsFeasibleAt}
 use Rattle.yds_model.specs.Excess.{excess}
-use Rattle.yds_model.specs.Laws.{ScaleKeepsFeasible, ScaleMultipliesExcess, OneScaleDecides, ScaleExists}
+use Rattle.yds_model.proofs.Fractions.{den_positive}
+use Rattle.yds_model.specs.ScaleLaws.{ScaleKeepsFeasible, ScaleMultipliesExcess, OneScaleDecides, ScaleExists}
 
 -- the slot in parts that are k times as fine
 abbrev pub finer : ℕ → WholeSlot → WholeSlot
@@ -145,12 +146,47 @@ feasible_scaled jobs slots scale k is some =
       λ feasible. feasible_coarser jobs k scale (slots_at scale slots) some (subst (IsFeasibleAt jobs (k * scale)) e feasible),
     )
 
--- up by the other scale, and down by the first
+-- slots that have a scale have denominators of at least 1
+pub solid_of_scale : (slots : List WrittenSlot) (scale : ℕ) → IsScale scale slots → All IsSolid slots
+solid_of_scale slots scale is = All-weaker (IsDivided scale) IsSolid
+    (λ slot divided. record {
+      from = den_positive scale slot.from.den is.positive divided.from;
+      to = den_positive scale slot.to.den is.positive divided.to;
+      work = den_positive scale slot.work.den is.positive divided.work;
+    }) slots is.divided
+
+-- P holds of written slots at a scale of them exactly where it does at a multiple of it
+abbrev pub IsKept : List WrittenSlot → (ℕ → List WholeSlot → Type 0) → Type 0
+IsKept slots P = (scale k : ℕ) → IsScale scale slots → 1 ≤ k → (P scale (slots_at scale slots) ↔ P (k * scale) (slots_at (k * scale) slots))
+
+-- then one scale decides: up by the other scale, and down by the first
+pub one_scale_of : (slots : List WrittenSlot) (P : ℕ → List WholeSlot → Type 0) → IsKept slots P → (scale : ℕ) → IsScale scale slots →
+    P scale (slots_at scale slots) → AtEachScale slots P
+one_scale_of slots P kept scale is at_one = record {
+  solid = solid_of_scale slots scale is;
+  holds = λ other is_other.
+      (kept other scale is_other is.positive).1
+      (subst (λ (both : ℕ). P both (slots_at both slots)) (mul_comm other scale) ((kept scale other is is_other.positive).0 at_one));
+}
+
+-- a product that isn't 0 has a first factor that isn't
+some_times : (k n product : ℕ) → k * n ≡ product → 1 ≤ product → 1 ≤ k
+some_times zero n product same positive = omega (arith, same, positive)
+some_times (suc k) n product same positive = omega arith
+
+-- what holds at each multiple of a scale that divides all others holds at each scale
+pub least_scale_of : (slots : List WrittenSlot) (P : ℕ → List WholeSlot → Type 0) (least : ℕ) → IsScale least slots →
+    ((scale : ℕ) → IsScale scale slots → least ∣ scale) → ((k : ℕ) → 1 ≤ k → P (k * least) (slots_at (k * least) slots)) → AtEachScale slots P
+least_scale_of slots P least is divides at_multiples = record {
+  solid = solid_of_scale slots least is;
+  holds = λ scale is_scale.
+      let same : scale / least * least ≡ scale = div-mul_cancel least (divides scale is_scale) in
+      subst (λ (n : ℕ). P n (slots_at n slots)) same (at_multiples (scale / least) (some_times (scale / least) least scale same is_scale.positive));
+}
+
+-- the law: one scale decides
 pub one_scale_decides : OneScaleDecides
-one_scale_decides jobs slots scale is feasible other is_other =
-    let finest = (feasible_scaled jobs slots scale other is is_other.positive).0 feasible in
-    (feasible_scaled jobs slots other scale is_other is.positive).1
-    (subst (λ (both : ℕ). IsFeasibleAt jobs both (slots_at both slots)) (mul_comm other scale) finest)
+one_scale_decides jobs slots scale is feasible = one_scale_of slots (IsFeasibleAt jobs) (feasible_scaled jobs slots) scale is feasible
 
 -- a multiple of a scale is one
 coarsest : (k scale : ℕ) (slot : WrittenSlot) → IsDivided scale slot → IsDivided (k * scale) slot

@@ -12,7 +12,7 @@ use Rattle.yds_model.specs.Slot.{WrittenSlot, WholeSlot, IsDivided, IsScale, slo
 use Rattle.yds_model.specs.Feasible.{IsInWindow, IsFeasibleAt, IsFeasible}
 use Rattle.yds_model.specs.Table.{Point}
 use Rattle.yds_model.specs.Audit.{grain_of, parts_given, IsOnTable, release_of, deadline_of, Stands, GetsItsWork, AllStand, AreSlots}
-use Rattle.yds_model.specs.Laws.{VerdictIsExact, TableVerdictIsExact}
+use Rattle.yds_model.specs.AuditLaws.{VerdictIsExact, TableVerdictIsExact}
 use Rattle.yds_model.proofs.Fractions.{order_of_values, at_most_of_values}
 use Rattle.yds_model.proofs.Scale.{scale_exists}
 use Rattle.yds_model.proofs.Grain.{grain_positive, given_scaled}
@@ -131,12 +131,12 @@ all_stand_exactly : (jobs : List Job) (table : Option (List Point)) (slots : Lis
     (AllStand jobs table slots ↔ (IsFeasible jobs slots × All (IsOnTable table) slots))
 all_stand_exactly jobs table slots are = (
   λ all. (
-    λ scale is. stand_is_feasible jobs table slots scale are is all,
+    record { solid = are.solid; holds = λ scale is. stand_is_feasible jobs table slots scale are is all },
     All-from_get_or (IsOnTable table) slots no_written_slot (λ i within. (all.stand i within).on_table),
   ),
   λ both.
       let some = scale_exists slots are.solid in
-      feasible_stand jobs table slots some.0 are some.1 (both.0 some.0 some.1) both.1,
+      feasible_stand jobs table slots some.0 are some.1 (both.0.holds some.0 some.1) both.1,
 )
 
 -- with a table

@@ -4,7 +4,7 @@ use Rattle.std.specs.Prelude.{◌≡◌, ◌≢◌, ℕ, ◌+◌, ◌-◌, ◌*�
 use Rattle.std.specs.List.{All, Any}
 use Rattle.yds_model.specs.Numbers.{Each}
 use Rattle.yds_model.specs.Job.{Job, job_at}
-use Rattle.yds_model.specs.Scale.{Fraction, of_whole, of_parts, numerator, IsLess, IsAtMost}
+use Rattle.yds_model.specs.Scale.{Fraction, of_whole, of_parts, numerator, AreAlike, IsLess, IsAtMost}
 use Rattle.yds_model.specs.Slot.{WrittenSlot, written_slot_at, IsSolid}
 use Rattle.yds_model.specs.Table.{Point}
 
@@ -21,6 +21,11 @@ pub data Verdict : Type 0 where
 -- (to - from), times both denominators
 abbrev pub crossed_length : Fraction → Fraction → ℕ
 crossed_length from to = numerator to * from.den - numerator from * to.den
+
+-- the slot's speed is num/den, by cross products
+abbrev pub HasSpeed : ℕ → ℕ → WrittenSlot → Type 0
+HasSpeed num den slot =
+    numerator slot.work * den * (slot.from.den * slot.to.den) ≡ num * crossed_length slot.from slot.to * slot.work.den
 
 -- the slot runs at this whole speed
 abbrev pub RunsAt : ℕ → WrittenSlot → Type 0
@@ -122,13 +127,14 @@ IsVerdict jobs table slots (Late i) = IsLate jobs table slots i
 IsVerdict jobs table slots (OffPoint i) = IsOffPoint jobs table slots i
 IsVerdict jobs table slots (WrongWork job given wanted) = IsWrongWork jobs table slots job given wanted
 
+-- the works of one job are alike
+abbrev pub AreInGrain : List WrittenSlot → Type 0
+AreInGrain slots = (i j : ℕ) → i < length slots → j < length slots →
+    (written_slot_at slots i).job ≡ (written_slot_at slots j).job → AreAlike (written_slot_at slots i).work (written_slot_at slots j).work
+
 -- what the types of the program keep of slots: denominators of at least 1, jobs that are known, and works of one job that are
 -- whole or have one denominator
-abbrev pub AreAlike : Fraction → Fraction → Type 0
-AreAlike x y = (x.den ≡ y.den) ⊎ ((x.den ≡ 1) ⊎ (y.den ≡ 1))
-
 pub record AreSlots (jobs : ℕ) (slots : List WrittenSlot) : Type 0 where
   pub solid : All IsSolid slots
   pub known : All (λ slot. slot.job < jobs) slots
-  pub alike : (i j : ℕ) → i < length slots → j < length slots → (written_slot_at slots i).job ≡ (written_slot_at slots j).job →
-      AreAlike (written_slot_at slots i).work (written_slot_at slots j).work
+  pub alike : AreInGrain slots

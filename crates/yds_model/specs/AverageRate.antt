@@ -2,11 +2,11 @@
 -- stretch's part of a job rounded up to a whole unit. Yao, Demers and Shenker (FOCS 1995); the grid is this program's own.
 use Rattle.std.specs.Prelude.{◌≡◌, ℕ, ◌-◌, ◌*◌, ◌%◌, List, sum_by, count_by, min, Bool, nat_lt, nat_le, ◌==◌, ◌&&◌, not}
 use Rattle.std.specs.List.{filter, list_any}
-use Rattle.yds_model.specs.Job.{Job, job_at}
-use Rattle.yds_model.specs.Slot.{WholeSlot, WrittenSlot, IsScale, slots_at}
+use Rattle.yds_model.specs.Job.{Job}
+use Rattle.yds_model.specs.Slot.{WholeSlot, WrittenSlot, AtEachScale}
 use Rattle.yds_model.specs.Piece.{Piece}
 use Rattle.yds_model.specs.Event.{stretches}
-use Rattle.yds_model.specs.Policy.{div_up, pending_at, numbers_of, IsRunAt}
+use Rattle.yds_model.specs.Policy.{div_up, pending_units, IsRunAt}
 
 -- the stretch lies in the job's window
 abbrev pub is_live : Piece → Job → Bool
@@ -22,11 +22,6 @@ term_of grid stretch job = div_up (term_numerator grid stretch job) (job.deadlin
 abbrev pub terms_of : List Job → ℕ → Piece → ℕ
 terms_of jobs grid stretch = sum_by (term_of grid stretch) (filter (is_live stretch) jobs)
 
--- the pending units of the released jobs, times the scale
-abbrev pub pending_units : List Job → ℕ → ℕ → List WholeSlot → Piece → ℕ
-pending_units jobs grid scale slots stretch =
-    grid * sum_by (λ job. pending_at jobs scale slots stretch.from job) (filter (λ job. nat_le (job_at jobs job).release stretch.from) (numbers_of jobs))
-
 -- a stretch serves the sum of the terms, but no more than what is pending; both times the scale
 abbrev pub average_rate : List Job → ℕ → ℕ → List WholeSlot → Piece → ℕ
 average_rate jobs grid scale slots stretch = min (pending_units jobs grid scale slots stretch) (scale * terms_of jobs grid stretch)
@@ -39,6 +34,5 @@ abbrev pub average_rate_rounds : List Job → ℕ → Piece → Bool
 average_rate_rounds jobs grid stretch = list_any (rounds_term grid stretch) (filter (is_live stretch) jobs)
 
 pub record IsAverageRateRun (jobs : List Job) (grid rounded : ℕ) (slots : List WrittenSlot) : Type 0 where
-  pub run : (scale : ℕ) → IsScale scale slots →
-      IsRunAt jobs grid scale (average_rate jobs grid scale (slots_at scale slots)) (slots_at scale slots)
+  pub run : AtEachScale slots (λ scale whole. IsRunAt jobs grid scale (average_rate jobs grid scale whole) whole)
   pub rounds : rounded ≡ count_by (average_rate_rounds jobs grid) (stretches jobs)

@@ -27,3 +27,15 @@ name_at names job = slice_index_or names job []
 
 abbrev pub no_document : Document
 no_document = record { names = []; jobs = []; points = []; slots = []; levels = []; grid = None; energy = None }
+
+-- the same jobs and points, with these slots and levels, and a grid or an energy
+abbrev pub with_answer : Document → List WrittenSlot → List Level → Option Grid → Option Fraction → Document
+with_answer document slots levels grid energy = record {
+  names = document.names;
+  jobs = document.jobs;
+  points = document.points;
+  slots = slots;
+  levels = levels;
+  grid = grid;
+  energy = energy;
+}

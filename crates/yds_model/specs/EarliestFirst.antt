@@ -10,10 +10,15 @@ ComesFirst jobs first other =
     ((job_at jobs first).deadline < (job_at jobs other).deadline)
     ⊎ (((job_at jobs first).deadline ≡ (job_at jobs other).deadline) × (first ≤ other))
 
--- the slot's job comes first among the jobs that are released at its start and that the slots before it haven't done
-abbrev pub IsFirstDue : List Job → ℕ → List WholeSlot → WholeSlot → Type 0
-IsFirstDue jobs scale before slot = (other : ℕ) → other < length jobs → (job_at jobs other).release * scale ≤ slot.from →
-    work_given before other < (job_at jobs other).work * scale → ComesFirst jobs slot.job other
+-- the job is released by this time, and the slots before haven't done all its work
+pub record MayRun (jobs : List Job) (scale time : ℕ) (before : List WholeSlot) (number : ℕ) : Type 0 where
+  pub released : (job_at jobs number).release * scale ≤ time
+  pub pending : work_given before number < (job_at jobs number).work * scale
+
+-- the slot's job may run at its start, and comes first among the jobs that may
+pub record IsFirstDue (jobs : List Job) (scale : ℕ) (before : List WholeSlot) (slot : WholeSlot) : Type 0 where
+  pub may_run : MayRun jobs scale slot.from before slot.job
+  pub first : (other : ℕ) → other < length jobs → MayRun jobs scale slot.from before other → ComesFirst jobs slot.job other
 
 abbrev pub EarliestAfter : List Job → ℕ → List WholeSlot → List WholeSlot → Type 0
 EarliestAfter jobs scale before [] = Unit {0}

@@ -2,7 +2,8 @@
 use Rattle.std.specs.Prelude.{ℕ, ◌*◌, ◌≤◌, List, [], ◌∷◌, nat_lt, ◌==◌, if◌then◌else◌}
 use Rattle.std.specs.List.{flat_map, Any}
 use Rattle.yds_model.specs.Job.{Job}
-use Rattle.yds_model.specs.Slot.{WholeSlot}
+use Rattle.yds_model.specs.Scale.{numerator}
+use Rattle.yds_model.specs.Slot.{WrittenSlot, WholeSlot}
 use Rattle.yds_model.specs.Piece.{Piece}
 
 -- a time among rising times, once
@@ -32,6 +33,11 @@ stretches jobs = neighbours (event_points jobs)
 pub record LiesIn (scale : ℕ) (slot : WholeSlot) (stretch : Piece) : Type 0 where
   pub from : stretch.from * scale ≤ slot.from
   pub to : slot.to ≤ stretch.to * scale
+
+-- the same of a written slot
+pub record LiesWritten (slot : WrittenSlot) (stretch : Piece) : Type 0 where
+  pub from : stretch.from * slot.from.den ≤ numerator slot.from
+  pub to : numerator slot.to ≤ stretch.to * slot.to.den
 
 -- the slot lies in one stretch
 abbrev pub IsUncut : List Job → ℕ → WholeSlot → Type 0

@@ -2,7 +2,7 @@
 -- more work above it than any feasible schedule.
 use Rattle.std.specs.Prelude.{ℕ, ◌-◌, ◌*◌, ◌≤◌, List, sum_by}
 use Rattle.yds_model.specs.Job.{Job}
-use Rattle.yds_model.specs.Slot.{WrittenSlot, WholeSlot, IsScale, slots_at}
+use Rattle.yds_model.specs.Slot.{WrittenSlot, WholeSlot, AtEachScale}
 use Rattle.yds_model.specs.Feasible.{IsFeasibleAt}
 
 -- q times the work that the slots do above the speed p/q, in parts of the scale: a slot of work `work` that runs at
@@ -17,4 +17,4 @@ pub record IsLeastAt (jobs : List Job) (scale : ℕ) (slots : List WholeSlot) : 
 
 -- a written schedule is least where it is so at each of its scales
 abbrev pub IsLeast : List Job → List WrittenSlot → Type 0
-IsLeast jobs slots = (scale : ℕ) → IsScale scale slots → IsLeastAt jobs scale (slots_at scale slots)
+IsLeast jobs slots = AtEachScale slots (IsLeastAt jobs)

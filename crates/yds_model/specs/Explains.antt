@@ -3,7 +3,7 @@ use Rattle.std.specs.Prelude.{◌≡◌, ℕ, ◌+◌, ◌*◌, ◌<◌, ◌≤�
 use Rattle.std.specs.List.{All}
 use Rattle.yds_model.specs.Numbers.{AreDifferent}
 use Rattle.yds_model.specs.Job.{Job, job_at, work_of}
-use Rattle.yds_model.specs.Slot.{WrittenSlot, WholeSlot, IsScale, slots_at}
+use Rattle.yds_model.specs.Slot.{WrittenSlot, WholeSlot, AtEachScale}
 use Rattle.yds_model.specs.Feasible.{IsFeasibleAt}
 use Rattle.yds_model.specs.Excess.{excess}
 use Rattle.yds_model.specs.Piece.{Piece, ArePieces, IsConfined, total_length}
@@ -26,4 +26,4 @@ pub record ExplainsAt (jobs : List Job) (scale : ℕ) (slots : List WholeSlot) (
 
 -- the levels explain a written schedule where they do so at each of its scales
 abbrev pub Explains : List Job → List WrittenSlot → List Level → Type 0
-Explains jobs slots levels = (scale : ℕ) → IsScale scale slots → ExplainsAt jobs scale (slots_at scale slots) levels
+Explains jobs slots levels = AtEachScale slots (λ scale whole. ExplainsAt jobs scale whole levels)

@@ -2,7 +2,7 @@
 use Rattle.std.specs.Prelude.{◌≡◌, ℕ, ◌*◌, ◌<◌, ◌≤◌, List, [], ◌∷◌, length}
 use Rattle.std.specs.List.{All}
 use Rattle.yds_model.specs.Job.{Job, job_at}
-use Rattle.yds_model.specs.Slot.{WrittenSlot, WholeSlot, IsScale, slots_at, work_given}
+use Rattle.yds_model.specs.Slot.{WrittenSlot, WholeSlot, AtEachScale, work_given}
 
 -- the slots run one after another, from this time on, and each takes time
 abbrev pub RunFrom : ℕ → List WholeSlot → Type 0
@@ -23,4 +23,4 @@ pub record IsFeasibleAt (jobs : List Job) (scale : ℕ) (slots : List WholeSlot)
 
 -- a written schedule is feasible where it is so at each of its scales
 abbrev pub IsFeasible : List Job → List WrittenSlot → Type 0
-IsFeasible jobs slots = (scale : ℕ) → IsScale scale slots → IsFeasibleAt jobs scale (slots_at scale slots)
+IsFeasible jobs slots = AtEachScale slots (IsFeasibleAt jobs)

@@ -1,14 +1,13 @@
 -- The checker's judgement of slots and levels: accepted, or the first of seven conditions that fails, with its place. Each is
 -- tried over all its levels, jobs or slots in order before the next.
-use Rattle.std.specs.Prelude.{◌≡◌, ◌≢◌, ℕ, ◌*◌, ◌<◌, List, length, None}
+use Rattle.std.specs.Prelude.{◌≢◌, ℕ, ◌<◌, List, length, None}
 use Rattle.std.specs.List.{Contains}
-use Rattle.yds_model.specs.Numbers.{Each}
+use Rattle.yds_model.specs.Numbers.{Each, IsFirstFailure}
 use Rattle.yds_model.specs.Job.{Job}
-use Rattle.yds_model.specs.Scale.{numerator}
 use Rattle.yds_model.specs.Slot.{WrittenSlot, written_slot_at}
 use Rattle.yds_model.specs.Level.{Level, level_at}
 use Rattle.yds_model.specs.Proper.{PiecesStand, StandsOnce, SumsAgree, IsNotFaster, IsWindowCovered}
-use Rattle.yds_model.specs.Audit.{Verdict, Feasible, IsVerdict, crossed_length}
+use Rattle.yds_model.specs.Audit.{Verdict, Feasible, IsVerdict, HasSpeed}
 
 -- Levels, jobs and slots are told by their numbers, from 0.
 pub data Judgement : Type 0 where
@@ -21,17 +20,10 @@ pub data Judgement : Type 0 where
   Window : (job : ℕ) → Judgement
   Speed : (slot : ℕ) → Judgement
 
--- where the slot's job is a member, the slot has the level's speed, by cross products
+-- where the slot's job is a member, the slot has the level's speed
 abbrev pub HasWrittenSpeed : List Level → List WrittenSlot → ℕ → Type 0
 HasWrittenSpeed levels slots s = (i : ℕ) → i < length levels → Contains (level_at levels i).members (written_slot_at slots s).job →
-    numerator (written_slot_at slots s).work * (level_at levels i).length * ((written_slot_at slots s).from.den * (written_slot_at slots s).to.den)
-    ≡ (level_at levels i).work * crossed_length (written_slot_at slots s).from (written_slot_at slots s).to * (written_slot_at slots s).work.den
-
--- the place is the first that hasn't P
-pub record IsFirstFailure (n : ℕ) (P : ℕ → Type 0) (i : ℕ) : Type 0 where
-  pub within : i < n
-  pub before : Each i P
-  pub fails : P i → ⊥
+    HasSpeed (level_at levels i).work (level_at levels i).length (written_slot_at slots s)
 
 -- the conditions that hold before the one that fails
 abbrev pub SlotsHold : List Job → List WrittenSlot → Type 0

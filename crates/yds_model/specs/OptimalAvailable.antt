@@ -4,7 +4,7 @@
 use Rattle.std.specs.Prelude.{◌≡◌, ℕ, ◌-◌, ◌*◌, List, sum_by, count_by, fold, map, max, Bool, nat_lt, nat_le, ◌==◌, ◌&&◌, not}
 use Rattle.std.specs.List.{filter, list_all}
 use Rattle.yds_model.specs.Job.{Job, job_at}
-use Rattle.yds_model.specs.Slot.{WholeSlot, WrittenSlot, IsScale, slots_at}
+use Rattle.yds_model.specs.Slot.{WholeSlot, WrittenSlot, AtEachScale}
 use Rattle.yds_model.specs.Piece.{Piece}
 use Rattle.yds_model.specs.Event.{stretches}
 use Rattle.yds_model.specs.Policy.{div_up, pending_at, numbers_of, IsRunAt}
@@ -44,7 +44,5 @@ optimal_available_rounds jobs grid scale slots stretch =
     == units_asked jobs grid scale slots stretch * (scale * (deadline - stretch.from)))) (pending_deadlines jobs scale slots stretch)
 
 pub record IsOptimalAvailableRun (jobs : List Job) (grid rounded : ℕ) (slots : List WrittenSlot) : Type 0 where
-  pub run : (scale : ℕ) → IsScale scale slots →
-      IsRunAt jobs grid scale (optimal_available jobs grid scale (slots_at scale slots)) (slots_at scale slots)
-  pub rounds : (scale : ℕ) → IsScale scale slots →
-      rounded ≡ count_by (optimal_available_rounds jobs grid scale (slots_at scale slots)) (stretches jobs)
+  pub run : AtEachScale slots (λ scale whole. IsRunAt jobs grid scale (optimal_available jobs grid scale whole) whole)
+  pub rounds : AtEachScale slots (λ scale whole. rounded ≡ count_by (optimal_available_rounds jobs grid scale whole) (stretches jobs))

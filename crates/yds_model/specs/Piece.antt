@@ -10,7 +10,7 @@ pub record Piece : Type 0 where
 abbrev pub IsForward : Piece → Type 0
 IsForward piece = piece.from < piece.to
 
--- one ends before the other begins
+-- one has ended when the other begins
 abbrev pub AreApart : Piece → Piece → Type 0
 AreApart one other = (one.to ≤ other.from) ⊎ (other.to ≤ one.from)
 

@@ -34,12 +34,19 @@ Rise (number ∷ next ∷ numbers) = (number < next) × Rise (next ∷ numbers)
 abbrev pub IsOver : ℕ → Fraction → Type 0
 IsOver den x = (x ≡ of_whole x.whole) ⊎ (x.den ≡ den)
 
+-- the parts of the level's speed in lowest terms
+abbrev pub speed_num : Level → ℕ
+speed_num level = level.work / common_divisor level.work level.length
+
+abbrev pub speed_den : Level → ℕ
+speed_den level = level.length / common_divisor level.work level.length
+
 -- The slot's level has in lowest terms the speed W/L: its ends that aren't whole have the denominator W, and its work, where
 -- it isn't whole, has L.
 pub record HasLevelDenominators (level : Level) (slot : WrittenSlot) : Type 0 where
-  pub from : IsOver (level.work / common_divisor level.work level.length) slot.from
-  pub to : IsOver (level.work / common_divisor level.work level.length) slot.to
-  pub work : IsOver (level.length / common_divisor level.work level.length) slot.work
+  pub from : IsOver (speed_num level) slot.from
+  pub to : IsOver (speed_num level) slot.to
+  pub work : IsOver (speed_den level) slot.work
 
 -- at a scale: the slots are in order of the earliest deadline, and each lies in a stretch, one for a job and stretch
 pub record IsServedInStretches (jobs : List Job) (scale : ℕ) (slots : List WholeSlot) : Type 0 where

@@ -3,7 +3,7 @@
 use Rattle.std.specs.Prelude.{ℕ, ◌+◌, ◌-◌, ◌*◌, ◌/◌, List, [], ◌∷◌, ◌++◌, length, codes, Option, Some, None, is_none, Result, Ok, Err, Bool, true, nat_lt, nat_le, ◌==◌, ◌||◌, if◌then◌else◌}
 use Rattle.std.specs.List.{slice_index_or, filter_map, list_all}
 use Rattle.std.specs.Str.{bytes_eq}
-use Rattle.yds_model.specs.declared.limits.TheConstants.{MAX_JOBS, MAX_TIME, MAX_WORK, MAX_POINTS, MAX_POINT_SPEED, MAX_POINT_POWER, MAX_GAPS, MAX_SLOT_WORK, MAX_ENERGY, MAX_LEVEL_WORK, MAX_LEVEL_LENGTH, MAX_SLOTS, MAX_LEVELS, MAX_PIECES, MAX_MEMBERS, MAX_TICKS, MAX_GRID, MAX_ROUNDED}
+use Rattle.yds_model.specs.declared.limits.TheConstants.{MAX_JOBS, MAX_TIME, MAX_WORK, MAX_RUN_SPEED, MAX_POINTS, MAX_POINT_SPEED, MAX_POINT_POWER, MAX_GAPS, MAX_SLOT_WORK, MAX_ENERGY, MAX_LEVEL_WORK, MAX_LEVEL_LENGTH, MAX_SLOTS, MAX_LEVELS, MAX_PIECES, MAX_MEMBERS, MAX_TICKS, MAX_GRID, MAX_ROUNDED}
 use Rattle.yds_model.specs.declared.number_fault.NumberFault.{NumberFault}
 use Rattle.yds_model.specs.declared.number_fault.NumberFault.TheVariants as faults
 use Rattle.yds_model.specs.declared.reason.Reason.{Reason}
@@ -12,31 +12,9 @@ use Rattle.yds_model.specs.Scale.{Fraction, of_parts}
 use Rattle.yds_model.specs.Table.{Point, point_at, hull_multiple}
 use Rattle.yds_model.specs.Document.{Document}
 use Rattle.yds_model.specs.Lines.{Line, Field, lines_of, fields_of}
+use Rattle.yds_model.specs.Fields.{Fault, Spot, ◌>>=◌, refuse, demand, field_at, count_fields, in_field, on_line}
 use Rattle.yds_model.specs.Spelling.{number_at, fraction_at, is_name}
 use Rattle.yds_model.specs.Entry.{Entry, JobEntry, PointEntry, SlotEntry, LevelEntry, PieceEntry, MemberEntry, TicksEntry, GridEntry, EnergyEntry, name_said, point_said, slot_said, piece_said, member_said, is_level, ticks_said, grid_said, energy_said, job_named, works_of_job, document_said}
-
--- where a document is refused, and why; lines, and columns in bytes, count from 1
-pub record Fault : Type 0 where
-  pub line : ℕ
-  pub column : ℕ
-  pub reason : Reason
-
--- the same within a line
-pub record Spot : Type 0 where
-  pub column : ℕ
-  pub reason : Reason
-
-infixl 10 ◌>>=◌
-abbrev pub ◌>>=◌ : {A B : Type 0} → Result A Spot → (A → Result B Spot) → Result B Spot
-(Ok x) >>= next = next x
-(Err spot) >>= next = Err spot
-
-abbrev pub refuse : {A : Type 0} → ℕ → Reason → Result A Spot
-refuse column reason = Err (record { column = column; reason = reason })
-
--- goes on only where the test holds
-abbrev pub demand : Bool → ℕ → Reason → Result Bool Spot
-demand test column reason = if test then Ok test else refuse column reason
 
 -- the kinds of line, and the word that each begins with
 pub data Kind : Type 0 where
@@ -99,44 +77,25 @@ has_room PieceLine earlier = nat_lt (length (filter_map piece_said earlier)) MAX
 has_room MemberLine earlier = nat_lt (length (filter_map member_said earlier)) MAX_MEMBERS
 has_room _ earlier = true
 
-abbrev pub no_field : Field
-no_field = record { column = 0; text = [] }
-
-abbrev pub field_at : List Field → ℕ → Field
-field_at fields i = slice_index_or fields i no_field
-
--- just so many fields stand after the kind: else the first one too many is named, or the byte after the last one's end
-abbrev pub past_end : Field → ℕ
-past_end field = field.column + length field.text
-
-abbrev pub count_fields : ℕ → List Field → Result Bool Spot
-count_fields wanted fields =
-    if nat_lt (wanted + 1) (length fields) then refuse (field_at fields (wanted + 1)).column reasons.FieldCount
-    else demand (length fields == wanted + 1) (past_end (field_at fields (length fields - 1))) reasons.FieldCount
-
 abbrev pub reason_of : NumberFault → Reason
 reason_of faults.BadNumber = reasons.BadNumber
 reason_of faults.OutOfRange = reasons.OutOfRange
 
-abbrev pub in_field : {A : Type 0} → Field → Result A NumberFault → Result A Spot
-in_field field (Ok x) = Ok x
-in_field field (Err fault) = refuse field.column (reason_of fault)
+abbrev pub number_in : ℕ → ℕ → Field → Result ℕ (Spot Reason)
+number_in least most field = in_field reason_of field (number_at least most field.text)
 
-abbrev pub number_in : ℕ → ℕ → Field → Result ℕ Spot
-number_in least most field = in_field field (number_at least most field.text)
-
-abbrev pub fraction_in : ℕ → Field → Result Fraction Spot
-fraction_in most field = in_field field (fraction_at most field.text)
+abbrev pub fraction_in : ℕ → Field → Result Fraction (Spot Reason)
+fraction_in most field = in_field reason_of field (fraction_at most field.text)
 
 -- a name that no job has yet
-abbrev pub new_name : List Entry → Field → Result (List ℕ) Spot
+abbrev pub new_name : List Entry → Field → Result (List ℕ) (Spot Reason)
 new_name earlier field = do
   named ← demand (is_name field.text) field.column reasons.BadName
   new ← demand (is_none (job_named earlier field.text)) field.column reasons.DuplicateName
   Ok field.text
 
 -- the number of the job of this name
-abbrev pub known_job : List Entry → Field → Result ℕ Spot
+abbrev pub known_job : List Entry → Field → Result ℕ (Spot Reason)
 known_job earlier field = do
   named ← demand (is_name field.text) field.column reasons.BadName
   elim (job_named earlier field.text) [ None ↦ refuse field.column reasons.UnknownName | Some job ↦ Ok job ]
@@ -149,7 +108,7 @@ are_alike x y = (x.den == y.den) || (x.den == 1) || (y.den == 1)
 abbrev pub fits_grain : List Entry → ℕ → Fraction → Bool
 fits_grain earlier job work = list_all (are_alike work) (works_of_job job earlier)
 
-abbrev pub read_job : List Entry → List Field → Result Entry Spot
+abbrev pub read_job : List Entry → List Field → Result Entry (Spot Reason)
 read_job earlier fields = do
   name ← new_name earlier (field_at fields 1)
   release ← number_in 0 MAX_TIME (field_at fields 2)
@@ -159,12 +118,12 @@ read_job earlier fields = do
   Ok (JobEntry name (record { release = release; deadline = deadline; work = work }))
 
 -- the first point has the speed 0, and each later one is faster than the one before it
-abbrev pub follows_points : List Point → ℕ → ℕ → Result Bool Spot
+abbrev pub follows_points : List Point → ℕ → ℕ → Result Bool (Spot Reason)
 follows_points [] speed column = demand (speed == 0) column reasons.NoIdle
 follows_points (first ∷ others) speed column =
     demand (nat_lt (point_at (first ∷ others) (length others)).speed speed) column reasons.NotRising
 
-abbrev pub read_point : List Entry → List Field → Result Entry Spot
+abbrev pub read_point : List Entry → List Field → Result Entry (Spot Reason)
 read_point earlier fields = do
   speed ← number_in 0 MAX_POINT_SPEED (field_at fields 1)
   power ← number_in 0 MAX_POINT_POWER (field_at fields 2)
@@ -173,7 +132,7 @@ read_point earlier fields = do
       (field_at fields 1).column reasons.GapsTooFine
   Ok (PointEntry (record { speed = speed; power = power }))
 
-abbrev pub read_slot : List Entry → List Field → Result Entry Spot
+abbrev pub read_slot : List Entry → List Field → Result Entry (Spot Reason)
 read_slot earlier fields = do
   job ← known_job earlier (field_at fields 1)
   from ← fraction_in MAX_TIME (field_at fields 2)
@@ -183,55 +142,55 @@ read_slot earlier fields = do
   grain ← demand (fits_grain earlier job work) (field_at fields 4).column reasons.MixedGrain
   Ok (SlotEntry (record { job = job; from = from; to = to; work = work }))
 
-abbrev pub read_level : List Field → Result Entry Spot
+abbrev pub read_level : List Field → Result Entry (Spot Reason)
 read_level fields = do
   work ← number_in 1 MAX_LEVEL_WORK (field_at fields 1)
   length ← number_in 1 MAX_LEVEL_LENGTH (field_at fields 2)
   Ok (LevelEntry work length)
 
-abbrev pub read_piece : List Field → Result Entry Spot
+abbrev pub read_piece : List Field → Result Entry (Spot Reason)
 read_piece fields = do
   from ← number_in 0 MAX_TIME (field_at fields 1)
   to ← number_in 0 MAX_TIME (field_at fields 2)
   Ok (PieceEntry (record { from = from; to = to }))
 
-abbrev pub read_member : List Entry → List Field → Result Entry Spot
+abbrev pub read_member : List Entry → List Field → Result Entry (Spot Reason)
 read_member earlier fields = do
   job ← known_job earlier (field_at fields 1)
   Ok (MemberEntry job)
 
-abbrev pub read_ticks : List Field → Result Entry Spot
+abbrev pub read_ticks : List Field → Result Entry (Spot Reason)
 read_ticks fields = do
   ticks ← number_in 1 MAX_TICKS (field_at fields 1)
   Ok (TicksEntry ticks)
 
 -- A run from one tick to another at a speed is the slot of that speed times its time.
-abbrev pub read_run_at : ℕ → List Entry → List Field → Result Entry Spot
+abbrev pub read_run_at : ℕ → List Entry → List Field → Result Entry (Spot Reason)
 read_run_at ticks earlier fields = do
   job ← known_job earlier (field_at fields 1)
   from ← number_in 0 (MAX_TIME * ticks) (field_at fields 2)
   to ← number_in 0 (MAX_TIME * ticks) (field_at fields 3)
-  speed ← number_in 0 MAX_WORK (field_at fields 4)
+  speed ← number_in 0 MAX_RUN_SPEED (field_at fields 4)
   small ← demand (nat_le (speed * (to - from) / ticks) MAX_SLOT_WORK) (field_at fields 4).column reasons.OutOfRange
   grain ← demand (fits_grain earlier job (of_parts (speed * (to - from)) ticks)) (field_at fields 4).column reasons.MixedGrain
   Ok (SlotEntry (record { job = job; from = of_parts from ticks; to = of_parts to ticks; work = of_parts (speed * (to - from)) ticks }))
 
 -- by the ticks that the earlier line has said
-abbrev pub read_run : List Entry → List Field → Result Entry Spot
+abbrev pub read_run : List Entry → List Field → Result Entry (Spot Reason)
 read_run earlier fields = read_run_at (slice_index_or (filter_map ticks_said earlier) 0 1) earlier fields
 
-abbrev pub read_grid : List Field → Result Entry Spot
+abbrev pub read_grid : List Field → Result Entry (Spot Reason)
 read_grid fields = do
   grid ← number_in 1 MAX_GRID (field_at fields 1)
   rounded ← number_in 0 MAX_ROUNDED (field_at fields 2)
   Ok (GridEntry (record { grid = grid; rounded = rounded }))
 
-abbrev pub read_energy : List Field → Result Entry Spot
+abbrev pub read_energy : List Field → Result Entry (Spot Reason)
 read_energy fields = do
   energy ← fraction_in MAX_ENERGY (field_at fields 1)
   Ok (EnergyEntry energy)
 
-abbrev pub read_kind : Kind → List Entry → List Field → Result Entry Spot
+abbrev pub read_kind : Kind → List Entry → List Field → Result Entry (Spot Reason)
 read_kind JobLine earlier fields = read_job earlier fields
 read_kind PointLine earlier fields = read_point earlier fields
 read_kind SlotLine earlier fields = read_slot earlier fields
@@ -244,14 +203,14 @@ read_kind GridLine earlier fields = read_grid fields
 read_kind EnergyLine earlier fields = read_energy fields
 
 -- A line, by its fields of which there is at least one, after lines that said `earlier`: the faults are tried in this order.
-abbrev pub read_fields : List Entry → List Field → Result Entry Spot
+abbrev pub read_fields : List Entry → List Field → Result Entry (Spot Reason)
 read_fields earlier fields =
     elim (kind_of (field_at fields 0).text) [
       | None ↦ refuse (field_at fields 0).column reasons.UnknownKind
       | Some kind ↦ do
         placed ← demand (may_follow kind earlier) (field_at fields 0).column reasons.Misplaced
         room ← demand (has_room kind earlier) (field_at fields 0).column reasons.TooMany
-        counted ← count_fields (fields_wanted kind) fields
+        counted ← count_fields reasons.FieldCount (fields_wanted kind) fields
         read_kind kind earlier fields
     ]
 
@@ -263,11 +222,7 @@ begins_comment (field ∷ fields) = slice_index_or field.text 0 0 == 35
 abbrev pub is_skipped : Line → Bool
 is_skipped line = begins_comment (fields_of line.text)
 
-abbrev pub on_line : {A : Type 0} → ℕ → Result A Spot → Result A Fault
-on_line number (Ok x) = Ok x
-on_line number (Err spot) = Err (record { line = number; column = spot.column; reason = spot.reason })
-
-abbrev pub read_line : List Entry → Line → Result Entry Fault
+abbrev pub read_line : List Entry → Line → Result Entry (Fault Reason)
 read_line earlier line = on_line line.number (read_fields earlier (fields_of line.text))
 
 -- the lines that aren't skipped
@@ -275,11 +230,11 @@ abbrev pub live_lines : List Line → List Line
 live_lines lines = filter_map (λ line. if is_skipped line then None else Some line) lines
 
 -- what the lines say after `earlier`, or the fault of the first that has one
-abbrev pub read_after : List Entry → List Line → Result (List Entry) Fault
+abbrev pub read_after : List Entry → List Line → Result (List Entry) (Fault Reason)
 read_after earlier [] = Ok earlier
 read_after earlier (line ∷ lines) =
     elim (read_line earlier line) [ Ok entry ↦ read_after (earlier ++ entry ∷ []) lines | Err fault ↦ Err fault ]
 
-abbrev pub reading : List ℕ → Result Document Fault
+abbrev pub reading : List ℕ → Result Document (Fault Reason)
 reading bytes =
     elim (read_after [] (live_lines (lines_of bytes))) [ Ok entries ↦ Ok (document_said entries) | Err fault ↦ Err fault ]

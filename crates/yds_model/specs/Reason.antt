@@ -2,6 +2,8 @@
 use Rattle.std.specs.Prelude.{ℕ, List, codes}
 use Rattle.yds_model.specs.declared.reason.Reason.{Reason}
 use Rattle.yds_model.specs.declared.reason.Reason.TheVariants as reasons
+use Rattle.yds_model.specs.declared.task_reason.TaskReason.{TaskReason}
+use Rattle.yds_model.specs.declared.task_reason.TaskReason.TheVariants as task_reasons
 
 abbrev pub reason_text : Reason → List ℕ
 reason_text reasons.UnknownKind = codes "UnknownKind"
@@ -19,3 +21,14 @@ reason_text reasons.MixedGrain = codes "MixedGrain"
 reason_text reasons.NoIdle = codes "NoIdle"
 reason_text reasons.NotRising = codes "NotRising"
 reason_text reasons.GapsTooFine = codes "GapsTooFine"
+
+abbrev pub task_reason_text : TaskReason → List ℕ
+task_reason_text task_reasons.UnknownKind = codes "UnknownKind"
+task_reason_text task_reasons.Misplaced = codes "Misplaced"
+task_reason_text task_reasons.TooMany = codes "TooMany"
+task_reason_text task_reasons.FieldCount = codes "FieldCount"
+task_reason_text task_reasons.BadName = codes "BadName"
+task_reason_text task_reasons.DuplicateName = codes "DuplicateName"
+task_reason_text task_reasons.BadNumber = codes "BadNumber"
+task_reason_text task_reasons.OutOfRange = codes "OutOfRange"
+task_reason_text task_reasons.TooManyJobs = codes "TooManyJobs"

@@ -1,17 +1,18 @@
 -- Rounding a plan to the operating points: where a level's speed is a point of the table's lower hull its slots stay; elsewhere each
 -- stretch runs first at the faster of the two points around the speed and then at the slower, so long that it does the same work.
 -- Two points are enough: Ishihara and Yasuura (ISLPED 1998).
-use Rattle.std.specs.Prelude.{◌≡◌, ℕ, zero, suc, ◌+◌, ◌-◌, ◌*◌, ◌/◌, ◌<◌, ◌≤◌, ◌⊎◌, List, [], ◌∷◌, ◌++◌, length, ◌==◌, if◌then◌else◌}
+use Rattle.std.specs.Prelude.{◌≡◌, ℕ, zero, suc, ◌+◌, ◌-◌, ◌*◌, ◌<◌, ◌≤◌, ◌⊎◌, List, [], ◌∷◌, ◌++◌, length, map, ◌==◌, if◌then◌else◌}
 use Rattle.std.specs.List.{All, Contains, Any}
+use Rattle.yds_model.specs.Numbers.{AreDifferent}
 use Rattle.yds_model.specs.Job.{Job}
 use Rattle.yds_model.specs.Scale.{Fraction, numerator}
-use Rattle.yds_model.specs.Slot.{WrittenSlot, WholeSlot, IsScale, slots_at, work_given}
+use Rattle.yds_model.specs.Slot.{WrittenSlot, WholeSlot, AtEachScale, slots_at, work_given}
 use Rattle.yds_model.specs.Piece.{Piece}
 use Rattle.yds_model.specs.Level.{Level}
-use Rattle.yds_model.specs.Divisor.{common_divisor, common_multiple}
+use Rattle.yds_model.specs.Divisor.{common_multiple, IsLowest}
 use Rattle.yds_model.specs.Table.{Point, point_at, hull_of}
-use Rattle.yds_model.specs.Event.{stretches}
-use Rattle.yds_model.specs.Plan.{IsOver}
+use Rattle.yds_model.specs.Event.{stretches, LiesWritten}
+use Rattle.yds_model.specs.Plan.{IsOver, speed_den}
 use Rattle.yds_model.specs.Energy.{IsEnergyOnPoints}
 
 -- the speed of the last point
@@ -62,22 +63,18 @@ pub record IsSplitAt (scale : ℕ) (level : Level) (low high : Point) (stretch :
   pub same_order : jobs_in_turn (fast ++ slow) ≡ jobs_in_turn planned
   pub same_work : (job : ℕ) → work_given (fast ++ slow) job ≡ work_given planned job
 
--- the parts of the level's speed in lowest terms
-abbrev pub speed_den : Level → ℕ
-speed_den level = level.length / common_divisor level.work level.length
-
 -- the denominators of a split: works over L * g, ends in each part over L times the common multiple of the point's speed and g
 pub record HasSplitDenominators (level : Level) (gap speed : ℕ) (slot : WrittenSlot) : Type 0 where
   pub from : IsOver (speed_den level * common_multiple speed gap) slot.from
   pub to : IsOver (speed_den level * common_multiple speed gap) slot.to
   pub work : IsOver (speed_den level * gap) slot.work
 
--- What is written for one stretch: nothing where the plan has nothing there, the plan's slots where the speed is a point's, and a
--- split elsewhere.
+-- the level runs at the speed of a point of the hull, and the plan's slots of the stretch are kept
 pub record KeepsStretch (hull : List Point) (level : Level) (planned written : List WrittenSlot) : Type 0 where
   pub at_point : Any (HasPointSpeed level) hull
   pub kept : written ≡ planned
 
+-- the plan's slots of the stretch are split between the two points around the level's speed; a job has at most one slot at each
 pub record SplitsStretch (hull : List Point) (level : Level) (stretch : Piece) (planned written : List WrittenSlot) : Type 0 where
   pub low : Point
   pub high : Point
@@ -85,11 +82,15 @@ pub record SplitsStretch (hull : List Point) (level : Level) (stretch : Piece) (
   pub fast : List WrittenSlot
   pub slow : List WrittenSlot
   pub parts : written ≡ fast ++ slow
-  pub split : (scale : ℕ) → IsScale scale (planned ++ written) →
-      IsSplitAt scale level low high stretch (slots_at scale planned) (slots_at scale fast) (slots_at scale slow)
+  pub split : AtEachScale (planned ++ fast ++ slow) (λ scale whole.
+      IsSplitAt scale level low high stretch (slots_at scale planned) (slots_at scale fast) (slots_at scale slow))
+  pub fast_once : AreDifferent (map (λ slot. slot.job) fast)
+  pub slow_once : AreDifferent (map (λ slot. slot.job) slow)
   pub fast_denominators : All (HasSplitDenominators level (high.speed - low.speed) high.speed) fast
   pub slow_denominators : All (HasSplitDenominators level (high.speed - low.speed) low.speed) slow
 
+-- What is written for one stretch: nothing where the plan has nothing there, the plan's slots where the speed is a point's, and a
+-- split elsewhere.
 abbrev pub RoundsStretch : List Point → List Level → Piece → List WrittenSlot → List WrittenSlot → Type 0
 RoundsStretch hull levels stretch planned written =
     ((planned ≡ []) × (written ≡ []))
@@ -102,18 +103,20 @@ RoundsStretches hull levels [] planned written = (planned ≡ []) × (written �
 RoundsStretches hull levels (stretch ∷ others) planned written =
     (here : List WrittenSlot) × (later : List WrittenSlot) × (made : List WrittenSlot) × (made_later : List WrittenSlot)
     × (planned ≡ here ++ later) × (written ≡ made ++ made_later)
-    × All (λ slot. (stretch.from * slot.from.den ≤ numerator slot.from) × (numerator slot.to ≤ stretch.to * slot.to.den)) here
+    × All (λ slot. LiesWritten slot stretch) here
     × RoundsStretch hull levels stretch here made × RoundsStretches hull levels others later made_later
 
--- each slot runs at a point's speed, and the fraction is the schedule's energy on the points
-abbrev pub IsEnergyOf : List Job → List Point → List WrittenSlot → Fraction → Type 0
-IsEnergyOf jobs points slots energy = (scale : ℕ) → IsScale scale slots →
-    (spent : ℕ) × IsEnergyOnPoints jobs points scale (slots_at scale slots) spent × (spent * energy.den ≡ numerator energy * scale)
+-- at each scale each slot runs at a point's speed, and the fraction is the schedule's energy on the points
+pub record IsEnergyOf (jobs : List Job) (points : List Point) (slots : List WrittenSlot) (energy : Fraction) : Type 0 where
+  pub has_parts : 1 ≤ energy.den
+  pub at_scales : AtEachScale slots (λ scale whole.
+      (spent : ℕ) × IsEnergyOnPoints jobs points scale whole spent × (spent * energy.den ≡ numerator energy * scale))
 
--- A plan's slots are rounded to these, whose energy is this fraction in lowest terms.
+-- A plan's slots are rounded to these, at most five for each job, whose energy is this fraction in lowest terms.
 pub record IsRounding (jobs : List Job) (points : List Point) (planned : List WrittenSlot) (levels : List Level)
     (written : List WrittenSlot) (energy : Fraction) : Type 0 where
   pub fast_enough : All (λ level. IsTooFast points level → ⊥) levels
   pub rounds : RoundsStretches (hull_of points) levels (stretches jobs) planned written
+  pub few_slots : length written ≤ 5 * length jobs
   pub energy_of : IsEnergyOf jobs points written energy
-  pub lowest : common_divisor energy.num energy.den ≡ 1
+  pub lowest : IsLowest energy

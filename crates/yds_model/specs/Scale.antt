@@ -1,6 +1,6 @@
 -- A written fraction, and the whole number that it is at a scale: at scale M one stands for M equal parts, and a
 -- fraction whose denominator divides M is a whole number of them.
-use Rattle.std.specs.Prelude.{◌≡◌, ℕ, ◌+◌, ◌*◌, ◌/◌, ◌%◌, ◌<◌, ◌≤◌, ◌==◌, if◌then◌else◌}
+use Rattle.std.specs.Prelude.{◌≡◌, ℕ, ◌+◌, ◌*◌, ◌/◌, ◌%◌, ◌<◌, ◌≤◌, ◌⊎◌, ◌==◌, if◌then◌else◌}
 
 -- `whole+num/den`, as it is written
 pub record Fraction : Type 0 where
@@ -39,6 +39,10 @@ IsSum x y z = numerator z * (x.den * y.den) ≡ (numerator x * y.den + numerator
 abbrev pub IsMultiple : ℕ → Fraction → Fraction → Type 0
 IsMultiple k x z = numerator z * x.den ≡ k * numerator x * z.den
 
+-- the denominators are equal, or one of them is 1
+abbrev pub AreAlike : Fraction → Fraction → Type 0
+AreAlike x y = (x.den ≡ y.den) ⊎ ((x.den ≡ 1) ⊎ (y.den ≡ 1))
+
 -- `num/den`: a speed, in work per time unit. Order and equality by cross products.
 pub record Quotient : Type 0 where
   pub num : ℕ
@@ -49,6 +53,3 @@ IsLessQuotient x y = x.num * y.den < y.num * x.den
 
 abbrev pub IsSameQuotient : Quotient → Quotient → Type 0
 IsSameQuotient x y = x.num * y.den ≡ y.num * x.den
-
-abbrev pub IsAtMostQuotient : Quotient → Quotient → Type 0
-IsAtMostQuotient x y = x.num * y.den ≤ y.num * x.den

@@ -46,6 +46,11 @@ slot_at_scale scale slot = record {
 abbrev pub slots_at : ℕ → List WrittenSlot → List WholeSlot
 slots_at scale slots = map (slot_at_scale scale) slots
 
+-- P holds of written slots at each of their scales. Their denominators are at least 1, so there is a scale.
+pub record AtEachScale (slots : List WrittenSlot) (P : ℕ → List WholeSlot → Type 0) : Type 0 where
+  pub solid : All IsSolid slots
+  pub holds : (scale : ℕ) → IsScale scale slots → P scale (slots_at scale slots)
+
 -- the work that the slots give a job, together
 abbrev pub work_given : List WholeSlot → ℕ → ℕ
 work_given slots job = sum_by (λ slot. if job == slot.job then slot.work else 0) slots

@@ -10,6 +10,9 @@ pub const MAX_TIME: u32 = 1_000_000_000;
 /// The greatest work of a job, in units of work.
 pub const MAX_WORK: u32 = 1_000_000;
 
+/// The greatest speed of a run of a trace, in work per time unit.
+pub const MAX_RUN_SPEED: u32 = 1_000_000;
+
 /// The greatest number of operating points.
 pub const MAX_POINTS: usize = 64;
 
@@ -76,3 +79,12 @@ pub const MAX_SEED: u32 = 4_294_967_295;
 
 /// The greatest number of jobs that a trial draws.
 pub const MAX_TRIAL_JOBS: u32 = 1_000;
+
+/// The greatest top speed under which jobs are admitted, in work per time unit.
+pub const MAX_TOP: u32 = 1_000_000;
+
+/// The greatest number of periodic tasks.
+pub const MAX_TASKS: usize = 4_000;
+
+/// The greatest length of a task's name, in bytes: a job's name is the task's, a dot and the job's number.
+pub const MAX_TASK_NAME: usize = 59;

@@ -1,19 +1,39 @@
-/// How a run of the program ended. Its number is the program's exit status.
+ghost use Rattle.std.specs.Prelude.{◌≡◌};
+ghost use Rattle.yds_model.specs.Status.{status_code};
+
+/// How a run of the program ended.
 #[derive(Clone, Copy, Debug, PartialEq, Eq)]
 pub enum Status {
-    /// 0: the command's answer was written whole.
+    /// The command's answer was written whole.
     Done,
-    /// 1: the answer was written whole, and it is no: the certificate isn't proper, the slots aren't
+    /// The answer was written whole, and it is no: the certificate isn't proper, the slots aren't
     /// feasible or aren't on the operating points, or the top operating point is too slow.
     No,
-    /// 2: the words name no command.
+    /// The words name no command.
     Usage,
-    /// 3: the document has a fault or is too long, or a table is wanted and there is none.
+    /// The document has a fault or is too long, or a table is wanted and there is none.
     Refused,
-    /// 4: the input couldn't be read; nothing was written.
+    /// The input couldn't be read; nothing was written.
     ReadFault,
-    /// 5: the output couldn't be written; a front of the answer was.
+    /// The output couldn't be written; a front of the answer was.
     WriteFault,
-    /// 6: want of memory; nothing was written.
+    /// Want of memory; nothing was written.
     Memory,
+}
+
+impl Status {
+    /// The program's exit status, from 0 for `Done` to 6 for `Memory`.
+    pub fn code(self) -> u8
+        ensures { result ≡ status_code self }
+    {
+        match self {
+            Status::Done => 0,
+            Status::No => 1,
+            Status::Usage => 2,
+            Status::Refused => 3,
+            Status::ReadFault => 4,
+            Status::WriteFault => 5,
+            Status::Memory => 6,
+        }
+    }
 }

@@ -12,6 +12,7 @@ pub record SourceState : Type 0 where
 
 -- Bytes that were written, at most `room`, and how many of them were flushed. A write takes at most
 -- `piece` bytes. The calls of write and flush whose numbers, from 1 together, stand in `failing` fail.
+-- `flushes` of the calls were flushes.
 pub record SinkState : Type 0 where
   pub written : List ℕ
   pub flushed : ℕ
@@ -19,4 +20,5 @@ pub record SinkState : Type 0 where
   pub piece : ℕ
   pub failing : List ℕ
   pub calls : ℕ
+  pub flushes : ℕ
   pub faults : ℕ

@@ -18,6 +18,7 @@ pub struct MemorySink {
     piece: usize,
     failing: Vec<u32>,
     calls: u64,
+    flushes: u64,
     faults: u64,
 }
 
@@ -34,6 +35,7 @@ impl Model for MemorySink {
       piece = s.piece;
       failing = s.failing.items;
       calls = s.calls;
+      flushes = s.flushes;
       faults = s.faults;
     } };
 
@@ -58,6 +60,7 @@ impl MemorySink {
           piece = piece;
           failing = failing.items;
           calls = 0;
+          flushes = 0;
           faults = 0;
         }) }
     {
@@ -69,6 +72,7 @@ impl MemorySink {
             piece,
             failing,
             calls: 0,
+            flushes: 0,
             faults: 0,
         })
     }
@@ -86,6 +90,8 @@ impl Sink for MemorySink {
 
     ghost flushed = { λ s. Some s.flushed };
 
+    ghost flushes = { λ s. s.flushes };
+
     ghost faults = { λ s. s.faults };
 
     fn write(&mut self, piece: &[u8]) -> Given
@@ -93,6 +99,7 @@ impl Sink for MemorySink {
         ensures writes { Writes result piece.now (Some self.old.written) (Some self.new.written)
             self.old.faults self.new.faults }
         ensures flushed_stays { self.new.flushed ≡ self.old.flushed }
+        ensures flushes_stay { self.new.flushes ≡ self.old.flushes }
 
         // Exactly the numbered calls fail, and those into a full room, and each counts one fault.
         ensures numbered { self.new.calls ≡ next_count self.old.calls }
@@ -121,6 +128,7 @@ impl Sink for MemorySink {
         ensures flushes { Flushes result (Some self.new.written) (Some self.new.flushed)
             self.old.faults self.new.faults }
         ensures written_stays { self.new.written ≡ self.old.written }
+        ensures counted { self.new.flushes ≡ next_count self.old.flushes }
 
         // Exactly the numbered calls fail. Each counts one fault, and flushes nothing more.
         ensures numbered { self.new.calls ≡ next_count self.old.calls }
@@ -131,6 +139,7 @@ impl Sink for MemorySink {
             × (self.new.failing ≡ self.old.failing) }
     {
         self.calls = self.calls.saturating_add(1);
+        self.flushes = self.flushes.saturating_add(1);
         if is_failing(&self.failing, self.calls) {
             self.faults = self.faults.saturating_add(1);
             return Flushed::Failed;

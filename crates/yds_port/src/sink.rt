@@ -22,12 +22,16 @@ pub enum Flushed {
 /// Where bytes go to.
 pub trait Sink {
     ghost use Rattle.yds_port.specs.Sink.{Writes, Flushes};
+    ghost use Rattle.yds_port.specs.Count.{next_count};
 
     // The bytes that were written, where the sink tells them.
     ghost written: { Self → Option (List ℕ) };
 
     // How many of the written bytes were flushed, where the sink tells it.
     ghost flushed: { Self → Option ℕ };
+
+    // How often the sink was flushed, or tried to be.
+    ghost flushes: { Self → ℕ };
 
     // How many faults there were.
     ghost faults: { Self → ℕ };
@@ -37,11 +41,13 @@ pub trait Sink {
         requires { 0 < length piece.now }
         ensures writes { Writes result piece.now (written self.old) (written self.new)
             (faults self.old) (faults self.new) }
-        ensures flushed_stays { flushed self.new ≡ flushed self.old };
+        ensures flushed_stays { flushed self.new ≡ flushed self.old }
+        ensures flushes_stay { flushes self.new ≡ flushes self.old };
 
-    /// Passes on all that was written.
+    /// Passes on all that was written. Each call counts, one that fails too.
     fn flush(&mut self) -> Flushed
         ensures flushes { Flushes result (written self.new) (flushed self.new)
             (faults self.old) (faults self.new) }
-        ensures written_stays { Keeps (written self.old) (written self.new) };
+        ensures written_stays { Keeps (written self.old) (written self.new) }
+        ensures counted { flushes self.new ≡ next_count (flushes self.old) };
 }

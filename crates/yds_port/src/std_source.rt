@@ -1,6 +1,8 @@
 ghost use Rattle.std.specs.Prelude.{◌≡◌};
+ghost use Rattle.yds_port.specs.Adapter.{taken_by};
 
 use crate::source::{Source, Taken};
+use std::io;
 use std::io::Read;
 
 /// Any reader of std. Each error of the reader is a fault, `Interrupted` too.
@@ -29,13 +31,21 @@ impl<R: Read> Source for StdSource<R> {
     ghost faults = { read_faults };
 
     fn read(&mut self, into: &mut [u8]) -> Taken {
-        match self.inner.read(into) {
-            Ok(0) => Taken::End,
-            Ok(count) => Taken::Bytes(count),
-            Err(_) => {
-                self.faults = self.faults.saturating_add(1);
-                Taken::Failed
-            }
+        let taken = taken_by(self.inner.read(into));
+        if taken == Taken::Failed {
+            self.faults = self.faults.saturating_add(1);
         }
+        taken
+    }
+}
+
+/// What a reader's answer means to a source. A read of no byte is the end.
+fn taken_by(answer: io::Result<usize>) -> Taken
+    ensures { result ≡ taken_by answer }
+{
+    match answer {
+        Ok(0) => Taken::End,
+        Ok(count) => Taken::Bytes(count),
+        Err(_) => Taken::Failed,
     }
 }

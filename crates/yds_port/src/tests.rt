@@ -131,12 +131,20 @@ fn writers_of_std(rt: HostRuntime) -> Result<(), Fail> {
     assert_eq!(rt; write_all(&mut sink, b"idle 0\n"), Ok(()));
     assert_eq!(rt; sink.flush(), Flushed::Done);
     assert_eq!(rt; held.as_slice(), b"idle 0\n".as_slice());
+    Ok(())
+}
+
+// The first flush is passed on, and the next one's error is a fault: of a sink that has not failed
+// before, and of one that has.
+#[test]
+fn flushes_of_std(rt: HostRuntime) -> Result<(), Fail> {
     let mut broken = Broken::new(0);
     let mut sink = StdSink::new(&mut broken);
     assert_eq!(rt; write_all(&mut sink, b""), Ok(()));
-    assert_eq!(rt; write_all(&mut sink, b"idle 0\n"), Err(WriteFault));
     assert_eq!(rt; sink.flush(), Flushed::Done);
     assert_eq!(rt; sink.flush(), Flushed::Failed);
-    assert_eq!(rt; broken.flushes, 2);
+    assert_eq!(rt; write_all(&mut sink, b"idle 0\n"), Err(WriteFault));
+    assert_eq!(rt; sink.flush(), Flushed::Failed);
+    assert_eq!(rt; broken.flushes, 3);
     Ok(())
 }

@@ -14,6 +14,7 @@ pub fn write_all<K: Sink>(sink: &mut K, piece: &[u8]) -> Result<(), WriteFault>
     ensures delivers { Delivers result piece.now (K.written sink.old) (K.written sink.new)
         (K.faults sink.old) (K.faults sink.new) }
     ensures flushed_stays { K.flushed sink.new ≡ K.flushed sink.old }
+    ensures flushes_stay { K.flushes sink.new ≡ K.flushes sink.old }
     ensures later { K.faults sink.old ≤ K.faults sink.new }
     ensures counted { K.faults sink.old < K.faults sink.new → IsErr result }
 {

@@ -1,10 +1,9 @@
 // The numbers of a report: sums and ends of jobs and levels, and the speed of a level.
-ghost use Rattle.std.specs.Prelude.{◌≡◌, ◌/◌, ◌≤◌, length, sum_by};
+ghost use Rattle.std.specs.Prelude.{◌≡◌, ◌≤◌, length, sum_by};
 ghost use Rattle.std.specs.List.{All};
 ghost use Rattle.yds_model.specs.declared.limits.TheConstants.{MAX_JOBS, MAX_LEVELS};
 ghost use Rattle.yds_model.specs.Job.{IsJob};
-ghost use Rattle.yds_model.specs.Scale.{of_parts};
-ghost use Rattle.yds_model.specs.Divisor.{common_divisor};
+ghost use Rattle.yds_model.specs.Divisor.{in_lowest_terms};
 ghost use Rattle.yds_model.specs.Energy.{first_release, last_deadline};
 ghost use Rattle.yds_certificate.specs.Level.{IsLevel};
 
@@ -48,13 +47,8 @@ pub(crate) fn first_release(rows: &[JobRow]) -> u32
 // The speed of a level in lowest terms, in work per time unit.
 pub(crate) fn speed_of(level: &Level) -> Amount
     requires { IsLevel level.now }
-    ensures { result ≡ of_parts (level.now.work / common_divisor level.now.work level.now.length)
-        (level.now.length / common_divisor level.now.work level.now.length) }
+    ensures { result ≡ in_lowest_terms level.now.work level.now.length }
 {
     let speed = level.speed().reduced();
-    Amount::new(
-        speed.num() / speed.den(),
-        speed.num() % speed.den(),
-        speed.den(),
-    )
+    Amount::of_parts(u128::from(speed.num()), speed.den())
 }

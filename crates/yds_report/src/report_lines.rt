@@ -3,22 +3,21 @@ ghost use Rattle.std.specs.Prelude.{◌≡◌, ◌≤◌, length};
 ghost use Rattle.std.specs.List.{All};
 ghost use Rattle.yds_model.specs.declared.limits.TheConstants.{MAX_JOBS, MAX_LEVELS};
 ghost use Rattle.yds_model.specs.Job.{IsJob};
-ghost use Rattle.yds_model.specs.ReportAnswer.{level_row};
+ghost use Rattle.yds_model.specs.ReportAnswer.{jobs_row, level_row, idle_row};
 ghost use Rattle.yds_certificate.specs.Level.{IsLevel};
-ghost use Rattle.yds_report.specs.Rows.{jobs_row, idle_row};
 
 use crate::numbers::{first_release, last_deadline, speed_of, total_length, total_work};
 use yds_certificate::Level;
-use yds_document::Line;
+use yds_document::LineBuffer;
 use yds_model::JobRow;
 
 // The number of the jobs, their work together, and the times from their first release to their last deadline.
-pub(crate) fn jobs_line(rows: &[JobRow]) -> Line
+pub(crate) fn jobs_line(rows: &[JobRow]) -> LineBuffer
     requires few { length rows.now ≤ MAX_JOBS }
     requires jobs { All IsJob rows.now }
     ensures { result ≡ jobs_row rows.now }
 {
-    Line::new("jobs")
+    LineBuffer::new("jobs")
         .number(rows.len() as u64)
         .field("work")
         .number(total_work(rows))
@@ -30,10 +29,10 @@ pub(crate) fn jobs_line(rows: &[JobRow]) -> Line
 }
 
 // A level's number, its work, its length and its speed, one column each.
-pub(crate) fn level_line(number: u64, level: &Level) -> Line
+pub(crate) fn level_line(number: u64, level: &Level) -> LineBuffer
     ensures { result ≡ level_row (number, level.now) }
 {
-    Line::new("")
+    LineBuffer::new("")
         .right(5, number)
         .column(10, level.work)
         .column(10, level.length)
@@ -42,12 +41,12 @@ pub(crate) fn level_line(number: u64, level: &Level) -> Line
 }
 
 // The length of the horizon less the lengths of the levels. A plan's levels are no longer than the horizon.
-pub(crate) fn idle_line(rows: &[JobRow], levels: &[Level]) -> Line
+pub(crate) fn idle_line(rows: &[JobRow], levels: &[Level]) -> LineBuffer
     requires few { length levels.now ≤ MAX_LEVELS }
     requires levels { All IsLevel levels.now }
     ensures { result ≡ idle_row rows.now levels.now }
 {
     let horizon = last_deadline(rows) - first_release(rows);
     let idle = u64::from(horizon).saturating_sub(total_length(levels));
-    Line::new("idle").number(idle).end()
+    LineBuffer::new("idle").number(idle).end()
 }

@@ -10,7 +10,8 @@ use Rattle.std.proofs.lemmas.List.Elements.{All-tail, All-weaker}
 use Rattle.std.proofs.lemmas.List.{get_or_default, get_or-take, length-take}
 use Rattle.yds_slots.specs.Schedule.{FitsGrain}
 use Rattle.yds_model.specs.Slot.{WrittenSlot, written_slot_at, no_written_slot}
-use Rattle.yds_model.specs.Audit.{AreAlike, AreSlots, grain_of}
+use Rattle.yds_model.specs.Audit.{AreSlots, grain_of}
+use Rattle.yds_model.specs.Scale.{AreAlike}
 use Rattle.yds_model.proofs.Grain.{grain_reached}
 
 -- the grain after one more slot

@@ -12,7 +12,8 @@ use Rattle.std.proofs.Math.Nat.{le_refl, mul-le-mul_right}
 use Rattle.yds_model.specs.Scale.{Fraction, at_scale, numerator}
 use Rattle.yds_model.specs.Slot.{WrittenSlot, IsScale, IsSolid, slots_at}
 use Rattle.yds_model.proofs.Scale.{scale_exists}
-use Rattle.yds_slots.specs.Slot.{IsSlot}
+use Rattle.yds_model.specs.Within.{IsSlot}
+use Rattle.yds_fraction.proofs.Kept.{some_parts}
 use Rattle.yds_model.specs.Feasible.{RunFrom}
 use Rattle.yds_model.proofs.Fractions.{value-den, tied_order, den_positive}
 use Rattle.yds_slots.specs.Between.{lies_between, begins_before, ends_by}
@@ -20,7 +21,7 @@ use Rattle.yds_slots.specs.Between.{lies_between, begins_before, ends_by}
 -- the slots of a schedule have a scale
 pub slots_scale : (slots : List WrittenSlot) → All IsSlot slots → (scale : ℕ) × IsScale scale slots
 slots_scale slots each =
-    scale_exists slots (All-weaker IsSlot IsSolid (λ slot is. record { from = is.from.has_parts; to = is.to.has_parts; work = is.work.has_parts }) slots each)
+    scale_exists slots (All-weaker IsSlot IsSolid (λ slot is. record { from = some_parts _ is.from; to = some_parts _ is.to; work = some_parts _ is.work }) slots each)
 
 -- # Order, at a scale
 

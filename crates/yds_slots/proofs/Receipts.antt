@@ -12,12 +12,13 @@ use Rattle.yds_model.specs.declared.limits.TheConstants.{MAX_DENOMINATOR, MAX_SL
 use Rattle.yds_model.specs.Scale.{Fraction, of_whole, at_scale, numerator}
 use Rattle.yds_model.specs.Slot.{WrittenSlot, WholeSlot, IsDivided, IsScale, slot_at_scale, slots_at, work_given}
 use Rattle.yds_model.specs.Audit.{grain_of}
+use Rattle.yds_model.specs.Within.{IsSlot}
 use Rattle.yds_model.proofs.Sums.{sum_by_zero}
-use Rattle.yds_model.proofs.Lists.{All-left}
 use Rattle.yds_model.proofs.Grain.{grain_positive}
-use Rattle.yds_model.proofs.Grown.{All-last, parts_den}
+use Rattle.yds_model.proofs.Fractions.{parts_den}
+use Rattle.yds_model.proofs.Lists.{All-front, All-last}
 use Rattle.yds_fraction.specs.Mixed.{IsMixed, Adds, common_den}
-use Rattle.yds_slots.specs.Slot.{IsSlot}
+use Rattle.yds_fraction.proofs.Kept.{some_parts}
 use Rattle.yds_slots.specs.Received.{Receipt}
 use Rattle.yds_slots.specs.Kept.{IsInGrain, IsReceiptOf, nothing, receipt_at, IsKept}
 use Rattle.yds_slots.specs.Schedule.{FitsGrain}
@@ -112,7 +113,7 @@ work_same scale slots slot job same =
     ∙ ap (λ (b : Bool). work_given (slots_at scale slots) job + (if b then at_scale scale slot.work else 0)) (eq-eqb job slot.job (sym same))
 
 scale_front : (scale : ℕ) (slots : List WrittenSlot) (slot : WrittenSlot) → IsScale scale (slots ++ slot ∷ []) → IsScale scale slots
-scale_front scale slots slot is = record { positive = is.positive; divided = All-left (IsDivided scale) slots (slot ∷ []) is.divided }
+scale_front scale slots slot is = record { positive = is.positive; divided = All-front (IsDivided scale) slots (slot ∷ []) is.divided }
 
 scale_last : (scale : ℕ) (slots : List WrittenSlot) (slot : WrittenSlot) → IsScale scale (slots ++ slot ∷ []) → IsDivided scale slot
 scale_last scale slots slot is = All-last (IsDivided scale) slots slot is.divided
@@ -178,7 +179,7 @@ receipt_same slots slot job receipt after same grains fits kept is grain adds =
     let h = max g more in
     let q = parts_at h slots job in
     let some : 1 ≤ g = grain_positive slots job in
-    let positive : 1 ≤ more = kept.work.has_parts in
+    let positive : 1 ≤ more = some_parts _ kept.work in
     let fits_job : (more ≡ 1) ⊎ ((g ≡ 1) ⊎ (more ≡ g)) = subst (λ (j : ℕ). (more ≡ 1) ⊎ ((grain_of slots j ≡ 1) ⊎ (more ≡ grain_of slots j))) same fits in
     let x : numerator receipt.given * g ≡ p * receipt.given.den =
     let P : Fraction → Type 0 = λ f. numerator f * g ≡ p * f.den in subst P (sym is.given) (of_parts_value p g) in
@@ -186,19 +187,19 @@ receipt_same slots slot job receipt after same grains fits kept is grain adds =
     let P : Fraction → Type 0 = λ f. (f.den ≡ 1) ⊎ (f.den ≡ g) in subst P (sym is.given) (parts_den p g) in
     let finer : q * g ≡ p * h = finer_by p q g more some (λ plain. parts_finer h slots job (whole_so_far slots job grains plain) ∙ ap (λ (n : ℕ). parts_at n slots job * h) (sym plain)) fits_job (λ stays. ap (λ (n : ℕ). parts_at n slots job) stays) in
     let z : numerator after.given * h ≡ (q + numerator slot.work * (h / more)) * after.given.den =
-    summed (numerator receipt.given) receipt.given.den (numerator slot.work) more (numerator after.given) after.given.den g h p q (h / more) some is.mixed.has_parts positive
+    summed (numerator receipt.given) receipt.given.den (numerator slot.work) more (numerator after.given) after.given.den g h p q (h / more) some (some_parts _ is.mixed.fraction) positive
     adds.sum x finer (divides_grain g more some fits_job positive) in
     record {
       grain = grain ∙ ap (λ n. max n more) is.grain ∙ sym (grain_same slots slot job same);
-      given = of_parts_is (q + numerator slot.work * (h / more)) h after.given (some_grain g more some) adds.kept.below_one adds.kept.whole_is_plain
+      given = of_parts_is (q + numerator slot.work * (h / more)) h after.given (some_grain g more some) adds.kept.fraction.below_one adds.kept.fraction.whole_is_plain
           (elim (cases_eq after.given.num 0) [
             | inl none ↦ inl none
-            | inr part ↦ inr (in_parts receipt.given.den g more after.given.num after.given.den some parts fits_job adds.kept.below_one part
+            | inr part ↦ inr (in_parts receipt.given.den g more after.given.num after.given.den some parts fits_job adds.kept.fraction.below_one part
                 (in_parts_of after.given.den (common_den receipt.given slot.work) after.given.num adds.parts part))
           ]) z
           ∙ sym (rw (grain_same slots slot job same, parts_same h slots slot job same) refl);
       mixed = adds.kept;
-      few = few_on (length slots) receipt.given.whole slot.work.whole after.given.whole (length (slots ++ slot ∷ [])) (length-append slots (slot ∷ [])) adds.whole is.few kept.work_in_range;
+      few = few_on (length slots) receipt.given.whole slot.work.whole after.given.whole (length (slots ++ slot ∷ [])) (length-append slots (slot ∷ [])) adds.whole is.few kept.work.whole_in_range;
       at_scales = λ scale whole.
           let values = is.at_scales scale (scale_front scale slots slot whole) in
           let sum = adds.at_scales scale whole.positive values.0 (scale_last scale slots slot whole).work in
@@ -226,8 +227,8 @@ pushed_receipts slots slot receipts after kept is known fits room grain adds = r
   each = All-push IsSlot slots slot kept.each is;
   known = rw (length-set receipts slot.job after) (All-push (λ s. s.job < length receipts) slots slot kept.known known);
   grains = All-push (IsInGrain (slots ++ slot ∷ [])) slots slot
-      (λ k d within. grain_kept slots slot (slice_index_or slots k d) fits is.work.has_parts (kept.grains k d within))
-      (rw (grain_same slots slot slot.job refl) (fits_in (grain_of slots slot.job) slot.work.den fits is.work.has_parts));
+      (λ k d within. grain_kept slots slot (slice_index_or slots k d) fits (some_parts _ is.work) (kept.grains k d within))
+      (rw (grain_same slots slot slot.job refl) (fits_in (grain_of slots slot.job) slot.work.den fits (some_parts _ is.work)));
   given = λ job within. elim (cases_eq slot.job job) [
     | inl same ↦
         subst (λ (j : ℕ). IsReceiptOf (slots ++ slot ∷ []) j (receipt_at (slice_set receipts slot.job after) j)) same

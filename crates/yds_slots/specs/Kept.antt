@@ -6,8 +6,8 @@ use Rattle.yds_model.specs.declared.limits.TheConstants.{MAX_DENOMINATOR, MAX_SL
 use Rattle.yds_model.specs.Scale.{of_whole, at_scale}
 use Rattle.yds_model.specs.Slot.{WrittenSlot, IsScale, slots_at, work_given}
 use Rattle.yds_model.specs.Audit.{grain_of, given_of}
+use Rattle.yds_model.specs.Within.{IsSlot}
 use Rattle.yds_fraction.specs.Mixed.{IsMixed}
-use Rattle.yds_slots.specs.Slot.{IsSlot}
 use Rattle.yds_slots.specs.Received.{Receipt}
 
 -- the slot's work is whole, or has its job's grain

@@ -1,4 +1,3 @@
-pub mod Slot
 pub mod Received
 pub mod Kept
 pub mod Schedule

@@ -1,14 +1,13 @@
 ghost use Rattle.std.specs.Prelude.{◌≡◌, ℕ, ◌<◌, ◌≤◌, List, [], ◌∷◌, ◌++◌, length, take, drop, filter, vec_len, IfOk, OnOk, OnErr};
 ghost use Rattle.std.specs.List.Sorted.{IsPermutation, IsSortedByKey, IsStableByKey};
 ghost use Rattle.yds_fraction.specs.Order.{fraction_cmp};
-ghost use Rattle.std.specs.List.{All};
 ghost use Rattle.std.specs.Int.{◌∣◌};
 ghost use Rattle.yds_model.specs.declared.limits.TheConstants.{MAX_DENOMINATOR, MAX_SLOTS};
 ghost use Rattle.yds_model.specs.Scale.{at_scale};
 ghost use Rattle.yds_model.specs.Slot.{IsScale, slots_at, work_given};
 ghost use Rattle.yds_model.specs.Audit.{AreSlots, grain_of, given_of};
+ghost use Rattle.yds_model.specs.Within.{AreSlotsOf};
 ghost use Rattle.yds_fraction.specs.Mixed.{IsMixed};
-ghost use Rattle.yds_slots.specs.Slot.{IsSlot};
 ghost use Rattle.yds_slots.specs.Between.{RunInOrder, lies_between};
 ghost use Rattle.yds_slots.specs.Schedule.{WrittenSchedule, FitsGrain};
 
@@ -133,12 +132,12 @@ impl Schedule {
     /// The slots, in their order.
     pub fn slots(&self) -> &[Slot]
         ensures value { result.now ≡ self.now.slots }
-        ensures kept { All IsSlot self.now.slots }
+        ensures kept { AreSlotsOf self.now.jobs self.now.slots }
         ensures agree { AreSlots self.now.jobs self.now.slots }
-        ensures few { length self.now.slots ≤ MAX_SLOTS }
     {
         self.slots.as_slice()
     }
+
     /// The slots that begin at `from` or later and have ended by `to`: neighbours in the schedule.
     ///
     /// They are found by halves, as the slots run in order.

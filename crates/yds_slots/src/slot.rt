@@ -23,7 +23,7 @@ pub struct Slot {
 
 impl Model for Slot {
     ghost use Rattle.yds_model.specs.Slot.{WrittenSlot};
-    ghost use Rattle.yds_slots.specs.Slot.{IsSlot};
+    ghost use Rattle.yds_model.specs.Within.{IsSlot};
 
     ghost Value = { WrittenSlot };
 

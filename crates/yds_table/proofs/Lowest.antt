@@ -1,13 +1,13 @@
 -- A table with one more point.
-use Rattle.std.proofs.Common.{◌≡◌, ℕ, ◌-◌, ◌<◌, ◌≤◌, inl, inr, List, [], ◌∷◌, ◌++◌, length, suc, ap, ◌∙◌, subst, arith}
+use Rattle.std.proofs.Common.{◌≡◌, ℕ, ◌-◌, ◌<◌, ◌≤◌, inl, inr, List, [], ◌∷◌, ◌++◌, length, take, suc, ap, ◌∙◌, subst, arith}
 use Rattle.std.proofs.lemmas.Bool.{cases_lt}
 use Rattle.std.proofs.lemmas.List.{length-append, take_all, take-append-le, get_or_append_left}
 use Rattle.std.proofs.lemmas.List.Elements.{All-push}
 use Rattle.yds_model.specs.declared.limits.TheConstants.{MAX_POINTS, MAX_GAPS}
 use Rattle.yds_model.specs.Divisor.{multiple_of_all}
-use Rattle.yds_model.specs.Table.{Point, no_point, point_at, AreRising, gaps_of, hull_multiple}
-use Rattle.yds_hull.specs.Limits.{IsPoint}
-use Rattle.yds_table.specs.Table.{IsPointTable, HasFineGaps, last_of}
+use Rattle.yds_model.specs.Table.{Point, no_point, point_at, AreRising, gaps_of, hull_multiple, IsTable}
+use Rattle.yds_model.specs.Within.{IsPoint, ArePoints}
+use Rattle.yds_table.specs.Table.{IsPointTable, last_of}
 use Rattle.yds_table.specs.Gaps.{IsMultipleOf}
 use Rattle.yds_table.specs.Kept.{IsLowerHull, IsKept}
 
@@ -19,24 +19,31 @@ rising_pushed (first ∷ next ∷ points) point rising above =
     let P : ℕ → Type 0 = λ i. (point_at (first ∷ next ∷ points) i).speed < point.speed in
     (rising.0, rising_pushed (next ∷ points) point rising.1 (subst P here above))
 
-pub gaps_pushed : (points : List Point) (point : Point) → HasFineGaps points → hull_multiple (points ++ point ∷ []) ≤ MAX_GAPS → HasFineGaps (points ++ point ∷ [])
-gaps_pushed points point fine last n some within = elim (cases_lt (length points) n) [
+-- each front of the points and one more is a front of the points, or all of them
+gaps_pushed : (points : List Point) (point : Point) → ArePoints points → hull_multiple (points ++ point ∷ []) ≤ MAX_GAPS →
+    (n : ℕ) → hull_multiple (take n (points ++ point ∷ [])) ≤ MAX_GAPS
+gaps_pushed points point within last n = elim (cases_lt (length points) n) [
   | inl whole ↦ rw (take_all n (points ++ point ∷ []) (omega (arith, length-append points (point ∷ [])))) last
-  | inr front ↦ rw (take-append-le n points (point ∷ []) front) (fine n some front)
+  | inr front ↦ rw (take-append-le n points (point ∷ []) front) (within.gaps_in_range n)
 ]
 
 pub table_pushed : (points : List Point) (point : Point) → IsPointTable points → IsPoint point → (last_of points).speed < point.speed → length points < MAX_POINTS →
     hull_multiple (points ++ point ∷ []) ≤ MAX_GAPS → IsPointTable (points ++ point ∷ [])
-table_pushed points point table limits above room last = record {
-  table = record {
-    some = omega (arith, length-append points (point ∷ []));
-    idle = rw (get_or_append_left points (point ∷ []) no_point 0 table.table.some) table.table.idle;
-    rising = rising_pushed points point table.table.rising above;
-  };
-  few = omega (arith, length-append points (point ∷ []));
-  limits = All-push IsPoint points point table.limits limits;
-  gaps = gaps_pushed points point table.gaps last;
-}
+table_pushed points point table limits above room last =
+    let more : IsTable (points ++ point ∷ []) = record {
+      some = omega (arith, length-append points (point ∷ []));
+      idle = rw (get_or_append_left points (point ∷ []) no_point 0 table.table.some) table.table.idle;
+      rising = rising_pushed points point table.table.rising above;
+    } in
+    record {
+      table = more;
+      within = record {
+        few = omega (arith, length-append points (point ∷ []));
+        fit = All-push IsPoint points point table.within.fit limits;
+        table = inr more;
+        gaps_in_range = gaps_pushed points point table.within last;
+      };
+    }
 
 -- the fields of the table with the point
 pub kept_pushed : (points : List Point) (point : Point) (hull : List Point) (gaps : ℕ) → IsPointTable points → IsPoint point → (last_of points).speed < point.speed →

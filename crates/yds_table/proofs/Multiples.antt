@@ -4,24 +4,17 @@ use Rattle.std.specs.Prelude.{Option, Some, None, MatchOption}
 use Rattle.std.specs.List.{slice_index_or}
 use Rattle.std.proofs.lemmas.List.{take_all, length-drop}
 use Rattle.std.proofs.Math.Nat.{mul-pos, dvd-mul_left, dvd-mul_right}
-use Rattle.std.proofs.lemmas.Nat.Gcd.{dvd_antisymm, le_of_dvd}
+use Rattle.std.proofs.lemmas.Nat.Gcd.{le_of_dvd}
 use Rattle.yds_model.specs.declared.limits.TheConstants.{MAX_GAPS}
 use Rattle.yds_model.specs.Divisor.{common_multiple, multiple_of_all}
 use Rattle.yds_model.specs.Table.{Point, AreRising, gaps_of}
 use Rattle.yds_model.proofs.Divisor.{multiple_is_least}
 use Rattle.yds_model.proofs.Fractions.{den_positive}
-use Rattle.yds_fraction.specs.Divisors.{IsLcm, IsLcmAbove, IsLcmWithin}
 use Rattle.yds_table.specs.Gaps.{IsMultipleOf}
 
 multiple_some : (a b : ℕ) → 1 ≤ a → 1 ≤ b → 1 ≤ common_multiple a b
 multiple_some a b some_a some_b =
     den_positive (a * b) (common_multiple a b) (mul-pos some_a some_b) ((multiple_is_least a b).2 (a * b) (dvd-mul_right a b) (dvd-mul_left b a))
-
--- the least common multiple is one
-pub lcm_is : (a b m : ℕ) → IsLcm a b m → m ≡ common_multiple a b
-lcm_is a b m is =
-    let least = multiple_is_least a b in
-    dvd_antisymm (is.least (common_multiple a b) least.0 least.1) (least.2 m is.of_first is.of_second)
 
 -- it is at least that of the other gaps
 others_below : (a b : ℕ) → 1 ≤ a → 1 ≤ b → b ≤ common_multiple a b
@@ -54,20 +47,20 @@ pub too_great : (points rest : List Point) (low high : Point) → Splits points 
 too_great points rest low high splits above =
     omega (arith, others_below (high.speed - low.speed) (multiple_of_all (gaps_of rest)) (omega (arith, splits.gap)) (omega arith), splits.multiple)
 
+whole_is : (points rest : List Point) (low high : Point) (gap multiple : ℕ) → Splits points rest low high → gap ≡ high.speed - low.speed →
+    IsMultipleOf rest multiple → common_multiple gap multiple ≡ multiple_of_all (gaps_of points)
+whole_is points rest low high gap multiple splits is others =
+    ap (λ n. common_multiple n multiple) is ∙ ap (common_multiple (high.speed - low.speed)) others.is ∙ sym splits.multiple
+
 -- the multiple of the gap and the others'
 pub answers : (points rest : List Point) (low high : Point) (gap multiple : ℕ) (answer : Option ℕ) → Splits points rest low high →
-    gap ≡ high.speed - low.speed → IsMultipleOf rest multiple → MatchOption answer (IsLcmAbove gap multiple MAX_GAPS) (IsLcmWithin gap multiple MAX_GAPS) →
+    gap ≡ high.speed - low.speed → IsMultipleOf rest multiple →
+    MatchOption answer (MAX_GAPS < common_multiple gap multiple) (λ m. (m ≡ common_multiple gap multiple) × (m ≤ MAX_GAPS)) →
     MatchOption answer (MAX_GAPS < multiple_of_all (gaps_of points)) (IsMultipleOf points)
 answers points rest low high gap multiple None splits is others above =
-    let whole : above.0 ≡ multiple_of_all (gaps_of points) =
-    lcm_is gap multiple above.0 above.1 ∙ ap (λ n. common_multiple n multiple) is ∙ ap (common_multiple (high.speed - low.speed)) others.is ∙ sym splits.multiple in
-    rw (← whole) above.2
-answers points rest low high gap multiple (Some m) splits is others within =
-    let whole : m ≡ multiple_of_all (gaps_of points) =
-    lcm_is gap multiple m within.0 ∙ ap (λ n. common_multiple n multiple) is ∙ ap (common_multiple (high.speed - low.speed)) others.is ∙ sym splits.multiple in
-    record {
-      is = whole;
-      some = rw (whole ∙ splits.multiple)
-          (multiple_some (high.speed - low.speed) (multiple_of_all (gaps_of rest)) (omega (arith, splits.gap)) (rw (← others.is) others.some));
-      within = within.1;
-    }
+    rw (← whole_is points rest low high gap multiple splits is others) above
+answers points rest low high gap multiple (Some m) splits is others within = record {
+  is = within.0 ∙ whole_is points rest low high gap multiple splits is others;
+  some = rw (within.0) (multiple_some gap multiple (omega (arith, splits.gap)) others.some);
+  within = within.1;
+}

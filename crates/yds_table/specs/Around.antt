@@ -27,11 +27,11 @@ pub record AreNeighbours (hull : List Point) (speed : Quotient) (low high : Poin
 abbrev pub AreAround : List Point → Quotient → Point → Point → Type 0
 AreAround hull speed low high = AreOnePoint hull speed low high ⊎ AreNeighbours hull speed low high
 
-abbrev pub IsSlower : Quotient → Point → Type 0
-IsSlower speed point = point.speed * speed.den < speed.num
+abbrev pub IsPointBelow : Quotient → Point → Type 0
+IsPointBelow speed point = point.speed * speed.den < speed.num
 
 -- the place of the first point that is at least as fast as this
 pub record IsFirstAtLeast (points : List Point) (speed : Quotient) (place : ℕ) : Type 0 where
   pub within : place < length points
-  pub slower : (k : ℕ) → k < place → IsSlower speed (point_at points k)
+  pub slower : (k : ℕ) → k < place → IsPointBelow speed (point_at points k)
   pub fast_enough : speed.num ≤ (point_at points place).speed * speed.den

@@ -14,12 +14,12 @@ IsCauseAtFirst first GapsTooFine = ⊥
 IsCauseAtFirst first Memory = first.speed ≡ 0
 
 -- the point isn't faster than the last one
-abbrev pub IsNotFaster : List Point → Point → Type 0
-IsNotFaster points point = point.speed ≤ (last_of points).speed
+abbrev pub IsNotRising : List Point → Point → Type 0
+IsNotRising points point = point.speed ≤ (last_of points).speed
 
 -- the cause of each refusal of a further point, of which the first is tried before any memory is taken
 abbrev pub IsCause : List Point → Point → TableFault → Type 0
 IsCause points point NoIdle = ⊥
-IsCause points point NotRising = IsNotFaster points point
+IsCause points point NotRising = IsNotRising points point
 IsCause points point GapsTooFine = ((last_of points).speed < point.speed) × (MAX_GAPS < hull_multiple (points ++ point ∷ []))
 IsCause points point Memory = (last_of points).speed < point.speed

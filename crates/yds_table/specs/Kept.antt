@@ -3,7 +3,7 @@ use Rattle.std.specs.Prelude.{◌≡◌, ℕ, ◌≤◌, List, length}
 use Rattle.std.specs.List.{All}
 use Rattle.yds_model.specs.declared.limits.TheConstants.{MAX_GAPS}
 use Rattle.yds_model.specs.Table.{Point, point_at, AreRising, IsHullOf, hull_of, hull_multiple}
-use Rattle.yds_hull.specs.Limits.{IsPoint}
+use Rattle.yds_model.specs.Within.{IsPoint}
 use Rattle.yds_table.specs.Table.{IsPointTable, last_of}
 
 -- the hull of the points, and what it has from them

@@ -2,9 +2,9 @@ ghost use Rattle.std.specs.Prelude.{◌≡◌, ◌*◌, ◌<◌, ◌≤◌, ◌�
 ghost use Rattle.std.specs.List.{All};
 ghost use Rattle.yds_model.specs.declared.limits.TheConstants.{MAX_POINTS, MAX_GAPS};
 ghost use Rattle.yds_model.specs.Table.{point_at, AreRising, IsHullOf, hull_of, hull_multiple};
-ghost use Rattle.yds_hull.specs.Limits.{IsPoint};
+ghost use Rattle.yds_model.specs.Within.{IsPoint};
 ghost use Rattle.yds_table.specs.Table.{IsPointTable, last_of};
-ghost use Rattle.yds_table.specs.Around.{IsAboveTop, AreAround, IsSlower, IsFirstAtLeast};
+ghost use Rattle.yds_table.specs.Around.{IsAboveTop, AreAround, IsPointBelow, IsFirstAtLeast};
 ghost use Rattle.yds_table.specs.Fault.{IsCauseAtFirst, IsCause};
 
 use crate::fault::TableFault;
@@ -50,7 +50,7 @@ fn with_point(alloc: Global, points: &[Point], point: Point) -> Result<Vec<Point
 
 /// The place of the first point that is at least as fast as this.
 fn first_at_least(points: &[Point], speed: Speed) -> Option<usize>
-    ensures { MatchOption result (All (IsSlower speed) points.now) (IsFirstAtLeast points.now speed) }
+    ensures { MatchOption result (All (IsPointBelow speed) points.now) (IsFirstAtLeast points.now speed) }
 {
     for (place, point) in points.iter().enumerate() {
         if speed.num() <= u64::from(point.speed) * speed.den() {

@@ -1,5 +1,5 @@
 use Rattle.std.proofs.Common.{sym}
-use Rattle.yds_document.proofs.Within.{fraction_within}
+use Rattle.yds_document.proofs.FractionField.{fraction_within}
 use Rattle.yds_document.proofs.fields.fraction_in.Goals as goal
 
 pub returns-in-Ok-clause-within : goal.returns-in-Ok-clause-within

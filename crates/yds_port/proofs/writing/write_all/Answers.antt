@@ -14,5 +14,6 @@ loop-rest-preserved g c = record {
   whole = c.loop-rest.invariant.whole ∙ front_taken c.loop-rest.invariant.done c.loop-rest.rest.now c.split_at.result.1.now c.in-Bytes.count c.split_at.ensures.back;
   appended = Appends-trans _ _ _ _ _ c.loop-rest.invariant.appended c.in-Bytes.ensures.writes.appended;
   flushed_stays = c.write.ensures.flushed_stays ∙ c.loop-rest.invariant.flushed_stays;
+  flushes_stay = c.write.ensures.flushes_stay ∙ c.loop-rest.invariant.flushes_stay;
   no_fault = c.in-Bytes.ensures.writes.no_fault ∙ c.loop-rest.invariant.no_fault;
 }

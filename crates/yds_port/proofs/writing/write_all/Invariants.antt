@@ -9,6 +9,7 @@ invariant-loop-rest g l = record {
   whole : l.piece ≡ done ++ l.rest;
   appended : Appends (g.K.Sink.written l.fn.sink) (g.K.Sink.written l.sink) done;
   flushed_stays : g.K.Sink.flushed l.sink ≡ g.K.Sink.flushed l.fn.sink;
+  flushes_stay : g.K.Sink.flushes l.sink ≡ g.K.Sink.flushes l.fn.sink;
   no_fault : g.K.Sink.faults l.sink ≡ g.K.Sink.faults l.fn.sink;
 }
 

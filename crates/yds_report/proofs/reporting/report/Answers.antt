@@ -1,7 +1,6 @@
 use Rattle.std.proofs.Common.{ap, ◌∙◌}
 use Rattle.std.specs.List.{flat_map, enumerate_from}
-use Rattle.yds_model.specs.ReportAnswer.{level_row}
-use Rattle.yds_report.specs.Rows.{jobs_row, idle_row}
+use Rattle.yds_model.specs.ReportAnswer.{jobs_row, level_row, idle_row}
 use Rattle.yds_document.proofs.Printed.{first_failed, second_failed, third_delivers}
 use Rattle.yds_report.proofs.reporting.report.Goals as goal
 

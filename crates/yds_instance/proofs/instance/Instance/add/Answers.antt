@@ -2,7 +2,7 @@ use Rattle.std.proofs.Common.{◌≡◌, ◌∷◌, [], ◌++◌, None, ℕ, Lis
 use Rattle.std.specs.Borrow.{Bor}
 use Rattle.yds_model.specs.Job.{IsJob}
 use Rattle.yds_instance.specs.Named.{Named, number_of}
-use Rattle.yds_instance.proofs.Names.{instance_pushed, keys_pushed, rows_pushed}
+use Rattle.yds_instance.proofs.Names.{named_pushed, keys_pushed, rows_pushed}
 use Rattle.yds_instance.proofs.instance.Instance.add.Goals as goal
 
 abbrev new_name : goal.After-unwrap → Type 0
@@ -20,7 +20,7 @@ rows_grow c = rows_pushed c.self.inside.rows.items c.reserve.new.self.items c.pu
 pub invariant_of-self-2 : goal.invariant_of-self-2
 invariant_of-self-2 c =
     rw (names_grow c, rows_grow c)
-    (instance_pushed _ _ _ c.self.invariant (omega arith) c.requires (subst IsJob c.row.view_is c.row.invariant) (is_new c))
+    (named_pushed _ _ _ _ c.self.invariant (omega arith) c.requires (subst IsJob c.row.view_is c.row.invariant) (is_new c))
 
 pub returns-clause-last : goal.returns-clause-last
 returns-clause-last c =

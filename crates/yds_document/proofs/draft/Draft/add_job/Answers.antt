@@ -1,6 +1,0 @@
-use Rattle.std.proofs.Common.{ap}
-use Rattle.yds_document.proofs.Holds.{holds_job}
-use Rattle.yds_document.proofs.draft.Draft.add_job.Goals as goal
-
-pub returns-in-Ok-clause-takes : goal.returns-in-Ok-clause-takes
-returns-in-Ok-clause-takes c = holds_job c.args.self.now _ _ _ _ c.in-Ok.ensures.last (ap (λ s. s.slots) c.in_ok-widen.ensures.ok)

@@ -1,6 +1,0 @@
-use Rattle.yds_document.proofs.Holds.{holds_slot}
-use Rattle.std.proofs.Common.{ap}
-use Rattle.yds_document.proofs.draft.Draft.add_slot.Goals as goal
-
-pub returns-clause-takes : goal.returns-clause-takes
-returns-clause-takes c = holds_slot c.args.self.now _ c.args.slot (ap (λ s. s.slots) c.in_ok-push.ensures.ok)

@@ -1,0 +1,9 @@
+use Rattle.std.proofs.lemmas.Result.{err_from_is_err_and}
+use Rattle.yds_model.specs.Reading.{PieceLine}
+use Rattle.yds_document.proofs.Told.{passed, fields_failed}
+use Rattle.yds_document.proofs.piece.read.Goals as goal
+
+pub returns-in_err-piece-clause-reads : goal.returns-in_err-piece-clause-reads
+returns-in_err-piece-clause-reads c = λ earlier holds.
+    passed _ _ _ _ _ (err_from_is_err_and _ c.from_residual-in_err-piece.ensures.1)
+    (fields_failed PieceLine earlier _ _ _ c.in_ok-from.ensures c.in_err-piece.ensures.gives)

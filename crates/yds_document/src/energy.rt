@@ -1,0 +1,91 @@
+// The line of the energy that the slots take.
+ghost use Rattle.std.specs.Prelude.{◌≡◌, ◌≤◌, ◌∷◌, [], codes, None, OnOk, IfOk, MatchOption};
+ghost use Rattle.std.specs.Option.{ForSome};
+ghost use Rattle.yds_model.specs.declared.limits.TheConstants.{MAX_ENERGY};
+ghost use Rattle.yds_model.specs.Entry.{EnergyEntry};
+ghost use Rattle.yds_model.specs.Fields.{no_field};
+ghost use Rattle.yds_model.specs.Reading.{EnergyLine, read_energy};
+ghost use Rattle.yds_model.specs.Text.{line, fraction_text, energy_lines};
+ghost use Rattle.yds_model.specs.Within.{IsFraction};
+ghost use Rattle.yds_port.specs.Sink.{Delivers};
+ghost use Rattle.yds_text.specs.Read.{field_read};
+ghost use Rattle.yds_document.specs.Draft.{IsDraft, Reads, Takes};
+ghost use Rattle.yds_document.specs.Fields.{Gives};
+
+use crate::draft::Draft;
+use crate::fields::{fraction_in, one_field};
+use crate::line_buffer::LineBuffer;
+use crate::line_fault::LineFault;
+use yds_fraction::Amount;
+use yds_model::limits::MAX_ENERGY;
+use yds_port::{Sink, WriteFault, write_all};
+use yds_text::{Field, Fields};
+
+// Reads the line whose first field is `kind`, and keeps its energy.
+pub(crate) fn read<'a>(
+    draft: &mut Draft<'a>,
+    kind: Field<'a>,
+    fields: Fields<'a>,
+) -> Result<(), LineFault>
+    requires kept { IsDraft draft.old }
+    requires first { draft.old.energy ≡ None }
+    ensures kept { OnOk result (IsDraft draft.new) }
+    ensures reads { Reads EnergyLine (field_read kind.entry ∷ fields.entry.fields) result draft.old draft.new }
+{
+    let energy = one_field(kind, fields)?;
+    let energy = energy_in(energy)?;
+    add(draft, energy);
+    Ok(())
+}
+
+// What the field says.
+fn energy_in(energy: Field<'_>) -> Result<Amount, LineFault>
+    ensures gives { Gives (λ energy. EnergyEntry energy) result (read_energy (no_field ∷ field_read energy.entry ∷ [])) }
+    ensures within { IfOk result (λ energy. energy.whole ≤ MAX_ENERGY) }
+{
+    fraction_in(energy, MAX_ENERGY)
+}
+
+fn add(draft: &mut Draft<'_>, energy: Amount)
+    requires kept { IsDraft draft.old }
+    requires first { draft.old.energy ≡ None }
+    requires within { energy.whole ≤ MAX_ENERGY }
+    ensures kept { IsDraft draft.new }
+    ensures takes { Takes draft.old draft.new (EnergyEntry energy) }
+{
+    draft.energy = Some(energy);
+}
+
+// Reading an energy shows that it is within its limits.
+pub(crate) fn show_limits(energy: Option<Amount>)
+    requires { ForSome energy (λ energy. energy.whole ≤ MAX_ENERGY) }
+    ensures { MatchOption energy (Unit {0}) (IsFraction MAX_ENERGY) }
+{
+    if let Some(energy) = energy {
+        let _den = energy.den();
+    }
+}
+
+// Makes the line of an energy.
+fn put(text: &mut LineBuffer, energy: Amount)
+    ensures { text.new ≡ line (codes "energy" ∷ fraction_text energy ∷ []) }
+{
+    text.restart("energy");
+    text.push_fraction(energy);
+    text.push_end();
+}
+
+// Appends the line of the energy, where there is one.
+pub(crate) fn print<K: Sink>(energy: Option<Amount>, sink: &mut K) -> Result<(), WriteFault>
+    ensures delivers { Delivers result (energy_lines energy) (K.written sink.old) (K.written sink.new) (K.faults sink.old) (K.faults sink.new) }
+    ensures flushed_stays { K.flushed sink.new ≡ K.flushed sink.old }
+{
+    match energy {
+        Some(energy) => {
+            let mut line = LineBuffer::new("");
+            put(&mut line, energy);
+            write_all(sink, line.as_bytes())
+        }
+        None => Ok(()),
+    }
+}

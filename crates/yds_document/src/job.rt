@@ -1,0 +1,122 @@
+// The lines of jobs: a job with a name of its own.
+ghost use Rattle.std.specs.Prelude.{◌≡◌, ◌<◌, ◌≤◌, ◌∷◌, length, None, OnOk, IfOk, IsTrue};
+ghost use Rattle.yds_model.specs.declared.limits.TheConstants.{MAX_JOBS, MAX_NAME};
+ghost use Rattle.yds_model.specs.Document.{name_at};
+ghost use Rattle.yds_model.specs.Entry.{JobEntry};
+ghost use Rattle.yds_model.specs.Reading.{JobLine};
+ghost use Rattle.yds_model.specs.Spelling.{is_name};
+ghost use Rattle.yds_model.specs.Text.{job_line, job_lines};
+ghost use Rattle.yds_instance.specs.Named.{number_of};
+ghost use Rattle.yds_port.specs.Sink.{Delivers};
+ghost use Rattle.yds_text.specs.Read.{field_read};
+ghost use Rattle.yds_document.specs.Draft.{IsDraft, Reads, Takes};
+ghost use Rattle.yds_document.specs.Fields.{Gives};
+ghost use Rattle.yds_document.specs.Job.{job_of};
+
+use crate::draft::Draft;
+use crate::fields::{four_fields, new_name, small_in};
+use crate::line_buffer::LineBuffer;
+use crate::line_fault::LineFault;
+use yds_instance::Instance;
+use yds_model::limits::{MAX_TIME, MAX_WORK};
+use yds_model::{JobRow, Memory, Reason};
+use yds_port::{Sink, WriteFault, write_all};
+use yds_text::{Field, Fields};
+
+// Reads the line whose first field is `kind`, and adds its job.
+pub(crate) fn read<'a>(
+    draft: &mut Draft<'a>,
+    kind: Field<'a>,
+    fields: Fields<'a>,
+) -> Result<(), LineFault>
+    requires kept { IsDraft draft.old }
+    requires room { length draft.old.instance.names < MAX_JOBS }
+    ensures kept { OnOk result (IsDraft draft.new) }
+    ensures reads { Reads JobLine (field_read kind.entry ∷ fields.entry.fields) result draft.old draft.new }
+{
+    let (name, release, deadline, work) = four_fields(kind, fields)?;
+    match job_in(&draft.instance, name, release, deadline, work) {
+        Ok((name, row)) => {
+            add(draft, name, row)?;
+            Ok(())
+        }
+        Err(fault) => Err(fault),
+    }
+}
+
+// What the fields say.
+fn job_in<'a>(
+    instance: &Instance<'a>,
+    name: Field<'a>,
+    release: Field<'a>,
+    deadline: Field<'a>,
+    work: Field<'a>,
+) -> Result<(&'a str, JobRow), LineFault>
+    ensures gives { Gives (λ said. JobEntry said.0.now said.1) result
+        (job_of instance.now.names (field_read name.entry) (field_read release.entry) (field_read deadline.entry) (field_read work.entry)) }
+    ensures named { IfOk result (λ said. IsTrue (is_name said.0.now)) }
+    ensures new { IfOk result (λ said. number_of instance.now.names said.0.now ≡ None) }
+{
+    let name = new_name(instance, name)?;
+    let from = small_in(release, 0, MAX_TIME)?;
+    let to = small_in(deadline, 0, MAX_TIME)?;
+    let work = small_in(work, 0, MAX_WORK)?;
+    if from < to {
+        Ok((name, JobRow::new(from, to, work)))
+    } else {
+        Err(LineFault::at(deadline.column, Reason::EmptyWindow))
+    }
+}
+
+fn add<'a>(draft: &mut Draft<'a>, name: &'a str, row: JobRow) -> Result<(), Memory>
+    requires kept { IsDraft draft.old }
+    requires named { IsTrue (is_name name.now) }
+    requires new { number_of draft.old.instance.names name.now ≡ None }
+    requires room { length draft.old.instance.names < MAX_JOBS }
+    ensures kept { OnOk result (IsDraft draft.new) }
+    ensures takes { OnOk result (Takes draft.old draft.new (JobEntry name.entry.now row)) }
+{
+    let jobs = draft.instance.rows().len() as u32;
+    draft.schedule.widen(jobs + 1)?;
+    match draft.instance.add(name, row) {
+        Ok(_) => Ok(()),
+        // The name is new and there is room: only memory can be wanting.
+        Err(_) => Err(Memory),
+    }
+}
+
+// The name of a job, which is short.
+pub(crate) fn name_of<'a>(instance: &Instance<'a>, job: u32) -> &'a str
+    requires { job < length instance.now.jobs }
+    ensures name { result.now ≡ name_at instance.now.names job }
+    ensures short { length result.now ≤ MAX_NAME }
+{
+    instance.name(job)
+}
+
+// Makes the line of a job.
+fn put(text: &mut LineBuffer, name: &str, job: &JobRow)
+    requires { length name.now ≤ MAX_NAME }
+    ensures { text.new ≡ job_line name.now job.now }
+{
+    text.restart("job");
+    text.push_field(name);
+    text.push_number(u64::from(job.release));
+    text.push_number(u64::from(job.deadline));
+    text.push_number(u64::from(job.work));
+    text.push_end();
+}
+
+// Appends the lines of the jobs, in their order.
+pub(crate) fn print<K: Sink>(instance: &Instance<'_>, sink: &mut K) -> Result<(), WriteFault>
+    ensures delivers { Delivers result (job_lines instance.now.names instance.now.jobs) (K.written sink.old) (K.written sink.new) (K.faults sink.old) (K.faults sink.new) }
+    ensures flushed_stays { K.flushed sink.new ≡ K.flushed sink.old }
+{
+    let rows = instance.rows();
+    let mut line = LineBuffer::new("");
+    for (job, row) in rows.iter().enumerate() {
+        put(&mut line, name_of(instance, job as u32), row);
+        write_all(sink, line.as_bytes())?;
+    }
+    Ok(())
+}

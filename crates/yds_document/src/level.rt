@@ -1,0 +1,117 @@
+// The lines of levels: the work and the length of a level. Its pieces and members stand on the lines after it.
+ghost use Rattle.std.specs.Prelude.{◌≡◌, ◌<◌, ◌≤◌, ◌∷◌, [], length, codes, decimal, OnOk, IfOk};
+ghost use Rattle.std.specs.List.{All, flat_map};
+ghost use Rattle.yds_model.specs.declared.limits.TheConstants.{MAX_LEVELS, MAX_LEVEL_WORK, MAX_LEVEL_LENGTH};
+ghost use Rattle.yds_model.specs.Entry.{LevelEntry};
+ghost use Rattle.yds_model.specs.Fields.{no_field};
+ghost use Rattle.yds_model.specs.Reading.{LevelLine, read_level};
+ghost use Rattle.yds_model.specs.Text.{line, level_lines};
+ghost use Rattle.yds_port.specs.Sink.{Delivers};
+ghost use Rattle.yds_text.specs.Read.{field_read};
+ghost use Rattle.yds_document.specs.Draft.{IsDraft, Reads, Takes};
+ghost use Rattle.yds_document.specs.Fields.{Gives};
+
+use crate::draft::Draft;
+use crate::fields::{number_in, two_fields};
+use crate::line_buffer::LineBuffer;
+use crate::line_fault::LineFault;
+use crate::{member, piece};
+use std::alloc::Global;
+use yds_certificate::Level;
+use yds_instance::Instance;
+use yds_model::Memory;
+use yds_model::limits::{MAX_LEVEL_LENGTH, MAX_LEVEL_WORK};
+use yds_port::{Sink, WriteFault, write_all};
+use yds_text::{Field, Fields};
+
+// Reads the line whose first field is `kind`, and adds its level.
+pub(crate) fn read<'a>(
+    draft: &mut Draft<'a>,
+    alloc: Global,
+    kind: Field<'a>,
+    fields: Fields<'a>,
+) -> Result<(), LineFault>
+    requires kept { IsDraft draft.old }
+    requires room { length draft.old.certificate < MAX_LEVELS }
+    ensures kept { OnOk result (IsDraft draft.new) }
+    ensures reads { Reads LevelLine (field_read kind.entry ∷ fields.entry.fields) result draft.old draft.new }
+{
+    let (work, len) = two_fields(kind, fields)?;
+    let (work, len) = level_in(work, len)?;
+    add(draft, alloc, work, len)?;
+    Ok(())
+}
+
+// What the fields say: the work and the length.
+fn level_in(work: Field<'_>, len: Field<'_>) -> Result<(u64, u64), LineFault>
+    ensures gives { Gives (λ said. LevelEntry said.0 said.1) result (read_level (no_field ∷ field_read work.entry ∷ field_read len.entry ∷ [])) }
+    ensures work { IfOk result (λ said. (1 ≤ said.0) × (said.0 ≤ MAX_LEVEL_WORK)) }
+    ensures len { IfOk result (λ said. (1 ≤ said.1) × (said.1 ≤ MAX_LEVEL_LENGTH)) }
+{
+    let work = number_in(work, 1, MAX_LEVEL_WORK)?;
+    let len = number_in(len, 1, MAX_LEVEL_LENGTH)?;
+    Ok((work, len))
+}
+
+// Puts a level of no pieces and no members last.
+fn add(draft: &mut Draft<'_>, alloc: Global, work: u64, len: u64) -> Result<(), Memory>
+    requires kept { IsDraft draft.old }
+    requires work { (1 ≤ work) × (work ≤ MAX_LEVEL_WORK) }
+    requires len { (1 ≤ len) × (len ≤ MAX_LEVEL_LENGTH) }
+    requires room { length draft.old.certificate < MAX_LEVELS }
+    ensures kept { OnOk result (IsDraft draft.new) }
+    ensures takes { OnOk result (Takes draft.old draft.new (LevelEntry work len)) }
+{
+    let _levels = draft.certificate.levels();
+    draft.certificate.push(Level {
+        work,
+        length: len,
+        pieces: Vec::new(alloc),
+        members: Vec::new(alloc),
+    })?;
+    Ok(())
+}
+
+// Makes the line of a level, without those of its pieces and members.
+fn put(text: &mut LineBuffer, level: &Level)
+    ensures { text.new ≡ line (codes "level" ∷ decimal level.now.work ∷ decimal level.now.length ∷ []) }
+{
+    text.restart("level");
+    text.push_number(level.work);
+    text.push_number(level.length);
+    text.push_end();
+}
+
+// Appends the lines of the levels, in their order, each with its pieces and members.
+pub(crate) fn print<K: Sink>(
+    instance: &Instance<'_>,
+    levels: &[Level],
+    sink: &mut K,
+) -> Result<(), WriteFault>
+    requires { All (λ level. All (λ job. job < length instance.now.jobs) level.members) levels.now }
+    ensures delivers { Delivers result (flat_map (level_lines instance.now.names) levels.now) (K.written sink.old) (K.written sink.new) (K.faults sink.old) (K.faults sink.new) }
+    ensures flushed_stays { K.flushed sink.new ≡ K.flushed sink.old }
+{
+    let mut line = LineBuffer::new("");
+    for level in levels {
+        print_level(instance, level, &mut line, sink)?;
+    }
+    Ok(())
+}
+
+// A level, then its pieces, then its members.
+fn print_level<K: Sink>(
+    instance: &Instance<'_>,
+    level: &Level,
+    line: &mut LineBuffer,
+    sink: &mut K,
+) -> Result<(), WriteFault>
+    requires { All (λ job. job < length instance.now.jobs) level.now.members }
+    ensures delivers { Delivers result (level_lines instance.now.names level.now) (K.written sink.old) (K.written sink.new) (K.faults sink.old) (K.faults sink.new) }
+    ensures flushed_stays { K.flushed sink.new ≡ K.flushed sink.old }
+{
+    put(line, level);
+    write_all(sink, line.as_bytes())?;
+    piece::print(&level.pieces, line, sink)?;
+    member::print(instance, &level.members, line, sink)
+}

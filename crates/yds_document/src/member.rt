@@ -1,0 +1,90 @@
+// The lines of members: a job of the level before, by its name.
+ghost use Rattle.std.specs.Prelude.{◌≡◌, ◌<◌, ◌≤◌, ◌∷◌, length, OnOk, IfOk};
+ghost use Rattle.std.specs.List.{All, flat_map};
+ghost use Rattle.yds_model.specs.declared.limits.TheConstants.{MAX_MEMBERS};
+ghost use Rattle.yds_model.specs.Entry.{MemberEntry};
+ghost use Rattle.yds_model.specs.Reading.{MemberLine};
+ghost use Rattle.yds_model.specs.Text.{member_line};
+ghost use Rattle.yds_port.specs.Sink.{Delivers};
+ghost use Rattle.yds_text.specs.Read.{field_read};
+ghost use Rattle.yds_document.specs.Draft.{IsDraft, Reads, Takes};
+ghost use Rattle.yds_document.specs.Fields.{Gives};
+ghost use Rattle.yds_document.specs.Member.{member_of};
+
+use crate::draft::Draft;
+use crate::fields::{known_job, one_field};
+use crate::job::name_of;
+use crate::line_buffer::LineBuffer;
+use crate::line_fault::LineFault;
+use yds_instance::Instance;
+use yds_model::Memory;
+use yds_port::{Sink, WriteFault, write_all};
+use yds_text::{Field, Fields};
+
+// Reads the line whose first field is `kind`, and adds its member to the last level.
+pub(crate) fn read<'a>(
+    draft: &mut Draft<'a>,
+    kind: Field<'a>,
+    fields: Fields<'a>,
+) -> Result<(), LineFault>
+    requires kept { IsDraft draft.old }
+    requires some { 1 ≤ length draft.old.certificate }
+    requires room { draft.old.members < MAX_MEMBERS }
+    ensures kept { OnOk result (IsDraft draft.new) }
+    ensures reads { Reads MemberLine (field_read kind.entry ∷ fields.entry.fields) result draft.old draft.new }
+{
+    let name = one_field(kind, fields)?;
+    let job = member_in(&draft.instance, name)?;
+    add(draft, job)?;
+    Ok(())
+}
+
+// What the field says.
+fn member_in(instance: &Instance<'_>, name: Field<'_>) -> Result<u32, LineFault>
+    ensures gives { Gives (λ job. MemberEntry job) result (member_of instance.now.names (field_read name.entry)) }
+    ensures known { IfOk result (λ job. job < length instance.now.jobs) }
+{
+    known_job(instance, name)
+}
+
+// Puts the job last among the members of the last level.
+fn add(draft: &mut Draft<'_>, job: u32) -> Result<(), Memory>
+    requires kept { IsDraft draft.old }
+    requires known { job < length draft.old.instance.jobs }
+    requires some { 1 ≤ length draft.old.certificate }
+    requires room { draft.old.members < MAX_MEMBERS }
+    ensures kept { OnOk result (IsDraft draft.new) }
+    ensures takes { OnOk result (Takes draft.old draft.new (MemberEntry job)) }
+{
+    draft.certificate.member(job)?;
+    draft.members += 1;
+    Ok(())
+}
+
+// Makes the line of a member.
+fn put(text: &mut LineBuffer, instance: &Instance<'_>, job: u32)
+    requires { job < length instance.now.jobs }
+    ensures { text.new ≡ member_line instance.now.names job }
+{
+    text.restart("member");
+    text.push_field(name_of(instance, job));
+    text.push_end();
+}
+
+// Appends the lines of a level's members, in their order.
+pub(crate) fn print<K: Sink>(
+    instance: &Instance<'_>,
+    members: &[u32],
+    line: &mut LineBuffer,
+    sink: &mut K,
+) -> Result<(), WriteFault>
+    requires { All (λ job. job < length instance.now.jobs) members.now }
+    ensures delivers { Delivers result (flat_map (member_line instance.now.names) members.now) (K.written sink.old) (K.written sink.new) (K.faults sink.old) (K.faults sink.new) }
+    ensures flushed_stays { K.flushed sink.new ≡ K.flushed sink.old }
+{
+    for member in members {
+        put(line, instance, *member);
+        write_all(sink, line.as_bytes())?;
+    }
+    Ok(())
+}

@@ -1,0 +1,88 @@
+// The lines of pieces: from one time to another, of the level before. A piece that takes no time is kept too.
+ghost use Rattle.std.specs.Prelude.{◌≡◌, ◌<◌, ◌≤◌, ◌∷◌, [], length, OnOk};
+ghost use Rattle.std.specs.List.{flat_map};
+ghost use Rattle.yds_model.specs.declared.limits.TheConstants.{MAX_PIECES};
+ghost use Rattle.yds_model.specs.Entry.{PieceEntry};
+ghost use Rattle.yds_model.specs.Fields.{no_field};
+ghost use Rattle.yds_model.specs.Reading.{PieceLine, read_piece};
+ghost use Rattle.yds_model.specs.Text.{piece_line};
+ghost use Rattle.yds_port.specs.Sink.{Delivers};
+ghost use Rattle.yds_text.specs.Read.{field_read};
+ghost use Rattle.yds_document.specs.Draft.{IsDraft, Reads, Takes};
+ghost use Rattle.yds_document.specs.Fields.{Gives};
+
+use crate::draft::Draft;
+use crate::fields::{small_in, two_fields};
+use crate::line_buffer::LineBuffer;
+use crate::line_fault::LineFault;
+use yds_certificate::Piece;
+use yds_model::Memory;
+use yds_model::limits::MAX_TIME;
+use yds_port::{Sink, WriteFault, write_all};
+use yds_text::{Field, Fields};
+
+// Reads the line whose first field is `kind`, and adds its piece to the last level.
+pub(crate) fn read<'a>(
+    draft: &mut Draft<'a>,
+    kind: Field<'a>,
+    fields: Fields<'a>,
+) -> Result<(), LineFault>
+    requires kept { IsDraft draft.old }
+    requires some { 1 ≤ length draft.old.certificate }
+    requires room { draft.old.pieces < MAX_PIECES }
+    ensures kept { OnOk result (IsDraft draft.new) }
+    ensures reads { Reads PieceLine (field_read kind.entry ∷ fields.entry.fields) result draft.old draft.new }
+{
+    let (from, to) = two_fields(kind, fields)?;
+    let piece = piece_in(from, to)?;
+    add(draft, piece)?;
+    Ok(())
+}
+
+// What the fields say.
+fn piece_in(from: Field<'_>, to: Field<'_>) -> Result<Piece, LineFault>
+    ensures gives { Gives (λ piece. PieceEntry piece) result (read_piece (no_field ∷ field_read from.entry ∷ field_read to.entry ∷ [])) }
+{
+    let from = small_in(from, 0, MAX_TIME)?;
+    let to = small_in(to, 0, MAX_TIME)?;
+    Ok(Piece { from, to })
+}
+
+// Puts the piece last in the last level.
+fn add(draft: &mut Draft<'_>, piece: Piece) -> Result<(), Memory>
+    requires kept { IsDraft draft.old }
+    requires some { 1 ≤ length draft.old.certificate }
+    requires room { draft.old.pieces < MAX_PIECES }
+    ensures kept { OnOk result (IsDraft draft.new) }
+    ensures takes { OnOk result (Takes draft.old draft.new (PieceEntry piece)) }
+{
+    draft.certificate.piece(piece)?;
+    draft.pieces += 1;
+    Ok(())
+}
+
+// Makes the line of a piece.
+fn put(text: &mut LineBuffer, piece: &Piece)
+    ensures { text.new ≡ piece_line piece.now }
+{
+    text.restart("piece");
+    text.push_number(u64::from(piece.from));
+    text.push_number(u64::from(piece.to));
+    text.push_end();
+}
+
+// Appends the lines of a level's pieces, in their order.
+pub(crate) fn print<K: Sink>(
+    pieces: &[Piece],
+    line: &mut LineBuffer,
+    sink: &mut K,
+) -> Result<(), WriteFault>
+    ensures delivers { Delivers result (flat_map piece_line pieces.now) (K.written sink.old) (K.written sink.new) (K.faults sink.old) (K.faults sink.new) }
+    ensures flushed_stays { K.flushed sink.new ≡ K.flushed sink.old }
+{
+    for piece in pieces {
+        put(line, piece);
+        write_all(sink, line.as_bytes())?;
+    }
+    Ok(())
+}

@@ -1,0 +1,106 @@
+// The lines of runs: a job runs from one tick to another at a speed. That is the slot of the speed times the
+// time, and is printed as one.
+ghost use Rattle.std.specs.Prelude.{◌≡◌, ◌<◌, ◌≤◌, ◌/◌, ◌∷◌, length, OnOk, IfOk};
+ghost use Rattle.yds_model.specs.declared.limits.TheConstants.{MAX_SLOTS, MAX_TICKS, MAX_WHOLE, MAX_DENOMINATOR};
+ghost use Rattle.yds_model.specs.Entry.{SlotEntry};
+ghost use Rattle.yds_model.specs.Reading.{RunLine};
+ghost use Rattle.yds_model.specs.Scale.{of_parts};
+ghost use Rattle.yds_fraction.specs.Mixed.{IsMixed};
+ghost use Rattle.yds_slots.specs.Schedule.{FitsGrain};
+ghost use Rattle.yds_text.specs.Read.{field_read};
+ghost use Rattle.yds_document.specs.Draft.{IsDraft, Reads};
+ghost use Rattle.yds_document.specs.Fields.{Gives};
+ghost use Rattle.yds_document.specs.Run.{run_after, run_of};
+
+use crate::draft::Draft;
+use crate::fields::{four_fields, known_job, number_in};
+use crate::line_fault::LineFault;
+use crate::slot::{add, fits_grain};
+use yds_fraction::Amount;
+use yds_model::Reason;
+use yds_model::limits::{MAX_RUN_SPEED, MAX_SLOT_WORK, MAX_TIME};
+use yds_slots::{Schedule, Slot};
+use yds_text::{Field, Fields};
+
+// Reads the line whose first field is `kind`, and adds its slot.
+pub(crate) fn read<'a>(
+    draft: &mut Draft<'a>,
+    kind: Field<'a>,
+    fields: Fields<'a>,
+) -> Result<(), LineFault>
+    requires kept { IsDraft draft.old }
+    requires room { length draft.old.schedule.slots < MAX_SLOTS }
+    ensures kept { OnOk result (IsDraft draft.new) }
+    ensures reads { Reads RunLine (field_read kind.entry ∷ fields.entry.fields) result draft.old draft.new }
+{
+    let (name, from, to, speed) = four_fields(kind, fields)?;
+    let ticks = draft.ticks.unwrap_or(1);
+    let slot = run_in(draft, ticks, name, (from, to, speed))?;
+    add(draft, slot)?;
+    Ok(())
+}
+
+// What the fields say.
+fn run_in<'a>(
+    draft: &Draft<'a>,
+    ticks: u32,
+    name: Field<'a>,
+    fields: (Field<'a>, Field<'a>, Field<'a>),
+) -> Result<Slot, LineFault>
+    requires kept { IsDraft draft.now }
+    requires ticks { (1 ≤ ticks) × (ticks ≤ MAX_TICKS) }
+    ensures gives { Gives (λ slot. SlotEntry slot) result
+        (run_of draft.now.instance.names draft.now.schedule.slots ticks (field_read name.entry) (field_read fields.entry.0) (field_read fields.entry.1) (field_read fields.entry.2)) }
+    ensures known { IfOk result (λ slot. slot.job < length draft.now.instance.jobs) }
+    ensures grain { IfOk result (λ slot. FitsGrain draft.now.schedule.slots slot) }
+{
+    let job = known_job(&draft.instance, name)?;
+    slot_at(&draft.schedule, ticks, job, fields)
+}
+
+// The slot of a run of this job: the speed times the time, and its work alike with those that the job got before.
+fn slot_at(
+    schedule: &Schedule,
+    ticks: u32,
+    job: u32,
+    fields: (Field<'_>, Field<'_>, Field<'_>),
+) -> Result<Slot, LineFault>
+    requires known { job < schedule.now.jobs }
+    requires ticks { (1 ≤ ticks) × (ticks ≤ MAX_TICKS) }
+    ensures gives { Gives (λ slot. SlotEntry slot) result
+        (run_after schedule.now.slots ticks job (field_read fields.entry.0) (field_read fields.entry.1) (field_read fields.entry.2)) }
+    ensures job { IfOk result (λ slot. slot.job ≡ job) }
+    ensures grain { IfOk result (λ slot. FitsGrain schedule.now.slots slot) }
+{
+    let (from, to, speed) = fields;
+    let most = u64::from(MAX_TIME) * u64::from(ticks);
+    let begin = number_in(from, 0, most)?;
+    let end = number_in(to, 0, most)?;
+    let rate = number_in(speed, 0, u64::from(MAX_RUN_SPEED))?;
+    let parts = u128::from(rate) * u128::from(end.saturating_sub(begin));
+    if parts / u128::from(ticks) > u128::from(MAX_SLOT_WORK) {
+        return Err(LineFault::at(speed.column, Reason::OutOfRange));
+    }
+    let work = of_parts(parts, ticks);
+    if !fits_grain(schedule, job, work) {
+        return Err(LineFault::at(speed.column, Reason::MixedGrain));
+    }
+    Ok(Slot {
+        job,
+        from: of_parts(u128::from(begin), ticks),
+        to: of_parts(u128::from(end), ticks),
+        work,
+    })
+}
+
+// So many parts of one tick: whole where no part is left over.
+fn of_parts(parts: u128, ticks: u32) -> Amount
+    requires ticks { (1 ≤ ticks) × (ticks ≤ MAX_TICKS) }
+    requires whole { parts / ticks ≤ MAX_WHOLE }
+    ensures value { result ≡ of_parts parts ticks }
+    ensures whole { result.whole ≡ parts / ticks }
+    ensures kept { IsMixed MAX_DENOMINATOR result }
+{
+    let den = u128::from(ticks);
+    Amount::new((parts / den) as u64, (parts % den) as u64, u64::from(ticks))
+}

@@ -1,0 +1,138 @@
+// The lines of slots: a job by its name, two ends that are alike, and a work alike with its job's others.
+ghost use Rattle.std.specs.Prelude.{◌≡◌, ◌<◌, ◌∷◌, ◌++◌, [], length, OnOk, IfOk, IsTrue};
+ghost use Rattle.std.specs.List.{All, flat_map};
+ghost use Rattle.yds_model.specs.declared.limits.TheConstants.{MAX_SLOTS};
+ghost use Rattle.yds_model.specs.Entry.{SlotEntry};
+ghost use Rattle.yds_model.specs.Reading.{SlotLine};
+ghost use Rattle.yds_model.specs.Text.{slot_line};
+ghost use Rattle.yds_port.specs.Sink.{Delivers};
+ghost use Rattle.yds_slots.specs.Schedule.{FitsGrain};
+ghost use Rattle.yds_text.specs.Read.{field_read};
+ghost use Rattle.yds_document.specs.Draft.{IsDraft, Reads, Takes};
+ghost use Rattle.yds_document.specs.Fields.{Gives};
+ghost use Rattle.yds_document.specs.Slot.{fits_among, fits_test, FitsGrainOf, slot_of};
+
+use crate::draft::Draft;
+use crate::fields::{four_fields, fraction_in, known_job};
+use crate::job::name_of;
+use crate::line_buffer::LineBuffer;
+use crate::line_fault::LineFault;
+use yds_fraction::Amount;
+use yds_instance::Instance;
+use yds_model::limits::{MAX_SLOT_WORK, MAX_TIME};
+use yds_model::{Memory, Reason};
+use yds_port::{Sink, WriteFault, write_all};
+use yds_slots::{Schedule, Slot};
+use yds_text::{Field, Fields};
+
+// Reads the line whose first field is `kind`, and adds its slot.
+pub(crate) fn read<'a>(
+    draft: &mut Draft<'a>,
+    kind: Field<'a>,
+    fields: Fields<'a>,
+) -> Result<(), LineFault>
+    requires kept { IsDraft draft.old }
+    requires room { length draft.old.schedule.slots < MAX_SLOTS }
+    ensures kept { OnOk result (IsDraft draft.new) }
+    ensures reads { Reads SlotLine (field_read kind.entry ∷ fields.entry.fields) result draft.old draft.new }
+{
+    let (name, from, to, work) = four_fields(kind, fields)?;
+    let slot = slot_in(&draft.instance, &draft.schedule, name, from, to, work)?;
+    add(draft, slot)?;
+    Ok(())
+}
+
+// What the fields say: a slot whose work is alike with those that its job got before.
+fn slot_in(
+    instance: &Instance<'_>,
+    schedule: &Schedule,
+    name: Field<'_>,
+    from: Field<'_>,
+    to: Field<'_>,
+    work: Field<'_>,
+) -> Result<Slot, LineFault>
+    requires { schedule.now.jobs ≡ length instance.now.jobs }
+    ensures gives { Gives (λ slot. SlotEntry slot) result
+        (slot_of instance.now.names schedule.now.slots (field_read name.entry) (field_read from.entry) (field_read to.entry) (field_read work.entry)) }
+    ensures known { IfOk result (λ slot. slot.job < length instance.now.jobs) }
+    ensures grain { IfOk result (λ slot. FitsGrain schedule.now.slots slot) }
+{
+    let job = known_job(instance, name)?;
+    let begin = fraction_in(from, u64::from(MAX_TIME))?;
+    let end = fraction_in(to, u64::from(MAX_TIME))?;
+    let amount = fraction_in(work, MAX_SLOT_WORK)?;
+    if !begin.alike(end) {
+        return Err(LineFault::at(to.column, Reason::MixedEnds));
+    }
+    if !fits_grain(schedule, job, amount) {
+        return Err(LineFault::at(work.column, Reason::MixedGrain));
+    }
+    Ok(Slot {
+        job,
+        from: begin,
+        to: end,
+        work: amount,
+    })
+}
+
+// Whether the work is alike with each work that the schedule gives the job.
+pub(crate) fn fits_grain(schedule: &Schedule, job: u32, work: Amount) -> bool
+    requires { job < schedule.now.jobs }
+    ensures value { result ≡ fits_among schedule.now.slots job work }
+    ensures fits { IsTrue result → FitsGrainOf schedule.now.slots job work }
+{
+    // Reading the slots shows that the works of a job are alike.
+    let _slots = schedule.slots();
+    is_in_grain(work.den(), schedule.grain(job))
+}
+
+// Whether a work of this denominator fits the grain of its job.
+fn is_in_grain(den: u64, grain: u64) -> bool
+    ensures { result ≡ fits_test den grain }
+{
+    den == grain || den == 1 || grain == 1
+}
+
+// Puts the slot last.
+pub(crate) fn add(draft: &mut Draft<'_>, slot: Slot) -> Result<(), Memory>
+    requires kept { IsDraft draft.old }
+    requires known { slot.job < length draft.old.instance.jobs }
+    requires grain { FitsGrain draft.old.schedule.slots slot }
+    requires room { length draft.old.schedule.slots < MAX_SLOTS }
+    ensures kept { OnOk result (IsDraft draft.new) }
+    ensures takes { OnOk result (Takes draft.old draft.new (SlotEntry slot)) }
+{
+    draft.schedule.push(slot)?;
+    Ok(())
+}
+
+// Makes the line of a slot.
+fn put(text: &mut LineBuffer, instance: &Instance<'_>, slot: &Slot)
+    requires { slot.now.job < length instance.now.jobs }
+    ensures { text.new ≡ slot_line instance.now.names slot.now }
+{
+    text.restart("slot");
+    text.push_field(name_of(instance, slot.job));
+    text.push_fraction(slot.from);
+    text.push_fraction(slot.to);
+    text.push_fraction(slot.work);
+    text.push_end();
+}
+
+// Appends the lines of the slots, in their order.
+pub(crate) fn print<K: Sink>(
+    instance: &Instance<'_>,
+    slots: &[Slot],
+    sink: &mut K,
+) -> Result<(), WriteFault>
+    requires { All (λ slot. slot.job < length instance.now.jobs) slots.now }
+    ensures delivers { Delivers result (flat_map (slot_line instance.now.names) slots.now) (K.written sink.old) (K.written sink.new) (K.faults sink.old) (K.faults sink.new) }
+    ensures flushed_stays { K.flushed sink.new ≡ K.flushed sink.old }
+{
+    let mut line = LineBuffer::new("");
+    for slot in slots {
+        put(&mut line, instance, slot);
+        write_all(sink, line.as_bytes())?;
+    }
+    Ok(())
+}

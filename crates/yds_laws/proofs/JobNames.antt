@@ -1,0 +1,44 @@
+-- Names in the order of their jobs: a new one has no number yet, and a known one has its own.
+use Rattle.std.proofs.Common.{◌≡◌, ℕ, ◌+◌, ◌<◌, true, false, List, [], ◌∷◌, ◌++◌, length, get_or, Some, None, refl, sym, ap, ◌∙◌, arith, inl, inr}
+use Rattle.std.specs.List.{position}
+use Rattle.std.specs.Str.{bytes_eq}
+use Rattle.std.proofs.Math.Seq.{get_or-append_seam}
+use Rattle.std.proofs.Math.Nat.{le_refl}
+use Rattle.std.proofs.lemmas.Bool.{cases_Bool, lt-ltb, le-ltb}
+use Rattle.std.proofs.lemmas.List.{get_or_append_left, length-append}
+use Rattle.std.proofs.lemmas.List.Sums.{position_or_len_is}
+use Rattle.std.proofs.lemmas.Slice.Eq.{bytes_eq-Decides}
+use Rattle.yds_model.specs.Document.{name_at}
+use Rattle.yds_model.specs.Within.{AreDifferentNames}
+
+-- the test tells different names apart
+bytes_differ : (a b : List ℕ) → (a ≡ b → ⊥) → bytes_eq a b ≡ false
+bytes_differ a b differ = elim (cases_Bool (bytes_eq a b)) [
+  | inl same ↦ absurd (differ ((bytes_eq-Decides a b).0 same))
+  | inr other ↦ other
+]
+
+-- the names before one are others
+pub name_new : (names before : List (List ℕ)) (name : List ℕ) (after : List (List ℕ)) → AreDifferentNames names → before ++ name ∷ after ≡ names →
+    position (λ other. bytes_eq other name) before ≡ None
+name_new names before name after different is =
+    let long : length names ≡ length before + length (name ∷ after) = ap length (sym is) ∙ length-append before (name ∷ after) in
+    let here : name_at names (length before) ≡ name = ap (λ names. name_at names (length before)) (sym is) ∙ get_or-append_seam before name after [] in
+    let other : (k : ℕ) → k < length before → bytes_eq (get_or before k []) name ≡ false =
+    λ k within. bytes_differ (get_or before k []) name (λ same.
+    let there : name_at names k ≡ get_or before k [] = ap (λ names. name_at names k) (sym is) ∙ get_or_append_left before (name ∷ after) [] k within in
+    let same_place : k ≡ length before = different k (length before) (omega arith) (omega arith) (there ∙ same ∙ sym here) in
+    omega arith) in
+    rw (position_or_len_is (λ other. bytes_eq other name) before (length before) [] (le_refl (length before)) other (λ within. absurd (omega arith)), le-ltb (length before) (length before) (le_refl (length before)))
+    refl
+
+-- a name has the number of its job
+pub name_known : (names : List (List ℕ)) (job : ℕ) → AreDifferentNames names → job < length names →
+    position (λ other. bytes_eq other (name_at names job)) names ≡ Some job
+name_known names job different known =
+    let other : (k : ℕ) → k < job → bytes_eq (get_or names k []) (name_at names job) ≡ false =
+    λ k within. bytes_differ (name_at names k) (name_at names job) (λ same.
+    let same_place : k ≡ job = different k job (omega arith) known same in
+    omega arith) in
+    let here : bytes_eq (name_at names job) (name_at names job) ≡ true = (bytes_eq-Decides (name_at names job) (name_at names job)).1 refl in
+    rw (position_or_len_is (λ other. bytes_eq other (name_at names job)) names job [] (omega arith) other (λ within. here), lt-ltb job (length names) known) refl

@@ -1,0 +1,32 @@
+pub mod Places
+mod Examples
+mod ThreeJobs
+mod Policies
+mod Judged
+mod EnergyExamples
+pub mod Differences
+pub mod Hinges
+pub mod Group
+pub mod Bound
+pub mod Exact
+pub mod Explained
+pub mod RunScale
+pub mod OneJudgement
+pub mod Judgements
+pub mod Curve
+pub mod Plans
+pub mod Energy
+pub mod HullEnergy
+pub mod LineEnergy
+pub mod PlansEnergy
+pub mod TextLaws
+pub mod Brought
+pub mod RoundTrip
+pub mod Printed
+pub mod KindsRead
+pub mod JobNames
+pub mod Short
+pub mod Inverse
+pub mod Grown
+pub mod Within
+pub mod PlanText

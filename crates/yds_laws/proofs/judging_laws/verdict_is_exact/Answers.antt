@@ -1,0 +1,5 @@
+use Rattle.yds_model.proofs.Verdicts.{verdict_is_exact as law}
+use Rattle.yds_laws.proofs.judging_laws.verdict_is_exact.Goals as goal
+
+pub returns : goal.returns
+returns c = law

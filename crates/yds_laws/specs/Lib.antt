@@ -1,0 +1,5 @@
+pub mod TextLaws
+pub mod RoundTrip
+pub mod Laws
+pub mod EnergyLaws
+pub mod PlanText

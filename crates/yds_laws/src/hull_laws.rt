@@ -1,0 +1,15 @@
+ghost use Rattle.yds_model.specs.HullLaws.{HullIsComputed, HullIsLowest};
+
+/// The law that no line between two points of a table runs below the table's lower hull.
+///
+/// So a processor that alternates between two operating points spends least on neighbours of the hull:
+/// the two-point theorem of Ishihara and Yasuura (ISLPED 1998), for a table of any powers.
+pub fn hull_is_lowest()
+    ensures { HullIsLowest }
+{}
+
+/// The law that a table has one lower hull: the points that lie above no line between an earlier and a later
+/// point.
+pub fn hull_is_computed()
+    ensures { HullIsComputed }
+{}

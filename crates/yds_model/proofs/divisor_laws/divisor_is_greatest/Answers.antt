@@ -1,5 +1,0 @@
-use Rattle.yds_model.proofs.Divisor.{divisor_is_greatest as law}
-use Rattle.yds_model.proofs.divisor_laws.divisor_is_greatest.Goals as goal
-
-pub returns : goal.returns
-returns c = law

@@ -1,5 +1,0 @@
-use Rattle.yds_model.proofs.Divisor.{lowest_terms_are_one as law}
-use Rattle.yds_model.proofs.divisor_laws.lowest_terms_are_one.Goals as goal
-
-pub returns : goal.returns
-returns c = law

@@ -1,5 +1,0 @@
-use Rattle.yds_model.proofs.Divisor.{multiple_is_least as law}
-use Rattle.yds_model.proofs.divisor_laws.multiple_is_least.Goals as goal
-
-pub returns : goal.returns
-returns c = law

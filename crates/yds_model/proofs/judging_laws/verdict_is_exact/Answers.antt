@@ -1,5 +1,0 @@
-use Rattle.yds_model.proofs.Verdicts.{verdict_is_exact as law}
-use Rattle.yds_model.proofs.judging_laws.verdict_is_exact.Goals as goal
-
-pub returns : goal.returns
-returns c = law

@@ -1,5 +1,0 @@
-use Rattle.yds_model.proofs.Bound.{explained_is_least}
-use Rattle.yds_model.proofs.laws.explained_is_least.Goals as goal
-
-pub returns : goal.returns
-returns c = explained_is_least

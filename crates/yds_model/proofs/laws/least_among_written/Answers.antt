@@ -1,5 +1,0 @@
-use Rattle.yds_model.proofs.Bound.{least_among_written}
-use Rattle.yds_model.proofs.laws.least_among_written.Goals as goal
-
-pub returns : goal.returns
-returns c = least_among_written

@@ -1,5 +1,0 @@
-use Rattle.yds_model.proofs.Explained.{proper_explains}
-use Rattle.yds_model.proofs.laws.proper_explains.Goals as goal
-
-pub returns : goal.returns
-returns c = proper_explains

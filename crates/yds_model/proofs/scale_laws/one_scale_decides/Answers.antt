@@ -1,5 +1,0 @@
-use Rattle.yds_model.proofs.Scale.{one_scale_decides as law}
-use Rattle.yds_model.proofs.scale_laws.one_scale_decides.Goals as goal
-
-pub returns : goal.returns
-returns c = law

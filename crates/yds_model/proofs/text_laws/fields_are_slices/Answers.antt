@@ -1,5 +1,0 @@
-use Rattle.yds_model.proofs.TextLaws.{fields_are_slices}
-use Rattle.yds_model.proofs.text_laws.fields_are_slices.Goals as goal
-
-pub returns : goal.returns
-returns c = fields_are_slices
