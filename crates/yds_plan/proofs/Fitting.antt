@@ -7,13 +7,14 @@ use Rattle.std.proofs.lemmas.List.Sums.{sum_by-cons, sum_by_push, sum_by_more_le
 use Rattle.std.proofs.lemmas.List.{append_assoc, length-append, length-map, length-take, take-map, take_more, get_or-map}
 use Rattle.std.proofs.lemmas.List.Elements.{All-nil, All-cons, All-head, All-tail}
 use Rattle.std.proofs.Math.Nat.{div-le_self, div-le_of_le-mul, mul-add-div_right, mul-le-mul_left}
-use Rattle.yds_model.specs.declared.limits.TheConstants.{MAX_DENOMINATOR, MAX_LEVEL_WORK, MAX_SLOTS, MAX_SLOT_WORK, MAX_TIME}
+use Rattle.yds_model.specs.declared.limits.TheConstants.{MAX_DENOMINATOR, MAX_LEVEL_WORK, MAX_SLOTS, MAX_SLOT_WORK, MAX_TIME, MAX_WHOLE}
 use Rattle.yds_model.specs.Scale.{Fraction, of_whole}
 use Rattle.yds_model.specs.Slot.{WrittenSlot}
 use Rattle.yds_model.specs.Audit.{grain_of}
 use Rattle.yds_fraction.specs.Mixed.{IsMixed}
 use Rattle.yds_slots.specs.Schedule.{WrittenSchedule, FitsGrain}
-use Rattle.yds_slots.specs.Slot.{IsSlot}
+use Rattle.yds_model.specs.Within.{IsSlot}
+use Rattle.yds_fraction.proofs.Kept.{IsFraction-within}
 use Rattle.yds_plan.specs.declared.portion.Portion.{Portion as Struct}
 use Rattle.yds_plan.specs.Found.{Group, Portion, per_time, per_work, no_portion}
 use Rattle.yds_plan.specs.Views.{portion_view, portions_view}
@@ -56,13 +57,13 @@ pub slot_is : (p q start done units job : ℕ) (from to work : Fraction) → IsW
     IsMixed MAX_DENOMINATOR from → IsMixed MAX_DENOMINATOR to → IsMixed MAX_DENOMINATOR work →
     IsSlot (record { job = job; from = from; to = to; work = work })
 slot_is p q start done units job from to work within is_from is_to is_work mixed_from mixed_to mixed_work = record {
-  from = mixed_from;
-  to = mixed_to;
-  work = mixed_work;
+  from = IsFraction-within MAX_WHOLE MAX_TIME from mixed_from.fraction
+      (rw (is_from, parts_whole start done p) (ends_by start done p MAX_TIME within.some_time (omega (arith, within.ends))));
+  to = IsFraction-within MAX_WHOLE MAX_TIME to mixed_to.fraction
+      (rw (is_to, parts_whole start (done + units) p) (ends_by start (done + units) p MAX_TIME within.some_time within.ends));
+  work = IsFraction-within MAX_WHOLE MAX_SLOT_WORK work mixed_work.fraction
+      (rw (is_work, parts_whole 0 units q) (ends_by 0 units q MAX_SLOT_WORK within.some_work (omega (arith, within.work))));
   ends_alike = rw (is_from, is_to) (alike _ _ p (parts_den start done p) (parts_den start (done + units) p));
-  from_in_range = rw (is_from, parts_whole start done p) (ends_by start done p MAX_TIME within.some_time (omega (arith, within.ends)));
-  to_in_range = rw (is_to, parts_whole start (done + units) p) (ends_by start (done + units) p MAX_TIME within.some_time within.ends);
-  work_in_range = rw (is_work, parts_whole 0 units q) (ends_by 0 units q MAX_SLOT_WORK within.some_work (omega (arith, within.work)));
 }
 
 -- one slot more

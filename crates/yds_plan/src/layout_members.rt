@@ -2,7 +2,7 @@ ghost use Rattle.std.specs.Prelude.{◌≡◌, ◌<◌, ◌≤◌, length, map, 
 ghost use Rattle.std.specs.List.{All, range_with_len};
 ghost use Rattle.yds_model.specs.Level.{level_at};
 ghost use Rattle.yds_model.specs.Event.{stretches};
-ghost use Rattle.yds_certificate.specs.Piece.{IsPiece};
+ghost use Rattle.yds_model.specs.Within.{IsPiece};
 ghost use Rattle.yds_certificate.specs.Level.{with_member};
 ghost use Rattle.yds_plan.specs.Views.{found_view};
 ghost use Rattle.yds_plan.specs.Laid.{level_of};

@@ -4,7 +4,7 @@ ghost use Rattle.yds_model.specs.declared.limits.TheConstants.{MAX_DENOMINATOR, 
 ghost use Rattle.yds_model.specs.Job.{IsJob};
 ghost use Rattle.yds_model.specs.Event.{stretches};
 ghost use Rattle.yds_fraction.specs.Mixed.{IsMixed};
-ghost use Rattle.yds_slots.specs.Slot.{IsSlot};
+ghost use Rattle.yds_model.specs.Within.{IsSlot};
 ghost use Rattle.yds_plan.specs.Found.{IsFound, group_at, per_time, per_work};
 ghost use Rattle.yds_plan.specs.Views.{portions_view, group_view, found_view};
 ghost use Rattle.yds_plan.specs.Laid.{with_parts, slots_from, slots_of};

@@ -1,5 +1,5 @@
 use Rattle.std.proofs.Common.{◌+◌, ◌∙◌, ap}
-use Rattle.yds_slots.specs.Slot.{IsSlot}
+use Rattle.yds_model.specs.Within.{IsSlot}
 use Rattle.yds_plan.specs.Laid.{with_parts}
 use Rattle.yds_plan.proofs.Fitting.{slot_is}
 use Rattle.yds_plan.proofs.layout_slots.slot_of.Goals as goal
