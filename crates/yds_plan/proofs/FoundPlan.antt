@@ -4,14 +4,15 @@ use Rattle.std.specs.Prelude.{Result, Ok, Err, IfOk}
 use Rattle.std.specs.List.{All, Contains, sum_by, range_with_len}
 use Rattle.std.proofs.lemmas.List.{length-map}
 use Rattle.std.proofs.lemmas.List.Concat.{length-flat_map}
-use Rattle.std.proofs.lemmas.List.Elements.{All-contains}
+use Rattle.std.proofs.lemmas.List.Elements.{All-contains, All-weaker}
 use Rattle.yds_model.specs.Numbers.{Each}
 use Rattle.yds_model.specs.Job.{Job, job_at, work_of}
-use Rattle.yds_model.specs.Slot.{WrittenSlot, no_slot, no_written_slot, IsScale, slot_at_scale, slots_at, written_slot_at}
+use Rattle.yds_model.specs.Scale.{Fraction}
+use Rattle.yds_model.specs.Slot.{WrittenSlot, no_slot, no_written_slot, IsSolid, IsScale, slot_at_scale, slots_at, written_slot_at}
 use Rattle.yds_model.specs.Level.{Level, level_at, all_members}
 use Rattle.yds_model.specs.Proper.{PiecesStand, StandsOnce, SumsAgree, IsWindowCovered, HasLevelSpeed, AreLevels}
 use Rattle.yds_model.specs.Event.{stretches}
-use Rattle.yds_model.specs.Plan.{IsSlower, DontTouch, Rise, HasLevelDenominators, IsPlan}
+use Rattle.yds_model.specs.Plan.{IsSlower, DontTouch, Rise, IsOver, HasLevelDenominators, IsPlan}
 use Rattle.yds_model.proofs.Sums.{sum_by_same}
 use Rattle.yds_model.proofs.Fractions.{same_through}
 use Rattle.yds_model.proofs.Divisor.{lowest_terms_are_one}
@@ -32,6 +33,11 @@ use Rattle.yds_plan.proofs.LevelPieces.{pieces_apart, pieces_run, pieces_dont_to
 -- a speed of work over units, as one of work over length
 at_speed : (work time p q g w l : ℕ) → work * q ≡ p * time → p * g ≡ w → q * g ≡ l → work * l ≡ w * time
 at_speed work time p q g w l e f h = omega (arith, ap (λ n. n * g) e, ap (λ n. n * time) f, ap (λ n. work * n) h)
+
+-- what is whole or over some parts has some
+over_some : (den : ℕ) (x : Fraction) → 1 ≤ den → IsOver den x → 1 ≤ x.den
+over_some den x some (inl whole) = omega (arith, ap (λ (one : Fraction). one.den) whole)
+over_some den x some (inr same) = omega (arith, same)
 
 module _ (jobs : List Job) (found : Found) (is : IsFound jobs found) where
   abbrev count_of_levels : ℕ
@@ -194,6 +200,18 @@ module _ (jobs : List Job) (found : Found) (is : IsFound jobs found) where
         over_terms (group_at found.groups (group_of found.group_of_stretch k)) (stretch_of jobs k).from 0 (portions_in found.portions k) x d within,
       ))
 
+  -- so its denominators are at least 1
+  all_solid : All IsSolid (slots_of jobs found)
+  all_solid = All-weaker IsWritten IsSolid (λ slot written. solid slot written.0 written.1 written.2) (slots_of jobs found) all_written where
+    solid : (slot : WrittenSlot) (k : ℕ) → Serves jobs found k slot.job → IsOverTerms (group_at found.groups (group_of found.group_of_stretch k)) slot → IsSolid slot
+    solid slot k serves over =
+        let low = terms jobs found is (group_of found.group_of_stretch k) (omega (arith, serves.same_group, serves.grouped)) in
+        record {
+          from = over_some _ slot.from low.some_first over.from;
+          to = over_some _ slot.to low.some_first over.to;
+          work = over_some _ slot.work low.some_second over.work;
+        }
+
   denominators : (i s : ℕ) → i < length (levels_of jobs found) → s < length (slots_of jobs found) →
       Contains (level_at (levels_of jobs found) i).members (written_slot_at (slots_of jobs found) s).job →
       HasLevelDenominators (level_at (levels_of jobs found) i) (written_slot_at (slots_of jobs found) s)
@@ -218,7 +236,7 @@ module _ (jobs : List Job) (found : Found) (is : IsFound jobs found) where
   makes_plan = record {
     proper = record {
       well_formed = well_formed;
-      feasible = λ scale divided. feasible jobs found is scale divided;
+      feasible = record { solid = all_solid; holds = λ scale divided. feasible jobs found is scale divided };
       pieces = pieces_stand;
       members = stands_once;
       sums = sums_agree;

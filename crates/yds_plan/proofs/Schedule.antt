@@ -1,11 +1,11 @@
 -- The slots of what was found: each lies in a stretch of its job's window, each follows those before it, and each job gets its work.
-use Rattle.std.proofs.Common.{◌≡◌, ℕ, ◌+◌, ◌-◌, ◌*◌, ◌<◌, ◌≤◌, ◌==◌, List, [], ◌∙◌, length, refl, ap, arith, inl, inr}
+use Rattle.std.proofs.Common.{◌≡◌, ℕ, zero, suc, ◌+◌, ◌-◌, ◌*◌, ◌<◌, ◌≤◌, ◌==◌, List, [], ◌∙◌, length, refl, ap, arith, inl, inr}
 use Rattle.std.specs.Prelude.{cond}
 use Rattle.std.specs.List.{All, AllByRecursion, AllPairs, sum_by, flat_map, range_with_len}
 use Rattle.std.proofs.lemmas.Bool.{cases_lt, cases_eq}
 use Rattle.std.proofs.lemmas.List.{get_or_default}
 use Rattle.std.proofs.lemmas.List.Elements.{All-from_get_or, recursion_from_All, All-weaker}
-use Rattle.std.proofs.Math.Nat.{mul-le-mul_right, le_of_mul-le-mul_right, mul-sub, eq_of_mul-eq-mul_left}
+use Rattle.std.proofs.Math.Nat.{mul-pos, mul-le-mul_right, le_of_mul-le-mul_right, mul-sub, eq_of_mul-eq-mul_left}
 use Rattle.yds_model.specs.Job.{Job, job_at}
 use Rattle.yds_model.specs.Slot.{WholeSlot, no_slot, IsDivided, IsScale, slots_at, work_given}
 use Rattle.yds_model.specs.Feasible.{IsInWindow as IsSlotInWindow, IsFeasibleAt}
@@ -24,7 +24,7 @@ use Rattle.yds_events.proofs.Neighbours.{stretch_forward, stretch_order, release
 use Rattle.yds_plan.proofs.Blocks.{map-flat_map, all_of_blocks, block_of_all, pairs_of_blocks}
 use Rattle.yds_plan.proofs.Served.{Serves, IsBefore, all_serve, some_units, portions_in_order}
 use Rattle.yds_plan.proofs.Filled.{fills, filled_pairs, filled_work, slots_of_jobs, jobs_at, units_of}
-use Rattle.yds_plan.proofs.Order.{Follows, StartsFrom, run_from_pairs, earliest_after}
+use Rattle.yds_plan.proofs.Order.{Follows, StartsFrom, Works, run_from_pairs, earliest_after}
 
 -- a slot serves its job in this stretch, at the speed of the stretch's group
 pub record Stands (jobs : List Job) (found : Found) (scale k : ℕ) (slot : WholeSlot) : Type 0 where
@@ -34,6 +34,11 @@ pub record Stands (jobs : List Job) (found : Found) (scale k : ℕ) (slot : Whol
   pub to : slot.to ≤ (stretch_of jobs k).to * scale
   pub speed : slot.work * per_work (group_at found.groups (group_of found.group_of_stretch k))
       ≡ per_time (group_at found.groups (group_of found.group_of_stretch k)) * (slot.to - slot.from)
+
+-- at some speed some time does some work
+some_work : (work q p time : ℕ) → work * q ≡ p * time → 1 ≤ p → 1 ≤ time → 1 ≤ work
+some_work zero q p time speed some_p some_time = absurd (omega (arith, speed, mul-pos some_p some_time))
+some_work (suc n) q p time speed some_p some_time = omega arith
 
 begin_of : (start p scale from : ℕ) → (start * p + 0) * scale ≤ from * p → 1 ≤ p → start * scale ≤ from
 begin_of start p scale from h some = le_of_mul-le-mul_right {k = p} (omega arith) some
@@ -260,11 +265,23 @@ module _ (jobs : List Job) (found : Found) (is : IsFound jobs found) where
 
     pub served_in_stretches : IsServedInStretches jobs scale (slots_at scale (slots_of jobs found))
     served_in_stretches = record {
-      earliest_first = earliest_after jobs scale (slots_at scale (slots_of jobs found)) [] (slots_at scale (slots_of jobs found)) refl all_served all_follow;
+      earliest_first = earliest_after jobs scale (slots_at scale (slots_of jobs found)) [] (slots_at scale (slots_of jobs found)) refl all_served
+          (All-weaker StandsSomewhere (Works jobs scale) (λ slot stands. works stands.0 slot stands.2) (slots_at scale (slots_of jobs found)) all_stand)
+          all_follow;
       uncut = All-weaker StandsSomewhere (IsUncut jobs scale) (λ slot stands. uncut stands.0 slot stands.1 stands.2)
           (slots_at scale (slots_of jobs found)) all_stand;
       once = λ i j order within. (all_follow i j no_slot order within).apart;
     } where
+      works : (k : ℕ) (slot : WholeSlot) → Stands jobs found scale k slot → Works jobs scale slot
+      works k slot stands =
+          let grouped : group_of found.group_of_stretch k < length found.groups = omega (arith, stands.serves.same_group, stands.serves.grouped) in
+          let long : 1 ≤ slot.to - slot.from = omega (arith, stands.forward) in
+          record {
+            known = stands.serves.known;
+            released = omega (arith, stands.from, mul-le-mul_right scale stands.serves.in_window.released);
+            some = some_work slot.work _ _ (slot.to - slot.from) stands.speed (terms (group_of found.group_of_stretch k) grouped).some_first long;
+          }
+
       uncut : (k : ℕ) (slot : WholeSlot) → k < length (stretches jobs) → Stands jobs found scale k slot → IsUncut jobs scale slot
       uncut k slot within stands = (
         k,
