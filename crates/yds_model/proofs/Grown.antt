@@ -21,6 +21,7 @@ use Rattle.yds_model.specs.Spelling.{is_name}
 use Rattle.yds_model.specs.Entry.{Entry, piece_said, member_said}
 use Rattle.yds_model.specs.Reading.{are_alike, follows_points}
 use Rattle.yds_model.specs.RoundTrip.{IsFraction, AreAlike, AreDifferentNames, AreInGrain, IsPoint, IsSlot, IsPiece, IsLevel, AreNamedJobs, ArePoints, AreSlotsOf, AreLevelsOf}
+use Rattle.yds_model.proofs.Lists.{All-left}
 use Rattle.yds_model.proofs.Said.{empty_level, with_entry, last_longer}
 use Rattle.yds_model.proofs.Inverse.{demand_ok, whole_fits}
 
@@ -242,11 +243,6 @@ levels_more count levels work long are room fits =
       known = subst (All (λ job. job < count)) members are.known;
     }
 
--- what holds of each element holds of those at the front, and of the last
-All-front : {X : Type 0} (P : X → Type 0) (xs : List X) (x : X) → All P (xs ++ x ∷ []) → All P xs
-All-front P xs x all k d within =
-    subst P (get_or_append_left xs (x ∷ []) d k within) (all k d (omega (arith, within, length_push xs x)))
-
 -- what holds of each element holds of the last
 pub All-last : {X : Type 0} (P : X → Type 0) (xs : List X) (x : X) → All P (xs ++ x ∷ []) → P x
 All-last P xs x all = subst P (get_or_push xs x x (length xs) refl) (all (length xs) x (omega (arith, length_push xs x)))
@@ -269,7 +265,7 @@ last_level_more count before level entry are pieces members few_pieces few_membe
           (omega (arith, few_pieces, length-append (all_pieces (before ++ level ∷ [])) (filter_map piece_said (entry ∷ []))));
       few_members = subst (λ members. length members ≤ MAX_MEMBERS) all_of_members
           (omega (arith, few_members, length-append (all_members (before ++ level ∷ [])) (filter_map member_said (entry ∷ []))));
-      fit = All-push IsLevel before (with_entry entry level) (All-front IsLevel before level are.fit) (record {
+      fit = All-push IsLevel before (with_entry entry level) (All-left IsLevel before (level ∷ []) are.fit) (record {
         has_work = this.has_work;
         work_in_range = this.work_in_range;
         has_length = this.has_length;

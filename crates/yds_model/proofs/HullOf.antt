@@ -5,10 +5,11 @@ use Rattle.std.specs.List.{All, Contains, list_any, slice_index_or}
 use Rattle.std.proofs.lemmas.Bool.{lt-ltb, le-ltb}
 use Rattle.std.proofs.lemmas.List.Folds.{list_any_none, list_any_at}
 use Rattle.std.proofs.lemmas.List.Elements.{All-push, Contains-push, All-weaker, All-tail, All-nil, All-cons}
-use Rattle.std.proofs.lemmas.List.{length-append, get_or_append_left, get_or-append-add}
+use Rattle.std.proofs.lemmas.List.{length-append, get_or_append_left}
 use Rattle.std.proofs.Math.Nat.{le_refl, mul-le-mul_left, le_of_mul-le-mul_left}
 use Rattle.yds_model.specs.Laws.{HullIsComputed}
 use Rattle.yds_model.specs.Table.{Point, point_at, IsAbove, GoesOn, is_above, is_left_out, hull_after}
+use Rattle.yds_model.proofs.Lists.{All-left, All-right}
 use Rattle.yds_model.proofs.Hull.{IsOver, RisesFrom, rises_from, hull_under}
 
 -- # A point of the hull
@@ -81,14 +82,6 @@ later_rise speed (point ∷ points) rises =
 contains_pushed : (xs : List Point) (y x : Point) → Contains xs x → Contains (xs ++ y ∷ []) x
 contains_pushed xs y x found =
     (found.0, omega (arith, found.1, length-append xs (y ∷ [])), get_or_append_left xs (y ∷ []) x found.0 found.1 ∙ found.2)
-
--- what holds of each element of two lists holds of the first one's
-All-left : (P : Point → Type 0) (xs ys : List Point) → All P (xs ++ ys) → All P xs
-All-left P xs ys all k d within = subst P (get_or_append_left xs ys d k within) (all k d (omega (arith, length-append xs ys)))
-
--- and of the second one's
-All-right : (P : Point → Type 0) (xs ys : List Point) → All P (xs ++ ys) → All P ys
-All-right P xs ys all k d within = subst P (get_or-append-add xs ys k d) (all (length xs + k) d (omega (arith, length-append xs ys)))
 
 -- from the points that are left on, of which the last one of the hull before them is `low`
 computed : (earlier points : List Point) (speed : ℕ) (low : Point) (hull : List Point) → Contains earlier low → All (λ l. l.speed ≤ speed) earlier →

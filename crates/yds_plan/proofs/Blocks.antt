@@ -1,18 +1,10 @@
--- Lists that are joined from blocks, one for each number of a range: facts of elements and of pairs.
+-- Lists that are merged from blocks, one for each number of a range: facts of elements and of pairs.
 use Rattle.std.proofs.Common.{◌≡◌, ℕ, zero, suc, ◌+◌, ◌<◌, ◌≤◌, List, [], ◌∷◌, ◌++◌, ◌∙◌, length, map, sym, refl, ap, arith}
 use Rattle.std.specs.List.{All, AllPairs, Any, flat_map, range_with_len}
 use Rattle.std.proofs.lemmas.List.{map-append, length-append, get_or-append-add}
 use Rattle.std.proofs.lemmas.List.Concat.{flat_map-append}
-use Rattle.std.proofs.lemmas.List.Elements.{All-nil, All-cons, All-head, All-tail, All-append}
-use Rattle.yds_model.proofs.Lists.{AllPairs-append, Any-append_left}
-
-pub All-front : {X : Type 0} (P : X → Type 0) (xs ys : List X) → All P (xs ++ ys) → All P xs
-All-front P [] ys all = All-nil P
-All-front P (x ∷ xs) ys all = All-cons P x xs (All-head P x (xs ++ ys) all) (All-front P xs ys (All-tail P x (xs ++ ys) all))
-
-pub All-back : {X : Type 0} (P : X → Type 0) (xs ys : List X) → All P (xs ++ ys) → All P ys
-All-back P [] ys all = all
-All-back P (x ∷ xs) ys all = All-back P xs ys (All-tail P x (xs ++ ys) all)
+use Rattle.std.proofs.lemmas.List.Elements.{All-nil, All-append}
+use Rattle.yds_model.proofs.Lists.{All-left, All-right, AllPairs-append, Any-append_left}
 
 pub map-flat_map : {X Y Z : Type 0} (g : Y → Z) (f : X → List Y) (xs : List X) →
     map g (flat_map f xs) ≡ flat_map (λ x. map g (f x)) xs
@@ -38,10 +30,10 @@ pub All-block : {Y : Type 0} (P : Y → Type 0) (f : ℕ → List Y) (a n i : �
 All-block P f a zero i below all = absurd (omega arith)
 All-block P f a (suc n) zero below all =
     let first : a + 0 ≡ a = omega arith in
-    rw first (All-front P (f a) (flat_map f (range_with_len (a + 1) n)) all)
+    rw first (All-left P (f a) (flat_map f (range_with_len (a + 1) n)) all)
 All-block P f a (suc n) (suc i) below all =
     let same : a + suc i ≡ a + 1 + i = omega arith in
-    rw same (All-block P f (a + 1) n i (omega arith) (All-back P (f a) (flat_map f (range_with_len (a + 1) n)) all))
+    rw same (All-block P f (a + 1) n i (omega arith) (All-right P (f a) (flat_map f (range_with_len (a + 1) n)) all))
 
 pub AllPairs-blocks : {Y : Type 0} (R : Y → Y → Type 0) (f : ℕ → List Y) (a n : ℕ) → ((k : ℕ) → a ≤ k → k < a + n → AllPairs R (f k)) →
     ((k l : ℕ) → a ≤ k → k < l → l < a + n → All (λ y. All (λ x. R x y) (f k)) (f l)) →

@@ -13,12 +13,13 @@ use Rattle.yds_model.specs.Scale.{Fraction, of_whole, at_scale, numerator}
 use Rattle.yds_model.specs.Slot.{WrittenSlot, WholeSlot, IsDivided, IsScale, slot_at_scale, slots_at, work_given}
 use Rattle.yds_model.specs.Audit.{grain_of}
 use Rattle.yds_model.proofs.Sums.{sum_by_zero}
+use Rattle.yds_model.proofs.Lists.{All-left}
 use Rattle.yds_model.proofs.Grain.{grain_positive}
 use Rattle.yds_model.proofs.Grown.{All-last, parts_den}
 use Rattle.yds_fraction.specs.Mixed.{IsMixed, Adds, common_den}
 use Rattle.yds_slots.specs.Slot.{IsSlot}
-use Rattle.yds_slots.specs.Received.{Share}
-use Rattle.yds_slots.specs.Kept.{IsInGrain, IsShareOf, nothing, share_at, IsKept}
+use Rattle.yds_slots.specs.Received.{Receipt}
+use Rattle.yds_slots.specs.Kept.{IsInGrain, IsReceiptOf, nothing, receipt_at, IsKept}
 use Rattle.yds_slots.specs.Schedule.{FitsGrain}
 use Rattle.yds_slots.proofs.Grains.{grain_other, grain_same, grain_none, fits_on, fits_in}
 use Rattle.yds_slots.proofs.Parts.{parts_at, parts_pushed, IsWholeFor, parts_finer, of_parts_value, of_parts_is, summed}
@@ -48,7 +49,7 @@ zero_is_mixed = omega arith
 zero_at_scale : (scale : ℕ) → at_scale scale (of_whole 0) ≡ 0
 zero_at_scale scale = omega arith
 
-pub nothing_is : (slots : List WrittenSlot) (job : ℕ) → All (HasNone job) slots → IsShareOf slots job nothing
+pub nothing_is : (slots : List WrittenSlot) (job : ℕ) → All (HasNone job) slots → IsReceiptOf slots job nothing
 nothing_is slots job none = record {
   grain = sym (grain_none slots job none);
   given = sym (rw (grain_none slots job none, no_parts 1 slots job none) refl);
@@ -59,21 +60,21 @@ nothing_is slots job none = record {
 
 -- # More jobs
 
-pub widened_shares : (slots : List WrittenSlot) (shares : List Share) (jobs before : ℕ) → IsKept slots shares → length shares ≡ before → length shares ≤ jobs →
-    IsKept slots (take jobs shares ++ replicate (jobs - before) nothing)
-widened_shares slots shares jobs before kept is more =
-    let longer : length (shares ++ replicate (jobs - before) nothing) ≡ jobs =
-    length-append shares (replicate (jobs - before) nothing) ∙ omega (arith, length-replicate (jobs - before) nothing) in
-    rw (take_all jobs shares more) (record {
+pub widened_receipts : (slots : List WrittenSlot) (receipts : List Receipt) (jobs before : ℕ) → IsKept slots receipts → length receipts ≡ before → length receipts ≤ jobs →
+    IsKept slots (take jobs receipts ++ replicate (jobs - before) nothing)
+widened_receipts slots receipts jobs before kept is more =
+    let longer : length (receipts ++ replicate (jobs - before) nothing) ≡ jobs =
+    length-append receipts (replicate (jobs - before) nothing) ∙ omega (arith, length-replicate (jobs - before) nothing) in
+    rw (take_all jobs receipts more) (record {
       few = kept.few;
       each = kept.each;
-      known = λ k d within. let known : (slice_index_or slots k d).job < length shares = kept.known k d within in omega arith;
+      known = λ k d within. let known : (slice_index_or slots k d).job < length receipts = kept.known k d within in omega arith;
       grains = kept.grains;
-      given = λ job within. elim (cases_lt job (length shares)) [
-        | inl old ↦ rw (get_or_append_left shares (replicate (jobs - before) nothing) nothing job old) (kept.given job old)
+      given = λ job within. elim (cases_lt job (length receipts)) [
+        | inl old ↦ rw (get_or_append_left receipts (replicate (jobs - before) nothing) nothing job old) (kept.given job old)
         | inr new ↦
-            rw (get_or-append_right shares (replicate (jobs - before) nothing) before job nothing is (omega arith), get_or-replicate (jobs - before) (job - before) nothing nothing (omega arith))
-            (nothing_is slots job (λ k d inside same. let known : (slice_index_or slots k d).job < length shares = kept.known k d inside in omega arith))
+            rw (get_or-append_right receipts (replicate (jobs - before) nothing) before job nothing is (omega arith), get_or-replicate (jobs - before) (job - before) nothing nothing (omega arith))
+            (nothing_is slots job (λ k d inside same. let known : (slice_index_or slots k d).job < length receipts = kept.known k d inside in omega arith))
       ];
     })
 
@@ -110,20 +111,16 @@ work_same scale slots slot job same =
     work_pushed scale slots slot job
     ∙ ap (λ (b : Bool). work_given (slots_at scale slots) job + (if b then at_scale scale slot.work else 0)) (eq-eqb job slot.job (sym same))
 
-All-front : {X : Type 0} (P : X → Type 0) (xs ys : List X) → All P (xs ++ ys) → All P xs
-All-front P xs ys all k d within =
-    subst P (get_or_append_left xs ys d k within) (all k d (omega (arith, length-append xs ys)))
-
 scale_front : (scale : ℕ) (slots : List WrittenSlot) (slot : WrittenSlot) → IsScale scale (slots ++ slot ∷ []) → IsScale scale slots
-scale_front scale slots slot is = record { positive = is.positive; divided = All-front (IsDivided scale) slots (slot ∷ []) is.divided }
+scale_front scale slots slot is = record { positive = is.positive; divided = All-left (IsDivided scale) slots (slot ∷ []) is.divided }
 
 scale_last : (scale : ℕ) (slots : List WrittenSlot) (slot : WrittenSlot) → IsScale scale (slots ++ slot ∷ []) → IsDivided scale slot
 scale_last scale slots slot is = All-last (IsDivided scale) slots slot is.divided
 
--- the share of another job stays
-pub share_other : (slots : List WrittenSlot) (slot : WrittenSlot) (job : ℕ) (share : Share) → ¬ (slot.job ≡ job) → IsShareOf slots job share →
-    IsShareOf (slots ++ slot ∷ []) job share
-share_other slots slot job share other is = record {
+-- the receipt of another job stays
+pub receipt_other : (slots : List WrittenSlot) (slot : WrittenSlot) (job : ℕ) (receipt : Receipt) → ¬ (slot.job ≡ job) → IsReceiptOf slots job receipt →
+    IsReceiptOf (slots ++ slot ∷ []) job receipt
+receipt_other slots slot job receipt other is = record {
   grain = is.grain ∙ sym (grain_other slots slot job other);
   given = is.given ∙ sym (rw (grain_other slots slot job other, parts_other (grain_of slots job) slots slot job other) refl);
   mixed = is.mixed;
@@ -132,7 +129,7 @@ share_other slots slot job share other is = record {
       (values.0, values.1 ∙ sym (work_other scale slots slot job other));
 }
 
--- # The share of the slot's own job
+-- # The receipt of the slot's own job
 
 -- the works so far are whole, where their grain is 1
 whole_so_far : (slots : List WrittenSlot) (job : ℕ) → All (IsInGrain slots) slots → grain_of slots job ≡ 1 → All (IsWholeFor job) slots
@@ -169,12 +166,12 @@ some_grain g more some = omega arith
 few_on : (n x y z m : ℕ) → m ≡ n + 1 → z ≤ x + y + 1 → x ≤ n * (MAX_SLOT_WORK + 1) → y ≤ MAX_SLOT_WORK → z ≤ m * (MAX_SLOT_WORK + 1)
 few_on n x y z m one sum before more = omega (arith, ap (λ k. k * (MAX_SLOT_WORK + 1)) one)
 
--- the job's share, with the work of the slot
-pub share_same : (slots : List WrittenSlot) (slot : WrittenSlot) (job : ℕ) (share after : Share) → slot.job ≡ job →
-    All (IsInGrain slots) slots → FitsGrain slots slot → IsSlot slot → IsShareOf slots job share →
-    after.grain ≡ max share.grain slot.work.den → Adds MAX_DENOMINATOR share.given slot.work after.given →
-    IsShareOf (slots ++ slot ∷ []) job after
-share_same slots slot job share after same grains fits kept is grain adds =
+-- the job's receipt, with the work of the slot
+pub receipt_same : (slots : List WrittenSlot) (slot : WrittenSlot) (job : ℕ) (receipt after : Receipt) → slot.job ≡ job →
+    All (IsInGrain slots) slots → FitsGrain slots slot → IsSlot slot → IsReceiptOf slots job receipt →
+    after.grain ≡ max receipt.grain slot.work.den → Adds MAX_DENOMINATOR receipt.given slot.work after.given →
+    IsReceiptOf (slots ++ slot ∷ []) job after
+receipt_same slots slot job receipt after same grains fits kept is grain adds =
     let g = grain_of slots job in
     let p = parts_at g slots job in
     let more = slot.work.den in
@@ -183,25 +180,25 @@ share_same slots slot job share after same grains fits kept is grain adds =
     let some : 1 ≤ g = grain_positive slots job in
     let positive : 1 ≤ more = kept.work.has_parts in
     let fits_job : (more ≡ 1) ⊎ ((g ≡ 1) ⊎ (more ≡ g)) = subst (λ (j : ℕ). (more ≡ 1) ⊎ ((grain_of slots j ≡ 1) ⊎ (more ≡ grain_of slots j))) same fits in
-    let x : numerator share.given * g ≡ p * share.given.den =
+    let x : numerator receipt.given * g ≡ p * receipt.given.den =
     let P : Fraction → Type 0 = λ f. numerator f * g ≡ p * f.den in subst P (sym is.given) (of_parts_value p g) in
-    let parts : (share.given.den ≡ 1) ⊎ (share.given.den ≡ g) =
+    let parts : (receipt.given.den ≡ 1) ⊎ (receipt.given.den ≡ g) =
     let P : Fraction → Type 0 = λ f. (f.den ≡ 1) ⊎ (f.den ≡ g) in subst P (sym is.given) (parts_den p g) in
     let finer : q * g ≡ p * h = finer_by p q g more some (λ plain. parts_finer h slots job (whole_so_far slots job grains plain) ∙ ap (λ (n : ℕ). parts_at n slots job * h) (sym plain)) fits_job (λ stays. ap (λ (n : ℕ). parts_at n slots job) stays) in
     let z : numerator after.given * h ≡ (q + numerator slot.work * (h / more)) * after.given.den =
-    summed (numerator share.given) share.given.den (numerator slot.work) more (numerator after.given) after.given.den g h p q (h / more) some is.mixed.has_parts positive
+    summed (numerator receipt.given) receipt.given.den (numerator slot.work) more (numerator after.given) after.given.den g h p q (h / more) some is.mixed.has_parts positive
     adds.sum x finer (divides_grain g more some fits_job positive) in
     record {
       grain = grain ∙ ap (λ n. max n more) is.grain ∙ sym (grain_same slots slot job same);
       given = of_parts_is (q + numerator slot.work * (h / more)) h after.given (some_grain g more some) adds.kept.below_one adds.kept.whole_is_plain
           (elim (cases_eq after.given.num 0) [
             | inl none ↦ inl none
-            | inr part ↦ inr (in_parts share.given.den g more after.given.num after.given.den some parts fits_job adds.kept.below_one part
-                (in_parts_of after.given.den (common_den share.given slot.work) after.given.num adds.parts part))
+            | inr part ↦ inr (in_parts receipt.given.den g more after.given.num after.given.den some parts fits_job adds.kept.below_one part
+                (in_parts_of after.given.den (common_den receipt.given slot.work) after.given.num adds.parts part))
           ]) z
           ∙ sym (rw (grain_same slots slot job same, parts_same h slots slot job same) refl);
       mixed = adds.kept;
-      few = few_on (length slots) share.given.whole slot.work.whole after.given.whole (length (slots ++ slot ∷ [])) (length-append slots (slot ∷ [])) adds.whole is.few kept.work_in_range;
+      few = few_on (length slots) receipt.given.whole slot.work.whole after.given.whole (length (slots ++ slot ∷ [])) (length-append slots (slot ∷ [])) adds.whole is.few kept.work_in_range;
       at_scales = λ scale whole.
           let values = is.at_scales scale (scale_front scale slots slot whole) in
           let sum = adds.at_scales scale whole.positive values.0 (scale_last scale slots slot whole).work in
@@ -220,24 +217,24 @@ grain_kept slots slot old fits positive is =
       | inr other ↦ rw (grain_other slots slot old.job other) is
     ]
 
-pub pushed_shares : (slots : List WrittenSlot) (slot : WrittenSlot) (shares : List Share) (after : Share) → IsKept slots shares → IsSlot slot →
-    slot.job < length shares → FitsGrain slots slot → length slots < MAX_SLOTS →
-    after.grain ≡ max (share_at shares slot.job).grain slot.work.den → Adds MAX_DENOMINATOR (share_at shares slot.job).given slot.work after.given →
-    IsKept (slots ++ slot ∷ []) (slice_set shares slot.job after)
-pushed_shares slots slot shares after kept is known fits room grain adds = record {
+pub pushed_receipts : (slots : List WrittenSlot) (slot : WrittenSlot) (receipts : List Receipt) (after : Receipt) → IsKept slots receipts → IsSlot slot →
+    slot.job < length receipts → FitsGrain slots slot → length slots < MAX_SLOTS →
+    after.grain ≡ max (receipt_at receipts slot.job).grain slot.work.den → Adds MAX_DENOMINATOR (receipt_at receipts slot.job).given slot.work after.given →
+    IsKept (slots ++ slot ∷ []) (slice_set receipts slot.job after)
+pushed_receipts slots slot receipts after kept is known fits room grain adds = record {
   few = omega (arith, length-append slots (slot ∷ []));
   each = All-push IsSlot slots slot kept.each is;
-  known = rw (length-set shares slot.job after) (All-push (λ s. s.job < length shares) slots slot kept.known known);
+  known = rw (length-set receipts slot.job after) (All-push (λ s. s.job < length receipts) slots slot kept.known known);
   grains = All-push (IsInGrain (slots ++ slot ∷ [])) slots slot
       (λ k d within. grain_kept slots slot (slice_index_or slots k d) fits is.work.has_parts (kept.grains k d within))
       (rw (grain_same slots slot slot.job refl) (fits_in (grain_of slots slot.job) slot.work.den fits is.work.has_parts));
   given = λ job within. elim (cases_eq slot.job job) [
     | inl same ↦
-        subst (λ (j : ℕ). IsShareOf (slots ++ slot ∷ []) j (share_at (slice_set shares slot.job after) j)) same
-        (rw (get_or-set_same shares slot.job after nothing known)
-        (share_same slots slot slot.job (share_at shares slot.job) after refl kept.grains fits is (kept.given slot.job known) grain adds))
+        subst (λ (j : ℕ). IsReceiptOf (slots ++ slot ∷ []) j (receipt_at (slice_set receipts slot.job after) j)) same
+        (rw (get_or-set_same receipts slot.job after nothing known)
+        (receipt_same slots slot slot.job (receipt_at receipts slot.job) after refl kept.grains fits is (kept.given slot.job known) grain adds))
     | inr other ↦
-        rw (get_or-set_other shares slot.job job after nothing (λ e. other (sym e)))
-        (share_other slots slot job (share_at shares job) other (kept.given job (rw (length-set shares slot.job after) at within)))
+        rw (get_or-set_other receipts slot.job job after nothing (λ e. other (sym e)))
+        (receipt_other slots slot job (receipt_at receipts job) other (kept.given job (rw (length-set receipts slot.job after) at within)))
   ];
 }
