@@ -21,7 +21,8 @@ use Rattle.yds_fraction.proofs.Values.{written}
 use Rattle.yds_slots.specs.Slot.{IsSlot}
 use Rattle.yds_slots.proofs.Parts.{of_parts_value, of_parts_is}
 use Rattle.yds_edf.specs.Shares.{JobShare, total_units}
-use Rattle.yds_edf.specs.Laid.{length_of, time_step, time_den, IsLaidSlot, FollowFrom, end_of, IsLaid}
+use Rattle.yds_events.specs.Stretch.{length_of}
+use Rattle.yds_edf.specs.Laid.{time_step, time_den, IsLaidSlot, FollowFrom, end_after, IsLaid}
 
 -- the value at a scale, over a denominator of one's own
 parts_of : (value numer d den p scale : ℕ) → 1 ≤ d → value * d ≡ numer * scale → numer * den ≡ p * d → value * den ≡ p * scale
@@ -120,7 +121,7 @@ time_at stretch capacity units =
 pub record Laying (stretch : Piece) (capacity grain : ℕ) (shares : List JobShare) (served : ℕ) (slots : List WrittenSlot) : Type 0 where
   pub each : AllZip (IsLaidSlot stretch capacity grain) shares slots
   pub gapless : FollowFrom (of_whole stretch.from) slots
-  pub reached : end_of (of_whole stretch.from) slots ≡ time_at stretch capacity served
+  pub reached : end_after (of_whole stretch.from) slots ≡ time_at stretch capacity served
   pub units : served ≡ total_units shares
 
 module _ (stretch : Piece) (capacity grain : ℕ) (forward : stretch.from < stretch.to) (some_capacity : 1 ≤ capacity) where
@@ -243,11 +244,11 @@ all_zip_push R (a ∷ xs) (b ∷ ys) x y h k = (h.0, all_zip_push R xs ys x y h.
 
 -- one slot more, from the end of those before it
 follow_push : (time : Fraction) (slots : List WrittenSlot) (slot : WrittenSlot) → FollowFrom time slots →
-    slot.from ≡ end_of time slots → FollowFrom time (slots ++ slot ∷ [])
+    slot.from ≡ end_after time slots → FollowFrom time (slots ++ slot ∷ [])
 follow_push time [] slot h begins = (begins, tt)
 follow_push time (first ∷ slots) slot h begins = (h.0, follow_push first.to slots slot h.1 begins)
 
-end_push : (time : Fraction) (slots : List WrittenSlot) (slot : WrittenSlot) → end_of time (slots ++ slot ∷ []) ≡ slot.to
+end_push : (time : Fraction) (slots : List WrittenSlot) (slot : WrittenSlot) → end_after time (slots ++ slot ∷ []) ≡ slot.to
 end_push time [] slot = refl
 end_push time (first ∷ slots) slot = end_push first.to slots slot
 

@@ -1,3 +1,4 @@
+pub mod InOrder
 pub mod Rising
 pub mod Times
 pub mod Neighbours

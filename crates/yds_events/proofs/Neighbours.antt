@@ -1,9 +1,8 @@
 -- The stretches of jobs: each is from an event point to the next, so they follow one another and no release or deadline lies
 -- inside one.
-use Rattle.std.proofs.Common.{◌≡◌, ℕ, zero, suc, ◌+◌, ◌*◌, ◌<◌, ◌≤◌, List, [], ◌∷◌, length, get_or, refl, ap, inl, inr, arith, add-one}
+use Rattle.std.proofs.Common.{◌≡◌, ℕ, zero, suc, ◌+◌, ◌*◌, ◌<◌, ◌≤◌, List, [], ◌∷◌, length, get_or, ◌∙◌, refl, ap, inl, inr, arith, add-one}
 use Rattle.std.specs.List.{All, flat_map}
-use Rattle.std.specs.List.Sorted.{IsNonDecreasingBy}
-use Rattle.std.proofs.lemmas.List.{get_or_default}
+use Rattle.std.proofs.lemmas.List.{get_or_read}
 use Rattle.std.proofs.lemmas.Bool.{cases_lt}
 use Rattle.yds_model.specs.declared.limits.TheConstants.{MAX_TIME}
 use Rattle.yds_model.specs.Job.{Job, IsJob, job_at}
@@ -11,8 +10,9 @@ use Rattle.yds_model.specs.Piece.{Piece, PiecesFrom}
 use Rattle.yds_model.specs.Event.{event_points, neighbours, stretches}
 use Rattle.yds_events.specs.Stretch.{no_stretch, IsOutside}
 use Rattle.yds_events.specs.Window.{stretch_of, length_at}
+use Rattle.yds_events.proofs.InOrder.{has_length, later_start}
 use Rattle.yds_events.proofs.Rising.{Rises, rises_times}
-use Rattle.yds_events.proofs.Times.{times_rise, not_later, release_at, deadline_at, few_times, events_in_range}
+use Rattle.yds_events.proofs.Times.{not_later, release_at, deadline_at, few_times, events_in_range}
 
 -- # Neighbours
 
@@ -72,27 +72,10 @@ pub stretches_run : (jobs : List Job) → PiecesFrom 0 (stretches jobs)
 stretches_run jobs = neighbours_run 0 (event_points jobs) (rises_times (flat_map (λ job. job.release ∷ job.deadline ∷ []) jobs))
 
 pub stretch_forward : (jobs : List Job) (k : ℕ) → k < length (stretches jobs) → (stretch_of jobs k).from < (stretch_of jobs k).to
-stretch_forward jobs k within =
-    omega (arith, stretch_begins jobs k within, stretch_ends jobs k within, times_rise jobs k (k + 1) (omega arith) (stretch_next jobs k within))
+stretch_forward jobs k within = has_length 0 k (stretches jobs) (stretches_run jobs) within
 
 pub stretch_order : (jobs : List Job) (i k : ℕ) → i < k → k < length (stretches jobs) → (stretch_of jobs i).to ≤ (stretch_of jobs k).from
-stretch_order jobs i k order within = omega (
-  arith,
-  stretch_ends jobs i (omega arith),
-  stretch_begins jobs k within,
-  not_later jobs (i + 1) k (omega arith) (omega (arith, stretch_next jobs k within)),
-)
-
--- no stretch begins before an earlier one
-pub starts_rise : (jobs : List Job) → IsNonDecreasingBy (λ stretch. stretch.from) (stretches jobs)
-starts_rise jobs i j d order within = omega (
-  arith,
-  ap (λ (piece : Piece). piece.from) (get_or_default (stretches jobs) i no_stretch d (omega arith)),
-  ap (λ (piece : Piece). piece.from) (get_or_default (stretches jobs) j no_stretch d within),
-  stretch_begins jobs i (omega arith),
-  stretch_begins jobs j within,
-  not_later jobs i j order (omega (arith, stretch_next jobs j within)),
-)
+stretch_order jobs i k order within = later_start 0 i k (stretches jobs) (stretches_run jobs) order within
 
 -- # Their lengths
 
@@ -155,3 +138,11 @@ stretch_with jobs j time known from below =
         below = omega (arith, stretch_ends jobs found.0 within, found.3);
       },
     )
+
+-- a stretch that is read from the list of them
+pub stretch_read : (jobs : List Job) (timeline : List Piece) (k : ℕ) (read seen : Piece) → timeline ≡ stretches jobs → k < length (stretches jobs) →
+    read ≡ get_or timeline k read → seen ≡ read → seen ≡ stretch_of jobs k
+stretch_read jobs timeline k read seen are within is view =
+    view
+    ∙ get_or_read timeline k read (omega (arith, within, ap (λ (pieces : List Piece). length pieces) are)) is no_stretch
+    ∙ ap (λ (pieces : List Piece). get_or pieces k no_stretch) are

@@ -1,6 +1,6 @@
 ghost use Rattle.std.specs.Prelude.{◌≡◌, ◌*◌, ◌≤◌, length, IfOk};
-ghost use Rattle.std.specs.List.Sorted.{IsNonDecreasingBy};
 ghost use Rattle.yds_model.specs.declared.limits.TheConstants.{MAX_JOBS};
+ghost use Rattle.yds_model.specs.Piece.{PiecesFrom};
 ghost use Rattle.yds_model.specs.Event.{stretches as job_stretches};
 ghost use Rattle.yds_events.specs.Window.{IsPlace, starts_of, AreWindows};
 
@@ -20,7 +20,7 @@ pub struct Window {
 /// How many of these stretches begin before `time`. They are looked through by halves.
 fn place(stretches: &[Stretch], time: u32) -> u32
     requires few { length stretches.now ≤ 2 * MAX_JOBS }
-    requires in_order { IsNonDecreasingBy (λ stretch. stretch.from) stretches.now }
+    requires in_order { PiecesFrom 0 stretches.now }
     ensures { IsPlace (starts_of stretches.now) time result }
 {
     stretches.partition_point(|stretch| stretch.from < time) as u32

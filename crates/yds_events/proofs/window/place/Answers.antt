@@ -6,6 +6,7 @@ use Rattle.std.proofs.lemmas.List.{get_or-map, length-map}
 use Rattle.std.proofs.lemmas.List.Sorted.{IsPartitionedBy-ltb}
 use Rattle.yds_model.specs.Piece.{Piece}
 use Rattle.yds_events.specs.Stretch.{no_stretch}
+use Rattle.yds_events.proofs.InOrder.{starts_in_order}
 use Rattle.yds_events.proofs.window.place.Goals as goal
 
 pub returns : goal.returns
@@ -13,7 +14,7 @@ returns c =
     let stretches = c.args.stretches.now in
     let found = c.partition_point.ensures.partitioned (λ stretch. nat_lt stretch.from c.args.time)
     (always_returns_same _ _ _ (λ a r f' k. (search rules, search rules)))
-    (IsPartitionedBy-ltb (λ (stretch : Piece). stretch.from) stretches c.args.time c.requires.in_order) in
+    (IsPartitionedBy-ltb (λ (stretch : Piece). stretch.from) stretches c.args.time (starts_in_order stretches c.requires.in_order)) in
     let start = λ (i : ℕ) (within : i < length stretches). get_or-map (λ (stretch : Piece). stretch.from) stretches i no_stretch 0 within in
     let count = length-map stretches (λ (stretch : Piece). stretch.from) in
     record {

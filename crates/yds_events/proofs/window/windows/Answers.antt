@@ -1,5 +1,4 @@
 use Rattle.std.proofs.Common.{ℕ, ◌+◌, ◌*◌, ◌≡◌, ◌≤◌, ◌∙◌, List, [], ◌∷◌, ◌++◌, length, sym, ap, subst, inl, inr, arith}
-use Rattle.std.specs.List.Sorted.{IsNonDecreasingBy}
 use Rattle.std.proofs.lemmas.List.{get_or_read, get_or_append_left, get_or_push, length_push}
 use Rattle.std.proofs.lemmas.Bool.{cases_lt}
 use Rattle.yds_model.specs.Job.{Job, job_at, no_job}
@@ -7,7 +6,7 @@ use Rattle.yds_model.specs.Piece.{Piece}
 use Rattle.yds_model.specs.Event.{stretches}
 use Rattle.yds_events.specs.declared.window.Window.{Window}
 use Rattle.yds_events.specs.Window.{no_window}
-use Rattle.yds_events.proofs.Neighbours.{few_stretches, starts_rise}
+use Rattle.yds_events.proofs.Neighbours.{few_stretches, stretches_run}
 use Rattle.yds_events.proofs.Places.{IsWindowOf, WindowsSoFar, windows_found}
 use Rattle.yds_events.proofs.window.windows.Goals as goal
 
@@ -25,24 +24,21 @@ window_more cut jobs n windows window so_far next = record {
   ];
 }
 
--- the jobs' stretches are few, and begin one after another
+-- the jobs' stretches are few
 few : (jobs : List Job) (cut : List Piece) → cut ≡ stretches jobs → length cut ≤ 2 * length jobs
 few jobs cut are = omega (arith, few_stretches jobs, ap (λ (pieces : List Piece). length pieces) are)
-
-in_order : (jobs : List Job) (cut : List Piece) → cut ≡ stretches jobs → IsNonDecreasingBy (λ (stretch : Piece). stretch.from) cut
-in_order jobs cut are = rw are (starts_rise jobs)
 
 pub place-first-requires-clause-few : goal.place-first-requires-clause-few
 place-first-requires-clause-few c = omega (arith, few c.args.rows.now c.args.stretches.now c.requires.stretches, c.requires.few)
 
 pub place-first-requires-clause-in_order : goal.place-first-requires-clause-in_order
-place-first-requires-clause-in_order c = in_order c.args.rows.now c.args.stretches.now c.requires.stretches
+place-first-requires-clause-in_order c = rw (c.requires.stretches) (stretches_run c.args.rows.now)
 
 pub place-end-requires-clause-few : goal.place-end-requires-clause-few
 place-end-requires-clause-few c = omega (arith, few c.args.rows.now c.args.stretches.now c.requires.stretches, c.requires.few)
 
 pub place-end-requires-clause-in_order : goal.place-end-requires-clause-in_order
-place-end-requires-clause-in_order c = in_order c.args.rows.now c.args.stretches.now c.requires.stretches
+place-end-requires-clause-in_order c = rw (c.requires.stretches) (stretches_run c.args.rows.now)
 
 pub loop-row-preserved : goal.loop-row-preserved
 loop-row-preserved c =
