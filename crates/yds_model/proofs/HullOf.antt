@@ -5,7 +5,7 @@ use Rattle.std.specs.List.{All, Contains, list_any, slice_index_or}
 use Rattle.std.proofs.lemmas.Bool.{lt-ltb, le-ltb}
 use Rattle.std.proofs.lemmas.List.Folds.{list_any_none, list_any_at}
 use Rattle.std.proofs.lemmas.List.Elements.{All-push, Contains-push, All-weaker, All-tail, All-nil, All-cons}
-use Rattle.std.proofs.lemmas.List.{length-append, get_or_append_left, get_or-append-add}
+use Rattle.std.proofs.lemmas.List.{length-append, get_or_append_left}
 use Rattle.std.proofs.Math.Nat.{le_refl, mul-le-mul_left, le_of_mul-le-mul_left}
 use Rattle.yds_model.specs.HullLaws.{HullIsComputed}
 use Rattle.yds_model.specs.Table.{Point, point_at, IsAbove, GoesOn, is_above, is_left_out, hull_after}
