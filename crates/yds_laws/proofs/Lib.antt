@@ -15,6 +15,7 @@ pub mod OneJudgement
 pub mod Judgements
 pub mod Curve
 pub mod Plans
+pub mod TaskCounts
 pub mod Energy
 pub mod HullEnergy
 pub mod LineEnergy

@@ -3,3 +3,4 @@ pub mod RoundTrip
 pub mod Laws
 pub mod EnergyLaws
 pub mod PlanText
+pub mod TaskLaws

@@ -170,9 +170,9 @@ one_scale_of slots P kept scale is at_one = record {
 }
 
 -- a product that isn't 0 has a first factor that isn't
-some_times : (k n product : ℕ) → k * n ≡ product → 1 ≤ product → 1 ≤ k
-some_times zero n product same positive = omega (arith, same, positive)
-some_times (suc k) n product same positive = omega arith
+pub first_factor : (k n product : ℕ) → k * n ≡ product → 1 ≤ product → 1 ≤ k
+first_factor zero n product same positive = omega (arith, same, positive)
+first_factor (suc k) n product same positive = omega arith
 
 -- what holds at each multiple of a scale that divides all others holds at each scale
 pub least_scale_of : (slots : List WrittenSlot) (P : ℕ → List WholeSlot → Type 0) (least : ℕ) → IsScale least slots →
@@ -181,7 +181,7 @@ least_scale_of slots P least is divides at_multiples = record {
   solid = solid_of_scale slots least is;
   holds = λ scale is_scale.
       let same : scale / least * least ≡ scale = div-mul_cancel least (divides scale is_scale) in
-      subst (λ (n : ℕ). P n (slots_at n slots)) same (at_multiples (scale / least) (some_times (scale / least) least scale same is_scale.positive));
+      subst (λ (n : ℕ). P n (slots_at n slots)) same (at_multiples (scale / least) (first_factor (scale / least) least scale same is_scale.positive));
 }
 
 -- the law: one scale decides
