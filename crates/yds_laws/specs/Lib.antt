@@ -4,3 +4,4 @@ pub mod Laws
 pub mod EnergyLaws
 pub mod PlanText
 pub mod TaskLaws
+pub mod RoundingLaws

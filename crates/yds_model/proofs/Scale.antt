@@ -42,7 +42,7 @@ pub finer_slots : (k scale : ℕ) (slots : List WrittenSlot) → IsScale scale s
 finer_slots k scale slots is = finer_each k scale slots (recursion_from_All (IsDivided scale) slots is.divided)
 
 -- what each finer slot has k times, they have k times together
-finer_sum : (k : ℕ) (f : WholeSlot → ℕ) → ((slot : WholeSlot) → f (finer k slot) ≡ k * f slot) → (slots : List WholeSlot) →
+pub finer_sum : (k : ℕ) (f : WholeSlot → ℕ) → ((slot : WholeSlot) → f (finer k slot) ≡ k * f slot) → (slots : List WholeSlot) →
     sum_by f (map (finer k) slots) ≡ k * sum_by f slots
 finer_sum k f each [] = omega arith
 finer_sum k f each (slot ∷ slots) =
