@@ -1,6 +1,14 @@
-pub mod Places
+pub mod Decided
+pub mod DecidedSchedules
+pub mod DecidedPlans
+pub mod DecidedRounding
 mod Examples
 mod ThreeJobs
+mod ThreeJobsChanged
+mod EqualSpeeds
+mod EarliestFirst
+mod RoundNested
+mod RoundSwitch
 mod Policies
 mod Judged
 mod EnergyExamples
@@ -11,10 +19,13 @@ pub mod Bound
 pub mod Exact
 pub mod Explained
 pub mod RunScale
+pub mod RoundingScale
+pub mod OneEnergy
 pub mod OneJudgement
 pub mod Judgements
 pub mod Curve
 pub mod Plans
+pub mod TaskCounts
 pub mod Energy
 pub mod HullEnergy
 pub mod LineEnergy

@@ -325,6 +325,13 @@ module _ (jobs : List Job) (k scale : ℕ) (some : 1 ≤ k) where
       (pending_deadlines jobs scale slots stretch) in
       rw (units_asked_finer grid slots stretch, pending_deadlines_finer slots stretch, agree) refl
 
+-- written slots that are served in stretches at a scale are so at each multiple of it
+pub served_in_stretches_scaled : (jobs : List Job) (k scale : ℕ) (slots : List WrittenSlot) → 1 ≤ k → IsScale scale slots →
+    IsServedInStretches jobs scale (slots_at scale slots) → IsServedInStretches jobs (k * scale) (slots_at (k * scale) slots)
+served_in_stretches_scaled jobs k scale slots some is served =
+    subst (λ fine. IsServedInStretches jobs (k * scale) fine) (sym (finer_slots k scale slots is))
+    (served_finer jobs k scale some (slots_at scale slots) served)
+
 -- Average Rate: a written run at a scale is one at each multiple of it
 pub average_rate_run_scaled : (jobs : List Job) (grid k scale : ℕ) (slots : List WrittenSlot) → 1 ≤ k → IsScale scale slots →
     IsRunAt jobs grid scale (average_rate jobs grid scale (slots_at scale slots)) (slots_at scale slots) →

@@ -3,3 +3,5 @@ pub mod RoundTrip
 pub mod Laws
 pub mod EnergyLaws
 pub mod PlanText
+pub mod TaskLaws
+pub mod RoundingLaws

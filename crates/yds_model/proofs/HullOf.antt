@@ -72,7 +72,7 @@ edges_under all low [] each = tt
 edges_under all low (high ∷ hull) each = (each 0 (omega arith), edges_under all high hull (λ k within. each (suc k) (omega arith)))
 
 -- later points are faster
-later_rise : (speed : ℕ) (points : List Point) → RisesFrom speed points → All (λ point. speed < point.speed) points
+pub later_rise : (speed : ℕ) (points : List Point) → RisesFrom speed points → All (λ point. speed < point.speed) points
 later_rise speed [] rises = All-nil (λ point. speed < point.speed)
 later_rise speed (point ∷ points) rises =
     All-cons (λ other. speed < other.speed) point points rises.0
