@@ -3,6 +3,9 @@ mod ThreeJobs
 mod Policies
 mod Judged
 mod EnergyExamples
+mod WordsExamples
+mod TasksExamples
+mod JsonExamples
 pub mod Differences
 pub mod Hinges
 pub mod Group
