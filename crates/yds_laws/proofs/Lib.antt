@@ -12,6 +12,9 @@ mod RoundSwitch
 mod Policies
 mod Judged
 mod EnergyExamples
+mod WordsExamples
+mod TasksExamples
+mod JsonExamples
 pub mod Differences
 pub mod Hinges
 pub mod Group
