@@ -13,14 +13,14 @@ ghost use Rattle.yds_document.specs.Fields.{Gives};
 ghost use Rattle.yds_document.specs.Run.{run_after, run_of};
 
 use crate::draft::Draft;
-use crate::fields::{four_fields, known_job, number_in};
+use crate::fields::{known_job, number_in};
 use crate::line_fault::LineFault;
 use crate::slot::{add, fits_grain};
 use yds_fraction::Amount;
 use yds_model::Reason;
 use yds_model::limits::{MAX_RUN_SPEED, MAX_SLOT_WORK, MAX_TIME};
 use yds_slots::{Schedule, Slot};
-use yds_text::{Field, Fields};
+use yds_text::{Field, Fields, four_fields};
 
 // Reads the line whose first field is `kind`, and adds its slot.
 pub(crate) fn read<'a>(
