@@ -14,10 +14,9 @@ use Rattle.yds_model.specs.Reading.{Kind, JobLine, PointLine, SlotLine, RunLine,
 use Rattle.yds_document.specs.declared.draft.Draft.{Draft}
 use Rattle.yds_document.specs.declared.line_fault.LineFault.{LineFault}
 use Rattle.yds_document.specs.declared.line_fault.LineFault.TheVariants.{At, Memory}
-use Rattle.yds_text.specs.declared.count.FieldCount.{FieldCount}
 use Rattle.yds_text.specs.Count.{no_reason}
-use Rattle.yds_text.proofs.Counted.{counted_for, miscounted_for}
-use Rattle.yds_document.specs.Fields.{Fails, count_fault}
+use Rattle.yds_text.proofs.Counted.{counted_for}
+use Rattle.yds_document.specs.Fields.{Fails}
 use Rattle.yds_document.specs.Job.{job_of}
 use Rattle.yds_document.specs.Slot.{slot_of}
 use Rattle.yds_document.specs.Run.{run_of}
@@ -29,14 +28,6 @@ pub passed : (r : Result (Unit {0}) LineFault) (e : LineFault) (read : Result En
     → (y : LineFault) × (r ≡ Err y) × (y ≡ e) → Fails e read → Tells r read draft es
 passed r e read draft es told failed =
     subst (λ (t : Result (Unit {0}) LineFault). Tells t read draft es) (sym told.1) (subst (λ (f : LineFault). Fails f read) (sym told.2) failed)
-
--- the fields are not as many as they ought to be
-pub miscounted : (kind : Kind) (earlier : List Entry) (fields : List Field) (r : Result (Unit {0}) LineFault) (count : FieldCount) (draft : Draft)
-    → (y : LineFault) × (r ≡ Err y) × (y ≡ count_fault count) → count_fields no_reason (fields_wanted kind) fields ≡ Err (record { column = count.column; reason = no_reason })
-    → Tells r (count_and_read kind earlier fields) draft earlier
-miscounted kind earlier fields r count draft told refused =
-    passed r (count_fault count) (count_and_read kind earlier fields) draft earlier told
-    (ap (λ (c : Result Bool (Spot Reason)). c >>= (λ all. read_kind kind earlier fields)) (miscounted_for reasons.FieldCount (fields_wanted kind) fields count.column refused))
 
 counted_read : (kind : Kind) (earlier : List Entry) (fields cells : List Field) → (fields ≡ cells) × (count_fields no_reason (fields_wanted kind) fields ≡ Ok true)
     → count_and_read kind earlier fields ≡ read_kind kind earlier cells

@@ -1,5 +1,5 @@
 -- What a reader of a line's fields returned, against their count by the definition. The definition takes the reason for which
--- a wrong count is refused; here none is given, and `counted_for` and `miscounted_for` of the proofs say the same of each reason.
+-- a wrong count is refused; here none is given.
 use Rattle.std.specs.Prelude.{◌≡◌, ◌≤◌, length, ℕ, List, [], ◌∷◌, true, Result, Ok, Err}
 use Rattle.yds_model.specs.Lines.{Field}
 use Rattle.yds_model.specs.Fields.{field_at, count_fields}
