@@ -1,9 +1,9 @@
 // What a field of a line is tried for: a number, a fraction, the name of a job.
 ghost use Rattle.std.specs.Prelude.{◌≡◌, ◌<◌, ◌≤◌, length, None, IfOk, IsTrue};
-ghost use Rattle.yds_model.specs.declared.limits.TheConstants.{MAX_WHOLE, MAX_DENOMINATOR};
+ghost use Rattle.yds_model.specs.declared.limits.TheConstants.{MAX_WHOLE};
 ghost use Rattle.yds_model.specs.Reading.{number_in, fraction_in};
 ghost use Rattle.yds_model.specs.Spelling.{is_name};
-ghost use Rattle.yds_fraction.specs.Mixed.{IsMixed};
+ghost use Rattle.yds_model.specs.Within.{IsFraction};
 ghost use Rattle.yds_instance.specs.Named.{number_of};
 ghost use Rattle.yds_text.specs.Read.{field_read};
 ghost use Rattle.yds_document.specs.Fields.{Gives, new_name_of, known_job_of};
@@ -38,8 +38,7 @@ pub(crate) fn small_in(field: Field<'_>, least: u32, most: u32) -> Result<u32, L
 pub(crate) fn fraction_in(field: Field<'_>, most: u64) -> Result<Amount, LineFault>
     requires { most ≤ MAX_WHOLE }
     ensures gives { Gives (λ x. x) result (fraction_in most (field_read field.entry)) }
-    ensures within { IfOk result (λ x. x.whole ≤ most) }
-    ensures kept { IfOk result (IsMixed MAX_DENOMINATOR) }
+    ensures within { IfOk result (IsFraction most) }
 {
     match mixed(field, most) {
         Ok(value) => {
