@@ -22,6 +22,7 @@ pub mod Bound
 pub mod Exact
 pub mod Explained
 pub mod RunScale
+pub mod SpentScale
 pub mod RoundingScale
 pub mod OneEnergy
 pub mod OneJudgement
