@@ -3,7 +3,7 @@ pub mod DecidedSchedules
 pub mod DecidedPlans
 pub mod DecidedRounding
 mod Examples
-mod ThreeJobs
+pub mod ThreeJobs
 mod ThreeJobsChanged
 mod EqualSpeeds
 mod EarliestFirst
@@ -15,6 +15,7 @@ mod EnergyExamples
 mod WordsExamples
 mod TasksExamples
 mod JsonExamples
+mod CurveExamples
 pub mod Differences
 pub mod Hinges
 pub mod Group

@@ -1,15 +1,15 @@
 -- The definitions of periodic tasks, tried on the worked rows of `expand` and on lines that are refused.
-use Rattle.std.proofs.Common.{◌≡◌, ℕ, ◌++◌, List, [], ◌∷◌, map, refl}
+use Rattle.std.proofs.Common.{◌≡◌, ℕ, ◌++◌, List, [], ◌∷◌, refl}
 use Rattle.std.specs.Prelude.{codes, replicate, Option, Result, Ok, Err, Some, None}
 use Rattle.std.specs.Fmt.{digits}
 use Rattle.yds_model.specs.declared.task_reason.TaskReason.{TaskReason}
 use Rattle.yds_model.specs.declared.task_reason.TaskReason.TheVariants.{UnknownKind, Misplaced, FieldCount, BadName, DuplicateName, BadNumber, OutOfRange, TooManyJobs}
-use Rattle.yds_model.specs.Reason.{task_reason_text}
 use Rattle.yds_model.specs.Fields.{Fault}
-use Rattle.yds_model.specs.Tasks.{TaskSet, Task, jobs_of_tasks, count_of_jobs, one_level}
+use Rattle.yds_model.specs.Tasks.{TaskSet, Task, count_of_jobs, one_level}
 use Rattle.yds_model.specs.TaskReading.{task_reading}
 use Rattle.yds_model.specs.ExpandAnswer.{expansion_text}
-use Rattle.yds_model.specs.Answer.{refusal_line}
+use Rattle.yds_model.specs.declared.status.Status.TheVariants.{Done, Refused}
+use Rattle.yds_model.specs.Answer.{Answers}
 
 abbrev task : List ℕ → ℕ → ℕ → ℕ → ℕ → Task
 task name offset period deadline work = record { name = name; offset = offset; period = period; deadline = deadline; work = work }
@@ -104,11 +104,6 @@ second_horizon = refl
 before_horizon : task_reading (codes "task a 0 4 4 2\n") ≡ Err (record { line = 1; column = 1; reason = Misplaced })
 before_horizon = refl
 
--- and how that is told
-told : refusal_line 1 1 (task_reason_text Misplaced) ≡ codes "refused 1 1 Misplaced\n"
-unfolding digits
-told = refl
-
 -- a horizon without its number: one past the last byte of the last field
 number_missing : task_reading (codes "horizon") ≡ Err (record { line = 1; column = 8; reason = FieldCount })
 number_missing = refl
@@ -160,3 +155,33 @@ just_enough = refl
 -- and one more, of another task, is.
 one_more : task_reading (codes "horizon 4000\ntask a 0 1 1 1\ntask b 0 4000 4000 0\n") ≡ Err (record { line = 3; column = 10; reason = TooManyJobs })
 one_more = refl
+
+-- So this is the answer of `expand` to the two tasks,
+expanded : Answers (codes "expand" ∷ []) (codes "horizon 12\ntask a 0 4 4 2\ntask b 0 6 6 3\n")
+    (codes "job a.0 0 4 2\njob a.1 4 8 2\njob a.2 8 12 2\njob b.0 0 6 3\njob b.1 6 12 3\n# one level 12 12\n") Done
+unfolding digits
+expanded = record { said = refl; ended = refl }
+
+-- this to the task with an offset,
+expanded_later : Answers (codes "expand" ∷ []) (codes "horizon 10\ntask s 1 5 2 1\n") (codes "job s.0 1 3 1\njob s.1 6 8 1\n") Done
+unfolding digits
+expanded_later = record { said = refl; ended = refl }
+
+-- this to a task before the horizon,
+refused_early : Answers (codes "expand" ∷ []) (codes "task a 0 4 4 2\n") (codes "refused 1 1 Misplaced\n") Refused
+unfolding digits
+refused_early = record { said = refl; ended = refl }
+
+-- and this to a job each time unit until the greatest horizon.
+refused_many : Answers (codes "expand" ∷ []) (codes "horizon 1000000000\ntask a 0 1 1 1\n") (codes "refused 2 10 TooManyJobs\n") Refused
+unfolding digits
+refused_many = record { said = refl; ended = refl }
+
+-- A refusal doesn't end as an answer does,
+not_done : Answers (codes "expand" ∷ []) (codes "task a 0 4 4 2\n") (codes "refused 1 1 Misplaced\n") Done → ⊥
+not_done answer = absurd (cc answer.ended)
+
+-- and tasks are no document of jobs.
+planned : Answers (codes "plan" ∷ []) (codes "horizon 10\ntask s 1 5 2 1\n") (codes "refused 1 1 UnknownKind\n") Refused
+unfolding digits
+planned = record { said = refl; ended = refl }

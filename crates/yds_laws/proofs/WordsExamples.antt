@@ -1,7 +1,9 @@
 -- The words of the command line, tried: each of the fourteen forms of command, and words that are near them and ask for nothing.
 use Rattle.std.proofs.Common.{◌≡◌, List, ℕ, [], ◌∷◌, refl}
 use Rattle.std.specs.Prelude.{codes, Some, None}
-use Rattle.yds_model.specs.Request.{AskPlan, AskRound, AskAverageRate, AskOptimalAvailable, AskCheck, AskAudit, AskAuditOnPoints, AskReport, AskReportAsJson, AskAdmit, AskCurve, AskCompare, OfDocument, OfTasks, OfTrial, request_of}
+use Rattle.yds_model.specs.declared.status.Status.TheVariants.{Usage}
+use Rattle.yds_model.specs.Request.{AskPlan, AskRound, AskAverageRate, AskOptimalAvailable, AskCheck, AskAudit, AskAuditOnPoints, AskReport, AskReportAsJson, AskAdmit, AskCurve, AskCompare, OfDocument, OfTasks, OfTrial, request_of, usage_line}
+use Rattle.yds_model.specs.Answer.{Answers}
 
 -- The commands of one word: `plan`,
 plan : request_of (codes "plan" ∷ []) ≡ Some (OfDocument AskPlan)
@@ -102,3 +104,11 @@ capitals = refl
 -- and no word.
 no_word : request_of [] ≡ None
 no_word = refl
+
+-- They are answered by the line of all commands, whatever the input is,
+usage : (input : List ℕ) → Answers (codes "admit" ∷ codes "0" ∷ []) input usage_line Usage
+usage input = record { said = refl; ended = refl }
+
+-- and by no other text.
+nothing_said : (input : List ℕ) → Answers (codes "admit" ∷ codes "0" ∷ []) input [] Usage → ⊥
+nothing_said input answer = absurd (cc answer.said)
