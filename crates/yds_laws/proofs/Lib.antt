@@ -1,6 +1,7 @@
 pub mod Decided
 pub mod DecidedSchedules
 pub mod DecidedPlans
+pub mod DecidedAdmission
 pub mod DecidedRounding
 mod Examples
 pub mod ThreeJobs
@@ -16,6 +17,7 @@ mod WordsExamples
 mod TasksExamples
 mod JsonExamples
 mod CurveExamples
+mod AdmissionExamples
 pub mod Differences
 pub mod Hinges
 pub mod Group
