@@ -18,6 +18,7 @@ mod TasksExamples
 mod JsonExamples
 mod CurveExamples
 mod AdmissionExamples
+mod ComparisonExamples
 pub mod Differences
 pub mod Hinges
 pub mod Group
