@@ -1,9 +1,9 @@
 -- The definitions of admission, tried on the worked rows of `admit`, on intervals that are and aren't the first to be overfull, and on
 -- answers that take or refuse the wrong job.
-use Rattle.std.proofs.Common.{◌≡◌, ℕ, List, [], ◌∷◌, map, refl, arith, inl, inr, ◌==◌}
+use Rattle.std.proofs.Common.{◌≡◌, ℕ, ◌*◌, ◌-◌, List, [], ◌∷◌, map, refl, arith, inl, inr, ◌==◌}
 use Rattle.std.specs.Prelude.{codes, None}
 use Rattle.std.specs.Fmt.{digits}
-use Rattle.std.specs.List.{list_any}
+use Rattle.std.specs.List.{Contains, list_any}
 use Rattle.std.proofs.Math.Nat.{one-dvd}
 use Rattle.std.proofs.lemmas.Bool.Decides.{nat_tests, not_from_Decides}
 use Rattle.std.proofs.lemmas.List.Elements.{All-from_recursion}
@@ -11,7 +11,9 @@ use Rattle.yds_model.specs.declared.status.Status.TheVariants.{Done}
 use Rattle.yds_model.specs.Job.{Job, job_at}
 use Rattle.yds_model.specs.Scale.{of_whole}
 use Rattle.yds_model.specs.Slot.{WrittenSlot, WholeSlot, IsScale, slots_at}
-use Rattle.yds_model.specs.Event.{stretches}
+use Rattle.yds_model.specs.Piece.{Piece}
+use Rattle.yds_model.specs.Event.{stretches, LiesWritten}
+use Rattle.yds_model.specs.Audit.{HasSpeed}
 use Rattle.yds_model.specs.Document.{Document}
 use Rattle.yds_model.specs.Within.{IsTextOf}
 use Rattle.yds_model.specs.Policy.{IsRunAt, HasRunDenominators}
@@ -187,39 +189,33 @@ capacities = refl
 run : IsRunAt admitted 1 1 (top_capacity admitted 2 1 (slots_at 1 slots)) (slots_at 1 slots)
 run = (run_decided admitted 1 1 (top_capacity admitted 2 1 (slots_at 1 slots)) (slots_at 1 slots)).0 refl
 
--- at scale 1,
+-- at scale 1.
 whole : IsScale 1 slots
 whole = (scale_decided 1 slots).0 refl
 
--- and so at each, with whole ends and works.
+-- A slot of whole ends and work that serves so many units of its stretch has a run's denominators.
+has_denominators : (slot : WrittenSlot) (stretch : Piece) (units : ℕ) → Contains (stretches admitted) stretch → LiesWritten slot stretch →
+    HasSpeed units (1 * (stretch.to - stretch.from)) slot → slot.work ≡ of_whole slot.work.whole → slot.from ≡ of_whole slot.from.whole →
+    slot.to ≡ of_whole slot.to.whole → HasRunDenominators admitted 1 slot
+has_denominators slot stretch units is lies speed work from to = record {
+  stretch = stretch;
+  is_stretch = is;
+  lies = lies;
+  units = units;
+  speed = speed;
+  work = inl work;
+  from = inl from;
+  to = inl to;
+}
+
+-- So they are a run at each scale, with whole ends and works.
 admitted_run : IsAdmittedRun admitted 2 slots
 admitted_run = record {
   run = least_scale_of slots (λ scale whole. IsRunAt admitted 1 scale (top_capacity admitted 2 scale whole) whole) 1 whole
       (λ scale is. one-dvd scale) (λ k some. admitted_run_scaled admitted 2 k 1 slots some whole run);
   denominators = All-from_recursion (HasRunDenominators admitted 1) slots (
-    record {
-      stretch = record { from = 0; to = 2 };
-      is_stretch = (0, omega arith, refl);
-      lies = record { from = omega arith; to = omega arith };
-      units = 4;
-      speed = refl;
-      work = inl refl;
-      from = inl refl;
-      to = inl refl;
-    },
-    (
-      record {
-        stretch = record { from = 2; to = 4 };
-        is_stretch = (1, omega arith, refl);
-        lies = record { from = omega arith; to = omega arith };
-        units = 4;
-        speed = refl;
-        work = inl refl;
-        from = inl refl;
-        to = inl refl;
-      },
-      tt,
-    ),
+    has_denominators _ (record { from = 0; to = 2 }) 4 (0, omega arith, refl) (record { from = omega arith; to = omega arith }) refl refl refl refl,
+    (has_denominators _ (record { from = 2; to = 4 }) 4 (1, omega arith, refl) (record { from = omega arith; to = omega arith }) refl refl refl refl, tt),
   );
 }
 

@@ -1,10 +1,9 @@
 -- What schedules spend on the operating points, and the answer of `compare`, tried on its worked rows: a from 0 to 3 with work 2 and b from
 -- 1 to 2 with work 1, on the grid 6.
-use Rattle.std.proofs.Common.{◌≡◌, ℕ, zero, suc, ◌+◌, ◌-◌, ◌*◌, ◌<◌, ◌≤◌, List, [], ◌∷◌, length, map, refl, sym, ap, arith, inl, inr, Bool, true, false, nat_le}
-use Rattle.std.specs.Prelude.{codes, count_by}
+use Rattle.std.proofs.Common.{◌≡◌, ℕ, zero, suc, ◌+◌, ◌-◌, ◌*◌, ◌<◌, ◌≤◌, List, [], ◌∷◌, length, map, refl, ap, arith, inl, inr, Bool, true, false, nat_le}
+use Rattle.std.specs.Prelude.{codes}
 use Rattle.std.specs.Fmt.{digits}
 use Rattle.std.specs.Bool.{Decides}
-use Rattle.std.specs.Int.{◌∣◌}
 use Rattle.std.specs.List.{All, list_all}
 use Rattle.std.proofs.lemmas.Bool.Decides.{not_from_Decides}
 use Rattle.std.proofs.Math.Nat.{one-dvd}
@@ -21,7 +20,6 @@ use Rattle.yds_model.specs.Event.{stretches}
 use Rattle.yds_model.specs.Plan.{IsServedInStretches, IsPlan}
 use Rattle.yds_model.specs.Policy.{IsRunAt}
 use Rattle.yds_model.specs.AverageRate.{average_rate, IsAverageRateRun}
-use Rattle.yds_model.specs.OptimalAvailable.{optimal_available, optimal_available_rounds, IsOptimalAvailableRun}
 use Rattle.yds_model.specs.Rounding.{top_of, IsTooFast}
 use Rattle.yds_model.specs.Comparison.{work_in, all_time_at, all_energy, Spent, IsSpentAt, IsSpent, HoldsStretch, stretch_at, IsTooSlowFor, Spends, TooSlowFor, HoldsAll, IsSide}
 use Rattle.yds_model.specs.Answer.{Answers}
@@ -30,12 +28,9 @@ use Rattle.yds_model.proofs.Divisor.{multiple_is_least}
 use Rattle.yds_laws.proofs.Decided.{le_decided, all_below, each_decided, all_decided, scale_decided}
 use Rattle.yds_laws.proofs.DecidedSchedules.{feasible_by_test, stretches_decided, run_decided}
 use Rattle.yds_laws.proofs.DecidedPlans.{proper_by_test, plan_by_test}
-use Rattle.yds_laws.proofs.RunScale.{served_in_stretches_scaled, average_rate_run_scaled, optimal_available_run_scaled, optimal_available_rounds_scaled}
+use Rattle.yds_laws.proofs.RunScale.{served_in_stretches_scaled, average_rate_run_scaled}
+use Rattle.yds_laws.proofs.Policies.{available_jobs as jobs, fine_slots as available, fine_scale as available_scale, fine_accepted as available_run}
 use Rattle.yds_laws.proofs.SpentScale.{spent_kept, all_hold_kept, first_failure_kept, units_kept}
-
--- the jobs
-abbrev jobs : List Job
-jobs = record { release = 0; deadline = 3; work = 2 } ∷ record { release = 1; deadline = 2; work = 1 } ∷ []
 
 -- the points: speed 0 at no power, 1 at 1, 2 at 3
 abbrev points : List Point
@@ -64,7 +59,7 @@ plan_served =
 plan : IsPlan jobs planned (level ∷ [])
 plan = plan_by_test jobs planned (level ∷ []) (proper_by_test jobs planned (level ∷ []) (feasible_by_test jobs planned 1 refl refl) refl) plan_served refl
 
--- Average Rate serves 4, 10 and 4 sixths.
+-- Average Rate serves 4, 10 and 4 sixths. (Optimal Available serves 4, 7 and 7, and is a run too.)
 abbrev average : List WrittenSlot
 average =
     slot 0 (of_whole 0) (of_whole 1) (of_parts 4 6)
@@ -85,33 +80,6 @@ average_run = record {
       (λ scale is. (multiple_is_least 5 6).2 scale (is.divided 1 no_written_slot (omega arith)).to (is.divided 0 no_written_slot (omega arith)).work)
       (λ k some. average_rate_run_scaled jobs 6 k 30 average some average_scale average_run_at);
   rounds = refl;
-}
-
--- Optimal Available serves 4, 7 and 7 sixths.
-abbrev available : List WrittenSlot
-available =
-    slot 0 (of_whole 0) (of_whole 1) (of_parts 4 6)
-    ∷ slot 1 (of_whole 1) (of_parts 13 7) (of_whole 1)
-    ∷ slot 0 (of_parts 13 7) (of_whole 2) (of_parts 1 6)
-    ∷ slot 0 (of_whole 2) (of_whole 3) (of_parts 7 6) ∷ []
-
-available_scale : IsScale 42 available
-available_scale = (scale_decided 42 available).0 refl
-
-available_run_at : IsRunAt jobs 6 42 (optimal_available jobs 6 42 (slots_at 42 available)) (slots_at 42 available)
-available_run_at = (run_decided jobs 6 42 (optimal_available jobs 6 42 (slots_at 42 available)) (slots_at 42 available)).0 refl
-
-available_divides : (scale : ℕ) → IsScale scale available → 42 ∣ scale
-available_divides scale is =
-    (multiple_is_least 7 6).2 scale (is.divided 1 no_written_slot (omega arith)).to (is.divided 0 no_written_slot (omega arith)).work
-
--- Each of its scales is a multiple of 7 and of 6, so it is a run, and rounds nowhere either.
-available_run : IsOptimalAvailableRun jobs 6 0 available
-available_run = record {
-  run = least_scale_of available (λ scale whole. IsRunAt jobs 6 scale (optimal_available jobs 6 scale whole) whole) 42 available_scale available_divides
-      (λ k some. optimal_available_run_scaled jobs 6 k 42 available some available_scale available_run_at);
-  rounds = least_scale_of available (λ scale whole. 0 ≡ count_by (optimal_available_rounds jobs 6 scale whole) (stretches jobs)) 42 available_scale available_divides
-      (λ k some. sym (optimal_available_rounds_scaled jobs 6 k 42 available some available_scale));
 }
 
 -- # What they spend

@@ -10,7 +10,7 @@ mod EqualSpeeds
 mod EarliestFirst
 mod RoundNested
 mod RoundSwitch
-mod Policies
+pub mod Policies
 mod Judged
 mod EnergyExamples
 mod WordsExamples

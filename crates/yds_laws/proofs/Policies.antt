@@ -1,6 +1,7 @@
 -- The two policies, tried on small runs of each, on the grids 1 and 6: at a scale of their slots, and at each.
 use Rattle.std.proofs.Common.{◌≡◌, ℕ, zero, suc, ◌-◌, ◌*◌, ◌/◌, ◌≤◌, List, [], ◌∷◌, map, refl, sym, ap, subst, arith, inl, inr}
 use Rattle.std.specs.Prelude.{count_by}
+use Rattle.std.specs.Int.{◌∣◌}
 use Rattle.std.specs.List.{Contains}
 use Rattle.std.proofs.lemmas.Bool.Decides.{not_from_Decides}
 use Rattle.std.proofs.Math.Nat.{one-dvd}
@@ -88,7 +89,7 @@ not_rounded_refused is =
     (is.run.holds 3 ((scale_decided 3 not_rounded).0 refl))
 
 -- Optimal Available: a from 0 to 3 with work 2, b from 1 to 2 with work 1
-abbrev available_jobs : List Job
+abbrev pub available_jobs : List Job
 available_jobs = record { release = 0; deadline = 3; work = 2 } ∷ record { release = 1; deadline = 2; work = 1 } ∷ []
 
 -- its run on the grid 1
@@ -159,7 +160,7 @@ eager_refused is =
     (is.run.holds 1 ((scale_decided 1 eager_slots).0 refl))
 
 -- On the grid 6 it asks for just what is due: 4 units until 1, and 7 until 2 and until 3. Slots are whole at scale 42.
-abbrev fine_slots : List WrittenSlot
+abbrev pub fine_slots : List WrittenSlot
 fine_slots =
     record { job = 0; from = of_whole 0; to = of_whole 1; work = record { whole = 0; num = 4; den = 6 } }
     ∷ record { job = 1; from = of_whole 1; to = of_parts 13 7; work = of_whole 1 }
@@ -174,17 +175,28 @@ fine_units = refl
 fine_run : IsRunAt available_jobs 6 42 (optimal_available available_jobs 6 42 (slots_at 42 fine_slots)) (slots_at 42 fine_slots)
 fine_run = (run_decided available_jobs 6 42 (optimal_available available_jobs 6 42 (slots_at 42 fine_slots)) (slots_at 42 fine_slots)).0 refl
 
--- so at each, which is a multiple of 7 and of 6
+-- 42 is a scale of them, and each is a multiple of it, being one of 7 and of 6
+pub fine_scale : IsScale 42 fine_slots
+fine_scale = (scale_decided 42 fine_slots).0 refl
+
+fine_divides : (scale : ℕ) → IsScale scale fine_slots → 42 ∣ scale
+fine_divides scale is = (multiple_is_least 7 6).2 scale (is.divided 1 no_written_slot (omega arith)).to (is.divided 0 no_written_slot (omega arith)).work
+
+-- so they are a run at each,
 fine_at_each : AtEachScale fine_slots (λ scale whole. IsRunAt available_jobs 6 scale (optimal_available available_jobs 6 scale whole) whole)
 fine_at_each =
-    let is_42 = (scale_decided 42 fine_slots).0 refl in
-    least_scale_of fine_slots (λ scale whole. IsRunAt available_jobs 6 scale (optimal_available available_jobs 6 scale whole) whole) 42 is_42
-    (λ scale is. (multiple_is_least 7 6).2 scale (is.divided 1 no_written_slot (omega arith)).to (is.divided 0 no_written_slot (omega arith)).work)
-    (λ k some. optimal_available_run_scaled available_jobs 6 k 42 fine_slots some is_42 fine_run)
+    least_scale_of fine_slots (λ scale whole. IsRunAt available_jobs 6 scale (optimal_available available_jobs 6 scale whole) whole) 42 fine_scale fine_divides
+    (λ k some. optimal_available_run_scaled available_jobs 6 k 42 fine_slots some fine_scale fine_run)
 
--- and it rounds nowhere
-fine_rounds : count_by (optimal_available_rounds available_jobs 6 42 (slots_at 42 fine_slots)) (stretches available_jobs) ≡ 0
-fine_rounds = refl
+-- which rounds nowhere
+fine_rounds_at_each : AtEachScale fine_slots (λ scale whole. 0 ≡ count_by (optimal_available_rounds available_jobs 6 scale whole) (stretches available_jobs))
+fine_rounds_at_each =
+    least_scale_of fine_slots (λ scale whole. 0 ≡ count_by (optimal_available_rounds available_jobs 6 scale whole) (stretches available_jobs)) 42 fine_scale
+    fine_divides (λ k some. sym (optimal_available_rounds_scaled available_jobs 6 k 42 fine_slots some fine_scale))
+
+-- the slots are a run of Optimal Available that rounds at no event point
+pub fine_accepted : IsOptimalAvailableRun available_jobs 6 0 fine_slots
+fine_accepted = record { run = fine_at_each; rounds = fine_rounds_at_each }
 
 -- b's slot has its work whole and its end over 7: 7 units in a stretch of length 1, in lowest terms
 fine_denominators : HasRunDenominators available_jobs 6 (written_slot_at fine_slots 1)
