@@ -2,6 +2,7 @@ pub mod Decided
 pub mod DecidedSchedules
 pub mod DecidedPlans
 pub mod DecidedRounding
+pub mod DecidedVerdicts
 mod Examples
 mod ThreeJobs
 mod ThreeJobsChanged
@@ -9,6 +10,7 @@ mod EqualSpeeds
 mod EarliestFirst
 mod RoundNested
 mod RoundSwitch
+mod Rows
 mod Policies
 mod Judged
 mod EnergyExamples
@@ -41,3 +43,4 @@ pub mod Inverse
 pub mod Grown
 pub mod Within
 pub mod PlanText
+pub mod AnsweredOnce
