@@ -1,5 +1,5 @@
 -- Tests that decide: how a test of a definition that computes is put together. The worked examples are tried by such tests.
-use Rattle.std.proofs.Common.{◌≡◌, ℕ, zero, suc, ◌%◌, ◌<◌, ◌≤◌, ◌⊎◌, List, [], ◌∷◌, length, get_or, Bool, true, false, ◌&&◌, ◌||◌, ◌==◌, nat_le, nat_lt, refl, sym, subst, inl, inr, arith, eqb-true, eq-eqb}
+use Rattle.std.proofs.Common.{◌≡◌, ℕ, zero, suc, ◌+◌, ◌%◌, ◌<◌, ◌≤◌, ◌⊎◌, List, [], ◌∷◌, length, get_or, Bool, true, false, ◌&&◌, ◌||◌, ◌==◌, nat_le, nat_lt, refl, sym, subst, inl, inr, arith, eqb-true, eq-eqb}
 use Rattle.std.specs.Prelude.{not}
 use Rattle.std.specs.Bool.{Decides}
 use Rattle.std.specs.Int.{◌∣◌}
@@ -42,6 +42,17 @@ all_below test (suc n) = test n && all_below test n
 
 pub each_decided : (test : ℕ → Bool) (P : ℕ → Type 0) → ((i : ℕ) → Decides (test i) (P i)) → (n : ℕ) → Decides (all_below test n) (Each n P)
 each_decided test P decided n = Decides-below_and test P (all_below test) decided refl (λ n. refl) n
+
+-- what is said of a place and the one before it
+abbrev pub with_before : (ℕ → ℕ → Bool) → ℕ → Bool
+with_before test zero = true
+with_before test (suc i) = test (suc i) i
+
+pub before_decided : (test : ℕ → ℕ → Bool) (P : ℕ → ℕ → Type 0) → ((i before : ℕ) → Decides (test i before) (P i before)) → (i : ℕ) →
+    Decides (with_before test i) ((before : ℕ) → before + 1 ≡ i → P i before)
+before_decided test P decided zero = (λ e before next. absurd (omega arith), λ h. refl)
+before_decided test P decided (suc i) =
+    Decides-like (test (suc i) i) (λ h before next. subst (P (suc i)) (omega (arith, next)) h) (λ h. h i (omega arith)) (decided (suc i) i)
 
 module _ {X : Type 0} (test : X → Bool) (P : X → Type 0) (decided : (x : X) → Decides (test x) (P x)) where
   -- what each element of a list has

@@ -1,5 +1,5 @@
 -- Tests that decide what is said of levels: the conditions of a proper certificate, and those of a plan.
-use Rattle.std.proofs.Common.{◌≡◌, ℕ, zero, suc, ◌+◌, ◌*◌, ◌<◌, ◌≤◌, List, [], ◌∷◌, length, take, Bool, true, ◌&&◌, ◌||◌, ◌==◌, nat_le, nat_lt, refl, ap, subst, ◌∙◌, arith}
+use Rattle.std.proofs.Common.{◌≡◌, ℕ, ◌+◌, ◌*◌, ◌<◌, ◌≤◌, List, [], ◌∷◌, length, take, Bool, true, ◌&&◌, ◌||◌, ◌==◌, nat_le, nat_lt, refl, ap, ◌∙◌}
 use Rattle.std.specs.Prelude.{not}
 use Rattle.std.specs.Bool.{Decides}
 use Rattle.std.specs.List.{All, Contains, list_all, list_any}
@@ -17,7 +17,7 @@ use Rattle.yds_model.specs.Plan.{speed_num, speed_den, IsServedInStretches, IsPl
 use Rattle.yds_model.specs.Audit.{HasSpeed, crossed_length}
 use Rattle.yds_model.specs.Judgement.{HasWrittenSpeed}
 use Rattle.yds_laws.proofs.Judgements.{speeds_at_scale}
-use Rattle.yds_laws.proofs.Decided.{le_decided, eq_decided, implied_decided, three_decided, all_below, each_decided, all_decided, any_decided, contains, contains_decided}
+use Rattle.yds_laws.proofs.Decided.{le_decided, eq_decided, implied_decided, three_decided, all_below, each_decided, all_decided, any_decided, contains, contains_decided, with_before, before_decided}
 
 -- # The conditions of a proper certificate
 
@@ -94,17 +94,6 @@ sums_decided jobs levels i =
     Decides-like (sums_agree jobs levels i) (λ h. record { work = h.0; length = h.1 }) (λ sums. (sums.work, sums.length))
     (Decides-and (level.work == work_of jobs level.members) (level.length == total_length level.pieces)
     (eq_decided level.work (work_of jobs level.members)) (eq_decided level.length (total_length level.pieces)))
-
--- what is said of a place and the one before it
-abbrev pub with_before : (ℕ → ℕ → Bool) → ℕ → Bool
-with_before test zero = true
-with_before test (suc i) = test (suc i) i
-
-before_decided : (test : ℕ → ℕ → Bool) (P : ℕ → ℕ → Type 0) → ((i before : ℕ) → Decides (test i before) (P i before)) → (i : ℕ) →
-    Decides (with_before test i) ((before : ℕ) → before + 1 ≡ i → P i before)
-before_decided test P decided zero = (λ e before next. absurd (omega arith), λ h. refl)
-before_decided test P decided (suc i) =
-    Decides-like (test (suc i) i) (λ h before next. subst (P (suc i)) (omega (arith, next)) h) (λ h. h i (omega arith)) (decided (suc i) i)
 
 -- no level is faster than the one before it, and in a plan each is slower
 abbrev pub is_not_faster : List Level → ℕ → Bool
@@ -208,7 +197,7 @@ rise_decided (number ∷ next ∷ numbers) =
     Decides-and (nat_lt number next) (rise (next ∷ numbers)) (Decides-ltb number next) (rise_decided (next ∷ numbers))
 
 -- a fraction of these parts
-abbrev fraction : ℕ → ℕ → ℕ → Fraction
+abbrev pub fraction : ℕ → ℕ → ℕ → Fraction
 fraction whole num den = record { whole = whole; num = num; den = den }
 
 -- one without a part, over 1, is its whole part

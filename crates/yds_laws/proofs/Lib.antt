@@ -3,6 +3,7 @@ pub mod DecidedSchedules
 pub mod DecidedPlans
 pub mod DecidedAdmission
 pub mod DecidedRounding
+pub mod DecidedVerdicts
 mod Examples
 pub mod ThreeJobs
 mod ThreeJobsChanged
@@ -11,6 +12,7 @@ mod EarliestFirst
 mod RoundNested
 mod RoundSwitch
 pub mod Policies
+mod Rows
 mod Judged
 mod EnergyExamples
 mod WordsExamples
@@ -49,3 +51,4 @@ pub mod Inverse
 pub mod Grown
 pub mod Within
 pub mod PlanText
+pub mod AnsweredOnce

@@ -5,3 +5,4 @@ pub mod EnergyLaws
 pub mod PlanText
 pub mod TaskLaws
 pub mod RoundingLaws
+pub mod AnswerLaws

@@ -26,8 +26,8 @@ pub use energy_laws::{
 };
 pub use hull_laws::{hull_exists, hull_is_computed, hull_is_lowest};
 pub use judging_laws::{
-    judgement_is_exact, judgement_is_unique, table_verdict_is_exact, verdict_is_exact,
-    verdict_is_unique,
+    audit_and_check_answer_once, judgement_is_exact, judgement_is_unique, table_verdict_is_exact,
+    verdict_is_exact, verdict_is_unique,
 };
 pub use laws::{
     confinement_bound, explained_is_least, least_among_written, proper_explains, served_at_speed,
