@@ -1,5 +1,5 @@
 -- What the parts of a document keep is all that the model asks of a document within the limits.
-use Rattle.std.proofs.Common.{◌≡◌, ℕ, ◌<◌, ◌≤◌, List, [], ◌∷◌, take, take_all, refl, sym, subst, arith, inl}
+use Rattle.std.proofs.Common.{ℕ, ◌<◌, ◌≤◌, List, [], ◌∷◌, take, take_all, refl, sym, subst, arith, inl}
 use Rattle.std.specs.List.{All}
 use Rattle.std.proofs.lemmas.List.Elements.{All-nil, All-append, All-head, All-tail}
 use Rattle.yds_model.specs.declared.limits.TheConstants.{MAX_GAPS}
