@@ -13,7 +13,7 @@ use crate::told::Told;
 use crate::verdict_line::{add_place, first_word, name_of};
 use std::alloc::Global;
 use yds_checker::{Judgement, check};
-use yds_document::{Document, Line};
+use yds_document::{Document, LineBuffer};
 use yds_model::Memory;
 
 /// The judgement of the document's levels.
@@ -49,14 +49,19 @@ pub fn is_accepted(judgement: &Judgement) -> bool
 }
 
 /// The line of a judgement of the document's levels.
-fn judgement_line(document: &Document<'_>, judgement: &Judgement) -> Line
+fn judgement_line(document: &Document<'_>, judgement: &Judgement) -> LineBuffer
     requires { NamesPlaces (document_view document.now) (judgement_view judgement.now) }
     ensures { result ≡ line (judgement_words (document_view document.now) (judgement_view judgement.now)) }
 {
     match judgement {
-        Judgement::Accepted => Line::new("accepted").end(),
+        Judgement::Accepted => LineBuffer::new("accepted").end(),
         Judgement::Slots(verdict) => {
-            add_place(Line::new("K1").field(first_word(verdict)), document, verdict).end()
+            add_place(
+                LineBuffer::new("K1").field(first_word(verdict)),
+                document,
+                verdict,
+            )
+            .end()
         }
         Judgement::Pieces(level) => numbered("K2", "level", *level),
         Judgement::Members(job) => named("K3", name_of(document, *job)),
@@ -68,20 +73,20 @@ fn judgement_line(document: &Document<'_>, judgement: &Judgement) -> Line
 }
 
 /// The line of a condition that fails at a level or a slot, counted from 0.
-fn numbered(condition: &str, what: &str, place: u32) -> Line
+fn numbered(condition: &str, what: &str, place: u32) -> LineBuffer
     requires short { (length condition.now ≤ 2) × (length what.now ≤ 5) }
     ensures { result ≡ line (condition.now ∷ what.now ∷ decimal (place + 1) ∷ []) }
 {
-    Line::new(condition)
+    LineBuffer::new(condition)
         .field(what)
         .number(u64::from(place) + 1)
         .end()
 }
 
 /// The line of a condition that fails at a job.
-fn named(condition: &str, name: &str) -> Line
+fn named(condition: &str, name: &str) -> LineBuffer
     requires short { (length condition.now ≤ 2) × (length name.now ≤ 64) }
     ensures { result ≡ line (condition.now ∷ codes "job" ∷ name.now ∷ []) }
 {
-    Line::new(condition).field("job").field(name).end()
+    LineBuffer::new(condition).field("job").field(name).end()
 }

@@ -25,8 +25,3 @@ mod with_points;
 
 pub use command::{Command, Question};
 pub use running::run;
-
-#[cfg(test)]
-mod tests;
-#[cfg(test)]
-mod worked_rows;

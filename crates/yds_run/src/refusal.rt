@@ -3,7 +3,7 @@ ghost use Rattle.std.specs.Prelude.{◌≡◌, ◌≤◌, length};
 ghost use Rattle.yds_model.specs.Answer.{refusal_line};
 
 use crate::answer::Answer;
-use yds_document::Line;
+use yds_document::LineBuffer;
 use yds_model::Status;
 use yds_port::{Sink, WriteFault, write_all};
 
@@ -84,10 +84,10 @@ impl Answer for RefusedAt {
 
 impl RefusedAt {
     /// The line that says so.
-    fn to_line(&self) -> Line
+    fn to_line(&self) -> LineBuffer
         ensures { result ≡ refusal_line self.now.line self.now.column self.now.word.now }
     {
-        Line::new("refused")
+        LineBuffer::new("refused")
             .number(u64::from(self.line))
             .number(u64::from(self.column))
             .field(self.word)

@@ -1,7 +1,7 @@
 ghost use Rattle.std.specs.Prelude.{◌≡◌};
 
 use crate::answer::Answer;
-use yds_document::Line;
+use yds_document::LineBuffer;
 use yds_model::Status;
 use yds_port::{Sink, WriteFault, write_all};
 
@@ -9,7 +9,7 @@ use yds_port::{Sink, WriteFault, write_all};
 #[derive(Drop)]
 pub struct Told {
     /// The line.
-    pub line: Line,
+    pub line: LineBuffer,
     /// Whether it says yes.
     pub holds: bool,
 }

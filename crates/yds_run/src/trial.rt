@@ -11,7 +11,7 @@ use crate::check::is_accepted;
 use std::alloc::Global;
 use yds_certificate::Level;
 use yds_checker::check;
-use yds_document::Line;
+use yds_document::LineBuffer;
 use yds_model::{JobRow, Memory, Status};
 use yds_plan::{Planned, plan};
 use yds_port::{Sink, WriteFault, write_all};
@@ -39,7 +39,10 @@ impl Answer for Tried {
 
     fn write<K: Sink>(&self, sink: &mut K) -> Result<(), WriteFault> {
         write_counts(self, sink)?;
-        write_all(sink, peak_line(self.planned.certificate.levels()).as_bytes())?;
+        write_all(
+            sink,
+            peak_line(self.planned.certificate.levels()).as_bytes(),
+        )?;
         write_all(sink, b"accepted\n")
     }
 }
@@ -56,23 +59,23 @@ fn write_counts<K: Sink>(tried: &Tried, sink: &mut K) -> Result<(), WriteFault>
 }
 
 /// The line of a count.
-fn count_line(what: &str, count: usize) -> Line
+fn count_line(what: &str, count: usize) -> LineBuffer
     requires { length what.now ≤ 6 }
     ensures { result ≡ line (what.now ∷ decimal count ∷ []) }
 {
-    Line::new(what).number(count as u64).end()
+    LineBuffer::new(what).number(count as u64).end()
 }
 
 /// The line of the fastest level's work and length, in units of work and of time.
-fn peak_line(levels: &[Level]) -> Line
+fn peak_line(levels: &[Level]) -> LineBuffer
     ensures { result ≡ line (peak_words levels.now) }
 {
     match levels.first() {
-        Some(level) => Line::new("peak")
+        Some(level) => LineBuffer::new("peak")
             .number(level.work)
             .number(level.length)
             .end(),
-        None => Line::new("peak").field("none").end(),
+        None => LineBuffer::new("peak").field("none").end(),
     }
 }
 

@@ -10,14 +10,16 @@ ghost use Rattle.yds_document.specs.Documents.{document_view};
 ghost use Rattle.yds_run.specs.VerdictLine.{spaced, later_words, verdict_word, NamesSlots};
 
 use yds_audit::Verdict;
-use yds_document::{Document, Line};
+use yds_document::{Document, LineBuffer};
 use yds_fraction::Amount;
 use yds_model::JobRow;
 use yds_slots::Slot;
 
 // How many bytes a field has at most, with the space before it.
 const NUMBER: usize = 21;
+
 const NAME: usize = 65;
+
 const FRACTION: usize = 63;
 
 /// How many bytes a line has at most before its slot or its job: `K1 off-point`.
@@ -42,11 +44,11 @@ const WANTED_TOLD: usize = GIVEN_TOLD + 7 + NUMBER;
 const PLACE_TOLD: usize = SLOT_TOLD + 3 * FRACTION;
 
 /// The line of a verdict on the document's slots.
-pub fn verdict_line(document: &Document<'_>, verdict: &Verdict) -> Line
+pub fn verdict_line(document: &Document<'_>, verdict: &Verdict) -> LineBuffer
     requires { NamesSlots (document_view document.now) (verdict_view verdict.now) }
     ensures { result ≡ line (verdict_words (document_view document.now) (verdict_view verdict.now)) }
 {
-    add_place(Line::new(first_word(verdict)), document, verdict).end()
+    add_place(LineBuffer::new(first_word(verdict)), document, verdict).end()
 }
 
 /// The first word of a verdict's line.
@@ -66,7 +68,7 @@ pub fn first_word(verdict: &Verdict) -> &'static str
 }
 
 /// The words of a verdict's line after the first one.
-pub fn add_place(line: Line, document: &Document<'_>, verdict: &Verdict) -> Line
+pub fn add_place(line: LineBuffer, document: &Document<'_>, verdict: &Verdict) -> LineBuffer
     requires room { length line ≤ BEGUN }
     requires names { NamesSlots (document_view document.now) (verdict_view verdict.now) }
     ensures bytes { result ≡ line ++ spaced (later_words (verdict_words (document_view document.now) (verdict_view verdict.now))) }
@@ -109,7 +111,7 @@ pub fn add_place(line: Line, document: &Document<'_>, verdict: &Verdict) -> Line
 }
 
 /// The job's name and the work that it is given.
-fn add_given(line: Line, document: &Document<'_>, job: u32, given: Amount) -> Line
+fn add_given(line: LineBuffer, document: &Document<'_>, job: u32, given: Amount) -> LineBuffer
     requires room { length line ≤ BEGUN }
     requires within { job < length document.now.instance.jobs }
     ensures bytes { result ≡ line ++ spaced (name_at document.now.instance.names job ∷ codes "given" ∷ fraction_text given ∷ []) }
@@ -121,7 +123,7 @@ fn add_given(line: Line, document: &Document<'_>, job: u32, given: Amount) -> Li
 }
 
 /// The work that a job wants.
-fn add_wanted(line: Line, wanted: u32) -> Line
+fn add_wanted(line: LineBuffer, wanted: u32) -> LineBuffer
     requires room { length line ≤ GIVEN_TOLD }
     ensures bytes { result ≡ line ++ spaced (codes "wanted" ∷ decimal wanted ∷ []) }
     ensures short { length result ≤ WANTED_TOLD }
@@ -130,7 +132,7 @@ fn add_wanted(line: Line, wanted: u32) -> Line
 }
 
 /// The time at which the slot before this one ends.
-fn add_previous(line: Line, document: &Document<'_>, slot: u32) -> Line
+fn add_previous(line: LineBuffer, document: &Document<'_>, slot: u32) -> LineBuffer
     requires room { length line ≤ START_TOLD }
     requires later { 1 ≤ slot }
     requires within { slot < length document.now.schedule.slots }
@@ -142,7 +144,7 @@ fn add_previous(line: Line, document: &Document<'_>, slot: u32) -> Line
 }
 
 /// The slot's number, from 1, and the name of its job.
-fn add_slot(line: Line, document: &Document<'_>, slot: u32) -> Line
+fn add_slot(line: LineBuffer, document: &Document<'_>, slot: u32) -> LineBuffer
     requires room { length line ≤ BEGUN }
     requires within { slot < length document.now.schedule.slots }
     ensures bytes { result ≡ line ++ spaced (codes "slot" ∷ decimal (slot + 1) ∷ job_name (document_view document.now) slot ∷ []) }
@@ -153,7 +155,7 @@ fn add_slot(line: Line, document: &Document<'_>, slot: u32) -> Line
 }
 
 /// The same, and the time at which the slot begins.
-fn add_start(line: Line, document: &Document<'_>, slot: u32) -> Line
+fn add_start(line: LineBuffer, document: &Document<'_>, slot: u32) -> LineBuffer
     requires room { length line ≤ BEGUN }
     requires within { slot < length document.now.schedule.slots }
     ensures bytes { result ≡ line ++ spaced (codes "slot" ∷ decimal (slot + 1) ∷ job_name (document_view document.now) slot
