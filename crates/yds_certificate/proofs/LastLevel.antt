@@ -2,7 +2,7 @@
 use Rattle.std.proofs.Common.{◌≡◌, ℕ, suc, ◌+◌, ◌-◌, ◌<◌, ◌≤◌, List, [], ◌∷◌, ◌++◌, length, sym, ap, ◌∙◌, subst, arith}
 use Rattle.std.specs.Prelude.{◌==◌, cond}
 use Rattle.std.specs.List.{All, slice_index_or, slice_set, flat_map}
-use Rattle.std.proofs.lemmas.List.{length-append, length-set, get_or-append-add, append-nil}
+use Rattle.std.proofs.lemmas.List.{length-append, length-set, append-nil}
 use Rattle.std.proofs.lemmas.List.Concat.{length-flat_map, flat_map-cons}
 use Rattle.std.proofs.lemmas.List.Sums.{sum_by-set, sum_by-append}
 use Rattle.std.proofs.lemmas.List.Sorted.{length_permutation}
@@ -11,8 +11,8 @@ use Rattle.yds_model.specs.declared.limits.TheConstants.{MAX_PIECES, MAX_MEMBERS
 use Rattle.yds_model.specs.Numbers.{count}
 use Rattle.yds_model.specs.Piece.{Piece, AreApart}
 use Rattle.yds_model.specs.Level.{Level, level_at, all_members, all_pieces}
-use Rattle.yds_model.specs.Within.{IsPiece}
-use Rattle.yds_model.specs.Within.{IsLevel}
+use Rattle.yds_model.specs.Within.{IsPiece, IsLevel}
+use Rattle.yds_model.proofs.Lists.{All-back}
 use Rattle.yds_certificate.specs.Level.{with_piece, with_member}
 use Rattle.yds_certificate.specs.Certificate.{IsCertificate, with_last}
 use Rattle.yds_certificate.specs.Merging.{IsNewTo, AreTogether, last_level}
@@ -92,9 +92,6 @@ last_cons first (next ∷ levels) some =
     let here : suc (suc (length levels)) - 1 ≡ suc (suc (length levels) - 1) = omega arith in
     ap (λ (i : ℕ). level_at (first ∷ next ∷ levels) i) here
 
-All-right : {X : Type 0} (P : X → Type 0) (xs ys : List X) → All P (xs ++ ys) → All P ys
-All-right P xs ys all k d within = subst P (get_or-append-add xs ys k d) (all (length xs + k) d (omega (arith, length-append xs ys)))
-
 -- what all pieces have, those of the last level have
 last_pieces : (P : Piece → Type 0) (levels : List Level) → 1 ≤ length levels → All P (all_pieces levels) → All P (last_level levels).pieces
 last_pieces P [] some all = absurd (omega arith)
@@ -103,7 +100,7 @@ last_pieces P (only ∷ []) some all =
 last_pieces P (first ∷ next ∷ levels) some all =
     rw (last_cons first (next ∷ levels) (omega arith))
     (last_pieces P (next ∷ levels) (omega arith)
-    (All-right P first.pieces (all_pieces (next ∷ levels)) (subst (All P) (flat_map-cons (λ (l : Level). l.pieces) first (next ∷ levels)) all)))
+    (All-back P first.pieces (all_pieces (next ∷ levels)) (subst (All P) (flat_map-cons (λ (l : Level). l.pieces) first (next ∷ levels)) all)))
 
 -- a number that is no member is none of the last level
 last_members : (number : ℕ) (levels : List Level) → 1 ≤ length levels → count number (all_members levels) ≡ 0 → count number (last_level levels).members ≡ 0

@@ -1,6 +1,5 @@
 -- What a draft holds after one more entry.
 use Rattle.std.proofs.Common.{◌≡◌, ℕ, false, ◌+◌, ◌≤◌, List, [], ◌∷◌, ◌++◌, length, Option, Some, None, refl, sym, ap, ◌∙◌, subst}
-use Rattle.std.specs.List.{filter_map}
 use Rattle.std.proofs.lemmas.List.{append-nil}
 use Rattle.yds_model.specs.Job.{Job}
 use Rattle.yds_model.specs.Scale.{Fraction}
@@ -8,7 +7,7 @@ use Rattle.yds_model.specs.Slot.{WrittenSlot}
 use Rattle.yds_model.specs.Piece.{Piece}
 use Rattle.yds_model.specs.Level.{Level}
 use Rattle.yds_model.specs.Table.{Point}
-use Rattle.yds_model.specs.Document.{Document, Grid}
+use Rattle.yds_model.specs.Document.{Grid}
 use Rattle.yds_model.specs.Entry.{Entry, JobEntry, PointEntry, SlotEntry, LevelEntry, PieceEntry, MemberEntry, TicksEntry, GridEntry, EnergyEntry, ticks_said, is_level}
 use Rattle.yds_model.proofs.Said.{Says, IsOfLevels, says_other, said-ticks, says-job, says-point, says-slot, says-level, says-last, says-grid, says-energy, with_entry, more_said, none_said}
 use Rattle.yds_certificate.specs.Certificate.{with_last}
@@ -17,7 +16,7 @@ use Rattle.yds_instance.specs.Named.{Named}
 use Rattle.yds_slots.specs.Schedule.{WrittenSchedule}
 use Rattle.yds_document.specs.declared.draft.Draft.{Draft}
 use Rattle.yds_document.specs.Draft.{Holds, Takes, document_of, items_of, points_of}
-use Rattle.yds_document.proofs.LevelGrown.{Ended, ended}
+use Rattle.yds_document.proofs.LevelGrown.{ended}
 
 -- as the model says it
 says : (d : Draft) (es : List Entry) → Holds d es → Says es (document_of d)

@@ -40,7 +40,7 @@ point_ok [] new point column old is table = absurd (omega (arith, old.table.some
 point_ok (first ∷ others) new point column old is table =
     let more : IsPointTable (first ∷ (others ++ point ∷ [])) = subst IsPointTable is table in
     let all = first ∷ (others ++ point ∷ []) in
-    let fine : hull_multiple all ≤ MAX_GAPS = subst (λ (l : List Point). hull_multiple l ≤ MAX_GAPS) (take-length all) (more.gaps (length all) (omega arith) (omega arith)) in
+    let fine : hull_multiple all ≤ MAX_GAPS = subst (λ (l : List Point). hull_multiple l ≤ MAX_GAPS) (take-length all) (more.within.gaps_in_range (length all)) in
     point_by first others point column true true (lt-ltb _ _ (rising_last first others point more.table.rising)) (le-leb _ _ fine)
 
 pub point_err : (points : List Point) (point : Point) (column : ℕ) (fault : TableFault) → IsPointTable points → IsCause points point fault

@@ -14,6 +14,8 @@ use Rattle.yds_model.specs.Reading.{Kind, JobLine, PointLine, SlotLine, RunLine,
 use Rattle.yds_document.specs.declared.draft.Draft.{Draft}
 use Rattle.yds_document.specs.declared.line_fault.LineFault.{LineFault}
 use Rattle.yds_document.specs.declared.line_fault.LineFault.TheVariants.{At, Memory}
+use Rattle.yds_text.specs.Count.{no_reason}
+use Rattle.yds_text.proofs.Counted.{counted_for}
 use Rattle.yds_document.specs.Fields.{Fails}
 use Rattle.yds_document.specs.Job.{job_of}
 use Rattle.yds_document.specs.Slot.{slot_of}
@@ -27,19 +29,19 @@ pub passed : (r : Result (Unit {0}) LineFault) (e : LineFault) (read : Result En
 passed r e read draft es told failed =
     subst (λ (t : Result (Unit {0}) LineFault). Tells t read draft es) (sym told.1) (subst (λ (f : LineFault). Fails f read) (sym told.2) failed)
 
-counted_read : (kind : Kind) (earlier : List Entry) (fields cells : List Field) → (fields ≡ cells) × (count_fields reasons.FieldCount (fields_wanted kind) fields ≡ Ok true)
+counted_read : (kind : Kind) (earlier : List Entry) (fields cells : List Field) → (fields ≡ cells) × (count_fields no_reason (fields_wanted kind) fields ≡ Ok true)
     → count_and_read kind earlier fields ≡ read_kind kind earlier cells
 counted_read kind earlier fields cells counted =
-    ap (λ (r : Result Bool (Spot Reason)). r >>= (λ all. read_kind kind earlier fields)) counted.1 ∙ ap (read_kind kind earlier) counted.0
+    ap (λ (r : Result Bool (Spot Reason)). r >>= (λ all. read_kind kind earlier fields)) (counted_for reasons.FieldCount (fields_wanted kind) fields counted.1) ∙ ap (read_kind kind earlier) counted.0
 
 -- the fields are as many as they ought to be, and one of them is refused
 pub fields_failed : (kind : Kind) (earlier : List Entry) (fields cells : List Field) (fault : LineFault)
-    → (fields ≡ cells) × (count_fields reasons.FieldCount (fields_wanted kind) fields ≡ Ok true) → Fails fault (read_kind kind earlier cells) → Fails fault (count_and_read kind earlier fields)
+    → (fields ≡ cells) × (count_fields no_reason (fields_wanted kind) fields ≡ Ok true) → Fails fault (read_kind kind earlier cells) → Fails fault (count_and_read kind earlier fields)
 fields_failed kind earlier fields cells fault counted failed = subst (Fails fault) (sym (counted_read kind earlier fields cells counted)) failed
 
 -- the entry that the fields say is held
 pub holds_more : (kind : Kind) (earlier : List Entry) (fields cells : List Field) (entry : Entry) (old new : Draft)
-    → (fields ≡ cells) × (count_fields reasons.FieldCount (fields_wanted kind) fields ≡ Ok true) → read_kind kind earlier cells ≡ Ok entry → Holds old earlier → Takes old new entry
+    → (fields ≡ cells) × (count_fields no_reason (fields_wanted kind) fields ≡ Ok true) → read_kind kind earlier cells ≡ Ok entry → Holds old earlier → Takes old new entry
     → HoldsMore (count_and_read kind earlier fields) new earlier
 holds_more kind earlier fields cells entry old new counted said holds takes =
     record { entry = entry; said = counted_read kind earlier fields cells counted ∙ said; holds = takes earlier holds }

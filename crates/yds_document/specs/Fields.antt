@@ -1,14 +1,13 @@
 -- What a reader of a field or of a line returned, against what the definition of reading says there; and what a name says
 -- by the names of the jobs before it.
-use Rattle.std.specs.Prelude.{◌≡◌, ◌≤◌, length, ℕ, List, [], ◌∷◌, true, Some, None, is_none, Result, Ok, Err}
+use Rattle.std.specs.Prelude.{◌≡◌, ℕ, List, Some, None, is_none, Result, Ok, Err}
 use Rattle.yds_model.specs.Lines.{Field}
 use Rattle.yds_model.specs.Spelling.{is_name}
 use Rattle.yds_model.specs.declared.reason.Reason.{Reason}
 use Rattle.yds_model.specs.declared.reason.Reason.TheVariants as reasons
-use Rattle.yds_model.specs.Fields.{Spot, ◌>>=◌, refuse, demand, field_at, count_fields}
+use Rattle.yds_model.specs.Fields.{Spot, ◌>>=◌, refuse, demand}
 use Rattle.yds_instance.specs.Named.{number_of}
-use Rattle.yds_text.specs.declared.field.Field.{Field as FieldRead}
-use Rattle.yds_text.specs.Read.{field_read}
+use Rattle.yds_text.specs.declared.count.FieldCount.{FieldCount}
 use Rattle.yds_document.specs.declared.line_fault.LineFault.{LineFault}
 use Rattle.yds_document.specs.declared.line_fault.LineFault.TheVariants as faults
 
@@ -22,20 +21,9 @@ abbrev pub Gives : {X Y : Type 0} → (X → Y) → Result X LineFault → Resul
 Gives view (Ok x) read = read ≡ Ok (view x)
 Gives view (Err fault) read = Fails fault read
 
--- so many fields stand after the kind, and they are these, or their count is refused
-abbrev pub Counts : {X : Type 0} → (X → List Field) → Result X LineFault → ℕ → List Field → Type 0
-Counts view (Ok x) wanted fields = (fields ≡ view x) × (count_fields reasons.FieldCount wanted fields ≡ Ok true)
-Counts view (Err fault) wanted fields = Fails fault (count_fields reasons.FieldCount wanted fields)
-
--- the next of these fields was read, or there is none and the column after the last one is refused
-abbrev pub ReadsNext : Result FieldRead LineFault → ℕ → List Field → List Field → Type 0
-ReadsNext (Ok field) past old new = old ≡ field_read field ∷ new
-ReadsNext (Err fault) past old new = (old ≡ []) × (fault ≡ faults.At past reasons.FieldCount)
-
--- no field is left, or the first of them is refused
-abbrev pub EndsThere : Result (Unit {0}) LineFault → List Field → Type 0
-EndsThere (Ok done) fields = fields ≡ []
-EndsThere (Err fault) fields = (1 ≤ length fields) × (fault ≡ faults.At (field_at fields 0).column reasons.FieldCount)
+-- the fault of a line of too many or too few fields
+abbrev pub count_fault : FieldCount → LineFault
+count_fault count = faults.At count.column reasons.FieldCount
 
 -- a name that is none of these
 abbrev pub new_name_of : List (List ℕ) → Field → Result (List ℕ) (Spot Reason)

@@ -37,6 +37,7 @@ pub struct Document<'a> {
 }
 
 impl<'a> Document<'a> {
+    ghost use Rattle.yds_model.specs.Document.{with_answer};
     ghost use Rattle.yds_model.specs.Within.{IsDocument};
     ghost use Rattle.yds_document.specs.Documents.{document_view};
 
@@ -69,6 +70,7 @@ impl<'a> Document<'a> {
         ensures certificate { result.certificate ≡ certificate }
         ensures grid { result.grid ≡ grid }
         ensures energy { result.energy ≡ energy }
+        ensures shown { document_view result ≡ with_answer (document_view self.entry) schedule.slots certificate grid energy }
         ensures possible { IsDocument (document_view result) }
     {
         let document = Document {

@@ -13,13 +13,13 @@ ghost use Rattle.yds_document.specs.Draft.{IsDraft, Reads, Takes};
 ghost use Rattle.yds_document.specs.Fields.{Gives};
 
 use crate::draft::Draft;
-use crate::fields::{fraction_in, one_field};
+use crate::fields::fraction_in;
 use crate::line_buffer::LineBuffer;
 use crate::line_fault::LineFault;
 use yds_fraction::Amount;
 use yds_model::limits::MAX_ENERGY;
 use yds_port::{Sink, WriteFault, write_all};
-use yds_text::{Field, Fields};
+use yds_text::{Field, Fields, one_field};
 
 // Reads the line whose first field is `kind`, and keeps its energy.
 pub(crate) fn read<'a>(

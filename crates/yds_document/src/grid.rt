@@ -11,13 +11,13 @@ ghost use Rattle.yds_document.specs.Draft.{IsDraft, Reads, Takes};
 ghost use Rattle.yds_document.specs.Fields.{Gives};
 
 use crate::draft::Draft;
-use crate::fields::{small_in, two_fields};
+use crate::fields::small_in;
 use crate::line_buffer::LineBuffer;
 use crate::line_fault::LineFault;
 use std::marker::Model;
 use yds_model::limits::{MAX_GRID, MAX_ROUNDED};
 use yds_port::{Sink, WriteFault, write_all};
-use yds_text::{Field, Fields};
+use yds_text::{Field, Fields, two_fields};
 
 /// The grid of a policy run, and at how many event points the run rounded.
 ///

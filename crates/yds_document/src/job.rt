@@ -14,14 +14,14 @@ ghost use Rattle.yds_document.specs.Fields.{Gives};
 ghost use Rattle.yds_document.specs.Job.{job_of};
 
 use crate::draft::Draft;
-use crate::fields::{four_fields, new_name, small_in};
+use crate::fields::{new_name, small_in};
 use crate::line_buffer::LineBuffer;
 use crate::line_fault::LineFault;
 use yds_instance::Instance;
 use yds_model::limits::{MAX_TIME, MAX_WORK};
 use yds_model::{JobRow, Memory, Reason};
 use yds_port::{Sink, WriteFault, write_all};
-use yds_text::{Field, Fields};
+use yds_text::{Field, Fields, four_fields};
 
 // Reads the line whose first field is `kind`, and adds its job.
 pub(crate) fn read<'a>(

@@ -12,7 +12,7 @@ ghost use Rattle.yds_document.specs.Draft.{IsDraft, Reads, Takes};
 ghost use Rattle.yds_document.specs.Fields.{Gives};
 
 use crate::draft::Draft;
-use crate::fields::{number_in, two_fields};
+use crate::fields::number_in;
 use crate::line_buffer::LineBuffer;
 use crate::line_fault::LineFault;
 use crate::{member, piece};
@@ -22,7 +22,7 @@ use yds_instance::Instance;
 use yds_model::Memory;
 use yds_model::limits::{MAX_LEVEL_LENGTH, MAX_LEVEL_WORK};
 use yds_port::{Sink, WriteFault, write_all};
-use yds_text::{Field, Fields};
+use yds_text::{Field, Fields, two_fields};
 
 // Reads the line whose first field is `kind`, and adds its level.
 pub(crate) fn read<'a>(

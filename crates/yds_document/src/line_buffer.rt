@@ -8,9 +8,15 @@ use itoa::Buffer;
 use std::marker::Model;
 use yds_fraction::Amount;
 
-/// How many bytes a line has at most. The longest line of a document, that of a slot, has at most
-/// 4 + 65 + 3 * 63 + 1 of them.
+/// How many bytes a line has at most. The longest line of a document, that of a slot, has its kind, a name and
+/// three fractions, and fits well; so does the line of a verdict, which has some words more.
 pub const LINE_BYTES: usize = 320;
+
+/// How many digits a number has at most.
+pub const NUMBER_BYTES: usize = 20;
+
+/// How many bytes a fraction has at most: three numbers, and the two signs between them.
+pub const FRACTION_BYTES: usize = 3 * NUMBER_BYTES + 2;
 
 /// A line of text, made on the stack. A contract sees its bytes.
 #[derive(Drop)]
@@ -68,9 +74,9 @@ impl LineBuffer {
 
     /// One more field with a number, after a space.
     pub fn number(mut self, number: u64) -> LineBuffer
-        requires { length self + 21 ≤ LINE_BYTES }
+        requires { length self + 1 + NUMBER_BYTES ≤ LINE_BYTES }
         ensures bytes { result ≡ self ++ 32 ∷ decimal number }
-        ensures short { length result ≤ length self + 21 }
+        ensures short { length result ≤ length self + 1 + NUMBER_BYTES }
     {
         self.push_number(number);
         self
@@ -78,9 +84,9 @@ impl LineBuffer {
 
     // The same in place.
     pub(crate) fn push_number(&mut self, number: u64)
-        requires { length self.old + 21 ≤ LINE_BYTES }
+        requires { length self.old + 1 + NUMBER_BYTES ≤ LINE_BYTES }
         ensures bytes { self.new ≡ self.old ++ 32 ∷ decimal number }
-        ensures short { length self.new ≤ length self.old + 21 }
+        ensures short { length self.new ≤ length self.old + 1 + NUMBER_BYTES }
     {
         self.push_field(Buffer::new().format(number));
     }
@@ -88,10 +94,10 @@ impl LineBuffer {
     /// One more field with a number at the right of so many places, after a space. A number of more digits
     /// is written whole.
     pub fn column(mut self, places: usize, number: u64) -> LineBuffer
-        requires few { places ≤ 20 }
-        requires room { length self + 21 ≤ LINE_BYTES }
+        requires few { places ≤ NUMBER_BYTES }
+        requires room { length self + 1 + NUMBER_BYTES ≤ LINE_BYTES }
         ensures bytes { result ≡ self ++ 32 ∷ right places number }
-        ensures short { length result ≤ length self + 21 }
+        ensures short { length result ≤ length self + 1 + NUMBER_BYTES }
     {
         self.text.push_str(" ");
         self.right(places, number)
@@ -99,10 +105,10 @@ impl LineBuffer {
 
     /// The same with no space before it.
     pub fn right(self, places: usize, number: u64) -> LineBuffer
-        requires few { places ≤ 20 }
-        requires room { length self + 20 ≤ LINE_BYTES }
+        requires few { places ≤ NUMBER_BYTES }
+        requires room { length self + NUMBER_BYTES ≤ LINE_BYTES }
         ensures bytes { result ≡ self ++ right places number }
-        ensures short { length result ≤ length self + 20 }
+        ensures short { length result ≤ length self + NUMBER_BYTES }
     {
         let mut buffer = Buffer::new();
         let digits = buffer.format(number);
@@ -126,9 +132,9 @@ impl LineBuffer {
     /// One more field with a fraction, after a space: `W`, or `W+N/D` where the numerator isn't 0. It
     /// isn't reduced.
     pub fn fraction(mut self, value: Amount) -> LineBuffer
-        requires { length self + 63 ≤ LINE_BYTES }
+        requires { length self + 1 + FRACTION_BYTES ≤ LINE_BYTES }
         ensures bytes { result ≡ self ++ 32 ∷ fraction_text value }
-        ensures short { length result ≤ length self + 63 }
+        ensures short { length result ≤ length self + 1 + FRACTION_BYTES }
     {
         self.push_fraction(value);
         self
@@ -136,9 +142,9 @@ impl LineBuffer {
 
     // The same in place.
     pub(crate) fn push_fraction(&mut self, value: Amount)
-        requires { length self.old + 63 ≤ LINE_BYTES }
+        requires { length self.old + 1 + FRACTION_BYTES ≤ LINE_BYTES }
         ensures bytes { self.new ≡ self.old ++ 32 ∷ fraction_text value }
-        ensures short { length self.new ≤ length self.old + 63 }
+        ensures short { length self.new ≤ length self.old + 1 + FRACTION_BYTES }
     {
         self.text.push_str(" ");
         self.push_mixed(value);
@@ -146,9 +152,9 @@ impl LineBuffer {
 
     /// The same with no space before it.
     pub fn mixed(mut self, value: Amount) -> LineBuffer
-        requires { length self + 62 ≤ LINE_BYTES }
+        requires { length self + FRACTION_BYTES ≤ LINE_BYTES }
         ensures bytes { result ≡ self ++ fraction_text value }
-        ensures short { length result ≤ length self + 62 }
+        ensures short { length result ≤ length self + FRACTION_BYTES }
     {
         self.push_mixed(value);
         self
@@ -156,9 +162,9 @@ impl LineBuffer {
 
     // The same in place.
     fn push_mixed(&mut self, value: Amount)
-        requires { length self.old + 62 ≤ LINE_BYTES }
+        requires { length self.old + FRACTION_BYTES ≤ LINE_BYTES }
         ensures bytes { self.new ≡ self.old ++ fraction_text value }
-        ensures short { length self.new ≤ length self.old + 62 }
+        ensures short { length self.new ≤ length self.old + FRACTION_BYTES }
     {
         self.text.push_str(Buffer::new().format(value.whole()));
         if value.num() != 0 {
@@ -170,9 +176,9 @@ impl LineBuffer {
     // A sign and a number, with no space.
     fn push_part(&mut self, sign: &str, number: u64)
         requires one { length sign.now ≡ 1 }
-        requires room { length self.old + 21 ≤ LINE_BYTES }
+        requires room { length self.old + 1 + NUMBER_BYTES ≤ LINE_BYTES }
         ensures bytes { self.new ≡ self.old ++ (sign.now ++ decimal number) }
-        ensures short { length self.new ≤ length self.old + 21 }
+        ensures short { length self.new ≤ length self.old + 1 + NUMBER_BYTES }
     {
         self.text.push_str(sign);
         self.text.push_str(Buffer::new().format(number));

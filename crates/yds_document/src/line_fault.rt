@@ -3,6 +3,7 @@ ghost use Rattle.yds_model.specs.Reading.{reason_of};
 ghost use Rattle.yds_document.specs.declared.line_fault.LineFault.TheVariants as faults;
 
 use yds_model::{Memory, NumberFault, Reason};
+use yds_text::FieldCount;
 
 // Why a line wasn't taken.
 #[derive(Clone, Copy, Debug, PartialEq, Eq)]
@@ -20,6 +21,17 @@ impl From<Memory> for LineFault {
 
     fn from(_error: Memory) -> LineFault {
         LineFault::Memory
+    }
+}
+
+impl From<FieldCount> for LineFault {
+    ghost use Rattle.std.specs.Prelude.{◌≡◌};
+    ghost use Rattle.yds_document.specs.Fields.{count_fault};
+
+    ghost from_gives = { λ count fault. fault ≡ count_fault count };
+
+    fn from(count: FieldCount) -> LineFault {
+        LineFault::at(count.column, Reason::FieldCount)
     }
 }
 

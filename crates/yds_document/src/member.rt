@@ -12,14 +12,14 @@ ghost use Rattle.yds_document.specs.Fields.{Gives};
 ghost use Rattle.yds_document.specs.Member.{member_of};
 
 use crate::draft::Draft;
-use crate::fields::{known_job, one_field};
+use crate::fields::known_job;
 use crate::job::name_of;
 use crate::line_buffer::LineBuffer;
 use crate::line_fault::LineFault;
 use yds_instance::Instance;
 use yds_model::Memory;
 use yds_port::{Sink, WriteFault, write_all};
-use yds_text::{Field, Fields};
+use yds_text::{Field, Fields, one_field};
 
 // Reads the line whose first field is `kind`, and adds its member to the last level.
 pub(crate) fn read<'a>(

@@ -12,14 +12,14 @@ ghost use Rattle.yds_document.specs.Draft.{IsDraft, Reads, Takes};
 ghost use Rattle.yds_document.specs.Fields.{Gives};
 
 use crate::draft::Draft;
-use crate::fields::{small_in, two_fields};
+use crate::fields::small_in;
 use crate::line_buffer::LineBuffer;
 use crate::line_fault::LineFault;
 use yds_certificate::Piece;
 use yds_model::Memory;
 use yds_model::limits::MAX_TIME;
 use yds_port::{Sink, WriteFault, write_all};
-use yds_text::{Field, Fields};
+use yds_text::{Field, Fields, two_fields};
 
 // Reads the line whose first field is `kind`, and adds its piece to the last level.
 pub(crate) fn read<'a>(

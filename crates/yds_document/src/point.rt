@@ -13,7 +13,7 @@ ghost use Rattle.yds_document.specs.Fields.{Gives};
 ghost use Rattle.yds_document.specs.Point.{point_of, point_after, table_fault};
 
 use crate::draft::Draft;
-use crate::fields::{small_in, two_fields};
+use crate::fields::small_in;
 use crate::line_buffer::LineBuffer;
 use crate::line_fault::LineFault;
 use std::alloc::Global;
@@ -22,7 +22,7 @@ use yds_model::Reason;
 use yds_model::limits::{MAX_POINT_POWER, MAX_POINT_SPEED};
 use yds_port::{Sink, WriteFault, write_all};
 use yds_table::{Table, TableFault};
-use yds_text::{Field, Fields};
+use yds_text::{Field, Fields, two_fields};
 
 // Reads the line whose first field is `kind`, and adds its point.
 pub(crate) fn read<'a>(

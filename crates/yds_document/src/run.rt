@@ -1,11 +1,9 @@
 // The lines of runs: a job runs from one tick to another at a speed. That is the slot of the speed times the
 // time, and is printed as one.
-ghost use Rattle.std.specs.Prelude.{◌≡◌, ◌<◌, ◌≤◌, ◌/◌, ◌∷◌, length, OnOk, IfOk};
-ghost use Rattle.yds_model.specs.declared.limits.TheConstants.{MAX_SLOTS, MAX_TICKS, MAX_WHOLE, MAX_DENOMINATOR};
+ghost use Rattle.std.specs.Prelude.{◌≡◌, ◌<◌, ◌≤◌, ◌∷◌, length, OnOk, IfOk};
+ghost use Rattle.yds_model.specs.declared.limits.TheConstants.{MAX_SLOTS, MAX_TICKS};
 ghost use Rattle.yds_model.specs.Entry.{SlotEntry};
 ghost use Rattle.yds_model.specs.Reading.{RunLine};
-ghost use Rattle.yds_model.specs.Scale.{of_parts};
-ghost use Rattle.yds_fraction.specs.Mixed.{IsMixed};
 ghost use Rattle.yds_slots.specs.Schedule.{FitsGrain};
 ghost use Rattle.yds_text.specs.Read.{field_read};
 ghost use Rattle.yds_document.specs.Draft.{IsDraft, Reads};
@@ -13,14 +11,14 @@ ghost use Rattle.yds_document.specs.Fields.{Gives};
 ghost use Rattle.yds_document.specs.Run.{run_after, run_of};
 
 use crate::draft::Draft;
-use crate::fields::{four_fields, known_job, number_in};
+use crate::fields::{known_job, number_in};
 use crate::line_fault::LineFault;
 use crate::slot::{add, fits_grain};
-use yds_fraction::Amount;
+use yds_fraction::{Amount, Moment};
 use yds_model::Reason;
 use yds_model::limits::{MAX_RUN_SPEED, MAX_SLOT_WORK, MAX_TIME};
 use yds_slots::{Schedule, Slot};
-use yds_text::{Field, Fields};
+use yds_text::{Field, Fields, four_fields};
 
 // Reads the line whose first field is `kind`, and adds its slot.
 pub(crate) fn read<'a>(
@@ -77,30 +75,19 @@ fn slot_at(
     let begin = number_in(from, 0, most)?;
     let end = number_in(to, 0, most)?;
     let rate = number_in(speed, 0, u64::from(MAX_RUN_SPEED))?;
+    let den = u64::from(ticks);
     let parts = u128::from(rate) * u128::from(end.saturating_sub(begin));
-    if parts / u128::from(ticks) > u128::from(MAX_SLOT_WORK) {
+    if parts / u128::from(den) > u128::from(MAX_SLOT_WORK) {
         return Err(LineFault::at(speed.column, Reason::OutOfRange));
     }
-    let work = of_parts(parts, ticks);
+    let work = Amount::of_parts(parts, den);
     if !fits_grain(schedule, job, work) {
         return Err(LineFault::at(speed.column, Reason::MixedGrain));
     }
     Ok(Slot {
         job,
-        from: of_parts(u128::from(begin), ticks),
-        to: of_parts(u128::from(end), ticks),
+        from: Moment::of_parts(u128::from(begin), den),
+        to: Moment::of_parts(u128::from(end), den),
         work,
     })
-}
-
-// So many parts of one tick: whole where no part is left over.
-fn of_parts(parts: u128, ticks: u32) -> Amount
-    requires ticks { (1 ≤ ticks) × (ticks ≤ MAX_TICKS) }
-    requires whole { parts / ticks ≤ MAX_WHOLE }
-    ensures value { result ≡ of_parts parts ticks }
-    ensures whole { result.whole ≡ parts / ticks }
-    ensures kept { IsMixed MAX_DENOMINATOR result }
-{
-    let den = u128::from(ticks);
-    Amount::new((parts / den) as u64, (parts % den) as u64, u64::from(ticks))
 }

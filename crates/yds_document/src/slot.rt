@@ -13,7 +13,7 @@ ghost use Rattle.yds_document.specs.Fields.{Gives};
 ghost use Rattle.yds_document.specs.Slot.{fits_among, fits_test, FitsGrainOf, slot_of};
 
 use crate::draft::Draft;
-use crate::fields::{four_fields, fraction_in, known_job};
+use crate::fields::{fraction_in, known_job};
 use crate::job::name_of;
 use crate::line_buffer::LineBuffer;
 use crate::line_fault::LineFault;
@@ -23,7 +23,7 @@ use yds_model::limits::{MAX_SLOT_WORK, MAX_TIME};
 use yds_model::{Memory, Reason};
 use yds_port::{Sink, WriteFault, write_all};
 use yds_slots::{Schedule, Slot};
-use yds_text::{Field, Fields};
+use yds_text::{Field, Fields, four_fields};
 
 // Reads the line whose first field is `kind`, and adds its slot.
 pub(crate) fn read<'a>(

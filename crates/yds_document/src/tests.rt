@@ -9,20 +9,20 @@ use yds_model::limits::MAX_BYTES;
 use yds_port::MemorySink;
 use yds_slots::{Schedule, Slot};
 
-/// Documents, each with the line, the column and the reason of its refusal, or None where it is read.
-pub static REFUSALS: [(&str, Option<(u32, u32, Reason)>); 25] = [
+/// Documents with a fault for each reason but two, with its line and column; and two that are read.
+pub static REFUSALS: [(&str, Option<(u32, u32, Reason)>); 16] = [
     ("jobs a 0 4 8\n", Some((1, 1, Reason::UnknownKind))),
     ("# a\n\nrun a 0 1 1\n", Some((3, 1, Reason::Misplaced))),
-    ("grid 1 0\ngrid 1 0\n", Some((2, 1, Reason::Misplaced))),
-    ("job a 0 4 8 9\n", Some((1, 13, Reason::FieldCount))),
-    ("job a 0 4\n", Some((1, 10, Reason::FieldCount))),
+    ("\tticks  4 5\n", Some((1, 11, Reason::FieldCount))),
+    ("level 9\nenergy x\n", Some((1, 8, Reason::FieldCount))),
+    ("level 4 4\nmember \u{7f}\n", Some((2, 8, Reason::BadName))),
     (
         "job a 0 4 8\njob a 0 4 8\n",
         Some((2, 5, Reason::DuplicateName)),
     ),
     ("level 4 4\nmember b\n", Some((2, 8, Reason::UnknownName))),
     ("job a 01 4 8\n", Some((1, 7, Reason::BadNumber))),
-    ("level 0 4\n", Some((1, 7, Reason::OutOfRange))),
+    ("energy 1+2/2\n", Some((1, 8, Reason::OutOfRange))),
     ("job a 4 4 8\n", Some((1, 9, Reason::EmptyWindow))),
     (
         "job a 0 4 8\nslot a 0+1/2 1+1/3 1\n",
@@ -35,19 +35,7 @@ pub static REFUSALS: [(&str, Option<(u32, u32, Reason)>); 25] = [
     ("point 1 1\n", Some((1, 7, Reason::NoIdle))),
     ("point 0 0\npoint 0 1\n", Some((2, 7, Reason::NotRising))),
     ("job a 0 4 0\n", None),
-    ("member a\n", Some((1, 1, Reason::Misplaced))),
-    ("level 4 4\nmember\n", Some((2, 7, Reason::FieldCount))),
-    ("level 4 4\nmember \u{7f}\n", Some((2, 8, Reason::BadName))),
-    ("ticks 4\nticks 4 5\n", Some((2, 1, Reason::Misplaced))),
-    ("\tticks  4 5\n", Some((1, 11, Reason::FieldCount))),
-    ("ticks 0\n", Some((1, 7, Reason::OutOfRange))),
-    ("energy 1+2/\n", Some((1, 8, Reason::BadNumber))),
-    ("energy 1+2/2\n", Some((1, 8, Reason::OutOfRange))),
-    (
-        "energy 1000000000000000001\n",
-        Some((1, 8, Reason::OutOfRange)),
-    ),
-    ("level 9\nenergy x\n", Some((1, 8, Reason::FieldCount))),
+    ("level 4 4\npiece 2 2\npiece 3 1\n", None),
 ];
 
 // Where the text is refused, and why.

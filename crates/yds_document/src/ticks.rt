@@ -9,10 +9,10 @@ ghost use Rattle.yds_document.specs.Draft.{IsDraft, Reads, Takes};
 ghost use Rattle.yds_document.specs.Fields.{Gives};
 
 use crate::draft::Draft;
-use crate::fields::{one_field, small_in};
+use crate::fields::small_in;
 use crate::line_fault::LineFault;
 use yds_model::limits::MAX_TICKS;
-use yds_text::{Field, Fields};
+use yds_text::{Field, Fields, one_field};
 
 // Reads the line whose first field is `kind`, and keeps its ticks.
 pub(crate) fn read<'a>(

@@ -3,7 +3,7 @@
 --
 -- The argument: the units that are left of the jobs due by a deadline are at most the capacity of the stretches that are left
 -- before it. A stretch either serves its whole capacity to them, or leaves none of them pending.
-use Rattle.std.proofs.Common.{◌≡◌, ◌≢◌, ℕ, zero, suc, ◌+◌, ◌-◌, ◌<◌, ◌≤◌, ◌⊎◌, List, [], ◌∷◌, length, get_or, slice_index, ◌∙◌, refl, sym, subst, arith, inl, inr, ap, cond, true, false}
+use Rattle.std.proofs.Common.{◌≡◌, ◌≢◌, ℕ, zero, suc, ◌+◌, ◌-◌, ◌<◌, ◌≤◌, ◌⊎◌, List, length, get_or, slice_index, ◌∙◌, refl, sym, subst, arith, inl, inr, ap, cond, true, false}
 use Rattle.std.specs.Prelude.{Bool, ◌==◌, ◌&&◌, nat_le, nat_lt, All}
 use Rattle.std.proofs.lemmas.Bool.{cases_lt, cases_eq, cases_order, cases_Bool, ltb-true, ltb-false, lt-leb, le-leb, eq-eqb, ne_eqb, eqb-true, true≢false}
 use Rattle.yds_model.specs.Numbers.{Each}
@@ -12,8 +12,10 @@ use Rattle.yds_model.specs.Piece.{Piece, PiecesFrom}
 use Rattle.yds_edf.specs.Shares.{JobShare, units_given, shares_in, shares_before}
 use Rattle.yds_edf.specs.Pending.{sum_below, units_wanted}
 use Rattle.yds_edf.specs.Serving.{IsServing}
-use Rattle.yds_edf.specs.Demand.{no_stretch, stretch_at, capacity_at, confined_units, capacity_between, IsWithinCapacity, AreUncut}
-use Rattle.yds_edf.specs.Filled.{pending_at}
+use Rattle.yds_events.specs.Stretch.{no_stretch, stretch_at}
+use Rattle.yds_events.proofs.InOrder.{has_length, starts_rise}
+use Rattle.yds_edf.specs.Demand.{capacity_at, confined_units, capacity_between, IsWithinCapacity, AreUncut}
+use Rattle.yds_edf.specs.Filled.{pending_at_start}
 use Rattle.yds_edf.proofs.Sums.{sum_below_same, sum_below_at_most, sum_below_zero, sum_below-add, sum_below_term, sum_below_change, sum_below_less, sum_by_grouped}
 use Rattle.yds_model.proofs.Sums.{sum_by_zero}
 use Rattle.yds_edf.proofs.Parts.{all_before, none_before, given_next, share_given}
@@ -46,40 +48,6 @@ one c d x first = rw (le-leb c d first) refl
 
 not_one : (c d x : ℕ) → d < c → cond (nat_le c d) x 0 ≡ 0
 not_one c d x less = rw (lt-leb c d less) refl
-
--- the stretches begin and end in order
-from_start : (start i : ℕ) (stretches : List Piece) → PiecesFrom start stretches → i < length stretches →
-    start ≤ (stretch_at stretches i).from
-from_start start i [] order within = absurd (omega arith)
-from_start start zero (stretch ∷ stretches) order within = order.0
-from_start start (suc i) (stretch ∷ stretches) order within =
-    omega (arith, order.0, order.1, from_start stretch.to i stretches order.2 (omega arith))
-
-has_length : (start i : ℕ) (stretches : List Piece) → PiecesFrom start stretches → i < length stretches →
-    (stretch_at stretches i).from < (stretch_at stretches i).to
-has_length start i [] order within = absurd (omega arith)
-has_length start zero (stretch ∷ stretches) order within = order.1
-has_length start (suc i) (stretch ∷ stretches) order within = has_length stretch.to i stretches order.2 (omega arith)
-
-later_start : (start i k : ℕ) (stretches : List Piece) → PiecesFrom start stretches → i < k → k < length stretches →
-    (stretch_at stretches i).to ≤ (stretch_at stretches k).from
-later_start start i k [] order less within = absurd (omega arith)
-later_start start i zero (stretch ∷ stretches) order less within = absurd (omega arith)
-later_start start zero (suc k) (stretch ∷ stretches) order less within = from_start stretch.to k stretches order.2 (omega arith)
-later_start start (suc i) (suc k) (stretch ∷ stretches) order less within =
-    later_start stretch.to i k stretches order.2 (omega arith) (omega arith)
-
--- the start of a stretch isn't before that of an earlier one
-pub starts_rise : (i k : ℕ) (stretches : List Piece) → PiecesFrom 0 stretches → i ≤ k → k < length stretches →
-    (stretch_at stretches i).from ≤ (stretch_at stretches k).from
-starts_rise i k stretches order less within = elim (cases_eq i k) [
-  | inl same ↦ rw same (omega arith)
-  | inr other ↦ omega (
-    arith,
-    later_start 0 i k stretches order (omega arith) within,
-    has_length 0 i stretches order (omega arith),
-  )
-]
 
 -- some of the first n numbers passes a test, or none does
 found_or_none : (n : ℕ) (test : ℕ → Bool) →
@@ -227,9 +195,9 @@ module _ (jobs : List Job) (ties : List ℕ) (grain : ℕ) (stretches : List Pie
     (are : All IsJob jobs) (order : PiecesFrom 0 stretches) (uncut : AreUncut jobs stretches)
     (enough : IsWithinCapacity jobs grain stretches capacities)
     (serving : Each (length stretches) (λ i.
-    IsServing jobs (slice_index ties) (pending_at jobs grain stretches shares i) (capacity_at capacities i) (shares_in shares i)))
+    IsServing jobs (slice_index ties) (pending_at_start jobs grain stretches shares i) (capacity_at capacities i) (shares_in shares i)))
   where
-    pending_left : (i number : ℕ) → pending_at jobs grain stretches shares i number ≤ left_of jobs grain shares i number
+    pending_left : (i number : ℕ) → pending_at_start jobs grain stretches shares i number ≤ left_of jobs grain shares i number
     pending_left i number = elim (cases_Bool (nat_le (job_at jobs number).release (stretch_at stretches i).from)) [
       | inl arrived ↦ rw arrived (omega arith)
       | inr not_yet ↦ rw not_yet (omega arith)
@@ -237,7 +205,7 @@ module _ (jobs : List Job) (ties : List ℕ) (grain : ℕ) (stretches : List Pie
 
     -- all that is left of a job that has arrived is pending
     arrived_left : (i number : ℕ) → (job_at jobs number).release ≤ (stretch_at stretches i).from →
-        pending_at jobs grain stretches shares i number ≡ left_of jobs grain shares i number
+        pending_at_start jobs grain stretches shares i number ≡ left_of jobs grain shares i number
     arrived_left i number arrived = rw (le-leb (job_at jobs number).release (stretch_at stretches i).from arrived) refl
 
     -- a job never gets more than it wants
@@ -280,7 +248,7 @@ module _ (jobs : List Job) (ties : List ℕ) (grain : ℕ) (stretches : List Pie
 
     -- a job that is due by the time stays pending: the whole capacity is given to such jobs
     busy : (i time number : ℕ) → i < length stretches → number < length jobs → (job_at jobs number).deadline ≤ time →
-        units_given (shares_in shares i) number < pending_at jobs grain stretches shares i number →
+        units_given (shares_in shares i) number < pending_at_start jobs grain stretches shares i number →
         sum_below (length jobs) (given_term jobs shares i time) ≡ capacity_at capacities i
     busy i time number here within due pending =
         let serves = serving i here in
@@ -301,14 +269,14 @@ module _ (jobs : List Job) (ties : List ℕ) (grain : ℕ) (stretches : List Pie
           sum_below_same (length jobs) (given_term jobs shares i time) (units_given (shares_in shares i)) all_due,
           sum_by_grouped (length jobs) (λ (share : JobShare). share.job) (λ share. share.units) (shares_in shares i) serves.known,
           serves.total,
-          sum_below_less (length jobs) number (units_given (shares_in shares i)) (pending_at jobs grain stretches shares i) within
+          sum_below_less (length jobs) number (units_given (shares_in shares i)) (pending_at_start jobs grain stretches shares i) within
               serves.within pending,
         )
 
     -- none that is due by the time stays pending: what is left of such jobs arrives after the stretch
     idle : (i time : ℕ) → i < length stretches →
         ((number : ℕ) → number < length jobs → (job_at jobs number).deadline ≤ time →
-        pending_at jobs grain stretches shares i number ≤ units_given (shares_in shares i) number) →
+        pending_at_start jobs grain stretches shares i number ≤ units_given (shares_in shares i) number) →
         left_due jobs grain shares (suc i) time ≤ confined_units jobs grain (stretch_at stretches i).to time
     idle i time here none =
         sum_below_at_most (length jobs) (left_term jobs grain shares (suc i) time)
@@ -370,16 +338,16 @@ module _ (jobs : List Job) (ties : List ℕ) (grain : ℕ) (stretches : List Pie
           | inl later ↦ omega (arith, bounded last i there (omega arith), next_due i time here, same_capacity stretches capacities i time here later)
           | inr ends ↦ elim (found_or_none (length jobs) (λ number.
               nat_lt (given_term jobs shares i time number)
-              (cond (nat_le (job_at jobs number).deadline time) (pending_at jobs grain stretches shares i number) 0))) [
+              (cond (nat_le (job_at jobs number).deadline time) (pending_at_start jobs grain stretches shares i number) 0))) [
                 | inl found ↦
                     let number = found.0 in
                     let less = ltb-true (given_term jobs shares i time number)
-                    (cond (nat_le (job_at jobs number).deadline time) (pending_at jobs grain stretches shares i number) 0) found.2 in
+                    (cond (nat_le (job_at jobs number).deadline time) (pending_at_start jobs grain stretches shares i number) 0) found.2 in
                     elim (cases_lt time (job_at jobs number).deadline) [
                       | inl late ↦ absurd (omega (
                         arith,
                         less,
-                        not_one (job_at jobs number).deadline time (pending_at jobs grain stretches shares i number) late,
+                        not_one (job_at jobs number).deadline time (pending_at_start jobs grain stretches shares i number) late,
                       ))
                       | inr due ↦ omega (
                         arith,
@@ -389,7 +357,7 @@ module _ (jobs : List Job) (ties : List ℕ) (grain : ℕ) (stretches : List Pie
                         busy i time number here found.1 due (omega (
                           arith,
                           less,
-                          one (job_at jobs number).deadline time (pending_at jobs grain stretches shares i number) due,
+                          one (job_at jobs number).deadline time (pending_at_start jobs grain stretches shares i number) due,
                           one (job_at jobs number).deadline time (units_given (shares_in shares i) number) due,
                         )),
                       )
@@ -399,8 +367,8 @@ module _ (jobs : List Job) (ties : List ℕ) (grain : ℕ) (stretches : List Pie
                   idle i time here (λ number known due. omega (
                     arith,
                     ltb-false (given_term jobs shares i time number)
-                        (cond (nat_le (job_at jobs number).deadline time) (pending_at jobs grain stretches shares i number) 0) (none number known),
-                    one (job_at jobs number).deadline time (pending_at jobs grain stretches shares i number) due,
+                        (cond (nat_le (job_at jobs number).deadline time) (pending_at_start jobs grain stretches shares i number) 0) (none number known),
+                    one (job_at jobs number).deadline time (pending_at_start jobs grain stretches shares i number) due,
                     one (job_at jobs number).deadline time (units_given (shares_in shares i) number) due,
                   )),
                   from_any jobs grain stretches capacities are enough last there time (stretch_at stretches i).to (omega arith),
@@ -417,7 +385,7 @@ module _ (jobs : List Job) (ties : List ℕ) (grain : ℕ) (stretches : List Pie
         let job = (get_or (shares_in shares i) k share).job in
         let serves = serving i here in
         let known : job < length jobs = serves.known k share within in
-        let some : 1 ≤ pending_at jobs grain stretches shares i job =
+        let some : 1 ≤ pending_at_start jobs grain stretches shares i job =
         omega (arith, serves.some k share within, share_given (shares_in shares i) k share within, serves.within job known) in (
           elim (cases_lt (stretch_at stretches i).from (job_at jobs job).release) [
             | inr arrived ↦ arrived

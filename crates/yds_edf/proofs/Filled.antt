@@ -10,15 +10,17 @@ use Rattle.yds_model.specs.Job.{Job, IsJob, job_at}
 use Rattle.yds_model.specs.Piece.{Piece, PiecesFrom}
 use Rattle.yds_model.proofs.Lists.{AllPairs-append}
 use Rattle.yds_edf.specs.Shares.{JobShare, units_given, shares_in}
-use Rattle.yds_edf.specs.Pending.{units_wanted, pending_units}
+use Rattle.yds_edf.specs.Pending.{units_wanted, pending_of_job}
 use Rattle.yds_edf.specs.Serving.{IsServing}
-use Rattle.yds_edf.specs.Demand.{stretch_at, capacity_at, IsWithinCapacity, AreUncut}
-use Rattle.yds_edf.specs.Filled.{pending_at, IsFilled}
+use Rattle.yds_events.specs.Stretch.{stretch_at}
+use Rattle.yds_edf.specs.Demand.{capacity_at, IsWithinCapacity, AreUncut}
+use Rattle.yds_edf.specs.Filled.{pending_at_start, IsFilled}
 use Rattle.yds_edf.specs.Queue.{JobQueue, new_queue, IsNoEarlier, pending_in, units_left, unfinished}
 use Rattle.yds_edf.specs.Engine.{TiedQueue, ServesTied}
 use Rattle.yds_edf.proofs.Sums.{sum_below_same, sum_below_bound}
 use Rattle.yds_edf.proofs.Parts.{in_added, before_added, in_kept, before_kept}
-use Rattle.yds_edf.proofs.Demand.{starts_rise, in_window, in_full}
+use Rattle.yds_events.proofs.InOrder.{starts_rise}
+use Rattle.yds_edf.proofs.Demand.{in_window, in_full}
 
 -- serving goes by the pending units of the jobs there are
 serving_same : (jobs : List Job) (tie pending other : ℕ → ℕ) (capacity : ℕ) (shares : List JobShare) →
@@ -44,7 +46,7 @@ pub record Filling (jobs : List Job) (ties : List ℕ) (grain : ℕ) (stretches 
   pub in_order : AllPairs (λ one other. one.stretch ≤ other.stretch) shares
   pub known : All (λ share. share.stretch < i) shares
   pub serving : Each i (λ k.
-      IsServing jobs (slice_index ties) (pending_at jobs grain stretches shares k) (capacity_at capacities k) (shares_in shares k))
+      IsServing jobs (slice_index ties) (pending_at_start jobs grain stretches shares k) (capacity_at capacities k) (shares_in shares k))
   pub few : length shares + unfinished now.queue ≤ length jobs + i
 
 pub begun : (jobs : List Job) (ties : List ℕ) (grain : ℕ) (stretches : List Piece) (capacities : List ℕ) →
@@ -99,22 +101,22 @@ filled_next {jobs = jobs} {ties = ties} {grain = grain} {stretches = stretches} 
           (λ k d below. omega (arith, filling.known k d below))
           (λ k d below. omega (arith, serves.in_stretch k d below));
       serving = λ k below. elim (cases_eq k i) [
-        | inl same ↦ subst (λ at. IsServing jobs (slice_index ties) (pending_at jobs grain stretches (shares ++ part) at)
+        | inl same ↦ subst (λ at. IsServing jobs (slice_index ties) (pending_at_start jobs grain stretches (shares ++ part) at)
             (capacity_at capacities at) (shares_in (shares ++ part) at)) (sym same)
-            (subst (λ (xs : List JobShare). IsServing jobs (slice_index ties) (pending_at jobs grain stretches (shares ++ part) i)
+            (subst (λ (xs : List JobShare). IsServing jobs (slice_index ties) (pending_at_start jobs grain stretches (shares ++ part) i)
             (capacity_at capacities i) xs) (sym (in_added shares part i filling.known serves.in_stretch))
-            (serving_same jobs (slice_index ties) (pending_in (queue jobs grain)) (pending_at jobs grain stretches (shares ++ part) i)
+            (serving_same jobs (slice_index ties) (pending_in (queue jobs grain)) (pending_at_start jobs grain stretches (shares ++ part) i)
             (capacity_at capacities i) part
             (λ number there. ap (λ n. cond (nat_le (job_at jobs number).release start) (units_wanted jobs grain number - n) 0)
             (filling.given number there ∙ ap (λ (xs : List JobShare). units_given xs number)
             (sym (before_added shares part i filling.known serves.in_stretch)))) here))
         | inr other ↦
             let less : k < i = omega (arith, below, other) in
-            subst (λ (xs : List JobShare). IsServing jobs (slice_index ties) (pending_at jobs grain stretches (shares ++ part) k)
+            subst (λ (xs : List JobShare). IsServing jobs (slice_index ties) (pending_at_start jobs grain stretches (shares ++ part) k)
             (capacity_at capacities k) xs) (sym (in_kept shares part i filling.known serves.in_stretch k less))
-            (serving_same jobs (slice_index ties) (pending_at jobs grain stretches shares k)
-            (pending_at jobs grain stretches (shares ++ part) k) (capacity_at capacities k) (shares_in shares k)
-            (λ number there. ap (λ (xs : List JobShare). pending_units jobs grain (Some (stretch_at stretches k).from) (units_given xs) number)
+            (serving_same jobs (slice_index ties) (pending_at_start jobs grain stretches shares k)
+            (pending_at_start jobs grain stretches (shares ++ part) k) (capacity_at capacities k) (shares_in shares k)
+            (λ number there. ap (λ (xs : List JobShare). pending_of_job jobs grain (Some (stretch_at stretches k).from) (units_given xs) number)
             (sym (before_kept shares part i filling.known serves.in_stretch k less))) (filling.serving k less))
       ];
       few = omega (arith, filling.few, serves.finishing, length-append shares part);

@@ -7,7 +7,7 @@ use Rattle.std.proofs.lemmas.List.Sums.{sum_by_more_le, sum_by_push}
 use Rattle.std.proofs.lemmas.Bool.{cases_lt, cases_eq, eq-eqb, ne_eqb}
 use Rattle.std.proofs.lemmas.Nat.Gcd.{same_from_IsGcd, mod-eq-zero_of_dvd}
 use Rattle.std.proofs.Math.Nat.{div-add-mod, div-mul_cancel, div-le_of_le-mul, le_of_mul-le-mul_right, lt_of_mul-lt-mul_right, eq_of_mul-eq-mul_right, mul-le-mul_right, mul-pos, mul-div_cancel, dvd-mul_left}
-use Rattle.yds_model.specs.declared.limits.TheConstants.{MAX_DENOMINATOR, MAX_TIME, MAX_WORK}
+use Rattle.yds_model.specs.declared.limits.TheConstants.{MAX_DENOMINATOR, MAX_WHOLE, MAX_TIME, MAX_WORK, MAX_SLOT_WORK}
 use Rattle.yds_model.specs.Divisor.{common_divisor}
 use Rattle.yds_model.specs.Scale.{Fraction, at_scale, numerator, of_whole, of_parts}
 use Rattle.yds_model.specs.Slot.{WrittenSlot}
@@ -18,10 +18,12 @@ use Rattle.yds_model.proofs.Fractions.{value-den, den_positive}
 use Rattle.yds_model.proofs.Fractions.{parts_alike}
 use Rattle.yds_fraction.specs.Mixed.{IsMixed, fraction_of}
 use Rattle.yds_fraction.proofs.Values.{written}
-use Rattle.yds_slots.specs.Slot.{IsSlot}
+use Rattle.yds_model.specs.Within.{IsSlot}
+use Rattle.yds_fraction.proofs.Kept.{IsFraction-within}
 use Rattle.yds_slots.proofs.Parts.{of_parts_value, of_parts_is}
 use Rattle.yds_edf.specs.Shares.{JobShare, total_units}
-use Rattle.yds_edf.specs.Laid.{length_of, time_step, time_den, IsLaidSlot, FollowFrom, end_of, IsLaid}
+use Rattle.yds_events.specs.Stretch.{length_of}
+use Rattle.yds_edf.specs.Laid.{time_step, time_den, IsLaidSlot, FollowFrom, end_after, IsLaid}
 
 -- the value at a scale, over a denominator of one's own
 parts_of : (value numer d den p scale : ℕ) → 1 ≤ d → value * d ≡ numer * scale → numer * den ≡ p * d → value * den ≡ p * scale
@@ -37,7 +39,7 @@ pub time_parts : (start parts most through : ℕ) (z : Fraction) → 1 ≤ parts
     z ≡ fraction_of (start + through / parts) (through % parts) parts → IsMixed most z →
     z ≡ of_parts (start * parts + through) parts
 time_parts start parts most through z some is kept =
-    of_parts_is (start * parts + through) parts z some kept.below_one kept.whole_is_plain
+    of_parts_is (start * parts + through) parts z some kept.fraction.below_one kept.fraction.whole_is_plain
     (elim (cases_eq (through % parts) 0) [
       | inl none ↦ inl (ap (λ (x : Fraction). x.num) is ∙ none)
       | inr other ↦ inr (ap (λ (x : Fraction). x.den) is ∙ rw (ne_eqb (through % parts) 0 other) refl)
@@ -120,7 +122,7 @@ time_at stretch capacity units =
 pub record Laying (stretch : Piece) (capacity grain : ℕ) (shares : List JobShare) (served : ℕ) (slots : List WrittenSlot) : Type 0 where
   pub each : AllZip (IsLaidSlot stretch capacity grain) shares slots
   pub gapless : FollowFrom (of_whole stretch.from) slots
-  pub reached : end_of (of_whole stretch.from) slots ≡ time_at stretch capacity served
+  pub reached : end_after (of_whole stretch.from) slots ≡ time_at stretch capacity served
   pub units : served ≡ total_units shares
 
 module _ (stretch : Piece) (capacity grain : ℕ) (forward : stretch.from < stretch.to) (some_capacity : 1 ≤ capacity) where
@@ -243,11 +245,11 @@ all_zip_push R (a ∷ xs) (b ∷ ys) x y h k = (h.0, all_zip_push R xs ys x y h.
 
 -- one slot more, from the end of those before it
 follow_push : (time : Fraction) (slots : List WrittenSlot) (slot : WrittenSlot) → FollowFrom time slots →
-    slot.from ≡ end_of time slots → FollowFrom time (slots ++ slot ∷ [])
+    slot.from ≡ end_after time slots → FollowFrom time (slots ++ slot ∷ [])
 follow_push time [] slot h begins = (begins, tt)
 follow_push time (first ∷ slots) slot h begins = (h.0, follow_push first.to slots slot h.1 begins)
 
-end_push : (time : Fraction) (slots : List WrittenSlot) (slot : WrittenSlot) → end_of time (slots ++ slot ∷ []) ≡ slot.to
+end_push : (time : Fraction) (slots : List WrittenSlot) (slot : WrittenSlot) → end_after time (slots ++ slot ∷ []) ≡ slot.to
 end_push time [] slot = refl
 end_push time (first ∷ slots) slot = end_push first.to slots slot
 
@@ -313,22 +315,19 @@ pub slot_kept : (start long step parts served units grain job : ℕ) (from to wo
     IsSlot (record { job = job; from = from; to = to; work = work })
 slot_kept start long step parts served units grain job from to work from_is to_is work_is from_kept to_kept work_kept ends within few =
     record {
-      from = from_kept;
-      to = to_kept;
-      work = work_kept;
-      ends_alike = rw (from_is, to_is) (parts_alike (start * parts + served * step) (start * parts + (served + units) * step) parts);
-      from_in_range = rw (from_is, of_parts_whole (start * parts + served * step) parts) (omega (
+      from = IsFraction-within MAX_WHOLE MAX_TIME from from_kept.fraction (rw (from_is, of_parts_whole (start * parts + served * step) parts) (omega (
         arith,
         ends,
         div-le_of_le-mul parts {m = start * parts + served * step} {n = start + long} (omega (arith, within)),
-      ));
-      to_in_range = rw (to_is, of_parts_whole (start * parts + (served + units) * step) parts) (omega (
+      )));
+      to = IsFraction-within MAX_WHOLE MAX_TIME to to_kept.fraction (rw (to_is, of_parts_whole (start * parts + (served + units) * step) parts) (omega (
         arith,
         ends,
         div-le_of_le-mul parts {m = start * parts + (served + units) * step} {n = start + long} (omega (arith, within)),
-      ));
-      work_in_range = rw (work_is, of_parts_whole units grain) (omega (
+      )));
+      work = IsFraction-within MAX_WHOLE MAX_SLOT_WORK work work_kept.fraction (rw (work_is, of_parts_whole units grain) (omega (
         arith,
         div-le_of_le-mul grain {m = units} {n = MAX_WORK} (omega (arith, few)),
-      ));
+      )));
+      ends_alike = rw (from_is, to_is) (parts_alike (start * parts + served * step) (start * parts + (served + units) * step) parts);
     }

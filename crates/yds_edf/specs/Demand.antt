@@ -1,16 +1,10 @@
 -- Demand and capacity: the units confined between two times, and the capacity of the stretches between them.
-use Rattle.std.specs.Prelude.{ℕ, ◌<◌, ◌≤◌, ◌&&◌, nat_le, if◌then◌else◌, List, length, All, ◌⊎◌}
+use Rattle.std.specs.Prelude.{ℕ, ◌<◌, ◌≤◌, ◌&&◌, nat_le, if◌then◌else◌, List, length, All}
 use Rattle.std.specs.List.{slice_index_or}
 use Rattle.yds_model.specs.Job.{Job, job_at}
 use Rattle.yds_model.specs.Piece.{Piece}
+use Rattle.yds_events.specs.Stretch.{stretch_at, IsOutside}
 use Rattle.yds_edf.specs.Pending.{sum_below, units_wanted}
-
--- the stretch at a place; `no_stretch` stands where there is none
-abbrev pub no_stretch : Piece
-no_stretch = record { from = 0; to = 0 }
-
-abbrev pub stretch_at : List Piece → ℕ → Piece
-stretch_at stretches i = slice_index_or stretches i no_stretch
 
 -- the stretch's capacity, by its number
 abbrev pub capacity_at : List ℕ → ℕ → ℕ
@@ -34,10 +28,6 @@ IsWithinCapacity jobs grain stretches capacities =
     (first last : ℕ) → first < length jobs → last < length jobs →
     confined_units jobs grain (job_at jobs first).release (job_at jobs last).deadline
     ≤ capacity_between stretches capacities (job_at jobs first).release (job_at jobs last).deadline
-
--- the time isn't strictly inside the stretch
-abbrev pub IsOutside : Piece → ℕ → Type 0
-IsOutside stretch time = (time ≤ stretch.from) ⊎ (stretch.to ≤ time)
 
 -- no job is released or due strictly inside a stretch
 abbrev pub AreUncut : List Job → List Piece → Type 0

@@ -4,15 +4,16 @@ use Rattle.yds_model.specs.Numbers.{Each}
 use Rattle.yds_model.specs.Job.{Job, job_at}
 use Rattle.yds_model.specs.Piece.{Piece}
 use Rattle.yds_edf.specs.Shares.{JobShare, units_given, shares_in, shares_before}
-use Rattle.yds_edf.specs.Pending.{units_wanted, pending_units}
+use Rattle.yds_edf.specs.Pending.{units_wanted, pending_of_job}
 use Rattle.yds_edf.specs.Serving.{IsServing}
-use Rattle.yds_edf.specs.Demand.{stretch_at, capacity_at}
+use Rattle.yds_events.specs.Stretch.{stretch_at}
+use Rattle.yds_edf.specs.Demand.{capacity_at}
 
 -- the units of a job that are pending at the start of a stretch: what the stretches before it left of those that were
 -- released by then
-abbrev pub pending_at : List Job → ℕ → List Piece → List JobShare → ℕ → ℕ → ℕ
-pending_at jobs grain stretches shares i =
-    pending_units jobs grain (Some (stretch_at stretches i).from) (units_given (shares_before shares i))
+abbrev pub pending_at_start : List Job → ℕ → List Piece → List JobShare → ℕ → ℕ → ℕ
+pending_at_start jobs grain stretches shares i =
+    pending_of_job jobs grain (Some (stretch_at stretches i).from) (units_given (shares_before shares i))
 
 -- the share lies in its job's window
 pub record IsInTime (jobs : List Job) (stretches : List Piece) (share : JobShare) : Type 0 where
@@ -27,7 +28,7 @@ pub record IsFilled (jobs : List Job) (ties : List ℕ) (grain : ℕ) (stretches
   pub in_order : AllPairs (λ one other. one.stretch ≤ other.stretch) shares
   pub known : All (λ share. share.stretch < length stretches) shares
   pub serving : Each (length stretches) (λ i.
-      IsServing jobs (slice_index ties) (pending_at jobs grain stretches shares i) (capacity_at capacities i) (shares_in shares i))
+      IsServing jobs (slice_index ties) (pending_at_start jobs grain stretches shares i) (capacity_at capacities i) (shares_in shares i))
   pub in_time : All (IsInTime jobs stretches) shares
   pub few : length shares ≤ length jobs + length stretches
   pub served : Each (length jobs) (λ number. units_given shares number ≡ units_wanted jobs grain number)

@@ -7,10 +7,8 @@ use Rattle.yds_model.specs.Slot.{WrittenSlot, WholeSlot, IsDivided, slot_at_scal
 use Rattle.yds_model.specs.Piece.{Piece}
 use Rattle.yds_model.specs.Event.{LiesIn}
 use Rattle.yds_model.specs.Plan.{IsOver}
+use Rattle.yds_events.specs.Stretch.{length_of}
 use Rattle.yds_edf.specs.Shares.{JobShare, total_units}
-
-abbrev pub length_of : Piece → ℕ
-length_of stretch = stretch.to - stretch.from
 
 -- The time that so many units of a stretch's capacity take is units * length / capacity. In lowest terms of length / capacity
 -- it is units * time_step / time_den.
@@ -41,13 +39,13 @@ FollowFrom time [] = Unit {0}
 FollowFrom time (slot ∷ slots) = (slot.from ≡ time) × FollowFrom slot.to slots
 
 -- the time at which the last of them ends
-abbrev pub end_of : Fraction → List WrittenSlot → Fraction
-end_of time [] = time
-end_of time (slot ∷ slots) = end_of slot.to slots
+abbrev pub end_after : Fraction → List WrittenSlot → Fraction
+end_after time [] = time
+end_after time (slot ∷ slots) = end_after slot.to slots
 
 -- One slot for each share, in order from the stretch's start without a gap. Where the shares take the whole capacity, the slots
 -- fill the stretch.
 pub record IsLaid (stretch : Piece) (capacity grain : ℕ) (shares : List JobShare) (slots : List WrittenSlot) : Type 0 where
   pub each : AllZip (IsLaidSlot stretch capacity grain) shares slots
   pub gapless : FollowFrom (of_whole stretch.from) slots
-  pub full : total_units shares ≡ capacity → end_of (of_whole stretch.from) slots ≡ of_whole stretch.to
+  pub full : total_units shares ≡ capacity → end_after (of_whole stretch.from) slots ≡ of_whole stretch.to

@@ -1,4 +1,3 @@
-pub mod Stretch
 pub mod Shares
 pub mod Pending
 pub mod Serving

@@ -21,6 +21,6 @@ abbrev pub has_arrived : Option ℕ → Job → Bool
 has_arrived last job = is_within last job.release
 
 -- the units of a job that are pending: those of an arrived job that weren't served
-abbrev pub pending_units : List Job → ℕ → Option ℕ → (ℕ → ℕ) → ℕ → ℕ
-pending_units jobs grain time served number =
+abbrev pub pending_of_job : List Job → ℕ → Option ℕ → (ℕ → ℕ) → ℕ → ℕ
+pending_of_job jobs grain time served number =
     if has_arrived time (job_at jobs number) then units_wanted jobs grain number - served number else 0

@@ -3,7 +3,7 @@ use Rattle.std.specs.Prelude.{◌≡◌, ℕ, ◌+◌, ◌-◌, ◌≤◌, min, 
 use Rattle.yds_model.specs.Numbers.{Each}
 use Rattle.yds_model.specs.Job.{Job, job_at}
 use Rattle.yds_edf.specs.Shares.{JobShare, units_given}
-use Rattle.yds_edf.specs.Pending.{sum_below, units_wanted, pending_units}
+use Rattle.yds_edf.specs.Pending.{sum_below, units_wanted, pending_of_job}
 use Rattle.yds_edf.specs.Serving.{IsServing}
 
 pub record JobQueue : Type 0 where
@@ -18,7 +18,7 @@ new_queue jobs grain = record { jobs = jobs; grain = grain; time = None; served 
 
 -- the units of a job that are pending
 abbrev pub pending_in : JobQueue → ℕ → ℕ
-pending_in queue number = pending_units queue.jobs queue.grain queue.time (slice_index queue.served) number
+pending_in queue number = pending_of_job queue.jobs queue.grain queue.time (slice_index queue.served) number
 
 -- those of all jobs together
 abbrev pub all_pending : JobQueue → ℕ

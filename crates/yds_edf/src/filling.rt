@@ -7,8 +7,8 @@ ghost use Rattle.yds_edf.specs.Filled.{IsFilled};
 use crate::engine::Engine;
 use crate::limits::{MAX_GRAIN, MAX_STRETCHES};
 use crate::share::Share;
-use crate::stretch::Stretch;
 use std::alloc::Global;
+use yds_events::Stretch;
 use yds_model::limits::{MAX_JOBS, MAX_WORK};
 use yds_model::{JobRow, Memory};
 

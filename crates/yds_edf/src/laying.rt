@@ -4,13 +4,13 @@ ghost use Rattle.yds_model.specs.declared.limits.TheConstants.{MAX_DENOMINATOR, 
 ghost use Rattle.yds_model.specs.Scale.{of_parts};
 ghost use Rattle.yds_fraction.specs.Mixed.{IsMixed};
 ghost use Rattle.yds_edf.specs.Shares.{total_units};
-ghost use Rattle.yds_edf.specs.Stretch.{IsStretch};
-ghost use Rattle.yds_edf.specs.Laid.{length_of, time_step, time_den, IsLaid};
+ghost use Rattle.yds_events.specs.Stretch.{IsStretch, length_of};
+ghost use Rattle.yds_edf.specs.Laid.{time_step, time_den, IsLaid};
 
 use crate::limits::{MAX_CAPACITY, MAX_GRAIN};
 use crate::share::Share;
-use crate::stretch::Stretch;
 use std::alloc::Global;
+use yds_events::Stretch;
 use yds_fraction::{Amount, Moment, gcd};
 use yds_model::Memory;
 use yds_model::limits::{MAX_DENOMINATOR, MAX_TIME, MAX_WORK};

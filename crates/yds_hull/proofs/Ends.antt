@@ -1,13 +1,13 @@
 -- The end of a hull that grows by one point at a time: points that come off it, and the point that is pushed.
-use Rattle.std.proofs.Common.{◌≡◌, ℕ, ◌+◌, ◌-◌, ◌*◌, ◌<◌, ◌≤◌, List, [], ◌∷◌, ◌++◌, length, zero, suc, refl, sym, ap, ◌∙◌, subst, inl, inr, arith, Option, Some, None}
+use Rattle.std.proofs.Common.{◌≡◌, ℕ, ◌-◌, ◌<◌, ◌≤◌, List, [], ◌∷◌, ◌++◌, length, zero, suc, refl, sym, ap, ◌∙◌, subst, inl, inr, arith, Option, Some, None}
 use Rattle.std.specs.Option.{option_to_list}
 use Rattle.std.specs.List.{slice_index_or, All}
-use Rattle.std.proofs.Math.Nat.{mul-lt-mul_of_pos_left, lt_of_mul-lt-mul_left, mul-le-mul_left}
 use Rattle.std.proofs.lemmas.List.{get_or_push, get_or_read, append-nil, get_or_append_left, length-append}
 use Rattle.std.proofs.lemmas.List.Elements.{All-pop}
 use Rattle.yds_model.specs.Table.{Point, no_point, point_at, AreRising, IsOnOrBelow, IsAbove, IsConvex, GoesOn}
-use Rattle.yds_model.proofs.Hull.{RisesFrom, rises_from, rising_again, rises_below, next_rises, hull_rises}
 use Rattle.yds_model.specs.Within.{IsPoint}
+use Rattle.yds_model.proofs.Hull.{RisesFrom, rises_from, rising_again, rises_below}
+use Rattle.yds_model.proofs.HullExists.{over_last}
 use Rattle.yds_hull.specs.Ends.{EndsAbove, StaysPart}
 
 -- # Order
@@ -34,73 +34,12 @@ read_end_rises hull low last next rising two low_is last_is =
     end_rises hull next (length hull - 2) rising (omega arith) in
     rw (low_at, last_at, ← here) both
 
--- # Points above lines
-
--- by the gaps u, v, w between four speeds and the powers there
-later_above : (b n a x u v w : ℕ) → a * w + n * v < x * (v + w) → b * (v + w) + n * u < a * (u + v + w) → 0 < v + w →
-    b * w + n * (u + v) < x * (u + v + w)
-later_above b n a x u v w first second some =
-    lt_of_mul-lt-mul_left (v + w) (omega (arith, mul-lt-mul_of_pos_left {k = u + v + w} first (omega arith), mul-le-mul_left w second))
-
-earlier_above : (b n a x u v w : ℕ) → b * v + a * u < x * (u + v) → b * w + n * (u + v) < a * (u + v + w) → 0 < u + v →
-    b * (v + w) + n * u < x * (u + v + w)
-earlier_above b n a x u v w first second some =
-    lt_of_mul-lt-mul_left (u + v) (omega (arith, mul-lt-mul_of_pos_left {k = u + v + w} first (omega arith), mul-le-mul_left u second))
-
--- above the line from low to high, and then above the line from there to high
-above_later : (low mid point high : Point) → low.speed < mid.speed → mid.speed < point.speed → point.speed < high.speed →
-    IsAbove low high mid → IsAbove mid high point → IsAbove low high point
-above_later low mid point high one two three over_mid over_point =
-    let u : ℕ = mid.speed - low.speed in
-    let v : ℕ = point.speed - mid.speed in
-    let w : ℕ = high.speed - point.speed in
-    let vw : high.speed - mid.speed ≡ v + w = omega arith in
-    let uv : point.speed - low.speed ≡ u + v = omega arith in
-    let uvw : high.speed - low.speed ≡ u + v + w = omega arith in
-    rw (uv, uvw) (later_above low.power high.power mid.power point.power u v w (rw vw at over_point) (rw (vw, uvw) at over_mid) (omega arith))
-
--- above the line from low to a point that is itself above the line to high
-above_earlier : (low point mid high : Point) → low.speed < point.speed → point.speed < mid.speed → mid.speed < high.speed →
-    IsAbove low high mid → IsAbove low mid point → IsAbove low high point
-above_earlier low point mid high one two three over_mid over_point =
-    let u : ℕ = point.speed - low.speed in
-    let v : ℕ = mid.speed - point.speed in
-    let w : ℕ = high.speed - mid.speed in
-    let vw : high.speed - point.speed ≡ v + w = omega arith in
-    let uv : mid.speed - low.speed ≡ u + v = omega arith in
-    let uvw : high.speed - low.speed ≡ u + v + w = omega arith in
-    rw (vw, uvw) (earlier_above low.power high.power mid.power point.power u v w (rw uv at over_point) (rw (uv, uvw) at over_mid) (omega arith))
-
 -- # A point comes off the end
-
--- `last` comes off between `low` and `next`: first the points after it, then those before it
-past_last : (low last next : Point) (points : List Point) → low.speed < last.speed → RisesFrom last.speed points → IsAbove low next last →
-    GoesOn last points (next ∷ []) → GoesOn low points (next ∷ [])
-past_last low last next [] gap rises above goes = goes
-past_last low last next (point ∷ points) gap rises above (inl reached) = inl reached
-past_last low last next (point ∷ points) gap rises above (inr left) =
-    let later : point.speed < next.speed = next_rises last next points [] point.speed rises.1 left.1 in
-    let rest : RisesFrom last.speed points = rises_below last.speed point.speed points (omega arith) rises.1 in
-    inr (above_later low last point next gap rises.0 later above left.0, past_last low last next points gap rest above left.1)
-
-over_last : (low last next : Point) (points : List Point) → RisesFrom low.speed points → IsAbove low next last →
-    GoesOn low points (last ∷ next ∷ []) → GoesOn low points (next ∷ [])
-over_last low last next [] rises above goes = goes
-over_last low last next (point ∷ points) rises above (inl reached) =
-    let P : Point → Type 0 = λ x. (low.speed < x.speed) × RisesFrom x.speed points in
-    let there : P last = subst P reached.0 rises in
-    let Q : Point → Type 0 = λ x. IsAbove low next x in
-    inr (subst Q (sym reached.0) above, past_last low last next points there.0 there.1 above reached.1)
-over_last low last next (point ∷ points) rises above (inr left) =
-    let before : point.speed < last.speed = next_rises low last points (next ∷ []) point.speed rises.1 left.1 in
-    let rest : RisesFrom low.speed points = rises_below low.speed point.speed points (omega arith) rises.1 in
-    let after : RisesFrom low.speed (last ∷ next ∷ []) = hull_rises low points (last ∷ next ∷ []) low.speed rest left.1 in
-    inr (above_earlier low point last next rises.0 before after.1.0 above left.0, over_last low last next points rest above left.1)
 
 goes_without : (low last next : Point) (points hull : List Point) → RisesFrom low.speed points → IsAbove (point_at (low ∷ hull) (length hull)) next last →
     GoesOn low points ((hull ++ last ∷ []) ++ next ∷ []) → GoesOn low points (hull ++ next ∷ [])
 goes_without low last next [] [] rises above goes = goes
-goes_without low last next (point ∷ points) [] rises above goes = over_last low last next (point ∷ points) rises above goes
+goes_without low last next (point ∷ points) [] rises above goes = over_last low last next (point ∷ points) [] rises above goes
 goes_without low last next [] (high ∷ hull) rises above goes = goes
 goes_without low last next (point ∷ points) (high ∷ hull) rises above (inl reached) =
     let P : Point → Type 0 = λ x. RisesFrom x.speed points in

@@ -1,9 +1,26 @@
-pub mod Places
+pub mod Decided
+pub mod DecidedSchedules
+pub mod DecidedPlans
+pub mod DecidedAdmission
+pub mod DecidedRounding
+pub mod DecidedVerdicts
 mod Examples
-mod ThreeJobs
-mod Policies
+pub mod ThreeJobs
+mod ThreeJobsChanged
+mod EqualSpeeds
+mod EarliestFirst
+mod RoundNested
+mod RoundSwitch
+pub mod Policies
+mod Rows
 mod Judged
 mod EnergyExamples
+mod WordsExamples
+mod TasksExamples
+mod JsonExamples
+mod CurveExamples
+mod AdmissionExamples
+mod ComparisonExamples
 pub mod Differences
 pub mod Hinges
 pub mod Group
@@ -11,10 +28,14 @@ pub mod Bound
 pub mod Exact
 pub mod Explained
 pub mod RunScale
+pub mod SpentScale
+pub mod RoundingScale
+pub mod OneEnergy
 pub mod OneJudgement
 pub mod Judgements
 pub mod Curve
 pub mod Plans
+pub mod TaskCounts
 pub mod Energy
 pub mod HullEnergy
 pub mod LineEnergy
@@ -30,3 +51,4 @@ pub mod Inverse
 pub mod Grown
 pub mod Within
 pub mod PlanText
+pub mod AnsweredOnce

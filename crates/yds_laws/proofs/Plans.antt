@@ -1,17 +1,18 @@
 -- What plans are: least, and of the same levels as each other plan of the jobs.
-use Rattle.std.proofs.Common.{◌≡◌, ℕ, ◌*◌, ◌≤◌, List, ◌++◌, ap, arith}
+use Rattle.std.proofs.Common.{◌≡◌, ℕ, ◌*◌, ◌≤◌, List, [], ◌∷◌, ◌++◌, refl, ap, arith}
 use Rattle.std.specs.List.{All}
-use Rattle.std.proofs.lemmas.List.Elements.{All-append, All-from_get_or}
+use Rattle.std.proofs.lemmas.List.Elements.{All-nil, All-cons, All-append, All-from_get_or}
 use Rattle.std.proofs.Math.Nat.{eq_of_mul-eq-mul_left}
-use Rattle.yds_model.specs.Job.{Job}
-use Rattle.yds_model.specs.Slot.{WrittenSlot, IsScale, IsSolid, slots_at}
+use Rattle.yds_model.specs.Job.{Job, job_at}
+use Rattle.yds_model.specs.Slot.{WrittenSlot, WholeSlot, IsScale, IsSolid, slot_at_scale, slots_at}
 use Rattle.yds_model.specs.Excess.{excess}
 use Rattle.yds_model.specs.Level.{Level, no_level}
+use Rattle.yds_model.specs.EarliestFirst.{EarliestAfter}
 use Rattle.yds_model.specs.Plan.{IsPlan}
-use Rattle.yds_laws.specs.Laws.{PlansAreLeast, PlansHaveTheSameLevels}
+use Rattle.yds_laws.specs.Laws.{PlansAreLeast, PlansHaveTheSameLevels, PlansServeWork}
 use Rattle.yds_laws.proofs.Bound.{explained_is_least, scale_left, scale_right}
 use Rattle.yds_laws.proofs.Explained.{proper_explains}
-use Rattle.yds_model.proofs.Scale.{scale_exists}
+use Rattle.yds_model.proofs.Scale.{scale_exists, first_factor}
 use Rattle.yds_laws.proofs.Curve.{curve, AreFalling, are_falling, SumsUp, curve_above, DoTheSame, same_levels}
 
 -- a plan's certificate is proper, so it explains the schedule, which is least
@@ -63,3 +64,18 @@ plans_have_the_same_levels jobs slots others levels others_levels plan other =
     let scale = scale_exists (slots ++ others) (All-append IsSolid slots others plan.proper.feasible.solid other.proper.feasible.solid) in
     same_levels levels others_levels (plan_falls jobs slots levels plan) (plan_falls jobs others others_levels other)
     (plans_do_the_same jobs slots others levels others_levels scale.0 plan other scale.1)
+
+-- what is served earliest deadline first is a job with pending work, so with work
+due_has_work : (jobs : List Job) (scale : ℕ) (before : List WholeSlot) (slots : List WrittenSlot) → EarliestAfter jobs scale before (slots_at scale slots) →
+    All (λ slot. 1 ≤ (job_at jobs slot.job).work) slots
+due_has_work jobs scale before [] due = All-nil (λ slot. 1 ≤ (job_at jobs slot.job).work)
+due_has_work jobs scale before (slot ∷ slots) due =
+    All-cons (λ slot. 1 ≤ (job_at jobs slot.job).work) slot slots
+    (first_factor (job_at jobs slot.job).work scale ((job_at jobs slot.job).work * scale) refl (omega (arith, due.0.may_run.pending)))
+    (due_has_work jobs scale (before ++ slot_at_scale scale slot ∷ []) slots due.1)
+
+-- and a plan is served so, at a scale that there is
+pub plans_serve_work : PlansServeWork
+plans_serve_work jobs slots levels plan =
+    let scale = scale_exists slots plan.proper.feasible.solid in
+    due_has_work jobs scale.0 [] slots (plan.served scale.0 scale.1).earliest_first

@@ -1,36 +1,27 @@
--- The two policies, tried on a small run of each on the grid 1: at the scale of its slots, and at each.
-use Rattle.std.proofs.Common.{◌≡◌, ℕ, ◌*◌, List, [], ◌∷◌, length, map, refl, sym, arith, inl, inr}
+-- The two policies, tried on small runs of each, on the grids 1 and 6: at a scale of their slots, and at each.
+use Rattle.std.proofs.Common.{◌≡◌, ℕ, zero, suc, ◌-◌, ◌*◌, ◌/◌, ◌≤◌, List, [], ◌∷◌, map, refl, sym, ap, subst, arith, inl, inr}
 use Rattle.std.specs.Prelude.{count_by}
-use Rattle.std.specs.List.{All}
-use Rattle.std.proofs.lemmas.List.Elements.{All-from_recursion}
-use Rattle.std.proofs.lemmas.Nat.Gcd.{dvd_refl}
+use Rattle.std.specs.Int.{◌∣◌}
+use Rattle.std.specs.List.{Contains}
+use Rattle.std.proofs.lemmas.Bool.Decides.{not_from_Decides}
 use Rattle.std.proofs.Math.Nat.{one-dvd}
-use Rattle.yds_model.specs.Job.{Job, job_at}
-use Rattle.yds_model.specs.Scale.{of_whole, of_parts}
-use Rattle.yds_model.specs.Slot.{WrittenSlot, WholeSlot, AtEachScale, IsDivided, IsScale, slots_at, slot_at, no_written_slot, work_given}
-use Rattle.yds_model.specs.Feasible.{IsInWindow, IsFeasibleAt}
-use Rattle.yds_model.specs.EarliestFirst.{ComesFirst, MayRun, IsFirstDue, IsEarliestFirst}
-use Rattle.yds_model.specs.Event.{stretches, LiesIn, IsUncut}
-use Rattle.yds_model.specs.Plan.{IsServedInStretches}
-use Rattle.yds_model.specs.Policy.{ServesCapacity, IsRunAt}
+use Rattle.yds_model.specs.Job.{Job}
+use Rattle.yds_model.specs.Scale.{Fraction, of_whole, of_parts}
+use Rattle.yds_model.specs.Slot.{WrittenSlot, AtEachScale, IsScale, slots_at, no_written_slot, written_slot_at}
+use Rattle.yds_model.specs.Feasible.{IsFeasible}
+use Rattle.yds_model.specs.Piece.{Piece}
+use Rattle.yds_model.specs.Event.{stretches}
+use Rattle.yds_model.specs.Divisor.{common_divisor}
+use Rattle.yds_model.specs.Plan.{IsOver}
+use Rattle.yds_model.specs.Policy.{IsRunAt, HasRunDenominators}
 use Rattle.yds_model.specs.AverageRate.{average_rate, average_rate_rounds, IsAverageRateRun}
 use Rattle.yds_model.specs.OptimalAvailable.{optimal_available, optimal_available_rounds, IsOptimalAvailableRun}
 use Rattle.yds_model.proofs.Scale.{least_scale_of}
-use Rattle.yds_laws.proofs.Places.{AtPlaces, each_place, each_pair}
+use Rattle.yds_model.proofs.Divisor.{multiple_is_least}
 use Rattle.yds_laws.proofs.RunScale.{average_rate_run_scaled, optimal_available_run_scaled, optimal_available_rounds_scaled}
-
--- what comes first among the jobs that may run, one by one
-first_of_jobs : (jobs : List Job) (scale : ℕ) (before : List WholeSlot) (slot : WholeSlot) → MayRun jobs scale slot.from before slot.job →
-    AtPlaces (length jobs) (λ other. MayRun jobs scale slot.from before other → ComesFirst jobs slot.job other) → IsFirstDue jobs scale before slot
-first_of_jobs jobs scale before slot may each = record {
-  may_run = may;
-  first = each_place (length jobs) (λ other. MayRun jobs scale slot.from before other → ComesFirst jobs slot.job other) each;
-}
-
--- two slots of one job lie in different stretches
-abbrev IsOnce : List Job → ℕ → List WholeSlot → ℕ → ℕ → Type 0
-IsOnce jobs scale slots i j = (slot_at slots i).job ≡ (slot_at slots j).job →
-    All (λ stretch. LiesIn scale (slot_at slots i) stretch → LiesIn scale (slot_at slots j) stretch → ⊥) (stretches jobs)
+use Rattle.yds_laws.proofs.Decided.{scale_decided}
+use Rattle.yds_laws.proofs.DecidedSchedules.{feasible_by_test, is_run_at, run_decided}
+use Rattle.yds_laws.proofs.DecidedPlans.{is_over, over_decided}
 
 -- Average Rate: a from 0 to 3 with work 2, b from 1 to 3 with work 2
 abbrev rate_jobs : List Job
@@ -55,86 +46,17 @@ first_units = refl
 second_units : average_rate rate_jobs 1 3 (slots_at 3 rate_slots) (record { from = 1; to = 3 }) ≡ 9
 second_units = refl
 
--- and the slots do so in both stretches
-first_served : ServesCapacity 1 3 3 (record { from = 0; to = 1 }) (slots_at 3 rate_slots)
-first_served = (refl, refl, refl)
-
--- each at the speed that is set for the stretch
-second_served : ServesCapacity 1 3 9 (record { from = 1; to = 3 }) (slots_at 3 rate_slots)
-second_served = (refl, refl, (refl, refl, refl))
-
 -- it rounds at both event points
 rate_rounds : count_by (average_rate_rounds rate_jobs 1) (stretches rate_jobs) ≡ 2
 rate_rounds = refl
 
--- At scale 3 the slots are a run: one job at a time, in its window, and all are served.
-rate_feasible : IsFeasibleAt rate_jobs 3 (slots_at 3 rate_slots)
-rate_feasible = record {
-  one_at_a_time = (omega arith, omega arith, (omega arith, omega arith, (omega arith, omega arith, tt)));
-  in_windows = All-from_recursion (IsInWindow rate_jobs 3) (slots_at 3 rate_slots) (omega arith, (omega arith, (omega arith, tt)));
-  served = each_place 2 (λ number. work_given (slots_at 3 rate_slots) number ≡ (job_at rate_jobs number).work * 3) (refl, (refl, tt));
-}
-
--- At 0 a alone may run, at 1 a and b have the same deadline and a stands first, and at 5/3 a is done.
-rate_earliest : IsEarliestFirst rate_jobs 3 (slots_at 3 rate_slots)
-rate_earliest = (
-  first_of_jobs _ _ _ _ (record { released = omega arith; pending = omega arith }) (λ may. inr (refl, omega arith), (λ may. absurd (omega (arith, may.released)), tt)),
-  (
-    first_of_jobs _ _ _ _ (record { released = omega arith; pending = omega arith }) (λ may. inr (refl, omega arith), (λ may. inr (refl, omega arith), tt)),
-    (first_of_jobs _ _ _ _ (record { released = omega arith; pending = omega arith }) (λ may. absurd (omega (arith, may.pending)), (λ may. inr (refl, omega arith), tt)), tt),
-  ),
-)
-
--- a's two slots lie in different stretches, and b has one
-rate_once : AtPlaces 3 (λ j. AtPlaces j (λ i. IsOnce rate_jobs 3 (slots_at 3 rate_slots) i j))
-rate_once = (
-  tt,
-  (
-    (
-      λ same. All-from_recursion (λ stretch. LiesIn 3 (slot_at (slots_at 3 rate_slots) 0) stretch → LiesIn 3 (slot_at (slots_at 3 rate_slots) 1) stretch → ⊥)
-          (stretches rate_jobs) (λ first second. absurd (omega (arith, second.to)), (λ first second. absurd (omega (arith, first.from)), tt)),
-      tt,
-    ),
-    ((λ same. absurd (omega (arith, same)), (λ same. absurd (omega (arith, same)), tt)), tt),
-  ),
-)
-
--- So they are in order, uncut, and one for a job and stretch.
-rate_in_stretches : IsServedInStretches rate_jobs 3 (slots_at 3 rate_slots)
-rate_in_stretches = record {
-  earliest_first = rate_earliest;
-  uncut = All-from_recursion (IsUncut rate_jobs 3) (slots_at 3 rate_slots) (
-    (0, record { from = 0; to = 1 }, omega arith, refl, record { from = omega arith; to = omega arith }),
-    (
-      (1, record { from = 1; to = 3 }, omega arith, refl, record { from = omega arith; to = omega arith }),
-      ((1, record { from = 1; to = 3 }, omega arith, refl, record { from = omega arith; to = omega arith }), tt),
-    ),
-  );
-  once = each_pair 3 (IsOnce rate_jobs 3 (slots_at 3 rate_slots)) rate_once;
-}
-
--- so they are a run
+-- At scale 3 the slots are a run: feasible, in order of the earliest deadline, and they serve that much.
 rate_run : IsRunAt rate_jobs 1 3 (average_rate rate_jobs 1 3 (slots_at 3 rate_slots)) (slots_at 3 rate_slots)
-rate_run = record {
-  feasible = rate_feasible;
-  served = rate_in_stretches;
-  few = omega arith;
-  each = All-from_recursion (λ stretch. ServesCapacity 1 3 (average_rate rate_jobs 1 3 (slots_at 3 rate_slots) stretch) stretch (slots_at 3 rate_slots))
-      (stretches rate_jobs) (first_served, (second_served, tt));
-}
+rate_run = (run_decided rate_jobs 1 3 (average_rate rate_jobs 1 3 (slots_at 3 rate_slots)) (slots_at 3 rate_slots)).0 refl
 
 -- 3 is a scale of them
 rate_thirds : IsScale 3 rate_slots
-rate_thirds = record {
-  positive = omega arith;
-  divided = All-from_recursion (IsDivided 3) rate_slots (
-    record { from = one-dvd 3; to = one-dvd 3; work = one-dvd 3 },
-    (
-      record { from = one-dvd 3; to = dvd_refl 3; work = one-dvd 3 },
-      (record { from = dvd_refl 3; to = one-dvd 3; work = one-dvd 3 }, tt),
-    ),
-  );
-}
+rate_thirds = (scale_decided 3 rate_slots).0 refl
 
 -- each scale of the slots is a multiple of 3, so they are a run at each
 rate_at_each : AtEachScale rate_slots (λ scale whole. IsRunAt rate_jobs 1 scale (average_rate rate_jobs 1 scale whole) whole)
@@ -149,8 +71,25 @@ rate_accepted = record { run = rate_at_each; rounds = refl }
 rate_refused : IsAverageRateRun rate_jobs 1 0 rate_slots → ⊥
 rate_refused is = absurd (omega (arith, is.rounds))
 
+-- Served before it is rounded up, a does two thirds of a unit until 1. This is feasible,
+abbrev not_rounded : List WrittenSlot
+not_rounded =
+    record { job = 0; from = of_whole 0; to = of_whole 1; work = of_parts 2 3 }
+    ∷ record { job = 0; from = of_whole 1; to = of_whole 2; work = of_parts 4 3 }
+    ∷ record { job = 1; from = of_whole 2; to = of_whole 3; work = of_whole 2 } ∷ []
+
+not_rounded_feasible : IsFeasible rate_jobs not_rounded
+not_rounded_feasible = feasible_by_test rate_jobs not_rounded 3 refl refl
+
+-- but no run on the grid 1.
+not_rounded_refused : IsAverageRateRun rate_jobs 1 2 not_rounded → ⊥
+not_rounded_refused is =
+    let capacity = average_rate rate_jobs 1 3 (slots_at 3 not_rounded) in
+    not_from_Decides (is_run_at rate_jobs 1 3 capacity (slots_at 3 not_rounded)) (run_decided rate_jobs 1 3 capacity (slots_at 3 not_rounded)) refl
+    (is.run.holds 3 ((scale_decided 3 not_rounded).0 refl))
+
 -- Optimal Available: a from 0 to 3 with work 2, b from 1 to 2 with work 1
-abbrev available_jobs : List Job
+abbrev pub available_jobs : List Job
 available_jobs = record { release = 0; deadline = 3; work = 2 } ∷ record { release = 1; deadline = 2; work = 1 } ∷ []
 
 -- its run on the grid 1
@@ -176,80 +115,13 @@ units_at_2 = refl
 available_rounds : count_by (optimal_available_rounds available_jobs 1 1 (slots_at 1 available_slots)) (stretches available_jobs) ≡ 1
 available_rounds = refl
 
--- At scale 1 the slots are a run: one job at a time, in its window, and all are served.
-available_feasible : IsFeasibleAt available_jobs 1 (slots_at 1 available_slots)
-available_feasible = record {
-  one_at_a_time = (omega arith, omega arith, (omega arith, omega arith, (omega arith, omega arith, tt)));
-  in_windows = All-from_recursion (IsInWindow available_jobs 1) (slots_at 1 available_slots) (omega arith, (omega arith, (omega arith, tt)));
-  served = each_place 2 (λ number. work_given (slots_at 1 available_slots) number ≡ (job_at available_jobs number).work * 1) (refl, (refl, tt));
-}
-
--- At 0 a alone may run, at 1 b has the earlier deadline, and at 2 b is done.
-available_earliest : IsEarliestFirst available_jobs 1 (slots_at 1 available_slots)
-available_earliest = (
-  first_of_jobs _ _ _ _ (record { released = omega arith; pending = omega arith }) (λ may. inr (refl, omega arith), (λ may. absurd (omega (arith, may.released)), tt)),
-  (
-    first_of_jobs _ _ _ _ (record { released = omega arith; pending = omega arith }) (λ may. inl (omega arith), (λ may. inr (refl, omega arith), tt)),
-    (first_of_jobs _ _ _ _ (record { released = omega arith; pending = omega arith }) (λ may. inr (refl, omega arith), (λ may. absurd (omega (arith, may.pending)), tt)), tt),
-  ),
-)
-
--- a's two slots lie in different stretches, and b has one
-available_once : AtPlaces 3 (λ j. AtPlaces j (λ i. IsOnce available_jobs 1 (slots_at 1 available_slots) i j))
-available_once = (
-  tt,
-  (
-    (λ same. absurd (omega (arith, same)), tt),
-    (
-      (
-        λ same. All-from_recursion (λ stretch. LiesIn 1 (slot_at (slots_at 1 available_slots) 0) stretch → LiesIn 1 (slot_at (slots_at 1 available_slots) 2) stretch → ⊥)
-            (stretches available_jobs) (
-              λ first second. absurd (omega (arith, second.to)),
-              (λ first second. absurd (omega (arith, second.to)), (λ first second. absurd (omega (arith, first.from)), tt)),
-            ),
-        (λ same. absurd (omega (arith, same)), tt),
-      ),
-      tt,
-    ),
-  ),
-)
-
--- So they are in order, uncut, and one for a job and stretch.
-available_in_stretches : IsServedInStretches available_jobs 1 (slots_at 1 available_slots)
-available_in_stretches = record {
-  earliest_first = available_earliest;
-  uncut = All-from_recursion (IsUncut available_jobs 1) (slots_at 1 available_slots) (
-    (0, record { from = 0; to = 1 }, omega arith, refl, record { from = omega arith; to = omega arith }),
-    (
-      (1, record { from = 1; to = 2 }, omega arith, refl, record { from = omega arith; to = omega arith }),
-      ((2, record { from = 2; to = 3 }, omega arith, refl, record { from = omega arith; to = omega arith }), tt),
-    ),
-  );
-  once = each_pair 3 (IsOnce available_jobs 1 (slots_at 1 available_slots)) available_once;
-}
-
--- so they are a run
+-- At scale 1 the slots are a run.
 available_run : IsRunAt available_jobs 1 1 (optimal_available available_jobs 1 1 (slots_at 1 available_slots)) (slots_at 1 available_slots)
-available_run = record {
-  feasible = available_feasible;
-  served = available_in_stretches;
-  few = omega arith;
-  each = All-from_recursion (λ stretch. ServesCapacity 1 1 (optimal_available available_jobs 1 1 (slots_at 1 available_slots) stretch) stretch (slots_at 1 available_slots))
-      (stretches available_jobs) ((refl, refl, refl), ((refl, refl, refl), ((refl, refl, refl), tt)));
-}
+available_run = (run_decided available_jobs 1 1 (optimal_available available_jobs 1 1 (slots_at 1 available_slots)) (slots_at 1 available_slots)).0 refl
 
 -- 1 is a scale of them
 available_whole : IsScale 1 available_slots
-available_whole = record {
-  positive = omega arith;
-  divided = All-from_recursion (IsDivided 1) available_slots (
-    record { from = one-dvd 1; to = one-dvd 1; work = one-dvd 1 },
-    (
-      record { from = one-dvd 1; to = one-dvd 1; work = one-dvd 1 },
-      (record { from = one-dvd 1; to = one-dvd 1; work = one-dvd 1 }, tt),
-    ),
-  );
-}
+available_whole = (scale_decided 1 available_slots).0 refl
 
 -- each scale is a multiple of 1, so they are a run at each
 available_at_each : AtEachScale available_slots (λ scale whole. IsRunAt available_jobs 1 scale (optimal_available available_jobs 1 scale whole) whole)
@@ -271,8 +143,24 @@ available_accepted = record { run = available_at_each; rounds = available_rounds
 available_refused : IsOptimalAvailableRun available_jobs 1 0 available_slots → ⊥
 available_refused is = absurd (omega (arith, is.rounds.holds 1 available_whole))
 
+-- All of a's work before b is feasible too,
+abbrev eager_slots : List WrittenSlot
+eager_slots =
+    record { job = 0; from = of_whole 0; to = of_whole 1; work = of_whole 2 }
+    ∷ record { job = 1; from = of_whole 1; to = of_whole 2; work = of_whole 1 } ∷ []
+
+eager_feasible : IsFeasible available_jobs eager_slots
+eager_feasible = feasible_by_test available_jobs eager_slots 1 refl refl
+
+-- but no run: until 1 just one unit is asked for
+eager_refused : IsOptimalAvailableRun available_jobs 1 1 eager_slots → ⊥
+eager_refused is =
+    let capacity = optimal_available available_jobs 1 1 (slots_at 1 eager_slots) in
+    not_from_Decides (is_run_at available_jobs 1 1 capacity (slots_at 1 eager_slots)) (run_decided available_jobs 1 1 capacity (slots_at 1 eager_slots)) refl
+    (is.run.holds 1 ((scale_decided 1 eager_slots).0 refl))
+
 -- On the grid 6 it asks for just what is due: 4 units until 1, and 7 until 2 and until 3. Slots are whole at scale 42.
-abbrev fine_slots : List WrittenSlot
+abbrev pub fine_slots : List WrittenSlot
 fine_slots =
     record { job = 0; from = of_whole 0; to = of_whole 1; work = record { whole = 0; num = 4; den = 6 } }
     ∷ record { job = 1; from = of_whole 1; to = of_parts 13 7; work = of_whole 1 }
@@ -283,13 +171,65 @@ fine_slots =
 fine_units : map (optimal_available available_jobs 6 42 (slots_at 42 fine_slots)) (stretches available_jobs) ≡ 4 * 42 ∷ 7 * 42 ∷ 7 * 42 ∷ []
 fine_units = refl
 
--- the slots serve that much
-fine_served : All (λ stretch. ServesCapacity 6 42 (optimal_available available_jobs 6 42 (slots_at 42 fine_slots) stretch) stretch (slots_at 42 fine_slots))
-    (stretches available_jobs)
-fine_served =
-    All-from_recursion (λ stretch. ServesCapacity 6 42 (optimal_available available_jobs 6 42 (slots_at 42 fine_slots) stretch) stretch (slots_at 42 fine_slots))
-    (stretches available_jobs) ((refl, refl, refl), ((refl, refl, (refl, refl, refl)), ((refl, refl, refl), tt)))
+-- the slots are a run at this scale
+fine_run : IsRunAt available_jobs 6 42 (optimal_available available_jobs 6 42 (slots_at 42 fine_slots)) (slots_at 42 fine_slots)
+fine_run = (run_decided available_jobs 6 42 (optimal_available available_jobs 6 42 (slots_at 42 fine_slots)) (slots_at 42 fine_slots)).0 refl
 
--- and it rounds nowhere
-fine_rounds : count_by (optimal_available_rounds available_jobs 6 42 (slots_at 42 fine_slots)) (stretches available_jobs) ≡ 0
-fine_rounds = refl
+-- 42 is a scale of them, and each is a multiple of it, being one of 7 and of 6
+pub fine_scale : IsScale 42 fine_slots
+fine_scale = (scale_decided 42 fine_slots).0 refl
+
+fine_divides : (scale : ℕ) → IsScale scale fine_slots → 42 ∣ scale
+fine_divides scale is = (multiple_is_least 7 6).2 scale (is.divided 1 no_written_slot (omega arith)).to (is.divided 0 no_written_slot (omega arith)).work
+
+-- so they are a run at each,
+fine_at_each : AtEachScale fine_slots (λ scale whole. IsRunAt available_jobs 6 scale (optimal_available available_jobs 6 scale whole) whole)
+fine_at_each =
+    least_scale_of fine_slots (λ scale whole. IsRunAt available_jobs 6 scale (optimal_available available_jobs 6 scale whole) whole) 42 fine_scale fine_divides
+    (λ k some. optimal_available_run_scaled available_jobs 6 k 42 fine_slots some fine_scale fine_run)
+
+-- which rounds nowhere
+fine_rounds_at_each : AtEachScale fine_slots (λ scale whole. 0 ≡ count_by (optimal_available_rounds available_jobs 6 scale whole) (stretches available_jobs))
+fine_rounds_at_each =
+    least_scale_of fine_slots (λ scale whole. 0 ≡ count_by (optimal_available_rounds available_jobs 6 scale whole) (stretches available_jobs)) 42 fine_scale
+    fine_divides (λ k some. sym (optimal_available_rounds_scaled available_jobs 6 k 42 fine_slots some fine_scale))
+
+-- the slots are a run of Optimal Available that rounds at no event point
+pub fine_accepted : IsOptimalAvailableRun available_jobs 6 0 fine_slots
+fine_accepted = record { run = fine_at_each; rounds = fine_rounds_at_each }
+
+-- b's slot has its work whole and its end over 7: 7 units in a stretch of length 1, in lowest terms
+fine_denominators : HasRunDenominators available_jobs 6 (written_slot_at fine_slots 1)
+fine_denominators = record {
+  stretch = record { from = 1; to = 2 };
+  is_stretch = (1, omega arith, refl);
+  lies = record { from = omega arith; to = omega arith };
+  units = 7;
+  speed = refl;
+  work = inl refl;
+  from = inl refl;
+  to = inr refl;
+}
+
+-- a stretch in which such a slot lies is the one from 1 to 2, and the slot has the speed of 7 units there
+seven_units : (stretch : Piece) (units : ℕ) → Contains (stretches available_jobs) stretch → stretch.from * 1 ≤ 1 → 26 ≤ stretch.to * 14 →
+    1 * (6 * (stretch.to - stretch.from)) * (1 * 14) ≡ units * 12 * 1 → (units ≡ 7) × (stretch.to - stretch.from ≡ 1)
+seven_units stretch units (zero, within, is) begins ends speed = absurd (omega (arith, ends, ap (λ (s : Piece). s.to) is))
+seven_units stretch units (suc zero, within, is) begins ends speed =
+    let long : stretch.to - stretch.from ≡ 1 = omega (arith, ap (λ (s : Piece). s.from) is, ap (λ (s : Piece). s.to) is) in
+    (omega (arith, speed, long), long)
+seven_units stretch units (suc (suc zero), within, is) begins ends speed = absurd (omega (arith, begins, ap (λ (s : Piece). s.from) is))
+seven_units stretch units (suc (suc (suc i)), within, is) begins ends speed = absurd (omega (arith, within))
+
+-- the end 26/14, the same as 13/7
+abbrev over_14 : Fraction
+over_14 = record { whole = 1; num = 12; den = 14 }
+
+-- is refused: in lowest terms the units ask for the denominator 7
+other_denominators : HasRunDenominators available_jobs 6 (record { job = 1; from = of_whole 1; to = over_14; work = of_whole 1 }) → ⊥
+other_denominators has =
+    let long : ℕ = has.stretch.to - has.stretch.from in
+    let both = seven_units has.stretch has.units has.is_stretch has.lies.from has.lies.to has.speed in
+    not_from_Decides (is_over 7 over_14) (over_decided 7 over_14) refl
+    (subst (λ (n : ℕ). IsOver (7 / common_divisor 7 n) over_14) both.1
+    (subst (λ (n : ℕ). IsOver (n / common_divisor n long) over_14) both.0 has.to))

@@ -16,11 +16,12 @@ use Rattle.yds_model.specs.Plan.{IsServedInStretches}
 use Rattle.yds_model.specs.Policy.{div_up, pending_at, numbers_of, pending_units, slots_in, FillsAtSpeed, ServesCapacity, IsRunAt}
 use Rattle.yds_model.specs.AverageRate.{terms_of, average_rate}
 use Rattle.yds_model.specs.OptimalAvailable.{pending_jobs, due_units, pending_deadlines, asked, units_asked, optimal_available, optimal_available_rounds}
+use Rattle.yds_model.specs.Admission.{top_capacity}
 use Rattle.yds_model.proofs.Sums.{sum_by-mul, sum_by_same}
 use Rattle.yds_model.proofs.Scale.{finer, finer_slots, finer_work, shifted, feasible_finer}
 
 -- numbers that are both multiplied by k are in the order that they were in
-le_scaled : (k a b : ℕ) → 1 ≤ k → nat_le (k * a) (k * b) ≡ nat_le a b
+pub le_scaled : (k a b : ℕ) → 1 ≤ k → nat_le (k * a) (k * b) ≡ nat_le a b
 le_scaled k a b some = elim (cases_lt b a) [
   | inl less ↦ lt-leb (k * a) (k * b) (mul-lt-mul_of_pos_left less some) ∙ sym (lt-leb a b less)
   | inr more ↦ le-leb (k * a) (k * b) (mul-le-mul_left k more) ∙ sym (le-leb a b more)
@@ -75,7 +76,7 @@ div_up_scaled k x zero some = rw (mul-zero k) (div-zero (k * x + (0 - 1)) ∙ sy
 div_up_scaled k x (suc y) some = ceiling_scaled k x (suc y) (div_up x (suc y)) some (omega arith) refl
 
 -- functions that agree at each element give the same list
-map_agree : {X Y : Type 0} (f g : X → Y) → ((x : X) → f x ≡ g x) → (xs : List X) → map f xs ≡ map g xs
+pub map_agree : {X Y : Type 0} (f g : X → Y) → ((x : X) → f x ≡ g x) → (xs : List X) → map f xs ≡ map g xs
 map_agree f g same [] = refl
 map_agree f g same (x ∷ xs) = rw (same x, map_agree f g same xs) refl
 
@@ -147,7 +148,7 @@ module _ (jobs : List Job) (k scale : ℕ) (some : 1 ≤ k) where
       ∙ sum_by-mul k (λ job. pending_at jobs scale slots time job) numbers
 
   -- a stretch's slots are the finer ones of those that it had
-  slots_in_finer : (stretch : Piece) (slots : List WholeSlot) →
+  pub slots_in_finer : (stretch : Piece) (slots : List WholeSlot) →
       slots_in (k * scale) stretch (map (finer k) slots) ≡ map (finer k) (slots_in scale stretch slots)
   slots_in_finer stretch slots =
       filter_finer k (λ slot. nat_le (stretch.from * (k * scale)) slot.from && nat_le slot.to (stretch.to * (k * scale)))
@@ -251,15 +252,26 @@ module _ (jobs : List Job) (k scale : ℕ) (some : 1 ≤ k) where
         rw (same one) (serves_finer grid (capacity one) one slots (run.each i stretch within));
   }
 
-  -- and the capacities of Average Rate are so
-  average_rate_finer : (grid : ℕ) (slots : List WholeSlot) (stretch : Piece) →
-      average_rate jobs grid (k * scale) (map (finer k) slots) stretch ≡ k * average_rate jobs grid scale slots stretch
-  average_rate_finer grid slots stretch =
+  -- and so much of what is pending, at the most
+  capped_finer : (grid units : ℕ) (slots : List WholeSlot) (stretch : Piece) →
+      min (pending_units jobs grid (k * scale) (map (finer k) slots) stretch) (k * scale * units)
+      ≡ k * min (pending_units jobs grid scale slots stretch) (scale * units)
+  capped_finer grid units slots stretch =
       let live = filter (λ job. nat_le (job_at jobs job).release stretch.from) (numbers_of jobs) in
       rw (pending_sum_finer slots stretch.from live)
-      (ap (λ n. min n (k * scale * terms_of jobs grid stretch)) (shifted grid k (sum_by (λ job. pending_at jobs scale slots stretch.from job) live))
-      ∙ ap (λ n. min (k * pending_units jobs grid scale slots stretch) n) (grouped scale (terms_of jobs grid stretch))
-      ∙ min_scaled k (pending_units jobs grid scale slots stretch) (scale * terms_of jobs grid stretch))
+      (ap (λ n. min n (k * scale * units)) (shifted grid k (sum_by (λ job. pending_at jobs scale slots stretch.from job) live))
+      ∙ ap (λ n. min (k * pending_units jobs grid scale slots stretch) n) (grouped scale units)
+      ∙ min_scaled k (pending_units jobs grid scale slots stretch) (scale * units))
+
+  -- so are the capacities of Average Rate
+  average_rate_finer : (grid : ℕ) (slots : List WholeSlot) (stretch : Piece) →
+      average_rate jobs grid (k * scale) (map (finer k) slots) stretch ≡ k * average_rate jobs grid scale slots stretch
+  average_rate_finer grid slots stretch = capped_finer grid (terms_of jobs grid stretch) slots stretch
+
+  -- and those under a top speed
+  top_capacity_finer : (top : ℕ) (slots : List WholeSlot) (stretch : Piece) →
+      top_capacity jobs top (k * scale) (map (finer k) slots) stretch ≡ k * top_capacity jobs top scale slots stretch
+  top_capacity_finer top slots stretch = capped_finer 1 (top * (stretch.to - stretch.from)) slots stretch
 
   -- what Optimal Available looks at: the jobs that are pending, and by when
   pending_jobs_finer : (slots : List WholeSlot) (stretch : Piece) →
@@ -325,6 +337,13 @@ module _ (jobs : List Job) (k scale : ℕ) (some : 1 ≤ k) where
       (pending_deadlines jobs scale slots stretch) in
       rw (units_asked_finer grid slots stretch, pending_deadlines_finer slots stretch, agree) refl
 
+-- written slots that are served in stretches at a scale are so at each multiple of it
+pub served_in_stretches_scaled : (jobs : List Job) (k scale : ℕ) (slots : List WrittenSlot) → 1 ≤ k → IsScale scale slots →
+    IsServedInStretches jobs scale (slots_at scale slots) → IsServedInStretches jobs (k * scale) (slots_at (k * scale) slots)
+served_in_stretches_scaled jobs k scale slots some is served =
+    subst (λ fine. IsServedInStretches jobs (k * scale) fine) (sym (finer_slots k scale slots is))
+    (served_finer jobs k scale some (slots_at scale slots) served)
+
 -- Average Rate: a written run at a scale is one at each multiple of it
 pub average_rate_run_scaled : (jobs : List Job) (grid k scale : ℕ) (slots : List WrittenSlot) → 1 ≤ k → IsScale scale slots →
     IsRunAt jobs grid scale (average_rate jobs grid scale (slots_at scale slots)) (slots_at scale slots) →
@@ -353,3 +372,13 @@ optimal_available_rounds_scaled jobs grid k scale slots some is =
     ap (λ fine. count_by (optimal_available_rounds jobs grid (k * scale) fine) (stretches jobs)) (finer_slots k scale slots is)
     ∙ count_by_agree (optimal_available_rounds jobs grid (k * scale) (map (finer k) (slots_at scale slots)))
     (optimal_available_rounds jobs grid scale (slots_at scale slots)) (rounds_finer jobs k scale some grid (slots_at scale slots)) (stretches jobs)
+
+-- The run of admitted jobs: the same as of the policies
+pub admitted_run_scaled : (jobs : List Job) (top k scale : ℕ) (slots : List WrittenSlot) → 1 ≤ k → IsScale scale slots →
+    IsRunAt jobs 1 scale (top_capacity jobs top scale (slots_at scale slots)) (slots_at scale slots) →
+    IsRunAt jobs 1 (k * scale) (top_capacity jobs top (k * scale) (slots_at (k * scale) slots)) (slots_at (k * scale) slots)
+admitted_run_scaled jobs top k scale slots some is run =
+    let whole = slots_at scale slots in
+    subst (λ fine. IsRunAt jobs 1 (k * scale) (top_capacity jobs top (k * scale) fine) fine) (sym (finer_slots k scale slots is))
+    (run_finer jobs k scale some 1 (top_capacity jobs top scale whole) (top_capacity jobs top (k * scale) (map (finer k) whole)) whole
+    (top_capacity_finer jobs k scale some top whole) run)

@@ -60,6 +60,11 @@ PlansHaveTheSameLevels = (jobs : List Job) (slots others : List WrittenSlot) (le
     (length levels ≡ length others_levels)
     × ((i : ℕ) → i < length levels → ((level_at levels i).work ≡ (level_at others_levels i).work) × ((level_at levels i).length ≡ (level_at others_levels i).length))
 
+-- A plan has no slot of a job without work.
+abbrev pub PlansServeWork : Type 0
+PlansServeWork = (jobs : List Job) (slots : List WrittenSlot) (levels : List Level) → IsPlan jobs slots levels →
+    All (λ slot. 1 ≤ (job_at jobs slot.job).work) slots
+
 -- A feasible schedule at or below a whole speed serves each interval: the work confined to it is at most the speed times its
 -- length.
 abbrev pub ServedAtSpeed : Type 0

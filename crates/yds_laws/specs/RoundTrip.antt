@@ -48,8 +48,8 @@ pub record LinesAreShort : Type 0 where
   pub grid : (grid : Grid) → IsGrid grid → length (grid_lines (Some grid)) ≤ 21
   pub energy : (energy : Fraction) → IsFraction MAX_ENERGY energy → length (energy_lines (Some energy)) ≤ 67
 
--- The text of a document may be read, where it has no more slots and pieces than three for each job that a document may have,
--- and no more levels and members than one.
+-- The text of a document may be read, where for each job that a document may have it has at most five slots and three pieces, and
+-- at most one level and one member.
 abbrev pub TextIsShort : Type 0
-TextIsShort = (document : Document) → IsDocument document → length document.slots ≤ 3 * MAX_JOBS → length document.levels ≤ MAX_JOBS →
+TextIsShort = (document : Document) → IsDocument document → length document.slots ≤ 5 * MAX_JOBS → length document.levels ≤ MAX_JOBS →
     length (all_pieces document.levels) ≤ 3 * MAX_JOBS → length (all_members document.levels) ≤ MAX_JOBS → length (canonical_text document) ≤ MAX_INPUT

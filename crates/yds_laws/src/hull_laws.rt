@@ -1,4 +1,4 @@
-ghost use Rattle.yds_model.specs.HullLaws.{HullIsComputed, HullIsLowest};
+ghost use Rattle.yds_model.specs.HullLaws.{HullExists, HullIsComputed, HullIsLowest};
 
 /// The law that no line between two points of a table runs below the table's lower hull.
 ///
@@ -12,4 +12,9 @@ pub fn hull_is_lowest()
 /// point.
 pub fn hull_is_computed()
     ensures { HullIsComputed }
+{}
+
+/// The law that points of rising speed have a lower hull: what is computed for them is one.
+pub fn hull_exists()
+    ensures { HullExists }
 {}

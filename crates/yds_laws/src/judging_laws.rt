@@ -1,5 +1,6 @@
 //! The laws of the auditor's verdicts and the checker's judgements, each as the contract of a call that does nothing.
 ghost use Rattle.yds_model.specs.AuditLaws.{VerdictIsExact, TableVerdictIsExact, VerdictIsUnique};
+ghost use Rattle.yds_laws.specs.AnswerLaws.{AuditAndCheckAnswerOnce};
 ghost use Rattle.yds_laws.specs.Laws.{JudgementIsExact, JudgementIsUnique};
 
 /// The verdict is 'feasible' exactly where the schedule is feasible.
@@ -26,4 +27,9 @@ pub fn verdict_is_unique()
 /// Two judgements of the same jobs, slots and levels are one.
 pub fn judgement_is_unique()
     ensures { JudgementIsUnique }
+{}
+
+/// `audit`, with or without `--points`, and `check` have one answer to each input.
+pub fn audit_and_check_answer_once()
+    ensures { AuditAndCheckAnswerOnce }
 {}

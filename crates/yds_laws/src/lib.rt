@@ -14,7 +14,9 @@ mod judging_laws;
 mod laws;
 mod plan_laws;
 mod reading_laws;
+mod rounding_laws;
 mod scale_laws;
+mod task_laws;
 mod text_laws;
 
 pub use divisor_laws::{divisor_is_greatest, lowest_terms_are_one, multiple_is_least};
@@ -22,25 +24,27 @@ pub use energy_laws::{
     least_is_cheapest, lines_are_at_most_energy, plans_cost_least, plans_cost_least_on_points,
     points_cost_at_least_the_hull,
 };
-pub use hull_laws::{hull_is_computed, hull_is_lowest};
+pub use hull_laws::{hull_exists, hull_is_computed, hull_is_lowest};
 pub use judging_laws::{
-    judgement_is_exact, judgement_is_unique, table_verdict_is_exact, verdict_is_exact,
-    verdict_is_unique,
+    audit_and_check_answer_once, judgement_is_exact, judgement_is_unique, table_verdict_is_exact,
+    verdict_is_exact, verdict_is_unique,
 };
 pub use laws::{
     confinement_bound, explained_is_least, least_among_written, proper_explains, served_at_speed,
 };
 pub use plan_laws::{
     plan_texts_are_accepted, plan_texts_are_feasible, plans_are_least, plans_have_the_same_levels,
-    plans_hold_the_headline,
+    plans_hold_the_headline, plans_serve_work,
 };
 pub use reading_laws::{
     canonical_text_is_read, jobs_and_slots_are_read, lines_are_short, printed_is_read,
     read_is_within_limits, text_is_short,
 };
+pub use rounding_laws::{energy_is_one, one_scale_decides_energy, one_scale_decides_split};
 pub use scale_laws::{
     equality_is_of_values, equality_is_transitive, multiple_is_of_values, one_scale_decides,
     order_agrees_with_equality, order_is_of_values, order_is_transitive, scale_exists,
     scale_keeps_feasible, scale_multiplies_excess, sum_is_of_values,
 };
+pub use task_laws::task_jobs_end_in_time;
 pub use text_laws::{fields_are_slices, lines_are_slices};

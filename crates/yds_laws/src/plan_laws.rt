@@ -1,5 +1,5 @@
 //! The laws of plans, each as the contract of a call that does nothing.
-ghost use Rattle.yds_laws.specs.Laws.{PlansAreLeast, PlansHaveTheSameLevels};
+ghost use Rattle.yds_laws.specs.Laws.{PlansAreLeast, PlansHaveTheSameLevels, PlansServeWork};
 ghost use Rattle.yds_laws.specs.PlanText.{PlansHoldTheHeadline, PlansAreFeasible, PlansAreAccepted};
 
 /// A plan's schedule is least, and the plan's levels explain it.
@@ -10,6 +10,11 @@ pub fn plans_are_least()
 /// Two plans of the same jobs have as many levels, of the same works and lengths.
 pub fn plans_have_the_same_levels()
     ensures { PlansHaveTheSameLevels }
+{}
+
+/// A plan has no slot of a job without work.
+pub fn plans_serve_work()
+    ensures { PlansServeWork }
 {}
 
 /// The text that `plan` writes is read again as the document with its plan, whose slots are feasible and

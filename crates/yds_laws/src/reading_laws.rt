@@ -26,8 +26,8 @@ pub fn lines_are_short()
     ensures { LinesAreShort }
 {}
 
-/// The text of a document is no longer than an input may be, where it has at most three slots and
-/// three pieces for each of `MAX_JOBS` jobs, and at most one level and one member.
+/// The text of a document is no longer than an input may be, where for each of `MAX_JOBS` jobs it has
+/// at most five slots and three pieces, and at most one level and one member.
 pub fn text_is_short()
     ensures { TextIsShort }
 {}

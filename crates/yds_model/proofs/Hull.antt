@@ -140,7 +140,7 @@ steeper_next l h low high points (later ∷ hull) line gap rises goes convex ste
     flatter_flatter l h low high high later (omega arith) gap (omega arith) steeper (flatter_below low later high (omega arith) (omega arith) convex.0)
 
 -- a convex hull without its first point is convex
-convex_tail : (low : Point) (hull : List Point) → IsConvex (low ∷ hull) → IsConvex hull
+pub convex_tail : (low : Point) (hull : List Point) → IsConvex (low ∷ hull) → IsConvex hull
 convex_tail low [] convex = tt
 convex_tail low (high ∷ []) convex = tt
 convex_tail low (high ∷ later ∷ hull) convex = convex.1

@@ -5,7 +5,7 @@ use Rattle.std.specs.List.{All, Contains, list_any, slice_index_or}
 use Rattle.std.proofs.lemmas.Bool.{lt-ltb, le-ltb}
 use Rattle.std.proofs.lemmas.List.Folds.{list_any_none, list_any_at}
 use Rattle.std.proofs.lemmas.List.Elements.{All-push, Contains-push, All-weaker, All-tail, All-nil, All-cons}
-use Rattle.std.proofs.lemmas.List.{length-append, get_or_append_left, get_or-append-add}
+use Rattle.std.proofs.lemmas.List.{length-append, get_or_append_left}
 use Rattle.std.proofs.Math.Nat.{le_refl, mul-le-mul_left, le_of_mul-le-mul_left}
 use Rattle.yds_model.specs.HullLaws.{HullIsComputed}
 use Rattle.yds_model.specs.Table.{Point, point_at, IsAbove, GoesOn, is_above, is_left_out, hull_after}
@@ -72,7 +72,7 @@ edges_under all low [] each = tt
 edges_under all low (high ∷ hull) each = (each 0 (omega arith), edges_under all high hull (λ k within. each (suc k) (omega arith)))
 
 -- later points are faster
-later_rise : (speed : ℕ) (points : List Point) → RisesFrom speed points → All (λ point. speed < point.speed) points
+pub later_rise : (speed : ℕ) (points : List Point) → RisesFrom speed points → All (λ point. speed < point.speed) points
 later_rise speed [] rises = All-nil (λ point. speed < point.speed)
 later_rise speed (point ∷ points) rises =
     All-cons (λ other. speed < other.speed) point points rises.0

@@ -14,5 +14,6 @@ pub mod Divisor
 pub mod Lines
 pub mod Hull
 pub mod HullOf
+pub mod HullExists
 pub mod Spelling
 pub mod Said

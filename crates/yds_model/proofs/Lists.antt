@@ -1,7 +1,7 @@
 -- Lists: how often a number stands in one, and facts about elements and pairs of lists that are joined.
 use Rattle.std.proofs.Common.{◌≡◌, ℕ, suc, ◌+◌, ◌<◌, ◌≤◌, ◌==◌, ◌⊎◌, List, [], ◌∷◌, ◌++◌, ◌∙◌, length, get_or, take, arith, inl, inr, ap, add-one, subst, refl}
 use Rattle.std.specs.List.{All, AllPairs, Any, Contains, flat_map}
-use Rattle.std.proofs.lemmas.List.{take_more, append-nil, length-append, length_push, get_or_append_left, get_or_push}
+use Rattle.std.proofs.lemmas.List.{take_more, append-nil, length-append, length_push, get_or_append_left, get_or-append-add, get_or_push}
 use Rattle.std.proofs.lemmas.List.Concat.{flat_map-append}
 use Rattle.std.proofs.lemmas.List.Elements.{All-append, All-tail}
 use Rattle.std.proofs.lemmas.List.Kept.{AllPairs-cons}
@@ -24,6 +24,13 @@ counted_contains number (x ∷ xs) h = elim (cases_eq number x) [
       let found = counted_contains number xs rest in
       (suc found.0, omega (arith, found.1), found.2)
 ]
+
+-- what holds of each element of two lists together holds of those of the first, and of those of the second
+pub All-front : {X : Type 0} (P : X → Type 0) (xs ys : List X) → All P (xs ++ ys) → All P xs
+All-front P xs ys all k d within = subst P (get_or_append_left xs ys d k within) (all k d (omega (arith, length-append xs ys)))
+
+pub All-back : {X : Type 0} (P : X → Type 0) (xs ys : List X) → All P (xs ++ ys) → All P ys
+All-back P xs ys all k d within = subst P (get_or-append-add xs ys k d) (all (length xs + k) d (omega (arith, length-append xs ys)))
 
 -- some element of a list is one of a longer list
 pub Any-append_left : {X : Type 0} (P : X → Type 0) (xs ys : List X) → Any P xs → Any P (xs ++ ys)
@@ -58,15 +65,6 @@ flat_map-take f xs i d within =
 pub place_cases : (i n : ℕ) → i < n + 1 → (i < n) ⊎ (i ≡ n)
 place_cases i n within = elim (cases_lt i n) [ inl less ↦ inl less | inr more ↦ inr (omega arith) ]
 
--- what holds of each element of two lists together holds of each of the first
-pub All-front : {X : Type 0} (P : X → Type 0) (xs ys : List X) → All P (xs ++ ys) → All P xs
-All-front P xs ys all k d within = subst P (get_or_append_left xs ys d k within) (all k d (omega (arith, within, length-append xs ys)))
-
--- and of each of the second
-pub All-back : {X : Type 0} (P : X → Type 0) (xs ys : List X) → All P (xs ++ ys) → All P ys
-All-back P [] ys all = all
-All-back P (x ∷ xs) ys all = All-back P xs ys (All-tail P x (xs ++ ys) all)
-
--- and of the last
+-- what holds of each element holds of the last
 pub All-last : {X : Type 0} (P : X → Type 0) (xs : List X) (x : X) → All P (xs ++ x ∷ []) → P x
 All-last P xs x all = subst P (get_or_push xs x x (length xs) refl) (all (length xs) x (omega (arith, length_push xs x)))

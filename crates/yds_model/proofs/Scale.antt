@@ -42,7 +42,7 @@ pub finer_slots : (k scale : ℕ) (slots : List WrittenSlot) → IsScale scale s
 finer_slots k scale slots is = finer_each k scale slots (recursion_from_All (IsDivided scale) slots is.divided)
 
 -- what each finer slot has k times, they have k times together
-finer_sum : (k : ℕ) (f : WholeSlot → ℕ) → ((slot : WholeSlot) → f (finer k slot) ≡ k * f slot) → (slots : List WholeSlot) →
+pub finer_sum : (k : ℕ) (f : WholeSlot → ℕ) → ((slot : WholeSlot) → f (finer k slot) ≡ k * f slot) → (slots : List WholeSlot) →
     sum_by f (map (finer k) slots) ≡ k * sum_by f slots
 finer_sum k f each [] = omega arith
 finer_sum k f each (slot ∷ slots) =
@@ -170,9 +170,9 @@ one_scale_of slots P kept scale is at_one = record {
 }
 
 -- a product that isn't 0 has a first factor that isn't
-some_times : (k n product : ℕ) → k * n ≡ product → 1 ≤ product → 1 ≤ k
-some_times zero n product same positive = omega (arith, same, positive)
-some_times (suc k) n product same positive = omega arith
+pub first_factor : (k n product : ℕ) → k * n ≡ product → 1 ≤ product → 1 ≤ k
+first_factor zero n product same positive = omega (arith, same, positive)
+first_factor (suc k) n product same positive = omega arith
 
 -- what holds at each multiple of a scale that divides all others holds at each scale
 pub least_scale_of : (slots : List WrittenSlot) (P : ℕ → List WholeSlot → Type 0) (least : ℕ) → IsScale least slots →
@@ -181,7 +181,7 @@ least_scale_of slots P least is divides at_multiples = record {
   solid = solid_of_scale slots least is;
   holds = λ scale is_scale.
       let same : scale / least * least ≡ scale = div-mul_cancel least (divides scale is_scale) in
-      subst (λ (n : ℕ). P n (slots_at n slots)) same (at_multiples (scale / least) (some_times (scale / least) least scale same is_scale.positive));
+      subst (λ (n : ℕ). P n (slots_at n slots)) same (at_multiples (scale / least) (first_factor (scale / least) least scale same is_scale.positive));
 }
 
 -- the law: one scale decides

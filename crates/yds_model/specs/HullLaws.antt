@@ -14,3 +14,7 @@ HullIsLowest = (points hull : List Point) (p q i j k : ℕ) → AreRising points
 -- Hull: a table has one hull, the one that `hull_of` computes.
 abbrev pub HullIsComputed : Type 0
 HullIsComputed = (points hull : List Point) → AreRising points → IsHullOf points hull → hull ≡ hull_of points
+
+-- Hull: and for points of rising speed that is a hull, so there is one.
+abbrev pub HullExists : Type 0
+HullExists = (points : List Point) → AreRising points → IsHullOf points (hull_of points)

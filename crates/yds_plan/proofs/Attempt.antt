@@ -12,12 +12,13 @@ use Rattle.std.proofs.lemmas.Nat.{mul-le}
 use Rattle.yds_model.specs.Job.{Job, job_at}
 use Rattle.yds_model.specs.Event.{stretches}
 use Rattle.yds_model.specs.Divisor.{common_divisor}
-use Rattle.yds_plan.specs.declared.finder_windows.Window.{Window}
+use Rattle.yds_events.specs.declared.window.Window.{Window}
 use Rattle.yds_plan.specs.declared.finder_instance.Instance.{Instance}
-use Rattle.yds_plan.specs.Found.{Found, Share, group_of, length_of, work_in, length_in}
+use Rattle.yds_plan.specs.Found.{Found, Portion, group_of, work_in, length_in}
+use Rattle.yds_events.specs.Window.{length_at}
 use Rattle.yds_plan.specs.declared.finder_workspace.Workspace.{Workspace}
 use Rattle.yds_plan.specs.Amounts.{amount_in}
-use Rattle.yds_plan.specs.Windows.{Precedes, IsOrder}
+use Rattle.yds_plan.specs.Order.{Precedes, IsOrder}
 use Rattle.yds_plan.specs.Numbers.{IsOneOf, numbers_in, AreWritten}
 use Rattle.yds_plan.specs.Waiting.{Part, IsWaiting, IsBlank}
 use Rattle.yds_plan.specs.Fill.{IsFill, AreServed, AreOpen}
@@ -28,7 +29,7 @@ use Rattle.yds_plan.proofs.Numbers.{one_or_none, written_at, written_off, in_gro
 use Rattle.yds_plan.proofs.Ranges.{over, over_same, over_one, over_list}
 use Rattle.yds_plan.proofs.Amounts.{amount_small}
 use Rattle.yds_model.proofs.Horizon.{part_own, part_other}
-use Rattle.yds_plan.proofs.Shares.{chosen_some}
+use Rattle.yds_plan.proofs.Portions.{chosen_some}
 use Rattle.yds_plan.proofs.Lowest.{IsLowest, lowest}
 
 -- a total, of lists that are the same
@@ -211,7 +212,7 @@ length_is : (jobs : List Job) (instance : Instance) (places : List ℕ) (top tot
     total ≡ amount_in instance.lengths.items places top (length instance.lengths.items) → total ≡ length_in jobs places top (length (stretches jobs))
 length_is jobs instance places top total are is =
     is ∙ ap (λ n. amount_in instance.lengths.items places top n) are.all_lengths
-    ∙ over_same (λ k. if group_of places k == top then get_or instance.lengths.items k 0 else 0) (λ k. if group_of places k == top then length_of jobs k else 0) (length (stretches jobs))
+    ∙ over_same (λ k. if group_of places k == top then get_or instance.lengths.items k 0 else 0) (λ k. if group_of places k == top then length_at jobs k else 0) (length (stretches jobs))
     (λ k within. ap (λ length. if group_of places k == top then length else 0) (are.length_is k within))
 
 -- the group has work and length
@@ -221,8 +222,8 @@ some_length jobs instance found top last are search within =
     let there = search.peopled top (omega arith) within in
     omega (
       arith,
-      over_one (λ k. if group_of found.group_of_stretch k == top then length_of jobs k else 0) (length (stretches jobs)) there.0 there.1,
-      part_own (group_of found.group_of_stretch there.0) top (length_of jobs there.0) there.2,
+      over_one (λ k. if group_of found.group_of_stretch k == top then length_at jobs k else 0) (length (stretches jobs)) there.0 there.1,
+      part_own (group_of found.group_of_stretch there.0) top (length_at jobs there.0) there.2,
       are.length_some there.0 there.1,
     )
 
@@ -302,12 +303,12 @@ lengths_fit jobs instance found top work length_ are are_sums i within = omega (
 )
 
 -- the group is filled
-pub attempt_is : (jobs : List Job) (instance : Instance) (found : Found) (top work length_ : ℕ) (wants rooms : List ℕ) (shares : List Share) (wants' rooms' : List ℕ) →
+pub attempt_is : (jobs : List Job) (instance : Instance) (found : Found) (top work length_ : ℕ) (wants rooms : List ℕ) (portions : List Portion) (wants' rooms' : List ℕ) →
     IsInstance jobs instance → AreSums jobs instance found top work length_ →
     AreUnits jobs instance found top (work / common_divisor work length_) (length_ / common_divisor work length_) wants rooms →
-    IsFill jobs instance.windows.items wants rooms shares wants' rooms' →
-    IsAttempt jobs instance.windows.items found top (record { work = work; length = length_ }) shares wants' rooms'
-attempt_is jobs instance found top work length_ wants rooms shares wants' rooms' are are_sums units fill = record {
+    IsFill jobs instance.windows.items wants rooms portions wants' rooms' →
+    IsAttempt jobs instance.windows.items found top (record { work = work; length = length_ }) portions wants' rooms'
+attempt_is jobs instance found top work length_ wants rooms portions wants' rooms' are are_sums units fill = record {
   wants = wants;
   rooms = rooms;
   filled = record {
@@ -379,9 +380,9 @@ order_few jobs order ordered =
     length_permutation (range_with_len 0 (length jobs)) order ordered.once ∙ length-range_with_len 0 (length jobs)
 
 -- a filled group, of lists that are the same
-pub fill_same : (jobs : List Job) (windows windows' : List Window) (wants wants' rooms rooms' : List ℕ) (shares : List Share) (left left' : List ℕ) →
-    windows ≡ windows' → wants ≡ wants' → rooms ≡ rooms' → IsFill jobs windows wants rooms shares left left' → IsFill jobs windows' wants' rooms' shares left left'
-fill_same jobs windows windows' wants wants' rooms rooms' shares left left' a b d fill =
-    subst (λ (xs : List Window). IsFill jobs xs wants' rooms' shares left left') a
-    (subst (λ (xs : List ℕ). IsFill jobs windows xs rooms' shares left left') b
-    (subst (λ (xs : List ℕ). IsFill jobs windows wants xs shares left left') d fill))
+pub fill_same : (jobs : List Job) (windows windows' : List Window) (wants wants' rooms rooms' : List ℕ) (portions : List Portion) (left left' : List ℕ) →
+    windows ≡ windows' → wants ≡ wants' → rooms ≡ rooms' → IsFill jobs windows wants rooms portions left left' → IsFill jobs windows' wants' rooms' portions left left'
+fill_same jobs windows windows' wants wants' rooms rooms' portions left left' a b d fill =
+    subst (λ (xs : List Window). IsFill jobs xs wants' rooms' portions left left') a
+    (subst (λ (xs : List ℕ). IsFill jobs windows xs rooms' portions left left') b
+    (subst (λ (xs : List ℕ). IsFill jobs windows wants xs portions left left') d fill))

@@ -11,14 +11,15 @@ use Rattle.std.proofs.Math.Nat.{le_of_mul-le-mul_left, mul-le-mul_right}
 use Rattle.yds_model.proofs.Sums.{sum_by_at_most}
 use Rattle.yds_model.specs.Job.{Job, job_at}
 use Rattle.yds_model.specs.Event.{stretches}
-use Rattle.yds_plan.specs.declared.finder_windows.Window.{Window}
-use Rattle.yds_plan.specs.Found.{Found, Share, share_at, no_share, group_of, length_of, work_in, length_in, units_of_job, units_in_stretch}
+use Rattle.yds_events.specs.declared.window.Window.{Window}
+use Rattle.yds_plan.specs.Found.{Found, Portion, portion_at, no_portion, group_of, work_in, length_in, units_of_job, units_in_stretch}
+use Rattle.yds_events.specs.Window.{length_at}
 use Rattle.yds_plan.specs.Search.{IsFast, IsSlow, LieInWindows, IsFilled}
 use Rattle.yds_plan.proofs.Ranges.{over, over_more, over_same, over_at_most, over_zero, over_add, over_mul}
 
--- the units of shares with this number, of a job or of a stretch
-abbrev units_at : (Share → ℕ) → List Share → ℕ → ℕ
-units_at key shares number = sum_by (λ share. if key share == number then share.units else 0) shares
+-- the units of portions with this number, of a job or of a stretch
+abbrev units_at : (Portion → ℕ) → List Portion → ℕ → ℕ
+units_at key portions number = sum_by (λ portion. if key portion == number then portion.units else 0) portions
 
 alone_more : (k n value rest : ℕ) → k < suc n → (k < n → rest ≡ value) → (n ≤ k → rest ≡ 0) → rest + (if k == n then value else 0) ≡ value
 alone_more k n value rest within before after = grind (arith, nat_tests)
@@ -35,7 +36,7 @@ over_alone value (suc n) k within =
     (λ before. over_alone value n k before)
     (λ after. over_zero (λ j. if k == j then value else 0) n (λ j below. other_zero k j value (omega arith)))
 
--- a share more, at a number that is tested
+-- a portion more, at a number that is tested
 tested_more : (test : Bool) (same : Bool) (units rest : ℕ) →
     (if test then ((if same then units else 0) + rest) else 0) ≡ (if same then (if test then units else 0) else 0) + (if test then rest else 0)
 tested_more true true units rest = omega arith
@@ -50,7 +51,7 @@ nothing : (test : Bool) (none : ℕ) → (if test then none else none) ≡ none
 nothing true none = refl
 nothing false none = refl
 
--- at the share's own number the test is that of the share
+-- at the portion's own number the test is that of the portion
 tested_at : (test : ℕ → Bool) (k j units : ℕ) →
     (if k == j then (if test j then units else 0) else 0) ≡ (if k == j then (if test k then units else 0) else 0)
 tested_at test k j units = elim (cases_eq k j) [
@@ -58,22 +59,22 @@ tested_at test k j units = elim (cases_eq k j) [
   | inr other ↦ not_same k j (if test j then units else 0) (if test k then units else 0) other
 ]
 
--- units by number, over all numbers that pass a test, are the units of the shares whose number passes
-gather : (key : Share → ℕ) (test : ℕ → Bool) (n : ℕ) (shares : List Share) → All (λ share. key share < n) shares →
-    over n (λ j. if test j then units_at key shares j else 0) ≡ sum_by (λ share. if test (key share) then share.units else 0) shares
+-- units by number, over all numbers that pass a test, are the units of the portions whose number passes
+gather : (key : Portion → ℕ) (test : ℕ → Bool) (n : ℕ) (portions : List Portion) → All (λ portion. key portion < n) portions →
+    over n (λ j. if test j then units_at key portions j else 0) ≡ sum_by (λ portion. if test (key portion) then portion.units else 0) portions
 gather key test n [] within = over_zero (λ j. if test j then 0 else 0) n (λ j below. nothing (test j) 0)
-gather key test n (share ∷ shares) within =
-    over_same (λ j. if test j then units_at key (share ∷ shares) j else 0)
-    (λ j. (if key share == j then (if test (key share) then share.units else 0) else 0) + (if test j then units_at key shares j else 0)) n
+gather key test n (portion ∷ portions) within =
+    over_same (λ j. if test j then units_at key (portion ∷ portions) j else 0)
+    (λ j. (if key portion == j then (if test (key portion) then portion.units else 0) else 0) + (if test j then units_at key portions j else 0)) n
     (λ j below.
-    ap (λ sum. if test j then sum else 0) (sum_by-cons (λ one. if key one == j then one.units else 0) share shares)
-    ∙ tested_more (test j) (key share == j) share.units (units_at key shares j)
-    ∙ ap (λ first. first + (if test j then units_at key shares j else 0)) (tested_at test (key share) j share.units))
-    ∙ over_add (λ j. if key share == j then (if test (key share) then share.units else 0) else 0) (λ j. if test j then units_at key shares j else 0) n
-    ∙ ap (λ first. first + over n (λ j. if test j then units_at key shares j else 0))
-    (over_alone (if test (key share) then share.units else 0) n (key share) (within 0 share (omega arith)))
-    ∙ ap (λ rest. (if test (key share) then share.units else 0) + rest) (gather key test n shares (All-tail (λ one. key one < n) share shares within))
-    ∙ sym (sum_by-cons (λ one. if test (key one) then one.units else 0) share shares)
+    ap (λ sum. if test j then sum else 0) (sum_by-cons (λ one. if key one == j then one.units else 0) portion portions)
+    ∙ tested_more (test j) (key portion == j) portion.units (units_at key portions j)
+    ∙ ap (λ first. first + (if test j then units_at key portions j else 0)) (tested_at test (key portion) j portion.units))
+    ∙ over_add (λ j. if key portion == j then (if test (key portion) then portion.units else 0) else 0) (λ j. if test j then units_at key portions j else 0) n
+    ∙ ap (λ first. first + over n (λ j. if test j then units_at key portions j else 0))
+    (over_alone (if test (key portion) then portion.units else 0) n (key portion) (within 0 portion (omega arith)))
+    ∙ ap (λ rest. (if test (key portion) then portion.units else 0) + rest) (gather key test n portions (All-tail (λ one. key one < n) portion portions within))
+    ∙ sym (sum_by-cons (λ one. if test (key one) then one.units else 0) portion portions)
 
 test_same : (number group : ℕ) → number ≡ group → (number == group) ≡ true
 test_same number group same = eq-eqb number group same
@@ -123,7 +124,7 @@ of_group factor number group one other most = elim (cases_eq number group) [
   | inr apart ↦ of_group_apart factor number group one other apart
 ]
 
--- shares that count for one group and so for another
+-- portions that count for one group and so for another
 counted : (number group number' group' units : ℕ) → (number ≡ group → number' ≡ group') →
     (if number == group then units else 0) ≤ (if number' == group' then units else 0)
 counted number group number' group' units own = elim (cases_eq number group) [
@@ -132,55 +133,55 @@ counted number group number' group' units own = elim (cases_eq number group) [
 ]
 
 -- a group that is filled at p / q is not slower than that
-pub fast_speed : (jobs : List Job) (windows : List Window) (found : Found) (group p q : ℕ) (shares : List Share) →
-    LieInWindows jobs windows shares → IsFast jobs found group p q shares →
+pub fast_speed : (jobs : List Job) (windows : List Window) (found : Found) (group p q : ℕ) (portions : List Portion) →
+    LieInWindows jobs windows portions → IsFast jobs found group p q portions →
     p * length_in jobs found.group_of_stretch group (length (stretches jobs)) ≤ q * work_in jobs found.group_of_job group (length jobs)
-fast_speed jobs windows found group p q shares inside fast = omega (
+fast_speed jobs windows found group p q portions inside fast = omega (
   arith,
-  over_mul p (λ k. if group_of found.group_of_stretch k == group then length_of jobs k else 0) (length (stretches jobs)),
-  over_at_most (λ k. p * (if group_of found.group_of_stretch k == group then length_of jobs k else 0))
-      (λ k. if group_of found.group_of_stretch k == group then units_in_stretch shares k else 0) (length (stretches jobs))
-      (λ k below. in_group p (group_of found.group_of_stretch k) group (length_of jobs k) (units_in_stretch shares k) (fast.full k below)),
-  gather (λ share. share.stretch) (λ k. group_of found.group_of_stretch k == group) (length (stretches jobs)) shares
-      (All-from_get_or (λ share. share.stretch < length (stretches jobs)) shares no_share (λ x within. (inside x within).1)),
-  sum_by_at_most (λ share. if group_of found.group_of_stretch share.stretch == group then share.units else 0)
-      (λ share. if group_of found.group_of_job share.job == group then share.units else 0) shares
-      (All-from_get_or (λ share. (if group_of found.group_of_stretch share.stretch == group then share.units else 0)
-      ≤ (if group_of found.group_of_job share.job == group then share.units else 0)) shares no_share
-      (λ x within. counted (group_of found.group_of_stretch (share_at shares x).stretch) group (group_of found.group_of_job (share_at shares x).job) group
-      (share_at shares x).units (fast.own x within))),
-  gather (λ share. share.job) (λ j. group_of found.group_of_job j == group) (length jobs) shares
-      (All-from_get_or (λ share. share.job < length jobs) shares no_share (λ x within. (inside x within).0)),
-  over_at_most (λ j. if group_of found.group_of_job j == group then units_of_job shares j else 0)
+  over_mul p (λ k. if group_of found.group_of_stretch k == group then length_at jobs k else 0) (length (stretches jobs)),
+  over_at_most (λ k. p * (if group_of found.group_of_stretch k == group then length_at jobs k else 0))
+      (λ k. if group_of found.group_of_stretch k == group then units_in_stretch portions k else 0) (length (stretches jobs))
+      (λ k below. in_group p (group_of found.group_of_stretch k) group (length_at jobs k) (units_in_stretch portions k) (fast.full k below)),
+  gather (λ portion. portion.stretch) (λ k. group_of found.group_of_stretch k == group) (length (stretches jobs)) portions
+      (All-from_get_or (λ portion. portion.stretch < length (stretches jobs)) portions no_portion (λ x within. (inside x within).1)),
+  sum_by_at_most (λ portion. if group_of found.group_of_stretch portion.stretch == group then portion.units else 0)
+      (λ portion. if group_of found.group_of_job portion.job == group then portion.units else 0) portions
+      (All-from_get_or (λ portion. (if group_of found.group_of_stretch portion.stretch == group then portion.units else 0)
+      ≤ (if group_of found.group_of_job portion.job == group then portion.units else 0)) portions no_portion
+      (λ x within. counted (group_of found.group_of_stretch (portion_at portions x).stretch) group (group_of found.group_of_job (portion_at portions x).job) group
+      (portion_at portions x).units (fast.own x within))),
+  gather (λ portion. portion.job) (λ j. group_of found.group_of_job j == group) (length jobs) portions
+      (All-from_get_or (λ portion. portion.job < length jobs) portions no_portion (λ x within. (inside x within).0)),
+  over_at_most (λ j. if group_of found.group_of_job j == group then units_of_job portions j else 0)
       (λ j. q * (if group_of found.group_of_job j == group then (job_at jobs j).work else 0)) (length jobs)
-      (λ j below. of_group q (group_of found.group_of_job j) group (job_at jobs j).work (units_of_job shares j) (fast.most j below)),
+      (λ j below. of_group q (group_of found.group_of_job j) group (job_at jobs j).work (units_of_job portions j) (fast.most j below)),
   over_mul q (λ j. if group_of found.group_of_job j == group then (job_at jobs j).work else 0) (length jobs),
 )
 
 -- a group that is served at p / q is not faster than that
-pub slow_speed : (jobs : List Job) (windows : List Window) (found : Found) (group p q : ℕ) (shares : List Share) →
-    LieInWindows jobs windows shares → IsSlow jobs found group p q shares →
+pub slow_speed : (jobs : List Job) (windows : List Window) (found : Found) (group p q : ℕ) (portions : List Portion) →
+    LieInWindows jobs windows portions → IsSlow jobs found group p q portions →
     q * work_in jobs found.group_of_job group (length jobs) ≤ p * length_in jobs found.group_of_stretch group (length (stretches jobs))
-slow_speed jobs windows found group p q shares inside slow = omega (
+slow_speed jobs windows found group p q portions inside slow = omega (
   arith,
   over_mul q (λ j. if group_of found.group_of_job j == group then (job_at jobs j).work else 0) (length jobs),
   over_at_most (λ j. q * (if group_of found.group_of_job j == group then (job_at jobs j).work else 0))
-      (λ j. if group_of found.group_of_job j == group then units_of_job shares j else 0) (length jobs)
-      (λ j below. in_group q (group_of found.group_of_job j) group (job_at jobs j).work (units_of_job shares j) (slow.served j below)),
-  gather (λ share. share.job) (λ j. group_of found.group_of_job j == group) (length jobs) shares
-      (All-from_get_or (λ share. share.job < length jobs) shares no_share (λ x within. (inside x within).0)),
-  sum_by_at_most (λ share. if group_of found.group_of_job share.job == group then share.units else 0)
-      (λ share. if group_of found.group_of_stretch share.stretch == group then share.units else 0) shares
-      (All-from_get_or (λ share. (if group_of found.group_of_job share.job == group then share.units else 0)
-      ≤ (if group_of found.group_of_stretch share.stretch == group then share.units else 0)) shares no_share
-      (λ x within. counted (group_of found.group_of_job (share_at shares x).job) group (group_of found.group_of_stretch (share_at shares x).stretch) group
-      (share_at shares x).units (slow.own x within))),
-  gather (λ share. share.stretch) (λ k. group_of found.group_of_stretch k == group) (length (stretches jobs)) shares
-      (All-from_get_or (λ share. share.stretch < length (stretches jobs)) shares no_share (λ x within. (inside x within).1)),
-  over_at_most (λ k. if group_of found.group_of_stretch k == group then units_in_stretch shares k else 0)
-      (λ k. p * (if group_of found.group_of_stretch k == group then length_of jobs k else 0)) (length (stretches jobs))
-      (λ k below. of_group p (group_of found.group_of_stretch k) group (length_of jobs k) (units_in_stretch shares k) (slow.room k below)),
-  over_mul p (λ k. if group_of found.group_of_stretch k == group then length_of jobs k else 0) (length (stretches jobs)),
+      (λ j. if group_of found.group_of_job j == group then units_of_job portions j else 0) (length jobs)
+      (λ j below. in_group q (group_of found.group_of_job j) group (job_at jobs j).work (units_of_job portions j) (slow.served j below)),
+  gather (λ portion. portion.job) (λ j. group_of found.group_of_job j == group) (length jobs) portions
+      (All-from_get_or (λ portion. portion.job < length jobs) portions no_portion (λ x within. (inside x within).0)),
+  sum_by_at_most (λ portion. if group_of found.group_of_job portion.job == group then portion.units else 0)
+      (λ portion. if group_of found.group_of_stretch portion.stretch == group then portion.units else 0) portions
+      (All-from_get_or (λ portion. (if group_of found.group_of_job portion.job == group then portion.units else 0)
+      ≤ (if group_of found.group_of_stretch portion.stretch == group then portion.units else 0)) portions no_portion
+      (λ x within. counted (group_of found.group_of_job (portion_at portions x).job) group (group_of found.group_of_stretch (portion_at portions x).stretch) group
+      (portion_at portions x).units (slow.own x within))),
+  gather (λ portion. portion.stretch) (λ k. group_of found.group_of_stretch k == group) (length (stretches jobs)) portions
+      (All-from_get_or (λ portion. portion.stretch < length (stretches jobs)) portions no_portion (λ x within. (inside x within).1)),
+  over_at_most (λ k. if group_of found.group_of_stretch k == group then units_in_stretch portions k else 0)
+      (λ k. p * (if group_of found.group_of_stretch k == group then length_at jobs k else 0)) (length (stretches jobs))
+      (λ k below. of_group p (group_of found.group_of_stretch k) group (length_at jobs k) (units_in_stretch portions k) (slow.room k below)),
+  over_mul p (λ k. if group_of found.group_of_stretch k == group then length_at jobs k else 0) (length (stretches jobs)),
 )
 
 -- in lowest or any terms: speeds that p / q stands between
@@ -195,23 +196,23 @@ scaled factor number group one = elim (cases_eq number group) [
 ]
 
 -- what is left of the wants of a group that was filled at its average speed is what is left of the room
-pub balance : (jobs : List Job) (windows : List Window) (found : Found) (top p q : ℕ) (wants rooms : List ℕ) (shares : List Share) (wants' rooms' : List ℕ) →
+pub balance : (jobs : List Job) (windows : List Window) (found : Found) (top p q : ℕ) (wants rooms : List ℕ) (portions : List Portion) (wants' rooms' : List ℕ) →
     length windows ≡ length jobs →
-    IsFilled jobs windows found top p q wants rooms shares wants' rooms' →
+    IsFilled jobs windows found top p q wants rooms portions wants' rooms' →
     over (length jobs) (λ j. get_or wants' j 0) ≡ over (length (stretches jobs)) (λ k. get_or rooms' k 0)
-balance jobs windows found top p q wants rooms shares wants' rooms' all filled = omega (
+balance jobs windows found top p q wants rooms portions wants' rooms' all filled = omega (
   arith,
-  over_add (λ j. units_of_job shares j) (λ j. get_or wants' j 0) (length jobs),
-  over_same (λ j. units_of_job shares j + get_or wants' j 0) (λ j. q * (if group_of found.group_of_job j == top then (job_at jobs j).work else 0)) (length jobs)
+  over_add (λ j. units_of_job portions j) (λ j. get_or wants' j 0) (length jobs),
+  over_same (λ j. units_of_job portions j + get_or wants' j 0) (λ j. q * (if group_of found.group_of_job j == top then (job_at jobs j).work else 0)) (length jobs)
       (λ j below. filled.fill.want j ∙ filled.want j below ∙ scaled q (group_of found.group_of_job j) top (job_at jobs j).work),
   over_mul q (λ j. if group_of found.group_of_job j == top then (job_at jobs j).work else 0) (length jobs),
-  over_add (λ k. units_in_stretch shares k) (λ k. get_or rooms' k 0) (length (stretches jobs)),
-  over_same (λ k. units_in_stretch shares k + get_or rooms' k 0) (λ k. p * (if group_of found.group_of_stretch k == top then length_of jobs k else 0)) (length (stretches jobs))
-      (λ k below. filled.fill.room k ∙ filled.room k below ∙ scaled p (group_of found.group_of_stretch k) top (length_of jobs k)),
-  over_mul p (λ k. if group_of found.group_of_stretch k == top then length_of jobs k else 0) (length (stretches jobs)),
-  gather (λ share. share.job) (λ j. true) (length jobs) shares
+  over_add (λ k. units_in_stretch portions k) (λ k. get_or rooms' k 0) (length (stretches jobs)),
+  over_same (λ k. units_in_stretch portions k + get_or rooms' k 0) (λ k. p * (if group_of found.group_of_stretch k == top then length_at jobs k else 0)) (length (stretches jobs))
+      (λ k below. filled.fill.room k ∙ filled.room k below ∙ scaled p (group_of found.group_of_stretch k) top (length_at jobs k)),
+  over_mul p (λ k. if group_of found.group_of_stretch k == top then length_at jobs k else 0) (length (stretches jobs)),
+  gather (λ portion. portion.job) (λ j. true) (length jobs) portions
       (λ x d within. omega (arith, (filled.fill.taken.parts x d within).known)),
-  gather (λ share. share.stretch) (λ k. true) (length (stretches jobs)) shares
+  gather (λ portion. portion.stretch) (λ k. true) (length (stretches jobs)) portions
       (λ x d within. omega (arith, (filled.fill.taken.parts x d within).known_stretch, filled.all_rooms)),
   filled.balanced,
 )

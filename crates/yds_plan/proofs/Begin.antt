@@ -4,11 +4,11 @@ use Rattle.std.proofs.lemmas.List.{get_or_append_left, get_or_push, length_push}
 use Rattle.std.proofs.lemmas.Bool.{cases_lt}
 use Rattle.yds_model.specs.Job.{Job, job_at}
 use Rattle.yds_model.specs.Event.{stretches}
-use Rattle.yds_plan.specs.declared.finder_windows.Window.{Window}
+use Rattle.yds_events.specs.declared.window.Window.{Window}
 use Rattle.yds_plan.specs.declared.finder_instance.Instance.{Instance}
 use Rattle.yds_plan.specs.Instance.{IsInstance}
 use Rattle.yds_plan.specs.Found.{Found, group_of}
-use Rattle.yds_plan.specs.Windows.{window_at}
+use Rattle.yds_events.specs.Window.{window_at}
 use Rattle.yds_plan.specs.Beginning.{AreFarthest, IsReached, AreCovered, AreWorking}
 use Rattle.yds_plan.specs.Search.{IsBeginning}
 
@@ -80,8 +80,8 @@ covering_more ends n end end' number groups groups' so_far is same here =
 -- all jobs and all stretches
 pub begun_all : (jobs : List Job) (windows : List Window) (ends : List ℕ) (m : ℕ) (found : Found) → m ≡ length (stretches jobs) →
     AreFarthest jobs windows (length jobs) m ends → AreWorking jobs (length jobs) found.group_of_job → AreCovered ends (length ends) found.group_of_stretch →
-    found.groups ≡ [] → found.shares ≡ [] → IsBeginning jobs windows found 1000000
-begun_all jobs windows ends m found all farthest working covered no_groups no_shares = record {
+    found.groups ≡ [] → found.portions ≡ [] → IsBeginning jobs windows found 1000000
+begun_all jobs windows ends m found all farthest working covered no_groups no_portions = record {
   all_jobs = working.count;
   all_stretches = covered.count ∙ farthest.all ∙ all;
   job = working.each;
@@ -105,7 +105,7 @@ begun_all jobs windows ends m found all farthest working covered no_groups no_sh
     )
   ];
   no_groups = no_groups;
-  no_shares = no_shares;
+  no_portions = no_portions;
 }
 
 -- whether some job wants something, by the works

@@ -1,18 +1,10 @@
--- Lists that are joined from blocks, one for each number of a range: facts of elements and of pairs.
+-- Lists that are merged from blocks, one for each number of a range: facts of elements and of pairs.
 use Rattle.std.proofs.Common.{◌≡◌, ℕ, zero, suc, ◌+◌, ◌<◌, ◌≤◌, List, [], ◌∷◌, ◌++◌, ◌∙◌, length, map, sym, refl, ap, arith}
 use Rattle.std.specs.List.{All, AllPairs, Any, flat_map, range_with_len}
 use Rattle.std.proofs.lemmas.List.{map-append, length-append, get_or-append-add}
 use Rattle.std.proofs.lemmas.List.Concat.{flat_map-append}
-use Rattle.std.proofs.lemmas.List.Elements.{All-nil, All-cons, All-head, All-tail, All-append}
-use Rattle.yds_model.proofs.Lists.{AllPairs-append, Any-append_left}
-
-pub All-front : {X : Type 0} (P : X → Type 0) (xs ys : List X) → All P (xs ++ ys) → All P xs
-All-front P [] ys all = All-nil P
-All-front P (x ∷ xs) ys all = All-cons P x xs (All-head P x (xs ++ ys) all) (All-front P xs ys (All-tail P x (xs ++ ys) all))
-
-pub All-back : {X : Type 0} (P : X → Type 0) (xs ys : List X) → All P (xs ++ ys) → All P ys
-All-back P [] ys all = all
-All-back P (x ∷ xs) ys all = All-back P xs ys (All-tail P x (xs ++ ys) all)
+use Rattle.std.proofs.lemmas.List.Elements.{All-nil, All-append}
+use Rattle.yds_model.proofs.Lists.{All-front, All-back, AllPairs-append, Any-append_left}
 
 pub map-flat_map : {X Y Z : Type 0} (g : Y → Z) (f : X → List Y) (xs : List X) →
     map g (flat_map f xs) ≡ flat_map (λ x. map g (f x)) xs

@@ -1,64 +1,25 @@
 -- What the groups have together is within the limits of levels.
 use Rattle.std.proofs.Common.{ℕ, ◌+◌, ◌-◌, ◌*◌, ◌<◌, ◌≤◌, ◌==◌, List, [], ◌∷◌, length, get_or, ap, arith, Bool, true, false}
-use Rattle.std.specs.Prelude.{cond, nat_lt}
-use Rattle.std.specs.List.{All, sum_by, filter, flat_map, range_with_len}
-use Rattle.std.proofs.lemmas.Bool.{cond_both}
+use Rattle.std.specs.Prelude.{cond}
+use Rattle.std.specs.List.{All, sum_by, filter, range_with_len}
 use Rattle.std.proofs.lemmas.List.Sums.{sum_by-cons, sum_by-le}
-use Rattle.std.proofs.lemmas.List.Elements.{All-nil, All-cons, All-head, All-tail}
+use Rattle.std.proofs.lemmas.List.Elements.{All-head, All-tail, All-from_get_or}
 use Rattle.std.proofs.lemmas.List.FromFn.{length-range_with_len}
 use Rattle.std.proofs.Math.Nat.{mul-le-mul_right}
 use Rattle.yds_model.specs.declared.limits.TheConstants.{MAX_JOBS, MAX_TIME, MAX_WORK}
 use Rattle.yds_model.specs.Job.{Job, IsJob, no_job, job_at}
 use Rattle.yds_model.specs.Piece.{Piece, PiecesFrom, total_length}
-use Rattle.yds_model.specs.Event.{with_time, rising_times, event_points, neighbours, stretches}
+use Rattle.yds_model.specs.Event.{stretches}
 use Rattle.yds_model.proofs.Sums.{sum_by-mul, sum_by_same, sum_by_at_most}
-use Rattle.yds_plan.specs.Found.{Group, Found, IsFound, no_group, group_of, group_at, no_piece, stretch_at, length_of, work_in, length_in}
+use Rattle.yds_plan.specs.Found.{Group, Found, IsFound, no_group, group_of, group_at, work_in, length_in}
+use Rattle.yds_events.specs.Stretch.{no_stretch}
+use Rattle.yds_events.specs.Window.{length_at}
 use Rattle.yds_plan.specs.Drafts.{AreGroupsWithin}
 use Rattle.yds_plan.proofs.KeySums.{in_range, split_at_most, sum_by-filter, sum_of_all, cond_at_most, count_all}
-use Rattle.yds_plan.proofs.Stretches.{stretches_run}
-
--- all event points are in the jobs' windows
-abbrev pub IsUpTo : ℕ → ℕ → Type 0
-IsUpTo most time = time ≤ most
-
-with_time_all : (P : ℕ → Type 0) (time : ℕ) (times : List ℕ) → P time → All P times → All P (with_time time times)
-with_time_all P time [] is all = All-cons P time [] is all
-with_time_all P time (first ∷ times) is all =
-    cond_both (nat_lt time first) (time ∷ first ∷ times) (cond (time == first) (first ∷ times) (first ∷ with_time time times)) (All P)
-    (λ early. All-cons P time (first ∷ times) is all)
-    (λ late. cond_both (time == first) (first ∷ times) (first ∷ with_time time times) (All P)
-    (λ same. all)
-    (λ other. All-cons P first (with_time time times) (All-head P first times all) (with_time_all P time times is (All-tail P first times all))))
-
-rising_all : (P : ℕ → Type 0) (times : List ℕ) → All P times → All P (rising_times times)
-rising_all P [] all = all
-rising_all P (time ∷ times) all =
-    with_time_all P time (rising_times times) (All-head P time times all) (rising_all P times (All-tail P time times all))
-
-ends_all : (jobs : List Job) → All IsJob jobs → All (IsUpTo MAX_TIME) (flat_map (λ job. job.release ∷ job.deadline ∷ []) jobs)
-ends_all [] all = All-nil (IsUpTo MAX_TIME)
-ends_all (job ∷ jobs) all =
-    let is = All-head IsJob job jobs all in
-    let rest = flat_map (λ (one : Job). one.release ∷ one.deadline ∷ []) jobs in
-    All-cons (IsUpTo MAX_TIME) job.release (job.deadline ∷ rest) (omega (arith, is.has_window, is.time_in_range))
-    (All-cons (IsUpTo MAX_TIME) job.deadline rest is.time_in_range (ends_all jobs (All-tail IsJob job jobs all)))
-
-pub events_in_range : (jobs : List Job) → All IsJob jobs → All (IsUpTo MAX_TIME) (event_points jobs)
-events_in_range jobs all = rising_all (IsUpTo MAX_TIME) (flat_map (λ job. job.release ∷ job.deadline ∷ []) jobs) (ends_all jobs all)
+use Rattle.yds_events.proofs.Neighbours.{stretches_run, stretch_in_range}
 
 abbrev EndsBy : ℕ → Piece → Type 0
 EndsBy most piece = piece.to ≤ most
-
-neighbours_all : (most : ℕ) (times : List ℕ) → All (IsUpTo most) times → All (EndsBy most) (neighbours times)
-neighbours_all most [] all = All-nil (EndsBy most)
-neighbours_all most (time ∷ []) all = All-nil (EndsBy most)
-neighbours_all most (time ∷ next ∷ times) all =
-    let rest = All-tail (IsUpTo most) time (next ∷ times) all in
-    All-cons (EndsBy most) (record { from = time; to = next }) (neighbours (next ∷ times)) (All-head (IsUpTo most) next times rest)
-    (neighbours_all most (next ∷ times) rest)
-
-pub stretch_in_range : (jobs : List Job) (k : ℕ) → All IsJob jobs → k < length (stretches jobs) → (stretch_at jobs k).to ≤ MAX_TIME
-stretch_in_range jobs k all within = neighbours_all MAX_TIME (event_points jobs) (events_in_range jobs all) k no_piece within
 
 -- pieces one after another are no longer than the time to their end
 run_within : (low most : ℕ) (pieces : List Piece) → low ≤ most → PiecesFrom low pieces → All (EndsBy most) pieces →
@@ -77,7 +38,8 @@ total_in_range : (jobs : List Job) → All IsJob jobs → total_length (stretche
 total_in_range jobs all =
     omega (
       arith,
-      run_within 0 MAX_TIME (stretches jobs) (omega arith) (stretches_run jobs) (neighbours_all MAX_TIME (event_points jobs) (events_in_range jobs all)),
+      run_within 0 MAX_TIME (stretches jobs) (omega arith) (stretches_run jobs)
+          (All-from_get_or (EndsBy MAX_TIME) (stretches jobs) no_stretch (λ k within. stretch_in_range jobs k all within)),
     )
 
 -- sums over what is in each place, together
@@ -117,9 +79,9 @@ module _ (jobs : List Job) (all : All IsJob jobs) where
         ap (λ n. n * MAX_WORK) (length-range_with_len 0 (length jobs)),
       )
 
-  all_length : sum_by (length_of jobs) (range_with_len 0 (length (stretches jobs))) ≤ MAX_TIME
+  all_length : sum_by (length_at jobs) (range_with_len 0 (length (stretches jobs))) ≤ MAX_TIME
   all_length =
-      omega (arith, sum_of_all (λ (piece : Piece). piece.to - piece.from) (stretches jobs) no_piece, total_in_range jobs all)
+      omega (arith, sum_of_all (λ (piece : Piece). piece.to - piece.from) (stretches jobs) no_stretch, total_in_range jobs all)
 
   module _ (found : Found) (is : IsFound jobs found) where
     pub group_work : (i : ℕ) → i < length found.groups → (group_at found.groups i).work ≤ length jobs * MAX_WORK
@@ -128,7 +90,7 @@ module _ (jobs : List Job) (all : All IsJob jobs) where
 
     pub group_length : (i : ℕ) → i < length found.groups → (group_at found.groups i).length ≤ MAX_TIME
     group_length i known =
-        omega (arith, is.lengths i known, one_place found.group_of_stretch (length_of jobs) i (length (stretches jobs)), all_length)
+        omega (arith, is.lengths i known, one_place found.group_of_stretch (length_at jobs) i (length (stretches jobs)), all_length)
 
     groups_work : sum_by (λ group. group.work) found.groups ≤ length jobs * MAX_WORK
     groups_work =
@@ -149,7 +111,7 @@ module _ (jobs : List Job) (all : All IsJob jobs) where
           sum_by_same (λ i. (group_at found.groups i).length) (λ i. length_in jobs found.group_of_stretch i (length (stretches jobs)))
               (range_with_len 0 (length found.groups))
               (λ k d within. let at = in_range (length found.groups) k d within in rw (at.1) (is.lengths k at.0)),
-          places_within found.group_of_stretch (length_of jobs) (length found.groups) (length (stretches jobs)),
+          places_within found.group_of_stretch (length_at jobs) (length found.groups) (length (stretches jobs)),
           all_length,
         )
 

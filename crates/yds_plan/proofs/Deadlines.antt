@@ -9,7 +9,7 @@ use Rattle.std.proofs.lemmas.List.Sums.{sum_by-cons, get_or-le-sum_by}
 use Rattle.std.proofs.lemmas.List.Sorted.{IsPermutation-map, All-permutation, Contains-permutation, sum_by-IsPermutation}
 use Rattle.std.proofs.lemmas.Bool.{cases_lt}
 use Rattle.yds_model.specs.Job.{Job, job_at}
-use Rattle.yds_plan.specs.Windows.{IsOrder}
+use Rattle.yds_plan.specs.Order.{IsOrder}
 use Rattle.yds_plan.proofs.Balance.{over_alone}
 use Rattle.yds_model.proofs.Horizon.{part_own}
 

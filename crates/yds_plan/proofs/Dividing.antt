@@ -4,9 +4,9 @@ use Rattle.std.specs.List.{range_with_len}
 use Rattle.std.proofs.lemmas.Bool.{cases_lt}
 use Rattle.yds_model.specs.Job.{Job, job_at}
 use Rattle.yds_model.specs.Event.{stretches}
-use Rattle.yds_plan.specs.declared.finder_windows.Window.{Window}
+use Rattle.yds_events.specs.declared.window.Window.{Window}
 use Rattle.yds_plan.specs.declared.finder_instance.Instance.{Instance}
-use Rattle.yds_plan.specs.Found.{Found, Group, Share, group_of, per_time, per_work}
+use Rattle.yds_plan.specs.Found.{Found, Group, Portion, group_of, per_time, per_work}
 use Rattle.yds_plan.specs.Numbers.{IsOneOf, numbers_in, AreWritten}
 use Rattle.yds_plan.specs.Closure.{AreAllReaches, AreClosing}
 use Rattle.yds_plan.specs.Search.{IsSearch, IsAttempt, IsJobNumber, split_stretch, AreMovedFrom}
@@ -17,7 +17,7 @@ use Rattle.yds_plan.proofs.Attempt.{part_known, part_stretch_known, range_one, r
 use Rattle.yds_plan.proofs.Closure.{fill_closes}
 use Rattle.yds_plan.proofs.Finished.{moved}
 use Rattle.yds_plan.proofs.Steps.{split_top}
-use Rattle.yds_plan.proofs.Waiting.{list_has, share_own, wanting_own, moved_from, split_cases, split_stretch_is, split_job_is}
+use Rattle.yds_plan.proofs.Waiting.{list_has, portion_own, wanting_own, moved_from, split_cases, split_stretch_is, split_job_is}
 
 -- the stretches of a group rise
 pub part_rising : (order : List ℕ) (found : Found) (top : ℕ) (part : Part) → IsWaiting order found top part →
@@ -27,11 +27,11 @@ part_rising order found top part waiting =
     (in_order (λ a b. a < b) found.group_of_stretch top (range_with_len 0 (length found.group_of_stretch)) (range_rises (length found.group_of_stretch)))
 
 -- each job of a group has one of the group's stretches in its window
-pub closing_is : (jobs : List Job) (instance : Instance) (found : Found) (top last : ℕ) (group : Group) (shares : List Share) (wants' rooms' : List ℕ) (part : Part) (m : ℕ) →
+pub closing_is : (jobs : List Job) (instance : Instance) (found : Found) (top last : ℕ) (group : Group) (portions : List Portion) (wants' rooms' : List ℕ) (part : Part) (m : ℕ) →
     IsInstance jobs instance → IsSearch jobs instance.windows.items found top last → top ≤ last → IsWaiting instance.order.items found top part →
-    IsAttempt jobs instance.windows.items found top group shares wants' rooms' → m ≡ length (stretches jobs) →
+    IsAttempt jobs instance.windows.items found top group portions wants' rooms' → m ≡ length (stretches jobs) →
     AreClosing instance.windows.items wants' part.jobs part.stretches m
-closing_is jobs instance found top last group shares wants' rooms' part m are search within waiting attempt count =
+closing_is jobs instance found top last group portions wants' rooms' part m are search within waiting attempt count =
     let known : (i : ℕ) → i < length part.jobs → get_or part.jobs i 0 < length jobs = part_known jobs instance.order.items found top part are.order waiting in
     record {
       known = λ i in_range. omega (arith, known i in_range, are.windows.all);
@@ -53,7 +53,7 @@ closing_is jobs instance found top last group shares wants' rooms' part m are se
                 (range_one (length found.group_of_stretch) there.0 below) (there.2 ∙ mine),
           );
       inside = λ i in_range. omega (arith, are.windows.inside (get_or part.jobs i 0) (known i in_range), count);
-      each = λ j in_range some. wanting_own jobs instance.windows.items found top (per_time group) (per_work group) attempt.wants attempt.rooms shares wants' rooms' part.jobs
+      each = λ j in_range some. wanting_own jobs instance.windows.items found top (per_time group) (per_work group) attempt.wants attempt.rooms portions wants' rooms' part.jobs
           instance.order.items attempt.filled waiting.jobs are.order.each j some;
     }
 
@@ -67,24 +67,24 @@ stretch_small reaches top k number is = elim (split_cases (get_or reaches k 0) k
 ]
 
 -- all that a split leaves
-pub divided : (jobs : List Job) (instance : Instance) (found : Found) (top : ℕ) (group : Group) (shares : List Share) (wants' rooms' : List ℕ) (part : Part) (m : ℕ)
+pub divided : (jobs : List Job) (instance : Instance) (found : Found) (top : ℕ) (group : Group) (portions : List Portion) (wants' rooms' : List ℕ) (part : Part) (m : ℕ)
     (reaches left new_jobs new_stretches : List ℕ) → 1 ≤ top → IsInstance jobs instance → IsSearch jobs instance.windows.items found top 1000000 → top ≤ 1000000 →
-    IsWaiting instance.order.items found top part → IsAttempt jobs instance.windows.items found top group shares wants' rooms' →
-    ((j : ℕ) × (j < length jobs) × (1 ≤ get_or wants' j 0)) → m ≡ length (stretches jobs) → AreAllReaches instance.windows.items wants' part.stretches shares m reaches →
+    IsWaiting instance.order.items found top part → IsAttempt jobs instance.windows.items found top group portions wants' rooms' →
+    ((j : ℕ) × (j < length jobs) × (1 ≤ get_or wants' j 0)) → m ≡ length (stretches jobs) → AreAllReaches instance.windows.items wants' part.stretches portions m reaches →
     AreWritten (λ k value. value ≡ split_stretch reaches top k) part.stretches (length part.stretches) found.group_of_stretch new_stretches →
     left ≡ numbers_in new_stretches top part.stretches →
     AreWritten (IsJobNumber instance.windows.items left top) part.jobs (length part.jobs) found.group_of_job new_jobs →
     (IsSearch jobs instance.windows.items (moved found new_jobs new_stretches) (top - 1) 1000000 × (sum new_stretches < sum found.group_of_stretch))
     × AreMovedFrom top found.group_of_job new_jobs × AreMovedFrom top found.group_of_stretch new_stretches
-divided jobs instance found top group shares wants' rooms' part m reaches left new_jobs new_stretches some are search within waiting attempt late count reached written left_is written' =
+divided jobs instance found top group portions wants' rooms' part m reaches left new_jobs new_stretches some are search within waiting attempt late count reached written left_is written' =
     let whole : (k : ℕ) → k < length (stretches jobs) → IsOneOf (range_with_len 0 (length found.group_of_stretch)) k =
     λ k below. range_one (length found.group_of_stretch) k (omega (arith, below, search.all_stretches)) in (
-      split_top jobs instance found top group shares wants' rooms' part.stretches reaches new_jobs new_stretches some are search within attempt late
+      split_top jobs instance found top group portions wants' rooms' part.stretches reaches new_jobs new_stretches some are search within attempt late
           (λ k below mine. list_has found.group_of_stretch top part.stretches (range_with_len 0 (length found.group_of_stretch)) k waiting.stretches (whole k below) mine)
-          (fill_closes jobs instance.windows.items part.stretches attempt.wants attempt.rooms shares wants' rooms' m reaches are.windows attempt.filled.all_rooms
+          (fill_closes jobs instance.windows.items part.stretches attempt.wants attempt.rooms portions wants' rooms' m reaches are.windows attempt.filled.all_rooms
           (count ∙ sym attempt.filled.all_rooms) attempt.filled.fill (part_rising instance.order.items found top part waiting)
           (λ p in_range. omega (arith, part_stretch_known instance.order.items found top part waiting p in_range, search.all_stretches, count))
-          (share_own jobs instance.windows.items found top (per_time group) (per_work group) attempt.wants attempt.rooms shares wants' rooms' part.stretches
+          (portion_own jobs instance.windows.items found top (per_time group) (per_work group) attempt.wants attempt.rooms portions wants' rooms' part.stretches
           (range_with_len 0 (length found.group_of_stretch)) attempt.filled waiting.stretches whole)
           reached)
           (record {

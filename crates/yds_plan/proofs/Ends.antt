@@ -3,16 +3,15 @@ use Rattle.std.proofs.Common.{◌≡◌, ℕ, zero, suc, ◌+◌, ◌-◌, ◌<�
 use Rattle.std.specs.Prelude.{if◌then◌else◌, nat_lt}
 use Rattle.std.proofs.lemmas.Bool.Decides.{nat_tests}
 use Rattle.yds_model.specs.Job.{Job, job_at}
-use Rattle.yds_model.specs.Piece.{Piece}
-use Rattle.yds_model.specs.Event.{event_points, stretches}
-use Rattle.yds_plan.specs.declared.finder_windows.Window.{Window}
-use Rattle.yds_plan.specs.Found.{Found, Group, Share, share_at, no_share, group_of, length_of, stretch_at, IsInWindow, IsFound}
-use Rattle.yds_plan.specs.Windows.{window_at, IsIn, AreWindows}
+use Rattle.yds_model.specs.Event.{stretches}
+use Rattle.yds_events.specs.declared.window.Window.{Window}
+use Rattle.yds_plan.specs.Found.{Found, Group, Portion, portion_at, no_portion, group_of, IsFound}
+use Rattle.yds_events.specs.Window.{length_at, stretch_of, IsInWindow, window_at, IsIn, AreWindows}
 use Rattle.yds_plan.specs.Search.{IsFinished, MayRun, IsSearch, IsBeginning, finished_count}
 use Rattle.yds_plan.proofs.Ranges.{over, over_at_most, over_ones, over_some, over_one, over_add, over_same}
 use Rattle.yds_model.proofs.Horizon.{part_own}
-use Rattle.yds_plan.proofs.Shares.{chosen_some}
-use Rattle.yds_plan.proofs.Times.{times_rise, stretch_is, stretch_next}
+use Rattle.yds_plan.proofs.Portions.{chosen_some}
+use Rattle.yds_events.proofs.Neighbours.{stretch_forward, stretch_order}
 
 abbrev count_one : ℕ → ℕ → ℕ
 count_one number groups = if nat_lt number groups then 1 else 0
@@ -29,20 +28,12 @@ few_counted places groups n = omega (
 )
 
 -- a stretch that ends before another one of a job's window, and in which the job is released, is one of its window
-in_window_before : (jobs : List Job) (j k k' : ℕ) → k < k' → k' < length (stretches jobs) → (job_at jobs j).release ≤ (stretch_at jobs k).from →
+in_window_before : (jobs : List Job) (j k k' : ℕ) → k < k' → k' < length (stretches jobs) → (job_at jobs j).release ≤ (stretch_of jobs k).from →
     IsInWindow jobs j k' → IsInWindow jobs j k
 in_window_before jobs j k k' before within released inside =
-    let next : k + 1 < length (event_points jobs) = omega (arith, stretch_next jobs k' within) in
-    let next' = stretch_next jobs k' within in
     record {
       released = released;
-      due = omega (
-        arith,
-        times_rise jobs (k + 1) (k' + 1) (omega arith) next',
-        ap (λ (piece : Piece). piece.to) (stretch_is jobs k next),
-        ap (λ (piece : Piece). piece.to) (stretch_is jobs k' next'),
-        inside.due,
-      );
+      due = omega (arith, stretch_order jobs k k' before within, stretch_forward jobs k' within, inside.due);
     }
 
 -- when no group is left, all has been found
@@ -66,16 +57,16 @@ search_ends jobs windows found last top windows_are end search =
       order = search.finished.order;
       windows = λ j k known some within inside.
           search.not_after j k (record { known = known; some = some; inside = (windows_are.are j k known within).1 inside });
-      shares = search.finished.shares;
+      portions = search.finished.portions;
       served = λ j known some. search.finished.served j known (grouped j known some);
       full = search.finished.full;
       in_order = search.finished.in_order;
       earliest = λ x y within within' same released before.
-          let one = search.finished.shares x no_share within in
-          let other = search.finished.shares y no_share within' in
+          let one = search.finished.portions x no_portion within in
+          let other = search.finished.portions y no_portion within' in
           search.finished.earliest x y within within' same
-          ((windows_are.are (share_at found.shares x).job (share_at found.shares y).stretch one.known other.known_stretch).1
-          (in_window_before jobs (share_at found.shares x).job (share_at found.shares y).stretch (share_at found.shares x).stretch before one.known_stretch
+          ((windows_are.are (portion_at found.portions x).job (portion_at found.portions y).stretch one.known other.known_stretch).1
+          (in_window_before jobs (portion_at found.portions x).job (portion_at found.portions y).stretch (portion_at found.portions x).stretch before one.known_stretch
           released one.in_window)) before;
       few = omega (
         arith,
@@ -86,17 +77,17 @@ search_ends jobs windows found last top windows_are end search =
     }
 
 -- nothing is finished
-nothing_finished : (jobs : List Job) (windows : List Window) (found : Found) → found.groups ≡ [] → found.shares ≡ [] → IsFinished jobs windows found
-nothing_finished jobs windows found no_groups no_shares =
+nothing_finished : (jobs : List Job) (windows : List Window) (found : Found) → found.groups ≡ [] → found.portions ≡ [] → IsFinished jobs windows found
+nothing_finished jobs windows found no_groups no_portions =
     let none : length found.groups ≡ 0 = ap (λ (xs : List Group). length xs) no_groups in
-    let without : length found.shares ≡ 0 = ap (λ (xs : List Share). length xs) no_shares in
+    let without : length found.portions ≡ 0 = ap (λ (xs : List Portion). length xs) no_portions in
     record {
       some_work = λ i within. absurd (omega (arith, none));
       some_length = λ i within. absurd (omega (arith, none));
       works = λ i within. absurd (omega (arith, none));
       lengths = λ i within. absurd (omega (arith, none));
       order = λ i within. absurd (omega (arith, none));
-      shares = λ x d within. absurd (omega (arith, without));
+      portions = λ x d within. absurd (omega (arith, without));
       served = λ j known within. absurd (omega (arith, none, within));
       full = λ k known within. absurd (omega (arith, none, within));
       in_order = λ x y before within same. absurd (omega (arith, without));
@@ -181,7 +172,7 @@ search_begins jobs windows found last top are beginning start =
       ];
       between = λ c from upto. elim start [ inl begins ↦ absurd (omega (arith, begins.1)) | inr idle ↦ absurd (omega (arith, idle.1)) ];
       lead = λ i is within. absurd (omega (arith, none));
-      finished = nothing_finished jobs windows found beginning.no_groups beginning.no_shares;
+      finished = nothing_finished jobs windows found beginning.no_groups beginning.no_portions;
     }
 
 -- as many numbers as have a place among m places are at most m
@@ -221,11 +212,11 @@ few_groups jobs windows found top last search = at_most_all (λ k. group_of foun
     (λ c from upto.
     let lengths = search.finished.lengths c (omega arith) in
     let some = search.finished.some_length c (omega arith) in
-    let found_there = over_some (λ k. if group_of found.group_of_stretch k == c then length_of jobs k else 0) (length (stretches jobs)) (omega (arith, lengths, some)) in (
+    let found_there = over_some (λ k. if group_of found.group_of_stretch k == c then length_at jobs k else 0) (length (stretches jobs)) (omega (arith, lengths, some)) in (
       found_there.0,
       found_there.1,
-      (chosen_some (group_of found.group_of_stretch found_there.0) c (length_of jobs found_there.0)
-          (if group_of found.group_of_stretch found_there.0 == c then length_of jobs found_there.0 else 0) refl found_there.2).0,
+      (chosen_some (group_of found.group_of_stretch found_there.0) c (length_at jobs found_there.0)
+          (if group_of found.group_of_stretch found_there.0 == c then length_at jobs found_there.0 else 0) refl found_there.2).0,
     ))
 
 few_from : (jobs : List Job) (windows : List Window) (found : Found) (top last left : ℕ) → IsSearch jobs windows found top last → top + left ≡ last + 1 →

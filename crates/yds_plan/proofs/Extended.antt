@@ -1,9 +1,9 @@
--- Joined pieces and one more: it joins the last one where they touch.
+-- Merged pieces and one more: it joins the last one where they touch.
 use Rattle.std.proofs.Common.{◌≡◌, ℕ, suc, ◌-◌, ◌==◌, List, [], ◌∷◌, ◌++◌, ◌∙◌, length, refl, ap, arith, inl, inr, Bool, true, false}
 use Rattle.std.specs.Prelude.{cond}
 use Rattle.std.proofs.lemmas.Bool.{cases_Bool, lt-ltb}
 use Rattle.yds_model.specs.Piece.{Piece}
-use Rattle.yds_plan.specs.Laid.{join, joined}
+use Rattle.yds_plan.specs.Laid.{merge, merged}
 use Rattle.yds_plan.specs.Drafts.{touches_last, with_next, extended}
 
 -- the same by recursion
@@ -38,10 +38,10 @@ add_last_is (first ∷ next ∷ pieces) piece =
     ∙ deeper first next pieces piece (touches_last (next ∷ pieces) piece)
     ∙ ap (λ b. with_next (first ∷ next ∷ pieces) b piece) (touches_deeper first next pieces piece)
 
-join_last : (first : Piece) (pieces : List Piece) (piece : Piece) → join first (add_last pieces piece) ≡ add_last (join first pieces) piece
+merge_last : (first : Piece) (pieces : List Piece) (piece : Piece) → merge first (add_last pieces piece) ≡ add_last (merge first pieces) piece
 unfolding add_last
-join_last first [] piece = refl
-join_last first (next ∷ []) piece = elim (cases_Bool (next.to == piece.from)) [
+merge_last first [] piece = refl
+merge_last first (next ∷ []) piece = elim (cases_Bool (next.to == piece.from)) [
   | inl touches ↦ elim (cases_Bool (first.to == next.from)) [
     | inl also ↦ simp (touches, also) refl
     | inr apart ↦ simp (touches, apart) refl
@@ -51,15 +51,15 @@ join_last first (next ∷ []) piece = elim (cases_Bool (next.to == piece.from)) 
     | inr apart ↦ simp (parts, apart) refl
   ]
 ]
-join_last first (next ∷ other ∷ pieces) piece = elim (cases_Bool (first.to == next.from)) [
+merge_last first (next ∷ other ∷ pieces) piece = elim (cases_Bool (first.to == next.from)) [
   | inl also ↦ simp also refl
   | inr apart ↦ simp apart refl
 ]
 
-joined_last : (pieces : List Piece) (piece : Piece) → joined (pieces ++ piece ∷ []) ≡ add_last (joined pieces) piece
+merged_last : (pieces : List Piece) (piece : Piece) → merged (pieces ++ piece ∷ []) ≡ add_last (merged pieces) piece
 unfolding add_last
-joined_last [] piece = refl
-joined_last (first ∷ pieces) piece = ap (join first) (joined_last pieces piece) ∙ join_last first (joined pieces) piece
+merged_last [] piece = refl
+merged_last (first ∷ pieces) piece = ap (merge first) (merged_last pieces piece) ∙ merge_last first (merged pieces) piece
 
-pub joined_more : (pieces : List Piece) (piece : Piece) → joined (pieces ++ piece ∷ []) ≡ extended (joined pieces) piece
-joined_more pieces piece = joined_last pieces piece ∙ add_last_is (joined pieces) piece
+pub merged_more : (pieces : List Piece) (piece : Piece) → merged (pieces ++ piece ∷ []) ≡ extended (merged pieces) piece
+merged_more pieces piece = merged_last pieces piece ∙ add_last_is (merged pieces) piece

@@ -1,4 +1,4 @@
--- The fill, share by share and job by job.
+-- The fill, portion by portion and job by job.
 use Rattle.std.proofs.Common.{◌≡◌, ℕ, ◌+◌, ◌-◌, ◌<◌, ◌≤◌, ◌≢◌, ◌⊎◌, ◌==◌, min, List, [], ◌∷◌, ◌++◌, ◌∙◌, length, get_or, set, refl, sym, ap, subst, inl, inr, arith}
 use Rattle.std.specs.Prelude.{cond, if◌then◌else◌}
 use Rattle.std.specs.List.{All}
@@ -10,53 +10,54 @@ use Rattle.std.proofs.lemmas.Bool.{cases_lt, cases_eq}
 use Rattle.std.proofs.lemmas.Bool.Decides.{nat_tests}
 use Rattle.yds_model.specs.Job.{Job, job_at}
 use Rattle.yds_model.specs.EarliestFirst.{ComesFirst}
-use Rattle.yds_plan.specs.declared.finder_windows.Window.{Window}
-use Rattle.yds_plan.specs.Found.{Share}
-use Rattle.yds_plan.specs.Windows.{window_at, IsIn, Precedes}
+use Rattle.yds_events.specs.declared.window.Window.{Window}
+use Rattle.yds_plan.specs.Found.{Portion}
+use Rattle.yds_events.specs.Window.{window_at, IsIn}
+use Rattle.yds_plan.specs.Order.{Precedes}
 use Rattle.yds_plan.specs.Fill.{IsFullBefore, IsPart, FoundFull, StandInOrder, AreTaken, IsServed, full_count}
 use Rattle.yds_plan.proofs.Orders.{comes_itself}
 
--- a full stretch stays full and keeps its shares, because nothing is put into it
-full_keeps : (jobs : List Job) (shares : List Share) (rooms : List ℕ) (share : Share) (rest k job : ℕ) →
-    IsFullBefore jobs shares rooms k job → 1 ≤ get_or rooms share.stretch 0 →
-    IsFullBefore jobs (shares ++ share ∷ []) (set rooms share.stretch rest) k job
-full_keeps jobs shares rooms share rest k job full room =
-    let other : k ≢ share.stretch = λ same. omega (arith, ap (λ i. get_or rooms i 0) same, full.full, room) in
+-- a full stretch stays full and keeps its portions, because nothing is put into it
+full_keeps : (jobs : List Job) (portions : List Portion) (rooms : List ℕ) (portion : Portion) (rest k job : ℕ) →
+    IsFullBefore jobs portions rooms k job → 1 ≤ get_or rooms portion.stretch 0 →
+    IsFullBefore jobs (portions ++ portion ∷ []) (set rooms portion.stretch rest) k job
+full_keeps jobs portions rooms portion rest k job full room =
+    let other : k ≢ portion.stretch = λ same. omega (arith, ap (λ i. get_or rooms i 0) same, full.full, room) in
     record {
-      full = get_or-set_other rooms share.stretch k rest 0 other ∙ full.full;
-      before = All-push (λ one. one.stretch ≡ k → ComesFirst jobs one.job job) shares share full.before
+      full = get_or-set_other rooms portion.stretch k rest 0 other ∙ full.full;
+      before = All-push (λ one. one.stretch ≡ k → ComesFirst jobs one.job job) portions portion full.before
           (λ same. absurd (other (sym same)));
     }
 
--- the job comes after who has a share so far
-pub come_before : (jobs : List Job) (shares : List Share) (job : ℕ) →
-    All (λ share. (share.job ≡ job) ⊎ Precedes jobs share.job job) shares → All (λ share. ComesFirst jobs share.job job) shares
-come_before jobs shares job all =
-    All-weaker (λ share. (share.job ≡ job) ⊎ Precedes jobs share.job job) (λ share. ComesFirst jobs share.job job)
-    (λ share h. elim h [
+-- the job comes after who has a portion so far
+pub come_before : (jobs : List Job) (portions : List Portion) (job : ℕ) →
+    All (λ portion. (portion.job ≡ job) ⊎ Precedes jobs portion.job job) portions → All (λ portion. ComesFirst jobs portion.job job) portions
+come_before jobs portions job all =
+    All-weaker (λ portion. (portion.job ≡ job) ⊎ Precedes jobs portion.job job) (λ portion. ComesFirst jobs portion.job job)
+    (λ portion h. elim h [
       | inl same ↦ inr (ap (λ j. (job_at jobs j).deadline) same, omega arith)
       | inr precedes ↦ precedes.1
-    ]) shares all
+    ]) portions all
 
--- one share more
-taken_more : (jobs : List Job) (windows : List Window) (m : ℕ) (shares : List Share) (rooms : List ℕ) (share : Share) (rest : ℕ) →
-    AreTaken jobs windows m shares rooms → IsPart windows (length windows) m share → 1 ≤ get_or rooms share.stretch 0 →
-    All (λ one. (one.job ≡ share.job) ⊎ Precedes jobs one.job share.job) shares →
-    All (λ one. one.job ≡ share.job → one.stretch < share.stretch) shares →
-    ((k : ℕ) → (window_at windows share.job).first ≤ k → k < share.stretch → get_or rooms k 0 ≡ 0) →
-    AreTaken jobs windows m (shares ++ share ∷ []) (set rooms share.stretch rest)
-taken_more jobs windows m shares rooms share rest taken part room all ahead swept = record {
-  parts = All-push (IsPart windows (length windows) m) shares share taken.parts part;
-  early = All-push (FoundFull jobs windows (shares ++ share ∷ []) (set rooms share.stretch rest)) shares share
-      (λ i d within k from before. full_keeps jobs shares rooms share rest k (get_or shares i d).job
+-- one portion more
+taken_more : (jobs : List Job) (windows : List Window) (m : ℕ) (portions : List Portion) (rooms : List ℕ) (portion : Portion) (rest : ℕ) →
+    AreTaken jobs windows m portions rooms → IsPart windows (length windows) m portion → 1 ≤ get_or rooms portion.stretch 0 →
+    All (λ one. (one.job ≡ portion.job) ⊎ Precedes jobs one.job portion.job) portions →
+    All (λ one. one.job ≡ portion.job → one.stretch < portion.stretch) portions →
+    ((k : ℕ) → (window_at windows portion.job).first ≤ k → k < portion.stretch → get_or rooms k 0 ≡ 0) →
+    AreTaken jobs windows m (portions ++ portion ∷ []) (set rooms portion.stretch rest)
+taken_more jobs windows m portions rooms portion rest taken part room all ahead swept = record {
+  parts = All-push (IsPart windows (length windows) m) portions portion taken.parts part;
+  early = All-push (FoundFull jobs windows (portions ++ portion ∷ []) (set rooms portion.stretch rest)) portions portion
+      (λ i d within k from before. full_keeps jobs portions rooms portion rest k (get_or portions i d).job
       (taken.early i d within k from before) room)
       (λ k from before. record {
-        full = get_or-set_other rooms share.stretch k rest 0 (omega arith) ∙ swept k from before;
-        before = All-push (λ one. one.stretch ≡ k → ComesFirst jobs one.job share.job) shares share
-            (λ i d within same. come_before jobs shares share.job all i d within)
-            (λ same. comes_itself jobs share.job);
+        full = get_or-set_other rooms portion.stretch k rest 0 (omega arith) ∙ swept k from before;
+        before = All-push (λ one. one.stretch ≡ k → ComesFirst jobs one.job portion.job) portions portion
+            (λ i d within same. come_before jobs portions portion.job all i d within)
+            (λ same. comes_itself jobs portion.job);
       });
-  ordered = all_pairs_push (StandInOrder jobs) shares share taken.ordered
+  ordered = all_pairs_push (StandInOrder jobs) portions portion taken.ordered
       (λ i d within same. elim (all i d within) [
         | inl mine ↦ absurd (omega (arith, ahead i d within mine, same))
         | inr precedes ↦ precedes
@@ -64,13 +65,13 @@ taken_more jobs windows m shares rooms share rest taken part room all ahead swep
 }
 
 -- a job begins
-pub serve_begins : (jobs : List Job) (windows : List Window) (job want : ℕ) (shares : List Share) (rooms : List ℕ) →
-    AreTaken jobs windows (length rooms) shares rooms → All (λ share. Precedes jobs share.job job) shares →
-    IsServed jobs windows job want shares rooms (window_at windows job).first want shares rooms
-serve_begins jobs windows job want shares rooms taken before = record {
+pub serve_begins : (jobs : List Job) (windows : List Window) (job want : ℕ) (portions : List Portion) (rooms : List ℕ) →
+    AreTaken jobs windows (length rooms) portions rooms → All (λ portion. Precedes jobs portion.job job) portions →
+    IsServed jobs windows job want portions rooms (window_at windows job).first want portions rooms
+serve_begins jobs windows job want portions rooms taken before = record {
   taken = taken;
-  all = All-weaker (λ share. Precedes jobs share.job job) (λ share. (share.job ≡ job) ⊎ Precedes jobs share.job job)
-      (λ share h. inr h) shares before;
+  all = All-weaker (λ portion. Precedes jobs portion.job job) (λ portion. (portion.job ≡ job) ⊎ Precedes jobs portion.job job)
+      (λ portion h. inr h) portions before;
   ahead = λ i d within same. absurd ((before i d within).0 same);
   wanted = refl;
   others = λ i other. refl;
@@ -82,12 +83,12 @@ serve_begins jobs windows job want shares rooms taken before = record {
 }
 
 -- a stretch is passed over, because it is full or the job is done
-pub serve_passes : (jobs : List Job) (windows : List Window) (job want : ℕ) (shares : List Share) (rooms : List ℕ)
-    (next left : ℕ) (shares' : List Share) (rooms' : List ℕ) →
-    IsServed jobs windows job want shares rooms next left shares' rooms' →
+pub serve_passes : (jobs : List Job) (windows : List Window) (job want : ℕ) (portions : List Portion) (rooms : List ℕ)
+    (next left : ℕ) (portions' : List Portion) (rooms' : List ℕ) →
+    IsServed jobs windows job want portions rooms next left portions' rooms' →
     (1 ≤ left → get_or rooms' next 0 ≡ 0) →
-    IsServed jobs windows job want shares rooms (next + 1) left shares' rooms'
-serve_passes jobs windows job want shares rooms next left shares' rooms' so_far full = record {
+    IsServed jobs windows job want portions rooms (next + 1) left portions' rooms'
+serve_passes jobs windows job want portions rooms next left portions' rooms' so_far full = record {
   taken = so_far.taken;
   all = so_far.all;
   ahead = λ i d within same. omega (arith, so_far.ahead i d within same);
@@ -109,7 +110,7 @@ own_units job i units other = grind (arith, nat_tests)
 same_units : (job units : ℕ) → (if job == job then units else 0) ≡ units
 same_units job units = grind (arith, nat_tests)
 
--- the room that was left, at the stretch of a share and at any other
+-- the room that was left, at the stretch of a portion and at any other
 room_left : (rooms : List ℕ) (place k units : ℕ) → place < length rooms → units ≤ get_or rooms place 0 →
     (if place == k then units else 0) + get_or (set rooms place (get_or rooms place 0 - units)) k 0 ≡ get_or rooms k 0
 room_left rooms place k units within room = elim (cases_eq k place) [
@@ -133,63 +134,63 @@ swept_more rooms next k left units within is more before upto = elim (cases_eq k
   | inr other ↦ get_or-set_other rooms next k (get_or rooms next 0 - units) 0 other ∙ before (omega arith)
 ]
 
-counts : (shares full full' shares' full'' left want units room : ℕ) → 1 ≤ left → 1 ≤ room → units ≡ min left room →
-    shares' + full + min left 1 ≤ shares + full' + min want 1 →
+counts : (portions full full' portions' full'' left want units room : ℕ) → 1 ≤ left → 1 ≤ room → units ≡ min left room →
+    portions' + full + min left 1 ≤ portions + full' + min want 1 →
     full'' + cond (room == 0) 1 0 ≡ full' + cond ((room - units) == 0) 1 0 →
-    (shares' + 1) + full + min (left - units) 1 ≤ shares + full'' + min want 1
-counts shares full full' shares' full'' left want units room some free is few sets = grind (arith, nat_tests)
+    (portions' + 1) + full + min (left - units) 1 ≤ portions + full'' + min want 1
+counts portions full full' portions' full'' left want units room some free is few sets = grind (arith, nat_tests)
 
 -- the job takes what it can in a stretch
-pub serve_takes : (jobs : List Job) (windows : List Window) (job want : ℕ) (shares : List Share) (rooms : List ℕ)
-    (next left : ℕ) (shares' : List Share) (rooms' : List ℕ) →
-    IsServed jobs windows job want shares rooms next left shares' rooms' →
+pub serve_takes : (jobs : List Job) (windows : List Window) (job want : ℕ) (portions : List Portion) (rooms : List ℕ)
+    (next left : ℕ) (portions' : List Portion) (rooms' : List ℕ) →
+    IsServed jobs windows job want portions rooms next left portions' rooms' →
     job < length windows → IsIn windows job next → next < length rooms → 1 ≤ left → 1 ≤ get_or rooms' next 0 →
     (units : ℕ) → units ≡ min left (get_or rooms' next 0) →
-    IsServed jobs windows job want shares rooms (next + 1) (left - units)
-    (shares' ++ record { job = job; stretch = next; units = units } ∷ []) (set rooms' next (get_or rooms' next 0 - units))
-serve_takes jobs windows job want shares rooms next left shares' rooms' so_far known inside within some free units is =
-    let share : Share = record { job = job; stretch = next; units = units } in
+    IsServed jobs windows job want portions rooms (next + 1) (left - units)
+    (portions' ++ record { job = job; stretch = next; units = units } ∷ []) (set rooms' next (get_or rooms' next 0 - units))
+serve_takes jobs windows job want portions rooms next left portions' rooms' so_far known inside within some free units is =
+    let portion : Portion = record { job = job; stretch = next; units = units } in
     let more : 1 ≤ units = grind arith in
     let room : units ≤ get_or rooms' next 0 = grind arith in
     let most : units ≤ left = grind arith in
     record {
-      taken = taken_more jobs windows (length rooms) shares' rooms' share (get_or rooms' next 0 - units) so_far.taken
+      taken = taken_more jobs windows (length rooms) portions' rooms' portion (get_or rooms' next 0 - units) so_far.taken
           (record { known = known; known_stretch = within; inside = inside; some = more }) free so_far.all so_far.ahead
           (λ k from upto. so_far.swept some k from upto);
-      all = All-push (λ one. (one.job ≡ job) ⊎ Precedes jobs one.job job) shares' share so_far.all (inl refl);
-      ahead = All-push (λ one. one.job ≡ job → one.stretch < next + 1) shares' share
+      all = All-push (λ one. (one.job ≡ job) ⊎ Precedes jobs one.job job) portions' portion so_far.all (inl refl);
+      ahead = All-push (λ one. one.job ≡ job → one.stretch < next + 1) portions' portion
           (λ i d within same. omega (arith, so_far.ahead i d within same)) (λ same. omega arith);
-      wanted = omega (arith, so_far.wanted, sum_by_push (λ one. if one.job == job then one.units else 0) shares' share, same_units job units, most);
-      others = λ i other. omega (arith, so_far.others i other, sum_by_push (λ one. if one.job == i then one.units else 0) shares' share, own_units job i units other);
+      wanted = omega (arith, so_far.wanted, sum_by_push (λ one. if one.job == job then one.units else 0) portions' portion, same_units job units, most);
+      others = λ i other. omega (arith, so_far.others i other, sum_by_push (λ one. if one.job == i then one.units else 0) portions' portion, own_units job i units other);
       same_length = length-set rooms' next (get_or rooms' next 0 - units) ∙ so_far.same_length;
       room = λ k. omega (
         arith,
         so_far.room k,
-        sum_by_push (λ one. if one.stretch == k then one.units else 0) shares' share,
+        sum_by_push (λ one. if one.stretch == k then one.units else 0) portions' portion,
         room_left rooms' next k units (omega (arith, so_far.same_length)) room,
       );
       swept = λ more k from upto. swept_more rooms' next k left units (omega (arith, so_far.same_length)) is more
           (λ below. so_far.swept some k from below) upto;
-      kept = λ k i full. full_keeps jobs shares' rooms' share (get_or rooms' next 0 - units) k i (so_far.kept k i full) free;
-      few = rw (length_push shares' share) (counts (length shares) (full_count rooms) (full_count rooms') (length shares')
+      kept = λ k i full. full_keeps jobs portions' rooms' portion (get_or rooms' next 0 - units) k i (so_far.kept k i full) free;
+      few = rw (length_push portions' portion) (counts (length portions) (full_count rooms) (full_count rooms') (length portions')
           (full_count (set rooms' next (get_or rooms' next 0 - units))) left want units (get_or rooms' next 0) some free is so_far.few
           (sum_by-set (λ room. cond (room == 0) 1 0) rooms' next (get_or rooms' next 0 - units) 0 (omega (arith, so_far.same_length))));
     }
 
 -- the same, for the lists that are there then
-pub serve_took : (jobs : List Job) (windows : List Window) (job want : ℕ) (shares : List Share) (rooms : List ℕ)
-    (next left : ℕ) (shares' : List Share) (rooms' : List ℕ) →
-    IsServed jobs windows job want shares rooms next left shares' rooms' →
+pub serve_took : (jobs : List Job) (windows : List Window) (job want : ℕ) (portions : List Portion) (rooms : List ℕ)
+    (next left : ℕ) (portions' : List Portion) (rooms' : List ℕ) →
+    IsServed jobs windows job want portions rooms next left portions' rooms' →
     job < length windows → (window_at windows job).first ≤ next → next < (window_at windows job).end → next < length rooms →
     1 ≤ left → 1 ≤ get_or rooms' next 0 → (units : ℕ) → units ≡ min left (get_or rooms' next 0) →
-    (left'' : ℕ) (shares'' : List Share) (rooms'' : List ℕ) → left'' ≡ left - units →
-    shares'' ≡ shares' ++ record { job = job; stretch = next; units = units } ∷ [] →
+    (left'' : ℕ) (portions'' : List Portion) (rooms'' : List ℕ) → left'' ≡ left - units →
+    portions'' ≡ portions' ++ record { job = job; stretch = next; units = units } ∷ [] →
     rooms'' ≡ set rooms' next (get_or rooms' next 0 - units) →
-    IsServed jobs windows job want shares rooms (next + 1) left'' shares'' rooms''
-serve_took jobs windows job want shares rooms next left shares' rooms' so_far known from upto within some free units is left'' shares'' rooms'' a b c =
-    subst (λ (n : ℕ). IsServed jobs windows job want shares rooms (next + 1) n shares'' rooms'') (sym a)
-    (subst (λ (xs : List Share). IsServed jobs windows job want shares rooms (next + 1) (left - units) xs rooms'') (sym b)
-    (subst (λ (xs : List ℕ). IsServed jobs windows job want shares rooms (next + 1) (left - units)
-    (shares' ++ record { job = job; stretch = next; units = units } ∷ []) xs) (sym c)
-    (serve_takes jobs windows job want shares rooms next left shares' rooms' so_far known (record { from = from; upto = upto })
+    IsServed jobs windows job want portions rooms (next + 1) left'' portions'' rooms''
+serve_took jobs windows job want portions rooms next left portions' rooms' so_far known from upto within some free units is left'' portions'' rooms'' a b c =
+    subst (λ (n : ℕ). IsServed jobs windows job want portions rooms (next + 1) n portions'' rooms'') (sym a)
+    (subst (λ (xs : List Portion). IsServed jobs windows job want portions rooms (next + 1) (left - units) xs rooms'') (sym b)
+    (subst (λ (xs : List ℕ). IsServed jobs windows job want portions rooms (next + 1) (left - units)
+    (portions' ++ record { job = job; stretch = next; units = units } ∷ []) xs) (sym c)
+    (serve_takes jobs windows job want portions rooms next left portions' rooms' so_far known (record { from = from; upto = upto })
     within some free units is)))

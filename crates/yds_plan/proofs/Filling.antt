@@ -8,9 +8,10 @@ use Rattle.std.proofs.lemmas.List.Sums.{sum_by_more}
 use Rattle.std.proofs.lemmas.Bool.{cases_eq}
 use Rattle.std.proofs.lemmas.Bool.Decides.{nat_tests}
 use Rattle.yds_model.specs.Job.{Job}
-use Rattle.yds_plan.specs.declared.finder_windows.Window.{Window}
-use Rattle.yds_plan.specs.Found.{Share, units_of_job}
-use Rattle.yds_plan.specs.Windows.{window_at, IsIn, Precedes}
+use Rattle.yds_events.specs.declared.window.Window.{Window}
+use Rattle.yds_plan.specs.Found.{Portion, units_of_job}
+use Rattle.yds_events.specs.Window.{window_at, IsIn}
+use Rattle.yds_plan.specs.Order.{Precedes}
 use Rattle.yds_plan.specs.Fill.{IsFullBefore, AreTaken, IsPart, FoundFull, IsServed, IsFilling, IsFill, AreServed}
 use Rattle.yds_plan.proofs.Orders.{precedes_then}
 use Rattle.yds_plan.proofs.Fill.{come_before}
@@ -28,7 +29,7 @@ fill_begins jobs windows order wants rooms = record {
   same_rooms = refl;
   want = λ j. omega arith;
   room = λ k. omega arith;
-  later = λ some. All-nil (λ share. Precedes jobs share.job (get_or order 0 0));
+  later = λ some. All-nil (λ portion. Precedes jobs portion.job (get_or order 0 0));
   late = λ a below. absurd (omega arith);
   few = omega arith;
 }
@@ -44,39 +45,39 @@ wanted_once left want given units is = grind (arith, nat_tests)
 
 -- one job more
 pub fill_more : (jobs : List Job) (windows : List Window) (order wants rooms : List ℕ) (i : ℕ)
-    (shares : List Share) (wants' rooms' : List ℕ) (left : ℕ) (shares' : List Share) (rooms'' : List ℕ) →
+    (portions : List Portion) (wants' rooms' : List ℕ) (left : ℕ) (portions' : List Portion) (rooms'' : List ℕ) →
     AreServed jobs wants order → length wants ≡ length jobs → i < length order →
-    IsFilling jobs windows order wants rooms i shares wants' rooms' →
-    IsServed jobs windows (get_or order i 0) (get_or wants' (get_or order i 0) 0) shares rooms'
-    (window_at windows (get_or order i 0)).end left shares' rooms'' →
-    IsFilling jobs windows order wants rooms (i + 1) shares' (set wants' (get_or order i 0) left) rooms''
-fill_more jobs windows order wants rooms i shares wants' rooms' left shares' rooms'' ordered all within so_far served =
+    IsFilling jobs windows order wants rooms i portions wants' rooms' →
+    IsServed jobs windows (get_or order i 0) (get_or wants' (get_or order i 0) 0) portions rooms'
+    (window_at windows (get_or order i 0)).end left portions' rooms'' →
+    IsFilling jobs windows order wants rooms (i + 1) portions' (set wants' (get_or order i 0) left) rooms''
+fill_more jobs windows order wants rooms i portions wants' rooms' left portions' rooms'' ordered all within so_far served =
     let job : ℕ = get_or order i 0 in
     let known : get_or order i 0 < length wants' = omega (arith, ordered.known i within, so_far.same_wants) in
     record {
-      taken = subst (λ (m : ℕ). AreTaken jobs windows m shares' rooms'') so_far.same_rooms served.taken;
+      taken = subst (λ (m : ℕ). AreTaken jobs windows m portions' rooms'') so_far.same_rooms served.taken;
       same_wants = length-set wants' (get_or order i 0) left ∙ so_far.same_wants;
       same_rooms = served.same_length ∙ so_far.same_rooms;
       want = λ j. elim (cases_eq j (get_or order i 0)) [
         | inl same ↦
-            let P : ℕ → Type 0 = λ n. units_of_job shares' n + get_or (set wants' (get_or order i 0) left) n 0 ≡ get_or wants n 0 in
+            let P : ℕ → Type 0 = λ n. units_of_job portions' n + get_or (set wants' (get_or order i 0) left) n 0 ≡ get_or wants n 0 in
             subst P (sym same) (omega (arith, get_or-set_same wants' (get_or order i 0) left 0 known, served.wanted, so_far.want (get_or order i 0)))
         | inr other ↦ omega (arith, served.others j other, get_or-set_other wants' (get_or order i 0) j left 0 other, so_far.want j)
       ];
       room = λ k. omega (arith, served.room k, so_far.room k);
-      later = λ more. All-weaker (λ share. (share.job ≡ get_or order i 0) ⊎ Precedes jobs share.job (get_or order i 0))
-          (λ share. Precedes jobs share.job (get_or order (i + 1) 0))
-          (λ share h. elim h [
+      later = λ more. All-weaker (λ portion. (portion.job ≡ get_or order i 0) ⊎ Precedes jobs portion.job (get_or order i 0))
+          (λ portion. Precedes jobs portion.job (get_or order (i + 1) 0))
+          (λ portion h. elim h [
             | inl same ↦ subst (λ (n : ℕ). Precedes jobs n (get_or order (i + 1) 0)) (sym same) (ordered.rising i (i + 1) (omega arith) more)
-            | inr precedes ↦ precedes_then jobs share.job (get_or order i 0) (get_or order (i + 1) 0) precedes (ordered.rising i (i + 1) (omega arith) more)
-          ]) shares' served.all;
+            | inr precedes ↦ precedes_then jobs portion.job (get_or order i 0) (get_or order (i + 1) 0) precedes (ordered.rising i (i + 1) (omega arith) more)
+          ]) portions' served.all;
       late = λ a below some k inside. elim (cases_eq a i) [
         | inl same ↦
             let e : get_or order a 0 ≡ get_or order i 0 = ap (λ n. get_or order n 0) same in
-            let P : ℕ → Type 0 = λ n. 1 ≤ get_or (set wants' (get_or order i 0) left) n 0 → IsIn windows n k → IsFullBefore jobs shares' rooms'' k n in
+            let P : ℕ → Type 0 = λ n. 1 ≤ get_or (set wants' (get_or order i 0) left) n 0 → IsIn windows n k → IsFullBefore jobs portions' rooms'' k n in
             subst P (sym e) (λ more within. record {
               full = served.swept (omega (arith, more, get_or-set_same wants' (get_or order i 0) left 0 known)) k within.from within.upto;
-              before = λ n d upto stretch. come_before jobs shares' (get_or order i 0) served.all n d upto;
+              before = λ n d upto stretch. come_before jobs portions' (get_or order i 0) served.all n d upto;
             }) some inside
         | inr other ↦
             let apart : get_or order a 0 ≢ get_or order i 0 = (ordered.rising a i (omega arith) within).0 in
@@ -88,7 +89,7 @@ fill_more jobs windows order wants rooms i shares wants' rooms' left shares' roo
         served.few,
         so_far.few,
         sum_by_more (λ j. if nat_lt 0 (get_or wants j 0) then 1 else 0) order i 0 within,
-        wanted_once left (get_or wants' (get_or order i 0) 0) (get_or wants (get_or order i 0) 0) (units_of_job shares (get_or order i 0)) (so_far.want (get_or order i 0)),
+        wanted_once left (get_or wants' (get_or order i 0) 0) (get_or wants (get_or order i 0) 0) (units_of_job portions (get_or order i 0)) (so_far.want (get_or order i 0)),
       );
     }
 
@@ -97,11 +98,11 @@ wanted wants j = if nat_lt 0 (get_or wants j 0) then 1 else 0
 
 -- everybody has taken what they could
 pub fill_ends : (jobs : List Job) (windows : List Window) (order wants rooms : List ℕ) (i : ℕ)
-    (shares : List Share) (wants' rooms' : List ℕ) →
+    (portions : List Portion) (wants' rooms' : List ℕ) →
     AreServed jobs wants order → length wants ≡ length jobs → length order ≤ i →
-    IsFilling jobs windows order wants rooms i shares wants' rooms' →
-    IsFill jobs windows wants rooms shares wants' rooms'
-fill_ends jobs windows order wants rooms i shares wants' rooms' ordered all end filling = record {
+    IsFilling jobs windows order wants rooms i portions wants' rooms' →
+    IsFill jobs windows wants rooms portions wants' rooms'
+fill_ends jobs windows order wants rooms i portions wants' rooms' ordered all end filling = record {
   taken = filling.taken;
   same_wants = filling.same_wants;
   same_rooms = filling.same_rooms;
@@ -109,7 +110,7 @@ fill_ends jobs windows order wants rooms i shares wants' rooms' ordered all end 
   room = filling.room;
   late = λ j known some k inside.
       let found = ordered.each j known (omega (arith, some, filling.want j)) in
-      let P : ℕ → Type 0 = λ n. 1 ≤ get_or wants' n 0 → IsIn windows n k → IsFullBefore jobs shares rooms' k n in
+      let P : ℕ → Type 0 = λ n. 1 ≤ get_or wants' n 0 → IsIn windows n k → IsFullBefore jobs portions rooms' k n in
       subst P found.2 (λ more within. filling.late found.0 (omega (arith, found.1)) more k within) some inside;
   few = omega (arith, filling.few, ap (sum_by (wanted wants)) (take_all i order end), ordered.few);
 }

@@ -9,13 +9,14 @@ use Rattle.std.proofs.lemmas.Bool.{cases_lt, cases_eq}
 use Rattle.std.proofs.lemmas.Bool.Decides.{nat_tests}
 use Rattle.yds_model.specs.Job.{Job, job_at}
 use Rattle.yds_model.specs.Event.{stretches}
-use Rattle.yds_plan.specs.declared.finder_windows.Window.{Window}
-use Rattle.yds_plan.specs.Found.{Found, Group, Share, share_at, no_share, group_at, no_group, group_of, length_of, work_in, length_in, per_time, per_work, units_of_job, units_in_stretch, IsShare}
+use Rattle.yds_events.specs.declared.window.Window.{Window}
+use Rattle.yds_plan.specs.Found.{Found, Group, Portion, portion_at, no_portion, group_at, no_group, group_of, work_in, length_in, per_time, per_work, units_of_job, units_in_stretch, IsPortion}
+use Rattle.yds_events.specs.Window.{length_at, IsIn, AreWindows}
 use Rattle.yds_model.specs.EarliestFirst.{ComesFirst}
-use Rattle.yds_plan.specs.Windows.{IsIn, AreWindows, Precedes}
+use Rattle.yds_plan.specs.Order.{Precedes}
 use Rattle.yds_plan.specs.Search.{IsFast, IsSlow, LieInWindows, IsLead, IsFinished, MayRun, IsSearch, IsFilled, IsRenamed, finished_count}
 use Rattle.yds_model.proofs.Horizon.{part_own, part_other}
-use Rattle.yds_plan.proofs.Shares.{chosen_some, share_counts, no_units}
+use Rattle.yds_plan.proofs.Portions.{chosen_some, portion_counts, no_units}
 use Rattle.yds_plan.proofs.Ranges.{over, over_same, over_at_most, over_add, over_ones, over_list}
 use Rattle.yds_plan.proofs.Balance.{fast_speed, slow_speed, speed_order}
 use Rattle.yds_plan.proofs.Finished.{moved, AreAlike, kept_finished}
@@ -30,7 +31,7 @@ pub record Finishing : Type 0 where
   pub group : Group
   pub wants : List ℕ
   pub rooms : List ℕ
-  pub shares : List Share
+  pub portions : List Portion
   pub wants_left : List ℕ
   pub rooms_left : List ℕ
   pub new_jobs : List ℕ
@@ -38,7 +39,7 @@ pub record Finishing : Type 0 where
   pub windows_are : AreWindows jobs windows
   pub search : IsSearch jobs windows found top last
   pub within : top ≤ last
-  pub filled : IsFilled jobs windows found top (per_time group) (per_work group) wants rooms shares wants_left rooms_left
+  pub filled : IsFilled jobs windows found top (per_time group) (per_work group) wants rooms portions wants_left rooms_left
   pub served : (j : ℕ) → j < length jobs → get_or wants_left j 0 ≡ 0
   pub full : (k : ℕ) → k < length (stretches jobs) → get_or rooms_left k 0 ≡ 0
   pub work : group.work ≡ work_in jobs found.group_of_job top (length jobs)
@@ -57,7 +58,7 @@ ended f = record {
   groups = f.found.groups ++ f.group ∷ [];
   group_of_job = f.new_jobs;
   group_of_stretch = f.new_stretches;
-  shares = f.found.shares ++ f.shares;
+  portions = f.found.portions ++ f.portions;
 }
 
 -- no job and no stretch had the number that the group gets, but if it was its own
@@ -121,46 +122,46 @@ kept f = kept_finished f.jobs f.windows f.found f.new_jobs f.new_stretches
     (λ k known. alike_renamed (length f.found.groups) f.top (group_of f.found.group_of_stretch k) (group_of f.new_stretches k) f.search.apart (f.stretch k known))
     f.search.finished
 
--- what a share of the fill is of
+-- what a portion of the fill is of
 record Own (f : Finishing) (x : ℕ) : Type 0 where
-  runs : MayRun f.jobs f.windows (share_at f.shares x).job (share_at f.shares x).stretch
-  stretch_known : (share_at f.shares x).stretch < length (stretches f.jobs)
-  some : 1 ≤ (share_at f.shares x).units
-  job : group_of f.found.group_of_job (share_at f.shares x).job ≡ f.top
-  new_job : group_of f.new_jobs (share_at f.shares x).job ≡ length f.found.groups
-  stretch : group_of f.found.group_of_stretch (share_at f.shares x).stretch ≡ f.top
-  new_stretch : group_of f.new_stretches (share_at f.shares x).stretch ≡ length f.found.groups
+  runs : MayRun f.jobs f.windows (portion_at f.portions x).job (portion_at f.portions x).stretch
+  stretch_known : (portion_at f.portions x).stretch < length (stretches f.jobs)
+  some : 1 ≤ (portion_at f.portions x).units
+  job : group_of f.found.group_of_job (portion_at f.portions x).job ≡ f.top
+  new_job : group_of f.new_jobs (portion_at f.portions x).job ≡ length f.found.groups
+  stretch : group_of f.found.group_of_stretch (portion_at f.portions x).stretch ≡ f.top
+  new_stretch : group_of f.new_stretches (portion_at f.portions x).stretch ≡ length f.found.groups
 
 factor_some : (a b : ℕ) → 1 ≤ a * b → 1 ≤ b
 factor_some a zero some = omega arith
 factor_some a (suc b) some = omega arith
 
-own_share : (f : Finishing) (x : ℕ) → x < length f.shares → Own f x
-own_share f x within =
-    let part = f.filled.fill.taken.parts x no_share within in
-    let known : (share_at f.shares x).job < length f.jobs = omega (arith, part.known, f.windows_are.all) in
-    let known_stretch : (share_at f.shares x).stretch < length (stretches f.jobs) = omega (arith, part.known_stretch, f.filled.all_rooms) in
-    let job = chosen_some (group_of f.found.group_of_job (share_at f.shares x).job) f.top (per_work f.group * (job_at f.jobs (share_at f.shares x).job).work)
-    (get_or f.wants (share_at f.shares x).job 0) (f.filled.want (share_at f.shares x).job known)
-    (omega (arith, f.filled.fill.want (share_at f.shares x).job, share_counts (λ share. share.job) f.shares x within, part.some)) in
-    let stretch = chosen_some (group_of f.found.group_of_stretch (share_at f.shares x).stretch) f.top (per_time f.group * length_of f.jobs (share_at f.shares x).stretch)
-    (get_or f.rooms (share_at f.shares x).stretch 0) (f.filled.room (share_at f.shares x).stretch known_stretch)
-    (omega (arith, f.filled.fill.room (share_at f.shares x).stretch, share_counts (λ share. share.stretch) f.shares x within, part.some)) in
+own_portion : (f : Finishing) (x : ℕ) → x < length f.portions → Own f x
+own_portion f x within =
+    let part = f.filled.fill.taken.parts x no_portion within in
+    let known : (portion_at f.portions x).job < length f.jobs = omega (arith, part.known, f.windows_are.all) in
+    let known_stretch : (portion_at f.portions x).stretch < length (stretches f.jobs) = omega (arith, part.known_stretch, f.filled.all_rooms) in
+    let job = chosen_some (group_of f.found.group_of_job (portion_at f.portions x).job) f.top (per_work f.group * (job_at f.jobs (portion_at f.portions x).job).work)
+    (get_or f.wants (portion_at f.portions x).job 0) (f.filled.want (portion_at f.portions x).job known)
+    (omega (arith, f.filled.fill.want (portion_at f.portions x).job, portion_counts (λ portion. portion.job) f.portions x within, part.some)) in
+    let stretch = chosen_some (group_of f.found.group_of_stretch (portion_at f.portions x).stretch) f.top (per_time f.group * length_at f.jobs (portion_at f.portions x).stretch)
+    (get_or f.rooms (portion_at f.portions x).stretch 0) (f.filled.room (portion_at f.portions x).stretch known_stretch)
+    (omega (arith, f.filled.fill.room (portion_at f.portions x).stretch, portion_counts (λ portion. portion.stretch) f.portions x within, part.some)) in
     record {
       runs = record {
         known = known;
-        some = factor_some (per_work f.group) (job_at f.jobs (share_at f.shares x).job).work
-            (omega (arith, job.1, f.filled.fill.want (share_at f.shares x).job, share_counts (λ share. share.job) f.shares x within, part.some));
+        some = factor_some (per_work f.group) (job_at f.jobs (portion_at f.portions x).job).work
+            (omega (arith, job.1, f.filled.fill.want (portion_at f.portions x).job, portion_counts (λ portion. portion.job) f.portions x within, part.some));
         inside = part.inside;
       };
       stretch_known = known_stretch;
       some = part.some;
       job = job.0;
-      new_job = renamed_own (length f.found.groups) f.top (group_of f.found.group_of_job (share_at f.shares x).job) (group_of f.new_jobs (share_at f.shares x).job)
-          (f.job (share_at f.shares x).job known) job.0;
+      new_job = renamed_own (length f.found.groups) f.top (group_of f.found.group_of_job (portion_at f.portions x).job) (group_of f.new_jobs (portion_at f.portions x).job)
+          (f.job (portion_at f.portions x).job known) job.0;
       stretch = stretch.0;
-      new_stretch = renamed_own (length f.found.groups) f.top (group_of f.found.group_of_stretch (share_at f.shares x).stretch) (group_of f.new_stretches (share_at f.shares x).stretch)
-          (f.stretch (share_at f.shares x).stretch known_stretch) stretch.0;
+      new_stretch = renamed_own (length f.found.groups) f.top (group_of f.found.group_of_stretch (portion_at f.portions x).stretch) (group_of f.new_stretches (portion_at f.portions x).stretch)
+          (f.stretch (portion_at f.portions x).stretch known_stretch) stretch.0;
     }
 
 -- the groups before the new one, and the new one
@@ -196,9 +197,9 @@ new_work f = f.work ∙ over_same (λ j. if group_of f.found.group_of_job j == f
     f.search.apart (job_number f j known) (f.job j known))
 
 new_length : (f : Finishing) → f.group.length ≡ length_in f.jobs f.new_stretches (length f.found.groups) (length (stretches f.jobs))
-new_length f = f.length_is ∙ over_same (λ k. if group_of f.found.group_of_stretch k == f.top then length_of f.jobs k else 0)
-    (λ k. if group_of f.new_stretches k == length f.found.groups then length_of f.jobs k else 0) (length (stretches f.jobs))
-    (λ k known. renamed_chosen (length f.found.groups) f.top (group_of f.found.group_of_stretch k) (group_of f.new_stretches k) (length_of f.jobs k)
+new_length f = f.length_is ∙ over_same (λ k. if group_of f.found.group_of_stretch k == f.top then length_at f.jobs k else 0)
+    (λ k. if group_of f.new_stretches k == length f.found.groups then length_at f.jobs k else 0) (length (stretches f.jobs))
+    (λ k known. renamed_chosen (length f.found.groups) f.top (group_of f.found.group_of_stretch k) (group_of f.new_stretches k) (length_at f.jobs k)
     f.search.apart (stretch_number f k known) (f.stretch k known))
 
 -- the group is not faster than the one before it
@@ -206,7 +207,7 @@ new_order : (f : Finishing) (i : ℕ) → i + 1 ≡ length f.found.groups →
     f.group.work * (group_at f.found.groups i).length ≤ (group_at f.found.groups i).work * f.group.length
 new_order f i last =
     let lead = f.search.lead i last f.within in
-    let slow = slow_speed f.jobs f.windows f.found f.top lead.p lead.q lead.shares lead.inside lead.slow in
+    let slow = slow_speed f.jobs f.windows f.found f.top lead.p lead.q lead.portions lead.inside lead.slow in
     speed_order (group_at f.found.groups i).work (group_at f.found.groups i).length f.group.work f.group.length lead.p lead.q lead.some lead.fast
     (omega (arith, slow, ap (λ n. lead.q * n) f.work, ap (λ n. lead.p * n) f.length_is))
 
@@ -222,53 +223,53 @@ each_order f i within =
     (sym is) (f.search.finished.order i (omega (arith, old, is))))
     (λ is. new_order f i (sym is)) (i + 1) within refl)
 
--- the shares before the new ones, and the new ones
-share_before : (f : Finishing) (x : ℕ) → x < length f.found.shares → share_at (f.found.shares ++ f.shares) x ≡ share_at f.found.shares x
-share_before f x within = get_or_append_left f.found.shares f.shares no_share x within
+-- the portions before the new ones, and the new ones
+portion_before : (f : Finishing) (x : ℕ) → x < length f.found.portions → portion_at (f.found.portions ++ f.portions) x ≡ portion_at f.found.portions x
+portion_before f x within = get_or_append_left f.found.portions f.portions no_portion x within
 
-share_here : (f : Finishing) (x : ℕ) → length f.found.shares ≤ x → share_at (f.found.shares ++ f.shares) x ≡ share_at f.shares (x - length f.found.shares)
-share_here f x past = get_or-append_right f.found.shares f.shares (length f.found.shares) x no_share refl past
+portion_here : (f : Finishing) (x : ℕ) → length f.found.portions ≤ x → portion_at (f.found.portions ++ f.portions) x ≡ portion_at f.portions (x - length f.found.portions)
+portion_here f x past = get_or-append_right f.found.portions f.portions (length f.found.portions) x no_portion refl past
 
-all_shares : (f : Finishing) → All (IsShare f.jobs (ended f)) (f.found.shares ++ f.shares)
-all_shares f = All-append (IsShare f.jobs (ended f)) f.found.shares f.shares
+all_portions : (f : Finishing) → All (IsPortion f.jobs (ended f)) (f.found.portions ++ f.portions)
+all_portions f = All-append (IsPortion f.jobs (ended f)) f.found.portions f.portions
     (λ x d within.
-    let share = (kept f).shares x d within in
+    let portion = (kept f).portions x d within in
     record {
-      known = share.known;
-      known_stretch = share.known_stretch;
-      some = share.some;
-      in_window = share.in_window;
-      grouped = omega (arith, share.grouped, length_push f.found.groups f.group);
-      same_group = share.same_group;
+      known = portion.known;
+      known_stretch = portion.known_stretch;
+      some = portion.some;
+      in_window = portion.in_window;
+      grouped = omega (arith, portion.grouped, length_push f.found.groups f.group);
+      same_group = portion.same_group;
     })
-    (All-from_get_or (IsShare f.jobs (ended f)) f.shares no_share (λ x within.
-    let own = own_share f x within in
+    (All-from_get_or (IsPortion f.jobs (ended f)) f.portions no_portion (λ x within.
+    let own = own_portion f x within in
     record {
       known = own.runs.known;
       known_stretch = own.stretch_known;
       some = own.some;
-      in_window = (f.windows_are.are (share_at f.shares x).job (share_at f.shares x).stretch own.runs.known own.stretch_known).0 own.runs.inside;
+      in_window = (f.windows_are.are (portion_at f.portions x).job (portion_at f.portions x).stretch own.runs.known own.stretch_known).0 own.runs.inside;
       grouped = omega (arith, own.new_job, length_push f.found.groups f.group);
       same_group = own.new_stretch ∙ sym own.new_job;
     }))
 
--- an old share is of a finished group
-old_job : (f : Finishing) (x : ℕ) → x < length f.found.shares → group_of f.new_jobs (share_at f.found.shares x).job < length f.found.groups
-old_job f x within = ((kept f).shares x no_share within).grouped
+-- an old portion is of a finished group
+old_job : (f : Finishing) (x : ℕ) → x < length f.found.portions → group_of f.new_jobs (portion_at f.found.portions x).job < length f.found.groups
+old_job f x within = ((kept f).portions x no_portion within).grouped
 
-old_stretch : (f : Finishing) (x : ℕ) → x < length f.found.shares → group_of f.new_stretches (share_at f.found.shares x).stretch < length f.found.groups
+old_stretch : (f : Finishing) (x : ℕ) → x < length f.found.portions → group_of f.new_stretches (portion_at f.found.portions x).stretch < length f.found.groups
 old_stretch f x within =
-    let share = (kept f).shares x no_share within in
-    omega (arith, share.grouped, share.same_group)
+    let portion = (kept f).portions x no_portion within in
+    omega (arith, portion.grouped, portion.same_group)
 
 -- the units of a job are those before and those of the fill
 all_served : (f : Finishing) (j : ℕ) → j < length f.jobs → group_of f.new_jobs j < length (f.found.groups ++ f.group ∷ []) →
-    units_of_job (f.found.shares ++ f.shares) j ≡ per_work (group_at (f.found.groups ++ f.group ∷ []) (group_of f.new_jobs j)) * (job_at f.jobs j).work
+    units_of_job (f.found.portions ++ f.portions) j ≡ per_work (group_at (f.found.groups ++ f.group ∷ []) (group_of f.new_jobs j)) * (job_at f.jobs j).work
 all_served f j known grouped = elim (f.job j known) [
   | inl mine ↦ omega (
     arith,
-    sum_by-append (λ share. if share.job == j then share.units else 0) f.found.shares f.shares,
-    no_units (λ share. share.job) f.found.shares j (λ x within is.
+    sum_by-append (λ portion. if portion.job == j then portion.units else 0) f.found.portions f.portions,
+    no_units (λ portion. portion.job) f.found.portions j (λ x within is.
         omega (arith, old_job f x within, ap (λ n. group_of f.new_jobs n) is, mine.1)),
     f.filled.fill.want j,
     f.served j known,
@@ -281,7 +282,7 @@ all_served f j known grouped = elim (f.job j known) [
       let old : group_of f.new_jobs j < length f.found.groups = omega (arith, grouped, length_push f.found.groups f.group, other.1, apart) in
       omega (
         arith,
-        sum_by-append (λ share. if share.job == j then share.units else 0) f.found.shares f.shares,
+        sum_by-append (λ portion. if portion.job == j then portion.units else 0) f.found.portions f.portions,
         f.filled.fill.want j,
         f.filled.want j known,
         part_other (group_of f.found.group_of_job j) f.top (per_work f.group * (job_at f.jobs j).work) other.0,
@@ -291,88 +292,88 @@ all_served f j known grouped = elim (f.job j known) [
 ]
 
 all_full : (f : Finishing) (k : ℕ) → k < length (stretches f.jobs) → group_of f.new_stretches k < length (f.found.groups ++ f.group ∷ []) →
-    units_in_stretch (f.found.shares ++ f.shares) k ≡ per_time (group_at (f.found.groups ++ f.group ∷ []) (group_of f.new_stretches k)) * length_of f.jobs k
+    units_in_stretch (f.found.portions ++ f.portions) k ≡ per_time (group_at (f.found.groups ++ f.group ∷ []) (group_of f.new_stretches k)) * length_at f.jobs k
 all_full f k known grouped = elim (f.stretch k known) [
   | inl mine ↦ omega (
     arith,
-    sum_by-append (λ share. if share.stretch == k then share.units else 0) f.found.shares f.shares,
-    no_units (λ share. share.stretch) f.found.shares k (λ x within is.
+    sum_by-append (λ portion. if portion.stretch == k then portion.units else 0) f.found.portions f.portions,
+    no_units (λ portion. portion.stretch) f.found.portions k (λ x within is.
         omega (arith, old_stretch f x within, ap (λ n. group_of f.new_stretches n) is, mine.1)),
     f.filled.fill.room k,
     f.full k known,
     f.filled.room k known,
-    part_own (group_of f.found.group_of_stretch k) f.top (per_time f.group * length_of f.jobs k) mine.0,
-    ap (λ g. per_time g * length_of f.jobs k) (group_here f (group_of f.new_stretches k) mine.1),
+    part_own (group_of f.found.group_of_stretch k) f.top (per_time f.group * length_at f.jobs k) mine.0,
+    ap (λ g. per_time g * length_at f.jobs k) (group_here f (group_of f.new_stretches k) mine.1),
   )
   | inr other ↦
       let apart : group_of f.found.group_of_stretch k ≢ length f.found.groups = λ is. other.0 (stretch_number f k known is) in
       let old : group_of f.new_stretches k < length f.found.groups = omega (arith, grouped, length_push f.found.groups f.group, other.1, apart) in
       omega (
         arith,
-        sum_by-append (λ share. if share.stretch == k then share.units else 0) f.found.shares f.shares,
+        sum_by-append (λ portion. if portion.stretch == k then portion.units else 0) f.found.portions f.portions,
         f.filled.fill.room k,
         f.filled.room k known,
-        part_other (group_of f.found.group_of_stretch k) f.top (per_time f.group * length_of f.jobs k) other.0,
+        part_other (group_of f.found.group_of_stretch k) f.top (per_time f.group * length_at f.jobs k) other.0,
         (kept f).full k known old,
-        ap (λ g. per_time g * length_of f.jobs k) (group_before f (group_of f.new_stretches k) old),
+        ap (λ g. per_time g * length_at f.jobs k) (group_before f (group_of f.new_stretches k) old),
       )
 ]
 
--- a fact of a pair of shares, from that of the four kinds of pairs
-each_pair : (f : Finishing) (R : ℕ → ℕ → Share → Share → Type 0) →
-    ((x y : ℕ) → x < length f.found.shares → y < length f.found.shares → R x y (share_at f.found.shares x) (share_at f.found.shares y)) →
-    ((x y : ℕ) → x < length f.found.shares → length f.found.shares ≤ y → y - length f.found.shares < length f.shares →
-    R x y (share_at f.found.shares x) (share_at f.shares (y - length f.found.shares))) →
-    ((x y : ℕ) → length f.found.shares ≤ x → x - length f.found.shares < length f.shares → y < length f.found.shares →
-    R x y (share_at f.shares (x - length f.found.shares)) (share_at f.found.shares y)) →
-    ((x y : ℕ) → length f.found.shares ≤ x → x - length f.found.shares < length f.shares →
-    length f.found.shares ≤ y → y - length f.found.shares < length f.shares →
-    R x y (share_at f.shares (x - length f.found.shares)) (share_at f.shares (y - length f.found.shares))) →
-    (x y : ℕ) → x < length (f.found.shares ++ f.shares) → y < length (f.found.shares ++ f.shares) →
-    R x y (share_at (f.found.shares ++ f.shares) x) (share_at (f.found.shares ++ f.shares) y)
-each_pair f R both first second neither x y within within' = elim (cases_lt x (length f.found.shares)) [
-  | inl old ↦ subst (λ (s : Share). R x y s (share_at (f.found.shares ++ f.shares) y)) (sym (share_before f x old)) (elim (cases_lt y (length f.found.shares)) [
-    | inl old' ↦ subst (R x y (share_at f.found.shares x)) (sym (share_before f y old')) (both x y old old')
-    | inr new' ↦ subst (R x y (share_at f.found.shares x)) (sym (share_here f y new')) (first x y old new' (omega (arith, within', length-append f.found.shares f.shares)))
+-- a fact of a pair of portions, from that of the four kinds of pairs
+each_pair : (f : Finishing) (R : ℕ → ℕ → Portion → Portion → Type 0) →
+    ((x y : ℕ) → x < length f.found.portions → y < length f.found.portions → R x y (portion_at f.found.portions x) (portion_at f.found.portions y)) →
+    ((x y : ℕ) → x < length f.found.portions → length f.found.portions ≤ y → y - length f.found.portions < length f.portions →
+    R x y (portion_at f.found.portions x) (portion_at f.portions (y - length f.found.portions))) →
+    ((x y : ℕ) → length f.found.portions ≤ x → x - length f.found.portions < length f.portions → y < length f.found.portions →
+    R x y (portion_at f.portions (x - length f.found.portions)) (portion_at f.found.portions y)) →
+    ((x y : ℕ) → length f.found.portions ≤ x → x - length f.found.portions < length f.portions →
+    length f.found.portions ≤ y → y - length f.found.portions < length f.portions →
+    R x y (portion_at f.portions (x - length f.found.portions)) (portion_at f.portions (y - length f.found.portions))) →
+    (x y : ℕ) → x < length (f.found.portions ++ f.portions) → y < length (f.found.portions ++ f.portions) →
+    R x y (portion_at (f.found.portions ++ f.portions) x) (portion_at (f.found.portions ++ f.portions) y)
+each_pair f R both first second neither x y within within' = elim (cases_lt x (length f.found.portions)) [
+  | inl old ↦ subst (λ (s : Portion). R x y s (portion_at (f.found.portions ++ f.portions) y)) (sym (portion_before f x old)) (elim (cases_lt y (length f.found.portions)) [
+    | inl old' ↦ subst (R x y (portion_at f.found.portions x)) (sym (portion_before f y old')) (both x y old old')
+    | inr new' ↦ subst (R x y (portion_at f.found.portions x)) (sym (portion_here f y new')) (first x y old new' (omega (arith, within', length-append f.found.portions f.portions)))
   ])
   | inr new ↦
-      let in_range : x - length f.found.shares < length f.shares = omega (arith, within, length-append f.found.shares f.shares) in
-      subst (λ (s : Share). R x y s (share_at (f.found.shares ++ f.shares) y)) (sym (share_here f x new)) (elim (cases_lt y (length f.found.shares)) [
-        | inl old' ↦ subst (R x y (share_at f.shares (x - length f.found.shares))) (sym (share_before f y old')) (second x y new in_range old')
-        | inr new' ↦ subst (R x y (share_at f.shares (x - length f.found.shares))) (sym (share_here f y new'))
-            (neither x y new in_range new' (omega (arith, within', length-append f.found.shares f.shares)))
+      let in_range : x - length f.found.portions < length f.portions = omega (arith, within, length-append f.found.portions f.portions) in
+      subst (λ (s : Portion). R x y s (portion_at (f.found.portions ++ f.portions) y)) (sym (portion_here f x new)) (elim (cases_lt y (length f.found.portions)) [
+        | inl old' ↦ subst (R x y (portion_at f.portions (x - length f.found.portions))) (sym (portion_before f y old')) (second x y new in_range old')
+        | inr new' ↦ subst (R x y (portion_at f.portions (x - length f.found.portions))) (sym (portion_here f y new'))
+            (neither x y new in_range new' (omega (arith, within', length-append f.found.portions f.portions)))
       ])
 ]
 
-all_in_order : (f : Finishing) (x y : ℕ) → x < y → y < length (f.found.shares ++ f.shares) →
-    (share_at (f.found.shares ++ f.shares) x).stretch ≡ (share_at (f.found.shares ++ f.shares) y).stretch →
-    Precedes f.jobs (share_at (f.found.shares ++ f.shares) x).job (share_at (f.found.shares ++ f.shares) y).job
+all_in_order : (f : Finishing) (x y : ℕ) → x < y → y < length (f.found.portions ++ f.portions) →
+    (portion_at (f.found.portions ++ f.portions) x).stretch ≡ (portion_at (f.found.portions ++ f.portions) y).stretch →
+    Precedes f.jobs (portion_at (f.found.portions ++ f.portions) x).job (portion_at (f.found.portions ++ f.portions) y).job
 all_in_order f x y before within =
     each_pair f (λ i j one other. i < j → one.stretch ≡ other.stretch → Precedes f.jobs one.job other.job)
     (λ i j old old' less same. f.search.finished.in_order i j less old' same)
     (λ i j old new' in_range less same.
-    absurd (omega (arith, old_stretch f i old, (own_share f (j - length f.found.shares) in_range).new_stretch, ap (λ n. group_of f.new_stretches n) same)))
+    absurd (omega (arith, old_stretch f i old, (own_portion f (j - length f.found.portions) in_range).new_stretch, ap (λ n. group_of f.new_stretches n) same)))
     (λ i j new in_range old' less same. absurd (omega (arith, less, new, old')))
     (λ i j new in_range new' in_range' less same.
-    f.filled.fill.taken.ordered (i - length f.found.shares) (j - length f.found.shares) no_share (omega (arith, less, new)) in_range' same)
+    f.filled.fill.taken.ordered (i - length f.found.portions) (j - length f.found.portions) no_portion (omega (arith, less, new)) in_range' same)
     x y (omega (arith, before, within)) within before
 
-all_earliest : (f : Finishing) (x y : ℕ) → x < length (f.found.shares ++ f.shares) → y < length (f.found.shares ++ f.shares) →
-    group_of f.new_jobs (share_at (f.found.shares ++ f.shares) x).job ≡ group_of f.new_jobs (share_at (f.found.shares ++ f.shares) y).job →
-    IsIn f.windows (share_at (f.found.shares ++ f.shares) x).job (share_at (f.found.shares ++ f.shares) y).stretch →
-    (share_at (f.found.shares ++ f.shares) y).stretch < (share_at (f.found.shares ++ f.shares) x).stretch →
-    ComesFirst f.jobs (share_at (f.found.shares ++ f.shares) y).job (share_at (f.found.shares ++ f.shares) x).job
+all_earliest : (f : Finishing) (x y : ℕ) → x < length (f.found.portions ++ f.portions) → y < length (f.found.portions ++ f.portions) →
+    group_of f.new_jobs (portion_at (f.found.portions ++ f.portions) x).job ≡ group_of f.new_jobs (portion_at (f.found.portions ++ f.portions) y).job →
+    IsIn f.windows (portion_at (f.found.portions ++ f.portions) x).job (portion_at (f.found.portions ++ f.portions) y).stretch →
+    (portion_at (f.found.portions ++ f.portions) y).stretch < (portion_at (f.found.portions ++ f.portions) x).stretch →
+    ComesFirst f.jobs (portion_at (f.found.portions ++ f.portions) y).job (portion_at (f.found.portions ++ f.portions) x).job
 all_earliest f x y within within' =
     each_pair f (λ i j one other. group_of f.new_jobs one.job ≡ group_of f.new_jobs other.job → IsIn f.windows one.job other.stretch →
     other.stretch < one.stretch → ComesFirst f.jobs other.job one.job)
     (λ i j old old' same inside before. (kept f).earliest i j old old' same inside before)
     (λ i j old new' in_range same inside before.
-    absurd (omega (arith, old_job f i old, (own_share f (j - length f.found.shares) in_range).new_job, same)))
+    absurd (omega (arith, old_job f i old, (own_portion f (j - length f.found.portions) in_range).new_job, same)))
     (λ i j new in_range old' same inside before.
-    absurd (omega (arith, old_job f j old', (own_share f (i - length f.found.shares) in_range).new_job, same)))
+    absurd (omega (arith, old_job f j old', (own_portion f (i - length f.found.portions) in_range).new_job, same)))
     (λ i j new in_range new' in_range' same inside before.
-    (f.filled.fill.taken.early (i - length f.found.shares) no_share in_range (share_at f.shares (j - length f.found.shares)).stretch inside.from before).before
-    (j - length f.found.shares) no_share in_range' refl)
+    (f.filled.fill.taken.early (i - length f.found.portions) no_portion in_range (portion_at f.portions (j - length f.found.portions)).stretch inside.from before).before
+    (j - length f.found.portions) no_portion in_range' refl)
     x y within within'
 
 abbrev one_if : Bool → ℕ
@@ -419,12 +420,12 @@ want_counted number top units want is = elim (cases_eq number top) [
   | inr other ↦ counts_nothing want (number == top) (is ∙ part_other number top units other)
 ]
 
-all_few : (f : Finishing) → length (f.found.shares ++ f.shares) ≤
+all_few : (f : Finishing) → length (f.found.portions ++ f.portions) ≤
     finished_count f.new_jobs (length (f.found.groups ++ f.group ∷ [])) (length f.jobs)
     + finished_count f.new_stretches (length (f.found.groups ++ f.group ∷ [])) (length (stretches f.jobs))
 all_few f = omega (
   arith,
-  length-append f.found.shares f.shares,
+  length-append f.found.portions f.portions,
   (kept f).few,
   f.filled.fill.few,
   -- stretches
@@ -433,7 +434,7 @@ all_few f = omega (
   f.filled.all_rooms,
   over_ones (length (stretches f.jobs)),
   over_at_most (λ k. 1) (λ k. one_if (get_or f.rooms k 0 == 0) + one_if (group_of f.found.group_of_stretch k == f.top)) (length (stretches f.jobs))
-      (λ k known. room_counted (group_of f.found.group_of_stretch k) f.top (per_time f.group * length_of f.jobs k) (get_or f.rooms k 0) (f.filled.room k known)),
+      (λ k known. room_counted (group_of f.found.group_of_stretch k) f.top (per_time f.group * length_at f.jobs k) (get_or f.rooms k 0) (f.filled.room k known)),
   over_add (λ k. one_if (get_or f.rooms k 0 == 0)) (λ k. one_if (group_of f.found.group_of_stretch k == f.top)) (length (stretches f.jobs)),
   ap (λ n. over n (λ k. one_if (get_or f.rooms k 0 == 0))) f.filled.all_rooms,
   over_list (λ room. one_if (room == 0)) f.rooms 0,
@@ -464,7 +465,7 @@ all_finished f = record {
   works = each_group f (λ i g. g.work ≡ work_in f.jobs f.new_jobs i (length f.jobs)) (kept f).works (new_work f);
   lengths = each_group f (λ i g. g.length ≡ length_in f.jobs f.new_stretches i (length (stretches f.jobs))) (kept f).lengths (new_length f);
   order = each_order f;
-  shares = all_shares f;
+  portions = all_portions f;
   served = all_served f;
   full = all_full f;
   in_order = all_in_order f;
@@ -472,37 +473,49 @@ all_finished f = record {
   few = all_few f;
 }
 
+-- what has a later group's number had it before, and what goes with it in that group goes with it still
+was_there : (groups top c one other : ℕ) → groups ≤ top → top < c → IsRenamed top groups one other → other ≡ c → one ≡ c
+was_there groups top c one other apart above renamed is = renamed_later groups top one other apart renamed (omega (arith, is, above)) ∙ is
+
+goes_along : (groups top c one other one' other' : ℕ) → groups ≤ top → top < c → IsRenamed top groups one other → IsRenamed top groups one' other' →
+    (one ≡ c → one' ≡ c) → other ≡ c → other' ≡ c
+goes_along groups top c one other one' other' apart above renamed renamed' along is =
+    let there = along (was_there groups top c one other apart above renamed is) in
+    renamed_same groups top one' other' renamed' (λ same. omega (arith, same, there, above)) ∙ there
+
+job_was : (f : Finishing) (c j : ℕ) → f.top < c → j < length f.jobs → group_of f.new_jobs j ≡ c → group_of f.found.group_of_job j ≡ c
+job_was f c j above known =
+    was_there (length f.found.groups) f.top c (group_of f.found.group_of_job j) (group_of f.new_jobs j) f.search.apart above (f.job j known)
+
+stretch_was : (f : Finishing) (c k : ℕ) → f.top < c → k < length (stretches f.jobs) → group_of f.new_stretches k ≡ c → group_of f.found.group_of_stretch k ≡ c
+stretch_was f c k above known =
+    was_there (length f.found.groups) f.top c (group_of f.found.group_of_stretch k) (group_of f.new_stretches k) f.search.apart above (f.stretch k known)
+
 -- other groups are as fast and as slow as they were
-kept_fast : (f : Finishing) (c p q : ℕ) (shares : List Share) → f.top < c → LieInWindows f.jobs f.windows shares →
-    IsFast f.jobs f.found c p q shares → IsFast f.jobs (ended f) c p q shares
-kept_fast f c p q shares above inside fast = record {
-  full = λ k known is. fast.full k known
-      (renamed_later (length f.found.groups) f.top (group_of f.found.group_of_stretch k) (group_of f.new_stretches k) f.search.apart (f.stretch k known) (omega (arith, is, above)) ∙ is);
-  own = λ x within is.
+kept_fast : (f : Finishing) (c p q : ℕ) (portions : List Portion) → f.top < c → LieInWindows f.jobs f.windows portions →
+    IsFast f.jobs f.found c p q portions → IsFast f.jobs (ended f) c p q portions
+kept_fast f c p q portions above inside fast = record {
+  full = λ k known is. fast.full k known (stretch_was f c k above known is);
+  own = λ x within.
       let lies = inside x within in
-      let job = fast.own x within
-      (renamed_later (length f.found.groups) f.top (group_of f.found.group_of_stretch (share_at shares x).stretch) (group_of f.new_stretches (share_at shares x).stretch)
-      f.search.apart (f.stretch (share_at shares x).stretch lies.1) (omega (arith, is, above)) ∙ is) in
-      renamed_same (length f.found.groups) f.top (group_of f.found.group_of_job (share_at shares x).job) (group_of f.new_jobs (share_at shares x).job)
-      (f.job (share_at shares x).job lies.0) (λ same. omega (arith, same, job, above)) ∙ job;
-  most = λ j known is. fast.most j known
-      (renamed_later (length f.found.groups) f.top (group_of f.found.group_of_job j) (group_of f.new_jobs j) f.search.apart (f.job j known) (omega (arith, is, above)) ∙ is);
+      let j = (portion_at portions x).job in
+      let k = (portion_at portions x).stretch in
+      goes_along (length f.found.groups) f.top c (group_of f.found.group_of_stretch k) (group_of f.new_stretches k)
+      (group_of f.found.group_of_job j) (group_of f.new_jobs j) f.search.apart above (f.stretch k lies.1) (f.job j lies.0) (fast.own x within);
+  most = λ j known is. fast.most j known (job_was f c j above known is);
 }
 
-kept_slow : (f : Finishing) (c p q : ℕ) (shares : List Share) → f.top < c → LieInWindows f.jobs f.windows shares →
-    IsSlow f.jobs f.found c p q shares → IsSlow f.jobs (ended f) c p q shares
-kept_slow f c p q shares above inside slow = record {
-  served = λ j known is. slow.served j known
-      (renamed_later (length f.found.groups) f.top (group_of f.found.group_of_job j) (group_of f.new_jobs j) f.search.apart (f.job j known) (omega (arith, is, above)) ∙ is);
-  own = λ x within is.
+kept_slow : (f : Finishing) (c p q : ℕ) (portions : List Portion) → f.top < c → LieInWindows f.jobs f.windows portions →
+    IsSlow f.jobs f.found c p q portions → IsSlow f.jobs (ended f) c p q portions
+kept_slow f c p q portions above inside slow = record {
+  served = λ j known is. slow.served j known (job_was f c j above known is);
+  own = λ x within.
       let lies = inside x within in
-      let stretch = slow.own x within
-      (renamed_later (length f.found.groups) f.top (group_of f.found.group_of_job (share_at shares x).job) (group_of f.new_jobs (share_at shares x).job)
-      f.search.apart (f.job (share_at shares x).job lies.0) (omega (arith, is, above)) ∙ is) in
-      renamed_same (length f.found.groups) f.top (group_of f.found.group_of_stretch (share_at shares x).stretch) (group_of f.new_stretches (share_at shares x).stretch)
-      (f.stretch (share_at shares x).stretch lies.1) (λ same. omega (arith, same, stretch, above)) ∙ stretch;
-  room = λ k known is. slow.room k known
-      (renamed_later (length f.found.groups) f.top (group_of f.found.group_of_stretch k) (group_of f.new_stretches k) f.search.apart (f.stretch k known) (omega (arith, is, above)) ∙ is);
+      let j = (portion_at portions x).job in
+      let k = (portion_at portions x).stretch in
+      goes_along (length f.found.groups) f.top c (group_of f.found.group_of_job j) (group_of f.new_jobs j)
+      (group_of f.found.group_of_stretch k) (group_of f.new_stretches k) f.search.apart above (f.job j lies.0) (f.stretch k lies.1) (slow.own x within);
+  room = λ k known is. slow.room k known (stretch_was f c k above known is);
 }
 
 -- the finished group is not slower than the next one
@@ -513,17 +526,17 @@ new_lead f i is more =
     record {
       p = old.p;
       q = old.q;
-      shares = old.shares;
+      portions = old.portions;
       some = old.some;
       inside = old.inside;
       fast = subst (λ (g : Group). old.p * g.length ≤ old.q * g.work) (sym (group_here f i here))
           (omega (
             arith,
-            fast_speed f.jobs f.windows f.found f.top old.p old.q old.shares old.inside old.fast,
+            fast_speed f.jobs f.windows f.found f.top old.p old.q old.portions old.inside old.fast,
             ap (λ n. old.q * n) f.work,
             ap (λ n. old.p * n) f.length_is,
           ));
-      slow = kept_slow f (f.top + 1) old.p old.q old.shares (omega arith) old.inside old.slow;
+      slow = kept_slow f (f.top + 1) old.p old.q old.portions (omega arith) old.inside old.slow;
     }
 
 -- a later group's stretch and job stay
@@ -612,11 +625,11 @@ finish_search f = record {
       record {
         p = old.p;
         q = old.q;
-        shares = old.shares;
+        portions = old.portions;
         some = old.some;
         inside = old.inside;
-        fast = kept_fast f c old.p old.q old.shares (omega arith) old.inside old.fast;
-        slow = kept_slow f (c + 1) old.p old.q old.shares (omega arith) old.inside old.slow;
+        fast = kept_fast f c old.p old.q old.portions (omega arith) old.inside old.fast;
+        slow = kept_slow f (c + 1) old.p old.q old.portions (omega arith) old.inside old.slow;
       };
   lead = λ i is within. new_lead f i is (omega arith);
   finished = all_finished f;

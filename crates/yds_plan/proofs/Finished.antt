@@ -4,15 +4,16 @@ use Rattle.std.specs.Prelude.{if◌then◌else◌, nat_lt}
 use Rattle.std.proofs.lemmas.Bool.Decides.{nat_tests}
 use Rattle.yds_model.specs.Job.{Job, job_at}
 use Rattle.yds_model.specs.Event.{stretches}
-use Rattle.yds_plan.specs.declared.finder_windows.Window.{Window}
-use Rattle.yds_plan.specs.Found.{Found, share_at, no_share, group_at, group_of, length_of, per_time, per_work}
+use Rattle.yds_events.specs.declared.window.Window.{Window}
+use Rattle.yds_plan.specs.Found.{Found, portion_at, no_portion, group_at, group_of, per_time, per_work}
+use Rattle.yds_events.specs.Window.{length_at}
 use Rattle.yds_plan.specs.Search.{IsFinished}
 use Rattle.yds_model.proofs.Horizon.{part_other}
 use Rattle.yds_plan.proofs.Ranges.{over_same}
 
--- the same groups and shares, with other jobs and stretches
+-- the same groups and portions, with other jobs and stretches
 abbrev pub moved : Found → List ℕ → List ℕ → Found
-moved found jobs stretches = record { groups = found.groups; group_of_job = jobs; group_of_stretch = stretches; shares = found.shares }
+moved found jobs stretches = record { groups = found.groups; group_of_job = jobs; group_of_stretch = stretches; portions = found.portions }
 
 -- the same group, or one that isn't finished as before
 abbrev pub AreAlike : ℕ → ℕ → ℕ → Type 0
@@ -55,25 +56,25 @@ kept_finished jobs windows found jobs' stretches' alike alike' finished = record
   works = λ i within. finished.works i within ∙ over_same (λ j. if group_of found.group_of_job j == i then (job_at jobs j).work else 0)
       (λ j. if group_of jobs' j == i then (job_at jobs j).work else 0) (length jobs)
       (λ j below. alike_chosen (length found.groups) (group_of found.group_of_job j) (group_of jobs' j) i (job_at jobs j).work within (alike j below));
-  lengths = λ i within. finished.lengths i within ∙ over_same (λ k. if group_of found.group_of_stretch k == i then length_of jobs k else 0)
-      (λ k. if group_of stretches' k == i then length_of jobs k else 0) (length (stretches jobs))
-      (λ k below. alike_chosen (length found.groups) (group_of found.group_of_stretch k) (group_of stretches' k) i (length_of jobs k) within (alike' k below));
+  lengths = λ i within. finished.lengths i within ∙ over_same (λ k. if group_of found.group_of_stretch k == i then length_at jobs k else 0)
+      (λ k. if group_of stretches' k == i then length_at jobs k else 0) (length (stretches jobs))
+      (λ k below. alike_chosen (length found.groups) (group_of found.group_of_stretch k) (group_of stretches' k) i (length_at jobs k) within (alike' k below));
   order = finished.order;
-  shares = λ x d within.
-      let share = finished.shares x d within in
-      let job : group_of found.group_of_job (get_or found.shares x d).job ≡ group_of jobs' (get_or found.shares x d).job =
-      alike_before (length found.groups) (group_of found.group_of_job (get_or found.shares x d).job) (group_of jobs' (get_or found.shares x d).job)
-      (alike (get_or found.shares x d).job share.known) share.grouped in
-      let stretch : group_of found.group_of_stretch (get_or found.shares x d).stretch ≡ group_of stretches' (get_or found.shares x d).stretch =
-      alike_before (length found.groups) (group_of found.group_of_stretch (get_or found.shares x d).stretch) (group_of stretches' (get_or found.shares x d).stretch)
-      (alike' (get_or found.shares x d).stretch share.known_stretch) (omega (arith, share.grouped, share.same_group)) in
+  portions = λ x d within.
+      let portion = finished.portions x d within in
+      let job : group_of found.group_of_job (get_or found.portions x d).job ≡ group_of jobs' (get_or found.portions x d).job =
+      alike_before (length found.groups) (group_of found.group_of_job (get_or found.portions x d).job) (group_of jobs' (get_or found.portions x d).job)
+      (alike (get_or found.portions x d).job portion.known) portion.grouped in
+      let stretch : group_of found.group_of_stretch (get_or found.portions x d).stretch ≡ group_of stretches' (get_or found.portions x d).stretch =
+      alike_before (length found.groups) (group_of found.group_of_stretch (get_or found.portions x d).stretch) (group_of stretches' (get_or found.portions x d).stretch)
+      (alike' (get_or found.portions x d).stretch portion.known_stretch) (omega (arith, portion.grouped, portion.same_group)) in
       record {
-        known = share.known;
-        known_stretch = share.known_stretch;
-        some = share.some;
-        in_window = share.in_window;
-        grouped = omega (arith, share.grouped, job);
-        same_group = sym stretch ∙ share.same_group ∙ job;
+        known = portion.known;
+        known_stretch = portion.known_stretch;
+        some = portion.some;
+        in_window = portion.in_window;
+        grouped = omega (arith, portion.grouped, job);
+        same_group = sym stretch ∙ portion.same_group ∙ job;
       };
   served = λ j known group.
       let same = alike_finished (length found.groups) (group_of found.group_of_job j) (group_of jobs' j) (alike j known) group in
@@ -82,14 +83,14 @@ kept_finished jobs windows found jobs' stretches' alike alike' finished = record
   full = λ k known group.
       let same = alike_finished (length found.groups) (group_of found.group_of_stretch k) (group_of stretches' k) (alike' k known) group in
       finished.full k known (omega (arith, same, group))
-      ∙ ap (λ n. per_time (group_at found.groups n) * length_of jobs k) same;
+      ∙ ap (λ n. per_time (group_at found.groups n) * length_at jobs k) same;
   in_order = finished.in_order;
   earliest = λ x y within within' same inside before.
-      let one = finished.shares x no_share within in
-      let other = finished.shares y no_share within' in
+      let one = finished.portions x no_portion within in
+      let other = finished.portions y no_portion within' in
       finished.earliest x y within within'
-      (alike_before (length found.groups) (group_of found.group_of_job (share_at found.shares x).job) (group_of jobs' (share_at found.shares x).job) (alike (share_at found.shares x).job one.known) one.grouped
-      ∙ same ∙ sym (alike_before (length found.groups) (group_of found.group_of_job (share_at found.shares y).job) (group_of jobs' (share_at found.shares y).job) (alike (share_at found.shares y).job other.known) other.grouped))
+      (alike_before (length found.groups) (group_of found.group_of_job (portion_at found.portions x).job) (group_of jobs' (portion_at found.portions x).job) (alike (portion_at found.portions x).job one.known) one.grouped
+      ∙ same ∙ sym (alike_before (length found.groups) (group_of found.group_of_job (portion_at found.portions y).job) (group_of jobs' (portion_at found.portions y).job) (alike (portion_at found.portions y).job other.known) other.grouped))
       inside before;
   few = omega (
     arith,

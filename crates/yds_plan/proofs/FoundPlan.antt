@@ -4,22 +4,24 @@ use Rattle.std.specs.Prelude.{Result, Ok, Err, IfOk}
 use Rattle.std.specs.List.{All, Contains, sum_by, range_with_len}
 use Rattle.std.proofs.lemmas.List.{length-map}
 use Rattle.std.proofs.lemmas.List.Concat.{length-flat_map}
-use Rattle.std.proofs.lemmas.List.Elements.{All-contains}
+use Rattle.std.proofs.lemmas.List.Elements.{All-contains, All-weaker}
 use Rattle.yds_model.specs.Numbers.{Each}
 use Rattle.yds_model.specs.Job.{Job, job_at, work_of}
-use Rattle.yds_model.specs.Slot.{WrittenSlot, no_slot, no_written_slot, IsScale, slot_at_scale, slots_at, written_slot_at}
+use Rattle.yds_model.specs.Scale.{Fraction}
+use Rattle.yds_model.specs.Slot.{WrittenSlot, no_slot, no_written_slot, IsSolid, IsScale, slot_at_scale, slots_at, written_slot_at}
 use Rattle.yds_model.specs.Level.{Level, level_at, all_members}
 use Rattle.yds_model.specs.Proper.{PiecesStand, StandsOnce, SumsAgree, IsWindowCovered, HasLevelSpeed, AreLevels}
 use Rattle.yds_model.specs.Event.{stretches}
-use Rattle.yds_model.specs.Plan.{IsSlower, DontTouch, Rise, HasLevelDenominators, IsPlan}
+use Rattle.yds_model.specs.Plan.{IsSlower, DontTouch, Rise, IsOver, HasLevelDenominators, IsPlan}
 use Rattle.yds_model.proofs.Sums.{sum_by_same}
 use Rattle.yds_model.proofs.Fractions.{same_through}
 use Rattle.yds_model.proofs.Divisor.{lowest_terms_are_one}
 use Rattle.yds_slots.specs.Schedule.{WrittenSchedule}
-use Rattle.yds_plan.specs.Found.{Found, IsFound, group_of, group_at, stretch_at, length_of}
-use Rattle.yds_plan.specs.Laid.{level_of, levels_among, together, members_of, stretches_of, level_numbered, levels_of, slots_in, slots_of, shares_in}
+use Rattle.yds_plan.specs.Found.{Found, IsFound, group_of, group_at}
+use Rattle.yds_events.specs.Window.{stretch_of, length_at}
+use Rattle.yds_plan.specs.Laid.{level_of, levels_among, together, members_of, stretches_of, level_numbered, levels_of, slots_in_stretch, slots_of, portions_in}
 use Rattle.yds_plan.proofs.KeySums.{count_all, split_all}
-use Rattle.yds_plan.proofs.Stretches.{release_outside, deadline_outside, stretch_with, few_stretches}
+use Rattle.yds_events.proofs.Neighbours.{release_outside, deadline_outside, stretch_with, few_stretches}
 use Rattle.yds_plan.proofs.Blocks.{all_of_blocks}
 use Rattle.yds_plan.proofs.Served.{Serves, all_serve}
 use Rattle.yds_plan.proofs.Filled.{IsOverTerms, over_terms, slots_of_jobs, slots_from_length}
@@ -31,6 +33,11 @@ use Rattle.yds_plan.proofs.LevelPieces.{pieces_apart, pieces_run, pieces_dont_to
 -- a speed of work over units, as one of work over length
 at_speed : (work time p q g w l : ℕ) → work * q ≡ p * time → p * g ≡ w → q * g ≡ l → work * l ≡ w * time
 at_speed work time p q g w l e f h = omega (arith, ap (λ n. n * g) e, ap (λ n. n * time) f, ap (λ n. work * n) h)
+
+-- what is whole or over some parts has some
+over_some : (den : ℕ) (x : Fraction) → 1 ≤ den → IsOver den x → 1 ≤ x.den
+over_some den x some (inl whole) = omega (arith, ap (λ (one : Fraction). one.den) whole)
+over_some den x some (inr same) = omega (arith, same)
 
 module _ (jobs : List Job) (found : Found) (is : IsFound jobs found) where
   abbrev count_of_levels : ℕ
@@ -60,9 +67,9 @@ module _ (jobs : List Job) (found : Found) (is : IsFound jobs found) where
   members_work l known =
       group_sum found.groups found.group_of_job (λ j. (job_at jobs j).work) (length jobs) l (λ group. group.work) is.works known
 
-  stretches_length : (l : ℕ) → l < count_of_levels → level_length l ≡ sum_by (length_of jobs) (stretches_of jobs found l)
+  stretches_length : (l : ℕ) → l < count_of_levels → level_length l ≡ sum_by (length_at jobs) (stretches_of jobs found l)
   stretches_length l known =
-      group_sum found.groups found.group_of_stretch (length_of jobs) (length (stretches jobs)) l (λ group. group.length) is.lengths known
+      group_sum found.groups found.group_of_stretch (length_at jobs) (length (stretches jobs)) l (λ group. group.length) is.lengths known
 
   -- by place
   place : (P : ℕ → Level → Type 0) → ((l : ℕ) → l < count_of_levels → P l (level_numbered jobs found l)) →
@@ -127,16 +134,16 @@ module _ (jobs : List Job) (found : Found) (is : IsFound jobs found) where
   windows_covered number known i within contains time from below =
       let member = member_there i number within contains in
       let k = stretch_with jobs number time known from below in
-      let released : (job_at jobs number).release ≤ (stretch_at jobs k.0).from =
-      elim (release_outside jobs number k.0 known k.1) [ inl h ↦ h | inr h ↦ absurd (omega (arith, k.3)) ] in
-      let due : (stretch_at jobs k.0).to ≤ (job_at jobs number).deadline =
-      elim (deadline_outside jobs number k.0 known k.1) [ inl h ↦ absurd (omega (arith, k.2)) | inr h ↦ h ] in
-      let first = is.windows number k.0 known (has_work jobs found is number known member.grouped) k.1 (record { released = released; due = due }) in
+      let released : (job_at jobs number).release ≤ (stretch_of jobs k.0).from =
+      elim (release_outside jobs number k.0 known k.1.known) [ inl h ↦ h | inr h ↦ absurd (omega (arith, k.1.below)) ] in
+      let due : (stretch_of jobs k.0).to ≤ (job_at jobs number).deadline =
+      elim (deadline_outside jobs number k.0 known k.1.known) [ inl h ↦ absurd (omega (arith, k.1.from)) | inr h ↦ h ] in
+      let first = is.windows number k.0 known (has_work jobs found is number known member.grouped) k.1.known (record { released = released; due = due }) in
       let grouped : group_of found.group_of_stretch k.0 < length found.groups = omega (arith, member.grouped) in
-      stretch_covered jobs found k.0 (i + 1) time k.1
+      stretch_covered jobs found k.0 (i + 1) time k.1.known
       (rw (place_level found.groups (group_of found.group_of_stretch k.0) grouped)
       (omega (arith, level_rises found.groups _ _ first, member.level)))
-      (omega (arith, levels_length jobs found)) (k.2, k.3)
+      (omega (arith, levels_length jobs found)) (k.1.from, k.1.below)
 
   -- a level's speed is that of the group of its members' stretches
   group_speed : (i g : ℕ) → i < count_of_levels → g < length found.groups → level_of found.groups g ≡ i →
@@ -168,16 +175,16 @@ module _ (jobs : List Job) (found : Found) (is : IsFound jobs found) where
       let member = each_member jobs found l known k d within in
       has_work jobs found is _ member.known member.grouped))
 
-  pub slots_length : length (slots_of jobs found) ≡ length found.shares
+  pub slots_length : length (slots_of jobs found) ≡ length found.portions
   slots_length =
-      length-flat_map (slots_in jobs found) (range_with_len 0 (length (stretches jobs)))
-      ∙ sum_by_same (λ k. length (slots_in jobs found k)) (λ k. sum_by (λ share. 1) (shares_in found.shares k))
+      length-flat_map (slots_in_stretch jobs found) (range_with_len 0 (length (stretches jobs)))
+      ∙ sum_by_same (λ k. length (slots_in_stretch jobs found k)) (λ k. sum_by (λ portion. 1) (portions_in found.portions k))
       (range_with_len 0 (length (stretches jobs)))
-      (λ k d within. slots_from_length _ _ 0 (shares_in found.shares (get_or (range_with_len 0 (length (stretches jobs))) k d))
-      ∙ sym (count_all (shares_in found.shares (get_or (range_with_len 0 (length (stretches jobs))) k d))))
-      ∙ split_all (λ share. share.stretch) (λ share. 1) (length (stretches jobs)) found.shares
-      (λ k d within. (is.shares k d within).known_stretch)
-      ∙ count_all found.shares
+      (λ k d within. slots_from_length _ _ 0 (portions_in found.portions (get_or (range_with_len 0 (length (stretches jobs))) k d))
+      ∙ sym (count_all (portions_in found.portions (get_or (range_with_len 0 (length (stretches jobs))) k d))))
+      ∙ split_all (λ portion. portion.stretch) (λ portion. 1) (length (stretches jobs)) found.portions
+      (λ k d within. (is.portions k d within).known_stretch)
+      ∙ count_all found.portions
 
   -- a slot is written over the terms of the group of its stretch
   abbrev IsWritten : WrittenSlot → Type 0
@@ -185,13 +192,25 @@ module _ (jobs : List Job) (found : Found) (is : IsFound jobs found) where
 
   all_written : All IsWritten (slots_of jobs found)
   all_written =
-      all_of_blocks IsWritten (slots_in jobs found) (length (stretches jobs))
+      all_of_blocks IsWritten (slots_in_stretch jobs found) (length (stretches jobs))
       (λ k known x d within. (
         k,
-        slots_of_jobs (Serves jobs found k) (group_at found.groups (group_of found.group_of_stretch k)) (stretch_at jobs k).from 0
-            (shares_in found.shares k) (all_serve jobs found is k) x d within,
-        over_terms (group_at found.groups (group_of found.group_of_stretch k)) (stretch_at jobs k).from 0 (shares_in found.shares k) x d within,
+        slots_of_jobs (Serves jobs found k) (group_at found.groups (group_of found.group_of_stretch k)) (stretch_of jobs k).from 0
+            (portions_in found.portions k) (all_serve jobs found is k) x d within,
+        over_terms (group_at found.groups (group_of found.group_of_stretch k)) (stretch_of jobs k).from 0 (portions_in found.portions k) x d within,
       ))
+
+  -- so its denominators are at least 1
+  all_solid : All IsSolid (slots_of jobs found)
+  all_solid = All-weaker IsWritten IsSolid (λ slot written. solid slot written.0 written.1 written.2) (slots_of jobs found) all_written where
+    solid : (slot : WrittenSlot) (k : ℕ) → Serves jobs found k slot.job → IsOverTerms (group_at found.groups (group_of found.group_of_stretch k)) slot → IsSolid slot
+    solid slot k serves over =
+        let low = terms jobs found is (group_of found.group_of_stretch k) (omega (arith, serves.same_group, serves.grouped)) in
+        record {
+          from = over_some _ slot.from low.some_first over.from;
+          to = over_some _ slot.to low.some_first over.to;
+          work = over_some _ slot.work low.some_second over.work;
+        }
 
   denominators : (i s : ℕ) → i < length (levels_of jobs found) → s < length (slots_of jobs found) →
       Contains (level_at (levels_of jobs found) i).members (written_slot_at (slots_of jobs found) s).job →
@@ -217,7 +236,7 @@ module _ (jobs : List Job) (found : Found) (is : IsFound jobs found) where
   makes_plan = record {
     proper = record {
       well_formed = well_formed;
-      feasible = λ scale divided. feasible jobs found is scale divided;
+      feasible = record { solid = all_solid; holds = λ scale divided. feasible jobs found is scale divided };
       pieces = pieces_stand;
       members = stands_once;
       sums = sums_agree;

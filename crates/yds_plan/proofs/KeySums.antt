@@ -1,4 +1,4 @@
--- Sums over lists that are filtered, mapped and joined, and a sum that is split by a key.
+-- Sums over lists that are filtered, mapped and merged, and a sum that is split by a key.
 use Rattle.std.proofs.Common.{◌≡◌, ℕ, zero, suc, ◌+◌, ◌<◌, ◌≤◌, ◌==◌, List, [], ◌∷◌, ◌++◌, ◌∙◌, length, map, get_or, take, sym, refl, ap, arith, inl, inr, Bool, true, false, add-one}
 use Rattle.std.specs.Prelude.{cond, nat_lt}
 use Rattle.std.specs.List.{All, sum_by, filter, flat_map, range_with_len}

@@ -12,12 +12,13 @@ use Rattle.yds_model.specs.Piece.{Piece, AreApart, PiecesFrom, Covers, total_len
 use Rattle.yds_model.specs.Level.{Level, all_pieces}
 use Rattle.yds_model.specs.Plan.{DontTouch}
 use Rattle.yds_model.specs.Event.{stretches}
-use Rattle.yds_model.proofs.Front.{apart_turned}
-use Rattle.yds_plan.specs.Found.{Found, group_of, stretch_at, length_of}
-use Rattle.yds_plan.specs.Laid.{level_of_place, levels_among, stretches_of, joined, level_numbered, levels_of}
+use Rattle.yds_model.proofs.Front.{pieces_forward, apart_turned}
+use Rattle.yds_plan.specs.Found.{Found, group_of}
+use Rattle.yds_events.specs.Window.{stretch_of, length_at}
+use Rattle.yds_plan.specs.Laid.{level_of_place, levels_among, stretches_of, merged, level_numbered, levels_of}
 use Rattle.yds_plan.proofs.KeySums.{in_range, split_at_most, count_all, sum_by-map}
-use Rattle.yds_plan.proofs.Stretches.{run_begins, stretch_order}
-use Rattle.yds_plan.proofs.Joined.{Holds, joined_run, joined_apart, joined_total, joined_length, joined_stays_apart, joined_covers, some_stretches_run, some_stretches_cover}
+use Rattle.yds_events.proofs.Neighbours.{stretch_order}
+use Rattle.yds_plan.proofs.Merged.{Holds, merged_run, merged_apart, merged_total, merged_length, merged_stays_apart, merged_covers, some_stretches_run, some_stretches_cover}
 use Rattle.yds_plan.proofs.Blocks.{flat_map-map, all_of_blocks, some_of_blocks}
 
 -- the pieces of the first levels, one level after another
@@ -34,17 +35,17 @@ AllApart pieces others = All (λ piece. All (AreApart piece) others) pieces
 apart_back : (pieces others : List Piece) → AllApart pieces others → AllApart others pieces
 apart_back pieces others apart k d within j e inside = apart_turned _ _ (apart j e inside k d within)
 
-joined_from : (pieces others : List Piece) → PiecesFrom 0 pieces → AllApart pieces others → AllApart pieces (joined others)
-joined_from pieces others run apart k d within =
-    joined_stays_apart _ others (run_begins 0 pieces run k d within).1 (apart k d within)
+merged_from : (pieces others : List Piece) → PiecesFrom 0 pieces → AllApart pieces others → AllApart pieces (merged others)
+merged_from pieces others run apart k d within =
+    merged_stays_apart _ others (pieces_forward 0 pieces run k d within) (apart k d within)
 
--- both joined stay apart
-joined_both : (pieces others : List Piece) → PiecesFrom 0 pieces → PiecesFrom 0 others → AllApart pieces others →
-    AllApart (joined pieces) (joined others)
-joined_both pieces others run other_run apart =
-    apart_back (joined others) (joined pieces)
-    (joined_from (joined others) pieces (joined_run 0 others other_run)
-    (apart_back pieces (joined others) (joined_from pieces others run apart)))
+-- both merged stay apart
+merged_both : (pieces others : List Piece) → PiecesFrom 0 pieces → PiecesFrom 0 others → AllApart pieces others →
+    AllApart (merged pieces) (merged others)
+merged_both pieces others run other_run apart =
+    apart_back (merged others) (merged pieces)
+    (merged_from (merged others) pieces (merged_run 0 others other_run)
+    (apart_back pieces (merged others) (merged_from pieces others run apart)))
 
 some_length : (pieces : List Piece) → 1 ≤ total_length pieces → 1 ≤ length pieces
 some_length [] h = absurd (omega arith)
@@ -56,7 +57,7 @@ module _ (jobs : List Job) (found : Found) where
 
   -- the single stretches of a level
   abbrev pub single : ℕ → List Piece
-  single l = map (stretch_at jobs) (stretches_of jobs found l)
+  single l = map (stretch_of jobs) (stretches_of jobs found l)
 
   pub single_run : (l : ℕ) → PiecesFrom 0 (single l)
   single_run l = some_stretches_run jobs (λ k. level_of_place found.groups (group_of found.group_of_stretch k) == l)
@@ -73,7 +74,7 @@ module _ (jobs : List Job) (found : Found) where
       )
 
   stretches_apart : (j k : ℕ) → j < length (stretches jobs) → k < length (stretches jobs) → (j ≡ k → ⊥) →
-      AreApart (stretch_at jobs j) (stretch_at jobs k)
+      AreApart (stretch_of jobs j) (stretch_of jobs k)
   stretches_apart j k known_j known_k other = elim (cases_order j k) [
     | inl same ↦ absurd (other same)
     | inr (inl below) ↦ inl (stretch_order jobs j k below known_k)
@@ -82,8 +83,8 @@ module _ (jobs : List Job) (found : Found) where
 
   single_apart : (l other : ℕ) → (l ≡ other → ⊥) → AllApart (single l) (single other)
   single_apart l other differ =
-      All-map (λ piece. All (AreApart piece) (single other)) (stretch_at jobs) (stretches_of jobs found l)
-      (λ i d within. All-map (AreApart _) (stretch_at jobs) (stretches_of jobs found other)
+      All-map (λ piece. All (AreApart piece) (single other)) (stretch_of jobs) (stretches_of jobs found l)
+      (λ i d within. All-map (AreApart _) (stretch_of jobs) (stretches_of jobs found other)
       (λ j e inside.
       let one = each_stretch l i d within in
       let two = each_stretch other j e inside in
@@ -91,37 +92,37 @@ module _ (jobs : List Job) (found : Found) where
 
   -- what the definition of a proper certificate says of a level's pieces
   pub pieces_apart : (i : ℕ) → i < levels_among found.groups (length found.groups) →
-      All (λ piece. All (AreApart piece) (all_pieces (take i (levels_of jobs found)))) (joined (single i))
+      All (λ piece. All (AreApart piece) (all_pieces (take i (levels_of jobs found)))) (merged (single i))
   pieces_apart i known =
       rw (pieces_joined jobs found i (omega arith))
-      (apart_back (flat_map (λ l. joined (single l)) (range_with_len 0 i)) (joined (single i))
-      (all_of_blocks (λ piece. All (AreApart piece) (joined (single i))) (λ l. joined (single l)) i
-      (λ l below. joined_both (single l) (single i) (single_run l) (single_run i)
+      (apart_back (flat_map (λ l. merged (single l)) (range_with_len 0 i)) (merged (single i))
+      (all_of_blocks (λ piece. All (AreApart piece) (merged (single i))) (λ l. merged (single l)) i
+      (λ l below. merged_both (single l) (single i) (single_run l) (single_run i)
       (single_apart l i (λ same. omega arith)))))
 
-  pub pieces_run : (l : ℕ) → PiecesFrom 0 (joined (single l))
-  pieces_run l = joined_run 0 (single l) (single_run l)
+  pub pieces_run : (l : ℕ) → PiecesFrom 0 (merged (single l))
+  pieces_run l = merged_run 0 (single l) (single_run l)
 
-  pub pieces_dont_touch : (l : ℕ) → DontTouch (joined (single l))
-  pieces_dont_touch l = joined_apart 0 (single l) (single_run l)
+  pub pieces_dont_touch : (l : ℕ) → DontTouch (merged (single l))
+  pieces_dont_touch l = merged_apart 0 (single l) (single_run l)
 
-  pub pieces_total : (l : ℕ) → total_length (joined (single l)) ≡ sum_by (length_of jobs) (stretches_of jobs found l)
+  pub pieces_total : (l : ℕ) → total_length (merged (single l)) ≡ sum_by (length_at jobs) (stretches_of jobs found l)
   pieces_total l =
-      joined_total 0 (single l) (single_run l)
-      ∙ sum_by-map (stretch_at jobs) (λ piece. piece.to - piece.from) (stretches_of jobs found l)
+      merged_total 0 (single l) (single_run l)
+      ∙ sum_by-map (stretch_of jobs) (λ piece. piece.to - piece.from) (stretches_of jobs found l)
 
-  pub some_pieces : (l : ℕ) → 1 ≤ sum_by (length_of jobs) (stretches_of jobs found l) → 1 ≤ length (joined (single l))
-  some_pieces l some = some_length (joined (single l)) (omega (arith, pieces_total l))
+  pub some_pieces : (l : ℕ) → 1 ≤ sum_by (length_at jobs) (stretches_of jobs found l) → 1 ≤ length (merged (single l))
+  some_pieces l some = some_length (merged (single l)) (omega (arith, pieces_total l))
 
   -- a stretch of one of the first levels is covered by their pieces
   pub stretch_covered : (k i time : ℕ) → k < length (stretches jobs) →
       level_of_place found.groups (group_of found.group_of_stretch k) < i → i ≤ levels_among found.groups (length found.groups) →
-      Holds time (stretch_at jobs k) → Covers (all_pieces (take i (levels_of jobs found))) time
+      Holds time (stretch_of jobs k) → Covers (all_pieces (take i (levels_of jobs found))) time
   stretch_covered k i time known below within holds =
       let l = level_of_place found.groups (group_of found.group_of_stretch k) in
       rw (pieces_joined jobs found i within)
-      (some_of_blocks (Holds time) (λ l. joined (single l)) i l below
-      (joined_covers time 0 (single l) (single_run l)
+      (some_of_blocks (Holds time) (λ l. merged (single l)) i l below
+      (merged_covers time 0 (single l) (single_run l)
       (some_stretches_cover jobs (λ j. level_of_place found.groups (group_of found.group_of_stretch j) == l) time k known
       (eq-eqb l l refl) holds)))
 
@@ -132,9 +133,9 @@ module _ (jobs : List Job) (found : Found) where
       omega (
         arith,
         ap length (flat_map-map (λ (level : Level). level.pieces) (level_numbered jobs found) all),
-        length-flat_map (λ l. joined (single l)) all,
-        sum_by-le-sum_by (λ l. length (joined (single l))) (λ l. sum_by (λ k. 1) (stretches_of jobs found l)) all
-            (λ l. omega (arith, joined_length (single l), length-map (stretches_of jobs found l) (stretch_at jobs), count_all (stretches_of jobs found l))),
+        length-flat_map (λ l. merged (single l)) all,
+        sum_by-le-sum_by (λ l. length (merged (single l))) (λ l. sum_by (λ k. 1) (stretches_of jobs found l)) all
+            (λ l. omega (arith, merged_length (single l), length-map (stretches_of jobs found l) (stretch_of jobs), count_all (stretches_of jobs found l))),
         split_at_most (λ k. level_of_place found.groups (group_of found.group_of_stretch k)) (λ k. 1)
             (levels_among found.groups (length found.groups)) (range_with_len 0 (length (stretches jobs))),
         count_all (range_with_len 0 (length (stretches jobs))),

@@ -1,8 +1,7 @@
 pub mod Divisors
 pub mod Parts
 pub mod KeySums
-pub mod Stretches
-pub mod Joined
+pub mod Merged
 pub mod Speeds
 pub mod Blocks
 pub mod Served
@@ -26,16 +25,14 @@ mod Nexts
 mod Ranges
 mod Closure
 mod Balance
-mod Shares
+mod Portions
 mod Finished
 mod Split
-mod Times
 mod Deadlines
-mod Places
 mod Ends
 mod Lowest
 mod Amounts
-mod Numbers
+pub mod Numbers
 mod Waiting
 mod Reaches
 mod Finish

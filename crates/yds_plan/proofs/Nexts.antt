@@ -3,9 +3,9 @@ use Rattle.std.proofs.Common.{◌≡◌, ℕ, ◌+◌, ◌-◌, ◌<◌, ◌≤�
 use Rattle.std.proofs.lemmas.List.{get_or-set_same, get_or-set_other, length-set, get_or_default, get_or_past}
 use Rattle.std.proofs.lemmas.Bool.{cases_lt, cases_eq}
 use Rattle.yds_model.specs.Job.{Job}
-use Rattle.yds_plan.specs.declared.finder_windows.Window.{Window}
-use Rattle.yds_plan.specs.Found.{Share}
-use Rattle.yds_plan.specs.Windows.{window_at, IsPlace}
+use Rattle.yds_events.specs.declared.window.Window.{Window}
+use Rattle.yds_plan.specs.Found.{Portion}
+use Rattle.yds_events.specs.Window.{window_at, IsPlace}
 use Rattle.yds_plan.specs.Fill.{IsNext, IsNextFrom, IsNumbers, IsServed, IsTake, AreOpen}
 use Rattle.yds_plan.specs.Numbers.{values_at}
 use Rattle.yds_plan.proofs.Numbers.{value_at, value_past, values_count, rising_back}
@@ -101,12 +101,12 @@ next_begins rooms next numbers = record {
 }
 
 -- full stretches are passed over at once
-pub serve_jumps : (jobs : List Job) (windows : List Window) (job want : ℕ) (shares : List Share) (rooms : List ℕ)
-    (next next' left : ℕ) (shares' : List Share) (rooms' : List ℕ) →
-    IsServed jobs windows job want shares rooms next left shares' rooms' → next ≤ next' →
+pub serve_jumps : (jobs : List Job) (windows : List Window) (job want : ℕ) (portions : List Portion) (rooms : List ℕ)
+    (next next' left : ℕ) (portions' : List Portion) (rooms' : List ℕ) →
+    IsServed jobs windows job want portions rooms next left portions' rooms' → next ≤ next' →
     ((k : ℕ) → next ≤ k → k < next' → get_or rooms' k 0 ≡ 0) →
-    IsServed jobs windows job want shares rooms next' left shares' rooms'
-serve_jumps jobs windows job want shares rooms next next' left shares' rooms' so_far after full = record {
+    IsServed jobs windows job want portions rooms next' left portions' rooms'
+serve_jumps jobs windows job want portions rooms next next' left portions' rooms' so_far after full = record {
   taken = so_far.taken;
   all = so_far.all;
   ahead = λ i d within same. omega (arith, so_far.ahead i d within same);
@@ -123,11 +123,11 @@ serve_jumps jobs windows job want shares rooms next next' left shares' rooms' so
 }
 
 -- beyond its window, or when it has all, the job is served
-pub serve_stops : (jobs : List Job) (windows : List Window) (job want : ℕ) (shares : List Share) (rooms : List ℕ)
-    (next left : ℕ) (shares' : List Share) (rooms' : List ℕ) →
-    IsServed jobs windows job want shares rooms next left shares' rooms' → (1 ≤ left → (window_at windows job).end ≤ next) →
-    IsServed jobs windows job want shares rooms (window_at windows job).end left shares' rooms'
-serve_stops jobs windows job want shares rooms next left shares' rooms' so_far done = record {
+pub serve_stops : (jobs : List Job) (windows : List Window) (job want : ℕ) (portions : List Portion) (rooms : List ℕ)
+    (next left : ℕ) (portions' : List Portion) (rooms' : List ℕ) →
+    IsServed jobs windows job want portions rooms next left portions' rooms' → (1 ≤ left → (window_at windows job).end ≤ next) →
+    IsServed jobs windows job want portions rooms (window_at windows job).end left portions' rooms'
+serve_stops jobs windows job want portions rooms next left portions' rooms' so_far done = record {
   taken = so_far.taken;
   all = so_far.all;
   ahead = λ i d within same.
@@ -143,27 +143,27 @@ serve_stops jobs windows job want shares rooms next left shares' rooms' so_far d
 }
 
 -- a job takes what it can in the next stretch of its window
-pub serve_take : (jobs : List Job) (windows : List Window) (job want : ℕ) (shares : List Share) (rooms : List ℕ)
-    (next left : ℕ) (shares' : List Share) (rooms' : List ℕ) (left'' : ℕ) (shares'' : List Share) (rooms'' : List ℕ) →
-    IsServed jobs windows job want shares rooms next left shares' rooms' →
+pub serve_take : (jobs : List Job) (windows : List Window) (job want : ℕ) (portions : List Portion) (rooms : List ℕ)
+    (next left : ℕ) (portions' : List Portion) (rooms' : List ℕ) (left'' : ℕ) (portions'' : List Portion) (rooms'' : List ℕ) →
+    IsServed jobs windows job want portions rooms next left portions' rooms' →
     job < length windows → (window_at windows job).first ≤ next → next < (window_at windows job).end → next < length rooms →
-    IsTake job next left shares' rooms' left'' shares'' rooms'' →
-    IsServed jobs windows job want shares rooms (next + 1) left'' shares'' rooms''
-serve_take jobs windows job want shares rooms next left shares' rooms' left'' shares'' rooms'' so_far known from upto within take = elim take [
+    IsTake job next left portions' rooms' left'' portions'' rooms'' →
+    IsServed jobs windows job want portions rooms (next + 1) left'' portions'' rooms''
+serve_take jobs windows job want portions rooms next left portions' rooms' left'' portions'' rooms'' so_far known from upto within take = elim take [
   | inl passed ↦
-      subst (λ (n : ℕ). IsServed jobs windows job want shares rooms (next + 1) n shares'' rooms'') (sym passed.1)
-      (subst (λ (xs : List Share). IsServed jobs windows job want shares rooms (next + 1) left xs rooms'') (sym passed.2)
-      (subst (λ (xs : List ℕ). IsServed jobs windows job want shares rooms (next + 1) left shares' xs) (sym passed.3)
-      (serve_passes jobs windows job want shares rooms next left shares' rooms' so_far passed.0)))
+      subst (λ (n : ℕ). IsServed jobs windows job want portions rooms (next + 1) n portions'' rooms'') (sym passed.1)
+      (subst (λ (xs : List Portion). IsServed jobs windows job want portions rooms (next + 1) left xs rooms'') (sym passed.2)
+      (subst (λ (xs : List ℕ). IsServed jobs windows job want portions rooms (next + 1) left portions' xs) (sym passed.3)
+      (serve_passes jobs windows job want portions rooms next left portions' rooms' so_far passed.0)))
   | inr took ↦
-      serve_took jobs windows job want shares rooms next left shares' rooms' so_far known from upto within took.1 took.2 took.0 took.3
-      left'' shares'' rooms'' took.4 took.5 took.6
+      serve_took jobs windows job want portions rooms next left portions' rooms' so_far known from upto within took.1 took.2 took.0 took.3
+      left'' portions'' rooms'' took.4 took.5 took.6
 ]
 
 -- rooms become no greater
-pub take_less : (rooms : List ℕ) (job stretch left : ℕ) (shares : List Share) (left' : ℕ) (shares' : List Share) (rooms' : List ℕ) →
-    stretch < length rooms → IsTake job stretch left shares rooms left' shares' rooms' → (k : ℕ) → get_or rooms' k 0 ≤ get_or rooms k 0
-take_less rooms job stretch left shares left' shares' rooms' within take k = elim take [
+pub take_less : (rooms : List ℕ) (job stretch left : ℕ) (portions : List Portion) (left' : ℕ) (portions' : List Portion) (rooms' : List ℕ) →
+    stretch < length rooms → IsTake job stretch left portions rooms left' portions' rooms' → (k : ℕ) → get_or rooms' k 0 ≤ get_or rooms k 0
+take_less rooms job stretch left portions left' portions' rooms' within take k = elim take [
   | inl passed ↦ omega (arith, ap (λ (xs : List ℕ). get_or xs k 0) passed.3)
   | inr took ↦ elim (cases_eq k stretch) [
     | inl same ↦ omega (
@@ -177,26 +177,26 @@ take_less rooms job stretch left shares left' shares' rooms' within take k = eli
   ]
 ]
 
-take_count : (rooms : List ℕ) (job stretch left : ℕ) (shares : List Share) (left' : ℕ) (shares' : List Share) (rooms' : List ℕ) →
-    IsTake job stretch left shares rooms left' shares' rooms' → length rooms' ≡ length rooms
-take_count rooms job stretch left shares left' shares' rooms' take = elim take [
+take_count : (rooms : List ℕ) (job stretch left : ℕ) (portions : List Portion) (left' : ℕ) (portions' : List Portion) (rooms' : List ℕ) →
+    IsTake job stretch left portions rooms left' portions' rooms' → length rooms' ≡ length rooms
+take_count rooms job stretch left portions left' portions' rooms' take = elim take [
   | inl passed ↦ ap (λ (xs : List ℕ). length xs) passed.3
   | inr took ↦ ap (λ (xs : List ℕ). length xs) took.6 ∙ length-set rooms stretch (get_or rooms stretch 0 - took.0)
 ]
 
 -- then all that have room are still among a group's own stretches
-pub take_open : (own rooms : List ℕ) (job stretch left : ℕ) (shares : List Share) (left' : ℕ) (shares' : List Share) (rooms' : List ℕ) →
-    AreOpen own rooms → stretch < length rooms → IsTake job stretch left shares rooms left' shares' rooms' → AreOpen own rooms'
-take_open own rooms job stretch left shares left' shares' rooms' open_ within take = record {
+pub take_open : (own rooms : List ℕ) (job stretch left : ℕ) (portions : List Portion) (left' : ℕ) (portions' : List Portion) (rooms' : List ℕ) →
+    AreOpen own rooms → stretch < length rooms → IsTake job stretch left portions rooms left' portions' rooms' → AreOpen own rooms'
+take_open own rooms job stretch left portions left' portions' rooms' open_ within take = record {
   rising = open_.rising;
-  known = λ p in_range. omega (arith, open_.known p in_range, take_count rooms job stretch left shares left' shares' rooms' take);
-  covers = λ k some. open_.covers k (omega (arith, some, take_less rooms job stretch left shares left' shares' rooms' within take k));
+  known = λ p in_range. omega (arith, open_.known p in_range, take_count rooms job stretch left portions left' portions' rooms' take);
+  covers = λ k some. open_.covers k (omega (arith, some, take_less rooms job stretch left portions left' portions' rooms' within take k));
 }
 
 -- then one may go on as before
-pub take_next : (own rooms next : List ℕ) (job stretch left : ℕ) (shares : List Share) (left' : ℕ) (shares' : List Share) (rooms' : List ℕ) →
-    IsNext (values_at own rooms) next → stretch < length rooms → IsTake job stretch left shares rooms left' shares' rooms' → IsNext (values_at own rooms') next
-take_next own rooms next job stretch left shares left' shares' rooms' are within take =
+pub take_next : (own rooms next : List ℕ) (job stretch left : ℕ) (portions : List Portion) (left' : ℕ) (portions' : List Portion) (rooms' : List ℕ) →
+    IsNext (values_at own rooms) next → stretch < length rooms → IsTake job stretch left portions rooms left' portions' rooms' → IsNext (values_at own rooms') next
+take_next own rooms next job stretch left portions left' portions' rooms' are within take =
     next_kept (values_at own rooms) (values_at own rooms') next are (values_count own rooms' ∙ sym (values_count own rooms))
     (λ i none. elim (cases_lt i (length own)) [
       | inl below ↦ omega (
@@ -204,7 +204,7 @@ take_next own rooms next job stretch left shares left' shares' rooms' are within
         value_at own rooms i below,
         value_at own rooms' i below,
         none,
-        take_less rooms job stretch left shares left' shares' rooms' within take (get_or own i 0),
+        take_less rooms job stretch left portions left' portions' rooms' within take (get_or own i 0),
       )
       | inr past ↦ value_past own rooms' i 0 past
     ])
@@ -229,9 +229,9 @@ passed_full own rooms from place n low end k open_ is after above below = elim (
       )
 ]
 
-pub take_fills : (rooms : List ℕ) (job stretch left : ℕ) (shares : List Share) (left' : ℕ) (shares' : List Share) (rooms' : List ℕ) →
-    stretch < length rooms → IsTake job stretch left shares rooms left' shares' rooms' → 1 ≤ left' → get_or rooms' stretch 0 ≡ 0
-take_fills rooms job stretch left shares left' shares' rooms' within take more = elim take [
+pub take_fills : (rooms : List ℕ) (job stretch left : ℕ) (portions : List Portion) (left' : ℕ) (portions' : List Portion) (rooms' : List ℕ) →
+    stretch < length rooms → IsTake job stretch left portions rooms left' portions' rooms' → 1 ≤ left' → get_or rooms' stretch 0 ≡ 0
+take_fills rooms job stretch left portions left' portions' rooms' within take more = elim take [
   | inl passed ↦ ap (λ (xs : List ℕ). get_or xs stretch 0) passed.3 ∙ passed.0 (omega (arith, passed.1))
   | inr took ↦ ap (λ (xs : List ℕ). get_or xs stretch 0) took.6 ∙ get_or-set_same rooms stretch (get_or rooms stretch 0 - took.0) 0 within
       ∙ all_taken left (get_or rooms stretch 0) took.0 took.3 (omega (arith, took.4))

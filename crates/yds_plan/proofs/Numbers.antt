@@ -172,3 +172,7 @@ rising_same numbers rising a b within within' same = elim (cases_lt a b) [
     | inr other ↦ absurd (omega (arith, same, rising b a (omega arith) within))
   ]
 ]
+
+-- what is within a list is within what it is equal to
+pub still_within : (items whole : List ℕ) (k n : ℕ) → items ≡ whole → length whole ≡ n → k < length items → k < n
+still_within items whole k n same count within = omega (arith, ap (λ (xs : List ℕ). length xs) same, count, within)

@@ -2,10 +2,10 @@
 use Rattle.std.proofs.Common.{◌≡◌, ℕ, zero, suc, ◌*◌, ◌<◌, ◌≤◌, ◌==◌, List, [], ◌∷◌, ◌++◌, ◌∙◌, length, sym, refl, ap, arith, inl, inr}
 use Rattle.std.specs.Prelude.{cond}
 use Rattle.std.specs.List.{All, AllPairs}
-use Rattle.std.proofs.lemmas.Bool.{cases_eq, ne_eqb}
+use Rattle.std.proofs.lemmas.Bool.{cases_eq, eq-eqb, ne_eqb}
 use Rattle.std.proofs.lemmas.List.{append_assoc}
 use Rattle.std.proofs.lemmas.List.Sums.{sum_by-cons, sum_by-append}
-use Rattle.std.proofs.lemmas.List.Elements.{All-head}
+use Rattle.std.proofs.lemmas.List.Elements.{All-head, All-tail}
 use Rattle.yds_model.specs.Job.{Job, job_at}
 use Rattle.yds_model.specs.Slot.{WholeSlot, slot_at, work_given}
 use Rattle.yds_model.specs.Feasible.{RunFrom}
@@ -60,21 +60,50 @@ first_due jobs scale slot slots other zero pairs within is released = rw (← is
 first_due jobs scale slot slots other (suc k) pairs within is released =
     rw (← is) ((pairs 0 (suc k) _ (omega arith) within).due (rw is released))
 
+-- a slot of a released job, in which work is done
+pub record Works (jobs : List Job) (scale : ℕ) (slot : WholeSlot) : Type 0 where
+  pub known : slot.job < length jobs
+  pub released : (job_at jobs slot.job).release * scale ≤ slot.from
+  pub some : 1 ≤ slot.work
+
+-- before a slot in which work is done, its job isn't done
+pending_before : (before slots : List WholeSlot) (slot : WholeSlot) (whole : ℕ) → 1 ≤ slot.work →
+    work_given (before ++ slot ∷ slots) slot.job ≡ whole → work_given before slot.job < whole
+pending_before before slots slot whole some served =
+    let work = λ (one : WholeSlot). cond (slot.job == one.job) one.work 0 in
+    omega (
+      arith,
+      some,
+      served,
+      sum_by-append work before (slot ∷ slots),
+      sum_by-cons work slot slots,
+      ap (λ b. cond b slot.work 0) (eq-eqb slot.job slot.job refl),
+    )
+
 pub earliest_after : (jobs : List Job) (scale : ℕ) (all before slots : List WholeSlot) → before ++ slots ≡ all →
     ((other : ℕ) → other < length jobs → work_given all other ≡ (job_at jobs other).work * scale) →
-    AllPairs (Follows jobs scale) slots → EarliestAfter jobs scale before slots
-earliest_after jobs scale all before [] is served pairs = tt
-earliest_after jobs scale all before (slot ∷ slots) is served pairs = (
-  λ other known released unfinished.
-      let work = λ (one : WholeSlot). cond (other == one.job) one.work 0 in
-      let left = given_slot (slot ∷ slots) other (omega (
-        arith,
-        unfinished,
-        served other known,
-        ap (λ some. work_given some other) is,
-        sum_by-append work before (slot ∷ slots),
-      )) in
-      first_due jobs scale slot slots other left.0 pairs left.1 left.2 released,
-  earliest_after jobs scale all (before ++ slot ∷ []) slots (append_assoc before (slot ∷ []) slots ∙ is) served
-      (λ i j d order within. pairs (suc i) (suc j) d (omega arith) (omega arith)),
-)
+    All (Works jobs scale) slots → AllPairs (Follows jobs scale) slots → EarliestAfter jobs scale before slots
+earliest_after jobs scale all before [] is served works pairs = tt
+earliest_after jobs scale all before (slot ∷ slots) is served works pairs =
+    let here = All-head (Works jobs scale) slot slots works in (
+      record {
+        may_run = record {
+          released = here.released;
+          pending = pending_before before slots slot ((job_at jobs slot.job).work * scale) here.some
+              (ap (λ some. work_given some slot.job) is ∙ served slot.job here.known);
+        };
+        first = λ other known may_run.
+            let work = λ (one : WholeSlot). cond (other == one.job) one.work 0 in
+            let left = given_slot (slot ∷ slots) other (omega (
+              arith,
+              may_run.pending,
+              served other known,
+              ap (λ some. work_given some other) is,
+              sum_by-append work before (slot ∷ slots),
+            )) in
+            first_due jobs scale slot slots other left.0 pairs left.1 left.2 may_run.released;
+      },
+      earliest_after jobs scale all (before ++ slot ∷ []) slots (append_assoc before (slot ∷ []) slots ∙ is) served
+          (All-tail (Works jobs scale) slot slots works)
+          (λ i j d order within. pairs (suc i) (suc j) d (omega arith) (omega arith)),
+    )

@@ -2,7 +2,7 @@
 use Rattle.std.proofs.Common.{◌≡◌, ℕ, ◌<◌, ◌≤◌, ◌⊎◌, List, refl, inr, ap, arith}
 use Rattle.yds_model.specs.Job.{Job, job_at}
 use Rattle.yds_model.specs.EarliestFirst.{ComesFirst}
-use Rattle.yds_plan.specs.Windows.{Precedes}
+use Rattle.yds_plan.specs.Order.{Precedes}
 
 pub comes_itself : (jobs : List Job) (j : ℕ) → ComesFirst jobs j j
 comes_itself jobs j = inr (refl, omega arith)

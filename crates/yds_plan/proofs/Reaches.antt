@@ -2,11 +2,11 @@
 use Rattle.std.proofs.Common.{◌≡◌, ℕ, ◌+◌, ◌<◌, ◌≤◌, ◌≢◌, min, List, ◌∙◌, length, get_or, set, sym, ap, subst, inl, inr, arith}
 use Rattle.std.proofs.lemmas.List.{get_or-set_same, get_or-set_other, length-set, get_or_default}
 use Rattle.std.proofs.lemmas.Bool.{cases_lt, cases_eq}
-use Rattle.yds_plan.specs.declared.finder_windows.Window.{Window}
-use Rattle.yds_plan.specs.Found.{Share, share_at}
-use Rattle.yds_plan.specs.Windows.{window_at}
+use Rattle.yds_events.specs.declared.window.Window.{Window}
+use Rattle.yds_plan.specs.Found.{Portion, portion_at}
+use Rattle.yds_events.specs.Window.{window_at}
 use Rattle.yds_plan.specs.Numbers.{values_at, AreWritten}
-use Rattle.yds_plan.specs.Closure.{AreLateReaches, AreShareReaches, AreClosing, IsLastBefore, reach_from, reach_at}
+use Rattle.yds_plan.specs.Closure.{AreLateReaches, ArePortionReaches, AreClosing, IsLastBefore, reach_from, reach_at}
 use Rattle.yds_plan.proofs.Numbers.{value_at, value_past, values_count, rising_same}
 
 -- Of the first n items those that count stand at a place among a group's own stretches, and have a value; m stands where there is
@@ -93,10 +93,10 @@ LatesTo windows wants own_jobs own n m reaches =
     IsLeastOf (λ i. 1 ≤ get_or wants (get_or own_jobs i 0) 0) (λ i p. IsLastBefore own (window_at windows (get_or own_jobs i 0)).end p)
     (λ i. (window_at windows (get_or own_jobs i 0)).first) own n m reaches
 
--- and of the first n shares
-abbrev pub SharesTo : List Window → List Share → List ℕ → ℕ → ℕ → List ℕ → Type 0
-SharesTo windows shares own n m reaches =
-    IsLeastOf (λ x. Unit {0}) (λ x p. (share_at shares x).stretch ≡ get_or own p 0) (λ x. (window_at windows (share_at shares x).job).first) own n m reaches
+-- and of the first n portions
+abbrev pub PortionsTo : List Window → List Portion → List ℕ → ℕ → ℕ → List ℕ → Type 0
+PortionsTo windows portions own n m reaches =
+    IsLeastOf (λ x. Unit {0}) (λ x p. (portion_at portions x).stretch ≡ get_or own p 0) (λ x. (window_at windows (portion_at portions x).job).first) own n m reaches
 
 -- the reaches of late jobs, of a list that has all late jobs
 pub late_least : (windows : List Window) (wants own_jobs own : List ℕ) (m n : ℕ) (reaches : List ℕ) → AreClosing windows wants own_jobs own m →
@@ -115,10 +115,10 @@ late_least windows wants own_jobs own m n reaches closing end upto least = recor
       (get_or own_jobs found.0 0, closing.known found.0 (omega (arith, found.1, upto)), found.2, found.3, found.4);
 }
 
--- and of shares
-pub share_least : (windows : List Window) (shares : List Share) (own : List ℕ) (m : ℕ) (reaches : List ℕ) →
-    SharesTo windows shares own (length shares) m reaches → AreShareReaches windows shares own m reaches
-share_least windows shares own m reaches least = record {
+-- and of portions
+pub portion_least : (windows : List Window) (portions : List Portion) (own : List ℕ) (m : ℕ) (reaches : List ℕ) →
+    PortionsTo windows portions own (length portions) m reaches → ArePortionReaches windows portions own m reaches
+portion_least windows portions own m reaches least = record {
   all = least.all;
   least = λ x within.
       let found = least.least x within tt in

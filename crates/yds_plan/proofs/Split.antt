@@ -3,14 +3,14 @@ use Rattle.std.proofs.Common.{◌≡◌, ℕ, zero, suc, ◌+◌, ◌*◌, ◌<�
 use Rattle.std.proofs.lemmas.Bool.{cases_lt, cases_eq}
 use Rattle.yds_model.specs.Job.{Job, job_at}
 use Rattle.yds_model.specs.Event.{stretches}
-use Rattle.yds_plan.specs.declared.finder_windows.Window.{Window}
-use Rattle.yds_plan.specs.Found.{Found, Share, share_at, no_share, group_of, length_of}
-use Rattle.yds_plan.specs.Windows.{IsIn, AreWindows}
+use Rattle.yds_events.specs.declared.window.Window.{Window}
+use Rattle.yds_plan.specs.Found.{Found, Portion, portion_at, no_portion, group_of}
+use Rattle.yds_events.specs.Window.{length_at, IsIn, AreWindows}
 use Rattle.yds_plan.specs.Closure.{IsMarked, AreClosed}
 use Rattle.yds_plan.specs.Numbers.{IsOneOf}
 use Rattle.yds_plan.specs.Search.{IsFast, IsSlow, LieInWindows, IsBoundary, MayRun, IsSearch, IsFilled, IsSplit}
 use Rattle.yds_model.proofs.Horizon.{part_own}
-use Rattle.yds_plan.proofs.Shares.{chosen_some, share_counts, some_share}
+use Rattle.yds_plan.proofs.Portions.{chosen_some, portion_counts, some_portion}
 use Rattle.yds_plan.proofs.Ranges.{over_some, over_one}
 use Rattle.yds_plan.proofs.Balance.{balance}
 use Rattle.yds_plan.proofs.Finished.{moved, AreAlike, kept_finished}
@@ -26,7 +26,7 @@ pub record Splitting : Type 0 where
   pub q : ℕ
   pub wants : List ℕ
   pub rooms : List ℕ
-  pub shares : List Share
+  pub portions : List Portion
   pub wants_left : List ℕ
   pub rooms_left : List ℕ
   pub reaches : List ℕ
@@ -34,13 +34,13 @@ pub record Splitting : Type 0 where
   pub new_jobs : List ℕ
   pub new_stretches : List ℕ
   pub windows_are : AreWindows jobs windows
-  pub long : (k : ℕ) → k < length (stretches jobs) → 1 ≤ length_of jobs k
+  pub long : (k : ℕ) → k < length (stretches jobs) → 1 ≤ length_at jobs k
   pub search : IsSearch jobs windows found (below + 1) last
   pub within : below + 1 ≤ last
   pub apart : length found.groups ≤ below
-  pub filled : IsFilled jobs windows found (below + 1) p q wants rooms shares wants_left rooms_left
+  pub filled : IsFilled jobs windows found (below + 1) p q wants rooms portions wants_left rooms_left
   pub own_all : (k : ℕ) → k < length (stretches jobs) → group_of found.group_of_stretch k ≡ below + 1 → IsOneOf own k
-  pub closed : AreClosed windows own shares wants_left rooms_left reaches
+  pub closed : AreClosed windows own portions wants_left rooms_left reaches
   pub split : IsSplit windows reaches (below + 1) found.group_of_job found.group_of_stretch new_jobs new_stretches
   pub a_late : (j : ℕ) × (j < length jobs) × (1 ≤ get_or wants_left j 0)
 
@@ -64,28 +64,28 @@ own_job s j known some =
 -- a stretch that had room is one of the group
 own_stretch : (s : Splitting) (k : ℕ) → k < length (stretches s.jobs) → 1 ≤ get_or s.rooms k 0 → group_of s.found.group_of_stretch k ≡ s.below + 1
 own_stretch s k known some =
-    (chosen_some (group_of s.found.group_of_stretch k) (s.below + 1) (s.p * length_of s.jobs k) (get_or s.rooms k 0) (s.filled.room k known) some).0
+    (chosen_some (group_of s.found.group_of_stretch k) (s.below + 1) (s.p * length_at s.jobs k) (get_or s.rooms k 0) (s.filled.room k known) some).0
 
--- what a share is of
+-- what a portion is of
 record Own (s : Splitting) (x : ℕ) : Type 0 where
-  runs : MayRun s.jobs s.windows (share_at s.shares x).job (share_at s.shares x).stretch
-  stretch_known : (share_at s.shares x).stretch < length (stretches s.jobs)
-  job : group_of s.found.group_of_job (share_at s.shares x).job ≡ s.below + 1
-  stretch : group_of s.found.group_of_stretch (share_at s.shares x).stretch ≡ s.below + 1
+  runs : MayRun s.jobs s.windows (portion_at s.portions x).job (portion_at s.portions x).stretch
+  stretch_known : (portion_at s.portions x).stretch < length (stretches s.jobs)
+  job : group_of s.found.group_of_job (portion_at s.portions x).job ≡ s.below + 1
+  stretch : group_of s.found.group_of_stretch (portion_at s.portions x).stretch ≡ s.below + 1
 
-own_share : (s : Splitting) (x : ℕ) → x < length s.shares → Own s x
-own_share s x within =
-    let part = s.filled.fill.taken.parts x no_share within in
-    let known : (share_at s.shares x).job < length s.jobs = omega (arith, part.known, s.windows_are.all) in
-    let known_stretch : (share_at s.shares x).stretch < length (stretches s.jobs) = omega (arith, part.known_stretch, s.filled.all_rooms) in
-    let mine = own_job s (share_at s.shares x).job known
-    (omega (arith, s.filled.fill.want (share_at s.shares x).job, share_counts (λ share. share.job) s.shares x within, part.some)) in
+own_portion : (s : Splitting) (x : ℕ) → x < length s.portions → Own s x
+own_portion s x within =
+    let part = s.filled.fill.taken.parts x no_portion within in
+    let known : (portion_at s.portions x).job < length s.jobs = omega (arith, part.known, s.windows_are.all) in
+    let known_stretch : (portion_at s.portions x).stretch < length (stretches s.jobs) = omega (arith, part.known_stretch, s.filled.all_rooms) in
+    let mine = own_job s (portion_at s.portions x).job known
+    (omega (arith, s.filled.fill.want (portion_at s.portions x).job, portion_counts (λ portion. portion.job) s.portions x within, part.some)) in
     record {
       runs = record { known = known; some = mine.1; inside = part.inside };
       stretch_known = known_stretch;
       job = mine.0;
-      stretch = own_stretch s (share_at s.shares x).stretch known_stretch
-          (omega (arith, s.filled.fill.room (share_at s.shares x).stretch, share_counts (λ share. share.stretch) s.shares x within, part.some));
+      stretch = own_stretch s (portion_at s.portions x).stretch known_stretch
+          (omega (arith, s.filled.fill.room (portion_at s.portions x).stretch, portion_counts (λ portion. portion.stretch) s.portions x within, part.some));
     }
 
 -- a stretch of the upper part is marked
@@ -131,12 +131,12 @@ confined_job s j known mine marked = elim (s.split.job j (omega (arith, s.search
       ]
 ]
 
--- who has a share in a marked stretch is one of the upper part
-shared_job : (s : Splitting) (x : ℕ) → x < length s.shares → IsMarked s.reaches (share_at s.shares x).stretch →
-    group_of s.new_jobs (share_at s.shares x).job ≡ s.below
+-- who has a portion in a marked stretch is one of the upper part
+shared_job : (s : Splitting) (x : ℕ) → x < length s.portions → IsMarked s.reaches (portion_at s.portions x).stretch →
+    group_of s.new_jobs (portion_at s.portions x).job ≡ s.below
 shared_job s x within marked =
-    let own = own_share s x within in
-    confined_job s (share_at s.shares x).job own.runs.known own.job (λ k inside one. s.closed.shared x k within marked inside one)
+    let own = own_portion s x within in
+    confined_job s (portion_at s.portions x).job own.runs.known own.job (λ k inside one. s.closed.shared x k within marked inside one)
 
 -- who is late is one of the upper part
 late_job : (s : Splitting) (j : ℕ) → j < length s.jobs → 1 ≤ get_or s.wants_left j 0 →
@@ -183,7 +183,7 @@ some_room : (s : Splitting) → (k : ℕ) × (k < length (stretches s.jobs)) × 
 some_room s =
     let found = over_some (λ k. get_or s.rooms_left k 0) (length (stretches s.jobs)) (omega (
       arith,
-      balance s.jobs s.windows s.found (s.below + 1) s.p s.q s.wants s.rooms s.shares s.wants_left s.rooms_left s.windows_are.all s.filled,
+      balance s.jobs s.windows s.found (s.below + 1) s.p s.q s.wants s.rooms s.portions s.wants_left s.rooms_left s.windows_are.all s.filled,
       over_one (λ j. get_or s.wants_left j 0) (length s.jobs) s.a_late.0 s.a_late.1,
       s.a_late.2,
     )) in
@@ -208,23 +208,23 @@ kept_job s j c known other is = elim (s.split.job j (omega (arith, s.search.all_
 ]
 
 -- other groups are as fast and as slow as they were
-kept_fast : (s : Splitting) (c p q : ℕ) (shares : List Share) → s.below + 1 < c → LieInWindows s.jobs s.windows shares →
-    IsFast s.jobs s.found c p q shares → IsFast s.jobs (moved s.found s.new_jobs s.new_stretches) c p q shares
-kept_fast s c p q shares above inside fast = record {
+kept_fast : (s : Splitting) (c p q : ℕ) (portions : List Portion) → s.below + 1 < c → LieInWindows s.jobs s.windows portions →
+    IsFast s.jobs s.found c p q portions → IsFast s.jobs (moved s.found s.new_jobs s.new_stretches) c p q portions
+kept_fast s c p q portions above inside fast = record {
   full = λ k known is. fast.full k known (sym (other_stretch s k known (λ new. omega (arith, new, is))) ∙ is);
   own = λ x within is.
-      kept_job s (share_at shares x).job c (inside x within).0 (λ same. omega (arith, same))
-      (fast.own x within (sym (other_stretch s (share_at shares x).stretch (inside x within).1 (λ new. omega (arith, new, is))) ∙ is));
+      kept_job s (portion_at portions x).job c (inside x within).0 (λ same. omega (arith, same))
+      (fast.own x within (sym (other_stretch s (portion_at portions x).stretch (inside x within).1 (λ new. omega (arith, new, is))) ∙ is));
   most = λ j known is. fast.most j known (sym (other_job s j known (λ new. omega (arith, new, is))) ∙ is);
 }
 
-kept_slow : (s : Splitting) (c p q : ℕ) (shares : List Share) → s.below + 1 < c → LieInWindows s.jobs s.windows shares →
-    IsSlow s.jobs s.found c p q shares → IsSlow s.jobs (moved s.found s.new_jobs s.new_stretches) c p q shares
-kept_slow s c p q shares above inside slow = record {
+kept_slow : (s : Splitting) (c p q : ℕ) (portions : List Portion) → s.below + 1 < c → LieInWindows s.jobs s.windows portions →
+    IsSlow s.jobs s.found c p q portions → IsSlow s.jobs (moved s.found s.new_jobs s.new_stretches) c p q portions
+kept_slow s c p q portions above inside slow = record {
   served = λ j known is. slow.served j known (sym (other_job s j known (λ new. omega (arith, new, is))) ∙ is);
   own = λ x within is.
-      kept_stretch s (share_at shares x).stretch c (inside x within).1 (λ same. omega (arith, same))
-      (slow.own x within (sym (other_job s (share_at shares x).job (inside x within).0 (λ new. omega (arith, new, is))) ∙ is));
+      kept_stretch s (portion_at portions x).stretch c (inside x within).1 (λ same. omega (arith, same))
+      (slow.own x within (sym (other_job s (portion_at portions x).job (inside x within).0 (λ new. omega (arith, new, is))) ∙ is));
   room = λ k known is. slow.room k known (sym (other_stretch s k known (λ new. omega (arith, new, is))) ∙ is);
 }
 
@@ -237,14 +237,14 @@ lower_job s j k known inside is = elim (s.split.job j (omega (arith, s.search.al
 ]
 
 -- the lower part is as fast as the whole group was
-lower_fast : (s : Splitting) (p q : ℕ) (shares : List Share) → LieInWindows s.jobs s.windows shares →
-    IsFast s.jobs s.found (s.below + 1) p q shares → IsFast s.jobs (moved s.found s.new_jobs s.new_stretches) (s.below + 1) p q shares
-lower_fast s p q shares inside fast = record {
+lower_fast : (s : Splitting) (p q : ℕ) (portions : List Portion) → LieInWindows s.jobs s.windows portions →
+    IsFast s.jobs s.found (s.below + 1) p q portions → IsFast s.jobs (moved s.found s.new_jobs s.new_stretches) (s.below + 1) p q portions
+lower_fast s p q portions inside fast = record {
   full = λ k known is. fast.full k known (sym (other_stretch s k known (λ new. omega (arith, new, is))) ∙ is);
   own = λ x within is.
       let lies = inside x within in
-      lower_job s (share_at shares x).job (share_at shares x).stretch lies.0 lies.2 is
-      ∙ fast.own x within (sym (other_stretch s (share_at shares x).stretch lies.1 (λ new. omega (arith, new, is))) ∙ is);
+      lower_job s (portion_at portions x).job (portion_at portions x).stretch lies.0 lies.2 is
+      ∙ fast.own x within (sym (other_stretch s (portion_at portions x).stretch lies.1 (λ new. omega (arith, new, is))) ∙ is);
   most = λ j known is. fast.most j known (sym (other_job s j known (λ new. omega (arith, new, is))) ∙ is);
 }
 
@@ -259,27 +259,27 @@ any_upper_job s j known new = elim (cases_lt 0 (job_at s.jobs j).work) [
 ]
 
 -- the upper part is as slow as the whole group was
-upper_slow : (s : Splitting) (p q : ℕ) (shares : List Share) → LieInWindows s.jobs s.windows shares →
-    IsSlow s.jobs s.found (s.below + 1) p q shares → IsSlow s.jobs (moved s.found s.new_jobs s.new_stretches) s.below p q shares
-upper_slow s p q shares inside slow = record {
+upper_slow : (s : Splitting) (p q : ℕ) (portions : List Portion) → LieInWindows s.jobs s.windows portions →
+    IsSlow s.jobs s.found (s.below + 1) p q portions → IsSlow s.jobs (moved s.found s.new_jobs s.new_stretches) s.below p q portions
+upper_slow s p q portions inside slow = record {
   served = λ j known is. slow.served j known (any_upper_job s j known is).mine;
   own = λ x within is.
       let lies = inside x within in
-      let upper = any_upper_job s (share_at shares x).job lies.0 is in
-      upper_only s (share_at shares x).job lies.0 upper (share_at shares x).stretch lies.2 (slow.own x within upper.mine);
+      let upper = any_upper_job s (portion_at portions x).job lies.0 is in
+      upper_only s (portion_at portions x).job lies.0 upper (portion_at portions x).stretch lies.2 (slow.own x within upper.mine);
   room = λ k known is. slow.room k known (upper_stretch s k known is).0;
 }
 
--- the fill's own shares lie in windows
-own_inside : (s : Splitting) → LieInWindows s.jobs s.windows s.shares
-own_inside s = λ x within. let own = own_share s x within in (own.runs.known, own.stretch_known, own.runs.inside)
+-- the fill's own portions lie in windows
+own_inside : (s : Splitting) → LieInWindows s.jobs s.windows s.portions
+own_inside s = λ x within. let own = own_portion s x within in (own.runs.known, own.stretch_known, own.runs.inside)
 
 -- between the two parts stands the speed of the fill
 new_boundary : (s : Splitting) → IsBoundary s.jobs s.windows (moved s.found s.new_jobs s.new_stretches) s.below
 new_boundary s = record {
   p = s.p;
   q = s.q;
-  shares = s.shares;
+  portions = s.portions;
   some = s.filled.some_work;
   inside = own_inside s;
   fast = record {
@@ -288,11 +288,11 @@ new_boundary s = record {
         omega (
           arith,
           s.filled.room k known,
-          part_own (group_of s.found.group_of_stretch k) (s.below + 1) (s.p * length_of s.jobs k) upper.0,
+          part_own (group_of s.found.group_of_stretch k) (s.below + 1) (s.p * length_at s.jobs k) upper.0,
           s.filled.fill.room k,
           s.closed.full k (s.own_all k known upper.0) upper.1,
         );
-    own = λ x within is. shared_job s x within (upper_stretch s (share_at s.shares x).stretch (own_share s x within).stretch_known is).1;
+    own = λ x within is. shared_job s x within (upper_stretch s (portion_at s.portions x).stretch (own_portion s x within).stretch_known is).1;
     most = λ j known is.
         omega (
           arith,
@@ -309,14 +309,14 @@ new_boundary s = record {
           omega (arith, s.filled.want j known, part_own (group_of s.found.group_of_job j) (s.below + 1) (s.q * (job_at s.jobs j).work) mine, s.filled.fill.want j)
     ];
     own = λ x within is.
-        let own = own_share s x within in
-        elim (s.split.stretch (share_at s.shares x).stretch (omega (arith, s.search.all_stretches, own.stretch_known))) [
+        let own = own_portion s x within in
+        elim (s.split.stretch (portion_at s.portions x).stretch (omega (arith, s.search.all_stretches, own.stretch_known))) [
           | inl upper ↦ absurd (omega (arith, shared_job s x within upper.1, is))
           | inr same ↦ same.1 ∙ own.stretch
         ];
     room = λ k known is.
         let mine = sym (other_stretch s k known (λ new. omega (arith, new, is))) ∙ is in
-        omega (arith, s.filled.room k known, part_own (group_of s.found.group_of_stretch k) (s.below + 1) (s.p * length_of s.jobs k) mine, s.filled.fill.room k);
+        omega (arith, s.filled.room k known, part_own (group_of s.found.group_of_stretch k) (s.below + 1) (s.p * length_at s.jobs k) mine, s.filled.fill.room k);
   };
 }
 
@@ -353,22 +353,22 @@ stretch_after s k known = elim (s.split.stretch k (omega (arith, s.search.all_st
   ]
 ]
 
--- a marked stretch of the group has a share of a job of the upper part
+-- a marked stretch of the group has a portion of a job of the upper part
 covered_above : (s : Splitting) (k : ℕ) → k < length (stretches s.jobs) → group_of s.new_stretches k ≡ s.below →
     (j : ℕ) × MayRun s.jobs s.windows j k × (group_of s.new_jobs j ≡ group_of s.new_stretches k)
 covered_above s k known new =
     let upper = upper_stretch s k known new in
-    let found = some_share (λ share. share.stretch) s.shares k (omega (
+    let found = some_portion (λ portion. portion.stretch) s.portions k (omega (
       arith,
       s.filled.fill.room k,
       s.closed.full k (s.own_all k known upper.0) upper.1,
       s.filled.room k known,
-      part_own (group_of s.found.group_of_stretch k) (s.below + 1) (s.p * length_of s.jobs k) upper.0,
-      product_some s.p (length_of s.jobs k) s.filled.some_time (s.long k known),
+      part_own (group_of s.found.group_of_stretch k) (s.below + 1) (s.p * length_at s.jobs k) upper.0,
+      product_some s.p (length_at s.jobs k) s.filled.some_time (s.long k known),
     )) in
-    let own = own_share s found.0 found.1 in (
-      (share_at s.shares found.0).job,
-      subst (λ (n : ℕ). MayRun s.jobs s.windows (share_at s.shares found.0).job n) found.2 own.runs,
+    let own = own_portion s found.0 found.1 in (
+      (portion_at s.portions found.0).job,
+      subst (λ (n : ℕ). MayRun s.jobs s.windows (portion_at s.portions found.0).job n) found.2 own.runs,
       shared_job s found.0 found.1 (subst (λ (n : ℕ). IsMarked s.reaches n) (sym found.2) upper.1) ∙ sym new,
     )
 
@@ -458,16 +458,16 @@ between_after s c from upto = elim (cases_eq c s.below) [
       record {
         p = old.p;
         q = old.q;
-        shares = old.shares;
+        portions = old.portions;
         some = old.some;
         inside = old.inside;
         fast = elim (cases_eq c (s.below + 1)) [
           | inl lower ↦
-              subst (λ (n : ℕ). IsFast s.jobs (moved s.found s.new_jobs s.new_stretches) n old.p old.q old.shares) (sym lower)
-              (lower_fast s old.p old.q old.shares old.inside (subst (λ (n : ℕ). IsFast s.jobs s.found n old.p old.q old.shares) lower old.fast))
-          | inr above ↦ kept_fast s c old.p old.q old.shares (omega arith) old.inside old.fast
+              subst (λ (n : ℕ). IsFast s.jobs (moved s.found s.new_jobs s.new_stretches) n old.p old.q old.portions) (sym lower)
+              (lower_fast s old.p old.q old.portions old.inside (subst (λ (n : ℕ). IsFast s.jobs s.found n old.p old.q old.portions) lower old.fast))
+          | inr above ↦ kept_fast s c old.p old.q old.portions (omega arith) old.inside old.fast
         ];
-        slow = kept_slow s (c + 1) old.p old.q old.shares (omega arith) old.inside old.slow;
+        slow = kept_slow s (c + 1) old.p old.q old.portions (omega arith) old.inside old.slow;
       }
 ]
 
@@ -497,11 +497,11 @@ split_search s = record {
       record {
         p = old.p;
         q = old.q;
-        shares = old.shares;
+        portions = old.portions;
         some = old.some;
         inside = old.inside;
         fast = old.fast;
-        slow = upper_slow s old.p old.q old.shares old.inside old.slow;
+        slow = upper_slow s old.p old.q old.portions old.inside old.slow;
       };
   finished = kept_finished s.jobs s.windows s.found s.new_jobs s.new_stretches (alike_job s) (alike_stretch s) s.search.finished;
 }

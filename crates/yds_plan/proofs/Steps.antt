@@ -4,9 +4,9 @@ use Rattle.std.specs.Prelude.{if◌then◌else◌}
 use Rattle.std.proofs.lemmas.Bool.{cases_eq}
 use Rattle.yds_model.specs.Job.{Job}
 use Rattle.yds_model.specs.Event.{stretches}
-use Rattle.yds_plan.specs.declared.finder_windows.Window.{Window}
+use Rattle.yds_events.specs.declared.window.Window.{Window}
 use Rattle.yds_plan.specs.declared.finder_instance.Instance.{Instance}
-use Rattle.yds_plan.specs.Found.{Found, Group, Share, group_of, per_time, per_work}
+use Rattle.yds_plan.specs.Found.{Found, Group, Portion, group_of, per_time, per_work}
 use Rattle.yds_plan.specs.Numbers.{IsOneOf}
 use Rattle.yds_plan.specs.Closure.{AreClosed}
 use Rattle.yds_plan.specs.Search.{IsSearch, IsAttempt, IsRenamed, IsSplitStretch, IsSplit}
@@ -52,14 +52,14 @@ pub few_enough : (jobs : List Job) (windows : List Window) (found : Found) (top 
 few_enough jobs windows found top search few =
     omega (arith, few_groups jobs windows found top 1000000 search, few_left jobs windows found top 1000000 search)
 
-abbrev finishing : (jobs : List Job) (instance : Instance) (found : Found) (top : ℕ) (group : Group) (shares : List Share) (wants' rooms' : List ℕ)
+abbrev finishing : (jobs : List Job) (instance : Instance) (found : Found) (top : ℕ) (group : Group) (portions : List Portion) (wants' rooms' : List ℕ)
     (new_jobs new_stretches : List ℕ) → IsInstance jobs instance → IsSearch jobs instance.windows.items found top 1000000 → top ≤ 1000000 →
-    IsAttempt jobs instance.windows.items found top group shares wants' rooms' → ((j : ℕ) → j < length jobs → get_or wants' j 0 ≡ 0) →
+    IsAttempt jobs instance.windows.items found top group portions wants' rooms' → ((j : ℕ) → j < length jobs → get_or wants' j 0 ≡ 0) →
     length new_jobs ≡ length found.group_of_job → length new_stretches ≡ length found.group_of_stretch →
     ((j : ℕ) → j < length found.group_of_job → IsRenamed top (length found.groups) (group_of found.group_of_job j) (group_of new_jobs j)) →
     ((k : ℕ) → k < length found.group_of_stretch → IsRenamed top (length found.groups) (group_of found.group_of_stretch k) (group_of new_stretches k)) →
     Finishing
-finishing jobs instance found top group shares wants' rooms' new_jobs new_stretches are search within attempt served all_jobs all_stretches job stretch =
+finishing jobs instance found top group portions wants' rooms' new_jobs new_stretches are search within attempt served all_jobs all_stretches job stretch =
     record {
       jobs = jobs;
       windows = instance.windows.items;
@@ -69,7 +69,7 @@ finishing jobs instance found top group shares wants' rooms' new_jobs new_stretc
       group = group;
       wants = attempt.wants;
       rooms = attempt.rooms;
-      shares = shares;
+      portions = portions;
       wants_left = wants';
       rooms_left = rooms';
       new_jobs = new_jobs;
@@ -82,7 +82,7 @@ finishing jobs instance found top group shares wants' rooms' new_jobs new_stretc
       full = λ k known. omega (
         arith,
         over_one (λ i. get_or rooms' i 0) (length (stretches jobs)) k known,
-        balance jobs instance.windows.items found top (per_time group) (per_work group) attempt.wants attempt.rooms shares wants' rooms' are.windows.all attempt.filled,
+        balance jobs instance.windows.items found top (per_time group) (per_work group) attempt.wants attempt.rooms portions wants' rooms' are.windows.all attempt.filled,
         over_zero (λ j. get_or wants' j 0) (length jobs) served,
       );
       work = attempt.work;
@@ -108,19 +108,19 @@ renamed_less top to one other less renamed own = elim renamed [
 ]
 
 -- a group is finished
-pub finish_step : (jobs : List Job) (instance : Instance) (found : Found) (top : ℕ) (group : Group) (shares : List Share) (wants' rooms' : List ℕ)
-    (groups' : List Group) (new_jobs new_stretches : List ℕ) (shares' : List Share) → IsInstance jobs instance →
+pub finish_step : (jobs : List Job) (instance : Instance) (found : Found) (top : ℕ) (group : Group) (portions : List Portion) (wants' rooms' : List ℕ)
+    (groups' : List Group) (new_jobs new_stretches : List ℕ) (portions' : List Portion) → IsInstance jobs instance →
     IsSearch jobs instance.windows.items found top 1000000 → top ≤ 1000000 →
-    IsAttempt jobs instance.windows.items found top group shares wants' rooms' → ((j : ℕ) → j < length jobs → get_or wants' j 0 ≡ 0) →
-    groups' ≡ found.groups ++ group ∷ [] → shares' ≡ found.shares ++ shares →
+    IsAttempt jobs instance.windows.items found top group portions wants' rooms' → ((j : ℕ) → j < length jobs → get_or wants' j 0 ≡ 0) →
+    groups' ≡ found.groups ++ group ∷ [] → portions' ≡ found.portions ++ portions →
     length new_jobs ≡ length found.group_of_job → length new_stretches ≡ length found.group_of_stretch →
     ((j : ℕ) → j < length found.group_of_job → IsRenamed top (length found.groups) (group_of found.group_of_job j) (group_of new_jobs j)) →
     ((k : ℕ) → k < length found.group_of_stretch → IsRenamed top (length found.groups) (group_of found.group_of_stretch k) (group_of new_stretches k)) →
-    IsSearch jobs instance.windows.items (record { groups = groups'; group_of_job = new_jobs; group_of_stretch = new_stretches; shares = shares' }) (top + 1) 1000000
-finish_step jobs instance found top group shares wants' rooms' groups' new_jobs new_stretches shares' are search within attempt served same_groups same_shares all_jobs all_stretches job stretch =
-    subst (λ (xs : List Group). IsSearch jobs instance.windows.items (record { groups = xs; group_of_job = new_jobs; group_of_stretch = new_stretches; shares = shares' }) (top + 1) 1000000) (sym same_groups)
-    (subst (λ (xs : List Share). IsSearch jobs instance.windows.items (record { groups = found.groups ++ group ∷ []; group_of_job = new_jobs; group_of_stretch = new_stretches; shares = xs }) (top + 1) 1000000) (sym same_shares)
-    (finish_search (finishing jobs instance found top group shares wants' rooms' new_jobs new_stretches are search within attempt served all_jobs all_stretches job stretch)))
+    IsSearch jobs instance.windows.items (record { groups = groups'; group_of_job = new_jobs; group_of_stretch = new_stretches; portions = portions' }) (top + 1) 1000000
+finish_step jobs instance found top group portions wants' rooms' groups' new_jobs new_stretches portions' are search within attempt served same_groups same_portions all_jobs all_stretches job stretch =
+    subst (λ (xs : List Group). IsSearch jobs instance.windows.items (record { groups = xs; group_of_job = new_jobs; group_of_stretch = new_stretches; portions = portions' }) (top + 1) 1000000) (sym same_groups)
+    (subst (λ (xs : List Portion). IsSearch jobs instance.windows.items (record { groups = found.groups ++ group ∷ []; group_of_job = new_jobs; group_of_stretch = new_stretches; portions = xs }) (top + 1) 1000000) (sym same_portions)
+    (finish_search (finishing jobs instance found top group portions wants' rooms' new_jobs new_stretches are search within attempt served all_jobs all_stretches job stretch)))
 
 pub finish_smaller : (jobs : List Job) (instance : Instance) (found : Found) (top : ℕ) (new_stretches : List ℕ) → IsInstance jobs instance →
     IsSearch jobs instance.windows.items found top 1000000 → top ≤ 1000000 → length new_stretches ≡ length found.group_of_stretch →
@@ -135,13 +135,13 @@ finish_smaller jobs instance found top new_stretches are search within all_stret
     in_range
     (renamed_less top (length found.groups) (group_of found.group_of_stretch there.0) (group_of new_stretches there.0) (omega (arith, less)) (stretch there.0 in_range) there.2)
 
-abbrev splitting : (jobs : List Job) (instance : Instance) (found : Found) (below : ℕ) (group : Group) (shares : List Share) (wants' rooms' own reaches : List ℕ)
+abbrev splitting : (jobs : List Job) (instance : Instance) (found : Found) (below : ℕ) (group : Group) (portions : List Portion) (wants' rooms' own reaches : List ℕ)
     (new_jobs new_stretches : List ℕ) → IsInstance jobs instance → IsSearch jobs instance.windows.items found (below + 1) 1000000 → below + 1 ≤ 1000000 →
-    IsAttempt jobs instance.windows.items found (below + 1) group shares wants' rooms' → ((j : ℕ) × (j < length jobs) × (1 ≤ get_or wants' j 0)) →
+    IsAttempt jobs instance.windows.items found (below + 1) group portions wants' rooms' → ((j : ℕ) × (j < length jobs) × (1 ≤ get_or wants' j 0)) →
     ((k : ℕ) → k < length (stretches jobs) → group_of found.group_of_stretch k ≡ below + 1 → IsOneOf own k) →
-    AreClosed instance.windows.items own shares wants' rooms' reaches →
+    AreClosed instance.windows.items own portions wants' rooms' reaches →
     IsSplit instance.windows.items reaches (below + 1) found.group_of_job found.group_of_stretch new_jobs new_stretches → Splitting
-splitting jobs instance found below group shares wants' rooms' own reaches new_jobs new_stretches are search within attempt any all closed split =
+splitting jobs instance found below group portions wants' rooms' own reaches new_jobs new_stretches are search within attempt any all closed split =
     record {
       jobs = jobs;
       windows = instance.windows.items;
@@ -152,7 +152,7 @@ splitting jobs instance found below group shares wants' rooms' own reaches new_j
       q = per_work group;
       wants = attempt.wants;
       rooms = attempt.rooms;
-      shares = shares;
+      portions = portions;
       wants_left = wants';
       rooms_left = rooms';
       reaches = reaches;
@@ -178,16 +178,16 @@ split_most reaches top k one other split = elim split [
 ]
 
 -- a group is split
-pub split_step : (jobs : List Job) (instance : Instance) (found : Found) (below : ℕ) (group : Group) (shares : List Share) (wants' rooms' own reaches : List ℕ)
+pub split_step : (jobs : List Job) (instance : Instance) (found : Found) (below : ℕ) (group : Group) (portions : List Portion) (wants' rooms' own reaches : List ℕ)
     (new_jobs new_stretches : List ℕ) → IsInstance jobs instance → IsSearch jobs instance.windows.items found (below + 1) 1000000 → below + 1 ≤ 1000000 →
-    IsAttempt jobs instance.windows.items found (below + 1) group shares wants' rooms' → ((j : ℕ) × (j < length jobs) × (1 ≤ get_or wants' j 0)) →
+    IsAttempt jobs instance.windows.items found (below + 1) group portions wants' rooms' → ((j : ℕ) × (j < length jobs) × (1 ≤ get_or wants' j 0)) →
     ((k : ℕ) → k < length (stretches jobs) → group_of found.group_of_stretch k ≡ below + 1 → IsOneOf own k) →
-    AreClosed instance.windows.items own shares wants' rooms' reaches →
+    AreClosed instance.windows.items own portions wants' rooms' reaches →
     IsSplit instance.windows.items reaches (below + 1) found.group_of_job found.group_of_stretch new_jobs new_stretches →
     IsSearch jobs instance.windows.items (moved found new_jobs new_stretches) below 1000000 × (sum new_stretches < sum found.group_of_stretch)
-split_step jobs instance found below group shares wants' rooms' own reaches new_jobs new_stretches are search within attempt any all closed split =
+split_step jobs instance found below group portions wants' rooms' own reaches new_jobs new_stretches are search within attempt any all closed split =
     let after : IsSearch jobs instance.windows.items (moved found new_jobs new_stretches) below 1000000 =
-    split_search (splitting jobs instance found below group shares wants' rooms' own reaches new_jobs new_stretches are search within attempt any all closed split) in
+    split_search (splitting jobs instance found below group portions wants' rooms' own reaches new_jobs new_stretches are search within attempt any all closed split) in
     let there = after.peopled below (omega arith) (omega arith) in
     let in_range : there.0 < length found.group_of_stretch = omega (arith, search.all_stretches, there.1) in (
       after,
@@ -204,18 +204,18 @@ split_step jobs instance found below group shares wants' rooms' own reaches new_
     )
 
 -- a group with late jobs is split, whatever its number
-pub split_top : (jobs : List Job) (instance : Instance) (found : Found) (top : ℕ) (group : Group) (shares : List Share) (wants' rooms' own reaches : List ℕ)
+pub split_top : (jobs : List Job) (instance : Instance) (found : Found) (top : ℕ) (group : Group) (portions : List Portion) (wants' rooms' own reaches : List ℕ)
     (new_jobs new_stretches : List ℕ) → 1 ≤ top → IsInstance jobs instance → IsSearch jobs instance.windows.items found top 1000000 → top ≤ 1000000 →
-    IsAttempt jobs instance.windows.items found top group shares wants' rooms' → ((j : ℕ) × (j < length jobs) × (1 ≤ get_or wants' j 0)) →
+    IsAttempt jobs instance.windows.items found top group portions wants' rooms' → ((j : ℕ) × (j < length jobs) × (1 ≤ get_or wants' j 0)) →
     ((k : ℕ) → k < length (stretches jobs) → group_of found.group_of_stretch k ≡ top → IsOneOf own k) →
-    AreClosed instance.windows.items own shares wants' rooms' reaches →
+    AreClosed instance.windows.items own portions wants' rooms' reaches →
     IsSplit instance.windows.items reaches top found.group_of_job found.group_of_stretch new_jobs new_stretches →
     IsSearch jobs instance.windows.items (moved found new_jobs new_stretches) (top - 1) 1000000 × (sum new_stretches < sum found.group_of_stretch)
-split_top jobs instance found top group shares wants' rooms' own reaches new_jobs new_stretches some are search within attempt any all closed split =
+split_top jobs instance found top group portions wants' rooms' own reaches new_jobs new_stretches some are search within attempt any all closed split =
     let is : top ≡ top - 1 + 1 = omega arith in
-    split_step jobs instance found (top - 1) group shares wants' rooms' own reaches new_jobs new_stretches are
+    split_step jobs instance found (top - 1) group portions wants' rooms' own reaches new_jobs new_stretches are
     (subst (λ (n : ℕ). IsSearch jobs instance.windows.items found n 1000000) is search)
     (omega arith)
-    (subst (λ (n : ℕ). IsAttempt jobs instance.windows.items found n group shares wants' rooms') is attempt)
+    (subst (λ (n : ℕ). IsAttempt jobs instance.windows.items found n group portions wants' rooms') is attempt)
     any (λ k known mine. all k known (mine ∙ sym is)) closed
     (subst (λ (n : ℕ). IsSplit instance.windows.items reaches n found.group_of_job found.group_of_stretch new_jobs new_stretches) is split)

@@ -7,14 +7,14 @@ use Rattle.std.proofs.lemmas.Bool.{cases_lt, ne_eqb}
 use Rattle.std.proofs.lemmas.Bool.Decides.{nat_tests}
 use Rattle.yds_model.specs.Job.{Job, job_at}
 use Rattle.yds_model.specs.Event.{stretches}
-use Rattle.yds_plan.specs.declared.finder_windows.Window.{Window}
-use Rattle.yds_plan.specs.Found.{Found, Share, share_at, no_share, group_of, length_of}
-use Rattle.yds_plan.specs.Windows.{AreWindows}
+use Rattle.yds_events.specs.declared.window.Window.{Window}
+use Rattle.yds_plan.specs.Found.{Found, Portion, portion_at, no_portion, group_of}
+use Rattle.yds_events.specs.Window.{length_at, AreWindows}
 use Rattle.yds_plan.specs.Numbers.{IsOneOf, numbers_in, AreWritten}
 use Rattle.yds_plan.specs.Search.{IsFilled, IsRenamed, IsSplitStretch, IsSplitJob, IsJobNumber, split_stretch, AreMovedFrom, IsSearch}
 use Rattle.yds_plan.specs.Waiting.{Part, part_at, no_part, part_in, IsWaiting, IsStack}
 use Rattle.yds_plan.proofs.Numbers.{one_or_none, written_at, written_off, in_group, in_has, in_same, in_twice}
-use Rattle.yds_plan.proofs.Shares.{chosen_some, share_counts}
+use Rattle.yds_plan.proofs.Portions.{chosen_some, portion_counts}
 
 -- a number of a group's list is in the group, and no other one
 list_group : (groups : List ℕ) (group : ℕ) (numbers whole : List ℕ) (k : ℕ) → numbers ≡ numbers_in groups group whole → IsOneOf numbers k → group_of groups k ≡ group
@@ -99,36 +99,36 @@ split_job_is P jobs windows old new numbers whole left old_jobs new_jobs own_job
   )
 ]
 
--- shares lie in a group's own stretches
-pub share_own : (jobs : List Job) (windows : List Window) (found : Found) (top p q : ℕ) (wants rooms : List ℕ) (shares : List Share) (wants' rooms' numbers whole : List ℕ) →
-    IsFilled jobs windows found top p q wants rooms shares wants' rooms' → numbers ≡ numbers_in found.group_of_stretch top whole →
-    ((k : ℕ) → k < length (stretches jobs) → IsOneOf whole k) → (x : ℕ) → x < length shares → IsOneOf numbers (share_at shares x).stretch
-share_own jobs windows found top p q wants rooms shares wants' rooms' numbers whole filled same all x within =
-    let part = filled.fill.taken.parts x no_share within in
-    let known : (share_at shares x).stretch < length (stretches jobs) = omega (arith, part.known_stretch, filled.all_rooms) in
-    list_has found.group_of_stretch top numbers whole (share_at shares x).stretch same (all (share_at shares x).stretch known)
-    (chosen_some (group_of found.group_of_stretch (share_at shares x).stretch) top (p * length_of jobs (share_at shares x).stretch)
-    (get_or rooms (share_at shares x).stretch 0) (filled.room (share_at shares x).stretch known)
-    (omega (arith, filled.fill.room (share_at shares x).stretch, share_counts (λ share. share.stretch) shares x within, part.some))).0
+-- portions lie in a group's own stretches
+pub portion_own : (jobs : List Job) (windows : List Window) (found : Found) (top p q : ℕ) (wants rooms : List ℕ) (portions : List Portion) (wants' rooms' numbers whole : List ℕ) →
+    IsFilled jobs windows found top p q wants rooms portions wants' rooms' → numbers ≡ numbers_in found.group_of_stretch top whole →
+    ((k : ℕ) → k < length (stretches jobs) → IsOneOf whole k) → (x : ℕ) → x < length portions → IsOneOf numbers (portion_at portions x).stretch
+portion_own jobs windows found top p q wants rooms portions wants' rooms' numbers whole filled same all x within =
+    let part = filled.fill.taken.parts x no_portion within in
+    let known : (portion_at portions x).stretch < length (stretches jobs) = omega (arith, part.known_stretch, filled.all_rooms) in
+    list_has found.group_of_stretch top numbers whole (portion_at portions x).stretch same (all (portion_at portions x).stretch known)
+    (chosen_some (group_of found.group_of_stretch (portion_at portions x).stretch) top (p * length_at jobs (portion_at portions x).stretch)
+    (get_or rooms (portion_at portions x).stretch 0) (filled.room (portion_at portions x).stretch known)
+    (omega (arith, filled.fill.room (portion_at portions x).stretch, portion_counts (λ portion. portion.stretch) portions x within, part.some))).0
 
 -- jobs that want units are the group's own
-pub wanting_own : (jobs : List Job) (windows : List Window) (found : Found) (top p q : ℕ) (wants rooms : List ℕ) (shares : List Share) (wants' rooms' numbers whole : List ℕ) →
-    IsFilled jobs windows found top p q wants rooms shares wants' rooms' → numbers ≡ numbers_in found.group_of_job top whole →
+pub wanting_own : (jobs : List Job) (windows : List Window) (found : Found) (top p q : ℕ) (wants rooms : List ℕ) (portions : List Portion) (wants' rooms' numbers whole : List ℕ) →
+    IsFilled jobs windows found top p q wants rooms portions wants' rooms' → numbers ≡ numbers_in found.group_of_job top whole →
     ((j : ℕ) → j < length jobs → IsOneOf whole j) → (j : ℕ) → 1 ≤ get_or wants' j 0 → IsOneOf numbers j
-wanting_own jobs windows found top p q wants rooms shares wants' rooms' numbers whole filled same all j some = elim (cases_lt j (length jobs)) [
+wanting_own jobs windows found top p q wants rooms portions wants' rooms' numbers whole filled same all j some = elim (cases_lt j (length jobs)) [
   | inl known ↦
       list_has found.group_of_job top numbers whole j same (all j known)
       (chosen_some (group_of found.group_of_job j) top (q * (job_at jobs j).work) (get_or wants j 0) (filled.want j known) (omega (arith, some, filled.fill.want j))).0
   | inr past ↦ absurd (omega (arith, some, get_or_past wants' j 0 (omega (arith, past, filled.fill.same_wants, filled.all_wants))))
 ]
 
-pub roomy_own : (jobs : List Job) (windows : List Window) (found : Found) (top p q : ℕ) (wants rooms : List ℕ) (shares : List Share) (wants' rooms' numbers whole : List ℕ) →
-    IsFilled jobs windows found top p q wants rooms shares wants' rooms' → numbers ≡ numbers_in found.group_of_stretch top whole →
+pub roomy_own : (jobs : List Job) (windows : List Window) (found : Found) (top p q : ℕ) (wants rooms : List ℕ) (portions : List Portion) (wants' rooms' numbers whole : List ℕ) →
+    IsFilled jobs windows found top p q wants rooms portions wants' rooms' → numbers ≡ numbers_in found.group_of_stretch top whole →
     ((k : ℕ) → k < length (stretches jobs) → IsOneOf whole k) → (k : ℕ) → 1 ≤ get_or rooms' k 0 → IsOneOf numbers k
-roomy_own jobs windows found top p q wants rooms shares wants' rooms' numbers whole filled same all k some = elim (cases_lt k (length (stretches jobs))) [
+roomy_own jobs windows found top p q wants rooms portions wants' rooms' numbers whole filled same all k some = elim (cases_lt k (length (stretches jobs))) [
   | inl known ↦
       list_has found.group_of_stretch top numbers whole k same (all k known)
-      (chosen_some (group_of found.group_of_stretch k) top (p * length_of jobs k) (get_or rooms k 0) (filled.room k known) (omega (arith, some, filled.fill.room k))).0
+      (chosen_some (group_of found.group_of_stretch k) top (p * length_at jobs k) (get_or rooms k 0) (filled.room k known) (omega (arith, some, filled.fill.room k))).0
   | inr past ↦ absurd (omega (arith, some, get_or_past rooms' k 0 (omega (arith, past, filled.fill.same_rooms, filled.all_rooms))))
 ]
 

@@ -1,9 +1,9 @@
 -- What the search begins with, in parts.
 use Rattle.std.specs.Prelude.{◌≡◌, ℕ, ◌+◌, ◌<◌, ◌≤◌, ◌⊎◌, List, length, slice_index}
 use Rattle.yds_model.specs.Job.{Job, job_at}
-use Rattle.yds_plan.specs.declared.finder_windows.Window.{Window}
+use Rattle.yds_events.specs.declared.window.Window.{Window}
 use Rattle.yds_plan.specs.declared.finder_beginning.TheConstants.{LAST}
-use Rattle.yds_plan.specs.Windows.{window_at}
+use Rattle.yds_events.specs.Window.{window_at}
 use Rattle.yds_plan.specs.Found.{group_of}
 
 -- among the first n jobs, for each of m stretches the greatest end of the windows that begin with it, of jobs with work, or 0

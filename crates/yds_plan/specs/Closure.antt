@@ -1,9 +1,9 @@
--- What late jobs close upon: the stretches of their windows, and those of the windows of jobs with a share in such a stretch.
+-- What late jobs close upon: the stretches of their windows, and those of the windows of jobs with a portion in such a stretch.
 use Rattle.std.specs.Prelude.{◌≡◌, ℕ, ◌+◌, ◌<◌, ◌≤◌, nat_le, min, if◌then◌else◌, List, length, slice_index}
 use Rattle.std.specs.List.{slice_index_or}
-use Rattle.yds_plan.specs.declared.finder_windows.Window.{Window}
-use Rattle.yds_plan.specs.Found.{Share, share_at}
-use Rattle.yds_plan.specs.Windows.{window_at, IsIn}
+use Rattle.yds_events.specs.declared.window.Window.{Window}
+use Rattle.yds_plan.specs.Found.{Portion, portion_at}
+use Rattle.yds_events.specs.Window.{window_at, IsIn}
 use Rattle.yds_plan.specs.Numbers.{IsOneOf, values_at}
 
 -- the place of the last of these stretches before `end`
@@ -22,15 +22,15 @@ pub record AreLateReaches (windows : List Window) (wants own : List ℕ) (m : �
       (j : ℕ) × (j < length windows) × (1 ≤ slice_index wants j) × IsLastBefore own (window_at windows j).end p
       × ((window_at windows j).first ≡ slice_index reaches (slice_index own p))
 
--- for each of a group's own stretches, of m, the least first stretch of the windows of the jobs with a share in it
-pub record AreShareReaches (windows : List Window) (shares : List Share) (own : List ℕ) (m : ℕ) (reaches : List ℕ) : Type 0 where
+-- for each of a group's own stretches, of m, the least first stretch of the windows of the jobs with a portion in it
+pub record ArePortionReaches (windows : List Window) (portions : List Portion) (own : List ℕ) (m : ℕ) (reaches : List ℕ) : Type 0 where
   pub all : length reaches ≡ m
-  pub least : (x : ℕ) → x < length shares → slice_index reaches (share_at shares x).stretch ≤ (window_at windows (share_at shares x).job).first
+  pub least : (x : ℕ) → x < length portions → slice_index reaches (portion_at portions x).stretch ≤ (window_at windows (portion_at portions x).job).first
   pub some : (p : ℕ) → p < length own → slice_index reaches (slice_index own p) < m →
-      (x : ℕ) × (x < length shares) × ((share_at shares x).stretch ≡ slice_index own p)
-      × ((window_at windows (share_at shares x).job).first ≡ slice_index reaches (slice_index own p))
+      (x : ℕ) × (x < length portions) × ((portion_at portions x).stretch ≡ slice_index own p)
+      × ((window_at windows (portion_at portions x).job).first ≡ slice_index reaches (slice_index own p))
 
--- from the right: as far to the left as one reaches that ends here, and if it reaches this stretch, as who has a share here
+-- from the right: as far to the left as one reaches that ends here, and if it reaches this stretch, as who has a portion here
 abbrev pub reach_from : ℕ → ℕ → ℕ → ℕ → ℕ
 reach_from after late shared k = if nat_le (min after late) k then min (min after late) shared else min after late
 
@@ -47,19 +47,19 @@ pub record AreReaches (late shared own : List ℕ) (m : ℕ) (reaches : List ℕ
 abbrev pub IsMarked : List ℕ → ℕ → Type 0
 IsMarked reaches k = slice_index reaches k ≤ k
 
--- All own stretches that are marked are full, who has a share in one has only marked ones, and so does who is late.
-pub record AreClosed (windows : List Window) (own : List ℕ) (shares : List Share) (wants rooms reaches : List ℕ) : Type 0 where
+-- All own stretches that are marked are full, who has a portion in one has only marked ones, and so does who is late.
+pub record AreClosed (windows : List Window) (own : List ℕ) (portions : List Portion) (wants rooms reaches : List ℕ) : Type 0 where
   pub full : (k : ℕ) → IsOneOf own k → IsMarked reaches k → slice_index rooms k ≡ 0
-  pub shared : (x k : ℕ) → x < length shares → IsMarked reaches (share_at shares x).stretch → IsIn windows (share_at shares x).job k →
+  pub shared : (x k : ℕ) → x < length portions → IsMarked reaches (portion_at portions x).stretch → IsIn windows (portion_at portions x).job k →
       IsOneOf own k → IsMarked reaches k
   pub late : (j k : ℕ) → j < length windows → 1 ≤ slice_index wants j → IsIn windows j k → IsOneOf own k → IsMarked reaches k
 
--- the reaches of late jobs, directly and through shares
-pub record AreAllReaches (windows : List Window) (wants own : List ℕ) (shares : List Share) (m : ℕ) (reaches : List ℕ) : Type 0 where
+-- the reaches of late jobs, directly and through portions
+pub record AreAllReaches (windows : List Window) (wants own : List ℕ) (portions : List Portion) (m : ℕ) (reaches : List ℕ) : Type 0 where
   pub late : List ℕ
   pub shared : List ℕ
   pub lates : AreLateReaches windows wants own m late
-  pub shareds : AreShareReaches windows shares own m shared
+  pub shareds : ArePortionReaches windows portions own m shared
   pub reach : AreReaches late shared own m reaches
 
 -- jobs of which each has an own stretch in its window, and among which are all that still want units

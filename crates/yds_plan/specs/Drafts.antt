@@ -5,8 +5,10 @@ use Rattle.yds_model.specs.Job.{Job}
 use Rattle.yds_model.specs.Piece.{Piece}
 use Rattle.yds_model.specs.Level.{Level, level_at}
 use Rattle.yds_model.specs.declared.limits.TheConstants.{MAX_JOBS, MAX_LEVEL_LENGTH, MAX_LEVEL_WORK}
-use Rattle.yds_plan.specs.Found.{Group, Found, group_at, group_of, no_piece, stretch_at}
-use Rattle.yds_plan.specs.Laid.{slows_after, level_of, levels_among, level_of_place, joined, together}
+use Rattle.yds_plan.specs.Found.{Group, Found, group_at, group_of}
+use Rattle.yds_events.specs.Stretch.{no_stretch}
+use Rattle.yds_events.specs.Window.{stretch_of}
+use Rattle.yds_plan.specs.Laid.{slows_after, level_of, levels_among, level_of_place, merged, together}
 
 -- what the first groups of a level have together
 abbrev pub among : (Group → ℕ) → List Group → ℕ → ℕ → ℕ
@@ -29,7 +31,7 @@ abbrev pub draft : List Job → Found → ℕ → ℕ → ℕ → Level
 draft jobs found j k level = record {
   work = together (λ group. group.work) found.groups level;
   length = together (λ group. group.length) found.groups level;
-  pieces = joined (map (stretch_at jobs)
+  pieces = merged (map (stretch_of jobs)
       (filter (λ stretch. level_of_place found.groups (group_of found.group_of_stretch stretch) == level) (range_with_len 0 k)));
   members = filter (λ job. level_of_place found.groups (group_of found.group_of_job job) == level) (range_with_len 0 j);
 }
@@ -40,12 +42,12 @@ drafts jobs found j k = map (draft jobs found j k) (range_with_len 0 (levels_amo
 -- the piece begins where the last one ends
 abbrev pub touches_last : List Piece → Piece → Bool
 touches_last pieces piece =
-    if nat_lt 0 (length pieces) then (slice_index_or pieces (length pieces - 1) no_piece).to == piece.from else false
+    if nat_lt 0 (length pieces) then (slice_index_or pieces (length pieces - 1) no_stretch).to == piece.from else false
 
 -- the piece joins the last one, or stands last
 abbrev pub with_next : List Piece → Bool → Piece → List Piece
 with_next pieces true piece =
-    slice_set pieces (length pieces - 1) (record { from = (slice_index_or pieces (length pieces - 1) no_piece).from; to = piece.to })
+    slice_set pieces (length pieces - 1) (record { from = (slice_index_or pieces (length pieces - 1) no_stretch).from; to = piece.to })
 with_next pieces false piece = pieces ++ piece ∷ []
 
 -- the pieces and one more, which joins the last where they touch

@@ -1,12 +1,12 @@
 -- What the search for a plan finds: groups of jobs and stretches, the fastest first, and how many units of work each job
 -- gets in each stretch. That these facts make a plan is proved apart from how they are found.
-use Rattle.std.specs.Prelude.{◌≡◌, ℕ, ◌+◌, ◌-◌, ◌*◌, ◌/◌, ◌<◌, ◌≤◌, List, length, sum_by, ◌==◌, if◌then◌else◌}
+use Rattle.std.specs.Prelude.{◌≡◌, ℕ, ◌+◌, ◌*◌, ◌/◌, ◌<◌, ◌≤◌, List, length, sum_by, ◌==◌, if◌then◌else◌}
 use Rattle.std.specs.List.{slice_index_or, All, range_with_len}
 use Rattle.yds_model.specs.Job.{Job, job_at}
-use Rattle.yds_model.specs.Piece.{Piece}
 use Rattle.yds_model.specs.Divisor.{common_divisor}
 use Rattle.yds_model.specs.Event.{stretches}
 use Rattle.yds_model.specs.EarliestFirst.{ComesFirst}
+use Rattle.yds_events.specs.Window.{stretch_of, length_at, IsInWindow}
 
 -- A group's jobs have so much work together, and its stretches so much length. Its speed is work / length.
 pub record Group : Type 0 where
@@ -14,17 +14,17 @@ pub record Group : Type 0 where
   pub length : ℕ
 
 -- a job gets so many units in a stretch, which is named by its number among all stretches, from 0
-pub record Share : Type 0 where
+pub record Portion : Type 0 where
   pub job : ℕ
   pub stretch : ℕ
   pub units : ℕ
 
--- The groups in order, the place of each job's group and of each stretch's (no group's where there is none), and the shares.
+-- The groups in order, the place of each job's group and of each stretch's (no group's where there is none), and the portions.
 pub record Found : Type 0 where
   pub groups : List Group
   pub group_of_job : List ℕ
   pub group_of_stretch : List ℕ
-  pub shares : List Share
+  pub portions : List Portion
 
 abbrev pub no_group : Group
 no_group = record { work = 0; length = 0 }
@@ -40,51 +40,37 @@ per_time group = group.work / common_divisor group.work group.length
 abbrev pub per_work : Group → ℕ
 per_work group = group.length / common_divisor group.work group.length
 
-abbrev pub no_piece : Piece
-no_piece = record { from = 0; to = 0 }
+abbrev pub no_portion : Portion
+no_portion = record { job = 0; stretch = 0; units = 0 }
 
-abbrev pub stretch_at : List Job → ℕ → Piece
-stretch_at jobs k = slice_index_or (stretches jobs) k no_piece
-
-abbrev pub length_of : List Job → ℕ → ℕ
-length_of jobs k = (stretch_at jobs k).to - (stretch_at jobs k).from
-
-abbrev pub no_share : Share
-no_share = record { job = 0; stretch = 0; units = 0 }
-
-abbrev pub share_at : List Share → ℕ → Share
-share_at shares x = slice_index_or shares x no_share
+abbrev pub portion_at : List Portion → ℕ → Portion
+portion_at portions x = slice_index_or portions x no_portion
 
 abbrev pub group_of : List ℕ → ℕ → ℕ
 group_of places i = slice_index_or places i 0
-
--- the stretch lies in the job's window
-pub record IsInWindow (jobs : List Job) (job k : ℕ) : Type 0 where
-  pub released : (job_at jobs job).release ≤ (stretch_at jobs k).from
-  pub due : (stretch_at jobs k).to ≤ (job_at jobs job).deadline
 
 -- all work of the jobs of a group, all length of its stretches
 abbrev pub work_in : List Job → List ℕ → ℕ → ℕ → ℕ
 work_in jobs places group n = sum_by (λ j. if group_of places j == group then (job_at jobs j).work else 0) (range_with_len 0 n)
 
 abbrev pub length_in : List Job → List ℕ → ℕ → ℕ → ℕ
-length_in jobs places group n = sum_by (λ k. if group_of places k == group then length_of jobs k else 0) (range_with_len 0 n)
+length_in jobs places group n = sum_by (λ k. if group_of places k == group then length_at jobs k else 0) (range_with_len 0 n)
 
 -- the units that a job gets, and those that are done in a stretch
-abbrev pub units_of_job : List Share → ℕ → ℕ
-units_of_job shares job = sum_by (λ share. if share.job == job then share.units else 0) shares
+abbrev pub units_of_job : List Portion → ℕ → ℕ
+units_of_job portions job = sum_by (λ portion. if portion.job == job then portion.units else 0) portions
 
-abbrev pub units_in_stretch : List Share → ℕ → ℕ
-units_in_stretch shares k = sum_by (λ share. if share.stretch == k then share.units else 0) shares
+abbrev pub units_in_stretch : List Portion → ℕ → ℕ
+units_in_stretch portions k = sum_by (λ portion. if portion.stretch == k then portion.units else 0) portions
 
--- a share is one of a job in a stretch of its window, and of its group
-pub record IsShare (jobs : List Job) (found : Found) (share : Share) : Type 0 where
-  pub known : share.job < length jobs
-  pub known_stretch : share.stretch < length (stretches jobs)
-  pub some : 1 ≤ share.units
-  pub in_window : IsInWindow jobs share.job share.stretch
-  pub grouped : group_of found.group_of_job share.job < length found.groups
-  pub same_group : group_of found.group_of_stretch share.stretch ≡ group_of found.group_of_job share.job
+-- a portion is one of a job in a stretch of its window, and of its group
+pub record IsPortion (jobs : List Job) (found : Found) (portion : Portion) : Type 0 where
+  pub known : portion.job < length jobs
+  pub known_stretch : portion.stretch < length (stretches jobs)
+  pub some : 1 ≤ portion.units
+  pub in_window : IsInWindow jobs portion.job portion.stretch
+  pub grouped : group_of found.group_of_job portion.job < length found.groups
+  pub same_group : group_of found.group_of_stretch portion.stretch ≡ group_of found.group_of_job portion.job
 
 pub record IsFound (jobs : List Job) (found : Found) : Type 0 where
   -- jobs with work are in a group, and no other job is; a stretch is in one or in none
@@ -103,18 +89,18 @@ pub record IsFound (jobs : List Job) (found : Found) : Type 0 where
   pub windows : (j k : ℕ) → j < length jobs → 1 ≤ (job_at jobs j).work → k < length (stretches jobs) → IsInWindow jobs j k →
       group_of found.group_of_stretch k ≤ group_of found.group_of_job j
   -- each job gets all its units, and each stretch of a group is full
-  pub shares : All (IsShare jobs found) found.shares
+  pub portions : All (IsPortion jobs found) found.portions
   pub served : (j : ℕ) → j < length jobs → 1 ≤ (job_at jobs j).work →
-      units_of_job found.shares j ≡ per_work (group_at found.groups (group_of found.group_of_job j)) * (job_at jobs j).work
+      units_of_job found.portions j ≡ per_work (group_at found.groups (group_of found.group_of_job j)) * (job_at jobs j).work
   pub full : (k : ℕ) → k < length (stretches jobs) → group_of found.group_of_stretch k < length found.groups →
-      units_in_stretch found.shares k ≡ per_time (group_at found.groups (group_of found.group_of_stretch k)) * length_of jobs k
-  -- In a stretch the shares stand in order of deadline, and of number where deadlines are equal, one for a job.
-  pub in_order : (x y : ℕ) → x < y → y < length found.shares → (share_at found.shares x).stretch ≡ (share_at found.shares y).stretch →
-      ((share_at found.shares x).job ≡ (share_at found.shares y).job → ⊥) × ComesFirst jobs (share_at found.shares x).job (share_at found.shares y).job
+      units_in_stretch found.portions k ≡ per_time (group_at found.groups (group_of found.group_of_stretch k)) * length_at jobs k
+  -- In a stretch the portions stand in order of deadline, and of number where deadlines are equal, one for a job.
+  pub in_order : (x y : ℕ) → x < y → y < length found.portions → (portion_at found.portions x).stretch ≡ (portion_at found.portions y).stretch →
+      ((portion_at found.portions x).job ≡ (portion_at found.portions y).job → ⊥) × ComesFirst jobs (portion_at found.portions x).job (portion_at found.portions y).job
   -- A job that gets units in a stretch found each earlier stretch of its window and group full, of jobs that come before it.
-  pub earliest : (x y : ℕ) → x < length found.shares → y < length found.shares →
-      group_of found.group_of_job (share_at found.shares x).job ≡ group_of found.group_of_job (share_at found.shares y).job →
-      (job_at jobs (share_at found.shares x).job).release ≤ (stretch_at jobs (share_at found.shares y).stretch).from →
-      (share_at found.shares y).stretch < (share_at found.shares x).stretch →
-      ComesFirst jobs (share_at found.shares y).job (share_at found.shares x).job
-  pub few : length found.shares ≤ length jobs + length (stretches jobs)
+  pub earliest : (x y : ℕ) → x < length found.portions → y < length found.portions →
+      group_of found.group_of_job (portion_at found.portions x).job ≡ group_of found.group_of_job (portion_at found.portions y).job →
+      (job_at jobs (portion_at found.portions x).job).release ≤ (stretch_of jobs (portion_at found.portions y).stretch).from →
+      (portion_at found.portions y).stretch < (portion_at found.portions x).stretch →
+      ComesFirst jobs (portion_at found.portions y).job (portion_at found.portions x).job
+  pub few : length found.portions ≤ length jobs + length (stretches jobs)

@@ -4,8 +4,8 @@ use Rattle.yds_model.specs.Job.{Job, job_at}
 use Rattle.yds_model.specs.Event.{stretches}
 use Rattle.yds_model.specs.declared.limits.TheConstants.{MAX_JOBS, MAX_TIME, MAX_WORK}
 use Rattle.yds_plan.specs.declared.finder_instance.Instance.{Instance}
-use Rattle.yds_plan.specs.Found.{length_of}
-use Rattle.yds_plan.specs.Windows.{AreWindows, IsOrder}
+use Rattle.yds_events.specs.Window.{length_at, AreWindows}
+use Rattle.yds_plan.specs.Order.{IsOrder}
 
 pub record IsInstance (jobs : List Job) (instance : Instance) : Type 0 where
   pub few : length jobs ≤ MAX_JOBS
@@ -16,6 +16,6 @@ pub record IsInstance (jobs : List Job) (instance : Instance) : Type 0 where
   pub work : (j : ℕ) → j < length jobs → slice_index instance.works.items j ≡ (job_at jobs j).work
   pub work_small : (j : ℕ) → j < length jobs → (job_at jobs j).work ≤ MAX_WORK
   pub all_lengths : length instance.lengths.items ≡ length (stretches jobs)
-  pub length_is : (k : ℕ) → k < length (stretches jobs) → slice_index instance.lengths.items k ≡ length_of jobs k
-  pub length_some : (k : ℕ) → k < length (stretches jobs) → 1 ≤ length_of jobs k
-  pub length_small : (k : ℕ) → k < length (stretches jobs) → length_of jobs k ≤ MAX_TIME
+  pub length_is : (k : ℕ) → k < length (stretches jobs) → slice_index instance.lengths.items k ≡ length_at jobs k
+  pub length_some : (k : ℕ) → k < length (stretches jobs) → 1 ≤ length_at jobs k
+  pub length_small : (k : ℕ) → k < length (stretches jobs) → length_at jobs k ≤ MAX_TIME

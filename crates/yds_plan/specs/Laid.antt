@@ -7,7 +7,8 @@ use Rattle.yds_model.specs.Slot.{WrittenSlot}
 use Rattle.yds_model.specs.Piece.{Piece}
 use Rattle.yds_model.specs.Level.{Level}
 use Rattle.yds_model.specs.Event.{stretches}
-use Rattle.yds_plan.specs.Found.{Group, Share, Found, group_at, per_time, per_work, stretch_at, group_of}
+use Rattle.yds_plan.specs.Found.{Group, Portion, Found, group_at, per_time, per_work, group_of}
+use Rattle.yds_events.specs.Window.{stretch_of}
 
 -- So much, and so many parts of which `den` make one. It is whole where they make whole ones, and else it has the
 -- denominator `den`.
@@ -16,31 +17,31 @@ with_parts whole parts den =
     if parts % den == 0 then of_whole (whole + parts / den)
     else record { whole = whole + parts / den; num = parts % den; den = den }
 
--- the slot of a share, in a stretch that begins at `start`, where `done` units are done before it
-abbrev pub slot_for : Group → ℕ → ℕ → Share → WrittenSlot
-slot_for group start done share = record {
-  job = share.job;
+-- the slot of a portion, in a stretch that begins at `start`, where `done` units are done before it
+abbrev pub slot_for : Group → ℕ → ℕ → Portion → WrittenSlot
+slot_for group start done portion = record {
+  job = portion.job;
   from = with_parts start done (per_time group);
-  to = with_parts start (done + share.units) (per_time group);
-  work = with_parts 0 share.units (per_work group);
+  to = with_parts start (done + portion.units) (per_time group);
+  work = with_parts 0 portion.units (per_work group);
 }
 
--- one share after another, without a gap
-abbrev pub slots_from : Group → ℕ → ℕ → List Share → List WrittenSlot
+-- one portion after another, without a gap
+abbrev pub slots_from : Group → ℕ → ℕ → List Portion → List WrittenSlot
 slots_from group start done [] = []
-slots_from group start done (share ∷ shares) = slot_for group start done share ∷ slots_from group start (done + share.units) shares
+slots_from group start done (portion ∷ portions) = slot_for group start done portion ∷ slots_from group start (done + portion.units) portions
 
--- the shares of a stretch, in the order in which they were found
-abbrev pub shares_in : List Share → ℕ → List Share
-shares_in shares k = filter (λ share. share.stretch == k) shares
+-- the portions of a stretch, in the order in which they were found
+abbrev pub portions_in : List Portion → ℕ → List Portion
+portions_in portions k = filter (λ portion. portion.stretch == k) portions
 
-abbrev pub slots_in : List Job → Found → ℕ → List WrittenSlot
-slots_in jobs found k =
-    slots_from (group_at found.groups (group_of found.group_of_stretch k)) (stretch_at jobs k).from 0 (shares_in found.shares k)
+abbrev pub slots_in_stretch : List Job → Found → ℕ → List WrittenSlot
+slots_in_stretch jobs found k =
+    slots_from (group_at found.groups (group_of found.group_of_stretch k)) (stretch_of jobs k).from 0 (portions_in found.portions k)
 
 -- The slots of a plan: each stretch is filled from its start.
 abbrev pub slots_of : List Job → Found → List WrittenSlot
-slots_of jobs found = flat_map (slots_in jobs found) (range_with_len 0 (length (stretches jobs)))
+slots_of jobs found = flat_map (slots_in_stretch jobs found) (range_with_len 0 (length (stretches jobs)))
 
 -- the group after this place is slower than the one at it
 abbrev pub slows_after : List Group → ℕ → Bool
@@ -62,14 +63,14 @@ abbrev pub level_of_place : List Group → ℕ → ℕ
 level_of_place groups i = if nat_lt i (length groups) then level_of groups i else length groups
 
 -- pieces in order, of which those that touch are one
-abbrev pub join : Piece → List Piece → List Piece
-join piece [] = piece ∷ []
-join piece (next ∷ pieces) =
+abbrev pub merge : Piece → List Piece → List Piece
+merge piece [] = piece ∷ []
+merge piece (next ∷ pieces) =
     if piece.to == next.from then record { from = piece.from; to = next.to } ∷ pieces else piece ∷ next ∷ pieces
 
-abbrev pub joined : List Piece → List Piece
-joined [] = []
-joined (piece ∷ pieces) = join piece (joined pieces)
+abbrev pub merged : List Piece → List Piece
+merged [] = []
+merged (piece ∷ pieces) = merge piece (merged pieces)
 
 -- the jobs and the stretches of a level, by number, and what its groups have together
 abbrev pub members_of : List Job → Found → ℕ → List ℕ
@@ -87,7 +88,7 @@ abbrev pub level_numbered : List Job → Found → ℕ → Level
 level_numbered jobs found level = record {
   work = together (λ group. group.work) found.groups level;
   length = together (λ group. group.length) found.groups level;
-  pieces = joined (map (stretch_at jobs) (stretches_of jobs found level));
+  pieces = merged (map (stretch_of jobs) (stretches_of jobs found level));
   members = members_of jobs found level;
 }
 

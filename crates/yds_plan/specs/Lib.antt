@@ -3,7 +3,7 @@ pub mod Views
 pub mod Laid
 pub mod Drafts
 pub mod Room
-pub mod Windows
+pub mod Order
 pub mod Fill
 pub mod Closure
 pub mod Search

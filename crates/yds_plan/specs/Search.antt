@@ -5,51 +5,52 @@ use Rattle.std.specs.List.{All, range_with_len}
 use Rattle.yds_model.specs.Job.{Job, job_at}
 use Rattle.yds_model.specs.Event.{stretches}
 use Rattle.yds_model.specs.EarliestFirst.{ComesFirst}
-use Rattle.yds_plan.specs.declared.finder_windows.Window.{Window}
-use Rattle.yds_plan.specs.Found.{Found, Group, Share, share_at, group_at, group_of, length_of, work_in, length_in, per_time, per_work, units_of_job, units_in_stretch, IsShare}
-use Rattle.yds_plan.specs.Windows.{IsIn, Precedes}
+use Rattle.yds_events.specs.declared.window.Window.{Window}
+use Rattle.yds_plan.specs.Found.{Found, Group, Portion, portion_at, group_at, group_of, work_in, length_in, per_time, per_work, units_of_job, units_in_stretch, IsPortion}
+use Rattle.yds_events.specs.Window.{length_at, IsIn}
+use Rattle.yds_plan.specs.Order.{Precedes}
 use Rattle.yds_plan.specs.Fill.{IsFill}
 use Rattle.yds_plan.specs.Closure.{IsMarked}
 use Rattle.yds_plan.specs.Numbers.{IsOneOf}
 
--- A group is not slower than p / q: shares fill its stretches at that speed, and are all of its own jobs.
-pub record IsFast (jobs : List Job) (found : Found) (group p q : ℕ) (shares : List Share) : Type 0 where
-  pub full : (k : ℕ) → k < length (stretches jobs) → group_of found.group_of_stretch k ≡ group → p * length_of jobs k ≤ units_in_stretch shares k
-  pub own : (x : ℕ) → x < length shares → group_of found.group_of_stretch (share_at shares x).stretch ≡ group →
-      group_of found.group_of_job (share_at shares x).job ≡ group
-  pub most : (j : ℕ) → j < length jobs → group_of found.group_of_job j ≡ group → units_of_job shares j ≤ q * (job_at jobs j).work
+-- A group is not slower than p / q: portions fill its stretches at that speed, and are all of its own jobs.
+pub record IsFast (jobs : List Job) (found : Found) (group p q : ℕ) (portions : List Portion) : Type 0 where
+  pub full : (k : ℕ) → k < length (stretches jobs) → group_of found.group_of_stretch k ≡ group → p * length_at jobs k ≤ units_in_stretch portions k
+  pub own : (x : ℕ) → x < length portions → group_of found.group_of_stretch (portion_at portions x).stretch ≡ group →
+      group_of found.group_of_job (portion_at portions x).job ≡ group
+  pub most : (j : ℕ) → j < length jobs → group_of found.group_of_job j ≡ group → units_of_job portions j ≤ q * (job_at jobs j).work
 
--- A group is not faster than p / q: shares serve its jobs at that speed, and are all in its own stretches.
-pub record IsSlow (jobs : List Job) (found : Found) (group p q : ℕ) (shares : List Share) : Type 0 where
-  pub served : (j : ℕ) → j < length jobs → group_of found.group_of_job j ≡ group → q * (job_at jobs j).work ≤ units_of_job shares j
-  pub own : (x : ℕ) → x < length shares → group_of found.group_of_job (share_at shares x).job ≡ group →
-      group_of found.group_of_stretch (share_at shares x).stretch ≡ group
-  pub room : (k : ℕ) → k < length (stretches jobs) → group_of found.group_of_stretch k ≡ group → units_in_stretch shares k ≤ p * length_of jobs k
+-- A group is not faster than p / q: portions serve its jobs at that speed, and are all in its own stretches.
+pub record IsSlow (jobs : List Job) (found : Found) (group p q : ℕ) (portions : List Portion) : Type 0 where
+  pub served : (j : ℕ) → j < length jobs → group_of found.group_of_job j ≡ group → q * (job_at jobs j).work ≤ units_of_job portions j
+  pub own : (x : ℕ) → x < length portions → group_of found.group_of_job (portion_at portions x).job ≡ group →
+      group_of found.group_of_stretch (portion_at portions x).stretch ≡ group
+  pub room : (k : ℕ) → k < length (stretches jobs) → group_of found.group_of_stretch k ≡ group → units_in_stretch portions k ≤ p * length_at jobs k
 
--- shares of jobs in stretches of their windows
-abbrev pub LieInWindows : List Job → List Window → List Share → Type 0
-LieInWindows jobs windows shares = (x : ℕ) → x < length shares → ((share_at shares x).job < length jobs)
-    × ((share_at shares x).stretch < length (stretches jobs)) × IsIn windows (share_at shares x).job (share_at shares x).stretch
+-- portions of jobs in stretches of their windows
+abbrev pub LieInWindows : List Job → List Window → List Portion → Type 0
+LieInWindows jobs windows portions = (x : ℕ) → x < length portions → ((portion_at portions x).job < length jobs)
+    × ((portion_at portions x).stretch < length (stretches jobs)) × IsIn windows (portion_at portions x).job (portion_at portions x).stretch
 
 -- one group is not slower than the next, because of a speed between them
 pub record IsBoundary (jobs : List Job) (windows : List Window) (found : Found) (group : ℕ) : Type 0 where
   pub p : ℕ
   pub q : ℕ
-  pub shares : List Share
+  pub portions : List Portion
   pub some : 1 ≤ q
-  pub inside : LieInWindows jobs windows shares
-  pub fast : IsFast jobs found group p q shares
-  pub slow : IsSlow jobs found (group + 1) p q shares
+  pub inside : LieInWindows jobs windows portions
+  pub fast : IsFast jobs found group p q portions
+  pub slow : IsSlow jobs found (group + 1) p q portions
 
 -- the last finished group is not slower than the next one to be filled
 pub record IsLead (jobs : List Job) (windows : List Window) (found : Found) (number group : ℕ) : Type 0 where
   pub p : ℕ
   pub q : ℕ
-  pub shares : List Share
+  pub portions : List Portion
   pub some : 1 ≤ q
-  pub inside : LieInWindows jobs windows shares
+  pub inside : LieInWindows jobs windows portions
   pub fast : p * (group_at found.groups number).length ≤ q * (group_at found.groups number).work
-  pub slow : IsSlow jobs found group p q shares
+  pub slow : IsSlow jobs found group p q portions
 
 abbrev pub finished_count : List ℕ → ℕ → ℕ → ℕ
 finished_count places groups n = sum_by (λ i. if nat_lt (group_of places i) groups then 1 else 0) (range_with_len 0 n)
@@ -62,19 +63,19 @@ pub record IsFinished (jobs : List Job) (windows : List Window) (found : Found) 
   pub lengths : (i : ℕ) → i < length found.groups → (group_at found.groups i).length ≡ length_in jobs found.group_of_stretch i (length (stretches jobs))
   pub order : (i : ℕ) → i + 1 < length found.groups →
       (group_at found.groups (i + 1)).work * (group_at found.groups i).length ≤ (group_at found.groups i).work * (group_at found.groups (i + 1)).length
-  pub shares : All (IsShare jobs found) found.shares
+  pub portions : All (IsPortion jobs found) found.portions
   pub served : (j : ℕ) → j < length jobs → group_of found.group_of_job j < length found.groups →
-      units_of_job found.shares j ≡ per_work (group_at found.groups (group_of found.group_of_job j)) * (job_at jobs j).work
+      units_of_job found.portions j ≡ per_work (group_at found.groups (group_of found.group_of_job j)) * (job_at jobs j).work
   pub full : (k : ℕ) → k < length (stretches jobs) → group_of found.group_of_stretch k < length found.groups →
-      units_in_stretch found.shares k ≡ per_time (group_at found.groups (group_of found.group_of_stretch k)) * length_of jobs k
-  pub in_order : (x y : ℕ) → x < y → y < length found.shares → (share_at found.shares x).stretch ≡ (share_at found.shares y).stretch →
-      Precedes jobs (share_at found.shares x).job (share_at found.shares y).job
-  pub earliest : (x y : ℕ) → x < length found.shares → y < length found.shares →
-      group_of found.group_of_job (share_at found.shares x).job ≡ group_of found.group_of_job (share_at found.shares y).job →
-      IsIn windows (share_at found.shares x).job (share_at found.shares y).stretch →
-      (share_at found.shares y).stretch < (share_at found.shares x).stretch →
-      ComesFirst jobs (share_at found.shares y).job (share_at found.shares x).job
-  pub few : length found.shares ≤ finished_count found.group_of_job (length found.groups) (length jobs)
+      units_in_stretch found.portions k ≡ per_time (group_at found.groups (group_of found.group_of_stretch k)) * length_at jobs k
+  pub in_order : (x y : ℕ) → x < y → y < length found.portions → (portion_at found.portions x).stretch ≡ (portion_at found.portions y).stretch →
+      Precedes jobs (portion_at found.portions x).job (portion_at found.portions y).job
+  pub earliest : (x y : ℕ) → x < length found.portions → y < length found.portions →
+      group_of found.group_of_job (portion_at found.portions x).job ≡ group_of found.group_of_job (portion_at found.portions y).job →
+      IsIn windows (portion_at found.portions x).job (portion_at found.portions y).stretch →
+      (portion_at found.portions y).stretch < (portion_at found.portions x).stretch →
+      ComesFirst jobs (portion_at found.portions y).job (portion_at found.portions x).job
+  pub few : length found.portions ≤ finished_count found.group_of_job (length found.groups) (length jobs)
       + finished_count found.group_of_stretch (length found.groups) (length (stretches jobs))
 
 -- a job that wants something, and its window has the stretch
@@ -106,14 +107,14 @@ pub record IsSearch (jobs : List Job) (windows : List Window) (found : Found) (t
 
 -- group `top` has been filled at p / q, its average speed in lowest terms
 pub record IsFilled (jobs : List Job) (windows : List Window) (found : Found) (top p q : ℕ)
-    (wants rooms : List ℕ) (shares : List Share) (wants' rooms' : List ℕ) : Type 0 where
-  pub fill : IsFill jobs windows wants rooms shares wants' rooms'
+    (wants rooms : List ℕ) (portions : List Portion) (wants' rooms' : List ℕ) : Type 0 where
+  pub fill : IsFill jobs windows wants rooms portions wants' rooms'
   pub all_wants : length wants ≡ length jobs
   pub all_rooms : length rooms ≡ length (stretches jobs)
   pub want : (j : ℕ) → j < length jobs →
       slice_index wants j ≡ (if group_of found.group_of_job j == top then q * (job_at jobs j).work else 0)
   pub room : (k : ℕ) → k < length (stretches jobs) →
-      slice_index rooms k ≡ (if group_of found.group_of_stretch k == top then p * length_of jobs k else 0)
+      slice_index rooms k ≡ (if group_of found.group_of_stretch k == top then p * length_at jobs k else 0)
   pub some_time : 1 ≤ p
   pub some_work : 1 ≤ q
   pub balanced : p * length_in jobs found.group_of_stretch top (length (stretches jobs)) ≡ q * work_in jobs found.group_of_job top (length jobs)
@@ -159,14 +160,14 @@ pub record IsBeginning (jobs : List Job) (windows : List Window) (found : Found)
       (((j : ℕ) × MayRun jobs windows j k) × (group_of found.group_of_stretch k ≡ last))
       ⊎ (((j : ℕ) → MayRun jobs windows j k → ⊥) × (group_of found.group_of_stretch k ≡ last + 1))
   pub no_groups : found.groups ≡ []
-  pub no_shares : found.shares ≡ []
+  pub no_portions : found.portions ≡ []
 
 -- a group has been filled at its average speed
 pub record IsAttempt (jobs : List Job) (windows : List Window) (found : Found) (top : ℕ) (group : Group)
-    (shares : List Share) (wants' rooms' : List ℕ) : Type 0 where
+    (portions : List Portion) (wants' rooms' : List ℕ) : Type 0 where
   pub wants : List ℕ
   pub rooms : List ℕ
-  pub filled : IsFilled jobs windows found top (per_time group) (per_work group) wants rooms shares wants' rooms'
+  pub filled : IsFilled jobs windows found top (per_time group) (per_work group) wants rooms portions wants' rooms'
   pub work : group.work ≡ work_in jobs found.group_of_job top (length jobs)
   pub length_is : group.length ≡ length_in jobs found.group_of_stretch top (length (stretches jobs))
   pub some_work : 1 ≤ group.work

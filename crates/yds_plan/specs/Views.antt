@@ -1,17 +1,17 @@
 -- What the search's own structs stand for.
 use Rattle.std.specs.Prelude.{List, map}
-use Rattle.yds_plan.specs.declared.share.Share as shares
+use Rattle.yds_plan.specs.declared.portion.Portion as portions
 use Rattle.yds_plan.specs.declared.found.Group as groups
 use Rattle.yds_plan.specs.declared.found.Found as founds
 use Rattle.yds_plan.specs.declared.finder_waiting.Waiting as waitings
-use Rattle.yds_plan.specs.Found.{Group, Share, Found}
+use Rattle.yds_plan.specs.Found.{Group, Portion, Found}
 use Rattle.yds_plan.specs.Waiting.{Part}
 
-abbrev pub share_view : shares.Share → Share
-share_view share = record { job = share.job; stretch = share.stretch; units = share.units }
+abbrev pub portion_view : portions.Portion → Portion
+portion_view portion = record { job = portion.job; stretch = portion.stretch; units = portion.units }
 
-abbrev pub shares_view : List shares.Share → List Share
-shares_view shares = map share_view shares
+abbrev pub portions_view : List portions.Portion → List Portion
+portions_view portions = map portion_view portions
 
 abbrev pub group_view : groups.Group → Group
 group_view group = record { work = group.work; length = group.length }
@@ -21,7 +21,7 @@ found_view found = record {
   groups = map group_view found.groups.items;
   group_of_job = found.group_of_job.items;
   group_of_stretch = found.group_of_stretch.items;
-  shares = shares_view found.shares.items;
+  portions = portions_view found.portions.items;
 }
 
 abbrev pub part_view : waitings.Waiting → Part

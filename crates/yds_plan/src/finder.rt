@@ -1,7 +1,7 @@
 ghost use Rattle.std.specs.Prelude.{◌≡◌, ◌+◌, ◌*◌, ◌<◌, ◌≤◌, ◌⊎◌, length, sum, IfOk, OnOk};
 ghost use Rattle.std.specs.List.{All};
 ghost use Rattle.yds_model.specs.Job.{IsJob};
-ghost use Rattle.yds_model.specs.Event.{event_points};
+ghost use Rattle.yds_model.specs.Event.{stretches};
 ghost use Rattle.yds_model.specs.declared.limits.TheConstants.{MAX_JOBS};
 ghost use Rattle.yds_plan.specs.Found.{IsFound};
 ghost use Rattle.yds_plan.specs.Views.{found_view, part_view, parts_view};
@@ -14,12 +14,13 @@ use crate::finder_amounts::clear;
 use crate::finder_attempt::fill_group;
 use crate::finder_beginning::{LAST, beginning, first_group};
 use crate::finder_instance::{Instance, prepare};
+use crate::finder_places::guess_places;
 use crate::finder_step::conclude;
 use crate::finder_waiting::{Waiting, all_numbers, members};
-use crate::finder_windows::guess_places;
 use crate::finder_workspace::{Workspace, blank_workspace};
 use crate::found::Found;
 use std::alloc::Global;
+use yds_events::Stretch;
 use yds_model::{JobRow, Memory};
 
 /// The workspace is blank again, once a group is done with.
@@ -102,14 +103,14 @@ fn first_stack(
     Ok(stack)
 }
 
-/// Groups of jobs and stretches, the fastest first, with the shares of jobs in stretches.
-pub(crate) fn find(alloc: Global, rows: &[JobRow], times: &[u32]) -> Result<Found, Memory>
+/// Groups of jobs and stretches, the fastest first, with the portions of jobs in stretches.
+pub(crate) fn find(alloc: Global, rows: &[JobRow], timeline: &[Stretch]) -> Result<Found, Memory>
     requires few { length rows.now ≤ MAX_JOBS }
     requires jobs { All IsJob rows.now }
-    requires times { times.now ≡ event_points rows.now }
+    requires timeline { timeline.now ≡ stretches rows.now }
     ensures { IfOk result (λ found. IsFound rows.now (found_view found)) }
 {
-    let instance = prepare(alloc, rows, times)?;
+    let instance = prepare(alloc, rows, timeline)?;
     let mut found = beginning(alloc, rows, &instance.windows, instance.lengths.len())?;
     let mut space = blank_workspace(alloc, rows.len(), instance.lengths.len())?;
     let mut top = first_group(&instance.works);

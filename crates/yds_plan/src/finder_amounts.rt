@@ -1,11 +1,12 @@
-ghost use Rattle.std.specs.Prelude.{◌≡◌, ℕ, ◌+◌, ◌-◌, ◌*◌, ◌^◌, ◌<◌, ◌≤◌, length, map, sum_by, slice_index, IfOk};
+ghost use Rattle.std.specs.Prelude.{◌≡◌, ℕ, ◌*◌, ◌^◌, ◌<◌, ◌≤◌, length, map, sum_by, slice_index, IfOk};
 ghost use Rattle.std.specs.List.{All};
 ghost use Rattle.yds_model.specs.Divisor.{common_divisor};
 ghost use Rattle.yds_model.specs.declared.limits.TheConstants.{MAX_JOBS};
-ghost use Rattle.yds_plan.specs.Amounts.{AreLengths};
+ghost use Rattle.yds_events.specs.Stretch.{length_of};
 ghost use Rattle.yds_plan.specs.Numbers.{AreWritten};
 
 use std::alloc::Global;
+use yds_events::Stretch;
 use yds_model::{JobRow, Memory};
 
 /// The greatest common divisor.
@@ -33,14 +34,13 @@ pub(crate) fn works(alloc: Global, rows: &[JobRow]) -> Result<Vec<u32>, Memory>
     Ok(works)
 }
 
-/// The lengths of the stretches between these rising times.
-pub(crate) fn lengths(alloc: Global, times: &[u32]) -> Result<Vec<u32>, Memory>
-    requires { (k : ℕ) → k + 1 < length times.now → slice_index times.now k ≤ slice_index times.now (k + 1) }
-    ensures { IfOk result (λ lengths. AreLengths times.now (length times.now - 1) lengths.items) }
+/// The stretches' lengths, in time units.
+pub(crate) fn lengths(alloc: Global, timeline: &[Stretch]) -> Result<Vec<u32>, Memory>
+    ensures { IfOk result (λ lengths. lengths.items ≡ map length_of timeline.now) }
 {
     let mut lengths = Vec::new(alloc);
-    for next in 1..times.len() {
-        lengths.push(times[next] - times[next - 1])?;
+    for stretch in timeline {
+        lengths.push(stretch.length())?;
     }
     Ok(lengths)
 }

@@ -1,6 +1,6 @@
 ghost use Rattle.std.specs.Prelude.{◌≡◌, ℕ, ◌*◌, ◌<◌, ◌≤◌, true, false, length, slice_index, IfOk, OnOk};
 ghost use Rattle.std.specs.List.{All};
-ghost use Rattle.yds_plan.specs.Views.{found_view, group_view, shares_view, part_view};
+ghost use Rattle.yds_plan.specs.Views.{found_view, group_view, portions_view, part_view};
 ghost use Rattle.yds_plan.specs.Search.{IsSearch, IsAttempt};
 ghost use Rattle.yds_plan.specs.declared.finder_beginning.TheConstants.{LAST};
 ghost use Rattle.yds_plan.specs.Instance.{IsInstance};
@@ -12,7 +12,7 @@ use crate::finder_instance::Instance;
 use crate::finder_waiting::Waiting;
 use crate::finder_workspace::Workspace;
 use crate::found::{Found, Group};
-use crate::share::Share;
+use crate::portion::Portion;
 use std::alloc::Global;
 use yds_model::{JobRow, Memory};
 
@@ -21,8 +21,8 @@ use yds_model::{JobRow, Memory};
 pub(crate) struct Attempt {
     /// The group's work and length.
     pub group: Group,
-    /// The shares that its jobs took in its stretches.
-    pub shares: Vec<Share>,
+    /// The portions that its jobs took in its stretches.
+    pub portions: Vec<Portion>,
 }
 
 /// Whether one of these jobs still wants units.
@@ -55,7 +55,7 @@ pub(crate) fn fill_group(
     requires within { _top ≤ LAST }
     requires waiting { IsWaiting instance.now.order.items (found_view _found.now) _top (part_view waiting.now) }
     requires space { IsBlank (length rows.now) (length instance.now.lengths.items) space.old }
-    ensures attempt { IfOk result (λ attempt. IsAttempt rows.now instance.now.windows.items (found_view _found.now) _top (group_view attempt.group) (shares_view attempt.shares.items) space.new.wants.items space.new.rooms.items) }
+    ensures attempt { IfOk result (λ attempt. IsAttempt rows.now instance.now.windows.items (found_view _found.now) _top (group_view attempt.group) (portions_view attempt.portions.items) space.new.wants.items space.new.rooms.items) }
     ensures reaches { OnOk result (KeepsReaches space.old space.new) }
 {
     let work = total(&instance.works, &waiting.jobs);
@@ -73,7 +73,7 @@ pub(crate) fn fill_group(
         work / divisor,
         &mut space.rooms,
     );
-    let shares = fill(
+    let portions = fill(
         alloc,
         rows,
         &instance.windows,
@@ -85,6 +85,6 @@ pub(crate) fn fill_group(
     )?;
     Ok(Attempt {
         group: Group { work, length },
-        shares,
+        portions,
     })
 }

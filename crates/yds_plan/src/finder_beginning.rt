@@ -1,13 +1,13 @@
 ghost use Rattle.std.specs.Prelude.{◌≡◌, ℕ, ◌+◌, ◌<◌, ◌≤◌, ◌⊎◌, length, slice_index, IfOk};
 ghost use Rattle.yds_model.specs.Event.{stretches};
 ghost use Rattle.yds_plan.specs.Views.{found_view};
-ghost use Rattle.yds_plan.specs.Windows.{AreWindows};
+ghost use Rattle.yds_events.specs.Window.{AreWindows};
 ghost use Rattle.yds_plan.specs.Search.{IsBeginning};
 ghost use Rattle.yds_plan.specs.Beginning.{AreFarthest, AreCovered, AreWorking};
 
-use crate::finder_windows::Window;
 use crate::found::Found;
 use std::alloc::Global;
+use yds_events::Window;
 use yds_model::{JobRow, Memory};
 
 /// The number of the first group, which all jobs with work are in at first. Groups that aren't finished
@@ -95,6 +95,6 @@ pub(crate) fn beginning(
         groups: Vec::new(alloc),
         group_of_job: working(alloc, rows)?,
         group_of_stretch: cover(alloc, &ends)?,
-        shares: Vec::new(alloc),
+        portions: Vec::new(alloc),
     })
 }

@@ -1,15 +1,16 @@
 ghost use Rattle.std.specs.Prelude.{◌≡◌, ℕ, ◌*◌, ◌^◌, ◌<◌, ◌≤◌, length, slice_index};
 ghost use Rattle.std.specs.List.{All};
 ghost use Rattle.yds_model.specs.declared.limits.TheConstants.{MAX_JOBS};
-ghost use Rattle.yds_plan.specs.Views.{shares_view};
-ghost use Rattle.yds_plan.specs.Windows.{window_at};
+ghost use Rattle.yds_plan.specs.Views.{portions_view};
+ghost use Rattle.yds_events.specs.Window.{window_at};
 ghost use Rattle.yds_plan.specs.Fill.{IsPart};
 ghost use Rattle.yds_plan.specs.Numbers.{AreWritten, IsOneOf};
 ghost use Rattle.yds_plan.specs.Waiting.{HasReaches};
-ghost use Rattle.yds_plan.specs.Closure.{AreClosing, IsLastBefore, AreLateReaches, AreShareReaches, AreReaches, AreAllReaches};
+ghost use Rattle.yds_plan.specs.Closure.{AreClosing, IsLastBefore, AreLateReaches, ArePortionReaches, AreReaches, AreAllReaches};
 
-use crate::finder_windows::{Window, place_near};
-use crate::share::Share;
+use crate::finder_places::place_near;
+use crate::portion::Portion;
+use yds_events::Window;
 
 /// For each stretch how far to the left jobs reach that close upon it. Only a group's own stretches count;
 /// the number of all stretches stands where nobody reaches.
@@ -17,9 +18,9 @@ use crate::share::Share;
 pub(crate) struct Reaches {
     /// How far the late jobs reach whose window has the stretch as its last one.
     pub late: Vec<u32>,
-    /// How far the jobs reach that have a share in it.
+    /// How far the jobs reach that have a portion in it.
     pub shared: Vec<u32>,
-    /// How far the late jobs reach over it, directly or through shares.
+    /// How far the late jobs reach over it, directly or through portions.
     pub all: Vec<u32>,
     /// A guess at its place among the group's own stretches.
     pub guesses: Vec<u32>,
@@ -71,24 +72,29 @@ fn late_reaches(
     }
 }
 
-/// For each stretch the least first stretch among the windows of the jobs that have a share in it.
-fn share_reaches(windows: &[Window], own_stretches: &[u32], shares: &[Share], reaches: &mut [u32])
-    requires parts { All (IsPart windows.now (length windows.now) (length reaches.old)) (shares_view shares.now) }
-    requires own { All (λ share. IsOneOf own_stretches.now share.stretch) (shares_view shares.now) }
+/// For each stretch the least first stretch among the windows of the jobs that have a portion in it.
+fn portion_reaches(
+    windows: &[Window],
+    own_stretches: &[u32],
+    portions: &[Portion],
+    reaches: &mut [u32],
+)
+    requires parts { All (IsPart windows.now (length windows.now) (length reaches.old)) (portions_view portions.now) }
+    requires own { All (λ portion. IsOneOf own_stretches.now portion.stretch) (portions_view portions.now) }
     requires known { All (λ k. k < length reaches.old) own_stretches.now }
     requires rising { (a b : ℕ) → a < b → b < length own_stretches.now → slice_index own_stretches.now a < slice_index own_stretches.now b }
     requires fits { length reaches.old < 2 ^ 32 }
-    ensures { AreShareReaches windows.now (shares_view shares.now) own_stretches.now (length reaches.old) reaches.new }
+    ensures { ArePortionReaches windows.now (portions_view portions.now) own_stretches.now (length reaches.old) reaches.new }
 {
     set_all(reaches, own_stretches, reaches.len() as u32);
-    for share in shares {
-        let at = share.stretch as usize;
-        let first = windows[share.job as usize].first;
+    for portion in portions {
+        let at = portion.stretch as usize;
+        let first = windows[portion.job as usize].first;
         reaches[at] = reaches[at].min(first);
     }
 }
 
-/// How far to the left the late jobs reach over each stretch, directly or through shares: a stretch is
+/// How far to the left the late jobs reach over each stretch, directly or through portions: a stretch is
 /// closed upon where that isn't after it.
 fn closure(own_stretches: &[u32], late: &[u32], shared: &[u32], reaches: &mut [u32])
     requires late { length late.now ≡ length reaches.old }
@@ -115,17 +121,17 @@ pub(crate) fn reach(
     own_jobs: &[u32],
     own_stretches: &[u32],
     wants: &[u64],
-    shares: &[Share],
+    portions: &[Portion],
     reaches: &mut Reaches,
 )
     requires jobs { AreClosing windows.now wants.now own_jobs.now own_stretches.now (length reaches.old.all.items) }
     requires wants { length wants.now ≡ length windows.now }
     requires few { length own_stretches.now ≤ 2 * MAX_JOBS }
-    requires parts { All (IsPart windows.now (length windows.now) (length reaches.old.all.items)) (shares_view shares.now) }
-    requires own { All (λ share. IsOneOf own_stretches.now share.stretch) (shares_view shares.now) }
+    requires parts { All (IsPart windows.now (length windows.now) (length reaches.old.all.items)) (portions_view portions.now) }
+    requires own { All (λ portion. IsOneOf own_stretches.now portion.stretch) (portions_view portions.now) }
     requires reaches { HasReaches (length reaches.old.all.items) reaches.old }
     requires fits { length reaches.old.all.items < 2 ^ 32 }
-    ensures reach { AreAllReaches windows.now wants.now own_stretches.now (shares_view shares.now) (length reaches.old.all.items) reaches.new.all.items }
+    ensures reach { AreAllReaches windows.now wants.now own_stretches.now (portions_view portions.now) (length reaches.old.all.items) reaches.new.all.items }
     ensures kept { HasReaches (length reaches.old.all.items) reaches.new }
 {
     late_reaches(
@@ -136,7 +142,7 @@ pub(crate) fn reach(
         wants,
         &mut reaches.late,
     );
-    share_reaches(windows, own_stretches, shares, &mut reaches.shared);
+    portion_reaches(windows, own_stretches, portions, &mut reaches.shared);
     closure(
         own_stretches,
         &reaches.late,

@@ -2,14 +2,16 @@ ghost use Rattle.std.specs.Prelude.{◌≡◌, ℕ, ◌+◌, ◌-◌, ◌*◌, �
 ghost use Rattle.std.specs.List.{All, slice_index_or};
 ghost use Rattle.yds_model.specs.Event.{stretches};
 ghost use Rattle.yds_model.specs.declared.limits.TheConstants.{MAX_JOBS};
-ghost use Rattle.yds_plan.specs.Views.{shares_view};
-ghost use Rattle.yds_plan.specs.Windows.{window_at, AreWindows, Precedes};
+ghost use Rattle.yds_plan.specs.Views.{portions_view};
+ghost use Rattle.yds_events.specs.Window.{window_at, AreWindows};
+ghost use Rattle.yds_plan.specs.Order.{Precedes};
 ghost use Rattle.yds_plan.specs.Fill.{AreTaken, AreServed, AreOpen, IsServed, IsFill, IsNext, IsNextFrom, IsNumbers, IsTake};
 ghost use Rattle.yds_plan.specs.Numbers.{values_at};
 
-use crate::finder_windows::{Window, place_near};
-use crate::share::Share;
+use crate::finder_places::place_near;
+use crate::portion::Portion;
 use std::alloc::Global;
+use yds_events::Window;
 use yds_model::{JobRow, Memory};
 
 /// The first place from here on at which a stretch may have room. The stretches and `_rooms` are named for
@@ -45,17 +47,17 @@ fn take(
     stretch: u32,
     left: u64,
     rooms: &mut [u64],
-    shares: &mut Vec<Share>,
+    portions: &mut Vec<Portion>,
 ) -> Result<u64, Memory>
     requires { stretch < length rooms.old }
-    ensures { IfOk result (λ rest. IsTake job stretch left (shares_view shares.old.items) rooms.old rest (shares_view shares.new.items) rooms.new) }
+    ensures { IfOk result (λ rest. IsTake job stretch left (portions_view portions.old.items) rooms.old rest (portions_view portions.new.items) rooms.new) }
 {
     let room = rooms[stretch as usize];
     let units = left.min(room);
     if units == 0 {
         return Ok(left);
     }
-    shares.push(Share {
+    portions.push(Portion {
         job,
         stretch,
         units,
@@ -75,7 +77,7 @@ fn serve(
     want: u64,
     rooms: &mut [u64],
     next: &mut [u32],
-    shares: &mut Vec<Share>,
+    portions: &mut Vec<Portion>,
 ) -> Result<u64, Memory>
     requires known { job < length windows.now }
     requires inside { (window_at windows.now job).end ≤ length rooms.old }
@@ -83,9 +85,9 @@ fn serve(
     requires own { AreOpen own_stretches.now rooms.old }
     requires few { length own_stretches.now ≤ 2 * MAX_JOBS }
     requires next { IsNext (values_at own_stretches.now rooms.old) next.old }
-    requires taken { AreTaken _jobs.now windows.now (length rooms.old) (shares_view shares.old.items) rooms.old }
-    requires later { All (λ share. Precedes _jobs.now share.job job) (shares_view shares.old.items) }
-    ensures served { IfOk result (λ left. IsServed _jobs.now windows.now job want (shares_view shares.old.items) rooms.old (window_at windows.now job).end left (shares_view shares.new.items) rooms.new) }
+    requires taken { AreTaken _jobs.now windows.now (length rooms.old) (portions_view portions.old.items) rooms.old }
+    requires later { All (λ portion. Precedes _jobs.now portion.job job) (portions_view portions.old.items) }
+    ensures served { IfOk result (λ left. IsServed _jobs.now windows.now job want (portions_view portions.old.items) rooms.old (window_at windows.now job).end left (portions_view portions.new.items) rooms.new) }
     ensures own { OnOk result (AreOpen own_stretches.now rooms.new) }
     ensures next { OnOk result (IsNext (values_at own_stretches.now rooms.new) next.new) }
 {
@@ -95,7 +97,7 @@ fn serve(
     let mut stretch = stretch_at(own_stretches, place, window.end);
     let mut left = want;
     while left > 0 && stretch < window.end {
-        left = take(job, stretch, left, rooms, shares)?;
+        left = take(job, stretch, left, rooms, portions)?;
         if left > 0 {
             next[place as usize] = place + 1;
         }
@@ -127,16 +129,16 @@ pub(crate) fn fill(
     guesses: &[u32],
     wants: &mut [u64],
     rooms: &mut [u64],
-) -> Result<Vec<Share>, Memory>
+) -> Result<Vec<Portion>, Memory>
     requires windows { AreWindows rows.now windows.now }
     requires jobs { AreServed rows.now wants.old own_jobs.now }
     requires own { AreOpen own_stretches.now rooms.old }
     requires few { length own_stretches.now ≤ 2 * MAX_JOBS }
     requires wants { length wants.old ≡ length rows.now }
     requires rooms { length rooms.old ≡ length (stretches rows.now) }
-    ensures { IfOk result (λ shares. IsFill rows.now windows.now wants.old rooms.old (shares_view shares.items) wants.new rooms.new) }
+    ensures { IfOk result (λ portions. IsFill rows.now windows.now wants.old rooms.old (portions_view portions.items) wants.new rooms.new) }
 {
-    let mut shares = Vec::with_capacity(alloc, own_jobs.len())?;
+    let mut portions = Vec::with_capacity(alloc, own_jobs.len())?;
     let mut next = numbers(alloc, own_stretches.len())?;
     for job in own_jobs {
         let at = *job as usize;
@@ -149,9 +151,9 @@ pub(crate) fn fill(
             wants[at],
             rooms,
             &mut next,
-            &mut shares,
+            &mut portions,
         )?;
         wants[at] = left;
     }
-    Ok(shares)
+    Ok(portions)
 }

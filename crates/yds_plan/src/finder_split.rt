@@ -1,11 +1,12 @@
 ghost use Rattle.std.specs.Prelude.{◌≡◌, ℕ, ◌*◌, ◌-◌, ◌<◌, ◌≤◌, true, false, length, slice_index};
 ghost use Rattle.std.specs.List.{All};
 ghost use Rattle.yds_model.specs.declared.limits.TheConstants.{MAX_JOBS};
-ghost use Rattle.yds_plan.specs.Windows.{window_at};
+ghost use Rattle.yds_events.specs.Window.{window_at};
 ghost use Rattle.yds_plan.specs.Numbers.{AreWritten};
 ghost use Rattle.yds_plan.specs.Search.{split_stretch, IsJobNumber};
 
-use crate::finder_windows::{Window, place_near};
+use crate::finder_places::place_near;
+use yds_events::Window;
 
 /// Gives these jobs or stretches another group's number.
 pub(crate) fn rename(groups: &mut [u32], numbers: &[u32], to: u32)

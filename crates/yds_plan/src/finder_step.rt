@@ -1,6 +1,6 @@
 ghost use Rattle.std.specs.Prelude.{◌≡◌, ℕ, ◌+◌, ◌-◌, ◌<◌, ◌≤◌, ◌++◌, ◌∷◌, [], length, sum, slice_index, IfOk, OnOk};
 ghost use Rattle.std.specs.List.{All};
-ghost use Rattle.yds_plan.specs.Views.{found_view, group_view, shares_view, part_view, parts_view};
+ghost use Rattle.yds_plan.specs.Views.{found_view, group_view, portions_view, part_view, parts_view};
 ghost use Rattle.yds_plan.specs.Search.{IsSearch, IsAttempt, AreMovedFrom};
 ghost use Rattle.yds_plan.specs.declared.finder_beginning.TheConstants.{LAST};
 ghost use Rattle.yds_plan.specs.Instance.{IsInstance};
@@ -9,9 +9,9 @@ ghost use Rattle.yds_plan.specs.Waiting.{IsWaiting, IsStack, HasReaches, part_in
 use crate::finder_attempt::{Attempt, has_late};
 use crate::finder_closure::{Reaches, reach};
 use crate::finder_instance::Instance;
+use crate::finder_places::guess_places;
 use crate::finder_split::{rename, split_jobs, split_stretches};
 use crate::finder_waiting::{Waiting, members};
-use crate::finder_windows::guess_places;
 use crate::found::Found;
 use std::alloc::Global;
 use yds_model::{JobRow, Memory};
@@ -32,7 +32,7 @@ fn finish(
     requires search { IsSearch _rows.now _instance.now.windows.items (found_view found.old) _top LAST }
     requires within { _top ≤ LAST }
     requires waiting { IsWaiting _instance.now.order.items (found_view found.old) _top (part_view waiting.now) }
-    requires attempt { IsAttempt _rows.now _instance.now.windows.items (found_view found.old) _top (group_view attempt.group) (shares_view attempt.shares.items) _wants.now _rooms.now }
+    requires attempt { IsAttempt _rows.now _instance.now.windows.items (found_view found.old) _top (group_view attempt.group) (portions_view attempt.portions.items) _wants.now _rooms.now }
     requires served { (j : ℕ) → j < length _rows.now → slice_index _wants.now j ≡ 0 }
     ensures search { OnOk result (IsSearch _rows.now _instance.now.windows.items (found_view found.new) (_top + 1) LAST) }
     ensures smaller { OnOk result (sum found.new.group_of_stretch.items < sum found.old.group_of_stretch.items) }
@@ -41,7 +41,7 @@ fn finish(
 {
     let number = found.groups.len() as u32;
     found.groups.push(attempt.group)?;
-    found.shares.extend_from_slice(&attempt.shares)?;
+    found.portions.extend_from_slice(&attempt.portions)?;
     rename(&mut found.group_of_job, &waiting.jobs, number);
     rename(&mut found.group_of_stretch, &waiting.stretches, number);
     Ok(())
@@ -66,7 +66,7 @@ fn split(
     requires within { top ≤ LAST }
     requires some { 1 ≤ top }
     requires waiting { IsWaiting instance.now.order.items (found_view found.old) top (part_view waiting.now) }
-    requires attempt { IsAttempt _rows.now instance.now.windows.items (found_view found.old) top (group_view attempt.now.group) (shares_view attempt.now.shares.items) wants.now _rooms.now }
+    requires attempt { IsAttempt _rows.now instance.now.windows.items (found_view found.old) top (group_view attempt.now.group) (portions_view attempt.now.portions.items) wants.now _rooms.now }
     requires late { (j : ℕ) × (j < length _rows.now) × (1 ≤ slice_index wants.now j) }
     requires reaches { HasReaches (length instance.now.lengths.items) reaches.old }
     ensures search { OnOk result (IsSearch _rows.now instance.now.windows.items (found_view found.new) (top - 1) LAST) }
@@ -80,7 +80,7 @@ fn split(
         &waiting.jobs,
         &waiting.stretches,
         wants,
-        &attempt.shares,
+        &attempt.portions,
         reaches,
     );
     split_stretches(
@@ -158,7 +158,7 @@ pub(crate) fn conclude(
     requires some { 1 ≤ top }
     requires stack { IsStack instance.now.order.items (found_view found.old) (top + 1) LAST (parts_view stack.old.items) }
     requires waiting { IsWaiting instance.now.order.items (found_view found.old) top (part_view waiting.now) }
-    requires attempt { IsAttempt rows.now instance.now.windows.items (found_view found.old) top (group_view attempt.group) (shares_view attempt.shares.items) wants.now _rooms.now }
+    requires attempt { IsAttempt rows.now instance.now.windows.items (found_view found.old) top (group_view attempt.group) (portions_view attempt.portions.items) wants.now _rooms.now }
     requires reaches { HasReaches (length instance.now.lengths.items) reaches.old }
     ensures search { IfOk result (λ next. IsSearch rows.now instance.now.windows.items (found_view found.new) next LAST) }
     ensures stack { IfOk result (λ next. IsStack instance.now.order.items (found_view found.new) next LAST (parts_view stack.new.items)) }

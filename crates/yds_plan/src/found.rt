@@ -1,4 +1,4 @@
-use crate::share::Share;
+use crate::portion::Portion;
 
 /// Jobs and stretches of one speed: so much work, in units of work, in so many time units.
 #[derive(Clone, Copy, Debug, PartialEq, Eq)]
@@ -9,7 +9,7 @@ pub(crate) struct Group {
     pub length: u64,
 }
 
-/// What the search finds: the groups, the fastest first, and the shares of jobs in stretches.
+/// What the search finds: the groups, the fastest first, and the portions of jobs in stretches.
 #[derive(Debug, Drop)]
 pub(crate) struct Found {
     /// The groups, none slower than the next.
@@ -19,5 +19,5 @@ pub(crate) struct Found {
     /// For each stretch its group's place, or a greater number where no job with work may run.
     pub group_of_stretch: Vec<u32>,
     /// How many units of work each job gets in each stretch.
-    pub shares: Vec<Share>,
+    pub portions: Vec<Portion>,
 }

@@ -3,7 +3,7 @@ ghost use Rattle.std.specs.List.{All};
 ghost use Rattle.yds_model.specs.declared.limits.TheConstants.{MAX_JOBS, MAX_LEVELS, MAX_MEMBERS, MAX_PIECES};
 ghost use Rattle.yds_model.specs.Job.{IsJob};
 ghost use Rattle.yds_model.specs.Level.{all_members, all_pieces};
-ghost use Rattle.yds_model.specs.Event.{event_points};
+ghost use Rattle.yds_model.specs.Event.{stretches};
 ghost use Rattle.yds_plan.specs.Found.{IsFound};
 ghost use Rattle.yds_plan.specs.Views.{found_view};
 ghost use Rattle.yds_plan.specs.Laid.{slots_of, levels_of};
@@ -14,6 +14,7 @@ use crate::layout_members::{add_members, add_pieces};
 use crate::layout_slots::schedule_of;
 use std::alloc::Global;
 use yds_certificate::{Certificate, Level};
+use yds_events::Stretch;
 use yds_model::{JobRow, Memory};
 use yds_slots::Schedule;
 
@@ -44,18 +45,18 @@ fn certificate_of(alloc: Global, levels: Vec<Level>) -> Result<Certificate, Memo
 fn levels_of_found(
     alloc: Global,
     rows: &[JobRow],
-    times: &[u32],
+    timeline: &[Stretch],
     found: &Found,
 ) -> Result<Vec<Level>, Memory>
     requires found { IsFound rows.now (found_view found.now) }
     requires jobs { All IsJob rows.now }
     requires few { length rows.now ≤ MAX_JOBS }
-    requires times { times.now ≡ event_points rows.now }
+    requires timeline { timeline.now ≡ stretches rows.now }
     ensures { IfOk result (λ levels. levels.items ≡ levels_of rows.now (found_view found.now)) }
 {
     let (mut levels, numbers) = levels_of_groups(alloc, &found.groups)?;
     add_members(rows, found, &numbers, &mut levels)?;
-    add_pieces(rows, times, found, &numbers, &mut levels)?;
+    add_pieces(rows, timeline, found, &numbers, &mut levels)?;
     Ok(levels)
 }
 
@@ -63,18 +64,18 @@ fn levels_of_found(
 pub(crate) fn lay_out(
     alloc: Global,
     rows: &[JobRow],
-    times: &[u32],
+    timeline: &[Stretch],
     found: &Found,
 ) -> Result<Planned, Memory>
     requires found { IsFound rows.now (found_view found.now) }
     requires jobs { All IsJob rows.now }
     requires few { length rows.now ≤ MAX_JOBS }
-    requires times { times.now ≡ event_points rows.now }
+    requires timeline { timeline.now ≡ stretches rows.now }
     ensures schedule { IfOk result (λ planned. planned.schedule ≡ record { jobs = length rows.now; slots = slots_of rows.now (found_view found.now) }) }
     ensures certificate { IfOk result (λ planned. planned.certificate ≡ levels_of rows.now (found_view found.now)) }
 {
-    let schedule = schedule_of(alloc, rows, times, found)?;
-    let levels = levels_of_found(alloc, rows, times, found)?;
+    let schedule = schedule_of(alloc, rows, timeline, found)?;
+    let levels = levels_of_found(alloc, rows, timeline, found)?;
     let certificate = certificate_of(alloc, levels)?;
     Ok(Planned {
         schedule,

@@ -1,8 +1,8 @@
 ghost use Rattle.std.specs.Prelude.{◌≡◌, ◌<◌, ◌≤◌, length, map, slice_set, IfOk, IsTrue};
 ghost use Rattle.std.specs.List.{All, range_with_len};
 ghost use Rattle.yds_model.specs.Level.{level_at};
-ghost use Rattle.yds_model.specs.Event.{event_points, stretches};
-ghost use Rattle.yds_certificate.specs.Piece.{IsPiece};
+ghost use Rattle.yds_model.specs.Event.{stretches};
+ghost use Rattle.yds_model.specs.Within.{IsPiece};
 ghost use Rattle.yds_certificate.specs.Level.{with_member};
 ghost use Rattle.yds_plan.specs.Views.{found_view};
 ghost use Rattle.yds_plan.specs.Laid.{level_of};
@@ -10,7 +10,8 @@ ghost use Rattle.yds_plan.specs.Drafts.{drafts, touches_last, with_next, extende
 
 use crate::found::Found;
 use yds_certificate::{Level, Piece};
-use yds_model::limits::{MAX_JOBS, MAX_TIME};
+use yds_events::Stretch;
+use yds_model::limits::MAX_JOBS;
 use yds_model::{JobRow, Memory};
 
 /// The job stands last among the members of the level.
@@ -84,23 +85,23 @@ pub(crate) fn add_members(
 /// Each stretch of a group becomes a piece of the group's level, or a part of one.
 pub(crate) fn add_pieces(
     rows: &[JobRow],
-    times: &[u32],
+    timeline: &[Stretch],
     found: &Found,
     numbers: &[u32],
     levels: &mut Vec<Level>,
 ) -> Result<(), Memory>
     requires numbers { numbers.now ≡ map (level_of (found_view found.now).groups) (range_with_len 0 (length (found_view found.now).groups)) }
-    requires times { times.now ≡ event_points rows.now }
-    requires limit { All (λ time. time ≤ MAX_TIME) times.now }
+    requires timeline { timeline.now ≡ stretches rows.now }
     requires stretches { length found.now.group_of_stretch.items ≡ length (stretches rows.now) }
     requires levels { levels.old.items ≡ drafts rows.now (found_view found.now) (length rows.now) 0 }
     ensures { IfOk result (λ _. levels.new.items ≡ drafts rows.now (found_view found.now) (length rows.now) (length (stretches rows.now))) }
 {
     for (stretch, place) in found.group_of_stretch.iter().enumerate() {
         if let Some(number) = numbers.get(*place as usize) {
+            let own = timeline[stretch];
             let piece = Piece {
-                from: times[stretch],
-                to: times[stretch + 1],
+                from: own.from,
+                to: own.to,
             };
             add_piece(levels, *number as usize, piece)?;
         }

@@ -2,44 +2,45 @@ ghost use Rattle.std.specs.Prelude.{◌≡◌, ℕ, ◌+◌, ◌/◌, ◌<◌, �
 ghost use Rattle.std.specs.List.{All, range_with_len};
 ghost use Rattle.yds_model.specs.declared.limits.TheConstants.{MAX_DENOMINATOR, MAX_JOBS, MAX_WHOLE};
 ghost use Rattle.yds_model.specs.Job.{IsJob};
-ghost use Rattle.yds_model.specs.Event.{event_points};
+ghost use Rattle.yds_model.specs.Event.{stretches};
 ghost use Rattle.yds_fraction.specs.Mixed.{IsMixed};
-ghost use Rattle.yds_slots.specs.Slot.{IsSlot};
+ghost use Rattle.yds_model.specs.Within.{IsSlot};
 ghost use Rattle.yds_plan.specs.Found.{IsFound, group_at, per_time, per_work};
-ghost use Rattle.yds_plan.specs.Views.{shares_view, group_view, found_view};
+ghost use Rattle.yds_plan.specs.Views.{portions_view, group_view, found_view};
 ghost use Rattle.yds_plan.specs.Laid.{with_parts, slots_from, slots_of};
 ghost use Rattle.yds_plan.specs.Room.{structs_in, IsWithin, CanFill, AreTerms};
 
 use crate::found::{Found, Group};
-use crate::share::Share;
+use crate::portion::Portion;
 use std::alloc::Global;
+use yds_events::Stretch;
 use yds_fraction::{Moment, gcd};
 use yds_model::{JobRow, Memory};
 use yds_slots::{Schedule, Slot};
 
 /// So many empty lists.
-fn empty_lists(alloc: Global, count: usize) -> Result<Vec<Vec<Share>>, Memory>
+fn empty_lists(alloc: Global, count: usize) -> Result<Vec<Vec<Portion>>, Memory>
     ensures { IfOk result (λ lists. map (λ list. list.items) lists.items ≡ map (structs_in []) (range_with_len 0 count)) }
 {
-    let mut lists: Vec<Vec<Share>> = Vec::new(alloc);
+    let mut lists: Vec<Vec<Portion>> = Vec::new(alloc);
     for _ in 0..count {
         lists.push(Vec::new(alloc))?;
     }
     Ok(lists)
 }
 
-/// The shares of each stretch, in the order in which they were found.
-pub(crate) fn shares_by_stretch(
+/// The portions of each stretch, in the order in which they were found.
+pub(crate) fn portions_by_stretch(
     alloc: Global,
-    shares: &[Share],
+    portions: &[Portion],
     stretches: usize,
-) -> Result<Vec<Vec<Share>>, Memory>
-    requires { All (λ share. share.stretch < stretches) shares.now }
-    ensures { IfOk result (λ lists. map (λ list. list.items) lists.items ≡ map (structs_in shares.now) (range_with_len 0 stretches)) }
+) -> Result<Vec<Vec<Portion>>, Memory>
+    requires { All (λ portion. portion.stretch < stretches) portions.now }
+    ensures { IfOk result (λ lists. map (λ list. list.items) lists.items ≡ map (structs_in portions.now) (range_with_len 0 stretches)) }
 {
     let mut lists = empty_lists(alloc, stretches)?;
-    for share in shares {
-        lists[share.stretch as usize].push(*share)?;
+    for portion in portions {
+        lists[portion.stretch as usize].push(*portion)?;
     }
     Ok(lists)
 }
@@ -88,44 +89,44 @@ fn terms_of_groups(alloc: Global, groups: &[Group]) -> Result<Vec<Terms>, Memory
     Ok(terms)
 }
 
-/// The slot of a share, in a stretch from `start` on, where `done` units are done before it.
-fn slot_of(share: &Share, start: u32, done: u64, terms: Terms) -> Slot
-    requires { IsWithin terms.per_time terms.per_work start done share.now.units }
-    ensures job { result.job ≡ share.now.job }
+/// The slot of a portion, in a stretch from `start` on, where `done` units are done before it.
+fn slot_of(portion: &Portion, start: u32, done: u64, terms: Terms) -> Slot
+    requires { IsWithin terms.per_time terms.per_work start done portion.now.units }
+    ensures job { result.job ≡ portion.now.job }
     ensures from { result.from ≡ with_parts start done terms.per_time }
-    ensures to { result.to ≡ with_parts start (done + share.now.units) terms.per_time }
-    ensures work { result.work ≡ with_parts 0 share.now.units terms.per_work }
+    ensures to { result.to ≡ with_parts start (done + portion.now.units) terms.per_time }
+    ensures work { result.work ≡ with_parts 0 portion.now.units terms.per_work }
     ensures kept { IsSlot result }
 {
     Slot {
-        job: share.job,
+        job: portion.job,
         from: moment(u64::from(start), done, terms.per_time),
-        to: moment(u64::from(start), done + share.units, terms.per_time),
-        work: moment(0, share.units, terms.per_work),
+        to: moment(u64::from(start), done + portion.units, terms.per_time),
+        work: moment(0, portion.units, terms.per_work),
     }
 }
 
-/// Fills a stretch, from its start on, with these shares at the group's speed. `_group` is named for the
+/// Fills a stretch, from its start on, with these portions at the group's speed. `_group` is named for the
 /// contract alone.
 fn fill_stretch(
     schedule: &mut Schedule,
     _group: &Group,
     terms: Terms,
     start: u32,
-    shares: &[Share],
+    portions: &[Portion],
 ) -> Result<(), Memory>
     requires per_time { terms.per_time ≡ per_time (group_view _group.now) }
     requires per_work { terms.per_work ≡ per_work (group_view _group.now) }
-    requires fits { CanFill schedule.old.jobs schedule.old.slots (group_view _group.now) start (shares_view shares.now) }
+    requires fits { CanFill schedule.old.jobs schedule.old.slots (group_view _group.now) start (portions_view portions.now) }
     ensures { IfOk result (λ _. schedule.new ≡ record {
       jobs = schedule.old.jobs;
-      slots = schedule.old.slots ++ slots_from (group_view _group.now) start 0 (shares_view shares.now);
+      slots = schedule.old.slots ++ slots_from (group_view _group.now) start 0 (portions_view portions.now);
     }) }
 {
     let mut done: u64 = 0;
-    for share in shares {
-        schedule.push(slot_of(share, start, done, terms))?;
-        done += share.units;
+    for portion in portions {
+        schedule.push(slot_of(portion, start, done, terms))?;
+        done += portion.units;
     }
     Ok(())
 }
@@ -134,28 +135,23 @@ fn fill_stretch(
 pub(crate) fn schedule_of(
     alloc: Global,
     rows: &[JobRow],
-    times: &[u32],
+    timeline: &[Stretch],
     found: &Found,
 ) -> Result<Schedule, Memory>
     requires found { IsFound rows.now (found_view found.now) }
     requires jobs { All IsJob rows.now }
     requires few { length rows.now ≤ MAX_JOBS }
-    requires times { times.now ≡ event_points rows.now }
+    requires timeline { timeline.now ≡ stretches rows.now }
     ensures { IfOk result (λ schedule. schedule ≡ record { jobs = length rows.now; slots = slots_of rows.now (found_view found.now) }) }
 {
-    let shares = shares_by_stretch(alloc, &found.shares, found.group_of_stretch.len())?;
+    let portions = portions_by_stretch(alloc, &found.portions, found.group_of_stretch.len())?;
     let terms = terms_of_groups(alloc, &found.groups)?;
     let mut schedule = Schedule::new(alloc, rows.len() as u32)?;
     for (stretch, place) in found.group_of_stretch.iter().enumerate() {
         if let Some(group) = found.groups.get(*place as usize) {
             let speed = terms[*place as usize];
-            fill_stretch(
-                &mut schedule,
-                group,
-                speed,
-                times[stretch],
-                &shares[stretch],
-            )?;
+            let own = timeline[stretch];
+            fill_stretch(&mut schedule, group, speed, own.from, &portions[stretch])?;
         }
     }
     Ok(schedule)

@@ -1,9 +1,9 @@
 //! The offline plan: the slots and the certificate that do, above every speed, the least work that any
 //! feasible schedule does.
 //!
-//! It stands on `yds_model`, `yds_fraction`, `yds_slots`, `yds_certificate` and the event points of
-//! `yds_edf`. Its one promise is that `plan` answers a plan by the model's definition; that it is least,
-//! for every speed and every convex power function, are laws of that definition.
+//! It stands on `yds_model`, `yds_fraction`, `yds_events`, `yds_slots` and `yds_certificate`. Its one promise is
+//! that `plan` answers a plan by the model's definition; that it is least, for every speed and every convex power
+//! function, are laws of that definition.
 #![tactic(auto)]
 
 mod finder;
@@ -13,10 +13,10 @@ mod finder_beginning;
 mod finder_closure;
 mod finder_fill;
 mod finder_instance;
+mod finder_places;
 mod finder_split;
 mod finder_step;
 mod finder_waiting;
-mod finder_windows;
 mod finder_workspace;
 mod found;
 mod layout;
@@ -24,10 +24,7 @@ mod layout_levels;
 mod layout_members;
 mod layout_slots;
 mod planning;
-mod share;
+mod portion;
 
 pub use layout::Planned;
 pub use planning::plan;
-
-#[cfg(test)]
-mod tests;

@@ -7,7 +7,7 @@ ghost use Rattle.yds_model.specs.Plan.{IsPlan};
 use crate::finder::find;
 use crate::layout::{Planned, lay_out};
 use std::alloc::Global;
-use yds_edf::events;
+use yds_events::stretches;
 use yds_model::{JobRow, Memory};
 
 /// Shows that each row is a job within the limits, which is what a row keeps: reading it shows so.
@@ -30,7 +30,7 @@ pub fn plan(alloc: Global, rows: &[JobRow]) -> Result<Planned, Memory>
     ensures jobs { IfOk result (λ planned. planned.schedule.jobs ≡ length rows.now) }
 {
     read_rows(rows);
-    let times = events(alloc, rows)?;
-    let found = find(alloc, rows, &times)?;
-    lay_out(alloc, rows, &times, &found)
+    let timeline = stretches(alloc, rows)?;
+    let found = find(alloc, rows, &timeline)?;
+    lay_out(alloc, rows, &timeline, &found)
 }

@@ -1,2 +1,3 @@
 mod Read
 pub mod Delivery
+pub mod Putting

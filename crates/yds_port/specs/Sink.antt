@@ -41,3 +41,9 @@ pub record AppendsFront (text : List ℕ) (old new : Option (List ℕ)) : Type 0
 abbrev pub Delivers : {T E : Type 0} → Result T E → List ℕ → Option (List ℕ) → Option (List ℕ) → ℕ → ℕ → Type 0
 Delivers (Ok x) text old new before now = Appends old new text × (now ≡ before)
 Delivers (Err e) text old new before now = AppendsFront text old new × Rose before now
+
+-- A text was put into a sink, whose members stand first, by its answer: all of it, or after a counted fault a front of it. None
+-- of it was flushed.
+pub record Puts {K T E : Type 0} (written : K → Option (List ℕ)) (flushed : K → Option ℕ) (faults : K → ℕ) (result : Result T E) (text : List ℕ) (old new : K) : Type 0 where
+  pub delivers : Delivers result text (written old) (written new) (faults old) (faults new)
+  pub flushed_stays : flushed new ≡ flushed old

@@ -5,7 +5,7 @@ ghost use Rattle.yds_model.specs.declared.limits.TheConstants.{MAX_JOBS, MAX_LEV
 ghost use Rattle.yds_model.specs.Job.{IsJob};
 ghost use Rattle.yds_model.specs.Divisor.{in_lowest_terms};
 ghost use Rattle.yds_model.specs.Energy.{first_release, last_deadline};
-ghost use Rattle.yds_certificate.specs.Level.{IsLevel};
+ghost use Rattle.yds_model.specs.Within.{IsLevel};
 
 use yds_certificate::Level;
 use yds_fraction::Amount;

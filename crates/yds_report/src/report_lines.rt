@@ -4,7 +4,7 @@ ghost use Rattle.std.specs.List.{All};
 ghost use Rattle.yds_model.specs.declared.limits.TheConstants.{MAX_JOBS, MAX_LEVELS};
 ghost use Rattle.yds_model.specs.Job.{IsJob};
 ghost use Rattle.yds_model.specs.ReportAnswer.{jobs_row, level_row, idle_row};
-ghost use Rattle.yds_certificate.specs.Level.{IsLevel};
+ghost use Rattle.yds_model.specs.Within.{IsLevel};
 
 use crate::numbers::{first_release, last_deadline, speed_of, total_length, total_work};
 use yds_certificate::Level;

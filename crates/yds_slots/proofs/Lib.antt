@@ -1,4 +1,4 @@
 pub mod Grains
 pub mod Parts
-pub mod Shares
+pub mod Receipts
 pub mod Order

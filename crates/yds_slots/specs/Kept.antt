@@ -8,30 +8,30 @@ use Rattle.yds_model.specs.Slot.{WrittenSlot, IsScale, slots_at, work_given}
 use Rattle.yds_model.specs.Audit.{grain_of, given_of}
 use Rattle.yds_model.specs.Within.{IsSlot}
 use Rattle.yds_fraction.specs.Mixed.{IsMixed}
-use Rattle.yds_slots.specs.Received.{Share}
+use Rattle.yds_slots.specs.Received.{Receipt}
 
 -- the slot's work is whole, or has its job's grain
 abbrev pub IsInGrain : List WrittenSlot → WrittenSlot → Type 0
 IsInGrain slots slot = (slot.work.den ≡ 1) ⊎ (slot.work.den ≡ grain_of slots slot.job)
 
 -- this is what the slots give the job
-pub record IsShareOf (slots : List WrittenSlot) (job : ℕ) (share : Share) : Type 0 where
-  pub grain : share.grain ≡ grain_of slots job
-  pub given : share.given ≡ given_of slots job
-  pub mixed : IsMixed MAX_DENOMINATOR share.given
-  pub few : share.given.whole ≤ length slots * (MAX_SLOT_WORK + 1)
+pub record IsReceiptOf (slots : List WrittenSlot) (job : ℕ) (receipt : Receipt) : Type 0 where
+  pub grain : receipt.grain ≡ grain_of slots job
+  pub given : receipt.given ≡ given_of slots job
+  pub mixed : IsMixed MAX_DENOMINATOR receipt.given
+  pub few : receipt.given.whole ≤ length slots * (MAX_SLOT_WORK + 1)
   pub at_scales : (scale : ℕ) → IsScale scale slots →
-      (share.given.den ∣ scale) × (at_scale scale share.given ≡ work_given (slots_at scale slots) job)
+      (receipt.given.den ∣ scale) × (at_scale scale receipt.given ≡ work_given (slots_at scale slots) job)
 
-abbrev pub nothing : Share
+abbrev pub nothing : Receipt
 nothing = record { grain = 1; given = of_whole 0 }
 
-abbrev pub share_at : List Share → ℕ → Share
-share_at shares job = slice_index_or shares job nothing
+abbrev pub receipt_at : List Receipt → ℕ → Receipt
+receipt_at receipts job = slice_index_or receipts job nothing
 
-pub record IsKept (slots : List WrittenSlot) (shares : List Share) : Type 0 where
+pub record IsKept (slots : List WrittenSlot) (receipts : List Receipt) : Type 0 where
   pub few : length slots ≤ MAX_SLOTS
   pub each : All IsSlot slots
-  pub known : All (λ slot. slot.job < length shares) slots
+  pub known : All (λ slot. slot.job < length receipts) slots
   pub grains : All (IsInGrain slots) slots
-  pub given : (job : ℕ) → job < length shares → IsShareOf slots job (share_at shares job)
+  pub given : (job : ℕ) → job < length receipts → IsReceiptOf slots job (receipt_at receipts job)

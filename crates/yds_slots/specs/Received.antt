@@ -2,6 +2,6 @@
 use Rattle.std.specs.Prelude.{ℕ}
 use Rattle.yds_model.specs.Scale.{Fraction}
 
-pub record Share : Type 0 where
+pub record Receipt : Type 0 where
   pub grain : ℕ
   pub given : Fraction

@@ -16,9 +16,9 @@ pub(crate) struct Received {
 }
 
 impl Model for Received {
-    ghost use Rattle.yds_slots.specs.Received.{Share};
+    ghost use Rattle.yds_slots.specs.Received.{Receipt};
 
-    ghost Value = { Share };
+    ghost Value = { Receipt };
 
     ghost view = { λ r. record { grain = r.grain; given = r.given } };
 

@@ -2,3 +2,4 @@ mod FirstLine
 mod FirstField
 mod Spelled
 mod Split
+pub mod Counted

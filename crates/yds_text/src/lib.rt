@@ -6,11 +6,13 @@
 //! it is one. No call takes memory, and every part is a slice of the input.
 #![tactic(auto)]
 
+mod count;
 mod field;
 mod fraction;
 mod line;
 mod spelling;
 
+pub use count::{FieldCount, four_fields, one_field, two_fields};
 pub use field::{Field, Fields};
 pub use fraction::mixed;
 pub use line::{Line, LineIter, lines};

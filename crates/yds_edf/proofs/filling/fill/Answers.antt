@@ -5,7 +5,7 @@ use Rattle.yds_edf.specs.Engine.{TiedQueue}
 use Rattle.std.proofs.Common.{◌≡◌, ◌∙◌, length, arith, ap, subst}
 use Rattle.std.proofs.lemmas.List.{get_or_read}
 use Rattle.yds_model.specs.Piece.{Piece}
-use Rattle.yds_edf.specs.Demand.{no_stretch}
+use Rattle.yds_events.specs.Stretch.{no_stretch}
 use Rattle.yds_edf.proofs.Filled.{Filling, begun, filled_after, all_filled}
 use Rattle.yds_edf.proofs.filling.fill.Goals as goal
 

@@ -1,6 +1,6 @@
 use Rattle.std.proofs.Common.{ℕ, List, length, ap, arith}
 use Rattle.std.specs.List.{range_with_len}
-use Rattle.yds_plan.specs.Views.{found_view, shares_view, part_view}
+use Rattle.yds_plan.specs.Views.{found_view, portions_view, part_view}
 use Rattle.yds_plan.proofs.Attempt.{part_known, part_stretch_known, part_few, range_one}
 use Rattle.yds_plan.proofs.Waiting.{wanting_own, roomy_own}
 use Rattle.yds_plan.proofs.finder.advance.Goals as goal
@@ -19,10 +19,10 @@ clear_all-requires-clause-within c =
     let attempt = c.in_ok-attempt.ensures.attempt in
     record {
       want = wanting_own c.args.rows.now c.args.instance.now.windows.items (found_view c.args.found.now) c.args.top _ _ attempt.wants attempt.rooms
-          (shares_view c.in_ok-attempt.attempt.shares.items) c.fill_group.new.space.wants.items c.fill_group.new.space.rooms.items c.args.waiting.now.jobs.items
+          (portions_view c.in_ok-attempt.attempt.portions.items) c.fill_group.new.space.wants.items c.fill_group.new.space.rooms.items c.args.waiting.now.jobs.items
           c.args.instance.now.order.items attempt.filled c.requires.waiting.jobs c.requires.instance.order.each;
       room = roomy_own c.args.rows.now c.args.instance.now.windows.items (found_view c.args.found.now) c.args.top _ _ attempt.wants attempt.rooms
-          (shares_view c.in_ok-attempt.attempt.shares.items) c.fill_group.new.space.wants.items c.fill_group.new.space.rooms.items c.args.waiting.now.stretches.items
+          (portions_view c.in_ok-attempt.attempt.portions.items) c.fill_group.new.space.wants.items c.fill_group.new.space.rooms.items c.args.waiting.now.stretches.items
           (range_with_len 0 (length c.args.found.now.group_of_stretch.items)) attempt.filled c.requires.waiting.stretches
           (λ k below. range_one (length c.args.found.now.group_of_stretch.items) k (omega (arith, below, c.requires.search.all_stretches)));
       known = λ p within. omega (

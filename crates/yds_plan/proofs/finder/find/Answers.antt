@@ -1,6 +1,6 @@
 use Rattle.std.proofs.Common.{ℕ, ◌∙◌, List, length, ap, subst, arith}
 use Rattle.std.proofs.lemmas.List.{map_push, length-map}
-use Rattle.yds_plan.specs.declared.finder_windows.Window.{Window}
+use Rattle.yds_events.specs.declared.window.Window.{Window}
 use Rattle.yds_plan.specs.Views.{found_view, part_view, parts_view}
 use Rattle.yds_plan.specs.Search.{IsBeginning}
 use Rattle.yds_plan.specs.Waiting.{Part, IsStack, IsBlank}

@@ -1,9 +1,6 @@
-use Rattle.std.proofs.Common.{◌-◌, ◌≤◌, length}
-use Rattle.yds_plan.specs.Amounts.{AreLengths}
+use Rattle.std.proofs.Common.{◌≡◌, map, take}
+use Rattle.yds_events.specs.Stretch.{length_of}
 use Rattle.yds_plan.proofs.finder_amounts.lengths.Given as goal
 
-abbrev pub invariant-loop-next : goal.invariant-loop-next
-invariant-loop-next l = record {
-  so_far : AreLengths l.times (l.next - 1) l.lengths.items;
-  inside : l.next - 1 ≤ length l.times - 1;
-}
+abbrev pub invariant-loop-stretch : goal.invariant-loop-stretch
+invariant-loop-stretch l = l.lengths.items ≡ map length_of (take l.stretch-index l.timeline)

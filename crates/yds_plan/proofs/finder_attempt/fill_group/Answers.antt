@@ -2,7 +2,7 @@ use Rattle.std.proofs.Common.{ℕ, ◌*◌, ◌/◌, ◌<◌, ◌≡◌, ◌∙�
 use Rattle.std.proofs.lemmas.List.{take_at}
 use Rattle.yds_plan.specs.Fill.{AreServed, AreOpen}
 use Rattle.yds_plan.specs.Search.{IsAttempt}
-use Rattle.yds_plan.specs.Views.{found_view, shares_view, part_view}
+use Rattle.yds_plan.specs.Views.{found_view, portions_view, part_view}
 use Rattle.yds_model.specs.Divisor.{common_divisor}
 use Rattle.yds_plan.proofs.Attempt.{known_at, part_known, part_stretch_known, part_few, order_few, sums_of, units_of, served_is, open_is, works_fit, lengths_fit, attempt_is, fill_same}
 use Rattle.yds_plan.proofs.finder_attempt.fill_group.Goals as goal
@@ -140,13 +140,13 @@ returns-clause-attempt c =
     let wants : c.deref_mut-3.result.now ≡ c.scale.new.scaled = c.deref_mut-3.ensures.value ∙ take_at _ _ _ (c.scale.auto.scaled ∙ c.deref_mut.ensures.len) in
     let rooms : c.deref_mut-4.result.now ≡ c.scale-2.new.scaled = c.deref_mut-4.ensures.value ∙ take_at _ _ _ (c.scale-2.auto.scaled ∙ c.deref_mut-2.ensures.len) in
     subst (λ (xs : List ℕ). IsAttempt c.args.rows.now c.args.instance.now.windows.items (found_view c.args._found.now) c.args._top
-    (record { work = c.total-work.result; length = c.total-length.result }) (shares_view c.in_ok-shares.shares.items) xs
+    (record { work = c.total-work.result; length = c.total-length.result }) (portions_view c.in_ok-portions.portions.items) xs
     (take c.args.space.now.rooms.len (c.fill.new.rooms ++ drop (length c.fill.new.rooms) (take c.args.space.now.rooms.len (c.scale-2.new.scaled ++ drop (length c.scale-2.new.scaled) c.args.space.now.rooms.items)))))
     (sym (take_at _ _ _ (c.fill.auto.wants ∙ c.deref_mut-3.ensures.len)))
     (subst (λ (xs : List ℕ). IsAttempt c.args.rows.now c.args.instance.now.windows.items (found_view c.args._found.now) c.args._top
-    (record { work = c.total-work.result; length = c.total-length.result }) (shares_view c.in_ok-shares.shares.items) c.fill.new.wants xs)
+    (record { work = c.total-work.result; length = c.total-length.result }) (portions_view c.in_ok-portions.portions.items) c.fill.new.wants xs)
     (sym (take_at _ _ _ (c.fill.auto.rooms ∙ c.deref_mut-4.ensures.len)))
     (attempt_is c.args.rows.now c.args.instance.now (found_view c.args._found.now) c.args._top c.total-work.result c.total-length.result
-    c.scale.new.scaled c.scale-2.new.scaled (shares_view c.in_ok-shares.shares.items) c.fill.new.wants c.fill.new.rooms c.requires.instance are units
+    c.scale.new.scaled c.scale-2.new.scaled (portions_view c.in_ok-portions.portions.items) c.fill.new.wants c.fill.new.rooms c.requires.instance are units
     (fill_same c.args.rows.now c.deref-9.result.now c.args.instance.now.windows.items c.deref_mut-3.result.now c.scale.new.scaled c.deref_mut-4.result.now c.scale-2.new.scaled
-    (shares_view c.in_ok-shares.shares.items) c.fill.new.wants c.fill.new.rooms c.deref-9.ensures.value wants rooms c.in_ok-shares.ensures)))
+    (portions_view c.in_ok-portions.portions.items) c.fill.new.wants c.fill.new.rooms c.deref-9.ensures.value wants rooms c.in_ok-portions.ensures)))

@@ -1,5 +1,5 @@
 use Rattle.std.proofs.Common.{ℕ, ◌+◌, ◌≤◌, ◌∙◌, List, length, get_or, set, refl, sym, ap, subst, arith}
-use Rattle.yds_plan.specs.Windows.{window_at}
+use Rattle.yds_events.specs.Window.{window_at}
 use Rattle.yds_plan.specs.Closure.{IsLastBefore}
 use Rattle.yds_plan.proofs.Reaches.{LatesTo, least_none, least_skips, least_takes, late_least}
 use Rattle.yds_plan.proofs.finder_closure.late_reaches.Goals as goal

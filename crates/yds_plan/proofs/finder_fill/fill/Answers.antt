@@ -1,7 +1,7 @@
 use Rattle.std.proofs.Common.{ℕ, ◌≡◌, get_or, sym, ap, subst, ◌∙◌, arith, length, List, take, drop, ◌++◌}
 use Rattle.std.proofs.lemmas.List.{take_at}
-use Rattle.yds_plan.specs.Found.{Share}
-use Rattle.yds_plan.specs.Views.{shares_view}
+use Rattle.yds_plan.specs.Found.{Portion}
+use Rattle.yds_plan.specs.Views.{portions_view}
 use Rattle.yds_plan.specs.Fill.{AreTaken, IsFilling, IsNext, IsNumbers}
 use Rattle.yds_plan.specs.Numbers.{values_at}
 use Rattle.yds_plan.proofs.Numbers.{values_count}
@@ -11,8 +11,8 @@ use Rattle.yds_plan.proofs.finder_fill.fill.Goals as goal
 
 pub loop-job-init : goal.loop-job-init
 loop-job-init c = record {
-  filling = subst (λ (xs : List Share). IsFilling c.args.rows.now c.args.windows.now c.args.own_jobs.now c.args.wants.now c.args.rooms.now 0 xs c.args.wants.now c.args.rooms.now)
-      (sym (ap shares_view c.in_ok-shares.ensures.items))
+  filling = subst (λ (xs : List Portion). IsFilling c.args.rows.now c.args.windows.now c.args.own_jobs.now c.args.wants.now c.args.rooms.now 0 xs c.args.wants.now c.args.rooms.now)
+      (sym (ap portions_view c.in_ok-portions.ensures.items))
       (fill_begins c.args.rows.now c.args.windows.now c.args.own_jobs.now c.args.wants.now c.args.rooms.now);
   own = c.requires.own;
   next = next_begins (values_at c.args.own_stretches.now c.args.rooms.now) c.in_ok-next.next.items
@@ -34,7 +34,7 @@ serve-requires c =
       own = c.loop-job.invariant.own;
       few = c.requires.few;
       next = subst (λ (xs : List ℕ). IsNext (values_at c.args.own_stretches.now c.loop-job.rooms) xs) (sym c.deref_mut.ensures.value) c.loop-job.invariant.next;
-      taken = subst (λ (m : ℕ). AreTaken c.args.rows.now c.args.windows.now m (shares_view c.loop-job.shares.items) c.loop-job.rooms)
+      taken = subst (λ (m : ℕ). AreTaken c.args.rows.now c.args.windows.now m (portions_view c.loop-job.portions.items) c.loop-job.rooms)
           (sym c.loop-job.invariant.filling.same_rooms) c.loop-job.invariant.filling.taken;
       later = c.loop-job.invariant.filling.later (omega arith);
     }
@@ -45,8 +45,8 @@ loop-job-preserved c =
     take_at _ _ _ (c.serve.auto.next ∙ c.deref_mut.ensures.len) in
     record {
       filling = fill_more c.args.rows.now c.args.windows.now c.args.own_jobs.now c.args.wants.now c.args.rooms.now c.loop-job.job-index
-          (shares_view c.loop-job.shares.items) c.loop-job.wants c.loop-job.rooms c.in_ok-left.left
-          (shares_view c.serve.new.shares.items) c.serve.new.rooms c.requires.jobs c.requires.wants (omega arith) c.loop-job.invariant.filling
+          (portions_view c.loop-job.portions.items) c.loop-job.wants c.loop-job.rooms c.in_ok-left.left
+          (portions_view c.serve.new.portions.items) c.serve.new.rooms c.requires.jobs c.requires.wants (omega arith) c.loop-job.invariant.filling
           c.in_ok-left.ensures.served;
       own = c.in_ok-left.ensures.own;
       next = subst (λ (xs : List ℕ). IsNext (values_at c.args.own_stretches.now c.serve.new.rooms) xs) (sym next) c.in_ok-left.ensures.next;
@@ -55,5 +55,5 @@ loop-job-preserved c =
 pub returns : goal.returns
 returns c =
     fill_ends c.args.rows.now c.args.windows.now c.args.own_jobs.now c.args.wants.now c.args.rooms.now c.loop-job.job-index
-    (shares_view c.loop-job.shares.items) c.loop-job.wants c.loop-job.rooms c.requires.jobs c.requires.wants (omega arith)
+    (portions_view c.loop-job.portions.items) c.loop-job.wants c.loop-job.rooms c.requires.jobs c.requires.wants (omega arith)
     c.loop-job.invariant.filling

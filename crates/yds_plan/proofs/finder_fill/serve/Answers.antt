@@ -1,6 +1,6 @@
 use Rattle.std.proofs.Common.{◌<◌, ◌+◌, ◌∙◌, length, get_or, ap, sym, subst, arith, List, ℕ}
-use Rattle.yds_plan.specs.Views.{shares_view}
-use Rattle.yds_plan.specs.Windows.{window_at}
+use Rattle.yds_plan.specs.Views.{portions_view}
+use Rattle.yds_events.specs.Window.{window_at}
 use Rattle.yds_plan.specs.Fill.{IsNext}
 use Rattle.yds_plan.specs.Numbers.{values_at}
 use Rattle.yds_plan.proofs.Numbers.{value_at, values_count}
@@ -15,9 +15,9 @@ loop-left-init c =
     let first = (window_at c.args.windows.now c.args.job).first in
     let end = (window_at c.args.windows.now c.args.job).end in
     record {
-      served = serve_jumps c.args._jobs.now c.args.windows.now c.args.job c.args.want (shares_view c.args.shares.now.items) c.args.rooms.now
-          (window_at c.args.windows.now c.args.job).first c.stretch_at-stretch.result c.args.want (shares_view c.args.shares.now.items) c.args.rooms.now
-          (serve_begins c.args._jobs.now c.args.windows.now c.args.job c.args.want (shares_view c.args.shares.now.items) c.args.rooms.now
+      served = serve_jumps c.args._jobs.now c.args.windows.now c.args.job c.args.want (portions_view c.args.portions.now.items) c.args.rooms.now
+          (window_at c.args.windows.now c.args.job).first c.stretch_at-stretch.result c.args.want (portions_view c.args.portions.now.items) c.args.rooms.now
+          (serve_begins c.args._jobs.now c.args.windows.now c.args.job c.args.want (portions_view c.args.portions.now.items) c.args.rooms.now
           c.requires.taken c.requires.later)
           (first_after c.args.own_stretches.now (values_at c.args.own_stretches.now c.args.rooms.now) c.place_near-from.result c.next_place-place.result
           (length c.args.next.now) (window_at c.args.windows.now c.args.job).first (window_at c.args.windows.now c.args.job).end c.stretch_at-stretch.result c.place_near-from.ensures found c.requires.nonempty c.stretch_at-stretch.ensures)
@@ -39,15 +39,15 @@ next_place-place-requires-in-loop-left-clause-next c =
     c.loop-left.invariant.stretch_is c.if-stretch-window.true in
     let within : c.loop-left.stretch < length c.loop-left.rooms = omega (arith, here.1, c.loop-left.invariant.own.known c.loop-left.place here.0) in
     let kept = take_next c.args.own_stretches.now c.loop-left.rooms c.loop-left.next c.args.job c.loop-left.stretch c.loop-left.left
-    (shares_view c.loop-left.shares.items) c.in_ok-left.left (shares_view c.take.new.shares.items) c.take.new.rooms c.loop-left.invariant.next within c.in_ok-left.ensures in
+    (portions_view c.loop-left.portions.items) c.in_ok-left.left (portions_view c.take.new.portions.items) c.take.new.rooms c.loop-left.invariant.next within c.in_ok-left.ensures in
     elim c.if-left-gt0.branch [
       | then-left-gt0 w ↦
           subst (λ (xs : List ℕ). IsNext (values_at c.args.own_stretches.now c.take.new.rooms) xs) (sym w.next-is)
           (next_full (values_at c.args.own_stretches.now c.take.new.rooms) c.loop-left.next c.loop-left.place kept
           (omega (arith, here.0, values_count c.args.own_stretches.now c.take.new.rooms))
           (value_at c.args.own_stretches.now c.take.new.rooms c.loop-left.place here.0 ∙ ap (λ k. get_or c.take.new.rooms k 0) (sym here.1)
-          ∙ take_fills c.loop-left.rooms c.args.job c.loop-left.stretch c.loop-left.left (shares_view c.loop-left.shares.items)
-          c.in_ok-left.left (shares_view c.take.new.shares.items) c.take.new.rooms within c.in_ok-left.ensures w.if-left-gt0.true))
+          ∙ take_fills c.loop-left.rooms c.args.job c.loop-left.stretch c.loop-left.left (portions_view c.loop-left.portions.items)
+          c.in_ok-left.left (portions_view c.take.new.portions.items) c.take.new.rooms within c.in_ok-left.ensures w.if-left-gt0.true))
       | else-left-gt0 w ↦ subst (λ (xs : List ℕ). IsNext (values_at c.args.own_stretches.now c.take.new.rooms) xs) (sym w.next-is) kept
     ]
 
@@ -57,17 +57,17 @@ loop-left-preserved c =
     let here = in_place c.args.own_stretches.now c.loop-left.place (window_at c.args.windows.now c.args.job).end c.loop-left.stretch
     c.loop-left.invariant.stretch_is c.if-stretch-window.true in
     let within : c.loop-left.stretch < length c.loop-left.rooms = omega (arith, here.1, c.loop-left.invariant.own.known c.loop-left.place here.0) in
-    let open_ = take_open c.args.own_stretches.now c.loop-left.rooms c.args.job c.loop-left.stretch c.loop-left.left (shares_view c.loop-left.shares.items)
-    c.in_ok-left.left (shares_view c.take.new.shares.items) c.take.new.rooms c.loop-left.invariant.own within c.in_ok-left.ensures in
+    let open_ = take_open c.args.own_stretches.now c.loop-left.rooms c.args.job c.loop-left.stretch c.loop-left.left (portions_view c.loop-left.portions.items)
+    c.in_ok-left.left (portions_view c.take.new.portions.items) c.take.new.rooms c.loop-left.invariant.own within c.in_ok-left.ensures in
     let after = next_after c.args.own_stretches.now (values_at c.args.own_stretches.now c.take.new.rooms) c.loop-left.rooms c.loop-left.place
     c.next_place-place-in-loop-left.result (length c.if-left-gt0.next) (window_at c.args.windows.now c.args.job).end c.loop-left.stretch
     c.stretch_at-stretch-in-loop-left.result c.loop-left.invariant.own found here.0 here.1 c.if-stretch-window.true c.stretch_at-stretch-in-loop-left.ensures in
     record {
-      served = serve_jumps c.args._jobs.now c.args.windows.now c.args.job c.args.want (shares_view c.args.shares.now.items) c.args.rooms.now
-          (c.loop-left.stretch + 1) c.stretch_at-stretch-in-loop-left.result c.in_ok-left.left (shares_view c.take.new.shares.items) c.take.new.rooms
-          (serve_take c.args._jobs.now c.args.windows.now c.args.job c.args.want (shares_view c.args.shares.now.items) c.args.rooms.now
-          c.loop-left.stretch c.loop-left.left (shares_view c.loop-left.shares.items) c.loop-left.rooms
-          c.in_ok-left.left (shares_view c.take.new.shares.items) c.take.new.rooms c.loop-left.invariant.served
+      served = serve_jumps c.args._jobs.now c.args.windows.now c.args.job c.args.want (portions_view c.args.portions.now.items) c.args.rooms.now
+          (c.loop-left.stretch + 1) c.stretch_at-stretch-in-loop-left.result c.in_ok-left.left (portions_view c.take.new.portions.items) c.take.new.rooms
+          (serve_take c.args._jobs.now c.args.windows.now c.args.job c.args.want (portions_view c.args.portions.now.items) c.args.rooms.now
+          c.loop-left.stretch c.loop-left.left (portions_view c.loop-left.portions.items) c.loop-left.rooms
+          c.in_ok-left.left (portions_view c.take.new.portions.items) c.take.new.rooms c.loop-left.invariant.served
           c.requires.known c.loop-left.invariant.from c.if-stretch-window.true (omega (arith, c.requires.inside, c.if-stretch-window.true))
           c.in_ok-left.ensures)
           after

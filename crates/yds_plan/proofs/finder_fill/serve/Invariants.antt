@@ -1,14 +1,14 @@
 use Rattle.std.proofs.Common.{◌≡◌, ◌-◌, ◌≤◌, ◌<◌, length, get_or}
-use Rattle.yds_plan.specs.Views.{shares_view}
-use Rattle.yds_plan.specs.Windows.{window_at}
+use Rattle.yds_plan.specs.Views.{portions_view}
+use Rattle.yds_events.specs.Window.{window_at}
 use Rattle.yds_plan.specs.Fill.{IsServed, IsNext, AreOpen}
 use Rattle.yds_plan.specs.Numbers.{values_at}
 use Rattle.yds_plan.proofs.finder_fill.serve.Given as goal
 
 abbrev pub invariant-loop-left : goal.invariant-loop-left
 invariant-loop-left l = record {
-  served : IsServed l._jobs l.windows l.job l.want (shares_view l.initial.shares.items) l.initial.rooms l.stretch l.left
-      (shares_view l.shares.items) l.rooms;
+  served : IsServed l._jobs l.windows l.job l.want (portions_view l.initial.portions.items) l.initial.rooms l.stretch l.left
+      (portions_view l.portions.items) l.rooms;
   next : IsNext (values_at l.own_stretches l.rooms) l.next;
   own : AreOpen l.own_stretches l.rooms;
   from : (window_at l.windows l.job).first ≤ l.stretch;

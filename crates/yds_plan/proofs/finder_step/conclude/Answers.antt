@@ -2,7 +2,7 @@ use Rattle.std.proofs.Common.{ℕ, ◌-◌, ◌<◌, ◌≤◌, ◌∙◌, List,
 use Rattle.std.proofs.lemmas.Bool.{cases_lt}
 use Rattle.yds_plan.specs.Numbers.{IsOneOf}
 use Rattle.yds_plan.specs.Waiting.{Part, IsStack}
-use Rattle.yds_plan.specs.Views.{found_view, shares_view, part_view, parts_view}
+use Rattle.yds_plan.specs.Views.{found_view, portions_view, part_view, parts_view}
 use Rattle.yds_plan.proofs.Attempt.{known_at, part_known, part_stretch_known}
 use Rattle.yds_plan.proofs.Steps.{few_enough}
 use Rattle.yds_plan.proofs.Waiting.{wanting_own, stack_kept, stack_split}
@@ -29,7 +29,7 @@ finish-requires-clause-served c = λ j known. elim (cases_lt 0 (get_or c.args.wa
   | inr none ↦ omega (arith, none)
   | inl some ↦
       let one = wanting_own c.args.rows.now c.args.instance.now.windows.items (found_view c.args.found.now) c.args.top _ _ c.requires.attempt.wants c.requires.attempt.rooms
-      (shares_view c.args.attempt.shares.items) c.args.wants.now c.args._rooms.now c.args.waiting.now.jobs.items c.args.instance.now.order.items c.requires.attempt.filled
+      (portions_view c.args.attempt.portions.items) c.args.wants.now c.args._rooms.now c.args.waiting.now.jobs.items c.args.instance.now.order.items c.requires.attempt.filled
       c.requires.waiting.jobs c.requires.instance.order.each j some in
       let listed : IsOneOf c.deref.result.now j = subst (λ (xs : List ℕ). IsOneOf xs j) (sym c.deref.ensures.value) one in
       absurd (omega (arith, some, c.if-has_late.ensures.none refl listed.0 listed.1, ap (λ i. get_or c.args.wants.now i 0) listed.2))

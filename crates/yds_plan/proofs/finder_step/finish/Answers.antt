@@ -1,7 +1,7 @@
 use Rattle.std.proofs.Common.{ℕ, ◌+◌, ◌≡◌, ◌<◌, ◌∙◌, List, ◌++◌, length, map, take, drop, sum, sym, ap, subst, arith}
 use Rattle.std.specs.List.{range_with_len}
 use Rattle.std.proofs.lemmas.List.{take_at, map_push, map-append, length-map}
-use Rattle.yds_plan.specs.Views.{found_view, group_view, share_view, shares_view, part_view}
+use Rattle.yds_plan.specs.Views.{found_view, group_view, portion_view, portions_view, part_view}
 use Rattle.yds_plan.specs.Numbers.{AreWritten}
 use Rattle.yds_plan.specs.Search.{IsSearch, AreMovedFrom}
 use Rattle.yds_plan.proofs.Attempt.{known_at, part_known, part_stretch_known, range_one, written_same}
@@ -53,22 +53,22 @@ returns c =
             groups = map group_view c.push.new.self.items;
             group_of_job = xs;
             group_of_stretch = take c.args.found.now.group_of_stretch.len (c.rename-2.new.groups ++ drop (length c.rename-2.new.groups) c.args.found.now.group_of_stretch.items);
-            shares = shares_view c.extend_from_slice.new.self.items;
+            portions = portions_view c.extend_from_slice.new.self.items;
           }) (c.args._top + 1) 1000000) (sym jobs)
           (subst (λ (xs : List ℕ). IsSearch c.args._rows.now c.args._instance.now.windows.items
           (record {
             groups = map group_view c.push.new.self.items;
             group_of_job = c.rename.new.groups;
             group_of_stretch = xs;
-            shares = shares_view c.extend_from_slice.new.self.items;
+            portions = portions_view c.extend_from_slice.new.self.items;
           }) (c.args._top + 1) 1000000) (sym places)
           (finish_step c.args._rows.now c.args._instance.now (found_view c.args.found.now) c.args._top (group_view c.args.attempt.group)
-          (shares_view c.args.attempt.shares.items) c.args._wants.now c.args._rooms.now
-          (map group_view c.push.new.self.items) c.rename.new.groups c.rename-2.new.groups (shares_view c.extend_from_slice.new.self.items)
+          (portions_view c.args.attempt.portions.items) c.args._wants.now c.args._rooms.now
+          (map group_view c.push.new.self.items) c.rename.new.groups c.rename-2.new.groups (portions_view c.extend_from_slice.new.self.items)
           c.requires.instance c.requires.search c.requires.within c.requires.attempt c.requires.served
           (ap (map group_view) c.in_ok-push.ensures.items ∙ map_push group_view c.args.found.now.groups.items c.args.attempt.group)
-          (ap shares_view c.in_ok-extend_from_slice.ensures.items ∙ map-append share_view c.args.found.now.shares.items c.deref.result.now
-          ∙ ap (λ xs. shares_view c.args.found.now.shares.items ++ shares_view xs) c.deref.ensures.value)
+          (ap portions_view c.in_ok-extend_from_slice.ensures.items ∙ map-append portion_view c.args.found.now.portions.items c.deref.result.now
+          ∙ ap (λ xs. portions_view c.args.found.now.portions.items ++ portions_view xs) c.deref.ensures.value)
           all_jobs all_stretches
           (λ j known. job_renamed j (omega (arith, known, c.requires.search.all_jobs))) stretch_renamed));
       smaller = subst (λ (xs : List ℕ). sum xs < sum c.args.found.now.group_of_stretch.items) (sym places)

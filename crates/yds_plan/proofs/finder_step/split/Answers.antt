@@ -1,15 +1,15 @@
 use Rattle.std.proofs.Common.{ℕ, ◌-◌, ◌≡◌, ◌<◌, ◌∙◌, List, ◌++◌, length, get_or, map, take, drop, sum, sym, ap, subst, arith}
 use Rattle.std.specs.List.{All, range_with_len}
 use Rattle.std.proofs.lemmas.List.{take_at, get_or_default}
-use Rattle.yds_plan.specs.declared.finder_windows.Window.{Window}
-use Rattle.yds_plan.specs.Found.{Share, share_at, no_share}
-use Rattle.yds_plan.specs.Views.{found_view, group_view, shares_view, part_view}
+use Rattle.yds_events.specs.declared.window.Window.{Window}
+use Rattle.yds_plan.specs.Found.{Portion, portion_at, no_portion}
+use Rattle.yds_plan.specs.Views.{found_view, group_view, portions_view, part_view}
 use Rattle.yds_plan.specs.Numbers.{IsOneOf, numbers_in}
 use Rattle.yds_plan.specs.Closure.{AreClosing, AreAllReaches}
 use Rattle.yds_plan.specs.Search.{IsSearch, IsJobNumber, split_stretch, AreMovedFrom}
 use Rattle.yds_plan.proofs.Attempt.{few_in, known_at, part_known, part_stretch_known, part_few, range_one, written_same}
 use Rattle.yds_plan.proofs.Numbers.{in_order}
-use Rattle.yds_plan.proofs.Waiting.{share_own}
+use Rattle.yds_plan.proofs.Waiting.{portion_own}
 use Rattle.yds_plan.proofs.Dividing.{part_rising, closing_is, divided}
 use Rattle.yds_plan.proofs.finder_step.split.Goals as goal
 
@@ -18,7 +18,7 @@ reach-requires-clause-jobs c =
     subst (λ (xs : List Window). AreClosing xs c.args.wants.now c.deref-2.result.now c.deref-3.result.now (length c.args.reaches.now.all.items)) (sym c.deref.ensures.value)
     (subst (λ (xs : List ℕ). AreClosing c.args.instance.now.windows.items c.args.wants.now xs c.deref-3.result.now (length c.args.reaches.now.all.items)) (sym c.deref-2.ensures.value)
     (subst (λ (xs : List ℕ). AreClosing c.args.instance.now.windows.items c.args.wants.now c.args.waiting.now.jobs.items xs (length c.args.reaches.now.all.items)) (sym c.deref-3.ensures.value)
-    (closing_is c.args._rows.now c.args.instance.now (found_view c.args.found.now) c.args.top 1000000 (group_view c.args.attempt.now.group) (shares_view c.args.attempt.now.shares.items)
+    (closing_is c.args._rows.now c.args.instance.now (found_view c.args.found.now) c.args.top 1000000 (group_view c.args.attempt.now.group) (portions_view c.args.attempt.now.portions.items)
     c.args.wants.now c.args._rooms.now (part_view c.args.waiting.now) (length c.args.reaches.now.all.items) c.requires.instance c.requires.search c.requires.within c.requires.waiting c.requires.attempt
     (c.requires.reaches.all ∙ c.requires.instance.all_lengths))))
 
@@ -31,17 +31,17 @@ reach-requires-clause-few c = omega (
   c.requires.instance.few_stretches,
 )
 
--- a fact of each share, by its place
-all_shares : (P : Share → Type 0) (shares : List Share) → ((x : ℕ) → x < length shares → P (share_at shares x)) → All P shares
-all_shares P shares each x d within = subst P (get_or_default shares x no_share d within) (each x within)
+-- a fact of each portion, by its place
+all_portions : (P : Portion → Type 0) (portions : List Portion) → ((x : ℕ) → x < length portions → P (portion_at portions x)) → All P portions
+all_portions P portions each x d within = subst P (get_or_default portions x no_portion d within) (each x within)
 
 pub reach-requires-clause-own : goal.reach-requires-clause-own
 reach-requires-clause-own c =
-    subst (λ (xs : List ℕ). All (λ share. IsOneOf xs share.stretch) (shares_view c.deref-4.result.now)) (sym c.deref-3.ensures.value)
-    (subst (λ (list : List Share). All (λ share. IsOneOf c.args.waiting.now.stretches.items share.stretch) list) (sym (ap shares_view c.deref-4.ensures.value))
-    (all_shares (λ share. IsOneOf c.args.waiting.now.stretches.items share.stretch) (shares_view c.args.attempt.now.shares.items)
-    (share_own c.args._rows.now c.args.instance.now.windows.items (found_view c.args.found.now) c.args.top _ _ c.requires.attempt.wants c.requires.attempt.rooms
-    (shares_view c.args.attempt.now.shares.items) c.args.wants.now c.args._rooms.now c.args.waiting.now.stretches.items
+    subst (λ (xs : List ℕ). All (λ portion. IsOneOf xs portion.stretch) (portions_view c.deref-4.result.now)) (sym c.deref-3.ensures.value)
+    (subst (λ (list : List Portion). All (λ portion. IsOneOf c.args.waiting.now.stretches.items portion.stretch) list) (sym (ap portions_view c.deref-4.ensures.value))
+    (all_portions (λ portion. IsOneOf c.args.waiting.now.stretches.items portion.stretch) (portions_view c.args.attempt.now.portions.items)
+    (portion_own c.args._rows.now c.args.instance.now.windows.items (found_view c.args.found.now) c.args.top _ _ c.requires.attempt.wants c.requires.attempt.rooms
+    (portions_view c.args.attempt.now.portions.items) c.args.wants.now c.args._rooms.now c.args.waiting.now.stretches.items
     (range_with_len 0 (length c.args.found.now.group_of_stretch.items)) c.requires.attempt.filled c.requires.waiting.stretches
     (λ k below. range_one (length c.args.found.now.group_of_stretch.items) k (omega (arith, below, c.requires.search.all_stretches))))))
 
@@ -108,13 +108,13 @@ returns c =
     ∙ ap (numbers_in c.split_stretches.new.groups c.args.top) c.deref-7.ensures.value in
     let jobs : take c.args.found.now.group_of_job.len (c.split_jobs.new.groups ++ drop (length c.split_jobs.new.groups) c.args.found.now.group_of_job.items) ≡ c.split_jobs.new.groups =
     take_at _ _ _ (c.split_jobs.auto.groups ∙ c.deref_mut-3.ensures.len) in
-    let all = divided c.args._rows.now c.args.instance.now (found_view c.args.found.now) c.args.top (group_view c.args.attempt.now.group) (shares_view c.args.attempt.now.shares.items)
+    let all = divided c.args._rows.now c.args.instance.now (found_view c.args.found.now) c.args.top (group_view c.args.attempt.now.group) (portions_view c.args.attempt.now.portions.items)
     c.args.wants.now c.args._rooms.now (part_view c.args.waiting.now) (length c.args.reaches.now.all.items) c.reach.new.reaches.all.items c.in_ok-left.left.items c.split_jobs.new.groups c.split_stretches.new.groups
     c.requires.some c.requires.instance c.requires.search c.requires.within c.requires.waiting c.requires.attempt c.requires.late
     (c.requires.reaches.all ∙ c.requires.instance.all_lengths)
-    (subst (λ (xs : List Window). AreAllReaches xs c.args.wants.now c.args.waiting.now.stretches.items (shares_view c.args.attempt.now.shares.items) (length c.args.reaches.now.all.items) c.reach.new.reaches.all.items) c.deref.ensures.value
-    (subst (λ (xs : List ℕ). AreAllReaches c.deref.result.now c.args.wants.now xs (shares_view c.args.attempt.now.shares.items) (length c.args.reaches.now.all.items) c.reach.new.reaches.all.items) c.deref-3.ensures.value
-    (subst (λ (xs : List Share). AreAllReaches c.deref.result.now c.args.wants.now c.deref-3.result.now xs (length c.args.reaches.now.all.items) c.reach.new.reaches.all.items) (ap shares_view c.deref-4.ensures.value)
+    (subst (λ (xs : List Window). AreAllReaches xs c.args.wants.now c.args.waiting.now.stretches.items (portions_view c.args.attempt.now.portions.items) (length c.args.reaches.now.all.items) c.reach.new.reaches.all.items) c.deref.ensures.value
+    (subst (λ (xs : List ℕ). AreAllReaches c.deref.result.now c.args.wants.now xs (portions_view c.args.attempt.now.portions.items) (length c.args.reaches.now.all.items) c.reach.new.reaches.all.items) c.deref-3.ensures.value
+    (subst (λ (xs : List Portion). AreAllReaches c.deref.result.now c.args.wants.now c.deref-3.result.now xs (length c.args.reaches.now.all.items) c.reach.new.reaches.all.items) (ap portions_view c.deref-4.ensures.value)
     c.reach.ensures.reach)))
     (written_same (λ k value. value ≡ split_stretch c.deref-6.result.now c.args.top k) (λ k value. value ≡ split_stretch c.reach.new.reaches.all.items c.args.top k)
     c.deref-5.result.now c.args.waiting.now.stretches.items c.deref_mut.result.now c.args.found.now.group_of_stretch.items c.split_stretches.new.groups
@@ -131,14 +131,14 @@ returns c =
             groups = map group_view c.args.found.now.groups.items;
             group_of_job = xs;
             group_of_stretch = take c.args.found.now.group_of_stretch.len (c.split_stretches.new.groups ++ drop (length c.split_stretches.new.groups) c.args.found.now.group_of_stretch.items);
-            shares = shares_view c.args.found.now.shares.items;
+            portions = portions_view c.args.found.now.portions.items;
           }) (c.args.top - 1) 1000000) (sym jobs)
           (subst (λ (xs : List ℕ). IsSearch c.args._rows.now c.args.instance.now.windows.items
           (record {
             groups = map group_view c.args.found.now.groups.items;
             group_of_job = c.split_jobs.new.groups;
             group_of_stretch = xs;
-            shares = shares_view c.args.found.now.shares.items;
+            portions = portions_view c.args.found.now.portions.items;
           }) (c.args.top - 1) 1000000) (sym places) all.0.0);
       smaller = subst (λ (xs : List ℕ). sum xs < sum c.args.found.now.group_of_stretch.items) (sym places) all.0.1;
       jobs = subst (λ (xs : List ℕ). AreMovedFrom c.args.top c.args.found.now.group_of_job.items xs) (sym jobs) all.1;

@@ -2,7 +2,7 @@ use Rattle.std.proofs.Common.{◌∙◌, sym, ap, map, length}
 use Rattle.std.proofs.lemmas.List.{length-map}
 use Rattle.yds_plan.specs.Views.{found_view, group_view}
 use Rattle.yds_plan.specs.Drafts.{empty_levels}
-use Rattle.yds_plan.proofs.Bounds.{groups_within, events_in_range}
+use Rattle.yds_plan.proofs.Bounds.{groups_within}
 use Rattle.yds_plan.proofs.layout.levels_of_found.Goals as goal
 
 pub levels_of_groups-requires : goal.levels_of_groups-requires
@@ -14,7 +14,3 @@ add_members-requires-clause-levels c =
     c.in_ok-levels.ensures.levels
     ∙ ap (λ groups. empty_levels (map group_view groups) (length groups)) c.deref.ensures.value
     ∙ ap (empty_levels (map group_view c.args.found.now.groups.items)) (sym (length-map c.args.found.now.groups.items group_view))
-
-pub add_pieces-requires-clause-limit : goal.add_pieces-requires-clause-limit
-add_pieces-requires-clause-limit c =
-    rw (c.requires.times) (events_in_range c.args.rows.now c.requires.jobs)

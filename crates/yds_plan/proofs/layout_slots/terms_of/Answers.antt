@@ -7,7 +7,7 @@ use Rattle.yds_plan.proofs.layout_slots.terms_of.Goals as goal
 use Rattle.yds_plan.proofs.layout_slots.terms_of.Goals.{After-gcd-divisor}
 
 divisor : (c : After-gcd-divisor) → c.gcd-divisor.result ≡ common_divisor c.args.group.now.work c.args.group.now.length
-divisor c = same_from_IsGcd _ _ _ _ c.gcd-divisor.ensures (divisor_is_greatest c.args.group.now.work c.args.group.now.length)
+divisor c = same_from_IsGcd _ _ _ _ c.gcd-divisor.ensures.greatest (divisor_is_greatest c.args.group.now.work c.args.group.now.length)
 
 pub nonzero_div-result : goal.nonzero_div-result
 nonzero_div-result c =

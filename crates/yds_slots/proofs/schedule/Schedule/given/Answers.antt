@@ -3,7 +3,7 @@ use Rattle.std.specs.Int.{◌∣◌}
 use Rattle.std.proofs.lemmas.List.{get_or_read}
 use Rattle.yds_model.specs.Scale.{at_scale}
 use Rattle.yds_model.specs.Slot.{IsScale, slots_at, work_given}
-use Rattle.yds_slots.specs.Received.{Share}
+use Rattle.yds_slots.specs.Received.{Receipt}
 use Rattle.yds_slots.specs.Kept.{nothing}
 use Rattle.yds_slots.proofs.schedule.Schedule.given.Goals as goal
 
@@ -11,6 +11,6 @@ pub returns-clause-at_scales : goal.returns-clause-at_scales
 returns-clause-at_scales c =
     let known = rw (← c.self.view_is) at c.requires in
     let read = get_or_read c.self.inside.received.items c.args.job c.index-received.result.now known c.index-received.ensures nothing in
-    let P : Share → Type 0 = λ share. (scale : ℕ) → IsScale scale c.self.inside.slots.items →
-    (share.given.den ∣ scale) × (at_scale scale share.given ≡ work_given (slots_at scale c.self.inside.slots.items) c.args.job) in
+    let P : Receipt → Type 0 = λ receipt. (scale : ℕ) → IsScale scale c.self.inside.slots.items →
+    (receipt.given.den ∣ scale) × (at_scale scale receipt.given ≡ work_given (slots_at scale c.self.inside.slots.items) c.args.job) in
     rw (← c.self.view_is) (subst P (sym (c.received.view_is ∙ read)) (c.self.invariant.given c.args.job known).at_scales)

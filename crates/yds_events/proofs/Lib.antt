@@ -1,0 +1,5 @@
+pub mod InOrder
+pub mod Rising
+pub mod Times
+pub mod Neighbours
+pub mod Places

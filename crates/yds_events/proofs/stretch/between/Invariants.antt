@@ -1,0 +1,6 @@
+use Rattle.std.proofs.Common.{◌≡◌, take}
+use Rattle.yds_model.specs.Event.{neighbours}
+use Rattle.yds_events.proofs.stretch.between.Given as goal
+
+abbrev pub invariant-loop-next : goal.invariant-loop-next
+invariant-loop-next l = l.stretches.items ≡ neighbours (take l.next l.times)

@@ -1,0 +1,18 @@
+//! Time as jobs cut it: the event points, which are the jobs' releases and deadlines, the stretches between neighbours of
+//! them, and each job's window as a range of stretches.
+//!
+//! It stands on `yds_model` alone, and whoever serves jobs stretch by stretch stands on it. Its promise is that the event
+//! points and the stretches are those of the model's definitions, and that a stretch is in a job's range exactly where it
+//! lies in the job's window.
+#![tactic(auto)]
+
+mod event_points;
+mod stretch;
+mod window;
+
+pub use event_points::events;
+pub use stretch::{Stretch, stretches};
+pub use window::{Window, windows};
+
+#[cfg(test)]
+mod tests;

@@ -1,0 +1,23 @@
+use super::*;
+use std::test::Fail;
+use yds_model::JobRow;
+
+// Jobs from 4 to 6, from 0 to 12 and from 2 to 6 cut the time from 0 to 12 at 2, 4 and 6.
+#[test]
+fn three_jobs_cut_time(rt: HostRuntime) -> Result<(), Fail> {
+    let rows = [
+        JobRow::new(4, 6, 6),
+        JobRow::new(0, 12, 4),
+        JobRow::new(2, 6, 8),
+    ];
+    let times = events(rt.alloc(), &rows)?;
+    assert_eq!(rt; times.as_slice(), [0, 2, 4, 6, 12].as_slice());
+    let cut = stretches(rt.alloc(), &rows)?;
+    assert_eq!(rt; cut.len(), 4);
+    assert_eq!(rt; (cut[3].from, cut[3].to, cut[3].length()), (6, 12, 6));
+    let ranges = windows(rt.alloc(), &rows, &cut)?;
+    assert_eq!(rt; ranges.len(), 3);
+    assert_eq!(rt; (ranges[0].first, ranges[0].end), (2, 3));
+    assert_eq!(rt; (ranges[1].first, ranges[1].end), (0, 4));
+    Ok(())
+}

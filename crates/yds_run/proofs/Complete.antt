@@ -1,0 +1,115 @@
+-- From the bytes that were taken to all bytes of the input.
+use Rattle.std.proofs.Common.{◌≡◌, ◌≢◌, ◌⊎◌, ℕ, ◌+◌, ◌<◌, ◌≤◌, List, [], ◌∷◌, ◌++◌, length, Option, Some, None, subst, sym, ap, ◌∙◌, arith, refl, inl, inr, length-append, lt-ltb, le-ltb}
+use Rattle.std.specs.Prelude.{codes, IfSome}
+use Rattle.std.proofs.lemmas.List.{append-nil}
+use Rattle.std.specs.Io.KnownBytes.{Appends}
+use Rattle.yds_model.specs.declared.limits.TheConstants.{MAX_INPUT}
+use Rattle.yds_model.specs.declared.status.Status.{Status}
+use Rattle.yds_model.specs.declared.status.Status.TheVariants.{Done, No, Usage, Refused, ReadFault, WriteFault, Memory}
+use Rattle.yds_model.specs.Request.{Question, AskPlan, Request, OfDocument, OfTrial}
+use Rattle.yds_model.specs.Answer.{AnswersRequest, AnswersReading, UnlessTooLong}
+use Rattle.yds_model.specs.Reading.{reading}
+use Rattle.yds_model.specs.PlanAnswer.{HoldsHeadline}
+use Rattle.yds_model.specs.TrialAnswer.{TrialAnswer}
+use Rattle.yds_laws.proofs.PlanText.{plans_hold_the_headline}
+use Rattle.yds_run.specs.Words.{IsTrial}
+use Rattle.yds_run.specs.Run.{Writes, AnswersBytes, AnswersTaken, Outcome}
+
+-- what is an answer to one thing and so to another
+pub writes_of : (One Other : List ℕ → Status → Type 0) (result : Status) (old new : Option (List ℕ)) (flushed : Option ℕ)
+    → ((text : List ℕ) (status : Status) → One text status → Other text status) → Writes One result old new flushed → Writes Other result old new flushed
+writes_of One Other result old new flushed weaker writes = record {
+  text = writes.text;
+  status = writes.status;
+  answers = weaker writes.text writes.status writes.answers;
+  outcome = writes.outcome;
+}
+
+-- the answer to an input that isn't too long
+pub short_answers : (question : Question) (input : List ℕ) (result : Status) (old new : Option (List ℕ)) (flushed : Option ℕ) → length input ≤ MAX_INPUT
+    → Writes (AnswersReading question (reading input)) result old new flushed → AnswersBytes (Some (OfDocument question)) input result old new flushed
+short_answers question input result old new flushed short =
+    writes_of (AnswersReading question (reading input)) (AnswersRequest (Some (OfDocument question)) input) result old new flushed
+    (λ text status answers. subst (λ long. UnlessTooLong long (AnswersReading question (reading input)) text status) (sym (le-ltb MAX_INPUT (length input) short)) answers)
+
+-- more bytes than an input may have, and any bytes after them, are refused alike
+more_answers : (question : Question) (taken more text : List ℕ) (status : Status) → MAX_INPUT < length taken
+    → AnswersRequest (Some (OfDocument question)) taken text status → AnswersRequest (Some (OfDocument question)) (taken ++ more) text status
+more_answers question taken more text status beyond answers =
+    let long : MAX_INPUT < length (taken ++ more) = omega (arith, length-append taken more) in
+    subst (λ long. UnlessTooLong long (AnswersReading question (reading (taken ++ more))) text status) (sym (lt-ltb MAX_INPUT (length (taken ++ more)) long))
+    (subst (λ long. UnlessTooLong long (AnswersReading question (reading taken)) text status) (lt-ltb MAX_INPUT (length taken) beyond) answers)
+
+all_taken : (question : Question) (result : Status) (input taken rest : List ℕ) (old new : Option (List ℕ)) (flushed : Option ℕ)
+    → input ≡ taken ++ rest → (rest ≡ []) ⊎ (length taken ≡ MAX_INPUT + 1)
+    → AnswersBytes (Some (OfDocument question)) taken result old new flushed → AnswersBytes (Some (OfDocument question)) input result old new flushed
+all_taken question result input taken rest old new flushed is (inl end) answered =
+    let whole : input ≡ taken = is ∙ ap (λ l. taken ++ l) end ∙ append-nil taken in
+    subst (λ bytes. AnswersBytes (Some (OfDocument question)) bytes result old new flushed) (sym whole) answered
+all_taken question result input taken rest old new flushed is (inr long) answered =
+    subst (λ bytes. AnswersBytes (Some (OfDocument question)) bytes result old new flushed) (sym is)
+    (writes_of (AnswersRequest (Some (OfDocument question)) taken) (AnswersRequest (Some (OfDocument question)) (taken ++ rest)) result old new flushed
+    (λ text status answers. more_answers question taken rest text status (omega arith) answers) answered)
+
+-- the answer to what was taken is the answer to the whole input, where that is told
+answers_input : (question : Question) (result : Status) (left rest old new : Option (List ℕ)) (flushed : Option ℕ)
+    → AnswersTaken (Some (OfDocument question)) result left rest old new flushed
+    → IfSome left (λ input. AnswersBytes (Some (OfDocument question)) input result old new flushed)
+answers_input question result None rest old new flushed answered = tt
+answers_input question result (Some input) None old new flushed answered = absurd answered.consumed
+answers_input question result (Some input) (Some rest) old new flushed answered =
+    all_taken question result input answered.taken rest old new flushed answered.consumed answered.ended answered.answered
+
+-- so it is, where the words ask the question
+pub question_completes : (named : Option Request) (question : Question) (result : Status) (left rest old new : Option (List ℕ)) (flushed : Option ℕ)
+    → Some (OfDocument question) ≡ named → AnswersTaken (Some (OfDocument question)) result left rest old new flushed
+    → IfSome left (λ input. AnswersBytes named input result old new flushed)
+question_completes named question result left rest old new flushed is taken =
+    subst (λ asks. IfSome left (λ input. AnswersBytes asks input result old new flushed)) is (answers_input question result left rest old new flushed taken)
+
+for_each_input : (left : Option (List ℕ)) (P : List ℕ → Type 0) → ((input : List ℕ) → P input) → IfSome left P
+for_each_input None P answers = tt
+for_each_input (Some input) P answers = answers input
+
+-- a trial's answer is the answer to each input
+pub trial_answers : (named : Option Request) (seed jobs : ℕ) (result : Status) (old new : Option (List ℕ)) (flushed : Option ℕ) → Some (OfTrial seed jobs) ≡ named
+    → Writes (TrialAnswer seed jobs) result old new flushed → (input : List ℕ) → AnswersBytes named input result old new flushed
+trial_answers named seed jobs result old new flushed is writes input = subst (λ asks. AnswersBytes asks input result old new flushed) is writes
+
+pub trial_completes : (named : Option Request) (seed jobs : ℕ) (result : Status) (left old new : Option (List ℕ)) (flushed : Option ℕ) → Some (OfTrial seed jobs) ≡ named
+    → Writes (TrialAnswer seed jobs) result old new flushed → IfSome left (λ input. AnswersBytes named input result old new flushed)
+trial_completes named seed jobs result left old new flushed is writes =
+    for_each_input left (λ input. AnswersBytes named input result old new flushed) (trial_answers named seed jobs result old new flushed is writes)
+
+-- how a trial ends
+pub trial_ends : (seed jobs : ℕ) (result : Status) (old new : Option (List ℕ)) (flushed : Option ℕ) → result ≢ ReadFault
+    → (result ≢ Memory → Writes (TrialAnswer seed jobs) result old new flushed) → (result ≡ Done) ⊎ (result ≡ WriteFault) ⊎ (result ≡ Memory)
+trial_ends seed jobs Done old new flushed no_fault writes = inl refl
+trial_ends seed jobs WriteFault old new flushed no_fault writes = inr (inl refl)
+trial_ends seed jobs Memory old new flushed no_fault writes = inr (inr refl)
+trial_ends seed jobs ReadFault old new flushed no_fault writes = absurd (no_fault refl)
+trial_ends seed jobs No old new flushed no_fault writes =
+    let done = writes (λ is. absurd cc) in let same : No ≡ Done = sym done.outcome.said ∙ done.answers.ended in absurd cc
+trial_ends seed jobs Usage old new flushed no_fault writes =
+    let done = writes (λ is. absurd cc) in let same : Usage ≡ Done = sym done.outcome.said ∙ done.answers.ended in absurd cc
+trial_ends seed jobs Refused old new flushed no_fault writes =
+    let done = writes (λ is. absurd cc) in let same : Refused ≡ Done = sym done.outcome.said ∙ done.answers.ended in absurd cc
+
+-- what `plan` wrote whole holds the headline
+plan_headline : (input : List ℕ) (result : Status) (old new : Option (List ℕ)) (flushed : Option ℕ) → result ≡ Done
+    → AnswersBytes (Some (OfDocument AskPlan)) input result old new flushed → (text : List ℕ) × Appends old new text × HoldsHeadline input text
+plan_headline input result old new flushed done answered =
+    let outcome : Outcome Done answered.text answered.status old new flushed =
+    subst (λ ended. Outcome ended answered.text answered.status old new flushed) done answered.outcome in (
+      answered.text,
+      outcome.whole,
+      plans_hold_the_headline input answered.text (subst (AnswersRequest (Some (OfDocument AskPlan)) input answered.text) outcome.said answered.answers),
+    )
+
+-- so it does where the words are `plan` and the input is told
+pub headline : (named : Option Request) (result : Status) (left old new : Option (List ℕ)) (flushed : Option ℕ) → named ≡ Some (OfDocument AskPlan)
+    → result ≡ Done → IfSome left (λ input. AnswersBytes named input result old new flushed)
+    → IfSome left (λ input. (text : List ℕ) × Appends old new text × HoldsHeadline input text)
+headline named result None old new flushed plan done answered = tt
+headline named result (Some input) old new flushed plan done answered =
+    plan_headline input result old new flushed done (subst (λ request. AnswersBytes request input result old new flushed) plan answered)

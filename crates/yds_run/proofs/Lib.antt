@@ -1,0 +1,5 @@
+pub mod AskedWords
+pub mod ToldLines
+pub mod Drawn
+pub mod Replied
+pub mod Complete

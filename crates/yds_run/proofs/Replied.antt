@@ -1,0 +1,45 @@
+-- From an answer that was delivered to what was asked for.
+use Rattle.std.proofs.Common.{◌≡◌, ◌≢◌, ◌⊎◌, ℕ, List, Option, Result, Ok, Err, inl, inr, subst, sym, ap, arith, ◌∙◌}
+use Rattle.std.specs.Prelude.{IfOk, MatchResult}
+use Rattle.yds_model.specs.declared.status.Status.{Status}
+use Rattle.yds_model.specs.declared.status.Status.TheVariants as statuses
+use Rattle.yds_run.specs.Run.{IsWhole, IsDelivered, Replies}
+
+-- a run that delivered an answer ended as the answer does, or by a fault of the sink
+ends_whole : (status result other : Status) → IsWhole status → (result ≡ status) ⊎ (result ≡ statuses.WriteFault)
+    → (IsWhole other → ⊥) → other ≢ statuses.WriteFault → result ≢ other
+ends_whole status result other whole ended broken no_fault is =
+    elim ended [
+      | inl e ↦ absurd (broken (subst IsWhole (sym e ∙ is) whole))
+      | inr e ↦ absurd (no_fault (sym is ∙ e))
+    ]
+
+-- an answer that is one of those that were asked for
+pub delivered_replies : {K : Type 0} (written : K → Option (List ℕ)) (flushed : K → Option ℕ) (faults : K → ℕ) (Answered : List ℕ → Status → Type 0)
+    (text : List ℕ) (status result : Status) (old new : K)
+    → Answered text status → IsDelivered written flushed faults text status result old new → Replies written flushed faults Answered result old new
+delivered_replies written flushed faults Answered text status result old new answers delivered = record {
+  no_read_fault = ends_whole status result statuses.ReadFault delivered.whole delivered.ended (λ broken. broken) (λ is. absurd cc);
+  counts = delivered.counts;
+  nothing_written = λ memory. absurd (ends_whole status result statuses.Memory delivered.whole delivered.ended (λ broken. broken) (λ is. absurd cc) memory);
+  answer = λ memory. record { text = text; status = status; answers = answers; outcome = delivered.outcome };
+}
+
+-- the same of an answer for which memory may want
+pub made_replies : {K A E : Type 0} (written : K → Option (List ℕ)) (flushed : K → Option ℕ) (faults : K → ℕ) (Answered : List ℕ → Status → Type 0)
+    (text_of : A → List ℕ) (status_of : A → Status) (made : Result A E) (result : Status) (old new : K)
+    → IfOk made (λ answer. Answered (text_of answer) (status_of answer))
+    → MatchResult made (λ answer. IsDelivered written flushed faults (text_of answer) (status_of answer) result old new) (λ error. (result ≡ statuses.Memory) × (new ≡ old))
+    → Replies written flushed faults Answered result old new
+made_replies written flushed faults Answered text_of status_of (Ok answer) result old new answers delivered =
+    delivered_replies written flushed faults Answered (text_of answer) (status_of answer) result old new answers delivered
+made_replies written flushed faults Answered text_of status_of (Err error) result old new answers wanting = record {
+  no_read_fault = λ is. absurd cc;
+  counts = record {
+    later = omega (arith, ap faults wanting.1);
+    counted = λ is. absurd cc;
+    told = λ grown. absurd (omega (arith, ap faults wanting.1));
+  };
+  nothing_written = λ memory. wanting.1;
+  answer = λ memory. absurd (memory wanting.0);
+}

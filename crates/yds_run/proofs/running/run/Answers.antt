@@ -1,0 +1,26 @@
+use Rattle.std.proofs.Common.{ap, sym, ◌∙◌, ◌≡◌, Some, List, ℕ, Option}
+use Rattle.yds_model.specs.Request.{Request, AskPlan, OfDocument, OfTrial}
+use Rattle.yds_run.specs.declared.command.Command.{Command}
+use Rattle.yds_run.specs.Words.{asked, request_view}
+use Rattle.yds_run.proofs.Replied.{made_replies}
+use Rattle.yds_run.proofs.Complete.{question_completes, trial_answers, headline}
+use Rattle.yds_run.proofs.running.run.Goals as goal
+
+-- what a command that was named asks for
+named : (command found : Command) (request : Option Request) → found ≡ command → Some (request_view found) ≡ request → Some (request_view command) ≡ request
+named command found request is asks = ap (λ other. Some (request_view other)) (sym is) ∙ asks
+
+pub returns-in-Some-Document-clause-complete : goal.returns-in-Some-Document-clause-complete
+returns-in-Some-Document-clause-complete g c =
+    λ memory fault. question_completes _ _ _ _ _ _ _ _ (named _ _ _ c.in-Some-Document.field-0-is c.in-Some-Document.ensures.asked) (c.answer_input.ensures.answer memory fault)
+
+pub returns-in-Some-Document-clause-headline : goal.returns-in-Some-Document-clause-headline
+returns-in-Some-Document-clause-headline g c =
+    λ plan done. headline _ _ _ _ _ _ (ap asked plan) done
+    (question_completes _ _ _ _ _ _ _ _ (named _ _ _ c.in-Some-Document.field-0-is c.in-Some-Document.ensures.asked)
+    (c.answer_input.ensures.answer (λ is. absurd cc) (λ is. absurd cc)))
+
+pub returns-in-Some-Trial-clause-trial_text : goal.returns-in-Some-Trial-clause-trial_text
+returns-in-Some-Trial-clause-trial_text g c =
+    λ trial memory. trial_answers _ _ _ _ _ _ _ (named _ _ _ c.in-Some-Trial.field-0-is c.in-Some-Trial.ensures.asked)
+    ((made_replies _ _ _ _ _ _ _ _ _ _ c.try_plan.ensures c.reply.ensures).answer memory)

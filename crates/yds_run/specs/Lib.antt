@@ -1,0 +1,9 @@
+pub mod Words
+pub mod Run
+pub mod WithPoints
+pub mod Told
+pub mod VerdictLine
+pub mod Plan
+pub mod Check
+pub mod Report
+pub mod Trial

@@ -1,0 +1,56 @@
+-- The words of the command line, as bytes, and what they ask for of what is built.
+use Rattle.std.specs.Prelude.{ℕ, ◌≤◌, List, map, String, string_bytes, Option, Some, None, true, false}
+use Rattle.std.specs.declared.alloc.Global.{Global}
+use Rattle.yds_model.specs.declared.limits.TheConstants.{MAX_TRIAL_JOBS}
+use Rattle.yds_model.specs.Request.{Question as ModelQuestion, AskPlan, AskRound, AskAverageRate, AskOptimalAvailable, AskCheck, AskAudit, AskAuditOnPoints, AskReport, AskReportAsJson, AskAdmit, AskCurve, AskCompare, Request, OfDocument, OfTasks, OfTrial, request_of}
+use Rattle.yds_run.specs.declared.command.Question.{Question}
+use Rattle.yds_run.specs.declared.command.Question.TheVariants as questions
+use Rattle.yds_run.specs.declared.command.Command.{Command}
+use Rattle.yds_run.specs.declared.command.Command.TheVariants as commands
+
+abbrev pub words_of : List (String Global) → List (List ℕ)
+words_of words = map string_bytes words
+
+-- What isn't built yet is asked for as nothing is: a command that is built loses its line here.
+abbrev pub built : Option Request → Option Request
+built (Some (OfDocument AskRound)) = None
+built (Some (OfDocument (AskAverageRate grid))) = None
+built (Some (OfDocument (AskOptimalAvailable grid))) = None
+built (Some (OfDocument AskReportAsJson)) = None
+built (Some (OfDocument (AskAdmit top))) = None
+built (Some (OfDocument AskCurve)) = None
+built (Some (OfDocument (AskCompare grid))) = None
+built (Some OfTasks) = None
+built request = request
+
+abbrev pub asked : List (List ℕ) → Option Request
+asked words = built (request_of words)
+
+-- a trial is asked for
+abbrev pub IsTrial : Option Request → Type 0
+IsTrial (Some (OfTrial seed jobs)) = Unit {0}
+IsTrial _ = ⊥
+
+-- something is asked for that is answered from the input: all but a trial
+abbrev pub ReadsInput : Option Request → Type 0
+ReadsInput None = ⊥
+ReadsInput (Some (OfTrial seed jobs)) = ⊥
+ReadsInput (Some _) = Unit {0}
+
+-- what a question asks
+abbrev pub question_view : Question → ModelQuestion
+question_view questions.Plan = AskPlan
+question_view questions.Check = AskCheck
+question_view (questions.Audit false) = AskAudit
+question_view (questions.Audit true) = AskAuditOnPoints
+question_view questions.Report = AskReport
+
+-- what a command answers
+abbrev pub request_view : Command → Request
+request_view (commands.Document question) = OfDocument (question_view question)
+request_view (commands.Trial seed jobs) = OfTrial seed jobs
+
+-- a trial has as many jobs as it may have
+abbrev pub IsWithinLimits : Command → Type 0
+IsWithinLimits (commands.Trial seed jobs) = jobs ≤ MAX_TRIAL_JOBS
+IsWithinLimits _ = Unit {0}

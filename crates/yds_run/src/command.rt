@@ -1,0 +1,103 @@
+ghost use Rattle.std.specs.Prelude.{◌≡◌, ◌≤◌, option_map, IfSome};
+ghost use Rattle.std.specs.Result.{result_ok};
+ghost use Rattle.yds_model.specs.Spelling.{number_at};
+ghost use Rattle.yds_model.specs.Request.{request_of_word, request_of_two, request_of_three};
+ghost use Rattle.yds_run.specs.Words.{words_of, built, asked, request_view, IsWithinLimits};
+
+use yds_model::limits::{MAX_SEED, MAX_TRIAL_JOBS};
+use yds_text::number_of;
+
+/// What is asked of a document.
+#[derive(Clone, Copy, Debug, PartialEq, Eq)]
+pub enum Question {
+    /// The plan of the document's jobs, with its certificate.
+    Plan,
+    /// Whether the document's levels show that its slots are least.
+    Check,
+    /// Whether the document's slots are feasible for its jobs.
+    Audit {
+        /// Whether each slot has also to run at the speed of one of the document's operating points.
+        points: bool,
+    },
+    /// The plan of the document's jobs as a table of its levels.
+    Report,
+}
+
+/// What the words of the command line ask for.
+#[derive(Clone, Copy, Debug, PartialEq, Eq)]
+pub enum Command {
+    /// The answer to a question about the document in the input.
+    Document(Question),
+    /// The numbers of a plan of drawn jobs, for which nothing is read.
+    Trial {
+        /// The number from which the jobs are drawn.
+        seed: u32,
+        /// How many jobs are drawn.
+        jobs: u32,
+    },
+}
+
+impl Command {
+    /// The command that the words name, without the program's name among them. None where they name no
+    /// command that is built. It takes no memory.
+    pub fn of(words: &[String]) -> Option<Command>
+        ensures asked { option_map request_view result ≡ asked (words_of words.now) }
+        ensures within { IfSome result IsWithinLimits }
+    {
+        match words {
+            [word] => of_word(word.as_str()),
+            [word, next] => of_two(word.as_str(), next.as_str()),
+            [word, next, last] => of_three(word.as_str(), next.as_str(), last.as_str()),
+            _ => None,
+        }
+    }
+}
+
+/// The command of one word.
+fn of_word(word: &str) -> Option<Command>
+    ensures asked { option_map request_view result ≡ built (request_of_word word.now) }
+    ensures within { IfSome result IsWithinLimits }
+{
+    match word {
+        "plan" => Some(Command::Document(Question::Plan)),
+        "check" => Some(Command::Document(Question::Check)),
+        "audit" => Some(Command::Document(Question::Audit { points: false })),
+        "report" => Some(Command::Document(Question::Report)),
+        _ => None,
+    }
+}
+
+/// The command of a word and what follows it.
+fn of_two(word: &str, next: &str) -> Option<Command>
+    ensures asked { option_map request_view result ≡ built (request_of_two word.now next.now) }
+    ensures within { IfSome result IsWithinLimits }
+{
+    match (word, next) {
+        ("audit", "--points") => Some(Command::Document(Question::Audit { points: true })),
+        _ => None,
+    }
+}
+
+/// The command of three words: a trial, with its seed and its number of jobs.
+fn of_three(word: &str, next: &str, last: &str) -> Option<Command>
+    ensures asked { option_map request_view result ≡ built (request_of_three word.now next.now last.now) }
+    ensures within { IfSome result IsWithinLimits }
+{
+    match word {
+        "trial" => {
+            let seed = number_in(next, MAX_SEED)?;
+            let jobs = number_in(last, MAX_TRIAL_JOBS)?;
+            Some(Command::Trial { seed, jobs })
+        }
+        _ => None,
+    }
+}
+
+/// The number that a word spells, at most `most`.
+fn number_in(word: &str, most: u32) -> Option<u32>
+    ensures number { result ≡ result_ok (number_at 0 most word.now) }
+    ensures within { IfSome result (λ number. number ≤ most) }
+{
+    let number = number_of(word.as_bytes(), 0, u64::from(most)).ok()?;
+    Some(number as u32)
+}

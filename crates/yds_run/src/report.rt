@@ -1,0 +1,45 @@
+//! `report`: the levels of a plan of the document's jobs as a table.
+ghost use Rattle.std.specs.Prelude.{IfOk};
+ghost use Rattle.yds_model.specs.ReportAnswer.{ReportAnswer};
+ghost use Rattle.yds_document.specs.Documents.{document_view};
+ghost use Rattle.yds_run.specs.Report.{table_text};
+
+use crate::answer::Answer;
+use std::alloc::Global;
+use yds_document::Document;
+use yds_model::{Memory, Status};
+use yds_plan::{Planned, plan};
+use yds_port::{Sink, WriteFault};
+use yds_report::report;
+
+/// A plan of a document's jobs, to be told as a table.
+#[derive(Drop)]
+pub struct PlanTable<'a> {
+    document: Document<'a>,
+    planned: Planned,
+}
+
+impl Answer for PlanTable<'_> {
+    ghost use Rattle.yds_model.specs.declared.status.Status.TheVariants as statuses;
+    ghost use Rattle.yds_run.specs.Report.{table_text};
+
+    ghost text = { table_text };
+
+    ghost ends = { λ _. statuses.Done };
+
+    fn status(&self) -> Status {
+        Status::Done
+    }
+
+    fn write<K: Sink>(&self, sink: &mut K) -> Result<(), WriteFault> {
+        report(&self.document, &self.planned, sink)
+    }
+}
+
+/// Plans the document's jobs, for a table of the plan's levels.
+pub fn report_document<'a>(alloc: Global, document: Document<'a>) -> Result<PlanTable<'a>, Memory>
+    ensures { IfOk result (λ table. ReportAnswer (document_view document.entry) (table_text table) Status.Done) }
+{
+    let planned = plan(alloc, document.instance.rows())?;
+    Ok(PlanTable { document, planned })
+}
