@@ -43,6 +43,7 @@ served scale is =
 abbrev together : List Level
 together = record { work = 4; length = 4; pieces = record { from = 0; to = 4 } ∷ []; members = 0 ∷ 1 ∷ [] } ∷ []
 
+-- by the laws of scale and of tests
 plan : IsPlan jobs slots together
 plan = plan_by_test jobs slots together (proper_by_test jobs slots together feasible refl) served refl
 
@@ -52,6 +53,7 @@ apart =
     record { work = 2; length = 2; pieces = record { from = 0; to = 2 } ∷ []; members = 0 ∷ [] }
     ∷ record { work = 2; length = 2; pieces = record { from = 2; to = 4 } ∷ []; members = 1 ∷ [] } ∷ []
 
+-- since its level may have the same speed
 apart_proper : IsProper jobs slots apart
 apart_proper = proper_by_test jobs slots apart feasible refl
 
@@ -63,6 +65,7 @@ apart_no_plan plan = not_from_Decides (is_slower apart 1) (falling_decided apart
 abbrev touching : List Level
 touching = record { work = 4; length = 4; pieces = record { from = 0; to = 2 } ∷ record { from = 2; to = 4 } ∷ []; members = 0 ∷ 1 ∷ [] } ∷ []
 
+-- since pieces may touch
 touching_proper : IsProper jobs slots touching
 touching_proper = proper_by_test jobs slots touching feasible refl
 
@@ -74,6 +77,7 @@ touching_no_plan plan = let apart = plan.pieces_apart 0 no_level (omega arith) i
 abbrev turned : List Level
 turned = record { work = 4; length = 4; pieces = record { from = 0; to = 4 } ∷ []; members = 1 ∷ 0 ∷ [] } ∷ []
 
+-- since members may come in any order
 turned_proper : IsProper jobs slots turned
 turned_proper = proper_by_test jobs slots turned feasible refl
 

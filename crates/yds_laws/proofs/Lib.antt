@@ -9,11 +9,12 @@ pub mod ThreeJobs
 mod ThreeJobsChanged
 mod EqualSpeeds
 mod EarliestFirst
+mod Hulls
 mod RoundNested
 mod RoundSwitch
 pub mod Policies
 mod Rows
-mod Judged
+mod PlanRow
 mod EnergyExamples
 mod WordsExamples
 mod TasksExamples

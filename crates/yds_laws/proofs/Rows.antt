@@ -8,6 +8,7 @@ use Rattle.std.proofs.lemmas.Slice.Eq.{bytes_eq-Decides}
 use Rattle.yds_model.specs.declared.reason.Reason.{Reason}
 use Rattle.yds_model.specs.declared.status.Status.{Status}
 use Rattle.yds_model.specs.declared.status.Status.TheVariants as statuses
+use Rattle.yds_model.specs.Scale.{of_whole}
 use Rattle.yds_model.specs.Text.{line}
 use Rattle.yds_model.specs.Document.{Document, no_document}
 use Rattle.yds_model.specs.Fields.{Fault}
@@ -31,6 +32,7 @@ abbrev read_of : Result Document (Fault Reason) → Document
 read_of (Ok document) = document
 read_of (Err fault) = no_document
 
+-- whether it is read
 abbrev is_read : Result Document (Fault Reason) → Bool
 is_read (Ok document) = true
 is_read (Err fault) = false
@@ -53,6 +55,7 @@ is_audit input text verdict =
     (not (is_too_long input) && is_read (reading input))
     && (is_verdict (read_of (reading input)).jobs None (read_of (reading input)).slots verdict && bytes_eq text (line (verdict_words (read_of (reading input)) verdict)))
 
+-- then `audit` answers so
 audited : (input text : List ℕ) (verdict : Verdict) → is_audit input text verdict ≡ true → Row (codes "audit" ∷ []) input text (verdict_status verdict)
 audited input text verdict passed =
     let document : Document = read_of (reading input) in
@@ -76,6 +79,7 @@ is_check input text judgement =
     && (is_judgement (read_of (reading input)).jobs (read_of (reading input)).slots (read_of (reading input)).levels judgement
     && bytes_eq text (line (judgement_words (read_of (reading input)) judgement)))
 
+-- and `check`
 checked : (input text : List ℕ) (judgement : Judgement) → is_check input text judgement ≡ true → Row (codes "check" ∷ []) input text (judgement_status judgement)
 checked input text judgement passed =
     let document : Document = read_of (reading input) in
@@ -127,6 +131,11 @@ early = audited _ _ (Early 0) refl
 late : Row (codes "audit" ∷ []) (codes "job a 0 4 2\nslot a 3 5 2\n") (codes "late slot 1 a 5 deadline 4\n") statuses.No
 unfolding digits
 late = audited _ _ (Late 0) refl
+
+-- too little work for one of two jobs
+one_short : Row (codes "audit" ∷ []) (codes "job a 0 10 10\njob b 4 6 6\nslot a 0 4 5\nslot b 4 6 5\nslot a 6 10 5\n") (codes "work b given 5 wanted 6\n") statuses.No
+unfolding digits
+one_short = audited _ _ (WrongWork 1 (of_whole 5) 6) refl
 
 -- a third of a unit of work too little
 too_little : Row (codes "audit" ∷ []) (codes "job a 0 4 4\nslot a 0 4 3+2/3\n") (codes "work a given 3+2/3 wanted 4\n") statuses.No
