@@ -1,6 +1,7 @@
 -- Tests that decide what is said of levels: the conditions of a proper certificate, and those of a plan.
 use Rattle.std.proofs.Common.{◌≡◌, ℕ, ◌+◌, ◌*◌, ◌<◌, ◌≤◌, List, [], ◌∷◌, length, take, Bool, true, ◌&&◌, ◌||◌, ◌==◌, nat_le, nat_lt, refl, ap, ◌∙◌}
 use Rattle.std.specs.Prelude.{not}
+use Rattle.std.specs.Int.{◌∣◌}
 use Rattle.std.specs.Bool.{Decides}
 use Rattle.std.specs.List.{All, Contains, list_all, list_any}
 use Rattle.std.proofs.lemmas.Bool.{and_parts, leb-true}
@@ -16,8 +17,11 @@ use Rattle.yds_model.specs.Proper.{PiecesStand, StandsOnce, SumsAgree, IsNotFast
 use Rattle.yds_model.specs.Plan.{speed_num, speed_den, IsServedInStretches, IsPlan, IsSlower, DontTouch, Rise, IsOver, HasLevelDenominators}
 use Rattle.yds_model.specs.Audit.{HasSpeed, crossed_length}
 use Rattle.yds_model.specs.Judgement.{HasWrittenSpeed}
+use Rattle.yds_model.proofs.Scale.{least_scale_of}
+use Rattle.yds_laws.proofs.RunScale.{served_in_stretches_scaled}
 use Rattle.yds_laws.proofs.Judgements.{speeds_at_scale}
-use Rattle.yds_laws.proofs.Decided.{le_decided, eq_decided, implied_decided, three_decided, all_below, each_decided, all_decided, any_decided, contains, contains_decided, with_before, before_decided}
+use Rattle.yds_laws.proofs.Decided.{le_decided, eq_decided, implied_decided, three_decided, all_below, each_decided, all_decided, any_decided, contains, contains_decided, with_before, before_decided, is_scale, scale_decided}
+use Rattle.yds_laws.proofs.DecidedSchedules.{is_served_in_stretches, stretches_decided}
 
 -- # The conditions of a proper certificate
 
@@ -296,6 +300,15 @@ proper_by_test jobs slots levels feasible passed =
       windows = (each_decided (is_window_covered jobs levels) (IsWindowCovered jobs levels) (covered_decided jobs levels) (length jobs)).0 fit.0;
       speeds = λ scale is s within. speeds_at_scale levels slots scale is s within (speeds s within);
     }
+
+-- written slots that are served in stretches at a scale which divides all others are so at each
+pub served_by_test : (jobs : List Job) (slots : List WrittenSlot) (least : ℕ) → is_scale least slots ≡ true →
+    ((scale : ℕ) → IsScale scale slots → least ∣ scale) → is_served_in_stretches jobs least (slots_at least slots) ≡ true →
+    (scale : ℕ) → IsScale scale slots → IsServedInStretches jobs scale (slots_at scale slots)
+served_by_test jobs slots least is divides passed =
+    let is_least = (scale_decided least slots).0 is in
+    (least_scale_of slots (IsServedInStretches jobs) least is_least divides
+    (λ k some. served_in_stretches_scaled jobs k least slots some is_least ((stretches_decided jobs least (slots_at least slots)).0 passed))).holds
 
 -- all that makes a plan, besides that the certificate is proper and the slots are served in stretches
 abbrev pub is_plan_form : List Job → List WrittenSlot → List Level → Bool

@@ -96,6 +96,10 @@ stands_decided jobs table slots i =
 abbrev pub comes_to : List Job → Option (List Point) → List WrittenSlot → ℕ → Bool
 comes_to jobs table slots i = nat_lt i (length slots) && all_below (stands jobs table slots) i
 
+-- and the slot there takes time, after the one before it
+abbrev pub comes_in_turn : List Job → Option (List Point) → List WrittenSlot → ℕ → Bool
+comes_in_turn jobs table slots i = comes_to jobs table slots i && (is_forward slots i && is_after_others slots i)
+
 -- each job before a place gets its work
 abbrev pub gets_its_work : List Job → List WrittenSlot → ℕ → Bool
 gets_its_work jobs slots job = parts_given slots job == (job_at jobs job).work * grain_of slots job
@@ -112,13 +116,11 @@ is_verdict jobs table slots (Overlap zero) = false
 is_verdict jobs table slots (Overlap (suc i)) =
     comes_to jobs table slots (suc i) && (is_forward slots (suc i) && is_less (written_slot_at slots (suc i)).from (written_slot_at slots i).to)
 is_verdict jobs table slots (Early i) =
-    (comes_to jobs table slots i && is_forward slots i) && (is_after_others slots i && is_less (written_slot_at slots i).from (release_of jobs (written_slot_at slots i)))
+    comes_in_turn jobs table slots i && is_less (written_slot_at slots i).from (release_of jobs (written_slot_at slots i))
 is_verdict jobs table slots (Late i) =
-    (comes_to jobs table slots i && is_forward slots i)
-    && (is_after_others slots i && (is_released jobs slots i && is_less (deadline_of jobs (written_slot_at slots i)) (written_slot_at slots i).to))
+    comes_in_turn jobs table slots i && (is_released jobs slots i && is_less (deadline_of jobs (written_slot_at slots i)) (written_slot_at slots i).to)
 is_verdict jobs table slots (OffPoint i) =
-    (comes_to jobs table slots i && is_forward slots i)
-    && (is_after_others slots i && ((is_released jobs slots i && is_due jobs slots i) && not (is_on_table table (written_slot_at slots i))))
+    comes_in_turn jobs table slots i && ((is_released jobs slots i && is_due jobs slots i) && not (is_on_table table (written_slot_at slots i)))
 is_verdict jobs table slots (WrongWork job given wanted) =
     (all_below (stands jobs table slots) (length slots) && (nat_lt job (length jobs) && all_below (gets_its_work jobs slots) job))
     && (not (gets_its_work jobs slots job) && (same_fraction given (given_of slots job) && (wanted == (job_at jobs job).work)))
@@ -133,6 +135,19 @@ module _ (jobs : List Job) (table : Option (List Point)) (slots : List WrittenSl
   comes i passed =
       let parts = and_parts (nat_lt i (length slots)) (all_below (stands jobs table slots) i) passed in
       record { within = ltb-true i (length slots) parts.0; before = stand_to i parts.1 }
+
+  -- what stands of a slot that comes in turn, whatever else is wrong with it
+  record InTurn (i : ℕ) : Type 0 where
+    comes : ComesTo jobs table slots i
+    forward : IsLess (written_slot_at slots i).from (written_slot_at slots i).to
+    after : IsAfterOthers slots i
+
+  -- where it passes
+  in_turn : (i : ℕ) → comes_in_turn jobs table slots i ≡ true → InTurn i
+  in_turn i passed =
+      let parts = and_parts (comes_to jobs table slots i) (is_forward slots i && is_after_others slots i) passed in
+      let rest = and_parts (is_forward slots i) (is_after_others slots i) parts.1 in
+      record { comes = comes i parts.0; forward = ltb-true _ _ rest.0; after = (after_decided slots i).0 rest.1 }
 
   -- the jobs before a place get their work
   served_to : (n : ℕ) → all_below (gets_its_work jobs slots) n ≡ true → Each n (GetsItsWork jobs slots)
@@ -160,34 +175,26 @@ module _ (jobs : List Job) (table : Option (List Point)) (slots : List WrittenSl
       record { comes = comes (suc i) parts.0; forward = ltb-true _ _ rest.0; before = i; is_before = omega arith; overlaps = ltb-true _ _ rest.1 }
   verdict_by_test (Early i) passed =
       let parts = and_parts _ _ passed in
-      let front = and_parts _ _ parts.0 in
-      let rest = and_parts _ _ parts.1 in
-      record { comes = comes i front.0; forward = ltb-true _ _ front.1; after = (after_decided slots i).0 rest.0; early = ltb-true _ _ rest.1 }
+      let turn = in_turn i parts.0 in
+      record { comes = turn.comes; forward = turn.forward; after = turn.after; early = ltb-true _ _ parts.1 }
   verdict_by_test (Late i) passed =
       let parts = and_parts _ _ passed in
-      let front = and_parts _ _ parts.0 in
+      let turn = in_turn i parts.0 in
       let rest = and_parts _ _ parts.1 in
-      let last = and_parts _ _ rest.1 in
-      record {
-        comes = comes i front.0;
-        forward = ltb-true _ _ front.1;
-        after = (after_decided slots i).0 rest.0;
-        released = leb-true _ _ last.0;
-        late = ltb-true _ _ last.1;
-      }
+      record { comes = turn.comes; forward = turn.forward; after = turn.after; released = leb-true _ _ rest.0; late = ltb-true _ _ rest.1 }
   verdict_by_test (OffPoint i) passed =
       let parts = and_parts _ _ passed in
-      let front = and_parts _ _ parts.0 in
+      let turn = in_turn i parts.0 in
       let rest = and_parts _ _ parts.1 in
-      let last = and_parts _ _ rest.1 in
-      let window = and_parts _ _ last.0 in
+      let window = and_parts _ _ rest.0 in
+      let slot : WrittenSlot = written_slot_at slots i in
       record {
-        comes = comes i front.0;
-        forward = ltb-true _ _ front.1;
-        after = (after_decided slots i).0 rest.0;
+        comes = turn.comes;
+        forward = turn.forward;
+        after = turn.after;
         released = leb-true _ _ window.0;
         due = leb-true _ _ window.1;
-        off = (Decides-not (is_on_table table (written_slot_at slots i)) (table_decided table (written_slot_at slots i))).0 last.1;
+        off = (Decides-not (is_on_table table slot) (table_decided table slot)).0 rest.1;
       }
   verdict_by_test (WrongWork job given wanted) passed =
       let parts = and_parts _ _ passed in
