@@ -143,6 +143,13 @@ one_short : Row (codes "audit" ∷ []) (codes "job a 0 10 10\njob b 4 6 6\nslot 
 unfolding digits
 one_short = audited _ _ (WrongWork 1 (of_whole 5) 6) refl
 
+-- the same told of the other job is no answer
+other_short : Row (codes "audit" ∷ []) (codes "job a 0 10 10\njob b 4 6 6\nslot a 0 4 5\nslot b 4 6 5\nslot a 6 10 5\n") (codes "work a given 5 wanted 6\n") statuses.No → ⊥
+unfolding digits
+other_short row =
+    let same = (audit_and_check_answer_once.audit (codes "job a 0 10 10\njob b 4 6 6\nslot a 0 4 5\nslot b 4 6 5\nslot a 6 10 5\n") _ _ _ _ row.answers one_short.answers).0 in
+    absurd (true≢false (sym ((bytes_eq-Decides (codes "work a given 5 wanted 6\n") (codes "work b given 5 wanted 6\n")).1 same)))
+
 -- a third of a unit of work too little
 too_little : Row (codes "audit" ∷ []) (codes "job a 0 4 4\nslot a 0 4 3+2/3\n") (codes "work a given 3+2/3 wanted 4\n") statuses.No
 unfolding digits
