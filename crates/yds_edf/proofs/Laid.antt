@@ -6,7 +6,7 @@ use Rattle.std.proofs.lemmas.List.{take_more, take_all}
 use Rattle.std.proofs.lemmas.List.Sums.{sum_by_more_le, sum_by_push}
 use Rattle.std.proofs.lemmas.Bool.{cases_lt, cases_eq, eq-eqb, ne_eqb}
 use Rattle.std.proofs.lemmas.Nat.Gcd.{same_from_IsGcd, mod-eq-zero_of_dvd}
-use Rattle.std.proofs.Math.Nat.{div-add-mod, div-mul_cancel, div-le_of_le-mul, le_of_mul-le-mul_right, lt_of_mul-lt-mul_right, eq_of_mul-eq-mul_right, mul-le-mul_right, mul-pos, mul-div_cancel, dvd-mul_left}
+use Rattle.std.proofs.Math.Nat.{div-mul_cancel, div-le_of_le-mul, le_of_mul-le-mul_right, lt_of_mul-lt-mul_right, eq_of_mul-eq-mul_right, mul-le-mul_right, mul-pos, mul-div_cancel, dvd-mul_left}
 use Rattle.yds_model.specs.declared.limits.TheConstants.{MAX_DENOMINATOR, MAX_WHOLE, MAX_TIME, MAX_WORK, MAX_SLOT_WORK}
 use Rattle.yds_model.specs.Divisor.{common_divisor}
 use Rattle.yds_model.specs.Scale.{Fraction, at_scale, numerator, of_whole, of_parts}
@@ -16,11 +16,10 @@ use Rattle.yds_model.specs.Plan.{IsOver}
 use Rattle.yds_model.proofs.Divisor.{divisor_is_greatest, divisor_positive}
 use Rattle.yds_model.proofs.Fractions.{value-den, den_positive}
 use Rattle.yds_model.proofs.Fractions.{parts_alike}
-use Rattle.yds_fraction.specs.Mixed.{IsMixed, fraction_of}
-use Rattle.yds_fraction.proofs.Values.{written}
+use Rattle.yds_fraction.specs.Mixed.{IsMixed}
 use Rattle.yds_model.specs.Within.{IsSlot}
 use Rattle.yds_fraction.proofs.Kept.{IsFraction-within}
-use Rattle.yds_slots.proofs.Parts.{of_parts_value, of_parts_is}
+use Rattle.yds_slots.proofs.Parts.{of_parts_value}
 use Rattle.yds_edf.specs.Shares.{JobShare, total_units}
 use Rattle.yds_events.specs.Stretch.{length_of}
 use Rattle.yds_edf.specs.Laid.{time_step, time_den, IsLaidSlot, FollowFrom, end_after, IsLaid}
@@ -29,23 +28,6 @@ use Rattle.yds_edf.specs.Laid.{time_step, time_den, IsLaidSlot, FollowFrom, end_
 parts_of : (value numer d den p scale : ℕ) → 1 ≤ d → value * d ≡ numer * scale → numer * den ≡ p * d → value * den ≡ p * scale
 parts_of value numer d den p scale some first second =
     eq_of_mul-eq-mul_right d some (value * den) (p * scale) (omega (arith, ap (λ n. n * den) first, ap (λ n. n * scale) second))
-
--- a quotient and its remainder, in one number over the denominator d
-over_one : (numer s q r den t d : ℕ) → numer * den ≡ ((s + q) * den + r) * d → den * q + r ≡ t → numer * den ≡ (s * den + t) * d
-over_one numer s q r den t d value whole = omega (arith, value, ap (λ n. n * d) whole)
-
--- what is computed of a time is so many parts
-pub time_parts : (start parts most through : ℕ) (z : Fraction) → 1 ≤ parts →
-    z ≡ fraction_of (start + through / parts) (through % parts) parts → IsMixed most z →
-    z ≡ of_parts (start * parts + through) parts
-time_parts start parts most through z some is kept =
-    of_parts_is (start * parts + through) parts z some kept.fraction.below_one kept.fraction.whole_is_plain
-    (elim (cases_eq (through % parts) 0) [
-      | inl none ↦ inl (ap (λ (x : Fraction). x.num) is ∙ none)
-      | inr other ↦ inr (ap (λ (x : Fraction). x.den) is ∙ rw (ne_eqb (through % parts) 0 other) refl)
-    ])
-    (over_one (numerator z) start (through / parts) (through % parts) parts through z.den
-    (rw is (written (start + through / parts) (through % parts) parts)) (div-add-mod through parts))
 
 -- so many parts at a scale of theirs
 parts_at : (scale p den : ℕ) → (of_parts p den).den ∣ scale → 1 ≤ scale → at_scale scale (of_parts p den) * den ≡ p * scale

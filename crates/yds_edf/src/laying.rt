@@ -88,13 +88,9 @@ impl Pace {
         ensures value { result ≡ of_parts (self.now.start * self.now.parts + units * self.now.step) self.now.parts }
         ensures kept { IsMixed MAX_DENOMINATOR result }
     {
+        let start = u128::from(self.start) * u128::from(self.parts);
         let through = u128::from(units) * u128::from(self.step);
-        let parts = u128::from(self.parts);
-        Moment::new(
-            u64::from(self.start) + (through / parts) as u64,
-            (through % parts) as u64,
-            self.parts,
-        )
+        Moment::of_parts(start + through, self.parts)
     }
 
     /// The slot of a share, before which so many units were served.
@@ -118,18 +114,7 @@ impl Pace {
             job: share.job,
             from: self.after(served),
             to: self.after(served + share.units),
-            work: work_of(share.units, grain),
+            work: Amount::of_parts(u128::from(share.units), grain),
         }
     }
-}
-
-/// The work `units / grain`.
-fn work_of(units: u64, grain: u64) -> Amount
-    requires some_grain { 1 ≤ grain }
-    requires grain_in_range { grain ≤ MAX_GRAIN }
-    requires within { units ≤ MAX_WORK * grain }
-    ensures value { result ≡ of_parts units grain }
-    ensures kept { IsMixed MAX_DENOMINATOR result }
-{
-    Amount::new(units / grain, units % grain, grain)
 }
