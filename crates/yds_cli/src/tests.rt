@@ -9,7 +9,7 @@ const ONE_JOB: &[u8] = b"job a 0 4 8\n";
 
 const PLAN: &[u8] = b"job a 0 4 8\nslot a 0 4 8\nlevel 8 4\npiece 0 4\nmember a\n";
 
-// The words between the spaces of a text.
+/// The words between the spaces of a text.
 fn words(alloc: Global, text: &str) -> Result<Vec<String>, AllocError> {
     let mut words = Vec::new(alloc);
     for word in text.split_whitespace() {
@@ -18,13 +18,13 @@ fn words(alloc: Global, text: &str) -> Result<Vec<String>, AllocError> {
     Ok(words)
 }
 
-// A source that gives the input in pieces of four bytes, and whose read of this number fails.
+/// A source that gives the input in pieces of four bytes, and whose read of this number fails.
 fn source(alloc: Global, input: &[u8], failing: u32) -> Result<MemorySource, AllocError> {
     let bytes = input.to_vec(alloc)?;
     Ok(MemorySource::new(bytes, 4, [failing].to_vec(alloc)?))
 }
 
-// The status and the text of a run with these words over this input, read and written in pieces of four bytes.
+/// The status and the text of a run with these words over this input, read and written in pieces of four bytes.
 fn answer(alloc: Global, text: &str, input: &str) -> Result<(Status, MemorySink), Memory> {
     let words = words(alloc, text)?;
     let bytes = input.as_bytes().to_vec(alloc)?;
@@ -88,7 +88,7 @@ fn an_input_of_the_greatest_size_and_one_byte_more(rt: HostRuntime) -> Result<()
     Ok(())
 }
 
-// The second read fails; the second write fails; there is room for ten bytes; the flush fails.
+/// The second read fails; the second write fails; there is room for ten bytes; the flush fails.
 #[test]
 fn faults_of_the_source_and_of_the_sink(rt: HostRuntime) -> Result<(), Fail> {
     let cases = [

@@ -1,4 +1,5 @@
-// A line of whatever kind: whether it may stand there, and what it adds to a draft.
+//! A line of whatever kind: whether it may stand there, and what it adds to a draft.
+
 ghost use Rattle.std.specs.Prelude.{◌≡◌, ◌∷◌, [], List, OnOk, IsTrue};
 ghost use Rattle.yds_model.specs.Entry.{Entry};
 ghost use Rattle.yds_model.specs.Reading.{read_fields};
@@ -17,7 +18,7 @@ use yds_model::limits::{MAX_JOBS, MAX_LEVELS, MAX_MEMBERS, MAX_PIECES, MAX_POINT
 use yds_text::{Field, Fields};
 
 impl<'a> Draft<'a> {
-    // Whether a line of this kind may stand after those before it.
+    /// Whether a line of this kind may stand after those before it.
     fn may_follow(&self, kind: LineKind) -> bool
         ensures { result ≡ follows_draft kind self.now }
     {
@@ -31,7 +32,7 @@ impl<'a> Draft<'a> {
         }
     }
 
-    // Whether a document may have one more line of this kind.
+    /// Whether a document may have one more line of this kind.
     fn has_room(&self, kind: LineKind) -> bool
         ensures { result ≡ has_room_in kind self.now }
     {
@@ -46,7 +47,7 @@ impl<'a> Draft<'a> {
         }
     }
 
-    // What a line of this kind adds, where it may stand there.
+    /// What a line of this kind adds, where it may stand there.
     fn read_kind(
         &mut self,
         alloc: Global,
@@ -74,7 +75,7 @@ impl<'a> Draft<'a> {
         }
     }
 
-    // What a line adds, by its first field and the rest of them.
+    /// What a line adds, by its first field and the rest of them.
     pub(crate) fn read_fields(
         &mut self,
         alloc: Global,

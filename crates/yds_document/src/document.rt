@@ -41,7 +41,7 @@ impl<'a> Document<'a> {
     ghost use Rattle.yds_model.specs.Within.{IsDocument};
     ghost use Rattle.yds_document.specs.Documents.{document_view};
 
-    // Reading the parts shows that each is within its limits.
+    /// Reading the parts shows that each is within its limits.
     pub(crate) fn show_limits(&self)
         ensures { IsDocument (document_view self.now) }
     {

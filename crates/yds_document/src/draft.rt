@@ -1,4 +1,5 @@
-// A document that is being read: what its lines said so far.
+//! A document that is being read: what its lines said so far.
+
 ghost use Rattle.std.specs.Prelude.{[], IfOk};
 ghost use Rattle.yds_document.specs.Draft.{IsDraft, Holds};
 
@@ -27,7 +28,7 @@ pub(crate) struct Draft<'a> {
 }
 
 impl<'a> Draft<'a> {
-    // That before any line.
+    /// That before any line.
     pub(crate) fn new(alloc: Global) -> Result<Draft<'a>, Memory>
         ensures kept { IfOk result (λ draft. IsDraft draft) }
         ensures holds { IfOk result (λ draft. Holds draft []) }

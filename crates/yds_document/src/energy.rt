@@ -1,4 +1,5 @@
-// The line of the energy that the slots take.
+//! The line of the energy that the slots take.
+
 ghost use Rattle.std.specs.Prelude.{◌≡◌, ◌≤◌, ◌∷◌, [], codes, None, OnOk, IfOk, MatchOption};
 ghost use Rattle.std.specs.Option.{ForSome};
 ghost use Rattle.yds_model.specs.declared.limits.TheConstants.{MAX_ENERGY};
@@ -21,7 +22,7 @@ use yds_model::limits::MAX_ENERGY;
 use yds_port::{Sink, WriteFault, write_all};
 use yds_text::{Field, Fields, one_field};
 
-// Reads the line whose first field is `kind`, and keeps its energy.
+/// Reads the line whose first field is `kind`, and keeps its energy.
 pub(crate) fn read<'a>(
     draft: &mut Draft<'a>,
     kind: Field<'a>,
@@ -38,7 +39,7 @@ pub(crate) fn read<'a>(
     Ok(())
 }
 
-// What the field says.
+/// What the field says.
 fn energy_in(energy: Field<'_>) -> Result<Amount, LineFault>
     ensures gives { Gives (λ energy. EnergyEntry energy) result (read_energy (no_field ∷ field_read energy.entry ∷ [])) }
     ensures within { IfOk result (λ energy. energy.whole ≤ MAX_ENERGY) }
@@ -56,7 +57,7 @@ fn add(draft: &mut Draft<'_>, energy: Amount)
     draft.energy = Some(energy);
 }
 
-// Reading an energy shows that it is within its limits.
+/// Reading an energy shows that it is within its limits.
 pub(crate) fn show_limits(energy: Option<Amount>)
     requires { ForSome energy (λ energy. energy.whole ≤ MAX_ENERGY) }
     ensures { MatchOption energy (Unit {0}) (IsFraction MAX_ENERGY) }
@@ -66,7 +67,7 @@ pub(crate) fn show_limits(energy: Option<Amount>)
     }
 }
 
-// Makes the line of an energy.
+/// Makes the line of an energy.
 fn put(text: &mut LineBuffer, energy: Amount)
     ensures { text.new ≡ line (codes "energy" ∷ fraction_text energy ∷ []) }
 {
@@ -75,7 +76,7 @@ fn put(text: &mut LineBuffer, energy: Amount)
     text.push_end();
 }
 
-// Appends the line of the energy, where there is one.
+/// Appends the line of the energy, where there is one.
 pub(crate) fn print<K: Sink>(energy: Option<Amount>, sink: &mut K) -> Result<(), WriteFault>
     ensures delivers { Delivers result (energy_lines energy) (K.written sink.old) (K.written sink.new) (K.faults sink.old) (K.faults sink.new) }
     ensures flushed_stays { K.flushed sink.new ≡ K.flushed sink.old }

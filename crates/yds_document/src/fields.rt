@@ -1,4 +1,5 @@
-// What a field of a line is tried for: a number, a fraction, the name of a job.
+//! What a field of a line is tried for: a number, a fraction, the name of a job.
+
 ghost use Rattle.std.specs.Prelude.{◌≡◌, ◌<◌, ◌≤◌, length, None, IfOk, IsTrue};
 ghost use Rattle.yds_model.specs.declared.limits.TheConstants.{MAX_WHOLE};
 ghost use Rattle.yds_model.specs.Reading.{number_in, fraction_in};
@@ -14,7 +15,7 @@ use yds_instance::Instance;
 use yds_model::Reason;
 use yds_text::{Field, mixed, name, number_from};
 
-// The number that the field spells.
+/// The number that the field spells.
 pub(crate) fn number_in(field: Field<'_>, least: u64, most: u64) -> Result<u64, LineFault>
     ensures gives { Gives (λ n. n) result (number_in least most (field_read field.entry)) }
     ensures within { IfOk result (λ n. (least ≤ n) × (n ≤ most)) }
@@ -25,7 +26,7 @@ pub(crate) fn number_in(field: Field<'_>, least: u64, most: u64) -> Result<u64, 
     }
 }
 
-// The same of a number of 32 bits.
+/// The same of a number of 32 bits.
 pub(crate) fn small_in(field: Field<'_>, least: u32, most: u32) -> Result<u32, LineFault>
     ensures gives { Gives (λ n. n) result (number_in least most (field_read field.entry)) }
     ensures within { IfOk result (λ n. (least ≤ n) × (n ≤ most)) }
@@ -34,7 +35,7 @@ pub(crate) fn small_in(field: Field<'_>, least: u32, most: u32) -> Result<u32, L
     Ok(number as u32)
 }
 
-// The fraction that the field spells.
+/// The fraction that the field spells.
 pub(crate) fn fraction_in(field: Field<'_>, most: u64) -> Result<Amount, LineFault>
     requires { most ≤ MAX_WHOLE }
     ensures gives { Gives (λ x. x) result (fraction_in most (field_read field.entry)) }
@@ -50,7 +51,7 @@ pub(crate) fn fraction_in(field: Field<'_>, most: u64) -> Result<Amount, LineFau
     }
 }
 
-// A name that no job has yet.
+/// A name that no job has yet.
 pub(crate) fn new_name<'a>(instance: &Instance<'a>, field: Field<'a>) -> Result<&'a str, LineFault>
     ensures gives { Gives (λ name. name.now) result (new_name_of instance.now.names (field_read field.entry)) }
     ensures named { IfOk result (λ name. IsTrue (is_name name.now)) }
@@ -65,7 +66,7 @@ pub(crate) fn new_name<'a>(instance: &Instance<'a>, field: Field<'a>) -> Result<
     }
 }
 
-// The number of the job of this name.
+/// The number of the job of this name.
 pub(crate) fn known_job(instance: &Instance<'_>, field: Field<'_>) -> Result<u32, LineFault>
     ensures gives { Gives (λ job. job) result (known_job_of instance.now.names (field_read field.entry)) }
     ensures known { IfOk result (λ job. job < length instance.now.jobs) }

@@ -43,7 +43,7 @@ impl Model for Grid {
     ghost inverse = { λ g. record { grid = g.grid; rounded = g.rounded } };
 }
 
-// Reads the line whose first field is `kind`, and keeps its grid.
+/// Reads the line whose first field is `kind`, and keeps its grid.
 pub(crate) fn read<'a>(
     draft: &mut Draft<'a>,
     kind: Field<'a>,
@@ -60,7 +60,7 @@ pub(crate) fn read<'a>(
     Ok(())
 }
 
-// What the fields say.
+/// What the fields say.
 fn grid_in(grid: Field<'_>, rounded: Field<'_>) -> Result<Grid, LineFault>
     ensures gives { Gives (λ grid. GridEntry grid) result (read_grid (no_field ∷ field_read grid.entry ∷ field_read rounded.entry ∷ [])) }
 {
@@ -78,7 +78,7 @@ fn add(draft: &mut Draft<'_>, grid: Grid)
     draft.grid = Some(grid);
 }
 
-// Reading a grid shows that it is within its limits.
+/// Reading a grid shows that it is within its limits.
 pub(crate) fn show_limits(grid: Option<Grid>)
     ensures { MatchOption grid (Unit {0}) IsGrid }
 {
@@ -87,7 +87,7 @@ pub(crate) fn show_limits(grid: Option<Grid>)
     }
 }
 
-// Makes the line of a grid.
+/// Makes the line of a grid.
 fn put(text: &mut LineBuffer, grid: Grid)
     ensures { text.new ≡ line (codes "grid" ∷ decimal grid.grid ∷ decimal grid.rounded ∷ []) }
 {
@@ -97,7 +97,7 @@ fn put(text: &mut LineBuffer, grid: Grid)
     text.push_end();
 }
 
-// Appends the line of the grid, where there is one.
+/// Appends the line of the grid, where there is one.
 pub(crate) fn print<K: Sink>(grid: Option<Grid>, sink: &mut K) -> Result<(), WriteFault>
     ensures delivers { Delivers result (grid_lines grid) (K.written sink.old) (K.written sink.new) (K.faults sink.old) (K.faults sink.new) }
     ensures flushed_stays { K.flushed sink.new ≡ K.flushed sink.old }

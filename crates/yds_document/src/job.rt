@@ -1,4 +1,5 @@
-// The lines of jobs: a job with a name of its own.
+//! The lines of jobs: a job with a name of its own.
+
 ghost use Rattle.std.specs.Prelude.{◌≡◌, ◌<◌, ◌≤◌, ◌∷◌, length, None, OnOk, IfOk, IsTrue};
 ghost use Rattle.yds_model.specs.declared.limits.TheConstants.{MAX_JOBS, MAX_NAME};
 ghost use Rattle.yds_model.specs.Document.{name_at};
@@ -23,7 +24,7 @@ use yds_model::{JobRow, Memory, Reason};
 use yds_port::{Sink, WriteFault, write_all};
 use yds_text::{Field, Fields, four_fields};
 
-// Reads the line whose first field is `kind`, and adds its job.
+/// Reads the line whose first field is `kind`, and adds its job.
 pub(crate) fn read<'a>(
     draft: &mut Draft<'a>,
     kind: Field<'a>,
@@ -44,7 +45,7 @@ pub(crate) fn read<'a>(
     }
 }
 
-// What the fields say.
+/// What the fields say.
 fn job_in<'a>(
     instance: &Instance<'a>,
     name: Field<'a>,
@@ -85,7 +86,7 @@ fn add<'a>(draft: &mut Draft<'a>, name: &'a str, row: JobRow) -> Result<(), Memo
     }
 }
 
-// The name of a job, which is short.
+/// The name of a job, which is short.
 pub(crate) fn name_of<'a>(instance: &Instance<'a>, job: u32) -> &'a str
     requires { job < length instance.now.jobs }
     ensures name { result.now ≡ name_at instance.now.names job }
@@ -94,7 +95,7 @@ pub(crate) fn name_of<'a>(instance: &Instance<'a>, job: u32) -> &'a str
     instance.name(job)
 }
 
-// Makes the line of a job.
+/// Makes the line of a job.
 fn put(text: &mut LineBuffer, name: &str, job: &JobRow)
     requires { length name.now ≤ MAX_NAME }
     ensures { text.new ≡ job_line name.now job.now }
@@ -107,7 +108,7 @@ fn put(text: &mut LineBuffer, name: &str, job: &JobRow)
     text.push_end();
 }
 
-// Appends the lines of the jobs, in their order.
+/// Appends the lines of the jobs, in their order.
 pub(crate) fn print<K: Sink>(instance: &Instance<'_>, sink: &mut K) -> Result<(), WriteFault>
     ensures delivers { Delivers result (job_lines instance.now.names instance.now.jobs) (K.written sink.old) (K.written sink.new) (K.faults sink.old) (K.faults sink.new) }
     ensures flushed_stays { K.flushed sink.new ≡ K.flushed sink.old }

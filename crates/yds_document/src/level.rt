@@ -1,4 +1,5 @@
-// The lines of levels: the work and the length of a level. Its pieces and members stand on the lines after it.
+//! The lines of levels: the work and the length of a level. Its pieces and members stand on the lines after it.
+
 ghost use Rattle.std.specs.Prelude.{◌≡◌, ◌<◌, ◌≤◌, ◌∷◌, [], length, codes, decimal, OnOk, IfOk};
 ghost use Rattle.std.specs.List.{All, flat_map};
 ghost use Rattle.yds_model.specs.declared.limits.TheConstants.{MAX_LEVELS, MAX_LEVEL_WORK, MAX_LEVEL_LENGTH};
@@ -24,7 +25,7 @@ use yds_model::limits::{MAX_LEVEL_LENGTH, MAX_LEVEL_WORK};
 use yds_port::{Sink, WriteFault, write_all};
 use yds_text::{Field, Fields, two_fields};
 
-// Reads the line whose first field is `kind`, and adds its level.
+/// Reads the line whose first field is `kind`, and adds its level.
 pub(crate) fn read<'a>(
     draft: &mut Draft<'a>,
     alloc: Global,
@@ -42,7 +43,7 @@ pub(crate) fn read<'a>(
     Ok(())
 }
 
-// What the fields say: the work and the length.
+/// What the fields say: the work and the length.
 fn level_in(work: Field<'_>, len: Field<'_>) -> Result<(u64, u64), LineFault>
     ensures gives { Gives (λ said. LevelEntry said.0 said.1) result (read_level (no_field ∷ field_read work.entry ∷ field_read len.entry ∷ [])) }
     ensures work { IfOk result (λ said. (1 ≤ said.0) × (said.0 ≤ MAX_LEVEL_WORK)) }
@@ -53,7 +54,7 @@ fn level_in(work: Field<'_>, len: Field<'_>) -> Result<(u64, u64), LineFault>
     Ok((work, len))
 }
 
-// Puts a level of no pieces and no members last.
+/// Puts a level of no pieces and no members last.
 fn add(draft: &mut Draft<'_>, alloc: Global, work: u64, len: u64) -> Result<(), Memory>
     requires kept { IsDraft draft.old }
     requires work { (1 ≤ work) × (work ≤ MAX_LEVEL_WORK) }
@@ -72,7 +73,7 @@ fn add(draft: &mut Draft<'_>, alloc: Global, work: u64, len: u64) -> Result<(), 
     Ok(())
 }
 
-// Makes the line of a level, without those of its pieces and members.
+/// Makes the line of a level, without those of its pieces and members.
 fn put(text: &mut LineBuffer, level: &Level)
     ensures { text.new ≡ line (codes "level" ∷ decimal level.now.work ∷ decimal level.now.length ∷ []) }
 {
@@ -82,7 +83,7 @@ fn put(text: &mut LineBuffer, level: &Level)
     text.push_end();
 }
 
-// Appends the lines of the levels, in their order, each with its pieces and members.
+/// Appends the lines of the levels, in their order, each with its pieces and members.
 pub(crate) fn print<K: Sink>(
     instance: &Instance<'_>,
     levels: &[Level],
@@ -99,7 +100,7 @@ pub(crate) fn print<K: Sink>(
     Ok(())
 }
 
-// A level, then its pieces, then its members.
+/// A level, then its pieces, then its members.
 fn print_level<K: Sink>(
     instance: &Instance<'_>,
     level: &Level,

@@ -43,7 +43,7 @@ impl LineBuffer {
         LineBuffer { text }
     }
 
-    // The line begins anew with this word, in the same place.
+    /// The line begins anew with this word, in the same place.
     pub(crate) fn restart(&mut self, kind: &str)
         requires { length kind.now ≤ LINE_BYTES }
         ensures { self.new ≡ kind.now }
@@ -62,7 +62,7 @@ impl LineBuffer {
         self
     }
 
-    // The same in place: nothing is moved.
+    /// The same in place: nothing is moved.
     pub(crate) fn push_field(&mut self, field: &str)
         requires { length self.old + 1 + length field.now ≤ LINE_BYTES }
         ensures bytes { self.new ≡ self.old ++ 32 ∷ field.now }
@@ -82,7 +82,7 @@ impl LineBuffer {
         self
     }
 
-    // The same in place.
+    /// The same in place.
     pub(crate) fn push_number(&mut self, number: u64)
         requires { length self.old + 1 + NUMBER_BYTES ≤ LINE_BYTES }
         ensures bytes { self.new ≡ self.old ++ 32 ∷ decimal number }
@@ -117,7 +117,7 @@ impl LineBuffer {
         line
     }
 
-    // So many spaces.
+    /// So many spaces.
     fn spaces(mut self, count: usize) -> LineBuffer
         requires { length self + count ≤ LINE_BYTES }
         ensures bytes { result ≡ self ++ replicate count 32 }
@@ -140,7 +140,7 @@ impl LineBuffer {
         self
     }
 
-    // The same in place.
+    /// The same in place.
     pub(crate) fn push_fraction(&mut self, value: Amount)
         requires { length self.old + 1 + FRACTION_BYTES ≤ LINE_BYTES }
         ensures bytes { self.new ≡ self.old ++ 32 ∷ fraction_text value }
@@ -160,7 +160,7 @@ impl LineBuffer {
         self
     }
 
-    // The same in place.
+    /// The same in place.
     fn push_mixed(&mut self, value: Amount)
         requires { length self.old + FRACTION_BYTES ≤ LINE_BYTES }
         ensures bytes { self.new ≡ self.old ++ fraction_text value }
@@ -173,7 +173,7 @@ impl LineBuffer {
         }
     }
 
-    // A sign and a number, with no space.
+    /// A sign and a number, with no space.
     fn push_part(&mut self, sign: &str, number: u64)
         requires one { length sign.now ≡ 1 }
         requires room { length self.old + 1 + NUMBER_BYTES ≤ LINE_BYTES }
@@ -193,7 +193,7 @@ impl LineBuffer {
         self
     }
 
-    // The same in place.
+    /// The same in place.
     pub(crate) fn push_end(&mut self)
         requires { length self.old + 1 ≤ LINE_BYTES }
         ensures { self.new ≡ self.old ++ 10 ∷ [] }

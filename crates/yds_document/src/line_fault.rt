@@ -5,7 +5,7 @@ ghost use Rattle.yds_document.specs.declared.line_fault.LineFault.TheVariants as
 use yds_model::{Memory, NumberFault, Reason};
 use yds_text::FieldCount;
 
-// Why a line wasn't taken.
+/// Why a line wasn't taken.
 #[derive(Clone, Copy, Debug, PartialEq, Eq)]
 pub(crate) enum LineFault {
     // A fault at this column.

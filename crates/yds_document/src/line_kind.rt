@@ -1,4 +1,5 @@
-// The kinds of line, by the word that each begins with.
+//! The kinds of line, by the word that each begins with.
+
 ghost use Rattle.std.specs.Prelude.{◌≡◌};
 ghost use Rattle.yds_model.specs.Reading.{kind_of};
 ghost use Rattle.yds_document.specs.LineKinds.{kind_told};
@@ -18,7 +19,7 @@ pub(crate) enum LineKind {
 }
 
 impl LineKind {
-    // The kind of a line whose first field is this word.
+    /// The kind of a line whose first field is this word.
     pub(crate) fn of(word: &[u8]) -> Option<LineKind>
         ensures { kind_told result ≡ kind_of word.now }
     {

@@ -1,4 +1,5 @@
-// The lines of members: a job of the level before, by its name.
+//! The lines of members: a job of the level before, by its name.
+
 ghost use Rattle.std.specs.Prelude.{◌≡◌, ◌<◌, ◌≤◌, ◌∷◌, length, OnOk, IfOk};
 ghost use Rattle.std.specs.List.{All, flat_map};
 ghost use Rattle.yds_model.specs.declared.limits.TheConstants.{MAX_MEMBERS};
@@ -21,7 +22,7 @@ use yds_model::Memory;
 use yds_port::{Sink, WriteFault, write_all};
 use yds_text::{Field, Fields, one_field};
 
-// Reads the line whose first field is `kind`, and adds its member to the last level.
+/// Reads the line whose first field is `kind`, and adds its member to the last level.
 pub(crate) fn read<'a>(
     draft: &mut Draft<'a>,
     kind: Field<'a>,
@@ -39,7 +40,7 @@ pub(crate) fn read<'a>(
     Ok(())
 }
 
-// What the field says.
+/// What the field says.
 fn member_in(instance: &Instance<'_>, name: Field<'_>) -> Result<u32, LineFault>
     ensures gives { Gives (λ job. MemberEntry job) result (member_of instance.now.names (field_read name.entry)) }
     ensures known { IfOk result (λ job. job < length instance.now.jobs) }
@@ -47,7 +48,7 @@ fn member_in(instance: &Instance<'_>, name: Field<'_>) -> Result<u32, LineFault>
     known_job(instance, name)
 }
 
-// Puts the job last among the members of the last level.
+/// Puts the job last among the members of the last level.
 fn add(draft: &mut Draft<'_>, job: u32) -> Result<(), Memory>
     requires kept { IsDraft draft.old }
     requires known { job < length draft.old.instance.jobs }
@@ -61,7 +62,7 @@ fn add(draft: &mut Draft<'_>, job: u32) -> Result<(), Memory>
     Ok(())
 }
 
-// Makes the line of a member.
+/// Makes the line of a member.
 fn put(text: &mut LineBuffer, instance: &Instance<'_>, job: u32)
     requires { job < length instance.now.jobs }
     ensures { text.new ≡ member_line instance.now.names job }
@@ -71,7 +72,7 @@ fn put(text: &mut LineBuffer, instance: &Instance<'_>, job: u32)
     text.push_end();
 }
 
-// Appends the lines of a level's members, in their order.
+/// Appends the lines of a level's members, in their order.
 pub(crate) fn print<K: Sink>(
     instance: &Instance<'_>,
     members: &[u32],

@@ -1,4 +1,5 @@
-// The lines of pieces: from one time to another, of the level before. A piece that takes no time is kept too.
+//! The lines of pieces: from one time to another, of the level before. A piece that takes no time is kept too.
+
 ghost use Rattle.std.specs.Prelude.{◌≡◌, ◌<◌, ◌≤◌, ◌∷◌, [], length, OnOk};
 ghost use Rattle.std.specs.List.{flat_map};
 ghost use Rattle.yds_model.specs.declared.limits.TheConstants.{MAX_PIECES};
@@ -21,7 +22,7 @@ use yds_model::limits::MAX_TIME;
 use yds_port::{Sink, WriteFault, write_all};
 use yds_text::{Field, Fields, two_fields};
 
-// Reads the line whose first field is `kind`, and adds its piece to the last level.
+/// Reads the line whose first field is `kind`, and adds its piece to the last level.
 pub(crate) fn read<'a>(
     draft: &mut Draft<'a>,
     kind: Field<'a>,
@@ -39,7 +40,7 @@ pub(crate) fn read<'a>(
     Ok(())
 }
 
-// What the fields say.
+/// What the fields say.
 fn piece_in(from: Field<'_>, to: Field<'_>) -> Result<Piece, LineFault>
     ensures gives { Gives (λ piece. PieceEntry piece) result (read_piece (no_field ∷ field_read from.entry ∷ field_read to.entry ∷ [])) }
 {
@@ -48,7 +49,7 @@ fn piece_in(from: Field<'_>, to: Field<'_>) -> Result<Piece, LineFault>
     Ok(Piece { from, to })
 }
 
-// Puts the piece last in the last level.
+/// Puts the piece last in the last level.
 fn add(draft: &mut Draft<'_>, piece: Piece) -> Result<(), Memory>
     requires kept { IsDraft draft.old }
     requires some { 1 ≤ length draft.old.certificate }
@@ -61,7 +62,7 @@ fn add(draft: &mut Draft<'_>, piece: Piece) -> Result<(), Memory>
     Ok(())
 }
 
-// Makes the line of a piece.
+/// Makes the line of a piece.
 fn put(text: &mut LineBuffer, piece: &Piece)
     ensures { text.new ≡ piece_line piece.now }
 {
@@ -71,7 +72,7 @@ fn put(text: &mut LineBuffer, piece: &Piece)
     text.push_end();
 }
 
-// Appends the lines of a level's pieces, in their order.
+/// Appends the lines of a level's pieces, in their order.
 pub(crate) fn print<K: Sink>(
     pieces: &[Piece],
     line: &mut LineBuffer,

@@ -1,4 +1,5 @@
-// The lines of operating points: a point faster than those before it.
+//! The lines of operating points: a point faster than those before it.
+
 ghost use Rattle.std.specs.Prelude.{◌≡◌, ◌<◌, ◌∷◌, ◌++◌, [], length, OnOk, IfOk};
 ghost use Rattle.std.specs.List.{flat_map};
 ghost use Rattle.yds_model.specs.declared.limits.TheConstants.{MAX_POINTS};
@@ -24,7 +25,7 @@ use yds_port::{Sink, WriteFault, write_all};
 use yds_table::{Table, TableFault};
 use yds_text::{Field, Fields, two_fields};
 
-// Reads the line whose first field is `kind`, and adds its point.
+/// Reads the line whose first field is `kind`, and adds its point.
 pub(crate) fn read<'a>(
     draft: &mut Draft<'a>,
     alloc: Global,
@@ -42,7 +43,7 @@ pub(crate) fn read<'a>(
     Ok(())
 }
 
-// What the fields say: a point of whatever speed.
+/// What the fields say: a point of whatever speed.
 fn point_in(speed: Field<'_>, power: Field<'_>) -> Result<Point, LineFault>
     ensures { Gives (λ point. point) result (point_of (field_read speed.entry) (field_read power.entry)) }
 {
@@ -51,7 +52,7 @@ fn point_in(speed: Field<'_>, power: Field<'_>) -> Result<Point, LineFault>
     Ok(Point::new(speed, power))
 }
 
-// Puts the point last, where it may stand there with its speed in this column.
+/// Puts the point last, where it may stand there with its speed in this column.
 fn add(draft: &mut Draft<'_>, alloc: Global, point: Point, column: u32) -> Result<(), LineFault>
     requires kept { IsDraft draft.old }
     requires room { length (points_of draft.old.table) < MAX_POINTS }
@@ -71,7 +72,7 @@ fn add(draft: &mut Draft<'_>, alloc: Global, point: Point, column: u32) -> Resul
     }
 }
 
-// The fault of a line whose point has its speed in this column.
+/// The fault of a line whose point has its speed in this column.
 fn of_table(fault: TableFault, column: u32) -> LineFault
     ensures { result ≡ table_fault column fault }
 {
@@ -83,7 +84,7 @@ fn of_table(fault: TableFault, column: u32) -> LineFault
     }
 }
 
-// The table of this point alone.
+/// The table of this point alone.
 fn first_point(alloc: Global, point: Point, column: u32) -> Result<Table, LineFault>
     ensures gives { Gives (λ table. PointEntry point) result (point_after [] point column) }
     ensures one { IfOk result (λ table. table ≡ point ∷ []) }
@@ -94,7 +95,7 @@ fn first_point(alloc: Global, point: Point, column: u32) -> Result<Table, LineFa
     }
 }
 
-// The point after the others.
+/// The point after the others.
 fn next_point(table: &mut Table, point: Point, column: u32) -> Result<(), LineFault>
     requires { length table.old < MAX_POINTS }
     ensures gives { Gives (λ done. PointEntry point) result (point_after table.old point column) }
@@ -111,7 +112,7 @@ fn next_point(table: &mut Table, point: Point, column: u32) -> Result<(), LineFa
     }
 }
 
-// The points of a table, where there is one.
+/// The points of a table, where there is one.
 pub(crate) fn points_in(table: &Option<Table>) -> &[Point]
     ensures value { result.now ≡ points_of table.now }
     ensures kept { ArePoints (points_of table.now) }
@@ -122,7 +123,7 @@ pub(crate) fn points_in(table: &Option<Table>) -> &[Point]
     }
 }
 
-// Makes the line of a point.
+/// Makes the line of a point.
 fn put(text: &mut LineBuffer, point: &Point)
     ensures { text.new ≡ point_line point.now }
 {
@@ -132,7 +133,7 @@ fn put(text: &mut LineBuffer, point: &Point)
     text.push_end();
 }
 
-// Appends the lines of the points, in their order.
+/// Appends the lines of the points, in their order.
 pub(crate) fn print<K: Sink>(points: &[Point], sink: &mut K) -> Result<(), WriteFault>
     ensures delivers { Delivers result (flat_map point_line points.now) (K.written sink.old) (K.written sink.new) (K.faults sink.old) (K.faults sink.new) }
     ensures flushed_stays { K.flushed sink.new ≡ K.flushed sink.old }

@@ -30,7 +30,7 @@ pub fn print<K: Sink>(document: &Document<'_>, sink: &mut K) -> Result<(), Write
     energy::print(document.energy, sink)
 }
 
-// The jobs, the points, the slots and the levels.
+/// The jobs, the points, the slots and the levels.
 fn print_plan<K: Sink>(document: &Document<'_>, sink: &mut K) -> Result<(), WriteFault>
     ensures delivers { Delivers result (job_lines document.now.instance.names document.now.instance.jobs ++ flat_map point_line (points_of document.now.table)
         ++ flat_map (slot_line document.now.instance.names) document.now.schedule.slots ++ flat_map (level_lines document.now.instance.names) document.now.certificate) (K.written sink.old) (K.written sink.new) (K.faults sink.old) (K.faults sink.new) }
@@ -41,7 +41,7 @@ fn print_plan<K: Sink>(document: &Document<'_>, sink: &mut K) -> Result<(), Writ
     level::print(&document.instance, document.certificate.levels(), sink)
 }
 
-// The jobs and the points.
+/// The jobs and the points.
 fn print_rows<K: Sink>(document: &Document<'_>, sink: &mut K) -> Result<(), WriteFault>
     ensures delivers { Delivers result (job_lines document.now.instance.names document.now.instance.jobs ++ flat_map point_line (points_of document.now.table)) (K.written sink.old) (K.written sink.new) (K.faults sink.old) (K.faults sink.new) }
     ensures flushed_stays { K.flushed sink.new ≡ K.flushed sink.old }

@@ -42,7 +42,7 @@ pub fn read_document<'a>(alloc: Global, bytes: &'a [u8]) -> Result<Document<'a>,
 }
 
 impl<'a> Draft<'a> {
-    // What a line adds: nothing, where it has no field or begins with `#`.
+    /// What a line adds: nothing, where it has no field or begins with `#`.
     fn read_line(&mut self, alloc: Global, line: Line<'a>) -> Result<(), DocFault>
         requires kept { IsDraft self.old }
         ensures kept { OnOk result (IsDraft self.new) }

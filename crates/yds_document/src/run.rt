@@ -1,5 +1,6 @@
-// The lines of runs: a job runs from one tick to another at a speed. That is the slot of the speed times the
-// time, and is printed as one.
+//! The lines of runs: a job runs from one tick to another at a speed. That is the slot of the speed times the
+//! time, and is printed as one.
+
 ghost use Rattle.std.specs.Prelude.{◌≡◌, ◌<◌, ◌≤◌, ◌∷◌, length, OnOk, IfOk};
 ghost use Rattle.yds_model.specs.declared.limits.TheConstants.{MAX_SLOTS, MAX_TICKS};
 ghost use Rattle.yds_model.specs.Entry.{SlotEntry};
@@ -20,7 +21,7 @@ use yds_model::limits::{MAX_RUN_SPEED, MAX_SLOT_WORK, MAX_TIME};
 use yds_slots::{Schedule, Slot};
 use yds_text::{Field, Fields, four_fields};
 
-// Reads the line whose first field is `kind`, and adds its slot.
+/// Reads the line whose first field is `kind`, and adds its slot.
 pub(crate) fn read<'a>(
     draft: &mut Draft<'a>,
     kind: Field<'a>,
@@ -38,7 +39,7 @@ pub(crate) fn read<'a>(
     Ok(())
 }
 
-// What the fields say.
+/// What the fields say.
 fn run_in<'a>(
     draft: &Draft<'a>,
     ticks: u32,
@@ -56,7 +57,7 @@ fn run_in<'a>(
     slot_at(&draft.schedule, ticks, job, fields)
 }
 
-// The slot of a run of this job: the speed times the time, and its work alike with those that the job got before.
+/// The slot of a run of this job: the speed times the time, and its work alike with those that the job got before.
 fn slot_at(
     schedule: &Schedule,
     ticks: u32,

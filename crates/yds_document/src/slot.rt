@@ -1,4 +1,5 @@
-// The lines of slots: a job by its name, two ends that are alike, and a work alike with its job's others.
+//! The lines of slots: a job by its name, two ends that are alike, and a work alike with its job's others.
+
 ghost use Rattle.std.specs.Prelude.{◌≡◌, ◌<◌, ◌∷◌, ◌++◌, [], length, OnOk, IfOk, IsTrue};
 ghost use Rattle.std.specs.List.{All, flat_map};
 ghost use Rattle.yds_model.specs.declared.limits.TheConstants.{MAX_SLOTS};
@@ -25,7 +26,7 @@ use yds_port::{Sink, WriteFault, write_all};
 use yds_slots::{Schedule, Slot};
 use yds_text::{Field, Fields, four_fields};
 
-// Reads the line whose first field is `kind`, and adds its slot.
+/// Reads the line whose first field is `kind`, and adds its slot.
 pub(crate) fn read<'a>(
     draft: &mut Draft<'a>,
     kind: Field<'a>,
@@ -42,7 +43,7 @@ pub(crate) fn read<'a>(
     Ok(())
 }
 
-// What the fields say: a slot whose work is alike with those that its job got before.
+/// What the fields say: a slot whose work is alike with those that its job got before.
 fn slot_in(
     instance: &Instance<'_>,
     schedule: &Schedule,
@@ -75,7 +76,7 @@ fn slot_in(
     })
 }
 
-// Whether the work is alike with each work that the schedule gives the job.
+/// Whether the work is alike with each work that the schedule gives the job.
 pub(crate) fn fits_grain(schedule: &Schedule, job: u32, work: Amount) -> bool
     requires { job < schedule.now.jobs }
     ensures value { result ≡ fits_among schedule.now.slots job work }
@@ -86,14 +87,14 @@ pub(crate) fn fits_grain(schedule: &Schedule, job: u32, work: Amount) -> bool
     is_in_grain(work.den(), schedule.grain(job))
 }
 
-// Whether a work of this denominator fits the grain of its job.
+/// Whether a work of this denominator fits the grain of its job.
 fn is_in_grain(den: u64, grain: u64) -> bool
     ensures { result ≡ fits_test den grain }
 {
     den == grain || den == 1 || grain == 1
 }
 
-// Puts the slot last.
+/// Puts the slot last.
 pub(crate) fn add(draft: &mut Draft<'_>, slot: Slot) -> Result<(), Memory>
     requires kept { IsDraft draft.old }
     requires known { slot.job < length draft.old.instance.jobs }
@@ -106,7 +107,7 @@ pub(crate) fn add(draft: &mut Draft<'_>, slot: Slot) -> Result<(), Memory>
     Ok(())
 }
 
-// Makes the line of a slot.
+/// Makes the line of a slot.
 fn put(text: &mut LineBuffer, instance: &Instance<'_>, slot: &Slot)
     requires { slot.now.job < length instance.now.jobs }
     ensures { text.new ≡ slot_line instance.now.names slot.now }
@@ -119,7 +120,7 @@ fn put(text: &mut LineBuffer, instance: &Instance<'_>, slot: &Slot)
     text.push_end();
 }
 
-// Appends the lines of the slots, in their order.
+/// Appends the lines of the slots, in their order.
 pub(crate) fn print<K: Sink>(
     instance: &Instance<'_>,
     slots: &[Slot],

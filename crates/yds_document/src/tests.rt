@@ -38,7 +38,7 @@ pub static REFUSALS: [(&str, Option<(u32, u32, Reason)>); 16] = [
     ("level 4 4\npiece 2 2\npiece 3 1\n", None),
 ];
 
-// Where the text is refused, and why.
+/// Where the text is refused, and why.
 fn refusal(rt: &impl Abort, alloc: Global, text: &str) -> Option<(u32, u32, Reason)> {
     assert!(rt; text.len() <= MAX_BYTES);
     match read_document(alloc, text.as_bytes()) {
@@ -73,7 +73,7 @@ fn a_document_of_each_kind_is_printed_as_it_is_read(rt: HostRuntime) -> Result<(
     Ok(())
 }
 
-// The document's slot and grid give way to those of the answer.
+/// The document's slot and grid give way to those of the answer.
 #[test]
 fn a_document_with_an_answer(rt: HostRuntime) -> Result<(), Fail> {
     let text = b"job a 0 3 2\nslot a 0 3 2\ngrid 5 1\n";

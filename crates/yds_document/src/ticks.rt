@@ -1,4 +1,5 @@
-// The line of ticks: in how many a time unit is divided, for the runs after it. It isn't printed.
+//! The line of ticks: in how many a time unit is divided, for the runs after it. It isn't printed.
+
 ghost use Rattle.std.specs.Prelude.{◌≡◌, ◌≤◌, ◌∷◌, [], None, OnOk, IfOk};
 ghost use Rattle.yds_model.specs.declared.limits.TheConstants.{MAX_TICKS};
 ghost use Rattle.yds_model.specs.Entry.{TicksEntry};
@@ -14,7 +15,7 @@ use crate::line_fault::LineFault;
 use yds_model::limits::MAX_TICKS;
 use yds_text::{Field, Fields, one_field};
 
-// Reads the line whose first field is `kind`, and keeps its ticks.
+/// Reads the line whose first field is `kind`, and keeps its ticks.
 pub(crate) fn read<'a>(
     draft: &mut Draft<'a>,
     kind: Field<'a>,
@@ -31,7 +32,7 @@ pub(crate) fn read<'a>(
     Ok(())
 }
 
-// What the field says.
+/// What the field says.
 fn ticks_in(ticks: Field<'_>) -> Result<u32, LineFault>
     ensures gives { Gives (λ ticks. TicksEntry ticks) result (read_ticks (no_field ∷ field_read ticks.entry ∷ [])) }
     ensures within { IfOk result (λ ticks. (1 ≤ ticks) × (ticks ≤ MAX_TICKS)) }

@@ -12,7 +12,7 @@ use Rattle.yds_model.specs.Piece.{Piece, PiecesFrom}
 use Rattle.yds_edf.specs.Shares.{JobShare, units_given, shares_in, shares_before}
 use Rattle.yds_edf.specs.Pending.{sum_below, units_wanted}
 use Rattle.yds_edf.specs.Serving.{IsServing}
-use Rattle.yds_events.specs.Stretch.{no_stretch, stretch_at}
+use Rattle.yds_events.specs.Stretch.{no_stretch, nth_stretch}
 use Rattle.yds_events.proofs.InOrder.{has_length, starts_rise}
 use Rattle.yds_edf.specs.Demand.{capacity_at, confined_units, capacity_between, IsWithinCapacity, AreUncut}
 use Rattle.yds_edf.specs.Filled.{pending_at_start}
@@ -71,7 +71,7 @@ confined_term jobs grain from to number =
 
 abbrev pub between_term : List Piece → List ℕ → ℕ → ℕ → ℕ → ℕ
 between_term stretches capacities from to k =
-    cond (nat_le from (stretch_at stretches k).from && nat_le (stretch_at stretches k).to to) (capacity_at capacities k) 0
+    cond (nat_le from (nth_stretch stretches k).from && nat_le (nth_stretch stretches k).to to) (capacity_at capacities k) 0
 
 module _ (jobs : List Job) (grain : ℕ) (stretches : List Piece) (capacities : List ℕ) (are : All IsJob jobs)
     (enough : IsWithinCapacity jobs grain stretches capacities) (last : ℕ) (there : last < length jobs) where
@@ -108,9 +108,9 @@ module _ (jobs : List Job) (grain : ℕ) (stretches : List Piece) (capacities : 
         let capacity = sum_below_at_most (length stretches)
         (λ k. between_term stretches capacities (suc from) (job_at jobs last).deadline k)
         (λ k. between_term stretches capacities from (job_at jobs last).deadline k)
-        (λ k within. elim (cases_lt (stretch_at stretches k).from (suc from)) [
-          | inl before ↦ omega (arith, not_first (suc from) (stretch_at stretches k).from (stretch_at stretches k).to (job_at jobs last).deadline (capacity_at capacities k) before)
-          | inr after ↦ rw (le-leb from (stretch_at stretches k).from (omega (arith, after)), le-leb (suc from) (stretch_at stretches k).from after) (omega arith)
+        (λ k within. elim (cases_lt (nth_stretch stretches k).from (suc from)) [
+          | inl before ↦ omega (arith, not_first (suc from) (nth_stretch stretches k).from (nth_stretch stretches k).to (job_at jobs last).deadline (capacity_at capacities k) before)
+          | inr after ↦ rw (le-leb from (nth_stretch stretches k).from (omega (arith, after)), le-leb (suc from) (nth_stretch stretches k).from after) (omega arith)
         ]) in
         omega (arith, demand, capacity, from_any more (suc from) (omega (arith, near)))
   ]
@@ -128,7 +128,7 @@ left_due jobs grain shares i time = sum_below (length jobs) (left_term jobs grai
 
 abbrev pub coming_term : List Piece → List ℕ → ℕ → ℕ → ℕ → ℕ
 coming_term stretches capacities i time k =
-    cond (nat_le i k && nat_le (stretch_at stretches k).to time) (capacity_at capacities k) 0
+    cond (nat_le i k && nat_le (nth_stretch stretches k).to time) (capacity_at capacities k) 0
 
 abbrev pub capacity_from : List Piece → List ℕ → ℕ → ℕ → ℕ
 capacity_from stretches capacities i time = sum_below (length stretches) (coming_term stretches capacities i time)
@@ -139,7 +139,7 @@ given_term jobs shares i time number = cond (nat_le (job_at jobs number).deadlin
 
 -- the capacity of a stretch that ends by the time is what the next one doesn't have
 next_capacity : (stretches : List Piece) (capacities : List ℕ) (i time : ℕ) → i < length stretches →
-    (stretch_at stretches i).to ≤ time →
+    (nth_stretch stretches i).to ≤ time →
     capacity_from stretches capacities i time
     ≡ capacity_at capacities i + capacity_from stretches capacities (suc i) time
 next_capacity stretches capacities i time within ends = omega (
@@ -150,13 +150,13 @@ next_capacity stretches capacities i time within ends = omega (
         | inl before ↦ not_first i k _ _ _ before ∙ sym (not_first (suc i) k _ _ _ (omega (arith, before)))
         | inr after ↦ rw (le-leb i k after, le-leb (suc i) k (omega (arith, after, other))) refl
       ]),
-  both i i (stretch_at stretches i).to time (capacity_at capacities i) (omega arith) ends,
-  not_first (suc i) i (stretch_at stretches i).to time (capacity_at capacities i) (omega arith),
+  both i i (nth_stretch stretches i).to time (capacity_at capacities i) (omega arith) ends,
+  not_first (suc i) i (nth_stretch stretches i).to time (capacity_at capacities i) (omega arith),
 )
 
 -- that of one that ends later counts in neither
 same_capacity : (stretches : List Piece) (capacities : List ℕ) (i time : ℕ) → i < length stretches →
-    time < (stretch_at stretches i).to →
+    time < (nth_stretch stretches i).to →
     capacity_from stretches capacities i time ≡ capacity_from stretches capacities (suc i) time
 same_capacity stretches capacities i time within later =
     sum_below_same (length stretches) (coming_term stretches capacities i time) (coming_term stretches capacities (suc i) time)
@@ -184,7 +184,7 @@ capacity_first : (stretches : List Piece) (capacities : List ℕ) (time : ℕ) �
     capacity_between stretches capacities 0 time ≤ capacity_from stretches capacities 0 time
 capacity_first stretches capacities time =
     sum_below_at_most (length stretches) (between_term stretches capacities 0 time) (coming_term stretches capacities 0 time)
-    (λ k within. rw (le-leb 0 (stretch_at stretches k).from (omega arith), le-leb 0 k (omega arith)) (omega arith))
+    (λ k within. rw (le-leb 0 (nth_stretch stretches k).from (omega arith), le-leb 0 k (omega arith)) (omega arith))
 
 -- a job of which no share is given gets no units
 none_given : (shares : List JobShare) (number : ℕ) → All (λ share. number ≢ share.job) shares → units_given shares number ≡ 0
@@ -198,15 +198,15 @@ module _ (jobs : List Job) (ties : List ℕ) (grain : ℕ) (stretches : List Pie
     IsServing jobs (slice_index ties) (pending_at_start jobs grain stretches shares i) (capacity_at capacities i) (shares_in shares i)))
   where
     pending_left : (i number : ℕ) → pending_at_start jobs grain stretches shares i number ≤ left_of jobs grain shares i number
-    pending_left i number = elim (cases_Bool (nat_le (job_at jobs number).release (stretch_at stretches i).from)) [
+    pending_left i number = elim (cases_Bool (nat_le (job_at jobs number).release (nth_stretch stretches i).from)) [
       | inl arrived ↦ rw arrived (omega arith)
       | inr not_yet ↦ rw not_yet (omega arith)
     ]
 
     -- all that is left of a job that has arrived is pending
-    arrived_left : (i number : ℕ) → (job_at jobs number).release ≤ (stretch_at stretches i).from →
+    arrived_left : (i number : ℕ) → (job_at jobs number).release ≤ (nth_stretch stretches i).from →
         pending_at_start jobs grain stretches shares i number ≡ left_of jobs grain shares i number
-    arrived_left i number arrived = rw (le-leb (job_at jobs number).release (stretch_at stretches i).from arrived) refl
+    arrived_left i number arrived = rw (le-leb (job_at jobs number).release (nth_stretch stretches i).from arrived) refl
 
     -- a job never gets more than it wants
     no_more : (i number : ℕ) → i ≤ length stretches → number < length jobs →
@@ -277,17 +277,17 @@ module _ (jobs : List Job) (ties : List ℕ) (grain : ℕ) (stretches : List Pie
     idle : (i time : ℕ) → i < length stretches →
         ((number : ℕ) → number < length jobs → (job_at jobs number).deadline ≤ time →
         pending_at_start jobs grain stretches shares i number ≤ units_given (shares_in shares i) number) →
-        left_due jobs grain shares (suc i) time ≤ confined_units jobs grain (stretch_at stretches i).to time
+        left_due jobs grain shares (suc i) time ≤ confined_units jobs grain (nth_stretch stretches i).to time
     idle i time here none =
         sum_below_at_most (length jobs) (left_term jobs grain shares (suc i) time)
-        (confined_term jobs grain (stretch_at stretches i).to time)
+        (confined_term jobs grain (nth_stretch stretches i).to time)
         (λ number within. elim (cases_lt time (job_at jobs number).deadline) [
           | inl later ↦ omega (arith, not_one (job_at jobs number).deadline time (left_of jobs grain shares (suc i) number) later)
-          | inr due ↦ elim (cases_lt (stretch_at stretches i).from (job_at jobs number).release) [
+          | inr due ↦ elim (cases_lt (nth_stretch stretches i).from (job_at jobs number).release) [
             | inl after ↦ omega (
               arith,
               one (job_at jobs number).deadline time (left_of jobs grain shares (suc i) number) due,
-              both (stretch_at stretches i).to (job_at jobs number).release (job_at jobs number).deadline time
+              both (nth_stretch stretches i).to (job_at jobs number).release (job_at jobs number).deadline time
                   (units_wanted jobs grain number)
                   (elim ((uncut i no_stretch here) number no_job within).0 [
                     | inl before ↦ absurd (omega (arith, before, after))
@@ -305,18 +305,18 @@ module _ (jobs : List Job) (ties : List ℕ) (grain : ℕ) (stretches : List Pie
         ])
 
     later_capacity : (i time : ℕ) → i < length stretches →
-        capacity_between stretches capacities (stretch_at stretches i).to time ≤ capacity_from stretches capacities (suc i) time
+        capacity_between stretches capacities (nth_stretch stretches i).to time ≤ capacity_from stretches capacities (suc i) time
     later_capacity i time here =
-        sum_below_at_most (length stretches) (between_term stretches capacities (stretch_at stretches i).to time)
+        sum_below_at_most (length stretches) (between_term stretches capacities (nth_stretch stretches i).to time)
         (coming_term stretches capacities (suc i) time)
         (λ k within. elim (cases_lt i k) [
-          | inl after ↦ elim (cases_lt (stretch_at stretches k).from (stretch_at stretches i).to) [
-            | inl before ↦ omega (arith, not_first (stretch_at stretches i).to (stretch_at stretches k).from (stretch_at stretches k).to time (capacity_at capacities k) before)
-            | inr beyond ↦ rw (le-leb (stretch_at stretches i).to (stretch_at stretches k).from beyond, le-leb (suc i) k after) (omega arith)
+          | inl after ↦ elim (cases_lt (nth_stretch stretches k).from (nth_stretch stretches i).to) [
+            | inl before ↦ omega (arith, not_first (nth_stretch stretches i).to (nth_stretch stretches k).from (nth_stretch stretches k).to time (capacity_at capacities k) before)
+            | inr beyond ↦ rw (le-leb (nth_stretch stretches i).to (nth_stretch stretches k).from beyond, le-leb (suc i) k after) (omega arith)
           ]
           | inr before ↦ omega (
             arith,
-            not_first (stretch_at stretches i).to (stretch_at stretches k).from (stretch_at stretches k).to time (capacity_at capacities k)
+            not_first (nth_stretch stretches i).to (nth_stretch stretches k).from (nth_stretch stretches k).to time (capacity_at capacities k)
                 (omega (arith, starts_rise k i stretches order before here, has_length 0 i stretches order here)),
           )
         ])
@@ -334,7 +334,7 @@ module _ (jobs : List Job) (ties : List ℕ) (grain : ℕ) (stretches : List Pie
     bounded last (suc i) there within =
         let time = (job_at jobs last).deadline in
         let here : i < length stretches = omega arith in
-        elim (cases_lt time (stretch_at stretches i).to) [
+        elim (cases_lt time (nth_stretch stretches i).to) [
           | inl later ↦ omega (arith, bounded last i there (omega arith), next_due i time here, same_capacity stretches capacities i time here later)
           | inr ends ↦ elim (found_or_none (length jobs) (λ number.
               nat_lt (given_term jobs shares i time number)
@@ -371,7 +371,7 @@ module _ (jobs : List Job) (ties : List ℕ) (grain : ℕ) (stretches : List Pie
                     one (job_at jobs number).deadline time (pending_at_start jobs grain stretches shares i number) due,
                     one (job_at jobs number).deadline time (units_given (shares_in shares i) number) due,
                   )),
-                  from_any jobs grain stretches capacities are enough last there time (stretch_at stretches i).to (omega arith),
+                  from_any jobs grain stretches capacities are enough last there time (nth_stretch stretches i).to (omega arith),
                   later_capacity i time here,
                 )
               ]
@@ -379,17 +379,17 @@ module _ (jobs : List Job) (ties : List ℕ) (grain : ℕ) (stretches : List Pie
 
     -- a share lies in its job's window
     pub in_window : (i k : ℕ) (share : JobShare) → i < length stretches → k < length (shares_in shares i) →
-        ((job_at jobs (get_or (shares_in shares i) k share).job).release ≤ (stretch_at stretches i).from)
-        × ((stretch_at stretches i).to ≤ (job_at jobs (get_or (shares_in shares i) k share).job).deadline)
+        ((job_at jobs (get_or (shares_in shares i) k share).job).release ≤ (nth_stretch stretches i).from)
+        × ((nth_stretch stretches i).to ≤ (job_at jobs (get_or (shares_in shares i) k share).job).deadline)
     in_window i k share here within =
         let job = (get_or (shares_in shares i) k share).job in
         let serves = serving i here in
         let known : job < length jobs = serves.known k share within in
         let some : 1 ≤ pending_at_start jobs grain stretches shares i job =
         omega (arith, serves.some k share within, share_given (shares_in shares i) k share within, serves.within job known) in (
-          elim (cases_lt (stretch_at stretches i).from (job_at jobs job).release) [
+          elim (cases_lt (nth_stretch stretches i).from (job_at jobs job).release) [
             | inr arrived ↦ arrived
-            | inl later ↦ absurd (omega (arith, rw (lt-leb (job_at jobs job).release (stretch_at stretches i).from later) at some))
+            | inl later ↦ absurd (omega (arith, rw (lt-leb (job_at jobs job).release (nth_stretch stretches i).from later) at some))
           ],
           elim ((uncut i no_stretch here) job no_job known).1 [
             | inr ends ↦ ends
@@ -397,8 +397,8 @@ module _ (jobs : List Job) (ties : List ℕ) (grain : ℕ) (stretches : List Pie
                 let time = (job_at jobs job).deadline in
                 let nothing = sum_below_zero (length stretches) (coming_term stretches capacities i time)
                 (λ j below. elim (cases_lt j i) [
-                  | inl earlier ↦ not_first i j (stretch_at stretches j).to time (capacity_at capacities j) earlier
-                  | inr after ↦ not_second i j (stretch_at stretches j).to time (capacity_at capacities j) (omega (
+                  | inl earlier ↦ not_first i j (nth_stretch stretches j).to time (capacity_at capacities j) earlier
+                  | inr after ↦ not_second i j (nth_stretch stretches j).to time (capacity_at capacities j) (omega (
                     arith,
                     before,
                     starts_rise i j stretches order after below,
@@ -423,7 +423,7 @@ module _ (jobs : List Job) (ties : List ℕ) (grain : ℕ) (stretches : List Pie
     in_full earlier number within =
         let time = (job_at jobs number).deadline in
         let nothing = sum_below_zero (length stretches) (coming_term stretches capacities (length stretches) time)
-        (λ j below. not_first (length stretches) j (stretch_at stretches j).to time (capacity_at capacities j) below) in
+        (λ j below. not_first (length stretches) j (nth_stretch stretches j).to time (capacity_at capacities j) below) in
         let all = ap (λ (part : List JobShare). units_given part number) (all_before shares (length stretches) earlier) in
         omega (
           arith,

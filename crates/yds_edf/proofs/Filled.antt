@@ -12,7 +12,7 @@ use Rattle.yds_model.proofs.Lists.{AllPairs-append}
 use Rattle.yds_edf.specs.Shares.{JobShare, units_given, shares_in}
 use Rattle.yds_edf.specs.Pending.{units_wanted, pending_of_job}
 use Rattle.yds_edf.specs.Serving.{IsServing}
-use Rattle.yds_events.specs.Stretch.{stretch_at}
+use Rattle.yds_events.specs.Stretch.{nth_stretch}
 use Rattle.yds_edf.specs.Demand.{capacity_at, IsWithinCapacity, AreUncut}
 use Rattle.yds_edf.specs.Filled.{pending_at_start, IsFilled}
 use Rattle.yds_edf.specs.Queue.{JobQueue, new_queue, IsNoEarlier, pending_in, units_left, unfinished}
@@ -41,7 +41,7 @@ pub record Filling (jobs : List Job) (ties : List ℕ) (grain : ℕ) (stretches 
   pub same_ties : now.ties ≡ ties
   pub same_jobs : now.queue.jobs ≡ jobs
   pub same_grain : now.queue.grain ≡ grain
-  pub time : i < length stretches → IsNoEarlier now.queue.time (stretch_at stretches i).from
+  pub time : i < length stretches → IsNoEarlier now.queue.time (nth_stretch stretches i).from
   pub given : Each (length jobs) (λ number. slice_index now.queue.served number ≡ units_given shares number)
   pub in_order : AllPairs (λ one other. one.stretch ≤ other.stretch) shares
   pub known : All (λ share. share.stretch < i) shares
@@ -70,12 +70,12 @@ begun jobs ties grain stretches capacities = record {
 pub filled_next : {jobs : List Job} {ties : List ℕ} {grain : ℕ} {stretches : List Piece} {capacities : List ℕ} {i : ℕ}
     {now new : TiedQueue} {shares part : List JobShare} → PiecesFrom 0 stretches → i < length stretches →
     Filling jobs ties grain stretches capacities i now shares →
-    ServesTied (record { queue = record now.queue { time = Some (stretch_at stretches i).from }; ties = now.ties }) new i
+    ServesTied (record { queue = record now.queue { time = Some (nth_stretch stretches i).from }; ties = now.ties }) new i
     (capacity_at capacities i) part →
     Filling jobs ties grain stretches capacities (suc i) new (shares ++ part)
 filled_next {jobs = jobs} {ties = ties} {grain = grain} {stretches = stretches} {capacities = capacities} {i = i} {now = now}
     {new = new} {shares = shares} {part = part} order within filling serves =
-    let start : ℕ = (stretch_at stretches i).from in
+    let start : ℕ = (nth_stretch stretches i).from in
     let queue : List Job → ℕ → JobQueue = λ js g. record { jobs = js; grain = g; time = Some start; served = now.queue.served } in
     let here : IsServing jobs (slice_index ties) (pending_in (queue jobs grain)) (capacity_at capacities i) part =
     subst (λ js. IsServing js (slice_index ties) (pending_in (queue js grain)) (capacity_at capacities i) part) filling.same_jobs
@@ -116,7 +116,7 @@ filled_next {jobs = jobs} {ties = ties} {grain = grain} {stretches = stretches} 
             (capacity_at capacities k) xs) (sym (in_kept shares part i filling.known serves.in_stretch k less))
             (serving_same jobs (slice_index ties) (pending_at_start jobs grain stretches shares k)
             (pending_at_start jobs grain stretches (shares ++ part) k) (capacity_at capacities k) (shares_in shares k)
-            (λ number there. ap (λ (xs : List JobShare). pending_of_job jobs grain (Some (stretch_at stretches k).from) (units_given xs) number)
+            (λ number there. ap (λ (xs : List JobShare). pending_of_job jobs grain (Some (nth_stretch stretches k).from) (units_given xs) number)
             (sym (before_kept shares part i filling.known serves.in_stretch k less))) (filling.serving k less))
       ];
       few = omega (arith, filling.few, serves.finishing, length-append shares part);
@@ -125,7 +125,7 @@ filled_next {jobs = jobs} {ties = ties} {grain = grain} {stretches = stretches} 
 -- the same by what the calls ensure
 pub filled_after : {jobs : List Job} {ties : List ℕ} {grain : ℕ} {stretches : List Piece} {capacities : List ℕ} {i : ℕ}
     {now new : TiedQueue} {shares part joined : List JobShare} → PiecesFrom 0 stretches → i < length stretches →
-    Filling jobs ties grain stretches capacities i now shares → (from : ℕ) → from ≡ (stretch_at stretches i).from →
+    Filling jobs ties grain stretches capacities i now shares → (from : ℕ) → from ≡ (nth_stretch stretches i).from →
     (started : TiedQueue) → started ≡ record { queue = record now.queue { time = Some from }; ties = now.ties } →
     ServesTied started new i (capacity_at capacities i) part → joined ≡ shares ++ part →
     Filling jobs ties grain stretches capacities (i + 1) new joined
@@ -166,8 +166,8 @@ all_filled {jobs = jobs} {ties = ties} {grain = grain} {stretches = stretches} {
           let share = get_or shares k d in
           let here = filling.known k d within in
           let window = All-contains
-          (λ s. ((job_at jobs s.job).release ≤ (stretch_at stretches share.stretch).from)
-          × ((stretch_at stretches share.stretch).to ≤ (job_at jobs s.job).deadline))
+          (λ s. ((job_at jobs s.job).release ≤ (nth_stretch stretches share.stretch).from)
+          × ((nth_stretch stretches share.stretch).to ≤ (job_at jobs s.job).deadline))
           (shares_in shares share.stretch) share
           (λ j e below. in_window jobs ties grain stretches capacities shares are order uncut enough filling.serving
           share.stretch j e here below)

@@ -3,7 +3,7 @@ use Rattle.std.specs.Prelude.{ℕ, ◌<◌, ◌≤◌, ◌&&◌, nat_le, if◌th
 use Rattle.std.specs.List.{slice_index_or}
 use Rattle.yds_model.specs.Job.{Job, job_at}
 use Rattle.yds_model.specs.Piece.{Piece}
-use Rattle.yds_events.specs.Stretch.{stretch_at, IsOutside}
+use Rattle.yds_events.specs.Stretch.{nth_stretch, IsOutside}
 use Rattle.yds_edf.specs.Pending.{sum_below, units_wanted}
 
 -- the stretch's capacity, by its number
@@ -20,7 +20,7 @@ confined_units jobs grain from to =
 abbrev pub capacity_between : List Piece → List ℕ → ℕ → ℕ → ℕ
 capacity_between stretches capacities from to =
     sum_below (length stretches) (λ i.
-    if nat_le from (stretch_at stretches i).from && nat_le (stretch_at stretches i).to to then capacity_at capacities i else 0)
+    if nat_le from (nth_stretch stretches i).from && nat_le (nth_stretch stretches i).to to then capacity_at capacities i else 0)
 
 -- between any release and any deadline the confined units are at most the capacity
 abbrev pub IsWithinCapacity : List Job → ℕ → List Piece → List ℕ → Type 0

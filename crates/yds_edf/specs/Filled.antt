@@ -6,19 +6,19 @@ use Rattle.yds_model.specs.Piece.{Piece}
 use Rattle.yds_edf.specs.Shares.{JobShare, units_given, shares_in, shares_before}
 use Rattle.yds_edf.specs.Pending.{units_wanted, pending_of_job}
 use Rattle.yds_edf.specs.Serving.{IsServing}
-use Rattle.yds_events.specs.Stretch.{stretch_at}
+use Rattle.yds_events.specs.Stretch.{nth_stretch}
 use Rattle.yds_edf.specs.Demand.{capacity_at}
 
 -- the units of a job that are pending at the start of a stretch: what the stretches before it left of those that were
 -- released by then
 abbrev pub pending_at_start : List Job → ℕ → List Piece → List JobShare → ℕ → ℕ → ℕ
 pending_at_start jobs grain stretches shares i =
-    pending_of_job jobs grain (Some (stretch_at stretches i).from) (units_given (shares_before shares i))
+    pending_of_job jobs grain (Some (nth_stretch stretches i).from) (units_given (shares_before shares i))
 
 -- the share lies in its job's window
 pub record IsInTime (jobs : List Job) (stretches : List Piece) (share : JobShare) : Type 0 where
-  pub released : (job_at jobs share.job).release ≤ (stretch_at stretches share.stretch).from
-  pub due : (stretch_at stretches share.stretch).to ≤ (job_at jobs share.job).deadline
+  pub released : (job_at jobs share.job).release ≤ (nth_stretch stretches share.stretch).from
+  pub due : (nth_stretch stretches share.stretch).to ≤ (job_at jobs share.job).deadline
 
 -- The shares stand in order of their stretches. Each stretch is served earliest deadline first, jobs of the same deadline in
 -- order of their ties, and every job gets all its units inside its window. There is at most one share for each job and each

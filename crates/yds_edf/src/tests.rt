@@ -4,7 +4,7 @@ use yds_events::Stretch;
 use yds_fraction::Moment;
 use yds_model::JobRow;
 
-// Optimal Available on the grid 6, jobs a 0 3 2 and b 1 2 1: it serves 4 units from 0 to 1, and 7 from 1 to 2.
+/// Optimal Available on the grid 6, jobs a 0 3 2 and b 1 2 1: it serves 4 units from 0 to 1, and 7 from 1 to 2.
 #[test]
 fn queue_serves_and_lays(rt: HostRuntime) -> Result<(), Fail> {
     let rows = [JobRow::new(0, 3, 2), JobRow::new(1, 2, 1)];
@@ -27,7 +27,7 @@ fn queue_serves_and_lays(rt: HostRuntime) -> Result<(), Fail> {
     Ok(())
 }
 
-// The plan of jobs a 0 3 2 and b 0 3 5: one level of speed 7/3, so units of a third and a capacity of 21.
+/// The plan of jobs a 0 3 2 and b 0 3 5: one level of speed 7/3, so units of a third and a capacity of 21.
 #[test]
 fn fills_a_level(rt: HostRuntime) -> Result<(), Fail> {
     let rows = [JobRow::new(0, 3, 2), JobRow::new(0, 3, 5)];

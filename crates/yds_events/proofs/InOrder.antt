@@ -4,23 +4,23 @@ use Rattle.std.specs.List.Sorted.{IsNonDecreasingBy}
 use Rattle.std.proofs.lemmas.Bool.{cases_eq}
 use Rattle.std.proofs.lemmas.List.{get_or_default}
 use Rattle.yds_model.specs.Piece.{Piece, PiecesFrom}
-use Rattle.yds_events.specs.Stretch.{no_stretch, stretch_at}
+use Rattle.yds_events.specs.Stretch.{no_stretch, nth_stretch}
 
 from_start : (start i : ℕ) (stretches : List Piece) → PiecesFrom start stretches → i < length stretches →
-    start ≤ (stretch_at stretches i).from
+    start ≤ (nth_stretch stretches i).from
 from_start start i [] order within = absurd (omega arith)
 from_start start zero (stretch ∷ stretches) order within = order.0
 from_start start (suc i) (stretch ∷ stretches) order within =
     omega (arith, order.0, order.1, from_start stretch.to i stretches order.2 (omega arith))
 
 pub has_length : (start i : ℕ) (stretches : List Piece) → PiecesFrom start stretches → i < length stretches →
-    (stretch_at stretches i).from < (stretch_at stretches i).to
+    (nth_stretch stretches i).from < (nth_stretch stretches i).to
 has_length start i [] order within = absurd (omega arith)
 has_length start zero (stretch ∷ stretches) order within = order.1
 has_length start (suc i) (stretch ∷ stretches) order within = has_length stretch.to i stretches order.2 (omega arith)
 
 pub later_start : (start i k : ℕ) (stretches : List Piece) → PiecesFrom start stretches → i < k → k < length stretches →
-    (stretch_at stretches i).to ≤ (stretch_at stretches k).from
+    (nth_stretch stretches i).to ≤ (nth_stretch stretches k).from
 later_start start i k [] order less within = absurd (omega arith)
 later_start start i zero (stretch ∷ stretches) order less within = absurd (omega arith)
 later_start start zero (suc k) (stretch ∷ stretches) order less within = from_start stretch.to k stretches order.2 (omega arith)
@@ -29,7 +29,7 @@ later_start start (suc i) (suc k) (stretch ∷ stretches) order less within =
 
 -- the start of a stretch isn't before that of an earlier one
 pub starts_rise : (i k : ℕ) (stretches : List Piece) → PiecesFrom 0 stretches → i ≤ k → k < length stretches →
-    (stretch_at stretches i).from ≤ (stretch_at stretches k).from
+    (nth_stretch stretches i).from ≤ (nth_stretch stretches k).from
 starts_rise i k stretches order less within = elim (cases_eq i k) [
   | inl same ↦ rw same (omega arith)
   | inr other ↦ omega (

@@ -9,7 +9,8 @@ use Rattle.yds_model.specs.Job.{Job, IsJob, job_at}
 use Rattle.yds_model.specs.Piece.{Piece, PiecesFrom}
 use Rattle.yds_model.specs.Event.{event_points, neighbours, stretches}
 use Rattle.yds_events.specs.Stretch.{no_stretch, IsOutside}
-use Rattle.yds_events.specs.Window.{stretch_of, length_at}
+use Rattle.yds_model.specs.Comparison.{stretch_at}
+use Rattle.yds_events.specs.Window.{length_at}
 use Rattle.yds_events.proofs.InOrder.{has_length, later_start}
 use Rattle.yds_events.proofs.Rising.{Rises, rises_times}
 use Rattle.yds_events.proofs.Times.{not_later, release_at, deadline_at, few_times, events_in_range}
@@ -58,23 +59,23 @@ few_stretches (job ∷ jobs) = omega (arith, count_stretches (job ∷ jobs) (ome
 
 -- a stretch is from an event point to the next
 pub stretch_is : (jobs : List Job) (k : ℕ) → k + 1 < length (event_points jobs) →
-    stretch_of jobs k ≡ record { from = get_or (event_points jobs) k 0; to = get_or (event_points jobs) (k + 1) 0 }
+    stretch_at jobs k ≡ record { from = get_or (event_points jobs) k 0; to = get_or (event_points jobs) (k + 1) 0 }
 stretch_is jobs k within = rw add-one (neighbour_at (event_points jobs) k within)
 
-pub stretch_begins : (jobs : List Job) (k : ℕ) → k < length (stretches jobs) → (stretch_of jobs k).from ≡ get_or (event_points jobs) k 0
+pub stretch_begins : (jobs : List Job) (k : ℕ) → k < length (stretches jobs) → (stretch_at jobs k).from ≡ get_or (event_points jobs) k 0
 stretch_begins jobs k within = ap (λ (piece : Piece). piece.from) (stretch_is jobs k (stretch_next jobs k within))
 
-pub stretch_ends : (jobs : List Job) (k : ℕ) → k < length (stretches jobs) → (stretch_of jobs k).to ≡ get_or (event_points jobs) (k + 1) 0
+pub stretch_ends : (jobs : List Job) (k : ℕ) → k < length (stretches jobs) → (stretch_at jobs k).to ≡ get_or (event_points jobs) (k + 1) 0
 stretch_ends jobs k within = ap (λ (piece : Piece). piece.to) (stretch_is jobs k (stretch_next jobs k within))
 
 -- one after another
 pub stretches_run : (jobs : List Job) → PiecesFrom 0 (stretches jobs)
 stretches_run jobs = neighbours_run 0 (event_points jobs) (rises_times (flat_map (λ job. job.release ∷ job.deadline ∷ []) jobs))
 
-pub stretch_forward : (jobs : List Job) (k : ℕ) → k < length (stretches jobs) → (stretch_of jobs k).from < (stretch_of jobs k).to
+pub stretch_forward : (jobs : List Job) (k : ℕ) → k < length (stretches jobs) → (stretch_at jobs k).from < (stretch_at jobs k).to
 stretch_forward jobs k within = has_length 0 k (stretches jobs) (stretches_run jobs) within
 
-pub stretch_order : (jobs : List Job) (i k : ℕ) → i < k → k < length (stretches jobs) → (stretch_of jobs i).to ≤ (stretch_of jobs k).from
+pub stretch_order : (jobs : List Job) (i k : ℕ) → i < k → k < length (stretches jobs) → (stretch_at jobs i).to ≤ (stretch_at jobs k).from
 stretch_order jobs i k order within = later_start 0 i k (stretches jobs) (stretches_run jobs) order within
 
 -- # Their lengths
@@ -84,7 +85,7 @@ pub stretch_long : (jobs : List Job) (k : ℕ) → k < length (stretches jobs) �
 stretch_long jobs k within = omega (arith, stretch_forward jobs k within)
 
 -- within the limit of times
-pub stretch_in_range : (jobs : List Job) (k : ℕ) → All IsJob jobs → k < length (stretches jobs) → (stretch_of jobs k).to ≤ MAX_TIME
+pub stretch_in_range : (jobs : List Job) (k : ℕ) → All IsJob jobs → k < length (stretches jobs) → (stretch_at jobs k).to ≤ MAX_TIME
 stretch_in_range jobs k all within =
     omega (arith, stretch_ends jobs k within, events_in_range jobs all (k + 1) 0 (stretch_next jobs k within))
 
@@ -92,19 +93,19 @@ stretch_in_range jobs k all within =
 
 -- no event point lies inside a stretch
 outside : (jobs : List Job) (i k time : ℕ) → i < length (event_points jobs) → get_or (event_points jobs) i 0 ≡ time →
-    k < length (stretches jobs) → IsOutside (stretch_of jobs k) time
+    k < length (stretches jobs) → IsOutside (stretch_at jobs k) time
 outside jobs i k time known is within = elim (cases_lt k i) [
   | inl after ↦ inr (omega (arith, stretch_ends jobs k within, not_later jobs (k + 1) i (omega arith) known, is))
   | inr before ↦ inl (omega (arith, stretch_begins jobs k within, not_later jobs i k before (omega (arith, stretch_next jobs k within)), is))
 ]
 
 pub release_outside : (jobs : List Job) (j k : ℕ) → j < length jobs → k < length (stretches jobs) →
-    IsOutside (stretch_of jobs k) (job_at jobs j).release
+    IsOutside (stretch_at jobs k) (job_at jobs j).release
 release_outside jobs j k known within =
     let release = release_at jobs j known in outside jobs release.0 k (job_at jobs j).release release.1 release.2 within
 
 pub deadline_outside : (jobs : List Job) (j k : ℕ) → j < length jobs → k < length (stretches jobs) →
-    IsOutside (stretch_of jobs k) (job_at jobs j).deadline
+    IsOutside (stretch_at jobs k) (job_at jobs j).deadline
 deadline_outside jobs j k known within =
     let deadline = deadline_at jobs j known in outside jobs deadline.0 k (job_at jobs j).deadline deadline.1 deadline.2 within
 
@@ -119,8 +120,8 @@ step_over f (suc n) time from below = elim (cases_lt time (f n)) [
 -- the stretch has the unit of time that begins at `time`
 pub record HasTime (jobs : List Job) (time k : ℕ) : Type 0 where
   pub known : k < length (stretches jobs)
-  pub from : (stretch_of jobs k).from ≤ time
-  pub below : time < (stretch_of jobs k).to
+  pub from : (stretch_at jobs k).from ≤ time
+  pub below : time < (stretch_at jobs k).to
 
 -- each time of a job's window lies in a stretch
 pub stretch_with : (jobs : List Job) (j time : ℕ) → j < length jobs → (job_at jobs j).release ≤ time → time < (job_at jobs j).deadline →
@@ -141,7 +142,7 @@ stretch_with jobs j time known from below =
 
 -- a stretch that is read from the list of them
 pub stretch_read : (jobs : List Job) (timeline : List Piece) (k : ℕ) (read seen : Piece) → timeline ≡ stretches jobs → k < length (stretches jobs) →
-    read ≡ get_or timeline k read → seen ≡ read → seen ≡ stretch_of jobs k
+    read ≡ get_or timeline k read → seen ≡ read → seen ≡ stretch_at jobs k
 stretch_read jobs timeline k read seen are within is view =
     view
     ∙ get_or_read timeline k read (omega (arith, within, ap (λ (pieces : List Piece). length pieces) are)) is no_stretch

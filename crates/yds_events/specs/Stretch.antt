@@ -12,8 +12,8 @@ pub record IsStretch (stretch : Piece) : Type 0 where
 abbrev pub no_stretch : Piece
 no_stretch = record { from = 0; to = 0 }
 
-abbrev pub stretch_at : List Piece → ℕ → Piece
-stretch_at stretches i = slice_index_or stretches i no_stretch
+abbrev pub nth_stretch : List Piece → ℕ → Piece
+nth_stretch stretches i = slice_index_or stretches i no_stretch
 
 abbrev pub length_of : Piece → ℕ
 length_of stretch = stretch.to - stretch.from

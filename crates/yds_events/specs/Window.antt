@@ -5,19 +5,17 @@ use Rattle.yds_model.specs.Job.{Job, job_at}
 use Rattle.yds_model.specs.Piece.{Piece}
 use Rattle.yds_model.specs.Event.{stretches}
 use Rattle.yds_events.specs.declared.window.Window.{Window}
-use Rattle.yds_events.specs.Stretch.{stretch_at, length_of}
+use Rattle.yds_model.specs.Comparison.{stretch_at}
+use Rattle.yds_events.specs.Stretch.{length_of}
 
--- the jobs' stretch with this number, and how long it is
-abbrev pub stretch_of : List Job → ℕ → Piece
-stretch_of jobs k = stretch_at (stretches jobs) k
-
+-- how long the jobs' stretch with this number is
 abbrev pub length_at : List Job → ℕ → ℕ
-length_at jobs k = length_of (stretch_of jobs k)
+length_at jobs k = length_of (stretch_at jobs k)
 
 -- the stretch lies in the job's window
 pub record IsInWindow (jobs : List Job) (job k : ℕ) : Type 0 where
-  pub released : (job_at jobs job).release ≤ (stretch_of jobs k).from
-  pub due : (stretch_of jobs k).to ≤ (job_at jobs job).deadline
+  pub released : (job_at jobs job).release ≤ (stretch_at jobs k).from
+  pub due : (stretch_at jobs k).to ≤ (job_at jobs job).deadline
 
 abbrev pub no_window : Window
 no_window = record { first = 0; end = 0 }

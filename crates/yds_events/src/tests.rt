@@ -2,7 +2,7 @@ use super::*;
 use std::test::Fail;
 use yds_model::JobRow;
 
-// Jobs from 4 to 6, from 0 to 12 and from 2 to 6 cut the time from 0 to 12 at 2, 4 and 6.
+/// Jobs from 4 to 6, from 0 to 12 and from 2 to 6 cut the time from 0 to 12 at 2, 4 and 6.
 #[test]
 fn three_jobs_cut_time(rt: HostRuntime) -> Result<(), Fail> {
     let rows = [

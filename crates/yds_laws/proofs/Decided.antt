@@ -40,6 +40,7 @@ abbrev pub all_below : (ℕ → Bool) → ℕ → Bool
 all_below test zero = true
 all_below test (suc n) = test n && all_below test n
 
+-- so what each place has is decided
 pub each_decided : (test : ℕ → Bool) (P : ℕ → Type 0) → ((i : ℕ) → Decides (test i) (P i)) → (n : ℕ) → Decides (all_below test n) (Each n P)
 each_decided test P decided n = Decides-below_and test P (all_below test) decided refl (λ n. refl) n
 
@@ -48,6 +49,7 @@ abbrev pub with_before : (ℕ → ℕ → Bool) → ℕ → Bool
 with_before test zero = true
 with_before test (suc i) = test (suc i) i
 
+-- which is decided where the test of the two places decides
 pub before_decided : (test : ℕ → ℕ → Bool) (P : ℕ → ℕ → Type 0) → ((i before : ℕ) → Decides (test i before) (P i before)) → (i : ℕ) →
     Decides (with_before test i) ((before : ℕ) → before + 1 ≡ i → P i before)
 before_decided test P decided zero = (λ e before next. absurd (omega arith), λ h. refl)
@@ -79,6 +81,7 @@ module _ {X : Type 0} (test : X → Bool) (P : X → Type 0) (decided : (x : X) 
 abbrev pub contains : List ℕ → ℕ → Bool
 contains numbers number = list_any (λ other. other == number) numbers
 
+-- this test decides it
 pub contains_decided : (numbers : List ℕ) (number : ℕ) → Decides (contains numbers number) (Contains numbers number)
 contains_decided numbers number =
     Decides-like (contains numbers number)
@@ -89,15 +92,18 @@ contains_decided numbers number =
 abbrev pub is_divided : ℕ → WrittenSlot → Bool
 is_divided scale slot = (scale % slot.from.den == 0) && ((scale % slot.to.den == 0) && (scale % slot.work.den == 0))
 
+-- a scale of the slots
 abbrev pub is_scale : ℕ → List WrittenSlot → Bool
 is_scale scale slots = nat_le 1 scale && list_all (is_divided scale) slots
 
+-- the test of one slot decides
 divided_decided : (scale : ℕ) (slot : WrittenSlot) → Decides (is_divided scale slot) (IsDivided scale slot)
 divided_decided scale slot =
     Decides-like (is_divided scale slot) (λ h. record { from = h.0; to = h.1; work = h.2 }) (λ is. (is.from, is.to, is.work))
     (three_decided (scale % slot.from.den == 0) (scale % slot.to.den == 0) (scale % slot.work.den == 0)
     (divides_decided slot.from.den scale) (divides_decided slot.to.den scale) (divides_decided slot.work.den scale))
 
+-- and so does that of all
 pub scale_decided : (scale : ℕ) (slots : List WrittenSlot) → Decides (is_scale scale slots) (IsScale scale slots)
 scale_decided scale slots =
     Decides-like (is_scale scale slots) (λ h. record { positive = h.0; divided = h.1 }) (λ is. (is.positive, is.divided))
@@ -108,15 +114,18 @@ scale_decided scale slots =
 abbrev pub is_solid : WrittenSlot → Bool
 is_solid slot = nat_le 1 slot.from.den && (nat_le 1 slot.to.den && nat_le 1 slot.work.den)
 
+-- this test decides it
 pub solid_decided : (slot : WrittenSlot) → Decides (is_solid slot) (IsSolid slot)
 solid_decided slot =
     Decides-like (is_solid slot) (λ h. record { from = h.0; to = h.1; work = h.2 }) (λ is. (is.from, is.to, is.work))
     (three_decided (nat_le 1 slot.from.den) (nat_le 1 slot.to.den) (nat_le 1 slot.work.den)
     (le_decided 1 slot.from.den) (le_decided 1 slot.to.den) (le_decided 1 slot.work.den))
 
+-- fractions that are alike
 abbrev pub are_alike : Fraction → Fraction → Bool
 are_alike x y = (x.den == y.den) || ((x.den == 1) || (y.den == 1))
 
+-- this test decides it
 alike_decided : (x y : Fraction) → Decides (are_alike x y) (AreAlike x y)
 alike_decided x y =
     Decides-or (x.den == y.den) ((x.den == 1) || (y.den == 1)) (eq_decided x.den y.den)
@@ -127,11 +136,13 @@ abbrev pub works_alike : List WrittenSlot → ℕ → ℕ → Bool
 works_alike slots i j =
     not ((written_slot_at slots i).job == (written_slot_at slots j).job) || are_alike (written_slot_at slots i).work (written_slot_at slots j).work
 
+-- slots of so many jobs
 abbrev pub are_slots : ℕ → List WrittenSlot → Bool
 are_slots jobs slots =
     list_all is_solid slots
     && (list_all (λ slot. nat_lt slot.job jobs) slots && all_below (λ i. all_below (works_alike slots i) (length slots)) (length slots))
 
+-- this test decides it
 pub slots_decided : (jobs : ℕ) (slots : List WrittenSlot) → Decides (are_slots jobs slots) (AreSlots jobs slots)
 slots_decided jobs slots =
     Decides-like (are_slots jobs slots) (λ h. record { solid = h.0; known = h.1; alike = λ i j below other. h.2 i below j other })

@@ -41,6 +41,7 @@ abbrev pub spent_at_places : List Point → List ℕ → List WholeSlot → ℕ
 spent_at_places points (place ∷ places) (slot ∷ slots) = (point_at points place).power * (slot.to - slot.from) + spent_at_places points places slots
 spent_at_places points _ _ = 0
 
+-- so this is what the slots spend
 pub spends_by_test : (points : List Point) (places : List ℕ) (slots : List WholeSlot) → run_at_places points places slots ≡ true →
     SpendsAtPoints points slots (spent_at_places points places slots)
 spends_by_test points [] [] passed = refl
@@ -63,6 +64,7 @@ is_energy jobs points places energy scale slots =
     (nat_le 1 energy.den && run_at_places points places slots)
     && ((spent_at_places points places slots + (point_at points 0).power * idle jobs scale slots) * energy.den == numerator energy * scale)
 
+-- it is so at each scale
 pub energy_by_test : (jobs : List Job) (points : List Point) (places : List ℕ) (slots : List WrittenSlot) (energy : Fraction) (scale : ℕ) →
     is_scale scale slots ≡ true → is_energy jobs points places energy scale (slots_at scale slots) ≡ true → IsEnergyOf jobs points slots energy
 energy_by_test jobs points places slots energy scale is passed =
@@ -79,6 +81,7 @@ energy_by_test jobs points places slots energy scale is passed =
 abbrev pub are_different : List ℕ → Bool
 are_different numbers = list_all (λ number. nat_le (count number numbers) 1) numbers
 
+-- they are different
 pub different_by_test : (numbers : List ℕ) → are_different numbers ≡ true → AreDifferent numbers
 different_by_test numbers passed number = elim (cases_lt (count number numbers) 1) [
   | inl none ↦ omega (arith, none)
@@ -106,6 +109,7 @@ give_same_work n slots others =
     list_all (λ slot. nat_lt slot.job n) slots
     && (list_all (λ slot. nat_lt slot.job n) others && all_below (λ job. work_given slots job == work_given others job) n)
 
+-- so it is the same for each
 pub same_work_by_test : (n : ℕ) (slots others : List WholeSlot) → give_same_work n slots others ≡ true → (job : ℕ) → work_given slots job ≡ work_given others job
 same_work_by_test n slots others passed job =
     let first = and_parts (list_all (λ slot. nat_lt slot.job n) slots) _ passed in
@@ -124,6 +128,7 @@ has_split_denominators level gap speed slot =
     is_over (speed_den level * common_multiple speed gap) slot.from
     && (is_over (speed_den level * common_multiple speed gap) slot.to && is_over (speed_den level * gap) slot.work)
 
+-- this test decides it
 pub split_denominators_decided : (level : Level) (gap speed : ℕ) (slot : WrittenSlot) →
     Decides (has_split_denominators level gap speed slot) (HasSplitDenominators level gap speed slot)
 split_denominators_decided level gap speed slot =
@@ -132,6 +137,7 @@ split_denominators_decided level gap speed slot =
     Decides-like (has_split_denominators level gap speed slot) (λ h. record { from = h.0; to = h.1; work = h.2 }) (λ has. (has.from, has.to, has.work))
     (three_decided (is_over ends slot.from) (is_over ends slot.to) (is_over works slot.work) (over_decided ends slot.from) (over_decided ends slot.to) (over_decided works slot.work))
 
+-- of all slots
 pub all_split_denominators : (level : Level) (gap speed : ℕ) (slots : List WrittenSlot) → list_all (has_split_denominators level gap speed) slots ≡ true →
     All (HasSplitDenominators level gap speed) slots
 all_split_denominators level gap speed slots passed =
@@ -141,6 +147,7 @@ all_split_denominators level gap speed slots passed =
 abbrev pub are_slow_enough : List Point → List Level → Bool
 are_slow_enough points levels = list_all (λ level. not (nat_lt (top_of points * level.length) level.work)) levels
 
+-- none of them is too fast
 pub slow_enough_by_test : (points : List Point) (levels : List Level) → are_slow_enough points levels ≡ true → All (λ level. IsTooFast points level → ⊥) levels
 slow_enough_by_test points levels passed =
     (all_decided (λ (level : Level). not (nat_lt (top_of points * level.length) level.work)) (λ level. IsTooFast points level → ⊥)
@@ -152,6 +159,7 @@ runs_at_point speed from to [] = from == to
 runs_at_point speed from to (slot ∷ slots) =
     ((slot.from == from) && nat_lt slot.from slot.to) && ((slot.work == speed * (slot.to - slot.from)) && runs_at_point speed slot.to to slots)
 
+-- this test decides it
 runs_decided : (speed from to : ℕ) (slots : List WholeSlot) → Decides (runs_at_point speed from to slots) (RunsAtPoint speed from to slots)
 runs_decided speed from to [] = eq_decided from to
 runs_decided speed from to (slot ∷ slots) =
@@ -161,10 +169,12 @@ runs_decided speed from to (slot ∷ slots) =
     (Decides-and (slot.work == speed * (slot.to - slot.from)) (runs_at_point speed slot.to to slots)
     (eq_decided slot.work (speed * (slot.to - slot.from))) (runs_decided speed slot.to to slots)))
 
+-- or not at all at the speed 0
 abbrev pub runs_on : ℕ → ℕ → ℕ → List WholeSlot → Bool
 runs_on zero from to slots = has_none slots
 runs_on (suc speed) from to slots = runs_at_point (suc speed) from to slots
 
+-- this test decides it
 runs_on_decided : (speed from to : ℕ) (slots : List WholeSlot) → Decides (runs_on speed from to slots) (RunsOn speed from to slots)
 runs_on_decided zero from to slots = none_decided slots
 runs_on_decided (suc speed) from to slots = runs_decided (suc speed) from to slots
@@ -182,6 +192,7 @@ is_split n scale time level low high stretch planned fast slow =
     && (runs_at_point high.speed (stretch.from * scale) (stretch.from * scale + time) fast && runs_on low.speed (stretch.from * scale + time) (stretch.to * scale) slow))
     && (bytes_eq (jobs_in_turn (fast ++ slow)) (jobs_in_turn planned) && give_same_work n (fast ++ slow) planned)
 
+-- slots that pass are a split
 split_by_test : (n scale time : ℕ) (level : Level) (low high : Point) (stretch : Piece) (planned fast slow : List WholeSlot) →
     is_split n scale time level low high stretch planned fast slow ≡ true → IsSplitAt scale level low high stretch planned fast slow
 split_by_test n scale time level low high stretch planned fast slow passed =

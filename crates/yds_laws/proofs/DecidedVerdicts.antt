@@ -19,15 +19,19 @@ use Rattle.yds_laws.proofs.DecidedPlans.{fraction, pieces_stand, stand_decided, 
 
 -- # Verdicts
 
+-- the order of fractions
 abbrev pub is_less : Fraction → Fraction → Bool
 is_less x y = nat_lt (numerator x * y.den) (numerator y * x.den)
 
+-- and the other one
 abbrev pub is_at_most : Fraction → Fraction → Bool
 is_at_most x y = nat_le (numerator x * y.den) (numerator y * x.den)
 
+-- this test decides it
 less_decided : (x y : Fraction) → Decides (is_less x y) (IsLess x y)
 less_decided x y = Decides-ltb (numerator x * y.den) (numerator y * x.den)
 
+-- this test decides it
 most_decided : (x y : Fraction) → Decides (is_at_most x y) (IsAtMost x y)
 most_decided x y = le_decided (numerator x * y.den) (numerator y * x.den)
 
@@ -35,10 +39,12 @@ most_decided x y = le_decided (numerator x * y.den) (numerator y * x.den)
 abbrev pub runs_at : WrittenSlot → Point → Bool
 runs_at slot point = numerator slot.work * (slot.from.den * slot.to.den) == point.speed * crossed_length slot.from slot.to * slot.work.den
 
+-- where a table is given
 abbrev pub is_on_table : Option (List Point) → WrittenSlot → Bool
 is_on_table None slot = true
 is_on_table (Some points) slot = list_any (runs_at slot) points
 
+-- this test decides it
 table_decided : (table : Option (List Point)) (slot : WrittenSlot) → Decides (is_on_table table slot) (IsOnTable table slot)
 table_decided None slot = (λ e. tt, λ h. refl)
 table_decided (Some points) slot =
@@ -49,6 +55,7 @@ table_decided (Some points) slot =
 abbrev pub is_after_others : List WrittenSlot → ℕ → Bool
 is_after_others slots i = with_before (λ i before. is_at_most (written_slot_at slots before).to (written_slot_at slots i).from) i
 
+-- this test decides it
 after_decided : (slots : List WrittenSlot) (i : ℕ) → Decides (is_after_others slots i) (IsAfterOthers slots i)
 after_decided slots i =
     before_decided (λ i before. is_at_most (written_slot_at slots before).to (written_slot_at slots i).from)
@@ -59,16 +66,20 @@ after_decided slots i =
 abbrev pub is_forward : List WrittenSlot → ℕ → Bool
 is_forward slots i = is_less (written_slot_at slots i).from (written_slot_at slots i).to
 
+-- after its release
 abbrev pub is_released : List Job → List WrittenSlot → ℕ → Bool
 is_released jobs slots i = is_at_most (release_of jobs (written_slot_at slots i)) (written_slot_at slots i).from
 
+-- before its deadline
 abbrev pub is_due : List Job → List WrittenSlot → ℕ → Bool
 is_due jobs slots i = is_at_most (written_slot_at slots i).to (deadline_of jobs (written_slot_at slots i))
 
+-- all five
 abbrev pub stands : List Job → Option (List Point) → List WrittenSlot → ℕ → Bool
 stands jobs table slots i =
     (is_forward slots i && is_after_others slots i) && ((is_released jobs slots i && is_due jobs slots i) && is_on_table table (written_slot_at slots i))
 
+-- this test decides it
 stands_decided : (jobs : List Job) (table : Option (List Point)) (slots : List WrittenSlot) (i : ℕ) → Decides (stands jobs table slots i) (Stands jobs table slots i)
 stands_decided jobs table slots i =
     let slot : WrittenSlot = written_slot_at slots i in
@@ -84,6 +95,10 @@ stands_decided jobs table slots i =
 -- all slots before a place stand
 abbrev pub comes_to : List Job → Option (List Point) → List WrittenSlot → ℕ → Bool
 comes_to jobs table slots i = nat_lt i (length slots) && all_below (stands jobs table slots) i
+
+-- and the slot there takes time, after the one before it
+abbrev pub comes_in_turn : List Job → Option (List Point) → List WrittenSlot → ℕ → Bool
+comes_in_turn jobs table slots i = comes_to jobs table slots i && (is_forward slots i && is_after_others slots i)
 
 -- each job before a place gets its work
 abbrev pub gets_its_work : List Job → List WrittenSlot → ℕ → Bool
@@ -101,13 +116,11 @@ is_verdict jobs table slots (Overlap zero) = false
 is_verdict jobs table slots (Overlap (suc i)) =
     comes_to jobs table slots (suc i) && (is_forward slots (suc i) && is_less (written_slot_at slots (suc i)).from (written_slot_at slots i).to)
 is_verdict jobs table slots (Early i) =
-    (comes_to jobs table slots i && is_forward slots i) && (is_after_others slots i && is_less (written_slot_at slots i).from (release_of jobs (written_slot_at slots i)))
+    comes_in_turn jobs table slots i && is_less (written_slot_at slots i).from (release_of jobs (written_slot_at slots i))
 is_verdict jobs table slots (Late i) =
-    (comes_to jobs table slots i && is_forward slots i)
-    && (is_after_others slots i && (is_released jobs slots i && is_less (deadline_of jobs (written_slot_at slots i)) (written_slot_at slots i).to))
+    comes_in_turn jobs table slots i && (is_released jobs slots i && is_less (deadline_of jobs (written_slot_at slots i)) (written_slot_at slots i).to)
 is_verdict jobs table slots (OffPoint i) =
-    (comes_to jobs table slots i && is_forward slots i)
-    && (is_after_others slots i && ((is_released jobs slots i && is_due jobs slots i) && not (is_on_table table (written_slot_at slots i))))
+    comes_in_turn jobs table slots i && ((is_released jobs slots i && is_due jobs slots i) && not (is_on_table table (written_slot_at slots i)))
 is_verdict jobs table slots (WrongWork job given wanted) =
     (all_below (stands jobs table slots) (length slots) && (nat_lt job (length jobs) && all_below (gets_its_work jobs slots) job))
     && (not (gets_its_work jobs slots job) && (same_fraction given (given_of slots job) && (wanted == (job_at jobs job).work)))
@@ -122,6 +135,19 @@ module _ (jobs : List Job) (table : Option (List Point)) (slots : List WrittenSl
   comes i passed =
       let parts = and_parts (nat_lt i (length slots)) (all_below (stands jobs table slots) i) passed in
       record { within = ltb-true i (length slots) parts.0; before = stand_to i parts.1 }
+
+  -- what stands of a slot that comes in turn, whatever else is wrong with it
+  record InTurn (i : ℕ) : Type 0 where
+    comes : ComesTo jobs table slots i
+    forward : IsLess (written_slot_at slots i).from (written_slot_at slots i).to
+    after : IsAfterOthers slots i
+
+  -- where it passes
+  in_turn : (i : ℕ) → comes_in_turn jobs table slots i ≡ true → InTurn i
+  in_turn i passed =
+      let parts = and_parts (comes_to jobs table slots i) (is_forward slots i && is_after_others slots i) passed in
+      let rest = and_parts (is_forward slots i) (is_after_others slots i) parts.1 in
+      record { comes = comes i parts.0; forward = ltb-true _ _ rest.0; after = (after_decided slots i).0 rest.1 }
 
   -- the jobs before a place get their work
   served_to : (n : ℕ) → all_below (gets_its_work jobs slots) n ≡ true → Each n (GetsItsWork jobs slots)
@@ -149,34 +175,26 @@ module _ (jobs : List Job) (table : Option (List Point)) (slots : List WrittenSl
       record { comes = comes (suc i) parts.0; forward = ltb-true _ _ rest.0; before = i; is_before = omega arith; overlaps = ltb-true _ _ rest.1 }
   verdict_by_test (Early i) passed =
       let parts = and_parts _ _ passed in
-      let front = and_parts _ _ parts.0 in
-      let rest = and_parts _ _ parts.1 in
-      record { comes = comes i front.0; forward = ltb-true _ _ front.1; after = (after_decided slots i).0 rest.0; early = ltb-true _ _ rest.1 }
+      let turn = in_turn i parts.0 in
+      record { comes = turn.comes; forward = turn.forward; after = turn.after; early = ltb-true _ _ parts.1 }
   verdict_by_test (Late i) passed =
       let parts = and_parts _ _ passed in
-      let front = and_parts _ _ parts.0 in
+      let turn = in_turn i parts.0 in
       let rest = and_parts _ _ parts.1 in
-      let last = and_parts _ _ rest.1 in
-      record {
-        comes = comes i front.0;
-        forward = ltb-true _ _ front.1;
-        after = (after_decided slots i).0 rest.0;
-        released = leb-true _ _ last.0;
-        late = ltb-true _ _ last.1;
-      }
+      record { comes = turn.comes; forward = turn.forward; after = turn.after; released = leb-true _ _ rest.0; late = ltb-true _ _ rest.1 }
   verdict_by_test (OffPoint i) passed =
       let parts = and_parts _ _ passed in
-      let front = and_parts _ _ parts.0 in
+      let turn = in_turn i parts.0 in
       let rest = and_parts _ _ parts.1 in
-      let last = and_parts _ _ rest.1 in
-      let window = and_parts _ _ last.0 in
+      let window = and_parts _ _ rest.0 in
+      let slot : WrittenSlot = written_slot_at slots i in
       record {
-        comes = comes i front.0;
-        forward = ltb-true _ _ front.1;
-        after = (after_decided slots i).0 rest.0;
+        comes = turn.comes;
+        forward = turn.forward;
+        after = turn.after;
         released = leb-true _ _ window.0;
         due = leb-true _ _ window.1;
-        off = (Decides-not (is_on_table table (written_slot_at slots i)) (table_decided table (written_slot_at slots i))).0 last.1;
+        off = (Decides-not (is_on_table table slot) (table_decided table slot)).0 rest.1;
       }
   verdict_by_test (WrongWork job given wanted) passed =
       let parts = and_parts _ _ passed in
@@ -199,6 +217,7 @@ module _ (jobs : List Job) (table : Option (List Point)) (slots : List WrittenSl
 abbrev pub fails_first : ℕ → (ℕ → Bool) → ℕ → Bool
 fails_first n test i = nat_lt i n && (all_below test i && not (test i))
 
+-- it is the first failure
 failure_by_test : (n : ℕ) (test : ℕ → Bool) (P : ℕ → Type 0) → ((i : ℕ) → Decides (test i) (P i)) → (i : ℕ) → fails_first n test i ≡ true → IsFirstFailure n P i
 failure_by_test n test P decided i passed =
     let parts = and_parts _ _ passed in
@@ -213,18 +232,23 @@ failure_by_test n test P decided i passed =
 abbrev pub slots_hold : List Job → List WrittenSlot → Bool
 slots_hold jobs slots = is_verdict jobs None slots Feasible
 
+-- with the pieces
 abbrev pub pieces_hold : List Job → List WrittenSlot → List Level → Bool
 pieces_hold jobs slots levels = slots_hold jobs slots && all_below (pieces_stand levels) (length levels)
 
+-- with the members
 abbrev pub members_hold : List Job → List WrittenSlot → List Level → Bool
 members_hold jobs slots levels = pieces_hold jobs slots levels && all_below (stands_once jobs levels) (length jobs)
 
+-- with the sums
 abbrev pub sums_hold : List Job → List WrittenSlot → List Level → Bool
 sums_hold jobs slots levels = members_hold jobs slots levels && all_below (sums_agree jobs levels) (length levels)
 
+-- with the order
 abbrev pub order_holds : List Job → List WrittenSlot → List Level → Bool
 order_holds jobs slots levels = sums_hold jobs slots levels && all_below (is_not_faster levels) (length levels)
 
+-- with the windows
 abbrev pub windows_hold : List Job → List WrittenSlot → List Level → Bool
 windows_hold jobs slots levels = order_holds jobs slots levels && all_below (is_window_covered jobs levels) (length jobs)
 
@@ -251,21 +275,25 @@ module _ (jobs : List Job) (slots : List WrittenSlot) (levels : List Level) wher
       let parts = and_parts _ _ passed in
       (verdict_by_test jobs None slots Feasible parts.0, (each_decided (pieces_stand levels) (PiecesStand levels) (stand_decided levels) (length levels)).0 parts.1)
 
+  -- with the members
   members_by_test : members_hold jobs slots levels ≡ true → MembersHold jobs slots levels
   members_by_test passed =
       let parts = and_parts _ _ passed in
       (pieces_by_test parts.0, (each_decided (stands_once jobs levels) (StandsOnce jobs levels) (once_decided jobs levels) (length jobs)).0 parts.1)
 
+  -- with the sums
   sums_by_test : sums_hold jobs slots levels ≡ true → SumsHold jobs slots levels
   sums_by_test passed =
       let parts = and_parts _ _ passed in
       (members_by_test parts.0, (each_decided (sums_agree jobs levels) (SumsAgree jobs levels) (sums_decided jobs levels) (length levels)).0 parts.1)
 
+  -- with the order
   order_by_test : order_holds jobs slots levels ≡ true → OrderHolds jobs slots levels
   order_by_test passed =
       let parts = and_parts _ _ passed in
       (sums_by_test parts.0, (each_decided (is_not_faster levels) (IsNotFaster levels) (order_decided levels) (length levels)).0 parts.1)
 
+  -- with the windows
   windows_by_test : windows_hold jobs slots levels ≡ true → WindowsHold jobs slots levels
   windows_by_test passed =
       let parts = and_parts _ _ passed in

@@ -1,5 +1,5 @@
 -- The printed line of each kind is read as what it says, after lines that leave room for it.
-use Rattle.std.proofs.Common.{◌≡◌, ℕ, ◌<◌, ◌≤◌, ◌⊎◌, Bool, true, false, ◌==◌, ◌||◌, List, [], ◌∷◌, ◌++◌, length, Some, None, Ok, decimal, refl, arith, inl, inr, eq-eqb}
+use Rattle.std.proofs.Common.{◌≡◌, ℕ, ◌^◌, ◌<◌, ◌≤◌, ◌⊎◌, Bool, true, false, ◌==◌, ◌||◌, List, [], ◌∷◌, ◌++◌, length, Some, None, Ok, decimal, refl, arith, inl, inr, eq-eqb}
 use Rattle.std.specs.Prelude.{codes, if◌then◌else◌}
 use Rattle.std.specs.List.{All, AllByRecursion, filter_map, list_all}
 use Rattle.std.proofs.lemmas.Bool.{lt-ltb, le-leb, cases_eq, ne_eqb, and_from}
@@ -23,6 +23,11 @@ use Rattle.yds_model.proofs.Spelling.{number_at-decimal}
 use Rattle.yds_model.proofs.Said.{levels_counted}
 use Rattle.yds_laws.proofs.Brought.{IsWord}
 use Rattle.yds_laws.proofs.Printed.{decimal_word, name_word, fraction_word, fraction_read}
+
+-- a kind's word and two numbers are words
+two_numbers_words : (kind : List ℕ) (first second : ℕ) → is_name kind ≡ true → first < 2 ^ 64 → second < 2 ^ 64 →
+    AllByRecursion IsWord (kind ∷ decimal first ∷ decimal second ∷ [])
+two_numbers_words kind first second named one two = (name_word kind named, (decimal_word first one, (decimal_word second two, tt)))
 
 -- ---- jobs
 
@@ -132,9 +137,7 @@ point_read earlier point fits room follows gaps =
 -- and each is a word
 pub point_words : (point : Point) → IsPoint point → AllByRecursion IsWord (point_texts point)
 point_words point fits =
-    let speed : IsWord (decimal point.speed) = decimal_word point.speed (omega (arith, fits.speed_in_range)) in
-    let power : IsWord (decimal point.power) = decimal_word point.power (omega (arith, fits.power_in_range)) in
-    (name_word (codes "point") refl, (speed, (power, tt)))
+    two_numbers_words (codes "point") point.speed point.power refl (omega (arith, fits.speed_in_range)) (omega (arith, fits.power_in_range))
 
 -- the last point of a front is slower than the next one
 rising_front : (first : Point) (others : List Point) (point : Point) (after : List Point) → AreRising (first ∷ others ++ point ∷ after) →
@@ -169,9 +172,7 @@ level_read earlier level fits room =
 -- and each is a word
 pub level_words : (level : Level) → IsLevel level → AllByRecursion IsWord (level_texts level)
 level_words level fits =
-    let work : IsWord (decimal level.work) = decimal_word level.work (omega (arith, fits.work_in_range)) in
-    let long : IsWord (decimal level.length) = decimal_word level.length (omega (arith, fits.length_in_range)) in
-    (name_word (codes "level") refl, (work, (long, tt)))
+    two_numbers_words (codes "level") level.work level.length refl (omega (arith, fits.work_in_range)) (omega (arith, fits.length_in_range))
 
 -- the fields of a piece's line
 abbrev pub piece_texts : Piece → List (List ℕ)
@@ -192,9 +193,7 @@ piece_read earlier piece fits some room =
 -- and each is a word
 pub piece_words : (piece : Piece) → IsPiece piece → AllByRecursion IsWord (piece_texts piece)
 piece_words piece fits =
-    let from : IsWord (decimal piece.from) = decimal_word piece.from (omega (arith, fits.from_in_range)) in
-    let to : IsWord (decimal piece.to) = decimal_word piece.to (omega (arith, fits.to_in_range)) in
-    (name_word (codes "piece") refl, (from, (to, tt)))
+    two_numbers_words (codes "piece") piece.from piece.to refl (omega (arith, fits.from_in_range)) (omega (arith, fits.to_in_range))
 
 -- the fields of a member's line
 abbrev pub member_texts : List ℕ → List (List ℕ)
@@ -236,9 +235,7 @@ grid_read earlier grid fits none =
 -- and each is a word
 pub grid_words : (grid : Grid) → IsGrid grid → AllByRecursion IsWord (grid_texts grid)
 grid_words grid fits =
-    let one : IsWord (decimal grid.grid) = decimal_word grid.grid (omega (arith, fits.grid_in_range)) in
-    let rounded : IsWord (decimal grid.rounded) = decimal_word grid.rounded (omega (arith, fits.rounded_in_range)) in
-    (name_word (codes "grid") refl, (one, (rounded, tt)))
+    two_numbers_words (codes "grid") grid.grid grid.rounded refl (omega (arith, fits.grid_in_range)) (omega (arith, fits.rounded_in_range))
 
 -- the fields of the energy's line
 abbrev pub energy_texts : Fraction → List (List ℕ)

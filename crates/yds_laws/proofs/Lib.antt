@@ -4,16 +4,17 @@ pub mod DecidedPlans
 pub mod DecidedAdmission
 pub mod DecidedRounding
 pub mod DecidedVerdicts
-mod Examples
+mod ReadingExamples
 pub mod ThreeJobs
 mod ThreeJobsChanged
-mod EqualSpeeds
-mod EarliestFirst
-mod RoundNested
-mod RoundSwitch
+mod EqualSpeedsExamples
+mod EarliestFirstExamples
+mod HullExamples
+mod RoundNestedExamples
+mod RoundSwitchExamples
 pub mod Policies
-mod Rows
-mod Judged
+mod RowsExamples
+mod PlanRowExamples
 mod EnergyExamples
 mod WordsExamples
 mod TasksExamples

@@ -153,7 +153,7 @@ plan_of_input input text true answers = absurd (done_not_refused answers.ended)
 plan_of_input input text false answers = plan_of_reading input text (reading input) refl answers
 
 -- and so is what `plan` writes where it is done
-plan_read : (input text : List ℕ) → AnswersRequest (Some (OfDocument AskPlan)) input text Done → IsPlanRead input text
+pub plan_read : (input text : List ℕ) → AnswersRequest (Some (OfDocument AskPlan)) input text Done → IsPlanRead input text
 plan_read input text answers = plan_of_input input text (is_too_long input) answers
 
 -- The laws.

@@ -78,6 +78,7 @@ not_rounded =
     ∷ record { job = 0; from = of_whole 1; to = of_whole 2; work = of_parts 4 3 }
     ∷ record { job = 1; from = of_whole 2; to = of_whole 3; work = of_whole 2 } ∷ []
 
+-- since both jobs get their work
 not_rounded_feasible : IsFeasible rate_jobs not_rounded
 not_rounded_feasible = feasible_by_test rate_jobs not_rounded 3 refl refl
 
@@ -149,6 +150,7 @@ eager_slots =
     record { job = 0; from = of_whole 0; to = of_whole 1; work = of_whole 2 }
     ∷ record { job = 1; from = of_whole 1; to = of_whole 2; work = of_whole 1 } ∷ []
 
+-- since both jobs get their work
 eager_feasible : IsFeasible available_jobs eager_slots
 eager_feasible = feasible_by_test available_jobs eager_slots 1 refl refl
 

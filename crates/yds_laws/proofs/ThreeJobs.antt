@@ -11,16 +11,14 @@ use Rattle.yds_model.specs.Piece.{Piece}
 use Rattle.yds_model.specs.Level.{Level, levels_above}
 use Rattle.yds_model.specs.Explains.{Forces, Explains}
 use Rattle.yds_model.specs.Proper.{IsProper}
-use Rattle.yds_model.specs.Plan.{IsServedInStretches, IsPlan}
+use Rattle.yds_model.specs.Plan.{IsPlan}
 use Rattle.yds_model.specs.Audit.{AreSlots, given_of}
 use Rattle.yds_model.specs.Judgement.{Accepted, IsJudgement}
-use Rattle.yds_model.proofs.Scale.{least_scale_of}
-use Rattle.yds_laws.proofs.RunScale.{served_in_stretches_scaled}
 use Rattle.yds_laws.proofs.Judgements.{judgement_is_exact}
 use Rattle.yds_laws.proofs.Plans.{plans_are_least}
 use Rattle.yds_laws.proofs.Decided.{scale_decided, slots_decided}
-use Rattle.yds_laws.proofs.DecidedSchedules.{feasible_decided, feasible_by_test, earliest_decided, stretches_decided}
-use Rattle.yds_laws.proofs.DecidedPlans.{proper_by_test, plan_by_test}
+use Rattle.yds_laws.proofs.DecidedSchedules.{feasible_decided, feasible_by_test, earliest_decided}
+use Rattle.yds_laws.proofs.DecidedPlans.{proper_by_test, served_by_test, plan_by_test}
 
 -- the jobs a, b and c
 abbrev pub jobs : List Job
@@ -114,15 +112,9 @@ above_four_thirds = refl
 pub proper : IsProper jobs slots levels
 proper = proper_by_test jobs slots levels feasible_at_each refl
 
--- each scale is a multiple of 3, at which the slots are served in stretches
-served : (scale : ℕ) → IsScale scale slots → IsServedInStretches jobs scale (slots_at scale slots)
-served scale is =
-    (least_scale_of slots (λ scale whole. IsServedInStretches jobs scale whole) 3 thirds (λ scale is. (is.divided 1 no_written_slot (omega arith)).work)
-    (λ k some. served_in_stretches_scaled jobs k 3 slots some thirds ((stretches_decided jobs 3 (slots_at 3 slots)).0 refl))).holds scale is
-
--- So they are a plan.
+-- So they are a plan: each scale is a multiple of 3, at which they are served in stretches.
 pub plan : IsPlan jobs slots levels
-plan = plan_by_test jobs slots levels proper served refl
+plan = plan_by_test jobs slots levels proper (served_by_test jobs slots 3 refl (λ scale is. (is.divided 1 no_written_slot (omega arith)).work) refl) refl
 
 -- by the law of plans the slots are least, and the levels explain them
 pub least_and_explained : IsLeast jobs slots × Explains jobs slots levels

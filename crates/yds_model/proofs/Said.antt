@@ -152,205 +152,127 @@ says_other entries entry d after no_piece no_member same said says = record {
   members = none_said member_said entries entry no_member ∙ says.members ∙ ap all_members (sym same);
 }
 
--- the document with one more job
+-- the document with one more job, one more point or one more slot
 abbrev pub with_job : List ℕ → Job → Document → Document
-with_job name job d = record {
-  names = d.names ++ name ∷ [];
-  jobs = d.jobs ++ job ∷ [];
-  points = d.points;
-  slots = d.slots;
+with_job name job d = record d { names = d.names ++ name ∷ []; jobs = d.jobs ++ job ∷ [] }
+
+abbrev pub with_point : Point → Document → Document
+with_point point d = record d { points = d.points ++ point ∷ [] }
+
+abbrev pub with_slot : WrittenSlot → Document → Document
+with_slot slot d = record d { slots = d.slots ++ slot ∷ [] }
+
+-- the document with a grid, with an energy, or with other levels
+abbrev pub with_grid : Grid → Document → Document
+with_grid grid d = record d { grid = Some grid }
+
+abbrev pub with_energy : Fraction → Document → Document
+with_energy energy d = record d { energy = Some energy }
+
+abbrev pub with_levels : List Level → Document → Document
+with_levels levels d = record d { levels = levels }
+
+-- a list with what an entry says of its kind, if it says one
+abbrev with_more : {X : Type 0} → List X → Option X → List X
+with_more xs None = xs
+with_more xs (Some x) = xs ++ x ∷ []
+
+-- so what was said of a kind is more by it
+said_of_kind : {X : Type 0} (said : Entry → Option X) (entries : List Entry) (entry : Entry) →
+    filter_map said (entries ++ entry ∷ []) ≡ with_more (filter_map said entries) (said entry)
+said_of_kind {X} said entries entry = by (said entry) refl where
+  -- by what the entry says
+  by : (o : Option X) → said entry ≡ o → filter_map said (entries ++ entry ∷ []) ≡ with_more (filter_map said entries) (said entry)
+  by None is = rw is (none_said said entries entry is)
+  by (Some x) is = rw is (more_said said entries entry x is)
+
+-- the first of a kind, where one more may be said
+abbrev first_or : {X : Type 0} → Option X → Option X → Option X
+first_or first None = first
+first_or None (Some x) = Some x
+first_or (Some first) (Some x) = Some first
+
+-- the first of the list stays the first
+first_of_more : {X : Type 0} (xs : List X) (o : Option X) → first_of_them (with_more xs o) ≡ first_or (first_of_them xs) o
+first_of_more xs None = refl
+first_of_more [] (Some x) = refl
+first_of_more (first ∷ xs) (Some x) = refl
+
+-- the document with what one more entry says, besides levels
+abbrev with_said : Entry → Document → Document
+with_said entry d = record {
+  names = with_more d.names (name_said entry);
+  jobs = with_more d.jobs (job_said entry);
+  points = with_more d.points (point_said entry);
+  slots = with_more d.slots (slot_said entry);
   levels = d.levels;
-  grid = d.grid;
-  energy = d.energy;
+  grid = first_or d.grid (grid_said entry);
+  energy = first_or d.energy (energy_said entry);
 }
 
--- what is said with the line of a job
-said-job : (entries : List Entry) (name : List ℕ) (job : Job) →
-    document_said (entries ++ JobEntry name job ∷ []) ≡ with_job name job (document_said entries)
-said-job entries name job =
-    let entry : Entry = JobEntry name job in
+-- what the entries say with one more
+said_with : (entries : List Entry) (entry : Entry) (levels : List Level) → levels_said (entries ++ entry ∷ []) ≡ levels →
+    document_said (entries ++ entry ∷ []) ≡ with_levels levels (with_said entry (document_said entries))
+said_with entries entry levels are =
     rw (
-      more_said name_said entries entry name refl,
-      more_said job_said entries entry job refl,
-      none_said point_said entries entry refl,
-      none_said slot_said entries entry refl,
-      levels_said-same entries entry refl refl refl,
-      none_said grid_said entries entry refl,
-      none_said energy_said entries entry refl,
+      said_of_kind name_said entries entry,
+      said_of_kind job_said entries entry,
+      said_of_kind point_said entries entry,
+      said_of_kind slot_said entries entry,
+      are,
+      said_of_kind grid_said entries entry,
+      first_of_more (filter_map grid_said entries) (grid_said entry),
+      said_of_kind energy_said entries entry,
+      first_of_more (filter_map energy_said entries) (energy_said entry),
     ) refl
 
--- so the document has one more job
+-- the same for an entry that is no level, piece or member
+said_same : (entries : List Entry) (entry : Entry) → is_level entry ≡ false → piece_said entry ≡ None → member_said entry ≡ None →
+    document_said (entries ++ entry ∷ []) ≡ with_said entry (document_said entries)
+said_same entries entry other no_piece no_member =
+    said_with entries entry (levels_said entries) (levels_said-same entries entry other no_piece no_member)
+
+-- so the line of a job says one more job,
 pub says-job : (entries : List Entry) (name : List ℕ) (job : Job) (d : Document) → Says entries d → Says (entries ++ JobEntry name job ∷ []) (with_job name job d)
 says-job entries name job d says =
-    says_other entries (JobEntry name job) d (with_job name job d) refl refl refl (said-job entries name job ∙ ap (with_job name job) says.said) says
+    says_other entries (JobEntry name job) d (with_job name job d) refl refl refl
+    (said_same entries (JobEntry name job) refl refl refl ∙ ap (with_job name job) says.said) says
 
--- the document with one more point
-abbrev pub with_point : Point → Document → Document
-with_point point d = record {
-  names = d.names;
-  jobs = d.jobs;
-  points = d.points ++ point ∷ [];
-  slots = d.slots;
-  levels = d.levels;
-  grid = d.grid;
-  energy = d.energy;
-}
-
--- what is said with the line of a point
-said-point : (entries : List Entry) (point : Point) → document_said (entries ++ PointEntry point ∷ []) ≡ with_point point (document_said entries)
-said-point entries point =
-    let entry : Entry = PointEntry point in
-    rw (
-      none_said name_said entries entry refl,
-      none_said job_said entries entry refl,
-      more_said point_said entries entry point refl,
-      none_said slot_said entries entry refl,
-      levels_said-same entries entry refl refl refl,
-      none_said grid_said entries entry refl,
-      none_said energy_said entries entry refl,
-    ) refl
-
--- so the document has one more point
+-- that of a point one more point,
 pub says-point : (entries : List Entry) (point : Point) (d : Document) → Says entries d → Says (entries ++ PointEntry point ∷ []) (with_point point d)
 says-point entries point d says =
-    says_other entries (PointEntry point) d (with_point point d) refl refl refl (said-point entries point ∙ ap (with_point point) says.said) says
+    says_other entries (PointEntry point) d (with_point point d) refl refl refl
+    (said_same entries (PointEntry point) refl refl refl ∙ ap (with_point point) says.said) says
 
--- the document with one more slot
-abbrev pub with_slot : WrittenSlot → Document → Document
-with_slot slot d = record {
-  names = d.names;
-  jobs = d.jobs;
-  points = d.points;
-  slots = d.slots ++ slot ∷ [];
-  levels = d.levels;
-  grid = d.grid;
-  energy = d.energy;
-}
-
--- what is said with the line of a slot
-said-slot : (entries : List Entry) (slot : WrittenSlot) → document_said (entries ++ SlotEntry slot ∷ []) ≡ with_slot slot (document_said entries)
-said-slot entries slot =
-    let entry : Entry = SlotEntry slot in
-    rw (
-      none_said name_said entries entry refl,
-      none_said job_said entries entry refl,
-      none_said point_said entries entry refl,
-      more_said slot_said entries entry slot refl,
-      levels_said-same entries entry refl refl refl,
-      none_said grid_said entries entry refl,
-      none_said energy_said entries entry refl,
-    ) refl
-
--- so the document has one more slot
+-- that of a slot one more slot,
 pub says-slot : (entries : List Entry) (slot : WrittenSlot) (d : Document) → Says entries d → Says (entries ++ SlotEntry slot ∷ []) (with_slot slot d)
 says-slot entries slot d says =
-    says_other entries (SlotEntry slot) d (with_slot slot d) refl refl refl (said-slot entries slot ∙ ap (with_slot slot) says.said) says
+    says_other entries (SlotEntry slot) d (with_slot slot d) refl refl refl
+    (said_same entries (SlotEntry slot) refl refl refl ∙ ap (with_slot slot) says.said) says
 
--- a grid or an energy is the first of its kind
-pub none_first : {X : Type 0} (xs : List X) → first_of_them xs ≡ None → xs ≡ []
-none_first [] none = refl
-none_first (x ∷ xs) none = cc
-
--- where nothing of a kind was said, the entry's is the first
-first_said : {X : Type 0} (said : Entry → Option X) (entries : List Entry) (entry : Entry) (x : X) → said entry ≡ Some x →
-    first_of_them (filter_map said entries) ≡ None → first_of_them (filter_map said (entries ++ entry ∷ [])) ≡ Some x
-first_said said entries entry x is none =
-    ap first_of_them (more_said said entries entry x is ∙ ap (λ xs. xs ++ x ∷ []) (none_first (filter_map said entries) none))
-
--- the document with a grid
-abbrev pub with_grid : Grid → Document → Document
-with_grid grid d = record {
-  names = d.names;
-  jobs = d.jobs;
-  points = d.points;
-  slots = d.slots;
-  levels = d.levels;
-  grid = Some grid;
-  energy = d.energy;
-}
-
--- what is said with the line of a grid
-said-grid : (entries : List Entry) (grid : Grid) → (document_said entries).grid ≡ None →
-    document_said (entries ++ GridEntry grid ∷ []) ≡ with_grid grid (document_said entries)
-said-grid entries grid none =
-    let entry : Entry = GridEntry grid in
-    rw (
-      none_said name_said entries entry refl,
-      none_said job_said entries entry refl,
-      none_said point_said entries entry refl,
-      none_said slot_said entries entry refl,
-      levels_said-same entries entry refl refl refl,
-      first_said grid_said entries entry grid refl none,
-      none_said energy_said entries entry refl,
-    ) refl
-
--- so the document has the grid
+-- that of a grid the grid, where there was none,
 pub says-grid : (entries : List Entry) (grid : Grid) (d : Document) → d.grid ≡ None → Says entries d → Says (entries ++ GridEntry grid ∷ []) (with_grid grid d)
 says-grid entries grid d none says =
     says_other entries (GridEntry grid) d (with_grid grid d) refl refl refl
-    (said-grid entries grid (ap (λ (d : Document). d.grid) says.said ∙ none) ∙ ap (with_grid grid) says.said) says
+    (said_same entries (GridEntry grid) refl refl refl ∙ ap (with_said (GridEntry grid)) says.said ∙ rw none refl) says
 
--- the document with an energy
-abbrev pub with_energy : Fraction → Document → Document
-with_energy energy d = record {
-  names = d.names;
-  jobs = d.jobs;
-  points = d.points;
-  slots = d.slots;
-  levels = d.levels;
-  grid = d.grid;
-  energy = Some energy;
-}
-
--- what is said with the line of an energy
-said-energy : (entries : List Entry) (energy : Fraction) → (document_said entries).energy ≡ None →
-    document_said (entries ++ EnergyEntry energy ∷ []) ≡ with_energy energy (document_said entries)
-said-energy entries energy none =
-    let entry : Entry = EnergyEntry energy in
-    rw (
-      none_said name_said entries entry refl,
-      none_said job_said entries entry refl,
-      none_said point_said entries entry refl,
-      none_said slot_said entries entry refl,
-      levels_said-same entries entry refl refl refl,
-      none_said grid_said entries entry refl,
-      first_said energy_said entries entry energy refl none,
-    ) refl
-
--- so the document has the energy
+-- that of an energy the energy,
 pub says-energy : (entries : List Entry) (energy : Fraction) (d : Document) → d.energy ≡ None → Says entries d →
     Says (entries ++ EnergyEntry energy ∷ []) (with_energy energy d)
 says-energy entries energy d none says =
     says_other entries (EnergyEntry energy) d (with_energy energy d) refl refl refl
-    (said-energy entries energy (ap (λ (d : Document). d.energy) says.said ∙ none) ∙ ap (with_energy energy) says.said) says
+    (said_same entries (EnergyEntry energy) refl refl refl ∙ ap (with_said (EnergyEntry energy)) says.said ∙ rw none refl) says
 
--- ticks are no part of a document
+-- and that of ticks nothing of a document
 pub said-ticks : (entries : List Entry) (ticks : ℕ) → document_said (entries ++ TicksEntry ticks ∷ []) ≡ document_said entries
-said-ticks entries ticks =
-    let entry : Entry = TicksEntry ticks in
-    rw (
-      none_said name_said entries entry refl,
-      none_said job_said entries entry refl,
-      none_said point_said entries entry refl,
-      none_said slot_said entries entry refl,
-      levels_said-same entries entry refl refl refl,
-      none_said grid_said entries entry refl,
-      none_said energy_said entries entry refl,
-    ) refl
+said-ticks entries ticks = said_same entries (TicksEntry ticks) refl refl refl
+
+-- of a grid or an energy there is none, where there is no first one
+pub none_first : {X : Type 0} (xs : List X) → first_of_them xs ≡ None → xs ≡ []
+none_first [] none = refl
+none_first (x ∷ xs) none = cc
 
 -- ---- the levels of the document
-
--- the document with other levels
-abbrev pub with_levels : List Level → Document → Document
-with_levels levels d = record {
-  names = d.names;
-  jobs = d.jobs;
-  points = d.points;
-  slots = d.slots;
-  levels = levels;
-  grid = d.grid;
-  energy = d.energy;
-}
 
 -- an entry of a level says nothing but of levels
 pub record IsOfLevels (entry : Entry) : Type 0 where
@@ -365,15 +287,7 @@ pub record IsOfLevels (entry : Entry) : Type 0 where
 said-levels : (entries : List Entry) (entry : Entry) (levels : List Level) → IsOfLevels entry → levels_said (entries ++ entry ∷ []) ≡ levels →
     document_said (entries ++ entry ∷ []) ≡ with_levels levels (document_said entries)
 said-levels entries entry levels kind are =
-    rw (
-      none_said name_said entries entry kind.names,
-      none_said job_said entries entry kind.jobs,
-      none_said point_said entries entry kind.points,
-      none_said slot_said entries entry kind.slots,
-      are,
-      none_said grid_said entries entry kind.grid,
-      none_said energy_said entries entry kind.energy,
-    ) refl
+    said_with entries entry levels are ∙ rw (kind.names, kind.jobs, kind.points, kind.slots, kind.grid, kind.energy) refl
 
 -- the line of a level makes one more level, which is empty
 pub says-level : (entries : List Entry) (work length : ℕ) (d : Document) → Says entries d →

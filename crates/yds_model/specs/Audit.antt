@@ -1,6 +1,6 @@
 -- The auditor's verdict on written slots: feasible, or the first cause that they aren't. The slots are gone through in order,
 -- of each five causes are tried in order, and then the jobs are gone through.
-use Rattle.std.specs.Prelude.{◌≡◌, ◌≢◌, ℕ, ◌+◌, ◌-◌, ◌*◌, ◌/◌, ◌<◌, ◌⊎◌, List, length, sum_by, fold, max, Option, Some, None, ◌==◌, if◌then◌else◌}
+use Rattle.std.specs.Prelude.{◌≡◌, ◌≢◌, ℕ, ◌+◌, ◌-◌, ◌*◌, ◌/◌, ◌<◌, List, length, sum_by, fold, max, Option, Some, None, ◌==◌, if◌then◌else◌}
 use Rattle.std.specs.List.{All, Any}
 use Rattle.yds_model.specs.Numbers.{Each}
 use Rattle.yds_model.specs.Job.{Job, job_at}

@@ -1,5 +1,5 @@
 -- The laws of the auditor's verdict. Each is the contract of a public function of `yds_laws`.
-use Rattle.std.specs.Prelude.{◌≡◌, ◌-◌, ◌↔◌, List, length, Option, Some, None}
+use Rattle.std.specs.Prelude.{◌≡◌, ◌↔◌, List, length, Option, Some, None}
 use Rattle.std.specs.List.{All}
 use Rattle.yds_model.specs.Job.{Job}
 use Rattle.yds_model.specs.Slot.{WrittenSlot}

@@ -1,5 +1,5 @@
 -- The laws of divisors and multiples. Each is the contract of a public function of `yds_laws`.
-use Rattle.std.specs.Prelude.{◌≡◌, ℕ, ◌-◌, ◌*◌, ◌/◌, ◌≤◌}
+use Rattle.std.specs.Prelude.{◌≡◌, ℕ, ◌*◌, ◌/◌, ◌≤◌}
 use Rattle.std.specs.Int.{◌∣◌, IsGcd}
 use Rattle.yds_model.specs.Divisor.{common_divisor, common_multiple}
 

@@ -1,6 +1,6 @@
 -- Reading: a function from bytes to a document, or to the fault of the first line that has one. What a line needs of the
 -- lines before it is a condition on the list of what they say.
-use Rattle.std.specs.Prelude.{ℕ, ◌+◌, ◌-◌, ◌*◌, ◌/◌, List, [], ◌∷◌, ◌++◌, length, codes, Option, Some, None, is_none, Result, Ok, Err, Bool, true, nat_lt, nat_le, ◌==◌, ◌||◌, if◌then◌else◌}
+use Rattle.std.specs.Prelude.{ℕ, ◌-◌, ◌*◌, ◌/◌, List, [], ◌∷◌, ◌++◌, length, codes, Option, Some, None, is_none, Result, Ok, Err, Bool, true, nat_lt, nat_le, ◌==◌, ◌||◌, if◌then◌else◌}
 use Rattle.std.specs.List.{slice_index_or, filter_map, list_all}
 use Rattle.std.specs.Str.{bytes_eq}
 use Rattle.yds_model.specs.declared.limits.TheConstants.{MAX_JOBS, MAX_TIME, MAX_WORK, MAX_RUN_SPEED, MAX_POINTS, MAX_POINT_SPEED, MAX_POINT_POWER, MAX_GAPS, MAX_SLOT_WORK, MAX_ENERGY, MAX_LEVEL_WORK, MAX_LEVEL_LENGTH, MAX_SLOTS, MAX_LEVELS, MAX_PIECES, MAX_MEMBERS, MAX_TICKS, MAX_GRID, MAX_ROUNDED}

@@ -14,7 +14,7 @@ use Rattle.yds_model.specs.Event.{stretches}
 use Rattle.yds_model.specs.Divisor.{common_divisor}
 use Rattle.yds_events.specs.declared.window.Window.{Window}
 use Rattle.yds_plan.specs.declared.finder_instance.Instance.{Instance}
-use Rattle.yds_plan.specs.Found.{Found, Portion, group_of, work_in, length_in}
+use Rattle.yds_plan.specs.Found.{Found, Portion, group_of, work_of_group, length_of_group}
 use Rattle.yds_events.specs.Window.{length_at}
 use Rattle.yds_plan.specs.declared.finder_workspace.Workspace.{Workspace}
 use Rattle.yds_plan.specs.Amounts.{amount_in}
@@ -202,14 +202,14 @@ part_few order found top part waiting = (
 )
 
 work_is : (jobs : List Job) (instance : Instance) (places : List ℕ) (top total : ℕ) → IsInstance jobs instance →
-    total ≡ amount_in instance.works.items places top (length instance.works.items) → total ≡ work_in jobs places top (length jobs)
+    total ≡ amount_in instance.works.items places top (length instance.works.items) → total ≡ work_of_group jobs places top (length jobs)
 work_is jobs instance places top total are is =
     is ∙ ap (λ n. amount_in instance.works.items places top n) are.all_works
     ∙ over_same (λ j. if group_of places j == top then get_or instance.works.items j 0 else 0) (λ j. if group_of places j == top then (job_at jobs j).work else 0) (length jobs)
     (λ j known. ap (λ work. if group_of places j == top then work else 0) (are.work j known))
 
 length_is : (jobs : List Job) (instance : Instance) (places : List ℕ) (top total : ℕ) → IsInstance jobs instance →
-    total ≡ amount_in instance.lengths.items places top (length instance.lengths.items) → total ≡ length_in jobs places top (length (stretches jobs))
+    total ≡ amount_in instance.lengths.items places top (length instance.lengths.items) → total ≡ length_of_group jobs places top (length (stretches jobs))
 length_is jobs instance places top total are is =
     is ∙ ap (λ n. amount_in instance.lengths.items places top n) are.all_lengths
     ∙ over_same (λ k. if group_of places k == top then get_or instance.lengths.items k 0 else 0) (λ k. if group_of places k == top then length_at jobs k else 0) (length (stretches jobs))
@@ -217,7 +217,7 @@ length_is jobs instance places top total are is =
 
 -- the group has work and length
 some_length : (jobs : List Job) (instance : Instance) (found : Found) (top last : ℕ) → IsInstance jobs instance →
-    IsSearch jobs instance.windows.items found top last → top ≤ last → 1 ≤ length_in jobs found.group_of_stretch top (length (stretches jobs))
+    IsSearch jobs instance.windows.items found top last → top ≤ last → 1 ≤ length_of_group jobs found.group_of_stretch top (length (stretches jobs))
 some_length jobs instance found top last are search within =
     let there = search.peopled top (omega arith) within in
     omega (
@@ -228,7 +228,7 @@ some_length jobs instance found top last are search within =
     )
 
 some_work : (jobs : List Job) (instance : Instance) (found : Found) (top last : ℕ) → IsInstance jobs instance →
-    IsSearch jobs instance.windows.items found top last → top ≤ last → 1 ≤ work_in jobs found.group_of_job top (length jobs)
+    IsSearch jobs instance.windows.items found top last → top ≤ last → 1 ≤ work_of_group jobs found.group_of_job top (length jobs)
 some_work jobs instance found top last are search within =
     let there = search.peopled top (omega arith) within in
     let who = search.covered there.0 there.1 (omega (arith, there.2)) (omega (arith, there.2)) in
@@ -241,8 +241,8 @@ some_work jobs instance found top last are search within =
 
 -- what is known of the two sums
 pub record AreSums (jobs : List Job) (instance : Instance) (found : Found) (top work length_ : ℕ) : Type 0 where
-  pub work_sum : work ≡ work_in jobs found.group_of_job top (length jobs)
-  pub length_sum : length_ ≡ length_in jobs found.group_of_stretch top (length (stretches jobs))
+  pub work_sum : work ≡ work_of_group jobs found.group_of_job top (length jobs)
+  pub length_sum : length_ ≡ length_of_group jobs found.group_of_stretch top (length (stretches jobs))
   pub some : 1 ≤ work
   pub some_length : 1 ≤ length_
   pub lowest : IsLowest work length_ (common_divisor work length_)

@@ -12,7 +12,7 @@ use Rattle.yds_model.proofs.Sums.{sum_by_at_most}
 use Rattle.yds_model.specs.Job.{Job, job_at}
 use Rattle.yds_model.specs.Event.{stretches}
 use Rattle.yds_events.specs.declared.window.Window.{Window}
-use Rattle.yds_plan.specs.Found.{Found, Portion, portion_at, no_portion, group_of, work_in, length_in, units_of_job, units_in_stretch}
+use Rattle.yds_plan.specs.Found.{Found, Portion, portion_at, no_portion, group_of, work_of_group, length_of_group, units_of_job, units_in_stretch}
 use Rattle.yds_events.specs.Window.{length_at}
 use Rattle.yds_plan.specs.Search.{IsFast, IsSlow, LieInWindows, IsFilled}
 use Rattle.yds_plan.proofs.Ranges.{over, over_more, over_same, over_at_most, over_zero, over_add, over_mul}
@@ -135,7 +135,7 @@ counted number group number' group' units own = elim (cases_eq number group) [
 -- a group that is filled at p / q is not slower than that
 pub fast_speed : (jobs : List Job) (windows : List Window) (found : Found) (group p q : ℕ) (portions : List Portion) →
     LieInWindows jobs windows portions → IsFast jobs found group p q portions →
-    p * length_in jobs found.group_of_stretch group (length (stretches jobs)) ≤ q * work_in jobs found.group_of_job group (length jobs)
+    p * length_of_group jobs found.group_of_stretch group (length (stretches jobs)) ≤ q * work_of_group jobs found.group_of_job group (length jobs)
 fast_speed jobs windows found group p q portions inside fast = omega (
   arith,
   over_mul p (λ k. if group_of found.group_of_stretch k == group then length_at jobs k else 0) (length (stretches jobs)),
@@ -161,7 +161,7 @@ fast_speed jobs windows found group p q portions inside fast = omega (
 -- a group that is served at p / q is not faster than that
 pub slow_speed : (jobs : List Job) (windows : List Window) (found : Found) (group p q : ℕ) (portions : List Portion) →
     LieInWindows jobs windows portions → IsSlow jobs found group p q portions →
-    q * work_in jobs found.group_of_job group (length jobs) ≤ p * length_in jobs found.group_of_stretch group (length (stretches jobs))
+    q * work_of_group jobs found.group_of_job group (length jobs) ≤ p * length_of_group jobs found.group_of_stretch group (length (stretches jobs))
 slow_speed jobs windows found group p q portions inside slow = omega (
   arith,
   over_mul q (λ j. if group_of found.group_of_job j == group then (job_at jobs j).work else 0) (length jobs),

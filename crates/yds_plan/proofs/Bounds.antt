@@ -11,7 +11,7 @@ use Rattle.yds_model.specs.Job.{Job, IsJob, no_job, job_at}
 use Rattle.yds_model.specs.Piece.{Piece, PiecesFrom, total_length}
 use Rattle.yds_model.specs.Event.{stretches}
 use Rattle.yds_model.proofs.Sums.{sum_by-mul, sum_by_same, sum_by_at_most}
-use Rattle.yds_plan.specs.Found.{Group, Found, IsFound, no_group, group_of, group_at, work_in, length_in}
+use Rattle.yds_plan.specs.Found.{Group, Found, IsFound, no_group, group_of, group_at, work_of_group, length_of_group}
 use Rattle.yds_events.specs.Stretch.{no_stretch}
 use Rattle.yds_events.specs.Window.{length_at}
 use Rattle.yds_plan.specs.Drafts.{AreGroupsWithin}
@@ -97,7 +97,7 @@ module _ (jobs : List Job) (all : All IsJob jobs) where
         omega (
           arith,
           sum_of_all (λ (group : Group). group.work) found.groups no_group,
-          sum_by_same (λ i. (group_at found.groups i).work) (λ i. work_in jobs found.group_of_job i (length jobs)) (range_with_len 0 (length found.groups))
+          sum_by_same (λ i. (group_at found.groups i).work) (λ i. work_of_group jobs found.group_of_job i (length jobs)) (range_with_len 0 (length found.groups))
               (λ k d within. let at = in_range (length found.groups) k d within in rw (at.1) (is.works k at.0)),
           places_within found.group_of_job (λ j. (job_at jobs j).work) (length found.groups) (length jobs),
           all_work,
@@ -108,7 +108,7 @@ module _ (jobs : List Job) (all : All IsJob jobs) where
         omega (
           arith,
           sum_of_all (λ (group : Group). group.length) found.groups no_group,
-          sum_by_same (λ i. (group_at found.groups i).length) (λ i. length_in jobs found.group_of_stretch i (length (stretches jobs)))
+          sum_by_same (λ i. (group_at found.groups i).length) (λ i. length_of_group jobs found.group_of_stretch i (length (stretches jobs)))
               (range_with_len 0 (length found.groups))
               (λ k d within. let at = in_range (length found.groups) k d within in rw (at.1) (is.lengths k at.0)),
           places_within found.group_of_stretch (length_at jobs) (length found.groups) (length (stretches jobs)),

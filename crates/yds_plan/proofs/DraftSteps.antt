@@ -11,7 +11,7 @@ use Rattle.yds_model.specs.Piece.{Piece}
 use Rattle.yds_model.specs.Level.{Level, no_level, level_at}
 use Rattle.yds_certificate.specs.Level.{with_member}
 use Rattle.yds_plan.specs.Found.{Found, group_of}
-use Rattle.yds_events.specs.Window.{stretch_of}
+use Rattle.yds_model.specs.Comparison.{stretch_at}
 use Rattle.yds_plan.specs.Laid.{level_of, levels_among, level_of_place, merged}
 use Rattle.yds_plan.specs.Drafts.{draft, drafts, extended, extended_level}
 use Rattle.yds_plan.proofs.KeySums.{range_more}
@@ -48,16 +48,16 @@ module _ (jobs : List Job) (found : Found) where
 
   stretch_elsewhere : (j k l : ℕ) → (stretch_level k ≡ l → ⊥) → draft jobs found j k l ≡ draft jobs found j (k + 1) l
   stretch_elsewhere j k l other =
-      cc (ap (λ ks. merged (map (stretch_of jobs) ks)) (filter_leaves (λ stretch. stretch_level stretch == l) k (ne_eqb (stretch_level k) l other)))
+      cc (ap (λ ks. merged (map (stretch_at jobs) ks)) (filter_leaves (λ stretch. stretch_level stretch == l) k (ne_eqb (stretch_level k) l other)))
 
-  stretch_here : (j k l : ℕ) → stretch_level k ≡ l → extended_level (stretch_of jobs k) (draft jobs found j k l) ≡ draft jobs found j (k + 1) l
+  stretch_here : (j k l : ℕ) → stretch_level k ≡ l → extended_level (stretch_at jobs k) (draft jobs found j k l) ≡ draft jobs found j (k + 1) l
   stretch_here j k l same =
       let ks = filter (λ stretch. stretch_level stretch == l) (range_with_len 0 k) in
-      let pieces : extended (merged (map (stretch_of jobs) ks)) (stretch_of jobs k)
-      ≡ merged (map (stretch_of jobs) (filter (λ stretch. stretch_level stretch == l) (range_with_len 0 (k + 1)))) =
-      sym (merged_more (map (stretch_of jobs) ks) (stretch_of jobs k))
-      ∙ ap merged (sym (map-append (stretch_of jobs) ks (k ∷ [])))
-      ∙ ap (λ some. merged (map (stretch_of jobs) some)) (sym (filter_takes (λ stretch. stretch_level stretch == l) k (eq-eqb (stretch_level k) l same))) in
+      let pieces : extended (merged (map (stretch_at jobs) ks)) (stretch_at jobs k)
+      ≡ merged (map (stretch_at jobs) (filter (λ stretch. stretch_level stretch == l) (range_with_len 0 (k + 1)))) =
+      sym (merged_more (map (stretch_at jobs) ks) (stretch_at jobs k))
+      ∙ ap merged (sym (map-append (stretch_at jobs) ks (k ∷ [])))
+      ∙ ap (λ some. merged (map (stretch_at jobs) some)) (sym (filter_takes (λ stretch. stretch_level stretch == l) k (eq-eqb (stretch_level k) l same))) in
       cc pieces
 
   draft_there : (j k l : ℕ) → l < count_of_levels → level_at (drafts jobs found j k) l ≡ draft jobs found j k l
@@ -89,7 +89,7 @@ module _ (jobs : List Job) (found : Found) where
 
   pub piece_added : (j k : ℕ) → group_of found.group_of_stretch k < length found.groups →
       set (drafts jobs found j k) (level_of found.groups (group_of found.group_of_stretch k))
-      (extended_level (stretch_of jobs k) (level_at (drafts jobs found j k) (level_of found.groups (group_of found.group_of_stretch k))))
+      (extended_level (stretch_at jobs k) (level_at (drafts jobs found j k) (level_of found.groups (group_of found.group_of_stretch k))))
       ≡ drafts jobs found j (k + 1)
   piece_added j k grouped =
       let place = group_of found.group_of_stretch k in
@@ -146,14 +146,14 @@ module _ (jobs : List Job) (found : Found) where
 
   pub piece_step : (j k place number : ℕ) (piece : Piece) (numbers : List ℕ) (levels next : List Level) → AreNumbers numbers →
       levels ≡ drafts jobs found j k → place ≡ group_of found.group_of_stretch k → place < length numbers →
-      number ≡ get_or numbers place number → piece ≡ stretch_of jobs k →
+      number ≡ get_or numbers place number → piece ≡ stretch_at jobs k →
       next ≡ set levels number (extended_level piece (level_at levels number)) → next ≡ drafts jobs found j (k + 1)
   piece_step j k place number piece numbers levels next are before is_place within read is_piece after =
       let is = number_is numbers place number are within read ∙ ap (level_of found.groups) is_place in
       after
       ∙ ap (λ some. set some number (extended_level piece (level_at some number))) before
       ∙ ap (λ one. set (drafts jobs found j k) number (extended_level one (level_at (drafts jobs found j k) number))) is_piece
-      ∙ ap (λ l. set (drafts jobs found j k) l (extended_level (stretch_of jobs k) (level_at (drafts jobs found j k) l))) is
+      ∙ ap (λ l. set (drafts jobs found j k) l (extended_level (stretch_at jobs k) (level_at (drafts jobs found j k) l))) is
       ∙ piece_added j k (omega (arith, numbers_length numbers are))
 
   pub piece_skip : (j k place : ℕ) (numbers : List ℕ) (levels : List Level) → AreNumbers numbers → levels ≡ drafts jobs found j k →

@@ -6,8 +6,9 @@ use Rattle.yds_model.specs.Job.{Job, job_at}
 use Rattle.yds_model.specs.Event.{stretches}
 use Rattle.yds_events.specs.declared.window.Window.{Window}
 use Rattle.yds_plan.specs.Found.{Found, Group, Portion, portion_at, no_portion, group_of, IsFound}
-use Rattle.yds_events.specs.Window.{length_at, stretch_of, IsInWindow, window_at, IsIn, AreWindows}
-use Rattle.yds_plan.specs.Search.{IsFinished, MayRun, IsSearch, IsBeginning, finished_count}
+use Rattle.yds_model.specs.Comparison.{stretch_at}
+use Rattle.yds_events.specs.Window.{length_at, IsInWindow, window_at, IsIn, AreWindows}
+use Rattle.yds_plan.specs.Search.{IsFinished, MayTake, IsSearch, IsBeginning, finished_count}
 use Rattle.yds_plan.proofs.Ranges.{over, over_at_most, over_ones, over_some, over_one, over_add, over_same}
 use Rattle.yds_model.proofs.Horizon.{part_own}
 use Rattle.yds_plan.proofs.Portions.{chosen_some}
@@ -28,7 +29,7 @@ few_counted places groups n = omega (
 )
 
 -- a stretch that ends before another one of a job's window, and in which the job is released, is one of its window
-in_window_before : (jobs : List Job) (j k k' : ℕ) → k < k' → k' < length (stretches jobs) → (job_at jobs j).release ≤ (stretch_of jobs k).from →
+in_window_before : (jobs : List Job) (j k k' : ℕ) → k < k' → k' < length (stretches jobs) → (job_at jobs j).release ≤ (stretch_at jobs k).from →
     IsInWindow jobs j k' → IsInWindow jobs j k
 in_window_before jobs j k k' before within released inside =
     record {
@@ -97,7 +98,7 @@ nothing_finished jobs windows found no_groups no_portions =
 
 -- the first stretch of a job's window
 first_runs : (jobs : List Job) (windows : List Window) → AreWindows jobs windows → (j : ℕ) → j < length jobs → 1 ≤ (job_at jobs j).work →
-    MayRun jobs windows j (window_at windows j).first
+    MayTake jobs windows j (window_at windows j).first
 first_runs jobs windows are j known some = record {
   known = known;
   some = some;

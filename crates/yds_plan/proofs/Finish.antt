@@ -10,11 +10,11 @@ use Rattle.std.proofs.lemmas.Bool.Decides.{nat_tests}
 use Rattle.yds_model.specs.Job.{Job, job_at}
 use Rattle.yds_model.specs.Event.{stretches}
 use Rattle.yds_events.specs.declared.window.Window.{Window}
-use Rattle.yds_plan.specs.Found.{Found, Group, Portion, portion_at, no_portion, group_at, no_group, group_of, work_in, length_in, per_time, per_work, units_of_job, units_in_stretch, IsPortion}
+use Rattle.yds_plan.specs.Found.{Found, Group, Portion, portion_at, no_portion, group_at, no_group, group_of, work_of_group, length_of_group, per_time, per_work, units_of_job, units_in_stretch, IsPortion}
 use Rattle.yds_events.specs.Window.{length_at, IsIn, AreWindows}
 use Rattle.yds_model.specs.EarliestFirst.{ComesFirst}
 use Rattle.yds_plan.specs.Order.{Precedes}
-use Rattle.yds_plan.specs.Search.{IsFast, IsSlow, LieInWindows, IsLead, IsFinished, MayRun, IsSearch, IsFilled, IsRenamed, finished_count}
+use Rattle.yds_plan.specs.Search.{IsFast, IsSlow, LieInWindows, IsLead, IsFinished, MayTake, IsSearch, IsFilled, IsRenamed, finished_count}
 use Rattle.yds_model.proofs.Horizon.{part_own, part_other}
 use Rattle.yds_plan.proofs.Portions.{chosen_some, portion_counts, no_units}
 use Rattle.yds_plan.proofs.Ranges.{over, over_same, over_at_most, over_add, over_ones, over_list}
@@ -42,8 +42,8 @@ pub record Finishing : Type 0 where
   pub filled : IsFilled jobs windows found top (per_time group) (per_work group) wants rooms portions wants_left rooms_left
   pub served : (j : ℕ) → j < length jobs → get_or wants_left j 0 ≡ 0
   pub full : (k : ℕ) → k < length (stretches jobs) → get_or rooms_left k 0 ≡ 0
-  pub work : group.work ≡ work_in jobs found.group_of_job top (length jobs)
-  pub length_is : group.length ≡ length_in jobs found.group_of_stretch top (length (stretches jobs))
+  pub work : group.work ≡ work_of_group jobs found.group_of_job top (length jobs)
+  pub length_is : group.length ≡ length_of_group jobs found.group_of_stretch top (length (stretches jobs))
   pub some_work : 1 ≤ group.work
   pub some_length : 1 ≤ group.length
   pub all_jobs : length new_jobs ≡ length found.group_of_job
@@ -124,7 +124,7 @@ kept f = kept_finished f.jobs f.windows f.found f.new_jobs f.new_stretches
 
 -- what a portion of the fill is of
 record Own (f : Finishing) (x : ℕ) : Type 0 where
-  runs : MayRun f.jobs f.windows (portion_at f.portions x).job (portion_at f.portions x).stretch
+  runs : MayTake f.jobs f.windows (portion_at f.portions x).job (portion_at f.portions x).stretch
   stretch_known : (portion_at f.portions x).stretch < length (stretches f.jobs)
   some : 1 ≤ (portion_at f.portions x).units
   job : group_of f.found.group_of_job (portion_at f.portions x).job ≡ f.top
@@ -190,13 +190,13 @@ renamed_chosen groups top one other value apart own renamed = elim (cases_eq one
       ∙ sym (part_other other groups value (λ is. different (renamed_here groups top one other apart own renamed is)))
 ]
 
-new_work : (f : Finishing) → f.group.work ≡ work_in f.jobs f.new_jobs (length f.found.groups) (length f.jobs)
+new_work : (f : Finishing) → f.group.work ≡ work_of_group f.jobs f.new_jobs (length f.found.groups) (length f.jobs)
 new_work f = f.work ∙ over_same (λ j. if group_of f.found.group_of_job j == f.top then (job_at f.jobs j).work else 0)
     (λ j. if group_of f.new_jobs j == length f.found.groups then (job_at f.jobs j).work else 0) (length f.jobs)
     (λ j known. renamed_chosen (length f.found.groups) f.top (group_of f.found.group_of_job j) (group_of f.new_jobs j) (job_at f.jobs j).work
     f.search.apart (job_number f j known) (f.job j known))
 
-new_length : (f : Finishing) → f.group.length ≡ length_in f.jobs f.new_stretches (length f.found.groups) (length (stretches f.jobs))
+new_length : (f : Finishing) → f.group.length ≡ length_of_group f.jobs f.new_stretches (length f.found.groups) (length (stretches f.jobs))
 new_length f = f.length_is ∙ over_same (λ k. if group_of f.found.group_of_stretch k == f.top then length_at f.jobs k else 0)
     (λ k. if group_of f.new_stretches k == length f.found.groups then length_at f.jobs k else 0) (length (stretches f.jobs))
     (λ k known. renamed_chosen (length f.found.groups) f.top (group_of f.found.group_of_stretch k) (group_of f.new_stretches k) (length_at f.jobs k)
@@ -462,8 +462,8 @@ all_finished : (f : Finishing) → IsFinished f.jobs f.windows (ended f)
 all_finished f = record {
   some_work = each_group f (λ i g. 1 ≤ g.work) f.search.finished.some_work f.some_work;
   some_length = each_group f (λ i g. 1 ≤ g.length) f.search.finished.some_length f.some_length;
-  works = each_group f (λ i g. g.work ≡ work_in f.jobs f.new_jobs i (length f.jobs)) (kept f).works (new_work f);
-  lengths = each_group f (λ i g. g.length ≡ length_in f.jobs f.new_stretches i (length (stretches f.jobs))) (kept f).lengths (new_length f);
+  works = each_group f (λ i g. g.work ≡ work_of_group f.jobs f.new_jobs i (length f.jobs)) (kept f).works (new_work f);
+  lengths = each_group f (λ i g. g.length ≡ length_of_group f.jobs f.new_stretches i (length (stretches f.jobs))) (kept f).lengths (new_length f);
   order = each_order f;
   portions = all_portions f;
   served = all_served f;
@@ -555,7 +555,7 @@ stays_stretch f k known later =
     renamed_same (length f.found.groups) f.top (group_of f.found.group_of_stretch k) (group_of f.new_stretches k) (f.stretch k known) (λ same. omega (arith, same, later))
 
 covered_after : (f : Finishing) (k : ℕ) → k < length (stretches f.jobs) → f.top + 1 ≤ group_of f.new_stretches k → group_of f.new_stretches k ≤ f.last →
-    (j : ℕ) × MayRun f.jobs f.windows j k × (group_of f.new_jobs j ≡ group_of f.new_stretches k)
+    (j : ℕ) × MayTake f.jobs f.windows j k × (group_of f.new_jobs j ≡ group_of f.new_stretches k)
 covered_after f k known from upto =
     let same = later_stretch f k known (omega arith) in
     let found = f.search.covered k known (omega (arith, same)) (omega (arith, same)) in
@@ -568,7 +568,7 @@ meets_after f j known some from =
     let found = f.search.meets j known some (omega (arith, same)) in
     (found.0, found.1, stays_stretch f found.0 (omega (arith, found.1.upto, f.windows_are.inside j known)) (omega (arith, found.2, same)) ∙ found.2 ∙ same)
 
-not_after_end : (f : Finishing) (j k : ℕ) → MayRun f.jobs f.windows j k → group_of f.new_stretches k ≤ group_of f.new_jobs j
+not_after_end : (f : Finishing) (j k : ℕ) → MayTake f.jobs f.windows j k → group_of f.new_stretches k ≤ group_of f.new_jobs j
 not_after_end f j k runs =
     let known : k < length (stretches f.jobs) = omega (arith, runs.inside.upto, f.windows_are.inside j runs.known) in
     let before = f.search.not_after j k runs in

@@ -18,7 +18,8 @@ use Rattle.yds_model.proofs.Fractions.{same_through}
 use Rattle.yds_model.proofs.Divisor.{lowest_terms_are_one}
 use Rattle.yds_slots.specs.Schedule.{WrittenSchedule}
 use Rattle.yds_plan.specs.Found.{Found, IsFound, group_of, group_at}
-use Rattle.yds_events.specs.Window.{stretch_of, length_at}
+use Rattle.yds_model.specs.Comparison.{stretch_at}
+use Rattle.yds_events.specs.Window.{length_at}
 use Rattle.yds_plan.specs.Laid.{level_of, levels_among, together, members_of, stretches_of, level_numbered, levels_of, slots_in_stretch, slots_of, portions_in}
 use Rattle.yds_plan.proofs.KeySums.{count_all, split_all}
 use Rattle.yds_events.proofs.Neighbours.{release_outside, deadline_outside, stretch_with, few_stretches}
@@ -134,9 +135,9 @@ module _ (jobs : List Job) (found : Found) (is : IsFound jobs found) where
   windows_covered number known i within contains time from below =
       let member = member_there i number within contains in
       let k = stretch_with jobs number time known from below in
-      let released : (job_at jobs number).release ≤ (stretch_of jobs k.0).from =
+      let released : (job_at jobs number).release ≤ (stretch_at jobs k.0).from =
       elim (release_outside jobs number k.0 known k.1.known) [ inl h ↦ h | inr h ↦ absurd (omega (arith, k.1.below)) ] in
-      let due : (stretch_of jobs k.0).to ≤ (job_at jobs number).deadline =
+      let due : (stretch_at jobs k.0).to ≤ (job_at jobs number).deadline =
       elim (deadline_outside jobs number k.0 known k.1.known) [ inl h ↦ absurd (omega (arith, k.1.from)) | inr h ↦ h ] in
       let first = is.windows number k.0 known (has_work jobs found is number known member.grouped) k.1.known (record { released = released; due = due }) in
       let grouped : group_of found.group_of_stretch k.0 < length found.groups = omega (arith, member.grouped) in
@@ -195,9 +196,9 @@ module _ (jobs : List Job) (found : Found) (is : IsFound jobs found) where
       all_of_blocks IsWritten (slots_in_stretch jobs found) (length (stretches jobs))
       (λ k known x d within. (
         k,
-        slots_of_jobs (Serves jobs found k) (group_at found.groups (group_of found.group_of_stretch k)) (stretch_of jobs k).from 0
+        slots_of_jobs (Serves jobs found k) (group_at found.groups (group_of found.group_of_stretch k)) (stretch_at jobs k).from 0
             (portions_in found.portions k) (all_serve jobs found is k) x d within,
-        over_terms (group_at found.groups (group_of found.group_of_stretch k)) (stretch_of jobs k).from 0 (portions_in found.portions k) x d within,
+        over_terms (group_at found.groups (group_of found.group_of_stretch k)) (stretch_at jobs k).from 0 (portions_in found.portions k) x d within,
       ))
 
   -- so its denominators are at least 1

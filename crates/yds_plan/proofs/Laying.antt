@@ -19,7 +19,7 @@ use Rattle.yds_slots.specs.Schedule.{WrittenSchedule}
 use Rattle.yds_plan.specs.declared.portion.Portion.{Portion as Struct}
 use Rattle.yds_plan.specs.declared.found.Group.{Group as GroupStruct}
 use Rattle.yds_plan.specs.Found.{Group, Portion, Found, IsFound, no_portion, portion_at, no_group, group_of, group_at, per_time, per_work}
-use Rattle.yds_events.specs.Window.{stretch_of}
+use Rattle.yds_model.specs.Comparison.{stretch_at}
 use Rattle.yds_plan.specs.Views.{portion_view, portions_view, group_view}
 use Rattle.yds_plan.specs.Laid.{slots_from, portions_in, slots_in_stretch, slots_of}
 use Rattle.yds_plan.specs.Room.{structs_in, CanFill}
@@ -65,7 +65,7 @@ module _ (jobs : List Job) (found : Found) (all : All IsJob jobs) (is : IsFound 
       ∙ ap (λ slots. slots_up_to k ++ slots) (append-nil (slots_in_stretch jobs found k))
 
   in_length : (k : ℕ) → length (slots_in_stretch jobs found k) ≡ length (portions_in found.portions k)
-  in_length k = slots_from_length (group_there k) (stretch_of jobs k).from 0 (portions_in found.portions k)
+  in_length k = slots_from_length (group_there k) (stretch_at jobs k).from 0 (portions_in found.portions k)
 
   fits_up : (k : ℕ) → k < length (stretches jobs) → length (slots_up_to k) + length (portions_in found.portions k) ≤ length (slots_of jobs found)
   fits_up k within =
@@ -114,8 +114,8 @@ module _ (jobs : List Job) (found : Found) (all : All IsJob jobs) (is : IsFound 
       all_of_blocks IsWritten (slots_in_stretch jobs found) k
       (λ j below x d within. (
         j,
-        slots_of_jobs (Serves jobs found j) (group_there j) (stretch_of jobs j).from 0 (portions_in found.portions j) (all_serve jobs found is j) x d within,
-        over_terms (group_there j) (stretch_of jobs j).from 0 (portions_in found.portions j) x d within,
+        slots_of_jobs (Serves jobs found j) (group_there j) (stretch_at jobs j).from 0 (portions_in found.portions j) (all_serve jobs found is j) x d within,
+        over_terms (group_there j) (stretch_at jobs j).from 0 (portions_in found.portions j) x d within,
       ))
 
   grains_fit : (k : ℕ) → group_of found.group_of_stretch k < length found.groups →
@@ -132,11 +132,11 @@ module _ (jobs : List Job) (found : Found) (all : All IsJob jobs) (is : IsFound 
       (slots_up_to k) (up_to_written k))
 
   can_fill : (k : ℕ) → k < length (stretches jobs) → group_of found.group_of_stretch k < length found.groups →
-      CanFill (length jobs) (slots_up_to k) (group_there k) (stretch_of jobs k).from (portions_in found.portions k)
+      CanFill (length jobs) (slots_up_to k) (group_there k) (stretch_at jobs k).from (portions_in found.portions k)
   can_fill k within grouped =
       let g = group_of found.group_of_stretch k in
       let work : length jobs * MAX_WORK ≤ MAX_JOBS * MAX_WORK = mul-le-mul_right MAX_WORK few in
-      let end : (stretch_of jobs k).to * per_time (group_there k) ≤ MAX_TIME * per_time (group_there k) =
+      let end : (stretch_at jobs k).to * per_time (group_there k) ≤ MAX_TIME * per_time (group_there k) =
       mul-le-mul_right (per_time (group_there k)) (stretch_in_range jobs k all within) in
       record {
         some_work = is.some_work g grouped;
@@ -154,7 +154,7 @@ module _ (jobs : List Job) (found : Found) (all : All IsJob jobs) (is : IsFound 
   pub can_fill_next : (k place : ℕ) (schedule : WrittenSchedule) (group : Group) (start : ℕ) (portions : List Portion) →
       schedule ≡ record { jobs = length jobs; slots = slots_up_to k } → k < length (stretches jobs) →
       place ≡ group_of found.group_of_stretch k → place < length found.groups → group ≡ group_at found.groups place →
-      start ≡ (stretch_of jobs k).from → portions ≡ portions_in found.portions k →
+      start ≡ (stretch_at jobs k).from → portions ≡ portions_in found.portions k →
       CanFill schedule.jobs schedule.slots group start portions
   can_fill_next k place schedule group start portions laid within is_place grouped is_group is_start is_portions =
       let here : group ≡ group_there k = is_group ∙ ap (group_at found.groups) is_place in
@@ -163,7 +163,7 @@ module _ (jobs : List Job) (found : Found) (all : All IsJob jobs) (is : IsFound 
   pub laid_next : (k place : ℕ) (schedule next : WrittenSchedule) (group : Group) (start : ℕ) (portions : List Portion) →
       schedule ≡ record { jobs = length jobs; slots = slots_up_to k } →
       place ≡ group_of found.group_of_stretch k → group ≡ group_at found.groups place →
-      start ≡ (stretch_of jobs k).from → portions ≡ portions_in found.portions k →
+      start ≡ (stretch_at jobs k).from → portions ≡ portions_in found.portions k →
       next ≡ record { jobs = schedule.jobs; slots = schedule.slots ++ slots_from group start 0 portions } →
       next ≡ record { jobs = length jobs; slots = slots_up_to (k + 1) }
   laid_next k place schedule next group start portions laid is_place is_group is_start is_portions after =
@@ -171,7 +171,7 @@ module _ (jobs : List Job) (found : Found) (all : All IsJob jobs) (is : IsFound 
       let slots : slots_from group start 0 portions ≡ slots_in_stretch jobs found k =
       ap (λ (g : Group). slots_from g start 0 portions) here
       ∙ ap (λ n. slots_from (group_there k) n 0 portions) is_start
-      ∙ ap (slots_from (group_there k) (stretch_of jobs k).from 0) is_portions in
+      ∙ ap (slots_from (group_there k) (stretch_at jobs k).from 0) is_portions in
       after
       ∙ ap (λ (s : WrittenSchedule). record { jobs = s.jobs; slots = s.slots ++ slots_from group start 0 portions }) laid
       ∙ ap (λ some. record { jobs = length jobs; slots = slots_up_to k ++ some }) slots
@@ -189,7 +189,7 @@ module _ (jobs : List Job) (found : Found) (all : All IsJob jobs) (is : IsFound 
       schedule ≡ record { jobs = length jobs; slots = slots_up_to (k + 1) }
   laid_skip k place schedule laid is_place past =
       let none : portions_in found.portions k ≡ [] = nil_from_length (portions_in found.portions k) (no_portions k (omega arith)) in
-      let slots : slots_in_stretch jobs found k ≡ [] = ap (slots_from (group_there k) (stretch_of jobs k).from 0) none in
+      let slots : slots_in_stretch jobs found k ≡ [] = ap (slots_from (group_there k) (stretch_at jobs k).from 0) none in
       laid ∙ ap (λ some. record { jobs = length jobs; slots = some })
       (sym (slots_up_more k ∙ ap (λ some. slots_up_to k ++ some) slots ∙ append-nil (slots_up_to k)))
 

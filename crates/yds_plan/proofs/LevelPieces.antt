@@ -14,7 +14,8 @@ use Rattle.yds_model.specs.Plan.{DontTouch}
 use Rattle.yds_model.specs.Event.{stretches}
 use Rattle.yds_model.proofs.Front.{pieces_forward, apart_turned}
 use Rattle.yds_plan.specs.Found.{Found, group_of}
-use Rattle.yds_events.specs.Window.{stretch_of, length_at}
+use Rattle.yds_model.specs.Comparison.{stretch_at}
+use Rattle.yds_events.specs.Window.{length_at}
 use Rattle.yds_plan.specs.Laid.{level_of_place, levels_among, stretches_of, merged, level_numbered, levels_of}
 use Rattle.yds_plan.proofs.KeySums.{in_range, split_at_most, count_all, sum_by-map}
 use Rattle.yds_events.proofs.Neighbours.{stretch_order}
@@ -57,7 +58,7 @@ module _ (jobs : List Job) (found : Found) where
 
   -- the single stretches of a level
   abbrev pub single : ℕ → List Piece
-  single l = map (stretch_of jobs) (stretches_of jobs found l)
+  single l = map (stretch_at jobs) (stretches_of jobs found l)
 
   pub single_run : (l : ℕ) → PiecesFrom 0 (single l)
   single_run l = some_stretches_run jobs (λ k. level_of_place found.groups (group_of found.group_of_stretch k) == l)
@@ -74,7 +75,7 @@ module _ (jobs : List Job) (found : Found) where
       )
 
   stretches_apart : (j k : ℕ) → j < length (stretches jobs) → k < length (stretches jobs) → (j ≡ k → ⊥) →
-      AreApart (stretch_of jobs j) (stretch_of jobs k)
+      AreApart (stretch_at jobs j) (stretch_at jobs k)
   stretches_apart j k known_j known_k other = elim (cases_order j k) [
     | inl same ↦ absurd (other same)
     | inr (inl below) ↦ inl (stretch_order jobs j k below known_k)
@@ -83,8 +84,8 @@ module _ (jobs : List Job) (found : Found) where
 
   single_apart : (l other : ℕ) → (l ≡ other → ⊥) → AllApart (single l) (single other)
   single_apart l other differ =
-      All-map (λ piece. All (AreApart piece) (single other)) (stretch_of jobs) (stretches_of jobs found l)
-      (λ i d within. All-map (AreApart _) (stretch_of jobs) (stretches_of jobs found other)
+      All-map (λ piece. All (AreApart piece) (single other)) (stretch_at jobs) (stretches_of jobs found l)
+      (λ i d within. All-map (AreApart _) (stretch_at jobs) (stretches_of jobs found other)
       (λ j e inside.
       let one = each_stretch l i d within in
       let two = each_stretch other j e inside in
@@ -109,7 +110,7 @@ module _ (jobs : List Job) (found : Found) where
   pub pieces_total : (l : ℕ) → total_length (merged (single l)) ≡ sum_by (length_at jobs) (stretches_of jobs found l)
   pieces_total l =
       merged_total 0 (single l) (single_run l)
-      ∙ sum_by-map (stretch_of jobs) (λ piece. piece.to - piece.from) (stretches_of jobs found l)
+      ∙ sum_by-map (stretch_at jobs) (λ piece. piece.to - piece.from) (stretches_of jobs found l)
 
   pub some_pieces : (l : ℕ) → 1 ≤ sum_by (length_at jobs) (stretches_of jobs found l) → 1 ≤ length (merged (single l))
   some_pieces l some = some_length (merged (single l)) (omega (arith, pieces_total l))
@@ -117,7 +118,7 @@ module _ (jobs : List Job) (found : Found) where
   -- a stretch of one of the first levels is covered by their pieces
   pub stretch_covered : (k i time : ℕ) → k < length (stretches jobs) →
       level_of_place found.groups (group_of found.group_of_stretch k) < i → i ≤ levels_among found.groups (length found.groups) →
-      Holds time (stretch_of jobs k) → Covers (all_pieces (take i (levels_of jobs found))) time
+      Holds time (stretch_at jobs k) → Covers (all_pieces (take i (levels_of jobs found))) time
   stretch_covered k i time known below within holds =
       let l = level_of_place found.groups (group_of found.group_of_stretch k) in
       rw (pieces_joined jobs found i within)
@@ -135,7 +136,7 @@ module _ (jobs : List Job) (found : Found) where
         ap length (flat_map-map (λ (level : Level). level.pieces) (level_numbered jobs found) all),
         length-flat_map (λ l. merged (single l)) all,
         sum_by-le-sum_by (λ l. length (merged (single l))) (λ l. sum_by (λ k. 1) (stretches_of jobs found l)) all
-            (λ l. omega (arith, merged_length (single l), length-map (stretches_of jobs found l) (stretch_of jobs), count_all (stretches_of jobs found l))),
+            (λ l. omega (arith, merged_length (single l), length-map (stretches_of jobs found l) (stretch_at jobs), count_all (stretches_of jobs found l))),
         split_at_most (λ k. level_of_place found.groups (group_of found.group_of_stretch k)) (λ k. 1)
             (levels_among found.groups (length found.groups)) (range_with_len 0 (length (stretches jobs))),
         count_all (range_with_len 0 (length (stretches jobs))),

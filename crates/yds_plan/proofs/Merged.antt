@@ -9,7 +9,7 @@ use Rattle.yds_model.specs.Job.{Job}
 use Rattle.yds_model.specs.Piece.{Piece, AreApart, PiecesFrom, Covers, total_length}
 use Rattle.yds_model.specs.Plan.{DontTouch}
 use Rattle.yds_model.specs.Event.{stretches}
-use Rattle.yds_events.specs.Window.{stretch_of}
+use Rattle.yds_model.specs.Comparison.{stretch_at}
 use Rattle.yds_plan.specs.Laid.{merge, merged}
 use Rattle.yds_events.proofs.Neighbours.{stretch_forward, stretch_order}
 
@@ -159,38 +159,38 @@ merged_covers time low (piece ∷ pieces) run covers =
     ])
 
 -- some of the stretches, in order, lie one after another
-run_step : (jobs : List Job) (low a : ℕ) (ks : List ℕ) (p : Bool) → a < length (stretches jobs) → low ≤ (stretch_of jobs a).from →
-    PiecesFrom (stretch_of jobs a).to (map (stretch_of jobs) ks) → PiecesFrom low (map (stretch_of jobs) ks) →
-    PiecesFrom low (map (stretch_of jobs) (cond p (a ∷ ks) ks))
+run_step : (jobs : List Job) (low a : ℕ) (ks : List ℕ) (p : Bool) → a < length (stretches jobs) → low ≤ (stretch_at jobs a).from →
+    PiecesFrom (stretch_at jobs a).to (map (stretch_at jobs) ks) → PiecesFrom low (map (stretch_at jobs) ks) →
+    PiecesFrom low (map (stretch_at jobs) (cond p (a ∷ ks) ks))
 run_step jobs low a ks true within from run skipped = (from, stretch_forward jobs a within, run)
 run_step jobs low a ks false within from run skipped = skipped
 
 range_run : (jobs : List Job) (p : ℕ → Bool) (low a n : ℕ) → a + n ≤ length (stretches jobs) →
-    ((k : ℕ) → a ≤ k → k < length (stretches jobs) → low ≤ (stretch_of jobs k).from) →
-    PiecesFrom low (map (stretch_of jobs) (filter p (range_with_len a n)))
+    ((k : ℕ) → a ≤ k → k < length (stretches jobs) → low ≤ (stretch_at jobs k).from) →
+    PiecesFrom low (map (stretch_at jobs) (filter p (range_with_len a n)))
 range_run jobs p low a zero within from = tt
 range_run jobs p low a (suc n) within from =
     run_step jobs low a (filter p (range_with_len (a + 1) n)) (p a) (omega arith) (from a (omega arith) (omega arith))
-    (range_run jobs p (stretch_of jobs a).to (a + 1) n (omega arith) (λ k above below. stretch_order jobs a k (omega arith) below))
+    (range_run jobs p (stretch_at jobs a).to (a + 1) n (omega arith) (λ k above below. stretch_order jobs a k (omega arith) below))
     (range_run jobs p low (a + 1) n (omega arith) (λ k above below. from k (omega arith) below))
 
 pub some_stretches_run : (jobs : List Job) (p : ℕ → Bool) →
-    PiecesFrom 0 (map (stretch_of jobs) (filter p (range_with_len 0 (length (stretches jobs)))))
+    PiecesFrom 0 (map (stretch_at jobs) (filter p (range_with_len 0 (length (stretches jobs)))))
 some_stretches_run jobs p = range_run jobs p 0 0 (length (stretches jobs)) (omega arith) (λ k above below. omega arith)
 
 -- one of some of the stretches covers what it has
-here_covers : (jobs : List Job) (time a : ℕ) (ks : List ℕ) (p : Bool) → p ≡ true → Holds time (stretch_of jobs a) →
-    Covers (map (stretch_of jobs) (cond p (a ∷ ks) ks)) time
-here_covers jobs time a ks true is holds = covers_head time (stretch_of jobs a) (map (stretch_of jobs) ks) holds
+here_covers : (jobs : List Job) (time a : ℕ) (ks : List ℕ) (p : Bool) → p ≡ true → Holds time (stretch_at jobs a) →
+    Covers (map (stretch_at jobs) (cond p (a ∷ ks) ks)) time
+here_covers jobs time a ks true is holds = covers_head time (stretch_at jobs a) (map (stretch_at jobs) ks) holds
 here_covers jobs time a ks false is holds = absurd (false≢true is)
 
-later_covers : (jobs : List Job) (time a : ℕ) (ks : List ℕ) (p : Bool) → Covers (map (stretch_of jobs) ks) time →
-    Covers (map (stretch_of jobs) (cond p (a ∷ ks) ks)) time
-later_covers jobs time a ks true covers = covers_tail time (stretch_of jobs a) (map (stretch_of jobs) ks) covers
+later_covers : (jobs : List Job) (time a : ℕ) (ks : List ℕ) (p : Bool) → Covers (map (stretch_at jobs) ks) time →
+    Covers (map (stretch_at jobs) (cond p (a ∷ ks) ks)) time
+later_covers jobs time a ks true covers = covers_tail time (stretch_at jobs a) (map (stretch_at jobs) ks) covers
 later_covers jobs time a ks false covers = covers
 
-range_covers : (jobs : List Job) (p : ℕ → Bool) (time k a n : ℕ) → a ≤ k → k < a + n → p k ≡ true → Holds time (stretch_of jobs k) →
-    Covers (map (stretch_of jobs) (filter p (range_with_len a n))) time
+range_covers : (jobs : List Job) (p : ℕ → Bool) (time k a n : ℕ) → a ≤ k → k < a + n → p k ≡ true → Holds time (stretch_at jobs k) →
+    Covers (map (stretch_at jobs) (filter p (range_with_len a n))) time
 range_covers jobs p time k a zero from below passes holds = absurd (omega arith)
 range_covers jobs p time k a (suc n) from below passes holds = elim (cases_lt a k) [
   | inl later ↦
@@ -201,7 +201,7 @@ range_covers jobs p time k a (suc n) from below passes holds = elim (cases_lt a 
       here_covers jobs time a (filter p (range_with_len (a + 1) n)) (p a) (rw same at passes) (rw same at holds)
 ]
 
-pub some_stretches_cover : (jobs : List Job) (p : ℕ → Bool) (time k : ℕ) → k < length (stretches jobs) → p k ≡ true → Holds time (stretch_of jobs k) →
-    Covers (map (stretch_of jobs) (filter p (range_with_len 0 (length (stretches jobs))))) time
+pub some_stretches_cover : (jobs : List Job) (p : ℕ → Bool) (time k : ℕ) → k < length (stretches jobs) → p k ≡ true → Holds time (stretch_at jobs k) →
+    Covers (map (stretch_at jobs) (filter p (range_with_len 0 (length (stretches jobs))))) time
 some_stretches_cover jobs p time k within passes holds =
     range_covers jobs p time k 0 (length (stretches jobs)) (omega arith) (omega arith) passes holds

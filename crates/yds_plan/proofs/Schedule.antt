@@ -16,7 +16,7 @@ use Rattle.yds_model.specs.Plan.{IsServedInStretches}
 use Rattle.yds_model.proofs.Sums.{sum_by-mul, sum_by_same, sum_by_zero}
 use Rattle.yds_plan.specs.Found.{Portion, Found, IsFound, group_of, group_at, per_time, per_work}
 use Rattle.yds_events.specs.Stretch.{no_stretch}
-use Rattle.yds_events.specs.Window.{stretch_of}
+use Rattle.yds_model.specs.Comparison.{stretch_at}
 use Rattle.yds_plan.specs.Laid.{slots_in_stretch, slots_of, portions_in}
 use Rattle.yds_plan.proofs.Divisors.{Lowest, lowest}
 use Rattle.yds_plan.proofs.KeySums.{in_range, not_here, sum_by-filter, sum_by-flat_map, split_all}
@@ -29,9 +29,9 @@ use Rattle.yds_plan.proofs.Order.{Follows, StartsFrom, Works, run_from_pairs, ea
 -- a slot serves its job in this stretch, at the speed of the stretch's group
 pub record Stands (jobs : List Job) (found : Found) (scale k : ℕ) (slot : WholeSlot) : Type 0 where
   pub serves : Serves jobs found k slot.job
-  pub from : (stretch_of jobs k).from * scale ≤ slot.from
+  pub from : (stretch_at jobs k).from * scale ≤ slot.from
   pub forward : slot.from < slot.to
-  pub to : slot.to ≤ (stretch_of jobs k).to * scale
+  pub to : slot.to ≤ (stretch_at jobs k).to * scale
   pub speed : slot.work * per_work (group_at found.groups (group_of found.group_of_stretch k))
       ≡ per_time (group_at found.groups (group_of found.group_of_stretch k)) * (slot.to - slot.from)
 
@@ -58,7 +58,7 @@ module _ (jobs : List Job) (found : Found) (is : IsFound jobs found) where
 
   -- what a job's portion in a later stretch says
   earliest_of : (a b k l : ℕ) → Serves jobs found k a → Serves jobs found l b →
-      group_of found.group_of_job b ≡ group_of found.group_of_job a → (job_at jobs b).release ≤ (stretch_of jobs k).from → k < l →
+      group_of found.group_of_job b ≡ group_of found.group_of_job a → (job_at jobs b).release ≤ (stretch_at jobs k).from → k < l →
       ComesFirst jobs a b
   earliest_of a b k l one other same released order =
       rw (← one.job_is, ← other.job_is) (is.earliest other.place one.place other.within one.within
@@ -66,7 +66,7 @@ module _ (jobs : List Job) (found : Found) (is : IsFound jobs found) where
 
   -- who runs in a stretch comes before those who run in a later one and are released
   first_of_two : (a b k l : ℕ) → Serves jobs found k a → Serves jobs found l b → k < l → l < length (stretches jobs) →
-      (job_at jobs b).release ≤ (stretch_of jobs k).from → ComesFirst jobs a b
+      (job_at jobs b).release ≤ (stretch_at jobs k).from → ComesFirst jobs a b
   first_of_two a b k l one other order within released = elim (cases_lt (job_at jobs a).deadline (job_at jobs b).deadline) [
     | inl earlier ↦ inl earlier
     | inr later ↦
@@ -86,10 +86,10 @@ module _ (jobs : List Job) (found : Found) (is : IsFound jobs found) where
   terms g known = lowest (group_at found.groups g).work (group_at found.groups g).length (is.some_work g known) (is.some_length g known)
 
   pub room : (k : ℕ) → k < length (stretches jobs) → group_of found.group_of_stretch k < length found.groups →
-      (stretch_of jobs k).from * per_time (group_at found.groups (group_of found.group_of_stretch k)) + 0 + units_of (portions_in found.portions k)
-      ≤ (stretch_of jobs k).to * per_time (group_at found.groups (group_of found.group_of_stretch k))
+      (stretch_at jobs k).from * per_time (group_at found.groups (group_of found.group_of_stretch k)) + 0 + units_of (portions_in found.portions k)
+      ≤ (stretch_at jobs k).to * per_time (group_at found.groups (group_of found.group_of_stretch k))
   room k within grouped =
-      room_of (stretch_of jobs k).from (stretch_of jobs k).to (per_time (group_at found.groups (group_of found.group_of_stretch k)))
+      room_of (stretch_at jobs k).from (stretch_at jobs k).to (per_time (group_at found.groups (group_of found.group_of_stretch k)))
       (units_of (portions_in found.portions k)) (stretch_forward jobs k within)
       (sum_by-filter (λ portion. portion.stretch == k) (λ portion. portion.units) found.portions ∙ is.full k within grouped)
 
@@ -102,7 +102,7 @@ module _ (jobs : List Job) (found : Found) (is : IsFound jobs found) where
     block_serves : (k : ℕ) → All (λ slot. Serves jobs found k slot.job) (slots_at scale (slots_in_stretch jobs found k))
     block_serves k =
         jobs_at (Serves jobs found k) scale (slots_in_stretch jobs found k)
-        (slots_of_jobs (Serves jobs found k) (group_at found.groups (group_of found.group_of_stretch k)) (stretch_of jobs k).from 0
+        (slots_of_jobs (Serves jobs found k) (group_at found.groups (group_of found.group_of_stretch k)) (stretch_at jobs k).from 0
         (portions_in found.portions k) (all_serve jobs found is k))
 
     block_stands : (k : ℕ) → k < length (stretches jobs) → All (Stands jobs found scale k) (slots_at scale (slots_in_stretch jobs found k))
@@ -110,12 +110,12 @@ module _ (jobs : List Job) (found : Found) (is : IsFound jobs found) where
         let serves = block_serves k x d within in
         let grouped : group_of found.group_of_stretch k < length found.groups = omega (arith, serves.same_group, serves.grouped) in
         let low = terms (group_of found.group_of_stretch k) grouped in
-        let filled = fills (group_at found.groups (group_of found.group_of_stretch k)) scale (stretch_of jobs k).from divided.positive
-        low.some_first (stretch_of jobs k).to 0 (portions_in found.portions k) (block_divided k inside) (some_units jobs found is k)
+        let filled = fills (group_at found.groups (group_of found.group_of_stretch k)) scale (stretch_at jobs k).from divided.positive
+        low.some_first (stretch_at jobs k).to 0 (portions_in found.portions k) (block_divided k inside) (some_units jobs found is k)
         (room k inside grouped) x d within in
         record {
           serves = serves;
-          from = begin_of (stretch_of jobs k).from _ scale _ filled.from low.some_first;
+          from = begin_of (stretch_at jobs k).from _ scale _ filled.from low.some_first;
           forward = filled.forward;
           to = filled.ends;
           speed = filled.speed;
@@ -126,8 +126,8 @@ module _ (jobs : List Job) (found : Found) (is : IsFound jobs found) where
         let serves = block_serves k j d within in
         let grouped : group_of found.group_of_stretch k < length found.groups = omega (arith, serves.same_group, serves.grouped) in
         let low = terms (group_of found.group_of_stretch k) grouped in
-        let follows = filled_pairs (group_at found.groups (group_of found.group_of_stretch k)) scale (stretch_of jobs k).from divided.positive
-        low.some_first (IsBefore jobs) (stretch_of jobs k).to 0 (portions_in found.portions k) (block_divided k inside)
+        let follows = filled_pairs (group_at found.groups (group_of found.group_of_stretch k)) scale (stretch_at jobs k).from divided.positive
+        low.some_first (IsBefore jobs) (stretch_at jobs k).to 0 (portions_in found.portions k) (block_divided k inside)
         (some_units jobs found is k) (room k inside grouped) (portions_in_order jobs found is k) i j d order within in
         record {
           after = follows.0;
@@ -137,7 +137,7 @@ module _ (jobs : List Job) (found : Found) (is : IsFound jobs found) where
 
     -- a slot that lies in a stretch stands in no later one, nor in an earlier one
     not_later : (slot : WholeSlot) (k q : ℕ) → k < length (stretches jobs) → q < length (stretches jobs) → Stands jobs found scale k slot →
-        LiesIn scale slot (stretch_of jobs q) → q ≤ k
+        LiesIn scale slot (stretch_at jobs q) → q ≤ k
     not_later slot k q inside known stands lies = elim (cases_lt k q) [
       | inl above ↦
           let apart = mul-le-mul_right scale (stretch_order jobs k q above known) in
@@ -146,7 +146,7 @@ module _ (jobs : List Job) (found : Found) (is : IsFound jobs found) where
     ]
 
     not_earlier : (slot : WholeSlot) (k q : ℕ) → k < length (stretches jobs) → q < length (stretches jobs) → Stands jobs found scale k slot →
-        LiesIn scale slot (stretch_of jobs q) → k ≤ q
+        LiesIn scale slot (stretch_at jobs q) → k ≤ q
     not_earlier slot k q inside known stands lies = elim (cases_lt q k) [
       | inl above ↦
           let apart = mul-le-mul_right scale (stretch_order jobs q k above inside) in
@@ -198,7 +198,7 @@ module _ (jobs : List Job) (found : Found) (is : IsFound jobs found) where
         ≡ scale * sum_by (λ portion. cond (portion.job == job) portion.units 0) (portions_in found.portions k)
     job_there k job inside = elim (cases_eq (group_of found.group_of_stretch k) (group_of found.group_of_job job)) [
       | inl same ↦
-          rw (← same) (filled_work (group_at found.groups (group_of found.group_of_stretch k)) scale (stretch_of jobs k).from 0 job
+          rw (← same) (filled_work (group_at found.groups (group_of found.group_of_stretch k)) scale (stretch_at jobs k).from 0 job
           (portions_in found.portions k) (block_divided k inside))
       | inr other ↦
           let no_work = sum_by_zero (λ (slot : WholeSlot). cond (job == slot.job) slot.work 0) (slots_at scale (slots_in_stretch jobs found k))
@@ -285,8 +285,8 @@ module _ (jobs : List Job) (found : Found) (is : IsFound jobs found) where
       uncut : (k : ℕ) (slot : WholeSlot) → k < length (stretches jobs) → Stands jobs found scale k slot → IsUncut jobs scale slot
       uncut k slot within stands = (
         k,
-        stretch_of jobs k,
+        stretch_at jobs k,
         within,
-        get_or_default (stretches jobs) k (stretch_of jobs k) no_stretch within,
+        get_or_default (stretches jobs) k (stretch_at jobs k) no_stretch within,
         record { from = stands.from; to = stands.to },
       )

@@ -8,7 +8,7 @@ use Rattle.yds_plan.specs.Found.{Found, Portion, portion_at, no_portion, group_o
 use Rattle.yds_events.specs.Window.{length_at, IsIn, AreWindows}
 use Rattle.yds_plan.specs.Closure.{IsMarked, AreClosed}
 use Rattle.yds_plan.specs.Numbers.{IsOneOf}
-use Rattle.yds_plan.specs.Search.{IsFast, IsSlow, LieInWindows, IsBoundary, MayRun, IsSearch, IsFilled, IsSplit}
+use Rattle.yds_plan.specs.Search.{IsFast, IsSlow, LieInWindows, IsBoundary, MayTake, IsSearch, IsFilled, IsSplit}
 use Rattle.yds_model.proofs.Horizon.{part_own}
 use Rattle.yds_plan.proofs.Portions.{chosen_some, portion_counts, some_portion}
 use Rattle.yds_plan.proofs.Ranges.{over_some, over_one}
@@ -68,7 +68,7 @@ own_stretch s k known some =
 
 -- what a portion is of
 record Own (s : Splitting) (x : ℕ) : Type 0 where
-  runs : MayRun s.jobs s.windows (portion_at s.portions x).job (portion_at s.portions x).stretch
+  runs : MayTake s.jobs s.windows (portion_at s.portions x).job (portion_at s.portions x).stretch
   stretch_known : (portion_at s.portions x).stretch < length (stretches s.jobs)
   job : group_of s.found.group_of_job (portion_at s.portions x).job ≡ s.below + 1
   stretch : group_of s.found.group_of_stretch (portion_at s.portions x).stretch ≡ s.below + 1
@@ -355,7 +355,7 @@ stretch_after s k known = elim (s.split.stretch k (omega (arith, s.search.all_st
 
 -- a marked stretch of the group has a portion of a job of the upper part
 covered_above : (s : Splitting) (k : ℕ) → k < length (stretches s.jobs) → group_of s.new_stretches k ≡ s.below →
-    (j : ℕ) × MayRun s.jobs s.windows j k × (group_of s.new_jobs j ≡ group_of s.new_stretches k)
+    (j : ℕ) × MayTake s.jobs s.windows j k × (group_of s.new_jobs j ≡ group_of s.new_stretches k)
 covered_above s k known new =
     let upper = upper_stretch s k known new in
     let found = some_portion (λ portion. portion.stretch) s.portions k (omega (
@@ -368,13 +368,13 @@ covered_above s k known new =
     )) in
     let own = own_portion s found.0 found.1 in (
       (portion_at s.portions found.0).job,
-      subst (λ (n : ℕ). MayRun s.jobs s.windows (portion_at s.portions found.0).job n) found.2 own.runs,
+      subst (λ (n : ℕ). MayTake s.jobs s.windows (portion_at s.portions found.0).job n) found.2 own.runs,
       shared_job s found.0 found.1 (subst (λ (n : ℕ). IsMarked s.reaches n) (sym found.2) upper.1) ∙ sym new,
     )
 
 covered_below : (s : Splitting) (k : ℕ) → k < length (stretches s.jobs) → (group_of s.new_stretches k ≡ s.below → ⊥) →
     s.below ≤ group_of s.new_stretches k → group_of s.new_stretches k ≤ s.last →
-    (j : ℕ) × MayRun s.jobs s.windows j k × (group_of s.new_jobs j ≡ group_of s.new_stretches k)
+    (j : ℕ) × MayTake s.jobs s.windows j k × (group_of s.new_jobs j ≡ group_of s.new_stretches k)
 covered_below s k known other from upto =
     let same = other_stretch s k known other in
     let found = s.search.covered k known (omega (arith, same)) (omega (arith, same)) in (
@@ -408,7 +408,7 @@ meets_after s j known some from = elim (s.split.job j (omega (arith, s.search.al
   ]
 ]
 
-not_after_split : (s : Splitting) (j k : ℕ) → MayRun s.jobs s.windows j k → group_of s.new_stretches k ≤ group_of s.new_jobs j
+not_after_split : (s : Splitting) (j k : ℕ) → MayTake s.jobs s.windows j k → group_of s.new_stretches k ≤ group_of s.new_jobs j
 not_after_split s j k runs =
     let known : k < length (stretches s.jobs) = omega (arith, runs.inside.upto, s.windows_are.inside j runs.known) in
     let before = s.search.not_after j k runs in

@@ -7,7 +7,7 @@ use Rattle.yds_model.specs.Level.{Level, level_at}
 use Rattle.yds_model.specs.declared.limits.TheConstants.{MAX_JOBS, MAX_LEVEL_LENGTH, MAX_LEVEL_WORK}
 use Rattle.yds_plan.specs.Found.{Group, Found, group_at, group_of}
 use Rattle.yds_events.specs.Stretch.{no_stretch}
-use Rattle.yds_events.specs.Window.{stretch_of}
+use Rattle.yds_model.specs.Comparison.{stretch_at}
 use Rattle.yds_plan.specs.Laid.{slows_after, level_of, levels_among, level_of_place, merged, together}
 
 -- what the first groups of a level have together
@@ -31,7 +31,7 @@ abbrev pub draft : List Job → Found → ℕ → ℕ → ℕ → Level
 draft jobs found j k level = record {
   work = together (λ group. group.work) found.groups level;
   length = together (λ group. group.length) found.groups level;
-  pieces = merged (map (stretch_of jobs)
+  pieces = merged (map (stretch_at jobs)
       (filter (λ stretch. level_of_place found.groups (group_of found.group_of_stretch stretch) == level) (range_with_len 0 k)));
   members = filter (λ job. level_of_place found.groups (group_of found.group_of_job job) == level) (range_with_len 0 j);
 }

@@ -6,7 +6,8 @@ use Rattle.yds_model.specs.Job.{Job, job_at}
 use Rattle.yds_model.specs.Divisor.{common_divisor}
 use Rattle.yds_model.specs.Event.{stretches}
 use Rattle.yds_model.specs.EarliestFirst.{ComesFirst}
-use Rattle.yds_events.specs.Window.{stretch_of, length_at, IsInWindow}
+use Rattle.yds_model.specs.Comparison.{stretch_at}
+use Rattle.yds_events.specs.Window.{length_at, IsInWindow}
 
 -- A group's jobs have so much work together, and its stretches so much length. Its speed is work / length.
 pub record Group : Type 0 where
@@ -50,11 +51,11 @@ abbrev pub group_of : List ℕ → ℕ → ℕ
 group_of places i = slice_index_or places i 0
 
 -- all work of the jobs of a group, all length of its stretches
-abbrev pub work_in : List Job → List ℕ → ℕ → ℕ → ℕ
-work_in jobs places group n = sum_by (λ j. if group_of places j == group then (job_at jobs j).work else 0) (range_with_len 0 n)
+abbrev pub work_of_group : List Job → List ℕ → ℕ → ℕ → ℕ
+work_of_group jobs places group n = sum_by (λ j. if group_of places j == group then (job_at jobs j).work else 0) (range_with_len 0 n)
 
-abbrev pub length_in : List Job → List ℕ → ℕ → ℕ → ℕ
-length_in jobs places group n = sum_by (λ k. if group_of places k == group then length_at jobs k else 0) (range_with_len 0 n)
+abbrev pub length_of_group : List Job → List ℕ → ℕ → ℕ → ℕ
+length_of_group jobs places group n = sum_by (λ k. if group_of places k == group then length_at jobs k else 0) (range_with_len 0 n)
 
 -- the units that a job gets, and those that are done in a stretch
 abbrev pub units_of_job : List Portion → ℕ → ℕ
@@ -81,8 +82,8 @@ pub record IsFound (jobs : List Job) (found : Found) : Type 0 where
   -- each group has work and length, its jobs' and its stretches', and none is faster than the one before it
   pub some_work : (i : ℕ) → i < length found.groups → 1 ≤ (group_at found.groups i).work
   pub some_length : (i : ℕ) → i < length found.groups → 1 ≤ (group_at found.groups i).length
-  pub works : (i : ℕ) → i < length found.groups → (group_at found.groups i).work ≡ work_in jobs found.group_of_job i (length jobs)
-  pub lengths : (i : ℕ) → i < length found.groups → (group_at found.groups i).length ≡ length_in jobs found.group_of_stretch i (length (stretches jobs))
+  pub works : (i : ℕ) → i < length found.groups → (group_at found.groups i).work ≡ work_of_group jobs found.group_of_job i (length jobs)
+  pub lengths : (i : ℕ) → i < length found.groups → (group_at found.groups i).length ≡ length_of_group jobs found.group_of_stretch i (length (stretches jobs))
   pub order : (i : ℕ) → i + 1 < length found.groups →
       (group_at found.groups (i + 1)).work * (group_at found.groups i).length ≤ (group_at found.groups i).work * (group_at found.groups (i + 1)).length
   -- each stretch of a job's window is in the job's group or in one before it
@@ -100,7 +101,7 @@ pub record IsFound (jobs : List Job) (found : Found) : Type 0 where
   -- A job that gets units in a stretch found each earlier stretch of its window and group full, of jobs that come before it.
   pub earliest : (x y : ℕ) → x < length found.portions → y < length found.portions →
       group_of found.group_of_job (portion_at found.portions x).job ≡ group_of found.group_of_job (portion_at found.portions y).job →
-      (job_at jobs (portion_at found.portions x).job).release ≤ (stretch_of jobs (portion_at found.portions y).stretch).from →
+      (job_at jobs (portion_at found.portions x).job).release ≤ (stretch_at jobs (portion_at found.portions y).stretch).from →
       (portion_at found.portions y).stretch < (portion_at found.portions x).stretch →
       ComesFirst jobs (portion_at found.portions y).job (portion_at found.portions x).job
   pub few : length found.portions ≤ length jobs + length (stretches jobs)

@@ -8,7 +8,7 @@ use Rattle.yds_model.specs.Piece.{Piece}
 use Rattle.yds_model.specs.Level.{Level}
 use Rattle.yds_model.specs.Event.{stretches}
 use Rattle.yds_plan.specs.Found.{Group, Portion, Found, group_at, per_time, per_work, group_of}
-use Rattle.yds_events.specs.Window.{stretch_of}
+use Rattle.yds_model.specs.Comparison.{stretch_at}
 
 -- So much, and so many parts of which `den` make one. It is whole where they make whole ones, and else it has the
 -- denominator `den`.
@@ -37,7 +37,7 @@ portions_in portions k = filter (λ portion. portion.stretch == k) portions
 
 abbrev pub slots_in_stretch : List Job → Found → ℕ → List WrittenSlot
 slots_in_stretch jobs found k =
-    slots_from (group_at found.groups (group_of found.group_of_stretch k)) (stretch_of jobs k).from 0 (portions_in found.portions k)
+    slots_from (group_at found.groups (group_of found.group_of_stretch k)) (stretch_at jobs k).from 0 (portions_in found.portions k)
 
 -- The slots of a plan: each stretch is filled from its start.
 abbrev pub slots_of : List Job → Found → List WrittenSlot
@@ -88,7 +88,7 @@ abbrev pub level_numbered : List Job → Found → ℕ → Level
 level_numbered jobs found level = record {
   work = together (λ group. group.work) found.groups level;
   length = together (λ group. group.length) found.groups level;
-  pieces = merged (map (stretch_of jobs) (stretches_of jobs found level));
+  pieces = merged (map (stretch_at jobs) (stretches_of jobs found level));
   members = members_of jobs found level;
 }
 

@@ -6,7 +6,7 @@ use Rattle.yds_model.specs.Job.{Job, job_at}
 use Rattle.yds_model.specs.Event.{stretches}
 use Rattle.yds_model.specs.EarliestFirst.{ComesFirst}
 use Rattle.yds_events.specs.declared.window.Window.{Window}
-use Rattle.yds_plan.specs.Found.{Found, Group, Portion, portion_at, group_at, group_of, work_in, length_in, per_time, per_work, units_of_job, units_in_stretch, IsPortion}
+use Rattle.yds_plan.specs.Found.{Found, Group, Portion, portion_at, group_at, group_of, work_of_group, length_of_group, per_time, per_work, units_of_job, units_in_stretch, IsPortion}
 use Rattle.yds_events.specs.Window.{length_at, IsIn}
 use Rattle.yds_plan.specs.Order.{Precedes}
 use Rattle.yds_plan.specs.Fill.{IsFill}
@@ -59,8 +59,8 @@ finished_count places groups n = sum_by (λ i. if nat_lt (group_of places i) gro
 pub record IsFinished (jobs : List Job) (windows : List Window) (found : Found) : Type 0 where
   pub some_work : (i : ℕ) → i < length found.groups → 1 ≤ (group_at found.groups i).work
   pub some_length : (i : ℕ) → i < length found.groups → 1 ≤ (group_at found.groups i).length
-  pub works : (i : ℕ) → i < length found.groups → (group_at found.groups i).work ≡ work_in jobs found.group_of_job i (length jobs)
-  pub lengths : (i : ℕ) → i < length found.groups → (group_at found.groups i).length ≡ length_in jobs found.group_of_stretch i (length (stretches jobs))
+  pub works : (i : ℕ) → i < length found.groups → (group_at found.groups i).work ≡ work_of_group jobs found.group_of_job i (length jobs)
+  pub lengths : (i : ℕ) → i < length found.groups → (group_at found.groups i).length ≡ length_of_group jobs found.group_of_stretch i (length (stretches jobs))
   pub order : (i : ℕ) → i + 1 < length found.groups →
       (group_at found.groups (i + 1)).work * (group_at found.groups i).length ≤ (group_at found.groups i).work * (group_at found.groups (i + 1)).length
   pub portions : All (IsPortion jobs found) found.portions
@@ -79,7 +79,7 @@ pub record IsFinished (jobs : List Job) (windows : List Window) (found : Found) 
       + finished_count found.group_of_stretch (length found.groups) (length (stretches jobs))
 
 -- a job that wants something, and its window has the stretch
-pub record MayRun (jobs : List Job) (windows : List Window) (j k : ℕ) : Type 0 where
+pub record MayTake (jobs : List Job) (windows : List Window) (j k : ℕ) : Type 0 where
   pub known : j < length jobs
   pub some : 1 ≤ (job_at jobs j).work
   pub inside : IsIn windows j k
@@ -96,10 +96,10 @@ pub record IsSearch (jobs : List Job) (windows : List Window) (found : Found) (t
       (group_of found.group_of_stretch k < length found.groups) ⊎ (top ≤ group_of found.group_of_stretch k)
   -- who may run in a stretch of a group, and where a job of a group may run
   pub covered : (k : ℕ) → k < length (stretches jobs) → top ≤ group_of found.group_of_stretch k → group_of found.group_of_stretch k ≤ last →
-      (j : ℕ) × MayRun jobs windows j k × (group_of found.group_of_job j ≡ group_of found.group_of_stretch k)
+      (j : ℕ) × MayTake jobs windows j k × (group_of found.group_of_job j ≡ group_of found.group_of_stretch k)
   pub meets : (j : ℕ) → j < length jobs → 1 ≤ (job_at jobs j).work → top ≤ group_of found.group_of_job j →
       (k : ℕ) × IsIn windows j k × (group_of found.group_of_stretch k ≡ group_of found.group_of_job j)
-  pub not_after : (j k : ℕ) → MayRun jobs windows j k → group_of found.group_of_stretch k ≤ group_of found.group_of_job j
+  pub not_after : (j k : ℕ) → MayTake jobs windows j k → group_of found.group_of_stretch k ≤ group_of found.group_of_job j
   pub peopled : (c : ℕ) → top ≤ c → c ≤ last → (k : ℕ) × (k < length (stretches jobs)) × (group_of found.group_of_stretch k ≡ c)
   pub between : (c : ℕ) → top ≤ c → c < last → IsBoundary jobs windows found c
   pub lead : (i : ℕ) → i + 1 ≡ length found.groups → top ≤ last → IsLead jobs windows found i top
@@ -117,7 +117,7 @@ pub record IsFilled (jobs : List Job) (windows : List Window) (found : Found) (t
       slice_index rooms k ≡ (if group_of found.group_of_stretch k == top then p * length_at jobs k else 0)
   pub some_time : 1 ≤ p
   pub some_work : 1 ≤ q
-  pub balanced : p * length_in jobs found.group_of_stretch top (length (stretches jobs)) ≡ q * work_in jobs found.group_of_job top (length jobs)
+  pub balanced : p * length_of_group jobs found.group_of_stretch top (length (stretches jobs)) ≡ q * work_of_group jobs found.group_of_job top (length jobs)
 
 -- one number becomes another
 abbrev pub IsRenamed : ℕ → ℕ → ℕ → ℕ → Type 0
@@ -157,8 +157,8 @@ pub record IsBeginning (jobs : List Job) (windows : List Window) (found : Found)
   pub job : (j : ℕ) → j < length jobs →
       (((job_at jobs j).work ≡ 0) × (group_of found.group_of_job j ≡ last + 1)) ⊎ ((1 ≤ (job_at jobs j).work) × (group_of found.group_of_job j ≡ last))
   pub stretch : (k : ℕ) → k < length (stretches jobs) →
-      (((j : ℕ) × MayRun jobs windows j k) × (group_of found.group_of_stretch k ≡ last))
-      ⊎ (((j : ℕ) → MayRun jobs windows j k → ⊥) × (group_of found.group_of_stretch k ≡ last + 1))
+      (((j : ℕ) × MayTake jobs windows j k) × (group_of found.group_of_stretch k ≡ last))
+      ⊎ (((j : ℕ) → MayTake jobs windows j k → ⊥) × (group_of found.group_of_stretch k ≡ last + 1))
   pub no_groups : found.groups ≡ []
   pub no_portions : found.portions ≡ []
 
@@ -168,8 +168,8 @@ pub record IsAttempt (jobs : List Job) (windows : List Window) (found : Found) (
   pub wants : List ℕ
   pub rooms : List ℕ
   pub filled : IsFilled jobs windows found top (per_time group) (per_work group) wants rooms portions wants' rooms'
-  pub work : group.work ≡ work_in jobs found.group_of_job top (length jobs)
-  pub length_is : group.length ≡ length_in jobs found.group_of_stretch top (length (stretches jobs))
+  pub work : group.work ≡ work_of_group jobs found.group_of_job top (length jobs)
+  pub length_is : group.length ≡ length_of_group jobs found.group_of_stretch top (length (stretches jobs))
   pub some_work : 1 ≤ group.work
   pub some_length : 1 ≤ group.length
 

@@ -1,6 +1,5 @@
 ghost use Rattle.std.specs.Prelude.{◌≡◌, ℕ, ◌*◌, ◌^◌, ◌<◌, ◌≤◌, length, map, sum_by, slice_index, IfOk};
 ghost use Rattle.std.specs.List.{All};
-ghost use Rattle.yds_model.specs.Divisor.{common_divisor};
 ghost use Rattle.yds_model.specs.declared.limits.TheConstants.{MAX_JOBS};
 ghost use Rattle.yds_events.specs.Stretch.{length_of};
 ghost use Rattle.yds_plan.specs.Numbers.{AreWritten};
@@ -8,20 +7,6 @@ ghost use Rattle.yds_plan.specs.Numbers.{AreWritten};
 use std::alloc::Global;
 use yds_events::Stretch;
 use yds_model::{JobRow, Memory};
-
-/// The greatest common divisor.
-pub(crate) fn greatest_divisor(first: u64, second: u64) -> u64
-    ensures { result ≡ common_divisor first second }
-{
-    let mut a = first;
-    let mut b = second;
-    while b > 0 {
-        let rest = a % b;
-        a = b;
-        b = rest;
-    }
-    a
-}
 
 /// The jobs' works.
 pub(crate) fn works(alloc: Global, rows: &[JobRow]) -> Result<Vec<u32>, Memory>

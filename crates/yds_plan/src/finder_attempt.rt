@@ -6,7 +6,7 @@ ghost use Rattle.yds_plan.specs.declared.finder_beginning.TheConstants.{LAST};
 ghost use Rattle.yds_plan.specs.Instance.{IsInstance};
 ghost use Rattle.yds_plan.specs.Waiting.{IsWaiting, IsBlank, KeepsReaches};
 
-use crate::finder_amounts::{greatest_divisor, scale, total};
+use crate::finder_amounts::{scale, total};
 use crate::finder_fill::fill;
 use crate::finder_instance::Instance;
 use crate::finder_waiting::Waiting;
@@ -14,6 +14,7 @@ use crate::finder_workspace::Workspace;
 use crate::found::{Found, Group};
 use crate::portion::Portion;
 use std::alloc::Global;
+use yds_fraction::gcd;
 use yds_model::{JobRow, Memory};
 
 /// A group, filled at its average speed.
@@ -60,7 +61,7 @@ pub(crate) fn fill_group(
 {
     let work = total(&instance.works, &waiting.jobs);
     let length = total(&instance.lengths, &waiting.stretches);
-    let divisor = greatest_divisor(work, length);
+    let divisor = gcd(work, length);
     scale(
         &instance.works,
         &waiting.jobs,

@@ -1,4 +1,5 @@
-// What the sources and the sink in memory share.
+//! What the sources and the sink in memory share.
+
 ghost use Rattle.std.specs.Prelude.{◌≡◌, ◌↔◌, IsTrue, Contains, length, min, take};
 
 /// Whether the call of this number is one of those that are to fail.

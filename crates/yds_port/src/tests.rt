@@ -3,8 +3,8 @@ use std::io;
 use std::io::{Read, Write};
 use std::test::Fail;
 
-// A reader that gives so many bytes and then errors; a writer that takes no byte, and whose second
-// flush errors.
+/// A reader that gives so many bytes and then errors; a writer that takes no byte, and whose second
+/// flush errors.
 #[derive(Drop)]
 struct Broken {
     left: usize,
@@ -134,8 +134,8 @@ fn writers_of_std(rt: HostRuntime) -> Result<(), Fail> {
     Ok(())
 }
 
-// The first flush is passed on, and the next one's error is a fault: of a sink that has not failed
-// before, and of one that has.
+/// The first flush is passed on, and the next one's error is a fault: of a sink that has not failed
+/// before, and of one that has.
 #[test]
 fn flushes_of_std(rt: HostRuntime) -> Result<(), Fail> {
     let mut broken = Broken::new(0);

@@ -1,4 +1,5 @@
-// The numbers of a report: sums and ends of jobs and levels, and the speed of a level.
+//! The numbers of a report: sums and ends of jobs and levels, and the speed of a level.
+
 ghost use Rattle.std.specs.Prelude.{◌≡◌, ◌≤◌, length, sum_by};
 ghost use Rattle.std.specs.List.{All};
 ghost use Rattle.yds_model.specs.declared.limits.TheConstants.{MAX_JOBS, MAX_LEVELS};
@@ -11,7 +12,7 @@ use yds_certificate::Level;
 use yds_fraction::Amount;
 use yds_model::JobRow;
 
-// The works of the jobs together, in units of work.
+/// The works of the jobs together, in units of work.
 pub(crate) fn total_work(rows: &[JobRow]) -> u64
     requires few { length rows.now ≤ MAX_JOBS }
     requires jobs { All IsJob rows.now }
@@ -20,7 +21,7 @@ pub(crate) fn total_work(rows: &[JobRow]) -> u64
     rows.iter().map(|row| u64::from(row.work)).sum()
 }
 
-// The lengths of the levels together, in time units.
+/// The lengths of the levels together, in time units.
 pub(crate) fn total_length(levels: &[Level]) -> u64
     requires few { length levels.now ≤ MAX_LEVELS }
     requires levels { All IsLevel levels.now }
@@ -29,14 +30,14 @@ pub(crate) fn total_length(levels: &[Level]) -> u64
     levels.iter().map(|level| level.length).sum()
 }
 
-// The greatest deadline, 0 where there are no jobs.
+/// The greatest deadline, 0 where there are no jobs.
 pub(crate) fn last_deadline(rows: &[JobRow]) -> u32
     ensures { result ≡ last_deadline rows.now }
 {
     rows.iter().fold(0, |time, row| row.deadline.max(time))
 }
 
-// The least release, 0 where there are no jobs.
+/// The least release, 0 where there are no jobs.
 pub(crate) fn first_release(rows: &[JobRow]) -> u32
     ensures { result ≡ first_release rows.now }
 {
@@ -44,7 +45,7 @@ pub(crate) fn first_release(rows: &[JobRow]) -> u32
         .fold(last_deadline(rows), |time, row| row.release.min(time))
 }
 
-// The speed of a level in lowest terms, in work per time unit.
+/// The speed of a level in lowest terms, in work per time unit.
 pub(crate) fn speed_of(level: &Level) -> Amount
     requires { IsLevel level.now }
     ensures { result ≡ in_lowest_terms level.now.work level.now.length }

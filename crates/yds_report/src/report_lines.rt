@@ -1,4 +1,5 @@
-// The lines of a report, each made on the stack.
+//! The lines of a report, each made on the stack.
+
 ghost use Rattle.std.specs.Prelude.{◌≡◌, ◌≤◌, length};
 ghost use Rattle.std.specs.List.{All};
 ghost use Rattle.yds_model.specs.declared.limits.TheConstants.{MAX_JOBS, MAX_LEVELS};
@@ -11,7 +12,7 @@ use yds_certificate::Level;
 use yds_document::LineBuffer;
 use yds_model::JobRow;
 
-// The number of the jobs, their work together, and the times from their first release to their last deadline.
+/// The number of the jobs, their work together, and the times from their first release to their last deadline.
 pub(crate) fn jobs_line(rows: &[JobRow]) -> LineBuffer
     requires few { length rows.now ≤ MAX_JOBS }
     requires jobs { All IsJob rows.now }
@@ -28,7 +29,7 @@ pub(crate) fn jobs_line(rows: &[JobRow]) -> LineBuffer
         .end()
 }
 
-// A level's number, its work, its length and its speed, one column each.
+/// A level's number, its work, its length and its speed, one column each.
 pub(crate) fn level_line(number: u64, level: &Level) -> LineBuffer
     ensures { result ≡ level_row (number, level.now) }
 {
@@ -40,7 +41,7 @@ pub(crate) fn level_line(number: u64, level: &Level) -> LineBuffer
         .end()
 }
 
-// The length of the horizon less the lengths of the levels. A plan's levels are no longer than the horizon.
+/// The length of the horizon less the lengths of the levels. A plan's levels are no longer than the horizon.
 pub(crate) fn idle_line(rows: &[JobRow], levels: &[Level]) -> LineBuffer
     requires few { length levels.now ≤ MAX_LEVELS }
     requires levels { All IsLevel levels.now }

@@ -30,7 +30,7 @@ pub fn report<K: Sink>(
     write_all(sink, idle_line(rows, levels).as_bytes())
 }
 
-// A line for each level, in their order.
+/// A line for each level, in their order.
 fn write_levels<K: Sink>(levels: &[Level], sink: &mut K) -> Result<(), WriteFault>
     ensures delivers { Delivers result (flat_map level_row (enumerate_from 1 levels.now)) (K.written sink.old) (K.written sink.new) (K.faults sink.old) (K.faults sink.new) }
     ensures flushed_stays { K.flushed sink.new ≡ K.flushed sink.old }

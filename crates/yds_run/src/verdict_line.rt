@@ -15,7 +15,7 @@ use yds_fraction::Amount;
 use yds_model::JobRow;
 use yds_slots::Slot;
 
-// How many bytes a field has at most, with the space before it.
+/// How many bytes a field has at most, with the space before it.
 const NUMBER: usize = 21;
 
 const NAME: usize = 65;

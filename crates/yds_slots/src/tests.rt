@@ -80,7 +80,7 @@ fn no_slots(rt: HostRuntime) -> Result<(), Fail> {
     Ok(())
 }
 
-// Two slots begin at 1+1/2, and stay in their order.
+/// Two slots begin at 1+1/2, and stay in their order.
 #[test]
 fn sorted_by_start(rt: HostRuntime) -> Result<(), Fail> {
     let mut slots = Vec::new(rt.alloc());
@@ -94,7 +94,7 @@ fn sorted_by_start(rt: HostRuntime) -> Result<(), Fail> {
     Ok(())
 }
 
-// From 1 to 3 the first slot begins too early, and the last one ends too late.
+/// From 1 to 3 the first slot begins too early, and the last one ends too late.
 #[test]
 fn between_whole_times(rt: HostRuntime) -> Result<(), Fail> {
     let schedule = four_in_order(rt.alloc())?;

@@ -53,7 +53,7 @@ pub fn four_fields<'a>(
     Ok((one, two, three, four))
 }
 
-// The next field, after the last one that was read.
+/// The next field, after the last one that was read.
 fn next_field<'a>(last: Field<'a>, fields: &mut Fields<'a>) -> Result<Field<'a>, FieldCount>
     ensures { ReadsNext result (past_end (field_read last.entry)) fields.old.fields fields.new.fields }
 {
@@ -66,7 +66,7 @@ fn next_field<'a>(last: Field<'a>, fields: &mut Fields<'a>) -> Result<Field<'a>,
     }
 }
 
-// That no field is left.
+/// That no field is left.
 fn no_more(mut fields: Fields<'_>) -> Result<(), FieldCount>
     ensures { EndsThere result fields.entry.fields }
 {

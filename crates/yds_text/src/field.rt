@@ -86,8 +86,8 @@ impl<'a> Iterator for Fields<'a> {
 
 impl<'a> FusedIterator for Fields<'a> {}
 
-// How many blanks stand before the first field, its bytes, and what is after it. The field is empty
-// where there is none.
+/// How many blanks stand before the first field, its bytes, and what is after it. The field is empty
+/// where there is none.
 fn first_field(bytes: &[u8]) -> (usize, &[u8], &[u8])
     ensures first { 0 < length result.1.now → (column : ℕ) → fields_from column bytes.now
         ≡ record { column = column + result.0; text = result.1.now } ∷ fields_from (column + result.0 + length result.1.now) result.2.now }
@@ -106,7 +106,7 @@ fn is_blank(byte: u8) -> bool
     byte == b' ' || byte == b'\t'
 }
 
-// Whether a line of these bytes says nothing: it has no field, or its first one begins with `#`.
+/// Whether a line of these bytes says nothing: it has no field, or its first one begins with `#`.
 pub(crate) fn is_comment(bytes: &[u8]) -> bool
     ensures { result ≡ begins_comment (fields_of bytes.now) }
 {
@@ -118,7 +118,7 @@ pub(crate) fn is_comment(bytes: &[u8]) -> bool
     true
 }
 
-// How many blanks stand at the front.
+/// How many blanks stand at the front.
 fn blank_len(bytes: &[u8]) -> usize
     ensures value { result ≡ prefix_len is_blank bytes.now }
     ensures within { result ≤ length bytes.now }
@@ -131,7 +131,7 @@ fn blank_len(bytes: &[u8]) -> usize
     bytes.len()
 }
 
-// How many bytes stand before the first blank.
+/// How many bytes stand before the first blank.
 fn field_len(bytes: &[u8]) -> usize
     ensures value { result ≡ position_or_len is_blank bytes.now }
     ensures within { result ≤ length bytes.now }

@@ -28,7 +28,7 @@ pub fn mixed(field: Field<'_>, most: u64) -> Result<Amount, NumberFault>
     }
 }
 
-// The three numbers of `WHOLE+NUM/DEN`.
+/// The three numbers of `WHOLE+NUM/DEN`.
 fn mixed_parts(text: &[u8]) -> Option<(&[u8], &[u8], &[u8])>
     ensures none { IfNone result (is_mixed text.now ≡ false) }
     ensures some { IfSome result (λ parts. is_mixed text.now ≡ true) }
@@ -46,7 +46,7 @@ fn mixed_parts(text: &[u8]) -> Option<(&[u8], &[u8], &[u8])>
     }
 }
 
-// What stands before the first `separator` and after it.
+/// What stands before the first `separator` and after it.
 fn split_once(text: &[u8], separator: u8) -> Option<(&[u8], &[u8])>
     ensures none { IfNone result (list_any (λ byte. byte == separator) text.now ≡ false) }
     ensures some { IfSome result (λ parts. list_any (λ byte. byte == separator) text.now ≡ true) }
@@ -57,14 +57,14 @@ fn split_once(text: &[u8], separator: u8) -> Option<(&[u8], &[u8])>
     Some((&text[..place], &text[place + 1..]))
 }
 
-// Where the first `separator` stands.
+/// Where the first `separator` stands.
 fn place_of(text: &[u8], separator: u8) -> Option<usize>
     ensures { result ≡ position (λ byte. byte == separator) text.now }
 {
     text.iter().position(|&byte| byte == separator)
 }
 
-// The fraction of these digits, where it is within its limits.
+/// The fraction of these digits, where it is within its limits.
 fn kept(whole: &[u8], num: &[u8], den: &[u8], most: u64) -> Result<Amount, NumberFault>
     requires limit { most ≤ MAX_WHOLE }
     requires whole { is_number whole.now ≡ true }

@@ -84,7 +84,7 @@ impl<'a> Iterator for LineIter<'a> {
 
 impl<'a> FusedIterator for LineIter<'a> {}
 
-// The bytes of the first line, and how many it takes with its line feed.
+/// The bytes of the first line, and how many it takes with its line feed.
 fn first_line(bytes: &[u8]) -> (&[u8], usize)
     requires { 0 < length bytes.now }
     ensures first { (number start : ℕ) → lines_from number start bytes.now
@@ -99,7 +99,7 @@ fn first_line(bytes: &[u8]) -> (&[u8], usize)
     }
 }
 
-// The text without a carriage return at its end.
+/// The text without a carriage return at its end.
 fn trim_return(text: &[u8]) -> &[u8]
     ensures value { result.now ≡ without_return text.now }
     ensures bounded { length result.now ≤ length text.now }

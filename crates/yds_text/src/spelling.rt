@@ -71,7 +71,7 @@ fn are_digits(text: &[u8]) -> bool
     text.iter().all(|byte| byte.is_ascii_digit())
 }
 
-// The number that `text` spells, where it is at most `most`.
+/// The number that `text` spells, where it is at most `most`.
 pub(crate) fn at_most(text: &[u8], most: u64) -> Result<u64, NumberFault>
     requires { is_number text.now ≡ true }
     ensures { result ≡ (if nat_le (digits_value 10 text.now) most then Ok (digits_value 10 text.now) else Err NumberFault.OutOfRange) }
@@ -82,7 +82,7 @@ pub(crate) fn at_most(text: &[u8], most: u64) -> Result<u64, NumberFault>
     }
 }
 
-// The number that digits write in base ten, or `None` where it takes more than 64 bits.
+/// The number that digits write in base ten, or `None` where it takes more than 64 bits.
 fn digits_value(digits: &[u8]) -> Option<u64>
     requires { All (λ byte. is_digit byte ≡ true) digits.now }
     ensures { MatchOption result (2 ^ 64 ≤ digits_value 10 digits.now) (λ value. value ≡ digits_value 10 digits.now) }

@@ -43,7 +43,7 @@ nonzero_div-length c =
     c.deref.result.now c.deref-3.result.now c.deref-2.result.now c.deref-4.result.now c.total-work.result c.total-length.result
     c.requires.instance c.requires.search c.requires.within c.requires.waiting c.deref.ensures.value c.deref-2.ensures.value c.deref-3.ensures.value c.deref-4.ensures.value
     c.total-work.ensures c.total-length.ensures in
-    omega (arith, c.greatest_divisor-divisor.ensures, are.lowest.some)
+    omega (arith, c.gcd-divisor.ensures.value, are.lowest.some)
 
 pub nonzero_div-work : goal.nonzero_div-work
 nonzero_div-work c =
@@ -51,7 +51,7 @@ nonzero_div-work c =
     c.deref.result.now c.deref-3.result.now c.deref-2.result.now c.deref-4.result.now c.total-work.result c.total-length.result
     c.requires.instance c.requires.search c.requires.within c.requires.waiting c.deref.ensures.value c.deref-2.ensures.value c.deref-3.ensures.value c.deref-4.ensures.value
     c.total-work.ensures c.total-length.ensures in
-    omega (arith, c.greatest_divisor-divisor.ensures, are.lowest.some)
+    omega (arith, c.gcd-divisor.ensures.value, are.lowest.some)
 
 pub scale-requires-clause-known : goal.scale-requires-clause-known
 scale-requires-clause-known c =
@@ -65,10 +65,10 @@ scale-requires-clause-fits c =
     c.deref.result.now c.deref-3.result.now c.deref-2.result.now c.deref-4.result.now c.total-work.result c.total-length.result
     c.requires.instance c.requires.search c.requires.within c.requires.waiting c.deref.ensures.value c.deref-2.ensures.value c.deref-3.ensures.value c.deref-4.ensures.value
     c.total-work.ensures c.total-length.ensures in
-    subst (λ (xs : List ℕ). (i : ℕ) → i < length xs → c.total-length.result / c.greatest_divisor-divisor.result * get_or xs i 0 < 18446744073709551616)
+    subst (λ (xs : List ℕ). (i : ℕ) → i < length xs → c.total-length.result / c.gcd-divisor.result * get_or xs i 0 < 18446744073709551616)
     (sym c.deref-5.ensures.value)
     (subst (λ (d : ℕ). (i : ℕ) → i < length c.args.instance.now.works.items → c.total-length.result / d * get_or c.args.instance.now.works.items i 0 < 18446744073709551616)
-    (sym c.greatest_divisor-divisor.ensures)
+    (sym c.gcd-divisor.ensures.value)
     (works_fit c.args.rows.now c.args.instance.now (found_view c.args._found.now) c.args._top c.total-work.result c.total-length.result c.requires.instance are))
 
 pub scale-requires-2-clause-known : goal.scale-requires-2-clause-known
@@ -83,18 +83,18 @@ scale-requires-2-clause-fits c =
     c.deref.result.now c.deref-3.result.now c.deref-2.result.now c.deref-4.result.now c.total-work.result c.total-length.result
     c.requires.instance c.requires.search c.requires.within c.requires.waiting c.deref.ensures.value c.deref-2.ensures.value c.deref-3.ensures.value c.deref-4.ensures.value
     c.total-work.ensures c.total-length.ensures in
-    subst (λ (xs : List ℕ). (i : ℕ) → i < length xs → c.total-work.result / c.greatest_divisor-divisor.result * get_or xs i 0 < 18446744073709551616)
+    subst (λ (xs : List ℕ). (i : ℕ) → i < length xs → c.total-work.result / c.gcd-divisor.result * get_or xs i 0 < 18446744073709551616)
     (sym c.deref-7.ensures.value)
     (subst (λ (d : ℕ). (i : ℕ) → i < length c.args.instance.now.lengths.items → c.total-work.result / d * get_or c.args.instance.now.lengths.items i 0 < 18446744073709551616)
-    (sym c.greatest_divisor-divisor.ensures)
+    (sym c.gcd-divisor.ensures.value)
     (lengths_fit c.args.rows.now c.args.instance.now (found_view c.args._found.now) c.args._top c.total-work.result c.total-length.result c.requires.instance are))
 
 pub fill-requires-clause-jobs : goal.fill-requires-clause-jobs
 fill-requires-clause-jobs c =
     let units = units_of c.args.rows.now c.args.instance.now (found_view c.args._found.now) c.args._top (part_view c.args.waiting.now) c.args.space.now
-    c.deref-5.result.now c.deref-7.result.now c.deref-6.result.now c.deref-8.result.now c.total-work.result c.total-length.result c.greatest_divisor-divisor.result
+    c.deref-5.result.now c.deref-7.result.now c.deref-6.result.now c.deref-8.result.now c.total-work.result c.total-length.result c.gcd-divisor.result
     c.deref_mut.result.now c.deref_mut-2.result.now c.scale.new.scaled c.scale-2.new.scaled c.requires.instance c.requires.search.all_stretches c.requires.waiting c.requires.space
-    c.deref-5.ensures.value c.deref-6.ensures.value c.deref-7.ensures.value c.deref-8.ensures.value c.greatest_divisor-divisor.ensures
+    c.deref-5.ensures.value c.deref-6.ensures.value c.deref-7.ensures.value c.deref-8.ensures.value c.gcd-divisor.ensures.value
     c.deref_mut.ensures.value c.deref_mut-2.ensures.value c.scale.ensures c.scale-2.ensures in
     let wants : c.deref_mut-3.result.now ≡ c.scale.new.scaled = c.deref_mut-3.ensures.value ∙ take_at _ _ _ (c.scale.auto.scaled ∙ c.deref_mut.ensures.len) in
     let rooms : c.deref_mut-4.result.now ≡ c.scale-2.new.scaled = c.deref_mut-4.ensures.value ∙ take_at _ _ _ (c.scale-2.auto.scaled ∙ c.deref_mut-2.ensures.len) in
@@ -106,9 +106,9 @@ fill-requires-clause-jobs c =
 pub fill-requires-clause-own : goal.fill-requires-clause-own
 fill-requires-clause-own c =
     let units = units_of c.args.rows.now c.args.instance.now (found_view c.args._found.now) c.args._top (part_view c.args.waiting.now) c.args.space.now
-    c.deref-5.result.now c.deref-7.result.now c.deref-6.result.now c.deref-8.result.now c.total-work.result c.total-length.result c.greatest_divisor-divisor.result
+    c.deref-5.result.now c.deref-7.result.now c.deref-6.result.now c.deref-8.result.now c.total-work.result c.total-length.result c.gcd-divisor.result
     c.deref_mut.result.now c.deref_mut-2.result.now c.scale.new.scaled c.scale-2.new.scaled c.requires.instance c.requires.search.all_stretches c.requires.waiting c.requires.space
-    c.deref-5.ensures.value c.deref-6.ensures.value c.deref-7.ensures.value c.deref-8.ensures.value c.greatest_divisor-divisor.ensures
+    c.deref-5.ensures.value c.deref-6.ensures.value c.deref-7.ensures.value c.deref-8.ensures.value c.gcd-divisor.ensures.value
     c.deref_mut.ensures.value c.deref_mut-2.ensures.value c.scale.ensures c.scale-2.ensures in
     let wants : c.deref_mut-3.result.now ≡ c.scale.new.scaled = c.deref_mut-3.ensures.value ∙ take_at _ _ _ (c.scale.auto.scaled ∙ c.deref_mut.ensures.len) in
     let rooms : c.deref_mut-4.result.now ≡ c.scale-2.new.scaled = c.deref_mut-4.ensures.value ∙ take_at _ _ _ (c.scale-2.auto.scaled ∙ c.deref_mut-2.ensures.len) in
@@ -133,9 +133,9 @@ returns-clause-attempt c =
     c.requires.instance c.requires.search c.requires.within c.requires.waiting c.deref.ensures.value c.deref-2.ensures.value c.deref-3.ensures.value c.deref-4.ensures.value
     c.total-work.ensures c.total-length.ensures in
     let units = units_of c.args.rows.now c.args.instance.now (found_view c.args._found.now) c.args._top (part_view c.args.waiting.now) c.args.space.now
-    c.deref-5.result.now c.deref-7.result.now c.deref-6.result.now c.deref-8.result.now c.total-work.result c.total-length.result c.greatest_divisor-divisor.result
+    c.deref-5.result.now c.deref-7.result.now c.deref-6.result.now c.deref-8.result.now c.total-work.result c.total-length.result c.gcd-divisor.result
     c.deref_mut.result.now c.deref_mut-2.result.now c.scale.new.scaled c.scale-2.new.scaled c.requires.instance c.requires.search.all_stretches c.requires.waiting c.requires.space
-    c.deref-5.ensures.value c.deref-6.ensures.value c.deref-7.ensures.value c.deref-8.ensures.value c.greatest_divisor-divisor.ensures
+    c.deref-5.ensures.value c.deref-6.ensures.value c.deref-7.ensures.value c.deref-8.ensures.value c.gcd-divisor.ensures.value
     c.deref_mut.ensures.value c.deref_mut-2.ensures.value c.scale.ensures c.scale-2.ensures in
     let wants : c.deref_mut-3.result.now ≡ c.scale.new.scaled = c.deref_mut-3.ensures.value ∙ take_at _ _ _ (c.scale.auto.scaled ∙ c.deref_mut.ensures.len) in
     let rooms : c.deref_mut-4.result.now ≡ c.scale-2.new.scaled = c.deref_mut-4.ensures.value ∙ take_at _ _ _ (c.scale-2.auto.scaled ∙ c.deref_mut-2.ensures.len) in

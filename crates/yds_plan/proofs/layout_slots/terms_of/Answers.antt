@@ -1,13 +1,11 @@
 use Rattle.std.proofs.Common.{◌≡◌, ◌/◌, ap, arith}
-use Rattle.std.proofs.lemmas.Nat.Gcd.{same_from_IsGcd}
 use Rattle.yds_model.specs.Divisor.{common_divisor}
-use Rattle.yds_model.proofs.Divisor.{divisor_is_greatest}
 use Rattle.yds_plan.proofs.Divisors.{lowest}
 use Rattle.yds_plan.proofs.layout_slots.terms_of.Goals as goal
 use Rattle.yds_plan.proofs.layout_slots.terms_of.Goals.{After-gcd-divisor}
 
 divisor : (c : After-gcd-divisor) → c.gcd-divisor.result ≡ common_divisor c.args.group.now.work c.args.group.now.length
-divisor c = same_from_IsGcd _ _ _ _ c.gcd-divisor.ensures.greatest (divisor_is_greatest c.args.group.now.work c.args.group.now.length)
+divisor c = c.gcd-divisor.ensures.value
 
 pub nonzero_div-result : goal.nonzero_div-result
 nonzero_div-result c =

@@ -8,6 +8,7 @@ use Rattle.std.proofs.lemmas.Slice.Eq.{bytes_eq-Decides}
 use Rattle.yds_model.specs.declared.reason.Reason.{Reason}
 use Rattle.yds_model.specs.declared.status.Status.{Status}
 use Rattle.yds_model.specs.declared.status.Status.TheVariants as statuses
+use Rattle.yds_model.specs.Scale.{of_whole}
 use Rattle.yds_model.specs.Text.{line}
 use Rattle.yds_model.specs.Document.{Document, no_document}
 use Rattle.yds_model.specs.Fields.{Fault}
@@ -31,9 +32,14 @@ abbrev read_of : Result Document (Fault Reason) → Document
 read_of (Ok document) = document
 read_of (Err fault) = no_document
 
+-- whether it is read
 abbrev is_read : Result Document (Fault Reason) → Bool
 is_read (Ok document) = true
 is_read (Err fault) = false
+
+-- the input is short, and read
+abbrev is_short_and_read : List ℕ → Bool
+is_short_and_read input = not (is_too_long input) && is_read (reading input)
 
 -- a document that is read is answered
 answers_read : (question : Question) (read : Result Document (Fault Reason)) (text : List ℕ) (status : Status) → is_read read ≡ true →
@@ -47,49 +53,53 @@ answers_short : (question : Question) (long : Bool) (input text : List ℕ) (sta
 answers_short question true input text status passed answers = absurd (true≢false (sym passed))
 answers_short question false input text status passed answers = answers
 
--- the input is short and read, the verdict is so, and the text is its line
-abbrev is_audit : List ℕ → List ℕ → Verdict → Bool
-is_audit input text verdict =
-    (not (is_too_long input) && is_read (reading input))
-    && (is_verdict (read_of (reading input)).jobs None (read_of (reading input)).slots verdict && bytes_eq text (line (verdict_words (read_of (reading input)) verdict)))
+-- so the question about an input is answered as that about its document
+answers_input : (question : Question) (input text : List ℕ) (status : Status) → is_short_and_read input ≡ true →
+    AnswersQuestion question (read_of (reading input)) text status → UnlessTooLong (is_too_long input) (AnswersReading question (reading input)) text status
+answers_input question input text status passed answers =
+    let parts = and_parts (not (is_too_long input)) (is_read (reading input)) passed in
+    answers_short question (is_too_long input) input text status parts.0 (answers_read question (reading input) text status parts.1 answers)
 
-audited : (input text : List ℕ) (verdict : Verdict) → is_audit input text verdict ≡ true → Row (codes "audit" ∷ []) input text (verdict_status verdict)
+-- the verdict is so, and the text is its line
+abbrev is_audit : List ℕ → Document → List ℕ → Verdict → Bool
+is_audit input document text verdict =
+    is_short_and_read input && (is_verdict document.jobs None document.slots verdict && bytes_eq text (line (verdict_words document verdict)))
+
+-- then `audit` answers so
+audited : (input text : List ℕ) (verdict : Verdict) → is_audit input (read_of (reading input)) text verdict ≡ true →
+    Row (codes "audit" ∷ []) input text (verdict_status verdict)
 audited input text verdict passed =
     let document : Document = read_of (reading input) in
-    let halves = and_parts _ _ passed in
-    let front = and_parts _ _ halves.0 in
-    let rest = and_parts _ _ halves.1 in
+    let parts = and_parts _ _ passed in
+    let told = and_parts _ _ parts.1 in
     record {
-      answers = answers_short AskAudit (is_too_long input) input text (verdict_status verdict) front.0
-          (answers_read AskAudit (reading input) text (verdict_status verdict) front.1 record {
-            verdict = verdict;
-            is_verdict = verdict_by_test document.jobs None document.slots verdict rest.0;
-            said = (bytes_eq-Decides text (line (verdict_words document verdict))).0 rest.1;
-            ended = refl;
-          });
+      answers = answers_input AskAudit input text (verdict_status verdict) parts.0 record {
+        verdict = verdict;
+        is_verdict = verdict_by_test document.jobs None document.slots verdict told.0;
+        said = (bytes_eq-Decides text (line (verdict_words document verdict))).0 told.1;
+        ended = refl;
+      };
     }
 
--- the same of a judgement
-abbrev is_check : List ℕ → List ℕ → Judgement → Bool
-is_check input text judgement =
-    (not (is_too_long input) && is_read (reading input))
-    && (is_judgement (read_of (reading input)).jobs (read_of (reading input)).slots (read_of (reading input)).levels judgement
-    && bytes_eq text (line (judgement_words (read_of (reading input)) judgement)))
+-- the judgement is so, and the text is its line
+abbrev is_check : List ℕ → Document → List ℕ → Judgement → Bool
+is_check input document text judgement =
+    is_short_and_read input && (is_judgement document.jobs document.slots document.levels judgement && bytes_eq text (line (judgement_words document judgement)))
 
-checked : (input text : List ℕ) (judgement : Judgement) → is_check input text judgement ≡ true → Row (codes "check" ∷ []) input text (judgement_status judgement)
+-- then `check` answers so
+checked : (input text : List ℕ) (judgement : Judgement) → is_check input (read_of (reading input)) text judgement ≡ true →
+    Row (codes "check" ∷ []) input text (judgement_status judgement)
 checked input text judgement passed =
     let document : Document = read_of (reading input) in
-    let halves = and_parts _ _ passed in
-    let front = and_parts _ _ halves.0 in
-    let rest = and_parts _ _ halves.1 in
+    let parts = and_parts _ _ passed in
+    let told = and_parts _ _ parts.1 in
     record {
-      answers = answers_short AskCheck (is_too_long input) input text (judgement_status judgement) front.0
-          (answers_read AskCheck (reading input) text (judgement_status judgement) front.1 record {
-            judgement = judgement;
-            is_judgement = judgement_by_test document.jobs document.slots document.levels judgement rest.0;
-            said = (bytes_eq-Decides text (line (judgement_words document judgement))).0 rest.1;
-            ended = refl;
-          });
+      answers = answers_input AskCheck input text (judgement_status judgement) parts.0 record {
+        judgement = judgement;
+        is_judgement = judgement_by_test document.jobs document.slots document.levels judgement told.0;
+        said = (bytes_eq-Decides text (line (judgement_words document judgement))).0 told.1;
+        ended = refl;
+      };
     }
 
 -- the two statuses differ
@@ -127,6 +137,18 @@ early = audited _ _ (Early 0) refl
 late : Row (codes "audit" ∷ []) (codes "job a 0 4 2\nslot a 3 5 2\n") (codes "late slot 1 a 5 deadline 4\n") statuses.No
 unfolding digits
 late = audited _ _ (Late 0) refl
+
+-- too little work for one of two jobs
+one_short : Row (codes "audit" ∷ []) (codes "job a 0 10 10\njob b 4 6 6\nslot a 0 4 5\nslot b 4 6 5\nslot a 6 10 5\n") (codes "work b given 5 wanted 6\n") statuses.No
+unfolding digits
+one_short = audited _ _ (WrongWork 1 (of_whole 5) 6) refl
+
+-- the same told of the other job is no answer
+other_short : Row (codes "audit" ∷ []) (codes "job a 0 10 10\njob b 4 6 6\nslot a 0 4 5\nslot b 4 6 5\nslot a 6 10 5\n") (codes "work a given 5 wanted 6\n") statuses.No → ⊥
+unfolding digits
+other_short row =
+    let same = (audit_and_check_answer_once.audit (codes "job a 0 10 10\njob b 4 6 6\nslot a 0 4 5\nslot b 4 6 5\nslot a 6 10 5\n") _ _ _ _ row.answers one_short.answers).0 in
+    absurd (true≢false (sym ((bytes_eq-Decides (codes "work a given 5 wanted 6\n") (codes "work b given 5 wanted 6\n")).1 same)))
 
 -- a third of a unit of work too little
 too_little : Row (codes "audit" ∷ []) (codes "job a 0 4 4\nslot a 0 4 3+2/3\n") (codes "work a given 3+2/3 wanted 4\n") statuses.No

@@ -23,6 +23,7 @@ without_it = ((feasible_decided idle_job 1 (slot 0 0 4 4 ∷ [])).0 refl, (earli
 abbrev with_it : List WholeSlot
 with_it = slot 1 0 1 0 ∷ slot 0 1 4 4 ∷ []
 
+-- as the definition wants it
 feasible_with_it : IsFeasibleAt idle_job 1 with_it
 feasible_with_it = (feasible_decided idle_job 1 with_it).0 refl
 
@@ -42,9 +43,11 @@ interrupted = (earliest_decided two_jobs 1 (slot 0 0 1 1 ∷ slot 1 1 2 1 ∷ sl
 abbrev later : List WholeSlot
 later = slot 0 0 1 1 ∷ slot 0 1 3 2 ∷ slot 1 3 4 1 ∷ []
 
+-- since each job gets its work in time
 feasible_later : IsFeasibleAt two_jobs 1 later
 feasible_later = (feasible_decided two_jobs 1 later).0 refl
 
+-- so it is refused
 refused_later : IsEarliestFirst two_jobs 1 later → ⊥
 refused_later = not_from_Decides (earliest_after two_jobs 1 [] later) (earliest_decided two_jobs 1 later) refl
 
@@ -52,8 +55,10 @@ refused_later = not_from_Decides (earliest_after two_jobs 1 [] later) (earliest_
 abbrev twins : List Job
 twins = record { release = 0; deadline = 2; work = 1 } ∷ record { release = 0; deadline = 2; work = 1 } ∷ []
 
+-- the first before the second
 first_twin : IsEarliestFirst twins 1 (slot 0 0 1 1 ∷ slot 1 1 2 1 ∷ [])
 first_twin = (earliest_decided twins 1 (slot 0 0 1 1 ∷ slot 1 1 2 1 ∷ [])).0 refl
 
+-- and not the other way round
 second_twin : IsEarliestFirst twins 1 (slot 1 0 1 1 ∷ slot 0 1 2 1 ∷ []) → ⊥
 second_twin = not_from_Decides (earliest_after twins 1 [] (slot 1 0 1 1 ∷ slot 0 1 2 1 ∷ [])) (earliest_decided twins 1 (slot 1 0 1 1 ∷ slot 0 1 2 1 ∷ [])) refl

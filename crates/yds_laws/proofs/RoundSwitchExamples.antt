@@ -31,6 +31,7 @@ jobs = record { release = 0; deadline = 3; work = 2 } ∷ record { release = 0; 
 abbrev points : List Point
 points = record { speed = 0; power = 0 } ∷ record { speed = 2; power = 1 } ∷ record { speed = 4; power = 3 } ∷ []
 
+-- since its slopes never fall
 its_hull : hull_of points ≡ points
 its_hull = refl
 
@@ -46,6 +47,7 @@ slot job from to work = record { job = job; from = from; to = to; work = of_whol
 abbrev planned : List WrittenSlot
 planned = slot 0 (of_whole 0) (part 0 6 7) 2 ∷ slot 1 (part 0 6 7) (of_whole 3) 5 ∷ []
 
+-- both in one level
 abbrev level : Level
 level = record { work = 7; length = 3; pieces = record { from = 0; to = 3 } ∷ []; members = 0 ∷ 1 ∷ [] }
 
@@ -57,6 +59,7 @@ planned_proper = proper_by_test jobs planned (level ∷ []) (feasible_by_test jo
 abbrev stretch : Piece
 stretch = record { from = 0; to = 3 }
 
+-- no job begins or ends within
 one_stretch : stretches jobs ≡ stretch ∷ []
 one_stretch = refl
 
@@ -74,6 +77,7 @@ split =
     splits_by_test 2 84 42 1 (hull_of points) level stretch planned (slot 0 (of_whole 0) (part 0 6 12) 2 ∷ []) (slot 1 (part 0 3 6) (of_whole 3) 5 ∷ [])
     refl refl refl refl
 
+-- so the one stretch is rounded
 rounds : RoundsStretches (hull_of points) (level ∷ []) (stretches jobs) planned written
 rounds = (
   planned,

@@ -1,10 +1,10 @@
 -- Rounding, tried on the plan of two nested jobs: a from 0 to 10 with work 10, b from 4 to 6 with work 6, on the points of the speeds
 -- 0, 1, 2 and 4, whose powers are 0, 1, 3 and 10. Each level's speed lies between two points, and all numbers are whole.
-use Rattle.std.proofs.Common.{◌≡◌, ℕ, List, [], ◌∷◌, refl, arith, inr}
+use Rattle.std.proofs.Common.{◌≡◌, ℕ, zero, suc, ◌-◌, ◌*◌, List, [], ◌∷◌, refl, ap, arith, inr}
 use Rattle.std.specs.List.{Contains}
 use Rattle.std.proofs.lemmas.List.Elements.{All-from_recursion}
 use Rattle.yds_model.specs.Job.{Job}
-use Rattle.yds_model.specs.Scale.{of_whole}
+use Rattle.yds_model.specs.Scale.{Fraction, of_whole}
 use Rattle.yds_model.specs.Slot.{WrittenSlot}
 use Rattle.yds_model.specs.Feasible.{IsFeasible}
 use Rattle.yds_model.specs.Level.{Level}
@@ -13,6 +13,7 @@ use Rattle.yds_model.specs.Table.{Point, AreRising, hull_of}
 use Rattle.yds_model.specs.Event.{stretches, LiesWritten}
 use Rattle.yds_model.specs.Rounding.{SplitsStretch, RoundsStretches, IsEnergyOf, IsRounding}
 use Rattle.yds_laws.proofs.OneEnergy.{energy_is_one}
+use Rattle.yds_laws.proofs.Decided.{scale_decided}
 use Rattle.yds_laws.proofs.DecidedSchedules.{feasible_by_test}
 use Rattle.yds_laws.proofs.DecidedPlans.{proper_by_test}
 use Rattle.yds_laws.proofs.DecidedRounding.{energy_by_test, slow_enough_by_test, splits_by_test}
@@ -29,6 +30,7 @@ point speed power = record { speed = speed; power = power }
 abbrev points : List Point
 points = point 0 0 ∷ point 1 1 ∷ point 2 3 ∷ point 4 10 ∷ []
 
+-- since its slopes never fall
 its_hull : hull_of points ≡ points
 its_hull = refl
 
@@ -48,6 +50,7 @@ level_b = record { work = 6; length = 2; pieces = record { from = 4; to = 6 } �
 abbrev level_a : Level
 level_a = record { work = 10; length = 8; pieces = record { from = 0; to = 4 } ∷ record { from = 6; to = 10 } ∷ []; members = 0 ∷ [] }
 
+-- fastest first
 abbrev levels : List Level
 levels = level_b ∷ level_a ∷ []
 
@@ -138,3 +141,17 @@ not_lowest is = absurd (omega (arith, is.lowest.below_one))
 -- Without the last point b's level is too fast.
 too_fast : IsRounding jobs (point 0 0 ∷ point 1 1 ∷ point 2 3 ∷ []) planned levels written (of_whole 25) → ⊥
 too_fast is = is.fast_enough 0 level_b (omega arith) (omega arith)
+
+-- The plan's slots can't stay: no point does 5 units of work in 4 of time,
+at_no_point : (point : Point) → Contains points point → 5 ≡ point.speed * (4 - 0) → ⊥
+at_no_point point (zero, within, is) at = absurd (omega (arith, at, ap (λ (x : Point). x.speed) is))
+at_no_point point (suc zero, within, is) at = absurd (omega (arith, at, ap (λ (x : Point). x.speed) is))
+at_no_point point (suc (suc zero), within, is) at = absurd (omega (arith, at, ap (λ (x : Point). x.speed) is))
+at_no_point point (suc (suc (suc zero)), within, is) at = absurd (omega (arith, at, ap (λ (x : Point). x.speed) is))
+at_no_point point (suc (suc (suc (suc place))), within, is) at = absurd (omega (arith, within))
+
+-- so they have no energy on the points
+no_energy : (energy : Fraction) → IsEnergyOf jobs points planned energy → ⊥
+no_energy energy is =
+    let spends = (is.at_scales.holds 1 ((scale_decided 1 planned).0 refl)).1.1 in
+    at_no_point spends.0 spends.2 spends.3

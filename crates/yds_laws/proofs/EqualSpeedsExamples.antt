@@ -1,19 +1,16 @@
 -- The one form of a plan where two jobs have the same speed: x from 0 to 2 and y from 2 to 4, each with work 2.
-use Rattle.std.proofs.Common.{ℕ, List, [], ◌∷◌, refl, arith}
+use Rattle.std.proofs.Common.{List, [], ◌∷◌, refl, arith}
 use Rattle.std.proofs.Math.Nat.{one-dvd}
 use Rattle.std.proofs.lemmas.Bool.Decides.{not_from_Decides}
 use Rattle.yds_model.specs.Job.{Job}
 use Rattle.yds_model.specs.Scale.{of_whole}
-use Rattle.yds_model.specs.Slot.{WrittenSlot, IsScale, slots_at}
+use Rattle.yds_model.specs.Slot.{WrittenSlot}
 use Rattle.yds_model.specs.Feasible.{IsFeasible}
 use Rattle.yds_model.specs.Level.{Level, no_level}
 use Rattle.yds_model.specs.Proper.{IsProper}
-use Rattle.yds_model.specs.Plan.{IsServedInStretches, IsPlan}
-use Rattle.yds_model.proofs.Scale.{least_scale_of}
-use Rattle.yds_laws.proofs.RunScale.{served_in_stretches_scaled}
-use Rattle.yds_laws.proofs.Decided.{scale_decided}
-use Rattle.yds_laws.proofs.DecidedSchedules.{feasible_by_test, stretches_decided}
-use Rattle.yds_laws.proofs.DecidedPlans.{is_slower, falling_decided, proper_by_test, plan_by_test}
+use Rattle.yds_model.specs.Plan.{IsPlan}
+use Rattle.yds_laws.proofs.DecidedSchedules.{feasible_by_test}
+use Rattle.yds_laws.proofs.DecidedPlans.{is_slower, falling_decided, proper_by_test, served_by_test, plan_by_test}
 
 -- x and y
 abbrev jobs : List Job
@@ -29,22 +26,14 @@ slots =
 feasible : IsFeasible jobs slots
 feasible = feasible_by_test jobs slots 1 refl refl
 
--- the slots are whole
-whole : IsScale 1 slots
-whole = (scale_decided 1 slots).0 refl
-
--- and served in stretches at each scale
-served : (scale : ℕ) → IsScale scale slots → IsServedInStretches jobs scale (slots_at scale slots)
-served scale is =
-    (least_scale_of slots (λ scale whole. IsServedInStretches jobs scale whole) 1 whole (λ scale is. one-dvd scale)
-    (λ k some. served_in_stretches_scaled jobs k 1 slots some whole ((stretches_decided jobs 1 (slots_at 1 slots)).0 refl))).holds scale is
-
 -- both in one level, of one piece: this is the plan
 abbrev together : List Level
 together = record { work = 4; length = 4; pieces = record { from = 0; to = 4 } ∷ []; members = 0 ∷ 1 ∷ [] } ∷ []
 
+-- by the laws of scale and of tests
 plan : IsPlan jobs slots together
-plan = plan_by_test jobs slots together (proper_by_test jobs slots together feasible refl) served refl
+plan =
+    plan_by_test jobs slots together (proper_by_test jobs slots together feasible refl) (served_by_test jobs slots 1 refl (λ scale is. one-dvd scale) refl) refl
 
 -- Each in a level of its own: this is proper,
 abbrev apart : List Level
@@ -52,6 +41,7 @@ apart =
     record { work = 2; length = 2; pieces = record { from = 0; to = 2 } ∷ []; members = 0 ∷ [] }
     ∷ record { work = 2; length = 2; pieces = record { from = 2; to = 4 } ∷ []; members = 1 ∷ [] } ∷ []
 
+-- since its level may have the same speed
 apart_proper : IsProper jobs slots apart
 apart_proper = proper_by_test jobs slots apart feasible refl
 
@@ -63,6 +53,7 @@ apart_no_plan plan = not_from_Decides (is_slower apart 1) (falling_decided apart
 abbrev touching : List Level
 touching = record { work = 4; length = 4; pieces = record { from = 0; to = 2 } ∷ record { from = 2; to = 4 } ∷ []; members = 0 ∷ 1 ∷ [] } ∷ []
 
+-- since pieces may touch
 touching_proper : IsProper jobs slots touching
 touching_proper = proper_by_test jobs slots touching feasible refl
 
@@ -74,6 +65,7 @@ touching_no_plan plan = let apart = plan.pieces_apart 0 no_level (omega arith) i
 abbrev turned : List Level
 turned = record { work = 4; length = 4; pieces = record { from = 0; to = 4 } ∷ []; members = 1 ∷ 0 ∷ [] } ∷ []
 
+-- since members may come in any order
 turned_proper : IsProper jobs slots turned
 turned_proper = proper_by_test jobs slots turned feasible refl
 
