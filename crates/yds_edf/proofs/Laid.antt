@@ -1,46 +1,26 @@
 -- Times and works in parts, and slots that follow one another at one speed.
 use Rattle.std.proofs.Common.{◌≡◌, ℕ, ◌+◌, ◌-◌, ◌*◌, ◌/◌, ◌%◌, ◌<◌, ◌≤◌, List, [], ◌∷◌, ◌++◌, length, get_or, take, ◌∙◌, refl, sym, subst, arith, inl, inr, ap}
 use Rattle.std.specs.List.{AllZip}
-use Rattle.std.specs.Int.{◌∣◌, IsGcd}
+use Rattle.std.specs.Int.{IsGcd}
 use Rattle.std.proofs.lemmas.List.{take_more, take_all}
 use Rattle.std.proofs.lemmas.List.Sums.{sum_by_more_le, sum_by_push}
 use Rattle.std.proofs.lemmas.Bool.{cases_lt, cases_eq, eq-eqb, ne_eqb}
 use Rattle.std.proofs.lemmas.Nat.Gcd.{same_from_IsGcd, mod-eq-zero_of_dvd}
-use Rattle.std.proofs.Math.Nat.{div-mul_cancel, div-le_of_le-mul, le_of_mul-le-mul_right, lt_of_mul-lt-mul_right, eq_of_mul-eq-mul_right, mul-le-mul_right, mul-pos, mul-div_cancel, dvd-mul_left}
+use Rattle.std.proofs.Math.Nat.{div-mul_cancel, div-le_of_le-mul, le_of_mul-le-mul_right, lt_of_mul-lt-mul_right, mul-le-mul_right, mul-pos, mul-div_cancel, dvd-mul_left}
 use Rattle.yds_model.specs.declared.limits.TheConstants.{MAX_DENOMINATOR, MAX_WHOLE, MAX_TIME, MAX_WORK, MAX_SLOT_WORK}
 use Rattle.yds_model.specs.Divisor.{common_divisor}
-use Rattle.yds_model.specs.Scale.{Fraction, at_scale, numerator, of_whole, of_parts}
+use Rattle.yds_model.specs.Scale.{Fraction, at_scale, of_whole, of_parts}
 use Rattle.yds_model.specs.Slot.{WrittenSlot}
 use Rattle.yds_model.specs.Piece.{Piece}
-use Rattle.yds_model.specs.Plan.{IsOver}
 use Rattle.yds_model.proofs.Divisor.{divisor_is_greatest, divisor_positive}
-use Rattle.yds_model.proofs.Fractions.{value-den, den_positive}
 use Rattle.yds_model.proofs.Fractions.{parts_alike}
 use Rattle.yds_fraction.specs.Mixed.{IsMixed}
 use Rattle.yds_model.specs.Within.{IsSlot}
 use Rattle.yds_fraction.proofs.Kept.{IsFraction-within}
-use Rattle.yds_slots.proofs.Parts.{of_parts_value}
+use Rattle.yds_slots.proofs.Parts.{of_parts_at, of_parts_over}
 use Rattle.yds_edf.specs.Shares.{JobShare, total_units}
 use Rattle.yds_events.specs.Stretch.{length_of}
 use Rattle.yds_edf.specs.Laid.{time_step, time_den, IsLaidSlot, FollowFrom, end_after, IsLaid}
-
--- the value at a scale, over a denominator of one's own
-parts_of : (value numer d den p scale : ℕ) → 1 ≤ d → value * d ≡ numer * scale → numer * den ≡ p * d → value * den ≡ p * scale
-parts_of value numer d den p scale some first second =
-    eq_of_mul-eq-mul_right d some (value * den) (p * scale) (omega (arith, ap (λ n. n * den) first, ap (λ n. n * scale) second))
-
--- so many parts at a scale of theirs
-parts_at : (scale p den : ℕ) → (of_parts p den).den ∣ scale → 1 ≤ scale → at_scale scale (of_parts p den) * den ≡ p * scale
-parts_at scale p den divides some =
-    parts_of (at_scale scale (of_parts p den)) (numerator (of_parts p den)) (of_parts p den).den den p scale
-    (den_positive scale (of_parts p den).den some divides) (value-den scale (of_parts p den) divides) (of_parts_value p den)
-
--- they are whole or over that denominator
-of_parts_over : (p den : ℕ) → IsOver den (of_parts p den)
-of_parts_over p den = elim (cases_eq (p % den) 0) [
-  | inl none ↦ rw (eq-eqb (p % den) 0 none) (inl refl)
-  | inr other ↦ rw (ne_eqb (p % den) 0 other) (inr refl)
-]
 
 -- the whole part of so many parts
 of_parts_whole : (p den : ℕ) → (of_parts p den).whole ≡ p / den
@@ -176,11 +156,11 @@ module _ (stretch : Piece) (capacity grain : ℕ) (forward : stretch.from < stre
     job = refl;
     work = refl;
     runs = λ scale some divided.
-        let begins = parts_at scale (stretch.from * time_den stretch capacity + served * time_step stretch capacity)
-        (time_den stretch capacity) divided.from some in
-        let ends = parts_at scale (stretch.from * time_den stretch capacity + (served + share.units) * time_step stretch capacity)
-        (time_den stretch capacity) divided.to some in
-        let work = parts_at scale share.units grain divided.work some in
+        let begins = of_parts_at scale (stretch.from * time_den stretch capacity + served * time_step stretch capacity)
+        (time_den stretch capacity) divided.from in
+        let ends = of_parts_at scale (stretch.from * time_den stretch capacity + (served + share.units) * time_step stretch capacity)
+        (time_den stretch capacity) divided.to in
+        let work = of_parts_at scale share.units grain divided.work in
         let whole : stretch.to ≡ stretch.from + length_of stretch = omega (arith, forward) in
         record {
           lies_in = record {

@@ -11,7 +11,7 @@ use Rattle.yds_model.specs.Slot.{WrittenSlot, WholeSlot, IsDivided, slot_at_scal
 use Rattle.yds_model.specs.Plan.{IsOver}
 use Rattle.yds_plan.specs.Found.{Group, Portion, per_time, per_work}
 use Rattle.yds_plan.specs.Laid.{slot_for, slots_from}
-use Rattle.yds_plan.proofs.Parts.{parts_value, parts_over}
+use Rattle.yds_slots.proofs.Parts.{of_parts_at, of_parts_over}
 
 -- what is written over the terms of the group's speed
 pub record IsOverTerms (group : Group) (slot : WrittenSlot) : Type 0 where
@@ -39,7 +39,7 @@ ends_of to p reached end scale e h some =
     le_of_mul-le-mul_right {k = p} (omega arith) some
 
 speed_of : (from to work p q begun units scale : ℕ) → from * p ≡ begun * scale → to * p ≡ (begun + units) * scale →
-    work * q ≡ (0 * q + units) * scale → work * q ≡ p * (to - from)
+    work * q ≡ units * scale → work * q ≡ p * (to - from)
 speed_of from to work p q begun units scale e f g = omega (arith, mul-sub p to from)
 
 after_of : (to from p reached scale : ℕ) → to * p ≡ reached * scale → reached * scale ≤ from * p → 1 ≤ p → to ≤ from
@@ -63,7 +63,7 @@ head_sum : (q scale w u work rest units more : ℕ) → w ≡ work + rest → u 
 head_sum q scale w u work rest units more e f g h =
     rw (e, f) (omega (arith, mul-add q work rest, mul-add scale units more))
 
-one_work : (q scale job work units : ℕ) (mine other : ℕ) → work * q ≡ (0 * q + units) * scale →
+one_work : (q scale job work units : ℕ) (mine other : ℕ) → work * q ≡ units * scale →
     q * cond (mine == other) work 0 ≡ scale * cond (other == mine) units 0
 one_work q scale job work units mine other e = grind (arith, nat_tests)
 
@@ -88,9 +88,9 @@ over_terms group start done [] = All-nil (IsOverTerms group)
 over_terms group start done (portion ∷ portions) =
     All-cons (IsOverTerms group) _ (slots_from group start (done + portion.units) portions)
     (record {
-      from = parts_over start done (per_time group);
-      to = parts_over start (done + portion.units) (per_time group);
-      work = parts_over 0 portion.units (per_work group);
+      from = of_parts_over (start * per_time group + done) (per_time group);
+      to = of_parts_over (start * per_time group + (done + portion.units)) (per_time group);
+      work = of_parts_over portion.units (per_work group);
     })
     (over_terms group start (done + portion.units) portions)
 
@@ -111,9 +111,9 @@ module _ (group : Group) (scale start : ℕ) (positive : 1 ≤ scale) (some_time
       All (Fills scale start done end (per_time group) (per_work group)) (slots_at scale (slots_from group start done portions))
   fills end done [] divided some room = All-nil (Fills scale start done end (per_time group) (per_work group))
   fills end done (portion ∷ portions) divided some room =
-      let from = parts_value scale start done (per_time group) divided.0.from in
-      let to = parts_value scale start (done + portion.units) (per_time group) divided.0.to in
-      let work = parts_value scale 0 portion.units (per_work group) divided.0.work in
+      let from = of_parts_at scale (start * per_time group + done) (per_time group) divided.0.from in
+      let to = of_parts_at scale (start * per_time group + (done + portion.units)) (per_time group) divided.0.to in
+      let work = of_parts_at scale portion.units (per_work group) divided.0.work in
       let all = sum_by-cons (λ (one : Portion). one.units) portion portions in
       All-cons (Fills scale start done end (per_time group) (per_work group)) _ (slots_at scale (slots_from group start (done + portion.units) portions))
       (record {
@@ -137,7 +137,7 @@ module _ (group : Group) (scale start : ℕ) (positive : 1 ≤ scale) (some_time
       AllPairs (FollowsBy R) (slots_at scale (slots_from group start done portions))
   filled_pairs R end done [] divided some room pairs = λ i j d order within. absurd (omega arith)
   filled_pairs R end done (portion ∷ portions) divided some room pairs =
-      let to = parts_value scale start (done + portion.units) (per_time group) divided.0.to in
+      let to = of_parts_at scale (start * per_time group + (done + portion.units)) (per_time group) divided.0.to in
       let all = sum_by-cons (λ (one : Portion). one.units) portion portions in
       let rest = slots_from group start (done + portion.units) portions in
       let later = fills end (done + portion.units) portions divided.1 (All-tail (λ portion. 1 ≤ portion.units) portion portions some) (omega arith) in
@@ -159,5 +159,5 @@ filled_work group scale start done job (portion ∷ portions) divided =
     head_sum (per_work group) scale _ _ _ _ _ _
     (sum_by-cons (λ (slot : WholeSlot). cond (job == slot.job) slot.work 0) (slot_at_scale scale (slot_for group start done portion)) rest)
     (sum_by-cons (λ (one : Portion). cond (one.job == job) one.units 0) portion portions)
-    (one_work (per_work group) scale job _ portion.units job portion.job (parts_value scale 0 portion.units (per_work group) divided.0.work))
+    (one_work (per_work group) scale job _ portion.units job portion.job (of_parts_at scale portion.units (per_work group) divided.0.work))
     (filled_work group scale start (done + portion.units) job portions divided.1)

@@ -1,24 +1,24 @@
 -- The slots of a stretch are within the limits of slots, and each can stand after those before it.
-use Rattle.std.proofs.Common.{◌≡◌, ℕ, ◌+◌, ◌*◌, ◌/◌, ◌%◌, ◌<◌, ◌≤◌, ◌==◌, ◌⊎◌, List, [], ◌∷◌, ◌++◌, ◌∙◌, length, get_or, take, sym, refl, ap, arith, inl, inr, max}
+use Rattle.std.proofs.Common.{◌≡◌, ℕ, ◌+◌, ◌*◌, ◌/◌, ◌<◌, ◌≤◌, ◌==◌, ◌⊎◌, List, [], ◌∷◌, ◌++◌, ◌∙◌, length, get_or, take, sym, refl, ap, arith, inl, inr, max}
 use Rattle.std.specs.Prelude.{cond}
 use Rattle.std.specs.List.{All, fold}
 use Rattle.std.proofs.lemmas.Bool.{cond_both, eqb-true}
 use Rattle.std.proofs.lemmas.List.Sums.{sum_by-cons, sum_by_push, sum_by_more_le, fold-append}
 use Rattle.std.proofs.lemmas.List.{append_assoc, length-append, length-map, length-take, take-map, take_more, get_or-map}
 use Rattle.std.proofs.lemmas.List.Elements.{All-nil, All-cons, All-head, All-tail}
-use Rattle.std.proofs.Math.Nat.{div-le_self, div-le_of_le-mul, mul-add-div_right, mul-le-mul_left}
-use Rattle.yds_model.specs.declared.limits.TheConstants.{MAX_DENOMINATOR, MAX_LEVEL_WORK, MAX_SLOTS, MAX_SLOT_WORK, MAX_TIME, MAX_WHOLE}
-use Rattle.yds_model.specs.Scale.{Fraction, of_whole}
+use Rattle.std.proofs.Math.Nat.{div-le_self, div-le_of_le-mul, mul-le-mul_left}
+use Rattle.yds_model.specs.declared.limits.TheConstants.{MAX_LEVEL_WORK, MAX_SLOTS, MAX_SLOT_WORK, MAX_TIME, MAX_WHOLE}
+use Rattle.yds_model.specs.Scale.{Fraction, of_parts}
+use Rattle.yds_model.proofs.Fractions.{parts_den, parts_alike}
 use Rattle.yds_model.specs.Slot.{WrittenSlot}
 use Rattle.yds_model.specs.Audit.{grain_of}
-use Rattle.yds_fraction.specs.Mixed.{IsMixed}
 use Rattle.yds_slots.specs.Schedule.{WrittenSchedule, FitsGrain}
-use Rattle.yds_model.specs.Within.{IsSlot}
+use Rattle.yds_model.specs.Within.{IsFraction, IsSlot}
 use Rattle.yds_fraction.proofs.Kept.{IsFraction-within}
 use Rattle.yds_plan.specs.declared.portion.Portion.{Portion as Struct}
 use Rattle.yds_plan.specs.Found.{Group, Portion, per_time, per_work, no_portion}
 use Rattle.yds_plan.specs.Views.{portion_view, portions_view}
-use Rattle.yds_plan.specs.Laid.{with_parts, slot_for, slots_from}
+use Rattle.yds_plan.specs.Laid.{time_after, slot_for, slots_from}
 use Rattle.yds_plan.specs.Room.{IsWithin, CanFill}
 use Rattle.yds_plan.proofs.Divisors.{lowest}
 use Rattle.yds_plan.proofs.Buckets.{no_struct}
@@ -30,40 +30,18 @@ pub record IsFilled (before : WrittenSchedule) (group : Group) (start : ℕ) (po
   pub laid : now.slots ≡ before.slots ++ slots_from group start 0 (portions_view portions)
   pub units : done ≡ units_of (portions_view portions)
 
--- a fraction's whole part and denominator
-pub parts_whole : (whole parts den : ℕ) → (with_parts whole parts den).whole ≡ whole + parts / den
-parts_whole whole parts den =
-    cond_both (parts % den == 0) (of_whole (whole + parts / den)) (record { whole = whole + parts / den; num = parts % den; den = den })
-    (λ x. x.whole ≡ whole + parts / den) (λ is. refl) (λ isnt. refl)
-
-pub parts_den : (whole parts den : ℕ) → ((with_parts whole parts den).den ≡ 1) ⊎ ((with_parts whole parts den).den ≡ den)
-parts_den whole parts den =
-    cond_both (parts % den == 0) (of_whole (whole + parts / den)) (record { whole = whole + parts / den; num = parts % den; den = den })
-    (λ x. (x.den ≡ 1) ⊎ (x.den ≡ den)) (λ is. inl refl) (λ isnt. inr refl)
-
--- so many parts from the start on end by the end
-pub ends_by : (start parts den end : ℕ) → 1 ≤ den → start * den + parts ≤ end * den → start + parts / den ≤ end
-ends_by start parts den end some within =
-    rw (← mul-add-div_right some start parts) (div-le_of_le-mul den (omega arith))
-
-alike : (a b den : ℕ) → (a ≡ 1) ⊎ (a ≡ den) → (b ≡ 1) ⊎ (b ≡ den) → (a ≡ b) ⊎ ((a ≡ 1) ⊎ (b ≡ 1))
-alike a b den (inl one) other = inr (inl one)
-alike a b den (inr here) (inl one) = inr (inr one)
-alike a b den (inr here) (inr there) = inl (here ∙ sym there)
+-- so many parts of a limit at most are a fraction within it
+pub kept_within : (most parts den : ℕ) (x : Fraction) → IsFraction MAX_WHOLE x → x.whole ≡ parts / den → parts ≤ den * most → IsFraction most x
+kept_within most parts den x kept whole within = IsFraction-within MAX_WHOLE most x kept (rw whole (div-le_of_le-mul den within))
 
 -- three fractions of a portion make a slot
-pub slot_is : (p q start done units job : ℕ) (from to work : Fraction) → IsWithin p q start done units →
-    from ≡ with_parts start done p → to ≡ with_parts start (done + units) p → work ≡ with_parts 0 units q →
-    IsMixed MAX_DENOMINATOR from → IsMixed MAX_DENOMINATOR to → IsMixed MAX_DENOMINATOR work →
-    IsSlot (record { job = job; from = from; to = to; work = work })
-slot_is p q start done units job from to work within is_from is_to is_work mixed_from mixed_to mixed_work = record {
-  from = IsFraction-within MAX_WHOLE MAX_TIME from mixed_from.fraction
-      (rw (is_from, parts_whole start done p) (ends_by start done p MAX_TIME within.some_time (omega (arith, within.ends))));
-  to = IsFraction-within MAX_WHOLE MAX_TIME to mixed_to.fraction
-      (rw (is_to, parts_whole start (done + units) p) (ends_by start (done + units) p MAX_TIME within.some_time within.ends));
-  work = IsFraction-within MAX_WHOLE MAX_SLOT_WORK work mixed_work.fraction
-      (rw (is_work, parts_whole 0 units q) (ends_by 0 units q MAX_SLOT_WORK within.some_work (omega (arith, within.work))));
-  ends_alike = rw (is_from, is_to) (alike _ _ p (parts_den start done p) (parts_den start (done + units) p));
+pub slot_is : (p start done units job : ℕ) (from to work : Fraction) → from ≡ time_after start done p → to ≡ time_after start (done + units) p →
+    IsFraction MAX_TIME from → IsFraction MAX_TIME to → IsFraction MAX_SLOT_WORK work → IsSlot (record { job = job; from = from; to = to; work = work })
+slot_is p start done units job from to work is_from is_to kept_from kept_to kept_work = record {
+  from = kept_from;
+  to = kept_to;
+  work = kept_work;
+  ends_alike = rw (is_from, is_to) (parts_alike (start * p + done) (start * p + (done + units)) p);
 }
 
 -- one slot more
@@ -113,7 +91,7 @@ grain_after q job slots more some now all =
 slots_have_grain : (group : Group) (start done job : ℕ) (portions : List Portion) → All (HasGrain (per_work group) job) (slots_from group start done portions)
 slots_have_grain group start done job [] = All-nil (HasGrain (per_work group) job)
 slots_have_grain group start done job (portion ∷ portions) =
-    All-cons (HasGrain (per_work group) job) _ (slots_from group start (done + portion.units) portions) (λ same. parts_den 0 portion.units (per_work group))
+    All-cons (HasGrain (per_work group) job) _ (slots_from group start (done + portion.units) portions) (λ same. parts_den portion.units (per_work group))
     (slots_have_grain group start (done + portion.units) job portions)
 
 fits : (den grain q : ℕ) → (den ≡ 1) ⊎ (den ≡ q) → (grain ≡ 1) ⊎ (grain ≡ q) → (den ≡ 1) ⊎ ((grain ≡ 1) ⊎ (den ≡ grain))
@@ -123,11 +101,11 @@ fits den grain q (inr here) (inr there) = inr (inr (here ∙ sym there))
 
 -- the next portion's slot has its job's grain
 pub fits_next : (q start done job units : ℕ) (group : Group) (slots now : List WrittenSlot) (portions : List Portion) (slot : WrittenSlot) → 1 ≤ q →
-    q ≡ per_work group → slot.job ≡ job → slot.work ≡ with_parts 0 units q → now ≡ slots ++ slots_from group start done portions →
+    q ≡ per_work group → slot.job ≡ job → slot.work ≡ of_parts units q → now ≡ slots ++ slots_from group start done portions →
     (grain_of slots job ≡ 1) ⊎ (grain_of slots job ≡ q) → FitsGrain now slot
 fits_next q start done job units group slots now portions slot some is_q is_job is_work is_now before =
     rw (is_now, is_job, is_work)
-    (fits _ _ q (parts_den 0 units q) (grain_after q job slots (slots_from group start done portions) some before
+    (fits _ _ q (parts_den units q) (grain_after q job slots (slots_from group start done portions) some before
     (rw is_q (slots_have_grain group start done job portions))))
 
 same_slot : (job job2 : ℕ) (from from2 to to2 work work2 : Fraction) → job ≡ job2 → from ≡ from2 → to ≡ to2 → work ≡ work2 →
@@ -201,15 +179,15 @@ module _ (items : List Struct) (i : ℕ) (within : i < length items) where
   -- a slot more, of the next portion
   pub filled_next : (before now next : WrittenSchedule) (group : Group) (start done p q : ℕ) (slot : WrittenSlot) →
       IsFilled before group start (take i items) done now → p ≡ per_time group → q ≡ per_work group →
-      slot.job ≡ (get_or items i no_struct).job → slot.from ≡ with_parts start done p →
-      slot.to ≡ with_parts start (done + (get_or items i no_struct).units) p → slot.work ≡ with_parts 0 (get_or items i no_struct).units q →
+      slot.job ≡ (get_or items i no_struct).job → slot.from ≡ time_after start done p →
+      slot.to ≡ time_after start (done + (get_or items i no_struct).units) p → slot.work ≡ of_parts (get_or items i no_struct).units q →
       next ≡ record { jobs = now.jobs; slots = now.slots ++ slot ∷ [] } →
       IsFilled before group start (take (i + 1) items) (done + (get_or items i no_struct).units) next
   filled_next before now next group start done p q slot filled is_p is_q is_job is_from is_to is_work is_next =
       let portion = portion_view (get_or items i no_struct) in
       let here : slot ≡ slot_for group start done portion =
-      same_slot _ _ _ _ _ _ _ _ is_job (is_from ∙ ap (with_parts start done) is_p)
-      (is_to ∙ ap (with_parts start (done + portion.units)) is_p) (is_work ∙ ap (with_parts 0 portion.units) is_q) in
+      same_slot _ _ _ _ _ _ _ _ is_job (is_from ∙ ap (time_after start done) is_p)
+      (is_to ∙ ap (time_after start (done + portion.units)) is_p) (is_work ∙ ap (of_parts portion.units) is_q) in
       record {
         jobs_stay = ap (λ schedule. schedule.jobs) is_next ∙ filled.jobs_stay;
         laid =

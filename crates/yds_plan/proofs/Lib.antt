@@ -1,5 +1,4 @@
 pub mod Divisors
-pub mod Parts
 pub mod KeySums
 pub mod Merged
 pub mod Speeds

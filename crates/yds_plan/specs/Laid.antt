@@ -1,8 +1,8 @@
 -- What the search finds, laid out: the slots of a plan and its levels.
-use Rattle.std.specs.Prelude.{ℕ, zero, suc, Bool, ◌+◌, ◌*◌, ◌/◌, ◌%◌, List, [], ◌∷◌, length, map, sum_by, nat_lt, ◌==◌, if◌then◌else◌}
+use Rattle.std.specs.Prelude.{ℕ, zero, suc, Bool, ◌+◌, ◌*◌, List, [], ◌∷◌, length, map, sum_by, nat_lt, ◌==◌, if◌then◌else◌}
 use Rattle.std.specs.List.{filter, flat_map, range_with_len}
 use Rattle.yds_model.specs.Job.{Job}
-use Rattle.yds_model.specs.Scale.{Fraction, of_whole}
+use Rattle.yds_model.specs.Scale.{Fraction, of_parts}
 use Rattle.yds_model.specs.Slot.{WrittenSlot}
 use Rattle.yds_model.specs.Piece.{Piece}
 use Rattle.yds_model.specs.Level.{Level}
@@ -10,20 +10,17 @@ use Rattle.yds_model.specs.Event.{stretches}
 use Rattle.yds_plan.specs.Found.{Group, Portion, Found, group_at, per_time, per_work, group_of}
 use Rattle.yds_model.specs.Comparison.{stretch_at}
 
--- So much, and so many parts of which `den` make one. It is whole where they make whole ones, and else it has the
--- denominator `den`.
-abbrev pub with_parts : ℕ → ℕ → ℕ → Fraction
-with_parts whole parts den =
-    if parts % den == 0 then of_whole (whole + parts / den)
-    else record { whole = whole + parts / den; num = parts % den; den = den }
+-- the time at which so many units are done, from `start` on, where `per_time` of them fill a unit of time
+abbrev pub time_after : ℕ → ℕ → ℕ → Fraction
+time_after start done per_time = of_parts (start * per_time + done) per_time
 
 -- the slot of a portion, in a stretch that begins at `start`, where `done` units are done before it
 abbrev pub slot_for : Group → ℕ → ℕ → Portion → WrittenSlot
 slot_for group start done portion = record {
   job = portion.job;
-  from = with_parts start done (per_time group);
-  to = with_parts start (done + portion.units) (per_time group);
-  work = with_parts 0 portion.units (per_work group);
+  from = time_after start done (per_time group);
+  to = time_after start (done + portion.units) (per_time group);
+  work = of_parts portion.units (per_work group);
 }
 
 -- one portion after another, without a gap

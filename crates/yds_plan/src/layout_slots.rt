@@ -1,20 +1,20 @@
-ghost use Rattle.std.specs.Prelude.{◌≡◌, ℕ, ◌+◌, ◌/◌, ◌<◌, ◌≤◌, ◌++◌, [], length, map, IfOk};
+ghost use Rattle.std.specs.Prelude.{◌≡◌, ℕ, ◌+◌, ◌*◌, ◌<◌, ◌≤◌, ◌++◌, [], length, map, IfOk};
 ghost use Rattle.std.specs.List.{All, range_with_len};
-ghost use Rattle.yds_model.specs.declared.limits.TheConstants.{MAX_DENOMINATOR, MAX_JOBS, MAX_WHOLE};
+ghost use Rattle.yds_model.specs.declared.limits.TheConstants.{MAX_DENOMINATOR, MAX_JOBS, MAX_TIME};
 ghost use Rattle.yds_model.specs.Job.{IsJob};
 ghost use Rattle.yds_model.specs.Event.{stretches};
-ghost use Rattle.yds_fraction.specs.Mixed.{IsMixed};
-ghost use Rattle.yds_model.specs.Within.{IsSlot};
+ghost use Rattle.yds_model.specs.Scale.{of_parts};
+ghost use Rattle.yds_model.specs.Within.{IsFraction, IsSlot};
 ghost use Rattle.yds_plan.specs.Found.{IsFound, group_at, per_time, per_work};
 ghost use Rattle.yds_plan.specs.Views.{portions_view, group_view, found_view};
-ghost use Rattle.yds_plan.specs.Laid.{with_parts, slots_from, slots_of};
+ghost use Rattle.yds_plan.specs.Laid.{time_after, slots_from, slots_of};
 ghost use Rattle.yds_plan.specs.Room.{structs_in, IsWithin, CanFill, AreTerms};
 
 use crate::found::{Found, Group};
 use crate::portion::Portion;
 use std::alloc::Global;
 use yds_events::Stretch;
-use yds_fraction::{Moment, gcd};
+use yds_fraction::{Amount, Moment, gcd};
 use yds_model::{JobRow, Memory};
 use yds_slots::{Schedule, Slot};
 
@@ -45,15 +45,16 @@ pub(crate) fn portions_by_stretch(
     Ok(lists)
 }
 
-/// So much, and so many parts of which `den` make one.
-fn moment(whole: u64, parts: u64, den: u64) -> Moment
-    requires some { 1 ≤ den }
-    requires den { den ≤ MAX_DENOMINATOR }
-    requires whole { whole + parts / den ≤ MAX_WHOLE }
-    ensures value { result ≡ with_parts whole parts den }
-    ensures kept { IsMixed MAX_DENOMINATOR result }
+/// The time at which so many units are done, from `start` on, where `per_time` of them fill a unit of time.
+fn time_after(start: u32, done: u64, per_time: u64) -> Moment
+    requires some { 1 ≤ per_time }
+    requires den { per_time ≤ MAX_DENOMINATOR }
+    requires ends { start * per_time + done ≤ MAX_TIME * per_time }
+    ensures value { result ≡ time_after start done per_time }
+    ensures kept { IsFraction MAX_TIME result }
 {
-    Moment::new(whole + parts / den, parts % den, den)
+    let start = u128::from(start) * u128::from(per_time);
+    Moment::of_parts(start + u128::from(done), per_time)
 }
 
 /// A speed in lowest terms: `per_time` units fill a unit of time, and `per_work` of them are a unit of work.
@@ -93,16 +94,16 @@ fn terms_of_groups(alloc: Global, groups: &[Group]) -> Result<Vec<Terms>, Memory
 fn slot_of(portion: &Portion, start: u32, done: u64, terms: Terms) -> Slot
     requires { IsWithin terms.per_time terms.per_work start done portion.now.units }
     ensures job { result.job ≡ portion.now.job }
-    ensures from { result.from ≡ with_parts start done terms.per_time }
-    ensures to { result.to ≡ with_parts start (done + portion.now.units) terms.per_time }
-    ensures work { result.work ≡ with_parts 0 portion.now.units terms.per_work }
+    ensures from { result.from ≡ time_after start done terms.per_time }
+    ensures to { result.to ≡ time_after start (done + portion.now.units) terms.per_time }
+    ensures work { result.work ≡ of_parts portion.now.units terms.per_work }
     ensures kept { IsSlot result }
 {
     Slot {
         job: portion.job,
-        from: moment(u64::from(start), done, terms.per_time),
-        to: moment(u64::from(start), done + portion.units, terms.per_time),
-        work: moment(0, portion.units, terms.per_work),
+        from: time_after(start, done, terms.per_time),
+        to: time_after(start, done + portion.units, terms.per_time),
+        work: Amount::of_parts(u128::from(portion.units), terms.per_work),
     }
 }
 

@@ -2,12 +2,15 @@
 use Rattle.std.proofs.Common.{◌≡◌, ℕ, ◌+◌, ◌*◌, ◌/◌, ◌%◌, ◌<◌, ◌≤◌, ◌⊎◌, inl, inr, List, [], ◌∷◌, ◌++◌, refl, sym, ap, ◌∙◌, arith, Bool, true, false, eqb-true}
 use Rattle.std.specs.Prelude.{◌==◌, if◌then◌else◌, sum_by}
 use Rattle.std.specs.List.{All}
-use Rattle.std.proofs.lemmas.Bool.{cases_eq, ne_eqb, eq-eqb}
+use Rattle.std.specs.Int.{◌∣◌}
+use Rattle.std.proofs.lemmas.Bool.{cases_eq, cond_both, ne_eqb, eq-eqb}
 use Rattle.std.proofs.lemmas.Nat.{div-mul-add, mod-mul-add}
 use Rattle.std.proofs.Math.Nat.{div-one, div-add-mod, eq_of_mul-eq-mul_right, mul-pos}
 use Rattle.std.proofs.lemmas.List.Sums.{sum_by_push, sum_by-cons}
 use Rattle.std.proofs.lemmas.List.Elements.{All-tail}
-use Rattle.yds_model.specs.Scale.{Fraction, of_whole, of_parts, numerator}
+use Rattle.yds_model.specs.Scale.{Fraction, of_whole, of_parts, at_scale, numerator}
+use Rattle.yds_model.specs.Plan.{IsOver}
+use Rattle.yds_model.proofs.Fractions.{value-den}
 use Rattle.yds_model.specs.Slot.{WrittenSlot}
 
 -- the works of the job together, in parts of one g-th
@@ -47,6 +50,30 @@ of_parts_value_by p g false e = omega (arith, ap (λ n. n * g) (div-add-mod p g)
 -- the value of so many parts
 pub of_parts_value : (p g : ℕ) → numerator (of_parts p g) * g ≡ p * (of_parts p g).den
 of_parts_value p g = of_parts_value_by p g (p % g == 0) refl
+
+-- it is whole, or has the denominator
+pub of_parts_over : (p g : ℕ) → IsOver g (of_parts p g)
+of_parts_over p g = elim (cases_eq (p % g) 0) [
+  | inl none ↦ rw (eq-eqb (p % g) 0 none) (inl refl)
+  | inr other ↦ rw (ne_eqb (p % g) 0 other) (inr refl)
+]
+
+whole_at : (q p g scale any : ℕ) → p ≡ q * g → (q * scale + 0 * any) * g ≡ p * scale
+whole_at q p g scale any e = omega (arith, ap (λ n. n * scale) e)
+
+value_at : (q r p g scale value : ℕ) → p ≡ q * g + r → value * g ≡ (q * g + r) * scale → value * g ≡ p * scale
+value_at q r p g scale value e h = omega (arith, h, ap (λ n. n * scale) e)
+
+-- its value at each scale that it has
+abbrev HasParts : ℕ → ℕ → ℕ → Fraction → Type 0
+HasParts scale p g x = x.den ∣ scale → at_scale scale x * g ≡ p * scale
+
+pub of_parts_at : (scale p g : ℕ) → HasParts scale p g (of_parts p g)
+of_parts_at scale p g =
+    cond_both (p % g == 0) (of_whole (p / g)) (record { whole = p / g; num = p % g; den = g }) (HasParts scale p g)
+    (λ none divides. whole_at (p / g) p g scale (scale / 1) (omega (arith, div-add-mod p g, eqb-true (p % g) 0 none)))
+    (λ some divides. value_at (p / g) (p % g) p g scale _ (omega (arith, div-add-mod p g))
+    (value-den scale (record { whole = p / g; num = p % g; den = g }) divides))
 
 whole_parts : (w g p : ℕ) → 1 ≤ g → p ≡ w * g → (p / g ≡ w) × (p % g ≡ 0)
 whole_parts w g p some e =
