@@ -1,10 +1,10 @@
 ghost use Rattle.std.specs.Prelude.{◌≡◌, ◌<◌, ◌≤◌, ◌↔◌, length, IfOk};
 ghost use Rattle.std.specs.List.{All};
-ghost use Rattle.yds_model.specs.declared.limits.TheConstants.{MAX_JOBS};
+ghost use Rattle.yds_model.specs.declared.limits.TheConstants.{MAX_JOBS, MAX_SLOTS};
 ghost use Rattle.yds_model.specs.Excess.{IsLeast};
 ghost use Rattle.yds_model.specs.Audit.{AreSlots};
 ghost use Rattle.yds_model.specs.Proper.{IsProper};
-ghost use Rattle.yds_model.specs.Judgement.{IsJudgement};
+ghost use Rattle.yds_model.specs.Judgement.{SlotsHold, IsJudgement};
 ghost use Rattle.yds_certificate.specs.Certificate.{IsCertificate};
 ghost use Rattle.yds_checker.specs.Judgement.{judgement_view};
 
@@ -19,30 +19,25 @@ use crate::sums::first_wrong_sums;
 use crate::windows::first_uncovered;
 use std::alloc::Global;
 use yds_audit::{Verdict, audit};
-use yds_certificate::Certificate;
+use yds_certificate::{Certificate, Level};
 use yds_model::{JobRow, Memory};
-use yds_slots::Schedule;
+use yds_slots::{Schedule, Slot};
 
-/// The judgement of the seven conditions.
-fn judgement_of(
+/// The judgement of these levels, for slots that are feasible.
+fn judgement_of_levels(
     alloc: Global,
     rows: &[JobRow],
-    schedule: &Schedule,
-    certificate: &Certificate,
+    slots: &[Slot],
+    levels: &[Level],
 ) -> Result<Judgement, Memory>
-    requires jobs { schedule.now.jobs ≡ length rows.now }
     requires few { length rows.now ≤ MAX_JOBS }
-    requires known { All (λ level. All (λ number. number < length rows.now) level.members) certificate.now }
-    ensures exact { IfOk result (λ judgement. IsJudgement rows.now schedule.now.slots certificate.now (judgement_view judgement)) }
-    ensures agree { AreSlots schedule.now.jobs schedule.now.slots }
-    ensures kept { IsCertificate certificate.now }
+    requires few_slots { length slots.now ≤ MAX_SLOTS }
+    requires agree { AreSlots (length rows.now) slots.now }
+    requires feasible { SlotsHold rows.now slots.now }
+    requires kept { IsCertificate levels.now }
+    requires known { All (λ level. All (λ number. number < length rows.now) level.members) levels.now }
+    ensures { IfOk result (λ judgement. IsJudgement rows.now slots.now levels.now (judgement_view judgement)) }
 {
-    let slots = schedule.slots();
-    let levels = certificate.levels();
-    match audit(rows, schedule, None) {
-        Verdict::Feasible => {}
-        verdict => return Ok(Judgement::Slots(verdict)),
-    }
     let placed = match standing_of(alloc, levels)? {
         Standing::Apart(placed) => placed,
         Standing::Wrong(level) => return Ok(Judgement::Pieces(level)),
@@ -65,6 +60,28 @@ fn judgement_of(
         return Ok(Judgement::Speed(slot));
     }
     Ok(Judgement::Accepted)
+}
+
+/// The judgement of the seven conditions.
+fn judgement_of(
+    alloc: Global,
+    rows: &[JobRow],
+    schedule: &Schedule,
+    certificate: &Certificate,
+) -> Result<Judgement, Memory>
+    requires jobs { schedule.now.jobs ≡ length rows.now }
+    requires few { length rows.now ≤ MAX_JOBS }
+    requires known { All (λ level. All (λ number. number < length rows.now) level.members) certificate.now }
+    ensures exact { IfOk result (λ judgement. IsJudgement rows.now schedule.now.slots certificate.now (judgement_view judgement)) }
+    ensures agree { AreSlots schedule.now.jobs schedule.now.slots }
+    ensures kept { IsCertificate certificate.now }
+{
+    let slots = schedule.slots();
+    let levels = certificate.levels();
+    match audit(rows, schedule, None) {
+        Verdict::Feasible => judgement_of_levels(alloc, rows, slots, levels),
+        verdict => Ok(Judgement::Slots(verdict)),
+    }
 }
 
 /// Whether the certificate is proper for the jobs and the schedule, and if not, the first condition that fails. An
