@@ -7,7 +7,7 @@ pub const USAGE: &str =
     "usage: yds_cli plan | round | avr --grid G | oa --grid G | check | audit [--points] | report [--json] | trial SEED JOBS | expand | admit TOP | curve | compare --grid G\n";
 
 /// The words with spaces between them, the document, the status and the whole answer.
-pub static ROWS: [(&str, &str, Status, &str); 91] = [
+pub static ROWS: [(&str, &str, Status, &str); 83] = [
     (
         "audit",
         "job a 0 4 4\njob b 0 2 4\nslot b 0 2 4\nslot a 2 4 4\n# refuse c from 0 to 4 work 9 top 2\n",
@@ -461,6 +461,10 @@ pub static ROWS: [(&str, &str, Status, &str); 91] = [
     ("avr --grid 0", "job a 0 4 8\n", Status::Usage, USAGE),
     ("", "job a 0 4 8\n", Status::Usage, USAGE),
     ("plan plan", "job a 0 4 8\n", Status::Usage, USAGE),
+];
+
+/// The same of reports and trials.
+pub static REPORTS_AND_TRIALS: [(&str, &str, Status, &str); 8] = [
     (
         "report",
         "job a 0 12 4\njob b 2 10 8\njob c 4 6 6\n",
