@@ -1,5 +1,1 @@
-pub mod Words
-pub mod Trial
-pub mod Answer
-pub mod Told
-pub mod Run
+pub mod Codes

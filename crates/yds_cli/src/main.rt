@@ -1,47 +1,32 @@
-//! The program: it reads a document from standard input and writes its answer to standard output. `plan`
-//! writes the plan of the document's jobs, with the certificate that shows the plan to be least; `check`
-//! judges the document's levels, and `audit` its slots, with `--points` by its operating points too;
-//! `report` tells the plan as a table, and `trial` plans drawn jobs and tells the numbers of their plan.
+//! The program: it takes the words of the command line, and runs over standard input and standard output.
 //!
-//! It stands on `yds_document`, which reads and prints, on `yds_plan`, `yds_checker` and `yds_audit`, which
-//! answer, on `yds_report` for the table, and on `yds_port`, which gives and takes bytes. It carries the promise that what was written is
-//! the answer of the definitions to the words and to all bytes of the input, whole and flushed, or that
-//! the status tells what came between: a fault that the source or the sink counted, or want of memory
-//! before the first byte was written.
+//! It stands on `yds_run`, whose `run` does what the words ask for and answers with a status, and on
+//! `yds_port` for the two streams. It carries the promise that the program ends with the number of that
+//! status, and where the words can't be taken with that of want of memory or, for another cause, with 7.
+//! Nothing is written to standard error.
 #![tactic(auto)]
 
-mod answer;
-mod command;
-mod compute;
-mod deliver;
-mod run;
-mod told;
-mod trial;
-mod words;
-mod writer;
+ghost use Rattle.std.specs.Prelude.{◌≡◌, IfOk};
+ghost use Rattle.std.specs.Result.{IfErr};
+ghost use Rattle.yds_model.specs.Status.{status_code};
+ghost use Rattle.yds_cli.specs.Codes.{code_without_words};
 
-use run::run;
 use std::io::{BufWriter, ErrorKind};
 use std::process::ExitCode;
 use std::rt::Env;
 use std::{env, io};
 use yds_model::Status;
 use yds_port::{StdSink, StdSource};
-
-/// The exit status where the words can't be taken for another cause than want of memory, as for a word
-/// that is no text.
-const NO_WORDS: u8 = 7;
+use yds_run::run;
 
 /// How many bytes of the output are gathered before they are written, at most.
 const OUTPUT_BUFFER: usize = 65_536;
 
 /// Takes the words from the environment, runs over standard input and standard output, and ends with
-/// the run's status. Nothing is written to standard error.
+/// the run's status.
 fn main(rt: HostRuntime) -> ExitCode {
-    match run_words(&rt) {
-        Ok(status) => ExitCode::from(status as u8),
-        Err(error) => ExitCode::from(status_without_words(&error)),
-    }
+    let ended = run_words(&rt).map_err(|error| error.kind());
+    ExitCode::from(exit_code(ended))
 }
 
 /// Runs over standard input, and over standard output with a buffer before it, which `run` flushes.
@@ -60,15 +45,14 @@ fn command_words(rt: &(impl Env + AllocGlobal)) -> io::Result<Vec<String>> {
     Ok(words.collect(rt.alloc())?)
 }
 
-/// The exit status where the words couldn't be taken.
-fn status_without_words(error: &io::Error) -> u8 {
-    match error.kind() {
-        ErrorKind::OutOfMemory => Status::Memory as u8,
-        _ => NO_WORDS,
+/// The program's exit status, after a run that ended so or after words that couldn't be taken.
+fn exit_code(ended: Result<Status, ErrorKind>) -> u8
+    ensures run { IfOk ended (λ status. result ≡ status_code status) }
+    ensures no_words { IfErr ended (λ kind. result ≡ code_without_words kind) }
+{
+    match ended {
+        Ok(status) => status.code(),
+        Err(ErrorKind::OutOfMemory) => Status::Memory.code(),
+        Err(_) => 7,
     }
 }
-
-#[cfg(test)]
-mod rows;
-#[cfg(test)]
-mod tests;

@@ -1,10 +1,14 @@
 //! Documents: jobs with their names, operating points, the slots of a schedule, the levels of a
 //! certificate, a grid and an energy, read from bytes and printed as text.
 //!
+//! Each kind of line has a file of its own, named after it: how its fields are read, what they add to the
+//! draft of the document, and how the line is printed.
+//!
 //! It stands on the crates of its parts, on `yds_text` for the fields of a line and on `yds_port` for the
 //! sink. It carries the promise that a document is read exactly as the definition of reading in
-//! `yds_model` says, faults with their places among it, and that what is printed is the canonical text,
-//! or after a fault of the sink a front of it. A line is made on the stack, so printing takes no memory.
+//! `yds_model` says, faults with their places among it, that what is printed is the canonical text, or
+//! after a fault of the sink a front of it, and that every document is within the limits, so that its text
+//! is read again as the same document. A line is made on the stack, so printing takes no memory.
 #![tactic(auto)]
 
 mod dispatch;

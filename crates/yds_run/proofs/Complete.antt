@@ -1,18 +1,17 @@
 -- From the bytes that were taken to all bytes of the input.
-use Rattle.std.proofs.Common.{◌≡◌, ◌≢◌, ◌⊎◌, ℕ, ◌+◌, ◌<◌, ◌≤◌, List, [], ◌∷◌, ◌++◌, length, Option, Some, None, subst, sym, ap, ◌∙◌, arith, refl, inl, inr, length-append, lt-ltb, le-ltb}
-use Rattle.std.specs.Prelude.{codes, IfSome}
+use Rattle.std.proofs.Common.{◌≡◌, ◌⊎◌, ℕ, ◌+◌, ◌<◌, ◌≤◌, List, [], ◌++◌, length, Option, Some, None, subst, sym, ap, ◌∙◌, arith, inl, inr, length-append, lt-ltb, le-ltb}
+use Rattle.std.specs.Prelude.{IfSome}
 use Rattle.std.proofs.lemmas.List.{append-nil}
 use Rattle.std.specs.Io.KnownBytes.{Appends}
 use Rattle.yds_model.specs.declared.limits.TheConstants.{MAX_INPUT}
 use Rattle.yds_model.specs.declared.status.Status.{Status}
-use Rattle.yds_model.specs.declared.status.Status.TheVariants.{Done, No, Usage, Refused, ReadFault, WriteFault, Memory}
+use Rattle.yds_model.specs.declared.status.Status.TheVariants.{Done}
 use Rattle.yds_model.specs.Request.{Question, AskPlan, Request, OfDocument, OfTrial}
 use Rattle.yds_model.specs.Answer.{AnswersRequest, AnswersReading, UnlessTooLong}
 use Rattle.yds_model.specs.Reading.{reading}
 use Rattle.yds_model.specs.PlanAnswer.{HoldsHeadline}
 use Rattle.yds_model.specs.TrialAnswer.{TrialAnswer}
 use Rattle.yds_laws.proofs.PlanText.{plans_hold_the_headline}
-use Rattle.yds_run.specs.Words.{IsTrial}
 use Rattle.yds_run.specs.Run.{Writes, AnswersBytes, AnswersTaken, Outcome}
 
 -- what is an answer to one thing and so to another
@@ -67,33 +66,10 @@ pub question_completes : (named : Option Request) (question : Question) (result 
 question_completes named question result left rest old new flushed is taken =
     subst (λ asks. IfSome left (λ input. AnswersBytes asks input result old new flushed)) is (answers_input question result left rest old new flushed taken)
 
-for_each_input : (left : Option (List ℕ)) (P : List ℕ → Type 0) → ((input : List ℕ) → P input) → IfSome left P
-for_each_input None P answers = tt
-for_each_input (Some input) P answers = answers input
-
 -- a trial's answer is the answer to each input
 pub trial_answers : (named : Option Request) (seed jobs : ℕ) (result : Status) (old new : Option (List ℕ)) (flushed : Option ℕ) → Some (OfTrial seed jobs) ≡ named
     → Writes (TrialAnswer seed jobs) result old new flushed → (input : List ℕ) → AnswersBytes named input result old new flushed
 trial_answers named seed jobs result old new flushed is writes input = subst (λ asks. AnswersBytes asks input result old new flushed) is writes
-
-pub trial_completes : (named : Option Request) (seed jobs : ℕ) (result : Status) (left old new : Option (List ℕ)) (flushed : Option ℕ) → Some (OfTrial seed jobs) ≡ named
-    → Writes (TrialAnswer seed jobs) result old new flushed → IfSome left (λ input. AnswersBytes named input result old new flushed)
-trial_completes named seed jobs result left old new flushed is writes =
-    for_each_input left (λ input. AnswersBytes named input result old new flushed) (trial_answers named seed jobs result old new flushed is writes)
-
--- how a trial ends
-pub trial_ends : (seed jobs : ℕ) (result : Status) (old new : Option (List ℕ)) (flushed : Option ℕ) → result ≢ ReadFault
-    → (result ≢ Memory → Writes (TrialAnswer seed jobs) result old new flushed) → (result ≡ Done) ⊎ (result ≡ WriteFault) ⊎ (result ≡ Memory)
-trial_ends seed jobs Done old new flushed no_fault writes = inl refl
-trial_ends seed jobs WriteFault old new flushed no_fault writes = inr (inl refl)
-trial_ends seed jobs Memory old new flushed no_fault writes = inr (inr refl)
-trial_ends seed jobs ReadFault old new flushed no_fault writes = absurd (no_fault refl)
-trial_ends seed jobs No old new flushed no_fault writes =
-    let done = writes (λ is. absurd cc) in let same : No ≡ Done = sym done.outcome.said ∙ done.answers.ended in absurd cc
-trial_ends seed jobs Usage old new flushed no_fault writes =
-    let done = writes (λ is. absurd cc) in let same : Usage ≡ Done = sym done.outcome.said ∙ done.answers.ended in absurd cc
-trial_ends seed jobs Refused old new flushed no_fault writes =
-    let done = writes (λ is. absurd cc) in let same : Refused ≡ Done = sym done.outcome.said ∙ done.answers.ended in absurd cc
 
 -- what `plan` wrote whole holds the headline
 plan_headline : (input : List ℕ) (result : Status) (old new : Option (List ℕ)) (flushed : Option ℕ) → result ≡ Done

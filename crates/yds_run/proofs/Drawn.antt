@@ -3,7 +3,7 @@ use Rattle.std.proofs.Common.{◌≡◌, ℕ, zero, suc, ◌+◌, ◌-◌, ◌<�
 use Rattle.std.proofs.lemmas.List.{append-nil}
 use Rattle.yds_model.specs.declared.limits.TheConstants.{MAX_JOBS, MAX_TRIAL_JOBS}
 use Rattle.yds_model.specs.Job.{Job}
-use Rattle.yds_model.specs.ReportAnswer.{next_state, drawn_job, drawn_jobs}
+use Rattle.yds_model.specs.TrialAnswer.{next_state, drawn_job, drawn_jobs}
 
 -- as many jobs are drawn as are asked for
 pub length-drawn_jobs : (n state : ℕ) → length (drawn_jobs n state) ≡ n

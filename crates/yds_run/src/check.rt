@@ -15,6 +15,7 @@ use std::alloc::Global;
 use yds_checker::{Judgement, check};
 use yds_document::{Document, LineBuffer};
 use yds_model::Memory;
+use yds_model::limits::MAX_NAME;
 
 /// The judgement of the document's levels.
 pub fn check_document(alloc: Global, document: &Document<'_>) -> Result<Told, Memory>
@@ -85,7 +86,7 @@ fn numbered(condition: &str, what: &str, place: u32) -> LineBuffer
 
 /// The line of a condition that fails at a job.
 fn named(condition: &str, name: &str) -> LineBuffer
-    requires short { (length condition.now ≤ 2) × (length name.now ≤ 64) }
+    requires short { (length condition.now ≤ 2) × (length name.now ≤ MAX_NAME) }
     ensures { result ≡ line (condition.now ∷ codes "job" ∷ name.now ∷ []) }
 {
     LineBuffer::new(condition).field("job").field(name).end()

@@ -25,3 +25,8 @@ mod with_points;
 
 pub use command::{Command, Question};
 pub use running::run;
+
+#[cfg(test)]
+mod tests;
+#[cfg(test)]
+mod worked_rows;

@@ -31,12 +31,10 @@ use yds_port::{ReadAllFault, Sink, Source, read_all};
 /// is taken for them. For them and for a trial the source isn't read. No memory is taken after the first
 /// byte was written.
 ///
-/// The source and the sink need not tell their bytes. Where both do, what was written is the answer to
-/// all bytes of the source. Where the source tells nothing, as standard input, `answer` says that there
-/// is an input, within the limit or one byte beyond it, to which what was written is the answer; and
-/// where the sink tells nothing, as standard output, that the status is the one that goes with some such
-/// input. Which bytes came and went is then what `read_all` and `write_all` are proved to do, whatever
-/// they tell.
+/// The source and the sink need not tell their bytes. Where both do, what was written is the answer to all
+/// bytes of the source. Where the source doesn't, as standard input, `answer` says only that what was written
+/// is the answer to some input; and where neither does, only that the status is that of the answer to some
+/// input. The code is one for all sources and sinks.
 pub fn run<S: Source, K: Sink>(
     alloc: Global,
     words: &[String],

@@ -10,17 +10,21 @@ ghost use Rattle.yds_document.specs.Documents.{document_view};
 ghost use Rattle.yds_run.specs.VerdictLine.{spaced, later_words, verdict_word, NamesSlots};
 
 use yds_audit::Verdict;
+use yds_document::line_buffer::{FRACTION_BYTES, NUMBER_BYTES};
 use yds_document::{Document, LineBuffer};
 use yds_fraction::Amount;
 use yds_model::JobRow;
+use yds_model::limits::MAX_NAME;
 use yds_slots::Slot;
 
-/// How many bytes a field has at most, with the space before it.
-const NUMBER: usize = 21;
+/// How many bytes a number has at most, with the space before it.
+const NUMBER: usize = 1 + NUMBER_BYTES;
 
-const NAME: usize = 65;
+/// The same of a name.
+const NAME: usize = 1 + MAX_NAME;
 
-const FRACTION: usize = 63;
+/// The same of a fraction.
+const FRACTION: usize = 1 + FRACTION_BYTES;
 
 /// How many bytes a line has at most before its slot or its job: `K1 off-point`.
 const BEGUN: usize = 12;
@@ -190,7 +194,7 @@ fn job_of<'b>(document: &'b Document<'_>, slot: u32) -> &'b JobRow
 pub fn name_of<'a>(document: &Document<'a>, job: u32) -> &'a str
     requires within { job < length document.now.instance.jobs }
     ensures name { result.now ≡ name_at document.now.instance.names job }
-    ensures short { length result.now ≤ 64 }
+    ensures short { length result.now ≤ MAX_NAME }
 {
     document.instance.name(job)
 }

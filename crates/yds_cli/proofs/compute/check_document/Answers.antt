@@ -1,9 +1,0 @@
-use Rattle.std.proofs.Common.{subst}
-use Rattle.yds_model.specs.Judgement.{IsJudgement}
-use Rattle.yds_checker.specs.Judgement.{judgement_view}
-use Rattle.yds_cli.proofs.compute.check_document.Goals as goal
-
-pub judgement_told-requires : goal.judgement_told-requires
-judgement_told-requires c =
-    subst (λ jobs. IsJudgement jobs c.args.document.now.schedule.slots c.args.document.now.certificate (judgement_view c.in-Ok.judgement))
-    c.rows-rows.ensures.jobs c.in-Ok.ensures.exact
