@@ -1,5 +1,5 @@
 -- What the line of a judgement names.
-use Rattle.std.specs.Prelude.{ℕ, ◌<◌, length}
+use Rattle.std.specs.Prelude.{◌<◌, length}
 use Rattle.yds_model.specs.Document.{Document}
 use Rattle.yds_model.specs.Judgement.{Judgement, Slots, Members, Window}
 use Rattle.yds_run.specs.VerdictLine.{NamesSlots}

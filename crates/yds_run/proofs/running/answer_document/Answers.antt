@@ -3,7 +3,7 @@ use Rattle.yds_model.specs.Answer.{AnswersQuestion}
 use Rattle.yds_document.specs.Documents.{document_view}
 use Rattle.yds_run.specs.Words.{question_view}
 use Rattle.yds_run.specs.Run.{Replies}
-use Rattle.yds_run.proofs.Replied.{delivered_replies, made_replies}
+use Rattle.yds_run.proofs.Replied.{made_replies}
 use Rattle.yds_run.proofs.running.answer_document.Goals as goal
 
 pub returns-in-Check : goal.returns-in-Check

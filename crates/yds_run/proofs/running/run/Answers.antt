@@ -1,5 +1,5 @@
-use Rattle.std.proofs.Common.{ap, sym, ◌∙◌, ◌≡◌, Some, List, ℕ, Option}
-use Rattle.yds_model.specs.Request.{Request, AskPlan, OfDocument, OfTrial}
+use Rattle.std.proofs.Common.{ap, sym, ◌∙◌, ◌≡◌, Some, Option}
+use Rattle.yds_model.specs.Request.{Request}
 use Rattle.yds_run.specs.declared.command.Command.{Command}
 use Rattle.yds_run.specs.Words.{asked, request_view}
 use Rattle.yds_run.proofs.Replied.{made_replies}
