@@ -1,6 +1,6 @@
 //! The auditor of schedules: whether slots are feasible for jobs, and if not, the first cause.
 //!
-//! It stands on `yds_model`, `yds_fraction`, `yds_slots` and `yds_table`. Its promise is that the verdict is `Feasible` exactly
+//! It stands on `yds_model`, `yds_fraction`, `yds_slots`, `yds_hull` and `yds_table`. Its promise is that the verdict is `Feasible` exactly
 //! where the slots are a feasible schedule, and otherwise the first cause in the order of the slots and then of the
 //! jobs. No call takes memory.
 #![tactic(auto)]
@@ -13,6 +13,3 @@ mod verdict;
 
 pub use auditor::audit;
 pub use verdict::Verdict;
-
-#[cfg(test)]
-mod tests;
