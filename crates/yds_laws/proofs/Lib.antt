@@ -41,6 +41,10 @@ pub mod Energy
 pub mod HullEnergy
 pub mod LineEnergy
 pub mod PlansEnergy
+pub mod RoundedRuns
+pub mod PlanParts
+pub mod RoundedFeasible
+pub mod RoundedOnPoints
 pub mod TextLaws
 pub mod Brought
 pub mod RoundTrip
