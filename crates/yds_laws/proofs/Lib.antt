@@ -45,6 +45,7 @@ pub mod RoundedRuns
 pub mod PlanParts
 pub mod RoundedFeasible
 pub mod RoundedOnPoints
+pub mod TooSlow
 pub mod TextLaws
 pub mod Brought
 pub mod RoundTrip

@@ -3,8 +3,9 @@ use Rattle.std.proofs.Common.{◌≡◌, ℕ, ◌-◌, ◌*◌, ◌+◌, ◌<◌
 use Rattle.std.specs.Prelude.{if◌then◌else◌}
 use Rattle.std.specs.List.{All, Contains}
 use Rattle.std.proofs.lemmas.List.{map-append, get_or_default, length-map}
-use Rattle.std.proofs.lemmas.List.Elements.{All-head, All-tail, All-append, All-from_get_or}
+use Rattle.std.proofs.lemmas.List.Elements.{All-head, All-tail, All-append, All-weaker, All-from_get_or}
 use Rattle.std.proofs.lemmas.List.Sums.{sum_by-append}
+use Rattle.std.proofs.Math.Nat.{mul-pos, dvd-mul_right_of_dvd}
 use Rattle.yds_model.specs.Job.{Job}
 use Rattle.yds_model.specs.Slot.{WrittenSlot, WholeSlot, IsDivided, IsScale, slot_at_scale, slots_at, slot_at, no_slot, work_given}
 use Rattle.yds_model.specs.Feasible.{RunFrom, IsInWindow}
@@ -53,6 +54,17 @@ pub scale_joined : (scale : ℕ) (slots others : List WrittenSlot) → IsScale s
 scale_joined scale slots others one other = record {
   positive = one.positive;
   divided = All-append (IsDivided scale) slots others one.divided other.divided;
+}
+
+-- a multiple of a scale is one
+pub scale_times : (scale k : ℕ) (slots : List WrittenSlot) → 1 ≤ k → IsScale scale slots → IsScale (scale * k) slots
+scale_times scale k slots some is = record {
+  positive = mul-pos is.positive some;
+  divided = All-weaker (IsDivided scale) (IsDivided (scale * k)) (λ slot divided. record {
+    from = dvd-mul_right_of_dvd slot.from.den divided.from k;
+    to = dvd-mul_right_of_dvd slot.to.den divided.to k;
+    work = dvd-mul_right_of_dvd slot.work.den divided.work k;
+  }) slots is.divided;
 }
 
 -- # Parts of a plan
