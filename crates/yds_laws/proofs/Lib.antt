@@ -41,6 +41,8 @@ pub mod Energy
 pub mod HullEnergy
 pub mod LineEnergy
 pub mod PlansEnergy
+pub mod HullCosts
+pub mod RoundedEnergy
 pub mod RoundedRuns
 pub mod PlanParts
 pub mod RoundedFeasible
