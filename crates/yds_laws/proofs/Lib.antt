@@ -43,6 +43,7 @@ pub mod LineEnergy
 pub mod PlansEnergy
 pub mod HullCosts
 pub mod RoundedEnergy
+pub mod RoundedCheapest
 pub mod RoundedRuns
 pub mod PlanParts
 pub mod RoundedFeasible
