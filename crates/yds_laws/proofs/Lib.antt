@@ -47,6 +47,7 @@ pub mod RoundedCheapest
 pub mod RoundedRuns
 pub mod PlanParts
 pub mod RoundedFeasible
+pub mod FullStretches
 pub mod RoundedOnPoints
 pub mod TooSlow
 pub mod TextLaws

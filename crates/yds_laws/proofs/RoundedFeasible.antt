@@ -81,13 +81,13 @@ stretches_between jobs = All-from_get_or (IsBetweenEvents jobs) (stretches jobs)
 })
 
 -- the job may run in all of the stretch
-record IsOpen (jobs : List Job) (stretch : Piece) (number : ℕ) : Type 0 where
-  known : number < length jobs
-  released : (job_at jobs number).release ≤ stretch.from
-  due : stretch.to ≤ (job_at jobs number).deadline
+pub record IsOpen (jobs : List Job) (stretch : Piece) (number : ℕ) : Type 0 where
+  pub known : number < length jobs
+  pub released : (job_at jobs number).release ≤ stretch.from
+  pub due : stretch.to ≤ (job_at jobs number).deadline
 
 -- a slot that takes time in the stretch and lies in its job's window is of a job that may run in all of it
-slot_open : (jobs : List Job) (stretch : Piece) (scale : ℕ) (slot : WholeSlot) → IsBetweenEvents jobs stretch → IsInWindow jobs scale slot →
+pub slot_open : (jobs : List Job) (stretch : Piece) (scale : ℕ) (slot : WholeSlot) → IsBetweenEvents jobs stretch → IsInWindow jobs scale slot →
     slot.from < slot.to → LiesIn scale slot stretch → IsOpen jobs stretch slot.job
 slot_open jobs stretch scale slot between window takes lies =
     let number = slot.job in
