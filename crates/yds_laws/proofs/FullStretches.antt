@@ -310,7 +310,7 @@ module _ (jobs : List Job) (planned : List WrittenSlot) (levels : List Level) (s
             let back = level_of_member levels (suc its.0) one.job (omega (arith, its_within)) (front_members k its.0 d inside its_within its.2 0 no_slot some) in
             let same : i ≡ back.0 = one_level levels i back.0 one.job (omega (arith, once)) found.1 (omega (arith, back.1, its_within)) found.2 back.2 in
             let place : its.0 ≡ i = omega (arith, its.1, back.1, same) in
-            subst (λ (n : ℕ). Contains (level_at levels n).members other.job) place its.2;
+            subst (λ (n : ℕ). Contains (level_at levels n).members other.job) {x = its.0} place its.2;
         full = omega (
           arith,
           here_short,

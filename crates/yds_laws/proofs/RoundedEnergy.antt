@@ -34,13 +34,13 @@ use Rattle.yds_laws.proofs.HullCosts.{IsAtLeast, at_least_plus, cancel_gap, powe
 -- # Sums of two parts
 
 -- the energies of two parts together
-total_joined : (f : WholeSlot → ℤ) (slots others : List WholeSlot) → total (map f (slots ++ others)) ≡ total (map f slots) +ℤ total (map f others)
+pub total_joined : (f : WholeSlot → ℤ) (slots others : List WholeSlot) → total (map f (slots ++ others)) ≡ total (map f slots) +ℤ total (map f others)
 total_joined f [] others = omega (arith, ints)
 total_joined f (slot ∷ slots) others =
     omega (arith, ints, total-cons (f slot) (map f (slots ++ others)), total-cons (f slot) (map f slots), total_joined f slots others)
 
 -- what two parts spend
-spends_joined : (points : List Point) (slots others : List WholeSlot) (one other : ℕ) → SpendsAtPoints points slots one → SpendsAtPoints points others other →
+pub spends_joined : (points : List Point) (slots others : List WholeSlot) (one other : ℕ) → SpendsAtPoints points slots one → SpendsAtPoints points others other →
     SpendsAtPoints points (slots ++ others) (one + other)
 spends_joined points [] others one other first second = subst (SpendsAtPoints points others) (omega (arith, first)) second
 spends_joined points (slot ∷ slots) others one other (point, rest, has, at, later, sum) second =
@@ -57,7 +57,7 @@ pub record CostsAtMost (points hull : List Point) (power : ℕ) (planned written
       (total (map (power_of hull) planned))
 
 -- slots at a point's speed
-abbrev RunAt : ℕ → WholeSlot → Type 0
+abbrev pub RunAt : ℕ → WholeSlot → Type 0
 RunAt speed slot = slot.work ≡ speed * (slot.to - slot.from)
 
 -- cost at least the point's power
@@ -80,7 +80,7 @@ kept_costs hull k (slot ∷ slots) rising within at =
     ))
 
 -- and spend it
-kept_spends : (points : List Point) (point : Point) (slots : List WholeSlot) → Contains points point → All (RunAt point.speed) slots →
+pub kept_spends : (points : List Point) (point : Point) (slots : List WholeSlot) → Contains points point → All (RunAt point.speed) slots →
     SpendsAtPoints points slots (point.power * busy slots)
 kept_spends points point [] has at = omega arith
 kept_spends points point (slot ∷ slots) has at = (
@@ -93,7 +93,7 @@ kept_spends points point (slot ∷ slots) has at = (
 )
 
 -- a slot at the speed of a level that has a point's is at the point's
-level_at_point : (work time level long speed : ℕ) → 1 ≤ long → work * long ≡ level * time → level ≡ speed * long → work ≡ speed * time
+pub level_at_point : (work time level long speed : ℕ) → 1 ≤ long → work * long ≡ level * time → level ≡ speed * long → work ≡ speed * time
 level_at_point work time level long speed some at is =
     eq_of_mul-eq-mul_right long some work (speed * time) (omega (arith, at, ap (λ n. n * time) is))
 
@@ -144,24 +144,42 @@ line_of_split : (all p r low high gap time rest busy given : ℕ) → low + gap 
 line_of_split all p r low high gap time rest busy given rises is_busy is_given = rw (← rises, is_busy, is_given) (on_the_line all p r low gap time rest)
 
 -- what is spent, and the time without a slot
-split_sum : (all p r idle time rest fast slow busy : ℕ) → fast ≡ time → busy ≡ time + rest → p * slow + idle * rest ≡ p * rest + idle * slow →
-    all * ((r * fast + p * slow) + idle * busy) ≡ all * (p * rest + r * time) + all * (idle * (fast + slow))
-split_sum all p r idle time rest fast slow busy is_fast is_busy same =
+split_sum : (p r idle time rest fast slow busy written : ℕ) → fast ≡ time → busy ≡ time + rest → p * slow + idle * rest ≡ p * rest + idle * slow →
+    written ≡ fast + slow → (r * fast + p * slow) + idle * busy ≡ (p * rest + r * time) + idle * written
+split_sum p r idle time rest fast slow busy written is_fast is_busy same both =
     omega (
       arith,
-      ap (λ n. all * r * n) is_fast,
-      ap (λ n. all * idle * n) is_fast,
-      ap (λ n. all * idle * n) is_busy,
-      ap (λ n. all * n) same,
+      ap (λ n. r * n) is_fast,
+      ap (λ n. idle * n) is_fast,
+      ap (λ n. idle * n) is_busy,
+      ap (λ n. idle * n) both,
+      same,
     )
 
--- the slots of a stretch that are split
-stretch_split : (points hull : List Point) (scale : ℕ) (level : Level) (low high : Point) (stretch : Piece) (planned fast slow : List WholeSlot) →
-    IsTable points → IsHullOf points hull → AreRising hull → AreNeighbours hull level low high → 1 ≤ level.work → stretch.from < stretch.to →
+-- What a stretch that is split spends: the plan's slots fill the time at the two points, and the time that the slower one leaves idle
+-- costs the same at the idle power.
+pub record SplitSpends (points : List Point) (power : ℕ) (level : Level) (low high : Point) (planned written : List WholeSlot) : Type 0 where
+  pub faster : low.speed < high.speed
+  pub time : ℕ
+  pub rest : ℕ
+  pub fills : busy planned ≡ time + rest
+  pub does : all_work planned ≡ (low.speed + (high.speed - low.speed)) * time + low.speed * rest
+  pub is_time : time * (level.length * (high.speed - low.speed)) ≡ (level.work - low.speed * level.length) * (time + rest)
+  pub spent : ℕ
+  pub spends : SpendsAtPoints points written spent
+  pub is_spent : spent + power * busy planned ≡ (low.power * rest + high.power * time) + power * busy written
+
+-- a point of speed 0 is the first of the table
+idle_power_is : (points : List Point) (low : Point) → IsTable points → Contains points low → low.speed ≡ 0 → low.power ≡ (point_at points 0).power
+idle_power_is points low table has none =
+    ap (λ (x : Point). x.power) (one_point points low (point_at points 0) table.rising has (Contains-get_or points 0 no_point table.some) (none ∙ sym table.idle))
+
+-- so it is for the slots of a split
+pub split_spends : (points hull : List Point) (scale : ℕ) (level : Level) (low high : Point) (stretch : Piece) (planned fast slow : List WholeSlot) →
+    IsTable points → IsHullOf points hull → AreNeighbours hull level low high → 1 ≤ level.work → stretch.from < stretch.to →
     All (λ slot. slot.work * level.length ≡ level.work * (slot.to - slot.from)) planned → IsSplitAt scale level low high stretch planned fast slow →
-    CostsAtMost points hull (point_at points 0).power planned (fast ++ slow)
-stretch_split points hull scale level low high stretch planned fast slow table is_hull rising around some forward speeds is =
-    let all : ℕ = product (gaps_of hull) in
+    SplitSpends points (point_at points 0).power level low high planned (fast ++ slow)
+split_spends points hull scale level low high stretch planned fast slow table is_hull around some forward speeds is =
     let idle_power : ℕ = (point_at points 0).power in
     let start : ℕ = stretch.from * scale in
     let switch : ℕ = start + is.time in
@@ -177,8 +195,6 @@ stretch_split points hull scale level low high stretch planned fast slow table i
     let rises : low.speed + gap ≡ high.speed = omega (arith, faster) in
     let has_low : Contains hull low = subst (Contains hull) around.is_low (Contains-get_or hull around.place no_point (omega (arith, around.within))) in
     let has_high : Contains hull high = subst (Contains hull) around.is_high (Contains-get_or hull (around.place + 1) no_point around.within) in
-    let is_idle : low.speed ≡ 0 → low.power ≡ idle_power = λ none. ap (λ (x : Point). x.power) (one_point points low (point_at points 0) table.rising
-    (hull_in points hull low is_hull has_low) (Contains-get_or points 0 no_point table.some) (none ∙ sym table.idle)) in
     let fast_busy : busy fast ≡ is.time = omega (arith, runs_busy high.speed start switch fast is.first) in
     let does : all_work planned ≡ (low.speed + gap) * is.time + low.speed * rest = omega (
       arith,
@@ -189,30 +205,48 @@ stretch_split points hull scale level low high stretch planned fast slow table i
       ap (λ n. n * is.time) rises,
       runs_on_work low.speed switch end slow order is.then_slow,
     ) in
-    let filled_time : busy planned ≡ is.time + rest =
+    let is_time : is.time * (level.length * gap) ≡ (level.work - low.speed * level.length) * (is.time + rest) =
+    is.is_time ∙ ap (λ n. (level.work - low.speed * level.length) * n) (sym whole) in
+    let fills : busy planned ≡ is.time + rest =
     filled low.speed gap is.time rest level.work level.length (busy planned) (all_work planned) some (omega (arith, around.above_low))
-    (level_together level planned speeds) does (is.is_time ∙ ap (λ n. (level.work - low.speed * level.length) * n) (sym whole)) in
-    let on_line = lines_at_least hull around.place planned around.within in
-    let at_low = subst (λ (one : Point). IsAtLeast (all * gains one (point_at hull (around.place + 1)) (busy planned) (all_work planned))
-    (all * losses one (point_at hull (around.place + 1)) (busy planned) (all_work planned))
-    ((point_at hull (around.place + 1)).speed - one.speed) (total (map (power_of hull) planned))) around.is_low on_line in
-    let at_both = subst (λ (one : Point). IsAtLeast (all * gains low one (busy planned) (all_work planned)) (all * losses low one (busy planned) (all_work planned))
-    (one.speed - low.speed) (total (map (power_of hull) planned))) around.is_high at_low in
-    let costs = cancel_gap gap (all * gains low high (busy planned) (all_work planned)) (all * losses low high (busy planned) (all_work planned))
-    (all * (low.power * rest + high.power * is.time)) (total (map (power_of hull) planned)) (omega (arith, faster)) at_both
-    (line_of_split all low.power high.power low.speed high.speed gap is.time rest (busy planned) (all_work planned) rises filled_time does) in
+    (level_together level planned speeds) does is_time in
     let slower : SpendsOn points idle_power low.power rest slow =
-    runs_on_spend points low.speed low idle_power switch end slow (hull_in points hull low is_hull has_low) refl is_idle order is.then_slow in
+    runs_on_spend points low.speed low idle_power switch end slow (hull_in points hull low is_hull has_low) refl
+    (idle_power_is points low table (hull_in points hull low is_hull has_low)) order is.then_slow in
     record {
+      faster = faster;
+      time = is.time;
+      rest = rest;
+      fills = fills;
+      does = does;
+      is_time = is_time;
       spent = high.power * busy fast + low.power * busy slow;
       spends = spends_joined points fast slow (high.power * busy fast) (low.power * busy slow)
           (runs_spend points high start switch fast (hull_in points hull high is_hull has_high) is.first) slower.spends;
-      bound = omega (
-        arith,
-        costs,
-        split_sum all low.power high.power idle_power is.time rest (busy fast) (busy slow) (busy planned) fast_busy filled_time slower.rest,
-        ap (λ n. all * (idle_power * n)) (sum_by-append (λ (slot : WholeSlot). slot.to - slot.from) fast slow),
-      );
+      is_spent = split_sum low.power high.power idle_power is.time rest (busy fast) (busy slow) (busy planned) (busy (fast ++ slow)) fast_busy fills slower.rest
+          (sum_by-append (λ (slot : WholeSlot). slot.to - slot.from) fast slow);
+    }
+
+-- and it costs at most the plan's energy there
+stretch_split : (points hull : List Point) (level : Level) (low high : Point) (planned written : List WholeSlot) → AreNeighbours hull level low high →
+    SplitSpends points (point_at points 0).power level low high planned written → CostsAtMost points hull (point_at points 0).power planned written
+stretch_split points hull level low high planned written around is =
+    let all : ℕ = product (gaps_of hull) in
+    let gap : ℕ = high.speed - low.speed in
+    let energy = total (map (power_of hull) planned) in
+    let on_line = lines_at_least hull around.place planned around.within in
+    let at_low = subst (λ (one : Point). IsAtLeast (all * gains one (point_at hull (around.place + 1)) (busy planned) (all_work planned))
+    (all * losses one (point_at hull (around.place + 1)) (busy planned) (all_work planned)) ((point_at hull (around.place + 1)).speed - one.speed) energy) around.is_low on_line in
+    let at_both = subst (λ (one : Point). IsAtLeast (all * gains low one (busy planned) (all_work planned)) (all * losses low one (busy planned) (all_work planned))
+    (one.speed - low.speed) energy) around.is_high at_low in
+    let rises : low.speed + gap ≡ high.speed = omega (arith, is.faster) in
+    let costs = cancel_gap gap (all * gains low high (busy planned) (all_work planned)) (all * losses low high (busy planned) (all_work planned))
+    (all * (low.power * is.rest + high.power * is.time)) energy (omega (arith, is.faster)) at_both
+    (line_of_split all low.power high.power low.speed high.speed gap is.time is.rest (busy planned) (all_work planned) rises is.fills is.does) in
+    record {
+      spent = is.spent;
+      spends = is.spends;
+      bound = omega (arith, costs, ap (λ n. all * n) is.is_spent);
     }
 
 -- what is written for a stretch costs at most what the plan does there
@@ -230,8 +264,9 @@ stretch_costs jobs points hull levels scale stretch planned written table is_hul
 stretch_costs jobs points hull levels scale stretch planned written table is_hull rising positive forward part (inr (level, has, members, inr split)) =
     let some = All-contains (λ level. (1 ≤ level.work) × (1 ≤ level.length)) levels level positive has in
     subst (CostsAtMost points hull (point_at points 0).power planned) (sym split.parts)
-    (stretch_split points hull scale level split.low split.high stretch planned split.fast split.slow table is_hull rising split.around some.0 forward
-    (λ i d inside. part.speeds i d inside level has (members i d inside)) split.split)
+    (stretch_split points hull level split.low split.high planned (split.fast ++ split.slow) split.around
+    (split_spends points hull scale level split.low split.high stretch planned split.fast split.slow table is_hull split.around some.0 forward
+    (λ i d inside. part.speeds i d inside level has (members i d inside)) split.split))
 
 -- # All stretches
 
