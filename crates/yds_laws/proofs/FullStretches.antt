@@ -40,7 +40,7 @@ contained_counted numbers number (place, within, is) =
     )
 
 -- how often it stands in two lists together
-count_joined : (number : ℕ) (numbers others : List ℕ) → count number (numbers ++ others) ≡ count number numbers + count number others
+pub count_joined : (number : ℕ) (numbers others : List ℕ) → count number (numbers ++ others) ≡ count number numbers + count number others
 count_joined number numbers others = sum_by-append (λ other. cond (number == other) 1 0) numbers others
 
 -- a member of a level is counted among all members
@@ -213,6 +213,24 @@ all_members_of members slots different forward within k d inside =
     let part = get_or-le-sum_by rest slots k d inside in
     part_left (count slot.job members) (time_of slot) (omega (arith, both, split, part, within)) (omega (arith, forward k d inside))
 
+-- # The slots of a plan
+
+-- each of a plan's slots is of a job with work, which is a member once
+pub planned_once : (jobs : List Job) (planned : List WrittenSlot) (levels : List Level) (scale : ℕ) → IsPlan jobs planned levels → IsScale scale planned →
+    All (λ slot. count slot.job (all_members levels) ≡ 1) (slots_at scale planned)
+planned_once jobs planned levels scale plan is k d within =
+    let slots = slots_at scale planned in
+    let work : All (λ slot. 1 ≤ (job_at jobs slot.job).work) slots =
+    All-map (λ slot. 1 ≤ (job_at jobs slot.job).work) (slot_at_scale scale) planned (λ i e at. plans_serve_work jobs planned levels plan i e at) in
+    (plan.proper.members (get_or slots k d).job ((plan.proper.feasible.holds scale is).in_windows k d within).known).with_work (work k d within)
+
+-- the levels of a plan fit its slots
+pub plan_fits : (jobs : List Job) (planned : List WrittenSlot) (levels : List Level) (scale : ℕ) → IsPlan jobs planned levels → IsScale scale planned →
+    All (Fits jobs (slots_at scale planned)) levels
+plan_fits jobs planned levels scale plan is =
+    levels_fit jobs levels scale (slots_at scale planned) plan.proper.well_formed (plan.proper.feasible.holds scale is) plan.proper.members plan.proper.sums
+    (λ s within. plan.proper.speeds scale is s (omega (arith, within, length-map planned (slot_at_scale scale))))
+
 -- # The law of it
 
 -- The slots are of members of one level, and take all of the stretch.
@@ -227,12 +245,6 @@ module _ (jobs : List Job) (planned : List WrittenSlot) (levels : List Level) (s
     (plan : IsPlan jobs planned levels) (is : IsScale scale planned) (between : IsBetweenEvents jobs stretch) (forward : stretch.from < stretch.to)
     (parts : slots_at scale planned ≡ before ++ (here ++ after)) (first : All (λ slot. slot.to ≤ stretch.from * scale) before)
     (lies : All (λ slot. LiesIn scale slot stretch) here) (last : All (λ slot. stretch.to * scale ≤ slot.from) after) where
-  -- the levels fit the plan's slots
-  all_fit : All (Fits jobs (slots_at scale planned)) levels
-  all_fit =
-      levels_fit jobs levels scale (slots_at scale planned) plan.proper.well_formed (plan.proper.feasible.holds scale is) plan.proper.members plan.proper.sums
-      (λ s within. plan.proper.speeds scale is s (omega (arith, within, length-map planned (slot_at_scale scale))))
-
   -- the slots in the stretch are in order
   here_runs : RunFrom 0 here
   here_runs = run_front 0 here after (run_back 0 before (here ++ after) (subst (RunFrom 0) parts (plan.proper.feasible.holds scale is).one_at_a_time))
@@ -267,7 +279,7 @@ module _ (jobs : List Job) (planned : List WrittenSlot) (levels : List Level) (s
       (λ time from below. confined time (omega (arith, free.released, from)) (omega (arith, free.due, below)))
       (subst (RunFrom 0) parts feasible.one_at_a_time) (subst (All (IsInWindow jobs scale)) parts feasible.in_windows) first last
       (subst (λ slots. group time_of (all_members (take (suc i) levels)) slots ≡ scale * total_length (all_pieces (take (suc i) levels))) parts
-      (front_time jobs scale (slots_at scale planned) levels feasible.served all_fit (suc i) (omega (arith, within))))
+      (front_time jobs scale (slots_at scale planned) levels feasible.served (plan_fits jobs planned levels scale plan is) (suc i) (omega (arith, within))))
 
   -- the first levels' members are different
   front_once : (i : ℕ) → i < length levels → AreDifferent (all_members (take (suc i) levels))
@@ -283,14 +295,11 @@ module _ (jobs : List Job) (planned : List WrittenSlot) (levels : List Level) (s
       all_members_of (all_members (take (suc i) levels)) here (front_once i within) (run_forward 0 here here_runs)
       (omega (arith, here_short, front_fills k i slot inside within has))
 
-  -- each of the slots is of a job with work, which is a member once
+  -- each of the slots is of a member
   here_once : All (λ slot. count slot.job (all_members levels) ≡ 1) here
-  here_once k d inside =
-      let work : All (λ slot. 1 ≤ (job_at jobs slot.job).work) (slots_at scale planned) =
-      All-map (λ slot. 1 ≤ (job_at jobs slot.job).work) (slot_at_scale scale) planned (λ i e at. plans_serve_work jobs planned levels plan i e at) in
-      let some : All (λ slot. 1 ≤ (job_at jobs slot.job).work) here = All-front (λ slot. 1 ≤ (job_at jobs slot.job).work) here after
-      (All-back (λ slot. 1 ≤ (job_at jobs slot.job).work) before (here ++ after) (subst (All (λ slot. 1 ≤ (job_at jobs slot.job).work)) parts work)) in
-      (plan.proper.members (get_or here k d).job (here_windows k d inside).known).with_work (some k d inside)
+  here_once = All-front (λ slot. count slot.job (all_members levels) ≡ 1) here after
+      (All-back (λ slot. count slot.job (all_members levels) ≡ 1) before (here ++ after)
+      (subst (All (λ slot. count slot.job (all_members levels) ≡ 1)) parts (planned_once jobs planned levels scale plan is)))
 
   -- so where there is one they are of members of one level, and fill the stretch
   pub stretch_full : 1 ≤ length here → FillsStretch levels scale stretch here

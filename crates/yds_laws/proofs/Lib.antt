@@ -42,6 +42,8 @@ pub mod HullEnergy
 pub mod LineEnergy
 pub mod PlansEnergy
 pub mod HullCosts
+pub mod LevelCosts
+pub mod LevelsEnergy
 pub mod RoundedEnergy
 pub mod RoundedCheapest
 pub mod RoundedRuns

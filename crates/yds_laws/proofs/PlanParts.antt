@@ -80,7 +80,7 @@ pub record IsPartOfPlan (jobs : List Job) (levels : List Level) (slots : List Wh
   pub speeds : All (HasSpeeds levels) slots
 
 -- a level's place in the list
-level_found : (levels : List Level) (level : Level) (has : Contains levels level) → level_at levels has.0 ≡ level
+pub level_found : (levels : List Level) (level : Level) (has : Contains levels level) → level_at levels has.0 ≡ level
 level_found levels level has = get_or_default levels has.0 no_level level has.1 ∙ has.2
 
 -- all slots of a plan are one

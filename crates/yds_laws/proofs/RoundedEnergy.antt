@@ -12,6 +12,7 @@ use Rattle.yds_model.specs.Job.{Job}
 use Rattle.yds_model.specs.Slot.{WrittenSlot, WholeSlot, IsScale, slot_at_scale, slots_at}
 use Rattle.yds_model.specs.Piece.{Piece, PiecesFrom}
 use Rattle.yds_model.specs.Level.{Level}
+use Rattle.yds_model.specs.Plan.{IsPlan}
 use Rattle.yds_model.specs.Table.{Point, no_point, point_at, AreRising, IsTable, IsHullOf, hull_of, gaps_of}
 use Rattle.yds_model.specs.Energy.{busy, idle, horizon, product, total, interpolated_energy, SpendsAtPoints, IsEnergyOnPoints}
 use Rattle.yds_model.specs.Event.{stretches}
@@ -28,7 +29,7 @@ use Rattle.yds_laws.proofs.OneEnergy.{read_point, one_point, spends_once}
 use Rattle.yds_laws.proofs.PlansEnergy.{plans_cost_least_on_points}
 use Rattle.yds_laws.proofs.PlanParts.{HasSpeeds, IsPartOfPlan, plan_part, part_front, part_back}
 use Rattle.yds_laws.proofs.RoundedRuns.{all_work, same_work, runs_busy, runs_work, runs_spend, runs_on_work, SpendsOn, runs_on_spend}
-use Rattle.yds_laws.proofs.RoundedFeasible.{SplitsAt, RoundsAt, rounds_at, parts_at, time_within, written_feasible}
+use Rattle.yds_laws.proofs.RoundedFeasible.{SplitsAt, RoundsAt, rounds_fold, time_within, written_feasible}
 use Rattle.yds_laws.proofs.HullCosts.{IsAtLeast, at_least_plus, cancel_gap, power_of, lines_at_least, point_at_least, hull_in}
 
 -- # Sums of two parts
@@ -287,24 +288,17 @@ costs_joined points hull power planned others written made one other =
       ));
     }
 
--- stretch by stretch
-written_costs : (jobs : List Job) (points hull : List Point) (levels : List Level) (scale start : ℕ) (pieces : List Piece) (planned written : List WrittenSlot) →
-    IsTable points → IsHullOf points hull → AreRising hull → All (λ level. (1 ≤ level.work) × (1 ≤ level.length)) levels → PiecesFrom start pieces →
-    IsPartOfPlan jobs levels (slots_at scale planned) scale → IsScale scale planned → IsScale scale written → RoundsStretches hull levels pieces planned written →
+-- so all that is written costs at most what the plan does
+written_costs : (jobs : List Job) (points hull : List Point) (levels : List Level) (scale : ℕ) (planned written : List WrittenSlot) → IsPlan jobs planned levels →
+    IsTable points → IsHullOf points hull → IsScale scale planned → IsScale scale written → RoundsStretches hull levels (stretches jobs) planned written →
     CostsAtMost points hull (point_at points 0).power (slots_at scale planned) (slots_at scale written)
-written_costs jobs points hull levels scale start [] planned written table is_hull rising positive order part is is_written (none, empty) =
-    rw (none, empty) record { spent = 0; spends = refl; bound = omega (arith, ints) }
-written_costs jobs points hull levels scale start (stretch ∷ pieces) planned written table is_hull rising positive order part is is_written (here, later, made, made_later, parts, made_parts, lies, rounds, rest) =
-    let all : IsPartOfPlan jobs levels (slots_at scale (here ++ later)) scale = subst (λ slots. IsPartOfPlan jobs levels (slots_at scale slots) scale) parts part in
-    let both : IsScale scale (here ++ later) = subst (IsScale scale) parts is in
-    let both_made : IsScale scale (made ++ made_later) = subst (IsScale scale) made_parts is_written in
-    rw (parts_at scale planned here later parts, parts_at scale written made made_later made_parts)
-    (costs_joined points hull (point_at points 0).power (slots_at scale here) (slots_at scale later) (slots_at scale made) (slots_at scale made_later)
-    (stretch_costs jobs points hull levels scale stretch (slots_at scale here) (slots_at scale made) table is_hull rising positive order.1
-    (part_front jobs levels here later scale all)
-    (rounds_at hull levels scale stretch here made (scale_left scale here later both) (scale_left scale made made_later both_made) rounds))
-    (written_costs jobs points hull levels scale stretch.to pieces later made_later table is_hull rising positive order.2
-    (part_back jobs levels here later scale all) (scale_right scale here later both) (scale_right scale made made_later both_made) rest))
+written_costs jobs points hull levels scale planned written plan table is_hull is is_written rounds =
+    let power : ℕ = (point_at points 0).power in
+    rounds_fold jobs hull levels scale (CostsAtMost points hull power) (record { spent = 0; spends = refl; bound = omega (arith, ints) })
+    (λ stretch here made forward part at.
+    stretch_costs jobs points hull levels scale stretch here made table is_hull (hull_rising points hull table.rising is_hull) plan.proper.well_formed.positive forward part at)
+    (λ here later made made_later one other. costs_joined points hull power here later made made_later one other)
+    0 (stretches jobs) planned written (stretches_run jobs) (plan_part jobs planned levels scale plan is) is is_written rounds
 
 -- # The law
 
@@ -332,10 +326,8 @@ rounded_attains_the_hull jobs points planned levels written energy scale spent p
     let hull : List Point = hull_of points in
     let is_hull = hull_exists points table.rising in
     let left = scale_left scale planned written is in
-    let right = scale_right scale planned written is in
     let feasible = written_feasible jobs hull levels planned written scale plan rounding.rounds is in
-    let costs = written_costs jobs points hull levels scale 0 (stretches jobs) planned written table is_hull (hull_rising points hull table.rising is_hull)
-    plan.proper.well_formed.positive (stretches_run jobs) (plan_part jobs planned levels scale plan left) left right rounding.rounds in
+    let costs = written_costs jobs points hull levels scale planned written plan table is_hull left (scale_right scale planned written is) rounding.rounds in
     let same : at_points ≡ costs.spent = spends_once points 0 (slots_at scale written) at_points costs.spent table.rising feasible.one_at_a_time spends costs.spends in
     let bottom : (point_at points 0).power ≡ (point_at hull 0).power = ap (λ (x : Point). x.power) (hull_first points hull is_hull) in
     both_ways (interpolated_energy jobs hull scale (slots_at scale planned)) (product (gaps_of hull) * spent)

@@ -254,6 +254,26 @@ record RunsFromTime (jobs : List Job) (scale start : ℕ) (planned written : Lis
 pub parts_at : (scale : ℕ) (slots one other : List WrittenSlot) → slots ≡ one ++ other → slots_at scale slots ≡ slots_at scale one ++ slots_at scale other
 parts_at scale slots one other is = ap (slots_at scale) is ∙ map-append (slot_at_scale scale) one other
 
+-- What holds of nothing, of each stretch, and of two parts together where it holds of each, holds of all that a plan has and of what is
+-- written for it.
+pub rounds_fold : (jobs : List Job) (hull : List Point) (levels : List Level) (scale : ℕ) (R : List WholeSlot → List WholeSlot → Type 0) → R [] [] →
+    ((stretch : Piece) (planned written : List WholeSlot) → stretch.from < stretch.to → IsPartOfPlan jobs levels planned scale →
+    RoundsAt hull levels scale stretch planned written → R planned written) →
+    ((planned others written made : List WholeSlot) → R planned written → R others made → R (planned ++ others) (written ++ made)) →
+    (start : ℕ) (pieces : List Piece) (planned written : List WrittenSlot) → PiecesFrom start pieces → IsPartOfPlan jobs levels (slots_at scale planned) scale →
+    IsScale scale planned → IsScale scale written → RoundsStretches hull levels pieces planned written → R (slots_at scale planned) (slots_at scale written)
+rounds_fold jobs hull levels scale R none each both start [] planned written order part is is_written (empty, nothing) = rw (empty, nothing) none
+rounds_fold jobs hull levels scale R none each both start (stretch ∷ pieces) planned written order part is is_written (here, later, made, made_later, parts, made_parts, lies, rounds, rest) =
+    let all : IsPartOfPlan jobs levels (slots_at scale (here ++ later)) scale = subst (λ slots. IsPartOfPlan jobs levels (slots_at scale slots) scale) parts part in
+    let whole : IsScale scale (here ++ later) = subst (IsScale scale) parts is in
+    let whole_made : IsScale scale (made ++ made_later) = subst (IsScale scale) made_parts is_written in
+    rw (parts_at scale planned here later parts, parts_at scale written made made_later made_parts)
+    (both (slots_at scale here) (slots_at scale later) (slots_at scale made) (slots_at scale made_later)
+    (each stretch (slots_at scale here) (slots_at scale made) order.1 (part_front jobs levels here later scale all)
+    (rounds_at hull levels scale stretch here made (scale_left scale here later whole) (scale_left scale made made_later whole_made) rounds))
+    (rounds_fold jobs hull levels scale R none each both stretch.to pieces later made_later order.2 (part_back jobs levels here later scale all)
+    (scale_right scale here later whole) (scale_right scale made made_later whole_made) rest))
+
 -- stretch by stretch
 written_runs : (jobs : List Job) (hull : List Point) (levels : List Level) (scale start : ℕ) (pieces : List Piece) (planned written : List WrittenSlot) →
     PiecesFrom start pieces → All (IsBetweenEvents jobs) pieces → IsPartOfPlan jobs levels (slots_at scale planned) scale → IsScale scale planned →

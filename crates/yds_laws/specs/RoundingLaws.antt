@@ -1,6 +1,6 @@
 -- The laws of schedules on a table's points. Each is the contract of a public function of this crate.
-use Rattle.std.specs.Prelude.{◌≡◌, ℕ, ◌*◌, ◌≤◌, ◌↔◌, List, ◌∷◌, ◌++◌, Some, pos}
-use Rattle.std.specs.List.{All}
+use Rattle.std.specs.Prelude.{◌≡◌, ℕ, ◌+◌, ◌-◌, ◌*◌, ◌≤◌, ◌⊎◌, ◌↔◌, List, ◌∷◌, ◌++◌, Some, sum, sum_by, pos}
+use Rattle.std.specs.List.{All, AllZip, Contains}
 use Rattle.yds_model.specs.Job.{Job}
 use Rattle.yds_model.specs.Scale.{Fraction, numerator, IsSame, IsAtMost}
 use Rattle.yds_model.specs.Slot.{WrittenSlot, WholeSlot, IsScale, AtEachScale, slots_at}
@@ -9,9 +9,10 @@ use Rattle.yds_model.specs.Piece.{Piece}
 use Rattle.yds_model.specs.Level.{Level}
 use Rattle.yds_model.specs.Plan.{IsPlan}
 use Rattle.yds_model.specs.Audit.{IsOnTable}
-use Rattle.yds_model.specs.Table.{Point, AreRising, IsTable, hull_of, gaps_of}
-use Rattle.yds_model.specs.Energy.{product, interpolated_energy, IsEnergyOnPoints}
-use Rattle.yds_model.specs.Rounding.{top_of, IsTooFast, IsSplitAt, IsEnergyOf, IsRounding}
+use Rattle.yds_model.specs.Table.{Point, point_at, AreRising, IsTable, hull_of, gaps_of}
+use Rattle.yds_model.specs.Energy.{horizon, product, interpolated_energy, IsEnergyOnPoints}
+use Rattle.yds_model.specs.Event.{stretches}
+use Rattle.yds_model.specs.Rounding.{top_of, IsTooFast, HasPointSpeed, AreNeighbours, IsSplitAt, RoundsStretches, IsEnergyOf, IsRounding}
 use Rattle.yds_model.specs.Admission.{IsWithinTop, CanServe}
 
 -- Energy: a fraction that is the schedule's energy on the points at one scale is so at each.
@@ -51,6 +52,28 @@ RoundedAttainsTheHull = (jobs : List Job) (points : List Point) (planned : List 
     (scale spent : ℕ) → IsPlan jobs planned levels → IsTable points → IsRounding jobs points planned levels written energy →
     IsScale scale (planned ++ written) → IsEnergyOnPoints jobs points scale (slots_at scale written) spent →
     interpolated_energy jobs (hull_of points) scale (slots_at scale planned) ≡ pos (product (gaps_of (hull_of points)) * spent)
+
+-- What a level costs, in parts: for its length at the power of the hull's point that has its speed, or at the power on the line between
+-- the hull's neighbours around its speed.
+abbrev pub IsLevelCost : List Point → ℕ → Level → ℕ → Type 0
+IsLevelCost hull parts level cost =
+    ((point : Point) × Contains hull point × HasPointSpeed level point × (cost ≡ parts * (point.power * level.length)))
+    ⊎ ((low : Point) × (high : Point) × AreNeighbours hull level low high
+    × (cost * (high.speed - low.speed) ≡ parts * (high.power * (level.work - low.speed * level.length) + low.power * (high.speed * level.length - level.work))))
+
+-- Rounding: the energy of the rounded slots is what the levels cost together, and the power of the first point for what the levels'
+-- lengths leave of the horizon.
+abbrev pub RoundedCostsItsLevels : Type 0
+RoundedCostsItsLevels = (jobs : List Job) (points : List Point) (planned : List WrittenSlot) (levels : List Level) (written : List WrittenSlot) (costs : List ℕ)
+    (parts scale : ℕ) → IsPlan jobs planned levels → IsTable points → RoundsStretches (hull_of points) levels (stretches jobs) planned written →
+    AllZip (IsLevelCost (hull_of points) parts) levels costs → IsScale scale (planned ++ written) →
+    (energy : ℕ) × IsEnergyOnPoints jobs points scale (slots_at scale written) energy
+    × (parts * energy ≡ scale * (sum costs + parts * ((point_at points 0).power * (horizon jobs - sum_by (λ level. level.length) levels))))
+
+-- The lengths of a plan's levels are together at most the horizon.
+abbrev pub LevelsFitTheHorizon : Type 0
+LevelsFitTheHorizon = (jobs : List Job) (slots : List WrittenSlot) (levels : List Level) → IsPlan jobs slots levels →
+    sum_by (λ level. level.length) levels ≤ horizon jobs
 
 -- No feasible schedule on the points spends less than this energy: none of whole numbers at any scale, and none that is written,
 -- whatever its denominators are.

@@ -1,7 +1,7 @@
 //! The laws of schedules on the operating points of a table, each as the contract of a call that does nothing.
 //!
 //! Two points around a level's speed are enough: Ishihara and Yasuura (ISLPED 1998).
-ghost use Rattle.yds_laws.specs.RoundingLaws.{OneScaleDecidesEnergy, OneScaleDecidesSplit, EnergyIsOne, RoundedAttainsTheHull, RoundedIsCheapest, RoundedIsFeasible, TooSlowIsExact};
+ghost use Rattle.yds_laws.specs.RoundingLaws.{OneScaleDecidesEnergy, OneScaleDecidesSplit, EnergyIsOne, LevelsFitTheHorizon, RoundedAttainsTheHull, RoundedCostsItsLevels, RoundedIsCheapest, RoundedIsFeasible, TooSlowIsExact};
 ghost use Rattle.yds_laws.specs.RoundText.{RefusedIsTooSlow, RoundedHoldsLeastEnergy, RoundedIsAudited};
 
 /// A fraction that is a written schedule's energy on the points at one of its scales is so at each.
@@ -29,6 +29,18 @@ pub fn rounded_is_feasible()
 /// by the table's lower hull.
 pub fn rounded_attains_the_hull()
     ensures { RoundedAttainsTheHull }
+{}
+
+/// What the rounded slots of a plan spend in the stretches of a level is the level's cost, at the point of its speed
+/// or on the line between the two points around it. The costs of all levels, with the idle time outside them, are the
+/// energy.
+pub fn rounded_costs_its_levels()
+    ensures { RoundedCostsItsLevels }
+{}
+
+/// The lengths of a plan's levels are together at most the horizon.
+pub fn levels_fit_the_horizon()
+    ensures { LevelsFitTheHorizon }
 {}
 
 /// The energy of a plan's rounded slots is at most that of each feasible schedule whose slots run at the speeds of
