@@ -63,4 +63,5 @@ pub mod Inverse
 pub mod Grown
 pub mod Within
 pub mod PlanText
+pub mod RoundText
 pub mod AnsweredOnce
