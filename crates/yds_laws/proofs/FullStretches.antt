@@ -1,7 +1,7 @@
 -- A stretch in which a plan has a slot is full, of slots of one level: the level's members have no time to spare.
 use Rattle.std.proofs.Common.{◌≡◌, ℕ, zero, suc, ◌+◌, ◌-◌, ◌*◌, ◌<◌, ◌≤◌, ◌==◌, Bool, true, false, List, [], ◌∷◌, ◌++◌, length, get_or, take, refl, sym, ap, subst, ◌∙◌, arith, inl, inr, add-one, eq-eqb}
 use Rattle.std.specs.Prelude.{cond}
-use Rattle.std.specs.List.{All, Contains, sum_by}
+use Rattle.std.specs.List.{All, Contains}
 use Rattle.std.proofs.lemmas.Bool.{cases_lt, cases_eq, ne_eqb}
 use Rattle.std.proofs.lemmas.List.{get_or_append_left, get_or_push, length-append, length-map, take_all}
 use Rattle.std.proofs.lemmas.List.Elements.{All-cons, All-tail, All-append, All-map, All-contains, All-weaker, Contains-get_or}

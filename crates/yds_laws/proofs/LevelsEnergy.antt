@@ -9,7 +9,7 @@ use Rattle.yds_model.specs.Numbers.{count}
 use Rattle.yds_model.specs.Job.{Job}
 use Rattle.yds_model.specs.Slot.{WrittenSlot, WholeSlot, IsScale, slots_at}
 use Rattle.yds_model.specs.Piece.{Piece}
-use Rattle.yds_model.specs.Level.{Level, no_level, level_at, all_members}
+use Rattle.yds_model.specs.Level.{Level, level_at, all_members}
 use Rattle.yds_model.specs.Plan.{IsPlan}
 use Rattle.yds_model.specs.Table.{Point, point_at, AreRising, IsTable, IsHullOf, hull_of}
 use Rattle.yds_model.specs.Energy.{busy, idle, horizon, SpendsAtPoints}
@@ -22,15 +22,14 @@ use Rattle.yds_model.proofs.Scale.{scale_exists}
 use Rattle.yds_events.proofs.Neighbours.{stretches_run}
 use Rattle.yds_laws.specs.RoundingLaws.{IsLevelCost, RoundedCostsItsLevels, LevelsFitTheHorizon}
 use Rattle.yds_laws.proofs.Group.{group, group-nil, group-append}
-use Rattle.yds_laws.proofs.Exact.{Fits, level_time}
+use Rattle.yds_laws.proofs.Exact.{level_time}
 use Rattle.yds_laws.proofs.Bound.{scale_left, scale_right}
 use Rattle.yds_laws.proofs.HullEnergy.{hull_rising}
-use Rattle.yds_laws.proofs.OneEnergy.{read_point}
 use Rattle.yds_laws.proofs.HullCosts.{hull_in}
 use Rattle.yds_laws.proofs.LevelCosts.{cost_at_point, cost_between}
 use Rattle.yds_laws.proofs.PlanParts.{IsPartOfPlan, level_found, plan_part}
-use Rattle.yds_laws.proofs.RoundedFeasible.{SplitsAt, RoundsAt, rounds_fold, written_feasible}
-use Rattle.yds_laws.proofs.RoundedEnergy.{spends_joined, RunAt, kept_spends, level_at_point, SplitSpends, split_spends}
+use Rattle.yds_laws.proofs.RoundedFeasible.{RoundsAt, rounds_fold, written_feasible}
+use Rattle.yds_laws.proofs.RoundedEnergy.{spends_joined, RunAt, kept_spends, level_at_point, split_spends}
 use Rattle.yds_laws.proofs.FullStretches.{count_joined, contained_counted, member_counted, planned_once, plan_fits}
 
 -- # The time of levels

@@ -1,8 +1,8 @@
 -- What the answer of `round` is worth: its text is read again as the document with the least energy, and `audit` answers it with
 -- 'feasible', with the points and without. Where it says no, no schedule stays at or below the top speed.
-use Rattle.std.proofs.Common.{◌≡◌, ℕ, ◌≤◌, Bool, true, false, List, [], ◌∷◌, length, Some, None, Result, Ok, Err, refl, ap, subst, ◌∙◌, arith, inl, inr}
+use Rattle.std.proofs.Common.{◌≡◌, ℕ, ◌≤◌, Bool, true, false, List, [], ◌∷◌, length, Some, Result, Ok, Err, refl, ap, subst, ◌∙◌, arith, inl, inr}
 use Rattle.std.specs.Prelude.{codes}
-use Rattle.yds_model.specs.declared.limits.TheConstants.{MAX_INPUT, MAX_JOBS}
+use Rattle.yds_model.specs.declared.limits.TheConstants.{MAX_JOBS}
 use Rattle.yds_model.specs.declared.reason.Reason.{Reason}
 use Rattle.yds_model.specs.declared.status.Status.{Status}
 use Rattle.yds_model.specs.declared.status.Status.TheVariants.{Done, No, Refused}
@@ -16,14 +16,14 @@ use Rattle.yds_model.specs.Audit.{AreSlots, Feasible}
 use Rattle.yds_model.specs.Document.{Document}
 use Rattle.yds_model.specs.Fields.{Fault}
 use Rattle.yds_model.specs.Reading.{reading}
-use Rattle.yds_model.specs.Within.{IsDocument, ArePoints, IsTextOf}
+use Rattle.yds_model.specs.Within.{ArePoints, IsTextOf}
 use Rattle.yds_model.specs.RoundAnswer.{RoundAnswer}
 use Rattle.yds_model.specs.AuditAnswer.{AuditAnswer}
 use Rattle.yds_model.specs.Request.{Question, AskRound, AskAudit, AskAuditOnPoints, OfDocument}
 use Rattle.yds_model.specs.Answer.{OnPoints, AnswersQuestion, AnswersReading, UnlessTooLong, is_too_long, AnswersRequest}
 use Rattle.yds_model.proofs.Verdicts.{verdict_is_exact, table_verdict_is_exact}
 use Rattle.yds_laws.specs.RoundingLaws.{IsFeasibleOnPoints}
-use Rattle.yds_laws.specs.RoundText.{with_energy, LeastEnergy, HoldsLeastEnergy, RoundedHoldsLeastEnergy, RoundedIsAudited, HoldsTooSlow, RefusedIsTooSlow}
+use Rattle.yds_laws.specs.RoundText.{with_energy, LeastEnergy, RoundedHoldsLeastEnergy, RoundedIsAudited, HoldsTooSlow, RefusedIsTooSlow}
 use Rattle.yds_laws.proofs.RoundTrip.{printed_is_read}
 use Rattle.yds_laws.proofs.Short.{text_is_short}
 use Rattle.yds_laws.proofs.PlanText.{slots_agree, answers_document}

@@ -1,22 +1,20 @@
 -- What the rounded slots of a plan spend on a table's points: the energy of the plan's schedule by the lower hull.
 use Rattle.std.proofs.Common.{◌≡◌, ℕ, ◌+◌, ◌-◌, ◌*◌, ◌<◌, ◌≤◌, List, [], ◌∷◌, ◌++◌, length, get_or, map, refl, sym, ap, subst, ◌∙◌, arith, inl, inr}
 use Rattle.std.specs.Prelude.{ℤ, pos, ◌+ℤ◌, ◌≤ℤ◌}
-use Rattle.std.specs.List.{All, Any, Contains}
+use Rattle.std.specs.List.{All, Contains}
 use Rattle.std.proofs.lemmas.Int.{ints}
-use Rattle.std.proofs.lemmas.List.{map-append}
-use Rattle.std.proofs.lemmas.List.Elements.{All-head, All-tail, All-contains, All-weaker, Contains-get_or}
+use Rattle.std.proofs.lemmas.List.Elements.{All-head, All-tail, All-contains, Contains-get_or}
 use Rattle.std.proofs.lemmas.List.Sums.{sum_by-cons, sum_by-append}
 use Rattle.std.proofs.Math.Nat.{mul-sub, mul-le-mul_right, lt_of_mul-lt-mul_right, eq_of_mul-eq-mul_left, eq_of_mul-eq-mul_right}
-use borrow.Author.Differences.{up, down}
 use Rattle.yds_model.specs.Job.{Job}
-use Rattle.yds_model.specs.Slot.{WrittenSlot, WholeSlot, IsScale, slot_at_scale, slots_at}
-use Rattle.yds_model.specs.Piece.{Piece, PiecesFrom}
+use Rattle.yds_model.specs.Slot.{WrittenSlot, WholeSlot, IsScale, slots_at}
+use Rattle.yds_model.specs.Piece.{Piece}
 use Rattle.yds_model.specs.Level.{Level}
 use Rattle.yds_model.specs.Plan.{IsPlan}
 use Rattle.yds_model.specs.Table.{Point, no_point, point_at, AreRising, IsTable, IsHullOf, hull_of, gaps_of}
-use Rattle.yds_model.specs.Energy.{busy, idle, horizon, product, total, interpolated_energy, SpendsAtPoints, IsEnergyOnPoints}
+use Rattle.yds_model.specs.Energy.{busy, idle, horizon, product, total, interpolated_energy, SpendsAtPoints}
 use Rattle.yds_model.specs.Event.{stretches}
-use Rattle.yds_model.specs.Rounding.{HasPointSpeed, AreNeighbours, IsSplitAt, RoundsStretches}
+use Rattle.yds_model.specs.Rounding.{AreNeighbours, IsSplitAt, RoundsStretches}
 use Rattle.yds_model.proofs.Horizon.{busy_and_idle}
 use Rattle.yds_model.proofs.HullExists.{hull_exists}
 use Rattle.yds_events.proofs.Neighbours.{stretches_run}
@@ -27,9 +25,9 @@ use Rattle.yds_laws.proofs.Hinges.{gains, losses}
 use Rattle.yds_laws.proofs.HullEnergy.{hull_first, hull_rising}
 use Rattle.yds_laws.proofs.OneEnergy.{read_point, one_point, spends_once}
 use Rattle.yds_laws.proofs.PlansEnergy.{plans_cost_least_on_points}
-use Rattle.yds_laws.proofs.PlanParts.{HasSpeeds, IsPartOfPlan, plan_part, part_front, part_back}
+use Rattle.yds_laws.proofs.PlanParts.{IsPartOfPlan, plan_part}
 use Rattle.yds_laws.proofs.RoundedRuns.{all_work, same_work, runs_busy, runs_work, runs_spend, runs_on_work, SpendsOn, runs_on_spend}
-use Rattle.yds_laws.proofs.RoundedFeasible.{SplitsAt, RoundsAt, rounds_fold, time_within, written_feasible}
+use Rattle.yds_laws.proofs.RoundedFeasible.{RoundsAt, rounds_fold, time_within, written_feasible}
 use Rattle.yds_laws.proofs.HullCosts.{IsAtLeast, at_least_plus, cancel_gap, power_of, lines_at_least, point_at_least, hull_in}
 
 -- # Sums of two parts

@@ -1,26 +1,22 @@
 -- The slots of a plan, rounded to a table's points, are a feasible schedule on them: stretch by stretch.
-use Rattle.std.proofs.Common.{◌≡◌, ◌⊎◌, ℕ, zero, suc, ◌+◌, ◌-◌, ◌*◌, ◌<◌, ◌≤◌, ◌==◌, List, [], ◌∷◌, ◌++◌, length, get_or, map, refl, sym, ap, subst, ◌∙◌, arith, inl, inr, eqb-true}
-use Rattle.std.specs.Prelude.{if◌then◌else◌}
+use Rattle.std.proofs.Common.{◌≡◌, ◌⊎◌, ℕ, ◌+◌, ◌-◌, ◌*◌, ◌<◌, ◌≤◌, ◌==◌, List, [], ◌∷◌, ◌++◌, length, get_or, refl, sym, ap, subst, ◌∙◌, arith, inl, inr, eqb-true}
 use Rattle.std.specs.List.{All, AllByRecursion, Any, Contains}
 use Rattle.std.proofs.lemmas.Bool.{cases_Bool}
-use Rattle.std.proofs.lemmas.List.{map-append, get_or_default, length-map}
-use Rattle.std.proofs.lemmas.List.Elements.{All-nil, All-cons, All-head, All-tail, All-append, All-map, All-weaker, All-from_get_or, All-contains, All-from_recursion, recursion_from_All}
-use Rattle.std.proofs.lemmas.List.Sums.{sum_by-append}
-use Rattle.std.proofs.Math.Nat.{one-dvd, mul-sub, mul-le-mul_right, le_of_mul-le-mul_right, lt_of_mul-lt-mul_right, lt_of_mul-lt-mul_left}
+use Rattle.std.proofs.lemmas.List.{map-append}
+use Rattle.std.proofs.lemmas.List.Elements.{All-nil, All-head, All-tail, All-append, All-map, All-weaker, All-from_get_or, All-from_recursion, recursion_from_All}
+use Rattle.std.proofs.Math.Nat.{one-dvd, mul-sub, mul-le-mul_right, le_of_mul-le-mul_right, lt_of_mul-lt-mul_right}
 use Rattle.yds_model.specs.Job.{Job, job_at}
 use Rattle.yds_model.specs.Scale.{of_whole}
-use Rattle.yds_model.specs.Slot.{WrittenSlot, WholeSlot, IsDivided, IsScale, slot_at_scale, slots_at, slot_at, no_slot, work_given}
+use Rattle.yds_model.specs.Slot.{WrittenSlot, WholeSlot, IsDivided, IsScale, slot_at_scale, slots_at, work_given}
 use Rattle.yds_model.specs.Feasible.{RunFrom, IsInWindow, IsFeasibleAt}
 use Rattle.yds_model.specs.Piece.{Piece, PiecesFrom}
-use Rattle.yds_model.specs.Level.{Level, no_level}
+use Rattle.yds_model.specs.Level.{Level}
 use Rattle.yds_model.specs.Plan.{IsPlan}
 use Rattle.yds_model.specs.Table.{Point}
 use Rattle.yds_model.specs.Event.{stretches, LiesIn, LiesWritten}
 use Rattle.yds_model.specs.Rounding.{HasPointSpeed, AreNeighbours, jobs_in_turn, IsSplitAt, RoundsStretch, RoundsStretches}
-use Rattle.yds_model.specs.Comparison.{stretch_at}
 use Rattle.yds_events.specs.Stretch.{no_stretch, IsOutside}
 use Rattle.yds_model.proofs.Fractions.{at_most_of_values}
-use Rattle.yds_model.proofs.Lists.{All-front, All-back}
 use Rattle.yds_model.proofs.Runs.{run_forward}
 use Rattle.yds_events.proofs.Neighbours.{stretches_run, release_outside, deadline_outside}
 use Rattle.yds_laws.proofs.Bound.{scale_left, scale_right}
@@ -217,16 +213,21 @@ rounds_at hull levels scale stretch planned written is is_written (inr (level, h
     inr (level, has, members_at_scale scale level planned members, inl (kept.at_point, ap (slots_at scale) kept.kept))
 rounds_at hull levels scale stretch planned written is is_written (inr (level, has, members, inr split)) =
     let both : IsScale scale (split.fast ++ split.slow) = subst (IsScale scale) split.parts is_written in
-    inr (level, has, members_at_scale scale level planned members, inr (record {
-      low = split.low;
-      high = split.high;
-      around = split.around;
-      fast = slots_at scale split.fast;
-      slow = slots_at scale split.slow;
-      parts = ap (slots_at scale) split.parts ∙ map-append (slot_at_scale scale) split.fast split.slow;
-      split = split.split.holds scale (scale_joined scale (planned ++ split.fast) split.slow
-          (scale_joined scale planned split.fast is (scale_left scale split.fast split.slow both)) (scale_right scale split.fast split.slow both));
-    }))
+    inr (
+      level,
+      has,
+      members_at_scale scale level planned members,
+      inr (record {
+        low = split.low;
+        high = split.high;
+        around = split.around;
+        fast = slots_at scale split.fast;
+        slow = slots_at scale split.slow;
+        parts = ap (slots_at scale) split.parts ∙ map-append (slot_at_scale scale) split.fast split.slow;
+        split = split.split.holds scale (scale_joined scale (planned ++ split.fast) split.slow
+            (scale_joined scale planned split.fast is (scale_left scale split.fast split.slow both)) (scale_right scale split.fast split.slow both));
+      }),
+    )
 
 -- so it runs in the stretch
 stretch_runs : (jobs : List Job) (hull : List Point) (levels : List Level) (scale : ℕ) (stretch : Piece) (planned written : List WholeSlot) →

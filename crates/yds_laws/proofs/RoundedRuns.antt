@@ -1,5 +1,5 @@
 -- Slots that run without a gap at one point's speed: their time, their work, what they spend, and that they are in order.
-use Rattle.std.proofs.Common.{◌≡◌, ℕ, zero, suc, ◌+◌, ◌-◌, ◌*◌, ◌<◌, ◌≤◌, ◌==◌, List, [], ◌∷◌, length, get_or, ap, arith}
+use Rattle.std.proofs.Common.{◌≡◌, ℕ, zero, suc, ◌+◌, ◌-◌, ◌*◌, ◌<◌, ◌≤◌, ◌==◌, List, [], ◌∷◌, get_or, ap, arith}
 use Rattle.std.specs.Prelude.{if◌then◌else◌, nat_lt}
 use Rattle.std.specs.List.{All, Contains, sum_by}
 use Rattle.std.proofs.lemmas.Bool.Decides.{nat_tests}
@@ -156,4 +156,3 @@ pub same_work : (slots others : List WholeSlot) → ((job : ℕ) → work_given 
 same_work slots others same =
     let n : ℕ = suc (sum_by (λ slot. slot.job) slots + sum_by (λ slot. slot.job) others) in
     omega (arith, below_all n slots (omega arith), below_all n others (omega arith), below_same n slots others same)
-
