@@ -43,7 +43,10 @@ pub mod LineEnergy
 pub mod PlansEnergy
 pub mod HullCosts
 pub mod LevelCosts
+pub mod LevelTimes
+pub mod LevelShares
 pub mod LevelsEnergy
+pub mod LevelEnergy
 pub mod RoundedEnergy
 pub mod RoundedCheapest
 pub mod RoundedRuns

@@ -42,9 +42,9 @@ pub use reading_laws::{
 };
 pub use rounding_laws::{
     energy_is_one, levels_fit_the_horizon, one_scale_decides_energy, one_scale_decides_split,
-    refused_is_too_slow, rounded_attains_the_hull, rounded_costs_its_levels,
-    rounded_holds_least_energy, rounded_is_audited, rounded_is_cheapest, rounded_is_feasible,
-    too_slow_is_exact,
+    refused_is_too_slow, rounded_attains_the_hull, rounded_costs_its_level,
+    rounded_costs_its_levels, rounded_holds_least_energy, rounded_is_audited, rounded_is_cheapest,
+    rounded_is_feasible, too_slow_is_exact,
 };
 pub use scale_laws::{
     equality_is_of_values, equality_is_transitive, multiple_is_of_values, one_scale_decides,
