@@ -215,10 +215,12 @@ rounded_costs_its_level jobs points planned levels written level parts cost scal
     let spends = all_of_level jobs points hull levels parts cost scale level table is_hull (hull_rising points hull table.rising is_hull) positive has is_cost
     (λ number known. (plan.proper.members number known).at_most_once) planned written plan left (scale_right scale planned written is) rounds in
     let long = All-contains (TakesLong (slots_at scale planned) scale) levels level (levels_long jobs planned levels scale plan left) has in
-    let mine : ℕ = busy (slots_of level (slots_at scale written)) in (
+    let mine : ℕ = busy (slots_of level (slots_at scale written)) in
+    let within : mine ≤ scale * level.length = omega (arith, spends.shorter, long) in (
       spends.spent,
       spends.spends,
+      within,
       level_spent parts level.length power cost spends.spent scale mine (All-contains (λ level. (1 ≤ level.work) × (1 ≤ level.length)) levels level positive has).1
-          (omega (arith, spends.shorter, long))
+          within
           (subst (λ (n : ℕ). parts * level.length * (spends.spent + power * n) ≡ cost * n + parts * level.length * (power * mine)) long spends.is_spent),
     )

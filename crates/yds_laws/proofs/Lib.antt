@@ -11,6 +11,7 @@ mod EqualSpeedsExamples
 mod EarliestFirstExamples
 mod HullExamples
 mod RoundNestedExamples
+mod RoundLawExamples
 mod RoundSwitchExamples
 pub mod Policies
 mod RowsExamples

@@ -1,9 +1,10 @@
 //! The laws of the definitions: what follows from them, whatever program has them. Each is the contract of a call of no
 //! parameters that does nothing.
 //!
-//! It stands on `yds_model`, whose definitions the laws speak of. It carries the promises that a proper certificate
-//! explains its slots and what is explained is least, that a plan costs least by every convex table, that a document's
-//! text is read back, and that the texts which the program writes are answered as its users expect. The worked examples
+//! It stands on `yds_model`, whose definitions the laws speak of, and on `yds_events` for what it proves of stretches.
+//! It carries the promises that a proper certificate explains its slots and what is explained is least, that a plan
+//! costs least by every convex table and, rounded, on the points of every table, that a document's text is read back,
+//! and that the texts which the program writes are answered as its users expect. The worked examples
 //! of the definitions, each with something that meets it and a near miss, are in `proofs/`.
 #![tactic(auto)]
 
