@@ -26,8 +26,8 @@ pub record IsTaskSet (set : TaskSet) : Type 0 where
 -- beside them the number of their jobs, and the work of these
 pub record KeepsTasks (set : TaskSet) (jobs work : ℕ) : Type 0 where
   pub kept : IsTaskSet set
-  pub jobs : jobs ≡ count_of_all set
-  pub work : work ≡ sum_by (λ job. job.work) (jobs_of_tasks set)
+  pub counted : jobs ≡ count_of_all set
+  pub summed : work ≡ sum_by (λ job. job.work) (jobs_of_tasks set)
 
 -- the same with one task more
 abbrev pub with_task : TaskSet → Task → TaskSet

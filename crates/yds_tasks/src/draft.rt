@@ -139,7 +139,7 @@ impl<'a> Draft<'a> {
         requires new { IsFalse (has_name self.old.set task.name.now) }
         requires room { count_of_all (with_task self.old.set (task_read task)) ≤ MAX_JOBS }
         ensures kept { OnOk result (IsDraft self.new) }
-        ensures takes { OnOk result (Takes self.old self.new (TaskEntryOf (task_read task))) }
+        ensures takes { OnOk result (Takes self.old self.new (TaskEntryOf (task_read task.entry))) }
         ensures memory { IfErr result (λ fault. fault ≡ LineFault.Memory) }
     {
         self.names.insert(task.name)?;

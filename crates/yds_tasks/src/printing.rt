@@ -1,5 +1,5 @@
 //! What `expand` writes: the jobs of the tasks, line by line, and their one level where they have one.
-ghost use Rattle.std.specs.Prelude.{◌≡◌, ◌≤◌, Option, map};
+ghost use Rattle.std.specs.Prelude.{◌≡◌, ◌≤◌, Option};
 ghost use Rattle.std.specs.List.{flat_map};
 ghost use Rattle.yds_model.specs.declared.limits.TheConstants.{MAX_TIME};
 ghost use Rattle.yds_model.specs.ExpandAnswer.{level_comment, expansion_text};
@@ -26,7 +26,7 @@ pub fn print_jobs<K: Sink>(tasks: &TaskSet<'_>, sink: &mut K) -> Result<(), Writ
 /// Appends the lines of the tasks' jobs.
 fn print_tasks<K: Sink>(tasks: &[Task<'_>], horizon: u32, sink: &mut K) -> Result<(), WriteFault>
     requires { horizon ≤ MAX_TIME }
-    ensures delivers { Delivers result (flat_map (task_lines horizon) (map task_read tasks.now)) (K.written sink.old) (K.written sink.new) (K.faults sink.old) (K.faults sink.new) }
+    ensures delivers { Delivers result (flat_map (λ task. task_lines horizon (task_read task)) tasks.now) (K.written sink.old) (K.written sink.new) (K.faults sink.old) (K.faults sink.new) }
     ensures flushed_stays { K.flushed sink.new ≡ K.flushed sink.old }
 {
     for task in tasks {

@@ -126,7 +126,7 @@ impl<'a> TaskSet<'a> {
         requires horizon { IsTrue (is_some self.old.horizon) }
         requires few { length self.old.tasks < MAX_TASKS }
         requires room { count_of_all (with_task self.old (task_read task)) ≤ MAX_JOBS }
-        ensures { OnOk result (self.new ≡ with_task self.old (task_read task)) }
+        ensures { OnOk result (self.new ≡ with_task self.old (task_read task.entry)) }
     {
         let count = task.jobs_until(self.horizon());
         self.tasks.push(task)?;
@@ -138,14 +138,14 @@ impl<'a> TaskSet<'a> {
 
 /// Whether the jobs of each of these tasks follow one another without a gap from 0 to the horizon.
 fn all_fill(tasks: &[Task<'_>], horizon: u32) -> bool
-    ensures { result ≡ list_all (fills_horizon horizon) (map task_read tasks.now) }
+    ensures { result ≡ list_all (λ task. fills_horizon horizon (task_read task)) tasks.now }
 {
     tasks.iter().all(|task| task.fills(horizon))
 }
 
 /// Whether one of these tasks has work.
 fn have_work(tasks: &[Task<'_>]) -> bool
-    ensures { result ≡ list_any has_work (map task_read tasks.now) }
+    ensures { result ≡ list_any (λ task. has_work (task_read task)) tasks.now }
 {
     tasks.iter().any(|task| task.work >= 1)
 }
