@@ -1,20 +1,21 @@
 -- How many jobs tasks have together, and their work, as one task more comes.
-use Rattle.std.proofs.Common.{◌≡◌, ℕ, ◌+◌, ◌-◌, ◌*◌, ◌<◌, ◌≤◌, List, [], ◌∷◌, ◌++◌, length, map, get_or, refl, ◌∙◌, ap, arith, inl, inr}
-use Rattle.std.specs.List.{All, sum_by, flat_map, range_with_len}
+use Rattle.std.proofs.Common.{◌≡◌, ℕ, ◌+◌, ◌-◌, ◌*◌, ◌<◌, ◌≤◌, List, [], ◌∷◌, ◌++◌, length, map, get_or, refl, sym, subst, ◌∙◌, ap, arith, inl, inr, true, Option, Some, None}
+use Rattle.std.specs.Prelude.{is_some, IfSome}
+use Rattle.std.specs.List.{All, sum_by, flat_map}
 use Rattle.std.proofs.Math.Nat.{le-div_iff_mul-le, mul-le-mul_left}
 use Rattle.std.proofs.lemmas.Bool.{cases_lt, lt-ltb, le-ltb}
 use Rattle.std.proofs.lemmas.Grind.{flat_map-append}
-use Rattle.std.proofs.lemmas.List.{append-nil}
+use Rattle.std.proofs.lemmas.List.{append-nil, length_push}
 use Rattle.std.proofs.lemmas.List.Concat.{length-flat_map}
-use Rattle.std.proofs.lemmas.List.Elements.{All-head, All-tail}
+use Rattle.std.proofs.lemmas.List.Elements.{All-head, All-tail, All-push}
 use Rattle.std.proofs.lemmas.List.FromFn.{length-range_with_len, length-map-range_with_len}
 use Rattle.std.proofs.lemmas.List.Sums.{sum_by-cons, sum_by-append}
-use Rattle.yds_model.specs.declared.limits.TheConstants.{MAX_TIME, MAX_WORK}
+use Rattle.yds_model.specs.declared.limits.TheConstants.{MAX_JOBS, MAX_TASKS, MAX_TIME, MAX_WORK}
 use Rattle.yds_model.specs.Job.{Job, IsJob}
 use Rattle.yds_model.specs.Tasks.{Task, TaskSet, nth_job, count_of_jobs, numbers_of_jobs, horizon_of, jobs_of_tasks}
 use Rattle.yds_model.specs.TaskReading.{count_of_all}
 use Rattle.yds_model.proofs.Sums.{sum_by_same}
-use Rattle.yds_tasks.specs.Kept.{IsTask, with_task}
+use Rattle.yds_tasks.specs.Kept.{IsTask, IsTaskSet, KeepsTasks, with_task}
 
 -- # The jobs of one task
 
@@ -82,5 +83,48 @@ works_few horizon (task ∷ tasks) kept =
       works_few horizon tasks (All-tail IsTask task tasks kept),
     )
 
-pub works_within : (set : TaskSet) → All IsTask set.tasks → sum_by (λ job. job.work) (jobs_of_tasks set) ≤ MAX_WORK * count_of_all set
+works_within : (set : TaskSet) → All IsTask set.tasks → sum_by (λ job. job.work) (jobs_of_tasks set) ≤ MAX_WORK * count_of_all set
 works_within set kept = works_few (horizon_of set) set.tasks kept
+
+-- # What a set keeps
+
+time_within : (horizon : Option ℕ) → IfSome horizon (λ time. (1 ≤ time) × (time ≤ MAX_TIME)) → elim horizon [ None ↦ 0 | Some time ↦ time ] ≤ MAX_TIME
+time_within None within = omega arith
+time_within (Some time) within = within.1
+
+pub horizon_within : (set : TaskSet) → IsTaskSet set → horizon_of set ≤ MAX_TIME
+horizon_within set kept = time_within set.horizon kept.horizon_in_range
+
+is_not_none : (horizon : Option ℕ) → is_some horizon ≡ true → horizon ≡ None → ⊥
+is_not_none None some none = cc
+is_not_none (Some time) some none = cc
+
+keeps_more : (set : TaskSet) (task : Task) (jobs work : ℕ) → KeepsTasks set jobs work → IsTask task → is_some set.horizon ≡ true → length set.tasks < MAX_TASKS →
+    count_of_all (with_task set task) ≤ MAX_JOBS →
+    KeepsTasks (with_task set task) (jobs + count_of_jobs (horizon_of set) task) (work + count_of_jobs (horizon_of set) task * task.work)
+keeps_more set task jobs work keeps fits some few room = record {
+  kept = record {
+    horizon_in_range = keeps.kept.horizon_in_range;
+    horizon_first = λ none. absurd (is_not_none set.horizon some none);
+    few = omega (arith, length_push set.tasks task, few);
+    few_jobs = room;
+    fit = All-push IsTask set.tasks task keeps.kept.fit fits;
+  };
+  counted = omega (arith, keeps.counted, count_more set task);
+  summed = omega (arith, keeps.summed, works_more set task);
+}
+
+-- the same of what was pushed and added, where `set` is what stood before
+pub keeps_pushed : (before set : TaskSet) (task : Task) (tasks : List Task) (jobs work count times each time : ℕ) → before ≡ set → KeepsTasks before jobs work → IsTask task →
+    is_some set.horizon ≡ true → length set.tasks < MAX_TASKS → count_of_all (with_task set task) ≤ MAX_JOBS → tasks ≡ before.tasks ++ task ∷ [] →
+    count ≡ count_of_jobs time task → time ≡ horizon_of set → times ≡ count → each ≡ task.work →
+    KeepsTasks (record { horizon = before.horizon; tasks = tasks }) (jobs + count) (work + times * each)
+keeps_pushed before set task tasks jobs work count times each time same keeps fits some few room grown is_count is_time is_times is_each =
+    let now : count ≡ count_of_jobs (horizon_of before) task = is_count ∙ ap (λ t. count_of_jobs t task) (is_time ∙ ap horizon_of (sym same)) in
+    rw (grown, is_times, is_each, now)
+    (keeps_more before task jobs work keeps fits (subst (λ (s : TaskSet). is_some s.horizon ≡ true) (sym same) some)
+    (subst (λ (s : TaskSet). length s.tasks < MAX_TASKS) (sym same) few) (subst (λ (s : TaskSet). count_of_all (with_task s task) ≤ MAX_JOBS) (sym same) room))
+
+-- and the new work has room in 64 bits
+pub work_within : (set : TaskSet) (jobs work : ℕ) → KeepsTasks set jobs work → work ≤ MAX_WORK * MAX_JOBS
+work_within set jobs work keeps = omega (arith, keeps.summed, works_within set keeps.kept.fit, keeps.kept.few_jobs)

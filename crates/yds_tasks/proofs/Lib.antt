@@ -2,3 +2,5 @@ pub mod Counts
 pub mod Names
 pub mod Told
 pub mod Printed
+pub mod Level
+pub mod LineKinds

@@ -21,19 +21,21 @@ bytes_eq_comm a b = elim (cases_Bool (bytes_eq a b)) [
   ]
 ]
 
-any_key : (keys : List (Bor (List ℕ))) (name : List ℕ) → list_any (λ key. bytes_eq name key.now) keys ≡ list_any (bytes_eq name) (map (λ key. key.now) keys)
-any_key [] name = refl
-any_key (key ∷ keys) name = ap (λ b. bytes_eq name key.now || b) (any_key keys name)
+-- some image passes a test
+pub list_any-map : {X Y : Type 0} (p : Y → Bool) (f : X → Y) (xs : List X) → list_any p (map f xs) ≡ list_any (λ x. p (f x)) xs
+list_any-map p f [] = refl
+list_any-map p f (x ∷ xs) = ap (λ b. p (f x) || b) (list_any-map p f xs)
 
-any_task : (tasks : List Task) (name : List ℕ) → list_any (bytes_eq name) (map (λ task. task.name) tasks) ≡ list_any (λ task. bytes_eq task.name name) tasks
+any_task : (tasks : List Task) (name : List ℕ) → list_any (λ task. bytes_eq name task.name) tasks ≡ list_any (λ task. bytes_eq task.name name) tasks
 any_task [] name = refl
 any_task (task ∷ tasks) name =
-    ap (λ b. b || list_any (bytes_eq name) (map (λ (t : Task). t.name) tasks)) (bytes_eq_comm name task.name) ∙ ap (λ b. bytes_eq task.name name || b) (any_task tasks name)
+    ap (λ b. b || list_any (λ (t : Task). bytes_eq name t.name) tasks) (bytes_eq_comm name task.name) ∙ ap (λ b. bytes_eq task.name name || b) (any_task tasks name)
 
 -- the keys have a name where some task has it
 pub name_known : (keys : List (Bor (List ℕ))) (set : TaskSet) (name : List ℕ) → map (λ key. key.now) keys ≡ map (λ task. task.name) set.tasks →
     list_any (λ key. bytes_eq name key.now) keys ≡ has_name set name
-name_known keys set name same = any_key keys name ∙ ap (list_any (bytes_eq name)) same ∙ any_task set.tasks name
+name_known keys set name same =
+    sym (list_any-map (bytes_eq name) (λ key. key.now) keys) ∙ ap (list_any (bytes_eq name)) same ∙ list_any-map (bytes_eq name) (λ task. task.name) set.tasks ∙ any_task set.tasks name
 
 -- what the keys are once a new name has come
 pub keys_pushed : (keys grown : List (Bor (List ℕ))) (name : Bor (List ℕ)) (set : TaskSet) (task : Task) → grown ≡ insert_key (λ x y. bytes_eq x.now y.now) keys name →

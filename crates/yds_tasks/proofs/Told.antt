@@ -37,6 +37,10 @@ none_said : {A : Type 0} (xs : List A) → first_of_them xs ≡ None → xs ≡ 
 none_said [] none = refl
 none_said (x ∷ xs) none = cc
 
+pub not_some : {A : Type 0} (o : Option A) → is_some o ≡ false → o ≡ None
+not_some None none = refl
+not_some (Some x) none = cc
+
 pub horizon_held : (earlier : List TaskEntry) (set : TaskSet) → tasks_said earlier ≡ set → nat_lt 0 (length (filter_map horizon_said earlier)) ≡ is_some set.horizon
 horizon_held earlier set holds = some_first (filter_map horizon_said earlier) ∙ ap (λ (s : TaskSet). is_some s.horizon) holds
 

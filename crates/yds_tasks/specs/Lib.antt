@@ -3,3 +3,4 @@ pub mod Read
 pub mod Fields
 pub mod Lines
 pub mod Printed
+pub mod LineKinds

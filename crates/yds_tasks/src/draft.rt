@@ -10,6 +10,7 @@ ghost use Rattle.yds_tasks.specs.Read.{task_read};
 
 use crate::fields::{number_in, task_name};
 use crate::line_fault::LineFault;
+use crate::line_kind::LineKind;
 use crate::task::Task;
 use crate::task_set::TaskSet;
 use indexmap::IndexSet;
@@ -47,10 +48,10 @@ impl<'a> Draft<'a> {
         ensures kept { OnOk result (IsDraft self.new) }
         ensures reads { (earlier : List TaskEntry) → Holds self.old earlier → Tells result (read_task_fields earlier (field_read first.entry ∷ rest.entry.fields)) self.new earlier }
     {
-        match first.text {
-            b"horizon" => self.read_horizon(first, rest),
-            b"task" => self.read_task(first, rest),
-            _ => Err(LineFault::at(first.column, TaskReason::UnknownKind)),
+        match LineKind::of(first.text) {
+            Some(LineKind::Horizon) => self.read_horizon(first, rest),
+            Some(LineKind::Task) => self.read_task(first, rest),
+            None => Err(LineFault::at(first.column, TaskReason::UnknownKind)),
         }
     }
 

@@ -13,6 +13,7 @@ mod fault;
 mod fields;
 mod job_line;
 mod line_fault;
+mod line_kind;
 mod printing;
 mod reader;
 mod task;
