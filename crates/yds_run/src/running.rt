@@ -15,6 +15,7 @@ use crate::audit::{audit_document, audit_on_points};
 use crate::check::check_document;
 use crate::command::{Command, Question};
 use crate::deliver::deliver;
+use crate::expand::expand_input;
 use crate::plan::plan_document;
 use crate::refusal::{RefusedAt, TooLong, Usage};
 use crate::report::report_document;
@@ -80,6 +81,7 @@ pub fn run<S: Source, K: Sink>(
 {
     match Command::of(words) {
         Some(Command::Document(question)) => answer_input(alloc, question, source, sink),
+        Some(Command::Expand) => expand_input(alloc, source, sink),
         Some(Command::Trial { seed, jobs }) => reply(try_plan(alloc, seed, jobs), sink),
         None => deliver(&Usage, sink),
     }

@@ -3,7 +3,7 @@ use Rattle.yds_model.specs.Request.{Request}
 use Rattle.yds_run.specs.declared.command.Command.{Command}
 use Rattle.yds_run.specs.Words.{asked, request_view}
 use Rattle.yds_run.proofs.Replied.{made_replies}
-use Rattle.yds_run.proofs.Complete.{question_completes, trial_answers, headline}
+use Rattle.yds_run.proofs.Complete.{question_completes, tasks_complete, trial_answers, headline}
 use Rattle.yds_run.proofs.running.run.Goals as goal
 
 -- what a command that was named asks for
@@ -19,6 +19,10 @@ returns-in-Some-Document-clause-headline g c =
     λ plan done. headline _ _ _ _ _ _ (ap asked plan) done
     (question_completes _ _ _ _ _ _ _ _ (named _ _ _ c.in-Some-Document.field-0-is c.in-Some-Document.ensures.asked)
     (c.answer_input.ensures.answer (λ is. absurd cc) (λ is. absurd cc)))
+
+pub returns-in-Some-Expand-clause-complete : goal.returns-in-Some-Expand-clause-complete
+returns-in-Some-Expand-clause-complete g c =
+    λ memory fault. tasks_complete _ _ _ _ _ _ _ (named _ _ _ c.in-Some-Expand.field-0-is c.in-Some-Expand.ensures.asked) (c.expand_input.ensures.answer memory fault)
 
 pub returns-in-Some-Trial-clause-trial_text : goal.returns-in-Some-Trial-clause-trial_text
 returns-in-Some-Trial-clause-trial_text g c =
