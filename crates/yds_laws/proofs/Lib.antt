@@ -53,3 +53,5 @@ pub mod Grown
 pub mod Within
 pub mod PlanText
 pub mod AnsweredOnce
+pub mod TaskWork
+pub mod OneLevel
