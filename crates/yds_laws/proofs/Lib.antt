@@ -55,3 +55,5 @@ pub mod PlanText
 pub mod AnsweredOnce
 pub mod TaskWork
 pub mod OneLevel
+pub mod TasksSaid
+pub mod TaskLimits
