@@ -57,3 +57,5 @@ pub mod TaskWork
 pub mod OneLevel
 pub mod TasksSaid
 pub mod TaskLimits
+pub mod TaskNames
+pub mod TaskTexts

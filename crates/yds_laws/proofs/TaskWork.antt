@@ -34,7 +34,7 @@ works_of_numbers task [] = omega arith
 works_of_numbers task (k ∷ numbers) =
     omega (arith, sum_by-cons (λ (job : Job). job.work) (nth_job task k) (map (nth_job task) numbers), works_of_numbers task numbers)
 
-works_of_task : (horizon : ℕ) (task : Task) → sum_by (λ job. job.work) (jobs_of_task horizon task) ≡ count_of_jobs horizon task * task.work
+pub works_of_task : (horizon : ℕ) (task : Task) → sum_by (λ job. job.work) (jobs_of_task horizon task) ≡ count_of_jobs horizon task * task.work
 works_of_task horizon task =
     works_of_numbers task (numbers_of_jobs horizon task) ∙ ap (λ n. n * task.work) (length-range_with_len 0 (count_of_jobs horizon task))
 
@@ -59,7 +59,7 @@ count_by_periods horizon period (suc n) some whole positive =
     (omega arith, omega (arith, quotient))
 
 -- a task that fills the horizon has a job for each period
-count_fills : (horizon : ℕ) (task : Task) → fills_horizon horizon task ≡ true → 1 ≤ task.period → 1 ≤ horizon → task.period * count_of_jobs horizon task ≡ horizon
+pub count_fills : (horizon : ℕ) (task : Task) → fills_horizon horizon task ≡ true → 1 ≤ task.period → 1 ≤ horizon → task.period * count_of_jobs horizon task ≡ horizon
 count_fills horizon task is some positive =
     let fill = fills horizon task is in
     let whole : task.period * (horizon / task.period) ≡ horizon = omega (arith, div-add-mod horizon task.period, fill.divides) in
