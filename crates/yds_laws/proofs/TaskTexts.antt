@@ -39,7 +39,7 @@ use Rattle.yds_laws.proofs.Short.{jobs_short, fields_length, line_length}
 use Rattle.yds_laws.proofs.TaskCounts.{task_jobs_end_in_time}
 use Rattle.yds_laws.proofs.TaskLimits.{IsTask, AreTasks, tasks_keep}
 use Rattle.yds_laws.proofs.TaskNames.{All-numbers, All-flat, names_of_task, nth_name_fits, names_differ}
-use Rattle.yds_laws.proofs.TaskWork.{jobs_of_task, jobs_until, works_of_task, count_fills}
+use Rattle.yds_laws.proofs.TaskWork.{jobs_of_task, jobs_until, jobs_counted, works_of_task, count_fills}
 
 -- # The jobs fit
 
@@ -68,13 +68,7 @@ All-jobs P horizon tasks kept each =
     All-flat P (jobs_of_task horizon) tasks (All-weaker IsTask (λ task. All P (jobs_of_task horizon task))
     (λ task is. All-numbers P (nth_job task) (count_of_jobs horizon task) (λ k below. each task k is below)) tasks kept)
 
--- there are as many names as jobs, and as many jobs as are counted
-jobs_counted : (set : TaskSet) → length (jobs_of_tasks set) ≡ count_of_all set
-jobs_counted set =
-    length-flat_map (jobs_of_task (horizon_of set)) set.tasks
-    ∙ sum_by_same (λ task. length (jobs_of_task (horizon_of set) task)) (count_of_jobs (horizon_of set)) set.tasks
-    (λ i d within. length-map-range_with_len (nth_job (get_or set.tasks i d)) 0 (count_of_jobs (horizon_of set) (get_or set.tasks i d)))
-
+-- there are as many names as jobs
 names_counted : (set : TaskSet) → length (names_of_tasks set) ≡ count_of_all set
 names_counted set =
     length-flat_map (names_of_task (horizon_of set)) set.tasks

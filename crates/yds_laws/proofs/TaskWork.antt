@@ -6,15 +6,17 @@ use Rattle.std.proofs.Math.Nat.{div-add-mod, mul-div_cancel, mul-le-mul_left}
 use Rattle.std.proofs.Math.Seq.{get_or-append_seam}
 use Rattle.std.proofs.lemmas.Bool.{and_parts, le-ltb}
 use Rattle.std.proofs.lemmas.List.{length-append, length_push}
+use Rattle.std.proofs.lemmas.List.Concat.{length-flat_map}
 use Rattle.std.proofs.lemmas.List.Elements.{All-nil, All-cons, All-head, All-tail}
 use Rattle.std.proofs.lemmas.List.Sums.{sum_by-cons, sum_by-append}
-use Rattle.std.proofs.lemmas.List.FromFn.{length-range_with_len}
+use Rattle.std.proofs.lemmas.List.FromFn.{length-range_with_len, length-map-range_with_len}
 use Rattle.yds_model.specs.Numbers.{count as count_in, AreDifferent}
 use Rattle.yds_model.specs.Job.{Job, no_job, job_at, work_of}
 use Rattle.yds_model.specs.Slot.{WholeSlot, work_given}
 use Rattle.yds_model.specs.Feasible.{RunFrom, IsInWindow}
 use Rattle.yds_model.specs.Piece.{Piece, IsConfined, total_length}
-use Rattle.yds_model.specs.Tasks.{Task, nth_job, count_of_jobs, numbers_of_jobs, fills_horizon}
+use Rattle.yds_model.specs.Tasks.{Task, TaskSet, nth_job, count_of_jobs, numbers_of_jobs, fills_horizon, horizon_of, jobs_of_tasks}
+use Rattle.yds_model.specs.TaskReading.{count_of_all}
 use Rattle.yds_model.proofs.Sums.{sum_by_same, sum_by-mul}
 use Rattle.yds_model.proofs.Horizon.{part_own, part_other}
 use Rattle.yds_model.proofs.Time.{time_within}
@@ -37,6 +39,13 @@ works_of_numbers task (k ∷ numbers) =
 pub works_of_task : (horizon : ℕ) (task : Task) → sum_by (λ job. job.work) (jobs_of_task horizon task) ≡ count_of_jobs horizon task * task.work
 works_of_task horizon task =
     works_of_numbers task (numbers_of_jobs horizon task) ∙ ap (λ n. n * task.work) (length-range_with_len 0 (count_of_jobs horizon task))
+
+-- there are as many jobs as the tasks have together
+pub jobs_counted : (set : TaskSet) → length (jobs_of_tasks set) ≡ count_of_all set
+jobs_counted set =
+    length-flat_map (jobs_of_task (horizon_of set)) set.tasks
+    ∙ sum_by_same (λ task. length (jobs_of_task (horizon_of set) task)) (count_of_jobs (horizon_of set)) set.tasks
+    (λ i d within. length-map-range_with_len (nth_job (get_or set.tasks i d)) 0 (count_of_jobs (horizon_of set) (get_or set.tasks i d)))
 
 -- what it means that a task fills the horizon
 record Fills (horizon : ℕ) (task : Task) : Type 0 where

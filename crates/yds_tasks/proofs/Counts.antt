@@ -2,58 +2,26 @@
 use Rattle.std.proofs.Common.{◌≡◌, ℕ, ◌+◌, ◌-◌, ◌*◌, ◌<◌, ◌≤◌, List, [], ◌∷◌, ◌++◌, length, map, get_or, refl, sym, subst, ◌∙◌, ap, arith, inl, inr, true, Option, Some, None}
 use Rattle.std.specs.Prelude.{is_some, IfSome}
 use Rattle.std.specs.List.{All, sum_by, flat_map}
-use Rattle.std.proofs.Math.Nat.{le-div_iff_mul-le, mul-le-mul_left}
-use Rattle.std.proofs.lemmas.Bool.{cases_lt, lt-ltb, le-ltb}
+use Rattle.std.proofs.Math.Nat.{mul-le-mul_left}
 use Rattle.std.proofs.lemmas.Grind.{flat_map-append}
 use Rattle.std.proofs.lemmas.List.{append-nil, length_push}
-use Rattle.std.proofs.lemmas.List.Concat.{length-flat_map}
 use Rattle.std.proofs.lemmas.List.Elements.{All-head, All-tail, All-push}
-use Rattle.std.proofs.lemmas.List.FromFn.{length-range_with_len, length-map-range_with_len}
 use Rattle.std.proofs.lemmas.List.Sums.{sum_by-cons, sum_by-append}
 use Rattle.yds_model.specs.declared.limits.TheConstants.{MAX_JOBS, MAX_TASKS, MAX_TIME, MAX_WORK}
 use Rattle.yds_model.specs.Job.{Job, IsJob}
 use Rattle.yds_model.specs.Tasks.{Task, TaskSet, nth_job, count_of_jobs, numbers_of_jobs, horizon_of, jobs_of_tasks}
 use Rattle.yds_model.specs.TaskReading.{count_of_all}
-use Rattle.yds_model.proofs.Sums.{sum_by_same}
+use Rattle.yds_laws.proofs.TaskCounts.{task_jobs_end_in_time}
+use Rattle.yds_laws.proofs.TaskWork.{jobs_of_task, jobs_until, works_of_task}
 use Rattle.yds_tasks.specs.Kept.{IsTask, IsTaskSet, KeepsTasks, with_task}
-
--- # The jobs of one task
 
 -- a job that is due by the horizon is within its limits
 pub job_fits : (horizon : ℕ) (task : Task) (k : ℕ) → IsTask task → horizon ≤ MAX_TIME → k < count_of_jobs horizon task → IsJob (nth_job task k)
-job_fits horizon task k kept within below = elim (cases_lt horizon (task.offset + task.deadline)) [
-  | inl late ↦ absurd (omega (arith, rw (lt-ltb horizon (task.offset + task.deadline) late) at below))
-  | inr first ↦
-      let left : ℕ = horizon - (task.offset + task.deadline) in
-      let ends = (le-div_iff_mul-le {k = task.period} {x = k} {y = left} kept.has_period).0 (omega (arith, rw (le-ltb horizon (task.offset + task.deadline) first) at below)) in
-      record {
-        has_window = omega (arith, kept.has_deadline);
-        time_in_range = omega (arith, ends, first, within);
-        work_in_range = kept.work_in_range;
-      }
-]
-
--- the works of jobs of one task
-works_of_numbers : (task : Task) (numbers : List ℕ) → sum_by (λ job. job.work) (map (nth_job task) numbers) ≡ length numbers * task.work
-works_of_numbers task [] = omega arith
-works_of_numbers task (k ∷ numbers) =
-    omega (arith, sum_by-cons (λ (job : Job). job.work) (nth_job task k) (map (nth_job task) numbers), works_of_numbers task numbers)
-
-works_of_task : (horizon : ℕ) (task : Task) → sum_by (λ job. job.work) (map (nth_job task) (numbers_of_jobs horizon task)) ≡ count_of_jobs horizon task * task.work
-works_of_task horizon task =
-    works_of_numbers task (numbers_of_jobs horizon task) ∙ ap (λ n. n * task.work) (length-range_with_len 0 (count_of_jobs horizon task))
-
--- # The jobs of all
-
-abbrev jobs_until : ℕ → List Task → List Job
-jobs_until horizon tasks = flat_map (λ task. map (nth_job task) (numbers_of_jobs horizon task)) tasks
-
--- there are as many as the tasks have together
-pub jobs_counted : (set : TaskSet) → length (jobs_of_tasks set) ≡ count_of_all set
-jobs_counted set =
-    length-flat_map (λ task. map (nth_job task) (numbers_of_jobs (horizon_of set) task)) set.tasks
-    ∙ sum_by_same (λ task. length (map (nth_job task) (numbers_of_jobs (horizon_of set) task))) (count_of_jobs (horizon_of set)) set.tasks
-    (λ i d within. length-map-range_with_len (nth_job (get_or set.tasks i d)) 0 (count_of_jobs (horizon_of set) (get_or set.tasks i d)))
+job_fits horizon task k kept within below = record {
+  has_window = omega (arith, kept.has_deadline);
+  time_in_range = omega (arith, (task_jobs_end_in_time horizon task k kept.has_period).0 below, within);
+  work_in_range = kept.work_in_range;
+}
 
 -- one task more
 pub count_more : (set : TaskSet) (task : Task) → count_of_all (with_task set task) ≡ count_of_all set + count_of_jobs (horizon_of set) task
@@ -64,8 +32,8 @@ pub works_more : (set : TaskSet) (task : Task) →
     sum_by (λ job. job.work) (jobs_of_tasks (with_task set task)) ≡ sum_by (λ job. job.work) (jobs_of_tasks set) + count_of_jobs (horizon_of set) task * task.work
 works_more set task =
     let horizon = horizon_of set in
-    let last : List Job = map (nth_job task) (numbers_of_jobs horizon task) in
-    ap (sum_by (λ (job : Job). job.work)) (flat_map-append (λ task. map (nth_job task) (numbers_of_jobs horizon task)) set.tasks (task ∷ []) ∙ ap (λ jobs. jobs_until horizon set.tasks ++ jobs) (append-nil last))
+    let last : List Job = jobs_of_task horizon task in
+    ap (sum_by (λ (job : Job). job.work)) (flat_map-append (jobs_of_task horizon) set.tasks (task ∷ []) ∙ ap (λ jobs. jobs_until horizon set.tasks ++ jobs) (append-nil last))
     ∙ sum_by-append (λ (job : Job). job.work) (jobs_until horizon set.tasks) last
     ∙ ap (λ n. sum_by (λ (job : Job). job.work) (jobs_until horizon set.tasks) + n) (works_of_task horizon task)
 
@@ -73,7 +41,7 @@ works_more set task =
 works_few : (horizon : ℕ) (tasks : List Task) → All IsTask tasks → sum_by (λ job. job.work) (jobs_until horizon tasks) ≤ MAX_WORK * sum_by (count_of_jobs horizon) tasks
 works_few horizon [] kept = omega arith
 works_few horizon (task ∷ tasks) kept =
-    let own : List Job = map (nth_job task) (numbers_of_jobs horizon task) in
+    let own : List Job = jobs_of_task horizon task in
     omega (
       arith,
       sum_by-append (λ (job : Job). job.work) own (jobs_until horizon tasks),

@@ -19,28 +19,9 @@ first_chosen true task x y z is = refl
 first_chosen false true x y z is = cc
 first_chosen false false x y z is = cc
 
-second_chosen : {X : Type 0} (horizon task : Bool) (x y z : X) → Some kinds.Task ≡ chosen horizon task → (if horizon then x else (if task then y else z)) ≡ y
-second_chosen true task x y z is = cc
-second_chosen false true x y z is = refl
-second_chosen false false x y z is = cc
-
-none_chosen : {X : Type 0} (horizon task : Bool) (x y z : X) → None ≡ chosen horizon task → (if horizon then x else (if task then y else z)) ≡ z
-none_chosen true task x y z is = cc
-none_chosen false true x y z is = cc
-none_chosen false false x y z is = refl
-
 abbrev unknown : List Field → Result TaskEntry (Spot TaskReason)
 unknown fields = Err (record { column = (field_at fields 0).column; reason = reasons.UnknownKind })
 
 pub horizon_line : (earlier : List TaskEntry) (fields : List Field) → Some kinds.Horizon ≡ kind_of (field_at fields 0).text → read_task_fields earlier fields ≡ read_horizon earlier fields
 horizon_line earlier fields is =
     first_chosen (bytes_eq (field_at fields 0).text (codes "horizon")) (bytes_eq (field_at fields 0).text (codes "task")) (read_horizon earlier fields) (read_task earlier fields) (unknown fields) is
-
-pub task_line : (earlier : List TaskEntry) (fields : List Field) → Some kinds.Task ≡ kind_of (field_at fields 0).text → read_task_fields earlier fields ≡ read_task earlier fields
-task_line earlier fields is =
-    second_chosen (bytes_eq (field_at fields 0).text (codes "horizon")) (bytes_eq (field_at fields 0).text (codes "task")) (read_horizon earlier fields) (read_task earlier fields) (unknown fields) is
-
-pub unknown_line : (earlier : List TaskEntry) (fields : List Field) → None ≡ kind_of (field_at fields 0).text →
-    read_task_fields earlier fields ≡ Err (record { column = (field_at fields 0).column; reason = reasons.UnknownKind })
-unknown_line earlier fields is =
-    none_chosen (bytes_eq (field_at fields 0).text (codes "horizon")) (bytes_eq (field_at fields 0).text (codes "task")) (read_horizon earlier fields) (read_task earlier fields) (unknown fields) is

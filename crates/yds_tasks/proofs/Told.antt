@@ -15,6 +15,7 @@ use Rattle.yds_model.specs.Tasks.{Task, TaskSet}
 use Rattle.yds_model.specs.TaskReading.{TaskEntry, HorizonEntry, TaskEntryOf, horizon_said, task_said, tasks_said, task_number_in, is_task_name, count_of_all, new_task_name, read_horizon, read_task}
 use Rattle.yds_text.specs.Count.{no_reason}
 use Rattle.yds_text.proofs.Counted.{counted_for}
+use Rattle.yds_laws.proofs.TasksSaid.{task_more}
 use Rattle.yds_tasks.specs.declared.draft.Draft.{Draft}
 use Rattle.yds_tasks.specs.declared.line_fault.LineFault.{LineFault}
 use Rattle.yds_tasks.specs.declared.line_fault.LineFault.TheVariants as faults
@@ -32,11 +33,6 @@ none_first : {A : Type 0} (xs : List A) → (length xs == 0) ≡ not (is_some (f
 none_first [] = refl
 none_first (x ∷ xs) = elim (cases_Bool (length (x ∷ xs) == 0)) [ inl none ↦ absurd (omega (arith, eqb-true (length (x ∷ xs)) 0 none)) | inr some ↦ some ]
 
--- where none is said first, none is said
-none_said : {A : Type 0} (xs : List A) → first_of_them xs ≡ None → xs ≡ []
-none_said [] none = refl
-none_said (x ∷ xs) none = cc
-
 pub not_some : {A : Type 0} (o : Option A) → is_some o ≡ false → o ≡ None
 not_some None none = refl
 not_some (Some x) none = cc
@@ -50,23 +46,6 @@ no_horizon_held earlier set holds = none_first (filter_map horizon_said earlier)
 pub tasks_held : (earlier : List TaskEntry) (set : TaskSet) → tasks_said earlier ≡ set → nat_lt (length (filter_map task_said earlier)) MAX_TASKS ≡ nat_lt (length set.tasks) MAX_TASKS
 tasks_held earlier set holds = ap (λ (s : TaskSet). nat_lt (length s.tasks) MAX_TASKS) holds
 
--- one entry more
-pub horizon_more : (earlier : List TaskEntry) (set : TaskSet) (horizon : ℕ) → tasks_said earlier ≡ set → set.horizon ≡ None →
-    tasks_said (earlier ++ HorizonEntry horizon ∷ []) ≡ record { horizon = Some horizon; tasks = set.tasks }
-horizon_more earlier set horizon holds none =
-    let no_horizon : filter_map horizon_said earlier ≡ [] = none_said (filter_map horizon_said earlier) (ap (λ (s : TaskSet). s.horizon) holds ∙ none) in
-    ap (λ hs. record { horizon = first_of_them hs; tasks = filter_map task_said (earlier ++ HorizonEntry horizon ∷ []) })
-    (filter_map-append horizon_said earlier (HorizonEntry horizon ∷ []) ∙ ap (λ hs. hs ++ horizon ∷ []) no_horizon)
-    ∙ ap (λ ts. record { horizon = Some horizon; tasks = ts })
-    (filter_map-append task_said earlier (HorizonEntry horizon ∷ []) ∙ append-nil (filter_map task_said earlier) ∙ ap (λ (s : TaskSet). s.tasks) holds)
-
-pub task_more : (earlier : List TaskEntry) (set : TaskSet) (task : Task) → tasks_said earlier ≡ set → tasks_said (earlier ++ TaskEntryOf task ∷ []) ≡ with_task set task
-task_more earlier set task holds =
-    ap (λ hs. record { horizon = first_of_them hs; tasks = filter_map task_said (earlier ++ TaskEntryOf task ∷ []) })
-    (filter_map-append horizon_said earlier (TaskEntryOf task ∷ []) ∙ append-nil (filter_map horizon_said earlier))
-    ∙ ap (λ ts. record { horizon = first_of_them (filter_map horizon_said earlier); tasks = ts }) (filter_map-append task_said earlier (TaskEntryOf task ∷ []))
-    ∙ ap (λ (s : TaskSet). with_task s task) holds
-
 -- # The line of the horizon
 
 abbrev horizon_after : List Field → Bool → Result TaskEntry (Spot TaskReason)
@@ -75,10 +54,6 @@ horizon_after fields first = do
   counted ← count_fields reasons.FieldCount 1 fields
   horizon ← task_number_in 1 MAX_TIME (field_at fields 1)
   Ok (HorizonEntry horizon)
-
-pub horizon_misplaced : (earlier : List TaskEntry) (fields : List Field) (set : TaskSet) → tasks_said earlier ≡ set → is_some set.horizon ≡ true →
-    read_horizon earlier fields ≡ Err (record { column = (field_at fields 0).column; reason = reasons.Misplaced })
-horizon_misplaced earlier fields set holds some = ap (horizon_after fields) (no_horizon_held earlier set holds ∙ ap not some)
 
 horizon_counted : (fields : List Field) (a b : Field) → (fields ≡ a ∷ b ∷ []) × (count_fields no_reason 1 fields ≡ Ok true) →
     horizon_after fields true ≡ (task_number_in 1 MAX_TIME b >>= (λ horizon. Ok (HorizonEntry horizon)))
@@ -168,14 +143,6 @@ task_by earlier fields set some room holds placed few =
     ap (λ b. task_after earlier fields b (nat_lt (length (filter_map task_said earlier)) MAX_TASKS)) (horizon_held earlier set holds ∙ placed)
     ∙ ap (λ b. task_after earlier fields some b) (tasks_held earlier set holds ∙ few)
 
-pub task_misplaced : (earlier : List TaskEntry) (fields : List Field) (set : TaskSet) → tasks_said earlier ≡ set → is_some set.horizon ≡ false →
-    read_task earlier fields ≡ Err (record { column = (field_at fields 0).column; reason = reasons.Misplaced })
-task_misplaced earlier fields set holds none = task_by earlier fields set false (nat_lt (length set.tasks) MAX_TASKS) holds none refl
-
-pub task_too_many : (earlier : List TaskEntry) (fields : List Field) (set : TaskSet) → tasks_said earlier ≡ set → is_some set.horizon ≡ true → MAX_TASKS ≤ length set.tasks →
-    read_task earlier fields ≡ Err (record { column = (field_at fields 0).column; reason = reasons.TooMany })
-task_too_many earlier fields set holds some many = task_by earlier fields set true false holds some (le-ltb (length set.tasks) MAX_TASKS many)
-
 -- what the line says, by the count of its fields
 abbrev pub task_counted : List TaskEntry → List Field → Result TaskEntry (Spot TaskReason)
 task_counted earlier fields = task_after earlier fields true true
@@ -192,11 +159,8 @@ task_read_from earlier fields set k a b c d e holds counted =
 
 -- # What was returned
 
-pub fails_at : (fault : LineFault) (read : Result TaskEntry (Spot TaskReason)) (column : ℕ) (reason : TaskReason) → fault ≡ faults.At column reason → read ≡ Err (record { column = column; reason = reason }) → Fails fault read
+pub fails_at : (fault : LineFault) (read : Result (List ℕ) (Spot TaskReason)) (column : ℕ) (reason : TaskReason) → fault ≡ faults.At column reason → read ≡ Err (record { column = column; reason = reason }) → Fails fault read
 fails_at fault read column reason is fails = subst (λ (f : LineFault). Fails f read) (sym is) fails
-
-pub name_fails_at : (fault : LineFault) (read : Result (List ℕ) (Spot TaskReason)) (column : ℕ) (reason : TaskReason) → fault ≡ faults.At column reason → read ≡ Err (record { column = column; reason = reason }) → Fails fault read
-name_fails_at fault read column reason is fails = subst (λ (f : LineFault). Fails f read) (sym is) fails
 
 -- an error that is passed on
 pub passed : (r : Result (Unit {0}) LineFault) (e : LineFault) (read : Result TaskEntry (Spot TaskReason)) (draft : Draft) (es : List TaskEntry)

@@ -2,7 +2,7 @@ use Rattle.std.proofs.Common.{◌∙◌, ap, sym, refl, map}
 use Rattle.yds_model.specs.Tasks.{TaskSet}
 use Rattle.yds_tasks.specs.Read.{task_read}
 use Rattle.yds_tasks.proofs.Names.{keys_pushed}
-use Rattle.yds_tasks.proofs.Told.{task_more}
+use Rattle.yds_laws.proofs.TasksSaid.{task_more}
 use Rattle.yds_tasks.proofs.draft.Draft.add.Goals as goal
 
 pub returns-clause-kept : goal.returns-clause-kept

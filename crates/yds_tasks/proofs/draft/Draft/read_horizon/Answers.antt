@@ -2,7 +2,8 @@ use Rattle.std.proofs.Common.{◌∙◌, ◌∷◌, ap, sym, Ok, Result}
 use Rattle.yds_model.specs.Fields.{◌>>=◌}
 use Rattle.yds_model.specs.TaskReading.{HorizonEntry}
 use Rattle.yds_text.specs.Read.{field_read}
-use Rattle.yds_tasks.proofs.Told.{horizon_fields, horizon_more, not_some}
+use Rattle.yds_laws.proofs.TasksSaid.{horizon_more}
+use Rattle.yds_tasks.proofs.Told.{horizon_fields, not_some}
 use Rattle.yds_tasks.proofs.draft.Draft.read_horizon.Goals as goal
 
 pub returns-clause-reads : goal.returns-clause-reads

@@ -1,7 +1,7 @@
 use Rattle.std.proofs.Common.{◌∙◌, ap, sym, length}
 use Rattle.yds_model.specs.Tasks.{TaskSet, jobs_of_tasks}
 use Rattle.yds_model.specs.TaskReading.{count_of_all}
-use Rattle.yds_tasks.proofs.Counts.{jobs_counted}
+use Rattle.yds_laws.proofs.TaskWork.{jobs_counted}
 use Rattle.yds_tasks.proofs.task_set.TaskSet.jobs.Goals as goal
 
 pub returns-clause-count : goal.returns-clause-count
