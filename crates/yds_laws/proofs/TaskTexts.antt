@@ -30,7 +30,7 @@ use Rattle.yds_model.specs.ExpandAnswer.{level_comment, expansion_text}
 use Rattle.yds_model.specs.Request.{OfTasks}
 use Rattle.yds_model.specs.Answer.{AnswersTasks, UnlessTooLong, is_too_long, AnswersRequest}
 use Rattle.yds_model.proofs.Sums.{sum_by_same}
-use Rattle.yds_laws.specs.TaskLaws.{jobs_document, IsExpansion, ExpansionsAreRead, IsOneLevel, OneLevelIsPlanned}
+use Rattle.yds_laws.specs.TaskLaws.{jobs_document, IsExpansion, HoldsExpansion, ExpansionsAreRead, IsOneLevel, OneLevelIsPlanned}
 use Rattle.yds_laws.proofs.Brought.{IsWord, Brings, Brings-nil, Brings-append, Brings-comment, read_whole}
 use Rattle.yds_laws.proofs.OneLevel.{one_level_planned}
 use Rattle.yds_laws.proofs.Printed.{decimal_word, name_word}
@@ -174,14 +174,11 @@ expansion_is_read set text are said =
 done_not_refused : Done ≡ Refused → ⊥
 done_not_refused same = absurd cc
 
-abbrev IsExpanded : List ℕ → List ℕ → Type 0
-IsExpanded input text = (set : TaskSet) × (task_reading input ≡ Ok set) × IsExpansion set text
-
-of_reading : (input text : List ℕ) (read : Result TaskSet (Fault TaskReason)) → task_reading input ≡ read → AnswersTasks read text Done → IsExpanded input text
+of_reading : (input text : List ℕ) (read : Result TaskSet (Fault TaskReason)) → task_reading input ≡ read → AnswersTasks read text Done → HoldsExpansion input text
 of_reading input text (Ok set) is answer = (set, is, expansion_is_read set text (tasks_keep input set is) answer.said)
 of_reading input text (Err fault) is answer = absurd (done_not_refused answer.ended)
 
-of_input : (input text : List ℕ) (long : Bool) → UnlessTooLong long (AnswersTasks (task_reading input)) text Done → IsExpanded input text
+of_input : (input text : List ℕ) (long : Bool) → UnlessTooLong long (AnswersTasks (task_reading input)) text Done → HoldsExpansion input text
 of_input input text true answers = absurd (done_not_refused answers.ended)
 of_input input text false answers = of_reading input text (task_reading input) refl answers
 

@@ -36,10 +36,13 @@ pub record IsExpansion (set : TaskSet) (text : List ℕ) : Type 0 where
   pub read : reading text ≡ Ok (jobs_document set)
   pub short : length text ≤ MAX_INPUT
 
+-- the input is read as tasks, and the text as their jobs
+abbrev pub HoldsExpansion : List ℕ → List ℕ → Type 0
+HoldsExpansion input text = (set : TaskSet) × (task_reading input ≡ Ok set) × IsExpansion set text
+
 -- What `expand` writes is read so.
 abbrev pub ExpansionsAreRead : Type 0
-ExpansionsAreRead = (input text : List ℕ) → Answers (codes "expand" ∷ []) input text Done →
-    (set : TaskSet) × (task_reading input ≡ Ok set) × IsExpansion set text
+ExpansionsAreRead = (input text : List ℕ) → Answers (codes "expand" ∷ []) input text Done → HoldsExpansion input text
 
 -- there is one level, of this work and length
 pub record IsOneLevel (work long : ℕ) (levels : List Level) : Type 0 where
