@@ -123,8 +123,7 @@ Brings-comment before texts words comment earlier said number start rest =
     let text : List ℕ = join_with_byte 32 texts in
     let kept : without_return text ≡ text = without_return-none text (words_without 13 (omega arith) texts words) in
     let fields : fields_of text ≡ spaced 1 texts = fields_from-join 1 texts (words_full texts words) in
-    let others : List Line = map trimmed (lines_from (number + 1) (start + length text + 1) rest) in
-    (
+    let others : List Line = map trimmed (lines_from (number + 1) (start + length text + 1) rest) in (
       earlier,
       number + 1,
       start + length text + 1,

@@ -27,6 +27,5 @@ pub use task::Task;
 pub use task_set::TaskSet;
 pub use yds_model::TaskReason;
 
-
 #[cfg(test)]
 mod tests;
