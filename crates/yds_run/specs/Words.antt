@@ -20,7 +20,6 @@ built (Some (OfDocument AskReportAsJson)) = None
 built (Some (OfDocument (AskAdmit top))) = None
 built (Some (OfDocument AskCurve)) = None
 built (Some (OfDocument (AskCompare grid))) = None
-built (Some OfTasks) = None
 built request = request
 
 abbrev pub asked : List (List ℕ) → Option Request
@@ -48,6 +47,7 @@ question_view questions.Report = AskReport
 -- what a command answers
 abbrev pub request_view : Command → Request
 request_view (commands.Document question) = OfDocument (question_view question)
+request_view commands.Expand = OfTasks
 request_view (commands.Trial seed jobs) = OfTrial seed jobs
 
 -- a trial has as many jobs as it may have
