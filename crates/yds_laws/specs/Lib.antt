@@ -6,3 +6,4 @@ pub mod PlanText
 pub mod TaskLaws
 pub mod RoundingLaws
 pub mod AnswerLaws
+pub mod AdmissionLaws
