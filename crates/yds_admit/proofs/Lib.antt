@@ -1,1 +1,3 @@
-
+pub mod Between
+pub mod Overfull
+pub mod Deciding

@@ -34,6 +34,8 @@ pub(crate) fn decide(alloc: Global, rows: &[JobRow], top: u32) -> Result<Decisio
     let mut refused = Vec::new(alloc);
     for (number, row) in rows.iter().enumerate() {
         let job = number as u32;
+        // Reading the row shows that it is a job within the limits.
+        let _work = row.work;
         jobs.push(*row)?;
         match first_overfull(alloc, &jobs, top)? {
             None => taken.push(job)?,

