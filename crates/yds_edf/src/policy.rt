@@ -1,6 +1,6 @@
-ghost use Rattle.std.specs.Prelude.{◌≡◌, Some};
-ghost use Rattle.std.specs.List.{Contains};
+ghost use Rattle.std.specs.Prelude.{◌≡◌, ◌+◌, ◌<◌, Some, length};
 ghost use Rattle.yds_model.specs.Event.{stretches};
+ghost use Rattle.yds_model.specs.Comparison.{stretch_at};
 ghost use Rattle.yds_edf.specs.Queue.{pending_in};
 
 use crate::queue::Queue;
@@ -28,14 +28,17 @@ pub trait Policy {
     // Whether they are rounded up.
     ghost rounds: { List Job → ℕ → (ℕ → ℕ) → Piece → Bool };
 
-    // It is a policy for these jobs.
-    ghost fits: { Self → List Job → Type 0 };
+    // What the policy keeps of these jobs before the stretch with this number.
+    ghost keeps: { Self → List Job → ℕ → Type 0 };
 
-    /// What it sets for a stretch, at whose start the jobs that are released by then have arrived.
-    fn set(&self, queue: &Queue, stretch: Stretch) -> Setting
-        requires jobs { fits self.now queue.now.jobs }
-        requires among { Contains (stretches queue.now.jobs) stretch }
+    /// What it sets for the stretch with this number, from 0, at whose start the jobs that are released by then have arrived.
+    /// It is asked for each stretch once, in order.
+    fn set(&mut self, number: u32, queue: &Queue, stretch: Stretch) -> Setting
+        requires kept { keeps self.old queue.now.jobs number }
+        requires known { number < length (stretches queue.now.jobs) }
+        requires nth { stretch ≡ stretch_at queue.now.jobs number }
         requires arrived { queue.now.time ≡ Some stretch.from }
         ensures units { result.units ≡ units queue.now.jobs queue.now.grain (pending_in queue.now) stretch }
-        ensures rounds { result.rounds ≡ rounds queue.now.jobs queue.now.grain (pending_in queue.now) stretch };
+        ensures rounds { result.rounds ≡ rounds queue.now.jobs queue.now.grain (pending_in queue.now) stretch }
+        ensures keeps { keeps self.new queue.now.jobs (number + 1) };
 }

@@ -29,12 +29,12 @@ pub fn run_policy<P: Policy>(
     alloc: Global,
     rows: &[JobRow],
     grid: u32,
-    policy: &P,
+    policy: &mut P,
 ) -> Result<PolicyRun, Memory>
     requires few { length rows.now ≤ MAX_JOBS }
     requires some_grid { 1 ≤ grid }
     requires grid_in_range { grid ≤ MAX_GRID }
-    requires fits { P.fits policy.now rows.now }
+    requires keeps { P.keeps policy.old rows.now 0 }
     ensures run { IfOk result (λ run.
         IsPolicyRun rows.now grid (P.units rows.now grid) (P.rounds rows.now grid) run.rounded run.schedule.slots) }
     ensures jobs { IfOk result (λ run. run.schedule.jobs ≡ length rows.now) }
@@ -46,8 +46,9 @@ pub fn run_policy<P: Policy>(
     let mut rounded = 0;
     for (number, stretch) in stretches.iter().enumerate() {
         queue.arrive(stretch.from);
-        let setting = policy.set(&queue, *stretch);
-        let slots = serve_stretch(alloc, &mut queue, number as u32, *stretch, setting.units)?;
+        let number = number as u32;
+        let setting = policy.set(number, &queue, *stretch);
+        let slots = serve_stretch(alloc, &mut queue, number, *stretch, setting.units)?;
         append(&mut schedule, &slots)?;
         rounded += u32::from(setting.rounds);
     }
