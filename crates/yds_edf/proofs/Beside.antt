@@ -16,6 +16,20 @@ AllZip-append R [] (y ∷ ys) xs' ys' h k = absurd h
 AllZip-append R (x ∷ xs) [] xs' ys' h k = absurd h
 AllZip-append R (x ∷ xs) (y ∷ ys) xs' ys' h k = (h.0, AllZip-append R xs ys xs' ys' h.1 k)
 
+pub length_zipped : {X Y : Type 0} (R : X → Y → Type 0) (xs : List X) (ys : List Y) → AllZip R xs ys → length ys ≡ length xs
+length_zipped R [] [] h = refl
+length_zipped R [] (y ∷ ys) h = absurd h
+length_zipped R (x ∷ xs) [] h = absurd h
+length_zipped R (x ∷ xs) (y ∷ ys) h = omega (arith, length_zipped R xs ys h.1)
+
+-- the pair at a place
+pub zipped_at : {X Y : Type 0} (R : X → Y → Type 0) (xs : List X) (ys : List Y) (i : ℕ) (d : X) (e : Y) → AllZip R xs ys → i < length xs →
+    R (get_or xs i d) (get_or ys i e)
+zipped_at R [] ys i d e h within = absurd (omega arith)
+zipped_at R (x ∷ xs) [] i d e h within = absurd h
+zipped_at R (x ∷ xs) (y ∷ ys) zero d e h within = h.0
+zipped_at R (x ∷ xs) (y ∷ ys) (suc i) d e h within = zipped_at R xs ys i d e h.1 (omega arith)
+
 -- what follows from one relation and a fact of the first elements
 pub AllZip-weaker : {X Y : Type 0} (R S : X → Y → Type 0) (P : X → Type 0) → ((x : X) (y : Y) → P x → R x y → S x y) → (xs : List X) (ys : List Y) →
     All P xs → AllZip R xs ys → AllZip S xs ys
@@ -65,3 +79,14 @@ beside_none i (share ∷ shares) [] none = refl
 beside_none i (share ∷ shares) (slot ∷ slots) none =
     rw (ne_eqb i share.stretch (none 0 share (omega arith)))
     (beside_none i shares slots (All-tail (λ s. i ≢ s.stretch) share shares none))
+
+-- what holds of all slots holds of those
+pub all_beside : (P : WrittenSlot → Type 0) (i : ℕ) (shares : List JobShare) (slots : List WrittenSlot) → All P slots → All P (slots_beside i shares slots)
+all_beside P i [] slots all = All-nil P
+all_beside P i (share ∷ shares) [] all = All-nil P
+all_beside P i (share ∷ shares) (slot ∷ slots) all =
+    let rest = all_beside P i shares slots (All-tail P slot slots all) in
+    elim (cases_eq i share.stretch) [
+      | inl same ↦ rw (eq-eqb i share.stretch same) (All-cons P slot (slots_beside i shares slots) (All-head P slot slots all) rest)
+      | inr other ↦ rw (ne_eqb i share.stretch other) rest
+    ]

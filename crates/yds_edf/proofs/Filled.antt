@@ -147,7 +147,7 @@ contains_filter p (y ∷ ys) x passes (suc k, within, is) =
     ]
 
 -- a share stands among those of its stretch
-stands_in : (shares : List JobShare) (share : JobShare) → Contains shares share → Contains (shares_in shares share.stretch) share
+pub stands_in : (shares : List JobShare) (share : JobShare) → Contains shares share → Contains (shares_in shares share.stretch) share
 stands_in shares share there =
     contains_filter (λ other. share.stretch == other.stretch) shares share (eq-eqb share.stretch share.stretch refl) there
 

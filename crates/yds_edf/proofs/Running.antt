@@ -32,7 +32,7 @@ use Rattle.yds_edf.specs.Run.{by_number, IsServedBefore, pending_before, IsServe
 use Rattle.yds_edf.proofs.Sums.{sum_below_same, sum_below_bound}
 use Rattle.yds_edf.proofs.Parts.{in_added, before_added, in_kept, before_kept}
 use Rattle.yds_edf.proofs.Written.{run_slot}
-use Rattle.yds_edf.proofs.Beside.{AllZip-append, AllZip-weaker, all_second, beside_append, beside_all, beside_none}
+use Rattle.yds_edf.proofs.Beside.{length_zipped, AllZip-append, AllZip-weaker, all_second, beside_append, beside_all, beside_none}
 
 -- the first stretches have been served and laid
 pub record Running (jobs : List Job) (grid : ℕ) (units : (ℕ → ℕ) → Piece → ℕ) (i : ℕ) (now : JobQueue) (shares : List JobShare)
@@ -123,14 +123,8 @@ served_from jobs i set now started new stretch more is starts serves =
 
 -- # One stretch more
 
-length_zipped : {X Y : Type 0} (R : X → Y → Type 0) (xs : List X) (ys : List Y) → AllZip R xs ys → length ys ≡ length xs
-length_zipped R [] [] h = refl
-length_zipped R [] (y ∷ ys) h = absurd h
-length_zipped R (x ∷ xs) [] h = absurd h
-length_zipped R (x ∷ xs) (y ∷ ys) h = omega (arith, length_zipped R xs ys h.1)
-
 -- shares of which each has units, and all together none
-total_none : (shares : List JobShare) → All (λ share. 1 ≤ share.units) shares → total_units shares ≡ 0 → shares ≡ []
+pub total_none : (shares : List JobShare) → All (λ share. 1 ≤ share.units) shares → total_units shares ≡ 0 → shares ≡ []
 total_none [] some none = refl
 total_none (share ∷ shares) some none = absurd (omega (arith, sum_by-cons (λ (s : JobShare). s.units) share shares, none, some 0 share (omega arith)))
 
@@ -155,7 +149,7 @@ laid_run stretch capacity grain scale (share ∷ shares) (slot ∷ slots) time s
   laid_run stretch capacity grain scale shares slots slot.to some laid.1 (All-tail (IsDivided scale) slot slots divided) follows.1,
 )
 
-whole_at : (scale time : ℕ) → at_scale scale (of_whole time) ≡ time * scale
+pub whole_at : (scale time : ℕ) → at_scale scale (of_whole time) ≡ time * scale
 whole_at scale time = omega arith
 
 -- a slot beside a share of an earlier stretch has ended when this one begins
