@@ -1,5 +1,6 @@
 ghost use Rattle.std.specs.Prelude.{◌≡◌, ℕ, ◌+◌, ◌<◌, ◌≤◌, ◌++◌, IfOk, OnOk, length, All};
 ghost use Rattle.yds_model.specs.declared.limits.TheConstants.{MAX_SLOTS};
+ghost use Rattle.yds_model.specs.Job.{IsJob};
 ghost use Rattle.yds_model.specs.Plan.{IsOver};
 ghost use Rattle.yds_model.specs.Within.{AreSlotsOf};
 ghost use Rattle.yds_edf.specs.Run.{IsPolicyRun, ServesStretch};
@@ -38,6 +39,7 @@ pub fn run_policy<P: Policy>(
     ensures run { IfOk result (λ run.
         IsPolicyRun rows.now grid (P.units rows.now grid) (P.rounds rows.now grid) run.rounded run.schedule.slots) }
     ensures jobs { IfOk result (λ run. run.schedule.jobs ≡ length rows.now) }
+    ensures rows { OnOk result (All IsJob rows.now) }
     ensures limits { IfOk result (λ run. AreSlotsOf (length rows.now) run.schedule.slots) }
 {
     let stretches = stretches(alloc, rows)?;
@@ -52,6 +54,7 @@ pub fn run_policy<P: Policy>(
         append(&mut schedule, &slots)?;
         rounded += u32::from(setting.rounds);
     }
+    let _rows = queue.rows();
     let _slots = schedule.slots();
     Ok(PolicyRun { schedule, rounded })
 }

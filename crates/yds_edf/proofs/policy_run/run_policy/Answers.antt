@@ -42,10 +42,12 @@ pub append-requires-clause-grain : goal.append-requires-clause-grain
 append-requires-clause-grain g c =
     let here : c.loop-number.number < length (stretches c.args.rows.now) =
     omega (arith, c.loop-number-test.true, ap (λ (pieces : List Piece). length pieces) c.loop-number.invariant.timeline) in
-    rw (c.deref.ensures.value)
-    (c.args.grid, (can_follow c.args.rows.now c.args.grid g.P.Policy.units c.requires.some_grid c.loop-number.number here _ _ _ _ _ c.loop-number.invariant.running _
-    (stretch_read c.args.rows.now c.deref-stretch-items.result.now c.loop-number.number c.stretch-item.result _ c.loop-number.invariant.timeline here c.stretch-item.is c.stretch.view_is)
-    c.arrive.ensures _ c.set-setting.ensures.units _ c.in_ok-slots.ensures).over)
+    rw (c.deref.ensures.value) (
+      c.args.grid,
+      (can_follow c.args.rows.now c.args.grid g.P.Policy.units c.requires.some_grid c.loop-number.number here _ _ _ _ _ c.loop-number.invariant.running _
+          (stretch_read c.args.rows.now c.deref-stretch-items.result.now c.loop-number.number c.stretch-item.result _ c.loop-number.invariant.timeline here c.stretch-item.is c.stretch.view_is)
+          c.arrive.ensures _ c.set-setting.ensures.units _ c.in_ok-slots.ensures).over,
+    )
 
 pub append-requires-clause-room : goal.append-requires-clause-room
 append-requires-clause-room g c =
