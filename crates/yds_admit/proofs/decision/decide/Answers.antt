@@ -5,7 +5,7 @@ use Rattle.yds_model.specs.Policy.{numbers_of}
 use Rattle.yds_model.specs.Admission.{IsFirstOverfull}
 use Rattle.yds_laws.specs.AdmissionLaws.{HasRoom}
 use Rattle.yds_admit.specs.Interval.{work_in}
-use Rattle.yds_admit.proofs.Deciding.{begun, takes, refuses, all_decided}
+use Rattle.yds_admit.proofs.Deciding.{begun, without_last, takes, refuses, all_decided}
 use Rattle.yds_admit.proofs.decision.decide.Goals as goal
 use Rattle.yds_admit.proofs.decision.decide.Goals.{in-None+in_ok-push-in-None, in-Some+in_ok-push-in-Some}
 
@@ -26,7 +26,8 @@ loop-number-preserved c =
       | in-Some+in_ok-push-in-Some w ↦
           let first : IsFirstOverfull c.deref.result.now c.args.top (numbers_of c.deref.result.now) w.in-Some.from w.in-Some.to =
           rw w.in-Some.is at c.in_ok-first_overfull.ensures in
-          let popped : w.pop.new.self.items ≡ c.loop-number.jobs.items = ? in
+          let popped : w.pop.new.self.items ≡ c.loop-number.jobs.items =
+          w.pop.ensures.rest ∙ without_last c.loop-number.jobs.items row c.push.new.self.items c.push.new.self.len pushed (c.push.new.self.ok).0 in
           rw (w.taken-is, w.jobs-is, w.refused-is, w.in_ok-push-in-Some.ensures.items, popped)
           (refuses c.args.rows.now c.args.top c.loop-number.number c.loop-number.taken.items c.loop-number.jobs.items c.loop-number.refused.items c.requires.some_top
           c.loop-number-test.true c.loop-number.invariant row is c.row.invariant w.in-Some.from w.in-Some.to w.work_between-work.result
