@@ -170,7 +170,7 @@ module _ (top : ℕ) (jobs : List Job) (are : All IsJob jobs) (room : HasRoom to
       ]))
 
   -- The work is within the room from any time on, not only from releases: go on to the next release.
-  room_from : (more from : ℕ) → (job_at jobs last).deadline ≤ from + more →
+  pub room_from : (more from : ℕ) → (job_at jobs last).deadline ≤ from + more →
       confined jobs from (job_at jobs last).deadline ≤ top * ((job_at jobs last).deadline - from)
   room_from zero from near = omega (arith, confined_nowhere from (omega (arith, near)))
   room_from (suc more) from near =
