@@ -18,6 +18,8 @@ pub record Decided (rows : List Job) (top i : ℕ) (taken : List ℕ) (jobs : Li
   pub few : length jobs ≤ i
   pub are : All IsJob jobs
   pub room : HasRoom top jobs
+  pub taken_known : All (λ number. number < i) taken
+  pub refused_known : All (λ (refusal : Refusal). refusal.job < i) refused
   pub goes_on : (later : List ℕ) (others : List Refusal) → AdmitsAfter rows top taken (drop i (numbers_of rows)) later others →
       IsAdmission rows top (taken ++ later) (refused ++ others)
 
@@ -32,6 +34,8 @@ begun rows top = record {
   few = omega arith;
   are = All-nil IsJob;
   room = λ from to full. absurd (omega (arith, full.is_release.2));
+  taken_known = All-nil (λ number. number < 0);
+  refused_known = All-nil (λ (refusal : Refusal). refusal.job < 0);
   goes_on = λ later others rest. rest;
 }
 
@@ -58,6 +62,8 @@ module _ (rows : List Job) (top i : ℕ) (taken : List ℕ) (jobs : List Job) (r
     few = omega (arith, decided.few, length_push jobs row);
     are = all_jobs;
     room = room;
+    taken_known = All-push (λ number. number < i + 1) taken i (λ k d below. omega (arith, decided.taken_known k d below)) (omega arith);
+    refused_known = λ k d below. omega (arith, decided.refused_known k d below);
     goes_on = λ later others rest.
         subst (λ (some : List ℕ). IsAdmission rows top some (refused ++ others)) (sym (append_assoc taken (i ∷ []) later))
         (decided.goes_on (i ∷ later) others
@@ -82,6 +88,8 @@ module _ (rows : List Job) (top i : ℕ) (taken : List ℕ) (jobs : List Job) (r
         few = omega (arith, decided.few);
         are = decided.are;
         room = decided.room;
+        taken_known = λ k d below. omega (arith, decided.taken_known k d below);
+        refused_known = All-push (λ (one : Refusal). one.job < i + 1) refused refusal (λ k d below. omega (arith, decided.refused_known k d below)) (omega arith);
         goes_on = λ later others rest.
             subst (λ (some : List Refusal). IsAdmission rows top (taken ++ later) some) (sym (append_assoc refused (refusal ∷ []) others))
             (decided.goes_on later (refusal ∷ others)

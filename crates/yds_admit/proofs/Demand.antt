@@ -6,7 +6,6 @@ use Rattle.std.proofs.lemmas.Bool.{cases_lt, le-leb}
 use Rattle.std.proofs.lemmas.List.{get_or-map}
 use Rattle.std.proofs.Math.Nat.{mul-sub, mul-le-mul_left}
 use Rattle.yds_model.specs.Job.{Job, IsJob, no_job, job_at}
-use Rattle.yds_model.specs.Piece.{Piece}
 use Rattle.yds_model.specs.Event.{event_points, stretches}
 use Rattle.yds_model.specs.Comparison.{stretch_at}
 use Rattle.yds_model.specs.Policy.{numbers_of}
@@ -19,11 +18,8 @@ use Rattle.yds_edf.specs.Demand.{capacity_at, confined_units, capacity_between, 
 use Rattle.yds_edf.proofs.Sums.{sum_below_same, sum_below_front}
 use Rattle.yds_edf.proofs.Numbers.{sum_numbers}
 use Rattle.yds_laws.specs.AdmissionLaws.{HasRoom}
+use Rattle.yds_admit.specs.Serving.{top_units}
 use Rattle.yds_laws.proofs.Served.{room_from, confined_sum}
-
--- what a stretch serves at the top speed
-abbrev pub top_units : ℕ → Piece → ℕ
-top_units top stretch = top * (stretch.to - stretch.from)
 
 -- a step from one event point to the next
 steps : (top next here begin from to : ℕ) → to ≡ next → from ≡ here → begin ≤ from →

@@ -1,4 +1,4 @@
-ghost use Rattle.std.specs.Prelude.{◌≡◌, ◌≤◌, IfOk, length};
+ghost use Rattle.std.specs.Prelude.{◌≡◌, ◌<◌, ◌≤◌, IfOk, length, All};
 ghost use Rattle.yds_model.specs.Admission.{IsAdmission, jobs_with};
 ghost use Rattle.yds_laws.specs.AdmissionLaws.{HasRoom};
 
@@ -28,6 +28,8 @@ pub(crate) fn decide(alloc: Global, rows: &[JobRow], top: u32) -> Result<Decisio
     ensures jobs { IfOk result (λ decision. decision.jobs.items ≡ jobs_with rows.now decision.taken.items) }
     ensures room { IfOk result (λ decision. HasRoom top decision.jobs.items) }
     ensures few { IfOk result (λ decision. length decision.jobs.items ≤ length rows.now) }
+    ensures taken_known { IfOk result (λ decision. All (λ number. number < length rows.now) decision.taken.items) }
+    ensures refused_known { IfOk result (λ decision. All (λ refusal. refusal.job < length rows.now) decision.refused.items) }
 {
     let mut taken = Vec::new(alloc);
     let mut jobs = Vec::new(alloc);

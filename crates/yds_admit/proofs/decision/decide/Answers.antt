@@ -42,4 +42,6 @@ returns c = record {
   jobs = c.loop-number.invariant.same;
   room = c.loop-number.invariant.room;
   few = omega (arith, c.loop-number.invariant.few);
+  taken_known = λ k d below. omega (arith, c.loop-number.auto, c.loop-number.invariant.taken_known k d below);
+  refused_known = λ k d below. omega (arith, c.loop-number.auto, c.loop-number.invariant.refused_known k d below);
 }
