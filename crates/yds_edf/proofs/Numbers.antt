@@ -1,11 +1,10 @@
 -- Sums over the numbers of jobs, as the definitions write them and as sums below a number.
-use Rattle.std.proofs.Common.{◌≡◌, ℕ, zero, suc, ◌+◌, ◌*◌, ◌<◌, List, [], ◌∷◌, length, ◌∙◌, refl, sym, ap, arith, inl, inr, cond, true, false}
+use Rattle.std.proofs.Common.{◌≡◌, ℕ, zero, suc, ◌+◌, ◌*◌, ◌<◌, List, [], ◌∷◌, length, get_or, ◌∙◌, refl, sym, ap, arith, cond, true, false}
 use Rattle.std.specs.Prelude.{Bool, sum_by, filter}
 use Rattle.std.specs.List.{range_with_len}
 use Rattle.std.proofs.lemmas.List.Sums.{sum_by-cons}
-use Rattle.std.proofs.lemmas.Bool.{cases_Bool}
 use Rattle.yds_edf.specs.Pending.{sum_below}
-use Rattle.yds_edf.proofs.Sums.{sum_below_same}
+use Rattle.yds_edf.proofs.Sums.{sum_below_same, sum_below_zero, sum_below-add}
 
 -- the first term apart
 sum_below_first : (n : ℕ) (f : ℕ → ℕ) → sum_below (suc n) f ≡ f 0 + sum_below n (λ k. f (suc k))
@@ -43,3 +42,26 @@ sum_numbers p f n =
 pub sum_below-mul : (n k : ℕ) (f : ℕ → ℕ) → sum_below n (λ i. k * f i) ≡ k * sum_below n f
 sum_below-mul zero k f = omega arith
 sum_below-mul (suc n) k f = omega (arith, sum_below-mul n k f)
+
+-- a sum over a list, by its places
+pub sum_places : {X : Type 0} (f : X → ℕ) (xs : List X) (d : X) → sum_by f xs ≡ sum_below (length xs) (λ i. f (get_or xs i d))
+sum_places f [] d = refl
+sum_places f (x ∷ xs) d = omega (
+  arith,
+  sum_by-cons f x xs,
+  sum_places f xs d,
+  sum_below_first (length xs) (λ i. f (get_or (x ∷ xs) i d)),
+)
+
+-- a sum over what passes a test
+pub sum_filter : {X : Type 0} (p : X → Bool) (f : X → ℕ) (xs : List X) → sum_by f (filter p xs) ≡ sum_by (λ x. cond (p x) (f x) 0) xs
+sum_filter p f [] = refl
+sum_filter p f (x ∷ xs) = filtered (p x) ∙ ap (λ n. cond (p x) (f x) 0 + n) (sum_filter p f xs) ∙ sym (sum_by-cons (λ y. cond (p y) (f y) 0) x xs) where
+  filtered : (b : Bool) → sum_by f (cond b (x ∷ filter p xs) (filter p xs)) ≡ cond b (f x) 0 + sum_by f (filter p xs)
+  filtered true = sum_by-cons f x (filter p xs)
+  filtered false = omega arith
+
+-- two sums, one in the other, in either order
+pub sum_below_swap : (m n : ℕ) (f : ℕ → ℕ → ℕ) → sum_below m (λ k. sum_below n (λ j. f k j)) ≡ sum_below n (λ j. sum_below m (λ k. f k j))
+sum_below_swap zero n f = sym (sum_below_zero n (λ j. 0) (λ j below. refl))
+sum_below_swap (suc m) n f = omega (arith, sum_below_swap m n f, sum_below-add n (λ j. sum_below m (λ k. f k j)) (f m))

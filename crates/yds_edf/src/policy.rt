@@ -23,10 +23,10 @@ pub trait Policy {
     ghost use Rattle.yds_model.specs.Piece.{Piece};
 
     // The units that a stretch of these jobs serves on this grid, where so many units of each job are pending.
-    ghost units: { List Job → ℕ → (ℕ → ℕ) → Piece → ℕ };
+    ghost units: { Self → List Job → ℕ → (ℕ → ℕ) → Piece → ℕ };
 
     // Whether they are rounded up.
-    ghost rounds: { List Job → ℕ → (ℕ → ℕ) → Piece → Bool };
+    ghost rounds: { Self → List Job → ℕ → (ℕ → ℕ) → Piece → Bool };
 
     // What the policy keeps of these jobs before the stretch with this number.
     ghost keeps: { Self → List Job → ℕ → Type 0 };
@@ -38,7 +38,9 @@ pub trait Policy {
         requires known { number < length (stretches queue.now.jobs) }
         requires nth { stretch ≡ stretch_at queue.now.jobs number }
         requires arrived { queue.now.time ≡ Some stretch.from }
-        ensures units { result.units ≡ units queue.now.jobs queue.now.grain (pending_in queue.now) stretch }
-        ensures rounds { result.rounds ≡ rounds queue.now.jobs queue.now.grain (pending_in queue.now) stretch }
-        ensures keeps { keeps self.new queue.now.jobs (number + 1) };
+        ensures units { result.units ≡ units self.old queue.now.jobs queue.now.grain (pending_in queue.now) stretch }
+        ensures rounds { result.rounds ≡ rounds self.old queue.now.jobs queue.now.grain (pending_in queue.now) stretch }
+        ensures keeps { keeps self.new queue.now.jobs (number + 1) }
+        ensures units_stay { units self.new ≡ units self.old }
+        ensures rounds_stay { rounds self.new ≡ rounds self.old };
 }

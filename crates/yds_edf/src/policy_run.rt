@@ -37,7 +37,7 @@ pub fn run_policy<P: Policy>(
     requires grid_in_range { grid ≤ MAX_GRID }
     requires keeps { P.keeps policy.old rows.now 0 }
     ensures run { IfOk result (λ run.
-        IsPolicyRun rows.now grid (P.units rows.now grid) (P.rounds rows.now grid) run.rounded run.schedule.slots) }
+        IsPolicyRun rows.now grid (P.units policy.old rows.now grid) (P.rounds policy.old rows.now grid) run.rounded run.schedule.slots) }
     ensures jobs { IfOk result (λ run. run.schedule.jobs ≡ length rows.now) }
     ensures rows { OnOk result (All IsJob rows.now) }
     ensures limits { IfOk result (λ run. AreSlotsOf (length rows.now) run.schedule.slots) }
