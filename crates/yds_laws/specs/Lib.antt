@@ -5,5 +5,6 @@ pub mod EnergyLaws
 pub mod PlanText
 pub mod TaskLaws
 pub mod RoundingLaws
+pub mod RoundText
 pub mod AnswerLaws
 pub mod AdmissionLaws
