@@ -1,13 +1,13 @@
 -- The work of jobs whose windows lie in an interval, job by job, and where it first is too much.
-use Rattle.std.proofs.Common.{◌≡◌, ℕ, zero, suc, ◌+◌, ◌-◌, ◌*◌, ◌<◌, ◌≤◌, ◌⊎◌, List, [], ◌∷◌, ◌++◌, length, get_or, take, drop, ◌∙◌, refl, sym, subst, arith, inl, inr, ap, cond, Bool, true, false, ◌&&◌, ◌==◌, nat_lt, nat_le}
-use Rattle.std.specs.List.{All, Any, sum_by}
+use Rattle.std.proofs.Common.{◌≡◌, ℕ, ◌+◌, ◌-◌, ◌*◌, ◌<◌, ◌≤◌, List, length, get_or, take, drop, ◌∙◌, refl, sym, subst, arith, inl, inr, ap, cond, ◌&&◌, nat_le}
+use Rattle.std.specs.List.{sum_by}
 use Rattle.std.specs.List.Sorted.{IsNonDecreasingBy}
 use Rattle.std.proofs.lemmas.Bool.{cases_lt, lt-leb, le-leb}
 use Rattle.std.proofs.lemmas.List.{take_all, get_or-take, get_or-drop, get_or_default, length-take-le, length-drop}
 use Rattle.std.proofs.lemmas.List.Sums.{sum_by_more, sum_by-take-drop}
 use Rattle.std.proofs.Math.Nat.{mul-le-mul_left}
 use Rattle.yds_model.specs.declared.limits.TheConstants.{MAX_WORK}
-use Rattle.yds_model.specs.Job.{Job, IsJob, no_job, job_at}
+use Rattle.yds_model.specs.Job.{Job, no_job, job_at}
 use Rattle.yds_model.proofs.Sums.{sum_by_same, sum_by_at_most, sum_by_zero}
 use Rattle.yds_admit.specs.Interval.{work_in, HasRoomFrom, IsFirstEnd}
 

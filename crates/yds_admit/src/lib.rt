@@ -7,13 +7,14 @@
 //! deadline first.
 #![tactic(auto)]
 
-// mod admission;
+mod admission;
 mod decision;
 mod interval;
 mod refusal;
+mod serving;
 
-// pub use admission::{Admission, admit};
+pub use admission::{Admission, admit};
 pub use refusal::Refusal;
 
-// #[cfg(test)]
-// mod tests;
+#[cfg(test)]
+mod tests;

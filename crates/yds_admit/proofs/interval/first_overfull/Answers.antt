@@ -1,4 +1,4 @@
-use Rattle.std.proofs.Common.{ℕ, List, arith, get_or, ◌≡◌, ◌≤◌, ◌∙◌, length, map, sym, subst, below_more}
+use Rattle.std.proofs.Common.{List, arith, get_or, map, sym, subst, below_more}
 use Rattle.std.specs.List.Sorted.{IsPermutation, IsNonDecreasing}
 use Rattle.std.proofs.lemmas.List.{get_or_default}
 use Rattle.std.proofs.lemmas.List.Sorted.{length_permutation}

@@ -1,6 +1,6 @@
-use Rattle.std.proofs.Common.{◌≡◌, ◌∙◌, arith}
+use Rattle.std.proofs.Common.{◌∙◌, arith}
 use Rattle.std.proofs.lemmas.List.{get_or_read}
-use Rattle.yds_model.specs.Job.{Job, no_job, job_at}
+use Rattle.yds_model.specs.Job.{no_job}
 use Rattle.yds_admit.proofs.Between.{begun, passed, fits, ends_here, walked_all}
 use Rattle.yds_admit.proofs.interval.overfull_end.Goals as goal
 use Rattle.yds_admit.proofs.interval.overfull_end.Goals.{then-job-from+else-work-from, else-job-from}
