@@ -1,5 +1,5 @@
 use super::*;
-use crate::worked_rows::{EXPANSIONS, REPORTS_AND_TRIALS, ROWS};
+use crate::worked_rows::{ADMISSIONS, EXPANSIONS, REPORTS_AND_TRIALS, ROWS};
 use std::alloc::{AllocError, Global};
 use std::test::Fail;
 use yds_model::{Memory, Status};
@@ -34,34 +34,34 @@ fn answer(alloc: Global, text: &str, input: &str) -> Result<(Status, MemorySink)
     Ok((status, sink))
 }
 
-#[test]
-fn the_answer_to_each_input(rt: HostRuntime) -> Result<(), Fail> {
-    for (text, input, status, want) in &ROWS {
+/// The words of each row, over its input, end with its status and write its text.
+fn answers_are(rt: HostRuntime, rows: &[(&str, &str, Status, &str)]) -> Result<(), Fail> {
+    for (text, input, status, want) in rows {
         let (ended, sink) = answer(rt.alloc(), text, input)?;
         assert_eq!(rt; ended, *status, "{text}: {input}");
         assert_eq!(rt; sink.bytes(), want.as_bytes(), "{text}: {input}");
     }
     Ok(())
+}
+
+#[test]
+fn the_answer_to_each_input(rt: HostRuntime) -> Result<(), Fail> {
+    answers_are(rt, &ROWS)
 }
 
 #[test]
 fn the_answers_of_reports_and_trials(rt: HostRuntime) -> Result<(), Fail> {
-    for (text, input, status, want) in &REPORTS_AND_TRIALS {
-        let (ended, sink) = answer(rt.alloc(), text, input)?;
-        assert_eq!(rt; ended, *status, "{text}: {input}");
-        assert_eq!(rt; sink.bytes(), want.as_bytes(), "{text}: {input}");
-    }
-    Ok(())
+    answers_are(rt, &REPORTS_AND_TRIALS)
 }
 
 #[test]
 fn the_jobs_of_periodic_tasks(rt: HostRuntime) -> Result<(), Fail> {
-    for (text, input, status, want) in &EXPANSIONS {
-        let (ended, sink) = answer(rt.alloc(), text, input)?;
-        assert_eq!(rt; ended, *status, "{text}: {input}");
-        assert_eq!(rt; sink.bytes(), want.as_bytes(), "{text}: {input}");
-    }
-    Ok(())
+    answers_are(rt, &EXPANSIONS)
+}
+
+#[test]
+fn the_answers_of_admissions(rt: HostRuntime) -> Result<(), Fail> {
+    answers_are(rt, &ADMISSIONS)
 }
 
 #[test]
