@@ -58,4 +58,5 @@ IsAskable _ = Unit {0}
 -- and those of a command: a trial has as many jobs as it may have
 abbrev pub IsWithinLimits : Command → Type 0
 IsWithinLimits (commands.Document question) = IsAskable question
+IsWithinLimits commands.Expand = Unit {0}
 IsWithinLimits (commands.Trial seed jobs) = jobs ≤ MAX_TRIAL_JOBS
