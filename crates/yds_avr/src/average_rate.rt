@@ -35,9 +35,9 @@ pub fn avr(alloc: Global, rows: &[JobRow], grid: u32) -> Result<PolicyRun, Memor
 struct AverageRate;
 
 impl Policy for AverageRate {
-    ghost units = { λ jobs grid pending stretch. terms_of jobs grid stretch };
+    ghost units = { λ policy jobs grid pending stretch. terms_of jobs grid stretch };
 
-    ghost rounds = { λ jobs grid pending stretch. average_rate_rounds jobs grid stretch };
+    ghost rounds = { λ policy jobs grid pending stretch. average_rate_rounds jobs grid stretch };
 
     ghost keeps = { λ policy jobs number. Unit {0} };
 

@@ -108,3 +108,16 @@ returns-clause-run g c =
     let all : c.loop-number.number ≡ length (stretches c.args.rows.now) =
     omega (arith, c.loop-number-test.false, ap (λ (pieces : List Piece). length pieces) c.loop-number.invariant.timeline) in
     all_run (rw all at c.loop-number.invariant.running) (rw all at c.loop-number.invariant.counted)
+
+pub returns-clause-count_in_range : goal.returns-clause-count_in_range
+returns-clause-count_in_range g c =
+    let all : c.loop-number.number ≡ length (stretches c.args.rows.now) =
+    omega (arith, c.loop-number-test.false, ap (λ (pieces : List Piece). length pieces) c.loop-number.invariant.timeline) in
+    omega (
+      arith,
+      all,
+      few_stretches c.args.rows.now,
+      c.requires.few,
+      c.loop-number.invariant.counted,
+      few_rounded c.args.rows.now c.args.grid (g.P.Policy.rounds c.args.policy.now c.args.rows.now c.args.grid) c.loop-number.invariant.shares c.loop-number.number,
+    )
