@@ -5,11 +5,10 @@ use Rattle.std.proofs.lemmas.Bool.{cases_lt, cases_Bool, le-leb, lt-leb, lt-ltb,
 use Rattle.std.specs.Prelude.{Result, Ok, Err, IfOk, OnOk}
 use Rattle.std.proofs.lemmas.List.{get_or-map}
 use Rattle.std.proofs.lemmas.List.Elements.{All-from_get_or}
-use Rattle.std.proofs.Math.Nat.{mul-le-mul_right, mul-le-mul_left, le_of_mul-le-mul_right, le-div_iff_mul-le, div-lt_iff_lt-mul}
+use Rattle.std.proofs.Math.Nat.{mul-le-mul_left, le_of_mul-le-mul_right}
 use Rattle.yds_model.specs.Job.{Job, IsJob, no_job, job_at}
 use Rattle.yds_model.specs.Piece.{Piece}
 use Rattle.yds_model.specs.Event.{event_points, stretches}
-use Rattle.yds_model.specs.Policy.{div_up}
 use Rattle.yds_model.specs.AverageRate.{is_live, term_numerator, term_of, terms_of, average_rate_rounds, IsAverageRateRun}
 use Rattle.yds_model.specs.Slot.{WrittenSlot}
 use Rattle.yds_model.specs.Within.{AreSlotsOf}
@@ -21,20 +20,9 @@ use Rattle.yds_edf.specs.Pending.{sum_below, units_wanted}
 use Rattle.yds_edf.specs.Demand.{capacity_at, confined_units, capacity_between, IsWithinCapacity}
 use Rattle.yds_edf.specs.Run.{IsPolicyRun}
 use Rattle.yds_edf.proofs.Capped.{capped_run}
+use Rattle.yds_edf.proofs.Quotients.{up_enough, up_most}
 use Rattle.yds_edf.proofs.Sums.{sum_below_same, sum_below_at_most, sum_below_zero}
 use Rattle.yds_edf.proofs.Numbers.{sum_places, sum_filter, sum_below_swap, sum_below-mul}
-
--- # A quotient rounded up
-
-pub up_enough : (x y : ℕ) → 1 ≤ y → x ≤ div_up x y * y
-up_enough x y some =
-    let high : x + (y - 1) < (div_up x y + 1) * y = (div-lt_iff_lt-mul {k = y} {x = x + (y - 1)} {y = div_up x y + 1} some).0 (omega arith) in
-    omega (arith, high)
-
-pub up_most : (x y m : ℕ) → 1 ≤ y → x ≤ m * y → div_up x y ≤ m
-up_most x y m some most =
-    let low : div_up x y < m + 1 = (div-lt_iff_lt-mul {k = y} {x = x + (y - 1)} {y = m + 1} some).1 (omega (arith, most)) in
-    omega (arith, low)
 
 -- # The lengths of the stretches in a window
 

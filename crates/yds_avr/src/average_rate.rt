@@ -55,7 +55,10 @@ fn terms(rows: &[JobRow], grid: u64, stretch: Stretch) -> Setting
     ensures units { result.units ≡ terms_of rows.now grid stretch }
     ensures rounds { result.rounds ≡ average_rate_rounds rows.now grid stretch }
 {
-    let mut sum = Setting { units: 0, rounds: false };
+    let mut sum = Setting {
+        units: 0,
+        rounds: false,
+    };
     for row in rows {
         if is_live(row, stretch) {
             let term = term_of(row, grid, stretch);
