@@ -11,6 +11,7 @@ mod EqualSpeedsExamples
 mod EarliestFirstExamples
 mod HullExamples
 mod RoundNestedExamples
+mod RoundLawExamples
 mod RoundSwitchExamples
 pub mod Policies
 mod RowsExamples
@@ -41,6 +42,20 @@ pub mod Energy
 pub mod HullEnergy
 pub mod LineEnergy
 pub mod PlansEnergy
+pub mod HullCosts
+pub mod LevelCosts
+pub mod LevelTimes
+pub mod LevelShares
+pub mod LevelsEnergy
+pub mod LevelEnergy
+pub mod RoundedEnergy
+pub mod RoundedCheapest
+pub mod RoundedRuns
+pub mod PlanParts
+pub mod RoundedFeasible
+pub mod FullStretches
+pub mod RoundedOnPoints
+pub mod TooSlow
 pub mod TextLaws
 pub mod Brought
 pub mod RoundTrip
@@ -52,4 +67,5 @@ pub mod Inverse
 pub mod Grown
 pub mod Within
 pub mod PlanText
+pub mod RoundText
 pub mod AnsweredOnce
