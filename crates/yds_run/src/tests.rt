@@ -1,5 +1,5 @@
 use super::*;
-use crate::worked_rows::{ADMISSIONS, REPORTS_AND_TRIALS, ROWS};
+use crate::worked_rows::{ADMISSIONS, POLICIES, REPORTS_AND_TRIALS, ROWS};
 use std::alloc::{AllocError, Global};
 use std::test::Fail;
 use yds_model::{Memory, Status};
@@ -47,6 +47,16 @@ fn the_answer_to_each_input(rt: HostRuntime) -> Result<(), Fail> {
 #[test]
 fn the_answers_of_reports_and_trials(rt: HostRuntime) -> Result<(), Fail> {
     for (text, input, status, want) in &REPORTS_AND_TRIALS {
+        let (ended, sink) = answer(rt.alloc(), text, input)?;
+        assert_eq!(rt; ended, *status, "{text}: {input}");
+        assert_eq!(rt; sink.bytes(), want.as_bytes(), "{text}: {input}");
+    }
+    Ok(())
+}
+
+#[test]
+fn the_answers_of_policies(rt: HostRuntime) -> Result<(), Fail> {
+    for (text, input, status, want) in &POLICIES {
         let (ended, sink) = answer(rt.alloc(), text, input)?;
         assert_eq!(rt; ended, *status, "{text}: {input}");
         assert_eq!(rt; sink.bytes(), want.as_bytes(), "{text}: {input}");
