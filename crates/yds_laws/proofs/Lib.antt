@@ -70,3 +70,5 @@ pub mod Within
 pub mod PlanText
 pub mod RoundText
 pub mod AnsweredOnce
+pub mod RunText
+pub mod ExactRuns
