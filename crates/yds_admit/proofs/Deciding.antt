@@ -1,7 +1,7 @@
 -- Deciding job by job: what has been decided of the first jobs, and that it goes on as the definition says.
 use Rattle.std.proofs.Common.{◌≡◌, ℕ, ◌+◌, ◌-◌, take, ◌<◌, ◌≤◌, List, [], ◌∷◌, ◌++◌, length, get_or, drop, ◌∙◌, refl, sym, subst, arith, inl, inr, ap, append_assoc}
 use Rattle.std.specs.List.{All}
-use Rattle.std.proofs.lemmas.List.{map-append, append-nil, take_at, drop_more, drop_all, length_push}
+use Rattle.std.proofs.lemmas.List.{map-append, append-nil, take_at, length-map, drop_more, drop_all, length_push}
 use Rattle.std.proofs.lemmas.List.Elements.{All-nil, All-push}
 use Rattle.std.proofs.lemmas.List.FromFn.{get_or-range_with_len, length-range_with_len}
 use Rattle.yds_model.specs.Job.{Job, IsJob, job_at}
@@ -23,10 +23,11 @@ pub record Decided (rows : List Job) (top i : ℕ) (taken : List ℕ) (jobs : Li
   pub goes_on : (later : List ℕ) (others : List Refusal) → AdmitsAfter rows top taken (drop i (numbers_of rows)) later others →
       IsAdmission rows top (taken ++ later) (refused ++ others)
 
--- a list without its last element
-pub without_last : (jobs : List Job) (row : Job) (longer : List Job) (n : ℕ) → longer ≡ jobs ++ row ∷ [] → n ≡ length longer → take (n - 1) longer ≡ jobs
-without_last jobs row longer n is long =
-    ap (take (n - 1)) is ∙ take_at jobs (row ∷ []) (n - 1) (omega (arith, long, ap (λ (some : List Job). length some) is, length_push jobs row))
+-- as many jobs as are taken, without the one after them
+pub without_last : (rows : List Job) (taken : List ℕ) (jobs : List Job) (row : Job) (longer : List Job) (n : ℕ) → longer ≡ jobs ++ row ∷ [] → n ≡ length taken →
+    jobs ≡ jobs_with rows taken → take n longer ≡ jobs
+without_last rows taken jobs row longer n is long same =
+    ap (take n) is ∙ take_at jobs (row ∷ []) n (omega (arith, long, ap (λ (some : List Job). length some) same, length-map taken (job_at rows)))
 
 pub begun : (rows : List Job) (top : ℕ) → Decided rows top 0 [] [] []
 begun rows top = record {

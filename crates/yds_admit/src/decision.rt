@@ -43,7 +43,8 @@ pub(crate) fn decide(alloc: Global, rows: &[JobRow], top: u32) -> Result<Decisio
             None => taken.push(job)?,
             Some((from, to)) => {
                 let work = work_between(&jobs, from, to);
-                let _ = jobs.pop();
+                // The refused job competes with no later one.
+                jobs.truncate(taken.len());
                 refused.push(Refusal {
                     job,
                     from,

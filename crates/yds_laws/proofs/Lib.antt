@@ -76,3 +76,5 @@ pub mod TasksSaid
 pub mod TaskLimits
 pub mod TaskNames
 pub mod TaskTexts
+pub mod RunText
+pub mod ExactRuns

@@ -8,3 +8,5 @@ pub mod RoundingLaws
 pub mod RoundText
 pub mod AnswerLaws
 pub mod AdmissionLaws
+pub mod RunText
+pub mod RunLaws

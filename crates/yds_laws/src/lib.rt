@@ -17,6 +17,7 @@ mod laws;
 mod plan_laws;
 mod reading_laws;
 mod rounding_laws;
+mod run_laws;
 mod scale_laws;
 mod task_laws;
 mod text_laws;
@@ -48,6 +49,9 @@ pub use rounding_laws::{
     refused_is_too_slow, rounded_attains_the_hull, rounded_costs_its_level,
     rounded_costs_its_levels, rounded_holds_least_energy, rounded_is_audited, rounded_is_cheapest,
     rounded_is_feasible, too_slow_is_exact,
+};
+pub use run_laws::{
+    average_rate_is_exact, optimal_available_is_exact, runs_are_feasible, runs_are_read,
 };
 pub use scale_laws::{
     equality_is_of_values, equality_is_transitive, multiple_is_of_values, one_scale_decides,

@@ -18,6 +18,7 @@ mod command;
 mod deliver;
 mod expand;
 mod plan;
+mod policies;
 mod refusal;
 mod report;
 mod running;

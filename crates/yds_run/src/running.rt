@@ -19,6 +19,7 @@ use crate::command::{Command, Question};
 use crate::deliver::deliver;
 use crate::expand::expand_input;
 use crate::plan::plan_document;
+use crate::policies::{average_rate_document, optimal_available_document};
 use crate::refusal::{RefusedAt, TooLong, Usage};
 use crate::report::report_document;
 use crate::trial::try_plan;
@@ -155,6 +156,10 @@ fn answer_document<K: Sink>(
 {
     match question {
         Question::Plan => reply(plan_document(alloc, document), sink),
+        Question::AverageRate { grid } => reply(average_rate_document(alloc, document, grid), sink),
+        Question::OptimalAvailable { grid } => {
+            reply(optimal_available_document(alloc, document, grid), sink)
+        }
         Question::Check => reply(check_document(alloc, &document), sink),
         Question::Audit { points: false } => deliver(&audit_document(&document), sink),
         Question::Audit { points: true } => deliver(&audit_on_points(&document), sink),

@@ -1,5 +1,5 @@
 use super::*;
-use crate::worked_rows::{ADMISSIONS, EXPANSIONS, REPORTS_AND_TRIALS, ROWS};
+use crate::worked_rows::{ADMISSIONS, EXPANSIONS, POLICIES, REPORTS_AND_TRIALS, ROWS};
 use std::alloc::{AllocError, Global};
 use std::process::Abort;
 use std::test::Fail;
@@ -62,6 +62,11 @@ fn the_answers_of_reports_and_trials(rt: HostRuntime) -> Result<(), Fail> {
 #[test]
 fn the_jobs_of_periodic_tasks(rt: HostRuntime) -> Result<(), Fail> {
     answers_are(&rt, rt.alloc(), &EXPANSIONS)
+}
+
+#[test]
+fn the_answers_of_policies(rt: HostRuntime) -> Result<(), Fail> {
+    answers_are(&rt, rt.alloc(), &POLICIES)
 }
 
 #[test]

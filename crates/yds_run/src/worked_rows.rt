@@ -613,3 +613,44 @@ pub static ADMISSIONS: [(&str, &str, Status, &str); 5] = [
     ("admit 1000000", "", Status::Done, ""),
     ("admit 1000001", "job a 0 4 8\n", Status::Usage, USAGE),
 ];
+
+/// The same of the policies.
+pub static POLICIES: [(&str, &str, Status, &str); 7] = [
+    (
+        "avr --grid 1",
+        "job a 0 4 4\njob b 2 4 2\n",
+        Status::Done,
+        "job a 0 4 4\njob b 2 4 2\nslot a 0 2 2\nslot a 2 3 2\nslot b 3 4 2\ngrid 1 0\n",
+    ),
+    (
+        "avr --grid 1",
+        "job a 0 3 2\n",
+        Status::Done,
+        "job a 0 3 2\nslot a 0 3 2\ngrid 1 0\n",
+    ),
+    (
+        "avr --grid 1",
+        "job a 0 3 2\njob b 1 3 2\n",
+        Status::Done,
+        "job a 0 3 2\njob b 1 3 2\nslot a 0 1 1\nslot a 1 1+2/3 1\nslot b 1+2/3 3 2\ngrid 1 2\n",
+    ),
+    (
+        "oa --grid 1",
+        "job a 0 3 2\njob b 1 2 1\n",
+        Status::Done,
+        "job a 0 3 2\njob b 1 2 1\nslot a 0 1 1\nslot b 1 2 1\nslot a 2 3 1\ngrid 1 1\n",
+    ),
+    (
+        "oa --grid 6",
+        "job a 0 3 2\njob b 1 2 1\n",
+        Status::Done,
+        "job a 0 3 2\njob b 1 2 1\nslot a 0 1 0+4/6\nslot b 1 1+6/7 1\nslot a 1+6/7 2 0+1/6\nslot a 2 3 1+1/6\ngrid 6 0\n",
+    ),
+    (
+        "audit",
+        "job a 0 3 2\njob b 1 2 1\nslot a 0 1 0+4/6\nslot b 1 1+6/7 1\nslot a 1+6/7 2 0+1/6\nslot a 2 3 1+1/6\ngrid 6 0\n",
+        Status::Done,
+        "feasible\n",
+    ),
+    ("oa --grid 1000001", "job a 0 3 2\n", Status::Usage, USAGE),
+];

@@ -26,9 +26,10 @@ loop-number-preserved c =
       | in-Some+in_ok-push-in-Some w ↦
           let first : IsFirstOverfull c.deref.result.now c.args.top (numbers_of c.deref.result.now) w.in-Some.from w.in-Some.to =
           rw w.in-Some.is at c.in_ok-first_overfull.ensures in
-          let popped : w.pop.new.self.items ≡ c.loop-number.jobs.items =
-          w.pop.ensures.rest ∙ without_last c.loop-number.jobs.items row c.push.new.self.items c.push.new.self.len pushed (c.push.new.self.ok).0 in
-          rw (w.taken-is, w.jobs-is, w.refused-is, w.in_ok-push-in-Some.ensures.items, popped)
+          let kept : w.truncate.new.self.items ≡ c.loop-number.jobs.items =
+          w.truncate.ensures.items ∙ without_last c.args.rows.now c.loop-number.taken.items c.loop-number.jobs.items row c.push.new.self.items w.len.result
+          pushed (w.len.ensures ∙ c.loop-number.taken.ok.0) c.loop-number.invariant.same in
+          rw (w.taken-is, w.jobs-is, w.refused-is, w.in_ok-push-in-Some.ensures.items, kept)
           (refuses c.args.rows.now c.args.top c.loop-number.number c.loop-number.taken.items c.loop-number.jobs.items c.loop-number.refused.items c.requires.some_top
           c.loop-number-test.true c.loop-number.invariant row is c.row.invariant w.in-Some.from w.in-Some.to w.work_between-work.result
           (subst (λ (jobs : List Job). IsFirstOverfull jobs c.args.top (numbers_of jobs) w.in-Some.from w.in-Some.to) (c.deref.ensures.value ∙ pushed) first)

@@ -12,6 +12,18 @@ returns-in-Check g c =
     c.args.sink.now c.reply-in-Check.new.sink) (sym c.in-Check.is)
     (made_replies _ _ _ _ _ _ _ _ _ _ _ c.check_document.ensures c.reply-in-Check.ensures)
 
+pub returns-in-AverageRate : goal.returns-in-AverageRate
+returns-in-AverageRate g c =
+    subst (λ question. Replies g.K.Sink.written g.K.Sink.flushed g.K.Sink.flushes g.K.Sink.faults (AnswersQuestion (question_view question) (document_view c.args.document)) c.reply-in-AverageRate.result
+    c.args.sink.now c.reply-in-AverageRate.new.sink) (sym c.in-AverageRate.is)
+    (made_replies _ _ _ _ _ _ _ _ _ _ _ c.average_rate_document.ensures c.reply-in-AverageRate.ensures)
+
+pub returns-in-OptimalAvailable : goal.returns-in-OptimalAvailable
+returns-in-OptimalAvailable g c =
+    subst (λ question. Replies g.K.Sink.written g.K.Sink.flushed g.K.Sink.flushes g.K.Sink.faults (AnswersQuestion (question_view question) (document_view c.args.document)) c.reply-in-OptimalAvailable.result
+    c.args.sink.now c.reply-in-OptimalAvailable.new.sink) (sym c.in-OptimalAvailable.is)
+    (made_replies _ _ _ _ _ _ _ _ _ _ _ c.optimal_available_document.ensures c.reply-in-OptimalAvailable.ensures)
+
 pub returns-in-Report : goal.returns-in-Report
 returns-in-Report g c =
     subst (λ question. Replies g.K.Sink.written g.K.Sink.flushed g.K.Sink.flushes g.K.Sink.faults (AnswersQuestion (question_view question) (document_view c.args.document)) c.reply-in-Report.result
