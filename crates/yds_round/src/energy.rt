@@ -1,4 +1,4 @@
-ghost use Rattle.std.specs.Prelude.{◌≡◌, ◌+◌, ◌*◌, ◌≤◌, length, sum_by};
+ghost use Rattle.std.specs.Prelude.{◌≡◌, ◌+◌, ◌*◌, ◌^◌, ◌<◌, ◌≤◌, length, sum_by};
 ghost use Rattle.std.specs.List.{All, AllZip};
 ghost use Rattle.yds_model.specs.declared.limits.TheConstants.{MAX_ENERGY, MAX_LEVELS};
 ghost use Rattle.yds_model.specs.Scale.{numerator};
@@ -39,18 +39,12 @@ fn busy_length(levels: &[Level]) -> u64
     levels.iter().map(|level| level.length).sum()
 }
 
-/// What the levels spend together, in parts of the common multiple of the gaps of the table's hull.
-fn spent(table: &Table, levels: &[Level], paces: &[Pace]) -> u128
-    requires few { length levels.now ≤ MAX_LEVELS }
-    requires limits { All IsLevel levels.now }
-    requires paces { AllZip (IsPaceOf table.now) levels.now paces.now }
+/// What the levels spend together at their paces, in the parts that these are in.
+fn spent(paces: &[Pace]) -> u128
+    requires { sum_by (λ pace. pace.energy) paces.now < 2 ^ 128 }
     ensures { result ≡ sum_by (λ pace. pace.energy) paces.now }
 {
-    let mut parts = 0;
-    for pace in paces {
-        parts += pace.energy;
-    }
-    parts
+    paces.iter().map(|pace| pace.energy).sum()
 }
 
 /// What the levels spend at these paces, and the time of the horizon outside them at the power of the table's first point.
@@ -69,5 +63,5 @@ pub(crate) fn energy(rows: &[JobRow], table: &Table, levels: &[Level], paces: &[
     let points = table.points();
     let first = points[0];
     let waiting = u128::from(u64::from(first.power) * idle) * u128::from(multiple);
-    Amount::of_parts(spent(table, levels, paces) + waiting, multiple).reduced()
+    Amount::of_parts(spent(paces) + waiting, multiple).reduced()
 }
