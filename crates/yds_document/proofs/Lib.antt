@@ -1,4 +1,4 @@
-pub mod Printed
+mod Named
 pub mod LevelGrown
 pub mod Held
 pub mod Told

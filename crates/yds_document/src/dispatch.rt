@@ -1,6 +1,6 @@
 //! A line of whatever kind: whether it may stand there, and what it adds to a draft.
 
-ghost use Rattle.std.specs.Prelude.{◌≡◌, ◌∷◌, [], List, OnOk, IsTrue};
+ghost use Rattle.std.specs.Prelude.{◌≡◌, ◌∷◌, List, OnOk, IsTrue};
 ghost use Rattle.yds_model.specs.Entry.{Entry};
 ghost use Rattle.yds_model.specs.Reading.{read_fields};
 ghost use Rattle.yds_text.specs.Read.{field_read};

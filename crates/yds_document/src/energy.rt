@@ -8,7 +8,7 @@ ghost use Rattle.yds_model.specs.Fields.{no_field};
 ghost use Rattle.yds_model.specs.Reading.{EnergyLine, read_energy};
 ghost use Rattle.yds_model.specs.Text.{line, fraction_text, energy_lines};
 ghost use Rattle.yds_model.specs.Within.{IsFraction};
-ghost use Rattle.yds_port.specs.Sink.{Delivers};
+ghost use Rattle.yds_port.specs.Sink.{Puts};
 ghost use Rattle.yds_text.specs.Read.{field_read};
 ghost use Rattle.yds_document.specs.Draft.{IsDraft, Reads, Takes};
 ghost use Rattle.yds_document.specs.Fields.{Gives};
@@ -78,8 +78,7 @@ fn put(text: &mut LineBuffer, energy: Amount)
 
 /// Appends the line of the energy, where there is one.
 pub(crate) fn print<K: Sink>(energy: Option<Amount>, sink: &mut K) -> Result<(), WriteFault>
-    ensures delivers { Delivers result (energy_lines energy) (K.written sink.old) (K.written sink.new) (K.faults sink.old) (K.faults sink.new) }
-    ensures flushed_stays { K.flushed sink.new ≡ K.flushed sink.old }
+    ensures { Puts K.written K.flushed K.flushes K.faults result (energy_lines energy) sink.old sink.new }
 {
     match energy {
         Some(energy) => {

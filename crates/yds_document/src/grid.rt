@@ -5,7 +5,7 @@ ghost use Rattle.yds_model.specs.Fields.{no_field};
 ghost use Rattle.yds_model.specs.Reading.{GridLine, read_grid};
 ghost use Rattle.yds_model.specs.Text.{line, grid_lines};
 ghost use Rattle.yds_model.specs.Within.{IsGrid};
-ghost use Rattle.yds_port.specs.Sink.{Delivers};
+ghost use Rattle.yds_port.specs.Sink.{Puts};
 ghost use Rattle.yds_text.specs.Read.{field_read};
 ghost use Rattle.yds_document.specs.Draft.{IsDraft, Reads, Takes};
 ghost use Rattle.yds_document.specs.Fields.{Gives};
@@ -99,8 +99,7 @@ fn put(text: &mut LineBuffer, grid: Grid)
 
 /// Appends the line of the grid, where there is one.
 pub(crate) fn print<K: Sink>(grid: Option<Grid>, sink: &mut K) -> Result<(), WriteFault>
-    ensures delivers { Delivers result (grid_lines grid) (K.written sink.old) (K.written sink.new) (K.faults sink.old) (K.faults sink.new) }
-    ensures flushed_stays { K.flushed sink.new ≡ K.flushed sink.old }
+    ensures { Puts K.written K.flushed K.flushes K.faults result (grid_lines grid) sink.old sink.new }
 {
     match grid {
         Some(grid) => {

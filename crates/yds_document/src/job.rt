@@ -8,7 +8,7 @@ ghost use Rattle.yds_model.specs.Reading.{JobLine};
 ghost use Rattle.yds_model.specs.Spelling.{is_name};
 ghost use Rattle.yds_model.specs.Text.{job_line, job_lines};
 ghost use Rattle.yds_instance.specs.Named.{number_of};
-ghost use Rattle.yds_port.specs.Sink.{Delivers};
+ghost use Rattle.yds_port.specs.Sink.{Puts};
 ghost use Rattle.yds_text.specs.Read.{field_read};
 ghost use Rattle.yds_document.specs.Draft.{IsDraft, Reads, Takes};
 ghost use Rattle.yds_document.specs.Fields.{Gives};
@@ -110,8 +110,7 @@ fn put(text: &mut LineBuffer, name: &str, job: &JobRow)
 
 /// Appends the lines of the jobs, in their order.
 pub(crate) fn print<K: Sink>(instance: &Instance<'_>, sink: &mut K) -> Result<(), WriteFault>
-    ensures delivers { Delivers result (job_lines instance.now.names instance.now.jobs) (K.written sink.old) (K.written sink.new) (K.faults sink.old) (K.faults sink.new) }
-    ensures flushed_stays { K.flushed sink.new ≡ K.flushed sink.old }
+    ensures { Puts K.written K.flushed K.flushes K.faults result (job_lines instance.now.names instance.now.jobs) sink.old sink.new }
 {
     let rows = instance.rows();
     let mut line = LineBuffer::new("");

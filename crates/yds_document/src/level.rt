@@ -7,7 +7,7 @@ ghost use Rattle.yds_model.specs.Entry.{LevelEntry};
 ghost use Rattle.yds_model.specs.Fields.{no_field};
 ghost use Rattle.yds_model.specs.Reading.{LevelLine, read_level};
 ghost use Rattle.yds_model.specs.Text.{line, level_lines};
-ghost use Rattle.yds_port.specs.Sink.{Delivers};
+ghost use Rattle.yds_port.specs.Sink.{Puts};
 ghost use Rattle.yds_text.specs.Read.{field_read};
 ghost use Rattle.yds_document.specs.Draft.{IsDraft, Reads, Takes};
 ghost use Rattle.yds_document.specs.Fields.{Gives};
@@ -90,8 +90,7 @@ pub(crate) fn print<K: Sink>(
     sink: &mut K,
 ) -> Result<(), WriteFault>
     requires { All (λ level. All (λ job. job < length instance.now.jobs) level.members) levels.now }
-    ensures delivers { Delivers result (flat_map (level_lines instance.now.names) levels.now) (K.written sink.old) (K.written sink.new) (K.faults sink.old) (K.faults sink.new) }
-    ensures flushed_stays { K.flushed sink.new ≡ K.flushed sink.old }
+    ensures { Puts K.written K.flushed K.flushes K.faults result (flat_map (level_lines instance.now.names) levels.now) sink.old sink.new }
 {
     let mut line = LineBuffer::new("");
     for level in levels {
@@ -108,8 +107,7 @@ fn print_level<K: Sink>(
     sink: &mut K,
 ) -> Result<(), WriteFault>
     requires { All (λ job. job < length instance.now.jobs) level.now.members }
-    ensures delivers { Delivers result (level_lines instance.now.names level.now) (K.written sink.old) (K.written sink.new) (K.faults sink.old) (K.faults sink.new) }
-    ensures flushed_stays { K.flushed sink.new ≡ K.flushed sink.old }
+    ensures { Puts K.written K.flushed K.flushes K.faults result (level_lines instance.now.names level.now) sink.old sink.new }
 {
     put(line, level);
     write_all(sink, line.as_bytes())?;

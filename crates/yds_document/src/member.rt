@@ -6,7 +6,7 @@ ghost use Rattle.yds_model.specs.declared.limits.TheConstants.{MAX_MEMBERS};
 ghost use Rattle.yds_model.specs.Entry.{MemberEntry};
 ghost use Rattle.yds_model.specs.Reading.{MemberLine};
 ghost use Rattle.yds_model.specs.Text.{member_line};
-ghost use Rattle.yds_port.specs.Sink.{Delivers};
+ghost use Rattle.yds_port.specs.Sink.{Puts};
 ghost use Rattle.yds_text.specs.Read.{field_read};
 ghost use Rattle.yds_document.specs.Draft.{IsDraft, Reads, Takes};
 ghost use Rattle.yds_document.specs.Fields.{Gives};
@@ -80,8 +80,7 @@ pub(crate) fn print<K: Sink>(
     sink: &mut K,
 ) -> Result<(), WriteFault>
     requires { All (λ job. job < length instance.now.jobs) members.now }
-    ensures delivers { Delivers result (flat_map (member_line instance.now.names) members.now) (K.written sink.old) (K.written sink.new) (K.faults sink.old) (K.faults sink.new) }
-    ensures flushed_stays { K.flushed sink.new ≡ K.flushed sink.old }
+    ensures { Puts K.written K.flushed K.flushes K.faults result (flat_map (member_line instance.now.names) members.now) sink.old sink.new }
 {
     for member in members {
         put(line, instance, *member);

@@ -7,7 +7,7 @@ ghost use Rattle.yds_model.specs.Entry.{PieceEntry};
 ghost use Rattle.yds_model.specs.Fields.{no_field};
 ghost use Rattle.yds_model.specs.Reading.{PieceLine, read_piece};
 ghost use Rattle.yds_model.specs.Text.{piece_line};
-ghost use Rattle.yds_port.specs.Sink.{Delivers};
+ghost use Rattle.yds_port.specs.Sink.{Puts};
 ghost use Rattle.yds_text.specs.Read.{field_read};
 ghost use Rattle.yds_document.specs.Draft.{IsDraft, Reads, Takes};
 ghost use Rattle.yds_document.specs.Fields.{Gives};
@@ -78,8 +78,7 @@ pub(crate) fn print<K: Sink>(
     line: &mut LineBuffer,
     sink: &mut K,
 ) -> Result<(), WriteFault>
-    ensures delivers { Delivers result (flat_map piece_line pieces.now) (K.written sink.old) (K.written sink.new) (K.faults sink.old) (K.faults sink.new) }
-    ensures flushed_stays { K.flushed sink.new ≡ K.flushed sink.old }
+    ensures { Puts K.written K.flushed K.flushes K.faults result (flat_map piece_line pieces.now) sink.old sink.new }
 {
     for piece in pieces {
         put(line, piece);

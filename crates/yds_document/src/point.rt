@@ -7,7 +7,7 @@ ghost use Rattle.yds_model.specs.Entry.{PointEntry};
 ghost use Rattle.yds_model.specs.Reading.{PointLine};
 ghost use Rattle.yds_model.specs.Text.{point_line};
 ghost use Rattle.yds_model.specs.Within.{ArePoints};
-ghost use Rattle.yds_port.specs.Sink.{Delivers};
+ghost use Rattle.yds_port.specs.Sink.{Puts};
 ghost use Rattle.yds_text.specs.Read.{field_read};
 ghost use Rattle.yds_document.specs.Draft.{IsDraft, Reads, Takes, points_of};
 ghost use Rattle.yds_document.specs.Fields.{Gives};
@@ -135,8 +135,7 @@ fn put(text: &mut LineBuffer, point: &Point)
 
 /// Appends the lines of the points, in their order.
 pub(crate) fn print<K: Sink>(points: &[Point], sink: &mut K) -> Result<(), WriteFault>
-    ensures delivers { Delivers result (flat_map point_line points.now) (K.written sink.old) (K.written sink.new) (K.faults sink.old) (K.faults sink.new) }
-    ensures flushed_stays { K.flushed sink.new ≡ K.flushed sink.old }
+    ensures { Puts K.written K.flushed K.flushes K.faults result (flat_map point_line points.now) sink.old sink.new }
 {
     let mut line = LineBuffer::new("");
     for point in points {

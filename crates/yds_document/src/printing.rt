@@ -1,9 +1,9 @@
 //! Printing: each line is made on the stack, in the place of the one before it, and written with one call.
-ghost use Rattle.std.specs.Prelude.{◌≡◌, ◌<◌, ◌≤◌, ◌++◌, length, IsErr};
+ghost use Rattle.std.specs.Prelude.{◌<◌, ◌≤◌, ◌++◌, IsErr};
 ghost use Rattle.std.specs.List.{flat_map};
 ghost use Rattle.yds_model.specs.Text.{canonical_text, job_lines, point_line, slot_line, level_lines, fraction_text};
 ghost use Rattle.yds_model.specs.Within.{IsDocument};
-ghost use Rattle.yds_port.specs.Sink.{Delivers};
+ghost use Rattle.yds_port.specs.Sink.{Puts};
 ghost use Rattle.yds_document.specs.Draft.{points_of};
 ghost use Rattle.yds_document.specs.Documents.{document_view};
 
@@ -18,8 +18,7 @@ use yds_port::{Sink, WriteFault, write_all};
 ///
 /// Every document is within the limits, so its text is read again as the same document.
 pub fn print<K: Sink>(document: &Document<'_>, sink: &mut K) -> Result<(), WriteFault>
-    ensures delivers { Delivers result (canonical_text (document_view document.now)) (K.written sink.old) (K.written sink.new) (K.faults sink.old) (K.faults sink.new) }
-    ensures flushed_stays { K.flushed sink.new ≡ K.flushed sink.old }
+    ensures puts { Puts K.written K.flushed K.flushes K.faults result (canonical_text (document_view document.now)) sink.old sink.new }
     ensures later { K.faults sink.old ≤ K.faults sink.new }
     ensures counted { K.faults sink.old < K.faults sink.new → IsErr result }
     ensures possible { IsDocument (document_view document.now) }
@@ -32,9 +31,8 @@ pub fn print<K: Sink>(document: &Document<'_>, sink: &mut K) -> Result<(), Write
 
 /// The jobs, the points, the slots and the levels.
 fn print_plan<K: Sink>(document: &Document<'_>, sink: &mut K) -> Result<(), WriteFault>
-    ensures delivers { Delivers result (job_lines document.now.instance.names document.now.instance.jobs ++ flat_map point_line (points_of document.now.table)
-        ++ flat_map (slot_line document.now.instance.names) document.now.schedule.slots ++ flat_map (level_lines document.now.instance.names) document.now.certificate) (K.written sink.old) (K.written sink.new) (K.faults sink.old) (K.faults sink.new) }
-    ensures flushed_stays { K.flushed sink.new ≡ K.flushed sink.old }
+    ensures { Puts K.written K.flushed K.flushes K.faults result (job_lines document.now.instance.names document.now.instance.jobs ++ flat_map point_line (points_of document.now.table)
+        ++ flat_map (slot_line document.now.instance.names) document.now.schedule.slots ++ flat_map (level_lines document.now.instance.names) document.now.certificate) sink.old sink.new }
 {
     print_rows(document, sink)?;
     slot::print(&document.instance, document.schedule.slots(), sink)?;
@@ -43,8 +41,7 @@ fn print_plan<K: Sink>(document: &Document<'_>, sink: &mut K) -> Result<(), Writ
 
 /// The jobs and the points.
 fn print_rows<K: Sink>(document: &Document<'_>, sink: &mut K) -> Result<(), WriteFault>
-    ensures delivers { Delivers result (job_lines document.now.instance.names document.now.instance.jobs ++ flat_map point_line (points_of document.now.table)) (K.written sink.old) (K.written sink.new) (K.faults sink.old) (K.faults sink.new) }
-    ensures flushed_stays { K.flushed sink.new ≡ K.flushed sink.old }
+    ensures { Puts K.written K.flushed K.flushes K.faults result (job_lines document.now.instance.names document.now.instance.jobs ++ flat_map point_line (points_of document.now.table)) sink.old sink.new }
 {
     job::print(&document.instance, sink)?;
     point::print(points_in(&document.table), sink)
@@ -53,8 +50,7 @@ fn print_rows<K: Sink>(document: &Document<'_>, sink: &mut K) -> Result<(), Writ
 /// Appends the fraction as it is written, `W`, or `W+N/D` where the numerator isn't 0, or after a fault a
 /// front of that. It isn't reduced. Takes no memory.
 pub fn write_mixed<K: Sink>(value: Amount, sink: &mut K) -> Result<(), WriteFault>
-    ensures delivers { Delivers result (fraction_text value) (K.written sink.old) (K.written sink.new) (K.faults sink.old) (K.faults sink.new) }
-    ensures flushed_stays { K.flushed sink.new ≡ K.flushed sink.old }
+    ensures puts { Puts K.written K.flushed K.flushes K.faults result (fraction_text value) sink.old sink.new }
     ensures later { K.faults sink.old ≤ K.faults sink.new }
     ensures counted { K.faults sink.old < K.faults sink.new → IsErr result }
 {

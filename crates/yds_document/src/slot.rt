@@ -1,12 +1,12 @@
 //! The lines of slots: a job by its name, two ends that are alike, and a work alike with its job's others.
 
-ghost use Rattle.std.specs.Prelude.{◌≡◌, ◌<◌, ◌∷◌, ◌++◌, [], length, OnOk, IfOk, IsTrue};
+ghost use Rattle.std.specs.Prelude.{◌≡◌, ◌<◌, ◌∷◌, length, OnOk, IfOk, IsTrue};
 ghost use Rattle.std.specs.List.{All, flat_map};
 ghost use Rattle.yds_model.specs.declared.limits.TheConstants.{MAX_SLOTS};
 ghost use Rattle.yds_model.specs.Entry.{SlotEntry};
 ghost use Rattle.yds_model.specs.Reading.{SlotLine};
 ghost use Rattle.yds_model.specs.Text.{slot_line};
-ghost use Rattle.yds_port.specs.Sink.{Delivers};
+ghost use Rattle.yds_port.specs.Sink.{Puts};
 ghost use Rattle.yds_slots.specs.Schedule.{FitsGrain};
 ghost use Rattle.yds_text.specs.Read.{field_read};
 ghost use Rattle.yds_document.specs.Draft.{IsDraft, Reads, Takes};
@@ -127,8 +127,7 @@ pub(crate) fn print<K: Sink>(
     sink: &mut K,
 ) -> Result<(), WriteFault>
     requires { All (λ slot. slot.job < length instance.now.jobs) slots.now }
-    ensures delivers { Delivers result (flat_map (slot_line instance.now.names) slots.now) (K.written sink.old) (K.written sink.new) (K.faults sink.old) (K.faults sink.new) }
-    ensures flushed_stays { K.flushed sink.new ≡ K.flushed sink.old }
+    ensures { Puts K.written K.flushed K.flushes K.faults result (flat_map (slot_line instance.now.names) slots.now) sink.old sink.new }
 {
     let mut line = LineBuffer::new("");
     for slot in slots {

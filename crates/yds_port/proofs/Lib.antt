@@ -1,3 +1,2 @@
 mod Read
-pub mod Delivery
 pub mod Putting

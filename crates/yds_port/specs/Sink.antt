@@ -42,8 +42,9 @@ abbrev pub Delivers : {T E : Type 0} → Result T E → List ℕ → Option (Lis
 Delivers (Ok x) text old new before now = Appends old new text × (now ≡ before)
 Delivers (Err e) text old new before now = AppendsFront text old new × Rose before now
 
--- A text was put into a sink, whose members stand first, by its answer: all of it, or after a counted fault a front of it. None
--- of it was flushed.
-pub record Puts {K T E : Type 0} (written : K → Option (List ℕ)) (flushed : K → Option ℕ) (faults : K → ℕ) (result : Result T E) (text : List ℕ) (old new : K) : Type 0 where
+-- A text was put into a sink, whose members stand first, by its answer: all of it, or after a counted fault a front of it. The sink
+-- was not flushed.
+pub record Puts {K T E : Type 0} (written : K → Option (List ℕ)) (flushed : K → Option ℕ) (flushes faults : K → ℕ) (result : Result T E) (text : List ℕ) (old new : K) : Type 0 where
   pub delivers : Delivers result text (written old) (written new) (faults old) (faults new)
   pub flushed_stays : flushed new ≡ flushed old
+  pub flushes_stay : flushes new ≡ flushes old

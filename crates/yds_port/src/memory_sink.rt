@@ -1,5 +1,4 @@
 ghost use Rattle.std.specs.Prelude.{◌≡◌, ◌↔◌, ◌⊎◌, ◌<◌, ◌≤◌, ◌-◌, ℕ, [], length, min, Some, IfOk, Contains};
-ghost use Rattle.std.specs.Io.KnownBytes.{Keeps};
 ghost use Rattle.yds_port.specs.Count.{next_count};
 ghost use Rattle.yds_port.specs.Sink.{Writes, Flushes};
 

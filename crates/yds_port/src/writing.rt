@@ -1,5 +1,5 @@
-ghost use Rattle.std.specs.Prelude.{◌≡◌, ◌<◌, ◌≤◌, IsErr};
-ghost use Rattle.yds_port.specs.Sink.{Delivers};
+ghost use Rattle.std.specs.Prelude.{◌<◌, ◌≤◌, IsErr};
+ghost use Rattle.yds_port.specs.Sink.{Puts};
 
 use crate::sink::{Given, Sink};
 use thiserror::Error;
@@ -11,10 +11,7 @@ pub struct WriteFault;
 
 /// Appends the whole piece, or after a fault a front of it. It takes no memory.
 pub fn write_all<K: Sink>(sink: &mut K, piece: &[u8]) -> Result<(), WriteFault>
-    ensures delivers { Delivers result piece.now (K.written sink.old) (K.written sink.new)
-        (K.faults sink.old) (K.faults sink.new) }
-    ensures flushed_stays { K.flushed sink.new ≡ K.flushed sink.old }
-    ensures flushes_stay { K.flushes sink.new ≡ K.flushes sink.old }
+    ensures puts { Puts K.written K.flushed K.flushes K.faults result piece.now sink.old sink.new }
     ensures later { K.faults sink.old ≤ K.faults sink.new }
     ensures counted { K.faults sink.old < K.faults sink.new → IsErr result }
 {

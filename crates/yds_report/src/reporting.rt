@@ -1,7 +1,7 @@
-ghost use Rattle.std.specs.Prelude.{◌≡◌, ◌<◌, ◌≤◌, IsErr};
+ghost use Rattle.std.specs.Prelude.{◌<◌, ◌≤◌, IsErr};
 ghost use Rattle.std.specs.List.{flat_map, enumerate_from};
 ghost use Rattle.yds_model.specs.ReportAnswer.{level_row, report_text};
-ghost use Rattle.yds_port.specs.Sink.{Delivers};
+ghost use Rattle.yds_port.specs.Sink.{Puts};
 
 use crate::report_lines::{idle_line, jobs_line, level_line};
 use yds_certificate::Level;
@@ -18,8 +18,7 @@ pub fn report<K: Sink>(
     plan: &Planned,
     sink: &mut K,
 ) -> Result<(), WriteFault>
-    ensures delivers { Delivers result (report_text document.now.instance.jobs plan.now.certificate) (K.written sink.old) (K.written sink.new) (K.faults sink.old) (K.faults sink.new) }
-    ensures flushed_stays { K.flushed sink.new ≡ K.flushed sink.old }
+    ensures puts { Puts K.written K.flushed K.flushes K.faults result (report_text document.now.instance.jobs plan.now.certificate) sink.old sink.new }
     ensures later { K.faults sink.old ≤ K.faults sink.new }
     ensures counted { K.faults sink.old < K.faults sink.new → IsErr result }
 {
@@ -32,8 +31,7 @@ pub fn report<K: Sink>(
 
 /// A line for each level, in their order.
 fn write_levels<K: Sink>(levels: &[Level], sink: &mut K) -> Result<(), WriteFault>
-    ensures delivers { Delivers result (flat_map level_row (enumerate_from 1 levels.now)) (K.written sink.old) (K.written sink.new) (K.faults sink.old) (K.faults sink.new) }
-    ensures flushed_stays { K.flushed sink.new ≡ K.flushed sink.old }
+    ensures { Puts K.written K.flushed K.flushes K.faults result (flat_map level_row (enumerate_from 1 levels.now)) sink.old sink.new }
 {
     for (place, level) in levels.iter().enumerate() {
         write_all(sink, level_line(place as u64 + 1, level).as_bytes())?;

@@ -15,25 +15,26 @@ ends_whole status result other whole ended broken no_fault is =
     ]
 
 -- an answer that is one of those that were asked for
-pub delivered_replies : {K : Type 0} (written : K → Option (List ℕ)) (flushed : K → Option ℕ) (faults : K → ℕ) (Answered : List ℕ → Status → Type 0)
+pub delivered_replies : {K : Type 0} (written : K → Option (List ℕ)) (flushed : K → Option ℕ) (flushes faults : K → ℕ) (Answered : List ℕ → Status → Type 0)
     (text : List ℕ) (status result : Status) (old new : K)
-    → Answered text status → IsDelivered written flushed faults text status result old new → Replies written flushed faults Answered result old new
-delivered_replies written flushed faults Answered text status result old new answers delivered = record {
+    → Answered text status → IsDelivered written flushed flushes faults text status result old new → Replies written flushed flushes faults Answered result old new
+delivered_replies written flushed flushes faults Answered text status result old new answers delivered = record {
   no_read_fault = ends_whole status result statuses.ReadFault delivered.whole delivered.ended (λ broken. broken) (λ is. absurd cc);
   counts = delivered.counts;
   nothing_written = λ memory. absurd (ends_whole status result statuses.Memory delivered.whole delivered.ended (λ broken. broken) (λ is. absurd cc) memory);
   answer = λ memory. record { text = text; status = status; answers = answers; outcome = delivered.outcome };
+  flushed_once = delivered.flushed_once;
 }
 
 -- the same of an answer for which memory may want
-pub made_replies : {K A E : Type 0} (written : K → Option (List ℕ)) (flushed : K → Option ℕ) (faults : K → ℕ) (Answered : List ℕ → Status → Type 0)
+pub made_replies : {K A E : Type 0} (written : K → Option (List ℕ)) (flushed : K → Option ℕ) (flushes faults : K → ℕ) (Answered : List ℕ → Status → Type 0)
     (text_of : A → List ℕ) (status_of : A → Status) (made : Result A E) (result : Status) (old new : K)
     → IfOk made (λ answer. Answered (text_of answer) (status_of answer))
-    → MatchResult made (λ answer. IsDelivered written flushed faults (text_of answer) (status_of answer) result old new) (λ error. (result ≡ statuses.Memory) × (new ≡ old))
-    → Replies written flushed faults Answered result old new
-made_replies written flushed faults Answered text_of status_of (Ok answer) result old new answers delivered =
-    delivered_replies written flushed faults Answered (text_of answer) (status_of answer) result old new answers delivered
-made_replies written flushed faults Answered text_of status_of (Err error) result old new answers wanting = record {
+    → MatchResult made (λ answer. IsDelivered written flushed flushes faults (text_of answer) (status_of answer) result old new) (λ error. (result ≡ statuses.Memory) × (new ≡ old))
+    → Replies written flushed flushes faults Answered result old new
+made_replies written flushed flushes faults Answered text_of status_of (Ok answer) result old new answers delivered =
+    delivered_replies written flushed flushes faults Answered (text_of answer) (status_of answer) result old new answers delivered
+made_replies written flushed flushes faults Answered text_of status_of (Err error) result old new answers wanting = record {
   no_read_fault = λ is. absurd cc;
   counts = record {
     later = omega (arith, ap faults wanting.1);
@@ -42,4 +43,5 @@ made_replies written flushed faults Answered text_of status_of (Err error) resul
   };
   nothing_written = λ memory. wanting.1;
   answer = λ memory. absurd (memory wanting.0);
+  flushed_once = λ whole. absurd (subst IsWhole wanting.0 whole);
 }

@@ -6,7 +6,7 @@ use Rattle.yds_model.specs.declared.status.Status.{Status}
 use Rattle.yds_model.specs.declared.status.Status.TheVariants as statuses
 use Rattle.yds_model.specs.Request.{Request}
 use Rattle.yds_model.specs.Answer.{AnswersRequest, too_long_line}
-use Rattle.yds_port.specs.Count.{Rose}
+use Rattle.yds_port.specs.Count.{Rose, next_count}
 use Rattle.yds_port.specs.Sink.{AppendsFront, IsFlushed}
 
 -- a status of a run that wrote its answer whole
@@ -45,18 +45,20 @@ pub record Writes (Answered : List ℕ → Status → Type 0) (result : Status) 
   pub outcome : Outcome result text status old new flushed
 
 -- An answer was delivered to the sink, whose members stand first: its text was written, whole or up to a counted fault.
-pub record IsDelivered {K : Type 0} (written : K → Option (List ℕ)) (flushed : K → Option ℕ) (faults : K → ℕ) (text : List ℕ) (status result : Status) (old new : K) : Type 0 where
+pub record IsDelivered {K : Type 0} (written : K → Option (List ℕ)) (flushed : K → Option ℕ) (flushes faults : K → ℕ) (text : List ℕ) (status result : Status) (old new : K) : Type 0 where
   pub whole : IsWhole status
   pub ended : (result ≡ status) ⊎ (result ≡ statuses.WriteFault)
   pub counts : CountTells statuses.WriteFault result (faults old) (faults new)
   pub outcome : Outcome result text status (written old) (written new) (flushed new)
+  pub flushed_once : IsWhole result → flushes new ≡ next_count (flushes old)
 
 -- What was asked for, and needs no more reading, was answered to the sink, or memory ran out and the sink is as it was.
-pub record Replies {K : Type 0} (written : K → Option (List ℕ)) (flushed : K → Option ℕ) (faults : K → ℕ) (Answered : List ℕ → Status → Type 0) (result : Status) (old new : K) : Type 0 where
+pub record Replies {K : Type 0} (written : K → Option (List ℕ)) (flushed : K → Option ℕ) (flushes faults : K → ℕ) (Answered : List ℕ → Status → Type 0) (result : Status) (old new : K) : Type 0 where
   pub no_read_fault : result ≢ statuses.ReadFault
   pub counts : CountTells statuses.WriteFault result (faults old) (faults new)
   pub nothing_written : result ≡ statuses.Memory → new ≡ old
   pub answer : result ≢ statuses.Memory → Writes Answered result (written old) (written new) (flushed new)
+  pub flushed_once : IsWhole result → flushes new ≡ next_count (flushes old)
 
 -- what was written is the answer to these bytes
 abbrev pub AnswersBytes : Option Request → List ℕ → Status → Option (List ℕ) → Option (List ℕ) → Option ℕ → Type 0

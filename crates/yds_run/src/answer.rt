@@ -25,5 +25,5 @@ pub trait Answer {
 
     /// Appends the text, or after a fault a front of it. Takes no memory.
     fn write<K: Sink>(&self, sink: &mut K) -> Result<(), WriteFault>
-        ensures { Puts K.written K.flushed K.faults result (text self.now) sink.old sink.new };
+        ensures { Puts K.written K.flushed K.flushes K.faults result (text self.now) sink.old sink.new };
 }

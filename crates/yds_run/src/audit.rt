@@ -3,7 +3,7 @@
 ghost use Rattle.std.specs.Prelude.{◌≡◌, None, option_copied};
 ghost use Rattle.yds_model.specs.Answer.{AnswersQuestion};
 ghost use Rattle.yds_model.specs.AuditAnswer.{AuditAnswer, verdict_status};
-ghost use Rattle.yds_model.specs.Request.{AskAudit, AskAuditOnPoints};
+ghost use Rattle.yds_model.specs.Request.{AskAuditOnPoints};
 ghost use Rattle.yds_audit.specs.Verdict.{verdict_view};
 ghost use Rattle.yds_document.specs.Documents.{document_view};
 ghost use Rattle.yds_run.specs.Told.{told_line, told_status};

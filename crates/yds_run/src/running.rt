@@ -1,15 +1,14 @@
 ghost use Rattle.std.specs.Prelude.{◌≡◌, ◌≢◌, ◌⊎◌, ◌<◌, ◌≤◌, ◌∷◌, [], ℕ, List, length, codes, Some, None, IfSome, MatchResult};
-ghost use Rattle.yds_model.specs.declared.limits.TheConstants.{MAX_INPUT, MAX_TRIAL_JOBS};
+ghost use Rattle.yds_model.specs.declared.limits.TheConstants.{MAX_INPUT};
 ghost use Rattle.std.specs.Io.KnownBytes.{Appends, IsAtEnd};
 ghost use Rattle.yds_model.specs.Answer.{AnswersReading, AnswersQuestion};
 ghost use Rattle.yds_model.specs.PlanAnswer.{HoldsHeadline};
 ghost use Rattle.yds_model.specs.Reading.{reading};
 ghost use Rattle.yds_model.specs.Request.{usage_line, OfDocument};
-ghost use Rattle.yds_model.specs.TrialAnswer.{TrialAnswer};
-ghost use Rattle.yds_port.specs.Count.{Rose};
+ghost use Rattle.yds_port.specs.Count.{Rose, next_count};
 ghost use Rattle.yds_document.specs.Documents.{document_view};
 ghost use Rattle.yds_run.specs.Words.{words_of, asked, IsTrial, ReadsInput, question_view};
-ghost use Rattle.yds_run.specs.Run.{Outcome, CountTells, IsDelivered, Replies, AnswersBytes, AnswersTaken, IsTooLong};
+ghost use Rattle.yds_run.specs.Run.{Outcome, IsWhole, CountTells, IsDelivered, Replies, AnswersBytes, AnswersTaken, IsTooLong};
 
 use crate::answer::Answer;
 use crate::audit::{audit_document, audit_on_points};
@@ -27,7 +26,7 @@ use yds_model::{Memory, Status};
 use yds_port::{ReadAllFault, Sink, Source, read_all};
 
 /// Runs the command that the words name: reads the source to its end, computes the answer, writes its
-/// text and flushes the sink. Words that name no command are answered by the usage line, and no memory
+/// text and flushes the sink, once. Words that name no command are answered by the usage line, and no memory
 /// is taken for them. For them and for a trial the source isn't read. No memory is taken after the first
 /// byte was written.
 ///
@@ -61,6 +60,7 @@ pub fn run<S: Source, K: Sink>(
         → (input : List ℕ) → AnswersBytes (asked (words_of words.now)) input result (K.written sink.old) (K.written sink.new) (K.flushed sink.new) }
 
     ensures nothing_written { (result ≡ Status.Memory) ⊎ (result ≡ Status.ReadFault) → sink.new ≡ sink.old }
+    ensures flushed_once { IsWhole result → K.flushes sink.new ≡ next_count (K.flushes sink.old) }
 
     // What was written is the answer to the bytes that were taken ..
     ensures answer { ReadsInput (asked (words_of words.now)) → result ≢ Status.Memory → result ≢ Status.ReadFault
@@ -95,6 +95,7 @@ fn answer_input<S: Source, K: Sink>(
     ensures source { CountTells Status.ReadFault result (S.faults source.old) (S.faults source.new) }
     ensures sink { CountTells Status.WriteFault result (K.faults sink.old) (K.faults sink.new) }
     ensures nothing_written { (result ≡ Status.Memory) ⊎ (result ≡ Status.ReadFault) → sink.new ≡ sink.old }
+    ensures flushed_once { IsWhole result → K.flushes sink.new ≡ next_count (K.flushes sink.old) }
     ensures answer { result ≢ Status.Memory → result ≢ Status.ReadFault
         → AnswersTaken (Some (OfDocument (question_view question))) result (S.left source.old) (S.left source.new) (K.written sink.old) (K.written sink.new) (K.flushed sink.new) }
 {
@@ -109,7 +110,7 @@ fn answer_input<S: Source, K: Sink>(
 /// Answers the question about the document that the bytes are.
 fn answer_bytes<K: Sink>(alloc: Global, question: Question, bytes: &[u8], sink: &mut K) -> Status
     requires { length bytes.now ≤ MAX_INPUT }
-    ensures { Replies K.written K.flushed K.faults (AnswersReading (question_view question) (reading bytes.now)) result sink.old sink.new }
+    ensures { Replies K.written K.flushed K.flushes K.faults (AnswersReading (question_view question) (reading bytes.now)) result sink.old sink.new }
 {
     match read_document(alloc, bytes) {
         Ok(document) => answer_document(alloc, question, document, sink),
@@ -138,7 +139,7 @@ fn answer_document<K: Sink>(
     document: Document<'_>,
     sink: &mut K,
 ) -> Status
-    ensures { Replies K.written K.flushed K.faults (AnswersQuestion (question_view question) (document_view document.entry)) result sink.old sink.new }
+    ensures { Replies K.written K.flushed K.flushes K.faults (AnswersQuestion (question_view question) (document_view document.entry)) result sink.old sink.new }
 {
     match question {
         Question::Plan => reply(plan_document(alloc, document), sink),
@@ -151,7 +152,7 @@ fn answer_document<K: Sink>(
 
 /// Delivers an answer, where memory sufficed for it.
 fn reply<A: Answer + Drop, K: Sink>(made: Result<A, Memory>, sink: &mut K) -> Status
-    ensures { MatchResult made (λ answer. IsDelivered K.written K.flushed K.faults (A.text answer) (A.ends answer) result sink.old sink.new)
+    ensures { MatchResult made (λ answer. IsDelivered K.written K.flushed K.flushes K.faults (A.text answer) (A.ends answer) result sink.old sink.new)
         (λ error. (result ≡ Status.Memory) × (sink.new ≡ sink.old)) }
 {
     match made {

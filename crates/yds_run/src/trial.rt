@@ -1,5 +1,5 @@
 //! `trial`: jobs that are drawn from a seed, planned, and their plan checked; its numbers are told.
-ghost use Rattle.std.specs.Prelude.{◌≡◌, ◌<◌, ◌≤◌, ◌∷◌, ◌++◌, [], length, codes, decimal, IfOk};
+ghost use Rattle.std.specs.Prelude.{◌≡◌, ◌<◌, ◌≤◌, ◌∷◌, [], length, decimal, IfOk};
 ghost use Rattle.yds_model.specs.declared.limits.TheConstants.{MAX_TRIAL_JOBS};
 ghost use Rattle.yds_model.specs.Text.{line};
 ghost use Rattle.yds_model.specs.TrialAnswer.{next_state, draw, drawn_job, drawn_jobs, peak_words, TrialAnswer};
@@ -49,7 +49,7 @@ impl Answer for Tried {
 
 /// Appends the lines of a trial's counts.
 fn write_counts<K: Sink>(tried: &Tried, sink: &mut K) -> Result<(), WriteFault>
-    ensures { Puts K.written K.flushed K.faults result (counts_text tried.now) sink.old sink.new }
+    ensures { Puts K.written K.flushed K.flushes K.faults result (counts_text tried.now) sink.old sink.new }
 {
     let levels = tried.planned.certificate.levels();
     let slots = tried.planned.schedule.slots();

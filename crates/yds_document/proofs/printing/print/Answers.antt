@@ -1,27 +1,17 @@
-use Rattle.std.proofs.Common.{refl, ◌++◌}
-use Rattle.std.specs.Prelude.{flat_map}
-use Rattle.yds_model.specs.Text.{job_lines, point_line, slot_line, level_lines, grid_lines, energy_lines}
-use Rattle.yds_document.specs.Draft.{points_of}
-use Rattle.yds_document.proofs.Printed.{first_failed, second_failed, third_delivers}
+use Rattle.std.proofs.Common.{refl}
+use Rattle.yds_port.proofs.Putting.{puts_whole, puts_failed, puts_front, puts_after, whole_after}
 use Rattle.yds_document.proofs.printing.print.Goals as goal
 
-pub returns-in_err-print_plan-clause-delivers : goal.returns-in_err-print_plan-clause-delivers
-returns-in_err-print_plan-clause-delivers g c =
-    let d = c.args.document.now in
-    first_failed _ (job_lines d.instance.names d.instance.jobs ++ flat_map point_line (points_of d.table)
-    ++ flat_map (slot_line d.instance.names) d.schedule.slots ++ flat_map (level_lines d.instance.names) d.certificate) (grid_lines d.grid) (energy_lines d.energy)
-    _ _ _ _ _ c.from_residual.ensures.0 refl c.in_err-print_plan.ensures.delivers
+pub returns-in_err-print_plan-clause-puts : goal.returns-in_err-print_plan-clause-puts
+returns-in_err-print_plan-clause-puts g c =
+    let failed = c.from_residual.ensures.0 in
+    puts_front _ _ failed (puts_front _ _ failed (puts_failed _ failed refl c.in_err-print_plan.ensures))
 
-pub returns-in_err-print-clause-delivers : goal.returns-in_err-print-clause-delivers
-returns-in_err-print-clause-delivers g c =
-    let d = c.args.document.now in
-    second_failed _ (job_lines d.instance.names d.instance.jobs ++ flat_map point_line (points_of d.table)
-    ++ flat_map (slot_line d.instance.names) d.schedule.slots ++ flat_map (level_lines d.instance.names) d.certificate) (grid_lines d.grid) (energy_lines d.energy)
-    _ _ _ _ _ _ _ _ c.from_residual-in_err-print.ensures.0 refl c.in_ok-print_plan.ensures.delivers refl c.in_err-print.ensures.delivers
+pub returns-in_err-print-clause-puts : goal.returns-in_err-print-clause-puts
+returns-in_err-print-clause-puts g c =
+    let failed = c.from_residual-in_err-print.ensures.0 in
+    puts_front _ _ failed (puts_after _ (puts_whole refl c.in_ok-print_plan.ensures) (puts_failed _ failed refl c.in_err-print.ensures))
 
-pub returns-clause-delivers : goal.returns-clause-delivers
-returns-clause-delivers g c =
-    let d = c.args.document.now in
-    third_delivers _ (job_lines d.instance.names d.instance.jobs ++ flat_map point_line (points_of d.table)
-    ++ flat_map (slot_line d.instance.names) d.schedule.slots ++ flat_map (level_lines d.instance.names) d.certificate) (grid_lines d.grid) (energy_lines d.energy)
-    _ _ _ _ _ _ _ _ _ _ _ refl c.in_ok-print_plan.ensures.delivers refl c.in_ok-print.ensures.delivers refl c.print-2.ensures.delivers
+pub returns-clause-puts : goal.returns-clause-puts
+returns-clause-puts g c =
+    puts_after _ (whole_after (puts_whole refl c.in_ok-print_plan.ensures) (puts_whole refl c.in_ok-print.ensures)) c.print-2.ensures

@@ -1,12 +1,10 @@
-use Rattle.std.proofs.Common.{◌≡◌, take}
+use Rattle.std.proofs.Common.{take}
 use Rattle.std.specs.List.{flat_map, enumerate_from}
 use Rattle.yds_model.specs.ReportAnswer.{level_row}
-use Rattle.yds_document.proofs.Printed.{Printed}
+use Rattle.yds_port.proofs.Putting.{PutsWhole}
 use Rattle.yds_report.proofs.reporting.write_levels.Given as goal
 
--- the rows before this one were written
+-- the rows before this one were put
 abbrev pub invariant-loop-place : goal.invariant-loop-place
-invariant-loop-place g l = record {
-  printed : Printed (flat_map level_row (take l.place (enumerate_from 1 l.levels))) (g.K.Sink.written l.fn.sink) (g.K.Sink.written l.sink) (g.K.Sink.faults l.fn.sink) (g.K.Sink.faults l.sink);
-  flushed_stays : g.K.Sink.flushed l.sink ≡ g.K.Sink.flushed l.fn.sink;
-}
+invariant-loop-place g l =
+    PutsWhole g.K.Sink.written g.K.Sink.flushed g.K.Sink.flushes g.K.Sink.faults (flat_map level_row (take l.place (enumerate_from 1 l.levels))) l.fn.sink l.sink

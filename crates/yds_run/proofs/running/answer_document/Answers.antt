@@ -8,12 +8,12 @@ use Rattle.yds_run.proofs.running.answer_document.Goals as goal
 
 pub returns-in-Check : goal.returns-in-Check
 returns-in-Check g c =
-    subst (λ question. Replies g.K.Sink.written g.K.Sink.flushed g.K.Sink.faults (AnswersQuestion (question_view question) (document_view c.args.document)) c.reply-in-Check.result
+    subst (λ question. Replies g.K.Sink.written g.K.Sink.flushed g.K.Sink.flushes g.K.Sink.faults (AnswersQuestion (question_view question) (document_view c.args.document)) c.reply-in-Check.result
     c.args.sink.now c.reply-in-Check.new.sink) (sym c.in-Check.is)
-    (made_replies _ _ _ _ _ _ _ _ _ _ c.check_document.ensures c.reply-in-Check.ensures)
+    (made_replies _ _ _ _ _ _ _ _ _ _ _ c.check_document.ensures c.reply-in-Check.ensures)
 
 pub returns : goal.returns
 returns g c =
-    subst (λ question. Replies g.K.Sink.written g.K.Sink.flushed g.K.Sink.faults (AnswersQuestion (question_view question) (document_view c.args.document)) c.reply-in-Report.result
+    subst (λ question. Replies g.K.Sink.written g.K.Sink.flushed g.K.Sink.flushes g.K.Sink.faults (AnswersQuestion (question_view question) (document_view c.args.document)) c.reply-in-Report.result
     c.args.sink.now c.reply-in-Report.new.sink) (sym c.in-Report.is)
-    (made_replies _ _ _ _ _ _ _ _ _ _ c.report_document.ensures c.reply-in-Report.ensures)
+    (made_replies _ _ _ _ _ _ _ _ _ _ _ c.report_document.ensures c.reply-in-Report.ensures)

@@ -23,4 +23,4 @@ returns-in-Some-Document-clause-headline g c =
 pub returns-in-Some-Trial-clause-trial_text : goal.returns-in-Some-Trial-clause-trial_text
 returns-in-Some-Trial-clause-trial_text g c =
     λ trial memory. trial_answers _ _ _ _ _ _ _ (named _ _ _ c.in-Some-Trial.field-0-is c.in-Some-Trial.ensures.asked)
-    ((made_replies _ _ _ _ _ _ _ _ _ _ c.try_plan.ensures c.reply.ensures).answer memory)
+    ((made_replies _ _ _ _ _ _ _ _ _ _ _ c.try_plan.ensures c.reply.ensures).answer memory)
