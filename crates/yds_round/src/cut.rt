@@ -1,6 +1,7 @@
 ghost use Rattle.std.specs.Prelude.{◌≡◌, ◌+◌, ◌-◌, ◌*◌, ◌^◌, ◌<◌, ◌≤◌, ◌++◌, length, OnOk, IfSome};
 ghost use Rattle.yds_model.specs.declared.limits.TheConstants.{MAX_DENOMINATOR, MAX_SLOTS, MAX_SLOT_WORK, MAX_TIME};
 ghost use Rattle.yds_model.specs.Scale.{of_parts};
+ghost use Rattle.yds_model.specs.Plan.{IsOver};
 ghost use Rattle.yds_events.specs.Stretch.{length_of};
 ghost use Rattle.yds_fraction.specs.Mixed.{IsMixed};
 ghost use Rattle.yds_slots.specs.Schedule.{FitsGrain};
@@ -133,7 +134,7 @@ impl Cut {
         requires from { IsReached self.now from.now }
         requires to { IsReached self.now to.now }
         requires order { from.now.units ≤ to.now.units }
-        requires few { to.now.units ≤ from.now.units + MAX_SLOT_WORK * self.now.split.den }
+        requires few { to.now.units < from.now.units + (MAX_SLOT_WORK + 1) * self.now.split.den }
         ensures { listed result ≡ slot_between (fast_course self.now.split self.now.stretch) self.now.stretch job from.now.units to.now.units }
     {
         let before = self.parts(from.units).min(self.turn());
@@ -155,7 +156,7 @@ impl Cut {
         requires from { IsReached self.now from.now }
         requires to { IsReached self.now to.now }
         requires order { from.now.units ≤ to.now.units }
-        requires few { to.now.units ≤ from.now.units + MAX_SLOT_WORK * self.now.split.den }
+        requires few { to.now.units < from.now.units + (MAX_SLOT_WORK + 1) * self.now.split.den }
         ensures { listed result ≡ slot_between (slow_course self.now.split self.now.stretch) self.now.stretch job from.now.units to.now.units }
     {
         let before = self.parts(from.units).max(self.turn());
@@ -174,7 +175,7 @@ impl Cut {
     /// The work of so many parts of `1/(den * gap)` of a unit.
     fn work(&self, parts: u128) -> Amount
         requires cut { IsCut self.now }
-        requires in_range { parts ≤ MAX_SLOT_WORK * (self.now.split.den * self.now.split.gap) }
+        requires in_range { parts < (MAX_SLOT_WORK + 1) * (self.now.split.den * self.now.split.gap) }
         ensures value { result ≡ of_parts parts (self.now.split.den * self.now.split.gap) }
         ensures in_range { result.whole ≤ MAX_SLOT_WORK }
         ensures kept { IsMixed MAX_DENOMINATOR result }
@@ -184,7 +185,9 @@ impl Cut {
 
     /// The units of the slot's work.
     fn units(&self, slot: &Slot) -> u64
-        requires { units_of self.now.split.den slot.now < 2 ^ 64 }
+        requires cut { IsCut self.now }
+        requires over { IsOver self.now.split.den slot.now.work }
+        requires fits { units_of self.now.split.den slot.now < 2 ^ 64 }
         ensures value { result ≡ units_of self.now.split.den slot.now }
         ensures few { result < (MAX_SLOT_WORK + 1) * self.now.split.den }
     {
