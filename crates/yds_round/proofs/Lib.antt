@@ -5,3 +5,6 @@ pub mod Reaching
 pub mod Pieces
 pub mod Cuts
 pub mod Serving
+pub mod Marks
+pub mod Paces
+pub mod Kept
