@@ -8,3 +8,4 @@ pub mod Serving
 pub mod Marks
 pub mod Paces
 pub mod Kept
+pub mod Energies
