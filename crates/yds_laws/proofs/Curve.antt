@@ -18,7 +18,7 @@ abbrev pub curve : ℕ → ℕ → List Level → ℕ
 curve p q levels = sum_by (λ level. q * level.work - p * level.length) levels
 
 -- the first of the levels isn't faster than p/q
-abbrev IsSlowFirst : ℕ → ℕ → List Level → Type 0
+abbrev pub IsSlowFirst : ℕ → ℕ → List Level → Type 0
 IsSlowFirst p q [] = Unit {0}
 IsSlowFirst p q (level ∷ levels) = level.work * q ≤ p * level.length
 
@@ -62,7 +62,7 @@ slow_rest p q level [] some slow falls = tt
 slow_rest p q level (next ∷ levels) some slow falls = slower_still p q level.work level.length next.work next.length some slow falls
 
 -- so levels of which the first isn't faster than p/q do nothing above it
-curve_slow : (p q : ℕ) (levels : List Level) → AreFalling levels → IsSlowFirst p q levels → curve p q levels ≡ 0
+pub curve_slow : (p q : ℕ) (levels : List Level) → AreFalling levels → IsSlowFirst p q levels → curve p q levels ≡ 0
 curve_slow p q [] falling slow = refl
 curve_slow p q (level ∷ levels) falling slow =
     simp sum_by-cons (omega (arith, slow, curve_slow p q levels falling.3 (slow_rest p q level levels falling.1 slow falling.2)))

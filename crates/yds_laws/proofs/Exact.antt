@@ -101,7 +101,7 @@ above_slow p q level levels slow =
 module _ (jobs : List Job) (scale : ℕ) (slots : List WholeSlot)
     (served : (number : ℕ) → number < length jobs → work_given slots number ≡ (job_at jobs number).work * scale) where
   -- a level's slots take as long as its pieces are
-  level_time : (level : Level) → Fits jobs slots level →
+  pub level_time : (level : Level) → Fits jobs slots level →
       group (λ slot. slot.to - slot.from) level.members slots ≡ scale * total_length level.pieces
   level_time level fits =
       let often = λ (slot : WholeSlot). count slot.job level.members in

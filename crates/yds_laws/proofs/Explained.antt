@@ -69,7 +69,7 @@ module _ (jobs : List Job) (levels : List Level) (scale : ℕ) (slots : List Who
         ]
 
   -- a front's members are different
-  front_different : (n : ℕ) → All (λ number. number < length jobs) (all_members (take n levels)) →
+  pub front_different : (n : ℕ) → All (λ number. number < length jobs) (all_members (take n levels)) →
       AreDifferent (all_members (take n levels))
   front_different n known number = elim (cases_lt (count number (all_members (take n levels))) 1) [
     | inl none ↦ omega arith
@@ -82,7 +82,7 @@ module _ (jobs : List Job) (levels : List Level) (scale : ℕ) (slots : List Who
   ]
 
   -- each level fits its slots
-  levels_fit : Each (length levels) (SumsAgree jobs levels) → Each (length slots) (HasLevelSpeed levels slots) →
+  pub levels_fit : Each (length levels) (SumsAgree jobs levels) → Each (length slots) (HasLevelSpeed levels slots) →
       All (Fits jobs slots) levels
   levels_fit sums speeds = All-from_get_or (Fits jobs slots) levels no_level (λ i within. record {
     some_work = (are.positive i no_level within).0;

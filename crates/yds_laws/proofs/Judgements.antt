@@ -25,7 +25,7 @@ work_over : (w c f g scale long : ℕ) → w * f ≡ c * scale → w * long * (g
 work_over w c f g scale long e = omega (arith, ap (λ n. n * (long * g)) e)
 
 -- a slot has a level's speed by cross products exactly where it has it at a scale
-speed_of_values : (all long scale : ℕ) (slot : WrittenSlot) → 1 ≤ scale → IsDivided scale slot →
+pub speed_of_values : (all long scale : ℕ) (slot : WrittenSlot) → 1 ≤ scale → IsDivided scale slot →
     ((numerator slot.work * long * (slot.from.den * slot.to.den) ≡ all * crossed_length slot.from slot.to * slot.work.den)
     ↔ (at_scale scale slot.work * long ≡ all * (at_scale scale slot.to - at_scale scale slot.from)))
 speed_of_values all long scale slot positive divided =

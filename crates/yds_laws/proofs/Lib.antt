@@ -41,6 +41,17 @@ pub mod Energy
 pub mod HullEnergy
 pub mod LineEnergy
 pub mod PlansEnergy
+pub mod HullCosts
+pub mod LevelCosts
+pub mod LevelsEnergy
+pub mod RoundedEnergy
+pub mod RoundedCheapest
+pub mod RoundedRuns
+pub mod PlanParts
+pub mod RoundedFeasible
+pub mod FullStretches
+pub mod RoundedOnPoints
+pub mod TooSlow
 pub mod TextLaws
 pub mod Brought
 pub mod RoundTrip
@@ -52,4 +63,5 @@ pub mod Inverse
 pub mod Grown
 pub mod Within
 pub mod PlanText
+pub mod RoundText
 pub mod AnsweredOnce

@@ -22,7 +22,7 @@ rising_tail point [] rising = tt
 rising_tail point (next ∷ points) rising = rising.1
 
 -- each point is faster than all before it
-places_rise : (points : List Point) (i j : ℕ) → AreRising points → i < j → j < length points → (point_at points i).speed < (point_at points j).speed
+pub places_rise : (points : List Point) (i j : ℕ) → AreRising points → i < j → j < length points → (point_at points i).speed < (point_at points j).speed
 places_rise [] i j rising order within = absurd (omega (arith, within))
 places_rise (point ∷ points) i zero rising order within = absurd (omega (arith, order))
 places_rise (point ∷ points) zero (suc j) rising order within = later_rise point.speed points (rises_from point points rising) j no_point (omega (arith, within))
@@ -30,11 +30,11 @@ places_rise (point ∷ points) (suc i) (suc j) rising order within =
     places_rise points i j (rising_tail point points rising) (omega (arith, order)) (omega (arith, within))
 
 -- the point that stands at its place
-read_point : (points : List Point) (point : Point) (has : Contains points point) → point_at points has.0 ≡ point
+pub read_point : (points : List Point) (point : Point) (has : Contains points point) → point_at points has.0 ≡ point
 read_point points point has = get_or_default points has.0 no_point point has.1 ∙ has.2
 
 -- so two points of one speed are one
-one_point : (points : List Point) (one two : Point) → AreRising points → Contains points one → Contains points two → one.speed ≡ two.speed → one ≡ two
+pub one_point : (points : List Point) (one two : Point) → AreRising points → Contains points one → Contains points two → one.speed ≡ two.speed → one ≡ two
 one_point points one two rising first second same =
     let at_first = ap (λ (x : Point). x.speed) (read_point points one first) in
     let at_second = ap (λ (x : Point). x.speed) (read_point points two second) in
@@ -51,7 +51,7 @@ one_point points one two rising first second same =
 -- # One energy
 
 -- slots that take time spend one amount
-spends_once : (points : List Point) (start : ℕ) (slots : List WholeSlot) (one two : ℕ) → AreRising points → RunFrom start slots →
+pub spends_once : (points : List Point) (start : ℕ) (slots : List WholeSlot) (one two : ℕ) → AreRising points → RunFrom start slots →
     SpendsAtPoints points slots one → SpendsAtPoints points slots two → one ≡ two
 spends_once points start [] one two rising run first second = first ∙ sym second
 spends_once points start (slot ∷ slots) one two rising run (point, rest, has, at, later, sum) (other, others_rest, others, also, others_later, others_sum) =

@@ -182,7 +182,7 @@ pub plans_hold_the_headline : PlansHoldTheHeadline
 plans_hold_the_headline input text answers = headline_of input text (plan_read input text answers)
 
 -- the slots of a plan within the limits are as the auditor wants them
-slots_agree : (count : ℕ) (slots : List WrittenSlot) → AreSlotsOf count slots → AreSlots count slots
+pub slots_agree : (count : ℕ) (slots : List WrittenSlot) → AreSlotsOf count slots → AreSlots count slots
 slots_agree count slots fit = record {
   solid = All-weaker IsSlot IsSolid solid slots fit.fit;
   known = fit.known;
@@ -203,7 +203,7 @@ plan_slots_agree document slots levels fits =
     subst (λ count. AreSlots count slots) fits.jobs.one_name_each (slots_agree (length document.names) slots fits.slots)
 
 -- the answer to a text that is short and read as a document
-answers_document : (question : Question) (text told : List ℕ) (document : Document) → length text ≤ MAX_INPUT → reading text ≡ Ok document →
+pub answers_document : (question : Question) (text told : List ℕ) (document : Document) → length text ≤ MAX_INPUT → reading text ≡ Ok document →
     AnswersReading question (Ok document) told Done → UnlessTooLong (is_too_long text) (AnswersReading question (reading text)) told Done
 answers_document question text told document short read answers =
     rw (le-ltb MAX_INPUT (length text) short, read) answers

@@ -22,7 +22,7 @@ plans_are_least jobs slots levels plan =
     (explained_is_least jobs slots levels explains, explains)
 
 -- the speeds of a plan's levels fall
-plan_falls : (jobs : List Job) (slots : List WrittenSlot) (levels : List Level) → IsPlan jobs slots levels → AreFalling levels
+pub plan_falls : (jobs : List Job) (slots : List WrittenSlot) (levels : List Level) → IsPlan jobs slots levels → AreFalling levels
 plan_falls jobs slots levels plan = are_falling levels plan.proper.well_formed.positive plan.falling
 
 -- each of its levels has its members' work and its pieces' length
@@ -32,7 +32,7 @@ plan_sums_up jobs slots levels plan =
     (λ i within. record { work = (plan.proper.sums i within).work; long = (plan.proper.sums i within).length })
 
 -- a plan's excess is what its levels do above the speed
-plan_excess : (jobs : List Job) (slots : List WrittenSlot) (levels : List Level) (scale p q : ℕ) → IsPlan jobs slots levels → IsScale scale slots →
+pub plan_excess : (jobs : List Job) (slots : List WrittenSlot) (levels : List Level) (scale p q : ℕ) → IsPlan jobs slots levels → IsScale scale slots →
     1 ≤ q → excess p q (slots_at scale slots) ≡ scale * curve p q levels
 plan_excess jobs slots levels scale p q plan is some =
     omega (

@@ -63,7 +63,7 @@ module _ (k : ℕ) (some : 1 ≤ k) where
       grouped a b = omega arith
 
   -- the energy is k times as great
-  energy_finer : (jobs : List Job) (points : List Point) (scale energy : ℕ) (slots : List WholeSlot) → IsEnergyOnPoints jobs points scale slots energy →
+  pub energy_finer : (jobs : List Job) (points : List Point) (scale energy : ℕ) (slots : List WholeSlot) → IsEnergyOnPoints jobs points scale slots energy →
       IsEnergyOnPoints jobs points (k * scale) (map (finer k) slots) (k * energy)
   energy_finer jobs points scale energy slots (spent, spends, sum) = (
     k * spent,

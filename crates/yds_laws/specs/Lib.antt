@@ -5,4 +5,5 @@ pub mod EnergyLaws
 pub mod PlanText
 pub mod TaskLaws
 pub mod RoundingLaws
+pub mod RoundText
 pub mod AnswerLaws

@@ -40,7 +40,12 @@ pub use reading_laws::{
     canonical_text_is_read, jobs_and_slots_are_read, lines_are_short, printed_is_read,
     read_is_within_limits, text_is_short,
 };
-pub use rounding_laws::{energy_is_one, one_scale_decides_energy, one_scale_decides_split};
+pub use rounding_laws::{
+    energy_is_one, levels_fit_the_horizon, one_scale_decides_energy, one_scale_decides_split,
+    refused_is_too_slow, rounded_attains_the_hull, rounded_costs_its_levels,
+    rounded_holds_least_energy, rounded_is_audited, rounded_is_cheapest, rounded_is_feasible,
+    too_slow_is_exact,
+};
 pub use scale_laws::{
     equality_is_of_values, equality_is_transitive, multiple_is_of_values, one_scale_decides,
     order_agrees_with_equality, order_is_of_values, order_is_transitive, scale_exists,

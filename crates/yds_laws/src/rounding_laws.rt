@@ -1,5 +1,8 @@
 //! The laws of schedules on the operating points of a table, each as the contract of a call that does nothing.
-ghost use Rattle.yds_laws.specs.RoundingLaws.{OneScaleDecidesEnergy, OneScaleDecidesSplit, EnergyIsOne};
+//!
+//! Two points around a level's speed are enough: Ishihara and Yasuura (ISLPED 1998).
+ghost use Rattle.yds_laws.specs.RoundingLaws.{OneScaleDecidesEnergy, OneScaleDecidesSplit, EnergyIsOne, LevelsFitTheHorizon, RoundedAttainsTheHull, RoundedCostsItsLevels, RoundedIsCheapest, RoundedIsFeasible, TooSlowIsExact};
+ghost use Rattle.yds_laws.specs.RoundText.{RefusedIsTooSlow, RoundedHoldsLeastEnergy, RoundedIsAudited};
 
 /// A fraction that is a written schedule's energy on the points at one of its scales is so at each.
 pub fn one_scale_decides_energy()
@@ -14,4 +17,58 @@ pub fn energy_is_one()
 /// Written slots that split a stretch between two points at one scale do so at each.
 pub fn one_scale_decides_split()
     ensures { OneScaleDecidesSplit }
+{}
+
+/// The slots of a plan, rounded to a table's operating points, are a feasible schedule in which each slot runs at
+/// the speed of a point.
+pub fn rounded_is_feasible()
+    ensures { RoundedIsFeasible }
+{}
+
+/// What the rounded slots of a plan spend at the points, with the idle time, is the energy of the plan's schedule
+/// by the table's lower hull.
+pub fn rounded_attains_the_hull()
+    ensures { RoundedAttainsTheHull }
+{}
+
+/// What the rounded slots of a plan spend in the stretches of a level is the level's cost, at the point of its speed
+/// or on the line between the two points around it. The costs of all levels, with the idle time outside them, are the
+/// energy.
+pub fn rounded_costs_its_levels()
+    ensures { RoundedCostsItsLevels }
+{}
+
+/// The lengths of a plan's levels are together at most the horizon.
+pub fn levels_fit_the_horizon()
+    ensures { LevelsFitTheHorizon }
+{}
+
+/// The energy of a plan's rounded slots is at most that of each feasible schedule whose slots run at the speeds of
+/// the table's points, whether the table is convex or not.
+///
+/// So it is for any table whose top speed is enough: a plan has no rounding on another.
+pub fn rounded_is_cheapest()
+    ensures { RoundedIsCheapest }
+{}
+
+/// The first level of a plan is faster than the table's top point exactly where no feasible schedule stays at or
+/// below the top speed.
+pub fn too_slow_is_exact()
+    ensures { TooSlowIsExact }
+{}
+
+/// The text that `round` writes is read again as the document with slots that are feasible, each at the speed of a
+/// point, and with their energy, which is the least of all feasible schedules on the points.
+pub fn rounded_holds_least_energy()
+    ensures { RoundedHoldsLeastEnergy }
+{}
+
+/// `audit` answers the text that `round` writes with `feasible`, with `--points` and without.
+pub fn rounded_is_audited()
+    ensures { RoundedIsAudited }
+{}
+
+/// Where `round` refuses a table as too slow, no feasible schedule stays at or below the speed of its top point.
+pub fn refused_is_too_slow()
+    ensures { RefusedIsTooSlow }
 {}

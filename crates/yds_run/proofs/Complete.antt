@@ -5,14 +5,12 @@ use Rattle.std.proofs.lemmas.List.{append-nil}
 use Rattle.std.specs.Io.KnownBytes.{Appends}
 use Rattle.yds_model.specs.declared.limits.TheConstants.{MAX_INPUT}
 use Rattle.yds_model.specs.declared.status.Status.{Status}
-use Rattle.yds_model.specs.declared.status.Status.TheVariants.{Done}
-use Rattle.yds_model.specs.Request.{Question, AskPlan, Request, OfDocument, OfTrial}
+use Rattle.yds_model.specs.declared.status.Status.TheVariants as statuses
+use Rattle.yds_model.specs.Request.{Question, Request, OfDocument, OfTrial}
 use Rattle.yds_model.specs.Answer.{AnswersRequest, AnswersReading, UnlessTooLong}
 use Rattle.yds_model.specs.Reading.{reading}
-use Rattle.yds_model.specs.PlanAnswer.{HoldsHeadline}
 use Rattle.yds_model.specs.TrialAnswer.{TrialAnswer}
-use Rattle.yds_laws.proofs.PlanText.{plans_hold_the_headline}
-use Rattle.yds_run.specs.Run.{Writes, AnswersBytes, AnswersTaken, Outcome}
+use Rattle.yds_run.specs.Run.{IsWhole, Writes, WritesWhole, AnswersBytes, AnswersTaken, Outcome}
 
 -- what is an answer to one thing and so to another
 pub writes_of : (One Other : List ℕ → Status → Type 0) (result : Status) (old new : Option (List ℕ)) (flushed : Option ℕ)
@@ -71,21 +69,35 @@ pub trial_answers : (named : Option Request) (seed jobs : ℕ) (result : Status)
     → Writes (TrialAnswer seed jobs) result old new flushed → (input : List ℕ) → AnswersBytes named input result old new flushed
 trial_answers named seed jobs result old new flushed is writes input = subst (λ asks. AnswersBytes asks input result old new flushed) is writes
 
--- what `plan` wrote whole holds the headline
-plan_headline : (input : List ℕ) (result : Status) (old new : Option (List ℕ)) (flushed : Option ℕ) → result ≡ Done
-    → AnswersBytes (Some (OfDocument AskPlan)) input result old new flushed → (text : List ℕ) × Appends old new text × HoldsHeadline input text
-plan_headline input result old new flushed done answered =
-    let outcome : Outcome Done answered.text answered.status old new flushed =
-    subst (λ ended. Outcome ended answered.text answered.status old new flushed) done answered.outcome in (
+-- # What a text that was written whole is worth
+
+whole_outcome : (ended : Status) (text : List ℕ) (status : Status) (old new : Option (List ℕ)) (flushed : Option ℕ) → IsWhole ended
+    → Outcome ended text status old new flushed → WritesWhole ended text status old new flushed
+whole_outcome statuses.Done text status old new flushed whole outcome = outcome
+whole_outcome statuses.No text status old new flushed whole outcome = outcome
+whole_outcome statuses.Usage text status old new flushed whole outcome = outcome
+whole_outcome statuses.Refused text status old new flushed whole outcome = outcome
+whole_outcome statuses.ReadFault text status old new flushed whole outcome = absurd whole
+whole_outcome statuses.WriteFault text status old new flushed whole outcome = absurd whole
+whole_outcome statuses.Memory text status old new flushed whole outcome = absurd whole
+
+-- a text of this status holds what each answer of that status holds
+text_holds : (question : Question) (ended result : Status) (Holds : List ℕ → List ℕ → Type 0) (input : List ℕ) (old new : Option (List ℕ)) (flushed : Option ℕ)
+    → IsWhole ended → ((input text : List ℕ) → AnswersRequest (Some (OfDocument question)) input text ended → Holds input text) → result ≡ ended
+    → AnswersBytes (Some (OfDocument question)) input result old new flushed → (text : List ℕ) × Appends old new text × Holds input text
+text_holds question ended result Holds input old new flushed whole law is answered =
+    let outcome : WritesWhole ended answered.text answered.status old new flushed =
+    whole_outcome ended answered.text answered.status old new flushed whole (subst (λ ended. Outcome ended answered.text answered.status old new flushed) is answered.outcome) in (
       answered.text,
       outcome.whole,
-      plans_hold_the_headline input answered.text (subst (AnswersRequest (Some (OfDocument AskPlan)) input answered.text) outcome.said answered.answers),
+      law input answered.text (subst (AnswersRequest (Some (OfDocument question)) input answered.text) outcome.said answered.answers),
     )
 
--- so it does where the words are `plan` and the input is told
-pub headline : (named : Option Request) (result : Status) (left old new : Option (List ℕ)) (flushed : Option ℕ) → named ≡ Some (OfDocument AskPlan)
-    → result ≡ Done → IfSome left (λ input. AnswersBytes named input result old new flushed)
-    → IfSome left (λ input. (text : List ℕ) × Appends old new text × HoldsHeadline input text)
-headline named result None old new flushed plan done answered = tt
-headline named result (Some input) old new flushed plan done answered =
-    plan_headline input result old new flushed done (subst (λ request. AnswersBytes request input result old new flushed) plan answered)
+-- so it does where the words ask the question and the input is told
+pub answer_holds : (named : Option Request) (question : Question) (ended result : Status) (Holds : List ℕ → List ℕ → Type 0) (left old new : Option (List ℕ)) (flushed : Option ℕ)
+    → IsWhole ended → ((input text : List ℕ) → AnswersRequest (Some (OfDocument question)) input text ended → Holds input text)
+    → named ≡ Some (OfDocument question) → result ≡ ended → IfSome left (λ input. AnswersBytes named input result old new flushed)
+    → IfSome left (λ input. (text : List ℕ) × Appends old new text × Holds input text)
+answer_holds named question ended result Holds None old new flushed whole law asks is answered = tt
+answer_holds named question ended result Holds (Some input) old new flushed whole law asks is answered =
+    text_holds question ended result Holds input old new flushed whole law is (subst (λ request. AnswersBytes request input result old new flushed) asks answered)

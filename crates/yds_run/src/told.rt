@@ -1,4 +1,3 @@
-
 use crate::answer::Answer;
 use yds_document::LineBuffer;
 use yds_model::Status;

@@ -1,4 +1,3 @@
-
 use crate::answer::Answer;
 use yds_model::Status;
 use yds_port::{Sink, WriteFault, write_all};

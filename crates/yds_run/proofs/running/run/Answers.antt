@@ -1,9 +1,11 @@
 use Rattle.std.proofs.Common.{ap, sym, ◌∙◌, ◌≡◌, Some, Option}
 use Rattle.yds_model.specs.Request.{Request}
+use Rattle.yds_model.specs.PlanAnswer.{HoldsHeadline}
+use Rattle.yds_laws.proofs.PlanText.{plans_hold_the_headline}
 use Rattle.yds_run.specs.declared.command.Command.{Command}
 use Rattle.yds_run.specs.Words.{asked, request_view}
 use Rattle.yds_run.proofs.Replied.{made_replies}
-use Rattle.yds_run.proofs.Complete.{question_completes, trial_answers, headline}
+use Rattle.yds_run.proofs.Complete.{question_completes, trial_answers, answer_holds}
 use Rattle.yds_run.proofs.running.run.Goals as goal
 
 -- what a command that was named asks for
@@ -16,7 +18,7 @@ returns-in-Some-Document-clause-complete g c =
 
 pub returns-in-Some-Document-clause-headline : goal.returns-in-Some-Document-clause-headline
 returns-in-Some-Document-clause-headline g c =
-    λ plan done. headline _ _ _ _ _ _ (ap asked plan) done
+    λ plan done. answer_holds _ _ _ _ HoldsHeadline _ _ _ _ tt plans_hold_the_headline (ap asked plan) done
     (question_completes _ _ _ _ _ _ _ _ (named _ _ _ c.in-Some-Document.field-0-is c.in-Some-Document.ensures.asked)
     (c.answer_input.ensures.answer (λ is. absurd cc) (λ is. absurd cc)))
 

@@ -1,0 +1,126 @@
+-- Parts of a plan's slots, at a scale: each has what the whole has.
+use Rattle.std.proofs.Common.{◌≡◌, ℕ, ◌-◌, ◌*◌, ◌+◌, ◌≤◌, ◌==◌, List, [], ◌∷◌, ◌++◌, sym, subst, ◌∙◌, arith}
+use Rattle.std.specs.Prelude.{if◌then◌else◌}
+use Rattle.std.specs.List.{All, Contains}
+use Rattle.std.proofs.lemmas.List.{map-append, get_or_default, length-map}
+use Rattle.std.proofs.lemmas.List.Elements.{All-head, All-tail, All-append, All-weaker, All-from_get_or}
+use Rattle.std.proofs.lemmas.List.Sums.{sum_by-append}
+use Rattle.std.proofs.Math.Nat.{mul-pos, dvd-mul_right_of_dvd}
+use Rattle.yds_model.specs.Job.{Job}
+use Rattle.yds_model.specs.Slot.{WrittenSlot, WholeSlot, IsDivided, IsScale, slot_at_scale, slots_at, slot_at, no_slot, work_given}
+use Rattle.yds_model.specs.Feasible.{RunFrom, IsInWindow}
+use Rattle.yds_model.specs.Level.{Level, level_at, no_level}
+use Rattle.yds_model.specs.Plan.{IsPlan}
+use Rattle.yds_model.proofs.Lists.{All-front, All-back}
+
+-- # Slots in order
+
+-- slots that run from a time on run from each earlier one
+pub run_lower : (low start : ℕ) (slots : List WholeSlot) → low ≤ start → RunFrom start slots → RunFrom low slots
+run_lower low start [] lower run = tt
+run_lower low start (slot ∷ slots) lower run = (omega (arith, lower, run.0), run.1, run.2)
+
+-- and from each time up to their start
+pub run_later : (low start : ℕ) (slots : List WholeSlot) → RunFrom low slots → All (λ slot. start ≤ slot.from) slots → RunFrom start slots
+run_later low start [] run later = tt
+run_later low start (slot ∷ slots) run later = (later 0 slot (omega arith), run.1, run.2)
+
+-- the first of two parts
+pub run_front : (start : ℕ) (slots others : List WholeSlot) → RunFrom start (slots ++ others) → RunFrom start slots
+run_front start [] others run = tt
+run_front start (slot ∷ slots) others run = (run.0, run.1, run_front slot.to slots others run.2)
+
+-- and the second
+pub run_back : (start : ℕ) (slots others : List WholeSlot) → RunFrom start (slots ++ others) → RunFrom 0 others
+run_back start [] others run = run_lower 0 start others (omega arith) run
+run_back start (slot ∷ slots) others run = run_back slot.to slots others run.2
+
+-- two parts, of which the second begins where the first has ended
+pub run_joined : (start middle : ℕ) (slots others : List WholeSlot) → start ≤ middle → RunFrom start slots → All (λ slot. slot.to ≤ middle) slots →
+    RunFrom middle others → RunFrom start (slots ++ others)
+run_joined start middle [] others order run ends later = run_lower start middle others order later
+run_joined start middle (slot ∷ slots) others order run ends later = (
+  run.0,
+  run.1,
+  run_joined slot.to middle slots others (All-head (λ one. one.to ≤ middle) slot slots ends) run.2 (All-tail (λ one. one.to ≤ middle) slot slots ends) later,
+)
+
+-- two parts give a job what each gives it
+pub given_joined : (slots others : List WholeSlot) (job : ℕ) → work_given (slots ++ others) job ≡ work_given slots job + work_given others job
+given_joined slots others job = sum_by-append (λ (slot : WholeSlot). if job == slot.job then slot.work else 0) slots others
+
+-- a scale of two schedules is one of both together
+pub scale_joined : (scale : ℕ) (slots others : List WrittenSlot) → IsScale scale slots → IsScale scale others → IsScale scale (slots ++ others)
+scale_joined scale slots others one other = record {
+  positive = one.positive;
+  divided = All-append (IsDivided scale) slots others one.divided other.divided;
+}
+
+-- a multiple of a scale is one
+pub scale_times : (scale k : ℕ) (slots : List WrittenSlot) → 1 ≤ k → IsScale scale slots → IsScale (scale * k) slots
+scale_times scale k slots some is = record {
+  positive = mul-pos is.positive some;
+  divided = All-weaker (IsDivided scale) (IsDivided (scale * k)) (λ slot divided. record {
+    from = dvd-mul_right_of_dvd slot.from.den divided.from k;
+    to = dvd-mul_right_of_dvd slot.to.den divided.to k;
+    work = dvd-mul_right_of_dvd slot.work.den divided.work k;
+  }) slots is.divided;
+}
+
+-- # Parts of a plan
+
+-- the slot has the speeds of its job's levels
+abbrev pub HasSpeeds : List Level → WholeSlot → Type 0
+HasSpeeds levels slot = (level : Level) → Contains levels level → Contains level.members slot.job → slot.work * level.length ≡ level.work * (slot.to - slot.from)
+
+-- the slots are a part of a plan's
+pub record IsPartOfPlan (jobs : List Job) (levels : List Level) (slots : List WholeSlot) (scale : ℕ) : Type 0 where
+  pub order : RunFrom 0 slots
+  pub windows : All (IsInWindow jobs scale) slots
+  pub speeds : All (HasSpeeds levels) slots
+
+-- a level's place in the list
+pub level_found : (levels : List Level) (level : Level) (has : Contains levels level) → level_at levels has.0 ≡ level
+level_found levels level has = get_or_default levels has.0 no_level level has.1 ∙ has.2
+
+-- all slots of a plan are one
+pub plan_part : (jobs : List Job) (slots : List WrittenSlot) (levels : List Level) (scale : ℕ) → IsPlan jobs slots levels → IsScale scale slots →
+    IsPartOfPlan jobs levels (slots_at scale slots) scale
+plan_part jobs slots levels scale plan is =
+    let feasible = plan.proper.feasible.holds scale is in
+    record {
+      order = feasible.one_at_a_time;
+      windows = feasible.in_windows;
+      speeds = All-from_get_or (HasSpeeds levels) (slots_at scale slots) no_slot (λ s within level has member.
+          let slot = slot_at (slots_at scale slots) s in
+          let found = level_found levels level has in
+          subst (λ (one : Level). slot.work * one.length ≡ one.work * (slot.to - slot.from)) found
+          (plan.proper.speeds scale is s (omega (arith, within, length-map slots (slot_at_scale scale))) has.0 has.1
+          (subst (λ (one : Level). Contains one.members slot.job) (sym found) member)));
+    }
+
+-- and so is the first of two parts
+pub part_front : (jobs : List Job) (levels : List Level) (slots others : List WrittenSlot) (scale : ℕ) →
+    IsPartOfPlan jobs levels (slots_at scale (slots ++ others)) scale → IsPartOfPlan jobs levels (slots_at scale slots) scale
+part_front jobs levels slots others scale part =
+    let both = map-append (slot_at_scale scale) slots others in
+    let here = slots_at scale slots in
+    let later = slots_at scale others in
+    record {
+      order = run_front 0 here later (subst (RunFrom 0) both part.order);
+      windows = All-front (IsInWindow jobs scale) here later (subst (All (IsInWindow jobs scale)) both part.windows);
+      speeds = All-front (HasSpeeds levels) here later (subst (All (HasSpeeds levels)) both part.speeds);
+    }
+
+-- and the second
+pub part_back : (jobs : List Job) (levels : List Level) (slots others : List WrittenSlot) (scale : ℕ) →
+    IsPartOfPlan jobs levels (slots_at scale (slots ++ others)) scale → IsPartOfPlan jobs levels (slots_at scale others) scale
+part_back jobs levels slots others scale part =
+    let both = map-append (slot_at_scale scale) slots others in
+    let here = slots_at scale slots in
+    let later = slots_at scale others in
+    record {
+      order = run_back 0 here later (subst (RunFrom 0) both part.order);
+      windows = All-back (IsInWindow jobs scale) here later (subst (All (IsInWindow jobs scale)) both part.windows);
+      speeds = All-back (HasSpeeds levels) here later (subst (All (HasSpeeds levels)) both part.speeds);
+    }
