@@ -31,13 +31,15 @@ overflow_add-spent c =
     rw (c.spent.ensures, c.from-2.ensures, c.from-3.ensures, c.from.ensures, c.from-horizon.ensures, c.busy_length.ensures, c.last_deadline.ensures, c.first_release.ensures,
     c.gaps-multiple.ensures.value) (omega (arith, all))
 
-pub of_parts-requires-clause-whole_in_range : goal.of_parts-requires-clause-whole_in_range
-of_parts-requires-clause-whole_in_range c =
+pub of_parts-requires : goal.of_parts-requires
+of_parts-requires c =
     let spent = spent_fits c.args.table.now c.args.levels.now c.args.paces.now c.requires.paces in
     let all = total_whole _ (busy_length c.args.levels.now) (horizon c.args.rows.now) c.first.inside.power (hull_multiple c.args.table.now) spent c.requires.within
     c.first.invariant.power_in_range (omega (arith, c.last_deadline.ensures, c.last_deadline.type_inv)) in
+    let whole : (c.spent.result + c.from-2.result * c.from-3.result) / c.gaps-multiple.result ≤ MAX_WHOLE =
     rw (c.spent.ensures, c.from-2.ensures, c.from-3.ensures, c.from.ensures, c.from-horizon.ensures, c.busy_length.ensures, c.last_deadline.ensures, c.first_release.ensures,
-    c.gaps-multiple.ensures.value) (omega (arith, all))
+    c.gaps-multiple.ensures.value) (omega (arith, all)) in
+    (omega arith, (record { some = omega arith; in_range = omega arith }, (c.gaps-multiple.ensures.some, (omega (arith, c.gaps-multiple.ensures.within), whole))))
 
 pub returns-clause-value : goal.returns-clause-value
 returns-clause-value c =
