@@ -9,3 +9,6 @@ pub mod Marks
 pub mod Paces
 pub mod Kept
 pub mod Energies
+pub mod Courses
+pub mod Shares
+pub mod InTurn

@@ -1,3 +1,5 @@
+use Rattle.yds_round.proofs.Shares.{same_given}
+use Rattle.yds_round.proofs.InTurn.{turns_cut}
 use Rattle.yds_round.proofs.Parts.{part_is, some_divisor}
 use Rattle.yds_round.proofs.part.Part.of.Goals as goal
 
