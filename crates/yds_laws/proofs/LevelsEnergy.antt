@@ -1,10 +1,10 @@
 -- What the rounded slots of a plan spend, level by level: in the stretches of a level just what the level costs.
-use Rattle.std.proofs.Common.{◌≡◌, ℕ, zero, suc, ◌+◌, ◌-◌, ◌*◌, ◌<◌, ◌≤◌, List, [], ◌∷◌, ◌++◌, length, get_or, refl, sym, ap, subst, ◌∙◌, arith, inl, inr}
+use Rattle.std.proofs.Common.{◌≡◌, ℕ, zero, suc, ◌+◌, ◌-◌, ◌*◌, ◌<◌, ◌≤◌, List, [], ◌∷◌, ◌++◌, length, get_or, refl, sym, ap, subst, arith, inl, inr}
 use Rattle.std.specs.Prelude.{sum, sum_by}
 use Rattle.std.specs.List.{All, AllZip, Contains}
 use Rattle.std.proofs.lemmas.List.Elements.{All-head, All-tail, All-contains}
 use Rattle.std.proofs.lemmas.List.Sums.{sum_by-cons, sum_by-append}
-use Rattle.std.proofs.Math.Nat.{mul-pos, mul-sub, le_of_mul-le-mul_left, eq_of_mul-eq-mul_left, eq_of_mul-eq-mul_right}
+use Rattle.std.proofs.Math.Nat.{mul-pos, eq_of_mul-eq-mul_left, eq_of_mul-eq-mul_right}
 use Rattle.yds_model.specs.Numbers.{count}
 use Rattle.yds_model.specs.Job.{Job}
 use Rattle.yds_model.specs.Slot.{WrittenSlot, WholeSlot, IsScale, slots_at}
@@ -18,66 +18,16 @@ use Rattle.yds_model.specs.Rounding.{RoundsStretches}
 use Rattle.yds_model.proofs.Sums.{sum_by-add, sum_by-mul, sum_by_same, sum_by_zero}
 use Rattle.yds_model.proofs.Horizon.{busy_and_idle}
 use Rattle.yds_model.proofs.HullExists.{hull_exists}
-use Rattle.yds_model.proofs.Scale.{scale_exists}
 use Rattle.yds_events.proofs.Neighbours.{stretches_run}
-use Rattle.yds_laws.specs.RoundingLaws.{IsLevelCost, RoundedCostsItsLevels, LevelsFitTheHorizon}
-use Rattle.yds_laws.proofs.Group.{group, group-nil, group-append}
-use Rattle.yds_laws.proofs.Exact.{level_time}
+use Rattle.yds_laws.specs.RoundingLaws.{IsLevelCost, RoundedCostsItsLevels}
 use Rattle.yds_laws.proofs.Bound.{scale_left, scale_right}
 use Rattle.yds_laws.proofs.HullEnergy.{hull_rising}
-use Rattle.yds_laws.proofs.HullCosts.{hull_in}
-use Rattle.yds_laws.proofs.LevelCosts.{cost_at_point, cost_between}
+use Rattle.yds_laws.proofs.LevelTimes.{TakesLong, levels_long, plan_busy, levels_fit_the_horizon}
+use Rattle.yds_laws.proofs.LevelShares.{stretch_share}
 use Rattle.yds_laws.proofs.PlanParts.{IsPartOfPlan, level_found, plan_part}
 use Rattle.yds_laws.proofs.RoundedFeasible.{RoundsAt, rounds_fold, written_feasible}
-use Rattle.yds_laws.proofs.RoundedEnergy.{spends_joined, RunAt, kept_spends, level_at_point, split_spends}
-use Rattle.yds_laws.proofs.FullStretches.{count_joined, contained_counted, member_counted, planned_once, plan_fits}
-
--- # The time of levels
-
--- the slots of a level take as long as the level, at a scale
-abbrev TakesLong : List WholeSlot → ℕ → Level → Type 0
-TakesLong slots scale level = group (λ slot. slot.to - slot.from) level.members slots ≡ scale * level.length
-
--- so they do in a plan
-levels_long : (jobs : List Job) (planned : List WrittenSlot) (levels : List Level) (scale : ℕ) → IsPlan jobs planned levels → IsScale scale planned →
-    All (TakesLong (slots_at scale planned) scale) levels
-levels_long jobs planned levels scale plan is k d within =
-    let level = get_or levels k d in
-    let fits = plan_fits jobs planned levels scale plan is k d within in
-    level_time jobs scale (slots_at scale planned) (plan.proper.feasible.holds scale is).served level fits ∙ ap (λ n. scale * n) (sym fits.long)
-
--- and all of them together
-all_long : (scale : ℕ) (slots : List WholeSlot) (levels : List Level) → All (TakesLong slots scale) levels →
-    group (λ slot. slot.to - slot.from) (all_members levels) slots ≡ scale * sum_by (λ level. level.length) levels
-all_long scale slots [] long = omega (arith, group-nil (λ slot. slot.to - slot.from) slots)
-all_long scale slots (level ∷ levels) long =
-    omega (
-      arith,
-      group-append (λ slot. slot.to - slot.from) level.members (all_members levels) slots,
-      All-head (TakesLong slots scale) level levels long,
-      all_long scale slots levels (All-tail (TakesLong slots scale) level levels long),
-      ap (λ n. scale * n) (sum_by-cons (λ (one : Level). one.length) level levels),
-    )
-
--- so a plan's slots take as long as its levels
-pub plan_busy : (jobs : List Job) (planned : List WrittenSlot) (levels : List Level) (scale : ℕ) → IsPlan jobs planned levels → IsScale scale planned →
-    busy (slots_at scale planned) ≡ scale * sum_by (λ level. level.length) levels
-plan_busy jobs planned levels scale plan is =
-    let slots = slots_at scale planned in
-    sum_by_same (λ slot. slot.to - slot.from) (λ slot. count slot.job (all_members levels) * (slot.to - slot.from)) slots
-    (λ k d within. omega (arith, ap (λ n. n * ((get_or slots k d).to - (get_or slots k d).from)) (planned_once jobs planned levels scale plan is k d within)))
-    ∙ all_long scale slots levels (levels_long jobs planned levels scale plan is)
-
--- the law: and that is at most the horizon
-pub levels_fit_the_horizon : LevelsFitTheHorizon
-levels_fit_the_horizon jobs slots levels plan =
-    let scale = scale_exists slots plan.proper.feasible.solid in
-    let less : scale.0 * sum_by (λ level. level.length) levels ≤ scale.0 * horizon jobs = omega (
-      arith,
-      plan_busy jobs slots levels scale.0 plan scale.1,
-      busy_and_idle jobs scale.0 (slots_at scale.0 slots) (plan.proper.feasible.holds scale.0 scale.1),
-    ) in
-    le_of_mul-le-mul_left {k = scale.0} less scale.1.positive
+use Rattle.yds_laws.proofs.RoundedEnergy.{spends_joined}
+use Rattle.yds_laws.proofs.FullStretches.{count_joined, contained_counted, member_counted}
 
 -- # Rates
 
@@ -188,19 +138,6 @@ by_rate : (all parts power spent stretch_cost planned written total : ℕ) → s
     parts * all * (spent + power * planned) ≡ total + parts * all * (power * written)
 by_rate all parts power spent stretch_cost planned written total is_spent is = omega (arith, ap (λ n. parts * all * n) is_spent, is)
 
--- a level's cost, by the time at two points, times its length
-split_cost : (parts cost p r low high long work time rest : ℕ) → low < high → low * long ≤ work → work ≤ high * long →
-    time * (long * (high - low)) ≡ (work - low * long) * (time + rest) →
-    cost * (high - low) ≡ parts * (r * (work - low * long) + p * (high * long - work)) → parts * (p * rest + r * time) * long ≡ cost * (time + rest)
-split_cost parts cost p r low high long work time rest rises above below is_time is_cost =
-    let gap : ℕ = high - low in
-    let over : ℕ = work - low * long in
-    let under : ℕ = high * long - work in
-    let whole : long * gap ≡ over + under = omega (arith, mul-sub long high low, above, below) in
-    let is_rest : rest * (long * gap) ≡ under * (time + rest) = omega (arith, is_time, ap (λ n. (time + rest) * n) whole) in
-    eq_of_mul-eq-mul_right gap (omega (arith, rises)) (parts * (p * rest + r * time) * long) (cost * (time + rest))
-    (omega (arith, ap (λ n. parts * p * n) is_rest, ap (λ n. parts * r * n) is_time, ap (λ n. n * (time + rest)) is_cost))
-
 -- there are as many costs as levels
 same_number : (hull : List Point) (parts : ℕ) (levels : List Level) (costs : List ℕ) → AllZip (IsLevelCost hull parts) levels costs → length levels ≡ length costs
 same_number hull parts [] [] each = refl
@@ -237,42 +174,19 @@ module _ (jobs : List Job) (points hull : List Point) (levels : List Level) (cos
       (cost_at hull parts levels costs has.0 each_cost has.1)
 
   -- what is written for a stretch spends by its slots' rates
-  stretch_spends : (stretch : Piece) (planned written : List WholeSlot) → stretch.from < stretch.to → IsPartOfPlan jobs levels planned scale → RoundsAt hull levels scale stretch planned written →
-      SpendsByRate points parts (point_at points 0).power levels costs planned written
+  stretch_spends : (stretch : Piece) (planned written : List WholeSlot) → stretch.from < stretch.to → IsPartOfPlan jobs levels planned scale →
+      RoundsAt hull levels scale stretch planned written → SpendsByRate points parts (point_at points 0).power levels costs planned written
   stretch_spends stretch planned written forward part (inl (none, empty)) = rw (none, empty) record { spent = 0; spends = refl; is_spent = omega arith }
-  stretch_spends stretch planned written forward part (inr (level, has, members, inl ((k, point, within, read, at), kept))) =
+  stretch_spends stretch planned written forward part (inr (level, has, members, how)) =
       let some = All-contains (λ level. (1 ≤ level.work) × (1 ≤ level.length)) levels level positive has in
       let cost : ℕ = get_or costs has.0 0 in
       let total : ℕ = sum_by (λ (slot : WholeSlot). rate levels costs slot.job * (slot.to - slot.from)) planned in
-      let in_hull : Contains hull point = (k, within, read) in
-      let is_cost = cost_at_point hull parts cost level point rising some.1 (cost_of level has) in_hull at in
-      let run : All (RunAt point.speed) planned = λ i d inside. let slot = get_or planned i d in
-      level_at_point slot.work (slot.to - slot.from) level.work level.length point.speed some.1 (part.speeds i d inside level has (members i d inside)) at in
-      subst (SpendsByRate points parts (point_at points 0).power levels costs planned) (sym kept) record {
-        spent = point.power * busy planned;
-        spends = kept_spends points point planned (hull_in points hull point is_hull in_hull) run;
-        is_spent = by_rate (all_lengths levels) parts (point_at points 0).power (point.power * busy planned) (point.power * busy planned) (busy planned) (busy planned) total refl
-            (stretch_rates (all_lengths levels) parts cost level.length (point.power * busy planned) (busy planned) total some.1
-            (omega (arith, ap (λ n. n * busy planned) is_cost))
-            (omega (arith, level_rates levels costs level.length (all_lengths levels * cost) planned (slot_rates level planned has members part))));
-      }
-  stretch_spends stretch planned written forward part (inr (level, has, members, inr split)) =
-      let some = All-contains (λ level. (1 ≤ level.work) × (1 ≤ level.length)) levels level positive has in
-      let cost : ℕ = get_or costs has.0 0 in
-      let low = split.low in
-      let high = split.high in
-      let total : ℕ = sum_by (λ (slot : WholeSlot). rate levels costs slot.job * (slot.to - slot.from)) planned in
-      let is = split_spends points hull scale level low high stretch planned split.fast split.slow table is_hull split.around some.0 forward
-      (λ i d inside. part.speeds i d inside level has (members i d inside)) split.split in
-      let two = split_cost parts cost low.power high.power low.speed high.speed level.length level.work is.time is.rest is.faster (omega (arith, split.around.above_low))
-      (omega (arith, split.around.below_high)) is.is_time (cost_between hull parts cost level low high rising (cost_of level has) split.around) in
-      subst (SpendsByRate points parts (point_at points 0).power levels costs planned) (sym split.parts) record {
+      let is = stretch_share jobs points hull levels parts cost scale level stretch planned written table is_hull rising some forward part has members (cost_of level has) how in
+      record {
         spent = is.spent;
         spends = is.spends;
-        is_spent = by_rate (all_lengths levels) parts (point_at points 0).power is.spent (low.power * is.rest + high.power * is.time) (busy planned)
-            (busy (split.fast ++ split.slow)) total is.is_spent
-            (stretch_rates (all_lengths levels) parts cost level.length (low.power * is.rest + high.power * is.time) (busy planned) total some.1
-            (two ∙ ap (λ n. cost * n) (sym is.fills))
+        is_spent = by_rate (all_lengths levels) parts (point_at points 0).power is.spent is.stretch_cost (busy planned) (busy written) total is.is_spent
+            (stretch_rates (all_lengths levels) parts cost level.length is.stretch_cost (busy planned) total some.1 is.share
             (omega (arith, level_rates levels costs level.length (all_lengths levels * cost) planned (slot_rates level planned has members part))));
       }
 

@@ -11,6 +11,7 @@ mod EqualSpeedsExamples
 mod EarliestFirstExamples
 mod HullExamples
 mod RoundNestedExamples
+mod RoundLawExamples
 mod RoundSwitchExamples
 pub mod Policies
 mod RowsExamples
@@ -43,7 +44,10 @@ pub mod LineEnergy
 pub mod PlansEnergy
 pub mod HullCosts
 pub mod LevelCosts
+pub mod LevelTimes
+pub mod LevelShares
 pub mod LevelsEnergy
+pub mod LevelEnergy
 pub mod RoundedEnergy
 pub mod RoundedCheapest
 pub mod RoundedRuns

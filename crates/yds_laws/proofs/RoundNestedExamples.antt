@@ -19,15 +19,15 @@ use Rattle.yds_laws.proofs.DecidedPlans.{proper_by_test}
 use Rattle.yds_laws.proofs.DecidedRounding.{energy_by_test, slow_enough_by_test, splits_by_test}
 
 -- a and b
-abbrev jobs : List Job
+abbrev pub jobs : List Job
 jobs = record { release = 0; deadline = 10; work = 10 } ∷ record { release = 4; deadline = 6; work = 6 } ∷ []
 
 -- each point's speed and power
-abbrev point : ℕ → ℕ → Point
+abbrev pub point : ℕ → ℕ → Point
 point speed power = record { speed = speed; power = power }
 
 -- the table, which is its own hull
-abbrev points : List Point
+abbrev pub points : List Point
 points = point 0 0 ∷ point 1 1 ∷ point 2 3 ∷ point 4 10 ∷ []
 
 -- since its slopes never fall
@@ -35,35 +35,35 @@ its_hull : hull_of points ≡ points
 its_hull = refl
 
 -- a slot of whole numbers
-abbrev slot : ℕ → ℕ → ℕ → ℕ → WrittenSlot
+abbrev pub slot : ℕ → ℕ → ℕ → ℕ → WrittenSlot
 slot job from to work = record { job = job; from = of_whole from; to = of_whole to; work = of_whole work }
 
 -- the plan: b at the speed 3, and a at 5/4 before and after it
-abbrev planned : List WrittenSlot
+abbrev pub planned : List WrittenSlot
 planned = slot 0 0 4 5 ∷ slot 1 4 6 6 ∷ slot 0 6 10 5 ∷ []
 
 -- b's level
-abbrev level_b : Level
+abbrev pub level_b : Level
 level_b = record { work = 6; length = 2; pieces = record { from = 4; to = 6 } ∷ []; members = 1 ∷ [] }
 
 -- a's level
-abbrev level_a : Level
+abbrev pub level_a : Level
 level_a = record { work = 10; length = 8; pieces = record { from = 0; to = 4 } ∷ record { from = 6; to = 10 } ∷ []; members = 0 ∷ [] }
 
 -- fastest first
-abbrev levels : List Level
+abbrev pub levels : List Level
 levels = level_b ∷ level_a ∷ []
 
 -- the levels are proper for the plan's slots
-planned_proper : IsProper jobs planned levels
+pub planned_proper : IsProper jobs planned levels
 planned_proper = proper_by_test jobs planned levels (feasible_by_test jobs planned 1 refl refl) refl
 
 -- Rounded: a first at the speed 2 and then at 1, in both its stretches, and b first at 4 and then at 2
-abbrev written : List WrittenSlot
+abbrev pub written : List WrittenSlot
 written = slot 0 0 1 2 ∷ slot 0 1 4 3 ∷ slot 1 4 5 4 ∷ slot 1 5 6 2 ∷ slot 0 6 7 2 ∷ slot 0 7 10 3 ∷ []
 
 -- each job still gets its work in its window
-written_feasible : IsFeasible jobs written
+pub written_feasible : IsFeasible jobs written
 written_feasible = feasible_by_test jobs written 1 refl refl
 
 -- a runs for one of the four time units at 2, since 5/4 lies a quarter of the way from 1 to 2,
@@ -113,11 +113,11 @@ rounds = (
 )
 
 -- the energy is 25: 3 + 3 for a in each of its stretches, 10 + 3 for b
-energy : IsEnergyOf jobs points written (of_whole 25)
+pub energy : IsEnergyOf jobs points written (of_whole 25)
 energy = energy_by_test jobs points (2 ∷ 1 ∷ 3 ∷ 2 ∷ 2 ∷ 1 ∷ []) written (of_whole 25) 1 refl refl
 
 -- So this is the rounding of the plan.
-rounding : IsRounding jobs points planned levels written (of_whole 25)
+pub rounding : IsRounding jobs points planned levels written (of_whole 25)
 rounding = record {
   fast_enough = slow_enough_by_test points levels refl;
   rounds = rounds;
@@ -127,7 +127,7 @@ rounding = record {
 }
 
 -- the points rise
-rising : AreRising points
+pub rising : AreRising points
 rising = (omega arith, (omega arith, (omega arith, tt)))
 
 -- The energy isn't 24.
@@ -151,7 +151,7 @@ at_no_point point (suc (suc (suc zero)), within, is) at = absurd (omega (arith, 
 at_no_point point (suc (suc (suc (suc place))), within, is) at = absurd (omega (arith, within))
 
 -- so they have no energy on the points
-no_energy : (energy : Fraction) → IsEnergyOf jobs points planned energy → ⊥
-no_energy energy is =
+no_energy : (amount : Fraction) → IsEnergyOf jobs points planned amount → ⊥
+no_energy amount is =
     let spends = (is.at_scales.holds 1 ((scale_decided 1 planned).0 refl)).1.1 in
     at_no_point spends.0 spends.2 spends.3

@@ -166,6 +166,7 @@ pub record SplitSpends (points : List Point) (power : ℕ) (level : Level) (low 
   pub is_time : time * (level.length * (high.speed - low.speed)) ≡ (level.work - low.speed * level.length) * (time + rest)
   pub spent : ℕ
   pub spends : SpendsAtPoints points written spent
+  pub shorter : busy written ≤ busy planned
   pub is_spent : spent + power * busy planned ≡ (low.power * rest + high.power * time) + power * busy written
 
 -- a point of speed 0 is the first of the table
@@ -222,6 +223,7 @@ split_spends points hull scale level low high stretch planned fast slow table is
       spent = high.power * busy fast + low.power * busy slow;
       spends = spends_joined points fast slow (high.power * busy fast) (low.power * busy slow)
           (runs_spend points high start switch fast (hull_in points hull high is_hull has_high) is.first) slower.spends;
+      shorter = omega (arith, sum_by-append (λ (slot : WholeSlot). slot.to - slot.from) fast slow, fast_busy, fills, slower.shorter);
       is_spent = split_sum low.power high.power idle_power is.time rest (busy fast) (busy slow) (busy planned) (busy (fast ++ slow)) fast_busy fills slower.rest
           (sum_by-append (λ (slot : WholeSlot). slot.to - slot.from) fast slow);
     }

@@ -57,7 +57,7 @@ turn_up P (slot ∷ next ∷ slots) each = (
 )
 
 -- so slots with the same jobs in turn are of the same jobs
-same_jobs : (P : ℕ → Type 0) (slots others : List WholeSlot) → jobs_in_turn others ≡ jobs_in_turn slots → All (λ slot. P slot.job) slots → All (λ slot. P slot.job) others
+pub same_jobs : (P : ℕ → Type 0) (slots others : List WholeSlot) → jobs_in_turn others ≡ jobs_in_turn slots → All (λ slot. P slot.job) slots → All (λ slot. P slot.job) others
 same_jobs P slots others same each =
     All-from_recursion (λ slot. P slot.job) others
     (turn_up P others (subst (λ jobs. AllByRecursion P jobs) (sym same) (turn_down P slots (recursion_from_All (λ slot. P slot.job) slots each))))

@@ -1,6 +1,7 @@
 -- The laws of schedules on a table's points. Each is the contract of a public function of this crate.
-use Rattle.std.specs.Prelude.{◌≡◌, ℕ, ◌+◌, ◌-◌, ◌*◌, ◌≤◌, ◌⊎◌, ◌↔◌, List, ◌∷◌, ◌++◌, Some, sum, sum_by, pos}
-use Rattle.std.specs.List.{All, AllZip, Contains}
+use Rattle.std.specs.Prelude.{◌≡◌, ℕ, ◌+◌, ◌-◌, ◌*◌, ◌≤◌, ◌⊎◌, ◌↔◌, List, ◌∷◌, ◌++◌, Some, sum, sum_by, nat_le, pos}
+use Rattle.std.specs.List.{All, AllZip, Contains, filter}
+use Rattle.yds_model.specs.Numbers.{count}
 use Rattle.yds_model.specs.Job.{Job}
 use Rattle.yds_model.specs.Scale.{Fraction, numerator, IsSame, IsAtMost}
 use Rattle.yds_model.specs.Slot.{WrittenSlot, WholeSlot, IsScale, AtEachScale, slots_at}
@@ -10,7 +11,7 @@ use Rattle.yds_model.specs.Level.{Level}
 use Rattle.yds_model.specs.Plan.{IsPlan}
 use Rattle.yds_model.specs.Audit.{IsOnTable}
 use Rattle.yds_model.specs.Table.{Point, point_at, AreRising, IsTable, hull_of, gaps_of}
-use Rattle.yds_model.specs.Energy.{horizon, product, interpolated_energy, IsEnergyOnPoints}
+use Rattle.yds_model.specs.Energy.{horizon, busy, product, interpolated_energy, SpendsAtPoints, IsEnergyOnPoints}
 use Rattle.yds_model.specs.Event.{stretches}
 use Rattle.yds_model.specs.Rounding.{top_of, IsTooFast, HasPointSpeed, AreNeighbours, IsSplitAt, RoundsStretches, IsEnergyOf, IsRounding}
 use Rattle.yds_model.specs.Admission.{IsWithinTop, CanServe}
@@ -60,6 +61,19 @@ IsLevelCost hull parts level cost =
     ((point : Point) × Contains hull point × HasPointSpeed level point × (cost ≡ parts * (point.power * level.length)))
     ⊎ ((low : Point) × (high : Point) × AreNeighbours hull level low high
     × (cost * (high.speed - low.speed) ≡ parts * (high.power * (level.work - low.speed * level.length) + low.power * (high.speed * level.length - level.work))))
+
+-- the slots of a level's members
+abbrev pub slots_of : Level → List WholeSlot → List WholeSlot
+slots_of level slots = filter (λ slot. nat_le 1 (count slot.job level.members)) slots
+
+-- Rounding: what the rounded slots of a level spend is what the level costs, with the power of the first point for the time that they
+-- leave of its length. They take no more time than that.
+abbrev pub RoundedCostsItsLevel : Type 0
+RoundedCostsItsLevel = (jobs : List Job) (points : List Point) (planned : List WrittenSlot) (levels : List Level) (written : List WrittenSlot) (level : Level)
+    (parts cost scale : ℕ) → IsPlan jobs planned levels → IsTable points → RoundsStretches (hull_of points) levels (stretches jobs) planned written →
+    Contains levels level → IsLevelCost (hull_of points) parts level cost → IsScale scale (planned ++ written) →
+    (spent : ℕ) × SpendsAtPoints points (slots_of level (slots_at scale written)) spent × (busy (slots_of level (slots_at scale written)) ≤ scale * level.length)
+    × (parts * (spent + (point_at points 0).power * (scale * level.length - busy (slots_of level (slots_at scale written)))) ≡ scale * cost)
 
 -- Rounding: the energy of the rounded slots is what the levels cost together, and the power of the first point for what the levels'
 -- lengths leave of the horizon.

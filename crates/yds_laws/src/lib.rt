@@ -1,9 +1,10 @@
 //! The laws of the definitions: what follows from them, whatever program has them. Each is the contract of a call of no
 //! parameters that does nothing.
 //!
-//! It stands on `yds_model`, whose definitions the laws speak of. It carries the promises that a proper certificate
-//! explains its slots and what is explained is least, that a plan costs least by every convex table, that a document's
-//! text is read back, and that the texts which the program writes are answered as its users expect. The worked examples
+//! It stands on `yds_model`, whose definitions the laws speak of, and on `yds_events` for what it proves of stretches.
+//! It carries the promises that a proper certificate explains its slots and what is explained is least, that a plan
+//! costs least by every convex table and, rounded, on the points of every table, that a document's text is read back,
+//! and that the texts which the program writes are answered as its users expect. The worked examples
 //! of the definitions, each with something that meets it and a near miss, are in `proofs/`.
 #![tactic(auto)]
 
@@ -42,9 +43,9 @@ pub use reading_laws::{
 };
 pub use rounding_laws::{
     energy_is_one, levels_fit_the_horizon, one_scale_decides_energy, one_scale_decides_split,
-    refused_is_too_slow, rounded_attains_the_hull, rounded_costs_its_levels,
-    rounded_holds_least_energy, rounded_is_audited, rounded_is_cheapest, rounded_is_feasible,
-    too_slow_is_exact,
+    refused_is_too_slow, rounded_attains_the_hull, rounded_costs_its_level,
+    rounded_costs_its_levels, rounded_holds_least_energy, rounded_is_audited, rounded_is_cheapest,
+    rounded_is_feasible, too_slow_is_exact,
 };
 pub use scale_laws::{
     equality_is_of_values, equality_is_transitive, multiple_is_of_values, one_scale_decides,

@@ -1,4 +1,4 @@
-use Rattle.yds_laws.proofs.LevelsEnergy.{levels_fit_the_horizon as law}
+use Rattle.yds_laws.proofs.LevelTimes.{levels_fit_the_horizon as law}
 use Rattle.yds_laws.proofs.rounding_laws.levels_fit_the_horizon.Goals as goal
 
 pub returns : goal.returns
