@@ -12,3 +12,4 @@ pub mod Energies
 pub mod Courses
 pub mod Shares
 pub mod InTurn
+pub mod SplitAt

@@ -1,5 +1,4 @@
-use Rattle.yds_round.proofs.Shares.{same_given}
-use Rattle.yds_round.proofs.InTurn.{turns_cut}
+use Rattle.yds_round.proofs.SplitAt.{split_at}
 use Rattle.yds_round.proofs.Parts.{part_is, some_divisor}
 use Rattle.yds_round.proofs.part.Part.of.Goals as goal
 
