@@ -13,3 +13,5 @@ pub mod Courses
 pub mod Shares
 pub mod InTurn
 pub mod SplitAt
+pub mod Decomposed
+pub mod Held
