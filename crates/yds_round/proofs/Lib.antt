@@ -15,3 +15,6 @@ pub mod InTurn
 pub mod SplitAt
 pub mod Decomposed
 pub mod Held
+pub mod Rounds
+pub mod AllStretches
+pub mod RoundedEnergies

@@ -191,7 +191,7 @@ module _ (split : Split) (stretch : Piece) (kept : IsSplit split) where
   -- # The slower part
 
   -- where the slower point is the idle one nothing runs there
-  no_slow : split.low ≡ 0 → (planned : List WrittenSlot) → total_units split.den planned ≡ all_units split stretch →
+  pub no_slow : split.low ≡ 0 → (planned : List WrittenSlot) → total_units split.den planned ≡ all_units split stretch →
       slots_after (slow_course split stretch) stretch 0 planned ≡ []
   no_slow idle planned full =
       none_slow split stretch planned (omega (

@@ -1,4 +1,3 @@
-use Rattle.yds_round.proofs.Held.{numbered}
 use Rattle.yds_round.proofs.Parts.{part_is, some_divisor}
 use Rattle.yds_round.proofs.part.Part.of.Goals as goal
 
