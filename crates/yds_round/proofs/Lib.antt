@@ -18,3 +18,4 @@ pub mod Held
 pub mod Rounds
 pub mod AllStretches
 pub mod RoundedEnergies
+pub mod Steps
