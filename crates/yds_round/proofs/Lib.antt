@@ -19,3 +19,5 @@ pub mod Rounds
 pub mod AllStretches
 pub mod RoundedEnergies
 pub mod Steps
+pub mod Faults
+pub mod RoundedPlans

@@ -54,6 +54,7 @@ pub(crate) fn energy(rows: &[JobRow], table: &Table, levels: &[Level], paces: &[
     requires paces { AllZip (IsPaceOf table.now) levels.now paces.now }
     requires within { busy_length levels.now ≤ horizon rows.now }
     ensures value { numerator result * hull_multiple table.now ≡ energy_parts rows.now table.now levels.now paces.now * result.den }
+    ensures multiple { 1 ≤ hull_multiple table.now }
     ensures lowest { IsLowest result }
     ensures kept { IsFraction MAX_ENERGY result }
 {

@@ -1,4 +1,4 @@
-ghost use Rattle.std.specs.Prelude.{◌≡◌, ◌≤◌, ℕ, List, ◌++◌, length, IfOk, OnOk, IfErr, Err};
+ghost use Rattle.std.specs.Prelude.{◌≡◌, ◌≤◌, ℕ, List, ◌++◌, length, IfOk, OnOk, IfErr, Err, MatchOption};
 ghost use Rattle.std.specs.List.{All, AllZip, flat_map};
 ghost use Rattle.yds_model.specs.declared.limits.TheConstants.{MAX_ENERGY, MAX_JOBS};
 ghost use Rattle.yds_model.specs.Event.{stretches as job_stretches};
@@ -33,6 +33,24 @@ pub struct Rounded {
     pub schedule: Schedule,
     /// The energy of the slots and of the time of the horizon in which nothing runs, in lowest terms.
     pub energy: Amount,
+}
+
+/// Why a plan of these levels can't be rounded: the first of them is faster than the table's last point.
+fn fault_of(table: &Table, levels: &[Level]) -> Option<RoundFault>
+    ensures { MatchOption result (¬ (HasFastLevel levels.now table.now))
+        (λ fault. HasFastLevel levels.now table.now × (fault ≡ too_slow levels.now table.now)) }
+{
+    let [fastest, ..] = levels else {
+        return None;
+    };
+    if table.around(fastest.speed()).is_some() {
+        return None;
+    }
+    Some(RoundFault::TooSlow {
+        work: fastest.work,
+        length: fastest.length,
+        top: table.top(),
+    })
 }
 
 /// The pace of each level on the table.
@@ -127,19 +145,14 @@ pub fn round(
     ensures too_slow { HasFastLevel plan.now.certificate table.now → result ≡ Err (too_slow plan.now.certificate table.now) }
 {
     let levels = plan.certificate.levels();
-    if let [fastest, ..] = levels
-        && table.around(fastest.speed()).is_none()
-    {
-        return Err(RoundFault::TooSlow {
-            work: fastest.work,
-            length: fastest.length,
-            top: table.top(),
-        });
+    if let Some(fault) = fault_of(table, levels) {
+        return Err(fault);
     }
     let paces = paces_of(alloc, table, levels)?;
     let schedule = round_slots(alloc, rows, plan, table, &paces)?;
-    Ok(Rounded {
-        energy: energy(rows, table, levels, &paces),
-        schedule,
-    })
+    let energy = energy(rows, table, levels, &paces);
+    // Reading the points shows that they are a table, and reading the slots that they are within the limits.
+    let _points = table.points();
+    let _slots = schedule.slots();
+    Ok(Rounded { schedule, energy })
 }
