@@ -1,8 +1,7 @@
 -- The plan's slots, rounded stretch by stretch.
-use Rattle.std.proofs.Common.{◌≡◌, ℕ, zero, suc, ◌+◌, ◌-◌, ◌*◌, ◌<◌, ◌≤◌, ◌⊎◌, List, [], ◌∷◌, ◌++◌, length, get_or, take, drop, refl, sym, ap, ◌∙◌, subst, arith, inl, inr}
+use Rattle.std.proofs.Common.{◌≡◌, ℕ, suc, ◌+◌, ◌*◌, ◌<◌, ◌≤◌, ◌⊎◌, List, [], ◌∷◌, ◌++◌, length, get_or, take, drop, refl, sym, ap, subst, arith, inl, inr}
 use Rattle.std.specs.Prelude.{slice_index, Option, Some, None}
-use Rattle.std.specs.List.{All, AllZip, Contains, flat_map}
-use Rattle.std.proofs.lemmas.Bool.{cases_lt}
+use Rattle.std.specs.List.{All, AllZip, flat_map}
 use Rattle.std.proofs.lemmas.List.{length-append, get_or-take, length-take}
 use Rattle.std.proofs.lemmas.List.Elements.{All-nil, All-tail, All-filter, All-from_get_or, Contains-get_or, filter_passes}
 use Rattle.yds_model.specs.declared.limits.TheConstants.{MAX_JOBS, MAX_SLOTS}
@@ -23,7 +22,7 @@ use Rattle.yds_round.specs.declared.pace.Pace.{Pace}
 use Rattle.yds_round.specs.Pace.{RunsAs, IsPaceOf, pace_at}
 use Rattle.yds_round.specs.Members.{Numbers}
 use Rattle.yds_round.specs.Written.{total_units, written_at, FitsJob}
-use Rattle.yds_round.specs.Cut.{CanKeep, CanRound}
+use Rattle.yds_round.specs.Cut.{CanRound}
 use Rattle.yds_round.specs.Rounded.{planned_in, written_here, written_in}
 use Rattle.yds_round.proofs.Cuts.{WorksOver}
 use Rattle.yds_round.proofs.Decomposed.{lies_written}

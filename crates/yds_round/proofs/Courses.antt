@@ -1,17 +1,17 @@
 -- A part of a stretch that is cut, at a scale: its slots run at one point's speed without a gap.
-use Rattle.std.proofs.Common.{◌≡◌, ℕ, zero, suc, ◌+◌, ◌-◌, ◌*◌, ◌<◌, ◌≤◌, ◌==◌, min, max, List, [], ◌∷◌, ◌++◌, refl, sym, ap, ◌∙◌, subst, arith, inl, inr}
+use Rattle.std.proofs.Common.{◌≡◌, ℕ, ◌+◌, ◌-◌, ◌*◌, ◌<◌, ◌≤◌, ◌==◌, List, [], ◌∷◌, ◌++◌, refl, sym, ap, ◌∙◌, subst, arith, inl, inr}
 use Rattle.std.specs.Prelude.{if◌then◌else◌}
 use Rattle.std.specs.List.{All}
 use Rattle.std.proofs.lemmas.Bool.{cases_lt}
 use Rattle.std.proofs.lemmas.Bool.Decides.{nat_tests}
 use Rattle.std.proofs.lemmas.List.Sums.{sum_by-cons}
 use Rattle.std.proofs.lemmas.List.Elements.{All-tail}
-use Rattle.std.proofs.Math.Nat.{mul-pos, mul-le-mul_right, lt_of_mul-lt-mul_right, eq_of_mul-eq-mul_right, eq_of_mul-eq-mul_left}
+use Rattle.std.proofs.Math.Nat.{mul-pos, mul-le-mul_right, eq_of_mul-eq-mul_right, eq_of_mul-eq-mul_left}
 use Rattle.yds_model.specs.Slot.{WrittenSlot, WholeSlot, IsDivided, slot_at_scale, slots_at, work_given}
 use Rattle.yds_model.specs.Piece.{Piece}
 use Rattle.yds_model.specs.Rounding.{RunsAtPoint}
 use Rattle.yds_slots.proofs.Parts.{of_parts_at}
-use Rattle.yds_round.specs.Written.{Course, units_of, total_units, slot_between, slots_after}
+use Rattle.yds_round.specs.Written.{Course, units_of, total_units, slots_after}
 use Rattle.yds_round.proofs.Cuts.{piece_between, some_between, none_between}
 
 -- While up to so many units are done the part runs at this speed: its time and work stand as a constant more tells.

@@ -1,15 +1,15 @@
 -- Slots in order, each in one of some stretches, are those in the first stretch, those in the second, and so on.
-use Rattle.std.proofs.Common.{◌≡◌, ℕ, zero, suc, ◌+◌, ◌*◌, ◌<◌, ◌≤◌, List, [], ◌∷◌, ◌++◌, length, get_or, refl, sym, ap, ◌∙◌, subst, arith, inl, inr, Bool, true, false, leb-true, le-leb}
+use Rattle.std.proofs.Common.{◌≡◌, ℕ, zero, suc, ◌*◌, ◌<◌, ◌≤◌, List, [], ◌∷◌, get_or, refl, sym, ap, ◌∙◌, subst, arith, inl, inr, Bool, true, false, leb-true, le-leb}
 use Rattle.std.specs.Prelude.{nat_le, ◌&&◌, cond}
 use Rattle.std.specs.Int.{◌∣◌}
-use Rattle.std.specs.List.{All, Any, filter, flat_map, slice_index_or}
+use Rattle.std.specs.List.{All, Any, filter, flat_map}
 use Rattle.std.specs.Cmp.Derive.{both_true}
 use Rattle.std.proofs.lemmas.Bool.{cases_Bool}
-use Rattle.std.proofs.lemmas.List.Elements.{All-nil, All-cons, All-tail, All-weaker, filter_passes}
+use Rattle.std.proofs.lemmas.List.Elements.{All-nil, All-cons, All-tail, All-weaker}
 use Rattle.std.proofs.Math.Bool.{true-and, false-and}
 use Rattle.std.proofs.Math.Nat.{mul-le-mul_right, le_of_mul-le-mul_right}
 use Rattle.yds_model.specs.Scale.{Fraction, at_scale, numerator}
-use Rattle.yds_model.specs.Slot.{WrittenSlot, WholeSlot, IsDivided, IsScale, slot_at_scale, slots_at}
+use Rattle.yds_model.specs.Slot.{WrittenSlot, IsDivided, slot_at_scale, slots_at}
 use Rattle.yds_model.specs.Piece.{Piece, PiecesFrom}
 use Rattle.yds_model.specs.Feasible.{RunFrom}
 use Rattle.yds_model.specs.Event.{LiesIn, LiesWritten}

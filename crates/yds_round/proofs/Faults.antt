@@ -1,5 +1,5 @@
 -- When a plan is too fast for a table.
-use Rattle.std.proofs.Common.{◌≡◌, ℕ, ◌<◌, ◌≤◌, List, [], ◌∷◌, length, arith}
+use Rattle.std.proofs.Common.{◌≤◌, List, [], ◌∷◌, length, arith}
 use Rattle.yds_model.specs.Level.{Level, level_at}
 use Rattle.yds_model.specs.Table.{Point}
 use Rattle.yds_model.specs.Rounding.{IsTooFast}

@@ -1,32 +1,29 @@
 -- What a plan has in one stretch: slots of one level that fill it.
-use Rattle.std.proofs.Common.{◌≡◌, ℕ, zero, suc, ◌+◌, ◌-◌, ◌*◌, ◌/◌, ◌<◌, ◌≤◌, List, [], ◌∷◌, ◌++◌, length, get_or, take, drop, map, refl, sym, ap, ◌∙◌, subst, arith, inl, inr, add-one}
-use Rattle.std.specs.Prelude.{filter, slice_index}
-use Rattle.std.specs.List.{All, AllZip, Any, Contains, flat_map, sum_by}
-use Rattle.std.proofs.lemmas.List.{get_or-map, length-map, take-append-drop, get_or_default}
+use Rattle.std.proofs.Common.{◌≡◌, ℕ, zero, suc, ◌-◌, ◌*◌, ◌<◌, ◌≤◌, List, [], ◌∷◌, ◌++◌, length, get_or, take, drop, refl, sym, ap, ◌∙◌, subst, arith, inl, inr}
+use Rattle.std.specs.Prelude.{slice_index}
+use Rattle.std.specs.List.{All, Any, Contains, flat_map}
+use Rattle.std.proofs.lemmas.List.{get_or-map, length-map, take-append-drop}
 use Rattle.std.proofs.lemmas.List.Concat.{flat_map-append}
 use Rattle.std.proofs.lemmas.List.Elements.{All-nil, All-cons, All-tail, All-append, All-map, All-filter, All-contains, All-from_get_or, filter_passes, Contains-get_or}
 use Rattle.std.proofs.lemmas.Bool.{cases_Bool}
 use Rattle.std.proofs.lemmas.List.Sums.{sum_by-cons}
 use Rattle.std.proofs.Math.Nat.{mul-pos, mul-le-mul_right, eq_of_mul-eq-mul_right}
 use Rattle.std.proofs.Math.Seq.{drop-cons}
-use Rattle.yds_model.specs.Numbers.{count}
-use Rattle.yds_model.specs.Job.{Job, job_at}
+use Rattle.yds_model.specs.Job.{Job}
 use Rattle.yds_model.specs.Scale.{at_scale}
-use Rattle.yds_model.specs.Slot.{WrittenSlot, WholeSlot, IsDivided, IsScale, IsSolid, no_slot, no_written_slot, slot_at, slot_at_scale, slots_at, written_slot_at}
-use Rattle.yds_model.specs.Piece.{Piece, PiecesFrom, IsForward}
-use Rattle.yds_model.specs.Level.{Level, no_level, level_at, all_members}
+use Rattle.yds_model.specs.Slot.{WrittenSlot, WholeSlot, IsDivided, IsScale, no_slot, no_written_slot, slot_at, slot_at_scale, slots_at, written_slot_at}
+use Rattle.yds_model.specs.Piece.{Piece, PiecesFrom}
+use Rattle.yds_model.specs.Level.{Level, no_level, level_at}
 use Rattle.yds_model.specs.Divisor.{common_divisor}
 use Rattle.yds_model.specs.Energy.{busy}
 use Rattle.yds_model.specs.Event.{stretches, LiesIn}
 use Rattle.yds_model.specs.Comparison.{stretch_at}
-use Rattle.yds_model.specs.Plan.{IsPlan, HasLevelDenominators, speed_num, speed_den, IsOver}
-use Rattle.yds_model.specs.Table.{Point}
-use Rattle.yds_model.proofs.Front.{pieces_forward}
+use Rattle.yds_model.specs.Plan.{IsPlan, HasLevelDenominators, speed_num, speed_den}
 use Rattle.yds_model.proofs.Lists.{All-back}
 use Rattle.yds_model.proofs.Runs.{run_forward}
 use Rattle.yds_events.specs.Stretch.{length_of}
 use Rattle.yds_events.proofs.Neighbours.{stretches_run}
-use Rattle.yds_laws.proofs.PlanParts.{IsPartOfPlan, HasSpeeds, plan_part, part_front, part_back, level_found}
+use Rattle.yds_laws.proofs.PlanParts.{IsPartOfPlan, plan_part, part_front, part_back, level_found}
 use Rattle.yds_laws.proofs.RoundedFeasible.{IsBetweenEvents, stretches_between, parts_at}
 use Rattle.yds_laws.proofs.RoundedRuns.{all_work}
 use Rattle.yds_laws.proofs.FullStretches.{FillsStretch, stretch_full, one_level}

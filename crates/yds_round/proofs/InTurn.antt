@@ -1,5 +1,5 @@
 -- The jobs of a stretch that is cut come in the plan's order, each once in a part.
-use Rattle.std.proofs.Common.{◌≡◌, ℕ, ◌+◌, ◌-◌, ◌*◌, ◌<◌, ◌≤◌, ◌==◌, min, max, List, [], ◌∷◌, ◌++◌, length, map, refl, sym, ap, ◌∙◌, subst, arith, inl, inr, Bool}
+use Rattle.std.proofs.Common.{◌≡◌, ℕ, ◌+◌, ◌*◌, ◌≤◌, List, [], ◌∷◌, ◌++◌, length, map, refl, sym, ap, ◌∙◌, subst, arith, inl, inr, Bool}
 use Rattle.std.specs.Prelude.{if◌then◌else◌, cond}
 use Rattle.std.specs.List.{All}
 use Rattle.std.proofs.lemmas.Bool.{cases_lt, cases_eq, eq-eqb, ne_eqb}
@@ -12,7 +12,7 @@ use Rattle.yds_model.specs.Piece.{Piece}
 use Rattle.yds_model.specs.Rounding.{jobs_in_turn}
 use Rattle.yds_model.proofs.Lists.{count-cons}
 use Rattle.yds_round.specs.declared.split.Split.{Split}
-use Rattle.yds_round.specs.Written.{Course, units_of, total_units, turn, fast_course, slow_course, slot_between, slots_after, cut_slots}
+use Rattle.yds_round.specs.Written.{Course, units_of, total_units, turn, fast_course, slow_course, slot_between, slots_after}
 use Rattle.yds_round.proofs.Cuts.{piece_between, some_between, none_between, none_after, few_between, few_after}
 
 -- no two of the slots are of one job

@@ -1,20 +1,18 @@
 -- How a level runs on the points of a table.
-use Rattle.std.proofs.Common.{◌≡◌, ℕ, zero, suc, ◌+◌, ◌-◌, ◌*◌, ◌/◌, ◌^◌, ◌<◌, ◌≤◌, List, [], ◌∷◌, ◌++◌, length, refl, sym, ap, ◌∙◌, subst, arith, inl, inr}
-use Rattle.std.specs.List.{All, AllZip, Contains}
+use Rattle.std.proofs.Common.{◌≡◌, ℕ, zero, suc, ◌+◌, ◌-◌, ◌*◌, ◌/◌, ◌^◌, ◌<◌, ◌≤◌, List, [], ◌∷◌, ◌++◌, length, sym, ap, ◌∙◌, subst, arith, inl, inr}
+use Rattle.std.specs.List.{AllZip}
 use Rattle.std.specs.Int.{◌∣◌}
 use Rattle.std.proofs.lemmas.List.Sums.{sum_by-cons}
-use Rattle.std.proofs.lemmas.List.Elements.{All-tail}
 use Rattle.std.proofs.Math.Nat.{div-mul_cancel, mul-le-mul, mul-le-mul_right}
 use Rattle.std.proofs.lemmas.Nat.Gcd.{dvd_trans}
-use Rattle.yds_model.specs.declared.limits.TheConstants.{MAX_LEVEL_LENGTH, MAX_POINT_POWER, MAX_POINT_SPEED}
+use Rattle.yds_model.specs.declared.limits.TheConstants.{MAX_LEVEL_LENGTH, MAX_POINT_POWER}
 use Rattle.yds_model.specs.Divisor.{multiple_of_all}
 use Rattle.yds_model.specs.Level.{Level}
 use Rattle.yds_model.specs.Table.{Point, point_at, gaps_of, hull_of, hull_multiple}
-use Rattle.yds_model.specs.Within.{IsLevel}
 use Rattle.yds_model.proofs.Divisor.{multiple_is_least}
 use Rattle.yds_round.specs.declared.pace.Pace.{Pace}
 use Rattle.yds_round.specs.declared.split.Split.{Split}
-use Rattle.yds_round.specs.Pace.{IsChord, RunsAtOne, RunsAs, IsPaceOf}
+use Rattle.yds_round.specs.Pace.{RunsAtOne, RunsAs, IsPaceOf}
 use Rattle.yds_table.specs.Around.{AreAround}
 use Rattle.yds_model.specs.Scale.{Quotient}
 use Rattle.std.specs.Prelude.{Option, Some, None, sum_by}

@@ -1,5 +1,5 @@
 -- The times at which so many units of a stretch are done.
-use Rattle.std.proofs.Common.{◌≡◌, ℕ, ◌+◌, ◌-◌, ◌*◌, ◌<◌, ◌≤◌, min, max, ap, ◌∙◌, arith}
+use Rattle.std.proofs.Common.{◌≡◌, ℕ, ◌-◌, ◌*◌, ◌<◌, ◌≤◌, min, max, ap, ◌∙◌, arith}
 use Rattle.yds_model.specs.declared.limits.TheConstants.{MAX_DENOMINATOR, MAX_TIME, MAX_WHOLE}
 use Rattle.yds_model.specs.Scale.{Fraction}
 use Rattle.yds_model.specs.Within.{IsFraction}

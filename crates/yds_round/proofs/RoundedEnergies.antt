@@ -1,17 +1,16 @@
 -- The energy of a plan that is rounded, by what its levels spend.
-use Rattle.std.proofs.Common.{◌≡◌, ℕ, zero, suc, ◌+◌, ◌-◌, ◌*◌, ◌<◌, ◌≤◌, List, [], ◌∷◌, ◌++◌, length, map, refl, sym, ap, ◌∙◌, subst, arith, inl, inr}
+use Rattle.std.proofs.Common.{◌≡◌, ℕ, zero, suc, ◌*◌, ◌<◌, ◌≤◌, List, [], ◌∷◌, ◌++◌, length, map, refl, ap, arith, inl, inr}
 use Rattle.std.specs.Prelude.{Option, Some, None, sum}
 use Rattle.std.specs.List.{All, AllZip, sum_by}
 use Rattle.std.proofs.lemmas.Bool.{cases_lt}
 use Rattle.std.proofs.lemmas.List.Elements.{All-append, All-from_get_or, All-weaker}
 use Rattle.std.proofs.lemmas.List.Sums.{sum_by-cons}
-use Rattle.std.proofs.Math.Nat.{mul-le-mul_right, mul-le-mul_left, le_of_mul-le-mul_right, eq_of_mul-eq-mul_left, mul-pos}
+use Rattle.std.proofs.Math.Nat.{mul-le-mul_right, le_of_mul-le-mul_right, eq_of_mul-eq-mul_left}
 use Rattle.yds_model.specs.Job.{Job}
 use Rattle.yds_model.specs.Scale.{Fraction, numerator}
-use Rattle.yds_model.specs.Slot.{WrittenSlot, IsSolid, IsScale, slots_at}
+use Rattle.yds_model.specs.Slot.{WrittenSlot, IsSolid}
 use Rattle.yds_model.specs.Level.{Level, no_level, level_at}
-use Rattle.yds_model.specs.Table.{Point, point_at, IsTable, hull_of, hull_multiple}
-use Rattle.yds_model.specs.Energy.{horizon, IsEnergyOnPoints}
+use Rattle.yds_model.specs.Table.{Point, IsTable, hull_of, hull_multiple}
 use Rattle.yds_model.specs.Event.{stretches}
 use Rattle.yds_model.specs.Plan.{IsPlan}
 use Rattle.yds_model.specs.Within.{IsSlot}
@@ -25,7 +24,7 @@ use Rattle.yds_laws.proofs.LevelsEnergy.{rounded_costs_its_levels}
 use Rattle.yds_round.specs.declared.split.Split.{Split}
 use Rattle.yds_round.specs.declared.pace.Pace.{Pace}
 use Rattle.yds_round.specs.Pace.{RunsAs, IsPaceOf}
-use Rattle.yds_round.specs.Energy.{busy_length, energy_parts}
+use Rattle.yds_round.specs.Energy.{energy_parts}
 
 -- # Too fast
 

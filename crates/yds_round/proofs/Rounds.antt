@@ -1,46 +1,33 @@
 -- What is written for each stretch rounds what the plan has there, and can be put after what is written before.
-use Rattle.std.proofs.Common.{◌≡◌, ℕ, zero, suc, ◌+◌, ◌-◌, ◌*◌, ◌<◌, ◌≤◌, ◌⊎◌, max, List, [], ◌∷◌, ◌++◌, length, get_or, take, drop, map, refl, sym, ap, ◌∙◌, subst, arith, inl, inr}
+use Rattle.std.proofs.Common.{◌≡◌, ℕ, zero, suc, ◌+◌, ◌-◌, ◌*◌, ◌<◌, ◌≤◌, ◌⊎◌, max, List, [], ◌∷◌, ◌++◌, length, refl, sym, ap, ◌∙◌, subst, arith, inl, inr}
 use Rattle.std.specs.Prelude.{slice_index, Option, Some, None}
-use Rattle.std.specs.List.{All, AllZip, Any, Contains, flat_map}
-use Rattle.std.proofs.lemmas.Bool.{cases_lt}
-use Rattle.std.proofs.lemmas.List.{length-append, get_or-take, length-take}
-use Rattle.std.proofs.lemmas.List.Elements.{All-nil, All-cons, All-tail, All-append, All-filter, All-from_get_or, Contains-get_or}
-use Rattle.yds_model.specs.declared.limits.TheConstants.{MAX_JOBS, MAX_SLOTS}
-use Rattle.yds_model.specs.Job.{Job}
-use Rattle.yds_model.specs.Numbers.{AreDifferent}
+use Rattle.std.specs.List.{All, AllZip, Contains, flat_map}
+use Rattle.std.proofs.lemmas.List.{length-append}
+use Rattle.std.proofs.lemmas.List.Elements.{All-nil, All-tail, All-append}
 use Rattle.yds_model.specs.Scale.{Fraction, of_parts}
-use Rattle.yds_model.specs.Slot.{WrittenSlot, IsDivided, IsScale, IsSolid, AtEachScale, slots_at, no_written_slot, written_slot_at}
+use Rattle.yds_model.specs.Slot.{WrittenSlot, IsSolid, no_written_slot, written_slot_at}
 use Rattle.yds_model.specs.Piece.{Piece}
-use Rattle.yds_model.specs.Level.{Level, no_level, level_at}
+use Rattle.yds_model.specs.Level.{Level, level_at}
 use Rattle.yds_model.specs.Divisor.{common_multiple}
 use Rattle.yds_model.specs.Table.{Point, hull_of}
-use Rattle.yds_model.specs.Event.{stretches, LiesWritten}
-use Rattle.yds_model.specs.Comparison.{stretch_at}
-use Rattle.yds_model.specs.Plan.{IsPlan, IsOver, speed_num, speed_den}
-use Rattle.yds_model.specs.Rounding.{HasPointSpeed, IsSplitAt, HasSplitDenominators, SplitsStretch, RoundsStretch, RoundsStretches}
+use Rattle.yds_model.specs.Plan.{IsOver, speed_num, speed_den}
+use Rattle.yds_model.specs.Rounding.{HasSplitDenominators, SplitsStretch, RoundsStretch}
 use Rattle.yds_model.proofs.Fractions.{parts_den}
 use Rattle.yds_events.specs.Stretch.{length_of}
-use Rattle.yds_events.proofs.Neighbours.{few_stretches}
 use Rattle.yds_laws.proofs.Bound.{scale_left, scale_right}
-use Rattle.yds_slots.specs.Between.{lies_between}
-use Rattle.std.proofs.lemmas.List.Elements.{filter_passes}
 use Rattle.yds_slots.proofs.Grains.{grain_found, IsGrainOf}
 use Rattle.yds_model.specs.Audit.{grain_of}
 use Rattle.std.proofs.Math.Nat.{mul-pos}
 use Rattle.yds_slots.proofs.Parts.{of_parts_over}
 use Rattle.yds_round.specs.declared.split.Split.{Split}
 use Rattle.yds_round.specs.declared.pace.Pace.{Pace}
-use Rattle.yds_round.specs.Split.{IsSplit, IsSplitOf}
+use Rattle.yds_round.specs.Split.{IsSplitOf}
 use Rattle.yds_round.specs.Pace.{RunsAtTwo, RunsAs, IsPaceOf, pace_at}
-use Rattle.yds_round.specs.Members.{Numbers}
 use Rattle.yds_round.specs.Written.{Course, total_units, all_units, fast_course, slow_course, slots_after, cut_slots, written_at, FitsJob}
-use Rattle.yds_round.specs.Cut.{CanServe, CanKeep, CanRound}
 use Rattle.yds_round.specs.Rounded.{planned_in, written_here, written_in}
-use Rattle.yds_round.proofs.Cuts.{WorksOver, piece_between, all_after, none_slow, few_cut, cut_over}
-use Rattle.yds_round.proofs.InTurn.{AreApartByJob, DoesWork, jobs_of, jobs_after, count_after, count_once, one_more}
+use Rattle.yds_round.proofs.Cuts.{WorksOver, piece_between, all_after, few_cut, cut_over}
+use Rattle.yds_round.proofs.InTurn.{AreApartByJob, DoesWork, jobs_after, count_after, count_once, one_more}
 use Rattle.yds_round.proofs.SplitAt.{split_at, no_slow}
-use Rattle.yds_round.proofs.Decomposed.{lies_written}
-use Rattle.yds_round.proofs.Held.{IsHeld}
 
 -- # The paces
 

@@ -4,7 +4,7 @@ use Rattle.std.specs.List.{All}
 use Rattle.std.proofs.lemmas.List.{take_more, length-append, length-take}
 use Rattle.std.proofs.lemmas.List.Sums.{sum_by_push, sum_by_more_le}
 use Rattle.std.proofs.Math.Nat.{mul-le-mul}
-use Rattle.yds_model.specs.declared.limits.TheConstants.{MAX_LEVEL_WORK, MAX_SLOTS, MAX_TIME}
+use Rattle.yds_model.specs.declared.limits.TheConstants.{MAX_SLOTS, MAX_TIME}
 use Rattle.yds_model.specs.Slot.{WrittenSlot}
 use Rattle.yds_model.specs.Piece.{Piece}
 use Rattle.yds_slots.specs.Schedule.{WrittenSchedule}
@@ -15,7 +15,7 @@ use Rattle.yds_round.specs.declared.cut.Reached.{Reached}
 use Rattle.yds_round.specs.Split.{IsSplit}
 use Rattle.yds_round.specs.Written.{units_of, total_units, all_units, fast_course, slow_course, slot_between, cut_slots, FitsJob}
 use Rattle.yds_round.specs.Cut.{IsReached, CanServe}
-use Rattle.yds_round.proofs.Cuts.{cut_push, few_cut, cut_over, fits_more, few_between, over_between, WorksOver}
+use Rattle.yds_round.proofs.Cuts.{cut_push, few_cut, cut_over, fits_more, over_between, WorksOver}
 
 -- these slots of the plan have been served
 pub record IsServed (cut : Cut) (before : WrittenSchedule) (planned : List WrittenSlot) (reached : Reached) (rounded : WrittenSchedule) : Type 0 where

@@ -1,5 +1,5 @@
 -- What a stretch that is cut gives each job: as much as the plan.
-use Rattle.std.proofs.Common.{◌≡◌, ℕ, ◌+◌, ◌-◌, ◌*◌, ◌/◌, ◌<◌, ◌≤◌, ◌==◌, min, max, List, [], ◌∷◌, ◌++◌, refl, sym, ap, ◌∙◌, subst, arith, inl, inr}
+use Rattle.std.proofs.Common.{◌≡◌, ℕ, ◌+◌, ◌-◌, ◌*◌, ◌/◌, ◌≤◌, ◌==◌, min, max, List, [], ◌∷◌, ap, arith, inl, inr}
 use Rattle.std.specs.Prelude.{if◌then◌else◌, sum_by}
 use Rattle.std.specs.List.{All}
 use Rattle.std.specs.Int.{◌∣◌}
@@ -13,7 +13,7 @@ use Rattle.yds_model.specs.Piece.{Piece}
 use Rattle.yds_model.specs.Plan.{IsOver}
 use Rattle.yds_model.proofs.Fractions.{value-den}
 use Rattle.yds_round.specs.declared.split.Split.{Split}
-use Rattle.yds_round.specs.Written.{units_of, total_units, turn, fast_course, slow_course, slots_after}
+use Rattle.yds_round.specs.Written.{units_of, turn, fast_course, slow_course, slots_after}
 use Rattle.yds_round.proofs.Cuts.{WorksOver}
 use Rattle.yds_round.proofs.Courses.{parts_for, given_after}
 

@@ -1,15 +1,15 @@
 -- A stretch that is cut is split as the definition says, at each scale.
-use Rattle.std.proofs.Common.{◌≡◌, ℕ, zero, suc, ◌+◌, ◌-◌, ◌*◌, ◌<◌, ◌≤◌, min, max, List, [], ◌∷◌, ◌++◌, refl, sym, ap, ◌∙◌, subst, arith, inl, inr}
+use Rattle.std.proofs.Common.{◌≡◌, ℕ, zero, suc, ◌+◌, ◌-◌, ◌*◌, ◌<◌, ◌≤◌, min, max, List, [], refl, sym, ap, ◌∙◌, subst, arith, inl, inr}
 use Rattle.std.specs.List.{All}
 use Rattle.std.proofs.lemmas.Bool.{cases_lt}
 use Rattle.std.proofs.Math.Nat.{mul-pos, mul-le-mul_right, le_of_mul-le-mul_right, eq_of_mul-eq-mul_right}
 use Rattle.yds_model.specs.Divisor.{common_divisor, common_multiple}
-use Rattle.yds_model.specs.Slot.{WrittenSlot, IsDivided, slots_at, work_given}
+use Rattle.yds_model.specs.Slot.{WrittenSlot, IsDivided, slots_at}
 use Rattle.yds_model.specs.Piece.{Piece}
 use Rattle.yds_model.specs.Level.{Level}
 use Rattle.yds_model.specs.Table.{Point}
-use Rattle.yds_model.specs.Plan.{speed_num, speed_den}
-use Rattle.yds_model.specs.Rounding.{RunsAtPoint, RunsOn, IsSplitAt, jobs_in_turn}
+use Rattle.yds_model.specs.Plan.{speed_num}
+use Rattle.yds_model.specs.Rounding.{RunsAtPoint, RunsOn, IsSplitAt}
 use Rattle.yds_laws.proofs.PlanParts.{given_joined}
 use Rattle.yds_events.specs.Stretch.{length_of}
 use Rattle.yds_round.specs.declared.split.Split.{Split}
@@ -18,7 +18,7 @@ use Rattle.yds_round.specs.Written.{total_units, all_units, surplus_of, turn, fa
 use Rattle.yds_round.proofs.Splits.{work_over, length_over}
 use Rattle.yds_round.proofs.Turns.{fast_before, fast_after, slow_before, slow_after, surplus_done, slow_switch_within}
 use Rattle.yds_round.proofs.Cuts.{WorksOver, none_slow}
-use Rattle.yds_round.proofs.Courses.{RunsAt, RunsTo, runs_after}
+use Rattle.yds_round.proofs.Courses.{RunsAt, runs_after}
 use Rattle.yds_round.proofs.Shares.{same_given, fast_rises, slow_rises}
 use Rattle.yds_round.proofs.InTurn.{AreApartByJob, DoesWork, turns_cut, turns_planned}
 

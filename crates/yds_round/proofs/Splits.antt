@@ -1,14 +1,14 @@
 -- The numbers of a level whose speed lies between those of two points.
-use Rattle.std.proofs.Common.{◌≡◌, ℕ, ◌+◌, ◌-◌, ◌*◌, ◌/◌, ◌<◌, ◌≤◌, max, refl, ap, arith}
-use Rattle.std.proofs.Math.Nat.{div-mul_cancel, div-le_self, lt_of_mul-lt-mul_right, mul-le-mul, le_of_mul-le-mul_right}
+use Rattle.std.proofs.Common.{◌≡◌, ℕ, ◌+◌, ◌-◌, ◌*◌, ◌/◌, ◌<◌, ◌≤◌, max, ap, arith}
+use Rattle.std.proofs.Math.Nat.{div-mul_cancel, div-le_self, lt_of_mul-lt-mul_right}
 use Rattle.yds_model.specs.declared.limits.TheConstants.{MAX_LEVEL_LENGTH, MAX_LEVEL_WORK, MAX_POINT_SPEED}
 use Rattle.yds_model.specs.Divisor.{common_divisor}
 use Rattle.yds_model.specs.Level.{Level}
 use Rattle.yds_model.specs.Table.{Point}
-use Rattle.yds_model.proofs.Divisor.{divisor_is_greatest, divisor_positive}
+use Rattle.yds_model.proofs.Divisor.{divisor_is_greatest}
 use Rattle.yds_round.specs.declared.part.Part.{Part}
 use Rattle.yds_round.specs.Part.{IsPart}
-use Rattle.yds_round.specs.Split.{IsSplit, IsSplitOf}
+use Rattle.yds_round.specs.Split.{IsSplitOf}
 use Rattle.yds_round.proofs.Parts.{over_divisor}
 
 -- work and length of a level over their greatest common divisor

@@ -1,18 +1,13 @@
 -- A stretch that is cut between two points: the numbers of its switch.
-use Rattle.std.proofs.Common.{◌≡◌, ℕ, ◌+◌, ◌-◌, ◌*◌, ◌<◌, ◌≤◌, min, max, refl, sym, ap, ◌∙◌, subst, arith, inl, inr}
+use Rattle.std.proofs.Common.{◌≡◌, ℕ, ◌+◌, ◌-◌, ◌*◌, ◌<◌, ◌≤◌, max, ap, arith, inl, inr}
 use Rattle.std.proofs.lemmas.Bool.{cases_lt}
-use Rattle.std.proofs.Math.Nat.{mul-le-mul, mul-le-mul_left, mul-le-mul_right, mul-pos, le_of_mul-le-mul_right}
-use Rattle.yds_model.specs.declared.limits.TheConstants.{MAX_TIME}
+use Rattle.std.proofs.Math.Nat.{mul-le-mul_right, mul-pos, le_of_mul-le-mul_right}
 use Rattle.yds_model.specs.Divisor.{common_multiple}
 use Rattle.yds_model.specs.Piece.{Piece}
-use Rattle.yds_model.specs.Scale.{Fraction}
-use Rattle.yds_model.specs.Within.{IsFraction}
-use Rattle.yds_events.specs.Stretch.{IsStretch, length_of}
+use Rattle.yds_events.specs.Stretch.{length_of}
 use Rattle.yds_round.specs.declared.split.Split.{Split}
-use Rattle.yds_round.specs.declared.cut.Cut.{Cut}
 use Rattle.yds_round.specs.Split.{IsSplit}
-use Rattle.yds_round.specs.Written.{all_units, surplus_of, turn, moment}
-use Rattle.yds_round.specs.Cut.{IsCut, IsReached}
+use Rattle.yds_round.specs.Written.{all_units, surplus_of, turn}
 
 -- In plain numbers: two speeds low and high = low + gap, the surplus S of a stretch, a speed `speed` of one of the parts, whose common
 -- multiple with the gap is m, and its step and switch.

@@ -1,7 +1,7 @@
 -- A stretch that is cut between two points, and how far its work is done.
 use Rattle.std.specs.Prelude.{◌≡◌, ℕ, ◌+◌, ◌*◌, ◌<◌, ◌≤◌, List, length, Option, Some, None}
 use Rattle.std.specs.List.{All}
-use Rattle.yds_model.specs.declared.limits.TheConstants.{MAX_DENOMINATOR, MAX_SLOTS, MAX_TIME}
+use Rattle.yds_model.specs.declared.limits.TheConstants.{MAX_SLOTS, MAX_TIME}
 use Rattle.yds_model.specs.Slot.{WrittenSlot}
 use Rattle.yds_model.specs.Piece.{Piece}
 use Rattle.yds_model.specs.Plan.{IsOver}
@@ -11,7 +11,7 @@ use Rattle.yds_round.specs.declared.cut.Cut.{Cut}
 use Rattle.yds_round.specs.declared.cut.Reached.{Reached}
 use Rattle.yds_events.specs.Stretch.{IsStretch}
 use Rattle.yds_round.specs.Split.{IsSplit}
-use Rattle.yds_round.specs.Written.{units_of, total_units, all_units, surplus_of, moment, fast_course, slow_course, FitsJob}
+use Rattle.yds_round.specs.Written.{total_units, all_units, surplus_of, moment, fast_course, slow_course, FitsJob}
 
 pub record IsCut (cut : Cut) : Type 0 where
   pub kept : IsSplit cut.split

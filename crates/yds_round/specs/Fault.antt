@@ -1,5 +1,5 @@
 -- When a plan isn't rounded.
-use Rattle.std.specs.Prelude.{◌≡◌, ℕ, List, [], ◌∷◌}
+use Rattle.std.specs.Prelude.{◌≡◌, List, [], ◌∷◌}
 use Rattle.yds_model.specs.Table.{Point}
 use Rattle.yds_model.specs.Level.{Level, level_at}
 use Rattle.yds_model.specs.Rounding.{top_of, IsTooFast}

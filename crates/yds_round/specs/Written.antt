@@ -1,6 +1,6 @@
 -- What is written for a stretch: the plan's slots, or each of them at the faster point as far as the switch and at the slower
 -- point from there on. A stretch's work is counted in units, as its slots do it one after another.
-use Rattle.std.specs.Prelude.{◌≡◌, ℕ, ◌+◌, ◌-◌, ◌*◌, ◌≤◌, ◌⊎◌, min, max, List, [], ◌∷◌, ◌++◌, sum_by, nat_lt, Option, Some, None, if◌then◌else◌}
+use Rattle.std.specs.Prelude.{◌≡◌, ℕ, ◌+◌, ◌-◌, ◌*◌, ◌⊎◌, min, max, List, [], ◌∷◌, ◌++◌, sum_by, nat_lt, Option, Some, None, if◌then◌else◌}
 use Rattle.yds_model.specs.Scale.{Fraction, of_parts}
 use Rattle.yds_model.specs.Slot.{WrittenSlot}
 use Rattle.yds_model.specs.Piece.{Piece}

@@ -1,7 +1,7 @@
-use Rattle.std.proofs.Common.{◌≡◌, ◌+◌, ◌-◌, ◌*◌, ◌/◌, ◌^◌, ◌<◌, ◌≤◌, List, length, refl, sym, ap, ◌∙◌, arith}
+use Rattle.std.proofs.Common.{◌≡◌, ◌+◌, ◌-◌, ◌*◌, ◌/◌, ◌≤◌, List, length, refl, ap, ◌∙◌, arith}
 use Rattle.std.specs.Prelude.{sum_by}
 use Rattle.std.proofs.lemmas.List.{get_or_read}
-use Rattle.yds_model.specs.declared.limits.TheConstants.{MAX_DENOMINATOR, MAX_ENERGY, MAX_GAPS, MAX_POINT_POWER, MAX_WHOLE}
+use Rattle.yds_model.specs.declared.limits.TheConstants.{MAX_ENERGY, MAX_WHOLE}
 use Rattle.yds_model.specs.Energy.{last_deadline, horizon}
 use Rattle.yds_model.specs.Table.{Point, no_point, point_at, hull_multiple}
 use Rattle.yds_model.proofs.Horizon.{releases_from}
@@ -9,7 +9,7 @@ use Rattle.yds_fraction.proofs.Kept.{IsFraction-within, some_parts}
 use Rattle.yds_round.specs.declared.pace.Pace.{Pace}
 use Rattle.yds_round.specs.Energy.{busy_length}
 use Rattle.yds_round.proofs.Paces.{spent_fits}
-use Rattle.yds_round.proofs.Energies.{total_fits, total_small, spent_small, total_whole, reduced_parts, is_lowest}
+use Rattle.yds_round.proofs.Energies.{total_small, spent_small, total_whole, reduced_parts, is_lowest}
 use Rattle.yds_round.proofs.energy.energy.Goals as goal
 
 pub overflow_sub-last_deadline : goal.overflow_sub-last_deadline

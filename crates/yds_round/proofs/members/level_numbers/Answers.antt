@@ -1,7 +1,7 @@
-use Rattle.std.proofs.Common.{◌≡◌, ◌<◌, ◌+◌, ℕ, List, length, get_or, ap, sym, subst, ◌∙◌, refl, arith}
+use Rattle.std.proofs.Common.{◌<◌, ℕ, List, ap, sym, subst, ◌∙◌, refl, arith}
 use Rattle.std.specs.List.{All}
-use Rattle.std.proofs.lemmas.List.{get_or_default, get_or_read}
-use Rattle.yds_model.specs.Level.{Level, no_level, level_at}
+use Rattle.std.proofs.lemmas.List.{get_or_read}
+use Rattle.yds_model.specs.Level.{Level, no_level}
 use Rattle.yds_round.proofs.Marks.{numbers_none, numbers_more, numbers_all}
 use Rattle.yds_round.proofs.members.level_numbers.Goals as goal
 

@@ -1,4 +1,4 @@
-use Rattle.std.proofs.Common.{◌≡◌, ◌<◌, ◌+◌, ◌++◌, ◌∷◌, [], length, get_or, take, ap, subst, ◌∙◌, List, ℕ, arith}
+use Rattle.std.proofs.Common.{subst, List, ℕ, arith}
 use Rattle.std.proofs.lemmas.List.{take_more, take_all}
 use Rattle.yds_round.specs.Members.{IsMarked}
 use Rattle.yds_round.proofs.Marks.{marked_none, marked_more}

@@ -1,7 +1,6 @@
-use Rattle.std.proofs.Common.{◌≡◌, ◌<◌, ◌≤◌, ◌+◌, ◌-◌, ◌*◌, ◌/◌, ap, sym, subst, ◌∙◌, refl, arith}
+use Rattle.std.proofs.Common.{◌<◌, ◌-◌, ◌*◌, arith}
 use Rattle.std.specs.Int.{◌∣◌}
-use Rattle.std.proofs.Math.Nat.{mul-le-mul}
-use Rattle.yds_model.specs.declared.limits.TheConstants.{MAX_LEVEL_LENGTH, MAX_POINT_POWER}
+use Rattle.yds_model.specs.declared.limits.TheConstants.{MAX_POINT_POWER}
 use Rattle.yds_round.proofs.Splits.{speeds_rise}
 use Rattle.yds_round.proofs.Paces.{chord_on_line, chord_fits, small}
 use Rattle.yds_round.proofs.pace.on_line.Goals as goal

@@ -1,15 +1,13 @@
-use Rattle.std.proofs.Common.{◌≡◌, ◌*◌, ◌≤◌, ◌∙◌, ℕ, List, length, sym, ap, subst, arith}
+use Rattle.std.proofs.Common.{◌≡◌, ◌*◌, List, sym, ap, subst}
 use Rattle.std.specs.List.{All, AllZip}
 use Rattle.yds_model.specs.declared.limits.TheConstants.{MAX_ENERGY}
 use Rattle.yds_model.specs.Scale.{numerator}
-use Rattle.yds_model.specs.Slot.{WrittenSlot}
-use Rattle.yds_model.specs.Level.{Level, level_at}
+use Rattle.yds_model.specs.Level.{Level}
 use Rattle.yds_model.specs.Table.{hull_multiple}
 use Rattle.yds_model.specs.Rounding.{IsTooFast}
 use Rattle.yds_fraction.proofs.Kept.{some_parts}
 use Rattle.yds_laws.proofs.LevelTimes.{levels_fit_the_horizon}
 use Rattle.yds_slots.specs.Schedule.{WrittenSchedule}
-use Rattle.yds_round.specs.declared.pace.Pace.{Pace}
 use Rattle.yds_round.specs.Pace.{IsPaceOf}
 use Rattle.yds_round.specs.Energy.{energy_parts}
 use Rattle.yds_round.specs.Fault.{HasFastLevel}

@@ -1,13 +1,11 @@
-use Rattle.std.proofs.Common.{◌≡◌, ◌<◌, ◌≤◌, ◌∙◌, ◌++◌, ℕ, List, length, get_or, refl, sym, ap, subst, arith}
+use Rattle.std.proofs.Common.{◌≡◌, ◌∙◌, ◌++◌, ℕ, length, ap, arith}
 use Rattle.std.specs.Prelude.{slice_index}
 use Rattle.std.proofs.lemmas.List.{get_or_read}
 use Rattle.yds_model.specs.Slot.{WrittenSlot}
-use Rattle.yds_model.specs.Piece.{Piece}
 use Rattle.yds_slots.specs.Schedule.{WrittenSchedule}
 use Rattle.yds_round.specs.Members.{Numbers}
 use Rattle.yds_round.specs.Pace.{pace_at}
 use Rattle.yds_round.specs.Written.{written_at}
-use Rattle.yds_round.specs.Cut.{CanRound}
 use Rattle.yds_round.proofs.Steps.{first_known, step_fits, step_none, step_some}
 use Rattle.yds_round.proofs.rounding.round_slots.Goals as goal
 use Rattle.yds_round.proofs.rounding.round_slots.Goals.{in_default, in-len1-up+in_ok-round_stretch}

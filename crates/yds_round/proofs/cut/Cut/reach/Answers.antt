@@ -1,4 +1,4 @@
-use Rattle.std.proofs.Common.{◌≡◌, ◌≤◌, ◌<◌, ◌+◌, ◌-◌, ◌*◌, refl, ap, arith}
+use Rattle.std.proofs.Common.{◌≤◌, ◌<◌, ◌*◌, refl, arith}
 use Rattle.yds_round.specs.Written.{turn}
 use Rattle.yds_round.proofs.Turns.{fast_within, slow_within, surplus_done}
 use Rattle.yds_round.proofs.Reaching.{time_kept, reached_before, reached_after}

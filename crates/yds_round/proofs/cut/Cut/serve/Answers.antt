@@ -1,10 +1,10 @@
-use Rattle.std.proofs.Common.{◌≡◌, ◌+◌, ◌*◌, ◌<◌, ◌≤◌, ◌++◌, take, refl, sym, ap, ◌∙◌, arith, length}
+use Rattle.std.proofs.Common.{◌+◌, ◌≤◌, ap, ◌∙◌, arith, length}
 use Rattle.std.proofs.lemmas.List.{length-append}
 use Rattle.yds_model.specs.declared.limits.TheConstants.{MAX_SLOTS}
 use Rattle.yds_model.specs.Slot.{WrittenSlot}
 use Rattle.yds_slots.specs.Schedule.{WrittenSchedule}
-use Rattle.yds_round.specs.Written.{units_of, fast_course, slow_course, cut_slots, listed}
-use Rattle.yds_round.proofs.Cuts.{known_listed, grain_listed, fits_more, cut_over, over_between, few_between}
+use Rattle.yds_round.specs.Written.{fast_course, slow_course, listed}
+use Rattle.yds_round.proofs.Cuts.{known_listed, grain_listed, few_between}
 use Rattle.yds_round.proofs.Serving.{all_fit, step_within, room_for, known_served, fits_served, fits_middle, served_more}
 use Rattle.yds_round.proofs.cut.Cut.serve.Goals as goal
 

@@ -1,5 +1,3 @@
-use Rattle.std.proofs.Common.{arith}
-use Rattle.yds_model.specs.declared.limits.TheConstants.{MAX_SLOT_WORK}
 use Rattle.yds_round.proofs.Pieces.{greatest_fits, piece_kept}
 use Rattle.yds_round.proofs.cut.Cut.slow_slot.Goals as goal
 

@@ -1,4 +1,3 @@
-use Rattle.std.proofs.Common.{arith}
 use Rattle.std.proofs.Math.Nat.{mul-pos}
 use Rattle.yds_model.specs.declared.limits.TheConstants.{MAX_SLOT_WORK}
 use Rattle.yds_round.proofs.Pieces.{wholes_fit}

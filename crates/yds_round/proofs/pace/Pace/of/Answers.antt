@@ -1,4 +1,4 @@
-use Rattle.std.proofs.Common.{◌≡◌, ◌<◌, ◌≤◌, ◌+◌, ◌-◌, ◌*◌, ◌/◌, ap, sym, subst, ◌∙◌, refl, arith}
+use Rattle.std.proofs.Common.{ap, sym, ◌∙◌, refl, arith}
 use Rattle.yds_model.specs.Table.{Point}
 use Rattle.yds_round.proofs.Paces.{one_point, gap_of_two}
 use Rattle.yds_round.proofs.pace.Pace.of.Goals as goal
