@@ -134,8 +134,8 @@ module _ (jobs : List Job) (points : List Point) (planned : List WrittenSlot) (l
           let of_place = jobs_by (λ job. slice_index numbers job ≡ h.place) split one here (places h) in
           let grain : ℕ → ℕ = λ n. pace_grain (level_at levels n) (pace_at paces n).split in
           let each : All (λ slot. WorksOver (grain_for slot.job) slot) (written_at one here split) = λ i d inside.
-              let slot = get_or (written_at one here split) i d in
-              subst (λ (n : ℕ). WorksOver n slot) (sym (ap grain (of_place i d inside))) (works i d inside) in
+          let slot = get_or (written_at one here split) i d in
+          subst (λ (n : ℕ). WorksOver n slot) (sym (ap grain (of_place i d inside))) (works i d inside) in
           subst (λ (slots : List WrittenSlot). All (λ slot. WorksOver (grain_for slot.job) slot) slots) (sym (written_is some)) each
     ]
 
@@ -180,10 +180,10 @@ module _ (jobs : List Job) (points : List Point) (planned : List WrittenSlot) (l
     before_over = all_flat (λ slot. WorksOver (grain_for slot.job) slot) (written_in numbers paces planned) (take k (stretches jobs))
         (All-from_get_or (λ piece. All (λ slot. WorksOver (grain_for slot.job) slot) (written_in numbers paces planned piece)) (take k (stretches jobs)) no_stretch
         (λ i inside.
-            let earlier : i < k = omega (arith, inside, length-take k (stretches jobs)) in
-            let read = get_or-take k (stretches jobs) i no_stretch earlier in
-            subst (λ (piece : Piece). All (λ slot. WorksOver (grain_for slot.job) slot) (written_in numbers paces planned piece)) (sym read)
-            (over i (omega (arith, earlier, within)))))
+        let earlier : i < k = omega (arith, inside, length-take k (stretches jobs)) in
+        let read = get_or-take k (stretches jobs) i no_stretch earlier in
+        subst (λ (piece : Piece). All (λ slot. WorksOver (grain_for slot.job) slot) (written_in numbers paces planned piece)) (sym read)
+        (over i (omega (arith, earlier, within)))))
 
     room : length before + 2 * length (planned_in planned (stretch_at jobs k)) ≤ MAX_SLOTS
     room = omega (
@@ -212,8 +212,8 @@ module _ (jobs : List Job) (points : List Point) (planned : List WrittenSlot) (l
         let at = zip_at points levels paces h.place are h.within in
         let grain : ℕ → ℕ = λ n. pace_grain (level_at levels n) (pace_at paces n).split in
         let fits : All (λ slot. FitsJob (pace_grain level pace.split) before slot.job) here = λ i d inside.
-            let slot = get_or here i d in
-            subst (λ (n : ℕ). FitsJob n before slot.job) (ap grain (place i d inside)) (fits_by grain_for before before_over slot.job) in (
+        let slot = get_or here i d in
+        subst (λ (n : ℕ). FitsJob n before slot.job) (ap grain (place i d inside)) (fits_by grain_for before before_over slot.job) in (
           subst (λ (n : ℕ). CanRound (pace_at paces n).split (stretch_at jobs k) (length jobs) before here) (sym first_place)
               (can_round_by points level pace.energy pace.split (stretch_at jobs k) (length jobs) before here at.0 h.units (λ i d inside. (h.denominators i d inside).work)
               (All-filter (lies_between (stretch_at jobs k).from (stretch_at jobs k).to) (λ slot. slot.job < length jobs) planned (known jobs planned levels plan scale is)) fits room),

@@ -133,11 +133,11 @@ cut_push split stretch planned slot =
     let more = done + units_of split.den slot in
     let start : 0 + done ≡ done = omega arith in
     let fast : slots_after (fast_course split stretch) stretch 0 (planned ++ slot ∷ []) ≡ slots_after (fast_course split stretch) stretch 0 planned
-        ++ slot_between (fast_course split stretch) stretch slot.job done more =
+    ++ slot_between (fast_course split stretch) stretch slot.job done more =
     slots_push (fast_course split stretch) stretch 0 planned slot
     ∙ ap (λ n. slots_after (fast_course split stretch) stretch 0 planned ++ slot_between (fast_course split stretch) stretch slot.job n (n + units_of split.den slot)) start in
     let slow : slots_after (slow_course split stretch) stretch 0 (planned ++ slot ∷ []) ≡ slots_after (slow_course split stretch) stretch 0 planned
-        ++ slot_between (slow_course split stretch) stretch slot.job done more =
+    ++ slot_between (slow_course split stretch) stretch slot.job done more =
     slots_push (slow_course split stretch) stretch 0 planned slot
     ∙ ap (λ n. slots_after (slow_course split stretch) stretch 0 planned ++ slot_between (slow_course split stretch) stretch slot.job n (n + units_of split.den slot)) start in
     rw (fast, slow) (joined_by (slots_after (fast_course split stretch) stretch 0 planned) (slot_between (fast_course split stretch) stretch slot.job done more)

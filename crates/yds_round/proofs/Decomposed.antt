@@ -133,8 +133,10 @@ module _ (scale : ℕ) (positive : 1 ≤ scale) where
   none_later start slot slots (stretch ∷ stretches) run divided before takes =
       let start_is : start * scale ≤ stretch.from * scale = mul-le-mul_right scale run.0 in
       let ends : stretch.from * scale ≤ stretch.to * scale = mul-le-mul_right scale (let forward : stretch.from ≤ stretch.to = omega (arith, run.1) in forward) in
-      rw (filter_no (lies_between stretch.from stretch.to) slot slots (not_later stretch slot divided (omega (arith, before, start_is)) takes),
-      none_later stretch.to slot slots stretches run.2 divided (omega (arith, before, start_is, ends)) takes) refl
+      rw (
+        filter_no (lies_between stretch.from stretch.to) slot slots (not_later stretch slot divided (omega (arith, before, start_is)) takes),
+        none_later stretch.to slot slots stretches run.2 divided (omega (arith, before, start_is, ends)) takes,
+      ) refl
 
   -- the first slot of some comes first in its stretch, and the stretches before have none
   first_comes : (start : ℕ) (slot : WrittenSlot) (slots : List WrittenSlot) (stretches : List Piece) → PiecesFrom start stretches → IsDivided scale slot →
@@ -145,8 +147,10 @@ module _ (scale : ℕ) (positive : 1 ≤ scale) where
       elim (cases_Bool (lies_between stretch.from stretch.to slot)) [
         | inl passes ↦
             let lies = lies_at scale stretch slot positive divided passes in
-            rw (filter_yes (lies_between stretch.from stretch.to) slot slots passes,
-            none_later stretch.to slot slots stretches run.2 divided lies.to takes) refl
+            rw (
+              filter_yes (lies_between stretch.from stretch.to) slot slots passes,
+              none_later stretch.to slot slots stretches run.2 divided lies.to takes,
+            ) refl
         | inr fails ↦
             let rest = any_tail (LiesIn scale (slot_at_scale scale slot)) stretch stretches found
             (λ lies. let passes : lies_between stretch.from stretch.to slot ≡ true = lies_passes scale stretch slot positive divided lies in

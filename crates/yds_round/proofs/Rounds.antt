@@ -111,21 +111,21 @@ splits points level parts split stretch here at some_length forward units apart 
       slow_denominators = slow_dens split.low refl;
     }
   where
-  -- by whether the slower point is the idle one
-  slow_dens : (low : ℕ) → low ≡ split.low → All (HasSplitDenominators level (at.high.speed - at.low.speed) at.low.speed) (slots_after (slow_course split stretch) stretch 0 here)
-  slow_dens zero idle =
-      let full = full_of level at.low at.high split stretch here at.numbers units in
-      subst (λ (xs : List WrittenSlot). All (HasSplitDenominators level (at.high.speed - at.low.speed) at.low.speed) xs)
-      (sym (no_slow split stretch at.numbers.kept (sym idle) here full)) (All-nil (HasSplitDenominators level (at.high.speed - at.low.speed) at.low.speed))
-  slow_dens (suc low) runs =
-      let is = at.numbers in
-      let kept = is.kept in
-      let plain : max split.low 1 ≡ split.low = omega (arith, runs) in
-      let gap : split.gap ≡ at.high.speed - at.low.speed = omega (arith, kept.is_gap, is.is_low, is.is_high) in
-      let grain : split.den * split.gap ≡ speed_den level * (at.high.speed - at.low.speed) = ap (λ n. n * split.gap) is.is_den ∙ ap (λ n. speed_den level * n) gap in
-      dens_after level (at.high.speed - at.low.speed) at.low.speed (slow_course split stretch) stretch here
-      (kept.slow.is_den ∙ ap (λ n. n * common_multiple (max split.low 1) split.gap) is.is_den ∙ ap (λ n. speed_den level * common_multiple n split.gap) (plain ∙ is.is_low)
-      ∙ ap (λ n. speed_den level * common_multiple at.low.speed n) gap) grain
+    -- by whether the slower point is the idle one
+    slow_dens : (low : ℕ) → low ≡ split.low → All (HasSplitDenominators level (at.high.speed - at.low.speed) at.low.speed) (slots_after (slow_course split stretch) stretch 0 here)
+    slow_dens zero idle =
+        let full = full_of level at.low at.high split stretch here at.numbers units in
+        subst (λ (xs : List WrittenSlot). All (HasSplitDenominators level (at.high.speed - at.low.speed) at.low.speed) xs)
+        (sym (no_slow split stretch at.numbers.kept (sym idle) here full)) (All-nil (HasSplitDenominators level (at.high.speed - at.low.speed) at.low.speed))
+    slow_dens (suc low) runs =
+        let is = at.numbers in
+        let kept = is.kept in
+        let plain : max split.low 1 ≡ split.low = omega (arith, runs) in
+        let gap : split.gap ≡ at.high.speed - at.low.speed = omega (arith, kept.is_gap, is.is_low, is.is_high) in
+        let grain : split.den * split.gap ≡ speed_den level * (at.high.speed - at.low.speed) = ap (λ n. n * split.gap) is.is_den ∙ ap (λ n. speed_den level * n) gap in
+        dens_after level (at.high.speed - at.low.speed) at.low.speed (slow_course split stretch) stretch here
+        (kept.slow.is_den ∙ ap (λ n. n * common_multiple (max split.low 1) split.gap) is.is_den ∙ ap (λ n. speed_den level * common_multiple n split.gap) (plain ∙ is.is_low)
+        ∙ ap (λ n. speed_den level * common_multiple at.low.speed n) gap) grain
 
 -- # One stretch
 

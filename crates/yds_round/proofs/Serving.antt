@@ -96,12 +96,12 @@ served_more cut before planned k slot job reached next rounded middle after fast
     let more = cut_push split cut.stretch (take k planned) slot in
     let next_is : next.units ≡ total_units split.den (take k planned) + units_of split.den slot = units ∙ ap (λ n. n + units_of split.den slot) served.units in
     let fast_is : fast ≡ slot_between (fast_course split cut.stretch) cut.stretch slot.job (total_units split.den (take k planned))
-        (total_units split.den (take k planned) + units_of split.den slot) =
+    (total_units split.den (take k planned) + units_of split.den slot) =
     is_fast ∙ ap (λ n. slot_between (fast_course split cut.stretch) cut.stretch n reached.units next.units) is_job
     ∙ ap (λ n. slot_between (fast_course split cut.stretch) cut.stretch slot.job n next.units) served.units
     ∙ ap (λ n. slot_between (fast_course split cut.stretch) cut.stretch slot.job (total_units split.den (take k planned)) n) next_is in
     let slow_is : slow ≡ slot_between (slow_course split cut.stretch) cut.stretch slot.job (total_units split.den (take k planned))
-        (total_units split.den (take k planned) + units_of split.den slot) =
+    (total_units split.den (take k planned) + units_of split.den slot) =
     is_slow ∙ ap (λ n. slot_between (slow_course split cut.stretch) cut.stretch n reached.units next.units) is_job
     ∙ ap (λ n. slot_between (slow_course split cut.stretch) cut.stretch slot.job n next.units) served.units
     ∙ ap (λ n. slot_between (slow_course split cut.stretch) cut.stretch slot.job (total_units split.den (take k planned)) n) next_is in

@@ -73,7 +73,7 @@ module _ (split : Split) (stretch : Piece) (kept : IsSplit split) where
   slow_pace some units within = elim (cases_lt (turn split stretch) (units * split.gap)) [
     | inl after ↦
         let time : max ((units - surplus_of split stretch) * split.slow.step) (surplus_of split stretch * split.slow.switch)
-            ≡ (units - surplus_of split stretch) * split.slow.step = omega (arith, slow_after split stretch kept units within after) in
+        ≡ (units - surplus_of split stretch) * split.slow.step = omega (arith, slow_after split stretch kept units within after) in
         let work : max (units * split.gap) (turn split stretch) ≡ units * split.gap = omega (arith, after) in
         let plain : max split.low 1 ≡ split.low = omega (arith, some) in
         let step : split.slow.step * split.low ≡ common_multiple (max split.low 1) split.gap = ap (λ n. split.slow.step * n) (sym plain) ∙ kept.slow.is_step in

@@ -3,3 +3,4 @@ pub mod ToldLines
 pub mod Drawn
 pub mod Replied
 pub mod Complete
+pub mod TooSlow

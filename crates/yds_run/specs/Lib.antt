@@ -6,4 +6,5 @@ pub mod VerdictLine
 pub mod Plan
 pub mod Check
 pub mod Report
+pub mod Round
 pub mod Trial

@@ -17,6 +17,7 @@ mod deliver;
 mod plan;
 mod refusal;
 mod report;
+mod round;
 mod running;
 mod told;
 mod trial;

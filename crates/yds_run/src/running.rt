@@ -18,6 +18,7 @@ use crate::deliver::deliver;
 use crate::plan::plan_document;
 use crate::refusal::{RefusedAt, TooLong, Usage};
 use crate::report::report_document;
+use crate::round::round_document;
 use crate::trial::try_plan;
 use std::alloc::Global;
 use yds_document::{DocFault, Document, read_document};
@@ -143,6 +144,7 @@ fn answer_document<K: Sink>(
 {
     match question {
         Question::Plan => reply(plan_document(alloc, document), sink),
+        Question::Round => reply(round_document(alloc, document), sink),
         Question::Check => reply(check_document(alloc, &document), sink),
         Question::Audit { points: false } => deliver(&audit_document(&document), sink),
         Question::Audit { points: true } => deliver(&audit_on_points(&document), sink),

@@ -28,8 +28,17 @@ overflow_add-spent c =
     let all = total_small _ (busy_length c.args.levels.now) (horizon c.args.rows.now) c.first.inside.power (hull_multiple c.args.table.now) spent c.requires.within
     c.first.invariant.power_in_range (omega (arith, c.last_deadline.ensures, c.last_deadline.type_inv))
     (omega (arith, c.gaps-multiple.ensures.value, c.gaps-multiple.ensures.within)) in
-    rw (c.spent.ensures, c.from-2.ensures, c.from-3.ensures, c.from.ensures, c.from-horizon.ensures, c.busy_length.ensures, c.last_deadline.ensures, c.first_release.ensures,
-    c.gaps-multiple.ensures.value) (omega (arith, all))
+    rw (
+      c.spent.ensures,
+      c.from-2.ensures,
+      c.from-3.ensures,
+      c.from.ensures,
+      c.from-horizon.ensures,
+      c.busy_length.ensures,
+      c.last_deadline.ensures,
+      c.first_release.ensures,
+      c.gaps-multiple.ensures.value,
+    ) (omega (arith, all))
 
 pub of_parts-requires : goal.of_parts-requires
 of_parts-requires c =
@@ -37,8 +46,17 @@ of_parts-requires c =
     let all = total_whole _ (busy_length c.args.levels.now) (horizon c.args.rows.now) c.first.inside.power (hull_multiple c.args.table.now) spent c.requires.within
     c.first.invariant.power_in_range (omega (arith, c.last_deadline.ensures, c.last_deadline.type_inv)) in
     let whole : (c.spent.result + c.from-2.result * c.from-3.result) / c.gaps-multiple.result ≤ MAX_WHOLE =
-    rw (c.spent.ensures, c.from-2.ensures, c.from-3.ensures, c.from.ensures, c.from-horizon.ensures, c.busy_length.ensures, c.last_deadline.ensures, c.first_release.ensures,
-    c.gaps-multiple.ensures.value) (omega (arith, all)) in
+    rw (
+      c.spent.ensures,
+      c.from-2.ensures,
+      c.from-3.ensures,
+      c.from.ensures,
+      c.from-horizon.ensures,
+      c.busy_length.ensures,
+      c.last_deadline.ensures,
+      c.first_release.ensures,
+      c.gaps-multiple.ensures.value,
+    ) (omega (arith, all)) in
     (omega arith, (record { some = omega arith; in_range = omega arith }, (c.gaps-multiple.ensures.some, (omega (arith, c.gaps-multiple.ensures.within), whole))))
 
 pub returns-clause-value : goal.returns-clause-value
@@ -63,5 +81,16 @@ returns-clause-kept c =
     let all = total_whole _ (busy_length c.args.levels.now) (horizon c.args.rows.now) c.first.inside.power (hull_multiple c.args.table.now) spent c.requires.within
     c.first.invariant.power_in_range (omega (arith, c.last_deadline.ensures, c.last_deadline.type_inv)) in
     IsFraction-within MAX_WHOLE MAX_ENERGY c.reduced.result c.reduced.ensures.kept.fraction
-    (rw (c.reduced.ensures.whole, c.of_parts.ensures.whole, c.spent.ensures, c.from-2.ensures, c.from-3.ensures, c.from.ensures, c.from-horizon.ensures, c.busy_length.ensures,
-    c.last_deadline.ensures, c.first_release.ensures, c.gaps-multiple.ensures.value) all)
+    (rw (
+      c.reduced.ensures.whole,
+      c.of_parts.ensures.whole,
+      c.spent.ensures,
+      c.from-2.ensures,
+      c.from-3.ensures,
+      c.from.ensures,
+      c.from-horizon.ensures,
+      c.busy_length.ensures,
+      c.last_deadline.ensures,
+      c.first_release.ensures,
+      c.gaps-multiple.ensures.value,
+    ) all)

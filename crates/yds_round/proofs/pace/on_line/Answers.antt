@@ -21,8 +21,18 @@ returns c =
     let above : c.low.inside.speed * c.level.inside.length < c.level.inside.work = rw (← c.level.view_is, ← c.low.view_is) at c.requires.above_low in
     let under : c.level.inside.work < c.high.inside.speed * c.level.inside.length = rw (← c.level.view_is, ← c.high.view_is) at c.requires.below_high in
     let divides : c.high.inside.speed - c.low.inside.speed ∣ c.args.multiple = rw (← c.low.view_is, ← c.high.view_is) at c.requires.divides in
-    rw (← c.level.view_is, ← c.low.view_is, ← c.high.view_is, c.from.ensures, c.from-2.ensures, c.from-3.ensures, c.from-above_low.ensures, c.from-below_high.ensures,
-    c.from-fast.ensures, c.from-slow.ensures)
+    rw (
+      ← c.level.view_is,
+      ← c.low.view_is,
+      ← c.high.view_is,
+      c.from.ensures,
+      c.from-2.ensures,
+      c.from-3.ensures,
+      c.from-above_low.ensures,
+      c.from-below_high.ensures,
+      c.from-fast.ensures,
+      c.from-slow.ensures,
+    )
     (record {
       on_line = chord_on_line c.low.inside.speed c.high.inside.speed c.level.inside.work c.level.inside.length c.args.multiple c.low.inside.power c.high.inside.power
           above under divides;

@@ -35,7 +35,7 @@ returns-clause-rounding c =
     let are : AllZip (IsPaceOf c.args.table.now) c.args.plan.now.certificate c.in_ok-paces.paces.items =
     subst (λ (levels : List Level). AllZip (IsPaceOf c.args.table.now) levels c.in_ok-paces.paces.items) c.levels-levels.ensures.value c.in_ok-paces.ensures in
     let parts : numerator c.energy-energy.result * hull_multiple c.args.table.now
-        ≡ energy_parts c.args.rows.now c.args.table.now c.args.plan.now.certificate c.in_ok-paces.paces.items * c.energy-energy.result.den =
+    ≡ energy_parts c.args.rows.now c.args.table.now c.args.plan.now.certificate c.in_ok-paces.paces.items * c.energy-energy.result.den =
     rw (c.levels-levels.ensures.value, c.deref-2.ensures.value) at c.energy-energy.ensures.value in
     let written = rw (c.deref.ensures.value) at c.in_ok-schedule.ensures in
     is_rounding c.args.rows.now c.args.table.now c.args.plan.now.schedule.slots c.args.plan.now.certificate c.in_ok-paces.paces.items written.0
