@@ -6,6 +6,7 @@ pub mod VerdictLine
 pub mod Plan
 pub mod Check
 pub mod Report
+pub mod Round
 pub mod Trial
 pub mod Admit
 pub mod Policies

@@ -13,7 +13,6 @@ words_of words = map string_bytes words
 
 -- What isn't built yet is asked for as nothing is: a command that is built loses its line here.
 abbrev pub built : Option Request → Option Request
-built (Some (OfDocument AskRound)) = None
 built (Some (OfDocument AskReportAsJson)) = None
 built (Some (OfDocument AskCurve)) = None
 built (Some (OfDocument (AskCompare grid))) = None
@@ -36,6 +35,7 @@ ReadsInput (Some _) = Unit {0}
 -- what a question asks
 abbrev pub question_view : Question → ModelQuestion
 question_view questions.Plan = AskPlan
+question_view questions.Round = AskRound
 question_view (questions.AverageRate grid) = AskAverageRate grid
 question_view (questions.OptimalAvailable grid) = AskOptimalAvailable grid
 question_view questions.Check = AskCheck

@@ -12,6 +12,8 @@ use yds_text::number_of;
 pub enum Question {
     /// The plan of the document's jobs, with its certificate.
     Plan,
+    /// The plan of the document's jobs on its operating points, with the energy.
+    Round,
     /// The run of Average Rate on a grid.
     AverageRate {
         /// The works of the run are multiples of one part in so many.
@@ -77,6 +79,7 @@ fn of_word(word: &str) -> Option<Command>
 {
     match word {
         "plan" => Some(Command::Document(Question::Plan)),
+        "round" => Some(Command::Document(Question::Round)),
         "check" => Some(Command::Document(Question::Check)),
         "audit" => Some(Command::Document(Question::Audit { points: false })),
         "report" => Some(Command::Document(Question::Report)),

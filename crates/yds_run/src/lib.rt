@@ -21,6 +21,7 @@ mod plan;
 mod policies;
 mod refusal;
 mod report;
+mod round;
 mod running;
 mod told;
 mod trial;

@@ -22,6 +22,7 @@ use crate::plan::plan_document;
 use crate::policies::{average_rate_document, optimal_available_document};
 use crate::refusal::{RefusedAt, TooLong, Usage};
 use crate::report::report_document;
+use crate::round::round_document;
 use crate::trial::try_plan;
 use std::alloc::Global;
 use yds_document::{DocFault, Document, read_document};
@@ -156,6 +157,7 @@ fn answer_document<K: Sink>(
 {
     match question {
         Question::Plan => reply(plan_document(alloc, document), sink),
+        Question::Round => reply(round_document(alloc, document), sink),
         Question::AverageRate { grid } => reply(average_rate_document(alloc, document, grid), sink),
         Question::OptimalAvailable { grid } => {
             reply(optimal_available_document(alloc, document, grid), sink)
