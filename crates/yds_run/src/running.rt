@@ -5,6 +5,7 @@ ghost use Rattle.yds_model.specs.Answer.{AnswersReading, AnswersQuestion};
 ghost use Rattle.yds_model.specs.PlanAnswer.{HoldsHeadline};
 ghost use Rattle.yds_model.specs.Reading.{reading};
 ghost use Rattle.yds_model.specs.Request.{usage_line, OfDocument};
+ghost use Rattle.yds_laws.specs.RoundText.{HoldsLeastEnergy, HoldsTooSlow};
 ghost use Rattle.yds_laws.specs.TaskLaws.{HoldsExpansion};
 ghost use Rattle.yds_port.specs.Count.{Rose, next_count};
 ghost use Rattle.yds_document.specs.Documents.{document_view};
@@ -82,6 +83,14 @@ pub fn run<S: Source, K: Sink>(
     // work in its window and, for every speed, does no more work above it than any feasible schedule.
     ensures headline { words_of words.now ≡ codes "plan" ∷ [] → result ≡ Status.Done
         → IfSome (S.left source.old) (λ input. (text : List ℕ) × Appends (K.written sink.old) (K.written sink.new) text × HoldsHeadline input text) }
+
+    // A rounded plan that was written is read again as the document with slots at the speeds of its points,
+    // which give every job its work in its window, and no feasible schedule on the points takes less energy.
+    ensures least_energy { words_of words.now ≡ codes "round" ∷ [] → result ≡ Status.Done
+        → IfSome (S.left source.old) (λ input. (text : List ℕ) × Appends (K.written sink.old) (K.written sink.new) text × HoldsLeastEnergy input text) }
+    // Where it says no, the points are too slow: no feasible schedule stays at or below the top one.
+    ensures too_slow { words_of words.now ≡ codes "round" ∷ [] → result ≡ Status.No
+        → IfSome (S.left source.old) (λ input. (text : List ℕ) × Appends (K.written sink.old) (K.written sink.new) text × HoldsTooSlow input text) }
 
     // The jobs of periodic tasks that were written are read again as a document with just these jobs, in
     // their order and under different names.

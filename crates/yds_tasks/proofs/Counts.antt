@@ -11,15 +11,14 @@ use Rattle.yds_model.specs.declared.limits.TheConstants.{MAX_JOBS, MAX_TASKS, MA
 use Rattle.yds_model.specs.Job.{Job, IsJob}
 use Rattle.yds_model.specs.Tasks.{Task, TaskSet, nth_job, count_of_jobs, numbers_of_jobs, horizon_of, jobs_of_tasks}
 use Rattle.yds_model.specs.TaskReading.{count_of_all}
-use Rattle.yds_laws.proofs.TaskCounts.{task_jobs_end_in_time}
 use Rattle.yds_laws.proofs.TaskWork.{jobs_of_task, jobs_until, works_of_task}
 use Rattle.yds_tasks.specs.Kept.{IsTask, IsTaskSet, KeepsTasks, with_task}
 
 -- a job that is due by the horizon is within its limits
-pub job_fits : (horizon : ℕ) (task : Task) (k : ℕ) → IsTask task → horizon ≤ MAX_TIME → k < count_of_jobs horizon task → IsJob (nth_job task k)
-job_fits horizon task k kept within below = record {
+pub due_fits : (horizon : ℕ) (task : Task) (k : ℕ) → IsTask task → horizon ≤ MAX_TIME → (nth_job task k).deadline ≤ horizon → IsJob (nth_job task k)
+due_fits horizon task k kept within due = record {
   has_window = omega (arith, kept.has_deadline);
-  time_in_range = omega (arith, (task_jobs_end_in_time horizon task k kept.has_period).0 below, within);
+  time_in_range = omega (arith, due, within);
   work_in_range = kept.work_in_range;
 }
 
