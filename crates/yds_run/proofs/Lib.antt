@@ -4,3 +4,5 @@ pub mod Drawn
 pub mod Replied
 pub mod Complete
 pub mod TooSlow
+pub mod Comments
+pub mod Admitting

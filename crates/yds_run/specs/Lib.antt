@@ -8,3 +8,4 @@ pub mod Check
 pub mod Report
 pub mod Round
 pub mod Trial
+pub mod Admit
