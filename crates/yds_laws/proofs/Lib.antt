@@ -72,3 +72,9 @@ pub mod RoundText
 pub mod AnsweredOnce
 pub mod RunText
 pub mod ExactRuns
+pub mod TaskWork
+pub mod OneLevel
+pub mod TasksSaid
+pub mod TaskLimits
+pub mod TaskNames
+pub mod TaskTexts
