@@ -70,11 +70,11 @@ pub mod Within
 pub mod PlanText
 pub mod RoundText
 pub mod AnsweredOnce
+pub mod RunText
+pub mod ExactRuns
 pub mod TaskWork
 pub mod OneLevel
 pub mod TasksSaid
 pub mod TaskLimits
 pub mod TaskNames
 pub mod TaskTexts
-pub mod RunText
-pub mod ExactRuns

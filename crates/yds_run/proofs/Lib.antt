@@ -6,6 +6,3 @@ pub mod Complete
 pub mod Comments
 pub mod Admitting
 pub mod TooSlow
-pub mod TooSlow
-pub mod Comments
-pub mod Admitting
