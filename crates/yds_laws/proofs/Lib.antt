@@ -71,3 +71,9 @@ pub mod Within
 pub mod PlanText
 pub mod RoundText
 pub mod AnsweredOnce
+pub mod TaskWork
+pub mod OneLevel
+pub mod TasksSaid
+pub mod TaskLimits
+pub mod TaskNames
+pub mod TaskTexts

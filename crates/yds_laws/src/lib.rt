@@ -54,5 +54,5 @@ pub use scale_laws::{
     order_agrees_with_equality, order_is_of_values, order_is_transitive, scale_exists,
     scale_keeps_feasible, scale_multiplies_excess, sum_is_of_values,
 };
-pub use task_laws::task_jobs_end_in_time;
+pub use task_laws::{expansions_are_read, one_level_is_planned, task_jobs_end_in_time};
 pub use text_laws::{fields_are_slices, lines_are_slices};

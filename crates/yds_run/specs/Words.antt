@@ -19,7 +19,6 @@ built (Some (OfDocument (AskOptimalAvailable grid))) = None
 built (Some (OfDocument AskReportAsJson)) = None
 built (Some (OfDocument AskCurve)) = None
 built (Some (OfDocument (AskCompare grid))) = None
-built (Some OfTasks) = None
 built request = request
 
 abbrev pub asked : List (List ℕ) → Option Request
@@ -48,6 +47,7 @@ question_view (questions.Admit top) = AskAdmit top
 -- what a command answers
 abbrev pub request_view : Command → Request
 request_view (commands.Document question) = OfDocument (question_view question)
+request_view commands.Expand = OfTasks
 request_view (commands.Trial seed jobs) = OfTrial seed jobs
 
 -- the numbers of a question are within their limits
@@ -58,4 +58,5 @@ IsAskable _ = Unit {0}
 -- and those of a command: a trial has as many jobs as it may have
 abbrev pub IsWithinLimits : Command → Type 0
 IsWithinLimits (commands.Document question) = IsAskable question
+IsWithinLimits commands.Expand = Unit {0}
 IsWithinLimits (commands.Trial seed jobs) = jobs ≤ MAX_TRIAL_JOBS

@@ -82,10 +82,7 @@ fn chosen<'a>(
 }
 
 /// Appends a comment for each refused job.
-fn write_comments<K: Sink>(
-    admitted: &AdmittedDocument<'_>,
-    sink: &mut K,
-) -> Result<(), WriteFault>
+fn write_comments<K: Sink>(admitted: &AdmittedDocument<'_>, sink: &mut K) -> Result<(), WriteFault>
     ensures { Puts K.written K.flushed K.flushes K.faults result (comments_text admitted.now) sink.old sink.new }
 {
     for refusal in &admitted.refused {

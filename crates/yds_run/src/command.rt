@@ -33,6 +33,8 @@ pub enum Question {
 pub enum Command {
     /// The answer to a question about the document in the input.
     Document(Question),
+    /// The jobs of the periodic tasks in the input.
+    Expand,
     /// The numbers of a plan of drawn jobs, for which nothing is read.
     Trial {
         /// The number from which the jobs are drawn.
@@ -68,6 +70,7 @@ fn of_word(word: &str) -> Option<Command>
         "check" => Some(Command::Document(Question::Check)),
         "audit" => Some(Command::Document(Question::Audit { points: false })),
         "report" => Some(Command::Document(Question::Report)),
+        "expand" => Some(Command::Expand),
         _ => None,
     }
 }

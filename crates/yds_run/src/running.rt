@@ -5,6 +5,7 @@ ghost use Rattle.yds_model.specs.Answer.{AnswersReading, AnswersQuestion};
 ghost use Rattle.yds_model.specs.PlanAnswer.{HoldsHeadline};
 ghost use Rattle.yds_model.specs.Reading.{reading};
 ghost use Rattle.yds_model.specs.Request.{usage_line, OfDocument};
+ghost use Rattle.yds_laws.specs.TaskLaws.{HoldsExpansion};
 ghost use Rattle.yds_port.specs.Count.{Rose, next_count};
 ghost use Rattle.yds_document.specs.Documents.{document_view};
 ghost use Rattle.yds_run.specs.Words.{words_of, asked, IsTrial, ReadsInput, question_view, IsAskable};
@@ -16,6 +17,7 @@ use crate::audit::{audit_document, audit_on_points};
 use crate::check::check_document;
 use crate::command::{Command, Question};
 use crate::deliver::deliver;
+use crate::expand::expand_input;
 use crate::plan::plan_document;
 use crate::refusal::{RefusedAt, TooLong, Usage};
 use crate::report::report_document;
@@ -78,9 +80,15 @@ pub fn run<S: Source, K: Sink>(
     // work in its window and, for every speed, does no more work above it than any feasible schedule.
     ensures headline { words_of words.now ≡ codes "plan" ∷ [] → result ≡ Status.Done
         → IfSome (S.left source.old) (λ input. (text : List ℕ) × Appends (K.written sink.old) (K.written sink.new) text × HoldsHeadline input text) }
+
+    // The jobs of periodic tasks that were written are read again as a document with just these jobs, in
+    // their order and under different names.
+    ensures expansion { words_of words.now ≡ codes "expand" ∷ [] → result ≡ Status.Done
+        → IfSome (S.left source.old) (λ input. (text : List ℕ) × Appends (K.written sink.old) (K.written sink.new) text × HoldsExpansion input text) }
 {
     match Command::of(words) {
         Some(Command::Document(question)) => answer_input(alloc, question, source, sink),
+        Some(Command::Expand) => expand_input(alloc, source, sink),
         Some(Command::Trial { seed, jobs }) => reply(try_plan(alloc, seed, jobs), sink),
         None => deliver(&Usage, sink),
     }
