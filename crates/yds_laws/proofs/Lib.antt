@@ -28,6 +28,7 @@ pub mod Hinges
 pub mod Group
 pub mod Bound
 pub mod Served
+pub mod AdmittedRuns
 pub mod Exact
 pub mod Explained
 pub mod RunScale

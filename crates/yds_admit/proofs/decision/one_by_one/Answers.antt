@@ -1,13 +1,13 @@
-use Rattle.std.proofs.Common.{◌≡◌, List, [], ◌∷◌, ◌++◌, ◌∙◌, ap, subst, arith}
+use Rattle.std.proofs.Common.{◌≡◌, List, [], ◌∷◌, ◌++◌, ◌∙◌, ap, subst}
 use Rattle.std.proofs.lemmas.List.{get_or_read}
 use Rattle.yds_model.specs.Job.{Job, no_job}
 use Rattle.yds_model.specs.Policy.{numbers_of}
 use Rattle.yds_model.specs.Admission.{IsFirstOverfull}
 use Rattle.yds_laws.specs.AdmissionLaws.{HasRoom}
 use Rattle.yds_admit.specs.Interval.{work_in}
-use Rattle.yds_admit.proofs.Deciding.{begun, without_last, takes, refuses, all_decided}
-use Rattle.yds_admit.proofs.decision.decide.Goals as goal
-use Rattle.yds_admit.proofs.decision.decide.Goals.{in-None+in_ok-push-in-None, in-Some+in_ok-push-in-Some}
+use Rattle.yds_admit.proofs.Deciding.{begun, without_last, takes, refuses, is_decision}
+use Rattle.yds_admit.proofs.decision.one_by_one.Goals as goal
+use Rattle.yds_admit.proofs.decision.one_by_one.Goals.{in-None+in_ok-push-in-None, in-Some+in_ok-push-in-Some}
 
 pub loop-number-init : goal.loop-number-init
 loop-number-init c = rw (c.new-taken.ensures.items, c.new-jobs.ensures.items, c.new-refused.ensures.items) (begun c.args.rows.now c.args.top)
@@ -37,12 +37,6 @@ loop-number-preserved c =
     ]
 
 pub returns : goal.returns
-returns c = record {
-  admission = all_decided c.args.rows.now c.args.top c.loop-number.number c.loop-number.taken.items c.loop-number.jobs.items c.loop-number.refused.items
-      c.loop-number-test.false c.loop-number.invariant;
-  jobs = c.loop-number.invariant.same;
-  room = c.loop-number.invariant.room;
-  few = omega (arith, c.loop-number.invariant.few);
-  taken_known = λ k d below. omega (arith, c.loop-number.auto, c.loop-number.invariant.taken_known k d below);
-  refused_known = λ k d below. omega (arith, c.loop-number.auto, c.loop-number.invariant.refused_known k d below);
-}
+returns c =
+    is_decision c.args.rows.now c.args.top c.loop-number.number c.loop-number.taken.items c.loop-number.jobs.items c.loop-number.refused.items
+    c.loop-number-test.false c.loop-number.auto.number-end c.loop-number.invariant
