@@ -27,6 +27,7 @@ pub mod Differences
 pub mod Hinges
 pub mod Group
 pub mod Bound
+pub mod Served
 pub mod Exact
 pub mod Explained
 pub mod RunScale

@@ -9,6 +9,8 @@
 //! before the first byte was written.
 #![tactic(auto)]
 
+mod admit;
+mod admitted;
 mod answer;
 mod audit;
 mod check;

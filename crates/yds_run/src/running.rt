@@ -8,9 +8,10 @@ ghost use Rattle.yds_model.specs.Request.{usage_line, OfDocument};
 ghost use Rattle.yds_laws.specs.TaskLaws.{HoldsExpansion};
 ghost use Rattle.yds_port.specs.Count.{Rose, next_count};
 ghost use Rattle.yds_document.specs.Documents.{document_view};
-ghost use Rattle.yds_run.specs.Words.{words_of, asked, IsTrial, ReadsInput, question_view};
+ghost use Rattle.yds_run.specs.Words.{words_of, asked, IsTrial, ReadsInput, question_view, IsAskable};
 ghost use Rattle.yds_run.specs.Run.{Outcome, IsWhole, CountTells, IsDelivered, Replies, AnswersBytes, AnswersTaken, IsTooLong};
 
+use crate::admit::admit_document;
 use crate::answer::Answer;
 use crate::audit::{audit_document, audit_on_points};
 use crate::check::check_document;
@@ -100,6 +101,7 @@ fn answer_input<S: Source, K: Sink>(
     source: &mut S,
     sink: &mut K,
 ) -> Status
+    requires { IsAskable question }
     ensures source { CountTells Status.ReadFault result (S.faults source.old) (S.faults source.new) }
     ensures sink { CountTells Status.WriteFault result (K.faults sink.old) (K.faults sink.new) }
     ensures nothing_written { (result ≡ Status.Memory) ⊎ (result ≡ Status.ReadFault) → sink.new ≡ sink.old }
@@ -117,7 +119,8 @@ fn answer_input<S: Source, K: Sink>(
 
 /// Answers the question about the document that the bytes are.
 fn answer_bytes<K: Sink>(alloc: Global, question: Question, bytes: &[u8], sink: &mut K) -> Status
-    requires { length bytes.now ≤ MAX_INPUT }
+    requires askable { IsAskable question }
+    requires short { length bytes.now ≤ MAX_INPUT }
     ensures { Replies K.written K.flushed K.flushes K.faults (AnswersReading (question_view question) (reading bytes.now)) result sink.old sink.new }
 {
     match read_document(alloc, bytes) {
@@ -147,6 +150,7 @@ fn answer_document<K: Sink>(
     document: Document<'_>,
     sink: &mut K,
 ) -> Status
+    requires { IsAskable question }
     ensures { Replies K.written K.flushed K.flushes K.faults (AnswersQuestion (question_view question) (document_view document.entry)) result sink.old sink.new }
 {
     match question {
@@ -155,6 +159,7 @@ fn answer_document<K: Sink>(
         Question::Audit { points: false } => deliver(&audit_document(&document), sink),
         Question::Audit { points: true } => deliver(&audit_on_points(&document), sink),
         Question::Report => reply(report_document(alloc, document), sink),
+        Question::Admit { top } => reply(admit_document(alloc, document, top), sink),
     }
 }
 

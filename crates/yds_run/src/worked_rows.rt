@@ -589,3 +589,27 @@ pub static EXPANSIONS: [(&str, &str, Status, &str); 16] = [
     ),
     ("expand all", "", Status::Usage, USAGE),
 ];
+
+/// The same of admissions.
+pub static ADMISSIONS: [(&str, &str, Status, &str); 5] = [
+    (
+        "admit 2",
+        "job a 0 4 4\njob b 0 2 4\njob c 1 3 1\n",
+        Status::Done,
+        "job a 0 4 4\njob b 0 2 4\nslot b 0 2 4\nslot a 2 4 4\n# refuse c from 0 to 4 work 9 top 2\n",
+    ),
+    (
+        "admit 1",
+        "job a 0 2 3\njob b 0 2 0\njob c 0 2 1\n",
+        Status::Done,
+        "job b 0 2 0\njob c 0 2 1\nslot c 0 2 1\n# refuse a from 0 to 2 work 3 top 1\n",
+    ),
+    (
+        "admit 1",
+        "job z 0 10 0\njob a 5 6 100\npoint 0 0\npoint 4 9\n",
+        Status::Done,
+        "job z 0 10 0\npoint 0 0\npoint 4 9\n# refuse a from 0 to 6 work 100 top 1\n",
+    ),
+    ("admit 1000000", "", Status::Done, ""),
+    ("admit 1000001", "job a 0 4 8\n", Status::Usage, USAGE),
+];
