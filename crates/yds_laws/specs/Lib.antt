@@ -6,4 +6,5 @@ pub mod PlanText
 pub mod TaskLaws
 pub mod RoundingLaws
 pub mod RoundText
+pub mod CurveLaws
 pub mod AnswerLaws

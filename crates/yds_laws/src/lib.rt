@@ -8,6 +8,7 @@
 //! of the definitions, each with something that meets it and a near miss, are in `proofs/`.
 #![tactic(auto)]
 
+mod curve_laws;
 mod divisor_laws;
 mod energy_laws;
 mod hull_laws;
@@ -20,6 +21,7 @@ mod scale_laws;
 mod task_laws;
 mod text_laws;
 
+pub use curve_laws::{curve_is_straight, levels_tell_least_excess};
 pub use divisor_laws::{divisor_is_greatest, lowest_terms_are_one, multiple_is_least};
 pub use energy_laws::{
     least_is_cheapest, lines_are_at_most_energy, plans_cost_least, plans_cost_least_on_points,
