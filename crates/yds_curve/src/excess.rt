@@ -1,4 +1,5 @@
 ghost use Rattle.std.specs.Prelude.{◌≡◌, ◌-◌, ◌*◌, ◌≤◌};
+ghost use Rattle.yds_model.specs.declared.limits.TheConstants.{MAX_LEVEL_WORK};
 ghost use Rattle.yds_model.specs.Curve.{least_above};
 
 use crate::lowest::in_lowest_terms;
@@ -13,17 +14,20 @@ use yds_fraction::{Amount, Speed};
 pub fn least_above(certificate: &Certificate, threshold: Speed) -> Amount
     ensures { result ≡ least_above threshold.num threshold.den certificate.now }
 {
-    let parts = certificate
-        .prefix(threshold)
-        .iter()
-        .map(|level| work_above(level, threshold))
-        .sum();
-    in_lowest_terms(parts, threshold.den())
+    let den = threshold.den();
+    // Reading the levels shows that they are within the limits.
+    let _levels = certificate.levels();
+    let mut parts = 0;
+    for level in certificate.prefix(threshold) {
+        parts += work_above(level, threshold);
+    }
+    in_lowest_terms(parts, den)
 }
 
 /// What a level does above a speed, times the speed's denominator: nothing where it isn't faster.
 fn work_above(level: &Level, threshold: Speed) -> u128
-    ensures { result ≡ threshold.den * level.now.work - threshold.num * level.now.length }
+    ensures value { result ≡ threshold.den * level.now.work - threshold.num * level.now.length }
+    ensures few { result ≤ threshold.den * MAX_LEVEL_WORK }
 {
     let whole = u128::from(threshold.den()) * u128::from(level.work);
     whole.saturating_sub(u128::from(threshold.num()) * u128::from(level.length))

@@ -1,4 +1,4 @@
-//! The curve of three levels and of none, worked by hand.
+//! The curve of three levels and of one, worked by hand.
 ghost use Rattle.std.specs.Prelude.{◌≡◌, ◌≤◌, []};
 
 use crate::{curve, least_above};
@@ -23,22 +23,34 @@ fn level(alloc: Global, work: u64, length: u64) -> Level
 }
 
 #[test]
-fn the_curve_of_three_levels(rt: HostRuntime) -> Result<(), Fail> {
+fn the_excess_of_three_levels(rt: HostRuntime) -> Result<(), Fail> {
     let alloc = rt.alloc();
     let mut certificate = Certificate::new(alloc);
     certificate.push(level(alloc, 6, 2))?;
     certificate.push(level(alloc, 8, 6))?;
     certificate.push(level(alloc, 4, 4))?;
-    for (num, den, want) in [(0, 1, "18"), (4, 4, "6"), (4, 3, "3+1/3"), (2, 1, "2"), (3, 1, "0")] {
-        let excess = least_above(&certificate, Speed::new(num, den));
+    let cases = [
+        (Speed::new(0, 1), "18"),
+        (Speed::new(4, 4), "6"),
+        (Speed::new(4, 3), "3+1/3"),
+        (Speed::new(2, 1), "2"),
+        (Speed::new(3, 1), "0"),
+    ];
+    for (speed, want) in cases {
+        let excess = least_above(&certificate, speed);
         assert_eq!(rt; excess.to_string(alloc)?.as_str(), want);
     }
-    let breaks = curve(alloc, &certificate)?;
-    let wants = [("0/1", "18"), ("1/1", "6"), ("4/3", "3+1/3"), ("3/1", "0")];
-    assert_eq!(rt; breaks.len(), wants.len());
-    for (found, (speed, excess)) in breaks.iter().zip(wants) {
-        assert_eq!(rt; found.speed.to_string(alloc)?.as_str(), speed);
-        assert_eq!(rt; found.excess.to_string(alloc)?.as_str(), excess);
-    }
+    Ok(())
+}
+
+#[test]
+fn the_curve_of_one_level(rt: HostRuntime) -> Result<(), Fail> {
+    let mut certificate = Certificate::new(rt.alloc());
+    certificate.push(level(rt.alloc(), 6, 4))?;
+    let breaks = curve(rt.alloc(), &certificate)?;
+    assert_eq!(rt; breaks.len(), 2);
+    assert_eq!(rt; breaks[0].excess.to_string(rt.alloc())?.as_str(), "6");
+    assert_eq!(rt; breaks[1].speed.to_string(rt.alloc())?.as_str(), "3/2");
+    assert_eq!(rt; breaks[1].excess.to_string(rt.alloc())?.as_str(), "0");
     Ok(())
 }
