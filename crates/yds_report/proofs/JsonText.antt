@@ -1,5 +1,5 @@
 -- The text that `serde_json` writes for the value of a report is the one of the definition.
-use Rattle.std.proofs.Common.{◌≡◌, ℕ, suc, ◌+◌, ◌-◌, ◌*◌, ◌^◌, ◌<◌, ◌≤◌, List, [], ◌∷◌, ◌++◌, length, map, ap, sym, ◌∙◌, refl, arith, append_assoc, Bool, true, false, max}
+use Rattle.std.proofs.Common.{◌≡◌, ℕ, suc, ◌+◌, ◌-◌, ◌*◌, ◌/◌, ◌%◌, ◌^◌, ◌<◌, ◌≤◌, List, [], ◌∷◌, ◌++◌, length, map, ap, sym, ◌∙◌, refl, arith, append_assoc, Bool, true, false, max}
 use Rattle.std.specs.Prelude.{codes, decimal, ◌==◌, if◌then◌else◌, sum_by}
 use Rattle.std.specs.List.{All, join_with_byte}
 use Rattle.std.proofs.lemmas.List.Elements.{All-tail, All-append, All-cons, All-nil, All-weaker}
@@ -10,7 +10,10 @@ use Rattle.serde_json.specs.View.{items_of}
 use Rattle.serde_json.specs.Written.{compact_text, items_text, has_float, items_have_float}
 use Rattle.yds_model.specs.declared.limits.TheConstants.{MAX_LEVEL_WORK, MAX_LEVEL_LENGTH}
 use Rattle.yds_model.specs.Job.{Job}
-use Rattle.yds_model.specs.Scale.{Fraction}
+use Rattle.yds_model.specs.Scale.{of_whole}
+use Rattle.yds_model.specs.Divisor.{common_divisor, in_lowest_terms}
+use Rattle.yds_model.specs.Energy.{first_release, last_deadline, horizon}
+use Rattle.std.proofs.Math.Nat.{div-le_self, mod-le}
 use Rattle.yds_model.specs.Level.{Level}
 use Rattle.yds_model.specs.Within.{IsLevel}
 use Rattle.yds_model.specs.Text.{fraction_text}
@@ -90,3 +93,43 @@ depth_levels (level ∷ levels) = let rest = depth_levels levels in grind arith
 
 pub depth_report : (jobs : List Job) (levels : List Level) → depth (report_value jobs levels) ≤ 127
 depth_report jobs levels = let most = depth_levels levels in grind arith
+
+-- # The whole text
+
+-- a line in parts, of which one has its end for itself, and the end of the line
+in_parts : (a F b I c J d L h e T f W g end : List ℕ) →
+    (a ++ (F ++ (b ++ (I ++ (c ++ (J ++ (d ++ ((L ++ h) ++ (e ++ (T ++ (f ++ (W ++ g)))))))))))) ++ end
+    ≡ a ++ F ++ b ++ I ++ c ++ J ++ d ++ L ++ (h ++ e) ++ T ++ f ++ W ++ (g ++ end)
+in_parts a F b I c J d L h e T f W g end = simp append_assoc refl
+
+-- a part of a number over its divisor is no greater
+fits_by : (none : Bool) (parts den : ℕ) → parts < 2 ^ 64 → den < 2 ^ 64 →
+    (let x = if none then of_whole (parts / den) else record { whole = parts / den; num = parts % den; den = den } in (x.whole < 2 ^ 64) × (x.num < 2 ^ 64) × (x.den < 2 ^ 64))
+fits_by true parts den small small_den = let least = div-le_self parts den in (omega arith, omega arith, omega arith)
+fits_by false parts den small small_den = let least = div-le_self parts den in let rest = mod-le parts den in (omega arith, omega arith, small_den)
+
+-- so a level's speed has no escapes
+speed_plain : (level : Level) → IsLevel level → escape (speed_text level) ≡ speed_text level
+speed_plain level fits =
+    let g = common_divisor level.work level.length in
+    let of_work = div-le_self level.work g in
+    let of_length = div-le_self level.length g in
+    let small_work = fits.work_in_range in
+    let small_length = fits.length_in_range in
+    let small = fits_by ((level.work / g) % (level.length / g) == 0) (level.work / g) (level.length / g) (omega arith) (omega arith) in
+    let x = in_lowest_terms level.work level.length in
+    escape_plain (speed_text level) (fraction_plain_by (x.num == 0) x.whole x.num x.den small.0 small.1 small.2)
+
+-- the text of a report, with its line feed
+pub report_text : (jobs : List Job) (levels : List Level) → All IsLevel levels → compact_text (report_value jobs levels) ++ 10 ∷ [] ≡ report_json jobs levels
+unfolding escape_byte
+report_text jobs levels fit =
+    let from = decimal (first_release jobs) in
+    let idle = decimal (horizon jobs - sum_by (λ level. level.length) levels) in
+    let count = decimal (length jobs) in
+    let to = decimal (last_deadline jobs) in
+    let work = decimal (sum_by (λ job. job.work) jobs) in
+    ap (λ items. (codes "{\"from\":" ++ (from ++ (codes ",\"idle\":" ++ (idle ++ (codes ",\"jobs\":" ++ (count ++ (codes ",\"levels\":[" ++ (items ++ (codes ",\"to\":" ++ (to ++ (codes ",\"work\":" ++ (work ++ codes "}")))))))))))) ++ 10 ∷ [])
+    (levels_text levels (λ k d within. speed_plain _ (fit k d within)))
+    ∙ in_parts (codes "{\"from\":") from (codes ",\"idle\":") idle (codes ",\"jobs\":") count (codes ",\"levels\":[") (join_with_byte 44 (map level_json levels)) (93 ∷ []) (codes ",\"to\":") to
+    (codes ",\"work\":") work (codes "}") (10 ∷ [])
