@@ -6,4 +6,6 @@ pub mod VerdictLine
 pub mod Plan
 pub mod Check
 pub mod Report
+pub mod ReportJson
+pub mod Curve
 pub mod Trial

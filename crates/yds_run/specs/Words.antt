@@ -16,9 +16,7 @@ abbrev pub built : Option Request → Option Request
 built (Some (OfDocument AskRound)) = None
 built (Some (OfDocument (AskAverageRate grid))) = None
 built (Some (OfDocument (AskOptimalAvailable grid))) = None
-built (Some (OfDocument AskReportAsJson)) = None
 built (Some (OfDocument (AskAdmit top))) = None
-built (Some (OfDocument AskCurve)) = None
 built (Some (OfDocument (AskCompare grid))) = None
 built (Some OfTasks) = None
 built request = request
@@ -43,7 +41,9 @@ question_view questions.Plan = AskPlan
 question_view questions.Check = AskCheck
 question_view (questions.Audit false) = AskAudit
 question_view (questions.Audit true) = AskAuditOnPoints
-question_view questions.Report = AskReport
+question_view (questions.Report false) = AskReport
+question_view (questions.Report true) = AskReportAsJson
+question_view questions.Curve = AskCurve
 
 -- what a command answers
 abbrev pub request_view : Command → Request

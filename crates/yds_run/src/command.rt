@@ -19,8 +19,13 @@ pub enum Question {
         /// Whether each slot has also to run at the speed of one of the document's operating points.
         points: bool,
     },
-    /// The plan of the document's jobs as a table of its levels.
-    Report,
+    /// The levels of a plan of the document's jobs.
+    Report {
+        /// Whether as a line of JSON, in place of a table.
+        json: bool,
+    },
+    /// The curve of least excess of the document's jobs.
+    Curve,
 }
 
 /// What the words of the command line ask for.
@@ -62,7 +67,8 @@ fn of_word(word: &str) -> Option<Command>
         "plan" => Some(Command::Document(Question::Plan)),
         "check" => Some(Command::Document(Question::Check)),
         "audit" => Some(Command::Document(Question::Audit { points: false })),
-        "report" => Some(Command::Document(Question::Report)),
+        "report" => Some(Command::Document(Question::Report { json: false })),
+        "curve" => Some(Command::Document(Question::Curve)),
         _ => None,
     }
 }
@@ -74,6 +80,7 @@ fn of_two(word: &str, next: &str) -> Option<Command>
 {
     match (word, next) {
         ("audit", "--points") => Some(Command::Document(Question::Audit { points: true })),
+        ("report", "--json") => Some(Command::Document(Question::Report { json: true })),
         _ => None,
     }
 }
