@@ -8,3 +8,4 @@ pub mod RoundingLaws
 pub mod RoundText
 pub mod CurveLaws
 pub mod AnswerLaws
+pub mod AdmissionLaws

@@ -9,3 +9,4 @@ pub mod Report
 pub mod ReportJson
 pub mod Curve
 pub mod Trial
+pub mod Admit

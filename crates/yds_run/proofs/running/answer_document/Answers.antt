@@ -12,8 +12,26 @@ returns-in-Check g c =
     c.args.sink.now c.reply-in-Check.new.sink) (sym c.in-Check.is)
     (made_replies _ _ _ _ _ _ _ _ _ _ _ c.check_document.ensures c.reply-in-Check.ensures)
 
+pub returns-in-Report-true : goal.returns-in-Report-true
+returns-in-Report-true g c =
+    subst (λ question. Replies g.K.Sink.written g.K.Sink.flushed g.K.Sink.flushes g.K.Sink.faults (AnswersQuestion (question_view question) (document_view c.args.document)) c.reply-in-Report-true.result
+    c.args.sink.now c.reply-in-Report-true.new.sink) (sym c.in-Report-true.is)
+    (made_replies _ _ _ _ _ _ _ _ _ _ _ c.json_document.ensures c.reply-in-Report-true.ensures)
+
+pub returns-in-Report-false : goal.returns-in-Report-false
+returns-in-Report-false g c =
+    subst (λ question. Replies g.K.Sink.written g.K.Sink.flushed g.K.Sink.flushes g.K.Sink.faults (AnswersQuestion (question_view question) (document_view c.args.document)) c.reply-in-Report-false.result
+    c.args.sink.now c.reply-in-Report-false.new.sink) (sym c.in-Report-false.is)
+    (made_replies _ _ _ _ _ _ _ _ _ _ _ c.report_document.ensures c.reply-in-Report-false.ensures)
+
+pub returns-in-Curve : goal.returns-in-Curve
+returns-in-Curve g c =
+    subst (λ question. Replies g.K.Sink.written g.K.Sink.flushed g.K.Sink.flushes g.K.Sink.faults (AnswersQuestion (question_view question) (document_view c.args.document)) c.reply-in-Curve.result
+    c.args.sink.now c.reply-in-Curve.new.sink) (sym c.in-Curve.is)
+    (made_replies _ _ _ _ _ _ _ _ _ _ _ c.curve_document.ensures c.reply-in-Curve.ensures)
+
 pub returns : goal.returns
 returns g c =
-    subst (λ question. Replies g.K.Sink.written g.K.Sink.flushed g.K.Sink.flushes g.K.Sink.faults (AnswersQuestion (question_view question) (document_view c.args.document)) c.reply-in-Report.result
-    c.args.sink.now c.reply-in-Report.new.sink) (sym c.in-Report.is)
-    (made_replies _ _ _ _ _ _ _ _ _ _ _ c.report_document.ensures c.reply-in-Report.ensures)
+    subst (λ question. Replies g.K.Sink.written g.K.Sink.flushed g.K.Sink.flushes g.K.Sink.faults (AnswersQuestion (question_view question) (document_view c.args.document)) c.reply-in-Admit.result
+    c.args.sink.now c.reply-in-Admit.new.sink) (sym c.in-Admit.is)
+    (made_replies _ _ _ _ _ _ _ _ _ _ _ c.admit_document.ensures c.reply-in-Admit.ensures)
