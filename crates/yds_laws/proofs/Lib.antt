@@ -46,6 +46,9 @@ pub mod LineEnergy
 pub mod PlansEnergy
 pub mod HullCosts
 pub mod LevelCosts
+pub mod LowestTerms
+pub mod LeastAbove
+pub mod CurveLine
 pub mod LevelTimes
 pub mod LevelShares
 pub mod LevelsEnergy

@@ -9,6 +9,7 @@
 #![tactic(auto)]
 
 mod admission_laws;
+mod curve_laws;
 mod divisor_laws;
 mod energy_laws;
 mod hull_laws;
@@ -25,6 +26,7 @@ mod text_laws;
 pub use admission_laws::{
     admitted_runs_are_within_the_top, served_exactly_where_no_interval_is_overfull,
 };
+pub use curve_laws::{curve_is_straight, levels_tell_least_excess};
 pub use divisor_laws::{divisor_is_greatest, lowest_terms_are_one, multiple_is_least};
 pub use energy_laws::{
     least_is_cheapest, lines_are_at_most_energy, plans_cost_least, plans_cost_least_on_points,

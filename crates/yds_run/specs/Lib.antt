@@ -7,6 +7,8 @@ pub mod Plan
 pub mod Check
 pub mod Report
 pub mod Round
+pub mod ReportJson
+pub mod Curve
 pub mod Trial
 pub mod Admit
 pub mod Policies

@@ -13,8 +13,6 @@ words_of words = map string_bytes words
 
 -- What isn't built yet is asked for as nothing is: a command that is built loses its line here.
 abbrev pub built : Option Request → Option Request
-built (Some (OfDocument AskReportAsJson)) = None
-built (Some (OfDocument AskCurve)) = None
 built (Some (OfDocument (AskCompare grid))) = None
 built request = request
 
@@ -41,8 +39,10 @@ question_view (questions.OptimalAvailable grid) = AskOptimalAvailable grid
 question_view questions.Check = AskCheck
 question_view (questions.Audit false) = AskAudit
 question_view (questions.Audit true) = AskAuditOnPoints
-question_view questions.Report = AskReport
+question_view (questions.Report false) = AskReport
+question_view (questions.Report true) = AskReportAsJson
 question_view (questions.Admit top) = AskAdmit top
+question_view questions.Curve = AskCurve
 
 -- what a command answers
 abbrev pub request_view : Command → Request

@@ -31,8 +31,13 @@ pub enum Question {
         /// Whether each slot has also to run at the speed of one of the document's operating points.
         points: bool,
     },
-    /// The plan of the document's jobs as a table of its levels.
-    Report,
+    /// The levels of a plan of the document's jobs.
+    Report {
+        /// Whether as a line of JSON, in place of a table.
+        json: bool,
+    },
+    /// The curve of least excess of the document's jobs.
+    Curve,
     /// The jobs that a processor of this top speed can serve, in work per time unit.
     Admit {
         /// The top speed, from 1 to `MAX_TOP`.
@@ -82,7 +87,8 @@ fn of_word(word: &str) -> Option<Command>
         "round" => Some(Command::Document(Question::Round)),
         "check" => Some(Command::Document(Question::Check)),
         "audit" => Some(Command::Document(Question::Audit { points: false })),
-        "report" => Some(Command::Document(Question::Report)),
+        "report" => Some(Command::Document(Question::Report { json: false })),
+        "curve" => Some(Command::Document(Question::Curve)),
         "expand" => Some(Command::Expand),
         _ => None,
     }
@@ -95,6 +101,7 @@ fn of_two(word: &str, next: &str) -> Option<Command>
 {
     match (word, next) {
         ("audit", "--points") => Some(Command::Document(Question::Audit { points: true })),
+        ("report", "--json") => Some(Command::Document(Question::Report { json: true })),
         ("admit", _) => {
             let top = number_in(next, 1, MAX_TOP)?;
             Some(Command::Document(Question::Admit { top }))

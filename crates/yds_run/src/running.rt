@@ -17,12 +17,14 @@ use crate::answer::Answer;
 use crate::audit::{audit_document, audit_on_points};
 use crate::check::check_document;
 use crate::command::{Command, Question};
+use crate::curve::curve_document;
 use crate::deliver::deliver;
 use crate::expand::expand_input;
 use crate::plan::plan_document;
 use crate::policies::{average_rate_document, optimal_available_document};
 use crate::refusal::{RefusedAt, TooLong, Usage};
 use crate::report::report_document;
+use crate::report_json::json_document;
 use crate::round::round_document;
 use crate::trial::try_plan;
 use std::alloc::Global;
@@ -174,7 +176,9 @@ fn answer_document<K: Sink>(
         Question::Check => reply(check_document(alloc, &document), sink),
         Question::Audit { points: false } => deliver(&audit_document(&document), sink),
         Question::Audit { points: true } => deliver(&audit_on_points(&document), sink),
-        Question::Report => reply(report_document(alloc, document), sink),
+        Question::Report { json: false } => reply(report_document(alloc, document), sink),
+        Question::Report { json: true } => reply(json_document(alloc, &document), sink),
+        Question::Curve => reply(curve_document(alloc, &document), sink),
         Question::Admit { top } => reply(admit_document(alloc, document, top), sink),
     }
 }

@@ -1,5 +1,5 @@
 use super::*;
-use crate::worked_rows::{ADMISSIONS, EXPANSIONS, POLICIES, REPORTS_AND_TRIALS, ROWS};
+use crate::worked_rows::{ADMISSIONS, CURVES_AND_JSON, EXPANSIONS, POLICIES, REPORTS_AND_TRIALS, ROWS};
 use std::alloc::{AllocError, Global};
 use std::process::Abort;
 use std::test::Fail;
@@ -57,6 +57,11 @@ fn the_answer_to_each_input(rt: HostRuntime) -> Result<(), Fail> {
 #[test]
 fn the_answers_of_reports_and_trials(rt: HostRuntime) -> Result<(), Fail> {
     answers_are(&rt, rt.alloc(), &REPORTS_AND_TRIALS)
+}
+
+#[test]
+fn the_answers_of_curves_and_reports_as_json(rt: HostRuntime) -> Result<(), Fail> {
+    answers_are(&rt, rt.alloc(), &CURVES_AND_JSON)
 }
 
 #[test]

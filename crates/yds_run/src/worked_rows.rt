@@ -500,6 +500,44 @@ pub static REPORTS_AND_TRIALS: [(&str, &str, Status, &str); 8] = [
     ("trial 0 01", "", Status::Usage, USAGE),
 ];
 
+/// The same of curves and of reports as JSON.
+pub static CURVES_AND_JSON: [(&str, &str, Status, &str); 9] = [
+    (
+        "curve",
+        "job a 0 12 4\njob b 2 10 8\njob c 4 6 6\n",
+        Status::Done,
+        "break 0 18\nbreak 1 6\nbreak 1+1/3 3+1/3\nbreak 3 0\n",
+    ),
+    (
+        "curve",
+        "job a 0 2 4\njob b 6 8 1\n",
+        Status::Done,
+        "break 0 5\nbreak 0+1/2 3\nbreak 2 0\n",
+    ),
+    ("curve", "", Status::Done, "break 0 0\n"),
+    ("curve all", "", Status::Usage, USAGE),
+    (
+        "report --json",
+        "job a 0 12 4\njob b 2 10 8\njob c 4 6 6\n",
+        Status::Done,
+        "{\"from\":0,\"idle\":0,\"jobs\":3,\"levels\":[{\"length\":2,\"speed\":\"3\",\"work\":6},{\"length\":6,\"speed\":\"1+1/3\",\"work\":8},{\"length\":4,\"speed\":\"1\",\"work\":4}],\"to\":12,\"work\":18}\n",
+    ),
+    (
+        "report --json",
+        "job a 0 2 4\njob b 6 8 1\n",
+        Status::Done,
+        "{\"from\":0,\"idle\":4,\"jobs\":2,\"levels\":[{\"length\":2,\"speed\":\"2\",\"work\":4},{\"length\":2,\"speed\":\"0+1/2\",\"work\":1}],\"to\":8,\"work\":5}\n",
+    ),
+    (
+        "report --json",
+        "",
+        Status::Done,
+        "{\"from\":0,\"idle\":0,\"jobs\":0,\"levels\":[],\"to\":0,\"work\":0}\n",
+    ),
+    ("report --points", "", Status::Usage, USAGE),
+    ("report --json now", "", Status::Usage, USAGE),
+];
+
 /// The same of periodic tasks, and the plan of the jobs of two.
 pub static EXPANSIONS: [(&str, &str, Status, &str); 16] = [
     (

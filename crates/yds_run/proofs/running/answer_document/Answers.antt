@@ -30,11 +30,23 @@ returns-in-OptimalAvailable g c =
     c.args.sink.now c.reply-in-OptimalAvailable.new.sink) (sym c.in-OptimalAvailable.is)
     (made_replies _ _ _ _ _ _ _ _ _ _ _ c.optimal_available_document.ensures c.reply-in-OptimalAvailable.ensures)
 
-pub returns-in-Report : goal.returns-in-Report
-returns-in-Report g c =
-    subst (λ question. Replies g.K.Sink.written g.K.Sink.flushed g.K.Sink.flushes g.K.Sink.faults (AnswersQuestion (question_view question) (document_view c.args.document)) c.reply-in-Report.result
-    c.args.sink.now c.reply-in-Report.new.sink) (sym c.in-Report.is)
-    (made_replies _ _ _ _ _ _ _ _ _ _ _ c.report_document.ensures c.reply-in-Report.ensures)
+pub returns-in-Report-true : goal.returns-in-Report-true
+returns-in-Report-true g c =
+    subst (λ question. Replies g.K.Sink.written g.K.Sink.flushed g.K.Sink.flushes g.K.Sink.faults (AnswersQuestion (question_view question) (document_view c.args.document)) c.reply-in-Report-true.result
+    c.args.sink.now c.reply-in-Report-true.new.sink) (sym c.in-Report-true.is)
+    (made_replies _ _ _ _ _ _ _ _ _ _ _ c.json_document.ensures c.reply-in-Report-true.ensures)
+
+pub returns-in-Report-false : goal.returns-in-Report-false
+returns-in-Report-false g c =
+    subst (λ question. Replies g.K.Sink.written g.K.Sink.flushed g.K.Sink.flushes g.K.Sink.faults (AnswersQuestion (question_view question) (document_view c.args.document)) c.reply-in-Report-false.result
+    c.args.sink.now c.reply-in-Report-false.new.sink) (sym c.in-Report-false.is)
+    (made_replies _ _ _ _ _ _ _ _ _ _ _ c.report_document.ensures c.reply-in-Report-false.ensures)
+
+pub returns-in-Curve : goal.returns-in-Curve
+returns-in-Curve g c =
+    subst (λ question. Replies g.K.Sink.written g.K.Sink.flushed g.K.Sink.flushes g.K.Sink.faults (AnswersQuestion (question_view question) (document_view c.args.document)) c.reply-in-Curve.result
+    c.args.sink.now c.reply-in-Curve.new.sink) (sym c.in-Curve.is)
+    (made_replies _ _ _ _ _ _ _ _ _ _ _ c.curve_document.ensures c.reply-in-Curve.ensures)
 
 pub returns : goal.returns
 returns g c =

@@ -1,7 +1,7 @@
 use Rattle.std.proofs.Common.{arith}
 use Rattle.yds_model.specs.Energy.{last_deadline}
 use Rattle.yds_model.proofs.Horizon.{releases_from}
-use Rattle.yds_report.proofs.report_lines.idle_line.Goals as goal
+use Rattle.yds_report.proofs.numbers.idle_time.Goals as goal
 
 pub overflow_sub-horizon : goal.overflow_sub-horizon
 overflow_sub-horizon c =
