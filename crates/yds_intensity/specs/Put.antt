@@ -1,5 +1,5 @@
 -- A sum that is put after others.
-use Rattle.std.specs.Prelude.{◌≡◌, ℕ, ◌<◌, ◌-◌, ◌⊎◌, ◌≢◌, List, [], ◌∷◌, ◌++◌, length}
+use Rattle.std.specs.Prelude.{◌≡◌, ◌<◌, ◌-◌, ◌⊎◌, ◌≢◌, List, [], ◌∷◌, ◌++◌, length}
 use Rattle.yds_intensity.specs.declared.sweeping.Sum.{Sum}
 use Rattle.yds_intensity.specs.Sums.{sum_at}
 

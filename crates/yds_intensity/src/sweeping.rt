@@ -47,7 +47,13 @@ pub fn sweep(alloc: Global, rows: &[JobRow], order: &[u32], start: u32) -> Resul
             work += u64::from(row.work);
         }
         if row.deadline > start {
-            put(&mut sums, Sum { end: row.deadline, work })?;
+            put(
+                &mut sums,
+                Sum {
+                    end: row.deadline,
+                    work,
+                },
+            )?;
         }
     }
     Ok(sums)
