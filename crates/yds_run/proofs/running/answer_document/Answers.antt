@@ -1,6 +1,7 @@
-use Rattle.std.proofs.Common.{subst, sym}
+use Rattle.std.proofs.Common.{subst, sym, ap, ◌∙◌}
 use Rattle.yds_model.specs.Answer.{AnswersQuestion}
 use Rattle.yds_document.specs.Documents.{document_view}
+use Rattle.yds_run.specs.declared.command.Question.TheVariants as questions
 use Rattle.yds_run.specs.Words.{question_view}
 use Rattle.yds_run.specs.Run.{Replies}
 use Rattle.yds_run.proofs.Replied.{made_replies}
@@ -33,13 +34,13 @@ returns-in-OptimalAvailable g c =
 pub returns-in-Report-true : goal.returns-in-Report-true
 returns-in-Report-true g c =
     subst (λ question. Replies g.K.Sink.written g.K.Sink.flushed g.K.Sink.flushes g.K.Sink.faults (AnswersQuestion (question_view question) (document_view c.args.document)) c.reply-in-Report-true.result
-    c.args.sink.now c.reply-in-Report-true.new.sink) (sym c.in-Report-true.is)
+    c.args.sink.now c.reply-in-Report-true.new.sink) (sym (c.in-Report-true.is ∙ ap (λ json. questions.Report json) c.in-Report-true.json-test))
     (made_replies _ _ _ _ _ _ _ _ _ _ _ c.json_document.ensures c.reply-in-Report-true.ensures)
 
 pub returns-in-Report-false : goal.returns-in-Report-false
 returns-in-Report-false g c =
     subst (λ question. Replies g.K.Sink.written g.K.Sink.flushed g.K.Sink.flushes g.K.Sink.faults (AnswersQuestion (question_view question) (document_view c.args.document)) c.reply-in-Report-false.result
-    c.args.sink.now c.reply-in-Report-false.new.sink) (sym c.in-Report-false.is)
+    c.args.sink.now c.reply-in-Report-false.new.sink) (sym (c.in-Report-false.is ∙ ap (λ json. questions.Report json) c.in-Report-false.json-test))
     (made_replies _ _ _ _ _ _ _ _ _ _ _ c.report_document.ensures c.reply-in-Report-false.ensures)
 
 pub returns-in-Curve : goal.returns-in-Curve
