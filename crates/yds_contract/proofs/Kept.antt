@@ -50,9 +50,9 @@ pub before_by : (removed : List Removed) (time k : ℕ) → IsContraction remove
     removed_before (stretches_of removed) time ≡ (removed_at removed k).before + (min time (removed_at removed k).to - (removed_at removed k).from)
 before_by removed time k kept within begun next =
     let last = last_begun 0 time k (stretches_of removed) kept.apart (omega (arith, count removed)) (omega (arith, from_at removed k within, begun))
-        (λ more. let inside : suc k < length removed = omega (arith, count removed) in omega (arith, next inside, from_at removed (suc k) inside)) in
+    (λ more. let inside : suc k < length removed = omega (arith, count removed) in omega (arith, next inside, from_at removed (suc k) inside)) in
     let same : min time (piece_at (stretches_of removed) k).to - (piece_at (stretches_of removed) k).from ≡ min time (removed_at removed k).to - (removed_at removed k).from =
-        ap (λ (piece : Piece). min time piece.to - piece.from) (stretch_at removed k within) in
+    ap (λ (piece : Piece). min time piece.to - piece.from) (stretch_at removed k within) in
     omega (arith, last, same, kept.summed k within)
 
 -- the same, by the number of those that begin before it
@@ -93,8 +93,12 @@ sums_more removed i before within is =
 pub next_fits : (removed : List Piece) (i before : ℕ) (stretch : Piece) → i < length removed → stretch ≡ piece_at removed i → before ≡ total_length (take i removed) →
     before + (stretch.to - stretch.from) ≤ total_length removed
 next_fits removed i before stretch within is sums =
-    omega (arith, ap (λ (piece : Piece). before + (piece.to - piece.from)) is, sums_more removed i before within sums,
-    before_fits removed (i + 1) (before + ((piece_at removed i).to - (piece_at removed i).from)) (sums_more removed i before within sums))
+    omega (
+      arith,
+      ap (λ (piece : Piece). before + (piece.to - piece.from)) is,
+      sums_more removed i before within sums,
+      before_fits removed (i + 1) (before + ((piece_at removed i).to - (piece_at removed i).from)) (sums_more removed i before within sums),
+    )
 
 pub walked_more : (start end : ℕ) (removed : List Piece) (i from before : ℕ) (pieces more : List Piece) (stretch : Piece) → i < length removed → stretch ≡ piece_at removed i →
     more ≡ pieces ++ clipped (max from (start + before)) (min stretch.from (end + before)) → end + total_length removed ≤ MAX_TIME →

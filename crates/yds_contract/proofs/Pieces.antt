@@ -53,8 +53,13 @@ pieces_later start end from before [] time apart covers = omega (arith, ((covers
 pieces_later start end from before (stretch ∷ removed) time apart covers =
     elim ((Covers-append (clipped (max from (start + before)) (min stretch.from (end + before))) (pieces_after start end stretch.to (before + (stretch.to - stretch.from)) removed) time).0 covers) [
       | inl here ↦ omega (arith, ((covers_clipped (max from (start + before)) (min stretch.from (end + before)) time).0 here).0)
-      | inr later ↦ omega (arith, apart.0, apart.1, pieces_later start end stretch.to (before + (stretch.to - stretch.from)) removed time
-          (apart_weaker stretch.to (suc stretch.to) removed (omega arith) apart.2) later)
+      | inr later ↦ omega (
+        arith,
+        apart.0,
+        apart.1,
+        pieces_later start end stretch.to (before + (stretch.to - stretch.from)) removed time
+            (apart_weaker stretch.to (suc stretch.to) removed (omega arith) apart.2) later,
+      )
     ]
 
 pieces_time : (start end from before : ℕ) (removed : List Piece) (time : ℕ) → AreApartFrom from removed → from ≤ time →
@@ -90,7 +95,7 @@ pieces_time start end from before (stretch ∷ removed) time apart late =
       | inl early ↦
           let removed_here = first_before time stretch removed apart.2 apart.1 (omega arith) in
           let not_later : Covers (pieces_after start end stretch.to (before + (stretch.to - stretch.from)) removed) time → ⊥ =
-              λ covers. omega (arith, pieces_later start end stretch.to (before + (stretch.to - stretch.from)) removed time apart_rest covers) in (
+          λ covers. omega (arith, pieces_later start end stretch.to (before + (stretch.to - stretch.from)) removed time apart_rest covers) in (
             (λ covers. elim (both.0 covers) [
               | inl here ↦ let between = clip.0 here in (
                 (λ gone. elim (whole.0 gone) [ inl in_first ↦ omega (arith, in_first.0, between.1) | inr in_rest ↦ omega (arith, covered_later (suc stretch.to) time removed apart.2 in_rest) ]),
@@ -129,10 +134,10 @@ pieces_total start end from before [] few apart =
 pieces_total start end from before (stretch ∷ removed) few apart = omega (
   arith,
   sum_by-append (λ (p : Piece). p.to - p.from) (clipped (max from (start + before)) (min stretch.from (end + before)))
-  (pieces_after start end stretch.to (before + (stretch.to - stretch.from)) removed),
+      (pieces_after start end stretch.to (before + (stretch.to - stretch.from)) removed),
   length_clipped (max from (start + before)) (min stretch.from (end + before)),
   pieces_total start end stretch.to (before + (stretch.to - stretch.from)) removed (omega (arith, apart.0, apart.1))
-  (apart_weaker stretch.to (suc stretch.to) removed (omega arith) apart.2),
+      (apart_weaker stretch.to (suc stretch.to) removed (omega arith) apart.2),
   next_total start end from before stretch.from stretch.to few apart.0 apart.1,
 )
 

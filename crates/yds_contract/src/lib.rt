@@ -11,4 +11,3 @@ mod contraction;
 mod removed;
 
 pub use contraction::Contraction;
-

@@ -66,8 +66,14 @@ one_gathered f xs i x ys y within is before here =
 -- a front above a speed has no more levels than a certificate may have
 pub few_above : (p q i : ℕ) (front levels : List Level) → front ≡ levels_above p q levels → IsCertificate levels → i ≤ length front → i ≤ MAX_LEVELS
 few_above p q i front levels is kept within =
-    omega (arith, within, ap length is, length-take-le _ levels (prefix_len-le-length (λ (level : Level). nat_lt (p * level.length) (level.work * q)) levels), kept.few,
-    prefix_len-le-length (λ (level : Level). nat_lt (p * level.length) (level.work * q)) levels)
+    omega (
+      arith,
+      within,
+      ap length is,
+      length-take-le _ levels (prefix_len-le-length (λ (level : Level). nat_lt (p * level.length) (level.work * q)) levels),
+      kept.few,
+      prefix_len-le-length (λ (level : Level). nat_lt (p * level.length) (level.work * q)) levels,
+    )
 
 -- the breaks of all levels and the one at the speed 0, from the end
 pub breaks_made : (levels : List Level) (i work : ℕ) (breaks : List Break) (first : Break) → AreFalling levels → length levels ≤ i →

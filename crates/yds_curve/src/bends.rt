@@ -57,8 +57,9 @@ pub fn curve(alloc: Global, certificate: &Certificate) -> Result<Vec<Break>, Mem
 fn break_at(level: &Level, work: u64, length: u64) -> Break
     requires { work ≤ MAX_WHOLE }
     ensures { result ≡ record {
-        speed = in_lowest_terms level.now.work level.now.length;
-        excess = in_lowest_terms (level.now.length * work - level.now.work * length) level.now.length } }
+      speed = in_lowest_terms level.now.work level.now.length;
+      excess = in_lowest_terms (level.now.length * work - level.now.work * length) level.now.length;
+    } }
 {
     let whole = u128::from(level.length) * u128::from(work);
     let parts = whole.saturating_sub(u128::from(level.work) * u128::from(length));

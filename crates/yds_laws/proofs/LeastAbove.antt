@@ -96,7 +96,7 @@ front_above (level ∷ levels) (suc i) falling within =
 pub level_excess : (levels : List Level) (i : ℕ) → AreFalling levels → i < length levels →
     least_above (level_at levels i).work (level_at levels i).length levels
     ≡ in_lowest_terms ((level_at levels i).length * sum_by (λ level. level.work) (take i levels) - (level_at levels i).work * sum_by (λ level. level.length) (take i levels))
-        (level_at levels i).length
+    (level_at levels i).length
 level_excess levels i falling within =
     let level = level_at levels i in
     let fronts = front_above levels i falling within in

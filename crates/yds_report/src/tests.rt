@@ -27,7 +27,8 @@ fn a_plan_is_reported_level_by_level(rt: HostRuntime) -> Result<(), Fail> {
 #[test]
 fn a_plan_is_told_as_json(rt: HostRuntime) -> Result<(), Fail> {
     let text = "job a 0 2 4\njob b 6 8 1\n";
-    let want = "{\"from\":0,\"idle\":4,\"jobs\":2,\"levels\":[{\"length\":2,\"speed\":\"2\",\"work\":4},{\"length\":2,\"speed\":\"0+1/2\",\"work\":1}],\"to\":8,\"work\":5}\n";
+    let want =
+        "{\"from\":0,\"idle\":4,\"jobs\":2,\"levels\":[{\"length\":2,\"speed\":\"2\",\"work\":4},{\"length\":2,\"speed\":\"0+1/2\",\"work\":1}],\"to\":8,\"work\":5}\n";
     let document = read_document(rt.alloc(), text.as_bytes())?;
     let planned = plan(rt.alloc(), document.instance.rows())?;
     let told = json(rt.alloc(), &document, &planned)?;

@@ -692,3 +692,61 @@ pub static POLICIES: [(&str, &str, Status, &str); 7] = [
     ),
     ("oa --grid 1000001", "job a 0 3 2\n", Status::Usage, USAGE),
 ];
+
+/// The same of plans on operating points.
+pub static ROUNDINGS: [(&str, &str, Status, &str); 9] = [
+    (
+        "round",
+        "job a 0 10 10\njob b 4 6 6\npoint 0 0\npoint 1 1\npoint 2 3\npoint 4 10\n",
+        Status::Done,
+        "job a 0 10 10\njob b 4 6 6\npoint 0 0\npoint 1 1\npoint 2 3\npoint 4 10\nslot a 0 1 2\nslot a 1 4 3\nslot b 4 5 4\nslot b 5 6 2\nslot a 6 7 2\nslot a 7 10 3\nenergy 25\n",
+    ),
+    (
+        "round",
+        "job a 0 10 10\njob b 4 6 6\npoint 0 0\npoint 1 1\npoint 2 3\n",
+        Status::No,
+        "too-slow work 6 length 2 top 2\n",
+    ),
+    (
+        "round",
+        "job a 0 4 8\npoint 0 1\npoint 2 5\n",
+        Status::Done,
+        "job a 0 4 8\npoint 0 1\npoint 2 5\nslot a 0 4 8\nenergy 20\n",
+    ),
+    (
+        "round",
+        "job a 0 4 8\npoint 0 1\npoint 4 9\n",
+        Status::Done,
+        "job a 0 4 8\npoint 0 1\npoint 4 9\nslot a 0 2 8\nenergy 20\n",
+    ),
+    (
+        "round",
+        "job a 0 3 2\njob b 0 3 5\npoint 0 0\npoint 2 1\npoint 4 3\n",
+        Status::Done,
+        "job a 0 3 2\njob b 0 3 5\npoint 0 0\npoint 2 1\npoint 4 3\nslot a 0 0+6/12 2\nslot b 0+3/6 3 5\nenergy 4\n",
+    ),
+    (
+        "round",
+        "",
+        Status::Refused,
+        "refused no-table\n",
+    ),
+    (
+        "round",
+        "# cpu0, governor trace\njob decode 0 33 26100\njob audio 5 20 3000\npoint 0 30\npoint 600 200\npoint 1200 700\npoint 1800 1600\nticks 1000\nrun decode 0 5000 1800\nrun audio 5000 10000 600\nrun decode 10000 19500 1800\n",
+        Status::Done,
+        "job decode 0 33 26100\njob audio 5 20 3000\npoint 0 30\npoint 600 200\npoint 1200 700\npoint 1800 1600\nslot decode 0 2+4600/13200 2818+1200/6600\nslot decode 2+2300/6600 5 1590+6000/6600\nslot audio 5 7+6600/13200 3000\nslot decode 7+6600/13200 12+600/13200 5454+3600/6600\nslot decode 12+300/6600 20 4772+4800/6600\nslot decode 20 26+1400/13200 7327+1800/6600\nslot decode 26+700/6600 33 4136+2400/6600\nenergy 14350\n",
+    ),
+    (
+        "round",
+        "job a 0 4 4\njob b 2 6 0\npoint 0 1\npoint 1 2\n",
+        Status::Done,
+        "job a 0 4 4\njob b 2 6 0\npoint 0 1\npoint 1 2\nslot a 0 2 2\nslot a 2 4 2\nenergy 10\n",
+    ),
+    (
+        "round",
+        "job a 0 10 10\njob b 4 6 6\npoint 0 0\npoint 1 3\npoint 2 4\npoint 4 10\n",
+        Status::Done,
+        "job a 0 10 10\njob b 4 6 6\npoint 0 0\npoint 1 3\npoint 2 4\npoint 4 10\nslot a 0 2+4/8 5\nslot b 4 5 4\nslot b 5 6 2\nslot a 6 8+4/8 5\nenergy 34\n",
+    ),
+];

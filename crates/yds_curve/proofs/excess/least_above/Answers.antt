@@ -25,8 +25,13 @@ pub loop-level-preserved : goal.loop-level-preserved
 loop-level-preserved c =
     let term : Level → ℕ = λ level. c.args.threshold.den * level.work - c.args.threshold.num * level.length in
     record {
-      parts = omega (arith, c.loop-level.invariant.parts, c.work_above-parts.ensures.value, ap term c.level-item.is,
-          sum_by_more term c.prefix-level-items.result.now c.loop-level.level-index c.level-item.result c.loop-level-test.true);
+      parts = omega (
+        arith,
+        c.loop-level.invariant.parts,
+        c.work_above-parts.ensures.value,
+        ap term c.level-item.is,
+        sum_by_more term c.prefix-level-items.result.now c.loop-level.level-index c.level-item.result c.loop-level-test.true,
+      );
       few = omega (arith, c.loop-level.invariant.few, c.work_above-parts.ensures.few);
     }
 
