@@ -117,3 +117,7 @@ walked_all start end removed i from before pieces all ended apart adds walked =
     subst (ArePieces removed start end)
     (sym walked.are ∙ ap (λ (ps : List Piece). pieces ++ ps) (at_drop_all (pieces_after start end from before) removed i ended) ∙ sym adds)
     (pieces_found start end removed apart)
+
+-- no stretch ends after the limit
+pub ends_fit : (removed : List Removed) → IsContraction removed → All (λ piece. piece.to ≤ MAX_TIME) (stretches_of removed)
+ends_fit removed kept = All-weaker IsPiece (λ (piece : Piece). piece.to ≤ MAX_TIME) (λ piece fits. fits.to_in_range) (stretches_of removed) kept.in_range

@@ -1,3 +1,4 @@
 pub mod Contracted
 pub mod Removed
 pub mod Clipped
+pub mod Removing

@@ -9,6 +9,10 @@
 
 mod contraction;
 mod removed;
+mod removing;
 
 pub use contraction::Contraction;
 
+
+#[cfg(test)]
+mod tests;
