@@ -136,7 +136,7 @@ filled_after {stretches = stretches} {capacities = capacities} {i = i} {now = no
     (is ∙ ap (λ (t : ℕ). record { queue = record now.queue { time = Some t }; ties = now.ties }) at) serves))
 
 -- an element that passes a filter stands in what it keeps
-contains_filter : {X : Type 0} (p : X → Bool) (xs : List X) (x : X) → p x ≡ true → Contains xs x → Contains (filter p xs) x
+pub contains_filter : {X : Type 0} (p : X → Bool) (xs : List X) (x : X) → p x ≡ true → Contains xs x → Contains (filter p xs) x
 contains_filter p [] x passes (k, within, is) = absurd (omega arith)
 contains_filter p (y ∷ ys) x passes (zero, within, is) = rw (ap p is ∙ passes) (0, omega arith, is)
 contains_filter p (y ∷ ys) x passes (suc k, within, is) =
@@ -147,7 +147,7 @@ contains_filter p (y ∷ ys) x passes (suc k, within, is) =
     ]
 
 -- a share stands among those of its stretch
-stands_in : (shares : List JobShare) (share : JobShare) → Contains shares share → Contains (shares_in shares share.stretch) share
+pub stands_in : (shares : List JobShare) (share : JobShare) → Contains shares share → Contains (shares_in shares share.stretch) share
 stands_in shares share there =
     contains_filter (λ other. share.stretch == other.stretch) shares share (eq-eqb share.stretch share.stretch refl) there
 
@@ -169,10 +169,10 @@ all_filled {jobs = jobs} {ties = ties} {grain = grain} {stretches = stretches} {
           (λ s. ((job_at jobs s.job).release ≤ (nth_stretch stretches share.stretch).from)
           × ((nth_stretch stretches share.stretch).to ≤ (job_at jobs s.job).deadline))
           (shares_in shares share.stretch) share
-          (λ j e below. in_window jobs ties grain stretches capacities shares are order uncut enough filling.serving
+          (λ j e below. in_window jobs (slice_index ties) grain stretches capacities shares are order uncut enough filling.serving
           share.stretch j e here below)
           (stands_in shares share (Contains-get_or shares k d within)) in
           record { released = window.0; due = window.1 };
       few = omega (arith, filling.few);
-      served = in_full jobs ties grain stretches capacities shares are order uncut enough filling.serving filling.known;
+      served = in_full jobs (slice_index ties) grain stretches capacities shares are order uncut enough filling.serving filling.known;
     }

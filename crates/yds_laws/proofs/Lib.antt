@@ -27,6 +27,8 @@ pub mod Differences
 pub mod Hinges
 pub mod Group
 pub mod Bound
+pub mod Served
+pub mod AdmittedRuns
 pub mod Exact
 pub mod Explained
 pub mod RunScale
@@ -44,6 +46,9 @@ pub mod LineEnergy
 pub mod PlansEnergy
 pub mod HullCosts
 pub mod LevelCosts
+pub mod LowestTerms
+pub mod LeastAbove
+pub mod CurveLine
 pub mod LevelTimes
 pub mod LevelShares
 pub mod LevelsEnergy
@@ -69,3 +74,11 @@ pub mod Within
 pub mod PlanText
 pub mod RoundText
 pub mod AnsweredOnce
+pub mod RunText
+pub mod ExactRuns
+pub mod TaskWork
+pub mod OneLevel
+pub mod TasksSaid
+pub mod TaskLimits
+pub mod TaskNames
+pub mod TaskTexts

@@ -8,6 +8,8 @@
 //! of the definitions, each with something that meets it and a near miss, are in `proofs/`.
 #![tactic(auto)]
 
+mod admission_laws;
+mod curve_laws;
 mod divisor_laws;
 mod energy_laws;
 mod hull_laws;
@@ -16,10 +18,15 @@ mod laws;
 mod plan_laws;
 mod reading_laws;
 mod rounding_laws;
+mod run_laws;
 mod scale_laws;
 mod task_laws;
 mod text_laws;
 
+pub use admission_laws::{
+    admitted_runs_are_within_the_top, served_exactly_where_no_interval_is_overfull,
+};
+pub use curve_laws::{curve_is_straight, levels_tell_least_excess};
 pub use divisor_laws::{divisor_is_greatest, lowest_terms_are_one, multiple_is_least};
 pub use energy_laws::{
     least_is_cheapest, lines_are_at_most_energy, plans_cost_least, plans_cost_least_on_points,
@@ -47,10 +54,13 @@ pub use rounding_laws::{
     rounded_costs_its_levels, rounded_holds_least_energy, rounded_is_audited, rounded_is_cheapest,
     rounded_is_feasible, too_slow_is_exact,
 };
+pub use run_laws::{
+    average_rate_is_exact, optimal_available_is_exact, runs_are_feasible, runs_are_read,
+};
 pub use scale_laws::{
     equality_is_of_values, equality_is_transitive, multiple_is_of_values, one_scale_decides,
     order_agrees_with_equality, order_is_of_values, order_is_transitive, scale_exists,
     scale_keeps_feasible, scale_multiplies_excess, sum_is_of_values,
 };
-pub use task_laws::task_jobs_end_in_time;
+pub use task_laws::{expansions_are_read, one_level_is_planned, task_jobs_end_in_time};
 pub use text_laws::{fields_are_slices, lines_are_slices};
