@@ -1,12 +1,10 @@
 -- Removed stretches, one put after another, each with the removed time before it.
-use Rattle.std.proofs.Common.{◌≡◌, ℕ, zero, suc, ◌+◌, ◌-◌, ◌<◌, ◌≤◌, ◌⊎◌, List, [], ◌∷◌, ◌++◌, ◌∙◌, length, get_or, take, drop, map, ap, sym, subst, inl, inr, arith, refl}
-use Rattle.std.specs.List.{All, sum_by}
+use Rattle.std.proofs.Common.{◌≡◌, ℕ, ◌+◌, ◌-◌, ◌<◌, List, [], ◌∷◌, ◌++◌, ◌∙◌, length, take, ap, sym, inl, inr, arith}
 use Rattle.std.proofs.lemmas.Bool.{cases_lt}
-use Rattle.std.proofs.lemmas.List.{get_or_append_left, get_or_push, length_push, length-map, map_push, take_all, take_at, take-append-le, take_more, take-map}
-use Rattle.std.proofs.lemmas.List.Sums.{sum_by_push, sum_by-append}
-use Rattle.yds_model.specs.Piece.{Piece, IsForward, total_length}
+use Rattle.std.proofs.lemmas.List.{get_or_append_left, get_or_push, length_push, map_push, take_all, take_at, take-append-le, take_more}
+use Rattle.std.proofs.lemmas.List.Sums.{sum_by_push}
+use Rattle.yds_model.specs.Piece.{Piece, total_length}
 use Rattle.yds_contract.specs.declared.removed.Removed.{Removed}
-use Rattle.yds_contract.specs.Contracted.{AreApartFrom}
 use Rattle.yds_contract.specs.Removed.{removed_at, no_removed, stretch_of, stretches_of, AreSummed}
 use Rattle.yds_contract.specs.Removing.{IsAppended}
 use Rattle.yds_contract.proofs.Cells.{piece_at}

@@ -1,13 +1,13 @@
 -- Removed stretches with one more, which those that touch it or lie inside it join.
-use Rattle.std.proofs.Common.{◌≡◌, ℕ, zero, suc, ◌+◌, ◌-◌, ◌<◌, ◌≤◌, ◌⊎◌, List, [], ◌∷◌, ◌++◌, ◌∙◌, ap, sym, subst, inl, inr, arith, refl}
+use Rattle.std.proofs.Common.{◌≡◌, ℕ, suc, ◌+◌, ◌-◌, ◌<◌, ◌≤◌, ◌⊎◌, List, [], ◌∷◌, ◌∙◌, ap, sym, subst, inl, inr, arith, refl}
 use Rattle.std.specs.Prelude.{◌↔◌, nat_lt, nat_le, if◌then◌else◌}
-use Rattle.std.specs.List.{All, sum_by}
+use Rattle.std.specs.List.{All}
 use Rattle.std.proofs.lemmas.Bool.{cases_lt, cond-true, cond-false, lt-ltb, le-ltb, le-leb, lt-leb}
 use Rattle.std.proofs.lemmas.List.Sums.{sum_by-cons}
 use Rattle.std.proofs.lemmas.List.Elements.{All-cons, All-nil, All-head, All-tail}
 use Rattle.yds_model.specs.Piece.{Piece, Covers, total_length}
 use Rattle.yds_certificate.proofs.Cover.{Covers-cons}
-use Rattle.yds_contract.specs.Contracted.{AreApartFrom, removed_before, place, HasPlace, Removes}
+use Rattle.yds_contract.specs.Contracted.{AreApartFrom, removed_before, Removes}
 use Rattle.yds_contract.proofs.Cells.{none_covered, apart_weaker, covered_later, none_before, first_before, rest_before, few_before}
 
 -- These stretches with one more from here to there in the time that isn't removed by them. Where the first lies before it,
@@ -59,14 +59,28 @@ joined_total from to (first ∷ rest) forward apart =
     let later : AreApartFrom 0 rest = apart_weaker 0 (suc first.to) rest (omega arith) apart.2 in
     let sum = sum_by-cons (λ (p : Piece). p.to - p.from) first rest in
     elim (lies from to first) [
-      | before less ↦ omega (arith, ap (λ (ps : List Piece). total_length ps) (joined_before from to first rest less), sum,
-          sum_by-cons (λ (p : Piece). p.to - p.from) first (joined (from + (first.to - first.from)) (to + (first.to - first.from)) rest),
-          joined_total (from + (first.to - first.from)) (to + (first.to - first.from)) rest (omega arith) later)
-      | inside more within ↦ omega (arith, ap (λ (ps : List Piece). total_length ps) (joined_inside from to first rest more within), sum, apart.1,
-          joined_total from (to + (first.to - first.from)) rest (omega arith) later)
-      | after more beyond ↦ omega (arith, ap (λ (ps : List Piece). total_length ps) (joined_after from to first rest more beyond), sum, apart.1,
-          sum_by-cons (λ (p : Piece). p.to - p.from) (record { from = from; to = to }) (joined first.from first.to rest),
-          joined_total first.from first.to rest apart.1 later)
+      | before less ↦ omega (
+        arith,
+        ap (λ (ps : List Piece). total_length ps) (joined_before from to first rest less),
+        sum,
+        sum_by-cons (λ (p : Piece). p.to - p.from) first (joined (from + (first.to - first.from)) (to + (first.to - first.from)) rest),
+        joined_total (from + (first.to - first.from)) (to + (first.to - first.from)) rest (omega arith) later,
+      )
+      | inside more within ↦ omega (
+        arith,
+        ap (λ (ps : List Piece). total_length ps) (joined_inside from to first rest more within),
+        sum,
+        apart.1,
+        joined_total from (to + (first.to - first.from)) rest (omega arith) later,
+      )
+      | after more beyond ↦ omega (
+        arith,
+        ap (λ (ps : List Piece). total_length ps) (joined_after from to first rest more beyond),
+        sum,
+        apart.1,
+        sum_by-cons (λ (p : Piece). p.to - p.from) (record { from = from; to = to }) (joined first.from first.to rest),
+        joined_total first.from first.to rest apart.1 later,
+      )
     ]
 
 -- the ends stay within a limit
@@ -92,8 +106,11 @@ joined_ends most from to (first ∷ rest) forward apart fits ends =
 pub joined_reaches : (most from to : ℕ) (removed : List Piece) → All (λ piece. piece.to ≤ most) (joined from to removed) → to ≤ most
 joined_reaches most from to [] ends = ends 0 (record { from = from; to = to }) (omega arith)
 joined_reaches most from to (first ∷ rest) ends = elim (lies from to first) [
-  | before less ↦ omega (arith, joined_reaches most (from + (first.to - first.from)) (to + (first.to - first.from)) rest
-      (All-tail (λ (p : Piece). p.to ≤ most) first (joined (from + (first.to - first.from)) (to + (first.to - first.from)) rest) (subst (All (λ (p : Piece). p.to ≤ most)) (joined_before from to first rest less) ends)))
+  | before less ↦ omega (
+    arith,
+    joined_reaches most (from + (first.to - first.from)) (to + (first.to - first.from)) rest
+        (All-tail (λ (p : Piece). p.to ≤ most) first (joined (from + (first.to - first.from)) (to + (first.to - first.from)) rest) (subst (All (λ (p : Piece). p.to ≤ most)) (joined_before from to first rest less) ends)),
+  )
   | inside more within ↦ omega (arith, joined_reaches most from (to + (first.to - first.from)) rest (subst (All (λ (p : Piece). p.to ≤ most)) (joined_inside from to first rest more within) ends))
   | after more beyond ↦ All-head (λ (p : Piece). p.to ≤ most) (record { from = from; to = to }) (joined first.from first.to rest) (subst (All (λ (p : Piece). p.to ≤ most)) (joined_after from to first rest more beyond) ends)
 ]
@@ -124,7 +141,7 @@ inside_time from to start (first ∷ rest) time forward begun ends apart late =
       | inr within ↦
           let same = joined_inside from to first rest (omega (arith, apart.0)) within in
           let more = inside_time from (to + (first.to - first.from)) first.to rest time (omega arith) (omega (arith, apart.0, apart.1)) (omega (arith, apart.1))
-              (apart_weaker first.to (suc first.to) rest (omega arith) apart.2) late in
+          (apart_weaker first.to (suc first.to) rest (omega arith) apart.2) late in
           elim (cases_lt time first.to) [
             | inr past ↦
                 let gone = rest_before time first rest apart.1 past in (

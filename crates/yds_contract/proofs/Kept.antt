@@ -1,8 +1,8 @@
 -- What a contraction keeps of its removed stretches, each beside the removed time before it.
-use Rattle.std.proofs.Common.{◌≡◌, ℕ, zero, suc, ◌+◌, ◌-◌, ◌<◌, ◌≤◌, min, max, List, [], ◌∷◌, ◌++◌, ◌∙◌, length, get_or, take, drop, map, ap, sym, subst, inl, inr, add-one, arith, refl}
-use Rattle.std.specs.List.{All, sum_by}
+use Rattle.std.proofs.Common.{◌≡◌, ℕ, suc, ◌+◌, ◌-◌, ◌<◌, ◌≤◌, min, max, List, ◌∷◌, ◌++◌, ◌∙◌, length, take, drop, ap, sym, subst, arith}
+use Rattle.std.specs.List.{All}
 use Rattle.std.specs.List.Sorted.{IsNonDecreasingBy}
-use Rattle.std.proofs.lemmas.List.{get_or-map, length-map, get_or_default, append_assoc, at_drop_more, at_drop_all, take_more, take_all, get_or_default}
+use Rattle.std.proofs.lemmas.List.{get_or-map, length-map, get_or_default, append_assoc, at_drop_more, at_drop_all, take_more, get_or_default}
 use Rattle.std.proofs.lemmas.List.Elements.{All-weaker}
 use Rattle.std.proofs.lemmas.List.Sums.{sum_by-take-le, sum_by_push}
 use Rattle.yds_model.specs.declared.limits.TheConstants.{MAX_TIME}
@@ -50,9 +50,9 @@ pub before_by : (removed : List Removed) (time k : ℕ) → IsContraction remove
     removed_before (stretches_of removed) time ≡ (removed_at removed k).before + (min time (removed_at removed k).to - (removed_at removed k).from)
 before_by removed time k kept within begun next =
     let last = last_begun 0 time k (stretches_of removed) kept.apart (omega (arith, count removed)) (omega (arith, from_at removed k within, begun))
-        (λ more. let inside : suc k < length removed = omega (arith, count removed) in omega (arith, next inside, from_at removed (suc k) inside)) in
+    (λ more. let inside : suc k < length removed = omega (arith, count removed) in omega (arith, next inside, from_at removed (suc k) inside)) in
     let same : min time (piece_at (stretches_of removed) k).to - (piece_at (stretches_of removed) k).from ≡ min time (removed_at removed k).to - (removed_at removed k).from =
-        ap (λ (piece : Piece). min time piece.to - piece.from) (stretch_at removed k within) in
+    ap (λ (piece : Piece). min time piece.to - piece.from) (stretch_at removed k within) in
     omega (arith, last, same, kept.summed k within)
 
 -- the same, by the number of those that begin before it
@@ -93,8 +93,12 @@ sums_more removed i before within is =
 pub next_fits : (removed : List Piece) (i before : ℕ) (stretch : Piece) → i < length removed → stretch ≡ piece_at removed i → before ≡ total_length (take i removed) →
     before + (stretch.to - stretch.from) ≤ total_length removed
 next_fits removed i before stretch within is sums =
-    omega (arith, ap (λ (piece : Piece). before + (piece.to - piece.from)) is, sums_more removed i before within sums,
-    before_fits removed (i + 1) (before + ((piece_at removed i).to - (piece_at removed i).from)) (sums_more removed i before within sums))
+    omega (
+      arith,
+      ap (λ (piece : Piece). before + (piece.to - piece.from)) is,
+      sums_more removed i before within sums,
+      before_fits removed (i + 1) (before + ((piece_at removed i).to - (piece_at removed i).from)) (sums_more removed i before within sums),
+    )
 
 pub walked_more : (start end : ℕ) (removed : List Piece) (i from before : ℕ) (pieces more : List Piece) (stretch : Piece) → i < length removed → stretch ≡ piece_at removed i →
     more ≡ pieces ++ clipped (max from (start + before)) (min stretch.from (end + before)) → end + total_length removed ≤ MAX_TIME →

@@ -1,16 +1,14 @@
 -- The pieces of real time between two places are what isn't removed and has a place there.
-use Rattle.std.proofs.Common.{◌≡◌, ℕ, zero, suc, ◌+◌, ◌-◌, ◌<◌, ◌≤◌, ◌⊎◌, min, max, List, [], ◌∷◌, ◌++◌, ◌∙◌, ap, subst, inl, inr, arith, refl}
-use Rattle.std.specs.Prelude.{◌↔◌, nat_lt, if◌then◌else◌}
-use Rattle.std.specs.List.{All, sum_by}
-use Rattle.std.proofs.lemmas.Bool.{cases_lt, cases_Bool, ltb-true, ltb-false, cond-true, cond-false, lt-ltb, le-ltb}
+use Rattle.std.proofs.Common.{◌≡◌, ℕ, suc, ◌+◌, ◌-◌, ◌<◌, ◌≤◌, ◌⊎◌, min, max, List, [], ◌∷◌, ◌++◌, ◌∙◌, subst, inl, inr, arith}
+use Rattle.std.specs.Prelude.{◌↔◌, nat_lt}
+use Rattle.std.proofs.lemmas.Bool.{cases_lt, cond-true, cond-false, lt-ltb, le-ltb}
 use Rattle.std.proofs.lemmas.List.{append-nil}
-use Rattle.std.proofs.lemmas.List.Sums.{sum_by-cons, sum_by-append}
+use Rattle.std.proofs.lemmas.List.Sums.{sum_by-append}
 use Rattle.yds_model.specs.Piece.{Piece, Covers, total_length}
-use Rattle.yds_certificate.specs.Merging.{IsInPiece}
 use Rattle.yds_certificate.proofs.Cover.{Covers-cons, Covers-append}
-use Rattle.yds_contract.specs.Contracted.{AreApartFrom, removed_before, place, HasPlace, ArePieces}
+use Rattle.yds_contract.specs.Contracted.{AreApartFrom, removed_before, ArePieces}
 use Rattle.yds_contract.specs.Clipped.{clipped, pieces_after}
-use Rattle.yds_contract.proofs.Cells.{none_covered, apart_weaker, covered_later, none_before, first_before, rest_before, few_before}
+use Rattle.yds_contract.proofs.Cells.{none_covered, apart_weaker, covered_later, first_before, rest_before, few_before}
 
 -- one piece, or none
 clipped_cases : (from to : ℕ) → ((from < to) × (clipped from to ≡ record { from = from; to = to } ∷ [])) ⊎ ((to ≤ from) × (clipped from to ≡ []))
@@ -53,8 +51,13 @@ pieces_later start end from before [] time apart covers = omega (arith, ((covers
 pieces_later start end from before (stretch ∷ removed) time apart covers =
     elim ((Covers-append (clipped (max from (start + before)) (min stretch.from (end + before))) (pieces_after start end stretch.to (before + (stretch.to - stretch.from)) removed) time).0 covers) [
       | inl here ↦ omega (arith, ((covers_clipped (max from (start + before)) (min stretch.from (end + before)) time).0 here).0)
-      | inr later ↦ omega (arith, apart.0, apart.1, pieces_later start end stretch.to (before + (stretch.to - stretch.from)) removed time
-          (apart_weaker stretch.to (suc stretch.to) removed (omega arith) apart.2) later)
+      | inr later ↦ omega (
+        arith,
+        apart.0,
+        apart.1,
+        pieces_later start end stretch.to (before + (stretch.to - stretch.from)) removed time
+            (apart_weaker stretch.to (suc stretch.to) removed (omega arith) apart.2) later,
+      )
     ]
 
 pieces_time : (start end from before : ℕ) (removed : List Piece) (time : ℕ) → AreApartFrom from removed → from ≤ time →
@@ -90,7 +93,7 @@ pieces_time start end from before (stretch ∷ removed) time apart late =
       | inl early ↦
           let removed_here = first_before time stretch removed apart.2 apart.1 (omega arith) in
           let not_later : Covers (pieces_after start end stretch.to (before + (stretch.to - stretch.from)) removed) time → ⊥ =
-              λ covers. omega (arith, pieces_later start end stretch.to (before + (stretch.to - stretch.from)) removed time apart_rest covers) in (
+          λ covers. omega (arith, pieces_later start end stretch.to (before + (stretch.to - stretch.from)) removed time apart_rest covers) in (
             (λ covers. elim (both.0 covers) [
               | inl here ↦ let between = clip.0 here in (
                 (λ gone. elim (whole.0 gone) [ inl in_first ↦ omega (arith, in_first.0, between.1) | inr in_rest ↦ omega (arith, covered_later (suc stretch.to) time removed apart.2 in_rest) ]),
@@ -129,10 +132,10 @@ pieces_total start end from before [] few apart =
 pieces_total start end from before (stretch ∷ removed) few apart = omega (
   arith,
   sum_by-append (λ (p : Piece). p.to - p.from) (clipped (max from (start + before)) (min stretch.from (end + before)))
-  (pieces_after start end stretch.to (before + (stretch.to - stretch.from)) removed),
+      (pieces_after start end stretch.to (before + (stretch.to - stretch.from)) removed),
   length_clipped (max from (start + before)) (min stretch.from (end + before)),
   pieces_total start end stretch.to (before + (stretch.to - stretch.from)) removed (omega (arith, apart.0, apart.1))
-  (apart_weaker stretch.to (suc stretch.to) removed (omega arith) apart.2),
+      (apart_weaker stretch.to (suc stretch.to) removed (omega arith) apart.2),
   next_total start end from before stretch.from stretch.to few apart.0 apart.1,
 )
 

@@ -13,6 +13,5 @@ mod removing;
 
 pub use contraction::Contraction;
 
-
 #[cfg(test)]
 mod tests;

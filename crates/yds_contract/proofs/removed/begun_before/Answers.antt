@@ -1,4 +1,4 @@
-use Rattle.std.proofs.Common.{ℕ, ◌<◌, length, arith, rules}
+use Rattle.std.proofs.Common.{arith, rules}
 use Rattle.std.specs.Prelude.{nat_lt}
 use Rattle.std.proofs.lemmas.Fn.{always_returns_same}
 use Rattle.std.proofs.lemmas.Bool.{ltb-true, ltb-false}
@@ -12,8 +12,8 @@ pub returns : goal.returns
 returns c =
     let removed = c.args.removed.now in
     let found = c.partition_point.ensures.partitioned (λ (stretch : Removed). nat_lt stretch.from c.args.time)
-        (always_returns_same _ _ _ (λ a r f' k. (search rules, search rules)))
-        (IsPartitionedBy-ltb (λ (stretch : Removed). stretch.from) removed c.args.time (begin_in_order removed c.requires)) in
+    (always_returns_same _ _ _ (λ a r f' k. (search rules, search rules)))
+    (IsPartitionedBy-ltb (λ (stretch : Removed). stretch.from) removed c.args.time (begin_in_order removed c.requires)) in
     record {
       within = c.partition_point.ensures.bound;
       before = λ i less. ltb-true _ _ (found.0 i no_removed (omega (arith, c.partition_point.ensures.bound)) less);

@@ -1,6 +1,5 @@
-use Rattle.std.proofs.Common.{length, ◌-◌, ◌<◌, ◌≤◌, ap, sym, arith}
+use Rattle.std.proofs.Common.{length, ◌-◌, ◌<◌, ap, arith}
 use Rattle.yds_model.specs.Piece.{Piece}
-use Rattle.yds_contract.specs.Removed.{removed_at}
 use Rattle.yds_contract.proofs.Cells.{no_piece}
 use Rattle.yds_contract.proofs.Kept.{count, stretch_at}
 use Rattle.yds_contract.proofs.Appending.{total_by_last}

@@ -1,10 +1,9 @@
-use Rattle.std.proofs.Common.{◌≡◌, ℕ, ◌+◌, ◌-◌, ◌<◌, ◌≤◌, List, length, ◌++◌, ap, sym, ◌∙◌, arith, refl}
+use Rattle.std.proofs.Common.{◌≡◌, ◌<◌, length, ap, sym, arith}
 use Rattle.yds_model.specs.Piece.{Piece}
 use Rattle.yds_contract.specs.Removed.{removed_at, stretch_of, stretches_of}
 use Rattle.yds_contract.proofs.Kept.{count, stretch_at, removed_forward, ends_fit}
 use Rattle.yds_contract.proofs.Cells.{piece_at, no_piece}
-use Rattle.yds_contract.proofs.Joined.{joined}
-use Rattle.yds_contract.proofs.Joining.{Joining, Fits, fits_of, changed_forward, changed_fits, end_reached, joining_before, joining_inside, joining_after, joining_all, joined_kept, joined_changes}
+use Rattle.yds_contract.proofs.Joining.{fits_of, changed_forward, changed_fits, end_reached, joining_before, joining_inside, joining_after, joining_all, joined_kept, joined_changes}
 use Rattle.yds_contract.proofs.removing.with_removed.Goals as goal
 use Rattle.yds_contract.proofs.removing.with_removed.Goals.{then-stretch-from+in_ok-append, else-stretch-from+then-stretch-to, else-stretch-from+else-stretch-to+in_ok-append-2}
 
@@ -48,7 +47,7 @@ overflow_add-to c =
     omega (
       arith,
       end_reached c.args.start c.args.end (stretches_of removed) i c.loop-stretch.from c.loop-stretch.to c.loop-stretch.changed.items
-      (fits_of removed c.args.start c.args.end c.requires.removed c.requires.forward c.requires.within) c.loop-stretch.invariant,
+          (fits_of removed c.args.start c.args.end c.requires.removed c.requires.forward c.requires.within) c.loop-stretch.invariant,
       ends_fit removed c.requires.removed i no_piece (omega (arith, count removed)),
       ap (λ (p : Piece). p.to) (stretch_at removed i c.loop-stretch-test.true),
       c.loop-stretch.invariant.forward,
@@ -61,7 +60,7 @@ overflow_add-to-then-stretch-to c =
     omega (
       arith,
       end_reached c.args.start c.args.end (stretches_of removed) i c.loop-stretch.from c.loop-stretch.to c.loop-stretch.changed.items
-      (fits_of removed c.args.start c.args.end c.requires.removed c.requires.forward c.requires.within) c.loop-stretch.invariant,
+          (fits_of removed c.args.start c.args.end c.requires.removed c.requires.forward c.requires.within) c.loop-stretch.invariant,
       ends_fit removed c.requires.removed i no_piece (omega (arith, count removed)),
       ap (λ (p : Piece). p.to) (stretch_at removed i c.loop-stretch-test.true),
       c.loop-stretch.invariant.forward,
@@ -74,7 +73,7 @@ overflow_add-from c =
     omega (
       arith,
       end_reached c.args.start c.args.end (stretches_of removed) i c.loop-stretch.from c.loop-stretch.to c.loop-stretch.changed.items
-      (fits_of removed c.args.start c.args.end c.requires.removed c.requires.forward c.requires.within) c.loop-stretch.invariant,
+          (fits_of removed c.args.start c.args.end c.requires.removed c.requires.forward c.requires.within) c.loop-stretch.invariant,
       ends_fit removed c.requires.removed i no_piece (omega (arith, count removed)),
       ap (λ (p : Piece). p.to) (stretch_at removed i c.loop-stretch-test.true),
       c.loop-stretch.invariant.forward,
