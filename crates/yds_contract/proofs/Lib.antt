@@ -4,3 +4,4 @@ pub mod Kept
 pub mod Joined
 pub mod Appending
 pub mod Joining
+pub mod Cutting
