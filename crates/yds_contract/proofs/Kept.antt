@@ -1,8 +1,8 @@
 -- What a contraction keeps of its removed stretches, each beside the removed time before it.
-use Rattle.std.proofs.Common.{◌≡◌, ℕ, zero, suc, ◌+◌, ◌-◌, ◌<◌, ◌≤◌, min, max, List, [], ◌∷◌, ◌++◌, ◌∙◌, length, get_or, take, drop, map, ap, sym, subst, inl, inr, add-one, arith, refl}
-use Rattle.std.specs.List.{All, sum_by}
+use Rattle.std.proofs.Common.{◌≡◌, ℕ, suc, ◌+◌, ◌-◌, ◌<◌, ◌≤◌, min, max, List, ◌∷◌, ◌++◌, ◌∙◌, length, take, drop, ap, sym, subst, arith}
+use Rattle.std.specs.List.{All}
 use Rattle.std.specs.List.Sorted.{IsNonDecreasingBy}
-use Rattle.std.proofs.lemmas.List.{get_or-map, length-map, get_or_default, append_assoc, at_drop_more, at_drop_all, take_more, take_all, get_or_default}
+use Rattle.std.proofs.lemmas.List.{get_or-map, length-map, get_or_default, append_assoc, at_drop_more, at_drop_all, take_more, get_or_default}
 use Rattle.std.proofs.lemmas.List.Elements.{All-weaker}
 use Rattle.std.proofs.lemmas.List.Sums.{sum_by-take-le, sum_by_push}
 use Rattle.yds_model.specs.declared.limits.TheConstants.{MAX_TIME}
@@ -121,3 +121,7 @@ walked_all start end removed i from before pieces all ended apart adds walked =
     subst (ArePieces removed start end)
     (sym walked.are ∙ ap (λ (ps : List Piece). pieces ++ ps) (at_drop_all (pieces_after start end from before) removed i ended) ∙ sym adds)
     (pieces_found start end removed apart)
+
+-- no stretch ends after the limit
+pub ends_fit : (removed : List Removed) → IsContraction removed → All (λ piece. piece.to ≤ MAX_TIME) (stretches_of removed)
+ends_fit removed kept = All-weaker IsPiece (λ (piece : Piece). piece.to ≤ MAX_TIME) (λ piece fits. fits.to_in_range) (stretches_of removed) kept.in_range

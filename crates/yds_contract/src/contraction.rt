@@ -1,8 +1,9 @@
 ghost use Rattle.std.specs.Prelude.{◌≡◌, ◌<◌, ◌≤◌, [], IfOk, OnOk, OnErr};
 ghost use Rattle.yds_model.specs.declared.limits.TheConstants.{MAX_TIME};
-ghost use Rattle.yds_contract.specs.Contracted.{place, AreApartFrom, ArePieces, Removes};
+ghost use Rattle.yds_contract.specs.Contracted.{place, ArePieces, Removes};
 
 use crate::removed::{Removed, pieces_between, time_before};
+use crate::removing::with_removed;
 use std::alloc::Global;
 use std::marker::Model;
 use yds_certificate::Piece;
@@ -54,5 +55,17 @@ impl Contraction {
         ensures { IfOk result (λ pieces. ArePieces self.now start end pieces.items) }
     {
         pieces_between(*self.removed.allocator(), &self.removed, start, end)
+    }
+
+    /// Removes the pieces from `start` to `end` besides. The contraction is unchanged after want of memory.
+    pub fn remove(&mut self, start: u32, end: u32) -> Result<(), Memory>
+        requires forward { start < end }
+        requires within { end ≤ place self.old MAX_TIME }
+        ensures ok { OnOk result (Removes self.old start end self.new) }
+        ensures err { OnErr result (self.new ≡ self.old) }
+    {
+        let alloc = *self.removed.allocator();
+        self.removed = with_removed(alloc, &self.removed, start, end)?;
+        Ok(())
     }
 }

@@ -9,5 +9,9 @@
 
 mod contraction;
 mod removed;
+mod removing;
 
 pub use contraction::Contraction;
+
+#[cfg(test)]
+mod tests;

@@ -1,11 +1,8 @@
-use Rattle.std.proofs.Common.{◌≡◌, ℕ, ◌+◌, ◌<◌, ◌≤◌, List, length, take, ◌++◌, min, max, ap, sym, ◌∙◌, arith, refl}
-use Rattle.std.proofs.lemmas.List.{append-nil}
-use Rattle.yds_model.specs.declared.limits.TheConstants.{MAX_TIME}
-use Rattle.yds_model.specs.Piece.{Piece, total_length}
+use Rattle.std.proofs.Common.{List, ◌++◌, ap, sym, arith, refl}
+use Rattle.yds_model.specs.Piece.{Piece}
 use Rattle.yds_contract.specs.Removed.{removed_at, stretch_of, stretches_of}
 use Rattle.yds_contract.specs.Clipped.{pieces_after}
-use Rattle.yds_contract.proofs.Cells.{piece_at}
-use Rattle.yds_contract.proofs.Kept.{Walked, count, stretch_at, removed_forward, end_fits, next_fits, walked_more, walked_all}
+use Rattle.yds_contract.proofs.Kept.{count, stretch_at, removed_forward, end_fits, next_fits, walked_more, walked_all}
 use Rattle.yds_contract.proofs.removed.pieces_between.Goals as goal
 
 pub loop-stretch-init : goal.loop-stretch-init
