@@ -120,9 +120,9 @@ test_trace() {
 	refuses "trace: a switch is missing" 1 failed "trace.awk: line 13: a switch is missing: kworker/0:1 leaves CPU 0, and the last to come was decode; record again, perhaps with trace-cmd" \
 		trace -v $t "$work/missing"
 	sed '26,32s/decode:1201/decode:1299/; 26,32s/comm=decode pid=1201/comm=decode pid=1299/' trace-report.txt >"$work/two"
-	refuses "trace: two threads of one name" 1 failed "trace.awk: line 31: two threads are named decode, 1201 and 1299; give the one that is meant, as tasks=1299=decode:.." \
+	refuses "trace: two threads of one name" 1 failed "trace.awk: line 26: two threads are named decode, 1201 and 1299; give the one that is meant, as tasks=1299=decode:.." \
 		trace -v $t "$work/two"
-	refuses "trace: too much work" 1 failed "trace.awk: decode.1 has a work of 1128560, above 1000000; give a coarser us= or khz= (or does the task never sleep?)" \
+	refuses "trace: too much work" 1 failed "trace.awk: decode.0 has a work of 1049984, above 1000000; give a coarser us= or khz= (or does the task never sleep?)" \
 		trace -v $t -v us=2 -v khz=3000 trace-report.txt
 	refuses "trace: a deadline within a unit" 1 failed "trace.awk: decode.0 has its deadline within one unit of time; give a finer us=" \
 		trace -v tasks=decode:0.5 -v us=1000 trace-report.txt
@@ -132,8 +132,7 @@ test_trace() {
 	cat "$expected/points.txt" "$expected/trace.txt" >"$work/both"
 	answers "trace: feasible on the points" 0 feasible from "$work/both" "$YDS" audit --points
 	answers "trace: late" 1 "late slot 19 decode.2 5319 deadline 5150" from "$expected/trace-late.txt" "$YDS" audit
-	echo failed >"$work/failed"
-	answers "trace: what failed is refused" 3 "refused 1 1 UnknownKind" from "$work/failed" "$YDS" audit
+	answers "trace: what failed is refused" 3 "refused 1 1 UnknownKind" from bad/failed.txt "$YDS" audit
 }
 
 test_points() {
@@ -160,6 +159,154 @@ test_points() {
 	sed 's/cpu0\/flags:0x1/cpu0\/flags:0x5/' energy-model.txt >"$work/artificial"
 	refuses "points: no watts" 1 failed "points.awk: the powers of cpu0 are no watts (flag 4); give a table of measured powers" points -v domain=cpu0 "$work/artificial"
 }
+
+rtapp() { sh "$here/rtapp.sh" "$@"; }
+
+test_rtapp() {
+	want jq || return
+	same "rtapp: tasks" 0 tasks.txt rtapp -m 1416 -c 0 workload.json
+	same "rtapp: jobs of phases" 0 phases.txt rtapp -m 1416 -j workload-phases.json
+	refuses "rtapp: a key twice" 1 failed "rtapp.sh: the key tasks.codec.run stands twice, and every reader of JSON keeps but one; number the keys, as run0 and run1" \
+		rtapp -m 1416 workload-twice.json
+	refuses "rtapp: several CPUs" 1 failed "rtapp.sh: the tasks have different cpus; give -c CPU" rtapp -m 1416 workload.json
+	refuses "rtapp: phases without -j" 1 failed "rtapp.sh: ramp: several phases; give -j" rtapp -m 1416 workload-phases.json
+	refuses "rtapp: a period that is no multiple" 1 failed "rtapp.sh: decode: the period is no multiple of the time unit, 7 microseconds; give a finer -u, or -j" \
+		rtapp -m 1416 -c 0 -u 7 workload.json
+	refuses "rtapp: no frequency" 2 failed "rtapp.sh: no -m MHZ, the frequency to which rt-app was calibrated" rtapp workload.json
+	printf '{\n\t"tasks" : { "a" : {}\n\t} } }\n' >"$work/unmatched"
+	refuses "rtapp: no JSON" 1 failed "rtapp.sh: Unmatched '}' at line 3, column 6" rtapp -m 1416 "$work/unmatched"
+	for event in '"lock":"m"@a: lock makes jobs depend on more than time; only run, timer, sleep and yield can be read' \
+		'"runtime":5@a: runtime is time and not work; give run' '"timer0":{"period":9}@a: two timers' \
+		'"sleep":5@a: a timer and a sleep together' '"loop":3@a: it ends after its loops; give -j'; do
+		printf '{"tasks":{"a":{"run":5,"timer":{"ref":"x","period":1000},%s}},"global":{"duration":1}}\n' "${event%%@*}" >"$work/event"
+		refuses "rtapp: ${event%%@*}" 1 failed "rtapp.sh: ${event#*@}" rtapp -m 1000 "$work/event"
+	done
+	printf '{"tasks":{"a":{"run":5}},"global":{"duration":1}}\n' >"$work/event"
+	refuses "rtapp: a run without a timer" 1 failed "rtapp.sh: a: a run without a timer has no period" rtapp -m 1000 "$work/event"
+	want expand || return
+	rtapp -m 1416 -c 0 workload.json | "$YDS" expand | grep '^job' >"$work/expanded"
+	rtapp -m 1416 -c 0 -j workload.json | grep '^job' >"$work/jobs"
+	if cmp -s "$work/expanded" "$work/jobs" && [ -s "$work/jobs" ]; then pass; else fail "rtapp: -j and expand give the same jobs"; fi
+}
+
+energy() { recipe energy.awk "$@"; }
+test_energy() {
+	cat "$expected/points.txt" "$expected/trace.txt" >"$work/both"
+	same "energy: of a trace" 0 energy.txt energy -v name=governor "$work/both"
+	same "energy: flat out" 0 energy-at.txt energy -v at=142 "$work/both"
+	refuses "energy: no points" 1 "" "energy.awk: no point line; put the points before the document, as cat points.txt trace.txt" energy "$expected/trace.txt"
+	refuses "energy: above the top" 1 "" "energy.awk: the speed 60 from 0 to 200 is above the top point 41" energy bad/slow.txt
+	refuses "energy: no such point" 1 "" "energy.awk: no point has the speed 50" energy -v at=50 "$work/both"
+	refuses "energy: too much work for a point" 1 "" "energy.awk: the work of all jobs is more than the point 41 does in the whole time" energy -v at=41 "$work/both"
+	refuses "energy: a refusal" 1 "" "energy.awk: line 1: the input is an answer of no: refused 1 9 EmptyWindow" energy "$expected/compare-refused.txt"
+	same "battery" 0 battery.tsv recipe battery.awk -v mah=220 -v volts=3.0 -v uw=10 "$expected/compare-sensor.txt"
+	refuses "battery: a refusal" 1 "" "battery.awk: line 1: the input is an answer of no: refused 1 9 EmptyWindow" \
+		recipe battery.awk -v mah=220 -v volts=3.0 "$expected/compare-refused.txt"
+	refuses "battery: no volts" 2 "" "battery.awk: mah= and volts= of the battery are numbers above 0" recipe battery.awk -v mah=220 "$expected/compare-sensor.txt"
+	"$YDS" plan <"$work/both" >"$work/plan"
+	if want compare; then
+		same "compare: the trace's jobs" 0 compare-governor.txt from "$work/both" "$YDS" compare --grid 100
+		ask="$(energy -v name=plan "$work/plan" | $AWK "$decimal" | head -n 1)"
+		if [ "$ask" = "$(head -n 1 "$expected/compare-governor.txt" | $AWK "$decimal")" ]; then pass; else fail "energy: of a plan"; fi
+	fi
+	if want oa; then
+		"$YDS" oa --grid 100 <"$work/both" >"$work/oa"
+		ask="$(energy -v name=oa "$work/oa" | $AWK "$decimal" | head -n 1)"
+		if [ "$ask" = "$(grep '^oa energy' "$expected/compare-governor.txt" | $AWK "$decimal")" ]; then pass; else fail "energy: of a policy"; fi
+	fi
+	if want expand compare; then
+		(cat "$expected/points-microcontroller.txt" && "$YDS" expand <sensor-tasks.txt) >"$work/sensor"
+		same "compare: the sensor's tasks" 0 compare-sensor.txt from "$work/sensor" "$YDS" compare --grid 1000
+	fi
+	if want curve; then same "curve: the trace's jobs" 0 curve.txt from "$work/both" "$YDS" curve; fi
+}
+# An energy line's number with three decimals.
+decimal='{ n = split($3, part, /[+\/]/); printf "%s %.3f\n", $1, (n == 3 ? part[1] + part[2] / part[3] : $3) }'
+
+plot() { sh "$here/plot.sh" "$@"; }
+# holds NAME FILE TEXT ..: the file has each of these texts.
+holds() {
+	name=$1 file=$2
+	shift 2
+	for text in "$@"; do
+		grep -qF -- "$text" "$file" || { fail "$name: no '$text'"; return; }
+	done
+	pass
+}
+# counts NAME FILE TEXT NUMBER: so many lines of the file have the text.
+counts() {
+	got=$(grep -cF -- "$3" "$2")
+	if [ "$got" = "$4" ]; then pass; else fail "$1: $got of '$3' and not $4"; fi
+}
+test_plot() {
+	refuses "plot: no kind" 2 "" "plot.sh: the first word is the kind of picture" plot
+	want gnuplot || return
+	cat "$expected/points.txt" "$expected/trace.txt" >"$work/both"
+	plot speed <"$work/both" >"$work/speed.svg"
+	holds "plot speed" "$work/speed.svg" '<title>yds_cli speed</title>' 'time (ms)' 'speed (MHz)' '>audio<' '>decode<' '>1420<'
+	counts "plot speed: boxes of audio" "$work/speed.svg" "<polygon fill = 'rgb(  0, 114, 178)'" "$(($(grep -c '^run audio' "$work/both") + 1))"
+	plot gantt <"$expected/trace-late.txt" >"$work/gantt.svg"
+	holds "plot gantt" "$work/gantt.svg" '>decode.2<' '>window<' '>late<' '>deadline<' 'speed (MHz)'
+	counts "plot gantt: windows" "$work/gantt.svg" "<polygon fill = 'rgb(233, 233, 233)'" 9
+	counts "plot gantt: late" "$work/gantt.svg" "<polygon fill = 'rgb(245, 166,  35)'" 2
+	(cat "$work/both" "$expected/curve.txt") | plot curve >"$work/curve.svg"
+	holds "plot curve" "$work/curve.svg" 'least work above it (Mcycles)' '>481<' '>589<' '>620<'
+	cat "$work/both" "$expected/compare-governor.txt" "$expected/energy.txt" | plot energy >"$work/energy.svg"
+	holds "plot energy" "$work/energy.svg" 'energy (mJ)' '>1.98 mJ<' '>+36.1 %<' '>governor<' '>1420 MHz<'
+	printf 'plan energy 3\navr too-slow units 10 from 1 to 2 top 1\n' | plot energy >"$work/slow.svg"
+	holds "plot energy: too slow" "$work/slow.svg" '>too slow<'
+	counts "plot energy: no percentage" "$work/slow.svg" ' %<' 0
+	plot ratios "$expected/folder.tsv" >"$work/ratios.svg"
+	holds "plot ratios" "$work/ratios.svg" '3 documents' '>avr<' '>oa<' 'share of the documents (%)'
+	"$YDS" plan <"$work/both" >"$work/plan.txt"
+	plot speed "$work/both" "$work/plan.txt" >"$work/two.svg"
+	holds "plot speed of two" "$work/two.svg" '>both<' '>plan<'
+	plot speed -u 1ms,1kHz "$work/plan.txt" >"$work/units.svg"
+	holds "plot -u" "$work/units.svg" 'time (s)' 'speed (kHz)'
+	plot speed <"$here/../examples/own-slots.txt" >"$work/plain.svg"
+	holds "plot without units" "$work/plain.svg" 'time (units)' 'speed (work per unit of time)'
+	if plot gantt -t png <"$work/both" | od -An -c | head -n 1 | grep -q 'P *N *G'; then pass; else fail "plot: png"; fi
+	if plot gantt -t dumb <"$expected/trace-late.txt" | grep -q 'decode.2 .*|!'; then pass; else fail "plot: dumb"; fi
+	(cd "$work" && plot gantt <"$here/samples/bad/hostile.txt" >"$work/hostile.svg" && plot speed <"$here/samples/bad/hostile.txt" >>"$work/hostile.svg" &&
+		plot gantt -t dumb <"$here/samples/bad/hostile.txt" >/dev/null)
+	if [ -e "$work/touch" ] || [ -e "$work/x" ]; then fail "plot: a name was run"; else pass; fi
+	holds "plot: hostile names" "$work/hostile.svg" '>`touch${IFS}x`<' '>a%d&amp;&lt;b><'
+	if has xmllint; then
+		for file in speed gantt curve energy slow ratios two; do
+			if xmllint --noout "$work/$file.svg" 2>/dev/null; then pass; else fail "plot: $file.svg is not well-formed"; fi
+		done
+	fi
+	refuses "plot: no slot" 1 "" "plot.sh: no slot; give a trace's document or the answer of plan, round, avr or oa" plot speed frames.txt
+	refuses "plot: no break" 1 "" "plot.sh: no break line; is this the answer of curve?" plot curve "$work/both"
+	refuses "plot: no energy" 1 "" "plot.sh: no energy line; is this the answer of compare?" plot energy "$work/both"
+	refuses "plot: a refusal" 1 "" "plot.sh: the input is an answer of no: refused 1 9 EmptyWindow" plot speed "$expected/compare-refused.txt"
+	refuses "plot: what failed" 1 "" "plot.sh: the input is an answer of no: failed" from "bad/failed.txt" plot gantt
+	refuses "plot: a slot without length" 1 "" "plot.sh: line 2: a slot or run without length: slot a 3 3 1" from "bad/flat.txt" plot speed
+}
+
+test_folder() {
+	cp "$expected"/compare-a.txt "$expected"/compare-refused.txt "$expected"/compare-too-slow.txt "$work"
+	(cd "$work" && recipe collect.awk compare-a.txt compare-refused.txt compare-too-slow.txt >energies.tsv)
+	same "collect: a table" 0 energies.tsv cat "$work/energies.tsv"
+	: >"$work/empty.txt"
+	cat "$expected/compare-a.txt" "$expected/energy.txt" >"$work/more.txt"
+	same "collect: no answer, and another side" 0 more.tsv recipe collect.awk "$work/empty.txt" "$work/more.txt"
+	refuses "collect: another file" 1 "" "collect.awk: points.txt: \"point 0 0\" is no line of compare or energy.awk" from /dev/null recipe_in "$expected" collect.awk points.txt
+	if want jq; then
+		(cd "$expected" && jq -rRn -f "$here/report.jq" report-a.json report-refused.json) >"$work/reports.tsv" 2>&1
+		same "report: a table" 0 reports.tsv cat "$work/reports.tsv"
+	fi
+	want compare || return
+	mkdir "$work/answers"
+	printf '%s\0' folder/*.txt | YDS=$YDS OUT=$work/answers xargs -0 -n1 -P4 sh -c '"$YDS" compare --grid 1000 <"$1" >"$OUT/$(basename "$1")"; printf "%s\t%s\n" $? "$1"' sh | sort -k2 >"$work/statuses"
+	same "folder: through xargs" 0 statuses.tsv cat "$work/statuses"
+	same "folder: its table" 0 folder.tsv recipe collect.awk "$work"/answers/*.txt
+	want parallel || return
+	(YDS=$YDS parallel --will-cite -j4 --joblog "$work/log" --results "$work/para/{/.}.txt" '"$YDS" compare --grid 1000 < {}' ::: folder/*.txt) >/dev/null 2>&1
+	if [ $? = 2 ]; then pass; else fail "folder: parallel's status is the number of documents without an answer"; fi
+	same "folder: through parallel" 0 folder.tsv recipe collect.awk "$work"/para/*.txt
+}
+recipe_in() { (cd "$1" && shift && recipe "$@"); }
 
 parts=${*:-trace points energy rtapp plot folder}
 for part in $parts; do test_$part; done

@@ -41,10 +41,11 @@ function usage(text) {
 function is_number(text) { return text ~ /^[0-9]+(\.[0-9]*)?$/ }
 function is_whole(text) { return text ~ /^[1-9][0-9]*$/ }
 
-# Nanoseconds from the second `second0` to the time SECONDS.FRACTION, which is exact in a double.
+# Nanoseconds from the second `second0` to the time SECONDS.FRACTION, which is exact in a double. A 1 stands
+# before the fraction, as one awk reads a number that begins with 0 as octal.
 function nanoseconds(time,    part) {
     split(time, part, ".")
-    return (part[1] - second0) * 1000000000 + substr(part[2] "000000000", 1, 9)
+    return (part[1] - second0) * 1000000000 + (("1" substr(part[2] "000000000", 1, 9)) - 1000000000)
 }
 function clock(ns,    s) {
     s = int(ns / 1000000000)
@@ -161,7 +162,7 @@ BEGIN {
     sub(/^[ \t]+/, "", rest)
     sub(/[ \t]+$/, "", rest)
     on = head
-    sub(/^\[/, "", on)
+    sub(/^\[0*/, "", on)
     on += 0
     match(head, /[0-9]+\.[0-9]+:[ \t]/)
     stamp = substr(head, RSTART, RLENGTH - 2)
