@@ -1,7 +1,7 @@
 #!/bin/sh
 # test.sh: runs each recipe on its sample and compares what it writes, byte for byte, with what is stored.
 #
-#   sh recipes/test.sh [PART ..]      parts: trace points energy rtapp plot folder; all without one
+#   sh recipes/test.sh [PART ..]      parts: trace points energy rtapp plot folder manual; all without one
 #
 # Environment: YDS (the program; build/yds_cli beside this folder), AWK (awk). The last line is
 # 'N passed, M failed', and the exit status is 1 where M isn't 0. What wants a missing package, or a command that
@@ -29,7 +29,7 @@ knows() {
 	case $known in *" $1 "*) return 0 ;; *" no-$1 "*) return 1 ;; esac
 	case $1 in
 	compare) words="compare --grid 1" ;; oa) words="oa --grid 1" ;; avr) words="avr --grid 1" ;;
-	json) words="report --json" ;; admit) words="admit 1" ;; *) words=$1 ;;
+	json) words="report --json" ;; trial) words="trial 0 0" ;; admit) words="admit 1" ;; *) words=$1 ;;
 	esac
 	"$YDS" $words </dev/null >"$work/knows" 2>/dev/null
 	if [ $? = 2 ] || [ ! -x "$YDS" ]; then known="$known no-$1 "; return 1; fi
@@ -132,6 +132,10 @@ test_trace() {
 	cat "$expected/points.txt" "$expected/trace.txt" >"$work/both"
 	answers "trace: feasible on the points" 0 feasible from "$work/both" "$YDS" audit --points
 	answers "trace: late" 1 "late slot 19 decode.2 5319 deadline 5150" from "$expected/trace-late.txt" "$YDS" audit
+	same "misses: both of two" 1 misses.txt from /dev/null env YDS="$YDS" sh "$here/misses.sh" late-twice.txt
+	answers "misses: none" 0 feasible env YDS="$YDS" sh "$here/misses.sh" "$expected/trace.txt"
+	answers "misses: another fault" 1 "backward slot 1 a 3 3" env YDS="$YDS" sh "$here/misses.sh" bad/flat.txt
+	refuses "misses: no document" 2 "" "misses.sh: no document that can be read" sh "$here/misses.sh" nothing.txt
 	answers "trace: what failed is refused" 3 "refused 1 1 UnknownKind" from bad/failed.txt "$YDS" audit
 }
 
@@ -308,7 +312,62 @@ test_folder() {
 }
 recipe_in() { (cd "$1" && shift && recipe "$@"); }
 
-parts=${*:-trace points energy rtapp plot folder}
+# The commands of the manual and of the README, with the output that stands below them. Each section is a session of its
+# own in a new folder; one that wants a missing package or command is left out.
+test_manual() {
+	want bash || return
+	for page in ../../docs/manual.md ../../README.md; do
+		rm -rf "$work/page"
+		mkdir "$work/page"
+		$AWK -v out="$work/page" '
+			function close_command() { if (wanted != "") { close(wanted); close(command) } wanted = "" }
+			/^## / { close_command(); section++; n = 0; block = 0; print substr($0, 4) > (out "/" section ".title") ; close(out "/" section ".title") }
+			/^    / {
+				line = substr($0, 5)
+				if (line ~ /^\$ /) {
+					close_command()
+					n++
+					command = sprintf("%s/%d.%03d.command", out, section, n)
+					wanted = sprintf("%s/%d.%03d.wanted", out, section, n)
+					print substr(line, 3) > command
+					printf "" > wanted
+					block = 1
+				} else if (block && line ~ /^> / && !told) print substr(line, 3) > command
+				else if (block) print line > wanted
+				told = block && line !~ /^[$>] /
+				next
+			}
+			{ block = told = 0 }
+			END { close_command() }' "$page"
+		for title in "$work"/page/*.title; do
+			section=${title%.title}
+			[ -f "$section.001.command" ] || continue
+			words=$(cat "$section".*.command | grep -oE 'yds_cli [a-z]+( --json)?|plot\.sh|jq |rtapp\.sh|parallel ' | sed 's/.*--json/json/; s/yds_cli //; s/plot.sh/gnuplot/; s/rtapp.sh/jq/' | sort -u)
+			# shellcheck disable=SC2086
+			want $words || continue
+			mkdir -p "$section.folder/bin" "$section.folder/build"
+			ln -s "$YDS" "$section.folder/bin/yds_cli"
+			ln -s "$YDS" "$section.folder/build/yds_cli"
+			ln -s "$here" "$section.folder/recipes"
+			ln -s "$here/../examples" "$section.folder/examples"
+			(cd "$section.folder" && PATH=$section.folder/bin:$PATH bash -c '
+				last=0
+				for command in "$1".*.command; do
+					(exit $last)
+					. "$command" >"${command%.command}.got" 2>&1
+					last=$?
+				done' bash "$section" </dev/null)
+			for wanted in "$section".*.wanted; do
+				sed 's/^.*: line [0-9]*: /bash: /' "${wanted%.wanted}.got" >"$work/got"
+				if cmp -s "$wanted" "$work/got"; then pass; continue; fi
+				fail "${page##*/}, $(cat "$title"): $(head -n 1 "${wanted%.wanted}.command")"
+				diff "$wanted" "$work/got" | head -n 8
+			done
+		done
+	done
+}
+
+parts=${*:-trace points energy rtapp plot folder manual}
 for part in $parts; do test_$part; done
 missing=
 for word in jq gnuplot parallel mandoc; do
