@@ -2,7 +2,7 @@
 #
 #   make            proves every crate and builds build/yds_cli
 #   make run        the same, and plans the document EXAMPLE with it
-#   make try        runs the program on DOCUMENT with the word COMMAND, unproved, within seconds
+#   make try        runs the program on DOCUMENT with the words of COMMAND, unproved, after about a minute
 #   make test       the gate: every proof, test, refused edit and stored run
 #   make check      the built program answers every example and stored row byte for byte, within seconds
 #   make recipes    every recipe on its sample, with the built program
@@ -25,7 +25,7 @@ COMPLETIONS = $(SHARE)/bash-completion/completions
 RECIPES = $(SHARE)/$(PROGRAM)/recipes
 RECIPE_FILES := trace.awk points.awk energy.awk battery.awk collect.awk report.jq rtapp.sh misses.sh plot.sh plot.awk
 EXAMPLE ?= examples/three-jobs.txt
-DOCUMENT ?= examples/one-job.txt
+DOCUMENT ?= examples/three-jobs.txt
 COMMAND ?= plan
 
 .PHONY: all run try test check recipes install uninstall clean tool

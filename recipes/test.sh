@@ -132,6 +132,16 @@ test_trace() {
 	cat "$expected/points.txt" "$expected/trace.txt" >"$work/both"
 	answers "trace: feasible on the points" 0 feasible from "$work/both" "$YDS" audit --points
 	answers "trace: late" 1 "late slot 19 decode.2 5319 deadline 5150" from "$expected/trace-late.txt" "$YDS" audit
+	seed=1
+	while [ $seed -le 30 ]; do
+		$AWK -v seed=$seed -v truth="$work/truth" -f simulate.awk >"$work/trace"
+		trace -v tasks=alpha:10,beta:25 "$work/trace" >"$work/document"
+		grep '^job' "$work/document" | sort >"$work/jobs"
+		sort "$work/truth" | cmp -s - "$work/jobs" || { fail "trace: the simulated trace $seed"; break; }
+		"$YDS" audit <"$work/document" | grep -qE '^(feasible$|late slot )' || { fail "trace: the audit of the simulated trace $seed"; break; }
+		seed=$((seed + 1))
+	done
+	[ $seed -le 30 ] || pass
 	same "misses: both of two" 1 misses.txt from /dev/null env YDS="$YDS" sh "$here/misses.sh" late-twice.txt
 	answers "misses: none" 0 feasible env YDS="$YDS" sh "$here/misses.sh" "$expected/trace.txt"
 	answers "misses: another fault" 1 "backward slot 1 a 3 3" env YDS="$YDS" sh "$here/misses.sh" bad/flat.txt
