@@ -6,6 +6,7 @@ ghost use Rattle.yds_model.specs.declared.limits.TheConstants.{MAX_ENERGY};
 use crate::grid::Grid;
 use crate::point::points_in;
 use crate::{energy, grid};
+use std::alloc::Global;
 use yds_certificate::Certificate;
 use yds_fraction::Amount;
 use yds_instance::Instance;
@@ -37,8 +38,10 @@ pub struct Document<'a> {
 }
 
 impl<'a> Document<'a> {
+    ghost use Rattle.std.specs.Prelude.{[], None};
     ghost use Rattle.yds_model.specs.Document.{with_answer};
     ghost use Rattle.yds_model.specs.Within.{IsDocument};
+    ghost use Rattle.yds_document.specs.Draft.{points_of};
     ghost use Rattle.yds_document.specs.Documents.{document_view};
 
     /// Reading the parts shows that each is within its limits.
@@ -51,6 +54,37 @@ impl<'a> Document<'a> {
         let _levels = self.certificate.levels();
         grid::show_limits(self.grid);
         energy::show_limits(self.energy);
+    }
+
+    /// The document of these jobs with this table and these slots, and with nothing else. Takes no memory.
+    pub fn of_slots(
+        alloc: Global,
+        instance: Instance<'a>,
+        table: Option<Table>,
+        schedule: Schedule,
+    ) -> Document<'a>
+        requires scheduled { schedule.jobs ≡ length instance.jobs }
+        ensures shown { document_view result ≡ record {
+          names = instance.entry.names;
+          jobs = instance.entry.jobs;
+          points = points_of table;
+          slots = schedule.slots;
+          levels = [];
+          grid = None;
+          energy = None;
+        } }
+        ensures possible { IsDocument (document_view result) }
+    {
+        let document = Document {
+            instance,
+            table,
+            schedule,
+            certificate: Certificate::new(alloc),
+            grid: None,
+            energy: None,
+        };
+        document.show_limits();
+        document
     }
 
     /// The document of the same jobs and table with these slots, levels, grid and energy. Takes no memory.

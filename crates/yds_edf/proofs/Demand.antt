@@ -3,7 +3,7 @@
 --
 -- The argument: the units that are left of the jobs due by a deadline are at most the capacity of the stretches that are left
 -- before it. A stretch either serves its whole capacity to them, or leaves none of them pending.
-use Rattle.std.proofs.Common.{◌≡◌, ◌≢◌, ℕ, zero, suc, ◌+◌, ◌-◌, ◌<◌, ◌≤◌, ◌⊎◌, List, length, get_or, slice_index, ◌∙◌, refl, sym, subst, arith, inl, inr, ap, cond, true, false}
+use Rattle.std.proofs.Common.{◌≡◌, ◌≢◌, ℕ, zero, suc, ◌+◌, ◌-◌, ◌<◌, ◌≤◌, ◌⊎◌, List, length, get_or, ◌∙◌, refl, sym, subst, arith, inl, inr, ap, cond, true, false}
 use Rattle.std.specs.Prelude.{Bool, ◌==◌, ◌&&◌, nat_le, nat_lt, All}
 use Rattle.std.proofs.lemmas.Bool.{cases_lt, cases_eq, cases_order, cases_Bool, ltb-true, ltb-false, lt-leb, le-leb, eq-eqb, ne_eqb, eqb-true, true≢false}
 use Rattle.yds_model.specs.Numbers.{Each}
@@ -191,11 +191,11 @@ none_given : (shares : List JobShare) (number : ℕ) → All (λ share. number �
 none_given shares number none = sum_by_zero (λ (share : JobShare). cond (number == share.job) share.units 0) shares
     (λ k d within. ap {B = ℕ} (λ b. cond b (get_or shares k d).units 0) (ne_eqb number (get_or shares k d).job (none k d within)))
 
-module _ (jobs : List Job) (ties : List ℕ) (grain : ℕ) (stretches : List Piece) (capacities : List ℕ) (shares : List JobShare)
+module _ (jobs : List Job) (tie : ℕ → ℕ) (grain : ℕ) (stretches : List Piece) (capacities : List ℕ) (shares : List JobShare)
     (are : All IsJob jobs) (order : PiecesFrom 0 stretches) (uncut : AreUncut jobs stretches)
     (enough : IsWithinCapacity jobs grain stretches capacities)
     (serving : Each (length stretches) (λ i.
-    IsServing jobs (slice_index ties) (pending_at_start jobs grain stretches shares i) (capacity_at capacities i) (shares_in shares i)))
+    IsServing jobs tie (pending_at_start jobs grain stretches shares i) (capacity_at capacities i) (shares_in shares i)))
   where
     pending_left : (i number : ℕ) → pending_at_start jobs grain stretches shares i number ≤ left_of jobs grain shares i number
     pending_left i number = elim (cases_Bool (nat_le (job_at jobs number).release (nth_stretch stretches i).from)) [

@@ -5,10 +5,13 @@ use Rattle.std.proofs.lemmas.Bool.{cases_Bool, le-leb, lt-leb}
 use Rattle.std.proofs.lemmas.List.{get_or_read}
 use Rattle.yds_model.specs.Job.{Job, no_job, job_at}
 use Rattle.yds_edf.specs.Pending.{sum_below, is_within, units_wanted}
-use Rattle.yds_edf.specs.Queue.{JobQueue, pending_in}
+use Rattle.yds_edf.specs.Queue.{JobQueue, pending_in, all_pending}
 use Rattle.yds_edf.specs.Engine.{TiedQueue, IsTiedQueue}
-use Rattle.yds_edf.proofs.Sums.{sum_below_front, sum_below_at_most}
+use Rattle.yds_edf.proofs.Sums.{sum_below_front, sum_below_at_most, sum_below_bound}
 use Rattle.yds_edf.proofs.Arrivals.{wanted_bound}
+use Rattle.yds_edf.proofs.Serving.{pending_wanted}
+use Rattle.std.proofs.Math.Nat.{mul-le-mul_right}
+use Rattle.yds_model.specs.declared.limits.TheConstants.{MAX_JOBS, MAX_WORK}
 
 -- the units of a job that count by a time
 abbrev pub due_of : JobQueue → ℕ → ℕ → ℕ
@@ -64,3 +67,21 @@ sum_more n f units more sum term = rw add-one (omega (arith, sum, term))
 
 pub sum_no_more : (n : ℕ) (f : ℕ → ℕ) (units : ℕ) → units ≡ sum_below n f → f n ≡ 0 → units ≡ sum_below (n + 1) f
 sum_no_more n f units sum term = rw add-one (omega (arith, sum, term))
+
+-- no more is pending of a job than the greatest work
+pub pending_bound : (tied : TiedQueue) (number : ℕ) → IsTiedQueue tied → number < length tied.queue.jobs →
+    pending_in tied.queue number ≤ MAX_WORK * tied.queue.grain
+pending_bound tied number kept within = omega (
+  arith,
+  pending_wanted tied.queue number,
+  mul-le-mul_right tied.queue.grain (kept.jobs number no_job within).work_in_range,
+)
+
+-- and of all jobs together than that of the greatest number of jobs
+pub all_pending_bound : (tied : TiedQueue) → IsTiedQueue tied → all_pending tied.queue ≤ MAX_JOBS * (MAX_WORK * tied.queue.grain)
+all_pending_bound tied kept = omega (
+  arith,
+  sum_below_bound (length tied.queue.jobs) (MAX_WORK * tied.queue.grain) (pending_in tied.queue)
+      (λ number within. pending_bound tied number kept within),
+  mul-le-mul_right (MAX_WORK * tied.queue.grain) kept.few,
+)

@@ -147,7 +147,7 @@ contains_filter p (y ∷ ys) x passes (suc k, within, is) =
     ]
 
 -- a share stands among those of its stretch
-stands_in : (shares : List JobShare) (share : JobShare) → Contains shares share → Contains (shares_in shares share.stretch) share
+pub stands_in : (shares : List JobShare) (share : JobShare) → Contains shares share → Contains (shares_in shares share.stretch) share
 stands_in shares share there =
     contains_filter (λ other. share.stretch == other.stretch) shares share (eq-eqb share.stretch share.stretch refl) there
 
@@ -169,10 +169,10 @@ all_filled {jobs = jobs} {ties = ties} {grain = grain} {stretches = stretches} {
           (λ s. ((job_at jobs s.job).release ≤ (nth_stretch stretches share.stretch).from)
           × ((nth_stretch stretches share.stretch).to ≤ (job_at jobs s.job).deadline))
           (shares_in shares share.stretch) share
-          (λ j e below. in_window jobs ties grain stretches capacities shares are order uncut enough filling.serving
+          (λ j e below. in_window jobs (slice_index ties) grain stretches capacities shares are order uncut enough filling.serving
           share.stretch j e here below)
           (stands_in shares share (Contains-get_or shares k d within)) in
           record { released = window.0; due = window.1 };
       few = omega (arith, filling.few);
-      served = in_full jobs ties grain stretches capacities shares are order uncut enough filling.serving filling.known;
+      served = in_full jobs (slice_index ties) grain stretches capacities shares are order uncut enough filling.serving filling.known;
     }

@@ -69,7 +69,7 @@ pending_here tied job units within some enough = elim (cases_Bool (has_arrived t
 ]
 
 -- no more is pending than is wanted
-pending_wanted : (queue : JobQueue) (number : ℕ) → pending_in queue number ≤ units_wanted queue.jobs queue.grain number
+pub pending_wanted : (queue : JobQueue) (number : ℕ) → pending_in queue number ≤ units_wanted queue.jobs queue.grain number
 pending_wanted queue number = elim (cases_Bool (has_arrived queue.time (job_at queue.jobs number))) [
   | inl arrived ↦ rw arrived (omega arith)
   | inr not_yet ↦ rw not_yet (omega arith)

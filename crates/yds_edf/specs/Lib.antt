@@ -7,3 +7,4 @@ pub mod Queue
 pub mod Entries
 pub mod Engine
 pub mod Laid
+pub mod Run

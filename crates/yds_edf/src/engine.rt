@@ -1,5 +1,6 @@
 ghost use Rattle.std.specs.Prelude.{
   ◌≡◌,
+  ◌<◌,
   ◌≤◌,
   ◌-◌,
   ◌*◌,
@@ -16,7 +17,7 @@ ghost use Rattle.yds_model.specs.Job.{IsJob};
 ghost use Rattle.yds_edf.specs.Engine.{IsTiedQueue, ServesFirst, ServesTied};
 ghost use Rattle.yds_edf.specs.Pending.{is_within};
 ghost use Rattle.yds_edf.specs.Serving.{AreTies};
-ghost use Rattle.yds_edf.specs.Queue.{new_queue, IsNoEarlier, all_pending, pending_due};
+ghost use Rattle.yds_edf.specs.Queue.{new_queue, IsNoEarlier, all_pending, pending_in, pending_due};
 
 use crate::entry::Entry;
 use crate::limits::MAX_GRAIN;
@@ -107,11 +108,40 @@ impl Engine {
         })
     }
 
+    /// The jobs, by their numbers.
+    pub(crate) fn rows(&self) -> &[JobRow]
+        ensures jobs { result.now ≡ self.now.queue.jobs }
+        ensures few { length result.now ≤ MAX_JOBS }
+        ensures kept { All IsJob result.now }
+    {
+        &self.rows
+    }
+
+    /// The number of units in a unit of work.
+    pub(crate) fn grain(&self) -> u64
+        ensures grain { result ≡ self.now.queue.grain }
+        ensures some { 1 ≤ result }
+        ensures in_range { result ≤ MAX_GRAIN }
+    {
+        self.grain
+    }
+
     /// The units that are pending.
     pub(crate) fn pending(&self) -> u64
-        ensures { result ≡ all_pending self.now.queue }
+        ensures units { result ≡ all_pending self.now.queue }
+        ensures in_range { result ≤ MAX_JOBS * (MAX_WORK * self.now.queue.grain) }
     {
         self.units
+    }
+
+    /// The units that are pending of one job.
+    pub(crate) fn pending_of(&self, job: u32) -> u64
+        requires { job < length self.now.queue.jobs }
+        ensures units { result ≡ pending_in self.now.queue job }
+        ensures in_range { result ≤ MAX_WORK * self.now.queue.grain }
+    {
+        let job = job as usize;
+        units_pending(&self.rows[job], self.grain, self.time, self.served[job])
     }
 
     /// The units that are pending of the jobs with deadline at most this time.

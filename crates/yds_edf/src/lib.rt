@@ -12,13 +12,15 @@ mod entry;
 mod filling;
 mod laying;
 pub mod limits;
+mod policy;
 mod policy_run;
 mod queue;
 mod share;
 
 pub use filling::fill;
 pub use laying::lay;
-pub use policy_run::PolicyRun;
+pub use policy::{Policy, Setting};
+pub use policy_run::{PolicyRun, run_policy};
 pub use queue::Queue;
 pub use share::Share;
 

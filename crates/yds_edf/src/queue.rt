@@ -1,6 +1,7 @@
-ghost use Rattle.std.specs.Prelude.{◌≡◌, ◌≤◌, IfOk, OnErr, Some, length, ◌*◌, All};
+ghost use Rattle.std.specs.Prelude.{◌≡◌, ◌<◌, ◌≤◌, IfOk, OnErr, Some, length, ◌*◌, All};
 ghost use Rattle.std.specs.List.{range_with_len};
-ghost use Rattle.yds_edf.specs.Queue.{new_queue, IsNoEarlier, all_pending, pending_due, Serves};
+ghost use Rattle.yds_model.specs.Job.{IsJob};
+ghost use Rattle.yds_edf.specs.Queue.{new_queue, IsNoEarlier, all_pending, pending_in, pending_due, Serves};
 
 use crate::engine::Engine;
 use crate::limits::MAX_GRAIN;
@@ -52,11 +53,39 @@ impl Queue {
         self.engine.arrive(time);
     }
 
+    /// The jobs, by their numbers. It takes no memory.
+    pub fn rows(&self) -> &[JobRow]
+        ensures jobs { result.now ≡ self.now.jobs }
+        ensures few { length result.now ≤ MAX_JOBS }
+        ensures kept { All IsJob result.now }
+    {
+        self.engine.rows()
+    }
+
+    /// The number of units in a unit of work.
+    pub fn grain(&self) -> u64
+        ensures grain { result ≡ self.now.grain }
+        ensures some { 1 ≤ result }
+        ensures in_range { result ≤ MAX_GRAIN }
+    {
+        self.engine.grain()
+    }
+
     /// The units of arrived jobs that aren't served. It takes no memory.
     pub fn pending(&self) -> u64
-        ensures { result ≡ all_pending self.now }
+        ensures units { result ≡ all_pending self.now }
+        ensures in_range { result ≤ MAX_JOBS * (MAX_WORK * self.now.grain) }
     {
         self.engine.pending()
+    }
+
+    /// Those of one job. It takes no memory.
+    pub fn pending_of(&self, job: u32) -> u64
+        requires { job < length self.now.jobs }
+        ensures units { result ≡ pending_in self.now job }
+        ensures in_range { result ≤ MAX_WORK * self.now.grain }
+    {
+        self.engine.pending_of(job)
     }
 
     /// Those of the arrived jobs with deadline at most this time, in time units. It takes no memory.

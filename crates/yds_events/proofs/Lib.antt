@@ -3,3 +3,4 @@ pub mod Rising
 pub mod Times
 pub mod Neighbours
 pub mod Places
+pub mod Following

@@ -1,5 +1,5 @@
 -- Reading in parts: bytes that bring a document that was read so far to a longer one.
-use Rattle.std.proofs.Common.{◌≡◌, ◌≢◌, ℕ, ◌+◌, ◌<◌, ◌≤◌, false, ◌==◌, List, [], ◌∷◌, ◌++◌, length, map, Ok, refl, sym, ap, subst, ◌∙◌, arith, append-nil, append_assoc}
+use Rattle.std.proofs.Common.{◌≡◌, ◌≢◌, ℕ, ◌+◌, ◌<◌, ◌≤◌, true, false, ◌==◌, List, [], ◌∷◌, ◌++◌, length, map, Ok, refl, sym, ap, subst, ◌∙◌, arith, append-nil, append_assoc}
 use Rattle.std.specs.List.{All, AllByRecursion, join_with_byte, flat_map}
 use Rattle.std.proofs.lemmas.List.Elements.{All-weaker}
 use Rattle.std.proofs.lemmas.Bool.{or_from}
@@ -116,6 +116,26 @@ Brings-line before after texts words live says earlier said number start rest =
       one.2,
       line_says earlier texts one.0 number start rest words live one.1,
     )
+
+-- a comment's line brings nothing
+pub Brings-comment : (before : Document) (texts : List (List ℕ)) → AllByRecursion IsWord texts → begins_comment (spaced 1 texts) ≡ true → Brings before (line texts) before
+Brings-comment before texts words comment earlier said number start rest =
+    let text : List ℕ = join_with_byte 32 texts in
+    let kept : without_return text ≡ text = without_return-none text (words_without 13 (omega arith) texts words) in
+    let fields : fields_of text ≡ spaced 1 texts = fields_from-join 1 texts (words_full texts words) in
+    let others : List Line = map trimmed (lines_from (number + 1) (start + length text + 1) rest) in (
+      earlier,
+      number + 1,
+      start + length text + 1,
+      said,
+      ap (λ lines. read_after earlier (live_lines (map trimmed lines))) (lines_from-written number start text rest (words_without 10 (omega arith) texts words))
+          ∙ ap (λ (text : List ℕ). read_after earlier (live_lines (record { number = number; start = start; text = text } ∷ others))) kept
+          ∙ ap (read_after earlier) (live_lines-comment (record { number = number; start = start; text = text }) others (ap begins_comment fields ∙ comment)),
+    )
+  where
+    -- a line that is skipped isn't read
+    live_lines-comment : (line : Line) (lines : List Line) → is_skipped line ≡ true → live_lines (line ∷ lines) ≡ live_lines lines
+    live_lines-comment line lines skipped = rw skipped refl
 
 -- the lines of each element of a list, one after another
 Brings-rest : {X : Type 0} (state : List X → Document) (text : X → List ℕ) (all before after : List X) → before ++ after ≡ all →

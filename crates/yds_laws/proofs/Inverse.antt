@@ -26,25 +26,25 @@ abbrev Gives : (X E : Type 0) → Result X E → X → Type 0
 Gives X E result x = result ≡ Ok x
 
 -- a demand that is met has its test pass
-pub demand_ok : (test : Bool) (column : ℕ) (reason : Reason) (b : Bool) → demand test column reason ≡ Ok b → test ≡ true
+pub demand_ok : {R : Type 0} (test : Bool) (column : ℕ) (reason : R) (b : Bool) → demand test column reason ≡ Ok b → test ≡ true
 demand_ok true column reason b is = refl
 demand_ok false column reason b is = absurd (cc)
 
 -- where a step and what comes after it succeed, the step gave a value and the rest the entry
-pub one_step : {A : Type 0} (m : Result A (Spot Reason)) (after : A → Result Entry (Spot Reason)) (entry : Entry) → (m >>= after) ≡ Ok entry →
+pub one_step : {R X A : Type 0} (m : Result A (Spot R)) (after : A → Result X (Spot R)) (entry : X) → (m >>= after) ≡ Ok entry →
     (a : A) × (m ≡ Ok a) × (after a ≡ Ok entry)
 one_step (Ok a) after entry is = (a, refl, is)
 one_step (Err spot) after entry is = absurd (cc)
 
 -- the same of two steps
-pub two_steps : {A B : Type 0} (m : Result A (Spot Reason)) (n : Result B (Spot Reason)) (after : A → B → Result Entry (Spot Reason)) (entry : Entry) →
+pub two_steps : {R X A B : Type 0} (m : Result A (Spot R)) (n : Result B (Spot R)) (after : A → B → Result X (Spot R)) (entry : X) →
     (m >>= (λ a. n >>= (λ b. after a b))) ≡ Ok entry → (a : A) × (b : B) × (m ≡ Ok a) × (n ≡ Ok b) × (after a b ≡ Ok entry)
 two_steps (Ok a) (Ok b) after entry is = (a, b, refl, refl, is)
 two_steps (Ok a) (Err spot) after entry is = absurd (cc)
 two_steps (Err spot) n after entry is = absurd (cc)
 
 -- and of four
-pub four_steps : {A B C D : Type 0} (m : Result A (Spot Reason)) (n : Result B (Spot Reason)) (o : Result C (Spot Reason)) (p : Result D (Spot Reason)) (after : A → B → C → D → Result Entry (Spot Reason)) (entry : Entry) →
+pub four_steps : {R X A B C D : Type 0} (m : Result A (Spot R)) (n : Result B (Spot R)) (o : Result C (Spot R)) (p : Result D (Spot R)) (after : A → B → C → D → Result X (Spot R)) (entry : X) →
     (m >>= (λ a. n >>= (λ b. o >>= (λ c. p >>= (λ d. after a b c d))))) ≡ Ok entry →
     (a : A) × (b : B) × (c : C) × (d : D) × (m ≡ Ok a) × (n ≡ Ok b) × (o ≡ Ok c) × (p ≡ Ok d) × (after a b c d ≡ Ok entry)
 four_steps m n o p after entry is =
@@ -59,12 +59,12 @@ entry_made made entry is = cc
 -- ---- numbers, fractions and names
 
 -- a number that a field gives is the one that its text was read as
-in_field_ok : {A : Type 0} (field : Field) (read : Result A NumberFault) (x : A) → in_field reason_of field read ≡ Ok x → read ≡ Ok x
-in_field_ok field (Ok y) x is = let same : y ≡ x = cc in ap Ok same
-in_field_ok field (Err fault) x is = absurd (cc)
+pub in_field_ok : {R A : Type 0} (reason_of : NumberFault → R) (field : Field) (read : Result A NumberFault) (x : A) → in_field reason_of field read ≡ Ok x → read ≡ Ok x
+in_field_ok reason_of field (Ok y) x is = let same : y ≡ x = cc in ap Ok same
+in_field_ok reason_of field (Err fault) x is = absurd (cc)
 
 -- a number that is read lies within its limits
-number_at_ok : (least most : ℕ) (text : List ℕ) (x : ℕ) → number_at least most text ≡ Ok x → (least ≤ x) × (x ≤ most)
+pub number_at_ok : (least most : ℕ) (text : List ℕ) (x : ℕ) → number_at least most text ≡ Ok x → (least ≤ x) × (x ≤ most)
 number_at_ok least most text x is =
     elim (cases_Bool (is_number text)) [
       | inl number ↦ elim (cases_Bool (nat_le least (digits_value 10 text) && nat_le (digits_value 10 text) most)) [
@@ -80,7 +80,7 @@ number_at_ok least most text x is =
 
 -- and so does one that a field gives
 pub number_ok : (least most : ℕ) (field : Field) (x : ℕ) → number_in least most field ≡ Ok x → (least ≤ x) × (x ≤ most)
-number_ok least most field x is = number_at_ok least most field.text x (in_field_ok field (number_at least most field.text) x is)
+number_ok least most field x is = number_at_ok least most field.text x (in_field_ok reason_of field (number_at least most field.text) x is)
 
 -- a whole number within the limit is a fraction within it
 pub whole_fits : (most whole : ℕ) → whole ≤ most → IsFraction most (of_whole whole)
@@ -126,7 +126,7 @@ fraction_at_ok most text x is =
 
 -- and so is one that a field gives
 pub fraction_ok : (most : ℕ) (field : Field) (x : Fraction) → fraction_in most field ≡ Ok x → IsFraction most x
-fraction_ok most field x is = fraction_at_ok most field.text x (in_field_ok field (fraction_at most field.text) x is)
+fraction_ok most field x is = fraction_at_ok most field.text x (in_field_ok reason_of field (fraction_at most field.text) x is)
 
 -- where both demands on a name are met, it is the field's text
 name_from : (earlier : List Entry) (field : Field) (x : List ℕ) (named new : Bool) (first second : ℕ) (bad double : Reason) →

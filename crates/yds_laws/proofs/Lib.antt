@@ -27,6 +27,7 @@ pub mod Differences
 pub mod Hinges
 pub mod Group
 pub mod Bound
+pub mod Served
 pub mod Exact
 pub mod Explained
 pub mod RunScale
@@ -69,3 +70,9 @@ pub mod Within
 pub mod PlanText
 pub mod RoundText
 pub mod AnsweredOnce
+pub mod TaskWork
+pub mod OneLevel
+pub mod TasksSaid
+pub mod TaskLimits
+pub mod TaskNames
+pub mod TaskTexts

@@ -46,7 +46,7 @@ All-middle P all before x after is holds =
 -- ---- what was read after each part
 
 -- after the jobs: they and their names
-abbrev after_jobs : Document → Document
+abbrev pub after_jobs : Document → Document
 after_jobs d = record { names = d.names; jobs = d.jobs; points = []; slots = []; levels = []; grid = None; energy = None }
 
 -- after the points: besides them the points
@@ -72,7 +72,7 @@ some_jobs named = record {
 }
 
 -- the lines of the jobs bring nothing to all of them
-jobs_brought : (d : Document) → IsDocument d → Brings no_document (job_lines d.names d.jobs) (after_jobs d)
+pub jobs_brought : (d : Document) → IsDocument d → Brings no_document (job_lines d.names d.jobs) (after_jobs d)
 jobs_brought d fits =
     subst (λ after. Brings no_document (job_lines d.names d.jobs) after) whole (Brings-each some_jobs (λ named. job_line named.0 named.1) (zip d.names d.jobs) each)
   where

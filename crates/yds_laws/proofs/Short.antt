@@ -58,12 +58,12 @@ fraction_short digits most x some large small fits =
 -- ---- lines
 
 -- the fields, with one byte more for each
-abbrev fields_length : List (List ℕ) → ℕ
+abbrev pub fields_length : List (List ℕ) → ℕ
 fields_length [] = 0
 fields_length (text ∷ texts) = length text + 1 + fields_length texts
 
 -- a line is as long as that
-line_length : (text : List ℕ) (texts : List (List ℕ)) → length (line (text ∷ texts)) ≡ fields_length (text ∷ texts)
+pub line_length : (text : List ℕ) (texts : List (List ℕ)) → length (line (text ∷ texts)) ≡ fields_length (text ∷ texts)
 line_length text [] = omega (arith, length-append text (10 ∷ []))
 line_length text (next ∷ texts) =
     omega (
@@ -161,7 +161,7 @@ lines_short text most (x ∷ xs) short =
     )
 
 -- the lines of the jobs together
-jobs_short : (names : List (List ℕ)) (jobs : List Job) → All (λ name. is_name name ≡ true) names → All IsJob jobs → length (job_lines names jobs) ≤ 99 * length jobs
+pub jobs_short : (names : List (List ℕ)) (jobs : List Job) → All (λ name. is_name name ≡ true) names → All IsJob jobs → length (job_lines names jobs) ≤ 99 * length jobs
 jobs_short [] jobs named fit = omega arith
 jobs_short (name ∷ names) [] named fit = omega arith
 jobs_short (name ∷ names) (job ∷ jobs) named fit =

@@ -7,3 +7,4 @@ pub mod TaskLaws
 pub mod RoundingLaws
 pub mod RoundText
 pub mod AnswerLaws
+pub mod AdmissionLaws

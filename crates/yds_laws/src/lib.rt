@@ -8,6 +8,7 @@
 //! of the definitions, each with something that meets it and a near miss, are in `proofs/`.
 #![tactic(auto)]
 
+mod admission_laws;
 mod divisor_laws;
 mod energy_laws;
 mod hull_laws;
@@ -20,6 +21,7 @@ mod scale_laws;
 mod task_laws;
 mod text_laws;
 
+pub use admission_laws::served_exactly_where_no_interval_is_overfull;
 pub use divisor_laws::{divisor_is_greatest, lowest_terms_are_one, multiple_is_least};
 pub use energy_laws::{
     least_is_cheapest, lines_are_at_most_energy, plans_cost_least, plans_cost_least_on_points,
@@ -52,5 +54,5 @@ pub use scale_laws::{
     order_agrees_with_equality, order_is_of_values, order_is_transitive, scale_exists,
     scale_keeps_feasible, scale_multiplies_excess, sum_is_of_values,
 };
-pub use task_laws::task_jobs_end_in_time;
+pub use task_laws::{expansions_are_read, one_level_is_planned, task_jobs_end_in_time};
 pub use text_laws::{fields_are_slices, lines_are_slices};

@@ -5,7 +5,6 @@ pub mod Speeds
 pub mod Blocks
 pub mod Served
 pub mod Filled
-pub mod Order
 pub mod Schedule
 pub mod Levels
 pub mod LevelPieces

@@ -24,7 +24,7 @@ use Rattle.yds_events.proofs.Neighbours.{stretch_forward, stretch_order, release
 use Rattle.yds_plan.proofs.Blocks.{map-flat_map, all_of_blocks, block_of_all, pairs_of_blocks}
 use Rattle.yds_plan.proofs.Served.{Serves, IsBefore, all_serve, some_units, portions_in_order}
 use Rattle.yds_plan.proofs.Filled.{fills, filled_pairs, filled_work, slots_of_jobs, jobs_at, units_of}
-use Rattle.yds_plan.proofs.Order.{Follows, StartsFrom, Works, run_from_pairs, earliest_after}
+use Rattle.yds_events.proofs.Following.{Follows, StartsFrom, Works, run_from_pairs, earliest_after}
 
 -- a slot serves its job in this stretch, at the speed of the stretch's group
 pub record Stands (jobs : List Job) (found : Found) (scale k : ℕ) (slot : WholeSlot) : Type 0 where

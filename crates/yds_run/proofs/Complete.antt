@@ -6,9 +6,10 @@ use Rattle.std.specs.Io.KnownBytes.{Appends}
 use Rattle.yds_model.specs.declared.limits.TheConstants.{MAX_INPUT}
 use Rattle.yds_model.specs.declared.status.Status.{Status}
 use Rattle.yds_model.specs.declared.status.Status.TheVariants as statuses
-use Rattle.yds_model.specs.Request.{Question, Request, OfDocument, OfTrial}
-use Rattle.yds_model.specs.Answer.{AnswersRequest, AnswersReading, UnlessTooLong}
+use Rattle.yds_model.specs.Request.{Question, Request, OfDocument, OfTasks, OfTrial}
+use Rattle.yds_model.specs.Answer.{AnswersRequest, AnswersReading, AnswersTasks, UnlessTooLong, is_too_long}
 use Rattle.yds_model.specs.Reading.{reading}
+use Rattle.yds_model.specs.TaskReading.{task_reading}
 use Rattle.yds_model.specs.TrialAnswer.{TrialAnswer}
 use Rattle.yds_run.specs.Run.{IsWhole, Writes, WritesWhole, AnswersBytes, AnswersTaken, Outcome}
 
@@ -23,46 +24,63 @@ writes_of One Other result old new flushed weaker writes = record {
 }
 
 -- the answer to an input that isn't too long
-pub short_answers : (question : Question) (input : List ℕ) (result : Status) (old new : Option (List ℕ)) (flushed : Option ℕ) → length input ≤ MAX_INPUT
-    → Writes (AnswersReading question (reading input)) result old new flushed → AnswersBytes (Some (OfDocument question)) input result old new flushed
-short_answers question input result old new flushed short =
-    writes_of (AnswersReading question (reading input)) (AnswersRequest (Some (OfDocument question)) input) result old new flushed
-    (λ text status answers. subst (λ long. UnlessTooLong long (AnswersReading question (reading input)) text status) (sym (le-ltb MAX_INPUT (length input) short)) answers)
+pub short_answers : (Answered : List ℕ → List ℕ → Status → Type 0) (input : List ℕ) (result : Status) (old new : Option (List ℕ)) (flushed : Option ℕ) → length input ≤ MAX_INPUT
+    → Writes (Answered input) result old new flushed → Writes (UnlessTooLong (is_too_long input) (Answered input)) result old new flushed
+short_answers Answered input result old new flushed short =
+    writes_of (Answered input) (UnlessTooLong (is_too_long input) (Answered input)) result old new flushed
+    (λ text status answers. subst (λ long. UnlessTooLong long (Answered input) text status) (sym (le-ltb MAX_INPUT (length input) short)) answers)
 
 -- more bytes than an input may have, and any bytes after them, are refused alike
-more_answers : (question : Question) (taken more text : List ℕ) (status : Status) → MAX_INPUT < length taken
-    → AnswersRequest (Some (OfDocument question)) taken text status → AnswersRequest (Some (OfDocument question)) (taken ++ more) text status
-more_answers question taken more text status beyond answers =
+long_answers : (Answered : List ℕ → List ℕ → Status → Type 0) (taken more text : List ℕ) (status : Status) → MAX_INPUT < length taken
+    → UnlessTooLong (is_too_long taken) (Answered taken) text status → UnlessTooLong (is_too_long (taken ++ more)) (Answered (taken ++ more)) text status
+long_answers Answered taken more text status beyond answers =
     let long : MAX_INPUT < length (taken ++ more) = omega (arith, length-append taken more) in
-    subst (λ long. UnlessTooLong long (AnswersReading question (reading (taken ++ more))) text status) (sym (lt-ltb MAX_INPUT (length (taken ++ more)) long))
-    (subst (λ long. UnlessTooLong long (AnswersReading question (reading taken)) text status) (lt-ltb MAX_INPUT (length taken) beyond) answers)
+    subst (λ long. UnlessTooLong long (Answered (taken ++ more)) text status) (sym (lt-ltb MAX_INPUT (length (taken ++ more)) long))
+    (subst (λ long. UnlessTooLong long (Answered taken) text status) (lt-ltb MAX_INPUT (length taken) beyond) answers)
 
-all_taken : (question : Question) (result : Status) (input taken rest : List ℕ) (old new : Option (List ℕ)) (flushed : Option ℕ)
-    → input ≡ taken ++ rest → (rest ≡ []) ⊎ (length taken ≡ MAX_INPUT + 1)
-    → AnswersBytes (Some (OfDocument question)) taken result old new flushed → AnswersBytes (Some (OfDocument question)) input result old new flushed
-all_taken question result input taken rest old new flushed is (inl end) answered =
+-- so is what is asked for, whatever comes after too many bytes
+abbrev RefusesLong : Request → Type 0
+RefusesLong request = (taken more text : List ℕ) (status : Status) → MAX_INPUT < length taken
+    → AnswersRequest (Some request) taken text status → AnswersRequest (Some request) (taken ++ more) text status
+
+all_taken : (request : Request) (result : Status) (input taken rest : List ℕ) (old new : Option (List ℕ)) (flushed : Option ℕ)
+    → RefusesLong request → input ≡ taken ++ rest → (rest ≡ []) ⊎ (length taken ≡ MAX_INPUT + 1)
+    → AnswersBytes (Some request) taken result old new flushed → AnswersBytes (Some request) input result old new flushed
+all_taken request result input taken rest old new flushed refuses is (inl end) answered =
     let whole : input ≡ taken = is ∙ ap (λ l. taken ++ l) end ∙ append-nil taken in
-    subst (λ bytes. AnswersBytes (Some (OfDocument question)) bytes result old new flushed) (sym whole) answered
-all_taken question result input taken rest old new flushed is (inr long) answered =
-    subst (λ bytes. AnswersBytes (Some (OfDocument question)) bytes result old new flushed) (sym is)
-    (writes_of (AnswersRequest (Some (OfDocument question)) taken) (AnswersRequest (Some (OfDocument question)) (taken ++ rest)) result old new flushed
-    (λ text status answers. more_answers question taken rest text status (omega arith) answers) answered)
+    subst (λ bytes. AnswersBytes (Some request) bytes result old new flushed) (sym whole) answered
+all_taken request result input taken rest old new flushed refuses is (inr long) answered =
+    subst (λ bytes. AnswersBytes (Some request) bytes result old new flushed) (sym is)
+    (writes_of (AnswersRequest (Some request) taken) (AnswersRequest (Some request) (taken ++ rest)) result old new flushed
+    (λ text status answers. refuses taken rest text status (omega arith) answers) answered)
 
 -- the answer to what was taken is the answer to the whole input, where that is told
-answers_input : (question : Question) (result : Status) (left rest old new : Option (List ℕ)) (flushed : Option ℕ)
-    → AnswersTaken (Some (OfDocument question)) result left rest old new flushed
-    → IfSome left (λ input. AnswersBytes (Some (OfDocument question)) input result old new flushed)
-answers_input question result None rest old new flushed answered = tt
-answers_input question result (Some input) None old new flushed answered = absurd answered.consumed
-answers_input question result (Some input) (Some rest) old new flushed answered =
-    all_taken question result input answered.taken rest old new flushed answered.consumed answered.ended answered.answered
+answers_input : (request : Request) (result : Status) (left rest old new : Option (List ℕ)) (flushed : Option ℕ)
+    → RefusesLong request → AnswersTaken (Some request) result left rest old new flushed
+    → IfSome left (λ input. AnswersBytes (Some request) input result old new flushed)
+answers_input request result None rest old new flushed refuses answered = tt
+answers_input request result (Some input) None old new flushed refuses answered = absurd answered.consumed
+answers_input request result (Some input) (Some rest) old new flushed refuses answered =
+    all_taken request result input answered.taken rest old new flushed refuses answered.consumed answered.ended answered.answered
 
--- so it is, where the words ask the question
+-- so it is, where the words ask for it
+input_completes : (named : Option Request) (request : Request) (result : Status) (left rest old new : Option (List ℕ)) (flushed : Option ℕ)
+    → RefusesLong request → Some request ≡ named → AnswersTaken (Some request) result left rest old new flushed
+    → IfSome left (λ input. AnswersBytes named input result old new flushed)
+input_completes named request result left rest old new flushed refuses is taken =
+    subst (λ asks. IfSome left (λ input. AnswersBytes asks input result old new flushed)) is (answers_input request result left rest old new flushed refuses taken)
+
 pub question_completes : (named : Option Request) (question : Question) (result : Status) (left rest old new : Option (List ℕ)) (flushed : Option ℕ)
     → Some (OfDocument question) ≡ named → AnswersTaken (Some (OfDocument question)) result left rest old new flushed
     → IfSome left (λ input. AnswersBytes named input result old new flushed)
 question_completes named question result left rest old new flushed is taken =
-    subst (λ asks. IfSome left (λ input. AnswersBytes asks input result old new flushed)) is (answers_input question result left rest old new flushed taken)
+    input_completes named (OfDocument question) result left rest old new flushed (long_answers (λ input. AnswersReading question (reading input))) is taken
+
+pub tasks_complete : (named : Option Request) (result : Status) (left rest old new : Option (List ℕ)) (flushed : Option ℕ)
+    → Some OfTasks ≡ named → AnswersTaken (Some OfTasks) result left rest old new flushed
+    → IfSome left (λ input. AnswersBytes named input result old new flushed)
+tasks_complete named result left rest old new flushed is taken =
+    input_completes named OfTasks result left rest old new flushed (long_answers (λ input. AnswersTasks (task_reading input))) is taken
 
 -- a trial's answer is the answer to each input
 pub trial_answers : (named : Option Request) (seed jobs : ℕ) (result : Status) (old new : Option (List ℕ)) (flushed : Option ℕ) → Some (OfTrial seed jobs) ≡ named
@@ -82,22 +100,22 @@ whole_outcome statuses.WriteFault text status old new flushed whole outcome = ab
 whole_outcome statuses.Memory text status old new flushed whole outcome = absurd whole
 
 -- a text of this status holds what each answer of that status holds
-text_holds : (question : Question) (ended result : Status) (Holds : List ℕ → List ℕ → Type 0) (input : List ℕ) (old new : Option (List ℕ)) (flushed : Option ℕ)
-    → IsWhole ended → ((input text : List ℕ) → AnswersRequest (Some (OfDocument question)) input text ended → Holds input text) → result ≡ ended
-    → AnswersBytes (Some (OfDocument question)) input result old new flushed → (text : List ℕ) × Appends old new text × Holds input text
-text_holds question ended result Holds input old new flushed whole law is answered =
+text_holds : (request : Request) (ended result : Status) (Holds : List ℕ → List ℕ → Type 0) (input : List ℕ) (old new : Option (List ℕ)) (flushed : Option ℕ)
+    → IsWhole ended → ((input text : List ℕ) → AnswersRequest (Some request) input text ended → Holds input text) → result ≡ ended
+    → AnswersBytes (Some request) input result old new flushed → (text : List ℕ) × Appends old new text × Holds input text
+text_holds request ended result Holds input old new flushed whole law is answered =
     let outcome : WritesWhole ended answered.text answered.status old new flushed =
     whole_outcome ended answered.text answered.status old new flushed whole (subst (λ ended. Outcome ended answered.text answered.status old new flushed) is answered.outcome) in (
       answered.text,
       outcome.whole,
-      law input answered.text (subst (AnswersRequest (Some (OfDocument question)) input answered.text) outcome.said answered.answers),
+      law input answered.text (subst (AnswersRequest (Some request) input answered.text) outcome.said answered.answers),
     )
 
--- so it does where the words ask the question and the input is told
-pub answer_holds : (named : Option Request) (question : Question) (ended result : Status) (Holds : List ℕ → List ℕ → Type 0) (left old new : Option (List ℕ)) (flushed : Option ℕ)
-    → IsWhole ended → ((input text : List ℕ) → AnswersRequest (Some (OfDocument question)) input text ended → Holds input text)
-    → named ≡ Some (OfDocument question) → result ≡ ended → IfSome left (λ input. AnswersBytes named input result old new flushed)
+-- so it does where the words ask for it and the input is told
+pub answer_holds : (named : Option Request) (request : Request) (ended result : Status) (Holds : List ℕ → List ℕ → Type 0) (left old new : Option (List ℕ)) (flushed : Option ℕ)
+    → IsWhole ended → ((input text : List ℕ) → AnswersRequest (Some request) input text ended → Holds input text)
+    → named ≡ Some request → result ≡ ended → IfSome left (λ input. AnswersBytes named input result old new flushed)
     → IfSome left (λ input. (text : List ℕ) × Appends old new text × Holds input text)
-answer_holds named question ended result Holds None old new flushed whole law asks is answered = tt
-answer_holds named question ended result Holds (Some input) old new flushed whole law asks is answered =
-    text_holds question ended result Holds input old new flushed whole law is (subst (λ request. AnswersBytes request input result old new flushed) asks answered)
+answer_holds named request ended result Holds None old new flushed whole law asks is answered = tt
+answer_holds named request ended result Holds (Some input) old new flushed whole law asks is answered =
+    text_holds request ended result Holds input old new flushed whole law is (subst (λ asked. AnswersBytes asked input result old new flushed) asks answered)

@@ -3,3 +3,5 @@ pub mod ToldLines
 pub mod Drawn
 pub mod Replied
 pub mod Complete
+pub mod Comments
+pub mod Admitting

@@ -16,7 +16,7 @@ joined : (word : List ℕ) (words : List (List ℕ)) → join_with_byte 32 (word
 joined word [] = sym (append-nil word)
 joined word (next ∷ words) = ap (λ l. word ++ 32 ∷ l) (joined next words)
 
-spaced_line : (word : List ℕ) (words : List (List ℕ)) → (word ++ spaced words) ++ 10 ∷ [] ≡ line (word ∷ words)
+pub spaced_line : (word : List ℕ) (words : List (List ℕ)) → (word ++ spaced words) ++ 10 ∷ [] ≡ line (word ∷ words)
 spaced_line word words = ap (λ l. l ++ 10 ∷ []) (sym (joined word words))
 
 -- the line of a verdict

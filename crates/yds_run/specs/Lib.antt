@@ -7,3 +7,4 @@ pub mod Plan
 pub mod Check
 pub mod Report
 pub mod Trial
+pub mod Admit

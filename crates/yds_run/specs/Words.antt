@@ -1,7 +1,7 @@
 -- The words of the command line, as bytes, and what they ask for of what is built.
 use Rattle.std.specs.Prelude.{ℕ, ◌≤◌, List, map, String, string_bytes, Option, Some, None, true, false}
 use Rattle.std.specs.declared.alloc.Global.{Global}
-use Rattle.yds_model.specs.declared.limits.TheConstants.{MAX_TRIAL_JOBS}
+use Rattle.yds_model.specs.declared.limits.TheConstants.{MAX_TRIAL_JOBS, MAX_TOP}
 use Rattle.yds_model.specs.Request.{Question as ModelQuestion, AskPlan, AskRound, AskAverageRate, AskOptimalAvailable, AskCheck, AskAudit, AskAuditOnPoints, AskReport, AskReportAsJson, AskAdmit, AskCurve, AskCompare, Request, OfDocument, OfTasks, OfTrial, request_of}
 use Rattle.yds_run.specs.declared.command.Question.{Question}
 use Rattle.yds_run.specs.declared.command.Question.TheVariants as questions
@@ -17,10 +17,8 @@ built (Some (OfDocument AskRound)) = None
 built (Some (OfDocument (AskAverageRate grid))) = None
 built (Some (OfDocument (AskOptimalAvailable grid))) = None
 built (Some (OfDocument AskReportAsJson)) = None
-built (Some (OfDocument (AskAdmit top))) = None
 built (Some (OfDocument AskCurve)) = None
 built (Some (OfDocument (AskCompare grid))) = None
-built (Some OfTasks) = None
 built request = request
 
 abbrev pub asked : List (List ℕ) → Option Request
@@ -44,13 +42,21 @@ question_view questions.Check = AskCheck
 question_view (questions.Audit false) = AskAudit
 question_view (questions.Audit true) = AskAuditOnPoints
 question_view questions.Report = AskReport
+question_view (questions.Admit top) = AskAdmit top
 
 -- what a command answers
 abbrev pub request_view : Command → Request
 request_view (commands.Document question) = OfDocument (question_view question)
+request_view commands.Expand = OfTasks
 request_view (commands.Trial seed jobs) = OfTrial seed jobs
 
--- a trial has as many jobs as it may have
+-- the numbers of a question are within their limits
+abbrev pub IsAskable : Question → Type 0
+IsAskable (questions.Admit top) = (1 ≤ top) × (top ≤ MAX_TOP)
+IsAskable _ = Unit {0}
+
+-- and those of a command: a trial has as many jobs as it may have
 abbrev pub IsWithinLimits : Command → Type 0
+IsWithinLimits (commands.Document question) = IsAskable question
+IsWithinLimits commands.Expand = Unit {0}
 IsWithinLimits (commands.Trial seed jobs) = jobs ≤ MAX_TRIAL_JOBS
-IsWithinLimits _ = Unit {0}

@@ -4,7 +4,7 @@ ghost use Rattle.yds_model.specs.Spelling.{number_at};
 ghost use Rattle.yds_model.specs.Request.{request_of_word, request_of_two, request_of_three};
 ghost use Rattle.yds_run.specs.Words.{words_of, built, asked, request_view, IsWithinLimits};
 
-use yds_model::limits::{MAX_SEED, MAX_TRIAL_JOBS};
+use yds_model::limits::{MAX_SEED, MAX_TOP, MAX_TRIAL_JOBS};
 use yds_text::number_of;
 
 /// What is asked of a document.
@@ -21,6 +21,11 @@ pub enum Question {
     },
     /// The plan of the document's jobs as a table of its levels.
     Report,
+    /// The jobs that a processor of this top speed can serve, in work per time unit.
+    Admit {
+        /// The top speed, from 1 to `MAX_TOP`.
+        top: u32,
+    },
 }
 
 /// What the words of the command line ask for.
@@ -28,6 +33,8 @@ pub enum Question {
 pub enum Command {
     /// The answer to a question about the document in the input.
     Document(Question),
+    /// The jobs of the periodic tasks in the input.
+    Expand,
     /// The numbers of a plan of drawn jobs, for which nothing is read.
     Trial {
         /// The number from which the jobs are drawn.
@@ -63,6 +70,7 @@ fn of_word(word: &str) -> Option<Command>
         "check" => Some(Command::Document(Question::Check)),
         "audit" => Some(Command::Document(Question::Audit { points: false })),
         "report" => Some(Command::Document(Question::Report)),
+        "expand" => Some(Command::Expand),
         _ => None,
     }
 }
@@ -74,6 +82,10 @@ fn of_two(word: &str, next: &str) -> Option<Command>
 {
     match (word, next) {
         ("audit", "--points") => Some(Command::Document(Question::Audit { points: true })),
+        ("admit", _) => {
+            let top = number_in(next, 1, MAX_TOP)?;
+            Some(Command::Document(Question::Admit { top }))
+        }
         _ => None,
     }
 }
@@ -85,19 +97,19 @@ fn of_three(word: &str, next: &str, last: &str) -> Option<Command>
 {
     match word {
         "trial" => {
-            let seed = number_in(next, MAX_SEED)?;
-            let jobs = number_in(last, MAX_TRIAL_JOBS)?;
+            let seed = number_in(next, 0, MAX_SEED)?;
+            let jobs = number_in(last, 0, MAX_TRIAL_JOBS)?;
             Some(Command::Trial { seed, jobs })
         }
         _ => None,
     }
 }
 
-/// The number that a word spells, at most `most`.
-fn number_in(word: &str, most: u32) -> Option<u32>
-    ensures number { result ≡ result_ok (number_at 0 most word.now) }
-    ensures within { IfSome result (λ number. number ≤ most) }
+/// The number that a word spells, at least `least` and at most `most`.
+fn number_in(word: &str, least: u32, most: u32) -> Option<u32>
+    ensures number { result ≡ result_ok (number_at least most word.now) }
+    ensures within { IfSome result (λ number. (least ≤ number) × (number ≤ most)) }
 {
-    let number = number_of(word.as_bytes(), 0, u64::from(most)).ok()?;
+    let number = number_of(word.as_bytes(), u64::from(least), u64::from(most)).ok()?;
     Some(number as u32)
 }

@@ -5,16 +5,19 @@ ghost use Rattle.yds_model.specs.Answer.{AnswersReading, AnswersQuestion};
 ghost use Rattle.yds_model.specs.PlanAnswer.{HoldsHeadline};
 ghost use Rattle.yds_model.specs.Reading.{reading};
 ghost use Rattle.yds_model.specs.Request.{usage_line, OfDocument};
+ghost use Rattle.yds_laws.specs.TaskLaws.{HoldsExpansion};
 ghost use Rattle.yds_port.specs.Count.{Rose, next_count};
 ghost use Rattle.yds_document.specs.Documents.{document_view};
-ghost use Rattle.yds_run.specs.Words.{words_of, asked, IsTrial, ReadsInput, question_view};
+ghost use Rattle.yds_run.specs.Words.{words_of, asked, IsTrial, ReadsInput, question_view, IsAskable};
 ghost use Rattle.yds_run.specs.Run.{Outcome, IsWhole, CountTells, IsDelivered, Replies, AnswersBytes, AnswersTaken, IsTooLong};
 
+use crate::admit::admit_document;
 use crate::answer::Answer;
 use crate::audit::{audit_document, audit_on_points};
 use crate::check::check_document;
 use crate::command::{Command, Question};
 use crate::deliver::deliver;
+use crate::expand::expand_input;
 use crate::plan::plan_document;
 use crate::refusal::{RefusedAt, TooLong, Usage};
 use crate::report::report_document;
@@ -77,9 +80,15 @@ pub fn run<S: Source, K: Sink>(
     // work in its window and, for every speed, does no more work above it than any feasible schedule.
     ensures headline { words_of words.now ≡ codes "plan" ∷ [] → result ≡ Status.Done
         → IfSome (S.left source.old) (λ input. (text : List ℕ) × Appends (K.written sink.old) (K.written sink.new) text × HoldsHeadline input text) }
+
+    // The jobs of periodic tasks that were written are read again as a document with just these jobs, in
+    // their order and under different names.
+    ensures expansion { words_of words.now ≡ codes "expand" ∷ [] → result ≡ Status.Done
+        → IfSome (S.left source.old) (λ input. (text : List ℕ) × Appends (K.written sink.old) (K.written sink.new) text × HoldsExpansion input text) }
 {
     match Command::of(words) {
         Some(Command::Document(question)) => answer_input(alloc, question, source, sink),
+        Some(Command::Expand) => expand_input(alloc, source, sink),
         Some(Command::Trial { seed, jobs }) => reply(try_plan(alloc, seed, jobs), sink),
         None => deliver(&Usage, sink),
     }
@@ -92,6 +101,7 @@ fn answer_input<S: Source, K: Sink>(
     source: &mut S,
     sink: &mut K,
 ) -> Status
+    requires { IsAskable question }
     ensures source { CountTells Status.ReadFault result (S.faults source.old) (S.faults source.new) }
     ensures sink { CountTells Status.WriteFault result (K.faults sink.old) (K.faults sink.new) }
     ensures nothing_written { (result ≡ Status.Memory) ⊎ (result ≡ Status.ReadFault) → sink.new ≡ sink.old }
@@ -109,7 +119,8 @@ fn answer_input<S: Source, K: Sink>(
 
 /// Answers the question about the document that the bytes are.
 fn answer_bytes<K: Sink>(alloc: Global, question: Question, bytes: &[u8], sink: &mut K) -> Status
-    requires { length bytes.now ≤ MAX_INPUT }
+    requires askable { IsAskable question }
+    requires short { length bytes.now ≤ MAX_INPUT }
     ensures { Replies K.written K.flushed K.flushes K.faults (AnswersReading (question_view question) (reading bytes.now)) result sink.old sink.new }
 {
     match read_document(alloc, bytes) {
@@ -139,6 +150,7 @@ fn answer_document<K: Sink>(
     document: Document<'_>,
     sink: &mut K,
 ) -> Status
+    requires { IsAskable question }
     ensures { Replies K.written K.flushed K.flushes K.faults (AnswersQuestion (question_view question) (document_view document.entry)) result sink.old sink.new }
 {
     match question {
@@ -147,6 +159,7 @@ fn answer_document<K: Sink>(
         Question::Audit { points: false } => deliver(&audit_document(&document), sink),
         Question::Audit { points: true } => deliver(&audit_on_points(&document), sink),
         Question::Report => reply(report_document(alloc, document), sink),
+        Question::Admit { top } => reply(admit_document(alloc, document, top), sink),
     }
 }
 

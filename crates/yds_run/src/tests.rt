@@ -1,6 +1,7 @@
 use super::*;
-use crate::worked_rows::{REPORTS_AND_TRIALS, ROWS};
+use crate::worked_rows::{ADMISSIONS, EXPANSIONS, REPORTS_AND_TRIALS, ROWS};
 use std::alloc::{AllocError, Global};
+use std::process::Abort;
 use std::test::Fail;
 use yds_model::{Memory, Status};
 use yds_port::{MemorySink, MemorySource, read_all};
@@ -34,10 +35,14 @@ fn answer(alloc: Global, text: &str, input: &str) -> Result<(Status, MemorySink)
     Ok((status, sink))
 }
 
-#[test]
-fn the_answer_to_each_input(rt: HostRuntime) -> Result<(), Fail> {
-    for (text, input, status, want) in &ROWS {
-        let (ended, sink) = answer(rt.alloc(), text, input)?;
+/// The words of each row, over its input, end with its status and write its text.
+fn answers_are(
+    rt: &impl Abort,
+    alloc: Global,
+    rows: &[(&str, &str, Status, &str)],
+) -> Result<(), Fail> {
+    for (text, input, status, want) in rows {
+        let (ended, sink) = answer(alloc, text, input)?;
         assert_eq!(rt; ended, *status, "{text}: {input}");
         assert_eq!(rt; sink.bytes(), want.as_bytes(), "{text}: {input}");
     }
@@ -45,13 +50,23 @@ fn the_answer_to_each_input(rt: HostRuntime) -> Result<(), Fail> {
 }
 
 #[test]
+fn the_answer_to_each_input(rt: HostRuntime) -> Result<(), Fail> {
+    answers_are(&rt, rt.alloc(), &ROWS)
+}
+
+#[test]
 fn the_answers_of_reports_and_trials(rt: HostRuntime) -> Result<(), Fail> {
-    for (text, input, status, want) in &REPORTS_AND_TRIALS {
-        let (ended, sink) = answer(rt.alloc(), text, input)?;
-        assert_eq!(rt; ended, *status, "{text}: {input}");
-        assert_eq!(rt; sink.bytes(), want.as_bytes(), "{text}: {input}");
-    }
-    Ok(())
+    answers_are(&rt, rt.alloc(), &REPORTS_AND_TRIALS)
+}
+
+#[test]
+fn the_jobs_of_periodic_tasks(rt: HostRuntime) -> Result<(), Fail> {
+    answers_are(&rt, rt.alloc(), &EXPANSIONS)
+}
+
+#[test]
+fn the_answers_of_admissions(rt: HostRuntime) -> Result<(), Fail> {
+    answers_are(&rt, rt.alloc(), &ADMISSIONS)
 }
 
 #[test]

@@ -499,3 +499,117 @@ pub static REPORTS_AND_TRIALS: [(&str, &str, Status, &str); 8] = [
     ("trial 4294967296 1", "", Status::Usage, USAGE),
     ("trial 0 01", "", Status::Usage, USAGE),
 ];
+
+/// The same of periodic tasks, and the plan of the jobs of two.
+pub static EXPANSIONS: [(&str, &str, Status, &str); 16] = [
+    (
+        "expand",
+        "horizon 12\ntask a 0 4 4 2\ntask b 0 6 6 3\n",
+        Status::Done,
+        "job a.0 0 4 2\njob a.1 4 8 2\njob a.2 8 12 2\njob b.0 0 6 3\njob b.1 6 12 3\n# one level 12 12\n",
+    ),
+    (
+        "plan",
+        "job a.0 0 4 2\njob a.1 4 8 2\njob a.2 8 12 2\njob b.0 0 6 3\njob b.1 6 12 3\n# one level 12 12\n",
+        Status::Done,
+        "job a.0 0 4 2\njob a.1 4 8 2\njob a.2 8 12 2\njob b.0 0 6 3\njob b.1 6 12 3\nslot a.0 0 2 2\nslot b.0 2 4 2\nslot b.0 4 5 1\nslot a.1 5 6 1\nslot a.1 6 7 1\nslot b.1 7 8 1\nslot a.2 8 10 2\nslot b.1 10 12 2\nlevel 12 12\npiece 0 12\nmember a.0\nmember a.1\nmember a.2\nmember b.0\nmember b.1\n",
+    ),
+    (
+        "expand",
+        "horizon 10\ntask s 1 5 2 1\n",
+        Status::Done,
+        "job s.0 1 3 1\njob s.1 6 8 1\n",
+    ),
+    (
+        "expand",
+        "task a 0 4 4 2\n",
+        Status::Refused,
+        "refused 1 1 Misplaced\n",
+    ),
+    (
+        "expand",
+        "horizon 1000000000\ntask a 0 1 1 1\n",
+        Status::Refused,
+        "refused 2 10 TooManyJobs\n",
+    ),
+    (
+        "expand",
+        "horizon 2\ntask a 0 2 3 1\ntask b 1 2 1 0\n",
+        Status::Done,
+        "job b.0 1 2 0\n",
+    ),
+    ("expand", "", Status::Done, ""),
+    (
+        "expand",
+        "job a 0 4 8\n",
+        Status::Refused,
+        "refused 1 1 UnknownKind\n",
+    ),
+    (
+        "expand",
+        "horizon 12\n horizon 12\n",
+        Status::Refused,
+        "refused 2 2 Misplaced\n",
+    ),
+    (
+        "expand",
+        "horizon 12\ntask a 0 4 4\n",
+        Status::Refused,
+        "refused 2 13 FieldCount\n",
+    ),
+    (
+        "expand",
+        "horizon 12\ntask aaaaaaaaaaaaaaaaaaaaaaaaaaaaaaaaaaaaaaaaaaaaaaaaaaaaaaaaaaaa 0 4 4 2\n",
+        Status::Refused,
+        "refused 2 6 BadName\n",
+    ),
+    (
+        "expand",
+        "horizon 12\ntask a 0 4 4 2\ntask a 0 6 6 3\n",
+        Status::Refused,
+        "refused 3 6 DuplicateName\n",
+    ),
+    (
+        "expand",
+        "horizon 12\ntask a 0 04 4 2\n",
+        Status::Refused,
+        "refused 2 10 BadNumber\n",
+    ),
+    (
+        "expand",
+        "horizon 12\ntask a 0 4 0 2\n",
+        Status::Refused,
+        "refused 2 12 OutOfRange\n",
+    ),
+    (
+        "expand",
+        "horizon 4000\ntask a 0 1 1 1\ntask b 0 4000 4000 0\n",
+        Status::Refused,
+        "refused 3 10 TooManyJobs\n",
+    ),
+    ("expand all", "", Status::Usage, USAGE),
+];
+
+/// The same of admissions.
+pub static ADMISSIONS: [(&str, &str, Status, &str); 5] = [
+    (
+        "admit 2",
+        "job a 0 4 4\njob b 0 2 4\njob c 1 3 1\n",
+        Status::Done,
+        "job a 0 4 4\njob b 0 2 4\nslot b 0 2 4\nslot a 2 4 4\n# refuse c from 0 to 4 work 9 top 2\n",
+    ),
+    (
+        "admit 1",
+        "job a 0 2 3\njob b 0 2 0\njob c 0 2 1\n",
+        Status::Done,
+        "job b 0 2 0\njob c 0 2 1\nslot c 0 2 1\n# refuse a from 0 to 2 work 3 top 1\n",
+    ),
+    (
+        "admit 1",
+        "job z 0 10 0\njob a 5 6 100\npoint 0 0\npoint 4 9\n",
+        Status::Done,
+        "job z 0 10 0\npoint 0 0\npoint 4 9\n# refuse a from 0 to 6 work 100 top 1\n",
+    ),
+    ("admit 1000000", "", Status::Done, ""),
+    ("admit 1000001", "job a 0 4 8\n", Status::Usage, USAGE),
+];

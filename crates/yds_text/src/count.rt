@@ -53,6 +53,26 @@ pub fn four_fields<'a>(
     Ok((one, two, three, four))
 }
 
+/// Five fields of one line.
+pub type FiveFields<'a> = (Field<'a>, Field<'a>, Field<'a>, Field<'a>, Field<'a>);
+
+/// The five fields after the first.
+pub fn five_fields<'a>(
+    first: Field<'a>,
+    mut fields: Fields<'a>,
+) -> Result<FiveFields<'a>, FieldCount>
+    ensures { Counts (λ x. field_read first.entry ∷ field_read x.0 ∷ field_read x.1 ∷ field_read x.2 ∷ field_read x.3 ∷ field_read x.4 ∷ []) result 5
+        (field_read first.entry ∷ fields.entry.fields) }
+{
+    let one = next_field(first, &mut fields)?;
+    let two = next_field(one, &mut fields)?;
+    let three = next_field(two, &mut fields)?;
+    let four = next_field(three, &mut fields)?;
+    let five = next_field(four, &mut fields)?;
+    no_more(fields)?;
+    Ok((one, two, three, four, five))
+}
+
 /// The next field, after the last one that was read.
 fn next_field<'a>(last: Field<'a>, fields: &mut Fields<'a>) -> Result<Field<'a>, FieldCount>
     ensures { ReadsNext result (past_end (field_read last.entry)) fields.old.fields fields.new.fields }

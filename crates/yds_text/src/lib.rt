@@ -12,7 +12,7 @@ mod fraction;
 mod line;
 mod spelling;
 
-pub use count::{FieldCount, four_fields, one_field, two_fields};
+pub use count::{FieldCount, FiveFields, five_fields, four_fields, one_field, two_fields};
 pub use field::{Field, Fields};
 pub use fraction::mixed;
 pub use line::{Line, LineIter, lines};

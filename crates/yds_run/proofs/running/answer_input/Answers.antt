@@ -11,7 +11,7 @@ returns-in-Ok-clause-answer g c = λ memory fault. record {
   taken = c.in-Ok.bytes.items;
   consumed = c.in-Ok.ensures.reads.consumed;
   ended = inl c.in-Ok.ensures.reads.at_end;
-  answered = short_answers _ c.in-Ok.bytes.items _ _ _ _ (omega (arith, c.in-Ok.ensures.reads.within))
+  answered = short_answers (λ input. AnswersReading (question_view c.args.question) (reading input)) c.in-Ok.bytes.items _ _ _ _ (omega (arith, c.in-Ok.ensures.reads.within))
       (subst (λ bytes. Writes (AnswersReading (question_view c.args.question) (reading bytes)) c.answer_bytes.result (g.K.Sink.written c.args.sink.now)
       (g.K.Sink.written c.answer_bytes.new.sink) (g.K.Sink.flushed c.answer_bytes.new.sink)) c.deref.ensures.value (c.answer_bytes.ensures.answer memory));
 }

@@ -1,11 +1,13 @@
 use Rattle.std.proofs.Common.{ap, sym, ◌∙◌, ◌≡◌, Some, Option}
 use Rattle.yds_model.specs.Request.{Request}
 use Rattle.yds_model.specs.PlanAnswer.{HoldsHeadline}
+use Rattle.yds_laws.specs.TaskLaws.{HoldsExpansion}
 use Rattle.yds_laws.proofs.PlanText.{plans_hold_the_headline}
+use Rattle.yds_laws.proofs.TaskTexts.{expansions_are_read}
 use Rattle.yds_run.specs.declared.command.Command.{Command}
 use Rattle.yds_run.specs.Words.{asked, request_view}
 use Rattle.yds_run.proofs.Replied.{made_replies}
-use Rattle.yds_run.proofs.Complete.{question_completes, trial_answers, answer_holds}
+use Rattle.yds_run.proofs.Complete.{question_completes, tasks_complete, trial_answers, answer_holds}
 use Rattle.yds_run.proofs.running.run.Goals as goal
 
 -- what a command that was named asks for
@@ -21,6 +23,16 @@ returns-in-Some-Document-clause-headline g c =
     λ plan done. answer_holds _ _ _ _ HoldsHeadline _ _ _ _ tt plans_hold_the_headline (ap asked plan) done
     (question_completes _ _ _ _ _ _ _ _ (named _ _ _ c.in-Some-Document.field-0-is c.in-Some-Document.ensures.asked)
     (c.answer_input.ensures.answer (λ is. absurd cc) (λ is. absurd cc)))
+
+pub returns-in-Some-Expand-clause-complete : goal.returns-in-Some-Expand-clause-complete
+returns-in-Some-Expand-clause-complete g c =
+    λ memory fault. tasks_complete _ _ _ _ _ _ _ (named _ _ _ c.in-Some-Expand.field-0-is c.in-Some-Expand.ensures.asked) (c.expand_input.ensures.answer memory fault)
+
+pub returns-in-Some-Expand-clause-expansion : goal.returns-in-Some-Expand-clause-expansion
+returns-in-Some-Expand-clause-expansion g c =
+    λ expand done. answer_holds _ _ _ _ HoldsExpansion _ _ _ _ tt expansions_are_read (ap asked expand) done
+    (tasks_complete _ _ _ _ _ _ _ (named _ _ _ c.in-Some-Expand.field-0-is c.in-Some-Expand.ensures.asked)
+    (c.expand_input.ensures.answer (λ is. absurd cc) (λ is. absurd cc)))
 
 pub returns-in-Some-Trial-clause-trial_text : goal.returns-in-Some-Trial-clause-trial_text
 returns-in-Some-Trial-clause-trial_text g c =

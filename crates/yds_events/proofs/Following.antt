@@ -12,7 +12,7 @@ use Rattle.yds_model.specs.Feasible.{RunFrom}
 use Rattle.yds_model.specs.Event.{LiesIn, stretches}
 use Rattle.yds_model.specs.EarliestFirst.{ComesFirst, EarliestAfter}
 
--- what a slot and a later one of a plan are to each other
+-- what a slot and a later one are to each other
 pub record Follows (jobs : List Job) (scale : ℕ) (one other : WholeSlot) : Type 0 where
   pub after : one.to ≤ other.from
   pub due : (job_at jobs other.job).release * scale ≤ one.from → ComesFirst jobs one.job other.job

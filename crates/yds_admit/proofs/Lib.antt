@@ -1,0 +1,4 @@
+pub mod Between
+pub mod Overfull
+pub mod Deciding
+pub mod Demand

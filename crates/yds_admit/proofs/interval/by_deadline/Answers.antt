@@ -1,0 +1,8 @@
+use Rattle.std.proofs.Common.{rules}
+use Rattle.std.proofs.lemmas.List.Sorted.{IsNonDecreasingBy-from_sort_by_key}
+use Rattle.yds_model.specs.Job.{Job}
+use Rattle.yds_admit.proofs.interval.by_deadline.Goals as goal
+
+pub returns-clause-rising : goal.returns-clause-rising
+returns-clause-rising c =
+    IsNonDecreasingBy-from_sort_by_key (λ (job : Job). job.deadline) _ c.in_ok-sort_by_key.ensures.sorted (λ a r f k. (search rules, search rules))

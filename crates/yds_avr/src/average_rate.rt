@@ -1,0 +1,67 @@
+ghost use Rattle.std.specs.Prelude.{◌≡◌, ◌≤◌, IfOk, length, All};
+ghost use Rattle.yds_model.specs.Policy.{HasRunDenominators};
+ghost use Rattle.yds_model.specs.AverageRate.{IsAverageRateRun, terms_of, average_rate_rounds};
+ghost use Rattle.yds_model.specs.Within.{AreSlotsOf};
+ghost use Rattle.yds_model.specs.Job.{IsJob};
+ghost use Rattle.yds_events.specs.Stretch.{IsOutside};
+
+use crate::term::{is_live, term_of};
+use std::alloc::Global;
+use yds_edf::limits::MAX_GRAIN;
+use yds_edf::{Policy, PolicyRun, Queue, Setting, run_policy};
+use yds_events::Stretch;
+use yds_model::limits::{MAX_GRID, MAX_JOBS, MAX_ROUNDED};
+use yds_model::{JobRow, Memory};
+
+/// The run of Average Rate on the grid: a stretch serves the sum of the live jobs' parts of it, each rounded up to a whole
+/// unit of `1/grid`, or all that is pending. FOCS 1995.
+///
+/// `rounded` is the number of event points at which some live job's part wasn't whole.
+pub fn avr(alloc: Global, rows: &[JobRow], grid: u32) -> Result<PolicyRun, Memory>
+    requires few { length rows.now ≤ MAX_JOBS }
+    requires some_grid { 1 ≤ grid }
+    requires grid_in_range { grid ≤ MAX_GRID }
+    ensures run { IfOk result (λ run. IsAverageRateRun rows.now grid run.rounded run.schedule.slots) }
+    ensures denominators { IfOk result (λ run. All (HasRunDenominators rows.now grid) run.schedule.slots) }
+    ensures jobs { IfOk result (λ run. run.schedule.jobs ≡ length rows.now) }
+    ensures limits { IfOk result (λ run. AreSlotsOf (length rows.now) run.schedule.slots) }
+    ensures count_in_range { IfOk result (λ run. run.rounded ≤ MAX_ROUNDED) }
+{
+    run_policy(alloc, rows, grid, &mut AverageRate)
+}
+
+/// Average Rate, which looks at the jobs' windows alone.
+#[derive(Drop)]
+struct AverageRate;
+
+impl Policy for AverageRate {
+    ghost units = { λ jobs grid pending stretch. terms_of jobs grid stretch };
+
+    ghost rounds = { λ jobs grid pending stretch. average_rate_rounds jobs grid stretch };
+
+    ghost keeps = { λ policy jobs number. Unit {0} };
+
+    fn set(&mut self, _number: u32, queue: &Queue, stretch: Stretch) -> Setting {
+        terms(queue.rows(), queue.grain(), stretch)
+    }
+}
+
+/// The sum of the live jobs' parts of a stretch, and whether one was rounded up.
+fn terms(rows: &[JobRow], grid: u64, stretch: Stretch) -> Setting
+    requires few { length rows.now ≤ MAX_JOBS }
+    requires jobs { All IsJob rows.now }
+    requires grid_in_range { grid ≤ MAX_GRAIN }
+    requires uncut { All (λ job. IsOutside stretch job.deadline) rows.now }
+    ensures units { result.units ≡ terms_of rows.now grid stretch }
+    ensures rounds { result.rounds ≡ average_rate_rounds rows.now grid stretch }
+{
+    let mut sum = Setting { units: 0, rounds: false };
+    for row in rows {
+        if is_live(row, stretch) {
+            let term = term_of(row, grid, stretch);
+            sum.units += term.units;
+            sum.rounds |= term.rounds;
+        }
+    }
+    sum
+}

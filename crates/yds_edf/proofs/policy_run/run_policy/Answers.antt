@@ -1,0 +1,110 @@
+use Rattle.std.proofs.Common.{◌≡◌, ℕ, ◌+◌, ◌*◌, ◌<◌, ◌≤◌, ◌++◌, List, [], length, slice_index, Some, ◌∙◌, sym, subst, ap, arith, refl, cond, Bool, add-one}
+use Rattle.yds_model.specs.Job.{Job}
+use Rattle.yds_model.specs.Slot.{WrittenSlot}
+use Rattle.yds_model.specs.Piece.{Piece}
+use Rattle.yds_model.specs.Event.{stretches}
+use Rattle.yds_model.specs.Comparison.{stretch_at}
+use Rattle.yds_events.proofs.Neighbours.{few_stretches, stretch_read}
+use Rattle.yds_slots.specs.Schedule.{WrittenSchedule}
+use Rattle.yds_edf.specs.Queue.{JobQueue, pending_in}
+use Rattle.yds_edf.proofs.Running.{Running, begun, can_follow, stepped, few_rounded, all_run, one_or_none, one_at_most}
+use Rattle.yds_edf.proofs.policy_run.run_policy.Goals as goal
+
+pub loop-number-init : goal.loop-number-init
+loop-number-init g c = record {
+  shares = [];
+  running = rw (c.in_ok-queue.ensures, c.in_ok-schedule.ensures, c.from.ensures) (begun c.args.rows.now c.args.grid (g.P.Policy.units c.args.policy.now c.args.rows.now c.args.grid));
+  jobs = ap (λ (schedule : WrittenSchedule). schedule.jobs) c.in_ok-schedule.ensures;
+  counted = refl;
+  keeps = c.requires.keeps;
+  units_stay = refl;
+  rounds_stay = refl;
+  timeline = c.deref-stretch-items.ensures.value ∙ c.in_ok-stretches.ensures;
+}
+
+pub overflow_cast-number : goal.overflow_cast-number
+overflow_cast-number g c = omega (
+  arith,
+  c.loop-number-test.true,
+  ap (λ (pieces : List Piece). length pieces) c.loop-number.invariant.timeline,
+  few_stretches c.args.rows.now,
+  c.requires.few,
+)
+
+pub append-requires-clause-known : goal.append-requires-clause-known
+append-requires-clause-known g c =
+    let here : c.loop-number.number < length (stretches c.args.rows.now) =
+    omega (arith, c.loop-number-test.true, ap (λ (pieces : List Piece). length pieces) c.loop-number.invariant.timeline) in
+    rw (c.deref.ensures.value, c.loop-number.invariant.jobs)
+    (can_follow c.args.rows.now c.args.grid (g.P.Policy.units c.args.policy.now) c.requires.some_grid c.loop-number.number here _ _ _ _ _ c.loop-number.invariant.running _
+    (stretch_read c.args.rows.now c.deref-stretch-items.result.now c.loop-number.number c.stretch-item.result _ c.loop-number.invariant.timeline here c.stretch-item.is c.stretch.view_is)
+    c.arrive.ensures _ (c.set-setting.ensures.units ∙ ap (λ (tells : List Job → ℕ → (ℕ → ℕ) → Piece → ℕ). tells c.arrive.new.self.jobs c.arrive.new.self.grain (pending_in c.arrive.new.self)
+    (record { from = c.stretch.inside.from; to = c.stretch.inside.to })) c.loop-number.invariant.units_stay) _ c.in_ok-slots.ensures).known
+
+pub append-requires-clause-grain : goal.append-requires-clause-grain
+append-requires-clause-grain g c =
+    let here : c.loop-number.number < length (stretches c.args.rows.now) =
+    omega (arith, c.loop-number-test.true, ap (λ (pieces : List Piece). length pieces) c.loop-number.invariant.timeline) in
+    rw (c.deref.ensures.value) (
+      c.args.grid,
+      (can_follow c.args.rows.now c.args.grid (g.P.Policy.units c.args.policy.now) c.requires.some_grid c.loop-number.number here _ _ _ _ _ c.loop-number.invariant.running _
+          (stretch_read c.args.rows.now c.deref-stretch-items.result.now c.loop-number.number c.stretch-item.result _ c.loop-number.invariant.timeline here c.stretch-item.is c.stretch.view_is)
+          c.arrive.ensures _ (c.set-setting.ensures.units ∙ ap (λ (tells : List Job → ℕ → (ℕ → ℕ) → Piece → ℕ). tells c.arrive.new.self.jobs c.arrive.new.self.grain (pending_in c.arrive.new.self)
+    (record { from = c.stretch.inside.from; to = c.stretch.inside.to })) c.loop-number.invariant.units_stay) _ c.in_ok-slots.ensures).over,
+    )
+
+pub append-requires-clause-room : goal.append-requires-clause-room
+append-requires-clause-room g c =
+    let here : c.loop-number.number < length (stretches c.args.rows.now) =
+    omega (arith, c.loop-number-test.true, ap (λ (pieces : List Piece). length pieces) c.loop-number.invariant.timeline) in
+    rw (c.deref.ensures.value)
+    (let few = (can_follow c.args.rows.now c.args.grid (g.P.Policy.units c.args.policy.now) c.requires.some_grid c.loop-number.number here _ _ _ _ _ c.loop-number.invariant.running _
+    (stretch_read c.args.rows.now c.deref-stretch-items.result.now c.loop-number.number c.stretch-item.result _ c.loop-number.invariant.timeline here c.stretch-item.is c.stretch.view_is)
+    c.arrive.ensures _ (c.set-setting.ensures.units ∙ ap (λ (tells : List Job → ℕ → (ℕ → ℕ) → Piece → ℕ). tells c.arrive.new.self.jobs c.arrive.new.self.grain (pending_in c.arrive.new.self)
+    (record { from = c.stretch.inside.from; to = c.stretch.inside.to })) c.loop-number.invariant.units_stay) _ c.in_ok-slots.ensures).few in
+    omega (arith, few, here, few_stretches c.args.rows.now, c.requires.few))
+
+pub overflow_add-rounded : goal.overflow_add-rounded
+overflow_add-rounded g c =
+    let here : c.loop-number.number < length (stretches c.args.rows.now) =
+    omega (arith, c.loop-number-test.true, ap (λ (pieces : List Piece). length pieces) c.loop-number.invariant.timeline) in
+    omega (
+      arith,
+      here,
+      few_stretches c.args.rows.now,
+      c.requires.few,
+      c.loop-number.invariant.counted,
+      few_rounded c.args.rows.now c.args.grid (g.P.Policy.rounds c.args.policy.now c.args.rows.now c.args.grid) c.loop-number.invariant.shares c.loop-number.number,
+      c.from-rounded.ensures,
+      one_at_most c.set-setting.result.rounds,
+    )
+
+pub loop-number-preserved : goal.loop-number-preserved
+loop-number-preserved g c =
+    let here : c.loop-number.number < length (stretches c.args.rows.now) =
+    omega (arith, c.loop-number-test.true, ap (λ (pieces : List Piece). length pieces) c.loop-number.invariant.timeline) in
+    let next = stepped c.args.rows.now c.args.grid (g.P.Policy.units c.args.policy.now) (g.P.Policy.rounds c.args.policy.now) c.requires.some_grid c.loop-number.number here _ _ _ _ _ _
+    c.loop-number.invariant.running _
+    (stretch_read c.args.rows.now c.deref-stretch-items.result.now c.loop-number.number c.stretch-item.result _ c.loop-number.invariant.timeline here c.stretch-item.is c.stretch.view_is)
+    c.arrive.ensures _ (c.set-setting.ensures.units ∙ ap (λ (tells : List Job → ℕ → (ℕ → ℕ) → Piece → ℕ). tells c.arrive.new.self.jobs c.arrive.new.self.grain (pending_in c.arrive.new.self)
+    (record { from = c.stretch.inside.from; to = c.stretch.inside.to })) c.loop-number.invariant.units_stay) _ (c.set-setting.ensures.rounds ∙ ap (λ (tells : List Job → ℕ → (ℕ → ℕ) → Piece → Bool). tells c.arrive.new.self.jobs c.arrive.new.self.grain (pending_in c.arrive.new.self)
+    (record { from = c.stretch.inside.from; to = c.stretch.inside.to })) c.loop-number.invariant.rounds_stay) _ c.in_ok-slots.ensures
+    (ap (λ (schedule : WrittenSchedule). schedule.slots) c.in_ok-append.ensures ∙ ap (λ (more : List WrittenSlot). c.loop-number.schedule.slots ++ more) c.deref.ensures.value)
+    _ c.loop-number.invariant.counted in
+    record {
+      shares = next.0;
+      running = next.1;
+      jobs = ap (λ (schedule : WrittenSchedule). schedule.jobs) c.in_ok-append.ensures ∙ c.loop-number.invariant.jobs;
+      counted = omega (arith, next.2, c.from-rounded.ensures, one_or_none c.set-setting.result.rounds);
+      keeps = subst (λ (jobs : List Job). g.P.Policy.keeps c.set-setting.new.self jobs (c.loop-number.number + 1))
+          (ap (λ (queue : JobQueue). queue.jobs) c.arrive.ensures ∙ c.loop-number.invariant.running.same_jobs) c.set-setting.ensures.keeps;
+      units_stay = c.set-setting.ensures.units_stay ∙ c.loop-number.invariant.units_stay;
+      rounds_stay = c.set-setting.ensures.rounds_stay ∙ c.loop-number.invariant.rounds_stay;
+      timeline = c.loop-number.invariant.timeline;
+    }
+
+pub returns-clause-run : goal.returns-clause-run
+returns-clause-run g c =
+    let all : c.loop-number.number ≡ length (stretches c.args.rows.now) =
+    omega (arith, c.loop-number-test.false, ap (λ (pieces : List Piece). length pieces) c.loop-number.invariant.timeline) in
+    all_run (rw all at c.loop-number.invariant.running) (rw all at c.loop-number.invariant.counted)

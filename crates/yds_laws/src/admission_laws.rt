@@ -1,0 +1,8 @@
+//! The law of admission, as the contract of a call that does nothing.
+ghost use Rattle.yds_laws.specs.AdmissionLaws.{ServedWhereRoom};
+
+/// There is a feasible schedule at or below a top speed exactly where no interval, from a release to a deadline of the
+/// jobs, has more work confined to it than the top speed times its length.
+pub fn served_exactly_where_no_interval_is_overfull()
+    ensures { ServedWhereRoom }
+{}

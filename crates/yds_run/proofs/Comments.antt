@@ -1,0 +1,33 @@
+-- The line of a comment, field by field.
+use Rattle.std.proofs.Common.{◌≡◌, ℕ, List, [], ◌∷◌, ◌++◌, ◌∙◌, sym, ap, append_assoc}
+use Rattle.std.proofs.lemmas.List.{append-nil}
+use Rattle.yds_model.specs.Text.{line}
+use Rattle.yds_run.specs.VerdictLine.{spaced}
+use Rattle.yds_run.proofs.ToldLines.{spaced_line}
+
+spaced_more : (words : List (List ℕ)) (word : List ℕ) → spaced words ++ 32 ∷ word ≡ spaced (words ++ word ∷ [])
+spaced_more [] word = ap (λ l. 32 ∷ l) (sym (append-nil word))
+spaced_more (first ∷ words) word =
+    ap (λ l. 32 ∷ l) (append_assoc first (spaced words) (32 ∷ word) ∙ ap (λ l. first ++ l) (spaced_more words word))
+
+-- one field more
+next_field : (first : List ℕ) (words : List (List ℕ)) (word text : List ℕ) → text ≡ first ++ spaced words → text ++ 32 ∷ word ≡ first ++ spaced (words ++ word ∷ [])
+next_field first words word text is =
+    ap (λ l. l ++ 32 ∷ word) is ∙ append_assoc first (spaced words) (32 ∷ word) ∙ ap (λ l. first ++ l) (spaced_more words word)
+
+pub comment_line : (sign verb name first from second to third work fourth top : List ℕ) →
+    ((((((((((sign ++ 32 ∷ verb) ++ 32 ∷ name) ++ 32 ∷ first) ++ 32 ∷ from) ++ 32 ∷ second) ++ 32 ∷ to) ++ 32 ∷ third) ++ 32 ∷ work) ++ 32 ∷ fourth) ++ 32 ∷ top) ++ 10 ∷ []
+    ≡ line (sign ∷ verb ∷ name ∷ first ∷ from ∷ second ∷ to ∷ third ∷ work ∷ fourth ∷ top ∷ [])
+comment_line sign verb name first from second to third work fourth top =
+    ap (λ l. l ++ 10 ∷ [])
+    (next_field sign (verb ∷ name ∷ first ∷ from ∷ second ∷ to ∷ third ∷ work ∷ fourth ∷ []) top _
+    (next_field sign (verb ∷ name ∷ first ∷ from ∷ second ∷ to ∷ third ∷ work ∷ []) fourth _
+    (next_field sign (verb ∷ name ∷ first ∷ from ∷ second ∷ to ∷ third ∷ []) work _
+    (next_field sign (verb ∷ name ∷ first ∷ from ∷ second ∷ to ∷ []) third _
+    (next_field sign (verb ∷ name ∷ first ∷ from ∷ second ∷ []) to _
+    (next_field sign (verb ∷ name ∷ first ∷ from ∷ []) second _
+    (next_field sign (verb ∷ name ∷ first ∷ []) from _
+    (next_field sign (verb ∷ name ∷ []) first _
+    (next_field sign (verb ∷ []) name _
+    (next_field sign [] verb sign (sym (append-nil sign))))))))))))
+    ∙ spaced_line sign (verb ∷ name ∷ first ∷ from ∷ second ∷ to ∷ third ∷ work ∷ fourth ∷ top ∷ [])

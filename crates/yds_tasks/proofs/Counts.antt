@@ -1,0 +1,98 @@
+-- How many jobs tasks have together, and their work, as one task more comes.
+use Rattle.std.proofs.Common.{◌≡◌, ℕ, ◌+◌, ◌-◌, ◌*◌, ◌<◌, ◌≤◌, List, [], ◌∷◌, ◌++◌, length, map, get_or, refl, sym, subst, ◌∙◌, ap, arith, inl, inr, true, Option, Some, None}
+use Rattle.std.specs.Prelude.{is_some, IfSome}
+use Rattle.std.specs.List.{All, sum_by, flat_map}
+use Rattle.std.proofs.Math.Nat.{mul-le-mul_left}
+use Rattle.std.proofs.lemmas.Grind.{flat_map-append}
+use Rattle.std.proofs.lemmas.List.{append-nil, length_push}
+use Rattle.std.proofs.lemmas.List.Elements.{All-head, All-tail, All-push}
+use Rattle.std.proofs.lemmas.List.Sums.{sum_by-cons, sum_by-append}
+use Rattle.yds_model.specs.declared.limits.TheConstants.{MAX_JOBS, MAX_TASKS, MAX_TIME, MAX_WORK}
+use Rattle.yds_model.specs.Job.{Job, IsJob}
+use Rattle.yds_model.specs.Tasks.{Task, TaskSet, nth_job, count_of_jobs, numbers_of_jobs, horizon_of, jobs_of_tasks}
+use Rattle.yds_model.specs.TaskReading.{count_of_all}
+use Rattle.yds_laws.proofs.TaskCounts.{task_jobs_end_in_time}
+use Rattle.yds_laws.proofs.TaskWork.{jobs_of_task, jobs_until, works_of_task}
+use Rattle.yds_tasks.specs.Kept.{IsTask, IsTaskSet, KeepsTasks, with_task}
+
+-- a job that is due by the horizon is within its limits
+pub job_fits : (horizon : ℕ) (task : Task) (k : ℕ) → IsTask task → horizon ≤ MAX_TIME → k < count_of_jobs horizon task → IsJob (nth_job task k)
+job_fits horizon task k kept within below = record {
+  has_window = omega (arith, kept.has_deadline);
+  time_in_range = omega (arith, (task_jobs_end_in_time horizon task k kept.has_period).0 below, within);
+  work_in_range = kept.work_in_range;
+}
+
+-- one task more
+pub count_more : (set : TaskSet) (task : Task) → count_of_all (with_task set task) ≡ count_of_all set + count_of_jobs (horizon_of set) task
+count_more set task =
+    omega (arith, sum_by-append (count_of_jobs (horizon_of set)) set.tasks (task ∷ []), sum_by-cons (count_of_jobs (horizon_of set)) task [])
+
+pub works_more : (set : TaskSet) (task : Task) →
+    sum_by (λ job. job.work) (jobs_of_tasks (with_task set task)) ≡ sum_by (λ job. job.work) (jobs_of_tasks set) + count_of_jobs (horizon_of set) task * task.work
+works_more set task =
+    let horizon = horizon_of set in
+    let last : List Job = jobs_of_task horizon task in
+    ap (sum_by (λ (job : Job). job.work)) (flat_map-append (jobs_of_task horizon) set.tasks (task ∷ []) ∙ ap (λ jobs. jobs_until horizon set.tasks ++ jobs) (append-nil last))
+    ∙ sum_by-append (λ (job : Job). job.work) (jobs_until horizon set.tasks) last
+    ∙ ap (λ n. sum_by (λ (job : Job). job.work) (jobs_until horizon set.tasks) + n) (works_of_task horizon task)
+
+-- no job has more than the greatest work
+works_few : (horizon : ℕ) (tasks : List Task) → All IsTask tasks → sum_by (λ job. job.work) (jobs_until horizon tasks) ≤ MAX_WORK * sum_by (count_of_jobs horizon) tasks
+works_few horizon [] kept = omega arith
+works_few horizon (task ∷ tasks) kept =
+    let own : List Job = jobs_of_task horizon task in
+    omega (
+      arith,
+      sum_by-append (λ (job : Job). job.work) own (jobs_until horizon tasks),
+      works_of_task horizon task,
+      mul-le-mul_left (count_of_jobs horizon task) (All-head IsTask task tasks kept).work_in_range,
+      sum_by-cons (count_of_jobs horizon) task tasks,
+      works_few horizon tasks (All-tail IsTask task tasks kept),
+    )
+
+works_within : (set : TaskSet) → All IsTask set.tasks → sum_by (λ job. job.work) (jobs_of_tasks set) ≤ MAX_WORK * count_of_all set
+works_within set kept = works_few (horizon_of set) set.tasks kept
+
+-- # What a set keeps
+
+time_within : (horizon : Option ℕ) → IfSome horizon (λ time. (1 ≤ time) × (time ≤ MAX_TIME)) → elim horizon [ None ↦ 0 | Some time ↦ time ] ≤ MAX_TIME
+time_within None within = omega arith
+time_within (Some time) within = within.1
+
+pub horizon_within : (set : TaskSet) → IsTaskSet set → horizon_of set ≤ MAX_TIME
+horizon_within set kept = time_within set.horizon kept.horizon_in_range
+
+is_not_none : (horizon : Option ℕ) → is_some horizon ≡ true → horizon ≡ None → ⊥
+is_not_none None some none = cc
+is_not_none (Some time) some none = cc
+
+keeps_more : (set : TaskSet) (task : Task) (jobs work : ℕ) → KeepsTasks set jobs work → IsTask task → is_some set.horizon ≡ true → length set.tasks < MAX_TASKS →
+    count_of_all (with_task set task) ≤ MAX_JOBS →
+    KeepsTasks (with_task set task) (jobs + count_of_jobs (horizon_of set) task) (work + count_of_jobs (horizon_of set) task * task.work)
+keeps_more set task jobs work keeps fits some few room = record {
+  kept = record {
+    horizon_in_range = keeps.kept.horizon_in_range;
+    horizon_first = λ none. absurd (is_not_none set.horizon some none);
+    few = omega (arith, length_push set.tasks task, few);
+    few_jobs = room;
+    fit = All-push IsTask set.tasks task keeps.kept.fit fits;
+  };
+  counted = omega (arith, keeps.counted, count_more set task);
+  summed = omega (arith, keeps.summed, works_more set task);
+}
+
+-- the same of what was pushed and added, where `set` is what stood before
+pub keeps_pushed : (before set : TaskSet) (task : Task) (tasks : List Task) (jobs work count times each time : ℕ) → before ≡ set → KeepsTasks before jobs work → IsTask task →
+    is_some set.horizon ≡ true → length set.tasks < MAX_TASKS → count_of_all (with_task set task) ≤ MAX_JOBS → tasks ≡ before.tasks ++ task ∷ [] →
+    count ≡ count_of_jobs time task → time ≡ horizon_of set → times ≡ count → each ≡ task.work →
+    KeepsTasks (record { horizon = before.horizon; tasks = tasks }) (jobs + count) (work + times * each)
+keeps_pushed before set task tasks jobs work count times each time same keeps fits some few room grown is_count is_time is_times is_each =
+    let now : count ≡ count_of_jobs (horizon_of before) task = is_count ∙ ap (λ t. count_of_jobs t task) (is_time ∙ ap horizon_of (sym same)) in
+    rw (grown, is_times, is_each, now)
+    (keeps_more before task jobs work keeps fits (subst (λ (s : TaskSet). is_some s.horizon ≡ true) (sym same) some)
+    (subst (λ (s : TaskSet). length s.tasks < MAX_TASKS) (sym same) few) (subst (λ (s : TaskSet). count_of_all (with_task s task) ≤ MAX_JOBS) (sym same) room))
+
+-- and the new work has room in 64 bits
+pub work_within : (set : TaskSet) (jobs work : ℕ) → KeepsTasks set jobs work → work ≤ MAX_WORK * MAX_JOBS
+work_within set jobs work keeps = omega (arith, keeps.summed, works_within set keeps.kept.fit, keeps.kept.few_jobs)

@@ -1,0 +1,6 @@
+pub mod Counts
+pub mod Names
+pub mod Told
+pub mod Printed
+pub mod Level
+pub mod LineKinds

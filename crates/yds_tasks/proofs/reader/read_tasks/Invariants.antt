@@ -1,0 +1,17 @@
+use Rattle.std.proofs.Common.{◌≡◌, List, []}
+use Rattle.yds_model.specs.Lines.{lines_of}
+use Rattle.yds_model.specs.Reading.{live_lines}
+use Rattle.yds_model.specs.TaskReading.{TaskEntry, read_tasks_after}
+use Rattle.yds_tasks.specs.Lines.{IsDraft, Holds}
+use Rattle.yds_tasks.proofs.reader.read_tasks.Given as goal
+
+-- the draft holds what the lines so far said, and the rest of the lines decides
+abbrev pub invariant-loop-line : goal.invariant-loop-line
+invariant-loop-line l = record {
+  can_next : (goal.iterator-loop-line).can_next l.line-iterator;
+  finite : (goal.iterator-loop-line).is_finite l.line-iterator;
+  kept : IsDraft l.draft;
+  entries : List TaskEntry;
+  holds : Holds l.draft entries;
+  rest : read_tasks_after [] (live_lines (lines_of l.bytes)) ≡ read_tasks_after entries (live_lines l.line-iterator.lines);
+}

@@ -1,0 +1,24 @@
+//! The kinds of line, by the word that each begins with.
+ghost use Rattle.std.specs.Prelude.{◌≡◌};
+ghost use Rattle.yds_tasks.specs.LineKinds.{kind_of};
+
+#[derive(Clone, Copy, Debug, PartialEq, Eq)]
+pub(crate) enum LineKind {
+    Horizon,
+    Task,
+}
+
+impl LineKind {
+    /// The kind of a line whose first field is this word.
+    pub(crate) fn of(word: &[u8]) -> Option<LineKind>
+        ensures { result ≡ kind_of word.now }
+    {
+        if word == b"horizon".as_slice() {
+            Some(LineKind::Horizon)
+        } else if word == b"task".as_slice() {
+            Some(LineKind::Task)
+        } else {
+            None
+        }
+    }
+}
