@@ -1,7 +1,7 @@
 #!/bin/sh
 # test.sh: runs each recipe on its sample and compares what it writes, byte for byte, with what is stored.
 #
-#   sh recipes/test.sh [PART ..]      parts: trace points energy rtapp plot folder manual; all without one
+#   sh recipes/test.sh [PART ..]      parts: trace points energy rtapp plot folder page manual; all without one
 #
 # Environment: YDS (the program; build/yds_cli beside this folder), AWK (awk). The last line is
 # 'N passed, M failed', and the exit status is 1 where M isn't 0. What wants a missing package, or a command that
@@ -322,6 +322,18 @@ test_folder() {
 }
 recipe_in() { (cd "$1" && shift && recipe "$@"); }
 
+test_page() {
+	if want mandoc; then same "the manual page" 0 - mandoc -T lint -W warning "$here/../docs/yds_cli.1"; fi
+	if want bash; then
+		for try in "c@check curve compare" "compare @--grid" "audit -@--points" "report @--json" "oa --grid 10@100 1000 1000000"; do
+			asked=${try%@*}
+			got=$(bash -c 'source "$1"; COMP_WORDS=(yds_cli $2); case $2 in *" ") COMP_WORDS+=("") ;; esac
+				COMP_CWORD=$((${#COMP_WORDS[@]} - 1)); _yds_cli; echo "${COMPREPLY[*]}"' bash "$here/../completions/yds_cli.bash" "$asked")
+			if [ "$got" = "${try#*@}" ]; then pass; else fail "completion of '$asked': $got"; fi
+		done
+	fi
+}
+
 # The commands of the manual and of the README, with the output that stands below them. Each section is a session of its
 # own in a new folder; one that wants a missing package or command is left out.
 test_manual() {
@@ -377,7 +389,7 @@ test_manual() {
 	done
 }
 
-parts=${*:-trace points energy rtapp plot folder manual}
+parts=${*:-trace points energy rtapp plot folder page manual}
 for part in $parts; do test_$part; done
 missing=
 for word in jq gnuplot parallel mandoc; do

@@ -284,7 +284,7 @@ function close_run(time,    j, a, b) {
 
 # A listed task without a job is on a CPU: why it isn't known when its job began, or "" where that is known.
 function unseen(t) {
-    if (!wakes) return seen[t] || !lost_places ? "" : "began where events were lost"
+    if (!wakes) return (seen[t] || !lost_places) ? "" : "began where events were lost"
     if (seen[t]) return "no wake-up"
     return lost_places ? "began where events were lost" : "began before the trace"
 }
