@@ -50,7 +50,7 @@ command -v jq >/dev/null 2>&1 || complain "jq is missing; on Debian: apt-get ins
 if [ $# = 1 ] && [ ! -r "$1" ]; then complain "$1 can't be read" 1; fi
 
 # JSON without comments and without commas before closing brackets; lines stay where they are.
-json=$(awk '
+json=$(LC_ALL=C ${AWK:-awk} '
 function code(c) {
 	if (c == "," ) { comma = 1; after = ""; return }
 	if (comma && c ~ /[ \t\r]/) { after = after c; return }
