@@ -1,16 +1,17 @@
 -- Deciding job by job: what has been decided of the first jobs, and that it goes on as the definition says.
-use Rattle.std.proofs.Common.{◌≡◌, ℕ, ◌+◌, ◌-◌, take, ◌<◌, ◌≤◌, List, [], ◌∷◌, ◌++◌, length, get_or, drop, ◌∙◌, refl, sym, subst, arith, inl, inr, ap, append_assoc}
+use Rattle.std.proofs.Common.{◌≡◌, ℕ, ◌+◌, take, ◌<◌, ◌≤◌, List, [], ◌∷◌, ◌++◌, length, get_or, drop, ◌∙◌, refl, sym, subst, arith, inl, inr, ap, append_assoc}
 use Rattle.std.specs.List.{All}
-use Rattle.std.proofs.lemmas.List.{map-append, append-nil, take_at, drop_more, drop_all, length_push}
+use Rattle.std.proofs.lemmas.List.{map-append, append-nil, take_at, take_more, take-append-drop, length-map, drop_more, drop_all, length_push}
 use Rattle.std.proofs.lemmas.List.Elements.{All-nil, All-push}
 use Rattle.std.proofs.lemmas.List.FromFn.{get_or-range_with_len, length-range_with_len}
-use Rattle.yds_model.specs.Job.{Job, IsJob, job_at}
+use Rattle.yds_model.specs.Job.{Job, IsJob, no_job, job_at}
 use Rattle.yds_model.specs.Policy.{numbers_of}
 use Rattle.yds_model.specs.Admission.{CanServe, jobs_with, IsFirstOverfull, Refusal, IsRefusal, AdmitsAfter, IsAdmission}
 use Rattle.yds_laws.specs.AdmissionLaws.{HasRoom}
 use Rattle.yds_laws.proofs.Served.{served_where_room}
 use Rattle.yds_admit.specs.Interval.{work_in}
-use Rattle.yds_admit.proofs.Overfull.{numbers_work, first_numbers}
+use Rattle.yds_admit.specs.Decision.{IsDecision}
+use Rattle.yds_admit.proofs.Overfull.{numbers_work, first_numbers, room_front}
 
 -- The first jobs have been decided: with whatever the definition says of the others, it is an admission.
 pub record Decided (rows : List Job) (top i : ℕ) (taken : List ℕ) (jobs : List Job) (refused : List Refusal) : Type 0 where
@@ -23,10 +24,11 @@ pub record Decided (rows : List Job) (top i : ℕ) (taken : List ℕ) (jobs : Li
   pub goes_on : (later : List ℕ) (others : List Refusal) → AdmitsAfter rows top taken (drop i (numbers_of rows)) later others →
       IsAdmission rows top (taken ++ later) (refused ++ others)
 
--- a list without its last element
-pub without_last : (jobs : List Job) (row : Job) (longer : List Job) (n : ℕ) → longer ≡ jobs ++ row ∷ [] → n ≡ length longer → take (n - 1) longer ≡ jobs
-without_last jobs row longer n is long =
-    ap (take (n - 1)) is ∙ take_at jobs (row ∷ []) (n - 1) (omega (arith, long, ap (λ (some : List Job). length some) is, length_push jobs row))
+-- as many jobs as are taken, without the one after them
+pub without_last : (rows : List Job) (taken : List ℕ) (jobs : List Job) (row : Job) (longer : List Job) (n : ℕ) → longer ≡ jobs ++ row ∷ [] → n ≡ length taken →
+    jobs ≡ jobs_with rows taken → take n longer ≡ jobs
+without_last rows taken jobs row longer n is long same =
+    ap (take n) is ∙ take_at jobs (row ∷ []) n (omega (arith, long, ap (λ (some : List Job). length some) same, length-map taken (job_at rows)))
 
 pub begun : (rows : List Job) (top : ℕ) → Decided rows top 0 [] [] []
 begun rows top = record {
@@ -97,6 +99,16 @@ module _ (rows : List Job) (top i : ℕ) (taken : List ℕ) (jobs : List Job) (r
             (inr (not_served, refusal, others, refl, refuses, rest))));
       }
 
+-- where all jobs leave no interval overfull together, the next one is admitted
+pub takes_next : (rows : List Job) (top i : ℕ) (taken : List ℕ) → 1 ≤ top → i < length rows → Decided rows top i taken (take i rows) [] →
+    (row : Job) → row ≡ job_at rows i → IsJob row → HasRoom top rows → Decided rows top (i + 1) (taken ++ i ∷ []) (take (i + 1) rows) []
+takes_next rows top i taken some_top within decided row is is_job room =
+    let more : take (i + 1) rows ≡ take i rows ++ row ∷ [] = take_more rows i no_job within ∙ ap (λ (one : Job). take i rows ++ one ∷ []) (sym is) in
+    subst (λ (some : List Job). Decided rows top (i + 1) (taken ++ i ∷ []) some []) (sym more)
+    (takes rows top i taken (take i rows) [] some_top within decided row is is_job
+    (subst (HasRoom top) more (room_front top (take (i + 1) rows) (drop (i + 1) rows)
+    (subst (HasRoom top) (sym (take-append-drop (i + 1) rows)) room))))
+
 -- all jobs have been decided
 pub all_decided : (rows : List Job) (top i : ℕ) (taken : List ℕ) (jobs : List Job) (refused : List Refusal) → length rows ≤ i →
     Decided rows top i taken jobs refused → IsAdmission rows top taken refused
@@ -105,3 +117,15 @@ all_decided rows top i taken jobs refused all decided =
     subst (λ (some : List ℕ). IsAdmission rows top some refused) (append-nil taken)
     (subst (λ (some : List Refusal). IsAdmission rows top (taken ++ []) some) (append-nil refused)
     (decided.goes_on [] [] (subst (λ (some : List ℕ). AdmitsAfter rows top taken some [] []) (sym none) (refl, refl))))
+
+-- the same of what is decided, where the last ones are numbered below the number of jobs
+pub is_decision : (rows : List Job) (top i : ℕ) (taken : List ℕ) (jobs : List Job) (refused : List Refusal) → length rows ≤ i → i ≤ length rows →
+    Decided rows top i taken jobs refused → IsDecision rows top taken jobs refused
+is_decision rows top i taken jobs refused all within decided = record {
+  admission = all_decided rows top i taken jobs refused all decided;
+  jobs_are = decided.same;
+  room = decided.room;
+  few = omega (arith, decided.few);
+  taken_known = λ k d below. omega (arith, decided.taken_known k d below);
+  refused_known = λ k d below. omega (arith, decided.refused_known k d below);
+}

@@ -1,15 +1,16 @@
 -- Overfull intervals of jobs, of their numbers, and of the jobs in another order.
-use Rattle.std.proofs.Common.{◌≡◌, ℕ, ◌-◌, ◌*◌, ◌<◌, ◌≤◌, List, [], ◌∷◌, length, get_or, map, ◌∙◌, refl, sym, subst, arith, inl, inr, ap}
+use Rattle.std.proofs.Common.{◌≡◌, ℕ, ◌-◌, ◌*◌, ◌<◌, ◌≤◌, List, [], ◌∷◌, ◌++◌, length, get_or, map, ◌∙◌, refl, sym, subst, arith, inl, inr, ap}
 use Rattle.std.specs.List.{Any, Contains, sum_by}
 use Rattle.std.specs.List.Sorted.{IsPermutation, IsNonDecreasing}
 use Rattle.std.proofs.lemmas.Bool.{cases_lt}
 use Rattle.std.proofs.lemmas.List.{same_lists, get_or-map, get_or_default, length-map}
-use Rattle.std.proofs.lemmas.List.Sums.{sum_by-cons}
+use Rattle.std.proofs.lemmas.List.Sums.{sum_by-cons, sum_by-append}
 use Rattle.std.proofs.lemmas.List.Sorted.{sum_by-IsPermutation, Contains-permutation, IsPermutation-sym}
 use Rattle.std.proofs.lemmas.List.FromFn.{get_or-range_with_len, length-range_with_len}
 use Rattle.yds_model.specs.Job.{Job, no_job, job_at}
 use Rattle.yds_model.specs.Policy.{numbers_of}
 use Rattle.yds_model.specs.Admission.{jobs_with, confined_work, IsOverfull, IsFirstOverfull}
+use Rattle.yds_model.proofs.Lists.{Any-append_left}
 use Rattle.yds_laws.specs.AdmissionLaws.{HasRoom}
 use Rattle.yds_laws.proofs.Served.{confined_sum}
 use Rattle.yds_admit.specs.Interval.{work_in, HasRoomFrom, IsFirstEnd}
@@ -91,6 +92,25 @@ first_numbers jobs top numbers from to first = record {
   overfull = overfull_numbers jobs top numbers from to first.overfull;
   first = λ other_from other_to full. first.first other_from other_to (overfull_jobs jobs top numbers other_from other_to full);
 }
+
+-- # A front of the jobs
+
+-- jobs that leave no interval overfull leave none without those at the end
+pub room_front : (top : ℕ) (jobs others : List Job) → HasRoom top (jobs ++ others) → HasRoom top jobs
+room_front top jobs others room from to full = room from to (record {
+  forward = full.forward;
+  is_release = number_of_any (λ job. job.release ≡ from) (jobs ++ others) (Any-append_left (λ job. job.release ≡ from) jobs others
+      (any_of_all (λ job. job.release ≡ from) jobs full.is_release));
+  is_deadline = number_of_any (λ job. job.deadline ≡ to) (jobs ++ others) (Any-append_left (λ job. job.deadline ≡ to) jobs others
+      (any_of_all (λ job. job.deadline ≡ to) jobs full.is_deadline));
+  too_much = omega (
+    arith,
+    full.too_much,
+    jobs_work jobs from to,
+    jobs_work (jobs ++ others) from to,
+    sum_by-append (term from to) jobs others,
+  );
+})
 
 -- # The search, release by release
 

@@ -1,6 +1,6 @@
-ghost use Rattle.std.specs.Prelude.{◌≡◌, ◌<◌, ◌≤◌, IfOk, length, All};
-ghost use Rattle.yds_model.specs.Admission.{IsAdmission, jobs_with};
+ghost use Rattle.std.specs.Prelude.{◌≤◌, IfOk, length};
 ghost use Rattle.yds_laws.specs.AdmissionLaws.{HasRoom};
+ghost use Rattle.yds_admit.specs.Decision.{IsDecision};
 
 use crate::interval::{first_overfull, work_between};
 use crate::refusal::Refusal;
@@ -19,17 +19,45 @@ pub(crate) struct Decision {
     pub(crate) refused: Vec<Refusal>,
 }
 
-/// Admits, in order, each job that leaves no interval overfull beside the jobs admitted before it.
+/// Admits all jobs where they leave no interval overfull together, and else one by one.
 pub(crate) fn decide(alloc: Global, rows: &[JobRow], top: u32) -> Result<Decision, Memory>
     requires few { length rows.now ≤ MAX_JOBS }
     requires some_top { 1 ≤ top }
     requires top_in_range { top ≤ MAX_TOP }
-    ensures admission { IfOk result (λ decision. IsAdmission rows.now top decision.taken.items decision.refused.items) }
-    ensures jobs { IfOk result (λ decision. decision.jobs.items ≡ jobs_with rows.now decision.taken.items) }
-    ensures room { IfOk result (λ decision. HasRoom top decision.jobs.items) }
-    ensures few { IfOk result (λ decision. length decision.jobs.items ≤ length rows.now) }
-    ensures taken_known { IfOk result (λ decision. All (λ number. number < length rows.now) decision.taken.items) }
-    ensures refused_known { IfOk result (λ decision. All (λ refusal. refusal.job < length rows.now) decision.refused.items) }
+    ensures { IfOk result (λ decision. IsDecision rows.now top decision.taken.items decision.jobs.items decision.refused.items) }
+{
+    match first_overfull(alloc, rows, top)? {
+        None => all(alloc, rows, top),
+        Some(_) => one_by_one(alloc, rows, top),
+    }
+}
+
+/// Admits all jobs, which leave no interval overfull. The top speed stands for the contract alone.
+fn all(alloc: Global, rows: &[JobRow], _top: u32) -> Result<Decision, Memory>
+    requires few { length rows.now ≤ MAX_JOBS }
+    requires some_top { 1 ≤ _top }
+    requires room { HasRoom _top rows.now }
+    ensures { IfOk result (λ decision. IsDecision rows.now _top decision.taken.items decision.jobs.items decision.refused.items) }
+{
+    let mut taken = Vec::new(alloc);
+    for (number, row) in rows.iter().enumerate() {
+        // Reading the row shows that it is a job within the limits.
+        let _work = row.work;
+        taken.push(number as u32)?;
+    }
+    Ok(Decision {
+        taken,
+        jobs: Vec::from_slice(alloc, rows)?,
+        refused: Vec::new(alloc),
+    })
+}
+
+/// Admits, in order, each job that leaves no interval overfull beside the jobs admitted before it.
+fn one_by_one(alloc: Global, rows: &[JobRow], top: u32) -> Result<Decision, Memory>
+    requires few { length rows.now ≤ MAX_JOBS }
+    requires some_top { 1 ≤ top }
+    requires top_in_range { top ≤ MAX_TOP }
+    ensures { IfOk result (λ decision. IsDecision rows.now top decision.taken.items decision.jobs.items decision.refused.items) }
 {
     let mut taken = Vec::new(alloc);
     let mut jobs = Vec::new(alloc);
@@ -43,7 +71,8 @@ pub(crate) fn decide(alloc: Global, rows: &[JobRow], top: u32) -> Result<Decisio
             None => taken.push(job)?,
             Some((from, to)) => {
                 let work = work_between(&jobs, from, to);
-                let _ = jobs.pop();
+                // The refused job competes with no later one.
+                jobs.truncate(taken.len());
                 refused.push(Refusal {
                     job,
                     from,

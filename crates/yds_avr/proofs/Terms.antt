@@ -2,33 +2,27 @@
 use Rattle.std.proofs.Common.{◌≡◌, ℕ, zero, suc, ◌+◌, ◌-◌, ◌*◌, ◌/◌, ◌<◌, ◌≤◌, min, List, [], ◌∷◌, length, get_or, map, ◌∙◌, refl, sym, subst, ap, arith, inl, inr, cond, true, false, add-one}
 use Rattle.std.specs.Prelude.{Bool, nat_le, nat_lt, ◌&&◌, All, sum_by, filter, count_by}
 use Rattle.std.proofs.lemmas.Bool.{cases_lt, cases_Bool, le-leb, lt-leb, lt-ltb, le-ltb, true≢false}
+use Rattle.std.specs.Prelude.{Result, Ok, Err, IfOk, OnOk}
 use Rattle.std.proofs.lemmas.List.{get_or-map}
-use Rattle.std.proofs.Math.Nat.{mul-le-mul_right, mul-le-mul_left, le_of_mul-le-mul_right, le-div_iff_mul-le, div-lt_iff_lt-mul}
+use Rattle.std.proofs.lemmas.List.Elements.{All-from_get_or}
+use Rattle.std.proofs.Math.Nat.{mul-le-mul_left, le_of_mul-le-mul_right}
 use Rattle.yds_model.specs.Job.{Job, IsJob, no_job, job_at}
 use Rattle.yds_model.specs.Piece.{Piece}
 use Rattle.yds_model.specs.Event.{event_points, stretches}
-use Rattle.yds_model.specs.Policy.{div_up}
-use Rattle.yds_model.specs.AverageRate.{is_live, term_numerator, term_of, terms_of, average_rate_rounds}
+use Rattle.yds_model.specs.AverageRate.{is_live, term_numerator, term_of, terms_of, average_rate_rounds, IsAverageRateRun}
+use Rattle.yds_model.specs.Slot.{WrittenSlot}
+use Rattle.yds_model.specs.Within.{AreSlotsOf}
 use Rattle.yds_model.specs.Comparison.{stretch_at}
-use Rattle.yds_events.specs.Stretch.{no_stretch, length_of}
+use Rattle.yds_events.specs.Stretch.{no_stretch, length_of, IsOutside}
 use Rattle.yds_events.proofs.Times.{not_later, deadline_at, release_at}
 use Rattle.yds_events.proofs.Neighbours.{count_stretches, stretch_begins, stretch_ends, stretch_forward, release_outside, deadline_outside}
 use Rattle.yds_edf.specs.Pending.{sum_below, units_wanted}
 use Rattle.yds_edf.specs.Demand.{capacity_at, confined_units, capacity_between, IsWithinCapacity}
+use Rattle.yds_edf.specs.Run.{IsPolicyRun}
+use Rattle.yds_edf.proofs.Capped.{capped_run}
+use Rattle.yds_edf.proofs.Quotients.{up_enough, up_most}
 use Rattle.yds_edf.proofs.Sums.{sum_below_same, sum_below_at_most, sum_below_zero}
 use Rattle.yds_edf.proofs.Numbers.{sum_places, sum_filter, sum_below_swap, sum_below-mul}
-
--- # A quotient rounded up
-
-pub up_enough : (x y : ℕ) → 1 ≤ y → x ≤ div_up x y * y
-up_enough x y some =
-    let high : x + (y - 1) < (div_up x y + 1) * y = (div-lt_iff_lt-mul {k = y} {x = x + (y - 1)} {y = div_up x y + 1} some).0 (omega arith) in
-    omega (arith, high)
-
-pub up_most : (x y m : ℕ) → 1 ≤ y → x ≤ m * y → div_up x y ≤ m
-up_most x y m some most =
-    let low : div_up x y < m + 1 = (div-lt_iff_lt-mul {k = y} {x = x + (y - 1)} {y = m + 1} some).1 (omega (arith, most)) in
-    omega (arith, low)
 
 -- # The lengths of the stretches in a window
 
@@ -203,3 +197,33 @@ module _ (jobs : List Job) (grid : ℕ) (are : All IsJob jobs) (from to : ℕ) w
 -- The units that are confined between any two times are at most the parts between them.
 pub parts_serve : (jobs : List Job) (grid : ℕ) → All IsJob jobs → IsWithinCapacity jobs grid (stretches jobs) (map (terms_of jobs grid) (stretches jobs))
 parts_serve jobs grid are first last one other = demand_within jobs grid are (job_at jobs first).release (job_at jobs last).deadline
+
+-- # What the functions need
+
+-- a job's part of a stretch of its window is at most its units
+pub part_most : (g w l window grid work : ℕ) → g ≡ grid → w ≡ work → l ≤ window → 1 ≤ window → (g * w * l + (window - 1)) / window ≤ grid * work
+part_most g w l window grid work g_is w_is short some =
+    up_most (g * w * l) window (grid * work) some
+    (omega (arith, mul-le-mul_left (g * w) short, ap (λ n. n * w * window) g_is, ap (λ n. grid * n * window) w_is))
+
+-- no deadline lies inside a stretch of the jobs
+pub deadlines_outside : (jobs : List Job) (k : ℕ) → k < length (stretches jobs) → All (λ job. IsOutside (stretch_at jobs k) job.deadline) jobs
+deadlines_outside jobs k within =
+    All-from_get_or (λ job. IsOutside (stretch_at jobs k) job.deadline) jobs no_job (λ j known. deadline_outside jobs j k known within)
+
+-- a run of the policy is a run of Average Rate
+average_rate_run : (jobs : List Job) (grid rounded : ℕ) (slots : List WrittenSlot) → 1 ≤ grid → All IsJob jobs → AreSlotsOf (length jobs) slots →
+    IsPolicyRun jobs grid (λ pending stretch. terms_of jobs grid stretch) (λ pending stretch. average_rate_rounds jobs grid stretch) rounded slots →
+    IsAverageRateRun jobs grid rounded slots
+average_rate_run jobs grid rounded slots some are limits run = record {
+  run = capped_run jobs grid (λ pending stretch. terms_of jobs grid stretch) (λ pending stretch. average_rate_rounds jobs grid stretch) rounded slots
+      (terms_of jobs grid) are some limits (λ pending stretch. refl) (parts_serve jobs grid are) run;
+  rounds = run.count ∙ sym (sum_places (λ stretch. cond (average_rate_rounds jobs grid stretch) 1 0) (stretches jobs) no_stretch);
+}
+
+pub ok_run : {T E : Type 0} (jobs : List Job) (grid : ℕ) (rounded : T → ℕ) (slots : T → List WrittenSlot) (r : Result T E) → 1 ≤ grid → OnOk r (All IsJob jobs) →
+    IfOk r (λ run. AreSlotsOf (length jobs) (slots run)) →
+    IfOk r (λ run. IsPolicyRun jobs grid (λ pending stretch. terms_of jobs grid stretch) (λ pending stretch. average_rate_rounds jobs grid stretch) (rounded run) (slots run)) →
+    IfOk r (λ run. IsAverageRateRun jobs grid (rounded run) (slots run))
+ok_run jobs grid rounded slots (Ok run) some are limits is = average_rate_run jobs grid (rounded run) (slots run) some are limits is
+ok_run jobs grid rounded slots (Err e) some are limits is = tt

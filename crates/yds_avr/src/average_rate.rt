@@ -35,9 +35,9 @@ pub fn avr(alloc: Global, rows: &[JobRow], grid: u32) -> Result<PolicyRun, Memor
 struct AverageRate;
 
 impl Policy for AverageRate {
-    ghost units = { λ jobs grid pending stretch. terms_of jobs grid stretch };
+    ghost units = { λ policy jobs grid pending stretch. terms_of jobs grid stretch };
 
-    ghost rounds = { λ jobs grid pending stretch. average_rate_rounds jobs grid stretch };
+    ghost rounds = { λ policy jobs grid pending stretch. average_rate_rounds jobs grid stretch };
 
     ghost keeps = { λ policy jobs number. Unit {0} };
 
@@ -55,7 +55,10 @@ fn terms(rows: &[JobRow], grid: u64, stretch: Stretch) -> Setting
     ensures units { result.units ≡ terms_of rows.now grid stretch }
     ensures rounds { result.rounds ≡ average_rate_rounds rows.now grid stretch }
 {
-    let mut sum = Setting { units: 0, rounds: false };
+    let mut sum = Setting {
+        units: 0,
+        rounds: false,
+    };
     for row in rows {
         if is_live(row, stretch) {
             let term = term_of(row, grid, stretch);

@@ -12,6 +12,9 @@ fn rounds_and_is_capped(rt: HostRuntime) -> Result<(), Fail> {
     let slots = run.schedule.slots();
     assert_eq!(rt; slots.len(), 3);
     let last = &slots[2];
-    assert_eq!(rt; (last.job, last.from, last.work), (1, Moment::new(1, 2, 3), Amount::from_whole(2)));
+    assert_eq!(rt;
+        (last.job, last.from, last.work),
+        (1, Moment::new(1, 2, 3), Amount::from_whole(2))
+    );
     Ok(())
 }

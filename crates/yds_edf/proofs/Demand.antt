@@ -50,7 +50,7 @@ not_one : (c d x : ℕ) → d < c → cond (nat_le c d) x 0 ≡ 0
 not_one c d x less = rw (lt-leb c d less) refl
 
 -- some of the first n numbers passes a test, or none does
-found_or_none : (n : ℕ) (test : ℕ → Bool) →
+pub found_or_none : (n : ℕ) (test : ℕ → Bool) →
     ((k : ℕ) × (k < n) × (test k ≡ true)) ⊎ ((k : ℕ) → k < n → test k ≡ false)
 found_or_none zero test = inr (λ k within. absurd (omega arith))
 found_or_none (suc n) test = elim (found_or_none n test) [
@@ -187,7 +187,7 @@ capacity_first stretches capacities time =
     (λ k within. rw (le-leb 0 (nth_stretch stretches k).from (omega arith), le-leb 0 k (omega arith)) (omega arith))
 
 -- a job of which no share is given gets no units
-none_given : (shares : List JobShare) (number : ℕ) → All (λ share. number ≢ share.job) shares → units_given shares number ≡ 0
+pub none_given : (shares : List JobShare) (number : ℕ) → All (λ share. number ≢ share.job) shares → units_given shares number ≡ 0
 none_given shares number none = sum_by_zero (λ (share : JobShare). cond (number == share.job) share.units 0) shares
     (λ k d within. ap {B = ℕ} (λ b. cond b (get_or shares k d).units 0) (ne_eqb number (get_or shares k d).job (none k d within)))
 

@@ -136,7 +136,7 @@ filled_after {stretches = stretches} {capacities = capacities} {i = i} {now = no
     (is ∙ ap (λ (t : ℕ). record { queue = record now.queue { time = Some t }; ties = now.ties }) at) serves))
 
 -- an element that passes a filter stands in what it keeps
-contains_filter : {X : Type 0} (p : X → Bool) (xs : List X) (x : X) → p x ≡ true → Contains xs x → Contains (filter p xs) x
+pub contains_filter : {X : Type 0} (p : X → Bool) (xs : List X) (x : X) → p x ≡ true → Contains xs x → Contains (filter p xs) x
 contains_filter p [] x passes (k, within, is) = absurd (omega arith)
 contains_filter p (y ∷ ys) x passes (zero, within, is) = rw (ap p is ∙ passes) (0, omega arith, is)
 contains_filter p (y ∷ ys) x passes (suc k, within, is) =

@@ -138,7 +138,7 @@ impl Engine {
     pub(crate) fn pending_of(&self, job: u32) -> u64
         requires { job < length self.now.queue.jobs }
         ensures units { result ≡ pending_in self.now.queue job }
-        ensures in_range { result ≤ MAX_WORK * self.now.queue.grain }
+        ensures in_range { result ≤ MAX_WORK * MAX_GRAIN }
     {
         let job = job as usize;
         units_pending(&self.rows[job], self.grain, self.time, self.served[job])

@@ -3,8 +3,9 @@
 //!
 //! It stands on `yds_model`, `yds_fraction`, `yds_events` and `yds_slots`. It carries the promise that where the
 //! units confined between any release and any deadline are at most the capacity between them, every job gets all
-//! its units inside its window, and that laid slots fill their stretch at one speed. It is there for the online
-//! policies, which aren't built yet: no other crate calls it. The planner fills its groups by a search of its own.
+//! its units inside its window, that laid slots fill their stretch at one speed, and that a policy's run serves in each
+//! stretch what the policy sets. The policies stand on it, and admission does; the planner fills its groups by a search
+//! of its own.
 #![tactic(auto)]
 
 mod engine;

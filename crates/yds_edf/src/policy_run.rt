@@ -10,7 +10,7 @@ use crate::policy::Policy;
 use crate::queue::Queue;
 use std::alloc::Global;
 use yds_events::{Stretch, stretches};
-use yds_model::limits::{MAX_GRID, MAX_JOBS};
+use yds_model::limits::{MAX_GRID, MAX_JOBS, MAX_ROUNDED};
 use yds_model::{JobRow, Memory};
 use yds_slots::{Schedule, Slot};
 
@@ -39,6 +39,7 @@ pub fn run_policy<P: Policy>(
     ensures run { IfOk result (λ run.
         IsPolicyRun rows.now grid (P.units policy.old rows.now grid) (P.rounds policy.old rows.now grid) run.rounded run.schedule.slots) }
     ensures jobs { IfOk result (λ run. run.schedule.jobs ≡ length rows.now) }
+    ensures count_in_range { IfOk result (λ run. run.rounded ≤ MAX_ROUNDED) }
     ensures rows { OnOk result (All IsJob rows.now) }
     ensures limits { IfOk result (λ run. AreSlotsOf (length rows.now) run.schedule.slots) }
 {

@@ -83,7 +83,7 @@ impl Queue {
     pub fn pending_of(&self, job: u32) -> u64
         requires { job < length self.now.jobs }
         ensures units { result ≡ pending_in self.now job }
-        ensures in_range { result ≤ MAX_WORK * self.now.grain }
+        ensures in_range { result ≤ MAX_WORK * MAX_GRAIN }
     {
         self.engine.pending_of(job)
     }

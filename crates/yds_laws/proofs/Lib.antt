@@ -28,6 +28,7 @@ pub mod Hinges
 pub mod Group
 pub mod Bound
 pub mod Served
+pub mod AdmittedRuns
 pub mod Exact
 pub mod Explained
 pub mod RunScale
@@ -45,6 +46,9 @@ pub mod LineEnergy
 pub mod PlansEnergy
 pub mod HullCosts
 pub mod LevelCosts
+pub mod LowestTerms
+pub mod LeastAbove
+pub mod CurveLine
 pub mod LevelTimes
 pub mod LevelShares
 pub mod LevelsEnergy
@@ -70,6 +74,8 @@ pub mod Within
 pub mod PlanText
 pub mod RoundText
 pub mod AnsweredOnce
+pub mod RunText
+pub mod ExactRuns
 pub mod TaskWork
 pub mod OneLevel
 pub mod TasksSaid

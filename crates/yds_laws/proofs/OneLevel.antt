@@ -1,5 +1,5 @@
 -- Where the jobs of each task follow one another without a gap until the horizon, a plan has one level.
-use Rattle.std.proofs.Common.{◌≡◌, ℕ, zero, suc, ◌+◌, ◌-◌, ◌*◌, ◌<◌, ◌≤◌, ◌==◌, Bool, true, false, List, [], ◌∷◌, ◌++◌, length, get_or, refl, sym, ap, ◌∙◌, subst, append_assoc, arith, inl, inr}
+use Rattle.std.proofs.Common.{◌≡◌, ℕ, zero, suc, ◌+◌, ◌-◌, ◌*◌, ◌<◌, ◌≤◌, ◌==◌, Bool, true, false, List, [], ◌∷◌, ◌++◌, length, get_or, refl, sym, ap, ◌∙◌, append_assoc, arith, inl, inr}
 use Rattle.std.specs.Prelude.{cond, max}
 use Rattle.std.specs.List.{All, sum_by, fold, list_all, range_with_len}
 use Rattle.std.proofs.Math.Nat.{le_of_mul-le-mul_left, eq_of_mul-eq-mul_left, mul-le-mul_left, mul-sub}
@@ -14,9 +14,9 @@ use Rattle.yds_model.specs.Job.{Job, no_job, job_at, work_of}
 use Rattle.yds_model.specs.Slot.{WrittenSlot, WholeSlot, IsScale, slots_at}
 use Rattle.yds_model.specs.Feasible.{IsFeasibleAt}
 use Rattle.yds_model.specs.Excess.{excess}
-use Rattle.yds_model.specs.Energy.{last_deadline, first_release, horizon, busy, idle}
-use Rattle.yds_model.specs.Piece.{Piece, IsConfined, Covers, total_length}
-use Rattle.yds_model.specs.Level.{Level, level_at}
+use Rattle.yds_model.specs.Energy.{horizon, busy}
+use Rattle.yds_model.specs.Piece.{Piece, IsConfined, total_length}
+use Rattle.yds_model.specs.Level.{Level}
 use Rattle.yds_model.specs.Plan.{IsPlan}
 use Rattle.yds_model.specs.Tasks.{Task, fills_horizon}
 use Rattle.yds_model.proofs.Horizon.{busy_and_idle}

@@ -26,7 +26,7 @@ pub plan_falls : (jobs : List Job) (slots : List WrittenSlot) (levels : List Lev
 plan_falls jobs slots levels plan = are_falling levels plan.proper.well_formed.positive plan.falling
 
 -- each of its levels has its members' work and its pieces' length
-plan_sums_up : (jobs : List Job) (slots : List WrittenSlot) (levels : List Level) → IsPlan jobs slots levels → All (SumsUp jobs) levels
+pub plan_sums_up : (jobs : List Job) (slots : List WrittenSlot) (levels : List Level) → IsPlan jobs slots levels → All (SumsUp jobs) levels
 plan_sums_up jobs slots levels plan =
     All-from_get_or (SumsUp jobs) levels no_level
     (λ i within. record { work = (plan.proper.sums i within).work; long = (plan.proper.sums i within).length })

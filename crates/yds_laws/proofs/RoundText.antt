@@ -34,10 +34,10 @@ use Rattle.yds_laws.proofs.TooSlow.{too_slow_is_exact}
 -- # What isn't refused
 
 -- the answer to a question about a document
-record IsAnswered (question : Question) (input text : List ℕ) (status : Status) : Type 0 where
-  document : Document
-  read : reading input ≡ Ok document
-  answers : AnswersQuestion question document text status
+pub record IsAnswered (question : Question) (input text : List ℕ) (status : Status) : Type 0 where
+  pub document : Document
+  pub read : reading input ≡ Ok document
+  pub answers : AnswersQuestion question document text status
 
 -- what isn't refused was read as a document
 answered_reading : (question : Question) (input text : List ℕ) (status : Status) (read : Result Document (Fault Reason)) → (status ≡ Refused → ⊥) →
@@ -52,7 +52,7 @@ answered_input question input text status true other answers = absurd (other ans
 answered_input question input text status false other answers = answered_reading question input text status (reading input) other refl answers
 
 -- so a question has an answer where it isn't refused
-answered : (question : Question) (input text : List ℕ) (status : Status) → (status ≡ Refused → ⊥) → AnswersRequest (Some (OfDocument question)) input text status →
+pub answered : (question : Question) (input text : List ℕ) (status : Status) → (status ≡ Refused → ⊥) → AnswersRequest (Some (OfDocument question)) input text status →
     IsAnswered question input text status
 answered question input text status other answers = answered_input question input text status (is_too_long input) other answers
 
@@ -95,7 +95,7 @@ done_not_no : Done ≡ No → ⊥
 done_not_no same = absurd cc
 
 -- what is done isn't refused
-done_not_refused : Done ≡ Refused → ⊥
+pub done_not_refused : Done ≡ Refused → ⊥
 done_not_refused same = absurd cc
 
 -- the answer of `round` where it is done

@@ -1,14 +1,12 @@
 -- Tasks that are read keep their limits, and no two have the same name.
-use Rattle.std.proofs.Common.{◌≡◌, ◌≢◌, ℕ, suc, ◌+◌, ◌<◌, ◌≤◌, Bool, true, false, not, nat_le, nat_lt, ◌==◌, ◌||◌, List, [], ◌∷◌, ◌++◌, length, get_or, Option, Some, None, Result, Ok, Err, refl, sym, ap, subst, ◌∙◌, arith, inl, inr, eqb-true}
+use Rattle.std.proofs.Common.{◌≡◌, ◌≢◌, ℕ, ◌<◌, ◌≤◌, Bool, true, false, not, nat_le, nat_lt, ◌==◌, ◌||◌, List, [], ◌∷◌, ◌++◌, length, Some, None, Result, Ok, Err, refl, sym, ap, subst, ◌∙◌, arith, eqb-true}
 use Rattle.std.specs.Prelude.{codes, if◌then◌else◌}
 use Rattle.std.specs.List.{All, AllPairs, filter_map, list_any}
 use Rattle.std.specs.Str.{bytes_eq}
-use Rattle.std.proofs.lemmas.Bool.{cases_Bool, leb-true, ltb-true, false≢true, true≢false}
-use Rattle.std.proofs.lemmas.List.{length_push}
+use Rattle.std.proofs.lemmas.Bool.{leb-true, ltb-true, false≢true, true≢false}
 use Rattle.std.proofs.lemmas.List.Elements.{All-nil, All-cons, All-push}
 use Rattle.std.proofs.lemmas.Slice.Eq.{bytes_eq-Decides}
 use Rattle.yds_model.specs.declared.limits.TheConstants.{MAX_JOBS, MAX_TIME, MAX_WORK, MAX_TASKS}
-use Rattle.yds_model.specs.declared.number_fault.NumberFault.{NumberFault}
 use Rattle.yds_model.specs.declared.task_reason.TaskReason.{TaskReason}
 use Rattle.yds_model.specs.declared.task_reason.TaskReason.TheVariants as reasons
 use Rattle.yds_model.specs.Lines.{Line, Field, lines_of, fields_of}
@@ -16,7 +14,7 @@ use Rattle.yds_model.specs.Spelling.{number_at}
 use Rattle.yds_model.specs.Fields.{Spot, Fault, ◌>>=◌, demand, refuse, count_fields, field_at, on_line}
 use Rattle.yds_model.specs.Entry.{first_of_them}
 use Rattle.yds_model.specs.Reading.{live_lines}
-use Rattle.yds_model.specs.Tasks.{Task, TaskSet, horizon_of}
+use Rattle.yds_model.specs.Tasks.{Task, TaskSet}
 use Rattle.yds_model.specs.TaskReading.{TaskEntry, HorizonEntry, TaskEntryOf, horizon_said, task_said, tasks_said, task_reason_of, task_number_in, is_task_name, has_task_named, new_task_name, count_of_all, read_horizon, read_task, read_task_fields, read_task_line, read_tasks_after, task_reading}
 use Rattle.yds_model.proofs.Lists.{AllPairs-append}
 use Rattle.yds_laws.proofs.Inverse.{demand_ok, one_step, two_steps, four_steps, in_field_ok, number_at_ok}

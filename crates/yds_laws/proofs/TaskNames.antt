@@ -1,5 +1,5 @@
 -- The names of tasks' jobs: the last dot parts a task's name and a job's number, so no two are the same.
-use Rattle.std.proofs.Common.{◌≡◌, ◌≢◌, ℕ, suc, ◌+◌, ◌<◌, ◌≤◌, ◌^◌, Bool, true, ◌&&◌, nat_le, List, [], ◌∷◌, ◌++◌, length, get_or, map, decimal, refl, sym, ap, subst, ◌∙◌, append_assoc, arith, inl, inr}
+use Rattle.std.proofs.Common.{◌≡◌, ◌≢◌, ℕ, suc, ◌+◌, ◌<◌, ◌≤◌, true, ◌&&◌, nat_le, List, [], ◌∷◌, ◌++◌, length, get_or, map, decimal, refl, sym, ap, subst, ◌∙◌, append_assoc, arith, inl, inr}
 use Rattle.std.specs.Prelude.{codes}
 use Rattle.std.specs.List.{All, AllPairs, flat_map, list_all, range_with_len}
 use Rattle.std.specs.Str.Parse.{digits_value}
@@ -7,18 +7,17 @@ use Rattle.std.proofs.Math.Seq.{get_or-append_seam}
 use Rattle.std.proofs.lemmas.Bool.{and_parts, and_from, leb-true, le-leb, cases_lt}
 use Rattle.std.proofs.lemmas.Fmt.{length-decimal-le}
 use Rattle.std.proofs.lemmas.List.{length-append}
-use Rattle.std.proofs.lemmas.List.Elements.{All-nil, All-append, All-head, All-tail, All-weaker}
+use Rattle.std.proofs.lemmas.List.Elements.{All-nil, All-append, All-head, All-tail}
 use Rattle.std.proofs.lemmas.List.Folds.{list_all-append}
 use Rattle.std.proofs.lemmas.List.FromFn.{get_or-map-range_with_len, length-map-range_with_len}
 use Rattle.yds_model.specs.declared.limits.TheConstants.{MAX_JOBS, MAX_NAME, MAX_TASK_NAME}
-use Rattle.yds_model.specs.Document.{name_at}
 use Rattle.yds_model.specs.Spelling.{is_digit, is_name}
 use Rattle.yds_model.specs.Tasks.{Task, nth_name, count_of_jobs, numbers_of_jobs}
 use Rattle.yds_model.specs.TaskReading.{is_task_name}
 use Rattle.yds_model.specs.Within.{AreDifferentNames}
 use Rattle.yds_model.proofs.Lists.{AllPairs-append}
 use Rattle.yds_model.proofs.Spelling.{decimal_digits, decimal_without, digit_range, digits_value-decimal}
-use Rattle.yds_laws.proofs.TaskLimits.{IsTask, HaveOtherNames}
+use Rattle.yds_laws.proofs.TaskLimits.{HaveOtherNames}
 
 -- # Lists over the numbers of jobs
 

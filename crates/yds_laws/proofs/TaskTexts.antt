@@ -1,8 +1,8 @@
 -- The text of the jobs of tasks that were read is read as a document with just these jobs; and their one level.
-use Rattle.std.proofs.Common.{◌≡◌, ℕ, ◌+◌, ◌-◌, ◌*◌, ◌<◌, ◌≤◌, zero, suc, ◌^◌, ◌&&◌, Bool, true, false, List, [], ◌∷◌, ◌++◌, length, get_or, map, take, decimal, Option, Some, None, Result, Ok, Err, refl, sym, ap, subst, ◌∙◌, append-nil, arith, inl, inr}
+use Rattle.std.proofs.Common.{◌≡◌, ℕ, ◌*◌, ◌<◌, ◌≤◌, zero, suc, ◌^◌, ◌&&◌, Bool, true, false, List, [], ◌∷◌, length, get_or, decimal, Option, Some, None, Result, Ok, Err, refl, sym, ap, subst, ◌∙◌, arith, inl, inr}
 use Rattle.std.specs.Prelude.{codes, if◌then◌else◌}
-use Rattle.std.specs.List.{All, AllByRecursion, flat_map, list_all, list_any, sum_by}
-use Rattle.std.proofs.Math.Nat.{le-div_iff_mul-le, mul-pos}
+use Rattle.std.specs.List.{All, AllByRecursion, list_all, list_any, sum_by}
+use Rattle.std.proofs.Math.Nat.{mul-pos}
 use Rattle.std.proofs.lemmas.Bool.{cases_Bool, and_parts, leb-true, false≢true}
 use Rattle.std.proofs.lemmas.Fmt.{length-decimal-le}
 use Rattle.std.proofs.lemmas.List.{length-append, take_all}
@@ -10,16 +10,14 @@ use Rattle.std.proofs.lemmas.List.Concat.{length-flat_map}
 use Rattle.std.proofs.lemmas.List.Elements.{All-nil, All-weaker, All-head, All-tail}
 use Rattle.std.proofs.lemmas.List.FromFn.{length-map-range_with_len}
 use Rattle.std.proofs.lemmas.List.Sums.{sum_by-cons, sum_by-append, get_or-le-sum_by}
-use Rattle.yds_model.specs.declared.limits.TheConstants.{MAX_JOBS, MAX_TIME, MAX_WORK, MAX_INPUT, MAX_GAPS}
+use Rattle.yds_model.specs.declared.limits.TheConstants.{MAX_JOBS, MAX_TIME, MAX_WORK, MAX_GAPS}
 use Rattle.yds_model.specs.declared.task_reason.TaskReason.{TaskReason}
 use Rattle.yds_model.specs.declared.status.Status.TheVariants.{Done, Refused}
 use Rattle.yds_model.specs.Job.{Job, IsJob}
-use Rattle.yds_model.specs.Slot.{WrittenSlot}
-use Rattle.yds_model.specs.Level.{Level}
 use Rattle.yds_model.specs.Table.{hull_multiple}
 use Rattle.yds_model.specs.Document.{Document, no_document}
 use Rattle.yds_model.specs.Spelling.{is_name}
-use Rattle.yds_model.specs.Text.{line, job_lines}
+use Rattle.yds_model.specs.Text.{job_lines}
 use Rattle.yds_model.specs.Fields.{Fault}
 use Rattle.yds_model.specs.Reading.{reading}
 use Rattle.yds_model.specs.Within.{IsDocument, AreNamedJobs, IsPoint, IsSlot, IsLevel}
@@ -27,15 +25,14 @@ use Rattle.yds_model.specs.Plan.{IsPlan}
 use Rattle.yds_model.specs.Tasks.{Task, TaskSet, nth_job, nth_name, count_of_jobs, horizon_of, jobs_of_tasks, names_of_tasks, fills_horizon, has_work, level_until, one_level}
 use Rattle.yds_model.specs.TaskReading.{count_of_all, task_reading}
 use Rattle.yds_model.specs.ExpandAnswer.{level_comment, expansion_text}
-use Rattle.yds_model.specs.Request.{OfTasks}
-use Rattle.yds_model.specs.Answer.{AnswersTasks, UnlessTooLong, is_too_long, AnswersRequest}
+use Rattle.yds_model.specs.Answer.{AnswersTasks, UnlessTooLong, is_too_long}
 use Rattle.yds_model.proofs.Sums.{sum_by_same}
 use Rattle.yds_laws.specs.TaskLaws.{jobs_document, IsExpansion, HoldsExpansion, ExpansionsAreRead, IsOneLevel, OneLevelIsPlanned}
 use Rattle.yds_laws.proofs.Brought.{IsWord, Brings, Brings-nil, Brings-append, Brings-comment, read_whole}
 use Rattle.yds_laws.proofs.OneLevel.{one_level_planned}
 use Rattle.yds_laws.proofs.Printed.{decimal_word, name_word}
 use Rattle.yds_laws.proofs.RoundTrip.{jobs_brought}
-use Rattle.yds_laws.proofs.Short.{jobs_short, fields_length, line_length}
+use Rattle.yds_laws.proofs.Short.{jobs_short, line_length}
 use Rattle.yds_laws.proofs.TaskCounts.{task_jobs_end_in_time}
 use Rattle.yds_laws.proofs.TaskLimits.{IsTask, AreTasks, tasks_keep}
 use Rattle.yds_laws.proofs.TaskNames.{All-numbers, All-flat, names_of_task, nth_name_fits, names_differ}

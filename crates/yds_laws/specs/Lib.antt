@@ -6,5 +6,8 @@ pub mod PlanText
 pub mod TaskLaws
 pub mod RoundingLaws
 pub mod RoundText
+pub mod CurveLaws
 pub mod AnswerLaws
 pub mod AdmissionLaws
+pub mod RunText
+pub mod RunLaws

@@ -9,6 +9,7 @@
 #![tactic(auto)]
 
 mod admission_laws;
+mod curve_laws;
 mod divisor_laws;
 mod energy_laws;
 mod hull_laws;
@@ -17,11 +18,15 @@ mod laws;
 mod plan_laws;
 mod reading_laws;
 mod rounding_laws;
+mod run_laws;
 mod scale_laws;
 mod task_laws;
 mod text_laws;
 
-pub use admission_laws::served_exactly_where_no_interval_is_overfull;
+pub use admission_laws::{
+    admitted_runs_are_within_the_top, served_exactly_where_no_interval_is_overfull,
+};
+pub use curve_laws::{curve_is_straight, levels_tell_least_excess};
 pub use divisor_laws::{divisor_is_greatest, lowest_terms_are_one, multiple_is_least};
 pub use energy_laws::{
     least_is_cheapest, lines_are_at_most_energy, plans_cost_least, plans_cost_least_on_points,
@@ -48,6 +53,9 @@ pub use rounding_laws::{
     refused_is_too_slow, rounded_attains_the_hull, rounded_costs_its_level,
     rounded_costs_its_levels, rounded_holds_least_energy, rounded_is_audited, rounded_is_cheapest,
     rounded_is_feasible, too_slow_is_exact,
+};
+pub use run_laws::{
+    average_rate_is_exact, optimal_available_is_exact, runs_are_feasible, runs_are_read,
 };
 pub use scale_laws::{
     equality_is_of_values, equality_is_transitive, multiple_is_of_values, one_scale_decides,

@@ -1,14 +1,17 @@
-//! The report of a plan: a table of its levels, with their works, lengths and speeds.
+//! The report of a plan: its levels, with their works, lengths and speeds, as a table or as JSON.
 //!
-//! It stands on `yds_document`, whose lines it makes on the stack, and on `yds_plan` for the plan. It carries
-//! the promise that what `report` writes is the report of the definition, or after a fault of the sink a
-//! front of it. It takes no memory.
+//! It stands on `yds_document`, whose lines it makes on the stack, on `yds_plan` for the plan, and on `serde_json` for
+//! JSON. It carries the promise that what `report` writes is the report of the definition, or after a fault of the sink a
+//! front of it, for which it takes no memory; and that the text of `json` is that of the definition, and is read
+//! by `serde_json` as a value with the plan's levels.
 #![tactic(auto)]
 
+mod json_text;
 mod numbers;
 mod report_lines;
 mod reporting;
 
+pub use json_text::json;
 pub use reporting::report;
 
 #[cfg(test)]

@@ -7,7 +7,7 @@ ghost use Rattle.yds_model.specs.Job.{IsJob};
 ghost use Rattle.yds_model.specs.ReportAnswer.{jobs_row, level_row, idle_row};
 ghost use Rattle.yds_model.specs.Within.{IsLevel};
 
-use crate::numbers::{first_release, last_deadline, speed_of, total_length, total_work};
+use crate::numbers::{first_release, idle_time, last_deadline, speed_of, total_work};
 use yds_certificate::Level;
 use yds_document::LineBuffer;
 use yds_model::JobRow;
@@ -41,13 +41,13 @@ pub(crate) fn level_line(number: u64, level: &Level) -> LineBuffer
         .end()
 }
 
-/// The length of the horizon less the lengths of the levels. A plan's levels are no longer than the horizon.
+/// The time in which nothing runs.
 pub(crate) fn idle_line(rows: &[JobRow], levels: &[Level]) -> LineBuffer
     requires few { length levels.now ≤ MAX_LEVELS }
     requires levels { All IsLevel levels.now }
     ensures { result ≡ idle_row rows.now levels.now }
 {
-    let horizon = last_deadline(rows) - first_release(rows);
-    let idle = u64::from(horizon).saturating_sub(total_length(levels));
-    LineBuffer::new("idle").number(idle).end()
+    LineBuffer::new("idle")
+        .number(idle_time(rows, levels))
+        .end()
 }

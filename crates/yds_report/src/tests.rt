@@ -1,5 +1,5 @@
 //! The report of three jobs and of none, worked by hand.
-use crate::report;
+use crate::{json, report};
 use std::test::Fail;
 use yds_document::read_document;
 use yds_plan::plan;
@@ -21,5 +21,17 @@ fn a_plan_is_reported_level_by_level(rt: HostRuntime) -> Result<(), Fail> {
         report(&document, &planned, &mut sink)?;
         assert_eq!(rt; sink.bytes(), want.as_bytes(), "{text}");
     }
+    Ok(())
+}
+
+#[test]
+fn a_plan_is_told_as_json(rt: HostRuntime) -> Result<(), Fail> {
+    let text = "job a 0 2 4\njob b 6 8 1\n";
+    let want =
+        "{\"from\":0,\"idle\":4,\"jobs\":2,\"levels\":[{\"length\":2,\"speed\":\"2\",\"work\":4},{\"length\":2,\"speed\":\"0+1/2\",\"work\":1}],\"to\":8,\"work\":5}\n";
+    let document = read_document(rt.alloc(), text.as_bytes())?;
+    let planned = plan(rt.alloc(), document.instance.rows())?;
+    let told = json(rt.alloc(), &document, &planned)?;
+    assert_eq!(rt; told.as_slice(), want.as_bytes());
     Ok(())
 }

@@ -5,3 +5,4 @@ pub mod Replied
 pub mod Complete
 pub mod Comments
 pub mod Admitting
+pub mod TooSlow

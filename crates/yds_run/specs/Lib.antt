@@ -6,5 +6,9 @@ pub mod VerdictLine
 pub mod Plan
 pub mod Check
 pub mod Report
+pub mod Round
+pub mod ReportJson
+pub mod Curve
 pub mod Trial
 pub mod Admit
+pub mod Policies

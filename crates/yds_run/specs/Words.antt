@@ -1,7 +1,7 @@
 -- The words of the command line, as bytes, and what they ask for of what is built.
 use Rattle.std.specs.Prelude.{ℕ, ◌≤◌, List, map, String, string_bytes, Option, Some, None, true, false}
 use Rattle.std.specs.declared.alloc.Global.{Global}
-use Rattle.yds_model.specs.declared.limits.TheConstants.{MAX_TRIAL_JOBS, MAX_TOP}
+use Rattle.yds_model.specs.declared.limits.TheConstants.{MAX_GRID, MAX_TRIAL_JOBS, MAX_TOP}
 use Rattle.yds_model.specs.Request.{Question as ModelQuestion, AskPlan, AskRound, AskAverageRate, AskOptimalAvailable, AskCheck, AskAudit, AskAuditOnPoints, AskReport, AskReportAsJson, AskAdmit, AskCurve, AskCompare, Request, OfDocument, OfTasks, OfTrial, request_of}
 use Rattle.yds_run.specs.declared.command.Question.{Question}
 use Rattle.yds_run.specs.declared.command.Question.TheVariants as questions
@@ -13,11 +13,6 @@ words_of words = map string_bytes words
 
 -- What isn't built yet is asked for as nothing is: a command that is built loses its line here.
 abbrev pub built : Option Request → Option Request
-built (Some (OfDocument AskRound)) = None
-built (Some (OfDocument (AskAverageRate grid))) = None
-built (Some (OfDocument (AskOptimalAvailable grid))) = None
-built (Some (OfDocument AskReportAsJson)) = None
-built (Some (OfDocument AskCurve)) = None
 built (Some (OfDocument (AskCompare grid))) = None
 built request = request
 
@@ -38,11 +33,16 @@ ReadsInput (Some _) = Unit {0}
 -- what a question asks
 abbrev pub question_view : Question → ModelQuestion
 question_view questions.Plan = AskPlan
+question_view questions.Round = AskRound
+question_view (questions.AverageRate grid) = AskAverageRate grid
+question_view (questions.OptimalAvailable grid) = AskOptimalAvailable grid
 question_view questions.Check = AskCheck
 question_view (questions.Audit false) = AskAudit
 question_view (questions.Audit true) = AskAuditOnPoints
-question_view questions.Report = AskReport
+question_view (questions.Report false) = AskReport
+question_view (questions.Report true) = AskReportAsJson
 question_view (questions.Admit top) = AskAdmit top
+question_view questions.Curve = AskCurve
 
 -- what a command answers
 abbrev pub request_view : Command → Request
@@ -52,6 +52,8 @@ request_view (commands.Trial seed jobs) = OfTrial seed jobs
 
 -- the numbers of a question are within their limits
 abbrev pub IsAskable : Question → Type 0
+IsAskable (questions.AverageRate grid) = (1 ≤ grid) × (grid ≤ MAX_GRID)
+IsAskable (questions.OptimalAvailable grid) = (1 ≤ grid) × (grid ≤ MAX_GRID)
 IsAskable (questions.Admit top) = (1 ≤ top) × (top ≤ MAX_TOP)
 IsAskable _ = Unit {0}
 

@@ -1,10 +1,10 @@
 ghost use Rattle.std.specs.Prelude.{◌≡◌, ◌≤◌, option_map, IfSome};
 ghost use Rattle.std.specs.Result.{result_ok};
 ghost use Rattle.yds_model.specs.Spelling.{number_at};
-ghost use Rattle.yds_model.specs.Request.{request_of_word, request_of_two, request_of_three};
+ghost use Rattle.yds_model.specs.Request.{request_of_word, request_of_two, request_of_three, request_of_grid};
 ghost use Rattle.yds_run.specs.Words.{words_of, built, asked, request_view, IsWithinLimits};
 
-use yds_model::limits::{MAX_SEED, MAX_TOP, MAX_TRIAL_JOBS};
+use yds_model::limits::{MAX_GRID, MAX_SEED, MAX_TOP, MAX_TRIAL_JOBS};
 use yds_text::number_of;
 
 /// What is asked of a document.
@@ -12,6 +12,18 @@ use yds_text::number_of;
 pub enum Question {
     /// The plan of the document's jobs, with its certificate.
     Plan,
+    /// The plan of the document's jobs on its operating points, with the energy.
+    Round,
+    /// The run of Average Rate on a grid.
+    AverageRate {
+        /// The works of the run are multiples of one part in so many.
+        grid: u32,
+    },
+    /// The run of Optimal Available on a grid.
+    OptimalAvailable {
+        /// The works of the run are multiples of one part in so many.
+        grid: u32,
+    },
     /// Whether the document's levels show that its slots are least.
     Check,
     /// Whether the document's slots are feasible for its jobs.
@@ -19,8 +31,13 @@ pub enum Question {
         /// Whether each slot has also to run at the speed of one of the document's operating points.
         points: bool,
     },
-    /// The plan of the document's jobs as a table of its levels.
-    Report,
+    /// The levels of a plan of the document's jobs.
+    Report {
+        /// Whether as a line of JSON, in place of a table.
+        json: bool,
+    },
+    /// The curve of least excess of the document's jobs.
+    Curve,
     /// The jobs that a processor of this top speed can serve, in work per time unit.
     Admit {
         /// The top speed, from 1 to `MAX_TOP`.
@@ -67,9 +84,11 @@ fn of_word(word: &str) -> Option<Command>
 {
     match word {
         "plan" => Some(Command::Document(Question::Plan)),
+        "round" => Some(Command::Document(Question::Round)),
         "check" => Some(Command::Document(Question::Check)),
         "audit" => Some(Command::Document(Question::Audit { points: false })),
-        "report" => Some(Command::Document(Question::Report)),
+        "report" => Some(Command::Document(Question::Report { json: false })),
+        "curve" => Some(Command::Document(Question::Curve)),
         "expand" => Some(Command::Expand),
         _ => None,
     }
@@ -82,6 +101,7 @@ fn of_two(word: &str, next: &str) -> Option<Command>
 {
     match (word, next) {
         ("audit", "--points") => Some(Command::Document(Question::Audit { points: true })),
+        ("report", "--json") => Some(Command::Document(Question::Report { json: true })),
         ("admit", _) => {
             let top = number_in(next, 1, MAX_TOP)?;
             Some(Command::Document(Question::Admit { top }))
@@ -90,17 +110,32 @@ fn of_two(word: &str, next: &str) -> Option<Command>
     }
 }
 
-/// The command of three words: a trial, with its seed and its number of jobs.
+/// The command of three words: a trial, with its seed and its number of jobs, or a policy with its grid.
 fn of_three(word: &str, next: &str, last: &str) -> Option<Command>
     ensures asked { option_map request_view result ≡ built (request_of_three word.now next.now last.now) }
     ensures within { IfSome result IsWithinLimits }
 {
-    match word {
-        "trial" => {
+    match (word, next) {
+        ("trial", _) => {
             let seed = number_in(next, 0, MAX_SEED)?;
             let jobs = number_in(last, 0, MAX_TRIAL_JOBS)?;
             Some(Command::Trial { seed, jobs })
         }
+        (_, "--grid") => of_grid(word, number_in(last, 1, MAX_GRID)?),
+        _ => None,
+    }
+}
+
+/// The command of a word that a grid follows.
+fn of_grid(word: &str, grid: u32) -> Option<Command>
+    requires least { 1 ≤ grid }
+    requires most { grid ≤ MAX_GRID }
+    ensures asked { option_map request_view result ≡ built (request_of_grid word.now (Ok grid)) }
+    ensures within { IfSome result IsWithinLimits }
+{
+    match word {
+        "avr" => Some(Command::Document(Question::AverageRate { grid })),
+        "oa" => Some(Command::Document(Question::OptimalAvailable { grid })),
         _ => None,
     }
 }

@@ -5,6 +5,7 @@ ghost use Rattle.yds_model.specs.Answer.{AnswersReading, AnswersQuestion};
 ghost use Rattle.yds_model.specs.PlanAnswer.{HoldsHeadline};
 ghost use Rattle.yds_model.specs.Reading.{reading};
 ghost use Rattle.yds_model.specs.Request.{usage_line, OfDocument};
+ghost use Rattle.yds_laws.specs.RoundText.{HoldsLeastEnergy, HoldsTooSlow};
 ghost use Rattle.yds_laws.specs.TaskLaws.{HoldsExpansion};
 ghost use Rattle.yds_port.specs.Count.{Rose, next_count};
 ghost use Rattle.yds_document.specs.Documents.{document_view};
@@ -16,11 +17,15 @@ use crate::answer::Answer;
 use crate::audit::{audit_document, audit_on_points};
 use crate::check::check_document;
 use crate::command::{Command, Question};
+use crate::curve::curve_document;
 use crate::deliver::deliver;
 use crate::expand::expand_input;
 use crate::plan::plan_document;
+use crate::policies::{average_rate_document, optimal_available_document};
 use crate::refusal::{RefusedAt, TooLong, Usage};
 use crate::report::report_document;
+use crate::report_json::json_document;
+use crate::round::round_document;
 use crate::trial::try_plan;
 use std::alloc::Global;
 use yds_document::{DocFault, Document, read_document};
@@ -80,6 +85,14 @@ pub fn run<S: Source, K: Sink>(
     // work in its window and, for every speed, does no more work above it than any feasible schedule.
     ensures headline { words_of words.now ≡ codes "plan" ∷ [] → result ≡ Status.Done
         → IfSome (S.left source.old) (λ input. (text : List ℕ) × Appends (K.written sink.old) (K.written sink.new) text × HoldsHeadline input text) }
+
+    // A rounded plan that was written is read again as the document with slots at the speeds of its points,
+    // which give every job its work in its window, and no feasible schedule on the points takes less energy.
+    ensures least_energy { words_of words.now ≡ codes "round" ∷ [] → result ≡ Status.Done
+        → IfSome (S.left source.old) (λ input. (text : List ℕ) × Appends (K.written sink.old) (K.written sink.new) text × HoldsLeastEnergy input text) }
+    // Where it says no, the points are too slow: no feasible schedule stays at or below the top one.
+    ensures too_slow { words_of words.now ≡ codes "round" ∷ [] → result ≡ Status.No
+        → IfSome (S.left source.old) (λ input. (text : List ℕ) × Appends (K.written sink.old) (K.written sink.new) text × HoldsTooSlow input text) }
 
     // The jobs of periodic tasks that were written are read again as a document with just these jobs, in
     // their order and under different names.
@@ -155,10 +168,17 @@ fn answer_document<K: Sink>(
 {
     match question {
         Question::Plan => reply(plan_document(alloc, document), sink),
+        Question::Round => reply(round_document(alloc, document), sink),
+        Question::AverageRate { grid } => reply(average_rate_document(alloc, document, grid), sink),
+        Question::OptimalAvailable { grid } => {
+            reply(optimal_available_document(alloc, document, grid), sink)
+        }
         Question::Check => reply(check_document(alloc, &document), sink),
         Question::Audit { points: false } => deliver(&audit_document(&document), sink),
         Question::Audit { points: true } => deliver(&audit_on_points(&document), sink),
-        Question::Report => reply(report_document(alloc, document), sink),
+        Question::Report { json: false } => reply(report_document(alloc, document), sink),
+        Question::Report { json: true } => reply(json_document(alloc, &document), sink),
+        Question::Curve => reply(curve_document(alloc, &document), sink),
         Question::Admit { top } => reply(admit_document(alloc, document, top), sink),
     }
 }

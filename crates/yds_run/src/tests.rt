@@ -1,5 +1,5 @@
 use super::*;
-use crate::worked_rows::{ADMISSIONS, EXPANSIONS, REPORTS_AND_TRIALS, ROWS};
+use crate::worked_rows::{ADMISSIONS, CURVES_AND_JSON, EXPANSIONS, POLICIES, REPORTS_AND_TRIALS, ROUNDINGS, ROWS};
 use std::alloc::{AllocError, Global};
 use std::process::Abort;
 use std::test::Fail;
@@ -60,8 +60,23 @@ fn the_answers_of_reports_and_trials(rt: HostRuntime) -> Result<(), Fail> {
 }
 
 #[test]
+fn the_answers_of_curves_and_reports_as_json(rt: HostRuntime) -> Result<(), Fail> {
+    answers_are(&rt, rt.alloc(), &CURVES_AND_JSON)
+}
+
+#[test]
 fn the_jobs_of_periodic_tasks(rt: HostRuntime) -> Result<(), Fail> {
     answers_are(&rt, rt.alloc(), &EXPANSIONS)
+}
+
+#[test]
+fn the_answers_of_policies(rt: HostRuntime) -> Result<(), Fail> {
+    answers_are(&rt, rt.alloc(), &POLICIES)
+}
+
+#[test]
+fn the_plans_on_operating_points(rt: HostRuntime) -> Result<(), Fail> {
+    answers_are(&rt, rt.alloc(), &ROUNDINGS)
 }
 
 #[test]

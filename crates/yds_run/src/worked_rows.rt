@@ -500,6 +500,44 @@ pub static REPORTS_AND_TRIALS: [(&str, &str, Status, &str); 8] = [
     ("trial 0 01", "", Status::Usage, USAGE),
 ];
 
+/// The same of curves and of reports as JSON.
+pub static CURVES_AND_JSON: [(&str, &str, Status, &str); 9] = [
+    (
+        "curve",
+        "job a 0 12 4\njob b 2 10 8\njob c 4 6 6\n",
+        Status::Done,
+        "break 0 18\nbreak 1 6\nbreak 1+1/3 3+1/3\nbreak 3 0\n",
+    ),
+    (
+        "curve",
+        "job a 0 2 4\njob b 6 8 1\n",
+        Status::Done,
+        "break 0 5\nbreak 0+1/2 3\nbreak 2 0\n",
+    ),
+    ("curve", "", Status::Done, "break 0 0\n"),
+    ("curve all", "", Status::Usage, USAGE),
+    (
+        "report --json",
+        "job a 0 12 4\njob b 2 10 8\njob c 4 6 6\n",
+        Status::Done,
+        "{\"from\":0,\"idle\":0,\"jobs\":3,\"levels\":[{\"length\":2,\"speed\":\"3\",\"work\":6},{\"length\":6,\"speed\":\"1+1/3\",\"work\":8},{\"length\":4,\"speed\":\"1\",\"work\":4}],\"to\":12,\"work\":18}\n",
+    ),
+    (
+        "report --json",
+        "job a 0 2 4\njob b 6 8 1\n",
+        Status::Done,
+        "{\"from\":0,\"idle\":4,\"jobs\":2,\"levels\":[{\"length\":2,\"speed\":\"2\",\"work\":4},{\"length\":2,\"speed\":\"0+1/2\",\"work\":1}],\"to\":8,\"work\":5}\n",
+    ),
+    (
+        "report --json",
+        "",
+        Status::Done,
+        "{\"from\":0,\"idle\":0,\"jobs\":0,\"levels\":[],\"to\":0,\"work\":0}\n",
+    ),
+    ("report --points", "", Status::Usage, USAGE),
+    ("report --json now", "", Status::Usage, USAGE),
+];
+
 /// The same of periodic tasks, and the plan of the jobs of two.
 pub static EXPANSIONS: [(&str, &str, Status, &str); 16] = [
     (
@@ -612,4 +650,103 @@ pub static ADMISSIONS: [(&str, &str, Status, &str); 5] = [
     ),
     ("admit 1000000", "", Status::Done, ""),
     ("admit 1000001", "job a 0 4 8\n", Status::Usage, USAGE),
+];
+
+/// The same of the policies.
+pub static POLICIES: [(&str, &str, Status, &str); 7] = [
+    (
+        "avr --grid 1",
+        "job a 0 4 4\njob b 2 4 2\n",
+        Status::Done,
+        "job a 0 4 4\njob b 2 4 2\nslot a 0 2 2\nslot a 2 3 2\nslot b 3 4 2\ngrid 1 0\n",
+    ),
+    (
+        "avr --grid 1",
+        "job a 0 3 2\n",
+        Status::Done,
+        "job a 0 3 2\nslot a 0 3 2\ngrid 1 0\n",
+    ),
+    (
+        "avr --grid 1",
+        "job a 0 3 2\njob b 1 3 2\n",
+        Status::Done,
+        "job a 0 3 2\njob b 1 3 2\nslot a 0 1 1\nslot a 1 1+2/3 1\nslot b 1+2/3 3 2\ngrid 1 2\n",
+    ),
+    (
+        "oa --grid 1",
+        "job a 0 3 2\njob b 1 2 1\n",
+        Status::Done,
+        "job a 0 3 2\njob b 1 2 1\nslot a 0 1 1\nslot b 1 2 1\nslot a 2 3 1\ngrid 1 1\n",
+    ),
+    (
+        "oa --grid 6",
+        "job a 0 3 2\njob b 1 2 1\n",
+        Status::Done,
+        "job a 0 3 2\njob b 1 2 1\nslot a 0 1 0+4/6\nslot b 1 1+6/7 1\nslot a 1+6/7 2 0+1/6\nslot a 2 3 1+1/6\ngrid 6 0\n",
+    ),
+    (
+        "audit",
+        "job a 0 3 2\njob b 1 2 1\nslot a 0 1 0+4/6\nslot b 1 1+6/7 1\nslot a 1+6/7 2 0+1/6\nslot a 2 3 1+1/6\ngrid 6 0\n",
+        Status::Done,
+        "feasible\n",
+    ),
+    ("oa --grid 1000001", "job a 0 3 2\n", Status::Usage, USAGE),
+];
+
+/// The same of plans on operating points.
+pub static ROUNDINGS: [(&str, &str, Status, &str); 9] = [
+    (
+        "round",
+        "job a 0 10 10\njob b 4 6 6\npoint 0 0\npoint 1 1\npoint 2 3\npoint 4 10\n",
+        Status::Done,
+        "job a 0 10 10\njob b 4 6 6\npoint 0 0\npoint 1 1\npoint 2 3\npoint 4 10\nslot a 0 1 2\nslot a 1 4 3\nslot b 4 5 4\nslot b 5 6 2\nslot a 6 7 2\nslot a 7 10 3\nenergy 25\n",
+    ),
+    (
+        "round",
+        "job a 0 10 10\njob b 4 6 6\npoint 0 0\npoint 1 1\npoint 2 3\n",
+        Status::No,
+        "too-slow work 6 length 2 top 2\n",
+    ),
+    (
+        "round",
+        "job a 0 4 8\npoint 0 1\npoint 2 5\n",
+        Status::Done,
+        "job a 0 4 8\npoint 0 1\npoint 2 5\nslot a 0 4 8\nenergy 20\n",
+    ),
+    (
+        "round",
+        "job a 0 4 8\npoint 0 1\npoint 4 9\n",
+        Status::Done,
+        "job a 0 4 8\npoint 0 1\npoint 4 9\nslot a 0 2 8\nenergy 20\n",
+    ),
+    (
+        "round",
+        "job a 0 3 2\njob b 0 3 5\npoint 0 0\npoint 2 1\npoint 4 3\n",
+        Status::Done,
+        "job a 0 3 2\njob b 0 3 5\npoint 0 0\npoint 2 1\npoint 4 3\nslot a 0 0+6/12 2\nslot b 0+3/6 3 5\nenergy 4\n",
+    ),
+    (
+        "round",
+        "",
+        Status::Refused,
+        "refused no-table\n",
+    ),
+    (
+        "round",
+        "# cpu0, governor trace\njob decode 0 33 26100\njob audio 5 20 3000\npoint 0 30\npoint 600 200\npoint 1200 700\npoint 1800 1600\nticks 1000\nrun decode 0 5000 1800\nrun audio 5000 10000 600\nrun decode 10000 19500 1800\n",
+        Status::Done,
+        "job decode 0 33 26100\njob audio 5 20 3000\npoint 0 30\npoint 600 200\npoint 1200 700\npoint 1800 1600\nslot decode 0 2+4600/13200 2818+1200/6600\nslot decode 2+2300/6600 5 1590+6000/6600\nslot audio 5 7+6600/13200 3000\nslot decode 7+6600/13200 12+600/13200 5454+3600/6600\nslot decode 12+300/6600 20 4772+4800/6600\nslot decode 20 26+1400/13200 7327+1800/6600\nslot decode 26+700/6600 33 4136+2400/6600\nenergy 14350\n",
+    ),
+    (
+        "round",
+        "job a 0 4 4\njob b 2 6 0\npoint 0 1\npoint 1 2\n",
+        Status::Done,
+        "job a 0 4 4\njob b 2 6 0\npoint 0 1\npoint 1 2\nslot a 0 2 2\nslot a 2 4 2\nenergy 10\n",
+    ),
+    (
+        "round",
+        "job a 0 10 10\njob b 4 6 6\npoint 0 0\npoint 1 3\npoint 2 4\npoint 4 10\n",
+        Status::Done,
+        "job a 0 10 10\njob b 4 6 6\npoint 0 0\npoint 1 3\npoint 2 4\npoint 4 10\nslot a 0 2+4/8 5\nslot b 4 5 4\nslot b 5 6 2\nslot a 6 8+4/8 5\nenergy 34\n",
+    ),
 ];

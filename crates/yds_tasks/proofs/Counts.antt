@@ -1,7 +1,7 @@
 -- How many jobs tasks have together, and their work, as one task more comes.
-use Rattle.std.proofs.Common.{◌≡◌, ℕ, ◌+◌, ◌-◌, ◌*◌, ◌<◌, ◌≤◌, List, [], ◌∷◌, ◌++◌, length, map, get_or, refl, sym, subst, ◌∙◌, ap, arith, inl, inr, true, Option, Some, None}
+use Rattle.std.proofs.Common.{◌≡◌, ℕ, ◌+◌, ◌*◌, ◌<◌, ◌≤◌, List, [], ◌∷◌, ◌++◌, length, sym, subst, ◌∙◌, ap, arith, true, Option, Some, None}
 use Rattle.std.specs.Prelude.{is_some, IfSome}
-use Rattle.std.specs.List.{All, sum_by, flat_map}
+use Rattle.std.specs.List.{All, sum_by}
 use Rattle.std.proofs.Math.Nat.{mul-le-mul_left}
 use Rattle.std.proofs.lemmas.Grind.{flat_map-append}
 use Rattle.std.proofs.lemmas.List.{append-nil, length_push}
@@ -9,17 +9,16 @@ use Rattle.std.proofs.lemmas.List.Elements.{All-head, All-tail, All-push}
 use Rattle.std.proofs.lemmas.List.Sums.{sum_by-cons, sum_by-append}
 use Rattle.yds_model.specs.declared.limits.TheConstants.{MAX_JOBS, MAX_TASKS, MAX_TIME, MAX_WORK}
 use Rattle.yds_model.specs.Job.{Job, IsJob}
-use Rattle.yds_model.specs.Tasks.{Task, TaskSet, nth_job, count_of_jobs, numbers_of_jobs, horizon_of, jobs_of_tasks}
+use Rattle.yds_model.specs.Tasks.{Task, TaskSet, nth_job, count_of_jobs, horizon_of, jobs_of_tasks}
 use Rattle.yds_model.specs.TaskReading.{count_of_all}
-use Rattle.yds_laws.proofs.TaskCounts.{task_jobs_end_in_time}
 use Rattle.yds_laws.proofs.TaskWork.{jobs_of_task, jobs_until, works_of_task}
 use Rattle.yds_tasks.specs.Kept.{IsTask, IsTaskSet, KeepsTasks, with_task}
 
 -- a job that is due by the horizon is within its limits
-pub job_fits : (horizon : ℕ) (task : Task) (k : ℕ) → IsTask task → horizon ≤ MAX_TIME → k < count_of_jobs horizon task → IsJob (nth_job task k)
-job_fits horizon task k kept within below = record {
+pub due_fits : (horizon : ℕ) (task : Task) (k : ℕ) → IsTask task → horizon ≤ MAX_TIME → (nth_job task k).deadline ≤ horizon → IsJob (nth_job task k)
+due_fits horizon task k kept within due = record {
   has_window = omega (arith, kept.has_deadline);
-  time_in_range = omega (arith, (task_jobs_end_in_time horizon task k kept.has_period).0 below, within);
+  time_in_range = omega (arith, due, within);
   work_in_range = kept.work_in_range;
 }
 

@@ -1,5 +1,5 @@
 -- A line is read as its kind says.
-use Rattle.std.proofs.Common.{◌≡◌, ℕ, Bool, true, false, List, codes, Option, Some, None, Result, Err, refl}
+use Rattle.std.proofs.Common.{◌≡◌, Bool, true, false, List, codes, Option, Some, None, Result, Err, refl}
 use Rattle.std.specs.Prelude.{if◌then◌else◌}
 use Rattle.std.specs.Str.{bytes_eq}
 use Rattle.yds_model.specs.declared.task_reason.TaskReason.{TaskReason}

@@ -1,7 +1,7 @@
 ghost use Rattle.std.specs.Prelude.{◌≡◌, ◌≤◌, ◌<◌, ◌+◌, ◌*◌, ◌∷◌, [], List, length, map, is_some, Some, None, OnOk, IsTrue, nat_le, sum_by};
 ghost use Rattle.std.specs.List.{list_all, list_any};
 ghost use Rattle.yds_model.specs.declared.limits.TheConstants.{MAX_TASKS, MAX_TIME, MAX_JOBS};
-ghost use Rattle.yds_model.specs.Tasks.{nth_job, count_of_jobs, jobs_of_tasks, horizon_of, fills_horizon, has_work, one_level};
+ghost use Rattle.yds_model.specs.Tasks.{nth_job, jobs_of_tasks, horizon_of, fills_horizon, has_work, one_level};
 ghost use Rattle.yds_model.specs.TaskReading.{count_of_all};
 ghost use Rattle.yds_tasks.specs.Kept.{IsTaskSet, with_task, task_at};
 ghost use Rattle.yds_tasks.specs.Read.{task_read};
@@ -81,10 +81,11 @@ impl<'a> TaskSet<'a> {
         self.jobs
     }
 
-    /// The job that comes `k` periods after the first of the task with this number, from 0. Takes no memory.
+    /// The job that comes `k` periods after the first of the task with this number, from 0, where it is due by
+    /// the horizon. Takes no memory.
     pub fn row(&self, task: u32, k: u32) -> JobRow
         requires task { task < length self.now.tasks }
-        requires job { k < count_of_jobs (horizon_of self.now) (task_at self.now.tasks task) }
+        requires due { (nth_job (task_at self.now.tasks task) k).deadline ≤ horizon_of self.now }
         ensures { result ≡ nth_job (task_at self.now.tasks task) k }
     {
         self.tasks[task as usize].row(k)

@@ -50,7 +50,7 @@ append-requires-clause-grain g c =
       (can_follow c.args.rows.now c.args.grid (g.P.Policy.units c.args.policy.now) c.requires.some_grid c.loop-number.number here _ _ _ _ _ c.loop-number.invariant.running _
           (stretch_read c.args.rows.now c.deref-stretch-items.result.now c.loop-number.number c.stretch-item.result _ c.loop-number.invariant.timeline here c.stretch-item.is c.stretch.view_is)
           c.arrive.ensures _ (c.set-setting.ensures.units ∙ ap (λ (tells : List Job → ℕ → (ℕ → ℕ) → Piece → ℕ). tells c.arrive.new.self.jobs c.arrive.new.self.grain (pending_in c.arrive.new.self)
-    (record { from = c.stretch.inside.from; to = c.stretch.inside.to })) c.loop-number.invariant.units_stay) _ c.in_ok-slots.ensures).over,
+          (record { from = c.stretch.inside.from; to = c.stretch.inside.to })) c.loop-number.invariant.units_stay) _ c.in_ok-slots.ensures).over,
     )
 
 pub append-requires-clause-room : goal.append-requires-clause-room
@@ -108,3 +108,16 @@ returns-clause-run g c =
     let all : c.loop-number.number ≡ length (stretches c.args.rows.now) =
     omega (arith, c.loop-number-test.false, ap (λ (pieces : List Piece). length pieces) c.loop-number.invariant.timeline) in
     all_run (rw all at c.loop-number.invariant.running) (rw all at c.loop-number.invariant.counted)
+
+pub returns-clause-count_in_range : goal.returns-clause-count_in_range
+returns-clause-count_in_range g c =
+    let all : c.loop-number.number ≡ length (stretches c.args.rows.now) =
+    omega (arith, c.loop-number-test.false, ap (λ (pieces : List Piece). length pieces) c.loop-number.invariant.timeline) in
+    omega (
+      arith,
+      all,
+      few_stretches c.args.rows.now,
+      c.requires.few,
+      c.loop-number.invariant.counted,
+      few_rounded c.args.rows.now c.args.grid (g.P.Policy.rounds c.args.policy.now c.args.rows.now c.args.grid) c.loop-number.invariant.shares c.loop-number.number,
+    )

@@ -1,12 +1,6 @@
-use Rattle.std.proofs.Common.{◌≡◌, ◌∙◌, ap, sym}
-use Rattle.std.specs.List.{flat_map}
-use Rattle.std.proofs.lemmas.List.Folds.{flat_map-map}
+use Rattle.std.proofs.Common.{ap}
 use Rattle.yds_model.specs.ExpandAnswer.{level_comment}
-use Rattle.yds_model.specs.Tasks.{horizon_of, names_of_tasks, jobs_of_tasks}
-use Rattle.yds_model.specs.Text.{job_lines}
 use Rattle.yds_port.proofs.Putting.{puts_whole, puts_text, puts_failed, puts_front, puts_after}
-use Rattle.yds_tasks.specs.Printed.{task_lines}
-use Rattle.yds_tasks.specs.Read.{task_read}
 use Rattle.yds_tasks.proofs.Printed.{lines_told}
 use Rattle.yds_tasks.proofs.printing.print_jobs.Goals as goal
 

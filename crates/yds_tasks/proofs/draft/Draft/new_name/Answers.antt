@@ -1,7 +1,7 @@
-use Rattle.std.proofs.Common.{◌∙◌, sym, ◌≡◌, true, false}
+use Rattle.std.proofs.Common.{◌∙◌, sym}
 use Rattle.yds_model.specs.declared.task_reason.TaskReason.TheVariants as reasons
 use Rattle.yds_text.specs.Read.{field_read}
-use Rattle.yds_tasks.specs.Fields.{new_name_of, has_name}
+use Rattle.yds_tasks.specs.Fields.{new_name_of}
 use Rattle.yds_tasks.proofs.Names.{name_known}
 use Rattle.yds_tasks.proofs.Told.{name_taken, name_fresh, fails_at}
 use Rattle.yds_tasks.proofs.draft.Draft.new_name.Goals as goal

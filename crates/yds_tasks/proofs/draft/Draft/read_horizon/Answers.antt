@@ -1,4 +1,4 @@
-use Rattle.std.proofs.Common.{◌∙◌, ◌∷◌, ap, sym, Ok, Result}
+use Rattle.std.proofs.Common.{◌∙◌, ◌∷◌, ap, sym, Ok}
 use Rattle.yds_model.specs.Fields.{◌>>=◌}
 use Rattle.yds_model.specs.TaskReading.{HorizonEntry}
 use Rattle.yds_text.specs.Read.{field_read}

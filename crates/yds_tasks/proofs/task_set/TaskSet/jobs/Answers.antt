@@ -1,5 +1,4 @@
-use Rattle.std.proofs.Common.{◌∙◌, ap, sym, length}
-use Rattle.yds_model.specs.Tasks.{TaskSet, jobs_of_tasks}
+use Rattle.std.proofs.Common.{◌∙◌, ap, sym}
 use Rattle.yds_model.specs.TaskReading.{count_of_all}
 use Rattle.yds_laws.proofs.TaskWork.{jobs_counted}
 use Rattle.yds_tasks.proofs.task_set.TaskSet.jobs.Goals as goal

@@ -1,9 +1,9 @@
-use Rattle.std.proofs.Common.{◌≡◌, ◌<◌, ◌∙◌, ap, sym, subst, arith, length, List, get_or}
+use Rattle.std.proofs.Common.{◌≡◌, ◌<◌, ◌≤◌, ◌∙◌, ap, sym, subst, arith, length, List, get_or}
 use Rattle.std.proofs.lemmas.List.{get_or-map, length-map}
-use Rattle.yds_model.specs.Tasks.{Task, TaskSet, horizon_of, count_of_jobs}
+use Rattle.yds_model.specs.Tasks.{Task, TaskSet, horizon_of, nth_job}
 use Rattle.yds_tasks.specs.Kept.{IsTaskSet, task_at, no_task}
 use Rattle.yds_tasks.specs.Read.{task_read}
-use Rattle.yds_tasks.proofs.Counts.{job_fits, horizon_within}
+use Rattle.yds_tasks.proofs.Counts.{due_fits, horizon_within}
 use Rattle.yds_tasks.proofs.task_set.TaskSet.row.Goals as goal
 
 pub row-requires : goal.row-requires
@@ -14,5 +14,5 @@ row-requires c =
     omega (arith, c.requires.task, ap (λ (ts : List Task). length ts) tasks, length-map c.self.inside.tasks.items task_read) in
     let same : task_at set.tasks c.args.task ≡ task_read c.index.result.now =
     ap (λ (ts : List Task). get_or ts c.args.task no_task) (sym tasks) ∙ get_or-map task_read c.self.inside.tasks.items c.args.task c.index.result.now no_task within ∙ ap task_read (sym c.index.ensures) in
-    job_fits (horizon_of set) (task_read c.index.result.now) c.args.k c.index.result.now.kept (horizon_within set (subst IsTaskSet c.self.view_is c.self.invariant.kept))
-    (subst (λ task. c.args.k < count_of_jobs (horizon_of set) task) same c.requires.job)
+    due_fits (horizon_of set) (task_read c.index.result.now) c.args.k c.index.result.now.kept (horizon_within set (subst IsTaskSet c.self.view_is c.self.invariant.kept))
+    (subst (λ task. (nth_job task c.args.k).deadline ≤ horizon_of set) same c.requires.due)

@@ -1,0 +1,3 @@
+pub mod Contracted
+pub mod Removed
+pub mod Clipped

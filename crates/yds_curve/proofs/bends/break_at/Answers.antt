@@ -1,0 +1,18 @@
+use Rattle.std.proofs.Common.{◌≡◌, ◌≤◌, ◌-◌, ◌*◌, ap, ap₂, subst, ◌∙◌, arith}
+use Rattle.yds_model.specs.Scale.{Fraction, IsSameQuotient}
+use Rattle.yds_model.specs.Level.{Level}
+use Rattle.yds_model.specs.Divisor.{in_lowest_terms}
+use Rattle.yds_model.specs.Curve.{Break}
+use Rattle.yds_curve.proofs.Reduced.{speed_reduced}
+use Rattle.yds_curve.proofs.bends.break_at.Goals as goal
+
+pub returns : goal.returns
+returns c =
+    let level = c.args.level.now in
+    let some : 1 ≤ level.length = omega (arith, c.level.invariant.has_length, ap (λ (l : Level). l.length) c.level.view_is) in
+    let parts : c.saturating_sub-parts.result ≡ level.length * c.args.work - level.work * c.args.length = cc in
+    let length : c.level.inside.length ≡ level.length = cc in
+    ap₂ (λ (speed excess : Fraction). let bend : Break = record { speed = speed; excess = excess } in bend)
+    (speed_reduced level.work level.length c.reduced.result some
+    (subst (λ of_level. IsSameQuotient of_level c.reduced.result) c.speed.ensures c.reduced.ensures.same) c.reduced.ensures.kept.has_parts c.reduced.ensures.lowest)
+    (c.in_lowest_terms.ensures ∙ ap₂ in_lowest_terms parts length)

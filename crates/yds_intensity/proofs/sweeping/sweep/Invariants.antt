@@ -1,0 +1,7 @@
+use Rattle.std.proofs.Common.{map, take}
+use Rattle.yds_model.specs.Job.{job_at}
+use Rattle.yds_intensity.proofs.Sweeps.{SweptSoFar}
+use Rattle.yds_intensity.proofs.sweeping.sweep.Given as goal
+
+abbrev pub invariant-loop-number : goal.invariant-loop-number
+invariant-loop-number l = SweptSoFar (map (job_at l.rows) (take l.number-index l.order)) l.start l.work l.sums.items

@@ -1,0 +1,5 @@
+pub mod Order
+pub mod Work
+pub mod Sums
+pub mod Due
+pub mod Put

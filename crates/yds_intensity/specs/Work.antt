@@ -1,0 +1,11 @@
+-- The work that is confined to an interval.
+use Rattle.std.specs.Prelude.{ℕ, Bool, List, sum_by, nat_le, ◌&&◌, if◌then◌else◌}
+use Rattle.yds_model.specs.Job.{Job}
+
+-- the job's window lies between these times
+abbrev pub is_within : ℕ → ℕ → Job → Bool
+is_within from to job = nat_le from job.release && nat_le job.deadline to
+
+-- the work of the jobs whose windows lie between these times
+abbrev pub work_within : List Job → ℕ → ℕ → ℕ
+work_within jobs from to = sum_by (λ job. if is_within from to job then job.work else 0) jobs

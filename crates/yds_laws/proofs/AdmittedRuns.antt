@@ -1,0 +1,80 @@
+-- No slot of the admitted jobs' schedule is faster than the top speed: a stretch that serves something is filled at one speed, by which
+-- it serves at most what the top speed does there.
+use Rattle.std.proofs.Common.{◌≡◌, ℕ, zero, suc, ◌+◌, ◌-◌, ◌*◌, ◌<◌, ◌≤◌, min, List, [], ◌∷◌, length, get_or, refl, sym, subst, arith, inl, inr, ap, Bool, true, false, ◌&&◌, nat_le}
+use Rattle.std.specs.List.{All, Any, Contains, filter}
+use Rattle.std.proofs.lemmas.Bool.{le-leb, and_from, cases_Bool, cases_lt}
+use Rattle.std.proofs.lemmas.List.Elements.{All-nil, All-cons, All-contains, Contains-get_or}
+use Rattle.std.proofs.Math.Nat.{mul-le-mul_right, le_of_mul-le-mul_right, mul-pos}
+use Rattle.yds_model.specs.Job.{Job}
+use Rattle.yds_model.specs.Slot.{WrittenSlot, WholeSlot, IsScale, AtEachScale, slots_at}
+use Rattle.yds_model.specs.Piece.{Piece}
+use Rattle.yds_model.specs.Feasible.{RunFrom}
+use Rattle.yds_model.specs.Event.{stretches, LiesIn}
+use Rattle.yds_model.specs.Policy.{slots_in, FillsAtSpeed, ServesCapacity, IsRunAt}
+use Rattle.yds_model.specs.Admission.{IsWithinTop, top_capacity, IsAdmittedRun}
+use Rattle.yds_model.proofs.Runs.{run_forward}
+use Rattle.yds_laws.specs.AdmissionLaws.{AdmittedRunsAreWithinTop}
+
+-- an element that passes a filter stands in what it keeps
+kept : {X : Type 0} (p : X → Bool) (xs : List X) (x : X) → p x ≡ true → Contains xs x → Contains (filter p xs) x
+kept p [] x passes (k, within, is) = absurd (omega arith)
+kept p (y ∷ ys) x passes (zero, within, is) = rw (ap p is, passes) (0, omega arith, is)
+kept p (y ∷ ys) x passes (suc k, within, is) =
+    let found = kept p ys x passes (k, omega arith, is) in
+    elim (cases_Bool (p y)) [
+      | inl here ↦ rw here (suc found.0, omega (arith, found.1), found.2)
+      | inr fails ↦ rw fails found
+    ]
+
+-- a slot that lies in a stretch takes some of its time, and is one of those that do
+in_stretch : (scale : ℕ) (slot : WholeSlot) (stretch : Piece) → LiesIn scale slot stretch →
+    (nat_le (stretch.from * scale) slot.from && nat_le slot.to (stretch.to * scale)) ≡ true
+in_stretch scale slot stretch lies =
+    and_from (nat_le (stretch.from * scale) slot.from) (nat_le slot.to (stretch.to * scale)) (le-leb (stretch.from * scale) slot.from lies.from)
+    (le-leb slot.to (stretch.to * scale) lies.to)
+
+some_length : (scale : ℕ) (slot : WholeSlot) (stretch : Piece) → LiesIn scale slot stretch → slot.from < slot.to → 1 ≤ stretch.to - stretch.from
+some_length scale slot stretch lies forward = elim (cases_lt stretch.from stretch.to) [
+  | inl less ↦ omega arith
+  | inr more ↦ absurd (omega (arith, lies.from, lies.to, forward, mul-le-mul_right scale more))
+]
+
+-- slots that fill a stretch at a speed each have it
+fill_speed : (capacity per from to : ℕ) (slots : List WholeSlot) → FillsAtSpeed capacity per from to slots →
+    All (λ slot. slot.work * per ≡ capacity * (slot.to - slot.from)) slots
+fill_speed capacity per from to [] fills = All-nil (λ slot. slot.work * per ≡ capacity * (slot.to - slot.from))
+fill_speed capacity per from to (slot ∷ slots) fills =
+    All-cons (λ (one : WholeSlot). one.work * per ≡ capacity * (one.to - one.from)) slot slots fills.1 (fill_speed capacity per slot.to to slots fills.2)
+
+-- a speed that is at most the top speed, by cross products
+slower : (work long scale capacity top time : ℕ) → 1 ≤ long → 1 ≤ scale → work * (1 * long * scale) ≡ capacity * time →
+    capacity ≤ scale * (top * long) → work ≤ top * time
+slower work long scale capacity top time some_length some_scale is most =
+    le_of_mul-le-mul_right {k = long * scale} (omega (arith, is, mul-le-mul_right time most)) (mul-pos some_length some_scale)
+
+-- a slot of a stretch that serves at most what the top speed does there
+serves_within : (top scale : ℕ) (stretch : Piece) (slots : List WholeSlot) (slot : WholeSlot) (capacity : ℕ) → 1 ≤ scale →
+    capacity ≤ scale * (top * (stretch.to - stretch.from)) → ServesCapacity 1 scale capacity stretch slots → Contains slots slot →
+    LiesIn scale slot stretch → slot.from < slot.to → IsWithinTop top slot
+serves_within top scale stretch slots slot zero some most serves there lies forward =
+    let here = kept (λ one. nat_le (stretch.from * scale) one.from && nat_le one.to (stretch.to * scale)) slots slot (in_stretch scale slot stretch lies) there in
+    absurd (omega (arith, here.1, ap (λ (part : List WholeSlot). length part) serves))
+serves_within top scale stretch slots slot (suc capacity) some most serves there lies forward =
+    slower slot.work (stretch.to - stretch.from) scale (suc capacity) top (slot.to - slot.from) (some_length scale slot stretch lies forward) some
+    (All-contains (λ (one : WholeSlot). one.work * (1 * (stretch.to - stretch.from) * scale) ≡ suc capacity * (one.to - one.from)) (slots_in scale stretch slots) slot
+    (fill_speed (suc capacity) (1 * (stretch.to - stretch.from) * scale) (stretch.from * scale) (stretch.to * scale) (slots_in scale stretch slots) serves)
+    (kept (λ one. nat_le (stretch.from * scale) one.from && nat_le one.to (stretch.to * scale)) slots slot (in_stretch scale slot stretch lies) there))
+    most
+
+pub admitted_runs_within_top : AdmittedRunsAreWithinTop
+admitted_runs_within_top jobs top slots run = record {
+  solid = run.run.solid;
+  holds = λ scale is k d within.
+      let whole = slots_at scale slots in
+      let at = run.run.holds scale is in
+      let slot = get_or whole k d in
+      let there = at.served.uncut k d within in
+      let serves = subst (λ (stretch : Piece). ServesCapacity 1 scale (top_capacity jobs top scale whole stretch) stretch whole) there.3 (at.each there.0 there.1 there.2) in
+      serves_within top scale there.1 whole slot (top_capacity jobs top scale whole there.1) is.positive (omega arith) serves (Contains-get_or whole k d within) there.4
+      (run_forward 0 whole at.feasible.one_at_a_time k d within);
+}

@@ -1,0 +1,4 @@
+pub mod Waiting
+pub mod Walked
+pub mod Greatest
+pub mod Available

@@ -1,0 +1,136 @@
+-- The waiting jobs, and the units that are due, in order of numbers and in order of deadlines.
+use Rattle.std.proofs.Common.{◌≡◌, ℕ, ◌+◌, ◌-◌, ◌*◌, ◌<◌, ◌≤◌, List, [], ◌∷◌, length, get_or, map, ◌∙◌, refl, sym, subst, ap, arith, inl, inr, cond, true, false}
+use Rattle.std.specs.Prelude.{Bool, nat_le, nat_lt, ◌&&◌, All, Contains, sum_by, filter}
+use Rattle.std.specs.List.{range_with_len}
+use Rattle.std.specs.List.Sorted.{IsPermutation}
+use Rattle.std.proofs.lemmas.Bool.{cases_lt, cases_Bool, le-leb, lt-leb, lt-ltb, le-ltb, ltb-true, true≢false}
+use Rattle.std.proofs.lemmas.List.{get_or-map, length-map}
+use Rattle.std.proofs.lemmas.List.FromFn.{length-range_with_len, get_or-range_with_len, length-map-range_with_len, get_or-map-range_with_len}
+use Rattle.std.proofs.lemmas.List.Sums.{sum_by-cons}
+use Rattle.std.proofs.lemmas.List.Sorted.{sum_by-IsPermutation, All-permutation}
+use Rattle.std.proofs.lemmas.List.Elements.{All-filter, filter_passes, All-contains}
+use Rattle.yds_model.specs.Job.{Job, job_at}
+use Rattle.yds_model.specs.Piece.{Piece}
+use Rattle.yds_model.specs.Policy.{numbers_of}
+use Rattle.yds_model.proofs.Sums.{sum_by_same}
+use Rattle.yds_edf.proofs.Numbers.{sum_filter}
+use Rattle.yds_edf.proofs.Filled.{contains_filter}
+use Rattle.yds_oa.specs.declared.order.Due.{Due}
+use Rattle.yds_oa.specs.Order.{due_job, due_jobs}
+use Rattle.yds_oa.specs.Asked.{is_waiting, waiting, due_by, deadlines}
+
+-- # Who waits
+
+pub waits_is : (jobs : List Job) (pending : ℕ → ℕ) (stretch : Piece) (job : ℕ) → 1 ≤ pending job → stretch.from < (job_at jobs job).deadline →
+    is_waiting jobs pending stretch job ≡ true
+waits_is jobs pending stretch job some later = rw (lt-ltb 0 (pending job) some, lt-ltb stretch.from (job_at jobs job).deadline later) refl
+
+pub waits_for : (jobs : List Job) (pending : ℕ → ℕ) (stretch : Piece) (job : ℕ) → is_waiting jobs pending stretch job ≡ true →
+    (1 ≤ pending job) × (stretch.from < (job_at jobs job).deadline)
+waits_for jobs pending stretch job waits = elim (cases_lt 0 (pending job)) [
+  | inr none ↦ absurd (true≢false (sym waits ∙ rw (le-ltb 0 (pending job) none) refl))
+  | inl some ↦ elim (cases_lt stretch.from (job_at jobs job).deadline) [
+    | inl later ↦ (some, later)
+    | inr over ↦ absurd (true≢false (sym waits ∙ rw (lt-ltb 0 (pending job) some, le-ltb stretch.from (job_at jobs job).deadline over) refl))
+  ]
+]
+
+-- a job is among the waiting ones exactly where it waits
+pub stands_waiting : (jobs : List Job) (pending : ℕ → ℕ) (stretch : Piece) (job : ℕ) → job < length jobs → is_waiting jobs pending stretch job ≡ true →
+    Contains (waiting jobs pending stretch) job
+stands_waiting jobs pending stretch job known waits =
+    contains_filter (is_waiting jobs pending stretch) (numbers_of jobs) job waits
+    (job, omega (arith, known, length-range_with_len 0 (length jobs)), omega (arith, get_or-range_with_len 0 (length jobs) job job known))
+
+pub each_waits : (jobs : List Job) (pending : ℕ → ℕ) (stretch : Piece) → All (λ job. is_waiting jobs pending stretch job ≡ true) (waiting jobs pending stretch)
+each_waits jobs pending stretch = filter_passes (is_waiting jobs pending stretch) (numbers_of jobs)
+
+pub each_known : (jobs : List Job) (pending : ℕ → ℕ) (stretch : Piece) → All (λ job. job < length jobs) (waiting jobs pending stretch)
+each_known jobs pending stretch = All-filter (is_waiting jobs pending stretch) (λ job. job < length jobs) (numbers_of jobs)
+    (λ i d within.
+    let below : i < length jobs = omega (arith, within, length-range_with_len 0 (length jobs)) in
+    omega (arith, below, get_or-range_with_len 0 (length jobs) i d below))
+
+-- the place of a waiting job's deadline among the deadlines
+pub deadline_place : (jobs : List Job) (pending : ℕ → ℕ) (stretch : Piece) (job : ℕ) → job < length jobs → is_waiting jobs pending stretch job ≡ true →
+    (k : ℕ) × (k < length (deadlines jobs pending stretch)) × (get_or (deadlines jobs pending stretch) k 0 ≡ (job_at jobs job).deadline)
+deadline_place jobs pending stretch job known waits =
+    let there = stands_waiting jobs pending stretch job known waits in (
+      there.0,
+      omega (arith, there.1, length-map (waiting jobs pending stretch) (λ job. (job_at jobs job).deadline)),
+      get_or-map (λ job. (job_at jobs job).deadline) (waiting jobs pending stretch) there.0 job 0 there.1 ∙ ap (λ j. (job_at jobs j).deadline) there.2,
+    )
+
+-- # The jobs in order of deadlines
+
+-- the units of a job that count, and those that count by a deadline
+abbrev pub weight : (ℕ → ℕ) → Piece → Due → ℕ
+weight pending stretch due = cond (nat_lt stretch.from due.deadline) (pending due.job) 0
+
+abbrev pub weight_by : (ℕ → ℕ) → Piece → ℕ → Due → ℕ
+weight_by pending stretch deadline due = cond (nat_le due.deadline deadline) (weight pending stretch due) 0
+
+pub by_at_most : (pending : ℕ → ℕ) (stretch : Piece) (deadline : ℕ) (due : Due) → weight_by pending stretch deadline due ≤ weight pending stretch due
+by_at_most pending stretch deadline due = elim (cases_Bool (nat_le due.deadline deadline)) [
+  | inl soon ↦ rw soon (omega arith)
+  | inr later ↦ rw later (omega arith)
+]
+
+pub weight_later : (pending : ℕ → ℕ) (stretch : Piece) (due : Due) → stretch.from < due.deadline → weight pending stretch due ≡ pending due.job
+weight_later pending stretch due later = rw (lt-ltb stretch.from due.deadline later) refl
+
+pub weight_over : (pending : ℕ → ℕ) (stretch : Piece) (due : Due) → due.deadline ≤ stretch.from → weight pending stretch due ≡ 0
+weight_over pending stretch due over = rw (le-ltb stretch.from due.deadline over) refl
+
+pub weight_none : (pending : ℕ → ℕ) (stretch : Piece) (due : Due) → pending due.job ≡ 0 → weight pending stretch due ≡ 0
+weight_none pending stretch due none = elim (cases_Bool (nat_lt stretch.from due.deadline)) [
+  | inl later ↦ rw later none
+  | inr over ↦ rw over refl
+]
+
+-- an entry is that of its job
+pub record IsDueJob (jobs : List Job) (due : Due) : Type 0 where
+  pub known : due.job < length jobs
+  pub deadline : due.deadline ≡ (job_at jobs due.job).deadline
+
+pub all_due : (jobs : List Job) (order : List Due) → IsPermutation (due_jobs jobs) order → All (IsDueJob jobs) order
+all_due jobs order same = All-permutation (IsDueJob jobs) (due_jobs jobs) order same (λ i d within.
+    let below : i < length jobs = omega (arith, within, length-map-range_with_len (due_job jobs) 0 (length jobs)) in
+    let is : get_or (map (due_job jobs) (range_with_len 0 (length jobs))) i d ≡ due_job jobs i =
+    get_or-map-range_with_len (due_job jobs) 0 (length jobs) i i d below (omega arith) in
+    subst (IsDueJob jobs) (sym is) (record { known = below; deadline = refl }))
+
+sum_by-map : {X Y : Type 0} (f : Y → ℕ) (g : X → Y) (xs : List X) → sum_by f (map g xs) ≡ sum_by (λ x. f (g x)) xs
+sum_by-map f g [] = refl
+sum_by-map f g (x ∷ xs) = omega (arith, sum_by-cons f (g x) (map g xs), sum_by-cons (λ y. f (g y)) x xs, sum_by-map f g xs)
+
+-- a term under three tests
+both : (n : ℕ) (later soon : Bool) → ◌≡◌ {A = ℕ} (cond (true && later) (cond soon n 0) 0) (cond soon (cond later n 0) 0)
+both n true true = refl
+both n true false = refl
+both n false true = refl
+both n false false = refl
+
+zeros : (later soon : Bool) → ◌≡◌ {A = ℕ} (cond (nat_lt 0 0 && later) (cond soon 0 0) 0) (cond soon (cond later 0 0) 0)
+zeros true true = refl
+zeros true false = refl
+zeros false true = refl
+zeros false false = refl
+
+one : (n : ℕ) (later soon : Bool) → ◌≡◌ {A = ℕ} (cond (nat_lt 0 n && later) (cond soon n 0) 0) (cond soon (cond later n 0) 0)
+one n later soon = elim (cases_lt 0 n) [
+  | inl some ↦ rw (lt-ltb 0 n some) (both n later soon)
+  | inr none ↦ let nothing : n ≡ 0 = omega arith in rw (nothing) (zeros later soon)
+]
+
+-- the units that are due by a deadline, summed in that order
+pub due_in_order : (jobs : List Job) (pending : ℕ → ℕ) (stretch : Piece) (order : List Due) → IsPermutation (due_jobs jobs) order → (deadline : ℕ) →
+    due_by jobs pending stretch deadline ≡ sum_by (weight_by pending stretch deadline) order
+due_in_order jobs pending stretch order same deadline =
+    let soon : ℕ → Bool = λ job. nat_le (job_at jobs job).deadline deadline in
+    sum_filter soon pending (waiting jobs pending stretch)
+    ∙ sum_filter (is_waiting jobs pending stretch) (λ job. cond (soon job) (pending job) 0) (numbers_of jobs)
+    ∙ sum_by_same (λ job. cond (is_waiting jobs pending stretch job) (cond (soon job) (pending job) 0) 0) (λ job. weight_by pending stretch deadline (due_job jobs job)) (numbers_of jobs)
+    (λ i d within. one (pending (get_or (numbers_of jobs) i d)) (nat_lt stretch.from (job_at jobs (get_or (numbers_of jobs) i d)).deadline) (soon (get_or (numbers_of jobs) i d)))
+    ∙ sym (sum_by-map (weight_by pending stretch deadline) (due_job jobs) (numbers_of jobs))
+    ∙ sym (sum_by-IsPermutation (weight_by pending stretch deadline) (due_jobs jobs) order same)

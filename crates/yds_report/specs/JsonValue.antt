@@ -1,0 +1,25 @@
+-- The report of a plan's levels as a value of JSON. An object's members stand in order of their keys.
+use Rattle.std.specs.Prelude.{ℕ, ◌-◌, List, length, codes, map, sum_by}
+use Rattle.serde_json.specs.Data.{Data, number, unsigned, string, array, object, member, no_members}
+use Rattle.serde_json.specs.View.{items_of}
+use Rattle.yds_model.specs.Job.{Job}
+use Rattle.yds_model.specs.Level.{Level}
+use Rattle.yds_model.specs.Energy.{first_release, last_deadline, horizon}
+use Rattle.yds_model.specs.ReportAnswer.{speed_text}
+
+abbrev pub whole : ℕ → Data
+whole n = number (unsigned n)
+
+-- a level: its speed is a string, since it may be a fraction
+abbrev pub level_value : Level → Data
+level_value level =
+    object (member (codes "length") (whole level.length) (member (codes "speed") (string (speed_text level)) (member (codes "work") (whole level.work) no_members)))
+
+abbrev pub report_value : List Job → List Level → Data
+report_value jobs levels =
+    object (member (codes "from") (whole (first_release jobs))
+    (member (codes "idle") (whole (horizon jobs - sum_by (λ level. level.length) levels))
+    (member (codes "jobs") (whole (length jobs))
+    (member (codes "levels") (array (items_of (map level_value levels)))
+    (member (codes "to") (whole (last_deadline jobs))
+    (member (codes "work") (whole (sum_by (λ job. job.work) jobs)) no_members))))))

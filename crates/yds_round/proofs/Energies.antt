@@ -1,0 +1,52 @@
+-- What a rounded plan spends, as one fraction.
+use Rattle.std.proofs.Common.{◌≡◌, ℕ, ◌+◌, ◌-◌, ◌*◌, ◌/◌, ◌^◌, ◌<◌, ◌≤◌, sym, ap, arith}
+use Rattle.std.specs.Int.{IsGcd}
+use Rattle.std.proofs.lemmas.Nat.Gcd.{same_from_IsGcd}
+use Rattle.std.proofs.Math.Nat.{mul-le-mul, mul-le-mul_right, div-le_of_le-mul}
+use Rattle.yds_model.specs.declared.limits.TheConstants.{MAX_ENERGY, MAX_GAPS, MAX_POINT_POWER}
+use Rattle.yds_model.specs.Scale.{Fraction, of_parts, numerator, IsSame}
+use Rattle.yds_model.specs.Divisor.{common_divisor, IsLowest}
+use Rattle.yds_model.specs.Within.{IsFraction}
+use Rattle.yds_model.proofs.Divisor.{divisor_is_greatest}
+use Rattle.yds_model.proofs.Fractions.{same_through}
+use Rattle.yds_slots.proofs.Parts.{of_parts_value}
+
+-- Levels that take so long together spend so much, and the horizon's other time has this power.
+module _ (spent busy long power multiple : ℕ) (few : spent ≤ MAX_POINT_POWER * busy * multiple) (within : busy ≤ long)
+    (fits : power ≤ MAX_POINT_POWER) where
+  -- all of it is at most the greatest power over the horizon
+  pub total_fits : spent + power * (long - busy) * multiple ≤ MAX_POINT_POWER * long * multiple
+  total_fits =
+      let parts : long ≡ busy + (long - busy) = omega (arith, within) in
+      omega (arith, few, mul-le-mul_right ((long - busy) * multiple) fits, ap (λ n. MAX_POINT_POWER * n * multiple) parts)
+
+  -- so it fits
+  pub total_small : long < 2 ^ 32 → multiple ≤ MAX_GAPS → spent + power * (long - busy) * multiple < 2 ^ 128
+  total_small short small =
+      let most : long ≤ 2 ^ 32 = omega (arith, short) in
+      omega (arith, total_fits, mul-le-mul most small)
+
+  pub spent_small : long < 2 ^ 32 → multiple ≤ MAX_GAPS → spent < 2 ^ 128
+  spent_small short small = omega (arith, total_small short small)
+
+  -- and its whole part
+  pub total_whole : long < 2 ^ 32 → (spent + power * (long - busy) * multiple) / multiple ≤ MAX_ENERGY
+  total_whole short = omega (
+    arith,
+    div-le_of_le-mul multiple {m = spent + power * (long - busy) * multiple} {n = MAX_POINT_POWER * long} (omega (arith, total_fits)),
+    short,
+  )
+
+-- so many parts, reduced, are as many
+pub reduced_parts : (parts multiple : ℕ) (fraction reduced : Fraction) → fraction ≡ of_parts parts multiple → IsSame fraction reduced → 1 ≤ fraction.den →
+    numerator reduced * multiple ≡ parts * reduced.den
+reduced_parts parts multiple fraction reduced is same some =
+    same_through (numerator reduced) (numerator fraction) parts reduced.den fraction.den multiple some (sym same)
+    (rw is (of_parts_value parts multiple))
+
+-- in lowest terms
+pub is_lowest : (most : ℕ) (x : Fraction) → IsFraction most x → IsGcd x.num x.den 1 → IsLowest x
+is_lowest most x kept greatest = record {
+  below_one = kept.below_one;
+  reduced = same_from_IsGcd x.num x.den (common_divisor x.num x.den) 1 (divisor_is_greatest x.num x.den) greatest;
+}

@@ -1,0 +1,130 @@
+-- How a level runs on the points of a table.
+use Rattle.std.proofs.Common.{◌≡◌, ℕ, zero, suc, ◌+◌, ◌-◌, ◌*◌, ◌/◌, ◌^◌, ◌<◌, ◌≤◌, List, [], ◌∷◌, ◌++◌, length, sym, ap, ◌∙◌, subst, arith, inl, inr}
+use Rattle.std.specs.List.{AllZip}
+use Rattle.std.specs.Int.{◌∣◌}
+use Rattle.std.proofs.lemmas.List.Sums.{sum_by-cons}
+use Rattle.std.proofs.Math.Nat.{div-mul_cancel, mul-le-mul, mul-le-mul_right}
+use Rattle.std.proofs.lemmas.Nat.Gcd.{dvd_trans}
+use Rattle.yds_model.specs.declared.limits.TheConstants.{MAX_LEVEL_LENGTH, MAX_POINT_POWER}
+use Rattle.yds_model.specs.Divisor.{multiple_of_all}
+use Rattle.yds_model.specs.Level.{Level}
+use Rattle.yds_model.specs.Table.{Point, point_at, gaps_of, hull_of, hull_multiple}
+use Rattle.yds_model.proofs.Divisor.{multiple_is_least}
+use Rattle.yds_round.specs.declared.pace.Pace.{Pace}
+use Rattle.yds_round.specs.declared.split.Split.{Split}
+use Rattle.yds_round.specs.Pace.{RunsAtOne, RunsAs, IsPaceOf}
+use Rattle.yds_table.specs.Around.{AreAround}
+use Rattle.yds_model.specs.Scale.{Quotient}
+use Rattle.std.specs.Prelude.{Option, Some, None, sum_by}
+
+-- # Between two points
+
+-- in plain numbers: `above` is the work above the slower point's speed, `below` what is missing to that of the faster
+module _ (slow fast work long multiple low_power high_power : ℕ) (above : slow * long < work) (under : work < fast * long) (divides : fast - slow ∣ multiple) where
+  chord : ℕ
+  chord = high_power * (work - slow * long) + low_power * (fast * long - work)
+
+  whole : multiple / (fast - slow) * (fast - slow) ≡ multiple
+  whole = div-mul_cancel (fast - slow) divides
+
+  pub chord_on_line : (high_power * (work - slow * long) + low_power * (fast * long - work)) * (multiple / (fast - slow)) * (fast - slow)
+      ≡ (high_power * (work - slow * long) + low_power * (fast * long - work)) * multiple
+  chord_on_line = omega (arith, ap (λ n. (high_power * (work - slow * long) + low_power * (fast * long - work)) * n) whole)
+
+  -- both together are the time at the difference of the speeds
+  both : slow < fast → (work - slow * long) + (fast * long - work) ≡ (fast - slow) * long
+  both rises =
+      let parts : fast ≡ slow + (fast - slow) = omega (arith, rises) in
+      omega (arith, above, under, ap (λ n. n * long) parts)
+
+  pub chord_fits : (most : ℕ) → slow < fast → low_power ≤ most → high_power ≤ most →
+      (high_power * (work - slow * long) + low_power * (fast * long - work)) * (multiple / (fast - slow)) ≤ most * long * multiple
+  chord_fits most rises low_fits high_fits =
+      let each : high_power * (work - slow * long) + low_power * (fast * long - work) ≤ most * ((fast - slow) * long) = omega (
+        arith,
+        mul-le-mul_right (work - slow * long) high_fits,
+        mul-le-mul_right (fast * long - work) low_fits,
+        ap (λ n. most * n) (both rises),
+      ) in
+      omega (
+        arith,
+        mul-le-mul_right (multiple / (fast - slow)) each,
+        ap (λ n. most * long * n) whole,
+      )
+
+-- what a level spends fits
+pub small : (parts long multiple : ℕ) → parts ≤ MAX_POINT_POWER * long * multiple → long ≤ MAX_LEVEL_LENGTH → multiple < 2 ^ 64 → parts < 2 ^ 128
+small parts long multiple few long_fits multiple_fits =
+    let most : multiple ≤ 2 ^ 64 = omega (arith, multiple_fits) in
+    omega (arith, few, mul-le-mul long_fits most)
+
+-- # The common multiple
+
+-- a gap between neighbours divides the common multiple of all
+pub gap_divides : (points : List Point) (place : ℕ) → place + 1 < length points →
+    (point_at points (place + 1)).speed - (point_at points place).speed ∣ multiple_of_all (gaps_of points)
+gap_divides [] place within = absurd (omega (arith, within))
+gap_divides (point ∷ []) place within = absurd (omega (arith, within))
+gap_divides (point ∷ next ∷ points) zero within = (multiple_is_least (next.speed - point.speed) (multiple_of_all (gaps_of (next ∷ points)))).0
+gap_divides (point ∷ next ∷ points) (suc place) within =
+    let here : suc (place + 1) ≡ suc place + 1 = omega arith in
+    subst (λ (n : ℕ). (point_at (point ∷ next ∷ points) n).speed - (point_at (next ∷ points) place).speed ∣ multiple_of_all (gaps_of (point ∷ next ∷ points))) here
+    (dvd_trans _ (gap_divides (next ∷ points) place (omega (arith, within))) (multiple_is_least (next.speed - point.speed) (multiple_of_all (gaps_of (next ∷ points)))).1)
+
+-- # The points around a speed
+
+-- where both have one speed the level runs at it
+pub one_point : (points : List Point) (level : Level) (speed : Quotient) (low high : Point) → AreAround (hull_of points) speed low high →
+    speed ≡ record { num = level.work; den = level.length } → low.speed ≡ high.speed → low.power ≤ MAX_POINT_POWER → (parts : ℕ) →
+    parts ≡ low.power * level.length * hull_multiple points → RunsAtOne points level parts
+one_point points level speed low high (inl one) is same fits parts spends = record {
+  point = low;
+  in_hull = one.in_hull;
+  has_speed = ap (λ (q : Quotient). q.num) (sym is) ∙ one.has_speed ∙ ap (λ (q : Quotient). low.speed * q.den) is;
+  spends = spends;
+  in_range = omega (arith, spends, mul-le-mul_right (hull_multiple points) (mul-le-mul_right level.length fits));
+}
+one_point points level speed low high (inr between) is same fits parts spends =
+    absurd (omega (arith, between.above_low, between.below_high, ap (λ n. n * speed.den) same))
+
+-- elsewhere their distance divides the common multiple
+pub gap_of_two : (points : List Point) (speed : Quotient) (low high : Point) → AreAround (hull_of points) speed low high →
+    (low.speed ≡ high.speed → ⊥) → high.speed - low.speed ∣ hull_multiple points
+gap_of_two points speed low high (inl one) other = absurd (other (ap (λ (p : Point). p.speed) one.same))
+gap_of_two points speed low high (inr between) other =
+    subst (λ (p : Point). high.speed - p.speed ∣ hull_multiple points) between.is_low
+    (subst (λ (p : Point). p.speed - (point_at (hull_of points) between.place).speed ∣ hull_multiple points) between.is_high
+    (gap_divides (hull_of points) between.place between.within))
+
+-- # What all levels spend
+
+-- a level spends at most the greatest power times its length
+in_range_by : (points : List Point) (level : Level) (parts : ℕ) (split : Option Split) → RunsAs points level parts split →
+    parts ≤ MAX_POINT_POWER * level.length * hull_multiple points
+in_range_by points level parts None is = is.in_range
+in_range_by points level parts (Some split) is = is.spends.in_range
+
+in_range : (points : List Point) (level : Level) (pace : Pace) → IsPaceOf points level pace → pace.energy ≤ MAX_POINT_POWER * level.length * hull_multiple points
+in_range points level pace is = in_range_by points level pace.energy pace.split is
+
+pub spent_fits : (points : List Point) (levels : List Level) (paces : List Pace) → AllZip (IsPaceOf points) levels paces →
+    sum_by (λ pace. pace.energy) paces ≤ MAX_POINT_POWER * sum_by (λ level. level.length) levels * hull_multiple points
+spent_fits points [] [] are = omega arith
+spent_fits points [] (pace ∷ paces) are = absurd are
+spent_fits points (level ∷ levels) [] are = absurd are
+spent_fits points (level ∷ levels) (pace ∷ paces) are = omega (
+  arith,
+  in_range points level pace are.0,
+  spent_fits points levels paces are.1,
+  sum_by-cons (λ (p : Pace). p.energy) pace paces,
+  ap (λ n. MAX_POINT_POWER * n * hull_multiple points) (sum_by-cons (λ (l : Level). l.length) level levels),
+)
+
+-- # All levels
+
+pub paces_push : (points : List Point) (levels : List Level) (paces : List Pace) (level : Level) (pace : Pace) → AllZip (IsPaceOf points) levels paces →
+    IsPaceOf points level pace → AllZip (IsPaceOf points) (levels ++ level ∷ []) (paces ++ pace ∷ [])
+paces_push points [] [] level pace are is = (is, tt)
+paces_push points [] (first ∷ paces) level pace are is = absurd are
+paces_push points (first ∷ levels) [] level pace are is = absurd are
+paces_push points (first ∷ levels) (one ∷ paces) level pace are is = (are.0, paces_push points levels paces level pace are.1 is)

@@ -1,0 +1,7 @@
+use Rattle.std.proofs.Common.{take}
+use Rattle.std.specs.List.{AllZip}
+use Rattle.yds_round.specs.Pace.{IsPaceOf}
+use Rattle.yds_round.proofs.rounding.paces_of.Given as goal
+
+abbrev pub invariant-loop-level : goal.invariant-loop-level
+invariant-loop-level l = AllZip (IsPaceOf l.table) (take l.level-index l.levels) l.paces.items

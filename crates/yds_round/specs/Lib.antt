@@ -1,0 +1,9 @@
+pub mod Fault
+pub mod Part
+pub mod Split
+pub mod Pace
+pub mod Members
+pub mod Written
+pub mod Cut
+pub mod Rounded
+pub mod Energy

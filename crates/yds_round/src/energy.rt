@@ -1,0 +1,68 @@
+ghost use Rattle.std.specs.Prelude.{◌≡◌, ◌+◌, ◌*◌, ◌^◌, ◌<◌, ◌≤◌, length, sum_by};
+ghost use Rattle.std.specs.List.{All, AllZip};
+ghost use Rattle.yds_model.specs.declared.limits.TheConstants.{MAX_ENERGY, MAX_LEVELS};
+ghost use Rattle.yds_model.specs.Scale.{numerator};
+ghost use Rattle.yds_model.specs.Table.{hull_multiple};
+ghost use Rattle.yds_model.specs.Divisor.{IsLowest};
+ghost use Rattle.yds_model.specs.Energy.{first_release, last_deadline, horizon};
+ghost use Rattle.yds_model.specs.Within.{IsFraction, IsLevel};
+ghost use Rattle.yds_round.specs.Pace.{IsPaceOf};
+ghost use Rattle.yds_round.specs.Energy.{busy_length, energy_parts};
+
+use crate::pace::Pace;
+use yds_certificate::Level;
+use yds_fraction::Amount;
+use yds_model::JobRow;
+use yds_table::Table;
+
+/// The greatest deadline, 0 where there are no jobs.
+fn last_deadline(rows: &[JobRow]) -> u32
+    ensures { result ≡ last_deadline rows.now }
+{
+    rows.iter().fold(0, |time, row| row.deadline.max(time))
+}
+
+/// The least release, 0 where there are no jobs.
+fn first_release(rows: &[JobRow]) -> u32
+    ensures { result ≡ first_release rows.now }
+{
+    rows.iter()
+        .fold(last_deadline(rows), |time, row| row.release.min(time))
+}
+
+/// The lengths of the levels together, in time units.
+fn busy_length(levels: &[Level]) -> u64
+    requires few { length levels.now ≤ MAX_LEVELS }
+    requires levels { All IsLevel levels.now }
+    ensures { result ≡ busy_length levels.now }
+{
+    levels.iter().map(|level| level.length).sum()
+}
+
+/// What the levels spend together at their paces, in the parts that these are in.
+fn spent(paces: &[Pace]) -> u128
+    requires { sum_by (λ pace. pace.energy) paces.now < 2 ^ 128 }
+    ensures { result ≡ sum_by (λ pace. pace.energy) paces.now }
+{
+    paces.iter().map(|pace| pace.energy).sum()
+}
+
+/// What the levels spend at these paces, and the time of the horizon outside them at the power of the table's first point.
+pub(crate) fn energy(rows: &[JobRow], table: &Table, levels: &[Level], paces: &[Pace]) -> Amount
+    requires few { length levels.now ≤ MAX_LEVELS }
+    requires limits { All IsLevel levels.now }
+    requires paces { AllZip (IsPaceOf table.now) levels.now paces.now }
+    requires within { busy_length levels.now ≤ horizon rows.now }
+    ensures value { numerator result * hull_multiple table.now ≡ energy_parts rows.now table.now levels.now paces.now * result.den }
+    ensures multiple { 1 ≤ hull_multiple table.now }
+    ensures lowest { IsLowest result }
+    ensures kept { IsFraction MAX_ENERGY result }
+{
+    let horizon = u64::from(last_deadline(rows) - first_release(rows));
+    let idle = horizon - busy_length(levels);
+    let multiple = table.gaps();
+    let points = table.points();
+    let first = points[0];
+    let waiting = u128::from(u64::from(first.power) * idle) * u128::from(multiple);
+    Amount::of_parts(spent(paces) + waiting, multiple).reduced()
+}

@@ -1,0 +1,53 @@
+-- A plan that is too fast for the points is answered by its first level.
+use Rattle.std.proofs.Common.{◌≡◌, ℕ, ◌≤◌, List, [], ◌∷◌, length, refl, ap, ◌∙◌, subst, sym, arith, inl}
+use Rattle.std.specs.Prelude.{codes, decimal, Option, Some}
+use Rattle.yds_model.specs.declared.status.Status.{Status}
+use Rattle.yds_model.specs.declared.status.Status.TheVariants as statuses
+use Rattle.yds_model.specs.Document.{Document}
+use Rattle.yds_model.specs.Slot.{WrittenSlot}
+use Rattle.yds_model.specs.Level.{Level}
+use Rattle.yds_model.specs.Table.{Point}
+use Rattle.yds_model.specs.Text.{line}
+use Rattle.yds_model.specs.Plan.{IsPlan}
+use Rattle.yds_model.specs.Rounding.{top_of}
+use Rattle.yds_model.specs.RoundAnswer.{TooSlowAnswer, RoundAnswer}
+use Rattle.yds_model.specs.Answer.{OnPoints}
+use Rattle.yds_round.specs.declared.fault.RoundFault.TheVariants as faults
+use Rattle.yds_round.specs.Fault.{IsCause}
+
+-- the fields of the fault are the level's
+too_slow_answers : (document : Document) (slots : List WrittenSlot) (levels : List Level) (work long top : ℕ) (text : List ℕ) → IsPlan document.jobs slots levels →
+    IsCause levels document.points (faults.TooSlow work long top) →
+    text ≡ line (codes "too-slow" ∷ codes "work" ∷ decimal work ∷ codes "length" ∷ decimal long ∷ codes "top" ∷ decimal top ∷ []) →
+    TooSlowAnswer document text statuses.No
+too_slow_answers document slots [] work long top text plan cause said = absurd cause.0
+too_slow_answers document slots (level ∷ others) work long top text plan cause said =
+    let same = cause.1 in
+    let is_work : work ≡ level.work = cc in
+    let is_length : long ≡ level.length = cc in
+    let is_top : top ≡ top_of document.points = cc in
+    record {
+      slots = slots;
+      level = level;
+      others = others;
+      plan = plan;
+      too_fast = cause.0;
+      said = said
+          ∙ ap (λ n. line (codes "too-slow" ∷ codes "work" ∷ decimal n ∷ codes "length" ∷ decimal long ∷ codes "top" ∷ decimal top ∷ [])) is_work
+          ∙ ap (λ n. line (codes "too-slow" ∷ codes "work" ∷ decimal level.work ∷ codes "length" ∷ decimal n ∷ codes "top" ∷ decimal top ∷ [])) is_length
+          ∙ ap (λ n. line (codes "too-slow" ∷ codes "work" ∷ decimal level.work ∷ codes "length" ∷ decimal level.length ∷ codes "top" ∷ decimal n ∷ [])) is_top;
+      ended = refl;
+    }
+
+-- a document that has points is answered on them
+on_points : (Answered : List ℕ → Status → Type 0) (points : List Point) (text : List ℕ) (status : Status) → 1 ≤ length points → Answered text status →
+    OnPoints Answered points text status
+on_points Answered [] text status some answered = absurd (omega (arith, some))
+on_points Answered (point ∷ points) text status some answered = answered
+
+pub too_slow_on_points : (document : Document) (slots : List WrittenSlot) (levels : List Level) (work long top : ℕ) (text : List ℕ) → 1 ≤ length document.points →
+    IsPlan document.jobs slots levels → IsCause levels document.points (faults.TooSlow work long top) →
+    text ≡ line (codes "too-slow" ∷ codes "work" ∷ decimal work ∷ codes "length" ∷ decimal long ∷ codes "top" ∷ decimal top ∷ []) →
+    OnPoints (RoundAnswer document) document.points text statuses.No
+too_slow_on_points document slots levels work long top text some plan cause said =
+    on_points (RoundAnswer document) document.points text statuses.No some (inl (too_slow_answers document slots levels work long top text plan cause said))

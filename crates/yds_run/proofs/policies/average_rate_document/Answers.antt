@@ -1,0 +1,24 @@
+use Rattle.std.proofs.Common.{◌≡◌, List, ap, subst, sym, refl}
+use Rattle.std.specs.List.{All}
+use Rattle.yds_model.specs.Job.{Job}
+use Rattle.yds_model.specs.Document.{Document}
+use Rattle.yds_model.specs.Text.{canonical_text}
+use Rattle.yds_model.specs.Within.{IsDocument}
+use Rattle.yds_model.specs.Policy.{HasRunDenominators}
+use Rattle.yds_model.specs.AverageRate.{IsAverageRateRun}
+use Rattle.yds_run.proofs.policies.average_rate_document.Goals as goal
+
+pub returns : goal.returns
+returns c =
+    let run = c.in_ok-run.run' in
+    record {
+      slots = run.schedule.slots;
+      rounded = run.rounded;
+      run = subst (λ (jobs : List Job). IsAverageRateRun jobs c.args.grid run.rounded run.schedule.slots) c.rows.ensures.jobs c.in_ok-run.ensures.run;
+      denominators = subst (λ (jobs : List Job). All (HasRunDenominators jobs c.args.grid) run.schedule.slots) c.rows.ensures.jobs c.in_ok-run.ensures.denominators;
+      said = record {
+        possible = subst IsDocument c.with_run.ensures.shown c.with_run.ensures.possible;
+        written = ap canonical_text c.with_run.ensures.shown;
+      };
+      ended = refl;
+    }

@@ -1,0 +1,45 @@
+//! `report --json`: the levels of a plan of the document's jobs as a line of JSON.
+ghost use Rattle.std.specs.Prelude.{IfOk};
+ghost use Rattle.yds_model.specs.JsonAnswer.{JsonAnswer};
+ghost use Rattle.yds_document.specs.Documents.{document_view};
+ghost use Rattle.yds_run.specs.ReportJson.{json_text};
+
+use crate::answer::Answer;
+use std::alloc::Global;
+use yds_document::Document;
+use yds_model::{Memory, Status};
+use yds_plan::plan;
+use yds_port::{Sink, WriteFault, write_all};
+use yds_report::json;
+
+/// A report as a line of JSON, which is made before it is written.
+#[derive(Drop)]
+pub struct JsonReport {
+    text: Vec<u8>,
+}
+
+impl Answer for JsonReport {
+    ghost use Rattle.yds_model.specs.declared.status.Status.TheVariants as statuses;
+    ghost use Rattle.yds_run.specs.ReportJson.{json_text};
+
+    ghost text = { json_text };
+
+    ghost ends = { λ _. statuses.Done };
+
+    fn status(&self) -> Status {
+        Status::Done
+    }
+
+    fn write<K: Sink>(&self, sink: &mut K) -> Result<(), WriteFault> {
+        write_all(sink, &self.text)
+    }
+}
+
+/// Plans the document's jobs, and tells the plan's levels as JSON.
+pub fn json_document(alloc: Global, document: &Document<'_>) -> Result<JsonReport, Memory>
+    ensures { IfOk result (λ report. JsonAnswer (document_view document.now) (json_text report) Status.Done) }
+{
+    let planned = plan(alloc, document.instance.rows())?;
+    let text = json(alloc, document, &planned)?;
+    Ok(JsonReport { text })
+}
