@@ -1,7 +1,8 @@
 ghost use Rattle.std.specs.Prelude.{◌≡◌, ◌≤◌, option_map, IfSome};
 ghost use Rattle.std.specs.Result.{result_ok};
 ghost use Rattle.yds_model.specs.Spelling.{number_at};
-ghost use Rattle.yds_model.specs.Request.{request_of_word, request_of_two, request_of_three, request_of_grid};
+ghost use Rattle.yds_model.specs.declared.limits.TheConstants.{MAX_GRID, MAX_SEED, MAX_TRIAL_JOBS};
+ghost use Rattle.yds_model.specs.Request.{request_of_word, request_of_two, request_of_three, request_of_trial, request_of_grid};
 ghost use Rattle.yds_run.specs.Words.{words_of, built, asked, request_view, IsWithinLimits};
 
 use yds_model::limits::{MAX_GRID, MAX_SEED, MAX_TOP, MAX_TRIAL_JOBS};
@@ -116,23 +117,28 @@ fn of_three(word: &str, next: &str, last: &str) -> Option<Command>
     ensures within { IfSome result IsWithinLimits }
 {
     match (word, next) {
-        ("trial", _) => {
-            let seed = number_in(next, 0, MAX_SEED)?;
-            let jobs = number_in(last, 0, MAX_TRIAL_JOBS)?;
-            Some(Command::Trial { seed, jobs })
-        }
-        (_, "--grid") => of_grid(word, number_in(last, 1, MAX_GRID)?),
+        ("trial", _) => of_trial(next, last),
+        (_, "--grid") => of_grid(word, last),
         _ => None,
     }
 }
 
-/// The command of a word that a grid follows.
-fn of_grid(word: &str, grid: u32) -> Option<Command>
-    requires least { 1 ≤ grid }
-    requires most { grid ≤ MAX_GRID }
-    ensures asked { option_map request_view result ≡ built (request_of_grid word.now (Ok grid)) }
+/// A trial of this seed and number of jobs.
+fn of_trial(seed: &str, jobs: &str) -> Option<Command>
+    ensures asked { option_map request_view result ≡ request_of_trial (number_at 0 MAX_SEED seed.now) (number_at 0 MAX_TRIAL_JOBS jobs.now) }
     ensures within { IfSome result IsWithinLimits }
 {
+    let seed = number_in(seed, 0, MAX_SEED)?;
+    let jobs = number_in(jobs, 0, MAX_TRIAL_JOBS)?;
+    Some(Command::Trial { seed, jobs })
+}
+
+/// The command of a word that a grid follows.
+fn of_grid(word: &str, grid: &str) -> Option<Command>
+    ensures asked { option_map request_view result ≡ built (request_of_grid word.now (number_at 1 MAX_GRID grid.now)) }
+    ensures within { IfSome result IsWithinLimits }
+{
+    let grid = number_in(grid, 1, MAX_GRID)?;
     match word {
         "avr" => Some(Command::Document(Question::AverageRate { grid })),
         "oa" => Some(Command::Document(Question::OptimalAvailable { grid })),

@@ -67,8 +67,12 @@ pub fn round_document<'a>(
     match round(alloc, rows, &planned, table) {
         Ok(rounded) => {
             let levels = Certificate::new(alloc);
-            let document =
-                document.with_answer(rounded.schedule, levels, None, Some(rounded.energy));
+            let document = document.with_answer(
+                rounded.schedule,
+                levels,
+                None,
+                Some(rounded.energy),
+            );
             Ok(WithPoints::Answered(RoundedDocument::Rounded(document)))
         }
         Err(RoundFault::TooSlow { work, length, top }) => {

@@ -1,5 +1,7 @@
 use super::*;
-use crate::worked_rows::{ADMISSIONS, CURVES_AND_JSON, EXPANSIONS, POLICIES, REPORTS_AND_TRIALS, ROUNDINGS, ROWS};
+use crate::worked_rows::{
+    ADMISSIONS, CURVES_AND_JSON, EXPANSIONS, POLICIES, REPORTS_AND_TRIALS, ROUNDINGS, ROWS,
+};
 use std::alloc::{AllocError, Global};
 use std::process::Abort;
 use std::test::Fail;

@@ -725,12 +725,7 @@ pub static ROUNDINGS: [(&str, &str, Status, &str); 9] = [
         Status::Done,
         "job a 0 3 2\njob b 0 3 5\npoint 0 0\npoint 2 1\npoint 4 3\nslot a 0 0+6/12 2\nslot b 0+3/6 3 5\nenergy 4\n",
     ),
-    (
-        "round",
-        "",
-        Status::Refused,
-        "refused no-table\n",
-    ),
+    ("round", "", Status::Refused, "refused no-table\n"),
     (
         "round",
         "# cpu0, governor trace\njob decode 0 33 26100\njob audio 5 20 3000\npoint 0 30\npoint 600 200\npoint 1200 700\npoint 1800 1600\nticks 1000\nrun decode 0 5000 1800\nrun audio 5000 10000 600\nrun decode 10000 19500 1800\n",
