@@ -1,6 +1,6 @@
 -- The live jobs' parts of the stretches: together they are at least the jobs' units, so no job is served too late.
-use Rattle.std.proofs.Common.{◌≡◌, ℕ, zero, suc, ◌+◌, ◌-◌, ◌*◌, ◌/◌, ◌<◌, ◌≤◌, min, List, [], ◌∷◌, length, get_or, map, ◌∙◌, refl, sym, subst, ap, arith, inl, inr, cond, true, false, add-one}
-use Rattle.std.specs.Prelude.{Bool, nat_le, nat_lt, ◌&&◌, All, sum_by, filter, count_by}
+use Rattle.std.proofs.Common.{◌≡◌, ℕ, zero, suc, ◌+◌, ◌-◌, ◌*◌, ◌/◌, ◌<◌, ◌≤◌, min, List, length, get_or, map, ◌∙◌, refl, sym, ap, arith, inl, inr, cond, true, false, add-one}
+use Rattle.std.specs.Prelude.{Bool, nat_le, ◌&&◌, All}
 use Rattle.std.proofs.lemmas.Bool.{cases_lt, cases_Bool, le-leb, lt-leb, lt-ltb, le-ltb, true≢false}
 use Rattle.std.specs.Prelude.{Result, Ok, Err, IfOk, OnOk}
 use Rattle.std.proofs.lemmas.List.{get_or-map}

@@ -4,7 +4,9 @@ ghost use Rattle.yds_model.specs.AverageRate.{IsAverageRateRun, terms_of, averag
 ghost use Rattle.yds_model.specs.Within.{AreSlotsOf};
 ghost use Rattle.yds_model.specs.Job.{IsJob};
 ghost use Rattle.yds_events.specs.Stretch.{IsOutside};
+ghost use Rattle.yds_avr.specs.Live.{ArePartsBefore};
 
+use crate::live::{arrived_by, by_release, over_by};
 use crate::term::{is_live, term_of};
 use std::alloc::Global;
 use yds_edf::limits::MAX_GRAIN;
@@ -27,22 +29,39 @@ pub fn avr(alloc: Global, rows: &[JobRow], grid: u32) -> Result<PolicyRun, Memor
     ensures limits { IfOk result (λ run. AreSlotsOf (length rows.now) run.schedule.slots) }
     ensures count_in_range { IfOk result (λ run. run.rounded ≤ MAX_ROUNDED) }
 {
-    run_policy(alloc, rows, grid, &mut AverageRate)
+    let order = by_release(alloc, rows)?;
+    let mut policy = AverageRate {
+        order,
+        over: 0,
+        arrived: 0,
+    };
+    run_policy(alloc, rows, grid, &mut policy)
 }
 
-/// Average Rate, which looks at the jobs' windows alone.
+/// Average Rate, which looks at the windows of the jobs alone that have arrived and aren't over.
 #[derive(Drop)]
-struct AverageRate;
+struct AverageRate {
+    /// The jobs: first those that are over, then the others that have arrived, then those that are to come, in order of
+    /// their releases.
+    order: Vec<JobRow>,
+    /// How many are over.
+    over: usize,
+    /// How many have arrived.
+    arrived: usize,
+}
 
 impl Policy for AverageRate {
     ghost units = { λ policy jobs grid pending stretch. terms_of jobs grid stretch };
 
     ghost rounds = { λ policy jobs grid pending stretch. average_rate_rounds jobs grid stretch };
 
-    ghost keeps = { λ policy jobs number. Unit {0} };
+    ghost keeps = { λ policy jobs number. ArePartsBefore jobs policy.order.items policy.over policy.arrived number };
 
     fn set(&mut self, _number: u32, queue: &Queue, stretch: Stretch) -> Setting {
-        terms(queue.rows(), queue.grain(), stretch)
+        self.arrived = arrived_by(&self.order, self.arrived, stretch.from);
+        self.over = over_by(&mut self.order, self.over, self.arrived, stretch.from);
+        let _rows = queue.rows();
+        terms(&self.order[self.over..self.arrived], queue.grain(), stretch)
     }
 }
 

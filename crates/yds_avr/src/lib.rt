@@ -6,6 +6,7 @@
 #![tactic(auto)]
 
 mod average_rate;
+mod live;
 mod term;
 
 pub use average_rate::avr;

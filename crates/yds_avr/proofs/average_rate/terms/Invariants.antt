@@ -1,4 +1,4 @@
-use Rattle.std.proofs.Common.{◌≡◌, ◌*◌, ◌≤◌, take, length}
+use Rattle.std.proofs.Common.{◌≡◌, ◌*◌, ◌≤◌, take}
 use Rattle.yds_model.specs.AverageRate.{terms_of, average_rate_rounds}
 use Rattle.yds_avr.proofs.average_rate.terms.Given as goal
 

@@ -1,4 +1,4 @@
-use Rattle.std.proofs.Common.{ap, arith, ◌∙◌}
+use Rattle.std.proofs.Common.{ap, arith}
 use Rattle.yds_model.specs.Job.{Job}
 use Rattle.yds_avr.proofs.Terms.{part_most}
 use Rattle.yds_avr.proofs.term.term_of.Goals as goal
