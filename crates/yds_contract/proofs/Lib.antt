@@ -5,3 +5,5 @@ pub mod Joined
 pub mod Appending
 pub mod Joining
 pub mod Cutting
+pub mod Scaled
+pub mod Spreads

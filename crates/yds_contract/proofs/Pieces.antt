@@ -11,7 +11,7 @@ use Rattle.yds_contract.specs.Clipped.{clipped, pieces_after}
 use Rattle.yds_contract.proofs.Cells.{none_covered, apart_weaker, covered_later, first_before, rest_before, few_before}
 
 -- one piece, or none
-clipped_cases : (from to : ℕ) → ((from < to) × (clipped from to ≡ record { from = from; to = to } ∷ [])) ⊎ ((to ≤ from) × (clipped from to ≡ []))
+pub clipped_cases : (from to : ℕ) → ((from < to) × (clipped from to ≡ record { from = from; to = to } ∷ [])) ⊎ ((to ≤ from) × (clipped from to ≡ []))
 clipped_cases from to = elim (cases_lt from to) [
   | inl some ↦ inl (some, cond-true (nat_lt from to) (record { from = from; to = to } ∷ []) [] (lt-ltb from to some))
   | inr none ↦ inr (none, cond-false (nat_lt from to) (record { from = from; to = to } ∷ []) [] (le-ltb from to none))

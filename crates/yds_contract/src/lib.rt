@@ -10,6 +10,8 @@
 mod contraction;
 mod removed;
 mod removing;
+mod span;
+mod spreading;
 
 pub use contraction::Contraction;
 
