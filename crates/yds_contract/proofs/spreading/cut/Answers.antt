@@ -1,7 +1,6 @@
-use Rattle.std.proofs.Common.{◌≡◌, ℕ, ◌+◌, ◌*◌, ◌<◌, ◌≤◌, ◌⊎◌, List, length, get_or, map, ap, sym, ◌∙◌, inl, inr, arith}
+use Rattle.std.proofs.Common.{◌≡◌, ◌*◌, ◌<◌, length, get_or, map, ap, sym, ◌∙◌, inl, inr, arith}
 use Rattle.std.proofs.lemmas.List.{get_or-map, length-map}
-use Rattle.yds_contract.specs.Spread.{slot_over}
-use Rattle.yds_contract.proofs.Spreads.{cut_more, cut_kept, cut_end}
+use Rattle.yds_contract.proofs.Spreads.{cut_more, cut_kept}
 use Rattle.yds_contract.proofs.spreading.cut.Goals as goal
 use Rattle.yds_contract.proofs.spreading.cut.Goals.{then-from-time+then-time-span+in_ok-push, else-from-time, else-from-time-via-then-from-time+else-time-span, else-from-time-via-else-from-time}
 
@@ -12,8 +11,8 @@ loop-event-preserved c =
     let i = c.loop-event.event-index in
     let within : i < length (map (λ event. event * speed.num) events) = omega (arith, length-map events (λ event. event * speed.num), c.loop-event-test.true) in
     let at : c.from.result * c.num.result ≡ get_or (map (λ event. event * speed.num) events) i 0 =
-        ap (λ n. n * c.num.result) c.from.ensures ∙ ap (λ n. get_or events i 0 * n) c.num.ensures.value
-        ∙ sym (get_or-map (λ event. event * speed.num) events i 0 0 c.loop-event-test.true) in
+    ap (λ n. n * c.num.result) c.from.ensures ∙ ap (λ n. get_or events i 0 * n) c.num.ensures.value
+    ∙ sym (get_or-map (λ event. event * speed.num) events i 0 0 c.loop-event-test.true) in
     elim c.if-from-time.branch [
       | then-from-time+then-time-span+in_ok-push w ↦ rw (w.slots-is, w.from-is)
           (cut_more speed c.args.job c.args.slots.now.items c.span.inside.from c.span.inside.to (map (λ event. event * speed.num) events) i c.loop-event.from (c.from.result * c.num.result)

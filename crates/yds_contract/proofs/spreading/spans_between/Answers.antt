@@ -1,4 +1,4 @@
-use Rattle.std.proofs.Common.{◌≡◌, ℕ, ◌+◌, ◌*◌, ◌<◌, ◌≤◌, List, length, map, ◌++◌, ap, sym, ◌∙◌, arith, refl}
+use Rattle.std.proofs.Common.{◌*◌, ◌≤◌, List, map, ◌++◌, ap, sym, arith, refl}
 use Rattle.std.proofs.Math.Nat.{mul-le-mul, mul-le-mul_right}
 use Rattle.yds_model.specs.declared.limits.TheConstants.{MAX_TIME}
 use Rattle.yds_model.specs.Piece.{Piece}
@@ -32,7 +32,7 @@ overflow_mul-ends c =
 pub overflow_sub-before : goal.overflow_sub-before
 overflow_sub-before c =
     let forward : c.from.result ≤ c.from-in-loop-stretch.result =
-        omega (arith, c.from.ensures, c.from-in-loop-stretch.ensures, removed_forward c.args.removed.now c.loop-stretch.stretch-index c.requires.removed c.loop-stretch-test.true) in
+    omega (arith, c.from.ensures, c.from-in-loop-stretch.ensures, removed_forward c.args.removed.now c.loop-stretch.stretch-index c.requires.removed c.loop-stretch-test.true) in
     mul-le-mul_right c.args.parts forward
 
 pub overflow_add-before : goal.overflow_add-before
@@ -40,7 +40,7 @@ overflow_add-before c =
     let removed = c.args.removed.now in
     let i = c.loop-stretch.stretch-index in
     let next = next_fits (map (in_parts c.args.parts) (stretches_of removed)) i c.loop-stretch.before (in_parts c.args.parts (stretch_of (removed_at removed i)))
-        (omega (arith, parts_count c.args.parts removed)) (sym (parts_at c.args.parts removed i c.loop-stretch-test.true)) c.loop-stretch.invariant.sums in
+    (omega (arith, parts_count c.args.parts removed)) (sym (parts_at c.args.parts removed i c.loop-stretch-test.true)) c.loop-stretch.invariant.sums in
     rw (c.from.ensures, c.from-in-loop-stretch.ensures)
     (omega (arith, next, parts_fit removed c.args.parts c.args.end c.requires.removed c.requires.within, c.requires.few))
 
