@@ -5,8 +5,8 @@ use std::test::Fail;
 use yds_certificate::Level;
 use yds_contract::Contraction;
 use yds_critical::critical;
-use yds_model::limits::{MAX_JOBS, MAX_TIME};
 use yds_model::JobRow;
+use yds_model::limits::{MAX_JOBS, MAX_TIME};
 
 /// A job of a document that no level has yet, by its number.
 #[derive(Clone, Copy, Debug)]
@@ -49,12 +49,21 @@ fn contracted_rows(rt: &impl Abort, alloc: Global, book: &Textbook) -> Result<Ve
 }
 
 /// Serves the jobs inside the critical interval, and takes its time away. Its speed is the level's.
-fn serve_next(rt: &impl Abort, alloc: Global, book: &mut Textbook, level: &Level, served: &mut Served) -> Result<(), Fail> {
+fn serve_next(
+    rt: &impl Abort,
+    alloc: Global,
+    book: &mut Textbook,
+    level: &Level,
+    served: &mut Served,
+) -> Result<(), Fail> {
     let rows = contracted_rows(rt, alloc, book)?;
     assert!(rt; rows.len() <= MAX_JOBS && have_work(&rows));
     let interval = critical(alloc, &rows)?.ok_or("a level has more than the critical intervals")?;
     let length = u64::from(interval.end - interval.start);
-    assert_eq!(rt; u128::from(interval.work) * u128::from(level.length), u128::from(level.work) * u128::from(length));
+    assert_eq!(rt;
+        u128::from(interval.work) * u128::from(level.length),
+        u128::from(level.work) * u128::from(length)
+    );
     let mut later = Vec::new(alloc);
     for waiting in &book.waiting {
         let row = contracted(rt, &book.taken, waiting.row);
@@ -74,8 +83,17 @@ fn serve_next(rt: &impl Abort, alloc: Global, book: &mut Textbook, level: &Level
 
 /// The next critical intervals are as dense as the level, as long and as much work together, have its members, and take its
 /// pieces.
-pub(crate) fn compare_level(rt: &impl Abort, alloc: Global, book: &mut Textbook, level: &Level) -> Result<(), Fail> {
-    let mut served = Served { work: 0, length: 0, members: Vec::new(alloc) };
+pub(crate) fn compare_level(
+    rt: &impl Abort,
+    alloc: Global,
+    book: &mut Textbook,
+    level: &Level,
+) -> Result<(), Fail> {
+    let mut served = Served {
+        work: 0,
+        length: 0,
+        members: Vec::new(alloc),
+    };
     for _ in 0..level.members.len() {
         if served.length < level.length {
             serve_next(rt, alloc, book, level, &mut served)?;

@@ -29,10 +29,16 @@ fn compare(rt: &impl Abort, alloc: Global, rows: &[JobRow]) -> Result<(), Fail> 
     let mut waiting = Vec::new(alloc);
     for (number, row) in rows.iter().enumerate() {
         if row.work > 0 && number <= 4_000 {
-            waiting.push(Waiting { number: number as u32, row: *row })?;
+            waiting.push(Waiting {
+                number: number as u32,
+                row: *row,
+            })?;
         }
     }
-    let mut book = Textbook { waiting, taken: Contraction::new(alloc) };
+    let mut book = Textbook {
+        waiting,
+        taken: Contraction::new(alloc),
+    };
     assert!(rt; rows.len() <= MAX_JOBS);
     let planned = plan(alloc, rows)?;
     for level in planned.certificate.levels() {
@@ -56,7 +62,17 @@ fn two_ways_find_the_same_levels(rt: HostRuntime) -> Result<(), Fail> {
     compare(&rt, alloc, &[row(0, 2, 4), row(2, 4, 4)])?;
     compare(&rt, alloc, &[row(0, 2, 4), row(5, 7, 4)])?;
     compare(&rt, alloc, &[row(0, 4, 4), row(2, 6, 0), row(1, 3, 0)])?;
-    compare(&rt, alloc, &[row(0, 2, 5), row(2, 4, 4), row(4, 6, 3), row(1, 5, 2), row(0, 6, 1)])
+    compare(
+        &rt,
+        alloc,
+        &[
+            row(0, 2, 5),
+            row(2, 4, 4),
+            row(4, 6, 3),
+            row(1, 5, 2),
+            row(0, 6, 1),
+        ],
+    )
 }
 
 /// Drawn by a generator as that of a trial, in windows that overlap much and little.
