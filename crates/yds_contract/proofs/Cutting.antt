@@ -1,10 +1,9 @@
 -- Spans that are cut at times are the same time, in pieces that have no time strictly inside and meet at times alone.
-use Rattle.std.proofs.Common.{◌≡◌, ℕ, zero, suc, ◌+◌, ◌-◌, ◌<◌, ◌≤◌, ◌⊎◌, ◌≢◌, List, [], ◌∷◌, ◌++◌, ◌∙◌, length, get_or, ap, sym, subst, inl, inr, arith, refl}
-use Rattle.std.specs.Prelude.{◌↔◌, nat_lt, ◌&&◌, if◌then◌else◌}
-use Rattle.std.specs.List.{All, Contains, flat_map}
+use Rattle.std.proofs.Common.{◌≡◌, ℕ, suc, ◌<◌, ◌≤◌, ◌⊎◌, List, [], ◌∷◌, ◌++◌, get_or, sym, subst, inl, inr, arith, refl}
+use Rattle.std.specs.Prelude.{◌↔◌, nat_lt, ◌&&◌}
+use Rattle.std.specs.List.{All, Contains}
 use Rattle.std.proofs.lemmas.Bool.{cases_lt, cond-true, cond-false, lt-ltb, le-ltb, and_from, and_left, and_right}
-use Rattle.std.proofs.lemmas.List.{append-nil}
-use Rattle.std.proofs.lemmas.List.Elements.{All-cons, All-nil, All-append, All-tail, All-weaker}
+use Rattle.std.proofs.lemmas.List.Elements.{All-cons, All-nil, All-append, All-weaker}
 use Rattle.yds_model.specs.Piece.{Piece, PiecesFrom, Covers}
 use Rattle.yds_certificate.proofs.Cover.{Covers-cons, Covers-append}
 use Rattle.yds_contract.specs.Contracted.{AreApartFrom}

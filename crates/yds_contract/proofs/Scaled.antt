@@ -1,9 +1,8 @@
 -- Removed stretches in parts of a time unit.
-use Rattle.std.proofs.Common.{◌≡◌, ℕ, zero, suc, ◌+◌, ◌-◌, ◌*◌, ◌<◌, ◌≤◌, List, [], ◌∷◌, ◌∙◌, length, get_or, map, ap, sym, subst, arith, refl}
-use Rattle.std.specs.List.{All, sum_by}
+use Rattle.std.proofs.Common.{◌≡◌, ℕ, suc, ◌+◌, ◌-◌, ◌*◌, ◌<◌, ◌≤◌, List, [], ◌∷◌, ◌∙◌, length, map, ap, arith}
 use Rattle.std.proofs.lemmas.List.{get_or-map, length-map}
 use Rattle.std.proofs.lemmas.List.Sums.{sum_by-cons}
-use Rattle.std.proofs.Math.Nat.{mul-le-mul_right, mul-lt-mul_of_pos_right, mul-sub, mul_comm}
+use Rattle.std.proofs.Math.Nat.{mul-le-mul_right, mul-lt-mul_of_pos_right, mul-sub}
 use Rattle.yds_model.specs.declared.limits.TheConstants.{MAX_TIME}
 use Rattle.yds_model.specs.Piece.{Piece, total_length}
 use Rattle.yds_contract.specs.declared.removed.Removed.{Removed}

@@ -1,22 +1,21 @@
 -- Slots over spans that are cut at events.
-use Rattle.std.proofs.Common.{◌≡◌, ℕ, zero, suc, ◌+◌, ◌-◌, ◌*◌, ◌/◌, ◌%◌, ◌<◌, ◌≤◌, ◌⊎◌, List, [], ◌∷◌, ◌++◌, ◌∙◌, length, get_or, take, drop, map, min, max, ap, sym, subst, inl, inr, add-one, arith, refl}
-use Rattle.std.specs.List.{All, sum_by, flat_map}
+use Rattle.std.proofs.Common.{◌≡◌, ℕ, suc, ◌+◌, ◌-◌, ◌*◌, ◌/◌, ◌%◌, ◌<◌, ◌≤◌, ◌⊎◌, List, [], ◌∷◌, ◌++◌, ◌∙◌, length, get_or, take, drop, map, min, max, ap, sym, subst, inl, inr, add-one, arith, refl}
+use Rattle.std.specs.List.{All}
 use Rattle.std.specs.Int.{◌∣◌}
 use Rattle.std.specs.List.Sorted.{IsStrictlyIncreasing}
 use Rattle.std.proofs.lemmas.List.{append_assoc, at_drop_more, at_drop_all, get_or-map, length-map, map-append}
-use Rattle.std.proofs.lemmas.List.Elements.{All-map, All-cons, All-nil, All-append, All-head, All-tail}
+use Rattle.std.proofs.lemmas.List.Elements.{All-map, All-cons, All-nil, All-append}
 use Rattle.std.proofs.lemmas.List.Sums.{get_or-le-sum_by, sum_by-cons}
 use Rattle.std.proofs.lemmas.Bool.{cases_eq, eq-eqb, ne_eqb}
 use Rattle.std.proofs.lemmas.Nat.Gcd.{dvd_refl}
-use Rattle.std.proofs.Math.Nat.{mul-le-mul_right, mul-lt-mul_of_pos_right, one-dvd, eq_of_mul-eq-mul_right, le-div_iff_mul-le, div-mul-le_self}
-use Rattle.yds_model.specs.declared.limits.TheConstants.{MAX_TIME}
+use Rattle.std.proofs.Math.Nat.{mul-le-mul_right, one-dvd, eq_of_mul-eq-mul_right, le-div_iff_mul-le, div-mul-le_self}
 use Rattle.yds_model.specs.Scale.{Fraction, Quotient, at_scale, of_parts}
 use Rattle.yds_model.specs.Slot.{WrittenSlot}
 use Rattle.yds_model.specs.Piece.{Piece, PiecesFrom, Covers, total_length}
 use Rattle.yds_model.proofs.Fractions.{parts_den}
 use Rattle.yds_model.proofs.Lists.{flat_map-take}
 use Rattle.yds_slots.proofs.Parts.{of_parts_at}
-use Rattle.yds_contract.specs.Contracted.{AreApartFrom, HasPlace, ArePieces}
+use Rattle.yds_contract.specs.Contracted.{AreApartFrom, ArePieces}
 use Rattle.yds_contract.specs.Clipped.{clipped, pieces_after}
 use Rattle.yds_contract.specs.Cut.{cut_between, cut_all}
 use Rattle.yds_contract.specs.Spread.{in_parts, span_of, spans_of, slot_over, IsOutside, MeetOnlyAt, IsSpread}

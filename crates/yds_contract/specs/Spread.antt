@@ -1,8 +1,8 @@
 -- A slot of contracted time, spread over real time. Times are in parts, of which a time unit has as many as the speed's numerator:
 -- each end of a slot at that speed is a whole number of them.
-use Rattle.std.specs.Prelude.{◌≡◌, ℕ, ◌-◌, ◌*◌, ◌<◌, ◌≤◌, ◌↔◌, ◌⊎◌, List, [], ◌∷◌, map}
+use Rattle.std.specs.Prelude.{◌≡◌, ℕ, ◌-◌, ◌*◌, ◌≤◌, ◌↔◌, ◌⊎◌, List, [], ◌∷◌, map}
 use Rattle.std.specs.List.{All, Contains}
-use Rattle.yds_model.specs.Scale.{Fraction, Quotient, at_scale, of_parts}
+use Rattle.yds_model.specs.Scale.{Quotient, at_scale, of_parts}
 use Rattle.yds_model.specs.Slot.{WrittenSlot}
 use Rattle.yds_model.specs.Piece.{Piece, PiecesFrom, Covers}
 use Rattle.yds_contract.specs.Contracted.{HasPlace}

@@ -1,4 +1,4 @@
-use Rattle.std.proofs.Common.{◌≡◌, ℕ, ◌+◌, ◌*◌, ◌<◌, ◌≤◌, List, length, map, ◌++◌, ap, sym, ◌∙◌, arith, refl}
+use Rattle.std.proofs.Common.{◌*◌, ◌≤◌, List, map, ◌++◌, ap, sym, arith, refl}
 use Rattle.std.proofs.Math.Nat.{mul-le-mul, mul-le-mul_right}
 use Rattle.yds_model.specs.declared.limits.TheConstants.{MAX_TIME}
 use Rattle.yds_model.specs.Piece.{Piece}

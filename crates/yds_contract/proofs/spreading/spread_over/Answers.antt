@@ -1,14 +1,12 @@
-use Rattle.std.proofs.Common.{◌≡◌, ℕ, ◌+◌, ◌-◌, ◌*◌, ◌/◌, ◌<◌, ◌≤◌, List, length, map, take, ap, sym, subst, ◌∙◌, arith}
+use Rattle.std.proofs.Common.{◌≡◌, ℕ, ◌-◌, ◌*◌, ◌/◌, ◌<◌, ◌≤◌, List, length, map, take, ap, sym, subst, ◌∙◌, arith}
 use Rattle.std.proofs.lemmas.List.{get_or_read, take_all}
 use Rattle.yds_model.specs.declared.limits.TheConstants.{MAX_TIME, MAX_SLOT_WORK}
-use Rattle.yds_model.specs.Scale.{Fraction, at_scale, of_parts}
+use Rattle.yds_model.specs.Scale.{at_scale}
 use Rattle.yds_model.specs.Slot.{WrittenSlot}
 use Rattle.yds_model.specs.Piece.{Piece}
-use Rattle.yds_contract.specs.Contracted.{ArePieces}
 use Rattle.yds_contract.specs.Removed.{stretches_of}
-use Rattle.yds_contract.specs.Clipped.{pieces_after}
 use Rattle.yds_contract.specs.Cut.{cut_all}
-use Rattle.yds_contract.specs.Spread.{in_parts, slot_over}
+use Rattle.yds_contract.specs.Spread.{slot_over}
 use Rattle.yds_contract.proofs.Cells.{piece_at, no_piece}
 use Rattle.yds_contract.proofs.Scaled.{parts_fit}
 use Rattle.yds_contract.proofs.Spreads.{spans_same, spans_found, spans_end, piece_forward, piece_short, work_within, spread}
