@@ -8,6 +8,7 @@
 #![tactic(auto)]
 
 mod admission;
+mod chain;
 mod decision;
 mod interval;
 mod refusal;
