@@ -5,3 +5,5 @@ pub mod Demand
 pub mod GoingOn
 pub mod Times
 pub mod Sweep
+pub mod Newly
+pub mod Inserted

@@ -1,11 +1,10 @@
 -- The walk by falling releases over a chain, and what it finds.
-use Rattle.std.proofs.Common.{◌≡◌, ℕ, zero, suc, ◌+◌, ◌-◌, ◌*◌, ◌<◌, ◌≤◌, ◌⊎◌, List, [], length, get_or, take, drop, ◌∙◌, refl, sym, subst, arith, inl, inr, ap, cond, Option, Some, None, Bool, true, false, ◌==◌, nat_le}
+use Rattle.std.proofs.Common.{◌≡◌, ℕ, zero, suc, ◌+◌, ◌-◌, ◌*◌, ◌<◌, ◌≤◌, List, length, get_or, take, drop, ◌∙◌, refl, sym, subst, arith, inl, inr, ap, cond, Option, Some, None, Bool, true, false, ◌==◌, nat_le}
 use Rattle.std.specs.Prelude.{MatchOption}
 use Rattle.std.specs.List.{All, Any, Contains, sum_by}
 use Rattle.std.specs.List.Sorted.{IsPermutation}
 use Rattle.std.proofs.lemmas.Bool.{cases_lt, cases_eq, cases_Bool, eq-eqb, ne_eqb, le-leb, lt-leb, leb-true, leb-false, true≢false}
-use Rattle.std.proofs.lemmas.List.{get_or_default, get_or-take, get_or-drop, length-take-le, length-drop, take_all}
-use Rattle.std.proofs.lemmas.List.Elements.{Contains-get_or}
+use Rattle.std.proofs.lemmas.List.{get_or_default, get_or-take, get_or-drop, length-take-le, length-drop}
 use Rattle.std.proofs.lemmas.List.Sorted.{All-permutation}
 use Rattle.std.proofs.lemmas.List.Sums.{sum_by_more, sum_by-take-drop}
 use Rattle.std.proofs.Math.Nat.{mul-sub, mul-le-mul_left}
@@ -14,7 +13,7 @@ use Rattle.yds_model.specs.Job.{Job, no_job, job_at}
 use Rattle.yds_model.proofs.Sums.{sum_by_same, sum_by_zero}
 use Rattle.yds_admit.specs.Interval.{work_in}
 use Rattle.yds_admit.specs.Chain.{IsFalling, AreTimes, due_work, IsChain, Takes, HasRoomOver, IsLeastFrom, NoFrom}
-use Rattle.yds_admit.proofs.Between.{term, inside, before as released_before, after as due_after}
+use Rattle.yds_admit.proofs.Between.{term, before as released_before}
 use Rattle.yds_admit.proofs.GoingOn.{ended}
 
 -- # What a chain says of the units that went on before it
@@ -247,11 +246,15 @@ last_of (suc n) test j below passes = elim (cases_Bool (test n)) [
   | inr fails ↦ elim (cases_eq j n) [
     | inl same ↦ absurd (true≢false (sym passes ∙ ap test same ∙ fails))
     | inr other ↦
-        let found = last_of n test j (omega arith) passes in
-        (found.0, omega (arith, found.1), found.2, λ i after within. elim (cases_eq i n) [
-          | inl same ↦ ap test same ∙ fails
-          | inr differs ↦ found.3 i after (omega arith)
-        ])
+        let found = last_of n test j (omega arith) passes in (
+          found.0,
+          omega (arith, found.1),
+          found.2,
+          λ i after within. elim (cases_eq i n) [
+            | inl same ↦ ap test same ∙ fails
+            | inr differs ↦ found.3 i after (omega arith)
+          ],
+        )
   ]
 ]
 

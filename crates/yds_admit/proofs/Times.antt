@@ -1,10 +1,10 @@
 -- The times of a chain, deadline by deadline.
-use Rattle.std.proofs.Common.{◌≡◌, ℕ, ◌+◌, ◌-◌, ◌*◌, ◌<◌, ◌≤◌, List, [], ◌∷◌, ◌++◌, length, get_or, take, ◌∙◌, refl, sym, subst, arith, inl, inr, ap}
+use Rattle.std.proofs.Common.{◌≡◌, ℕ, ◌+◌, ◌-◌, ◌*◌, ◌<◌, ◌≤◌, List, [], ◌∷◌, ◌++◌, length, get_or, take, ◌∙◌, refl, subst, arith, inl, inr, ap}
 use Rattle.std.specs.List.{All, Contains}
 use Rattle.std.specs.List.Sorted.{IsNonDecreasing, IsNonDecreasingBy}
-use Rattle.std.proofs.lemmas.Bool.{cases_lt, cases_eq}
-use Rattle.std.proofs.lemmas.List.{length_push, get_or_push, get_or_append_left, get_or_default, take_all}
-use Rattle.std.proofs.lemmas.List.Elements.{All-nil, All-cons, All-more, All-weaker, Contains-append_left, Contains-push}
+use Rattle.std.proofs.lemmas.Bool.{cases_lt}
+use Rattle.std.proofs.lemmas.List.{length_push, get_or_push, get_or_append_left, take_all}
+use Rattle.std.proofs.lemmas.List.Elements.{All-nil, All-cons, All-more, Contains-append_left, Contains-push}
 use Rattle.std.proofs.Math.Nat.{mul-sub, mul-le-mul_left}
 use Rattle.yds_model.specs.Job.{Job, no_job, job_at}
 use Rattle.yds_admit.specs.Chain.{AreTimes}

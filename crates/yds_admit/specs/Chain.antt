@@ -1,6 +1,6 @@
 -- A chain of gaps between rising times: the work that the top speed does between each and the next, less what jobs released later took.
-use Rattle.std.specs.Prelude.{◌≡◌, ℕ, ◌+◌, ◌-◌, ◌*◌, ◌<◌, ◌≤◌, ◌==◌, nat_le, if◌then◌else◌, List, length, slice_index, take, sum_by, Option, Some, None}
-use Rattle.std.specs.List.{All, Any, Contains, slice_index_or}
+use Rattle.std.specs.Prelude.{◌≡◌, ℕ, ◌+◌, ◌-◌, ◌*◌, ◌<◌, ◌≤◌, ◌==◌, nat_le, if◌then◌else◌, List, length, slice_index, sum_by}
+use Rattle.std.specs.List.{All, Any, Contains}
 use Rattle.std.specs.List.Sorted.{IsNonDecreasing}
 use Rattle.yds_model.specs.Job.{Job, job_at}
 use Rattle.yds_admit.specs.Interval.{work_in}

@@ -13,6 +13,7 @@ mod decision;
 mod interval;
 mod refusal;
 mod serving;
+mod standing;
 
 pub use admission::{Admission, admit};
 pub use refusal::Refusal;

@@ -1,4 +1,4 @@
-use Rattle.std.proofs.Common.{◌≡◌, ℕ, suc, ◌-◌, subst, arith, inl, inr}
+use Rattle.std.proofs.Common.{◌≡◌, ℕ, suc, ◌-◌, subst, arith, inl}
 use Rattle.yds_admit.specs.Chain.{Takes}
 use Rattle.yds_admit.proofs.GoingOn.{none_taken, some_taken, all_taken}
 use Rattle.yds_admit.proofs.chain.take.Goals as goal
