@@ -7,3 +7,4 @@ pub mod Times
 pub mod Sweep
 pub mod Newly
 pub mod Inserted
+pub mod Links

@@ -54,3 +54,13 @@ pub record IsLeastFrom (top due : ℕ) (jobs : List Job) (from : ℕ) : Type 0 w
 
 abbrev pub NoFrom : ℕ → ℕ → List Job → Type 0
 NoFrom top due jobs = (from : ℕ) → from < due → Any (λ job. job.release ≡ from) jobs → HasRoomOver top due jobs from
+
+-- Each place has a link to a place no later, between which and it nothing is left of the gaps.
+pub record AreLinks (gaps links : List ℕ) : Type 0 where
+  pub as_long : length links ≡ length gaps + 1
+  pub back : (p : ℕ) → p < length links → slice_index links p ≤ p
+  pub empty : (p q : ℕ) → p < length links → slice_index links p ≤ q → q < p → slice_index gaps q ≡ 0
+
+-- nothing is left of the gaps from this place up to that one
+abbrev pub AreEmpty : List ℕ → ℕ → ℕ → Type 0
+AreEmpty gaps from to = (q : ℕ) → from ≤ q → q < to → slice_index gaps q ≡ 0

@@ -1,8 +1,9 @@
-ghost use Rattle.std.specs.Prelude.{◌≡◌, ℕ, ◌+◌, ◌-◌, ◌*◌, ◌<◌, ◌≤◌, IfOk, MatchOption, length, slice_index};
+ghost use Rattle.std.specs.Prelude.{◌≡◌, ℕ, ◌+◌, ◌-◌, ◌*◌, ◌<◌, ◌≤◌, IfOk, MatchOption, List, length, slice_index};
+ghost use Rattle.std.specs.List.{range_with_len};
 ghost use Rattle.std.specs.List.Sorted.{IsPermutation, IsNonDecreasing, IsNonDecreasingBy};
-ghost use Rattle.yds_admit.specs.Chain.{IsFalling, AreTimes, Takes, IsLeastFrom, NoFrom};
+ghost use Rattle.yds_admit.specs.Chain.{IsFalling, AreTimes, Takes, IsLeastFrom, NoFrom, AreLinks, AreEmpty};
 
-use std::alloc::Global;
+use std::alloc::{AllocError, Global};
 use yds_model::limits::{MAX_JOBS, MAX_TIME, MAX_TOP};
 use yds_model::{JobRow, Memory};
 
@@ -30,10 +31,13 @@ pub(crate) fn least_from(
     let times = times(alloc, by_deadline, due)?;
     let mut gaps = gaps(alloc, &times, top)?;
     let gaps = gaps.as_mut_slice();
+    let mut links = own_links(alloc, times.len())?;
+    let links = links.as_mut_slice();
     let mut passed = 0;
     let mut from = None;
     for job in by_release {
-        passed += take(gaps, place(&times, job.deadline), u64::from(job.work));
+        let place = place(&times, job.deadline);
+        passed += take(gaps, links, place, u64::from(job.work));
         if job.release < due && passed > u64::from(top) * u64::from(due - job.release) {
             from = Some(job.release);
         }
@@ -82,17 +86,47 @@ fn place(times: &[u32], time: u32) -> usize
 }
 
 /// Takes so many units from the gaps before this place, from the last one on. Answers how many are left when there is no gap more.
-fn take(gaps: &mut [u64], place: usize, units: u64) -> u64
-    requires { place ≤ length gaps.old }
-    ensures { Takes gaps.old place units gaps.new 0 result }
+/// Gaps of which nothing is left are jumped over by their links.
+fn take(gaps: &mut [u64], links: &mut [usize], place: usize, units: u64) -> u64
+    requires within { place ≤ length gaps.old }
+    requires links { AreLinks gaps.old links.old }
+    ensures takes { Takes gaps.old place units gaps.new 0 result }
+    ensures links { AreLinks gaps.new links.new }
 {
     let mut left = units;
-    let mut place = place;
+    let mut place = last_open(links, place);
     while left > 0 && place > 0 {
         place -= 1;
         let taken = left.min(gaps[place]);
         gaps[place] -= taken;
         left -= taken;
+        links[place + 1] = if left > 0 { place } else { place + 1 };
+        place = last_open(links, place);
     }
     left
+}
+
+/// The place that the links lead to from this one. They get shorter.
+fn last_open(links: &mut [usize], place: usize) -> usize
+    requires known { place < length links.old }
+    requires back { (p : ℕ) → p < length links.old → slice_index links.old p ≤ p }
+    ensures within { result ≤ place }
+    ensures own { slice_index links.new result ≡ result }
+    ensures kept { (gaps : List ℕ) → AreLinks gaps links.old → AreLinks gaps links.new × AreEmpty gaps result place }
+{
+    let mut at = place;
+    while links[at] < at {
+        let next = links[at];
+        let further = links[next];
+        links[at] = further;
+        at = further;
+    }
+    at
+}
+
+/// Each place with a link to itself.
+fn own_links(alloc: Global, count: usize) -> Result<Vec<usize>, AllocError>
+    ensures { IfOk result (λ links. links.items ≡ range_with_len 0 count) }
+{
+    (0..count).collect(alloc)
 }
