@@ -7,7 +7,7 @@
 
 mod average_rate;
 mod live;
-mod term;
+mod rate;
 
 pub use average_rate::avr;
 

@@ -1,20 +1,17 @@
-use Rattle.std.proofs.Common.{arith, ap, subst, ◌+◌, ◌∙◌, sym, ℕ, List}
-use Rattle.std.proofs.lemmas.List.{get_or_default}
-use Rattle.yds_model.specs.Job.{Job, no_job}
+use Rattle.std.proofs.Common.{subst, ◌+◌, ◌∙◌, sym, ℕ, List}
+use Rattle.yds_avr.specs.declared.rate.Rate.{Rate}
 use Rattle.yds_avr.proofs.Parts.{IsPutBack, put_back, left_there}
 use Rattle.yds_avr.proofs.live.over_by.Goals as goal
-use Rattle.yds_avr.proofs.live.over_by.Goals.{then-row-time, else-row-time}
+use Rattle.yds_avr.proofs.live.over_by.Goals.{then-order-place, else-order-place}
 
 pub loop-place-preserved : goal.loop-place-preserved
-loop-place-preserved c = elim c.if-row-time.branch [
-  | then-row-time w ↦
-      let row = c.row.view_is ∙ get_or_default c.loop-place.order c.loop-place.place c.index-order-place.result no_job
-      (omega (arith, c.loop-place-test.true, c.requires.within, c.loop-place.auto.order)) in
-      let so = put_back c.args.order.now c.loop-place.order c.if-row-time.order c.args.arrived c.args.time c.loop-place.over c.loop-place.place c.loop-place-test.true c.requires.within
-      c.loop-place.invariant (omega (arith, w.if-row-time.true, ap (λ (job : Job). job.deadline) row)) (w.order-is ∙ w.swap.ensures.after) in
-      subst (λ (over : ℕ). IsPutBack c.args.order.now c.if-row-time.order c.args.arrived c.args.time over (c.loop-place.place + 1)) (sym w.over-is) so
-  | else-row-time w ↦
+loop-place-preserved c = elim c.if-order-place.branch [
+  | then-order-place w ↦
+      let so = put_back c.args.order.now c.loop-place.order c.if-order-place.order c.args.arrived c.args.time c.loop-place.over c.loop-place.place c.loop-place-test.true c.requires.within
+      c.loop-place.invariant w.if-order-place.true (w.order-is ∙ w.swap.ensures.after) in
+      subst (λ (over : ℕ). IsPutBack c.args.order.now c.if-order-place.order c.args.arrived c.args.time over (c.loop-place.place + 1)) (sym w.over-is) so
+  | else-order-place w ↦
       let so = left_there c.args.order.now c.loop-place.order c.args.arrived c.args.time c.loop-place.over c.loop-place.place c.loop-place.invariant in
-      let there = subst (λ (order : List Job). IsPutBack c.args.order.now order c.args.arrived c.args.time c.loop-place.over (c.loop-place.place + 1)) (sym w.order-is) so in
-      subst (λ (over : ℕ). IsPutBack c.args.order.now c.if-row-time.order c.args.arrived c.args.time over (c.loop-place.place + 1)) (sym w.over-is) there
+      let there = subst (λ (order : List Rate). IsPutBack c.args.order.now order c.args.arrived c.args.time c.loop-place.over (c.loop-place.place + 1)) (sym w.order-is) so in
+      subst (λ (over : ℕ). IsPutBack c.args.order.now c.if-order-place.order c.args.arrived c.args.time over (c.loop-place.place + 1)) (sym w.over-is) there
 ]
