@@ -1,5 +1,5 @@
 -- The side of a policy.
-use Rattle.std.specs.Prelude.{ℕ, ◌≤◌, List, length, All}
+use Rattle.std.specs.Prelude.{ℕ, ◌*◌, ◌≤◌, List, length, All}
 use Rattle.yds_model.specs.Job.{Job}
 use Rattle.yds_model.specs.Slot.{WrittenSlot}
 use Rattle.yds_model.specs.Feasible.{IsFeasible}

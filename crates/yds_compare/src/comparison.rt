@@ -11,7 +11,7 @@ ghost use Rattle.yds_compare.specs.Side.{IsSideOfRun};
 
 use crate::load::{loads_of_levels, total_length};
 use crate::side::{Side, side_of};
-use crate::spent::{Spent, spent};
+use crate::spent::{Spent, spend};
 use std::alloc::Global;
 use yds_avr::avr;
 use yds_events::stretches;
@@ -53,7 +53,7 @@ fn plan_spent(
     ensures { IfOk result (λ spent. IsSpent rows.now table.now plan.now.schedule.slots spent) }
 {
     let loads = loads_of_levels(alloc, plan.certificate.levels(), time)?;
-    spent(alloc, &loads, 1, table)
+    spend(alloc, &loads, 1, table)
 }
 
 /// Compares the plan of these jobs with the runs of Average Rate and of Optimal Available on the grid.

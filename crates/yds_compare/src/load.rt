@@ -29,10 +29,11 @@ fn units_of(slots: &[Slot], grid: u64) -> u64
     requires { total_units grid slots.now < 2 ^ 64 }
     ensures { result ≡ total_units grid slots.now }
 {
-    slots
-        .iter()
-        .map(|slot| slot.work.whole() * grid + slot.work.num())
-        .sum()
+    let mut units = 0;
+    for slot in slots {
+        units += slot.work.whole() * grid + slot.work.num();
+    }
+    units
 }
 
 /// What a schedule does in each of these stretches, in parts of which `grid` make a unit.

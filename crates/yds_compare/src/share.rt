@@ -62,8 +62,12 @@ impl Share {
         ensures { IsShareOf (hull_multiple table.now) (hull_of table.now) load result }
     {
         let hull = table.hull();
+        // Reading the points shows that the first one is idle.
+        let _points = table.points();
         let multiple = table.gaps();
-        let place = first_holding(hull, load).unwrap_or(0);
+        let Some(place) = first_holding(hull, load) else {
+            unreachable!()
+        };
         if place == 0 {
             let idle = hull[0];
             return Share {

@@ -6,7 +6,7 @@ ghost use Rattle.yds_events.specs.Stretch.{length_of};
 ghost use Rattle.yds_compare.specs.Side.{side_view, IsRunOnGrid};
 
 use crate::load::{first_above, loads_of};
-use crate::spent::{Spent, spent};
+use crate::spent::{Spent, spend};
 use std::alloc::Global;
 use yds_events::Stretch;
 use yds_model::{JobRow, Memory};
@@ -47,7 +47,7 @@ pub(crate) fn side_of(
 {
     let loads = loads_of(alloc, timeline, run, u64::from(grid))?;
     let Some(place) = first_above(&loads, table.top()) else {
-        let spent = spent(alloc, &loads, u64::from(grid), table)?;
+        let spent = spend(alloc, &loads, u64::from(grid), table)?;
         return Ok(Side::Spent(spent));
     };
     let stretch = timeline[place];

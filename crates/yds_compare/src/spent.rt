@@ -40,7 +40,8 @@ fn shares_of(alloc: Global, loads: &[Load], table: &Table) -> Result<Vec<Share>,
 {
     let mut shares = Vec::with_capacity(alloc, loads.len())?;
     for load in loads {
-        shares.push(Share::of(*load, table))?;
+        let one = *load;
+        shares.push(Share::of(one, table))?;
     }
     Ok(shares)
 }
@@ -55,7 +56,7 @@ fn time_at(shares: &[Share], speed: u32) -> u128
 
 /// What these loads spend, of which `unit` parts make a unit: each at the points of the hull around its speed, as long at each
 /// as gives that speed.
-pub(crate) fn spent(
+pub(crate) fn spend(
     alloc: Global,
     loads: &[Load],
     unit: u64,
