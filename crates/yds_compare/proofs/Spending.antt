@@ -2,6 +2,7 @@
 use Rattle.std.proofs.Common.{◌≡◌, ℕ, zero, suc, ◌+◌, ◌*◌, ◌/◌, ◌%◌, ◌^◌, ◌<◌, ◌≤◌, List, [], ◌∷◌, ◌++◌, length, get_or, take, refl, sym, ap, ap₂, ◌∙◌, arith}
 use Rattle.std.specs.Prelude.{sum_by}
 use Rattle.std.specs.List.{All, AllZip}
+use Rattle.std.proofs.lemmas.List.{take_more}
 use Rattle.std.proofs.lemmas.List.Sums.{sum_by-cons, sum_by-le, sum_by_more_le}
 use Rattle.std.proofs.Math.Nat.{mul-le-mul, mul-le-mul_right, mul-le-mul_left, le_of_mul-le-mul_right}
 use Rattle.yds_model.specs.declared.limits.TheConstants.{MAX_GRID, MAX_TIME, MAX_POINTS, MAX_POINT_POWER, MAX_GAPS, MAX_WHOLE}
@@ -94,3 +95,10 @@ whole_within parts most den some within =
 -- so many parts are few enough
 pub den_within : (unit multiple : ℕ) → unit ≤ MAX_GRID → multiple ≤ MAX_GAPS → unit * multiple ≤ MAX_GRID * MAX_GAPS
 den_within unit multiple few gaps = mul-le-mul few gaps
+
+-- one more load and its share
+pub zip_step : (points : List Point) (loads : List Load) (shares : List Share) (i : ℕ) (d : Load) (share : Share) → i < length loads →
+    AllZip (IsShareOf (hull_multiple points) (hull_of points)) (take i loads) shares → IsShareOf (hull_multiple points) (hull_of points) (get_or loads i d) share →
+    AllZip (IsShareOf (hull_multiple points) (hull_of points)) (take (i + 1) loads) (shares ++ share ∷ [])
+zip_step points loads shares i d share within all one =
+    rw (take_more loads i d within) (zip_push (IsShareOf (hull_multiple points) (hull_of points)) (take i loads) shares (get_or loads i d) share all one)

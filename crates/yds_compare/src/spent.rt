@@ -40,8 +40,7 @@ fn shares_of(alloc: Global, loads: &[Load], table: &Table) -> Result<Vec<Share>,
 {
     let mut shares = Vec::with_capacity(alloc, loads.len())?;
     for load in loads {
-        let one = *load;
-        shares.push(Share::of(one, table))?;
+        shares.push(Share::of(*load, table))?;
     }
     Ok(shares)
 }
