@@ -1,5 +1,5 @@
 -- What loads spend on the points of a table.
-use Rattle.std.specs.Prelude.{◌≡◌, ℕ, ◌*◌, List, map, sum_by}
+use Rattle.std.specs.Prelude.{◌≡◌, ℕ, ◌*◌, ◌≤◌, List, map, sum_by}
 use Rattle.yds_model.specs.Table.{Point, hull_of, hull_multiple}
 use Rattle.yds_model.specs.Comparison.{Spent, time_at, in_parts}
 use Rattle.yds_compare.specs.declared.load.Load.{Load}
@@ -13,5 +13,6 @@ energy_of_loads points loads = sum_by (λ point. point.power * time_of_loads poi
 
 -- loads of which `unit` parts make a unit spend this
 pub record IsSpentOn (points : List Point) (unit : ℕ) (loads : List Load) (spent : Spent) : Type 0 where
+  pub some : 1 ≤ hull_multiple points
   pub energy : spent.energy ≡ in_parts points unit (energy_of_loads points loads)
   pub times : spent.times ≡ map (λ point. in_parts points unit (time_of_loads points loads point.speed)) points

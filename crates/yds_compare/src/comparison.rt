@@ -1,5 +1,6 @@
-ghost use Rattle.std.specs.Prelude.{◌≡◌, ◌≤◌, length, sum_by, IfOk, IfErr, Err};
+ghost use Rattle.std.specs.Prelude.{◌≡◌, ◌≤◌, length, sum_by, All, IfOk, IfErr, Err};
 ghost use Rattle.yds_model.specs.declared.limits.TheConstants.{MAX_GRID, MAX_JOBS, MAX_ROUNDED, MAX_TIME};
+ghost use Rattle.yds_model.specs.Job.{IsJob};
 ghost use Rattle.yds_model.specs.Plan.{IsPlan};
 ghost use Rattle.yds_model.specs.Event.{stretches as job_stretches};
 ghost use Rattle.yds_model.specs.Comparison.{IsSpent};
@@ -34,6 +35,15 @@ pub struct Comparison {
     pub oa: Side,
     /// The number of event points at which Optimal Available rounded.
     pub oa_rounded: u32,
+}
+
+/// Reads each row. That shows that each is a job within the limits.
+fn read(rows: &[JobRow])
+    ensures { All IsJob rows.now }
+{
+    for row in rows {
+        let _work = row.work;
+    }
 }
 
 /// What a plan spends, level by level.
@@ -83,6 +93,7 @@ pub fn compare(
     if let Some(fault) = fault_of(table, plan.certificate.levels()) {
         return Err(fault);
     }
+    read(rows);
     let timeline = stretches(alloc, rows)?;
     let spent = plan_spent(alloc, rows, total_length(&timeline), plan, table)?;
     let average = avr(alloc, rows, grid)?;
