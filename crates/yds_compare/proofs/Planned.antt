@@ -3,8 +3,9 @@ use Rattle.std.proofs.Common.{◌≡◌, ℕ, zero, suc, ◌+◌, ◌-◌, ◌*�
 use Rattle.std.specs.Prelude.{sum, sum_by, if◌then◌else◌}
 use Rattle.std.specs.List.{All, Contains, flat_map}
 use Rattle.std.proofs.lemmas.List.{length-map, get_or-map}
-use Rattle.std.proofs.lemmas.List.Elements.{All-tail, All-filter, All-map, All-from_get_or, Contains-get_or}
+use Rattle.std.proofs.lemmas.List.Elements.{All-nil, All-cons, All-append, All-tail, All-filter, All-map, All-from_get_or, Contains-get_or}
 use Rattle.std.proofs.lemmas.List.Sums.{sum_by-cons, sum_by-append, sum-map}
+use Rattle.std.proofs.lemmas.Bool.{cases_lt}
 use Rattle.std.proofs.Math.Nat.{mul-pos, div-mul_cancel, eq_of_mul-eq-mul_left, eq_of_mul-eq-mul_right, le_of_mul-le-mul_left, mul-le-mul_left}
 use Rattle.yds_model.specs.Job.{Job}
 use Rattle.yds_model.specs.Slot.{WrittenSlot, WholeSlot, IsScale, IsDivided, slot_at_scale, slots_at}
@@ -13,6 +14,7 @@ use Rattle.yds_model.specs.Level.{Level, no_level, level_at, all_members}
 use Rattle.yds_model.specs.Divisor.{common_divisor}
 use Rattle.yds_model.specs.Plan.{IsPlan, speed_num, speed_den}
 use Rattle.yds_model.specs.Table.{Point, point_at, AreRising, hull_of, hull_multiple}
+use Rattle.yds_model.specs.Rounding.{top_of, IsTooFast}
 use Rattle.yds_model.specs.Energy.{busy}
 use Rattle.yds_model.specs.Event.{stretches}
 use Rattle.yds_model.specs.Comparison.{work_in, time_at, all_time_at, stretch_at}
@@ -28,7 +30,7 @@ use Rattle.yds_round.specs.Rounded.{planned_in}
 use Rattle.yds_round.proofs.Cuts.{WorksOver}
 use Rattle.yds_round.proofs.Held.{IsHeld, back_at, whole, known, forward, held}
 use Rattle.yds_compare.specs.declared.load.Load.{Load}
-use Rattle.yds_compare.specs.Load.{level_load, level_loads}
+use Rattle.yds_compare.specs.Load.{level_load, level_loads, IsHeldAt}
 use Rattle.yds_compare.specs.Spent.{time_of_loads}
 use Rattle.yds_compare.proofs.Points.{idle_time}
 use Rattle.yds_compare.proofs.Proportion.{time_scaled}
@@ -107,10 +109,19 @@ module _ (jobs : List Job) (planned : List WrittenSlot) (levels : List Level) (p
     | inl none ↦
         let stretch = stretch_at jobs k in
         let empty : here stretch ≡ [] = ap (slots_at scale) none in
-        rw empty (record {
-          taken = omega (arith, ap (λ n. all_lengths levels * n) (idle_at (long stretch)));
-          short = omega arith;
-        })
+        let no_work : sum_by (λ slot. slot.work) (here stretch) ≡ 0 = ap (λ (xs : List WholeSlot). sum_by (λ slot. slot.work) xs) empty in
+        let no_time : busy (here stretch) ≡ 0 = ap (λ (xs : List WholeSlot). busy xs) empty in
+        let no_cost : sum_by slot_cost (here stretch) ≡ 0 = ap (λ (xs : List WholeSlot). sum_by slot_cost xs) empty in
+        let idle : at (long stretch) (sum_by (λ slot. slot.work) (here stretch)) ≡ long stretch * idle_part = ap (at (long stretch)) no_work ∙ idle_at (long stretch) in
+        record {
+          taken = omega (
+            arith,
+            ap (λ n. all_lengths levels * n) idle,
+            ap (λ n. all_lengths levels * idle_part * n) no_time,
+            no_cost,
+          );
+          short = omega (arith, no_time);
+        }
     | inr some ↦
         let stretch = stretch_at jobs k in
         let h = held jobs planned levels plan scale is k within some in
@@ -245,3 +256,33 @@ module _ (jobs : List Job) (planned : List WrittenSlot) (levels : List Level) (p
   pub plan_as_long : 1 * all_time_at jobs points scale (slots_at scale planned) speed
       ≡ scale * time_of_loads points (level_loads levels (sum_by length_of (stretches jobs))) speed
   plan_as_long = omega (arith, plan_long, ap (λ n. scale * n) (loads_long (sum_by length_of (stretches jobs))))
+
+-- # The loads of the levels
+
+-- the top point is fast enough for them
+pub levels_held : (points : List Point) (levels : List Level) (time : ℕ) → All (λ level. IsTooFast points level → ⊥) levels →
+    All (IsHeldAt (top_of points)) (level_loads levels time)
+levels_held points levels time slow =
+    let rest : Load = record { time = time - sum_by (λ level. level.length) levels; work = 0 } in
+    let none : IsHeldAt (top_of points) rest = omega arith in
+    All-append (IsHeldAt (top_of points)) (map level_load levels) (rest ∷ [])
+    (All-map (IsHeldAt (top_of points)) level_load levels (λ i d within. not_less (top_of points * (get_or levels i d).length) (get_or levels i d).work (slow i d within)))
+    (All-cons (IsHeldAt (top_of points)) rest [] none (All-nil (IsHeldAt (top_of points))))
+  where
+    not_less : (a b : ℕ) → (a < b → ⊥) → b ≤ a
+    not_less a b never = elim (cases_lt a b) [
+      | inl less ↦ absurd (never less)
+      | inr more ↦ omega (arith, more)
+    ]
+
+-- and they are together as long as the time
+pub level_times : (levels : List Level) (time : ℕ) → sum_by (λ level. level.length) levels ≤ time → sum_by (λ load. load.time) (level_loads levels time) ≡ time
+level_times levels time fits =
+    let rest : Load = record { time = time - sum_by (λ level. level.length) levels; work = 0 } in
+    omega (
+      arith,
+      sum_by-append (λ (load : Load). load.time) (map level_load levels) (rest ∷ []),
+      sum_by-map level_load (λ (load : Load). load.time) levels,
+      sum_by-cons (λ (load : Load). load.time) rest [],
+      fits,
+    )

@@ -69,7 +69,7 @@ none_less : (a b : ℕ) → (0 - a) * b ≡ 0
 none_less a b = let none : 0 - a ≡ 0 = omega arith in omega (arith, ap (λ n. n * b) none)
 
 -- no work takes all the time at the first point
-idle_time : (multiple time : ℕ) (hull : List Point) → AreRising hull → 1 ≤ length hull → (speed : ℕ) →
+pub idle_time : (multiple time : ℕ) (hull : List Point) → AreRising hull → 1 ≤ length hull → (speed : ℕ) →
     (if speed == (point_at hull 0).speed then time * multiple else 0) ≡ time_at multiple time 0 hull speed
 idle_time multiple time [] rising some speed = absurd (omega (arith, some))
 idle_time multiple time (only ∷ []) rising some speed = refl

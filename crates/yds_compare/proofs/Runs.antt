@@ -17,7 +17,7 @@ use Rattle.yds_model.specs.Piece.{Piece}
 use Rattle.yds_model.specs.Plan.{IsOver}
 use Rattle.yds_model.specs.Table.{Point, hull_of, hull_multiple}
 use Rattle.yds_model.specs.Event.{stretches, LiesIn}
-use Rattle.yds_model.specs.Policy.{slots_in}
+use Rattle.yds_model.specs.Policy.{slots_in, IsRunAt, HasRunDenominators}
 use Rattle.yds_model.specs.Rounding.{top_of}
 use Rattle.yds_model.specs.Comparison.{work_in, time_at, all_time_at, HoldsStretch, stretch_at, Spent, HoldsAll, IsTooSlowFor}
 use Rattle.yds_model.proofs.Horizon.{part_own}
@@ -232,3 +232,14 @@ load_times grid slots (piece ∷ pieces) =
       ap (λ n. n * grid) (sum_by-cons length_of piece pieces),
       load_times grid slots pieces,
     )
+
+-- a policy's run is a run on its grid
+pub run_on_grid : (jobs : List Job) (grid : ℕ) (slots : List WrittenSlot) (capacity : ℕ → List WholeSlot → Piece → ℕ) →
+    AtEachScale slots (λ scale whole. IsRunAt jobs grid scale (capacity scale whole) whole) → All (HasRunDenominators jobs grid) slots → IsRunOnGrid jobs grid slots
+run_on_grid jobs grid slots capacity run dens =
+    let scale = scale_exists slots run.solid in
+    record {
+      feasible = record { solid = run.solid; holds = λ n is. (run.holds n is).feasible };
+      works = λ i d within. (dens i d within).work;
+      few = omega (arith, (run.holds scale.0 scale.1).few, length-map slots (slot_at_scale scale.0));
+    }

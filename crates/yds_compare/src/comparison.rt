@@ -62,8 +62,11 @@ fn plan_spent(
     requires fast_enough { HasFastLevel plan.now.certificate table.now → ⊥ }
     ensures { IfOk result (λ spent. IsSpent rows.now table.now plan.now.schedule.slots spent) }
 {
+    // Reading the hull shows that its speeds rise.
+    let _hull = table.hull();
     let loads = loads_of_levels(alloc, plan.certificate.levels(), time)?;
-    spend(alloc, &loads, 1, table)
+    let spent = spend(alloc, &loads, 1, table)?;
+    Ok(spent)
 }
 
 /// Compares the plan of these jobs with the runs of Average Rate and of Optimal Available on the grid.
