@@ -1,9 +1,8 @@
 -- What loads spend is what slots spend at a scale, where they take as long at each point.
-use Rattle.std.proofs.Common.{◌≡◌, ℕ, ◌+◌, ◌-◌, ◌*◌, ◌≤◌, List, [], ◌∷◌, map, get_or, refl, sym, ap, ◌∙◌, arith}
-use Rattle.std.specs.Prelude.{sum_by}
+use Rattle.std.proofs.Common.{◌≡◌, ℕ, ◌*◌, ◌≤◌, List, get_or, sym, ap, ◌∙◌}
 use Rattle.yds_model.specs.Job.{Job}
 use Rattle.yds_model.specs.Slot.{WholeSlot}
-use Rattle.yds_model.specs.Table.{Point, hull_of, hull_multiple}
+use Rattle.yds_model.specs.Table.{Point}
 use Rattle.yds_model.specs.Comparison.{Spent, IsSpentAt, all_time_at, all_energy, in_parts}
 use Rattle.yds_model.proofs.Scale.{shifted}
 use Rattle.yds_model.proofs.Sums.{sum_by-mul, sum_by_same}

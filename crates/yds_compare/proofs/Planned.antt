@@ -1,16 +1,16 @@
 -- What a plan's slots take at each point, stretch by stretch, is what its levels take, and the time outside them.
-use Rattle.std.proofs.Common.{◌≡◌, ℕ, zero, suc, ◌+◌, ◌-◌, ◌*◌, ◌/◌, ◌<◌, ◌≤◌, ◌⊎◌, ◌==◌, Bool, true, false, List, [], ◌∷◌, ◌++◌, length, map, get_or, refl, sym, ap, ap₂, subst, ◌∙◌, arith, inl, inr}
-use Rattle.std.specs.Prelude.{sum, sum_by, if◌then◌else◌}
-use Rattle.std.specs.List.{All, Contains, flat_map}
+use Rattle.std.proofs.Common.{◌≡◌, ℕ, ◌+◌, ◌-◌, ◌*◌, ◌<◌, ◌≤◌, ◌⊎◌, ◌==◌, Bool, true, false, List, [], ◌∷◌, length, map, get_or, refl, sym, ap, ap₂, ◌∙◌, arith, inl, inr}
+use Rattle.std.specs.Prelude.{sum_by, if◌then◌else◌}
+use Rattle.std.specs.List.{All, flat_map}
 use Rattle.std.proofs.lemmas.List.{length-map, get_or-map}
 use Rattle.std.proofs.lemmas.List.Elements.{All-nil, All-cons, All-append, All-tail, All-filter, All-map, All-from_get_or, Contains-get_or}
 use Rattle.std.proofs.lemmas.List.Sums.{sum_by-cons, sum_by-append, sum-map}
 use Rattle.std.proofs.lemmas.Bool.{cases_lt}
-use Rattle.std.proofs.Math.Nat.{mul-pos, div-mul_cancel, eq_of_mul-eq-mul_left, eq_of_mul-eq-mul_right, le_of_mul-le-mul_left, mul-le-mul_left}
+use Rattle.std.proofs.Math.Nat.{mul-pos, div-mul_cancel, eq_of_mul-eq-mul_left, eq_of_mul-eq-mul_right, le_of_mul-le-mul_left}
 use Rattle.yds_model.specs.Job.{Job}
 use Rattle.yds_model.specs.Slot.{WrittenSlot, WholeSlot, IsScale, IsDivided, slot_at_scale, slots_at}
 use Rattle.yds_model.specs.Piece.{Piece}
-use Rattle.yds_model.specs.Level.{Level, no_level, level_at, all_members}
+use Rattle.yds_model.specs.Level.{Level, no_level, level_at}
 use Rattle.yds_model.specs.Divisor.{common_divisor}
 use Rattle.yds_model.specs.Plan.{IsPlan, speed_num, speed_den}
 use Rattle.yds_model.specs.Table.{Point, point_at, AreRising, hull_of, hull_multiple}
@@ -19,22 +19,20 @@ use Rattle.yds_model.specs.Energy.{busy}
 use Rattle.yds_model.specs.Event.{stretches}
 use Rattle.yds_model.specs.Comparison.{work_in, time_at, all_time_at, stretch_at}
 use Rattle.yds_model.proofs.Divisor.{divisor_is_greatest}
-use Rattle.yds_model.proofs.Sums.{sum_by-add, sum_by-mul, sum_by_same, sum_by_at_most}
+use Rattle.yds_model.proofs.Sums.{sum_by_same}
 use Rattle.yds_events.specs.Stretch.{length_of}
 use Rattle.yds_slots.specs.Between.{lies_between}
 use Rattle.yds_plan.proofs.KeySums.{sum_by-map, sum_by-flat_map}
 use Rattle.yds_laws.proofs.LevelTimes.{levels_long, plan_busy}
-use Rattle.yds_laws.proofs.PlanParts.{IsPartOfPlan, HasSpeeds, plan_part}
+use Rattle.yds_laws.proofs.PlanParts.{HasSpeeds, plan_part}
 use Rattle.yds_round.specs.Written.{total_units}
 use Rattle.yds_round.specs.Rounded.{planned_in}
-use Rattle.yds_round.proofs.Cuts.{WorksOver}
-use Rattle.yds_round.proofs.Held.{IsHeld, back_at, whole, known, forward, held}
+use Rattle.yds_round.proofs.Held.{back_at, whole, known, forward, held}
 use Rattle.yds_compare.specs.declared.load.Load.{Load}
 use Rattle.yds_compare.specs.Load.{level_load, level_loads, IsHeldAt}
 use Rattle.yds_compare.specs.Spent.{time_of_loads}
 use Rattle.yds_compare.proofs.Points.{idle_time}
 use Rattle.yds_compare.proofs.Proportion.{time_scaled}
-use Rattle.yds_compare.proofs.Agreeing.{TakeAsLong}
 use Rattle.yds_compare.proofs.Runs.{slots_in_stretch, units_sum}
 use Rattle.yds_compare.proofs.Rates.{all_lengths, lengths_positive, rate, rate_member, rates_together, level_rates}
 

@@ -1,5 +1,5 @@
 -- How long a load runs at the points of a hull.
-use Rattle.std.proofs.Common.{◌≡◌, ℕ, zero, suc, ◌+◌, ◌-◌, ◌*◌, ◌/◌, ◌<◌, ◌≤◌, ◌==◌, Bool, true, false, List, [], ◌∷◌, length, get_or, refl, sym, ap, subst, ◌∙◌, arith, inl, inr}
+use Rattle.std.proofs.Common.{◌≡◌, ℕ, zero, suc, ◌+◌, ◌-◌, ◌*◌, ◌/◌, ◌<◌, ◌≤◌, ◌==◌, Bool, true, false, List, [], ◌∷◌, length, refl, sym, ap, subst, ◌∙◌, arith, inl, inr}
 use Rattle.std.specs.Prelude.{nat_le, if◌then◌else◌}
 use Rattle.std.specs.List.{All, slice_index_or}
 use Rattle.std.specs.Int.{◌∣◌}
@@ -131,9 +131,9 @@ found points hull load (suc place) low high is rising first some is_low is_high 
       is_high = higher;
       rises = rw (lower, higher) (rises_at hull place rising first.within);
       divides = rw (lower, higher, is) (
-        let next : suc place ≡ place + 1 = omega arith in
-        subst (λ (n : ℕ). (point_at (hull_of points) n).speed - (point_at (hull_of points) place).speed ∣ hull_multiple points) (sym next)
-        (gap_divides (hull_of points) place (omega (arith, first.within, ap (λ (h : List Point). length h) is))));
+          let next : suc place ≡ place + 1 = omega arith in
+          subst (λ (n : ℕ). (point_at (hull_of points) n).speed - (point_at (hull_of points) place).speed ∣ hull_multiple points) (sym next)
+          (gap_divides (hull_of points) place (omega (arith, first.within, ap (λ (h : List Point). length h) is))));
       above_low = rw lower (let less = first.slower place (omega arith) in omega (arith, less));
       below_high = rw higher first.fast_enough;
       slower = λ k one below. first.slower k below;

@@ -1,9 +1,8 @@
 -- The time at a point of more time and work in the same proportion, and equal parts as fractions.
-use Rattle.std.proofs.Common.{◌≡◌, ℕ, ◌-◌, ◌*◌, ◌/◌, ◌≤◌, List, [], ◌∷◌, refl, ap, sym, ◌∙◌, arith, Bool, true, false}
+use Rattle.std.proofs.Common.{◌≡◌, ℕ, ◌-◌, ◌*◌, ◌/◌, ◌≤◌, List, [], ◌∷◌, refl, ap, arith, Bool, true, false}
 use Rattle.std.specs.Prelude.{nat_le, ◌==◌, if◌then◌else◌}
 use Rattle.std.proofs.Math.Nat.{mul-sub, mul-pos}
 use Rattle.yds_model.specs.Table.{Point, hull_multiple}
-use Rattle.yds_model.specs.Divisor.{in_lowest_terms}
 use Rattle.yds_model.specs.Comparison.{time_at, in_parts}
 use Rattle.yds_model.proofs.Divisor.{lowest_terms_are_one}
 use Rattle.yds_model.proofs.Scale.{shifted}

@@ -101,4 +101,3 @@ level_rates levels costs long share (slot ∷ slots) each =
       ap (λ n. n * time) (All-head (λ one. rate levels costs one.job * long ≡ share) slot slots each),
       level_rates levels costs long share slots (All-tail (λ one. rate levels costs one.job * long ≡ share) slot slots each),
     )
-

@@ -1,6 +1,6 @@
 -- What a run on a grid does in each stretch.
-use Rattle.std.proofs.Common.{◌≡◌, ℕ, zero, suc, ◌+◌, ◌-◌, ◌*◌, ◌^◌, ◌<◌, ◌≤◌, ◌==◌, Bool, true, false, List, [], ◌∷◌, length, map, get_or, refl, sym, ap, ap₂, subst, ◌∙◌, arith, inl, inr, leb-true}
-use Rattle.std.specs.Prelude.{sum_by, nat_le, ◌&&◌, cond, if◌then◌else◌}
+use Rattle.std.proofs.Common.{◌≡◌, ℕ, ◌-◌, ◌*◌, ◌^◌, ◌<◌, ◌≤◌, ◌==◌, Bool, true, false, List, [], ◌∷◌, length, get_or, refl, sym, ap, ap₂, subst, ◌∙◌, arith, inl, inr, leb-true}
+use Rattle.std.specs.Prelude.{sum_by, nat_le, ◌&&◌, if◌then◌else◌}
 use Rattle.std.specs.List.{All, filter}
 use Rattle.std.specs.Cmp.Derive.{both_true}
 use Rattle.std.proofs.lemmas.Bool.{cases_Bool, le-leb}
@@ -8,21 +8,20 @@ use Rattle.std.proofs.lemmas.List.{length-map, get_or-map}
 use Rattle.std.proofs.lemmas.List.Elements.{All-tail, All-filter, All-from_get_or}
 use Rattle.std.proofs.lemmas.List.Sums.{sum_by-cons, sum_by-le, get_or-le-sum_by}
 use Rattle.std.proofs.Math.Bool.{true-and, false-and}
-use Rattle.std.proofs.Math.Nat.{mul-le-mul, mul-le-mul_right, mul-le-mul_left, le_of_mul-le-mul_right, le_of_mul-le-mul_left, mul-pos}
+use Rattle.std.proofs.Math.Nat.{mul-le-mul, mul-le-mul_right, mul-le-mul_left, le_of_mul-le-mul_right, le_of_mul-le-mul_left}
 use Rattle.yds_model.specs.declared.limits.TheConstants.{MAX_JOBS, MAX_WORK, MAX_GRID}
 use Rattle.yds_model.specs.Numbers.{IsFirstFailure}
-use Rattle.yds_model.specs.Job.{Job, IsJob, no_job, job_at}
-use Rattle.yds_model.specs.Slot.{WrittenSlot, WholeSlot, IsScale, IsDivided, AtEachScale, slot_at_scale, slots_at, work_given, no_slot}
+use Rattle.yds_model.specs.Job.{Job, IsJob, no_job}
+use Rattle.yds_model.specs.Slot.{WrittenSlot, WholeSlot, IsScale, IsDivided, AtEachScale, slot_at_scale, slots_at}
 use Rattle.yds_model.specs.Piece.{Piece}
-use Rattle.yds_model.specs.Plan.{IsOver}
 use Rattle.yds_model.specs.Table.{Point, hull_of, hull_multiple}
-use Rattle.yds_model.specs.Event.{stretches, LiesIn}
+use Rattle.yds_model.specs.Event.{stretches}
 use Rattle.yds_model.specs.Policy.{slots_in, IsRunAt, HasRunDenominators}
 use Rattle.yds_model.specs.Rounding.{top_of}
-use Rattle.yds_model.specs.Comparison.{work_in, time_at, all_time_at, HoldsStretch, stretch_at, Spent, HoldsAll, IsTooSlowFor}
+use Rattle.yds_model.specs.Comparison.{work_in, time_at, HoldsStretch, stretch_at, Spent, HoldsAll, IsTooSlowFor}
 use Rattle.yds_model.proofs.Horizon.{part_own}
-use Rattle.yds_model.proofs.Scale.{shifted, scale_exists}
-use Rattle.yds_events.specs.Stretch.{length_of, no_stretch}
+use Rattle.yds_model.proofs.Scale.{scale_exists}
+use Rattle.yds_events.specs.Stretch.{length_of}
 use Rattle.yds_slots.specs.Between.{lies_between}
 use Rattle.yds_round.specs.Written.{units_of, total_units}
 use Rattle.yds_round.specs.Rounded.{planned_in}

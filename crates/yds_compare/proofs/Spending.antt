@@ -1,11 +1,11 @@
 -- What loads spend, by the shares of each.
-use Rattle.std.proofs.Common.{◌≡◌, ℕ, zero, suc, ◌+◌, ◌*◌, ◌/◌, ◌%◌, ◌^◌, ◌<◌, ◌≤◌, List, [], ◌∷◌, ◌++◌, length, get_or, take, refl, sym, ap, ap₂, ◌∙◌, arith}
+use Rattle.std.proofs.Common.{◌≡◌, ℕ, ◌+◌, ◌*◌, ◌/◌, ◌%◌, ◌<◌, ◌≤◌, List, [], ◌∷◌, ◌++◌, length, get_or, take, refl, sym, ap, ap₂, ◌∙◌, arith}
 use Rattle.std.specs.Prelude.{sum_by}
 use Rattle.std.specs.List.{All, AllZip}
 use Rattle.std.proofs.lemmas.List.{take_more}
 use Rattle.std.proofs.lemmas.List.Sums.{sum_by-cons, sum_by-le, sum_by_more_le}
-use Rattle.std.proofs.Math.Nat.{mul-le-mul, mul-le-mul_right, mul-le-mul_left, le_of_mul-le-mul_right}
-use Rattle.yds_model.specs.declared.limits.TheConstants.{MAX_GRID, MAX_TIME, MAX_POINTS, MAX_POINT_POWER, MAX_GAPS, MAX_WHOLE}
+use Rattle.std.proofs.Math.Nat.{mul-le-mul, mul-le-mul_right, le_of_mul-le-mul_right}
+use Rattle.yds_model.specs.declared.limits.TheConstants.{MAX_GRID, MAX_TIME, MAX_POINTS, MAX_POINT_POWER, MAX_GAPS}
 use Rattle.yds_model.specs.Table.{Point, hull_of, hull_multiple}
 use Rattle.yds_model.specs.Within.{ArePoints}
 use Rattle.yds_model.specs.Comparison.{time_at}

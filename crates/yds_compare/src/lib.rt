@@ -16,4 +16,3 @@ mod spent;
 pub use comparison::{Comparison, compare};
 pub use side::Side;
 pub use spent::Spent;
-

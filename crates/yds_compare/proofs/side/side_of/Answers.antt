@@ -1,6 +1,5 @@
-use Rattle.std.proofs.Common.{◌≡◌, ◌*◌, ◌≤◌, ◌<◌, ◌^◌, ℕ, List, get_or, length, ap, ap₂, sym, subst, ◌∙◌, arith}
+use Rattle.std.proofs.Common.{◌≡◌, ◌*◌, ◌<◌, List, get_or, length, ap, ap₂, sym, ◌∙◌, arith}
 use Rattle.std.specs.Prelude.{sum_by}
-use Rattle.std.specs.List.{All}
 use Rattle.std.proofs.lemmas.List.{get_or_read, length-map}
 use Rattle.std.proofs.Math.Nat.{mul-le-mul_right}
 use Rattle.yds_model.specs.Numbers.{IsFirstFailure}
@@ -9,11 +8,8 @@ use Rattle.yds_model.specs.Event.{stretches}
 use Rattle.yds_model.specs.Rounding.{top_of}
 use Rattle.yds_model.proofs.Scale.{scale_exists}
 use Rattle.yds_events.specs.Stretch.{length_of, no_stretch}
-use Rattle.yds_round.specs.Written.{total_units}
-use Rattle.yds_round.specs.Rounded.{planned_in}
 use Rattle.yds_compare.specs.declared.load.Load.{Load}
 use Rattle.yds_compare.specs.Load.{load_of, loads_of, load_at, IsHeldAt}
-use Rattle.yds_compare.specs.Spent.{IsSpentOn}
 use Rattle.yds_compare.proofs.Runs.{spends, too_slow_for, units_few, load_times}
 use Rattle.yds_compare.proofs.side.side_of.Goals as goal
 

@@ -1,16 +1,16 @@
-use Rattle.std.proofs.Common.{◌≡◌, ℕ, ◌+◌, ◌*◌, ◌/◌, ◌≤◌, ◌++◌, ◌∷◌, [], List, length, map, take, get_or, refl, sym, ap, ap₂, subst, ◌∙◌, arith}
+use Rattle.std.proofs.Common.{◌≡◌, ℕ, ◌*◌, ◌++◌, ◌∷◌, [], List, map, take, get_or, sym, ap, ap₂, ◌∙◌, arith}
 use Rattle.std.specs.Prelude.{sum_by}
-use Rattle.std.proofs.lemmas.List.{take_all, take_more, map-append}
+use Rattle.std.proofs.lemmas.List.{take_more, map-append}
 use Rattle.std.proofs.lemmas.List.Sums.{sum_by_more, sum_by-take-le}
 use Rattle.std.proofs.Math.Nat.{mul-pos}
-use Rattle.yds_model.specs.declared.limits.TheConstants.{MAX_TIME, MAX_POINTS, MAX_POINT_POWER, MAX_GRID, MAX_GAPS, MAX_WHOLE}
+use Rattle.yds_model.specs.declared.limits.TheConstants.{MAX_TIME, MAX_POINTS, MAX_POINT_POWER}
 use Rattle.yds_model.specs.Scale.{Fraction}
 use Rattle.yds_model.specs.Table.{Point, hull_of, hull_multiple}
 use Rattle.yds_model.specs.Divisor.{in_lowest_terms}
 use Rattle.yds_model.specs.Comparison.{in_parts}
 use Rattle.yds_compare.specs.declared.share.Share.{Share}
 use Rattle.yds_compare.specs.Share.{share_at}
-use Rattle.yds_compare.specs.Spent.{time_of_loads, energy_of_loads}
+use Rattle.yds_compare.specs.Spent.{time_of_loads}
 use Rattle.yds_compare.proofs.Spending.{time_is, time_within, energy_within, next_within, whole_within, den_within}
 use Rattle.yds_compare.proofs.spent.spend.Goals as goal
 

@@ -1,8 +1,8 @@
-use Rattle.std.proofs.Common.{◌≡◌, ◌*◌, ap, ap₂, sym, subst, ◌∙◌, arith, get_or}
+use Rattle.std.proofs.Common.{◌≡◌, ◌*◌, ap, ap₂, subst, ◌∙◌, get_or}
 use Rattle.std.proofs.lemmas.List.{get_or_read}
-use Rattle.yds_model.specs.Table.{Point, no_point, hull_of, hull_multiple}
+use Rattle.yds_model.specs.Table.{Point, no_point}
 use Rattle.yds_compare.specs.Share.{IsFirstHolding}
-use Rattle.yds_compare.proofs.Points.{AreFound, found, found_share, idle_share}
+use Rattle.yds_compare.proofs.Points.{found, found_share, idle_share}
 use Rattle.yds_compare.proofs.share.Share.of.Goals as goal
 
 pub returns-then-place-eq0 : goal.returns-then-place-eq0
