@@ -1,5 +1,5 @@
 -- A comparison is answered by what the plan and the runs spend.
-use Rattle.std.proofs.Common.{◌≡◌, ℕ, ◌≤◌, List, [], ◌∷◌, ◌++◌, length, refl, sym, ap, subst, ◌∙◌, append_assoc, inr}
+use Rattle.std.proofs.Common.{◌≡◌, ℕ, ◌<◌, ◌≤◌, ◌⊎◌, List, [], ◌∷◌, ◌++◌, length, get_or, refl, sym, ap, ap₂, subst, ◌∙◌, append_assoc, arith, inl, inr}
 use Rattle.std.specs.Prelude.{codes, decimal}
 use Rattle.yds_model.specs.declared.status.Status.TheVariants as statuses
 use Rattle.yds_model.specs.Job.{Job}
@@ -23,7 +23,10 @@ use Rattle.yds_run.specs.Compare.{sides_text}
 use Rattle.yds_run.proofs.TooSlow.{on_points}
 use Rattle.yds_run.proofs.Comments.{next_field}
 use Rattle.yds_run.proofs.ToldLines.{spaced_line}
+use Rattle.std.specs.List.{zip}
 use Rattle.std.proofs.lemmas.List.{append-nil}
+use Rattle.std.proofs.lemmas.Slice.Zip.{length-zip, get_or-zip}
+use Rattle.yds_model.specs.Scale.{Fraction}
 
 -- what is known of the parts of a comparison is what its answer says
 abbrev pub Answers : Document → ℕ → List WrittenSlot → List Level → Comparison → List Job → List Point → Type 0
@@ -59,8 +62,8 @@ answers_itself document grid planned levels comparison some plan slow spent aver
       optimal_run = optimal.1;
       optimal_side = side_view comparison.oa;
       is_optimal = optimal.2;
-      said = append_assoc plan_text (average_text ++ average_count) (optimal_text ++ optimal_count)
-          ∙ ap (λ l. plan_text ++ l) (append_assoc average_text average_count (optimal_text ++ optimal_count));
+      said = sym (append_assoc (plan_text ++ (average_text ++ average_count)) optimal_text optimal_count)
+          ∙ ap (λ l. (l ++ optimal_text) ++ optimal_count) (sym (append_assoc plan_text average_text average_count));
       ended = refl;
     }))
 
@@ -87,3 +90,18 @@ side_line name fault first units second from third to fourth top =
     (next_field name (fault ∷ []) first _
     (next_field name [] fault name (sym (append-nil name)))))))))))
     ∙ spaced_line name (fault ∷ first ∷ units ∷ second ∷ from ∷ third ∷ to ∷ fourth ∷ top ∷ [])
+
+-- the line of a point and the time beside it
+pub timed_within : (table : List Point) (times : List Fraction) (i : ℕ) → i < length table → i < length times → i < length (zip table times)
+timed_within table times i in_table in_times = omega (arith, length-zip table times)
+
+pub timed_at : (table : List Point) (times : List Fraction) (i : ℕ) (point : Point) (time : Fraction) → i < length table → i < length times →
+    point ≡ get_or table i point → time ≡ get_or times i time → get_or (zip table times) i (point, time) ≡ (point, time)
+timed_at table times i point time in_table in_times is_point is_time =
+    get_or-zip table times i (point, time) in_table in_times
+    ∙ ap₂ (λ (p : Point) (t : Fraction). (p, t)) (sym is_point) (sym is_time)
+
+-- there are no more lines than points, and than times
+pub timed_few : (table : List Point) (times : List Fraction) (i : ℕ) → (length table ≤ i) ⊎ (length times ≤ i) → length (zip table times) ≤ i
+timed_few table times i (inl few) = omega (arith, few, length-zip table times)
+timed_few table times i (inr few) = omega (arith, few, length-zip table times)
