@@ -13,6 +13,7 @@ mod lowest;
 
 pub use bends::{Break, curve};
 pub use excess::least_above;
+pub use lowest::in_lowest_terms;
 
 #[cfg(test)]
 mod tests;

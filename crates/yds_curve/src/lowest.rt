@@ -5,7 +5,7 @@ ghost use Rattle.yds_model.specs.Divisor.{in_lowest_terms};
 use yds_fraction::Amount;
 
 /// So many parts, of which `den` make one, in lowest terms.
-pub(crate) fn in_lowest_terms(parts: u128, den: u64) -> Amount
+pub fn in_lowest_terms(parts: u128, den: u64) -> Amount
     requires some { 1 ≤ den }
     requires den_in_range { den ≤ MAX_DENOMINATOR }
     requires whole_in_range { parts / den ≤ MAX_WHOLE }

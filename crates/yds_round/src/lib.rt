@@ -15,7 +15,7 @@ mod rounding;
 mod split;
 
 pub use fault::RoundFault;
-pub use rounding::{Rounded, round};
+pub use rounding::{Rounded, fault_of, round};
 
 #[cfg(test)]
 mod tests;

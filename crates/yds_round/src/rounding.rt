@@ -35,8 +35,8 @@ pub struct Rounded {
     pub energy: Amount,
 }
 
-/// Why a plan of these levels can't be rounded: the first of them is faster than the table's last point.
-fn fault_of(table: &Table, levels: &[Level]) -> Option<RoundFault>
+/// Why a plan of these levels can't be rounded: the first of them is faster than the table's last point. Takes no memory.
+pub fn fault_of(table: &Table, levels: &[Level]) -> Option<RoundFault>
     ensures { MatchOption result (¬ (HasFastLevel levels.now table.now))
         (λ fault. HasFastLevel levels.now table.now × (fault ≡ too_slow levels.now table.now)) }
 {

@@ -1,4 +1,4 @@
--- What words ask for of what is built.
+-- What words ask for.
 use Rattle.std.proofs.Common.{◌≡◌, ◌≤◌, length, arith, List, [], ◌∷◌, None, refl}
 use Rattle.std.specs.Prelude.{String}
 use Rattle.std.specs.declared.alloc.Global.{Global}

@@ -11,7 +11,7 @@ spaced_more (first ∷ words) word =
     ap (λ l. 32 ∷ l) (append_assoc first (spaced words) (32 ∷ word) ∙ ap (λ l. first ++ l) (spaced_more words word))
 
 -- one field more
-next_field : (first : List ℕ) (words : List (List ℕ)) (word text : List ℕ) → text ≡ first ++ spaced words → text ++ 32 ∷ word ≡ first ++ spaced (words ++ word ∷ [])
+pub next_field : (first : List ℕ) (words : List (List ℕ)) (word text : List ℕ) → text ≡ first ++ spaced words → text ++ 32 ∷ word ≡ first ++ spaced (words ++ word ∷ [])
 next_field first words word text is =
     ap (λ l. l ++ 32 ∷ word) is ∙ append_assoc first (spaced words) (32 ∷ word) ∙ ap (λ l. first ++ l) (spaced_more words word)
 

@@ -6,3 +6,4 @@ pub mod Complete
 pub mod Comments
 pub mod Admitting
 pub mod TooSlow
+pub mod Compared

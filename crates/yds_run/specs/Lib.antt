@@ -9,6 +9,7 @@ pub mod Report
 pub mod Round
 pub mod ReportJson
 pub mod Curve
+pub mod Compare
 pub mod Trial
 pub mod Admit
 pub mod Policies

@@ -1,4 +1,4 @@
--- The words of the command line, as bytes, and what they ask for of what is built.
+-- The words of the command line, as bytes, and what they ask for.
 use Rattle.std.specs.Prelude.{ℕ, ◌≤◌, List, map, String, string_bytes, Option, Some, None, true, false}
 use Rattle.std.specs.declared.alloc.Global.{Global}
 use Rattle.yds_model.specs.declared.limits.TheConstants.{MAX_GRID, MAX_TRIAL_JOBS, MAX_TOP}
@@ -11,13 +11,8 @@ use Rattle.yds_run.specs.declared.command.Command.TheVariants as commands
 abbrev pub words_of : List (String Global) → List (List ℕ)
 words_of words = map string_bytes words
 
--- What isn't built yet is asked for as nothing is: a command that is built loses its line here.
-abbrev pub built : Option Request → Option Request
-built (Some (OfDocument (AskCompare grid))) = None
-built request = request
-
 abbrev pub asked : List (List ℕ) → Option Request
-asked words = built (request_of words)
+asked words = request_of words
 
 -- a trial is asked for
 abbrev pub IsTrial : Option Request → Type 0
@@ -43,6 +38,7 @@ question_view (questions.Report false) = AskReport
 question_view (questions.Report true) = AskReportAsJson
 question_view (questions.Admit top) = AskAdmit top
 question_view questions.Curve = AskCurve
+question_view (questions.Compare grid) = AskCompare grid
 
 -- what a command answers
 abbrev pub request_view : Command → Request
@@ -54,6 +50,7 @@ request_view (commands.Trial seed jobs) = OfTrial seed jobs
 abbrev pub IsAskable : Question → Type 0
 IsAskable (questions.AverageRate grid) = (1 ≤ grid) × (grid ≤ MAX_GRID)
 IsAskable (questions.OptimalAvailable grid) = (1 ≤ grid) × (grid ≤ MAX_GRID)
+IsAskable (questions.Compare grid) = (1 ≤ grid) × (grid ≤ MAX_GRID)
 IsAskable (questions.Admit top) = (1 ≤ top) × (top ≤ MAX_TOP)
 IsAskable _ = Unit {0}
 

@@ -3,7 +3,7 @@ ghost use Rattle.std.specs.Result.{result_ok};
 ghost use Rattle.yds_model.specs.Spelling.{number_at};
 ghost use Rattle.yds_model.specs.declared.limits.TheConstants.{MAX_GRID, MAX_SEED, MAX_TRIAL_JOBS};
 ghost use Rattle.yds_model.specs.Request.{request_of_word, request_of_two, request_of_three, request_of_trial, request_of_grid};
-ghost use Rattle.yds_run.specs.Words.{words_of, built, asked, request_view, IsWithinLimits};
+ghost use Rattle.yds_run.specs.Words.{words_of, asked, request_view, IsWithinLimits};
 
 use yds_model::limits::{MAX_GRID, MAX_SEED, MAX_TOP, MAX_TRIAL_JOBS};
 use yds_text::number_of;
@@ -39,6 +39,11 @@ pub enum Question {
     },
     /// The curve of least excess of the document's jobs.
     Curve,
+    /// What the plan and the runs of both policies on a grid spend on the document's operating points.
+    Compare {
+        /// The works of the runs are multiples of one part in so many.
+        grid: u32,
+    },
     /// The jobs that a processor of this top speed can serve, in work per time unit.
     Admit {
         /// The top speed, from 1 to `MAX_TOP`.
@@ -64,7 +69,7 @@ pub enum Command {
 
 impl Command {
     /// The command that the words name, without the program's name among them. None where they name no
-    /// command that is built. It takes no memory.
+    /// command. It takes no memory.
     pub fn of(words: &[String]) -> Option<Command>
         ensures asked { option_map request_view result ≡ asked (words_of words.now) }
         ensures within { IfSome result IsWithinLimits }
@@ -80,7 +85,7 @@ impl Command {
 
 /// The command of one word.
 fn of_word(word: &str) -> Option<Command>
-    ensures asked { option_map request_view result ≡ built (request_of_word word.now) }
+    ensures asked { option_map request_view result ≡ request_of_word word.now }
     ensures within { IfSome result IsWithinLimits }
 {
     match word {
@@ -97,7 +102,7 @@ fn of_word(word: &str) -> Option<Command>
 
 /// The command of a word and what follows it.
 fn of_two(word: &str, next: &str) -> Option<Command>
-    ensures asked { option_map request_view result ≡ built (request_of_two word.now next.now) }
+    ensures asked { option_map request_view result ≡ request_of_two word.now next.now }
     ensures within { IfSome result IsWithinLimits }
 {
     match (word, next) {
@@ -111,9 +116,9 @@ fn of_two(word: &str, next: &str) -> Option<Command>
     }
 }
 
-/// The command of three words: a trial, with its seed and its number of jobs, or a policy with its grid.
+/// The command of three words: a trial, with its seed and its number of jobs, or a command of the policies with its grid.
 fn of_three(word: &str, next: &str, last: &str) -> Option<Command>
-    ensures asked { option_map request_view result ≡ built (request_of_three word.now next.now last.now) }
+    ensures asked { option_map request_view result ≡ request_of_three word.now next.now last.now }
     ensures within { IfSome result IsWithinLimits }
 {
     match (word, next) {
@@ -135,13 +140,14 @@ fn of_trial(seed: &str, jobs: &str) -> Option<Command>
 
 /// The command of a word that a grid follows.
 fn of_grid(word: &str, grid: &str) -> Option<Command>
-    ensures asked { option_map request_view result ≡ built (request_of_grid word.now (number_at 1 MAX_GRID grid.now)) }
+    ensures asked { option_map request_view result ≡ request_of_grid word.now (number_at 1 MAX_GRID grid.now) }
     ensures within { IfSome result IsWithinLimits }
 {
     let grid = number_in(grid, 1, MAX_GRID)?;
     match word {
         "avr" => Some(Command::Document(Question::AverageRate { grid })),
         "oa" => Some(Command::Document(Question::OptimalAvailable { grid })),
+        "compare" => Some(Command::Document(Question::Compare { grid })),
         _ => None,
     }
 }

@@ -15,6 +15,7 @@ mod answer;
 mod audit;
 mod check;
 mod command;
+mod compare;
 mod curve;
 mod deliver;
 mod expand;

@@ -84,7 +84,7 @@ pub fn round_document<'a>(
 }
 
 /// The line of a level's work and length, in units of work and of time, and of the top speed, in work per time unit.
-fn too_slow_line(work: u64, length: u64, top: u32) -> LineBuffer
+pub(crate) fn too_slow_line(work: u64, length: u64, top: u32) -> LineBuffer
     ensures { result ≡ line (codes "too-slow" ∷ codes "work" ∷ decimal work ∷ codes "length" ∷ decimal length ∷ codes "top" ∷ decimal top ∷ []) }
 {
     LineBuffer::new("too-slow")

@@ -17,6 +17,7 @@ use crate::answer::Answer;
 use crate::audit::{audit_document, audit_on_points};
 use crate::check::check_document;
 use crate::command::{Command, Question};
+use crate::compare::compare_document;
 use crate::curve::curve_document;
 use crate::deliver::deliver;
 use crate::expand::expand_input;
@@ -179,6 +180,7 @@ fn answer_document<K: Sink>(
         Question::Report { json: false } => reply(report_document(alloc, document), sink),
         Question::Report { json: true } => reply(json_document(alloc, &document), sink),
         Question::Curve => reply(curve_document(alloc, &document), sink),
+        Question::Compare { grid } => reply(compare_document(alloc, document, grid), sink),
         Question::Admit { top } => reply(admit_document(alloc, document, top), sink),
     }
 }

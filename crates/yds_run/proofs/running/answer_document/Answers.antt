@@ -49,6 +49,12 @@ returns-in-Curve g c =
     c.args.sink.now c.reply-in-Curve.new.sink) (sym c.in-Curve.is)
     (made_replies _ _ _ _ _ _ _ _ _ _ _ c.curve_document.ensures c.reply-in-Curve.ensures)
 
+pub returns-in-Compare : goal.returns-in-Compare
+returns-in-Compare g c =
+    subst (λ question. Replies g.K.Sink.written g.K.Sink.flushed g.K.Sink.flushes g.K.Sink.faults (AnswersQuestion (question_view question) (document_view c.args.document)) c.reply-in-Compare.result
+    c.args.sink.now c.reply-in-Compare.new.sink) (sym c.in-Compare.is)
+    (made_replies _ _ _ _ _ _ _ _ _ _ _ c.compare_document.ensures c.reply-in-Compare.ensures)
+
 pub returns : goal.returns
 returns g c =
     subst (λ question. Replies g.K.Sink.written g.K.Sink.flushed g.K.Sink.flushes g.K.Sink.faults (AnswersQuestion (question_view question) (document_view c.args.document)) c.reply-in-Admit.result

@@ -1,0 +1,8 @@
+pub mod Points
+pub mod Loads
+pub mod Spending
+pub mod Proportion
+pub mod Agreeing
+pub mod Runs
+pub mod Rates
+pub mod Planned

@@ -1,0 +1,15 @@
+use Rattle.std.proofs.Common.{subst}
+use Rattle.std.proofs.lemmas.List.{take_all, get_or_read}
+use Rattle.std.specs.List.{All}
+use Rattle.std.proofs.lemmas.List.Elements.{All-more}
+use Rattle.yds_model.specs.Job.{IsJob, no_job}
+use Rattle.yds_compare.proofs.comparison.read.Goals as goal
+
+pub loop-row-preserved : goal.loop-row-preserved
+loop-row-preserved c =
+    All-more IsJob c.args.rows.now c.loop-row.row-index no_job c.loop-row-test.true c.loop-row.invariant
+    (rw (← get_or_read c.args.rows.now c.loop-row.row-index c.row-item.result c.loop-row-test.true c.row-item.is no_job, ← c.row.view_is)
+    c.row.invariant)
+
+pub returns : goal.returns
+returns c = subst (λ rows. All IsJob rows) (take_all c.loop-row.row-index c.args.rows.now c.loop-row-test.false) c.loop-row.invariant

@@ -1,0 +1,7 @@
+use Rattle.std.proofs.Common.{ℕ, ◌<◌}
+use Rattle.yds_model.specs.Table.{point_at}
+use Rattle.yds_compare.specs.Share.{IsBelow}
+use Rattle.yds_compare.proofs.share.first_holding.Given as goal
+
+abbrev pub invariant-loop-place : goal.invariant-loop-place
+invariant-loop-place l = (k : ℕ) → k < l.place → IsBelow l.fn.load (point_at l.points k)

@@ -1,0 +1,8 @@
+use Rattle.std.proofs.Common.{take}
+use Rattle.std.specs.List.{AllZip}
+use Rattle.yds_model.specs.Table.{hull_of, hull_multiple}
+use Rattle.yds_compare.specs.Share.{IsShareOf}
+use Rattle.yds_compare.proofs.spent.shares_of.Given as goal
+
+abbrev pub invariant-loop-load : goal.invariant-loop-load
+invariant-loop-load l = AllZip (IsShareOf (hull_multiple l.table) (hull_of l.table)) (take l.load-index l.loads) l.shares.items

@@ -1,0 +1,4 @@
+pub mod Load
+pub mod Share
+pub mod Spent
+pub mod Side

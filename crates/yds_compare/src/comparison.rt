@@ -1,0 +1,111 @@
+ghost use Rattle.std.specs.Prelude.{◌≡◌, ◌≤◌, length, sum_by, All, IfOk, IfErr, Err};
+ghost use Rattle.yds_model.specs.declared.limits.TheConstants.{MAX_GRID, MAX_JOBS, MAX_ROUNDED, MAX_TIME};
+ghost use Rattle.yds_model.specs.Job.{IsJob};
+ghost use Rattle.yds_model.specs.Plan.{IsPlan};
+ghost use Rattle.yds_model.specs.Event.{stretches as job_stretches};
+ghost use Rattle.yds_model.specs.Comparison.{IsSpent};
+ghost use Rattle.yds_model.specs.AverageRate.{IsAverageRateRun};
+ghost use Rattle.yds_model.specs.OptimalAvailable.{IsOptimalAvailableRun};
+ghost use Rattle.yds_events.specs.Stretch.{length_of};
+ghost use Rattle.yds_round.specs.Fault.{IsCause, HasFastLevel, too_slow};
+ghost use Rattle.yds_compare.specs.Side.{IsSideOfRun};
+
+use crate::load::{loads_of_levels, total_length};
+use crate::side::{Side, side_of};
+use crate::spent::{Spent, spend};
+use std::alloc::Global;
+use yds_avr::avr;
+use yds_events::stretches;
+use yds_model::{JobRow, Memory};
+use yds_oa::oa;
+use yds_plan::Planned;
+use yds_round::{RoundFault, fault_of};
+use yds_table::Table;
+
+/// What a plan and the runs of both policies on a grid spend on the operating points of a table.
+#[derive(Debug, Drop)]
+pub struct Comparison {
+    /// The plan's energy and times.
+    pub plan: Spent,
+    /// The side of Average Rate.
+    pub avr: Side,
+    /// The number of event points at which Average Rate rounded.
+    pub avr_rounded: u32,
+    /// The side of Optimal Available.
+    pub oa: Side,
+    /// The number of event points at which Optimal Available rounded.
+    pub oa_rounded: u32,
+}
+
+/// Reads each row. That shows that each is a job within the limits.
+fn read(rows: &[JobRow])
+    ensures { All IsJob rows.now }
+{
+    for row in rows {
+        let _work = row.work;
+    }
+}
+
+/// What a plan spends, level by level.
+///
+/// The stretches of a level run at its speed and are together as long as it, so no finer parts are needed than those of the hull.
+fn plan_spent(
+    alloc: Global,
+    rows: &[JobRow],
+    time: u64,
+    plan: &Planned,
+    table: &Table,
+) -> Result<Spent, Memory>
+    requires time { time ≡ sum_by length_of (job_stretches rows.now) }
+    requires time_in_range { time ≤ MAX_TIME }
+    requires plan { IsPlan rows.now plan.now.schedule.slots plan.now.certificate }
+    requires fast_enough { HasFastLevel plan.now.certificate table.now → ⊥ }
+    ensures { IfOk result (λ spent. IsSpent rows.now table.now plan.now.schedule.slots spent) }
+{
+    // Reading the hull shows that its speeds rise.
+    let _hull = table.hull();
+    let loads = loads_of_levels(alloc, plan.certificate.levels(), time)?;
+    let spent = spend(alloc, &loads, 1, table)?;
+    Ok(spent)
+}
+
+/// Compares the plan of these jobs with the runs of Average Rate and of Optimal Available on the grid.
+///
+/// Each stretch between event points runs at the points of the table's lower hull around its speed, as long at each as gives that
+/// speed. Where the plan's first level is faster than the last point, that is told as by `round`, before any memory is taken.
+pub fn compare(
+    alloc: Global,
+    rows: &[JobRow],
+    plan: &Planned,
+    table: &Table,
+    grid: u32,
+) -> Result<Comparison, RoundFault>
+    requires few { length rows.now ≤ MAX_JOBS }
+    requires plan { IsPlan rows.now plan.now.schedule.slots plan.now.certificate }
+    requires some_grid { 1 ≤ grid }
+    requires grid_in_range { grid ≤ MAX_GRID }
+    ensures plan { IfOk result (λ compared. IsSpent rows.now table.now plan.now.schedule.slots compared.plan) }
+    ensures average_rate { IfOk result (λ compared.
+        IsSideOfRun (IsAverageRateRun rows.now grid compared.avr_rounded) rows.now table.now grid compared.avr) }
+    ensures optimal_available { IfOk result (λ compared.
+        IsSideOfRun (IsOptimalAvailableRun rows.now grid compared.oa_rounded) rows.now table.now grid compared.oa) }
+    ensures counts_in_range { IfOk result (λ compared. (compared.avr_rounded ≤ MAX_ROUNDED) × (compared.oa_rounded ≤ MAX_ROUNDED)) }
+    ensures cause { IfErr result (IsCause plan.now.certificate table.now) }
+    ensures too_slow { HasFastLevel plan.now.certificate table.now → result ≡ Err (too_slow plan.now.certificate table.now) }
+{
+    if let Some(fault) = fault_of(table, plan.certificate.levels()) {
+        return Err(fault);
+    }
+    read(rows);
+    let timeline = stretches(alloc, rows)?;
+    let spent = plan_spent(alloc, rows, total_length(&timeline), plan, table)?;
+    let average = avr(alloc, rows, grid)?;
+    let optimal = oa(alloc, rows, grid)?;
+    Ok(Comparison {
+        plan: spent,
+        avr: side_of(alloc, rows, &timeline, &average.schedule, table, grid)?,
+        avr_rounded: average.rounded,
+        oa: side_of(alloc, rows, &timeline, &optimal.schedule, table, grid)?,
+        oa_rounded: optimal.rounded,
+    })
+}

@@ -1,0 +1,120 @@
+ghost use Rattle.std.specs.Prelude.{◌≡◌, ◌^◌, ◌<◌, ◌≤◌, length, sum_by, IfOk, MatchOption};
+ghost use Rattle.std.specs.List.{All};
+ghost use Rattle.yds_model.specs.declared.limits.TheConstants.{MAX_GRID, MAX_TIME};
+ghost use Rattle.yds_model.specs.Numbers.{IsFirstFailure};
+ghost use Rattle.yds_model.specs.Piece.{PiecesFrom};
+ghost use Rattle.yds_events.specs.Stretch.{length_of};
+ghost use Rattle.yds_slots.specs.Between.{RunInOrder};
+ghost use Rattle.yds_round.specs.Written.{total_units};
+ghost use Rattle.yds_round.specs.Rounded.{planned_in};
+ghost use Rattle.yds_compare.specs.Load.{loads_of, level_loads, load_at, IsHeldAt};
+
+use std::alloc::Global;
+use yds_certificate::Level;
+use yds_events::Stretch;
+use yds_model::Memory;
+use yds_slots::{Schedule, Slot};
+
+/// Time in which work is done at one speed, both in parts of one in so many.
+#[derive(Clone, Copy, Debug)]
+pub(crate) struct Load {
+    /// The time, in parts of a time unit.
+    pub time: u64,
+    /// The work, in parts of a unit of work.
+    pub work: u64,
+}
+
+/// What the slots do together, in parts of which `grid` make a unit of work.
+fn units_of(slots: &[Slot], grid: u64) -> u64
+    requires { total_units grid slots.now < 2 ^ 64 }
+    ensures { result ≡ total_units grid slots.now }
+{
+    let mut units = 0;
+    for slot in slots {
+        units += slot.work.whole() * grid + slot.work.num();
+    }
+    units
+}
+
+/// What a schedule does in each of these stretches, in parts of which `grid` make a unit.
+pub(crate) fn loads_of(
+    alloc: Global,
+    timeline: &[Stretch],
+    schedule: &Schedule,
+    grid: u64,
+) -> Result<Vec<Load>, Memory>
+    requires some_grid { 1 ≤ grid }
+    requires grid_in_range { grid ≤ MAX_GRID }
+    requires in_order { RunInOrder schedule.now.slots }
+    requires fits { All (λ stretch. total_units grid (planned_in schedule.now.slots stretch) < 2 ^ 64) timeline.now }
+    ensures { IfOk result (λ loads. loads.items ≡ loads_of grid schedule.now.slots timeline.now) }
+{
+    let mut loads = Vec::with_capacity(alloc, timeline.len())?;
+    for stretch in timeline {
+        let slots = schedule.between(stretch.from, stretch.to);
+        loads.push(Load {
+            time: u64::from(stretch.length()) * grid,
+            work: units_of(slots, grid),
+        })?;
+    }
+    Ok(loads)
+}
+
+/// The lengths of the stretches together, in time units.
+pub(crate) fn total_length(timeline: &[Stretch]) -> u64
+    requires { PiecesFrom 0 timeline.now }
+    ensures value { result ≡ sum_by length_of timeline.now }
+    ensures in_range { result ≤ MAX_TIME }
+{
+    let mut length = 0;
+    for stretch in timeline {
+        length += u64::from(stretch.length());
+    }
+    length
+}
+
+/// The lengths of the levels together, in time units.
+fn busy_length(levels: &[Level]) -> u64
+    requires { sum_by (λ level. level.length) levels.now ≤ MAX_TIME }
+    ensures { result ≡ sum_by (λ level. level.length) levels.now }
+{
+    levels.iter().map(|level| level.length).sum()
+}
+
+/// What the levels do in so much time, in whole units, and the time in which none of them runs.
+pub(crate) fn loads_of_levels(
+    alloc: Global,
+    levels: &[Level],
+    time: u64,
+) -> Result<Vec<Load>, Memory>
+    requires time_in_range { time ≤ MAX_TIME }
+    requires fits { sum_by (λ level. level.length) levels.now ≤ time }
+    ensures { IfOk result (λ loads. loads.items ≡ level_loads levels.now time) }
+{
+    let mut loads = Vec::new(alloc);
+    for level in levels {
+        loads.push(Load {
+            time: level.length,
+            work: level.work,
+        })?;
+    }
+    loads.push(Load {
+        time: time - busy_length(levels),
+        work: 0,
+    })?;
+    Ok(loads)
+}
+
+/// The place of the first load that is faster than this speed, in work per time unit.
+pub(crate) fn first_above(loads: &[Load], top: u32) -> Option<usize>
+    ensures { MatchOption result
+        (All (IsHeldAt top) loads.now)
+        (IsFirstFailure (length loads.now) (λ i. IsHeldAt top (load_at loads.now i))) }
+{
+    for (place, load) in loads.iter().enumerate() {
+        if u128::from(load.work) > u128::from(top) * u128::from(load.time) {
+            return Some(place);
+        }
+    }
+    None
+}
