@@ -148,10 +148,7 @@ fn energy_line(name: &str, energy: Amount) -> LineBuffer
     requires { length name.now ≤ 4 }
     ensures { result ≡ line (name.now ∷ codes "energy" ∷ fraction_text energy ∷ []) }
 {
-    LineBuffer::new(name)
-        .field("energy")
-        .fraction(energy)
-        .end()
+    LineBuffer::new(name).field("energy").fraction(energy).end()
 }
 
 /// The line of the time at the point of this speed, in time units and in work per time unit.
@@ -208,7 +205,9 @@ pub fn compare_document(
         (text_with_points compared_text answer) (status_with_points compared_status answer)) }
 {
     let Document {
-        instance, table, ..
+        instance,
+        table,
+        ..
     } = document;
     let Some(table) = table else {
         return Ok(WithPoints::NoTable);

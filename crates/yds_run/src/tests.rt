@@ -1,6 +1,7 @@
 use super::*;
 use crate::worked_rows::{
-    ADMISSIONS, CURVES_AND_JSON, EXPANSIONS, POLICIES, REPORTS_AND_TRIALS, ROUNDINGS, ROWS,
+    ADMISSIONS, COMPARISONS, CURVES_AND_JSON, EXPANSIONS, POLICIES, REPORTS_AND_TRIALS, ROUNDINGS,
+    ROWS,
 };
 use std::alloc::{AllocError, Global};
 use std::process::Abort;
@@ -79,6 +80,11 @@ fn the_answers_of_policies(rt: HostRuntime) -> Result<(), Fail> {
 #[test]
 fn the_plans_on_operating_points(rt: HostRuntime) -> Result<(), Fail> {
     answers_are(&rt, rt.alloc(), &ROUNDINGS)
+}
+
+#[test]
+fn the_comparisons_with_the_policies(rt: HostRuntime) -> Result<(), Fail> {
+    answers_are(&rt, rt.alloc(), &COMPARISONS)
 }
 
 #[test]

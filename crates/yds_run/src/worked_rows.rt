@@ -745,3 +745,51 @@ pub static ROUNDINGS: [(&str, &str, Status, &str); 9] = [
         "job a 0 10 10\njob b 4 6 6\npoint 0 0\npoint 1 3\npoint 2 4\npoint 4 10\nslot a 0 2+4/8 5\nslot b 4 5 4\nslot b 5 6 2\nslot a 6 8+4/8 5\nenergy 34\n",
     ),
 ];
+
+/// The same of comparisons of the plan with the policies.
+pub static COMPARISONS: [(&str, &str, Status, &str); 9] = [
+    (
+        "compare --grid 6",
+        "job a 0 3 2\njob b 1 2 1\npoint 0 0\npoint 1 1\npoint 2 3\n",
+        Status::Done,
+        "plan energy 3\nplan time 0 0\nplan time 1 3\nplan time 2 0\navr energy 3+2/3\navr time 0 0+2/3\navr time 1 1+2/3\navr time 2 0+2/3\navr rounded 0\noa energy 3+1/3\noa time 0 0+1/3\noa time 1 2+1/3\noa time 2 0+1/3\noa rounded 0\n",
+    ),
+    (
+        "compare --grid 6",
+        "job a 0 3 2\njob b 1 2 1\npoint 0 0\npoint 1 1\n",
+        Status::Done,
+        "plan energy 3\nplan time 0 0\nplan time 1 3\navr too-slow units 10 from 1 to 2 top 1\navr rounded 0\noa too-slow units 7 from 1 to 2 top 1\noa rounded 0\n",
+    ),
+    (
+        "compare --grid 6",
+        "job a 0 3 2\njob b 1 2 1\npoint 0 0\n",
+        Status::No,
+        "too-slow work 3 length 3 top 0\n",
+    ),
+    (
+        "compare --grid 6",
+        "job a 0 3 2\njob b 1 2 1\n",
+        Status::Refused,
+        "refused no-table\n",
+    ),
+    (
+        "compare --grid 1",
+        "job a 0 4 2\npoint 0 1\npoint 1 7\npoint 2 5\n",
+        Status::Done,
+        "plan energy 8\nplan time 0 3\nplan time 1 0\nplan time 2 1\navr energy 8\navr time 0 3\navr time 1 0\navr time 2 1\navr rounded 0\noa energy 8\noa time 0 3\noa time 1 0\noa time 2 1\noa rounded 0\n",
+    ),
+    (
+        "compare --grid 1",
+        "point 0 5\n",
+        Status::Done,
+        "plan energy 0\nplan time 0 0\navr energy 0\navr time 0 0\navr rounded 0\noa energy 0\noa time 0 0\noa rounded 0\n",
+    ),
+    ("compare --grid 0", "point 0 0\n", Status::Usage, USAGE),
+    (
+        "compare --grid 1000001",
+        "point 0 0\n",
+        Status::Usage,
+        USAGE,
+    ),
+    ("compare", "point 0 0\n", Status::Usage, USAGE),
+];
