@@ -2,9 +2,12 @@
 #
 #   make            proves every crate and builds build/yds_cli
 #   make run        the same, and plans the document EXAMPLE with it
-#   make try        runs the program on DOCUMENT with the word COMMAND, unproved, within seconds
+#   make try        runs the program on DOCUMENT with the words of COMMAND, unproved, after about a minute
 #   make test       the gate: every proof, test, refused edit and stored run
-#   make install    copies build/yds_cli to PREFIX/bin
+#   make check      the built program answers every example and stored row byte for byte, within seconds
+#   make recipes    every recipe on its sample, with the built program
+#   make install    copies build/yds_cli to PREFIX/bin, its manual page, completion and recipes to PREFIX/share
+#   make uninstall  removes just these
 #
 # JOBS crates are proved side by side, each in up to 2 GB of memory.
 
@@ -15,11 +18,17 @@ SOURCES := crates.txt $(shell find crates -path '*/out' -prune -o \( -name '*.rt
 CRATES := $(shell grep -c '^[a-z]' crates.txt)
 JOBS ?= $(shell nproc)
 PREFIX ?= /usr/local
+BIN = $(DESTDIR)$(PREFIX)/bin
+SHARE = $(DESTDIR)$(PREFIX)/share
+MAN = $(SHARE)/man/man1
+COMPLETIONS = $(SHARE)/bash-completion/completions
+RECIPES = $(SHARE)/$(PROGRAM)/recipes
+RECIPE_FILES := trace.awk points.awk energy.awk battery.awk collect.awk report.jq rtapp.sh misses.sh plot.sh plot.awk
 EXAMPLE ?= examples/three-jobs.txt
-DOCUMENT ?= examples/one-job.txt
+DOCUMENT ?= examples/three-jobs.txt
 COMMAND ?= plan
 
-.PHONY: all run try test install clean tool
+.PHONY: all run try test check recipes install uninstall clean tool
 
 all: $(BINARY)
 
@@ -50,9 +59,22 @@ try: tool
 test: tool
 	@rt ci
 
+check: $(BINARY)
+	@sh examples/check.sh ../$(BINARY)
+
+recipes: $(BINARY)
+	@sh recipes/test.sh
+
 install: $(BINARY)
-	install -d $(DESTDIR)$(PREFIX)/bin
-	install -m 755 $(BINARY) $(DESTDIR)$(PREFIX)/bin/$(PROGRAM)
+	install -d $(BIN) $(MAN) $(COMPLETIONS) $(RECIPES)
+	install -m 755 $(BINARY) $(BIN)/$(PROGRAM)
+	install -m 644 docs/$(PROGRAM).1 $(MAN)/$(PROGRAM).1
+	install -m 644 completions/$(PROGRAM).bash $(COMPLETIONS)/$(PROGRAM)
+	install -m 644 $(RECIPE_FILES:%=recipes/%) $(RECIPES)
+
+uninstall:
+	rm -f $(BIN)/$(PROGRAM) $(MAN)/$(PROGRAM).1 $(COMPLETIONS)/$(PROGRAM) $(RECIPE_FILES:%=$(RECIPES)/%)
+	for folder in $(RECIPES) $(SHARE)/$(PROGRAM); do test ! -d $$folder || rmdir --ignore-fail-on-non-empty $$folder; done
 
 clean:
 	rm -rf build crates/*/out

@@ -2,3 +2,9 @@ pub mod Between
 pub mod Overfull
 pub mod Deciding
 pub mod Demand
+pub mod GoingOn
+pub mod Times
+pub mod Sweep
+pub mod Newly
+pub mod Inserted
+pub mod Links

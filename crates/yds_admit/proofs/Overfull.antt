@@ -60,10 +60,10 @@ any_number P jobs numbers (k, job, within, is, holds) =
       subst P (sym is ∙ get_or-map (job_at jobs) numbers k 0 job below) holds,
     )
 
-any_of_all : (P : Job → Type 0) (jobs : List Job) → Any (λ number. P (job_at jobs number)) (numbers_of jobs) → Any P jobs
+pub any_of_all : (P : Job → Type 0) (jobs : List Job) → Any (λ number. P (job_at jobs number)) (numbers_of jobs) → Any P jobs
 any_of_all P jobs some = subst (λ (all : List Job). Any P all) (all_jobs jobs) (any_job P jobs (numbers_of jobs) some)
 
-number_of_any : (P : Job → Type 0) (jobs : List Job) → Any P jobs → Any (λ number. P (job_at jobs number)) (numbers_of jobs)
+pub number_of_any : (P : Job → Type 0) (jobs : List Job) → Any P jobs → Any (λ number. P (job_at jobs number)) (numbers_of jobs)
 number_of_any P jobs some = any_number P jobs (numbers_of jobs) (subst (λ (all : List Job). Any P all) (sym (all_jobs jobs)) some)
 
 -- # The same interval of jobs and of their numbers

@@ -1,3 +1,4 @@
 pub mod Interval
 pub mod Serving
 pub mod Decision
+pub mod Chain

@@ -2,8 +2,9 @@ ghost use Rattle.std.specs.Prelude.{◌≤◌, IfOk, length};
 ghost use Rattle.yds_laws.specs.AdmissionLaws.{HasRoom};
 ghost use Rattle.yds_admit.specs.Decision.{IsDecision};
 
-use crate::interval::{first_overfull, work_between};
+use crate::interval::{first_overfull, newly_overfull, work_between};
 use crate::refusal::Refusal;
+use crate::standing::{with_deadline, with_release};
 use std::alloc::Global;
 use yds_model::limits::{MAX_JOBS, MAX_TOP};
 use yds_model::{JobRow, Memory};
@@ -61,14 +62,22 @@ fn one_by_one(alloc: Global, rows: &[JobRow], top: u32) -> Result<Decision, Memo
 {
     let mut taken = Vec::new(alloc);
     let mut jobs = Vec::new(alloc);
+    let mut by_release = Vec::new(alloc);
+    let mut by_deadline = Vec::new(alloc);
     let mut refused = Vec::new(alloc);
     for (number, row) in rows.iter().enumerate() {
         let job = number as u32;
         // Reading the row shows that it is a job within the limits.
         let _work = row.work;
         jobs.push(*row)?;
-        match first_overfull(alloc, &jobs, top)? {
-            None => taken.push(job)?,
+        let releases = with_release(alloc, &by_release, row)?;
+        let deadlines = with_deadline(alloc, &by_deadline, row)?;
+        match newly_overfull(alloc, &jobs, &releases, &deadlines, top)? {
+            None => {
+                taken.push(job)?;
+                by_release = releases;
+                by_deadline = deadlines;
+            }
             Some((from, to)) => {
                 let work = work_between(&jobs, from, to);
                 // The refused job competes with no later one.

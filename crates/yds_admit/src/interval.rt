@@ -1,11 +1,14 @@
-ghost use Rattle.std.specs.Prelude.{◌≡◌, ◌*◌, ◌<◌, ◌≤◌, IfOk, MatchOption, length, map};
+ghost use Rattle.std.specs.Prelude.{◌≡◌, ◌-◌, ◌*◌, ◌<◌, ◌≤◌, IfOk, MatchOption, length, map, take, All};
 ghost use Rattle.std.specs.List.Sorted.{IsPermutation, IsNonDecreasing, IsNonDecreasingBy};
 ghost use Rattle.yds_model.specs.declared.limits.TheConstants.{MAX_WORK};
+ghost use Rattle.yds_model.specs.Job.{IsJob};
 ghost use Rattle.yds_model.specs.Policy.{numbers_of};
 ghost use Rattle.yds_model.specs.Admission.{IsFirstOverfull};
 ghost use Rattle.yds_laws.specs.AdmissionLaws.{HasRoom};
+ghost use Rattle.yds_admit.specs.Chain.{IsFalling};
 ghost use Rattle.yds_admit.specs.Interval.{work_in, HasRoomFrom, IsFirstEnd};
 
+use crate::chain::least_from;
 use std::alloc::Global;
 use yds_model::limits::{MAX_JOBS, MAX_TOP};
 use yds_model::{JobRow, Memory};
@@ -84,4 +87,37 @@ pub(crate) fn work_between(jobs: &[JobRow], from: u32, to: u32) -> u64
         }
     }
     work
+}
+
+/// The first overfull interval of these jobs, of which those before the last one leave none overfull: so it begins before the last
+/// one's deadline, and ends then or later.
+pub(crate) fn newly_overfull(
+    alloc: Global,
+    jobs: &[JobRow],
+    by_release: &[JobRow],
+    by_deadline: &[JobRow],
+    top: u32,
+) -> Result<Option<(u32, u32)>, Memory>
+    requires few { length jobs.now ≤ MAX_JOBS }
+    requires some { 1 ≤ length jobs.now }
+    requires top_in_range { top ≤ MAX_TOP }
+    requires are { All IsJob jobs.now }
+    requires room { HasRoom top (take (length jobs.now - 1) jobs.now) }
+    requires same_releases { IsPermutation jobs.now by_release.now }
+    requires same_deadlines { IsPermutation jobs.now by_deadline.now }
+    requires falling { IsFalling by_release.now }
+    requires rising { IsNonDecreasingBy (λ job. job.deadline) by_deadline.now }
+    ensures { IfOk result (λ found. MatchOption found
+        (HasRoom top jobs.now)
+        (λ interval. IsFirstOverfull jobs.now top (numbers_of jobs.now) interval.0 interval.1)) }
+{
+    let last = &jobs[jobs.len() - 1];
+    let due = last.deadline;
+    let Some(from) = least_from(alloc, by_release, by_deadline, due, top)? else {
+        return Ok(None);
+    };
+    match overfull_end(by_deadline, from, top) {
+        Some(to) => Ok(Some((from, to))),
+        None => Ok(None),
+    }
 }

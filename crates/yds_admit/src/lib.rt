@@ -8,10 +8,12 @@
 #![tactic(auto)]
 
 mod admission;
+mod chain;
 mod decision;
 mod interval;
 mod refusal;
 mod serving;
+mod standing;
 
 pub use admission::{Admission, admit};
 pub use refusal::Refusal;

@@ -1,11 +1,11 @@
 -- The live jobs' parts of the stretches: together they are at least the jobs' units, so no job is served too late.
-use Rattle.std.proofs.Common.{◌≡◌, ℕ, zero, suc, ◌+◌, ◌-◌, ◌*◌, ◌/◌, ◌<◌, ◌≤◌, min, List, [], ◌∷◌, length, get_or, map, ◌∙◌, refl, sym, subst, ap, arith, inl, inr, cond, true, false, add-one}
-use Rattle.std.specs.Prelude.{Bool, nat_le, nat_lt, ◌&&◌, All, sum_by, filter, count_by}
+use Rattle.std.proofs.Common.{◌≡◌, ℕ, zero, suc, ◌-◌, ◌*◌, ◌<◌, ◌≤◌, min, List, length, get_or, map, ◌∙◌, refl, sym, ap, arith, inl, inr, cond, true, false, add-one}
+use Rattle.std.specs.Prelude.{Bool, nat_le, ◌&&◌, All}
 use Rattle.std.proofs.lemmas.Bool.{cases_lt, cases_Bool, le-leb, lt-leb, lt-ltb, le-ltb, true≢false}
 use Rattle.std.specs.Prelude.{Result, Ok, Err, IfOk, OnOk}
 use Rattle.std.proofs.lemmas.List.{get_or-map}
 use Rattle.std.proofs.lemmas.List.Elements.{All-from_get_or}
-use Rattle.std.proofs.Math.Nat.{mul-le-mul_left, le_of_mul-le-mul_right}
+use Rattle.std.proofs.Math.Nat.{le_of_mul-le-mul_right}
 use Rattle.yds_model.specs.Job.{Job, IsJob, no_job, job_at}
 use Rattle.yds_model.specs.Piece.{Piece}
 use Rattle.yds_model.specs.Event.{event_points, stretches}
@@ -20,7 +20,7 @@ use Rattle.yds_edf.specs.Pending.{sum_below, units_wanted}
 use Rattle.yds_edf.specs.Demand.{capacity_at, confined_units, capacity_between, IsWithinCapacity}
 use Rattle.yds_edf.specs.Run.{IsPolicyRun}
 use Rattle.yds_edf.proofs.Capped.{capped_run}
-use Rattle.yds_edf.proofs.Quotients.{up_enough, up_most}
+use Rattle.yds_edf.proofs.Quotients.{up_enough}
 use Rattle.yds_edf.proofs.Sums.{sum_below_same, sum_below_at_most, sum_below_zero}
 use Rattle.yds_edf.proofs.Numbers.{sum_places, sum_filter, sum_below_swap, sum_below-mul}
 
@@ -199,12 +199,6 @@ pub parts_serve : (jobs : List Job) (grid : ℕ) → All IsJob jobs → IsWithin
 parts_serve jobs grid are first last one other = demand_within jobs grid are (job_at jobs first).release (job_at jobs last).deadline
 
 -- # What the functions need
-
--- a job's part of a stretch of its window is at most its units
-pub part_most : (g w l window grid work : ℕ) → g ≡ grid → w ≡ work → l ≤ window → 1 ≤ window → (g * w * l + (window - 1)) / window ≤ grid * work
-part_most g w l window grid work g_is w_is short some =
-    up_most (g * w * l) window (grid * work) some
-    (omega (arith, mul-le-mul_left (g * w) short, ap (λ n. n * w * window) g_is, ap (λ n. grid * n * window) w_is))
 
 -- no deadline lies inside a stretch of the jobs
 pub deadlines_outside : (jobs : List Job) (k : ℕ) → k < length (stretches jobs) → All (λ job. IsOutside (stretch_at jobs k) job.deadline) jobs

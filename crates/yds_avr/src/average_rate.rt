@@ -2,12 +2,13 @@ ghost use Rattle.std.specs.Prelude.{◌≡◌, ◌≤◌, IfOk, length, All};
 ghost use Rattle.yds_model.specs.Policy.{HasRunDenominators};
 ghost use Rattle.yds_model.specs.AverageRate.{IsAverageRateRun, terms_of, average_rate_rounds};
 ghost use Rattle.yds_model.specs.Within.{AreSlotsOf};
-ghost use Rattle.yds_model.specs.Job.{IsJob};
 ghost use Rattle.yds_events.specs.Stretch.{IsOutside};
+ghost use Rattle.yds_avr.specs.Rate.{IsRate, rates_together, some_rounds};
+ghost use Rattle.yds_avr.specs.Live.{ArePartsBefore};
 
-use crate::term::{is_live, term_of};
+use crate::live::{arrived_by, by_release, over_by};
+use crate::rate::{Rate, is_live, term_of};
 use std::alloc::Global;
-use yds_edf::limits::MAX_GRAIN;
 use yds_edf::{Policy, PolicyRun, Queue, Setting, run_policy};
 use yds_events::Stretch;
 use yds_model::limits::{MAX_GRID, MAX_JOBS, MAX_ROUNDED};
@@ -27,41 +28,60 @@ pub fn avr(alloc: Global, rows: &[JobRow], grid: u32) -> Result<PolicyRun, Memor
     ensures limits { IfOk result (λ run. AreSlotsOf (length rows.now) run.schedule.slots) }
     ensures count_in_range { IfOk result (λ run. run.rounded ≤ MAX_ROUNDED) }
 {
-    run_policy(alloc, rows, grid, &mut AverageRate)
+    let order = by_release(alloc, rows, grid)?;
+    let mut policy = AverageRate {
+        grid,
+        order,
+        over: 0,
+        arrived: 0,
+    };
+    run_policy(alloc, rows, grid, &mut policy)
 }
 
-/// Average Rate, which looks at the jobs' windows alone.
+/// Average Rate, which looks at the windows of the jobs alone that have arrived and aren't over.
 #[derive(Drop)]
-struct AverageRate;
+struct AverageRate {
+    /// The number of units in a unit of work.
+    grid: u32,
+    /// The jobs' rates on that grid: first those that are over, then the others that have arrived, then those that are to
+    /// come, in order of their releases.
+    order: Vec<Rate>,
+    /// How many are over.
+    over: usize,
+    /// How many have arrived.
+    arrived: usize,
+}
 
 impl Policy for AverageRate {
-    ghost units = { λ policy jobs grid pending stretch. terms_of jobs grid stretch };
+    ghost units = { λ policy jobs grid pending stretch. terms_of jobs policy.grid stretch };
 
-    ghost rounds = { λ policy jobs grid pending stretch. average_rate_rounds jobs grid stretch };
+    ghost rounds = { λ policy jobs grid pending stretch. average_rate_rounds jobs policy.grid stretch };
 
-    ghost keeps = { λ policy jobs number. Unit {0} };
+    ghost keeps = { λ policy jobs number. ArePartsBefore jobs policy.grid policy.order.items policy.over policy.arrived number };
 
     fn set(&mut self, _number: u32, queue: &Queue, stretch: Stretch) -> Setting {
-        terms(queue.rows(), queue.grain(), stretch)
+        self.arrived = arrived_by(&self.order, self.arrived, stretch.from);
+        self.over = over_by(&mut self.order, self.over, self.arrived, stretch.from);
+        let _rows = queue.rows();
+        terms(&self.order[self.over..self.arrived], stretch)
     }
 }
 
 /// The sum of the live jobs' parts of a stretch, and whether one was rounded up.
-fn terms(rows: &[JobRow], grid: u64, stretch: Stretch) -> Setting
-    requires few { length rows.now ≤ MAX_JOBS }
-    requires jobs { All IsJob rows.now }
-    requires grid_in_range { grid ≤ MAX_GRAIN }
-    requires uncut { All (λ job. IsOutside stretch job.deadline) rows.now }
-    ensures units { result.units ≡ terms_of rows.now grid stretch }
-    ensures rounds { result.rounds ≡ average_rate_rounds rows.now grid stretch }
+fn terms(rates: &[Rate], stretch: Stretch) -> Setting
+    requires few { length rates.now ≤ MAX_JOBS }
+    requires rates { All IsRate rates.now }
+    requires uncut { All (λ rate. IsOutside stretch rate.deadline) rates.now }
+    ensures units { result.units ≡ rates_together rates.now stretch }
+    ensures rounds { result.rounds ≡ some_rounds rates.now stretch }
 {
     let mut sum = Setting {
         units: 0,
         rounds: false,
     };
-    for row in rows {
-        if is_live(row, stretch) {
-            let term = term_of(row, grid, stretch);
+    for rate in rates {
+        if is_live(rate, stretch) {
+            let term = term_of(rate, stretch);
             sum.units += term.units;
             sum.rounds |= term.rounds;
         }

@@ -6,7 +6,8 @@
 #![tactic(auto)]
 
 mod average_rate;
-mod term;
+mod live;
+mod rate;
 
 pub use average_rate::avr;
 

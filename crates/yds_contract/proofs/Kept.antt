@@ -1,8 +1,8 @@
 -- What a contraction keeps of its removed stretches, each beside the removed time before it.
-use Rattle.std.proofs.Common.{◌≡◌, ℕ, zero, suc, ◌+◌, ◌-◌, ◌<◌, ◌≤◌, min, max, List, [], ◌∷◌, ◌++◌, ◌∙◌, length, get_or, take, drop, map, ap, sym, subst, inl, inr, add-one, arith, refl}
-use Rattle.std.specs.List.{All, sum_by}
+use Rattle.std.proofs.Common.{◌≡◌, ℕ, suc, ◌+◌, ◌-◌, ◌<◌, ◌≤◌, min, max, List, ◌∷◌, ◌++◌, ◌∙◌, length, take, drop, ap, sym, subst, arith}
+use Rattle.std.specs.List.{All}
 use Rattle.std.specs.List.Sorted.{IsNonDecreasingBy}
-use Rattle.std.proofs.lemmas.List.{get_or-map, length-map, get_or_default, append_assoc, at_drop_more, at_drop_all, take_more, take_all, get_or_default}
+use Rattle.std.proofs.lemmas.List.{get_or-map, length-map, get_or_default, append_assoc, at_drop_more, at_drop_all, take_more, get_or_default}
 use Rattle.std.proofs.lemmas.List.Elements.{All-weaker}
 use Rattle.std.proofs.lemmas.List.Sums.{sum_by-take-le, sum_by_push}
 use Rattle.yds_model.specs.declared.limits.TheConstants.{MAX_TIME}
@@ -76,10 +76,10 @@ end_fits removed end kept some within = omega (
 )
 
 -- a walk over the gaps between the first i stretches
-pub record Walked (start end : ℕ) (removed : List Piece) (i from before : ℕ) (pieces : List Piece) : Type 0 where
+pub record Walked (most start end : ℕ) (removed : List Piece) (i from before : ℕ) (pieces : List Piece) : Type 0 where
   pub are : pieces ++ pieces_after start end from before (drop i removed) ≡ pieces_after start end 0 0 removed
   pub sums : before ≡ total_length (take i removed)
-  pub fits : end + before ≤ MAX_TIME
+  pub fits : end + before ≤ most
 
 before_fits : (removed : List Piece) (i before : ℕ) → before ≡ total_length (take i removed) → before ≤ total_length removed
 before_fits removed i before is = omega (arith, sum_by-take-le (λ (p : Piece). p.to - p.from) removed i)
@@ -100,10 +100,10 @@ next_fits removed i before stretch within is sums =
       before_fits removed (i + 1) (before + ((piece_at removed i).to - (piece_at removed i).from)) (sums_more removed i before within sums),
     )
 
-pub walked_more : (start end : ℕ) (removed : List Piece) (i from before : ℕ) (pieces more : List Piece) (stretch : Piece) → i < length removed → stretch ≡ piece_at removed i →
-    more ≡ pieces ++ clipped (max from (start + before)) (min stretch.from (end + before)) → end + total_length removed ≤ MAX_TIME →
-    Walked start end removed i from before pieces → Walked start end removed (i + 1) stretch.to (before + (stretch.to - stretch.from)) more
-walked_more start end removed i from before pieces more stretch within is adds limit walked = record {
+pub walked_more : (most start end : ℕ) (removed : List Piece) (i from before : ℕ) (pieces more : List Piece) (stretch : Piece) → i < length removed → stretch ≡ piece_at removed i →
+    more ≡ pieces ++ clipped (max from (start + before)) (min stretch.from (end + before)) → end + total_length removed ≤ most →
+    Walked most start end removed i from before pieces → Walked most start end removed (i + 1) stretch.to (before + (stretch.to - stretch.from)) more
+walked_more most start end removed i from before pieces more stretch within is adds limit walked = record {
   are =
       ap (λ (ps : List Piece). ps ++ pieces_after start end stretch.to (before + (stretch.to - stretch.from)) (drop (i + 1) removed)) adds
       ∙ append_assoc pieces (clipped (max from (start + before)) (min stretch.from (end + before))) (pieces_after start end stretch.to (before + (stretch.to - stretch.from)) (drop (i + 1) removed))
@@ -115,9 +115,16 @@ walked_more start end removed i from before pieces more stretch within is adds l
 }
 
 -- after the last gap
-pub walked_all : (start end : ℕ) (removed : List Piece) (i from before : ℕ) (pieces all : List Piece) → length removed ≤ i → AreApartFrom 0 removed →
-    all ≡ pieces ++ clipped (max from (start + before)) (end + before) → Walked start end removed i from before pieces → ArePieces removed start end all
-walked_all start end removed i from before pieces all ended apart adds walked =
-    subst (ArePieces removed start end)
-    (sym walked.are ∙ ap (λ (ps : List Piece). pieces ++ ps) (at_drop_all (pieces_after start end from before) removed i ended) ∙ sym adds)
-    (pieces_found start end removed apart)
+pub walked_pieces : (most start end : ℕ) (removed : List Piece) (i from before : ℕ) (pieces all : List Piece) → length removed ≤ i →
+    all ≡ pieces ++ clipped (max from (start + before)) (end + before) → Walked most start end removed i from before pieces → all ≡ pieces_after start end 0 0 removed
+walked_pieces most start end removed i from before pieces all ended adds walked =
+    adds ∙ ap (λ (ps : List Piece). pieces ++ ps) (sym (at_drop_all (pieces_after start end from before) removed i ended)) ∙ walked.are
+
+pub walked_all : (most start end : ℕ) (removed : List Piece) (i from before : ℕ) (pieces all : List Piece) → length removed ≤ i → AreApartFrom 0 removed →
+    all ≡ pieces ++ clipped (max from (start + before)) (end + before) → Walked most start end removed i from before pieces → ArePieces removed start end all
+walked_all most start end removed i from before pieces all ended apart adds walked =
+    subst (ArePieces removed start end) (sym (walked_pieces most start end removed i from before pieces all ended adds walked)) (pieces_found start end removed apart)
+
+-- no stretch ends after the limit
+pub ends_fit : (removed : List Removed) → IsContraction removed → All (λ piece. piece.to ≤ MAX_TIME) (stretches_of removed)
+ends_fit removed kept = All-weaker IsPiece (λ (piece : Piece). piece.to ≤ MAX_TIME) (λ piece fits. fits.to_in_range) (stretches_of removed) kept.in_range

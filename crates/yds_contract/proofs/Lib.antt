@@ -1,3 +1,9 @@
 pub mod Cells
 pub mod Pieces
 pub mod Kept
+pub mod Joined
+pub mod Appending
+pub mod Joining
+pub mod Cutting
+pub mod Scaled
+pub mod Spreads

@@ -1,19 +1,17 @@
 -- The pieces of real time between two places are what isn't removed and has a place there.
-use Rattle.std.proofs.Common.{◌≡◌, ℕ, zero, suc, ◌+◌, ◌-◌, ◌<◌, ◌≤◌, ◌⊎◌, min, max, List, [], ◌∷◌, ◌++◌, ◌∙◌, ap, subst, inl, inr, arith, refl}
-use Rattle.std.specs.Prelude.{◌↔◌, nat_lt, if◌then◌else◌}
-use Rattle.std.specs.List.{All, sum_by}
-use Rattle.std.proofs.lemmas.Bool.{cases_lt, cases_Bool, ltb-true, ltb-false, cond-true, cond-false, lt-ltb, le-ltb}
+use Rattle.std.proofs.Common.{◌≡◌, ℕ, suc, ◌+◌, ◌-◌, ◌<◌, ◌≤◌, ◌⊎◌, min, max, List, [], ◌∷◌, ◌++◌, ◌∙◌, subst, inl, inr, arith}
+use Rattle.std.specs.Prelude.{◌↔◌, nat_lt}
+use Rattle.std.proofs.lemmas.Bool.{cases_lt, cond-true, cond-false, lt-ltb, le-ltb}
 use Rattle.std.proofs.lemmas.List.{append-nil}
-use Rattle.std.proofs.lemmas.List.Sums.{sum_by-cons, sum_by-append}
+use Rattle.std.proofs.lemmas.List.Sums.{sum_by-append}
 use Rattle.yds_model.specs.Piece.{Piece, Covers, total_length}
-use Rattle.yds_certificate.specs.Merging.{IsInPiece}
 use Rattle.yds_certificate.proofs.Cover.{Covers-cons, Covers-append}
-use Rattle.yds_contract.specs.Contracted.{AreApartFrom, removed_before, place, HasPlace, ArePieces}
+use Rattle.yds_contract.specs.Contracted.{AreApartFrom, removed_before, ArePieces}
 use Rattle.yds_contract.specs.Clipped.{clipped, pieces_after}
-use Rattle.yds_contract.proofs.Cells.{none_covered, apart_weaker, covered_later, none_before, first_before, rest_before, few_before}
+use Rattle.yds_contract.proofs.Cells.{none_covered, apart_weaker, covered_later, first_before, rest_before, few_before}
 
 -- one piece, or none
-clipped_cases : (from to : ℕ) → ((from < to) × (clipped from to ≡ record { from = from; to = to } ∷ [])) ⊎ ((to ≤ from) × (clipped from to ≡ []))
+pub clipped_cases : (from to : ℕ) → ((from < to) × (clipped from to ≡ record { from = from; to = to } ∷ [])) ⊎ ((to ≤ from) × (clipped from to ≡ []))
 clipped_cases from to = elim (cases_lt from to) [
   | inl some ↦ inl (some, cond-true (nat_lt from to) (record { from = from; to = to } ∷ []) [] (lt-ltb from to some))
   | inr none ↦ inr (none, cond-false (nat_lt from to) (record { from = from; to = to } ∷ []) [] (le-ltb from to none))

@@ -1,12 +1,19 @@
-ghost use Rattle.std.specs.Prelude.{◌≡◌, ◌<◌, ◌≤◌, [], IfOk, OnOk, OnErr};
+ghost use Rattle.std.specs.Prelude.{◌≡◌, ◌<◌, ◌≤◌, ◌-◌, ◌*◌, [], IfOk, OnOk, OnErr};
+ghost use Rattle.std.specs.List.Sorted.{IsStrictlyIncreasing};
 ghost use Rattle.yds_model.specs.declared.limits.TheConstants.{MAX_TIME};
-ghost use Rattle.yds_contract.specs.Contracted.{place, AreApartFrom, ArePieces, Removes};
+ghost use Rattle.yds_contract.specs.Contracted.{place, ArePieces, Removes};
+ghost use Rattle.yds_contract.specs.Spread.{IsSpread};
+ghost use Rattle.yds_model.specs.Scale.{at_scale, of_parts};
 
 use crate::removed::{Removed, pieces_between, time_before};
+use crate::removing::with_removed;
+use crate::spreading::spread_over;
 use std::alloc::Global;
 use std::marker::Model;
 use yds_certificate::Piece;
+use yds_fraction::Speed;
 use yds_model::Memory;
+use yds_slots::Slot;
 
 /// Time from which stretches of real time are removed.
 ///
@@ -54,5 +61,33 @@ impl Contraction {
         ensures { IfOk result (λ pieces. ArePieces self.now start end pieces.items) }
     {
         pieces_between(*self.removed.allocator(), &self.removed, start, end)
+    }
+
+    /// Removes the pieces from `start` to `end` besides. The contraction is unchanged after want of memory.
+    pub fn remove(&mut self, start: u32, end: u32) -> Result<(), Memory>
+        requires forward { start < end }
+        requires within { end ≤ place self.old MAX_TIME }
+        ensures ok { OnOk result (Removes self.old start end self.new) }
+        ensures err { OnErr result (self.new ≡ self.old) }
+    {
+        let alloc = *self.removed.allocator();
+        self.removed = with_removed(alloc, &self.removed, start, end)?;
+        Ok(())
+    }
+
+    /// The real slots that make up a slot of contracted time, which runs at this speed, in lowest terms: of the same job, in
+    /// order, at the same speed. None overlaps a removed stretch, and no event lies strictly inside one; the slot is cut there
+    /// and nowhere else. The ends of the slot are whole or have the speed's numerator as denominator, and so do those of the real
+    /// slots; works that aren't whole have the speed's denominator.
+    pub fn spread(&self, slot: Slot, speed: Speed, events: &[u32]) -> Result<Vec<Slot>, Memory>
+        requires some { 1 ≤ speed.num }
+        requires forward { at_scale speed.num slot.from < at_scale speed.num slot.to }
+        requires within { at_scale speed.num slot.to ≤ place self.now MAX_TIME * speed.num }
+        requires at_speed { slot.work ≡ of_parts (at_scale speed.num slot.to - at_scale speed.num slot.from) speed.den }
+        requires events { IsStrictlyIncreasing events.now }
+        ensures { IfOk result (λ slots. IsSpread self.now slot speed events.now slots.items) }
+    {
+        let alloc = *self.removed.allocator();
+        spread_over(alloc, &self.removed, slot, speed, events)
     }
 }

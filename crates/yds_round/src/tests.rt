@@ -15,9 +15,11 @@ fn two_jobs_with_a_switch(rt: HostRuntime) -> Result<(), Fail> {
     let rounded = round(rt.alloc(), &rows, &plan(rt.alloc(), &rows)?, &table)?;
     let slots = rounded.schedule.slots();
     assert_eq!(rt; slots.len(), 2);
-    assert_eq!(rt; (slots[0].job, slots[1].job), (0, 1));
-    assert_eq!(rt; slots[0].to, Amount::new(0, 6, 12));
-    assert_eq!(rt; slots[1].from, Amount::new(0, 3, 6));
+    let first = &slots[0];
+    let second = &slots[1];
+    assert_eq!(rt; (first.job, second.job), (0, 1));
+    assert_eq!(rt; first.to, Amount::new(0, 6, 12));
+    assert_eq!(rt; second.from, Amount::new(0, 3, 6));
     assert_eq!(rt; rounded.energy, Amount::from_whole(4));
     Ok(())
 }

@@ -1,10 +1,10 @@
-use Rattle.std.proofs.Common.{◌≡◌, ◌*◌, ◌≤◌, take, length}
-use Rattle.yds_model.specs.AverageRate.{terms_of, average_rate_rounds}
+use Rattle.std.proofs.Common.{◌≡◌, ◌*◌, ◌≤◌, take}
+use Rattle.yds_avr.specs.Rate.{rates_together, some_rounds}
 use Rattle.yds_avr.proofs.average_rate.terms.Given as goal
 
-abbrev pub invariant-loop-row : goal.invariant-loop-row
-invariant-loop-row l = record {
-  units : l.sum.units ≡ terms_of (take l.row-index l.rows) l.grid l.fn.stretch;
-  rounds : l.sum.rounds ≡ average_rate_rounds (take l.row-index l.rows) l.grid l.fn.stretch;
-  few : l.sum.units ≤ l.row-index * 1000000000000000;
+abbrev pub invariant-loop-rate : goal.invariant-loop-rate
+invariant-loop-rate l = record {
+  units : l.sum.units ≡ rates_together (take l.rate-index l.rates) l.fn.stretch;
+  rounds : l.sum.rounds ≡ some_rounds (take l.rate-index l.rates) l.fn.stretch;
+  few : l.sum.units ≤ l.rate-index * 1000000000000;
 }

@@ -1,11 +1,9 @@
-use Rattle.std.proofs.Common.{◌≡◌, ℕ, ◌+◌, ◌<◌, ◌≤◌, List, length, take, ◌++◌, min, max, ap, sym, ◌∙◌, arith, refl}
-use Rattle.std.proofs.lemmas.List.{append-nil}
+use Rattle.std.proofs.Common.{List, ◌++◌, ap, sym, arith, refl}
+use Rattle.yds_model.specs.Piece.{Piece}
 use Rattle.yds_model.specs.declared.limits.TheConstants.{MAX_TIME}
-use Rattle.yds_model.specs.Piece.{Piece, total_length}
 use Rattle.yds_contract.specs.Removed.{removed_at, stretch_of, stretches_of}
 use Rattle.yds_contract.specs.Clipped.{pieces_after}
-use Rattle.yds_contract.proofs.Cells.{piece_at}
-use Rattle.yds_contract.proofs.Kept.{Walked, count, stretch_at, removed_forward, end_fits, next_fits, walked_more, walked_all}
+use Rattle.yds_contract.proofs.Kept.{count, stretch_at, removed_forward, end_fits, next_fits, walked_more, walked_all}
 use Rattle.yds_contract.proofs.removed.pieces_between.Goals as goal
 
 pub loop-stretch-init : goal.loop-stretch-init
@@ -32,7 +30,7 @@ pub loop-stretch-preserved : goal.loop-stretch-preserved
 loop-stretch-preserved c =
     let removed = c.args.removed.now in
     let i = c.loop-stretch.stretch-index in
-    walked_more c.args.start c.args.end (stretches_of removed) i c.loop-stretch.from c.loop-stretch.before c.loop-stretch.pieces.items c.add.new.pieces.items
+    walked_more MAX_TIME c.args.start c.args.end (stretches_of removed) i c.loop-stretch.from c.loop-stretch.before c.loop-stretch.pieces.items c.add.new.pieces.items
     (stretch_of (removed_at removed i)) (omega (arith, count removed)) (sym (stretch_at removed i c.loop-stretch-test.true))
     (rw (← c.max.ensures, ← c.min.ensures) c.in_ok-add.ensures)
     (end_fits removed c.args.end c.requires.removed (omega (arith, c.requires.forward)) c.requires.within)
@@ -41,7 +39,7 @@ loop-stretch-preserved c =
 pub returns : goal.returns
 returns c =
     let removed = c.args.removed.now in
-    walked_all c.args.start c.args.end (stretches_of removed) c.loop-stretch.stretch-index c.loop-stretch.from c.loop-stretch.before c.loop-stretch.pieces.items
+    walked_all MAX_TIME c.args.start c.args.end (stretches_of removed) c.loop-stretch.stretch-index c.loop-stretch.from c.loop-stretch.before c.loop-stretch.pieces.items
     c.add-2.new.pieces.items (omega (arith, count removed, c.loop-stretch-test.false)) c.requires.removed.apart
     (rw (← c.max-2.ensures) c.in_ok-add-2.ensures)
     c.loop-stretch.invariant

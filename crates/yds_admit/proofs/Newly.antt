@@ -1,0 +1,168 @@
+-- One job more than jobs that leave no interval overfull: only an interval that begins before its deadline and ends then or later can be.
+use Rattle.std.proofs.Common.{◌≡◌, ℕ, ◌+◌, ◌-◌, ◌*◌, ◌<◌, ◌≤◌, ◌⊎◌, List, [], ◌∷◌, ◌++◌, length, get_or, take, ◌∙◌, sym, subst, arith, inl, inr, ap}
+use Rattle.std.specs.List.{All, Any, sum_by}
+use Rattle.std.specs.List.Sorted.{IsPermutation}
+use Rattle.std.proofs.lemmas.Bool.{cases_lt, cases_eq}
+use Rattle.std.proofs.lemmas.List.{get_or_default, get_or_append_left, get_or_push, length_push, take_more, take_all}
+use Rattle.std.proofs.lemmas.List.Sums.{sum_by_push}
+use Rattle.std.proofs.lemmas.List.Sorted.{sum_by-IsPermutation, Contains-permutation, IsPermutation-sym}
+use Rattle.yds_model.specs.Job.{Job, IsJob, no_job, job_at}
+use Rattle.yds_model.specs.Policy.{numbers_of}
+use Rattle.yds_model.specs.Admission.{IsOverfull, IsFirstOverfull}
+use Rattle.yds_model.proofs.Lists.{All-front, All-last}
+use Rattle.yds_laws.specs.AdmissionLaws.{HasRoom}
+use Rattle.yds_laws.proofs.Served.{room_from, confined_sum, confined_term}
+use Rattle.yds_admit.specs.Interval.{work_in, HasRoomFrom, IsFirstEnd}
+use Rattle.yds_admit.specs.Chain.{HasRoomOver, IsLeastFrom, NoFrom}
+use Rattle.yds_admit.proofs.Between.{term, before, after}
+use Rattle.yds_admit.proofs.Overfull.{any_of_all, number_of_any, jobs_work}
+
+-- some element of a list is one of the list in another order
+any_permuted : (P : Job → Type 0) (jobs others : List Job) → IsPermutation jobs others → Any P jobs → Any P others
+any_permuted P jobs others same (k, job, within, is, holds) =
+    let there = Contains-permutation jobs others job same (k, within, is) in
+    (there.0, job, there.1, there.2, holds)
+
+apart : (x y : ℕ) → y ≤ x → (x ≡ y → ⊥) → y < x
+apart x y most other = elim (cases_lt y x) [ inl less ↦ less | inr more ↦ absurd (other (omega arith)) ]
+
+module _ (top : ℕ) (jobs : List Job) (row : Job) (are : All IsJob (jobs ++ row ∷ [])) (room : HasRoom top jobs) where
+  -- an interval that ends before the job's deadline, or begins there or later, has room
+  elsewhere_fits : (from to : ℕ) → (to < row.deadline) ⊎ (row.deadline ≤ from) → IsOverfull (jobs ++ row ∷ []) top (numbers_of (jobs ++ row ∷ [])) from to → ⊥
+  elsewhere_fits from to apart full =
+      let ends = any_of_all (λ job. job.deadline ≡ to) (jobs ++ row ∷ []) full.is_deadline in
+      let window = (All-last IsJob jobs row are).has_window in
+      let added : term from to row ≡ 0 = elim apart [
+        | inl soon ↦ after from to row soon
+        | inr late ↦ before from to row (omega (arith, window, late))
+      ] in
+      elim (cases_lt ends.0 (length jobs)) [
+        | inl known ↦
+            let due : (job_at jobs ends.0).deadline ≡ to =
+            ap (λ (job : Job). job.deadline) (sym (get_or_append_left jobs (row ∷ []) no_job ends.0 known) ∙ get_or_default (jobs ++ row ∷ []) ends.0 no_job ends.1 ends.2 ∙ ends.3)
+            ∙ ends.4 in
+            absurd (omega (
+              arith,
+              full.too_much,
+              jobs_work (jobs ++ row ∷ []) from to,
+              sum_by_push (term from to) jobs row,
+              added,
+              jobs_work jobs from to,
+              confined_sum jobs (numbers_of jobs) from to,
+              subst (λ (end : ℕ). sum_by (confined_term jobs from end) (numbers_of jobs) ≤ top * (end - from)) due
+                  (room_from top jobs (All-front IsJob jobs (row ∷ []) are) room ends.0 known (job_at jobs ends.0).deadline from (omega arith)),
+            ))
+        | inr last ↦
+            let here : length jobs ≡ ends.0 = omega (arith, ends.2, length_push jobs row, last) in
+            let due : row.deadline ≡ to =
+            ap (λ (job : Job). job.deadline) (sym (get_or_push jobs row ends.1 ends.0 here) ∙ ends.3) ∙ ends.4 in
+            absurd (apart_due row.deadline from to apart due full.forward)
+      ]
+    where
+      apart_due : (due from to : ℕ) → (to < due) ⊎ (due ≤ from) → due ≡ to → from < to → ⊥
+      apart_due due from to (inl soon) is forward = omega arith
+      apart_due due from to (inr late) is forward = omega arith
+
+  module _ (by_release by_deadline : List Job) (releases : IsPermutation (jobs ++ row ∷ []) by_release) (deadlines : IsPermutation (jobs ++ row ∷ []) by_deadline) where
+    release_work : (from to : ℕ) → work_in by_release from to ≡ work_in (jobs ++ row ∷ []) from to
+    release_work from to = sum_by-IsPermutation (term from to) (jobs ++ row ∷ []) by_release releases
+
+    deadline_work : (from to : ℕ) → work_in by_deadline from to ≡ work_in (jobs ++ row ∷ []) from to
+    deadline_work from to = sum_by-IsPermutation (term from to) (jobs ++ row ∷ []) by_deadline deadlines
+
+    -- an overfull interval from a release that has room over the deadline
+    no_overfull : (from to : ℕ) → (from < row.deadline → Any (λ (job : Job). job.release ≡ from) by_release → HasRoomOver top row.deadline by_release from) →
+        IsOverfull (jobs ++ row ∷ []) top (numbers_of (jobs ++ row ∷ [])) from to → ⊥
+    no_overfull from to over full = elim (cases_lt to row.deadline) [
+      | inl soon ↦ elsewhere_fits from to (inl soon) full
+      | inr beyond ↦ elim (cases_lt from row.deadline) [
+        | inr late ↦ elsewhere_fits from to (inr late) full
+        | inl ahead ↦
+            let begins = any_permuted (λ job. job.release ≡ from) (jobs ++ row ∷ []) by_release releases (any_of_all (λ job. job.release ≡ from) (jobs ++ row ∷ []) full.is_release) in
+            let ends = any_permuted (λ job. job.deadline ≡ to) (jobs ++ row ∷ []) by_release releases (any_of_all (λ job. job.deadline ≡ to) (jobs ++ row ∷ []) full.is_deadline) in
+            absurd (omega (
+              arith,
+              full.too_much,
+              jobs_work (jobs ++ row ∷ []) from to,
+              release_work from to,
+              over ahead begins to beyond (λ later. ends),
+            ))
+      ]
+    ]
+
+    pub has_room : NoFrom top row.deadline by_release → HasRoom top (jobs ++ row ∷ [])
+    has_room none from to full = no_overfull from to (none from) full
+
+    -- the interval that was found
+    pub first_found : (from to : ℕ) → IsLeastFrom top row.deadline by_release from → IsFirstEnd top by_deadline from to →
+        IsFirstOverfull (jobs ++ row ∷ []) top (numbers_of (jobs ++ row ∷ [])) from to
+    first_found from to least ends = record {
+      overfull = record {
+        forward = ends.forward;
+        is_release = number_of_any (λ job. job.release ≡ from) (jobs ++ row ∷ [])
+            (any_permuted (λ job. job.release ≡ from) by_release (jobs ++ row ∷ []) (IsPermutation-sym (jobs ++ row ∷ []) by_release releases) least.is_release);
+        is_deadline = number_of_any (λ job. job.deadline ≡ to) (jobs ++ row ∷ [])
+            (any_permuted (λ job. job.deadline ≡ to) by_deadline (jobs ++ row ∷ []) (IsPermutation-sym (jobs ++ row ∷ []) by_deadline deadlines) ends.is_deadline);
+        too_much = omega (arith, ends.too_much, deadline_work from to, jobs_work (jobs ++ row ∷ []) from to);
+      };
+      first = λ other_from other_to full. elim (cases_lt from other_from) [
+        | inl less ↦ inl less
+        | inr most ↦ elim (cases_eq from other_from) [
+          | inr other ↦ absurd (no_overfull other_from other_to (λ ahead begins. least.earlier other_from (omega (arith, most, apart from other_from most other)) begins) full)
+          | inl equal ↦ inr (
+            equal,
+            elim (cases_lt other_to to) [
+              | inr late ↦ late
+              | inl early ↦ absurd (omega (
+                arith,
+                subst (λ (s : ℕ). top * (other_to - s) < work_in by_deadline s other_to) (sym equal)
+                    (omega (arith, full.too_much, jobs_work (jobs ++ row ∷ []) other_from other_to, deadline_work other_from other_to)),
+                ends.first other_to (omega (arith, equal, full.forward)) early,
+              ))
+            ],
+          )
+        ]
+      ];
+    }
+
+    -- there is one
+    pub is_found : (from : ℕ) → IsLeastFrom top row.deadline by_release from → HasRoomFrom top by_deadline from → ⊥
+    is_found from least fits = omega (
+      arith,
+      least.too_much,
+      release_work from least.to,
+      deadline_work from least.to,
+      fits least.to (omega (arith, least.ahead, least.beyond)),
+    )
+
+-- the jobs before the last one, and it
+pub split_last : (all : List Job) (row : Job) → 1 ≤ length all → row ≡ job_at all (length all - 1) → all ≡ take (length all - 1) all ++ row ∷ []
+split_last all row some is =
+    let n : ℕ = length all - 1 in
+    let more : take (n + 1) all ≡ take n all ++ get_or all n no_job ∷ [] = take_more all n no_job (omega (arith, some)) in
+    sym (take_all (n + 1) all (omega arith)) ∙ more ∙ ap (λ (one : Job). take n all ++ one ∷ []) (sym is)
+
+-- the same of jobs of which the last one is new
+module _ (top : ℕ) (all by_release by_deadline : List Job) (row : Job) (some : 1 ≤ length all) (is : row ≡ job_at all (length all - 1)) (are : All IsJob all)
+    (room : HasRoom top (take (length all - 1) all)) (releases : IsPermutation all by_release) (deadlines : IsPermutation all by_deadline) where
+  abbrev front : List Job
+  front = take (length all - 1) all
+
+  pub newly_none : NoFrom top row.deadline by_release → HasRoom top all
+  newly_none none =
+      let split = split_last all row some is in
+      subst (HasRoom top) (sym split) (has_room top front row (subst (All IsJob) split are) room by_release by_deadline
+      (subst (λ (xs : List Job). IsPermutation xs by_release) split releases) (subst (λ (xs : List Job). IsPermutation xs by_deadline) split deadlines) none)
+
+  pub newly_found : (from to : ℕ) → IsLeastFrom top row.deadline by_release from → IsFirstEnd top by_deadline from to →
+      IsFirstOverfull all top (numbers_of all) from to
+  newly_found from to least ends =
+      let split = split_last all row some is in
+      subst (λ (xs : List Job). IsFirstOverfull xs top (numbers_of xs) from to) (sym split) (first_found top front row (subst (All IsJob) split are) room by_release by_deadline
+      (subst (λ (xs : List Job). IsPermutation xs by_release) split releases) (subst (λ (xs : List Job). IsPermutation xs by_deadline) split deadlines) from to least ends)
+
+  pub newly_is : (from : ℕ) → IsLeastFrom top row.deadline by_release from → HasRoomFrom top by_deadline from → ⊥
+  newly_is from least fits =
+      let split = split_last all row some is in
+      is_found top front row (subst (All IsJob) split are) room by_release by_deadline
+      (subst (λ (xs : List Job). IsPermutation xs by_release) split releases) (subst (λ (xs : List Job). IsPermutation xs by_deadline) split deadlines) from least fits

@@ -1,0 +1,132 @@
+ghost use Rattle.std.specs.Prelude.{◌≡◌, ℕ, ◌+◌, ◌-◌, ◌*◌, ◌<◌, ◌≤◌, IfOk, MatchOption, List, length, slice_index};
+ghost use Rattle.std.specs.List.{range_with_len};
+ghost use Rattle.std.specs.List.Sorted.{IsPermutation, IsNonDecreasing, IsNonDecreasingBy};
+ghost use Rattle.yds_admit.specs.Chain.{IsFalling, AreTimes, Takes, IsLeastFrom, NoFrom, AreLinks, AreEmpty};
+
+use std::alloc::{AllocError, Global};
+use yds_model::limits::{MAX_JOBS, MAX_TIME, MAX_TOP};
+use yds_model::{JobRow, Memory};
+
+/// The least release before `due` of an interval that ends at `due` or at a later deadline and has more work confined to it
+/// than the top speed does there, if there is one.
+///
+/// One walk by falling releases. A job's units take the room that is left in the gaps between the deadlines, from its own deadline
+/// backwards; the units that find no room after `due` go on before it. With a release `s` the greatest work that an interval from
+/// `s` to `due` or later has beyond the room after `due` is the units that went on.
+pub(crate) fn least_from(
+    alloc: Global,
+    by_release: &[JobRow],
+    by_deadline: &[JobRow],
+    due: u32,
+    top: u32,
+) -> Result<Option<u32>, Memory>
+    requires few { length by_release.now ≤ MAX_JOBS }
+    requires in_range { due ≤ MAX_TIME }
+    requires top_in_range { top ≤ MAX_TOP }
+    requires same { IsPermutation by_deadline.now by_release.now }
+    requires falling { IsFalling by_release.now }
+    requires rising { IsNonDecreasingBy (λ job. job.deadline) by_deadline.now }
+    ensures { IfOk result (λ from. MatchOption from (NoFrom top due by_release.now) (IsLeastFrom top due by_release.now)) }
+{
+    let times = times(alloc, by_deadline, due)?;
+    let mut gaps = gaps(alloc, &times, top)?;
+    let gaps = gaps.as_mut_slice();
+    let mut links = own_links(alloc, times.len())?;
+    let links = links.as_mut_slice();
+    let mut passed = 0;
+    let mut from = None;
+    for job in by_release {
+        let place = place(&times, job.deadline);
+        passed += take(gaps, links, place, u64::from(job.work));
+        if job.release < due && passed > u64::from(top) * u64::from(due - job.release) {
+            from = Some(job.release);
+        }
+    }
+    Ok(from)
+}
+
+/// `due` and the deadlines after it.
+fn times(alloc: Global, by_deadline: &[JobRow], due: u32) -> Result<Vec<u32>, Memory>
+    requires { IsNonDecreasingBy (λ job. job.deadline) by_deadline.now }
+    ensures { IfOk result (λ times. AreTimes due by_deadline.now times.items) }
+{
+    let mut times = Vec::new(alloc);
+    times.push(due)?;
+    for job in by_deadline {
+        if due < job.deadline {
+            times.push(job.deadline)?;
+        }
+    }
+    Ok(times)
+}
+
+/// The work that the top speed does between each time and the next.
+fn gaps(alloc: Global, times: &[u32], top: u32) -> Result<Vec<u64>, Memory>
+    requires some { 1 ≤ length times.now }
+    requires rising { IsNonDecreasing times.now }
+    ensures as_long { IfOk result (λ gaps. length gaps.items + 1 ≡ length times.now) }
+    ensures each { IfOk result (λ gaps. (q : ℕ) → q + 1 < length times.now →
+        slice_index gaps.items q + top * slice_index times.now q ≡ top * slice_index times.now (q + 1)) }
+{
+    let mut gaps = Vec::new(alloc);
+    for next in 1..times.len() {
+        gaps.push(u64::from(top) * u64::from(times[next] - times[next - 1]))?;
+    }
+    Ok(gaps)
+}
+
+/// How many of the times come before this one.
+fn place(times: &[u32], time: u32) -> usize
+    requires { IsNonDecreasing times.now }
+    ensures within { result ≤ length times.now }
+    ensures before { (q : ℕ) → q < result → slice_index times.now q < time }
+    ensures after { (q : ℕ) → result ≤ q → q < length times.now → time ≤ slice_index times.now q }
+{
+    times.partition_point(|other| *other < time)
+}
+
+/// Takes so many units from the gaps before this place, from the last one on. Answers how many are left when there is no gap more.
+/// Gaps of which nothing is left are jumped over by their links.
+fn take(gaps: &mut [u64], links: &mut [usize], place: usize, units: u64) -> u64
+    requires within { place ≤ length gaps.old }
+    requires links { AreLinks gaps.old links.old }
+    ensures takes { Takes gaps.old place units gaps.new 0 result }
+    ensures links { AreLinks gaps.new links.new }
+{
+    let mut left = units;
+    let mut place = last_open(links, place);
+    while left > 0 && place > 0 {
+        place -= 1;
+        let taken = left.min(gaps[place]);
+        gaps[place] -= taken;
+        left -= taken;
+        links[place + 1] = if left > 0 { place } else { place + 1 };
+        place = last_open(links, place);
+    }
+    left
+}
+
+/// The place that the links lead to from this one. They get shorter.
+fn last_open(links: &mut [usize], place: usize) -> usize
+    requires known { place < length links.old }
+    requires back { (p : ℕ) → p < length links.old → slice_index links.old p ≤ p }
+    ensures within { result ≤ place }
+    ensures own { slice_index links.new result ≡ result }
+    ensures kept { (gaps : List ℕ) → AreLinks gaps links.old → AreLinks gaps links.new × AreEmpty gaps result place }
+{
+    let mut at = place;
+    while links[at] < at {
+        let next = links[at];
+        let further = links[next];
+        links[at] = further;
+        at = further;
+    }
+    at
+}
+
+/// Each place with a link to itself.
+fn own_links(alloc: Global, count: usize) -> Result<Vec<usize>, AllocError>
+    ensures { IfOk result (λ links. links.items ≡ range_with_len 0 count) }
+{
+    (0..count).collect(alloc)
+}

@@ -1,0 +1,113 @@
+-- A quotient that is rounded up, by a product with a fraction that was rounded down.
+use Rattle.std.proofs.Common.{◌≡◌, ℕ, ◌+◌, ◌-◌, ◌*◌, ◌/◌, ◌%◌, ◌<◌, ◌≤◌, ◌∙◌, sym, ap, arith, inl, inr}
+use Rattle.std.specs.Prelude.{◌==◌, not}
+use Rattle.std.proofs.lemmas.Bool.{cases_lt, cases_eq, eq-eqb, ne_eqb}
+use Rattle.std.proofs.Math.Nat.{mul-le-mul_right, mul-le-mul_left, le_of_mul-le-mul_right, le-div_iff_mul-le, div-lt_iff_lt-mul, div-mul-le_self, lt-div-mul-add, div-add-mod, add-mul-div_right, mul-add-mod_self_right, dvd-mul_left}
+use Rattle.std.proofs.lemmas.Nat.Gcd.{mod-eq-zero_of_dvd}
+use Rattle.yds_model.specs.Policy.{div_up}
+use Rattle.yds_model.specs.Piece.{Piece}
+use Rattle.yds_avr.specs.declared.rate.Rate.{Rate}
+use Rattle.yds_avr.specs.Rate.{window_of, units_of, rate_term, rate_rounds, IsRate}
+use Rattle.yds_edf.proofs.Quotients.{up_enough, up_most}
+
+module _ (rest length window fraction : ℕ) (some : 1 ≤ window) (in_range : window ≤ 1000000000) (short : length ≤ window)
+    (is : fraction ≡ rest * 18446744073709551616 / window) where
+  abbrev up : ℕ
+  up = div_up (rest * length) window
+
+  low : fraction * window ≤ rest * 18446744073709551616
+  low = omega (arith, div-mul-le_self (rest * 18446744073709551616) window, ap (λ n. n * window) is)
+
+  high : rest * 18446744073709551616 < fraction * window + window
+  high = omega (arith, lt-div-mul-add {a = rest * 18446744073709551616} {b = window} (omega (arith, some)), ap (λ n. n * window) is)
+
+  up_less : up * window ≤ rest * length + (window - 1)
+  up_less = div-mul-le_self (rest * length + (window - 1)) window
+
+  small : window * length ≤ 1000000000000000000
+  small = omega (arith, mul-le-mul_left window short, mul-le-mul_left window in_range, in_range)
+
+  -- not too few
+  enough : up * 18446744073709551616 ≤ fraction * length + 18446744073709551615
+  enough = elim (cases_lt (fraction * length + 18446744073709551615) (up * 18446744073709551616)) [
+    | inr most ↦ most
+    | inl less ↦ absurd (omega (
+      arith,
+      mul-le-mul_right window less,
+      mul-le-mul_right length high,
+      up_less,
+      small,
+      some,
+    ))
+  ]
+
+  -- and not too many
+  most : fraction * length ≤ up * 18446744073709551616
+  most = le_of_mul-le-mul_right {k = window} (omega (arith, mul-le-mul_right length low, up_enough (rest * length) window some)) (omega (arith, some))
+
+  pub product_up : (fraction * length + 18446744073709551615) / 18446744073709551616 ≡ up
+  product_up =
+      let least : up ≤ (fraction * length + 18446744073709551615) / 18446744073709551616 =
+      (le-div_iff_mul-le {k = 18446744073709551616} {x = up} {y = fraction * length + 18446744073709551615} (omega arith)).1 enough in
+      let greatest : (fraction * length + 18446744073709551615) / 18446744073709551616 < up + 1 =
+      (div-lt_iff_lt-mul {k = 18446744073709551616} {x = fraction * length + 18446744073709551615} {y = up + 1} (omega arith)).1 (omega (arith, most)) in
+      omega (arith, least, greatest)
+
+-- the whole units apart
+pub whole_apart : (whole rest length window : ℕ) → 1 ≤ window → div_up ((whole * window + rest) * length) window ≡ whole * length + div_up (rest * length) window
+whole_apart whole rest length window some =
+    let apart : (whole * window + rest) * length + (window - 1) ≡ (rest * length + (window - 1)) + (whole * length) * window = omega arith in
+    ap (λ n. n / window) apart
+    ∙ add-mul-div_right (rest * length + (window - 1)) (whole * length) {z = window} (omega (arith, some))
+    ∙ omega arith
+
+-- whole where the number that is rounded up is that times the divisor
+up_whole : (x y : ℕ) → 1 ≤ y → x % y ≡ 0 → div_up x y * y ≡ x
+up_whole x y some none =
+    let whole : x / y * y ≡ x = omega (arith, div-add-mod x y, none) in
+    let most : div_up x y ≤ x / y = up_most x y (x / y) some (omega (arith, whole)) in
+    omega (arith, up_enough x y some, mul-le-mul_right y most, whole)
+
+rest_none : (x y : ℕ) → 1 ≤ y → (div_up x y * y == x) ≡ (x % y == 0)
+rest_none x y some = elim (cases_eq (x % y) 0) [
+  | inl none ↦ eq-eqb (div_up x y * y) x (up_whole x y some none) ∙ sym (eq-eqb (x % y) 0 none)
+  | inr more ↦ ne_eqb (div_up x y * y) x
+      (λ (same : div_up x y * y ≡ x). more (ap (λ n. n % y) (sym same) ∙ mod-eq-zero_of_dvd y (dvd-mul_left y (div_up x y))))
+      ∙ sym (ne_eqb (x % y) 0 more)
+]
+
+pub whole_rounds : (whole rest length window : ℕ) → 1 ≤ window →
+    not (div_up (rest * length) window * window == rest * length) ≡ not ((whole * window + rest) * length % window == 0)
+whole_rounds whole rest length window some =
+    let apart : (whole * window + rest) * length ≡ (whole * length) * window + rest * length = omega arith in
+    ap not (rest_none (rest * length) window some)
+    ∙ ap (λ n. not (n == 0)) (sym (ap (λ n. n % window) apart ∙ mul-add-mod_self_right (whole * length) window (rest * length)))
+
+-- # What the code computes
+
+module _ (rate : Rate) (stretch : Piece) (is : IsRate rate) (released : rate.release ≤ stretch.from) (due : stretch.to ≤ rate.deadline)
+    (length other fraction : ℕ) (length_is : length ≡ stretch.to - stretch.from) (other_is : other ≡ stretch.to - stretch.from) (fraction_is : fraction ≡ rate.fraction) where
+  more_is : (fraction * other + 18446744073709551615) / 18446744073709551616 ≡ div_up (rate.rest * (stretch.to - stretch.from)) (window_of rate)
+  more_is =
+      ap (λ n. (n * other + 18446744073709551615) / 18446744073709551616) fraction_is
+      ∙ ap (λ n. (rate.fraction * n + 18446744073709551615) / 18446744073709551616) other_is
+      ∙ product_up rate.rest (stretch.to - stretch.from) (window_of rate) rate.fraction
+      (omega (arith, is.has_window)) (omega (arith, is.time_in_range)) (omega (arith, released, due)) is.fraction_is
+
+  pub units_told : rate.whole * length + (fraction * other + 18446744073709551615) / 18446744073709551616 ≡ rate_term stretch rate
+  units_told =
+      ap (λ n. rate.whole * n + (fraction * other + 18446744073709551615) / 18446744073709551616) length_is
+      ∙ ap (λ n. rate.whole * (stretch.to - stretch.from) + n) more_is
+      ∙ sym (whole_apart rate.whole rate.rest (stretch.to - stretch.from) (window_of rate) (omega (arith, is.has_window)))
+
+  pub rounds_told : (window : ℕ) → window ≡ window_of rate →
+      not ((fraction * other + 18446744073709551615) / 18446744073709551616 * window == rate.rest * length) ≡ rate_rounds stretch rate
+  rounds_told window window_is =
+      ap (λ n. not (n * window == rate.rest * length)) more_is
+      ∙ ap (λ n. not (div_up (rate.rest * (stretch.to - stretch.from)) (window_of rate) * n == rate.rest * length)) window_is
+      ∙ ap (λ n. not (div_up (rate.rest * (stretch.to - stretch.from)) (window_of rate) * window_of rate == rate.rest * n)) length_is
+      ∙ whole_rounds rate.whole rate.rest (stretch.to - stretch.from) (window_of rate) (omega (arith, is.has_window))
+
+  pub part_few : rate_term stretch rate ≤ units_of rate
+  part_few = up_most (units_of rate * (stretch.to - stretch.from)) (window_of rate) (units_of rate) (omega (arith, is.has_window))
+      (mul-le-mul_left (units_of rate) (omega (arith, released, due)))

@@ -1,0 +1,11 @@
+use Rattle.std.proofs.Common.{◌≤◌, length, ◌-◌}
+use Rattle.yds_avr.proofs.live.arrived_by.Given as goal
+
+abbrev pub invariant-loop-arrived : goal.invariant-loop-arrived
+invariant-loop-arrived l = record {
+  more : l.before ≤ l.arrived;
+  within : l.arrived ≤ length l.order;
+}
+
+abbrev pub decreases-loop-arrived : goal.decreases-loop-arrived
+decreases-loop-arrived l = length l.order - l.arrived

@@ -1,0 +1,53 @@
+-- A job's rate: its units by the length of its window, as whole units of a time unit and a rest. What it has in a stretch.
+use Rattle.std.specs.Prelude.{◌≡◌, ℕ, ◌+◌, ◌-◌, ◌*◌, ◌/◌, ◌%◌, ◌<◌, ◌≤◌, List, sum_by, Bool, nat_lt, nat_le, ◌==◌, ◌&&◌, not}
+use Rattle.std.specs.List.{filter, list_any}
+use Rattle.yds_model.specs.declared.limits.TheConstants.{MAX_TIME}
+use Rattle.yds_model.specs.Job.{Job}
+use Rattle.yds_model.specs.Piece.{Piece}
+use Rattle.yds_model.specs.Policy.{div_up}
+use Rattle.yds_avr.specs.declared.rate.Rate.{Rate}
+
+abbrev pub window_of : Rate → ℕ
+window_of rate = rate.deadline - rate.release
+
+-- the job's units
+abbrev pub units_of : Rate → ℕ
+units_of rate = rate.whole * window_of rate + rate.rest
+
+-- a rest by the window's length, in parts of a unit of which there are 2^64
+abbrev pub fraction_of : ℕ → ℕ → ℕ
+fraction_of rest window = rest * 18446744073709551616 / window
+
+abbrev pub rate_of : ℕ → Job → Rate
+rate_of grid job = record {
+  release = job.release;
+  deadline = job.deadline;
+  whole = grid * job.work / (job.deadline - job.release);
+  rest = grid * job.work % (job.deadline - job.release);
+  fraction = fraction_of (grid * job.work % (job.deadline - job.release)) (job.deadline - job.release);
+}
+
+pub record IsRate (rate : Rate) : Type 0 where
+  pub has_window : rate.release < rate.deadline
+  pub time_in_range : rate.deadline ≤ MAX_TIME
+  pub less : rate.rest < window_of rate
+  pub fraction_is : rate.fraction ≡ fraction_of rate.rest (window_of rate)
+  pub few : units_of rate ≤ 1000000000000
+
+-- the stretch lies in the job's window
+abbrev pub rate_live : Piece → Rate → Bool
+rate_live stretch rate = nat_le rate.release stretch.from && nat_lt stretch.from rate.deadline
+
+-- the job's units in the stretch, rounded up, and whether they weren't whole
+abbrev pub rate_term : Piece → Rate → ℕ
+rate_term stretch rate = div_up (units_of rate * (stretch.to - stretch.from)) (window_of rate)
+
+abbrev pub rate_rounds : Piece → Rate → Bool
+rate_rounds stretch rate = not (units_of rate * (stretch.to - stretch.from) % window_of rate == 0)
+
+-- those of the live jobs
+abbrev pub rates_together : List Rate → Piece → ℕ
+rates_together rates stretch = sum_by (rate_term stretch) (filter (rate_live stretch) rates)
+
+abbrev pub some_rounds : List Rate → Piece → Bool
+some_rounds rates stretch = list_any (rate_rounds stretch) (filter (rate_live stretch) rates)

@@ -1,0 +1,151 @@
+-- Spans that are cut at times are the same time, in pieces that have no time strictly inside and meet at times alone.
+use Rattle.std.proofs.Common.{◌≡◌, ℕ, suc, ◌<◌, ◌≤◌, ◌⊎◌, List, [], ◌∷◌, ◌++◌, get_or, sym, subst, inl, inr, arith, refl}
+use Rattle.std.specs.Prelude.{◌↔◌, nat_lt, ◌&&◌}
+use Rattle.std.specs.List.{All, Contains}
+use Rattle.std.proofs.lemmas.Bool.{cases_lt, cond-true, cond-false, lt-ltb, le-ltb, and_from, and_left, and_right}
+use Rattle.std.proofs.lemmas.List.Elements.{All-cons, All-nil, All-append, All-weaker}
+use Rattle.yds_model.specs.Piece.{Piece, PiecesFrom, Covers}
+use Rattle.yds_certificate.proofs.Cover.{Covers-cons, Covers-append}
+use Rattle.yds_contract.specs.Contracted.{AreApartFrom}
+use Rattle.yds_contract.specs.Spread.{MeetsOnlyAt, MeetOnlyAt, IsOutside}
+use Rattle.yds_contract.specs.Cut.{cut_between, cut_all}
+use Rattle.yds_contract.proofs.Cells.{none_covered, apart_weaker}
+
+pub cut_here : (from to time : ℕ) (times : List ℕ) → from < time → time < to →
+    cut_between from to (time ∷ times) ≡ record { from = from; to = time } ∷ cut_between time to times
+cut_here from to time times after before =
+    cond-true (nat_lt from time && nat_lt time to) _ _ (and_from (nat_lt from time) (nat_lt time to) (lt-ltb from time after) (lt-ltb time to before))
+
+pub cut_later : (from to time : ℕ) (times : List ℕ) → (time ≤ from) ⊎ (to ≤ time) → cut_between from to (time ∷ times) ≡ cut_between from to times
+cut_later from to time times (inl early) = cond-false (nat_lt from time && nat_lt time to) _ _ (and_left (nat_lt from time) (nat_lt time to) (le-ltb from time early))
+cut_later from to time times (inr late) = cond-false (nat_lt from time && nat_lt time to) _ _ (and_right (nat_lt from time) (nat_lt time to) (le-ltb time to late))
+
+-- strictly inside, or not
+data Stands (from to time : ℕ) : Type 0 where
+  inside : from < time → time < to → Stands from to time
+  outside : (time ≤ from) ⊎ (to ≤ time) → Stands from to time
+
+stands : (from to time : ℕ) → Stands from to time
+stands from to time = elim (cases_lt from time) [
+  | inr early ↦ outside (inl early)
+  | inl after ↦ elim (cases_lt time to) [ inl before ↦ inside after before | inr late ↦ outside (inr late) ]
+]
+
+cut_run : (start from to : ℕ) (times : List ℕ) (rest : List Piece) → start ≤ from → from < to → PiecesFrom to rest → PiecesFrom start (cut_between from to times ++ rest)
+cut_run start from to [] rest first forward later = (first, forward, later)
+cut_run start from to (time ∷ times) rest first forward later = elim (stands from to time) [
+  | inside after before ↦ subst (λ (ps : List Piece). PiecesFrom start (ps ++ rest)) (sym (cut_here from to time times after before))
+      (first, after, cut_run time time to times rest (omega arith) before later)
+  | outside where_it_is ↦ subst (λ (ps : List Piece). PiecesFrom start (ps ++ rest)) (sym (cut_later from to time times where_it_is)) (cut_run start from to times rest first forward later)
+]
+
+cut_covers : (from to : ℕ) (times : List ℕ) (cell : ℕ) → from < to → Covers (cut_between from to times) cell ↔ ((from ≤ cell) × (cell < to))
+cut_covers from to [] cell forward =
+    let one = Covers-cons (record { from = from; to = to }) [] cell in (
+      (λ covers. elim (one.0 covers) [ inl here ↦ here | inr none ↦ absurd (none_covered cell none) ]),
+      (λ between. one.1 (inl between)),
+    )
+cut_covers from to (time ∷ times) cell forward = elim (stands from to time) [
+  | outside where_it_is ↦ subst (λ (ps : List Piece). Covers ps cell ↔ ((from ≤ cell) × (cell < to))) (sym (cut_later from to time times where_it_is)) (cut_covers from to times cell forward)
+  | inside after before ↦
+      let one = Covers-cons (record { from = from; to = time }) (cut_between time to times) cell in
+      let rest = cut_covers time to times cell before in
+      subst (λ (ps : List Piece). Covers ps cell ↔ ((from ≤ cell) × (cell < to))) (sym (cut_here from to time times after before)) (
+        (λ covers. elim (one.0 covers) [ inl here ↦ (here.0, omega (arith, here.1)) | inr later ↦ let between = rest.0 later in (omega (arith, between.0), between.1) ]),
+        (λ between. elim (cases_lt cell time) [ inl early ↦ one.1 (inl (between.0, early)) | inr late ↦ one.1 (inr (rest.1 (late, between.1))) ]),
+      )
+]
+
+cut_within : (from to : ℕ) (times : List ℕ) → All (λ piece. (from ≤ piece.from) × (piece.to ≤ to)) (cut_between from to times)
+cut_within from to [] = All-cons (λ (p : Piece). (from ≤ p.from) × (p.to ≤ to)) (record { from = from; to = to }) [] (omega arith, omega arith) (All-nil (λ (p : Piece). (from ≤ p.from) × (p.to ≤ to)))
+cut_within from to (time ∷ times) = elim (stands from to time) [
+  | outside where_it_is ↦ subst (All (λ (p : Piece). (from ≤ p.from) × (p.to ≤ to))) (sym (cut_later from to time times where_it_is)) (cut_within from to times)
+  | inside after before ↦ subst (All (λ (p : Piece). (from ≤ p.from) × (p.to ≤ to))) (sym (cut_here from to time times after before))
+      (All-cons (λ (p : Piece). (from ≤ p.from) × (p.to ≤ to)) (record { from = from; to = time }) (cut_between time to times) (omega arith, omega arith)
+      (All-weaker (λ (p : Piece). (time ≤ p.from) × (p.to ≤ to)) (λ (p : Piece). (from ≤ p.from) × (p.to ≤ to)) (λ p within. (omega (arith, within.0), within.1)) (cut_between time to times) (cut_within time to times)))
+]
+
+-- times that rise, from this one on
+abbrev pub RiseFrom : ℕ → List ℕ → Type 0
+RiseFrom least [] = Unit {0}
+RiseFrom least (time ∷ times) = (least ≤ time) × RiseFrom time times
+
+all_later : (least : ℕ) (times : List ℕ) → RiseFrom least times → All (λ time. least ≤ time) times
+all_later least [] rise = All-nil (λ (t : ℕ). least ≤ t)
+all_later least (time ∷ times) rise = All-cons (λ (t : ℕ). least ≤ t) time times rise.0
+    (All-weaker (λ (t : ℕ). time ≤ t) (λ (t : ℕ). least ≤ t) (λ t later. omega (arith, rise.0)) times (all_later time times rise.1))
+
+outside_all : (times : List ℕ) (from to time : ℕ) → (time ≤ from) ⊎ (to ≤ time) → (pieces : List Piece) → All (λ piece. (from ≤ piece.from) × (piece.to ≤ to)) pieces →
+    All (IsOutside time) pieces
+outside_all times from to time (inl early) pieces within = All-weaker (λ (p : Piece). (from ≤ p.from) × (p.to ≤ to)) (IsOutside time) (λ p in_it. inl (omega (arith, in_it.0))) pieces within
+outside_all times from to time (inr late) pieces within = All-weaker (λ (p : Piece). (from ≤ p.from) × (p.to ≤ to)) (IsOutside time) (λ p in_it. inr (omega (arith, in_it.1))) pieces within
+
+-- no time lies strictly inside a piece
+cut_outside : (least from to : ℕ) (times : List ℕ) → RiseFrom least times → All (λ time. All (IsOutside time) (cut_between from to times)) times
+cut_outside least from to [] rise = All-nil (λ (t : ℕ). All (IsOutside t) (cut_between from to []))
+cut_outside least from to (time ∷ times) rise = elim (stands from to time) [
+  | outside where_it_is ↦ subst (λ (ps : List Piece). All (λ (t : ℕ). All (IsOutside t) ps) (time ∷ times)) (sym (cut_later from to time times where_it_is))
+      (All-cons (λ (t : ℕ). All (IsOutside t) (cut_between from to times)) time times
+      (outside_all times from to time where_it_is (cut_between from to times) (cut_within from to times))
+      (cut_outside time from to times rise.1))
+  | inside after before ↦
+      let first : Piece = record { from = from; to = time } in
+      let rest : List Piece = cut_between time to times in
+      subst (λ (ps : List Piece). All (λ (t : ℕ). All (IsOutside t) ps) (time ∷ times)) (sym (cut_here from to time times after before))
+      (All-cons (λ (t : ℕ). All (IsOutside t) (first ∷ rest)) time times
+      (All-cons (IsOutside time) first rest (inr (omega arith)) (outside_all times time to time (inl (omega arith)) rest (cut_within time to times)))
+      (λ k d inside_it. All-cons (IsOutside (get_or times k d)) first rest (inr (all_later time times rise.1 k d inside_it)) (cut_outside time time to times rise.1 k d inside_it)))
+]
+
+contains_more : (first : ℕ) (rest : List ℕ) (t : ℕ) → Contains rest t → Contains (first ∷ rest) t
+contains_more first rest t (k, within, is) = (suc k, omega arith, is)
+
+-- pieces meet at times alone
+cut_meets : (all : List ℕ) (end from to : ℕ) (times : List ℕ) (rest : List Piece) → ((t : ℕ) → Contains times t → Contains all t) → (end ≡ from → Contains all end) →
+    MeetsOnlyAt all to rest → MeetsOnlyAt all end (cut_between from to times ++ rest)
+cut_meets all end from to [] rest known first later = (first, later)
+cut_meets all end from to (time ∷ times) rest known first later = elim (stands from to time) [
+  | outside where_it_is ↦ subst (λ (ps : List Piece). MeetsOnlyAt all end (ps ++ rest)) (sym (cut_later from to time times where_it_is))
+      (cut_meets all end from to times rest (λ t has. known t (contains_more time times t has)) first later)
+  | inside after before ↦ subst (λ (ps : List Piece). MeetsOnlyAt all end (ps ++ rest)) (sym (cut_here from to time times after before))
+      (first, cut_meets all time time to times rest (λ t has. known t (contains_more time times t has)) (λ same. known time (0, omega arith, refl)) later)
+]
+
+pub cut_all_run : (times : List ℕ) (start : ℕ) (spans : List Piece) → AreApartFrom start spans → PiecesFrom start (cut_all times spans)
+cut_all_run times start [] apart = tt
+cut_all_run times start (span ∷ spans) apart =
+    cut_run start span.from span.to times (cut_all times spans) apart.0 apart.1
+    (cut_all_run times span.to spans (apart_weaker span.to (suc span.to) spans (omega arith) apart.2))
+
+pub cut_all_covers : (times : List ℕ) (start : ℕ) (spans : List Piece) (cell : ℕ) → AreApartFrom start spans → Covers (cut_all times spans) cell ↔ Covers spans cell
+cut_all_covers times start [] cell apart = ((λ covers. covers), (λ covers. covers))
+cut_all_covers times start (span ∷ spans) cell apart =
+    let both = Covers-append (cut_between span.from span.to times) (cut_all times spans) cell in
+    let one = cut_covers span.from span.to times cell apart.1 in
+    let rest = cut_all_covers times (suc span.to) spans cell apart.2 in
+    let whole = Covers-cons span spans cell in (
+      (λ covers. elim (both.0 covers) [ inl here ↦ whole.1 (inl (one.0 here)) | inr later ↦ whole.1 (inr (rest.0 later)) ]),
+      (λ covers. elim (whole.0 covers) [ inl here ↦ both.1 (inl (one.1 here)) | inr later ↦ both.1 (inr (rest.1 later)) ]),
+    )
+
+pub cut_all_outside : (times : List ℕ) (least : ℕ) (spans : List Piece) → RiseFrom least times → All (λ time. All (IsOutside time) (cut_all times spans)) times
+cut_all_outside times least [] rise k d within = All-nil (IsOutside (get_or times k d))
+cut_all_outside times least (span ∷ spans) rise k d within =
+    All-append (IsOutside (get_or times k d)) (cut_between span.from span.to times) (cut_all times spans)
+    (cut_outside least span.from span.to times rise k d within) (cut_all_outside times least spans rise k d within)
+
+cut_all_meets : (times : List ℕ) (end : ℕ) (spans : List Piece) → AreApartFrom (suc end) spans → MeetsOnlyAt times end (cut_all times spans)
+cut_all_meets times end [] apart = tt
+cut_all_meets times end (span ∷ spans) apart =
+    cut_meets times end span.from span.to times (cut_all times spans) (λ t has. has) (λ same. absurd (omega (arith, apart.0)))
+    (cut_all_meets times span.to spans apart.2)
+
+some_meets : (times : List ℕ) (end : ℕ) (pieces : List Piece) → MeetsOnlyAt times end pieces → MeetOnlyAt times pieces
+some_meets times end [] meets = tt
+some_meets times end (piece ∷ pieces) meets = meets.1
+
+pub cut_all_meet : (times : List ℕ) (start : ℕ) (spans : List Piece) → AreApartFrom start spans → MeetOnlyAt times (cut_all times spans)
+cut_all_meet times start [] apart = tt
+cut_all_meet times start (span ∷ spans) apart =
+    some_meets times (suc span.from) (cut_all times (span ∷ spans))
+    (cut_meets times (suc span.from) span.from span.to times (cut_all times spans) (λ t has. has) (λ same. absurd (omega arith)) (cut_all_meets times span.to spans apart.2))

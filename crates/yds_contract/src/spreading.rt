@@ -1,0 +1,137 @@
+ghost use Rattle.std.specs.Prelude.{◌≡◌, ◌<◌, ◌≤◌, ◌+◌, ◌-◌, ◌*◌, ◌/◌, [], ◌∷◌, ◌++◌, length, map, IfOk, OnOk};
+ghost use Rattle.std.specs.List.Sorted.{IsStrictlyIncreasing};
+ghost use Rattle.yds_model.specs.declared.limits.TheConstants.{MAX_TIME, MAX_SLOT_WORK, MAX_LEVEL_WORK, MAX_LEVEL_LENGTH};
+ghost use Rattle.yds_model.specs.Scale.{at_scale, of_parts};
+ghost use Rattle.yds_contract.specs.Contracted.{place};
+ghost use Rattle.yds_contract.specs.Removed.{stretches_of, IsContraction};
+ghost use Rattle.yds_contract.specs.Clipped.{clipped, pieces_after};
+ghost use Rattle.yds_contract.specs.Spread.{in_parts, slot_over, IsSpread};
+ghost use Rattle.yds_contract.specs.Cut.{cut_between};
+
+use crate::removed::Removed;
+use crate::span::Span;
+use std::alloc::Global;
+use yds_fraction::{Amount, Moment, Speed};
+use yds_model::Memory;
+use yds_slots::Slot;
+
+/// The time in parts, of which each time unit has so many.
+fn parts_of(time: Moment, parts: u64) -> u64
+    requires in_range { time.whole ≤ MAX_TIME }
+    requires few { parts ≤ MAX_LEVEL_WORK }
+    ensures { result ≡ at_scale parts time }
+{
+    time.whole() * parts + time.num() * (parts / time.den())
+}
+
+/// Puts the time between these two last among the spans, where there is any.
+fn add(spans: &mut Vec<Span>, from: u64, to: u64) -> Result<(), Memory>
+    ensures { OnOk result (spans.new.items ≡ spans.old.items ++ clipped from to) }
+{
+    if from < to {
+        spans.push(Span { from, to })?;
+    }
+    Ok(())
+}
+
+/// The spans of real time that aren't removed and whose places lie from `start` to `end`, all in parts.
+fn spans_between(
+    alloc: Global,
+    removed: &[Removed],
+    parts: u64,
+    start: u64,
+    end: u64,
+) -> Result<Vec<Span>, Memory>
+    requires removed { IsContraction removed.now }
+    requires some { 1 ≤ parts }
+    requires few { parts ≤ MAX_LEVEL_WORK }
+    requires forward { start < end }
+    requires within { end ≤ place (stretches_of removed.now) MAX_TIME * parts }
+    ensures { IfOk result (λ spans. spans.items ≡ pieces_after start end 0 0 (map (in_parts parts) (stretches_of removed.now))) }
+{
+    let mut spans = Vec::new(alloc);
+    let mut from: u64 = 0;
+    let mut before = 0;
+    for stretch in removed {
+        let begins = u64::from(stretch.from) * parts;
+        let ends = u64::from(stretch.to) * parts;
+        add(
+            &mut spans,
+            from.max(start + before),
+            begins.min(end + before),
+        )?;
+        from = ends;
+        before += ends - begins;
+    }
+    add(&mut spans, from.max(start + before), end + before)?;
+    Ok(spans)
+}
+
+/// The job's slot at this speed over a span of parts.
+fn slot_between(job: u32, speed: Speed, from: u64, to: u64) -> Slot
+    requires some { 1 ≤ speed.num }
+    requires forward { from < to }
+    requires within { to ≤ MAX_TIME * speed.num }
+    requires work_fits { (to - from) / speed.den ≤ MAX_SLOT_WORK }
+    ensures { result ≡ slot_over job speed (record { from = from; to = to }) }
+{
+    Slot {
+        job,
+        from: Moment::of_parts(u128::from(from), speed.num()),
+        to: Moment::of_parts(u128::from(to), speed.num()),
+        work: Amount::of_parts(u128::from(to - from), speed.den()),
+    }
+}
+
+/// Puts the job's slots over the span last, cut at each event that lies strictly inside it.
+fn cut(
+    slots: &mut Vec<Slot>,
+    job: u32,
+    speed: Speed,
+    span: Span,
+    events: &[u32],
+) -> Result<(), Memory>
+    requires some { 1 ≤ speed.num }
+    requires forward { span.from < span.to }
+    requires within { span.to ≤ MAX_TIME * speed.num }
+    requires work_fits { (span.to - span.from) / speed.den ≤ MAX_SLOT_WORK }
+    ensures { OnOk result (slots.new.items ≡ slots.old.items
+        ++ map (slot_over job speed) (cut_between span.from span.to (map (λ event. event * speed.num) events.now))) }
+{
+    let mut from = span.from;
+    for event in events {
+        let time = u64::from(*event) * speed.num();
+        if from < time && time < span.to {
+            slots.push(slot_between(job, speed, from, time))?;
+            from = time;
+        }
+    }
+    slots.push(slot_between(job, speed, from, span.to))?;
+    Ok(())
+}
+
+/// The real slots that make up a slot of contracted time at this speed, cut at the events.
+pub(crate) fn spread_over(
+    alloc: Global,
+    removed: &[Removed],
+    slot: Slot,
+    speed: Speed,
+    events: &[u32],
+) -> Result<Vec<Slot>, Memory>
+    requires removed { IsContraction removed.now }
+    requires some { 1 ≤ speed.num }
+    requires forward { at_scale speed.num slot.from < at_scale speed.num slot.to }
+    requires within { at_scale speed.num slot.to ≤ place (stretches_of removed.now) MAX_TIME * speed.num }
+    requires at_speed { slot.work ≡ of_parts (at_scale speed.num slot.to - at_scale speed.num slot.from) speed.den }
+    requires events { IsStrictlyIncreasing events.now }
+    ensures { IfOk result (λ slots. IsSpread (stretches_of removed.now) slot speed events.now slots.items) }
+{
+    let start = parts_of(slot.from, speed.num());
+    let end = parts_of(slot.to, speed.num());
+    let spans = spans_between(alloc, removed, speed.num(), start, end)?;
+    let mut slots = Vec::new(alloc);
+    for span in &spans {
+        cut(&mut slots, slot.job, speed, *span, events)?;
+    }
+    Ok(slots)
+}

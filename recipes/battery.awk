@@ -1,0 +1,52 @@
+# battery.awk: how long a battery lasts with each side of a comparison.
+#
+#   yds_cli compare --grid 1000 < document.txt | awk -f battery.awk -v mah=220 -v volts=3.0 -v uw=10
+#
+# Input: lines of `yds_cli compare`, with lines of energy.awk before or after them. The power is each side's
+# mean over its whole time, for ever. Output: a table parted by tabs: side, milliwatts, hours, and the hours
+# in hundredths of the plan's.
+#
+# Options, each with -v: mah=N milliampere-hours and volts=V of the battery; uw=N microwatts in the document's
+# unit of power (1000); other=MW that is drawn besides (0).
+#
+# Exit status: 0 done; 1 a fault in the input; 2 usage.
+
+function complain(text, status) {
+    print "battery.awk: " text | "cat 1>&2"
+    close("cat 1>&2")
+    over = 1
+    exit status
+}
+function is_number(text) { return text ~ /^([0-9]+\.?[0-9]*|\.[0-9]+)$/ && text + 0 > 0 }
+function value(text,    part) {
+    if (split(text, part, /[+\/]/) == 3) return part[1] + part[2] / part[3]
+    return text + 0
+}
+BEGIN {
+    if (uw == "") uw = 1000
+    if (!is_number(mah) || !is_number(volts) || !is_number(uw) || (other != "" && other !~ /^([0-9]+\.?[0-9]*|\.[0-9]+)$/))
+        complain("mah= and volts= of the battery are numbers above 0\nusage: awk -f battery.awk -v mah=N -v volts=V [-v uw=N] [-v other=MW]", 2)
+    if (over) exit
+}
+$1 ~ /^(refused|too-slow|failed|usage:)$/ { complain("line " NR ": the input is an answer of no: " $0, 1) }
+$2 == "energy" || $2 == "too-slow" {
+    side[++sides] = $1
+    if ($2 == "energy") energy[$1] = value($3)
+}
+$2 == "time" { time[$1] += value($4) }
+END {
+    if (over) exit
+    if (!sides) { complain("no energy line; is this the answer of compare?", 1); exit 1 }
+    if (!("plan" in energy)) { complain("no plan among the sides; is this the answer of compare?", 1); exit 1 }
+    for (i = 1; i <= sides; i++)
+        if (side[i] in energy && time[side[i]] <= 0) { complain("the side " side[i] " has no time; give its time lines too", 1); exit 1 }
+    for (i = 1; i <= sides; i++)
+        if (side[i] in energy) power[i] = energy[side[i]] / time[side[i]] * uw / 1000 + other
+    for (i = 1; i <= sides; i++) if (side[i] == "plan") plan = power[i]
+    print "side\tmilliwatts\thours\tof plan (%)"
+    for (i = 1; i <= sides; i++) {
+        if (!(side[i] in energy)) print side[i] "\ttoo slow\t-\t-"
+        else if (power[i] > 0) printf "%s\t%.3f\t%.1f\t%.1f\n", side[i], power[i], mah * volts / power[i], plan / power[i] * 100
+        else print side[i] "\t0.000\t-\t-"
+    }
+}

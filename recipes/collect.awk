@@ -1,0 +1,65 @@
+# collect.awk: one table of many answers of `yds_cli compare`.
+#
+#   awk -f collect.awk out/*.txt > energies.tsv
+#
+# Input: files, each with the answer to one document, and perhaps lines of energy.awk after it.
+# Output: a table parted by tabs, a row for each file in order: its name, the energy of plan, avr, oa and of what
+# other sides there are (with six decimals, - where there is none), the event points at which the policies were
+# rounded to the grid, and the answer: ok, or the line that says no. Energies are in the document's units.
+#
+# Exit status: 0 done; 1 a file can't be read or has a line that is of no such answer; 2 usage.
+
+function complain(text, status) {
+    print "collect.awk: " text | "cat 1>&2"
+    close("cat 1>&2")
+    exit status
+}
+function value(text,    part) {
+    if (split(text, part, /[+\/]/) == 3) return part[1] + part[2] / part[3]
+    return text + 0
+}
+function add_side(name) {
+    if (name in known) return
+    known[name] = 1
+    side[++sides] = name
+}
+function read_file(i,    line, field, status, n) {
+    answer[i] = "no answer"
+    rounded[i] = "-"
+    while ((status = (getline line < ARGV[i])) > 0) {
+        sub(/\r$/, "", line)
+        n = split(line, field, /[ \t]+/)
+        if (n == 0 || field[1] ~ /^#/) continue
+        if (field[1] ~ /^(refused|too-slow|usage:|failed)$/) { answer[i] = line; gsub(/\t/, " ", answer[i]) }
+        else if (field[2] == "energy") {
+            add_side(field[1])
+            energy[i, field[1]] = value(field[3])
+            if (answer[i] == "no answer") answer[i] = "ok"
+        } else if (field[2] == "rounded") rounded[i] = rounded[i] + field[3]
+        else if (field[2] == "too-slow") add_side(field[1])
+        else if (field[2] != "time")
+            complain(ARGV[i] ": \"" line "\" is no line of compare or energy.awk", 1)
+    }
+    if (status < 0) complain(ARGV[i] " can't be read", 1)
+    close(ARGV[i])
+}
+BEGIN {
+    if (ARGC < 2) complain("no file\nusage: awk -f collect.awk FILE ..", 2)
+    add_side("plan")
+    add_side("avr")
+    add_side("oa")
+    for (i = 1; i < ARGC; i++) read_file(i)
+    line = "document"
+    for (s = 1; s <= sides; s++) line = line "\t" side[s]
+    print line "\trounded\tanswer"
+    for (i = 1; i < ARGC; i++) {
+        name = ARGV[i]
+        sub(/^.*\//, "", name)
+        sub(/\.[^.]*$/, "", name)
+        gsub(/\t/, " ", name)
+        line = name
+        for (s = 1; s <= sides; s++)
+            line = line "\t" ((i, side[s]) in energy ? sprintf("%.6f", energy[i, side[s]]) : "-")
+        print line "\t" rounded[i] "\t" answer[i]
+    }
+}

@@ -1,0 +1,401 @@
+#!/bin/sh
+# test.sh: runs each recipe on its sample and compares what it writes, byte for byte, with what is stored.
+#
+#   sh recipes/test.sh [PART ..]      parts: trace points energy rtapp plot folder page manual; all without one
+#
+# Environment: YDS (the program; build/yds_cli beside this folder), AWK (awk). The last line is
+# 'N passed, M failed', and the exit status is 1 where M isn't 0. What wants a missing package, or a command that
+# the program doesn't have, is left out and counted on a line of its own.
+
+here=$(cd "$(dirname "$0")" && pwd)
+YDS=${YDS:-$here/../build/yds_cli}
+case $YDS in /*) ;; *) YDS=$(pwd)/$YDS ;; esac
+AWK=${AWK:-awk}
+LC_ALL=C
+export LC_ALL
+work=$(mktemp -d) || exit 1
+trap 'rm -rf "$work"' EXIT
+cd "$here/samples" || exit 1
+expected=$here/expected
+passed=0
+failed=0
+left_out=0
+
+pass() { passed=$((passed + 1)); }
+fail() { failed=$((failed + 1)); echo "FAILED: $1"; }
+has() { command -v "$1" >/dev/null 2>&1; }
+# Whether the program has the command: an empty document isn't answered by the usage line.
+knows() {
+	case $known in *" $1 "*) return 0 ;; *" no-$1 "*) return 1 ;; esac
+	case $1 in
+	compare) words="compare --grid 1" ;; oa) words="oa --grid 1" ;; avr) words="avr --grid 1" ;;
+	json) words="report --json" ;; trial) words="trial 0 0" ;; admit) words="admit 1" ;; *) words=$1 ;;
+	esac
+	"$YDS" $words </dev/null >"$work/knows" 2>/dev/null
+	if [ $? = 2 ] || [ ! -x "$YDS" ]; then known="$known no-$1 "; return 1; fi
+	known="$known $1 "
+}
+known=" "
+# want COMMAND ..: goes on where the program or machine has them all; else the test is left out.
+want() {
+	for word in "$@"; do
+		case $word in
+		jq | gnuplot | parallel | bash | mandoc) has "$word" || { left_out=$((left_out + 1)); return 1; } ;;
+		*) knows "$word" || { left_out=$((left_out + 1)); return 1; } ;;
+		esac
+	done
+}
+# same NAME STATUS FILE COMMAND ..: standard output is expected/FILE (- for none), with this status and no errors.
+same() {
+	name=$1 status=$2 file=$3
+	shift 3
+	"$@" >"$work/out" 2>"$work/err"
+	got=$?
+	[ "$file" = - ] && file=/dev/null || file=$expected/$file
+	if [ $got = "$status" ] && cmp -s "$work/out" "$file" && [ ! -s "$work/err" ]; then pass; return; fi
+	fail "$name (status $got)"
+	cat "$work/err"
+	diff "$file" "$work/out" | head -n 20
+}
+# refuses NAME STATUS OUTPUT ERROR COMMAND ..: the status, the whole standard output, and the first line of the errors.
+refuses() {
+	name=$1 status=$2 output=$3 error=$4
+	shift 4
+	"$@" >"$work/out" 2>"$work/err"
+	got=$?
+	if [ $got = "$status" ] && [ "$(cat "$work/out")" = "$output" ] && [ "$(head -n 1 "$work/err")" = "$error" ]; then pass; return; fi
+	fail "$name (status $got)"
+	echo "wanted: $error"
+	head -n 3 "$work/err"
+	head -n 3 "$work/out"
+}
+# answers NAME STATUS LINE COMMAND ..: the first line of standard output.
+answers() {
+	name=$1 status=$2 line=$3
+	shift 3
+	"$@" >"$work/out" 2>"$work/err"
+	got=$?
+	if [ $got = "$status" ] && [ "$(head -n 1 "$work/out")" = "$line" ]; then pass; return; fi
+	fail "$name (status $got)"
+	echo "wanted: $line"
+	head -n 3 "$work/out" "$work/err"
+}
+# from FILE COMMAND ..: with FILE as standard input.
+from() { input=$1; shift; "$@" <"$input"; }
+recipe() { program=$1; shift; $AWK -f "$here/$program" "$@"; }
+
+trace() { recipe trace.awk "$@"; }
+points() { recipe points.awk "$@"; }
+
+test_trace() {
+	t=tasks=decode:16.667,audio:10
+	same "trace: trace-cmd report" 0 trace.txt trace -v $t trace-report.txt
+	same "trace: raw report" 0 trace.txt trace -v $t trace-raw.txt
+	same "trace: the kernel's file" 0 trace-file.txt trace -v $t trace-file.txt
+	same "trace: perf script" 0 trace-perf.txt trace -v $t -v cpu=3 -v start=2000000 trace-perf.txt
+	same "trace: others" 0 trace-others.txt trace -v $t -v others=10 trace-report.txt
+	same "trace: exact speeds" 0 trace-exact-speeds.txt trace -v $t -v khz=24000 trace-report.txt
+	same "trace: a late job" 0 trace-late.txt trace -v $t trace-late.txt
+	same "trace: events lost" 0 trace-lost.txt trace -v $t -v lost=cut trace-lost.txt
+	same "trace: jobs of a file" 0 trace-frames.txt trace -v tasks=decode,audio -v jobs=frames.txt -v us=1000 -v khz=1000 -v ticks=1000 trace-report.txt
+	refuses "trace: events lost, refused" 1 failed "trace.awk: line 37: events were lost; record with a larger buffer (-b), or give lost=cut" \
+		trace -v $t trace-lost.txt
+	refuses "trace: no tasks" 2 failed "trace.awk: no tasks= given" trace trace-report.txt
+	refuses "trace: a deadline that is no number" 2 failed "trace.awk: tasks=.. decode:x isn't NAME:MILLISECONDS" trace -v tasks=decode:x trace-report.txt
+	refuses "trace: ticks without jobs" 2 failed "trace.awk: ticks=1000 wants jobs=FILE: only with ticks=1 is the work of each run whole" \
+		trace -v $t -v ticks=1000 trace-report.txt
+	refuses "trace: an empty trace" 1 failed "trace.awk: no line of a trace was read; the input is the text of trace-cmd report, perf script or the trace file" \
+		trace -v $t /dev/null
+	refuses "trace: no such task" 1 failed "trace.awk: no listed task runs or wakes up in this trace; names are as in the trace (at most 15 bytes), see tasks=" \
+		trace -v tasks=encode:10 trace-report.txt
+	refuses "trace: no frequency" 1 failed "trace.awk: no whole job: decode.0 is left out (frequency not known); give start=KHZ" \
+		trace -v tasks=decode:10 -v cpu=3 trace-perf.txt
+	refuses "trace: runs on another CPU" 1 failed "trace.awk: no whole job: Web_Content.0 is left out (ran on CPU 1)" \
+		trace -v "tasks=Web Content:10" -v cpu=0 trace-report.txt
+	sed '20,$s/ 5123/ 5122/' trace-report.txt >"$work/back"
+	refuses "trace: time goes back" 1 failed "trace.awk: line 20: the time goes back; sort the trace by time, or give one recording" trace -v $t "$work/back"
+	sed '13s/ ==>.*//' trace-report.txt >"$work/cut"
+	refuses "trace: a line cut short" 1 failed "trace.awk: line 13: a switch in an unknown form, or cut short" trace -v $t "$work/cut"
+	sed 13d trace-report.txt >"$work/missing"
+	refuses "trace: a switch is missing" 1 failed "trace.awk: line 13: a switch is missing: kworker/0:1 leaves CPU 0, and the last to come was decode; record again, perhaps with trace-cmd" \
+		trace -v $t "$work/missing"
+	sed '26,32s/decode:1201/decode:1299/; 26,32s/comm=decode pid=1201/comm=decode pid=1299/' trace-report.txt >"$work/two"
+	refuses "trace: two threads of one name" 1 failed "trace.awk: line 26: two threads are named decode, 1201 and 1299; give the one that is meant, as tasks=1299=decode:.." \
+		trace -v $t "$work/two"
+	refuses "trace: too much work" 1 failed "trace.awk: decode.0 has a work of 1049984, above 1000000; give a coarser us= or khz= (or does the task never sleep?)" \
+		trace -v $t -v us=2 -v khz=3000 trace-report.txt
+	refuses "trace: a deadline within a unit" 1 failed "trace.awk: decode.0 has its deadline within one unit of time; give a finer us=" \
+		trace -v tasks=decode:0.5 -v us=1000 trace-report.txt
+	same "trace: only what is within" 0 trace-within.txt trace -v $t -v from=5123.410 -v to=5123.430 trace-report.txt
+	same "trace: named by its thread" 0 trace-thread.txt trace -v tasks=1202=sound:10 trace-report.txt
+	answers "trace: feasible" 0 feasible from "$expected/trace.txt" "$YDS" audit
+	cat "$expected/points.txt" "$expected/trace.txt" >"$work/both"
+	answers "trace: feasible on the points" 0 feasible from "$work/both" "$YDS" audit --points
+	answers "trace: late" 1 "late slot 19 decode.2 5319 deadline 5150" from "$expected/trace-late.txt" "$YDS" audit
+	seed=1
+	while [ $seed -le 30 ]; do
+		$AWK -v seed=$seed -v truth="$work/truth" -f simulate.awk >"$work/trace"
+		trace -v tasks=alpha:10,beta:25 "$work/trace" >"$work/document"
+		grep '^job' "$work/document" | sort >"$work/jobs"
+		sort "$work/truth" | cmp -s - "$work/jobs" || { fail "trace: the simulated trace $seed"; break; }
+		"$YDS" audit <"$work/document" | grep -qE '^(feasible$|late slot )' || { fail "trace: the audit of the simulated trace $seed"; break; }
+		seed=$((seed + 1))
+	done
+	[ $seed -le 30 ] || pass
+	same "misses: both of two" 1 misses.txt from /dev/null env YDS="$YDS" sh "$here/misses.sh" late-twice.txt
+	answers "misses: none" 0 feasible env YDS="$YDS" sh "$here/misses.sh" "$expected/trace.txt"
+	answers "misses: another fault" 1 "backward slot 1 a 3 3" env YDS="$YDS" sh "$here/misses.sh" bad/flat.txt
+	refuses "misses: no document" 2 "" "misses.sh: no document that can be read" sh "$here/misses.sh" nothing.txt
+	answers "trace: what failed is refused" 3 "refused 1 1 UnknownKind" from bad/failed.txt "$YDS" audit
+}
+
+test_points() {
+	same "points: energy model" 0 points.txt points -v domain=cpu0 energy-model.txt
+	same "points: exact speeds" 0 points-exact-speeds.txt points -v domain=cpu4 -v khz=24000 -v idle=20 energy-model.txt
+	same "points: debugfs" 0 points-debugfs.txt points -v coefficient=100 opp-debugfs.txt
+	same "points: device tree" 0 points-tree.txt points -v coefficient=100 -v domain=cluster0_opp opp.dtsi
+	same "points: a datasheet's table" 0 points-microcontroller.txt points -v khz=1000 -v uw=10 -v volts=3.0 microcontroller.csv
+	same "points: frequencies alone" 0 points-cube.txt points -v top=2000 scaling_available_frequencies
+	refuses "points: several domains" 1 failed "points.awk: several domains: cpu4, cpu0; give domain=" points energy-model.txt
+	refuses "points: no such domain" 1 failed "points.awk: no domain cpu3; there are cpu4, cpu0" points -v domain=cpu3 energy-model.txt
+	refuses "points: no coefficient" 1 failed "points.awk: cluster0_opp has voltages and no powers; give coefficient=, the CPU's dynamic-power-coefficient" \
+		points -v domain=cluster0_opp opp.dtsi
+	refuses "points: frequencies without power" 1 failed "points.awk: line 1: 6 columns; give a table of two, MHz and mW, or top= with frequencies in kHz" \
+		points scaling_available_frequencies
+	refuses "points: two states of one speed" 1 failed "points.awk: 600000 kHz and the state below it are both speed 1; give a finer khz=" \
+		points -v domain=cpu0 -v khz=450000 energy-model.txt
+	refuses "points: too fast for the unit" 1 failed "points.awk: 408000 kHz is speed 4080, above 4000; give a coarser khz=" points -v domain=cpu0 -v khz=100 energy-model.txt
+	printf '%s\n' 803000 1604000 2404000 3203000 4000000 | tr '\n' ' ' >"$work/fine"
+	refuses "points: gaps too fine" 1 failed "points.awk: the gaps between the speeds are too fine (their least common multiple is above 2^40); give a coarser khz=" \
+		points -v top=4000 -v khz=1000 "$work/fine"
+	refuses "points: an empty input" 1 failed "points.awk: no operating point was read; the input is an energy model, an opp folder, a device tree, a table of MHz and mW, or frequencies with top=" \
+		points /dev/null
+	sed 's/cpu0\/flags:0x1/cpu0\/flags:0x5/' energy-model.txt >"$work/artificial"
+	refuses "points: no watts" 1 failed "points.awk: the powers of cpu0 are no watts (flag 4); give a table of measured powers" points -v domain=cpu0 "$work/artificial"
+}
+
+rtapp() { sh "$here/rtapp.sh" "$@"; }
+
+test_rtapp() {
+	want jq || return
+	same "rtapp: tasks" 0 tasks.txt rtapp -m 1416 -c 0 workload.json
+	same "rtapp: jobs of phases" 0 phases.txt rtapp -m 1416 -j workload-phases.json
+	refuses "rtapp: a key twice" 1 failed "rtapp.sh: the key tasks.codec.run stands twice, and every reader of JSON keeps but one; number the keys, as run0 and run1" \
+		rtapp -m 1416 workload-twice.json
+	refuses "rtapp: several CPUs" 1 failed "rtapp.sh: the tasks have different cpus; give -c CPU" rtapp -m 1416 workload.json
+	refuses "rtapp: phases without -j" 1 failed "rtapp.sh: ramp: several phases; give -j" rtapp -m 1416 workload-phases.json
+	refuses "rtapp: a period that is no multiple" 1 failed "rtapp.sh: decode: the period is no multiple of the time unit, 7 microseconds; give a finer -u, or -j" \
+		rtapp -m 1416 -c 0 -u 7 workload.json
+	refuses "rtapp: no frequency" 2 failed "rtapp.sh: no -m MHZ, the frequency to which rt-app was calibrated" rtapp workload.json
+	printf '{\n\t"tasks" : { "a" : {}\n\t} } }\n' >"$work/unmatched"
+	refuses "rtapp: no JSON" 1 failed "rtapp.sh: Unmatched '}' at line 3, column 6" rtapp -m 1416 "$work/unmatched"
+	for event in '"lock":"m"@a: lock makes jobs depend on more than time; only run, timer, sleep and yield can be read' \
+		'"runtime":5@a: runtime is time and not work; give run' '"timer0":{"period":9}@a: two timers' \
+		'"sleep":5@a: a timer and a sleep together' '"loop":3@a: it ends after its loops; give -j'; do
+		printf '{"tasks":{"a":{"run":5,"timer":{"ref":"x","period":1000},%s}},"global":{"duration":1}}\n' "${event%%@*}" >"$work/event"
+		refuses "rtapp: ${event%%@*}" 1 failed "rtapp.sh: ${event#*@}" rtapp -m 1000 "$work/event"
+	done
+	printf '{"tasks":{"a":{"run":5}},"global":{"duration":1}}\n' >"$work/event"
+	refuses "rtapp: a run without a timer" 1 failed "rtapp.sh: a: a run without a timer has no period" rtapp -m 1000 "$work/event"
+	want expand || return
+	rtapp -m 1416 -c 0 workload.json | "$YDS" expand | grep '^job' >"$work/expanded"
+	rtapp -m 1416 -c 0 -j workload.json | grep '^job' >"$work/jobs"
+	if cmp -s "$work/expanded" "$work/jobs" && [ -s "$work/jobs" ]; then pass; else fail "rtapp: -j and expand give the same jobs"; fi
+}
+
+energy() { recipe energy.awk "$@"; }
+test_energy() {
+	cat "$expected/points.txt" "$expected/trace.txt" >"$work/both"
+	same "energy: of a trace" 0 energy.txt energy -v name=governor "$work/both"
+	same "energy: flat out" 0 energy-at.txt energy -v at=142 "$work/both"
+	refuses "energy: no points" 1 "" "energy.awk: no point line; put the points before the document, as cat points.txt trace.txt" energy "$expected/trace.txt"
+	refuses "energy: above the top" 1 "" "energy.awk: the speed 60 from 0 to 200 is above the top point 41" energy bad/slow.txt
+	refuses "energy: no such point" 1 "" "energy.awk: no point has the speed 50" energy -v at=50 "$work/both"
+	refuses "energy: too much work for a point" 1 "" "energy.awk: the work of all jobs is more than the point 41 does in the whole time" energy -v at=41 "$work/both"
+	refuses "energy: a refusal" 1 "" "energy.awk: line 1: the input is an answer of no: refused 1 9 EmptyWindow" energy "$expected/compare-refused.txt"
+	same "battery" 0 battery.tsv recipe battery.awk -v mah=220 -v volts=3.0 -v uw=10 "$expected/compare-sensor.txt"
+	refuses "battery: a refusal" 1 "" "battery.awk: line 1: the input is an answer of no: refused 1 9 EmptyWindow" \
+		recipe battery.awk -v mah=220 -v volts=3.0 "$expected/compare-refused.txt"
+	refuses "battery: no volts" 2 "" "battery.awk: mah= and volts= of the battery are numbers above 0" recipe battery.awk -v mah=220 "$expected/compare-sensor.txt"
+	"$YDS" plan <"$work/both" >"$work/plan"
+	if want compare; then
+		same "compare: the trace's jobs" 0 compare-governor.txt from "$work/both" "$YDS" compare --grid 100
+		ask="$(energy -v name=plan "$work/plan" | $AWK "$decimal" | head -n 1)"
+		if [ "$ask" = "$(head -n 1 "$expected/compare-governor.txt" | $AWK "$decimal")" ]; then pass; else fail "energy: of a plan"; fi
+	fi
+	if want oa; then
+		"$YDS" oa --grid 100 <"$work/both" >"$work/oa"
+		ask="$(energy -v name=oa "$work/oa" | $AWK "$decimal" | head -n 1)"
+		if [ "$ask" = "$(grep '^oa energy' "$expected/compare-governor.txt" | $AWK "$decimal")" ]; then pass; else fail "energy: of a policy"; fi
+	fi
+	if want expand compare; then
+		(cat "$expected/points-microcontroller.txt" && "$YDS" expand <sensor-tasks.txt) >"$work/sensor"
+		same "compare: the sensor's tasks" 0 compare-sensor.txt from "$work/sensor" "$YDS" compare --grid 1000
+	fi
+	if want curve; then same "curve: the trace's jobs" 0 curve.txt from "$work/both" "$YDS" curve; fi
+}
+# An energy line's number with three decimals.
+decimal='{ n = split($3, part, /[+\/]/); printf "%s %.3f\n", $1, (n == 3 ? part[1] + part[2] / part[3] : $3) }'
+
+plot() { sh "$here/plot.sh" "$@"; }
+# holds NAME FILE TEXT ..: the file has each of these texts.
+holds() {
+	name=$1 file=$2
+	shift 2
+	for text in "$@"; do
+		grep -qF -- "$text" "$file" || { fail "$name: no '$text'"; return; }
+	done
+	pass
+}
+# counts NAME FILE TEXT NUMBER: so many lines of the file have the text.
+counts() {
+	got=$(grep -cF -- "$3" "$2")
+	if [ "$got" = "$4" ]; then pass; else fail "$1: $got of '$3' and not $4"; fi
+}
+test_plot() {
+	refuses "plot: no kind" 2 "" "plot.sh: the first word is the kind of picture" plot
+	want gnuplot || return
+	cat "$expected/points.txt" "$expected/trace.txt" >"$work/both"
+	plot speed <"$work/both" >"$work/speed.svg"
+	holds "plot speed" "$work/speed.svg" '<title>yds_cli speed</title>' 'time (ms)' 'speed (MHz)' '>audio<' '>decode<' '>1420<'
+	counts "plot speed: boxes of audio" "$work/speed.svg" "<polygon fill = 'rgb(  0, 114, 178)'" "$(($(grep -c '^run audio' "$work/both") + 1))"
+	plot gantt <"$expected/trace-late.txt" >"$work/gantt.svg"
+	holds "plot gantt" "$work/gantt.svg" '>decode.2<' '>window<' '>late<' '>deadline<' 'speed (MHz)'
+	counts "plot gantt: windows" "$work/gantt.svg" "<polygon fill = 'rgb(233, 233, 233)'" 9
+	counts "plot gantt: late" "$work/gantt.svg" "<polygon fill = 'rgb(245, 166,  35)'" 2
+	(cat "$work/both" "$expected/curve.txt") | plot curve >"$work/curve.svg"
+	holds "plot curve" "$work/curve.svg" 'least work above it (Mcycles)' '>481<' '>589<' '>620<'
+	cat "$work/both" "$expected/compare-governor.txt" "$expected/energy.txt" | plot energy >"$work/energy.svg"
+	holds "plot energy" "$work/energy.svg" 'energy (mJ)' '>1.98 mJ<' '>+36.1 %<' '>governor<' '>1420 MHz<'
+	printf 'plan energy 3\navr too-slow units 10 from 1 to 2 top 1\n' | plot energy >"$work/slow.svg"
+	holds "plot energy: too slow" "$work/slow.svg" '>too slow<'
+	counts "plot energy: no percentage" "$work/slow.svg" ' %<' 0
+	plot ratios "$expected/folder.tsv" >"$work/ratios.svg"
+	holds "plot ratios" "$work/ratios.svg" '3 documents' '>avr<' '>oa<' 'share of the documents (%)'
+	"$YDS" plan <"$work/both" >"$work/plan.txt"
+	plot speed "$work/both" "$work/plan.txt" >"$work/two.svg"
+	holds "plot speed of two" "$work/two.svg" '>both<' '>plan<'
+	plot speed -u 1ms,1kHz "$work/plan.txt" >"$work/units.svg"
+	holds "plot -u" "$work/units.svg" 'time (s)' 'speed (kHz)'
+	plot speed <"$here/../examples/own-slots.txt" >"$work/plain.svg"
+	holds "plot without units" "$work/plain.svg" 'time (units)' 'speed (work per unit of time)'
+	if plot gantt -t png <"$work/both" | od -An -c | head -n 1 | grep -q 'P *N *G'; then pass; else fail "plot: png"; fi
+	if plot gantt -t dumb <"$expected/trace-late.txt" | grep -q 'decode.2 .*|!'; then pass; else fail "plot: dumb"; fi
+	(cd "$work" && plot gantt <"$here/samples/bad/hostile.txt" >"$work/hostile.svg" && plot speed <"$here/samples/bad/hostile.txt" >>"$work/hostile.svg" &&
+		plot gantt -t dumb <"$here/samples/bad/hostile.txt" >/dev/null)
+	if [ -e "$work/touch" ] || [ -e "$work/x" ]; then fail "plot: a name was run"; else pass; fi
+	holds "plot: hostile names" "$work/hostile.svg" '>`touch${IFS}x`<' '>a%d&amp;&lt;b><'
+	if has xmllint; then
+		for file in speed gantt curve energy slow ratios two; do
+			if xmllint --noout "$work/$file.svg" 2>/dev/null; then pass; else fail "plot: $file.svg is not well-formed"; fi
+		done
+	fi
+	refuses "plot: no slot" 1 "" "plot.sh: no slot; give a trace's document or the answer of plan, round, avr or oa" plot speed frames.txt
+	refuses "plot: no break" 1 "" "plot.sh: no break line; is this the answer of curve?" plot curve "$work/both"
+	refuses "plot: no energy" 1 "" "plot.sh: no energy line; is this the answer of compare?" plot energy "$work/both"
+	refuses "plot: a refusal" 1 "" "plot.sh: the input is an answer of no: refused 1 9 EmptyWindow" plot speed "$expected/compare-refused.txt"
+	refuses "plot: what failed" 1 "" "plot.sh: the input is an answer of no: failed" from "bad/failed.txt" plot gantt
+	refuses "plot: a slot without length" 1 "" "plot.sh: line 2: a slot or run without length: slot a 3 3 1" from "bad/flat.txt" plot speed
+}
+
+test_folder() {
+	cp "$expected"/compare-a.txt "$expected"/compare-refused.txt "$expected"/compare-too-slow.txt "$work"
+	(cd "$work" && recipe collect.awk compare-a.txt compare-refused.txt compare-too-slow.txt >energies.tsv)
+	same "collect: a table" 0 energies.tsv cat "$work/energies.tsv"
+	: >"$work/empty.txt"
+	cat "$expected/compare-a.txt" "$expected/energy.txt" >"$work/more.txt"
+	same "collect: no answer, and another side" 0 more.tsv recipe collect.awk "$work/empty.txt" "$work/more.txt"
+	refuses "collect: another file" 1 "" "collect.awk: points.txt: \"point 0 0\" is no line of compare or energy.awk" from /dev/null recipe_in "$expected" collect.awk points.txt
+	if want jq; then
+		(cd "$expected" && jq -rRn -f "$here/report.jq" report-a.json report-refused.json) >"$work/reports.tsv" 2>&1
+		same "report: a table" 0 reports.tsv cat "$work/reports.tsv"
+	fi
+	want compare || return
+	mkdir "$work/answers"
+	printf '%s\0' folder/*.txt | YDS=$YDS OUT=$work/answers xargs -0 -n1 -P4 sh -c '"$YDS" compare --grid 1000 <"$1" >"$OUT/$(basename "$1")"; printf "%s\t%s\n" $? "$1"' sh | sort -k2 >"$work/statuses"
+	same "folder: through xargs" 0 statuses.tsv cat "$work/statuses"
+	same "folder: its table" 0 folder.tsv recipe collect.awk "$work"/answers/*.txt
+	want parallel || return
+	(YDS=$YDS parallel --will-cite -j4 --joblog "$work/log" --results "$work/para/{/.}.txt" '"$YDS" compare --grid 1000 < {}' ::: folder/*.txt) >/dev/null 2>&1
+	if [ $? = 2 ]; then pass; else fail "folder: parallel's status is the number of documents without an answer"; fi
+	same "folder: through parallel" 0 folder.tsv recipe collect.awk "$work"/para/*.txt
+}
+recipe_in() { (cd "$1" && shift && recipe "$@"); }
+
+test_page() {
+	if want mandoc; then same "the manual page" 0 - mandoc -T lint -W warning "$here/../docs/yds_cli.1"; fi
+	if want bash; then
+		for try in "c@check curve compare" "compare @--grid" "audit -@--points" "report @--json" "oa --grid 10@100 1000 1000000"; do
+			asked=${try%@*}
+			got=$(bash -c 'source "$1"; COMP_WORDS=(yds_cli $2); case $2 in *" ") COMP_WORDS+=("") ;; esac
+				COMP_CWORD=$((${#COMP_WORDS[@]} - 1)); _yds_cli; echo "${COMPREPLY[*]}"' bash "$here/../completions/yds_cli.bash" "$asked")
+			if [ "$got" = "${try#*@}" ]; then pass; else fail "completion of '$asked': $got"; fi
+		done
+	fi
+}
+
+# The commands of the manual and of the README, with the output that stands below them. Each section is a session of its
+# own in a new folder; one that wants a missing package or command is left out.
+test_manual() {
+	want bash || return
+	for page in ../../docs/manual.md ../../README.md; do
+		rm -rf "$work/page"
+		mkdir "$work/page"
+		$AWK -v out="$work/page" '
+			function close_command() { if (wanted != "") { close(wanted); close(command) } wanted = "" }
+			/^## / { close_command(); section++; n = 0; block = 0; print substr($0, 4) > (out "/" section ".title") ; close(out "/" section ".title") }
+			/^    / {
+				line = substr($0, 5)
+				if (line ~ /^\$ /) {
+					close_command()
+					n++
+					command = sprintf("%s/%d.%03d.command", out, section, n)
+					wanted = sprintf("%s/%d.%03d.wanted", out, section, n)
+					print substr(line, 3) > command
+					printf "" > wanted
+					block = 1
+				} else if (block && line ~ /^> / && !told) print substr(line, 3) > command
+				else if (block) print line > wanted
+				told = block && line !~ /^[$>] /
+				next
+			}
+			{ block = told = 0 }
+			END { close_command() }' "$page"
+		for title in "$work"/page/*.title; do
+			section=${title%.title}
+			[ -f "$section.001.command" ] || continue
+			words=$(cat "$section".*.command | grep -oE 'yds_cli [a-z]+( --json)?|plot\.sh|jq |rtapp\.sh|parallel ' | sed 's/.*--json/json/; s/yds_cli //; s/plot.sh/gnuplot/; s/rtapp.sh/jq/' | sort -u)
+			# shellcheck disable=SC2086
+			want $words || continue
+			mkdir -p "$section.folder/bin" "$section.folder/build"
+			ln -s "$YDS" "$section.folder/bin/yds_cli"
+			ln -s "$YDS" "$section.folder/build/yds_cli"
+			ln -s "$here" "$section.folder/recipes"
+			ln -s "$here/../examples" "$section.folder/examples"
+			(cd "$section.folder" && PATH=$section.folder/bin:$PATH bash -c '
+				last=0
+				for command in "$1".*.command; do
+					(exit $last)
+					. "$command" >"${command%.command}.got" 2>&1
+					last=$?
+				done' bash "$section" </dev/null)
+			for wanted in "$section".*.wanted; do
+				sed 's/^.*: line [0-9]*: /bash: /' "${wanted%.wanted}.got" >"$work/got"
+				if cmp -s "$wanted" "$work/got"; then pass; continue; fi
+				fail "${page##*/}, $(cat "$title"): $(head -n 1 "${wanted%.wanted}.command")"
+				diff "$wanted" "$work/got" | head -n 8
+			done
+		done
+	done
+}
+
+parts=${*:-trace points energy rtapp plot folder page manual}
+for part in $parts; do test_$part; done
+missing=
+for word in jq gnuplot parallel mandoc; do
+	has $word || case $word in gnuplot) missing="$missing gnuplot-nox" ;; *) missing="$missing $word" ;; esac
+done
+[ -z "$missing" ] || echo "missing packages; on Debian: apt-get install$missing"
+[ $left_out = 0 ] || echo "$left_out left out"
+echo "$passed passed, $failed failed"
+[ $failed = 0 ]
