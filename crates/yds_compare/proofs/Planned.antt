@@ -32,9 +32,9 @@ use Rattle.yds_compare.specs.declared.load.Load.{Load}
 use Rattle.yds_compare.specs.Load.{level_load, level_loads, IsHeldAt}
 use Rattle.yds_compare.specs.Spent.{time_of_loads}
 use Rattle.yds_compare.proofs.Points.{idle_time}
-use Rattle.yds_compare.proofs.Proportion.{time_scaled}
+use Rattle.yds_laws.proofs.SpentScale.{time_scaled}
 use Rattle.yds_compare.proofs.Runs.{slots_in_stretch, units_sum}
-use Rattle.yds_compare.proofs.Rates.{all_lengths, lengths_positive, rate, rate_member, rates_together, level_rates}
+use Rattle.yds_laws.proofs.LevelsEnergy.{all_lengths, lengths_positive, rate, rate_member, rates_together, level_rates}
 
 -- whether a list has an element
 some_or_none : {X : Type 0} (xs : List X) → (xs ≡ []) ⊎ (1 ≤ length xs)
