@@ -33,6 +33,14 @@ pub mod Exact
 pub mod Explained
 pub mod RunScale
 pub mod SpentScale
+pub mod StretchSlots
+pub mod PointTimes
+pub mod HullMixed
+pub mod SpentEnergy
+pub mod EvenStretches
+pub mod StretchTimes
+pub mod Compared
+pub mod CompareText
 pub mod RoundingScale
 pub mod OneEnergy
 pub mod OneJudgement

@@ -11,3 +11,5 @@ pub mod AnswerLaws
 pub mod AdmissionLaws
 pub mod RunText
 pub mod RunLaws
+pub mod ComparisonLaws
+pub mod CompareText
