@@ -76,6 +76,8 @@ pub mod RoundText
 pub mod AnsweredOnce
 pub mod RunText
 pub mod ExactRuns
+pub mod JobNumbers
+pub mod ExactRates
 pub mod TaskWork
 pub mod OneLevel
 pub mod TasksSaid

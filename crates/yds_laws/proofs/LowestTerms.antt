@@ -1,10 +1,10 @@
 -- Parts as a fraction, and a quotient in lowest terms, have the quotient's value.
 use Rattle.std.proofs.Common.{◌≡◌, ℕ, ◌+◌, ◌*◌, ◌/◌, ◌%◌, ◌≤◌, ◌==◌, Bool, true, false, arith, ap, refl, eqb-true}
 use Rattle.std.specs.Prelude.{if◌then◌else◌}
-use Rattle.std.proofs.Math.Nat.{div-mul_cancel, eq_of_mul-eq-mul_left}
+use Rattle.std.proofs.Math.Nat.{div-mul_cancel}
 use Rattle.yds_model.specs.Scale.{Fraction, numerator, of_whole, of_parts}
 use Rattle.yds_model.specs.Divisor.{common_divisor, in_lowest_terms}
-use Rattle.yds_model.proofs.Divisor.{divisor_is_greatest, divisor_positive}
+use Rattle.yds_model.proofs.Divisor.{divisor_is_greatest}
 use Rattle.yds_model.proofs.Scale.{first_factor}
 
 -- the fraction has the value num/den
