@@ -78,6 +78,7 @@ pub mod RunText
 pub mod ExactRuns
 pub mod JobNumbers
 pub mod ExactRates
+pub mod AdmitText
 pub mod TaskWork
 pub mod OneLevel
 pub mod TasksSaid

@@ -26,11 +26,11 @@ use Rattle.yds_laws.proofs.PlanText.{slots_agree, answers_document}
 use Rattle.yds_laws.proofs.RoundText.{answered, done_not_refused}
 
 -- the slots of a run are feasible, and at most three for a job
-run_feasible : (jobs : List Job) (grid : ℕ) (capacity : ℕ → List WholeSlot → Piece → ℕ) (slots : List WrittenSlot) →
+pub run_feasible : (jobs : List Job) (grid : ℕ) (capacity : ℕ → List WholeSlot → Piece → ℕ) (slots : List WrittenSlot) →
     AtEachScale slots (λ scale whole. IsRunAt jobs grid scale (capacity scale whole) whole) → IsFeasible jobs slots
 run_feasible jobs grid capacity slots run = record { solid = run.solid; holds = λ scale is. (run.holds scale is).feasible }
 
-run_few : (jobs : List Job) (grid : ℕ) (capacity : ℕ → List WholeSlot → Piece → ℕ) (slots : List WrittenSlot) →
+pub run_few : (jobs : List Job) (grid : ℕ) (capacity : ℕ → List WholeSlot → Piece → ℕ) (slots : List WrittenSlot) →
     AtEachScale slots (λ scale whole. IsRunAt jobs grid scale (capacity scale whole) whole) → length slots ≤ 3 * length jobs
 run_few jobs grid capacity slots run =
     let scale = scale_exists slots run.solid in

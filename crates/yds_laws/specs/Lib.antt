@@ -11,3 +11,4 @@ pub mod AnswerLaws
 pub mod AdmissionLaws
 pub mod RunText
 pub mod RunLaws
+pub mod AdmitText

@@ -24,7 +24,8 @@ mod task_laws;
 mod text_laws;
 
 pub use admission_laws::{
-    admitted_runs_are_within_the_top, served_exactly_where_no_interval_is_overfull,
+    admission_texts_are_feasible, admissions_are_read, admitted_runs_are_within_the_top,
+    served_exactly_where_no_interval_is_overfull,
 };
 pub use curve_laws::{curve_is_straight, levels_tell_least_excess};
 pub use divisor_laws::{divisor_is_greatest, lowest_terms_are_one, multiple_is_least};
