@@ -12,26 +12,12 @@ use Rattle.yds_model.specs.Policy.{numbers_of}
 use Rattle.yds_model.specs.Admission.{jobs_with, confined_work, IsOverfull, IsFirstOverfull}
 use Rattle.yds_model.proofs.Lists.{Any-append_left}
 use Rattle.yds_laws.specs.AdmissionLaws.{HasRoom}
+use Rattle.yds_laws.proofs.JobNumbers.{sum_by-map, all_jobs}
 use Rattle.yds_laws.proofs.Served.{confined_sum}
 use Rattle.yds_admit.specs.Interval.{work_in, HasRoomFrom, IsFirstEnd}
 use Rattle.yds_admit.proofs.Between.{term}
 
 -- # The work confined to an interval
-
-sum_by-map : {X Y : Type 0} (g : X → Y) (f : Y → ℕ) (xs : List X) → sum_by f (map g xs) ≡ sum_by (λ x. f (g x)) xs
-sum_by-map g f [] = refl
-sum_by-map g f (x ∷ xs) = omega (arith, sum_by-cons f (g x) (map g xs), sum_by-cons (λ y. f (g y)) x xs, sum_by-map g f xs)
-
--- the jobs with the numbers of all jobs are the jobs
-pub all_jobs : (jobs : List Job) → jobs_with jobs (numbers_of jobs) ≡ jobs
-all_jobs jobs =
-    same_lists (jobs_with jobs (numbers_of jobs)) jobs
-    (length-map (numbers_of jobs) (job_at jobs) ∙ length-range_with_len 0 (length jobs))
-    (λ k d within.
-    let below : k < length jobs = omega (arith, length-map (numbers_of jobs) (job_at jobs), length-range_with_len 0 (length jobs)) in
-    get_or-map (job_at jobs) (numbers_of jobs) k 0 d (omega (arith, length-range_with_len 0 (length jobs)))
-    ∙ (ap (job_at jobs) (let it : get_or (numbers_of jobs) k 0 ≡ k = omega (arith, get_or-range_with_len 0 (length jobs) k 0 below) in it)
-    ∙ get_or_default jobs k no_job d below))
 
 pub numbers_work : (jobs : List Job) (numbers : List ℕ) (from to : ℕ) → confined_work jobs numbers from to ≡ work_in (jobs_with jobs numbers) from to
 numbers_work jobs numbers from to = confined_sum jobs numbers from to ∙ sym (sum_by-map (job_at jobs) (term from to) numbers)

@@ -84,6 +84,9 @@ pub mod RoundText
 pub mod AnsweredOnce
 pub mod RunText
 pub mod ExactRuns
+pub mod JobNumbers
+pub mod ExactRates
+pub mod AdmitText
 pub mod TaskWork
 pub mod OneLevel
 pub mod TasksSaid

@@ -13,3 +13,4 @@ pub mod RunText
 pub mod RunLaws
 pub mod ComparisonLaws
 pub mod CompareText
+pub mod AdmitText

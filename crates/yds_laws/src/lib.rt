@@ -25,7 +25,8 @@ mod task_laws;
 mod text_laws;
 
 pub use admission_laws::{
-    admitted_runs_are_within_the_top, served_exactly_where_no_interval_is_overfull,
+    admission_texts_are_feasible, admissions_are_read, admitted_runs_are_within_the_top,
+    served_exactly_where_no_interval_is_overfull,
 };
 pub use comparison_laws::{
     compared_as_rounded, compared_plan_is_cheapest, plan_spends_its_rounding, plan_spends_least,
