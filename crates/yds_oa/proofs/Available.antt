@@ -1,19 +1,18 @@
 -- A run of Optimal Available: by each event point every job that is due by then is served in full, and what the code asks of a
 -- stretch is what the definition asks.
-use Rattle.std.proofs.Common.{◌≡◌, ◌≢◌, ℕ, zero, suc, ◌+◌, ◌-◌, ◌*◌, ◌<◌, ◌≤◌, ◌⊎◌, min, max, List, [], ◌∷◌, length, get_or, map, ◌∙◌, refl, sym, subst, ap, arith, inl, inr, cond, true, false, add-one}
-use Rattle.std.specs.Prelude.{Bool, nat_le, nat_lt, ◌==◌, ◌&&◌, not, All, sum_by, filter, fold, Some, Result, Ok, Err, IfOk, OnOk}
-use Rattle.std.specs.List.{list_all, range_with_len}
-use Rattle.std.proofs.lemmas.Bool.{cases_lt, cases_eq, cases_Bool, le-leb, lt-leb, lt-ltb, le-ltb, eq-eqb, ne_eqb, true≢false}
-use Rattle.std.proofs.lemmas.List.{get_or_default}
-use Rattle.std.proofs.lemmas.List.Elements.{All-filter, All-weaker, All-contains, Contains-get_or, filter_agree}
+use Rattle.std.proofs.Common.{◌≡◌, ℕ, zero, suc, ◌-◌, ◌*◌, ◌<◌, ◌≤◌, max, List, length, get_or, map, ◌∙◌, refl, sym, subst, ap, arith, inl, inr, cond, true, false, add-one}
+use Rattle.std.specs.Prelude.{Bool, nat_le, nat_lt, ◌==◌, ◌&&◌, not, All, sum_by, filter, fold, Result, Ok, Err, IfOk, OnOk}
+use Rattle.std.specs.List.{list_all}
+use Rattle.std.proofs.lemmas.Bool.{cases_lt, cases_eq, cases_Bool, le-leb, lt-leb, lt-ltb, le-ltb, eq-eqb, ne_eqb}
+use Rattle.std.proofs.lemmas.List.Elements.{All-filter, All-weaker, Contains-get_or, filter_agree}
 use Rattle.std.proofs.Math.ListN.{get_or-eq_default}
 use Rattle.std.proofs.Math.Nat.{mul-le-mul_left, le_of_mul-le-mul_right, mul-pos, eq_of_mul-eq-mul_left}
 use Rattle.yds_model.specs.Numbers.{Each}
 use Rattle.yds_model.specs.Job.{Job, IsJob, no_job, job_at}
-use Rattle.yds_model.specs.Slot.{WrittenSlot, WholeSlot, IsScale, AtEachScale, slots_at}
+use Rattle.yds_model.specs.Slot.{WrittenSlot, IsScale, slots_at}
 use Rattle.yds_model.specs.Piece.{Piece}
 use Rattle.yds_model.specs.Event.{event_points, stretches}
-use Rattle.yds_model.specs.Policy.{div_up, pending_at, numbers_of, IsRunAt}
+use Rattle.yds_model.specs.Policy.{div_up, pending_at, numbers_of}
 use Rattle.yds_model.specs.OptimalAvailable.{pending_jobs, due_units, pending_deadlines, asked, units_asked, optimal_available, optimal_available_rounds, IsOptimalAvailableRun}
 use Rattle.yds_model.specs.Comparison.{stretch_at}
 use Rattle.yds_model.specs.Within.{AreSlotsOf}

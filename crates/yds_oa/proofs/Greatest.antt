@@ -1,13 +1,13 @@
 -- The greatest number that a deadline asks is the greatest quotient's, and it is rounded where that is.
-use Rattle.std.proofs.Common.{◌≡◌, ℕ, zero, suc, ◌+◌, ◌-◌, ◌*◌, ◌/◌, ◌%◌, ◌<◌, ◌≤◌, max, List, [], ◌∷◌, length, get_or, map, ◌∙◌, refl, sym, subst, ap, arith, inl, inr, cond, true, false}
-use Rattle.std.specs.Prelude.{Bool, nat_le, nat_lt, ◌==◌, ◌&&◌, not, All, Contains, fold}
+use Rattle.std.proofs.Common.{◌≡◌, ℕ, suc, ◌+◌, ◌-◌, ◌*◌, ◌/◌, ◌%◌, ◌<◌, ◌≤◌, max, List, [], ◌∷◌, length, get_or, map, ◌∙◌, refl, sym, ap, arith, inl, inr, true, false}
+use Rattle.std.specs.Prelude.{Bool, nat_lt, ◌==◌, ◌&&◌, not, All, fold}
 use Rattle.std.specs.List.{list_all}
 use Rattle.std.proofs.lemmas.Bool.{cases_lt, cases_eq, lt-ltb, le-ltb, eq-eqb, ne_eqb}
-use Rattle.std.proofs.lemmas.List.{get_or-map, length-map, get_or_default}
-use Rattle.std.proofs.lemmas.List.Elements.{All-nil, All-cons, All-contains, All-map, All-weaker}
+use Rattle.std.proofs.lemmas.List.{get_or-map, length-map}
+use Rattle.std.proofs.lemmas.List.Elements.{All-nil, All-cons, All-map, All-weaker}
 use Rattle.std.proofs.lemmas.List.Sums.{list_all-from_AllPass}
 use Rattle.std.proofs.lemmas.List.Folds.{list_all_at}
-use Rattle.std.proofs.Math.Nat.{mul-le-mul_right, mul-le-mul_left, le_of_mul-le-mul_right, lt_of_mul-lt-mul_right, mul-lt-mul_of_pos_right, mul-pos, div-add-mod, dvd-mul_left}
+use Rattle.std.proofs.Math.Nat.{mul-le-mul_right, mul-le-mul_left, le_of_mul-le-mul_right, lt_of_mul-lt-mul_right, mul-lt-mul_of_pos_right, div-add-mod, dvd-mul_left}
 use Rattle.std.proofs.lemmas.Nat.Gcd.{mod-eq-zero_of_dvd}
 use Rattle.yds_model.specs.Job.{Job, job_at}
 use Rattle.yds_model.specs.Piece.{Piece}
@@ -17,7 +17,7 @@ use Rattle.yds_model.specs.Comparison.{stretch_at}
 use Rattle.yds_events.proofs.Neighbours.{deadline_outside}
 use Rattle.yds_edf.proofs.Quotients.{up_enough, up_most}
 use Rattle.yds_oa.specs.Asked.{is_waiting, waiting, due_by, deadlines, asked_by, most_asked, most_rounds}
-use Rattle.yds_oa.specs.Greatest.{IsOfDeadline, IsGreatest}
+use Rattle.yds_oa.specs.Greatest.{IsGreatest}
 use Rattle.yds_oa.proofs.Waiting.{waits_for, deadline_place, each_waits, each_known}
 
 -- # The greatest of numbers

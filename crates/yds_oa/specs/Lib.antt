@@ -1,3 +1,4 @@
 pub mod Asked
 pub mod Order
+pub mod Near
 pub mod Greatest

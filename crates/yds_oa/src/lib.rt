@@ -6,6 +6,7 @@
 //! the greatest quotient wasn't whole.
 #![tactic(auto)]
 
+mod near;
 mod optimal_available;
 mod order;
 mod quotient;

@@ -1,15 +1,15 @@
 ghost use Rattle.std.specs.Prelude.{◌≡◌, ◌≤◌, ◌*◌, ◌-◌, IfOk, length, All};
-ghost use Rattle.std.specs.List.Sorted.{IsPermutation, IsNonDecreasingBy};
 ghost use Rattle.yds_model.specs.Policy.{HasRunDenominators};
 ghost use Rattle.yds_model.specs.OptimalAvailable.{IsOptimalAvailableRun};
 ghost use Rattle.yds_model.specs.Within.{AreSlotsOf};
 ghost use Rattle.yds_events.specs.Stretch.{length_of};
 ghost use Rattle.yds_edf.specs.Queue.{pending_in};
 ghost use Rattle.yds_oa.specs.Asked.{most_asked, most_rounds};
-ghost use Rattle.yds_oa.specs.Order.{due_jobs};
+ghost use Rattle.yds_oa.specs.Near.{AreByDeadline, AreListed, HaveWaiting};
 ghost use Rattle.yds_oa.specs.Greatest.{IsGreatest};
 
-use crate::order::{Due, by_deadline};
+use crate::near::NearJobs;
+use crate::order::Due;
 use crate::quotient::Quotient;
 use std::alloc::Global;
 use yds_edf::limits::MAX_GRAIN;
@@ -33,27 +33,27 @@ pub fn oa(alloc: Global, rows: &[JobRow], grid: u32) -> Result<PolicyRun, Memory
     ensures limits { IfOk result (λ run. AreSlotsOf (length rows.now) run.schedule.slots) }
     ensures count_in_range { IfOk result (λ run. run.rounded ≤ MAX_ROUNDED) }
 {
-    let order = by_deadline(alloc, rows)?;
-    run_policy(alloc, rows, grid, &mut OptimalAvailable { order })
+    let jobs = NearJobs::new(alloc, rows)?;
+    run_policy(alloc, rows, grid, &mut OptimalAvailable { jobs })
 }
 
-/// Optimal Available, which goes through the jobs in order of their deadlines.
+/// Optimal Available, which goes through the near jobs in order of their deadlines.
 #[derive(Drop)]
 struct OptimalAvailable {
-    order: Vec<Due>,
+    jobs: NearJobs,
 }
 
 impl Policy for OptimalAvailable {
-    ghost use Rattle.yds_model.specs.declared.limits.TheConstants.{MAX_JOBS};
-
     ghost units = { λ policy jobs grid pending stretch. most_asked jobs pending stretch };
 
     ghost rounds = { λ policy jobs grid pending stretch. most_rounds jobs pending stretch };
 
-    ghost keeps = { λ policy jobs number. IsPermutation (due_jobs jobs) policy.order.items × IsNonDecreasingBy (λ due. due.deadline) policy.order.items × (length policy.order.items ≤ MAX_JOBS) };
+    ghost keeps = { λ policy jobs number. AreByDeadline jobs policy.jobs.order.items × AreListed policy.jobs };
 
     fn set(&mut self, _number: u32, queue: &Queue, stretch: Stretch) -> Setting {
-        let greatest = greatest_quotient(&self.order, queue, stretch);
+        self.jobs.look_to(stretch.from);
+        let near = self.jobs.due_after(stretch.from);
+        let greatest = greatest_quotient(near, queue, stretch);
         let units = u128::from(greatest.units) * u128::from(stretch.length());
         let time = u128::from(greatest.time);
         Setting {
@@ -65,18 +65,17 @@ impl Policy for OptimalAvailable {
 
 /// The greatest quotient, over the deadlines of pending jobs, of the pending units that are due by then and the time until then;
 /// no units where nothing is pending.
-fn greatest_quotient(order: &[Due], queue: &Queue, stretch: Stretch) -> Quotient
-    requires few { length order.now ≤ MAX_JOBS }
-    requires same { IsPermutation (due_jobs queue.now.jobs) order.now }
-    requires rising { IsNonDecreasingBy (λ due. due.deadline) order.now }
+fn greatest_quotient(near: &[Due], queue: &Queue, stretch: Stretch) -> Quotient
+    requires few { length near.now ≤ MAX_JOBS }
+    requires waiting { HaveWaiting queue.now.jobs (pending_in queue.now) stretch near.now }
     ensures greatest { IsGreatest queue.now.jobs (pending_in queue.now) stretch result.units result.time }
     ensures few { result.units ≤ MAX_JOBS * (MAX_WORK * MAX_GRAIN) }
 {
     let mut due = 0;
     let mut greatest = Quotient { units: 0, time: 1 };
-    for job in order {
+    for job in near {
         let pending = queue.pending_of(job.job);
-        if pending > 0 && job.deadline > stretch.from {
+        if pending > 0 {
             due += pending;
             greatest = greatest.max(Quotient {
                 units: due,

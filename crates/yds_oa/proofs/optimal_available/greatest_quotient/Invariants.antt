@@ -5,6 +5,6 @@ use Rattle.yds_oa.proofs.optimal_available.greatest_quotient.Given as goal
 
 abbrev pub invariant-loop-job : goal.invariant-loop-job
 invariant-loop-job l = record {
-  walked : Walked (pending_in l.queue) l.fn.stretch l.order l.job-index l.due l.greatest.units l.greatest.time;
+  walked : Walked (pending_in l.queue) l.fn.stretch l.near l.job-index l.due l.greatest.units l.greatest.time;
   few : l.due ≤ l.job-index * 1000000000000000;
 }

@@ -1,10 +1,26 @@
-use Rattle.std.proofs.Common.{◌≡◌, ◌<◌, ◌≤◌, ◌-◌, subst, sym, ap, arith}
+use Rattle.std.proofs.Common.{◌-◌, subst, ap, arith}
 use Rattle.yds_model.specs.Piece.{Piece}
-use Rattle.yds_model.specs.Comparison.{stretch_at}
 use Rattle.yds_edf.specs.Queue.{pending_in}
 use Rattle.yds_oa.specs.Greatest.{IsGreatest}
+use Rattle.yds_oa.proofs.Waiting.{none_before, near_rises, have_waiting, have_few}
 use Rattle.yds_oa.proofs.Greatest.{units_told, rounds_told, units_few}
 use Rattle.yds_oa.proofs.optimal_available.OptimalAvailablePolicy.set.Goals as goal
+
+pub due_after-near-requires : goal.due_after-near-requires
+due_after-near-requires c =
+    near_rises c.args.queue.now.jobs c.args.self.now.jobs c.look_to.new.self c.requires.kept.0 c.look_to.ensures.listed c.look_to.ensures.order
+
+pub greatest_quotient-greatest-requires-clause-few : goal.greatest_quotient-greatest-requires-clause-few
+greatest_quotient-greatest-requires-clause-few c =
+    have_few c.args.queue.now.jobs c.args.self.now.jobs c.look_to.new.self c.requires.kept.0 c.look_to.ensures.listed c.look_to.ensures.order
+    (pending_in c.args.queue.now) c.args.stretch c.stretch.inside.from c.due_after-near.result.now c.look_to.ensures.ahead (ap (λ (piece : Piece). piece.from) c.stretch.view_is)
+    (none_before c.args.queue.now _ c.requires.arrived) c.due_after-near.ensures
+
+pub greatest_quotient-greatest-requires-clause-waiting : goal.greatest_quotient-greatest-requires-clause-waiting
+greatest_quotient-greatest-requires-clause-waiting c =
+    have_waiting c.args.queue.now.jobs c.args.self.now.jobs c.look_to.new.self c.requires.kept.0 c.look_to.ensures.listed c.look_to.ensures.order
+    (pending_in c.args.queue.now) c.args.stretch c.stretch.inside.from c.due_after-near.result.now c.look_to.ensures.ahead (ap (λ (piece : Piece). piece.from) c.stretch.view_is)
+    (none_before c.args.queue.now _ c.requires.arrived) c.due_after-near.ensures
 
 pub overflow_cast-result : goal.overflow_cast-result
 overflow_cast-result c =
