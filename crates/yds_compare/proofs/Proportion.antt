@@ -1,6 +1,7 @@
 -- Equal parts as fractions.
-use Rattle.std.proofs.Common.{◌≡◌, ℕ, ◌*◌, ◌≤◌, List, ap, arith}
+use Rattle.std.proofs.Common.{◌≡◌, ℕ, ◌*◌, ◌≤◌, List, ap, ap₂, arith}
 use Rattle.std.proofs.Math.Nat.{mul-pos}
+use Rattle.yds_model.specs.Scale.{of_parts}
 use Rattle.yds_model.specs.Table.{Point, hull_multiple}
 use Rattle.yds_model.specs.Comparison.{in_parts}
 use Rattle.yds_model.proofs.Divisor.{lowest_terms_are_one}
@@ -11,4 +12,4 @@ pub parts_same : (points : List Point) (scale unit parts others : ℕ) → 1 ≤
 parts_same points scale unit parts others some some_unit wide same =
     let terms = lowest_terms_are_one parts (scale * hull_multiple points) others (unit * hull_multiple points) (mul-pos some wide) (mul-pos some_unit wide)
     (omega (arith, ap (λ n. n * hull_multiple points) same)) in
-    rw (terms.0, terms.1) refl
+    ap₂ of_parts terms.0 terms.1

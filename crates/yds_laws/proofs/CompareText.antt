@@ -1,10 +1,10 @@
 -- What the answer of `compare` is worth: it ends as `round` does and tells the same energy of a plan, and no policy's energy is less.
-use Rattle.std.proofs.Common.{◌≡◌, ℕ, ◌≤◌, ◌⊎◌, Bool, true, false, List, [], ◌∷◌, ◌++◌, length, Some, Result, Ok, Err, sym, ap, subst, ◌∙◌, append_assoc, inl, inr}
+use Rattle.std.proofs.Common.{◌≡◌, ℕ, Bool, true, false, List, [], ◌∷◌, ◌++◌, Some, Result, Ok, Err, sym, ap, subst, ◌∙◌, append_assoc, inl, inr}
 use Rattle.std.specs.Prelude.{codes, decimal}
 use Rattle.std.specs.List.{flat_map, zip}
 use Rattle.yds_model.specs.declared.reason.Reason.{Reason}
 use Rattle.yds_model.specs.declared.status.Status.{Status}
-use Rattle.yds_model.specs.declared.status.Status.TheVariants.{Done, Refused}
+use Rattle.yds_model.specs.declared.status.Status.TheVariants.{Done}
 use Rattle.yds_model.specs.Scale.{Fraction}
 use Rattle.yds_model.specs.Slot.{WrittenSlot, WholeSlot, AtEachScale}
 use Rattle.yds_model.specs.Piece.{Piece}
@@ -18,12 +18,12 @@ use Rattle.yds_model.specs.Document.{Document}
 use Rattle.yds_model.specs.Fields.{Fault}
 use Rattle.yds_model.specs.Reading.{reading}
 use Rattle.yds_model.specs.Text.{line, fraction_text, canonical_text}
-use Rattle.yds_model.specs.Comparison.{Spent, Side, Spends, TooSlowFor, IsSide}
+use Rattle.yds_model.specs.Comparison.{Side, Spends, TooSlowFor, IsSide}
 use Rattle.yds_model.specs.CompareAnswer.{side_lines, rounded_line, ComparedAnswer, CompareAnswer}
 use Rattle.yds_model.specs.RoundAnswer.{TooSlowAnswer, RoundedAnswer, RoundAnswer}
 use Rattle.yds_model.specs.Request.{AskRound, AskCompare, OfDocument}
 use Rattle.yds_model.specs.Answer.{OnPoints, AnswersReading, UnlessTooLong, is_too_long, AnswersRequest}
-use Rattle.yds_laws.specs.CompareText.{plan_energy_line, TellOneEnergy, ComparedAsRounded, CostsNoLess, PlanIsCheapest, ComparedPlanIsCheapest}
+use Rattle.yds_laws.specs.CompareText.{plan_energy_line, TellOneEnergy, ComparedAsRounded, CostsNoLess, ComparedPlanIsCheapest, HoldsComparison}
 use Rattle.yds_laws.specs.RoundText.{with_energy}
 use Rattle.yds_laws.proofs.Compared.{plan_spends_its_rounding, plan_spends_least}
 use Rattle.yds_laws.proofs.RoundText.{answered, on_points, points_table, done_not_no, done_not_refused, IsRounded, round_read}
@@ -169,4 +169,11 @@ pub compared_as_rounded : ComparedAsRounded
 compared_as_rounded = record {
   energy = λ grid input compared rounded answers others. one_energy grid input compared rounded (compare_read grid input compared answers) (round_read input rounded others);
   status = λ grid input compared rounded one other answers others. input_alike grid input compared rounded (is_too_long input) one other answers others;
+}
+
+-- so what `compare` writes can be relied on
+pub comparison_holds : (grid : ℕ) (input text : List ℕ) → AnswersRequest (Some (OfDocument (AskCompare grid))) input text Done → HoldsComparison input text
+comparison_holds grid input text answers = record {
+  cheapest = compared_plan_is_cheapest grid input text answers;
+  as_rounded = λ rounded others. compared_as_rounded.energy grid input text rounded answers others;
 }

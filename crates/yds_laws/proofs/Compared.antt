@@ -1,9 +1,9 @@
 -- What a plan spends on the points: the energy of its rounded slots, and no more than the run of any policy.
-use Rattle.std.proofs.Common.{◌≡◌, ℕ, ◌+◌, ◌-◌, ◌*◌, ◌/◌, ◌<◌, ◌≤◌, List, [], ◌∷◌, ◌++◌, length, get_or, sym, ap, ap₂, subst, ◌∙◌, arith, inl, inr}
+use Rattle.std.proofs.Common.{◌≡◌, ℕ, ◌-◌, ◌*◌, ◌/◌, ◌<◌, ◌≤◌, List, [], ◌∷◌, ◌++◌, get_or, sym, ap, ap₂, subst, ◌∙◌, arith, inl, inr}
 use Rattle.std.specs.Prelude.{sum_by}
 use Rattle.std.specs.List.{All}
 use Rattle.std.proofs.lemmas.List.Elements.{All-append, All-weaker}
-use Rattle.std.proofs.Math.Nat.{mul-pos, mul-le-mul_left, mul-le-mul_right, div-mul_cancel, le_of_mul-le-mul_right}
+use Rattle.std.proofs.Math.Nat.{mul-pos, mul-le-mul_right, div-mul_cancel, le_of_mul-le-mul_right}
 use Rattle.yds_model.specs.Job.{Job, IsJob}
 use Rattle.yds_model.specs.Scale.{Fraction, numerator, of_parts, IsAtMost}
 use Rattle.yds_model.specs.Slot.{WrittenSlot, WholeSlot, IsSolid, IsScale, slots_at}
@@ -17,7 +17,7 @@ use Rattle.yds_model.specs.Event.{stretches}
 use Rattle.yds_model.specs.Policy.{slots_in, IsRunAt}
 use Rattle.yds_model.specs.Rounding.{top_of, IsTooFast}
 use Rattle.yds_model.specs.Comparison.{all_energy, HoldsStretch}
-use Rattle.yds_model.specs.Admission.{IsWithinTop, CanServe}
+use Rattle.yds_model.specs.Admission.{CanServe}
 use Rattle.yds_model.proofs.Divisor.{divisor_is_greatest, lowest_terms_are_one}
 use Rattle.yds_model.proofs.Front.{pieces_forward}
 use Rattle.yds_model.proofs.HullExists.{hull_exists}

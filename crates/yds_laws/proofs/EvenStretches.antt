@@ -1,11 +1,11 @@
 -- The stretches of a plan are even, and so are those of each policy's run: empty, or full of slots of one speed.
 use Rattle.std.proofs.Common.{◌≡◌, ℕ, zero, suc, ◌+◌, ◌-◌, ◌*◌, ◌<◌, ◌≤◌, ◌⊎◌, List, [], ◌∷◌, length, get_or, refl, sym, ap, subst, ◌∙◌, arith, inl, inr, true}
-use Rattle.std.specs.List.{All, Any, Contains}
+use Rattle.std.specs.List.{All, Contains}
 use Rattle.std.proofs.lemmas.Bool.{cases_lt}
 use Rattle.std.proofs.lemmas.List.{get_or_default}
 use Rattle.std.proofs.lemmas.List.Elements.{All-nil, All-cons, All-tail, All-filter, All-contains, All-weaker, All-from_get_or, filter_passes}
 use Rattle.std.proofs.lemmas.List.Sums.{sum_by-cons}
-use Rattle.std.proofs.Math.Nat.{mul-pos, mul-sub, mul-le-mul_right, mul-le-mul_left, le_of_mul-le-mul_right, eq_of_mul-eq-mul_right}
+use Rattle.std.proofs.Math.Nat.{mul-pos, mul-sub, mul-le-mul_right, le_of_mul-le-mul_right, eq_of_mul-eq-mul_right}
 use Rattle.yds_model.specs.Job.{Job}
 use Rattle.yds_model.specs.Slot.{WrittenSlot, WholeSlot, IsScale, slots_at}
 use Rattle.yds_model.specs.Piece.{Piece}
@@ -20,30 +20,14 @@ use Rattle.yds_model.specs.Comparison.{stretch_at, HoldsStretch}
 use Rattle.yds_model.proofs.Runs.{run_forward}
 use Rattle.yds_events.specs.Stretch.{no_stretch}
 use Rattle.yds_events.proofs.Neighbours.{stretch_forward, stretch_order}
-use Rattle.yds_laws.proofs.FullStretches.{FillsStretch, stretch_full}
+use Rattle.yds_laws.proofs.FullStretches.{stretch_full}
 use Rattle.yds_laws.proofs.PlanParts.{HasSpeeds, plan_part}
 use Rattle.yds_laws.proofs.RoundedFeasible.{stretches_between}
-use Rattle.yds_laws.proofs.RoundedRuns.{all_work}
+use Rattle.yds_laws.proofs.RoundedRuns.{all_work, HasRate, rate_together}
 use Rattle.yds_laws.proofs.SpentEnergy.{IsFull, IsEven}
 use Rattle.yds_laws.proofs.StretchSlots.{lies, lies_told, IsBeside, parted}
 
 -- # Slots of one speed
-
--- the slot has the speed `rate / per`
-abbrev pub HasRate : ℕ → ℕ → WholeSlot → Type 0
-HasRate rate per slot = slot.work * per ≡ rate * (slot.to - slot.from)
-
--- and so have all together
-pub rate_together : (rate per : ℕ) (slots : List WholeSlot) → All (HasRate rate per) slots → all_work slots * per ≡ rate * busy slots
-rate_together rate per [] each = omega arith
-rate_together rate per (slot ∷ slots) each =
-    omega (
-      arith,
-      each 0 slot (omega arith),
-      rate_together rate per slots (All-tail (HasRate rate per) slot slots each),
-      ap (λ n. n * per) (sum_by-cons (λ (one : WholeSlot). one.work) slot slots),
-      ap (λ n. rate * n) (sum_by-cons (λ (one : WholeSlot). one.to - one.from) slot slots),
-    )
 
 -- slots of one speed that take all of a stretch fill it
 rate_full : (rate per scale : ℕ) (stretch : Piece) (slots : List WholeSlot) → 1 ≤ per → busy slots ≡ (stretch.to - stretch.from) * scale → All (HasRate rate per) slots →
@@ -113,7 +97,7 @@ run_even jobs grid scale capacity slots positive run = All-from_get_or (IsEven s
 -- # Plans
 
 -- whether a list has an element
-some_or_none : {X : Type 0} (xs : List X) → (xs ≡ []) ⊎ (1 ≤ length xs)
+pub some_or_none : {X : Type 0} (xs : List X) → (xs ≡ []) ⊎ (1 ≤ length xs)
 some_or_none [] = inl refl
 some_or_none (x ∷ xs) = inr (omega arith)
 

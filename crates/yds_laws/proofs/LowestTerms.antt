@@ -4,7 +4,7 @@ use Rattle.std.specs.Prelude.{if◌then◌else◌}
 use Rattle.std.specs.Int.{◌∣◌}
 use Rattle.std.proofs.lemmas.Nat.{mod-mul-add}
 use Rattle.std.proofs.lemmas.Nat.Gcd.{dvd-zero, dvd_refl, le_of_dvd}
-use Rattle.std.proofs.Math.Nat.{div-mul_cancel, div-one, dvd-mul_left_of_dvd, dvd-add_iff_left, eq_of_mul-eq-mul_left, eq_of_mul-eq-mul_right}
+use Rattle.std.proofs.Math.Nat.{div-mul_cancel, div-one, dvd-mul_left_of_dvd, dvd-add_iff_left, eq_of_mul-eq-mul_right}
 use Rattle.yds_model.specs.Scale.{Fraction, numerator, of_whole, of_parts}
 use Rattle.yds_model.specs.Divisor.{common_divisor, in_lowest_terms, IsLowest}
 use Rattle.yds_model.proofs.Divisor.{divisor_is_greatest, divisor_positive}

@@ -1,7 +1,7 @@
 -- How long a stretch runs at each point of a hull, and what it costs: the time is spent at the two points around its speed.
-use Rattle.std.proofs.Common.{◌≡◌, ℕ, zero, suc, ◌+◌, ◌-◌, ◌*◌, ◌/◌, ◌<◌, ◌≤◌, ◌==◌, Bool, true, false, List, [], ◌∷◌, length, get_or, refl, sym, ap, subst, ◌∙◌, arith, inl, inr}
+use Rattle.std.proofs.Common.{◌≡◌, ℕ, zero, suc, ◌+◌, ◌-◌, ◌*◌, ◌/◌, ◌<◌, ◌≤◌, ◌==◌, Bool, true, false, List, [], ◌∷◌, length, get_or, refl, sym, ap, subst, ◌∙◌, arith, inl, inr, add-one}
 use Rattle.std.specs.Prelude.{sum_by, nat_le, if◌then◌else◌}
-use Rattle.std.specs.List.{All, Contains}
+use Rattle.std.specs.List.{Contains}
 use Rattle.std.specs.Int.{◌∣◌}
 use Rattle.std.proofs.lemmas.Bool.{cases_eq, cases_lt, eq-eqb, ne_eqb, le-leb, lt-leb}
 use Rattle.std.proofs.lemmas.List.Sums.{sum_by-cons}
@@ -13,9 +13,9 @@ use Rattle.yds_model.specs.Rounding.{top_of}
 use Rattle.yds_model.specs.Comparison.{time_at}
 use Rattle.yds_model.proofs.Divisor.{multiple_is_least}
 use Rattle.yds_model.proofs.Hull.{RisesFrom, rises_from}
-use Rattle.yds_model.proofs.Sums.{sum_by-add, sum_by-mul, sum_by_same, sum_by_zero}
+use Rattle.yds_model.proofs.Sums.{sum_by-add, sum_by_same}
 use Rattle.yds_laws.proofs.Hinges.{gains, losses}
-use Rattle.yds_laws.proofs.OneEnergy.{places_rise, one_point}
+use Rattle.yds_laws.proofs.OneEnergy.{rising_tail, places_rise, one_point}
 
 -- # The hull's top
 
@@ -67,11 +67,6 @@ contains_later : (point first : Point) (points : List Point) → (first ≡ poin
 contains_later point first points other (zero, within, is) = absurd (other is)
 contains_later point first points other (suc k, within, is) = (k, omega (arith, within), is)
 
--- the rest of rising points rises
-rising_rest : (point : Point) (points : List Point) → AreRising (point ∷ points) → AreRising points
-rising_rest point [] rising = tt
-rising_rest point (next ∷ points) rising = rising.1
-
 -- so only the point of that speed is
 chosen_once : (points : List Point) (q : Point) (x : ℕ) → AreRising points → Contains points q →
     sum_by (λ point. point.power * chosen q.speed x point) points ≡ q.power * x
@@ -87,11 +82,11 @@ chosen_once (point ∷ points) q x rising has = elim (cases_eq point.speed q.spe
         chosen_none q.speed x point.speed points (rises_from point points rising) (omega (arith, same)),
       )
   | inr other ↦ omega (
-      arith,
-      sum_by-cons (λ (one : Point). one.power * chosen q.speed x one) point points,
-      ap (λ (b : Bool). point.power * (if b then x else 0)) (ne_eqb point.speed q.speed other),
-      chosen_once points q x (rising_rest point points rising) (contains_later q point points (λ is. other (ap (λ (p : Point). p.speed) is)) has),
-    )
+    arith,
+    sum_by-cons (λ (one : Point). one.power * chosen q.speed x one) point points,
+    ap (λ (b : Bool). point.power * (if b then x else 0)) (ne_eqb point.speed q.speed other),
+    chosen_once points q x (rising_tail point points rising) (contains_later q point points (λ is. other (ap (λ (p : Point). p.speed) is)) has),
+  )
 ]
 
 -- # What a stretch costs
@@ -103,6 +98,12 @@ point_energy points multiple time work hull = sum_by (λ point. point.power * ti
 -- a time at each of two points, and none elsewhere
 abbrev pair_at : Point → Point → ℕ → ℕ → ℕ → ℕ
 pair_at low high fast slow speed = if speed == high.speed then fast else (if speed == low.speed then slow else 0)
+
+-- the times of a stretch at two points around its speed
+abbrev pub pair_time : ℕ → ℕ → ℕ → Point → Point → ℕ → ℕ
+pair_time multiple time work low high speed =
+    if speed == high.speed then (work - low.speed * time) * (multiple / (high.speed - low.speed))
+    else (if speed == low.speed then time * multiple - (work - low.speed * time) * (multiple / (high.speed - low.speed)) else 0)
 
 -- it is a choice of the one and of the other
 two_chosen : (low high point : Point) (fast slow : ℕ) → low.speed < high.speed →
@@ -133,10 +134,7 @@ pub record IsAtPlace (multiple time work : ℕ) (hull : List Point) : Type 0 whe
   pub within : suc place < length hull
   pub above_low : (point_at hull place).speed * time ≤ work
   pub below_high : work ≤ (point_at hull (suc place)).speed * time
-  pub times : (speed : ℕ) → time_at multiple time work hull speed
-      ≡ pair_at (point_at hull place) (point_at hull (suc place))
-      ((work - (point_at hull place).speed * time) * (multiple / ((point_at hull (suc place)).speed - (point_at hull place).speed)))
-      (time * multiple - (work - (point_at hull place).speed * time) * (multiple / ((point_at hull (suc place)).speed - (point_at hull place).speed))) speed
+  pub times : (speed : ℕ) → time_at multiple time work hull speed ≡ pair_time multiple time work (point_at hull place) (point_at hull (suc place)) speed
 
 -- the first two points of which the second is fast enough
 pub find_place : (multiple time work : ℕ) (hull : List Point) → 2 ≤ length hull → (point_at hull 0).speed * time ≤ work → work ≤ top_of hull * time →
@@ -162,22 +160,24 @@ find_place multiple time work (low ∷ high ∷ next ∷ points) some from to = 
         times = λ speed. rw (lt-leb work (high.speed * time) less) (rest.times speed);
       }
   | inr enough ↦ record {
-      place = 0;
-      within = omega arith;
-      above_low = from;
-      below_high = enough;
-      times = λ speed. rw (le-leb work (high.speed * time) enough) refl;
-    }
+    place = 0;
+    within = omega arith;
+    above_low = from;
+    below_high = enough;
+    times = λ speed. rw (le-leb work (high.speed * time) enough) refl;
+  }
 ]
 
 -- a gap between neighbours divides the common multiple of all
-gap_divides : (points : List Point) (place : ℕ) → suc place < length points →
-    (point_at points (suc place)).speed - (point_at points place).speed ∣ multiple_of_all (gaps_of points)
+pub gap_divides : (points : List Point) (place : ℕ) → place + 1 < length points →
+    (point_at points (place + 1)).speed - (point_at points place).speed ∣ multiple_of_all (gaps_of points)
 gap_divides [] place within = absurd (omega (arith, within))
 gap_divides (point ∷ []) place within = absurd (omega (arith, within))
 gap_divides (point ∷ next ∷ points) zero within = (multiple_is_least (next.speed - point.speed) (multiple_of_all (gaps_of (next ∷ points)))).0
 gap_divides (point ∷ next ∷ points) (suc place) within =
-    dvd_trans _ (gap_divides (next ∷ points) place (omega (arith, within))) (multiple_is_least (next.speed - point.speed) (multiple_of_all (gaps_of (next ∷ points)))).1
+    let here : suc (place + 1) ≡ suc place + 1 = omega arith in
+    subst (λ (n : ℕ). (point_at (point ∷ next ∷ points) n).speed - (point_at (next ∷ points) place).speed ∣ multiple_of_all (gaps_of (point ∷ next ∷ points))) here
+    (dvd_trans _ (gap_divides (next ∷ points) place (omega (arith, within))) (multiple_is_least (next.speed - point.speed) (multiple_of_all (gaps_of (next ∷ points)))).1)
 
 -- The next two are of plain numbers: speeds, powers, the time and the work, what the work is above the slower speed, and the times at both.
 fast_fits : (low gap high time work above part multiple : ℕ) → low + gap ≡ high → above + low * time ≡ work → work ≤ high * time → part * gap ≡ multiple →
@@ -221,7 +221,7 @@ place_energy points hull time work rising hull_rising has at =
     let rises : low.speed < high.speed = places_rise hull at.place (suc at.place) hull_rising (omega arith) at.within in
     let is_high : low.speed + gap ≡ high.speed = omega (arith, rises) in
     let is_work : above + low.speed * time ≡ work = omega (arith, at.above_low) in
-    let whole : part * gap ≡ multiple = div-mul_cancel gap (gap_divides hull at.place at.within) in
+    let whole : part * gap ≡ multiple = div-mul_cancel gap (rw add-one at (gap_divides hull at.place (omega (arith, at.within)))) in
     let fits = fast_fits low.speed gap high.speed time work above part multiple is_high is_work at.below_high whole in
     let cost : point_energy points multiple time work hull ≡ high.power * fast + low.power * slow =
     sum_by_same (λ point. point.power * time_at multiple time work hull point.speed) (λ point. point.power * pair_at low high fast slow point.speed) points
@@ -235,26 +235,28 @@ pub only_energy : (points : List Point) (only : Point) (multiple time work : ℕ
     point_energy points multiple time work (only ∷ []) ≡ only.power * (time * multiple)
 only_energy points only multiple time work rising has = chosen_once points only (time * multiple) rising has
 
+-- nothing less a number is nothing
+none_less : (a b : ℕ) → (0 - a) * b ≡ 0
+none_less a b = let none : 0 - a ≡ 0 = omega arith in omega (arith, ap (λ n. n * b) none)
+
+-- no work takes all the time at the first point
+pub idle_time : (multiple time : ℕ) (hull : List Point) → AreRising hull → 1 ≤ length hull → (speed : ℕ) →
+    (if speed == (point_at hull 0).speed then time * multiple else 0) ≡ time_at multiple time 0 hull speed
+idle_time multiple time [] rising some speed = absurd (omega (arith, some))
+idle_time multiple time (only ∷ []) rising some speed = refl
+idle_time multiple time (low ∷ high ∷ points) rising some speed =
+    let test : nat_le 0 (high.speed * time) ≡ true = le-leb 0 (high.speed * time) (omega arith) in
+    let fast = none_less (low.speed * time) (multiple / (high.speed - low.speed)) in
+    elim (cases_eq speed high.speed) [
+      | inl same ↦ rw (test, eq-eqb speed high.speed same, ne_eqb speed low.speed (λ at. omega (arith, at, same, rising.0))) (sym fast)
+      | inr other ↦ rw (test, ne_eqb speed high.speed other)
+          (ap (λ n. if speed == low.speed then n else 0) (omega (arith, fast)))
+    ]
+
 -- where nothing is done, all the time is spent at the first point
 pub idle_energy : (points : List Point) (low : Point) (hull : List Point) (multiple time : ℕ) → AreRising points → AreRising (low ∷ hull) → Contains points low →
     point_energy points multiple time 0 (low ∷ hull) ≡ low.power * (time * multiple)
-idle_energy points low [] multiple time rising hull_rising has = only_energy points low multiple time 0 rising has
-idle_energy points low (high ∷ hull) multiple time rising hull_rising has =
-    sum_by_same (λ point. point.power * time_at multiple time 0 (low ∷ high ∷ hull) point.speed) (λ point. point.power * chosen low.speed (time * multiple) point) points
-    (λ k d within. let point = get_or points k d in ap (λ n. point.power * n) (no_work point.speed))
+idle_energy points low hull multiple time rising hull_rising has =
+    sum_by_same (λ point. point.power * time_at multiple time 0 (low ∷ hull) point.speed) (λ point. point.power * chosen low.speed (time * multiple) point) points
+    (λ k d within. let point = get_or points k d in ap (λ n. point.power * n) (sym (idle_time multiple time (low ∷ hull) hull_rising (omega arith) point.speed)))
     ∙ chosen_once points low (time * multiple) rising has
-  where
-    -- nothing is done at the faster point
-    no_work : (speed : ℕ) → time_at multiple time 0 (low ∷ high ∷ hull) speed ≡ (if speed == low.speed then time * multiple else 0)
-    no_work speed =
-        let part : ℕ = multiple / (high.speed - low.speed) in
-        let none : (0 - low.speed * time) * part ≡ 0 = nothing (low.speed * time) part in
-        let rest : time * multiple - (0 - low.speed * time) * part ≡ time * multiple = omega (arith, none) in
-        rw (le-leb 0 (high.speed * time) (omega arith))
-        (elim (cases_eq speed high.speed) [
-          | inl at_high ↦ rw (eq-eqb speed high.speed at_high, ne_eqb speed low.speed (λ at_low. omega (arith, at_low, at_high, hull_rising.0))) none
-          | inr other ↦ rw (ne_eqb speed high.speed other) (ap (λ (n : ℕ). if speed == low.speed then n else 0) rest)
-        ])
-      where
-        nothing : (a b : ℕ) → (0 - a) * b ≡ 0
-        nothing a b = let none : 0 - a ≡ 0 = omega arith in omega (arith, ap (λ n. n * b) none)

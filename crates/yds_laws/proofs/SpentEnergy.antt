@@ -1,8 +1,8 @@
 -- What a schedule spends on a table's points, stretch by stretch, is its energy by the table's lower hull, where each stretch is empty or
 -- full of slots of one speed.
-use Rattle.std.proofs.Common.{◌≡◌, ℕ, zero, suc, ◌+◌, ◌-◌, ◌*◌, ◌<◌, ◌≤◌, ◌⊎◌, List, [], ◌∷◌, length, get_or, map, refl, sym, ap, subst, ◌∙◌, arith, inl, inr, add-one}
+use Rattle.std.proofs.Common.{◌≡◌, ℕ, suc, ◌+◌, ◌-◌, ◌*◌, ◌<◌, ◌≤◌, ◌⊎◌, List, [], ◌∷◌, length, get_or, map, refl, sym, ap, subst, ◌∙◌, arith, inl, inr, add-one}
 use Rattle.std.specs.Prelude.{sum_by, ℤ, pos, ◌+ℤ◌, ◌≤ℤ◌}
-use Rattle.std.specs.List.{All, Any, Contains}
+use Rattle.std.specs.List.{All, Contains}
 use Rattle.std.proofs.lemmas.Int.{ints}
 use Rattle.std.proofs.lemmas.List.Elements.{All-tail, Contains-get_or}
 use Rattle.std.proofs.lemmas.List.Sums.{sum_by-cons}
@@ -15,10 +15,10 @@ use Rattle.yds_model.specs.Feasible.{IsFeasibleAt}
 use Rattle.yds_model.specs.Divisor.{multiple_of_all}
 use Rattle.yds_model.specs.Table.{Point, no_point, point_at, AreRising, IsTable, IsHullOf, hull_of, hull_multiple, gaps_of}
 use Rattle.yds_model.specs.Energy.{busy, idle, horizon, product, total, interpolated_energy}
-use Rattle.yds_model.specs.Event.{stretches, LiesIn, IsUncut}
+use Rattle.yds_model.specs.Event.{stretches, IsUncut}
 use Rattle.yds_model.specs.Policy.{slots_in}
 use Rattle.yds_model.specs.Rounding.{top_of}
-use Rattle.yds_model.specs.Comparison.{work_in, time_at, all_time_at, all_energy, HoldsStretch}
+use Rattle.yds_model.specs.Comparison.{work_in, time_at, all_energy, HoldsStretch}
 use Rattle.yds_model.proofs.Front.{pieces_forward}
 use Rattle.yds_model.proofs.Horizon.{busy_and_idle}
 use Rattle.yds_model.proofs.HullExists.{hull_exists}
@@ -30,10 +30,9 @@ use Rattle.yds_laws.proofs.Differences.{total_is}
 use Rattle.yds_laws.proofs.Hinges.{gains, losses}
 use Rattle.yds_laws.proofs.OneEnergy.{places_rise}
 use Rattle.yds_laws.proofs.HullCosts.{IsAtLeast, power_of, gains_more, losses_more, lines_at_least, hull_in}
-use Rattle.yds_laws.proofs.HullEnergy.{hull_first, hull_rising}
 use Rattle.yds_laws.proofs.HullMixed.{between_under}
 use Rattle.yds_laws.proofs.PlansEnergy.{hull_table}
-use Rattle.yds_laws.proofs.PointTimes.{hull_top, point_energy, IsAtPlace, find_place, place_energy, only_energy, idle_energy}
+use Rattle.yds_laws.proofs.PointTimes.{hull_top, point_energy, find_place, place_energy, only_energy, idle_energy}
 use Rattle.yds_laws.proofs.RoundedCheapest.{gaps_positive}
 use Rattle.yds_laws.proofs.RoundedRuns.{all_work}
 use Rattle.yds_laws.proofs.StretchSlots.{sum_in_stretches}
@@ -306,7 +305,7 @@ even_energy jobs points scale slots positive table feasible uncut even holds =
     let costs = all_costs points hull scale slots (stretches jobs) each in
     let together = λ (f : WholeSlot → ℕ). sum_in_stretches f scale 0 (stretches jobs) slots run takes uncut in
     let swapped : all_energy jobs points scale slots
-        ≡ sum_by (λ stretch. point_energy points multiple ((stretch.to - stretch.from) * scale) (all_work (slots_in scale stretch slots)) hull) (stretches jobs) =
+    ≡ sum_by (λ stretch. point_energy points multiple ((stretch.to - stretch.from) * scale) (all_work (slots_in scale stretch slots)) hull) (stretches jobs) =
     by_stretches points (λ speed stretch. time_at multiple ((stretch.to - stretch.from) * scale) (work_in scale stretch slots) hull speed) (stretches jobs) in
     record {
       left = costs.left;

@@ -1,8 +1,8 @@
 -- The slots of a schedule by the stretches that they lie in: each is in one, and those in a stretch stand between those before it and
 -- those after it.
-use Rattle.std.proofs.Common.{◌≡◌, ℕ, ◌+◌, ◌*◌, ◌<◌, ◌≤◌, ◌⊎◌, Bool, true, false, List, [], ◌∷◌, ◌++◌, length, get_or, zero, suc, refl, sym, ap, ◌∙◌, arith, inl, inr, leb-true}
+use Rattle.std.proofs.Common.{◌≡◌, ℕ, ◌+◌, ◌*◌, ◌<◌, ◌≤◌, ◌⊎◌, Bool, true, false, List, [], ◌∷◌, ◌++◌, get_or, zero, suc, refl, sym, ap, ◌∙◌, arith, inl, inr, leb-true}
 use Rattle.std.specs.Prelude.{sum_by, nat_le, ◌&&◌, if◌then◌else◌}
-use Rattle.std.specs.List.{All, Any, filter}
+use Rattle.std.specs.List.{All, Any}
 use Rattle.std.specs.Cmp.Derive.{both_true}
 use Rattle.std.proofs.Math.Bool.{true-and, false-and}
 use Rattle.std.proofs.Math.Nat.{mul-le-mul_right}
@@ -81,18 +81,18 @@ part_once : (scale n start : ℕ) (slot : WholeSlot) (stretches : List Piece) �
 part_once scale n start slot [] run takes there = absurd (omega (arith, there.2))
 part_once scale n start slot (stretch ∷ stretches) run takes there = elim (cases_Bool (lies scale stretch slot)) [
   | inl passes ↦ omega (
-      arith,
-      sum_by-cons (part scale slot n) stretch stretches,
-      ap {B = ℕ} (λ b. if b then n else 0) passes,
-      part_none scale n stretch.to slot stretches run.2 takes (lies_told scale stretch slot passes).to,
-    )
+    arith,
+    sum_by-cons (part scale slot n) stretch stretches,
+    ap {B = ℕ} (λ b. if b then n else 0) passes,
+    part_none scale n stretch.to slot stretches run.2 takes (lies_told scale stretch slot passes).to,
+  )
   | inr fails ↦ omega (
-      arith,
-      sum_by-cons (part scale slot n) stretch stretches,
-      ap {B = ℕ} (λ b. if b then n else 0) fails,
-      part_once scale n stretch.to slot stretches run.2 takes
-          (any_later (LiesIn scale slot) stretch stretches (λ is. let no : true ≡ false = sym (lies_passes scale stretch slot is) ∙ fails in cc) there),
-    )
+    arith,
+    sum_by-cons (part scale slot n) stretch stretches,
+    ap {B = ℕ} (λ b. if b then n else 0) fails,
+    part_once scale n stretch.to slot stretches run.2 takes
+        (any_later (LiesIn scale slot) stretch stretches (λ is. let no : true ≡ false = sym (lies_passes scale stretch slot is) ∙ fails in cc) there),
+  )
 ]
 
 -- one slot more in a stretch

@@ -4,7 +4,6 @@ use Rattle.yds_model.specs.declared.status.Status.{Status}
 use Rattle.yds_model.specs.declared.status.Status.TheVariants.{Done}
 use Rattle.yds_model.specs.Scale.{Fraction, IsAtMost}
 use Rattle.yds_model.specs.Slot.{WrittenSlot}
-use Rattle.yds_model.specs.Table.{Point}
 use Rattle.yds_model.specs.Document.{Document}
 use Rattle.yds_model.specs.Text.{line, fraction_text, canonical_text}
 use Rattle.yds_model.specs.Reading.{reading}
@@ -58,3 +57,9 @@ pub record PlanIsCheapest (input text : List ℕ) : Type 0 where
 -- So it is for each text that `compare` writes where it is done.
 abbrev pub ComparedPlanIsCheapest : Type 0
 ComparedPlanIsCheapest = (grid : ℕ) (input text : List ℕ) → AnswersRequest (Some (OfDocument (AskCompare grid))) input text Done → PlanIsCheapest input text
+
+-- What the text of a comparison is worth to its reader: neither policy is told less energy than the plan, and the plan the energy that
+-- `round` tells of the same input.
+pub record HoldsComparison (input text : List ℕ) : Type 0 where
+  pub cheapest : PlanIsCheapest input text
+  pub as_rounded : (rounded : List ℕ) → Answers (codes "round" ∷ []) input rounded Done → TellOneEnergy input text rounded

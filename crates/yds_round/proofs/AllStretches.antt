@@ -16,6 +16,7 @@ use Rattle.yds_model.specs.Plan.{IsPlan, speed_num, speed_den}
 use Rattle.yds_model.specs.Rounding.{RoundsStretch, RoundsStretches}
 use Rattle.yds_events.specs.Stretch.{no_stretch, length_of}
 use Rattle.yds_events.proofs.Neighbours.{few_stretches}
+use Rattle.yds_laws.proofs.EvenStretches.{some_or_none}
 use Rattle.yds_laws.proofs.TaskNames.{All-flat}
 use Rattle.yds_slots.specs.Between.{lies_between}
 use Rattle.yds_round.specs.declared.split.Split.{Split}
@@ -29,11 +30,6 @@ use Rattle.yds_round.proofs.Cuts.{WorksOver}
 use Rattle.yds_round.proofs.Decomposed.{lies_written}
 use Rattle.yds_round.proofs.Held.{IsHeld, whole, known, forward, in_parts, held, numbered}
 use Rattle.yds_round.proofs.Rounds.{zip_at, here_written, rounds_by, pace_grain, over_by, jobs_by, more_by, twice_all, more_all, fits_by, full_of}
-
--- whether a list has an element
-some_or_none : {X : Type 0} (xs : List X) → (xs ≡ []) ⊎ (1 ≤ length xs)
-some_or_none [] = inl refl
-some_or_none (x ∷ xs) = inr (omega arith)
 
 -- stretches that are rounded one by one are rounded
 rounds_all : (hull : List Point) (levels : List Level) (planned written : Piece → List WrittenSlot) (pieces : List Piece) →
