@@ -25,7 +25,7 @@ use Rattle.yds_model.specs.Within.{IsDocument}
 use Rattle.yds_model.specs.Request.{Request, AskAdmit, AskAudit, OfDocument, request_of_word, request_of_top, request_of_two, request_of_grid, request_of_trial, request_of_three, request_of}
 use Rattle.yds_model.specs.Answer.{AnswersRequest}
 use Rattle.yds_model.proofs.Verdicts.{verdict_is_exact}
-use Rattle.yds_laws.specs.AdmitText.{ReadAdmission, AdmissionsAreRead, AdmissionsAreFeasible}
+use Rattle.yds_laws.specs.AdmitText.{ReadAdmission, HoldsAdmission, AdmissionsAreRead, AdmissionsAreFeasible}
 use Rattle.yds_laws.proofs.AdmittedRuns.{admitted_runs_within_top}
 use Rattle.yds_laws.proofs.Brought.{IsWord, Brings, Brings-nil, Brings-append, Brings-comment, read_whole}
 use Rattle.yds_laws.proofs.Inverse.{number_at_ok}
@@ -266,16 +266,23 @@ admission_read top input text document within read answer =
           ∙ read_whole (canonical_text shown ++ comments) shown
           (Brings-append no_document shown shown (canonical_text shown) comments (text_brought shown possible)
           (comments_brought shown document top answer.refused fits within small.small));
+      run = answer.run;
       feasible = run_feasible jobs 1 (top_capacity jobs top) answer.slots answer.run.run;
       within_top = admitted_runs_within_top jobs top answer.slots answer.run;
     }
 
+-- the answer to words that ask for it
+pub admission_held : (words : List (List ℕ)) (top : ℕ) → request_of words ≡ Some (OfDocument (AskAdmit top)) → (input text : List ℕ) →
+    AnswersRequest (Some (OfDocument (AskAdmit top))) input text Done → HoldsAdmission top input text
+admission_held words top asks input text answers =
+    let is = answered (AskAdmit top) input text Done done_not_refused answers in
+    let within : top ≤ MAX_TOP = subst TopFits asks (request_fits words) in
+    (is.document, is.answers.taken, is.answers.refused, is.answers.slots, admission_read top input text is.document within is.read is.answers)
+
 -- the law: the text is read again
 pub admissions_are_read : AdmissionsAreRead
 admissions_are_read words top asks input text answers =
-    let is = answered (AskAdmit top) input text Done done_not_refused (subst (λ request. AnswersRequest request input text Done) asks answers) in
-    let within : top ≤ MAX_TOP = subst TopFits asks (request_fits words) in
-    (is.document, is.answers.taken, is.answers.refused, is.answers.slots, admission_read top input text is.document within is.read is.answers)
+    admission_held words top asks input text (subst (λ request. AnswersRequest request input text Done) asks answers)
 
 -- the law: `audit` answers it with 'feasible'
 pub admission_texts_are_feasible : AdmissionsAreFeasible
