@@ -11,7 +11,7 @@ use yds_edf::limits::MAX_GRAIN;
 use yds_events::Stretch;
 use yds_model::limits::MAX_JOBS;
 
-/// The deadline of a job with pending units, and the pending units that are due by it, as far as they stand before the job.
+/// The deadline of a job with pending units, and the pending units of the jobs up to it in order of their deadlines.
 #[derive(Clone, Copy, Debug)]
 pub(crate) struct DueUnits {
     pub(crate) units: u64,

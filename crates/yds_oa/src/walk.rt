@@ -1,6 +1,5 @@
 ghost use Rattle.std.specs.Prelude.{◌≡◌, ◌≤◌, ◌<◌, ◌*◌, length, All};
 ghost use Rattle.std.specs.List.{AllWithin};
-ghost use Rattle.std.specs.List.Sorted.{IsNonDecreasingBy};
 ghost use Rattle.yds_oa.specs.Greatest.{IsNoneOrOf, IsAtMost, AreRisingAfter};
 
 use crate::quotient::Quotient;
@@ -9,8 +8,8 @@ use crate::sums::DueUnits;
 /// How many deadlines are looked at together.
 const BLOCK: usize = 16;
 
-/// The greatest quotient of units that are due by a deadline and the time from this one until then; no units where there are no deadlines.
-/// It looks first at the deadline that is expected to have it.
+/// The greatest quotient of units that are due by a deadline and the time from this one until then; no units where there are no
+/// deadlines. It looks first at the deadline that is expected to have it, and passes over others together.
 pub(crate) fn greatest_quotient(waiting: &[DueUnits], from: u32, expected: u32) -> Quotient
     requires { AreRisingAfter from waiting.now }
     ensures some_time { 1 ≤ result.time }
@@ -40,8 +39,8 @@ fn first_guess(waiting: &[DueUnits], from: u32, expected: u32) -> Quotient
     }
 }
 
-/// The greater of the best quotient so far and the greatest of these deadlines. They are passed over where even all units that
-/// are due by the last of them, at the first, would give no greater one.
+/// The greatest of the best quotient so far and those of the deadlines from `start` to `end`. They are passed over where even
+/// all units that are due by the last of them, at the first, would give no greater one.
 fn greatest_within(
     waiting: &[DueUnits],
     start: usize,
