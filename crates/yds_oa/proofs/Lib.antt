@@ -1,4 +1,5 @@
 pub mod Waiting
-pub mod Walked
+pub mod Summed
+pub mod Quotients
 pub mod Greatest
 pub mod Available

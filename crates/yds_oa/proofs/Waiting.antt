@@ -1,5 +1,5 @@
 -- The waiting jobs, and the units that are due, in order of numbers and in order of deadlines.
-use Rattle.std.proofs.Common.{◌≡◌, ℕ, ◌-◌, ◌<◌, ◌≤◌, List, [], ◌∷◌, length, get_or, map, take, drop, Vec, Global, ◌∙◌, refl, sym, subst, ap, arith, inl, inr, cond, true, false}
+use Rattle.std.proofs.Common.{◌≡◌, ℕ, ◌-◌, ◌*◌, ◌<◌, ◌≤◌, List, [], ◌∷◌, length, get_or, map, take, drop, slice_index, Vec, Global, ◌∙◌, refl, sym, subst, ap, arith, inl, inr, cond, true, false}
 use Rattle.std.specs.Prelude.{Bool, nat_le, nat_lt, ◌&&◌, All, Contains, sum_by, not, Some}
 use Rattle.std.specs.List.{range_with_len}
 use Rattle.std.specs.List.Sorted.{IsPermutation, IsNonDecreasingBy, IsPartitionPoint}
@@ -11,7 +11,9 @@ use Rattle.std.proofs.lemmas.List.Filters.{length-filter_both}
 use Rattle.std.proofs.lemmas.List.Sorted.{sum_by-IsPermutation, All-permutation}
 use Rattle.std.proofs.lemmas.List.Kept.{IsNonDecreasingBy-filter}
 use Rattle.std.proofs.lemmas.List.Elements.{All-filter, All-weaker, filter_passes}
-use Rattle.yds_model.specs.Job.{Job, job_at}
+use Rattle.std.proofs.Math.Nat.{mul-le-mul_right, mul-le-mul_left}
+use Rattle.yds_model.specs.Job.{Job, IsJob, no_job, job_at}
+use Rattle.yds_edf.specs.Pending.{has_arrived}
 use Rattle.yds_model.specs.Piece.{Piece}
 use Rattle.yds_model.specs.Policy.{numbers_of}
 use Rattle.yds_model.proofs.Sums.{sum_by_same}
@@ -19,7 +21,6 @@ use Rattle.yds_edf.proofs.Numbers.{sum_filter}
 use Rattle.yds_edf.proofs.Filled.{contains_filter}
 use Rattle.yds_oa.specs.declared.order.Due.{Due}
 use Rattle.yds_oa.specs.Order.{due_job, due_jobs}
-use Rattle.yds_model.specs.declared.limits.TheConstants.{MAX_JOBS}
 use Rattle.yds_edf.specs.Queue.{JobQueue, pending_in}
 use Rattle.yds_oa.specs.Asked.{is_waiting, waiting, due_by, deadlines}
 use Rattle.yds_slots.proofs.Order.{filter_window}
@@ -88,7 +89,7 @@ all_due jobs order same = All-permutation (IsDueJob jobs) (due_jobs jobs) order 
     let below : i < length jobs = omega (arith, within, length-map-range_with_len (due_job jobs) 0 (length jobs)) in
     let is : get_or (map (due_job jobs) (range_with_len 0 (length jobs))) i d ≡ due_job jobs i =
     get_or-map-range_with_len (due_job jobs) 0 (length jobs) i i d below (omega arith) in
-    subst (IsDueJob jobs) (sym is) (record { known = below; release = refl; deadline = refl }))
+    subst (IsDueJob jobs) (sym is) (record { known = below; release = refl; deadline = refl; work = refl }))
 
 sum_by-map : {X Y : Type 0} (f : Y → ℕ) (g : X → Y) (xs : List X) → sum_by f (map g xs) ≡ sum_by (λ x. f (g x)) xs
 sum_by-map f g [] = refl
@@ -130,6 +131,23 @@ due_in_order jobs pending stretch order same deadline =
 pub none_before : (queue : JobQueue) (time : ℕ) → queue.time ≡ Some time → (job : ℕ) → time < (job_at queue.jobs job).release → pending_in queue job ≡ 0
 none_before queue time is job later = rw (is, lt-leb (job_at queue.jobs job).release time later) refl
 
+-- what the code takes for a job's pending units, and how many they are at most
+pub pending_is : (queue : JobQueue) (time : ℕ) → queue.time ≡ Some time → (due : Due) → IsDueJob queue.jobs due →
+    cond (nat_le due.release time) (due.work * queue.grain - slice_index queue.served due.job) 0 ≡ pending_in queue due.job
+pending_is queue time arrived due is = rw (arrived, is.release, is.work) refl
+
+pub told_pending : (queue : JobQueue) (time from grain : ℕ) (served : List ℕ) (due : Due) (units : ℕ) → queue.time ≡ Some time → IsDueJob queue.jobs due → from ≡ time →
+    grain ≡ queue.grain → served ≡ queue.served → units ≡ cond (nat_le due.release from) (due.work * grain - slice_index served due.job) 0 →
+    units ≡ pending_in queue due.job
+told_pending queue time from grain served due units arrived is from_is grain_is served_is units_is =
+    rw (from_is, grain_is, served_is) at units_is ∙ pending_is queue time arrived due is
+
+pub pending_few : (queue : JobQueue) (job : ℕ) → All IsJob queue.jobs → job < length queue.jobs → queue.grain ≤ 1000000000 → pending_in queue job ≤ 1000000000000000
+pending_few queue job are known fine = elim (cases_Bool (has_arrived queue.time (job_at queue.jobs job))) [
+  | inl arrived ↦ rw arrived (omega (arith, mul-le-mul_right queue.grain (are job no_job known).work_in_range, mul-le-mul_left 1000000 fine))
+  | inr not_yet ↦ rw not_yet (omega arith)
+]
+
 module _ (jobs : List Job) (pending : ℕ → ℕ) (stretch : Piece) (order : List Due) (until : ℕ) (are : AreByDeadline jobs order) (ahead : stretch.from < until)
     (none : (job : ℕ) → stretch.from < (job_at jobs job).release → pending job ≡ 0) where
   abbrev is_after : Due → Bool
@@ -167,10 +185,9 @@ module _ (jobs : List Job) (pending : ℕ → ℕ) (stretch : Piece) (order : Li
     units = near_units;
   }
 
-  pub near_few : length (due_after stretch.from (released_before until order)) ≤ MAX_JOBS
-  near_few = omega (
+  pub near_within : length (due_after stretch.from (released_before until order)) ≤ length order
+  near_within = omega (
     arith,
-    are.few,
     length-filter_both is_after (λ due. not (is_after due)) (λ due. refl) (released_before until order),
     length-filter_both is_released (λ due. not (is_released due)) (λ due. refl) order,
   )
@@ -198,8 +215,9 @@ module _ (jobs : List Job) (old new : NearJobs) (are : AreByDeadline jobs old.or
     pub have_waiting : HaveWaiting jobs pending stretch near
     have_waiting = subst (HaveWaiting jobs pending stretch) told (near_waiting jobs pending stretch old.order.items new.until are (omega (arith, ahead, begins)) none)
 
-    pub have_few : length near ≤ MAX_JOBS
-    have_few = subst (λ (dues : List Due). length dues ≤ MAX_JOBS) told (near_few jobs pending stretch old.order.items new.until are (omega (arith, ahead, begins)) none)
+    pub have_within : length near ≤ length old.order.items
+    have_within = subst (λ (dues : List Due). length dues ≤ length old.order.items) told
+        (near_within jobs pending stretch old.order.items new.until are (omega (arith, ahead, begins)) none)
 
 -- the jobs that are due after a time are those behind the ones that aren't
 pub behind_point : (order : List Due) (time point : ℕ) → point ≤ length order →

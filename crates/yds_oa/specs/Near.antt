@@ -31,6 +31,7 @@ pub record IsDueJob (jobs : List Job) (due : Due) : Type 0 where
   pub known : due.job < length jobs
   pub release : due.release ≡ (job_at jobs due.job).release
   pub deadline : due.deadline ≡ (job_at jobs due.job).deadline
+  pub work : due.work ≡ (job_at jobs due.job).work
 
 -- the units of an entry's job, where it is due by a deadline
 abbrev pub units_by : (ℕ → ℕ) → ℕ → Due → ℕ

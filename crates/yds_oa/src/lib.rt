@@ -10,6 +10,8 @@ mod near;
 mod optimal_available;
 mod order;
 mod quotient;
+mod sums;
+mod walk;
 
 pub use optimal_available::oa;
 

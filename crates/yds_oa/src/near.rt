@@ -55,7 +55,7 @@ impl NearJobs {
         }
     }
 
-    /// A time after this one, by which the next `AHEAD` jobs are released.
+    /// A time after this one, before which at most `AHEAD` other jobs are released.
     fn ahead(&self, time: u32) -> u32
         requires { time ≤ MAX_TIME }
         ensures { time < result }

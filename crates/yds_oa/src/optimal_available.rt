@@ -1,21 +1,17 @@
-ghost use Rattle.std.specs.Prelude.{◌≡◌, ◌≤◌, ◌*◌, ◌-◌, IfOk, length, All};
+ghost use Rattle.std.specs.Prelude.{◌≡◌, ◌≤◌, IfOk, length, All};
 ghost use Rattle.yds_model.specs.Policy.{HasRunDenominators};
 ghost use Rattle.yds_model.specs.OptimalAvailable.{IsOptimalAvailableRun};
 ghost use Rattle.yds_model.specs.Within.{AreSlotsOf};
-ghost use Rattle.yds_events.specs.Stretch.{length_of};
-ghost use Rattle.yds_edf.specs.Queue.{pending_in};
 ghost use Rattle.yds_oa.specs.Asked.{most_asked, most_rounds};
-ghost use Rattle.yds_oa.specs.Near.{AreByDeadline, AreListed, HaveWaiting};
-ghost use Rattle.yds_oa.specs.Greatest.{IsGreatest};
+ghost use Rattle.yds_oa.specs.Near.{AreByDeadline, AreListed};
 
 use crate::near::NearJobs;
-use crate::order::Due;
-use crate::quotient::Quotient;
+use crate::sums::{DueUnits, sum_pending};
+use crate::walk::greatest_quotient;
 use std::alloc::Global;
-use yds_edf::limits::MAX_GRAIN;
 use yds_edf::{Policy, PolicyRun, Queue, Setting, run_policy};
 use yds_events::Stretch;
-use yds_model::limits::{MAX_GRID, MAX_JOBS, MAX_ROUNDED, MAX_WORK};
+use yds_model::limits::{MAX_GRID, MAX_JOBS, MAX_ROUNDED};
 use yds_model::{JobRow, Memory};
 
 /// The run of Optimal Available on the grid: a stretch serves the greatest number of units that the deadline of a pending job
@@ -34,26 +30,41 @@ pub fn oa(alloc: Global, rows: &[JobRow], grid: u32) -> Result<PolicyRun, Memory
     ensures count_in_range { IfOk result (λ run. run.rounded ≤ MAX_ROUNDED) }
 {
     let jobs = NearJobs::new(alloc, rows)?;
-    run_policy(alloc, rows, grid, &mut OptimalAvailable { jobs })
+    let waiting = Vec::with_capacity(alloc, rows.len())?;
+    let mut policy = OptimalAvailable {
+        jobs,
+        waiting,
+        last: 0,
+    };
+    run_policy(alloc, rows, grid, &mut policy)
 }
 
 /// Optimal Available, which goes through the near jobs in order of their deadlines.
 #[derive(Drop)]
 struct OptimalAvailable {
     jobs: NearJobs,
+    /// The deadlines of pending jobs and the units that are due by each, as a stretch finds them. It has room for all jobs.
+    waiting: Vec<DueUnits>,
+    /// The deadline that had the greatest quotient in the last stretch, in time units.
+    last: u32,
 }
 
 impl Policy for OptimalAvailable {
+    ghost use Rattle.std.specs.Prelude.{length, vec_capacity};
+
     ghost units = { λ policy jobs grid pending stretch. most_asked jobs pending stretch };
 
     ghost rounds = { λ policy jobs grid pending stretch. most_rounds jobs pending stretch };
 
-    ghost keeps = { λ policy jobs number. AreByDeadline jobs policy.jobs.order.items × AreListed policy.jobs };
+    ghost keeps = { λ policy jobs number.
+        AreByDeadline jobs policy.jobs.order.items × AreListed policy.jobs × (length policy.jobs.order.items ≤ vec_capacity policy.waiting) };
 
     fn set(&mut self, _number: u32, queue: &Queue, stretch: Stretch) -> Setting {
         self.jobs.look_to(stretch.from);
         let near = self.jobs.due_after(stretch.from);
-        let greatest = greatest_quotient(near, queue, stretch);
+        sum_pending(near, queue, stretch, &mut self.waiting);
+        let greatest = greatest_quotient(&self.waiting, stretch.from, self.last);
+        self.last = stretch.from.saturating_add(greatest.time);
         let units = u128::from(greatest.units) * u128::from(stretch.length());
         let time = u128::from(greatest.time);
         Setting {
@@ -61,27 +72,4 @@ impl Policy for OptimalAvailable {
             rounds: units % time != 0,
         }
     }
-}
-
-/// The greatest quotient, over the deadlines of pending jobs, of the pending units that are due by then and the time until then;
-/// no units where nothing is pending.
-fn greatest_quotient(near: &[Due], queue: &Queue, stretch: Stretch) -> Quotient
-    requires few { length near.now ≤ MAX_JOBS }
-    requires waiting { HaveWaiting queue.now.jobs (pending_in queue.now) stretch near.now }
-    ensures greatest { IsGreatest queue.now.jobs (pending_in queue.now) stretch result.units result.time }
-    ensures few { result.units ≤ MAX_JOBS * (MAX_WORK * MAX_GRAIN) }
-{
-    let mut due = 0;
-    let mut greatest = Quotient { units: 0, time: 1 };
-    for job in near {
-        let pending = queue.pending_of(job.job);
-        if pending > 0 {
-            due += pending;
-            greatest = greatest.max(Quotient {
-                units: due,
-                time: job.deadline - stretch.from,
-            });
-        }
-    }
-    greatest
 }

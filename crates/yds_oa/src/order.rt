@@ -1,4 +1,4 @@
-ghost use Rattle.std.specs.Prelude.{◌≡◌, ◌≤◌, ◌<◌, IfOk, length};
+ghost use Rattle.std.specs.Prelude.{◌≡◌, ◌≤◌, IfOk, length};
 ghost use Rattle.std.specs.List.Sorted.{IsPermutation, IsNonDecreasingBy};
 ghost use Rattle.yds_oa.specs.Order.{due_jobs};
 
@@ -6,12 +6,13 @@ use std::alloc::Global;
 use yds_model::limits::MAX_JOBS;
 use yds_model::{JobRow, Memory};
 
-/// A job with its release and its deadline, in time units.
+/// A job with its release and its deadline, in time units, and its units of work.
 #[derive(Clone, Copy, Debug)]
 pub(crate) struct Due {
     pub(crate) release: u32,
     pub(crate) deadline: u32,
     pub(crate) job: u32,
+    pub(crate) work: u32,
 }
 
 /// The jobs in order of their deadlines.
@@ -36,6 +37,7 @@ fn in_list_order(alloc: Global, rows: &[JobRow]) -> Result<Vec<Due>, Memory>
             release: row.release,
             deadline: row.deadline,
             job: number as u32,
+            work: row.work,
         })?;
     }
     Ok(order)

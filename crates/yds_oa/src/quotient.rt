@@ -1,5 +1,4 @@
-ghost use Rattle.std.specs.Prelude.{◌≡◌, ◌*◌, ◌≤◌, ◌<◌, ◌/◌, ◌%◌, ◌-◌, ◌⊎◌};
-ghost use Rattle.yds_model.specs.Policy.{div_up};
+ghost use Rattle.std.specs.Prelude.{◌≡◌, ◌*◌, ◌≤◌, ◌⊎◌, ◌↔◌, IsTrue};
 
 /// Units by time units.
 #[derive(Clone, Copy, Debug)]
@@ -19,8 +18,15 @@ impl Quotient {
         ensures first { self.units * result.time ≤ result.units * self.time }
         ensures second { other.units * result.time ≤ result.units * other.time }
     {
+        if other.is_at_most(self) { self } else { other }
+    }
+
+    /// Whether it isn't greater than the other, by cross products.
+    pub(crate) fn is_at_most(self, other: Quotient) -> bool
+        ensures { IsTrue result ↔ (self.units * other.time ≤ other.units * self.time) }
+    {
         let left = u128::from(self.units) * u128::from(other.time);
         let right = u128::from(other.units) * u128::from(self.time);
-        if left < right { other } else { self }
+        left <= right
     }
 }
