@@ -17,7 +17,8 @@ use Rattle.yds_admit.specs.Interval.{work_in}
 use Rattle.yds_admit.specs.Chain.{IsFalling, AreTimes, due_work, IsChain, Takes}
 use Rattle.yds_admit.specs.Board.{IsSpot, IsBoard, AreMarked, if_marked}
 use Rattle.yds_admit.proofs.Between.{term}
-use Rattle.yds_admit.proofs.Overfull.{sum_by-map, jobs_work, any_of_all}
+use Rattle.yds_laws.proofs.JobNumbers.{sum_by-map}
+use Rattle.yds_admit.proofs.Overfull.{jobs_work, any_of_all}
 use Rattle.yds_admit.proofs.Sweep.{reach, due_units, no_more, none_before, step_is, goes_through, last_with, work_of_front}
 
 abbrev pub no_spot : Spot

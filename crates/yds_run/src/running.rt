@@ -4,7 +4,8 @@ ghost use Rattle.std.specs.Io.KnownBytes.{Appends, IsAtEnd};
 ghost use Rattle.yds_model.specs.Answer.{AnswersReading, AnswersQuestion};
 ghost use Rattle.yds_model.specs.PlanAnswer.{HoldsHeadline};
 ghost use Rattle.yds_model.specs.Reading.{reading};
-ghost use Rattle.yds_model.specs.Request.{usage_line, OfDocument, AskCompare};
+ghost use Rattle.yds_model.specs.Request.{usage_line, OfDocument, AskAdmit, AskCompare};
+ghost use Rattle.yds_laws.specs.AdmitText.{HoldsAdmission};
 ghost use Rattle.yds_laws.specs.CompareText.{HoldsComparison};
 ghost use Rattle.yds_laws.specs.RoundText.{HoldsLeastEnergy, HoldsTooSlow};
 ghost use Rattle.yds_laws.specs.TaskLaws.{HoldsExpansion};
@@ -104,6 +105,11 @@ pub fn run<S: Source, K: Sink>(
     // their order and under different names.
     ensures expansion { words_of words.now ≡ codes "expand" ∷ [] → result ≡ Status.Done
         → IfSome (S.left source.old) (λ input. (text : List ℕ) × Appends (K.written sink.old) (K.written sink.new) text × HoldsExpansion input text) }
+
+    // The admitted jobs that were written, with a comment for each other job, are read again as a document of the admitted jobs
+    // with slots that give each of them its work in its window, nowhere faster than the top speed.
+    ensures admission { (top : ℕ) → asked (words_of words.now) ≡ Some (OfDocument (AskAdmit top)) → result ≡ Status.Done
+        → IfSome (S.left source.old) (λ input. (text : List ℕ) × Appends (K.written sink.old) (K.written sink.new) text × HoldsAdmission top input text) }
 {
     match Command::of(words) {
         Some(Command::Document(question)) => answer_input(alloc, question, source, sink),

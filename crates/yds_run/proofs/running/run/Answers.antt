@@ -1,10 +1,12 @@
 use Rattle.std.proofs.Common.{ap, sym, ◌∙◌, ◌≡◌, Some, Option}
 use Rattle.yds_model.specs.Request.{Request}
+use Rattle.yds_laws.specs.AdmitText.{HoldsAdmission}
 use Rattle.yds_model.specs.PlanAnswer.{HoldsHeadline}
 use Rattle.yds_laws.specs.CompareText.{HoldsComparison}
 use Rattle.yds_laws.specs.RoundText.{HoldsLeastEnergy, HoldsTooSlow}
 use Rattle.yds_laws.specs.TaskLaws.{HoldsExpansion}
 use Rattle.yds_laws.proofs.CompareText.{comparison_holds}
+use Rattle.yds_laws.proofs.AdmitText.{admission_held}
 use Rattle.yds_laws.proofs.PlanText.{plans_hold_the_headline}
 use Rattle.yds_laws.proofs.RoundText.{rounded_holds_least_energy, refused_is_too_slow}
 use Rattle.yds_laws.proofs.TaskTexts.{expansions_are_read}
@@ -43,6 +45,12 @@ returns-in-Some-Document-clause-too_slow g c =
 pub returns-in-Some-Document-clause-comparison : goal.returns-in-Some-Document-clause-comparison
 returns-in-Some-Document-clause-comparison g c =
     λ grid compare done. answer_holds _ _ _ _ HoldsComparison _ _ _ _ tt (comparison_holds grid) compare done
+    (question_completes _ _ _ _ _ _ _ _ (named _ _ _ c.in-Some-Document.field-0-is c.in-Some-Document.ensures.asked)
+    (c.answer_input.ensures.answer (λ is. absurd cc) (λ is. absurd cc)))
+
+pub returns-in-Some-Document-clause-admission : goal.returns-in-Some-Document-clause-admission
+returns-in-Some-Document-clause-admission g c =
+    λ top admit done. answer_holds _ _ _ _ (HoldsAdmission top) _ _ _ _ tt (admission_held _ top admit) admit done
     (question_completes _ _ _ _ _ _ _ _ (named _ _ _ c.in-Some-Document.field-0-is c.in-Some-Document.ensures.asked)
     (c.answer_input.ensures.answer (λ is. absurd cc) (λ is. absurd cc)))
 
