@@ -6,6 +6,9 @@
 #   make test       the gate: every proof, test, refused edit and stored run
 #   make check      the built program answers every example and stored row byte for byte, within seconds
 #   make recipes    every recipe on its sample, with the built program
+#   make faults     refuses the built program memory, reads and writes in turn, and breaks its streams
+#   make fuzz       draws DOCUMENTS documents near the grammar from SEED, and holds the built program's answers against what they promise
+#   make costly     times the built program on the documents that cost most
 #   make install    copies build/yds_cli to PREFIX/bin, its manual page, completion and recipes to PREFIX/share
 #   make uninstall  removes just these
 #
@@ -27,8 +30,10 @@ RECIPE_FILES := trace.awk points.awk energy.awk battery.awk collect.awk report.j
 EXAMPLE ?= examples/three-jobs.txt
 DOCUMENT ?= examples/three-jobs.txt
 COMMAND ?= plan
+SEED ?= 1
+DOCUMENTS ?= 100000
 
-.PHONY: all run try test check recipes install uninstall clean tool
+.PHONY: all run try test check recipes faults fuzz costly install uninstall clean tool
 
 all: $(BINARY)
 
@@ -64,6 +69,19 @@ check: $(BINARY)
 
 recipes: $(BINARY)
 	@sh recipes/test.sh
+
+faults: $(BINARY)
+	@CC=$(CC) sh robustness/faults.sh
+
+build/fuzz: robustness/fuzz.c
+	@mkdir -p build
+	@$(CC) -std=gnu11 -O2 -Wall -o $@ $<
+
+fuzz: $(BINARY) build/fuzz
+	@cd build && ./fuzz ./$(PROGRAM) ../examples/rows $(SEED) $(DOCUMENTS)
+
+costly: $(BINARY)
+	@CC=$(CC) sh robustness/costly.sh
 
 install: $(BINARY)
 	install -d $(BIN) $(MAN) $(COMPLETIONS) $(RECIPES)

@@ -1,7 +1,7 @@
 -- Deciding job by job: what has been decided of the first jobs, and that it goes on as the definition says.
 use Rattle.std.proofs.Common.{◌≡◌, ℕ, ◌+◌, take, ◌<◌, ◌≤◌, List, [], ◌∷◌, ◌++◌, length, get_or, drop, ◌∙◌, refl, sym, subst, arith, inl, inr, ap, append_assoc}
 use Rattle.std.specs.List.{All}
-use Rattle.std.proofs.lemmas.List.{map-append, append-nil, take_at, take_more, take-append-drop, length-map, drop_more, drop_all, length_push}
+use Rattle.std.proofs.lemmas.List.{map-append, append-nil, get_or-take, length-take-le, drop_more, drop_all, length_push}
 use Rattle.std.proofs.lemmas.List.Elements.{All-nil, All-push}
 use Rattle.std.proofs.lemmas.List.FromFn.{get_or-range_with_len, length-range_with_len}
 use Rattle.yds_model.specs.Job.{Job, IsJob, no_job, job_at}
@@ -10,25 +10,8 @@ use Rattle.yds_model.specs.Admission.{CanServe, jobs_with, IsFirstOverfull, Refu
 use Rattle.yds_laws.specs.AdmissionLaws.{HasRoom}
 use Rattle.yds_laws.proofs.Served.{served_where_room}
 use Rattle.yds_admit.specs.Interval.{work_in}
-use Rattle.yds_admit.specs.Decision.{IsDecision}
+use Rattle.yds_admit.specs.Decision.{IsDecision, Decided}
 use Rattle.yds_admit.proofs.Overfull.{numbers_work, first_numbers, room_front}
-
--- The first jobs have been decided: with whatever the definition says of the others, it is an admission.
-pub record Decided (rows : List Job) (top i : ℕ) (taken : List ℕ) (jobs : List Job) (refused : List Refusal) : Type 0 where
-  pub same : jobs ≡ jobs_with rows taken
-  pub few : length jobs ≤ i
-  pub are : All IsJob jobs
-  pub room : HasRoom top jobs
-  pub taken_known : All (λ number. number < i) taken
-  pub refused_known : All (λ (refusal : Refusal). refusal.job < i) refused
-  pub goes_on : (later : List ℕ) (others : List Refusal) → AdmitsAfter rows top taken (drop i (numbers_of rows)) later others →
-      IsAdmission rows top (taken ++ later) (refused ++ others)
-
--- as many jobs as are taken, without the one after them
-pub without_last : (rows : List Job) (taken : List ℕ) (jobs : List Job) (row : Job) (longer : List Job) (n : ℕ) → longer ≡ jobs ++ row ∷ [] → n ≡ length taken →
-    jobs ≡ jobs_with rows taken → take n longer ≡ jobs
-without_last rows taken jobs row longer n is long same =
-    ap (take n) is ∙ take_at jobs (row ∷ []) n (omega (arith, long, ap (λ (some : List Job). length some) same, length-map taken (job_at rows)))
 
 pub begun : (rows : List Job) (top : ℕ) → Decided rows top 0 [] [] []
 begun rows top = record {
@@ -99,15 +82,20 @@ module _ (rows : List Job) (top i : ℕ) (taken : List ℕ) (jobs : List Job) (r
             (inr (not_served, refusal, others, refl, refuses, rest))));
       }
 
--- where all jobs leave no interval overfull together, the next one is admitted
-pub takes_next : (rows : List Job) (top i : ℕ) (taken : List ℕ) → 1 ≤ top → i < length rows → Decided rows top i taken (take i rows) [] →
-    (row : Job) → row ≡ job_at rows i → IsJob row → HasRoom top rows → Decided rows top (i + 1) (taken ++ i ∷ []) (take (i + 1) rows) []
-takes_next rows top i taken some_top within decided row is is_job room =
-    let more : take (i + 1) rows ≡ take i rows ++ row ∷ [] = take_more rows i no_job within ∙ ap (λ (one : Job). take i rows ++ one ∷ []) (sym is) in
-    subst (λ (some : List Job). Decided rows top (i + 1) (taken ++ i ∷ []) some []) (sym more)
-    (takes rows top i taken (take i rows) [] some_top within decided row is is_job
-    (subst (HasRoom top) more (room_front top (take (i + 1) rows) (drop (i + 1) rows)
-    (subst (HasRoom top) (sym (take-append-drop (i + 1) rows)) room))))
+-- where the jobs up to the last leave no interval overfull together, the first of them is admitted
+pub takes_first : (rows : List Job) (top i last : ℕ) (taken : List ℕ) (jobs : List Job) (refused : List Refusal) (whole : List Job) → 1 ≤ top → i < last → last ≤ length rows →
+    Decided rows top i taken jobs refused → jobs ++ drop i (take last rows) ≡ whole → HasRoom top whole → (row : Job) → row ≡ job_at rows i → IsJob row →
+    Decided rows top (i + 1) (taken ++ i ∷ []) (jobs ++ row ∷ []) refused × ((jobs ++ row ∷ []) ++ drop (i + 1) (take last rows) ≡ whole)
+takes_first rows top i last taken jobs refused whole some_top less within decided is_whole room row is is_job =
+    let rest : List Job = drop (i + 1) (take last rows) in
+    let next : drop i (take last rows) ≡ row ∷ rest =
+    drop_more (take last rows) i no_job (omega (arith, less, length-take-le last rows within))
+    ∙ ap (λ (one : Job). one ∷ rest) (get_or-take last rows i no_job less ∙ sym is) in
+    let same : (jobs ++ row ∷ []) ++ rest ≡ whole = append_assoc jobs (row ∷ []) rest ∙ ap (λ (some : List Job). jobs ++ some) (sym next) ∙ is_whole in (
+      takes rows top i taken jobs refused some_top (omega (arith, less, within)) decided row is is_job
+          (room_front top (jobs ++ row ∷ []) rest (subst (HasRoom top) (sym same) room)),
+      same,
+    )
 
 -- all jobs have been decided
 pub all_decided : (rows : List Job) (top i : ℕ) (taken : List ℕ) (jobs : List Job) (refused : List Refusal) → length rows ≤ i →

@@ -1,10 +1,12 @@
 -- One element more in a list whose elements stand in an order.
 use Rattle.std.proofs.Common.{◌≡◌, ℕ, ◌+◌, ◌-◌, ◌<◌, ◌≤◌, List, [], ◌∷◌, ◌++◌, length, get_or, take, drop, ◌∙◌, subst, arith, inl, inr, ap, add-one}
-use Rattle.std.specs.List.Sorted.{IsPermutation}
+use Rattle.std.specs.List.{All}
+use Rattle.std.specs.List.Sorted.{IsPermutation, IsNonDecreasingBy}
 use Rattle.std.proofs.lemmas.Bool.{cases_order}
 use Rattle.std.proofs.lemmas.List.{get_or_append_left, get_or-append_right, get_or-take, get_or-drop, length-take-le, length-append, length-drop, take-append-drop}
 use Rattle.std.proofs.lemmas.List.Sorted.{IsPermutation-middle, IsPermutation-trans, IsPermutation-sym, IsPermutation-to_front, IsPermutation-append_left}
-use Rattle.yds_model.specs.Job.{Job}
+use Rattle.yds_model.specs.Job.{Job, IsJob, no_job}
+use Rattle.yds_admit.specs.Chain.{IsFalling}
 
 -- the jobs with one more at a place
 abbrev pub with_row : List Job → ℕ → Job → List Job
@@ -69,3 +71,12 @@ module _ (jobs : List Job) (place : ℕ) (row : Job) (within : place ≤ length 
 pub joined : (jobs sorted more : List Job) (row : Job) → IsPermutation jobs sorted → IsPermutation (sorted ++ row ∷ []) more → IsPermutation (jobs ++ row ∷ []) more
 joined jobs sorted more row same added =
     IsPermutation-trans (jobs ++ row ∷ []) (sorted ++ row ∷ []) more (IsPermutation-append_left (row ∷ []) jobs sorted same) added
+
+-- jobs by rising differences from a greatest number to their releases stand by falling releases
+pub falling_keys : (jobs : List Job) → All IsJob jobs → IsNonDecreasingBy (λ (job : Job). 4294967295 - job.release) jobs → IsFalling jobs
+falling_keys jobs are rising i j order below = omega (
+  arith,
+  rising i j no_job order below,
+  (are i no_job (omega (arith, order, below))).has_window,
+  (are i no_job (omega (arith, order, below))).time_in_range,
+)

@@ -8,3 +8,5 @@ pub mod Sweep
 pub mod Newly
 pub mod Inserted
 pub mod Links
+pub mod Fitting
+pub mod Marks

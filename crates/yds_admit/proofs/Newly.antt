@@ -1,9 +1,9 @@
 -- One job more than jobs that leave no interval overfull: only an interval that begins before its deadline and ends then or later can be.
-use Rattle.std.proofs.Common.{◌≡◌, ℕ, ◌+◌, ◌-◌, ◌*◌, ◌<◌, ◌≤◌, ◌⊎◌, List, [], ◌∷◌, ◌++◌, length, get_or, take, ◌∙◌, sym, subst, arith, inl, inr, ap}
+use Rattle.std.proofs.Common.{◌≡◌, ℕ, ◌+◌, ◌-◌, ◌*◌, ◌<◌, ◌≤◌, ◌⊎◌, List, [], ◌∷◌, ◌++◌, length, get_or, ◌∙◌, sym, subst, arith, inl, inr, ap}
 use Rattle.std.specs.List.{All, Any, sum_by}
 use Rattle.std.specs.List.Sorted.{IsPermutation}
 use Rattle.std.proofs.lemmas.Bool.{cases_lt, cases_eq}
-use Rattle.std.proofs.lemmas.List.{get_or_default, get_or_append_left, get_or_push, length_push, take_more, take_all}
+use Rattle.std.proofs.lemmas.List.{get_or_default, get_or_append_left, get_or_push, length_push}
 use Rattle.std.proofs.lemmas.List.Sums.{sum_by_push}
 use Rattle.std.proofs.lemmas.List.Sorted.{sum_by-IsPermutation, Contains-permutation, IsPermutation-sym}
 use Rattle.yds_model.specs.Job.{Job, IsJob, no_job, job_at}
@@ -134,35 +134,3 @@ module _ (top : ℕ) (jobs : List Job) (row : Job) (are : All IsJob (jobs ++ row
       deadline_work from least.to,
       fits least.to (omega (arith, least.ahead, least.beyond)),
     )
-
--- the jobs before the last one, and it
-pub split_last : (all : List Job) (row : Job) → 1 ≤ length all → row ≡ job_at all (length all - 1) → all ≡ take (length all - 1) all ++ row ∷ []
-split_last all row some is =
-    let n : ℕ = length all - 1 in
-    let more : take (n + 1) all ≡ take n all ++ get_or all n no_job ∷ [] = take_more all n no_job (omega (arith, some)) in
-    sym (take_all (n + 1) all (omega arith)) ∙ more ∙ ap (λ (one : Job). take n all ++ one ∷ []) (sym is)
-
--- the same of jobs of which the last one is new
-module _ (top : ℕ) (all by_release by_deadline : List Job) (row : Job) (some : 1 ≤ length all) (is : row ≡ job_at all (length all - 1)) (are : All IsJob all)
-    (room : HasRoom top (take (length all - 1) all)) (releases : IsPermutation all by_release) (deadlines : IsPermutation all by_deadline) where
-  abbrev front : List Job
-  front = take (length all - 1) all
-
-  pub newly_none : NoFrom top row.deadline by_release → HasRoom top all
-  newly_none none =
-      let split = split_last all row some is in
-      subst (HasRoom top) (sym split) (has_room top front row (subst (All IsJob) split are) room by_release by_deadline
-      (subst (λ (xs : List Job). IsPermutation xs by_release) split releases) (subst (λ (xs : List Job). IsPermutation xs by_deadline) split deadlines) none)
-
-  pub newly_found : (from to : ℕ) → IsLeastFrom top row.deadline by_release from → IsFirstEnd top by_deadline from to →
-      IsFirstOverfull all top (numbers_of all) from to
-  newly_found from to least ends =
-      let split = split_last all row some is in
-      subst (λ (xs : List Job). IsFirstOverfull xs top (numbers_of xs) from to) (sym split) (first_found top front row (subst (All IsJob) split are) room by_release by_deadline
-      (subst (λ (xs : List Job). IsPermutation xs by_release) split releases) (subst (λ (xs : List Job). IsPermutation xs by_deadline) split deadlines) from to least ends)
-
-  pub newly_is : (from : ℕ) → IsLeastFrom top row.deadline by_release from → HasRoomFrom top by_deadline from → ⊥
-  newly_is from least fits =
-      let split = split_last all row some is in
-      is_found top front row (subst (All IsJob) split are) room by_release by_deadline
-      (subst (λ (xs : List Job). IsPermutation xs by_release) split releases) (subst (λ (xs : List Job). IsPermutation xs by_deadline) split deadlines) from least fits

@@ -12,26 +12,12 @@ use Rattle.yds_model.specs.Policy.{numbers_of}
 use Rattle.yds_model.specs.Admission.{jobs_with, confined_work, IsOverfull, IsFirstOverfull}
 use Rattle.yds_model.proofs.Lists.{Any-append_left}
 use Rattle.yds_laws.specs.AdmissionLaws.{HasRoom}
+use Rattle.yds_laws.proofs.JobNumbers.{sum_by-map, all_jobs}
 use Rattle.yds_laws.proofs.Served.{confined_sum}
 use Rattle.yds_admit.specs.Interval.{work_in, HasRoomFrom, IsFirstEnd}
 use Rattle.yds_admit.proofs.Between.{term}
 
 -- # The work confined to an interval
-
-sum_by-map : {X Y : Type 0} (g : X → Y) (f : Y → ℕ) (xs : List X) → sum_by f (map g xs) ≡ sum_by (λ x. f (g x)) xs
-sum_by-map g f [] = refl
-sum_by-map g f (x ∷ xs) = omega (arith, sum_by-cons f (g x) (map g xs), sum_by-cons (λ y. f (g y)) x xs, sum_by-map g f xs)
-
--- the jobs with the numbers of all jobs are the jobs
-pub all_jobs : (jobs : List Job) → jobs_with jobs (numbers_of jobs) ≡ jobs
-all_jobs jobs =
-    same_lists (jobs_with jobs (numbers_of jobs)) jobs
-    (length-map (numbers_of jobs) (job_at jobs) ∙ length-range_with_len 0 (length jobs))
-    (λ k d within.
-    let below : k < length jobs = omega (arith, length-map (numbers_of jobs) (job_at jobs), length-range_with_len 0 (length jobs)) in
-    get_or-map (job_at jobs) (numbers_of jobs) k 0 d (omega (arith, length-range_with_len 0 (length jobs)))
-    ∙ (ap (job_at jobs) (let it : get_or (numbers_of jobs) k 0 ≡ k = omega (arith, get_or-range_with_len 0 (length jobs) k 0 below) in it)
-    ∙ get_or_default jobs k no_job d below))
 
 pub numbers_work : (jobs : List Job) (numbers : List ℕ) (from to : ℕ) → confined_work jobs numbers from to ≡ work_in (jobs_with jobs numbers) from to
 numbers_work jobs numbers from to = confined_sum jobs numbers from to ∙ sym (sum_by-map (job_at jobs) (term from to) numbers)
@@ -111,90 +97,3 @@ room_front top jobs others room from to full = room from to (record {
     sum_by-append (term from to) jobs others,
   );
 })
-
--- # The search, release by release
-
-module _ (top : ℕ) (jobs sorted : List Job) (releases : List ℕ) (same : IsPermutation jobs sorted)
-    (same_releases : IsPermutation (map (λ (job : Job). job.release) jobs) releases) where
-  sorted_work : (from to : ℕ) → confined_work jobs (numbers_of jobs) from to ≡ work_in sorted from to
-  sorted_work from to = jobs_work jobs from to ∙ sym (sum_by-IsPermutation (term from to) jobs sorted same)
-
-  -- a release is one of the list, and what is in the list is a release
-  in_list : (from : ℕ) → Any (λ number. (job_at jobs number).release ≡ from) (numbers_of jobs) → Contains releases from
-  in_list from some =
-      let job = any_of_all (λ job. job.release ≡ from) jobs some in
-      Contains-permutation (map (λ (one : Job). one.release) jobs) releases from same_releases (
-        job.0,
-        omega (arith, length-map jobs (λ (one : Job). one.release), job.2),
-        get_or-map (λ (one : Job). one.release) jobs job.0 job.1 from job.2 ∙ (ap (λ (one : Job). one.release) job.3 ∙ job.4),
-      )
-
-  of_list : (from : ℕ) → Contains releases from → Any (λ number. (job_at jobs number).release ≡ from) (numbers_of jobs)
-  of_list from there =
-      let here = Contains-permutation releases (map (λ (one : Job). one.release) jobs) from
-      (IsPermutation-sym (map (λ (one : Job). one.release) jobs) releases same_releases) there in
-      let below : here.0 < length jobs = omega (arith, length-map jobs (λ (one : Job). one.release), here.1) in
-      number_of_any (λ job. job.release ≡ from) jobs (
-        here.0,
-        job_at jobs here.0,
-        below,
-        get_or_default jobs here.0 (job_at jobs here.0) no_job below,
-        sym (get_or-map (λ (one : Job). one.release) jobs here.0 no_job from below) ∙ here.2,
-      )
-
-  deadline_of : (to : ℕ) → Any (λ (job : Job). job.deadline ≡ to) sorted → Any (λ number. (job_at jobs number).deadline ≡ to) (numbers_of jobs)
-  deadline_of to (k, job, within, is, due) =
-      let here = Contains-permutation sorted jobs job (IsPermutation-sym jobs sorted same) (k, within, is) in
-      number_of_any (λ one. one.deadline ≡ to) jobs (here.0, job, here.1, here.2, due)
-
-  -- none of them begins an overfull interval
-  pub no_release : (i : ℕ) → length releases ≤ i → ((k : ℕ) → k < i → HasRoomFrom top sorted (get_or releases k 0)) → HasRoom top jobs
-  no_release i all room from to full =
-      let there = in_list from full.is_release in
-      let same_from : get_or releases there.0 0 ≡ from = get_or_default releases there.0 0 from there.1 ∙ there.2 in
-      absurd (omega (
-        arith,
-        full.too_much,
-        sorted_work from to,
-        subst (λ (s : ℕ). HasRoomFrom top sorted s) same_from (room there.0 (omega (arith, all, there.1))) to full.forward,
-      ))
-
-  -- the first that does
-  pub first_release : (i from to : ℕ) → i < length releases → from ≡ get_or releases i from → IsNonDecreasing releases →
-      ((k : ℕ) → k < i → HasRoomFrom top sorted (get_or releases k 0)) → IsFirstEnd top sorted from to →
-      IsFirstOverfull jobs top (numbers_of jobs) from to
-  first_release i from to within is rising room ends = record {
-    overfull = record {
-      forward = ends.forward;
-      is_release = of_list from (i, within, sym is);
-      is_deadline = deadline_of to ends.is_deadline;
-      too_much = omega (arith, ends.too_much, sorted_work from to);
-    };
-    first = λ other_from other_to full.
-        let there = in_list other_from full.is_release in
-        let same_from : get_or releases there.0 0 ≡ other_from = get_or_default releases there.0 0 other_from there.1 ∙ there.2 in
-        elim (cases_lt there.0 i) [
-          | inl earlier ↦ absurd (omega (
-            arith,
-            full.too_much,
-            sorted_work other_from other_to,
-            subst (λ (s : ℕ). HasRoomFrom top sorted s) same_from (room there.0 earlier) other_to full.forward,
-          ))
-          | inr later ↦ elim (cases_lt from other_from) [
-            | inl less ↦ inl less
-            | inr more ↦
-                let equal : from ≡ other_from = omega (arith, rising i there.0 from later there.1, get_or_default releases there.0 from 0 there.1, same_from, is, more) in
-                inr (
-                  equal,
-                  elim (cases_lt other_to to) [
-                    | inr late ↦ late
-                    | inl early ↦ absurd (omega (
-                      arith,
-                      subst (λ (s : ℕ). top * (other_to - s) < work_in sorted s other_to) (sym equal) (omega (arith, full.too_much, sorted_work other_from other_to)),
-                      ends.first other_to (omega (arith, equal, full.forward)) early,
-                    ))
-                  ],
-                )
-          ]
-        ];
-  }

@@ -19,8 +19,31 @@ use Rattle.yds_admit.proofs.GoingOn.{ended}
 -- # What a chain says of the units that went on before it
 
 module _ (m : ℕ) (reach due_by done : ℕ → ℕ) (gaps : List ℕ) (chain : IsChain m reach due_by done gaps 0 0) where
-  step_is : (q : ℕ) → q < m → done q + reach (q + 1) ≡ done (q + 1) + reach q + get_or gaps q 0
+  pub step_is : (q : ℕ) → q < m → done q + reach (q + 1) ≡ done (q + 1) + reach q + get_or gaps q 0
   step_is q below = omega (arith, chain.steps q below, ap {B = ℕ} (λ b. cond b 0 0) (ne_eqb (q + 1) 0 (λ e. omega (arith, e))))
+
+  -- between two places at most what the top speed does there
+  pub no_more : (p more : ℕ) → p + more ≤ m → done (p + more) + reach p ≤ done p + reach (p + more)
+  no_more p zero within = let e : p + zero ≡ p = omega arith in omega (arith, ap done e, ap reach e)
+  no_more p (suc more) within =
+      let e : p + more + 1 ≡ p + suc more = omega arith in
+      omega (arith, no_more p more (omega arith), step_is (p + more) (omega arith), ap done e, ap reach e)
+
+  -- none was done by a place where nothing was taken before it
+  pub none_before : (full : List ℕ) (last : ℕ) → last ≤ m → ((q : ℕ) → q < m → get_or full q 0 + reach q ≡ reach (q + 1)) →
+      ((q : ℕ) → q < last → get_or gaps q 0 ≡ get_or full q 0) → done last ≡ done 0
+  none_before full zero within each same = refl
+  none_before full (suc last) within each same =
+      let e : last + 1 ≡ suc last = omega arith in
+      omega (
+        arith,
+        none_before full last (omega arith) each (λ q less. same q (omega arith)),
+        step_is last (omega arith),
+        each last (omega arith),
+        same last (omega arith),
+        ap done e,
+        ap reach e,
+      )
 
   -- at least the greatest number of units that are due beyond what the top speed does ..
   pub at_least : (q : ℕ) → q ≤ m → done q + reach 0 ≤ done 0 + reach q
@@ -151,15 +174,16 @@ module _ (top due : ℕ) (jobs : List Job) (times : List ℕ) (m : ℕ) (long : 
       pub chain : IsChain m (reach top due jobs times m) (due_units top due jobs times m (n + 1)) done new 0 0
       pub passed_is : passed ≡ done 0
 
-    pub goes_through : (gaps new : List ℕ) (passed result : ℕ) (from : Option ℕ) → Swept top due jobs times m n gaps passed from →
+    pub goes_through : (done : ℕ → ℕ) (gaps new : List ℕ) (passed result : ℕ) →
+        IsChain m (reach top due jobs times m) (due_units top due jobs times m n) done gaps 0 0 → passed ≡ done 0 →
         Takes gaps place job.work new 0 result → Passed new (passed + result)
-    goes_through gaps new passed result from swept takes =
-        let reached = takes.chain m (reach top due jobs times m) (due_units top due jobs times m (n + 1)) (λ q. swept.done q + cond (nat_le place q) job.work 0)
-        (loaded swept.done gaps swept.chain) in
+    goes_through done gaps new passed result chain passed_is takes =
+        let reached = takes.chain m (reach top due jobs times m) (due_units top due jobs times m (n + 1)) (λ q. done q + cond (nat_le place q) job.work 0)
+        (loaded done gaps chain) in
         record {
           done = reached.0;
           chain = ended m (reach top due jobs times m) (due_units top due jobs times m (n + 1)) reached.0 new 0 result 0 reached.1 (inr refl);
-          passed_is = omega (arith, swept.passed_is, reached.2, at_first place job.work);
+          passed_is = omega (arith, passed_is, reached.2, at_first place job.work);
         }
 
     module _ (first : get_or times 0 0 ≡ due) (new : List ℕ) (passed : ℕ) (went : Passed new passed) where
@@ -274,7 +298,7 @@ module _ (top due : ℕ) (jobs others : List Job) (times : List ℕ) (m : ℕ) (
       )))
 
   -- the work in an interval from a release is that of the jobs up to the last one with that release
-  work_of_front : (k from to : ℕ) → k < length jobs → from ≤ (job_at jobs k).release → ((i : ℕ) → k < i → i < length jobs → (job_at jobs i).release < from) →
+  pub work_of_front : (k from to : ℕ) → k < length jobs → from ≤ (job_at jobs k).release → ((i : ℕ) → k < i → i < length jobs → (job_at jobs i).release < from) →
       work_in jobs from to ≡ due_work (take (k + 1) jobs) to
   work_of_front k from to within released last =
       omega (
@@ -340,7 +364,7 @@ module _ (top due : ℕ) (jobs others : List Job) (times : List ℕ) (m : ℕ) (
       )
 
   -- the last job with a release, and that it fits
-  last_with : (from : ℕ) → Any (λ (job : Job). job.release ≡ from) jobs →
+  pub last_with : (from : ℕ) → Any (λ (job : Job). job.release ≡ from) jobs →
       (k : ℕ) × (k < length jobs) × (from ≡ (job_at jobs k).release) × ((i : ℕ) → k < i → i < length jobs → (job_at jobs i).release < from)
   last_with from some =
       let j = some.0 in

@@ -1,7 +1,8 @@
 -- The times of a chain, deadline by deadline.
 use Rattle.std.proofs.Common.{◌≡◌, ℕ, ◌+◌, ◌-◌, ◌*◌, ◌<◌, ◌≤◌, List, [], ◌∷◌, ◌++◌, length, get_or, take, ◌∙◌, refl, subst, arith, inl, inr, ap}
 use Rattle.std.specs.List.{All, Contains}
-use Rattle.std.specs.List.Sorted.{IsNonDecreasing, IsNonDecreasingBy}
+use Rattle.std.specs.List.Sorted.{IsPermutation, IsNonDecreasing, IsNonDecreasingBy}
+use Rattle.std.proofs.lemmas.List.Sorted.{All-permutation}
 use Rattle.std.proofs.lemmas.Bool.{cases_lt}
 use Rattle.std.proofs.lemmas.List.{length_push, get_or_push, get_or_append_left, take_all}
 use Rattle.std.proofs.lemmas.List.Elements.{All-nil, All-cons, All-more, Contains-append_left, Contains-push}
@@ -113,3 +114,12 @@ gap_pushed top times gaps next product some long is rising each q below = elim (
         ap (λ n. top * get_or times n 0) there,
       )
 ]
+
+-- the times of jobs in another order
+pub same_times : (due : ℕ) (jobs others : List Job) (times : List ℕ) → IsPermutation others jobs → AreTimes due others times → AreTimes due jobs times
+same_times due jobs others times same are = record {
+  some = are.some;
+  first = are.first;
+  rising = are.rising;
+  all = All-permutation (λ (job : Job). due < job.deadline → Contains times job.deadline) others jobs same are.all;
+}

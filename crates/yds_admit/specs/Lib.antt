@@ -1,4 +1,6 @@
 pub mod Interval
 pub mod Serving
-pub mod Decision
 pub mod Chain
+pub mod Board
+pub mod Orders
+pub mod Decision

@@ -1,4 +1,4 @@
-ghost use Rattle.std.specs.Prelude.{◌≡◌, ℕ, ◌+◌, ◌-◌, ◌*◌, ◌<◌, ◌≤◌, IfOk, MatchOption, List, length, slice_index};
+ghost use Rattle.std.specs.Prelude.{◌≡◌, ℕ, ◌+◌, ◌-◌, ◌*◌, ◌<◌, ◌≤◌, ◌⊎◌, IfOk, MatchOption, List, length, slice_index};
 ghost use Rattle.std.specs.List.{range_with_len};
 ghost use Rattle.std.specs.List.Sorted.{IsPermutation, IsNonDecreasing, IsNonDecreasingBy};
 ghost use Rattle.yds_admit.specs.Chain.{IsFalling, AreTimes, Takes, IsLeastFrom, NoFrom, AreLinks, AreEmpty};
@@ -37,7 +37,7 @@ pub(crate) fn least_from(
     let mut from = None;
     for job in by_release {
         let place = place(&times, job.deadline);
-        passed += take(gaps, links, place, u64::from(job.work));
+        passed += take(gaps, links, place, 0, u64::from(job.work));
         if job.release < due && passed > u64::from(top) * u64::from(due - job.release) {
             from = Some(job.release);
         }
@@ -46,7 +46,7 @@ pub(crate) fn least_from(
 }
 
 /// `due` and the deadlines after it.
-fn times(alloc: Global, by_deadline: &[JobRow], due: u32) -> Result<Vec<u32>, Memory>
+pub(crate) fn times(alloc: Global, by_deadline: &[JobRow], due: u32) -> Result<Vec<u32>, Memory>
     requires { IsNonDecreasingBy (λ job. job.deadline) by_deadline.now }
     ensures { IfOk result (λ times. AreTimes due by_deadline.now times.items) }
 {
@@ -61,7 +61,7 @@ fn times(alloc: Global, by_deadline: &[JobRow], due: u32) -> Result<Vec<u32>, Me
 }
 
 /// The work that the top speed does between each time and the next.
-fn gaps(alloc: Global, times: &[u32], top: u32) -> Result<Vec<u64>, Memory>
+pub(crate) fn gaps(alloc: Global, times: &[u32], top: u32) -> Result<Vec<u64>, Memory>
     requires some { 1 ≤ length times.now }
     requires rising { IsNonDecreasing times.now }
     ensures as_long { IfOk result (λ gaps. length gaps.items + 1 ≡ length times.now) }
@@ -76,7 +76,7 @@ fn gaps(alloc: Global, times: &[u32], top: u32) -> Result<Vec<u64>, Memory>
 }
 
 /// How many of the times come before this one.
-fn place(times: &[u32], time: u32) -> usize
+pub(crate) fn place(times: &[u32], time: u32) -> usize
     requires { IsNonDecreasing times.now }
     ensures within { result ≤ length times.now }
     ensures before { (q : ℕ) → q < result → slice_index times.now q < time }
@@ -85,17 +85,24 @@ fn place(times: &[u32], time: u32) -> usize
     times.partition_point(|other| *other < time)
 }
 
-/// Takes so many units from the gaps before this place, from the last one on. Answers how many are left when there is no gap more.
+/// Takes so many units from the gaps before this place, from the last one on, down to the lowest gap. Answers how many are left.
 /// Gaps of which nothing is left are jumped over by their links.
-fn take(gaps: &mut [u64], links: &mut [usize], place: usize, units: u64) -> u64
+pub(crate) fn take(
+    gaps: &mut [u64],
+    links: &mut [usize],
+    place: usize,
+    lowest: usize,
+    units: u64,
+) -> u64
     requires within { place ≤ length gaps.old }
     requires links { AreLinks gaps.old links.old }
-    ensures takes { Takes gaps.old place units gaps.new 0 result }
+    ensures takes { result ≡ 0 ⊎ lowest ≡ 0 → Takes gaps.old place units gaps.new 0 result }
+    ensures kept { (q : ℕ) → q < lowest → slice_index gaps.new q ≡ slice_index gaps.old q }
     ensures links { AreLinks gaps.new links.new }
 {
     let mut left = units;
     let mut place = last_open(links, place);
-    while left > 0 && place > 0 {
+    while left > 0 && place > lowest {
         place -= 1;
         let taken = left.min(gaps[place]);
         gaps[place] -= taken;
@@ -125,7 +132,7 @@ fn last_open(links: &mut [usize], place: usize) -> usize
 }
 
 /// Each place with a link to itself.
-fn own_links(alloc: Global, count: usize) -> Result<Vec<usize>, AllocError>
+pub(crate) fn own_links(alloc: Global, count: usize) -> Result<Vec<usize>, AllocError>
     ensures { IfOk result (λ links. links.items ≡ range_with_len 0 count) }
 {
     (0..count).collect(alloc)

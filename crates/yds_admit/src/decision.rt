@@ -1,13 +1,24 @@
-ghost use Rattle.std.specs.Prelude.{◌≤◌, IfOk, length};
+ghost use Rattle.std.specs.Prelude.{◌≡◌, ◌+◌, ◌*◌, ◌<◌, ◌≤◌, ◌++◌, ◌∷◌, [], IfOk, length, take, drop};
+ghost use Rattle.yds_model.specs.Job.{job_at};
+ghost use Rattle.yds_model.specs.Policy.{numbers_of};
+ghost use Rattle.yds_model.specs.Admission.{IsFirstOverfull};
 ghost use Rattle.yds_laws.specs.AdmissionLaws.{HasRoom};
-ghost use Rattle.yds_admit.specs.Decision.{IsDecision};
+ghost use Rattle.yds_admit.specs.Board.{IsBoard, IsMarked};
+ghost use Rattle.yds_admit.specs.Decision.{IsDecision, IsState};
+ghost use Rattle.yds_admit.specs.Orders.{AreOrdered};
+ghost use Rattle.yds_admit.specs.Interval.{work_in};
 
-use crate::interval::{first_overfull, newly_overfull, work_between};
+use crate::board::Board;
+use crate::interval::{by_deadline, by_release, newly_overfull, work_between};
 use crate::refusal::Refusal;
+use crate::run::{fit, marked};
 use crate::standing::{with_deadline, with_release};
 use std::alloc::Global;
 use yds_model::limits::{MAX_JOBS, MAX_TOP};
 use yds_model::{JobRow, Memory};
+
+/// Runs of at most so many jobs are decided one by one.
+const SHORT_RUN: usize = 8;
 
 /// Which jobs are admitted, and why the others aren't.
 #[derive(Drop)]
@@ -20,80 +31,235 @@ pub(crate) struct Decision {
     pub(crate) refused: Vec<Refusal>,
 }
 
-/// Admits all jobs where they leave no interval overfull together, and else one by one.
+/// What is decided of the first jobs.
+#[derive(Drop)]
+struct State {
+    /// How many they are.
+    next: usize,
+    taken: Vec<u32>,
+    jobs: Vec<JobRow>,
+    refused: Vec<Refusal>,
+    /// Of each of all jobs, whether it is admitted.
+    marks: Vec<bool>,
+    /// The admitted jobs by falling releases.
+    by_release: Vec<JobRow>,
+    /// The admitted jobs by rising deadlines.
+    by_deadline: Vec<JobRow>,
+}
+
+/// Admits a run of jobs as a whole where they leave no interval overfull beside the jobs admitted before, and a short run job by job.
+/// After a run that was admitted one of twice the length is tried, and in place of one that wasn't one of half the length.
 pub(crate) fn decide(alloc: Global, rows: &[JobRow], top: u32) -> Result<Decision, Memory>
     requires few { length rows.now ≤ MAX_JOBS }
     requires some_top { 1 ≤ top }
     requires top_in_range { top ≤ MAX_TOP }
     ensures { IfOk result (λ decision. IsDecision rows.now top decision.taken.items decision.jobs.items decision.refused.items) }
 {
-    match first_overfull(alloc, rows, top)? {
-        None => all(alloc, rows, top),
-        Some(_) => one_by_one(alloc, rows, top),
-    }
-}
-
-/// Admits all jobs, which leave no interval overfull. The top speed stands for the contract alone.
-fn all(alloc: Global, rows: &[JobRow], _top: u32) -> Result<Decision, Memory>
-    requires few { length rows.now ≤ MAX_JOBS }
-    requires some_top { 1 ≤ _top }
-    requires room { HasRoom _top rows.now }
-    ensures { IfOk result (λ decision. IsDecision rows.now _top decision.taken.items decision.jobs.items decision.refused.items) }
-{
-    let mut taken = Vec::new(alloc);
-    for (number, row) in rows.iter().enumerate() {
-        // Reading the row shows that it is a job within the limits.
-        let _work = row.work;
-        taken.push(number as u32)?;
+    let board = Board::new(alloc, rows, top)?;
+    let mut state = begin(alloc, rows, top)?;
+    let mut wanted = rows.len();
+    while state.next < rows.len() {
+        let count = run(alloc, rows, &board, &mut state, wanted, top)?;
+        wanted = if count > 0 {
+            2 * count
+        } else {
+            one_by_one(alloc, rows, &mut state, top)?
+        };
     }
     Ok(Decision {
-        taken,
-        jobs: Vec::from_slice(alloc, rows)?,
-        refused: Vec::new(alloc),
+        taken: state.taken,
+        jobs: state.jobs,
+        refused: state.refused,
     })
 }
 
-/// Admits, in order, each job that leaves no interval overfull beside the jobs admitted before it.
-fn one_by_one(alloc: Global, rows: &[JobRow], top: u32) -> Result<Decision, Memory>
+/// Nothing is decided yet. The top speed stands for the contract alone.
+fn begin(alloc: Global, rows: &[JobRow], _top: u32) -> Result<State, Memory>
+    ensures state { IfOk result (λ state. IsState rows.now _top state) }
+    ensures nothing { IfOk result (λ state. state.next ≡ 0) }
+{
+    Ok(State {
+        next: 0,
+        taken: Vec::new(alloc),
+        jobs: Vec::new(alloc),
+        refused: Vec::new(alloc),
+        marks: vec![in alloc; false; rows.len()]?,
+        by_release: Vec::new(alloc),
+        by_deadline: Vec::new(alloc),
+    })
+}
+
+/// Admits the longest of the next runs of this length, half of it, a quarter and so on that leaves no interval overfull beside the
+/// admitted jobs. Answers how many they are: 0 where only a short run is left to try.
+fn run(
+    alloc: Global,
+    rows: &[JobRow],
+    board: &Board,
+    state: &mut State,
+    wanted: usize,
+    top: u32,
+) -> Result<usize, Memory>
     requires few { length rows.now ≤ MAX_JOBS }
     requires some_top { 1 ≤ top }
     requires top_in_range { top ≤ MAX_TOP }
-    ensures { IfOk result (λ decision. IsDecision rows.now top decision.taken.items decision.jobs.items decision.refused.items) }
+    requires board { IsBoard rows.now top board.now.times.items board.now.gaps.items board.now.spots.items }
+    requires state { IsState rows.now top state.old }
+    ensures state { IfOk result (λ count. IsState rows.now top state.new) }
+    ensures more { IfOk result (λ count. state.new.next ≡ state.old.next + count) }
+    ensures short { IfOk result (λ count. count ≤ length rows.now) }
 {
-    let mut taken = Vec::new(alloc);
-    let mut jobs = Vec::new(alloc);
-    let mut by_release = Vec::new(alloc);
-    let mut by_deadline = Vec::new(alloc);
-    let mut refused = Vec::new(alloc);
-    for (number, row) in rows.iter().enumerate() {
-        let job = number as u32;
+    let mut count = wanted.min(rows.len() - state.next);
+    while count > SHORT_RUN {
+        let last = state.next + count;
+        let marks = marked(alloc, &state.marks, rows, state.next, last)?;
+        if fit(alloc, rows, board, &marks, top)? {
+            take_all(alloc, rows, state, last, marks, top)?;
+            return Ok(count);
+        }
+        count /= 2;
+    }
+    Ok(0)
+}
+
+/// Admits the next jobs up to the last, which leave no interval overfull beside the admitted ones. They are marked.
+fn take_all(
+    alloc: Global,
+    rows: &[JobRow],
+    state: &mut State,
+    last: usize,
+    marks: Vec<bool>,
+    _top: u32,
+) -> Result<(), Memory>
+    requires few { length rows.now ≤ MAX_JOBS }
+    requires some_top { 1 ≤ _top }
+    requires state { IsState rows.now _top state.old }
+    requires order { state.old.next ≤ last }
+    requires within { last ≤ length rows.now }
+    requires marks { IsMarked rows.now last marks.items (state.old.jobs.items ++ drop state.old.next (take last rows.now)) }
+    requires room { HasRoom _top (state.old.jobs.items ++ drop state.old.next (take last rows.now)) }
+    ensures state { IfOk result (λ _. IsState rows.now _top state.new) }
+    ensures last { IfOk result (λ _. state.new.next ≡ last) }
+{
+    for number in state.next..last {
+        let row = &rows[number];
         // Reading the row shows that it is a job within the limits.
         let _work = row.work;
-        jobs.push(*row)?;
-        let releases = with_release(alloc, &by_release, row)?;
-        let deadlines = with_deadline(alloc, &by_deadline, row)?;
-        match newly_overfull(alloc, &jobs, &releases, &deadlines, top)? {
-            None => {
-                taken.push(job)?;
-                by_release = releases;
-                by_deadline = deadlines;
-            }
-            Some((from, to)) => {
-                let work = work_between(&jobs, from, to);
-                // The refused job competes with no later one.
-                jobs.truncate(taken.len());
-                refused.push(Refusal {
-                    job,
-                    from,
-                    to,
-                    work,
-                })?;
-            }
+        state.taken.push(number as u32)?;
+        state.jobs.push(*row)?;
+    }
+    state.by_release = by_release(alloc, &state.jobs)?;
+    state.by_deadline = by_deadline(alloc, &state.jobs)?;
+    state.marks = marks;
+    state.next = last;
+    Ok(())
+}
+
+/// Decides a short run job by job. Answers how long a run is to be tried next: a longer one where none of them was refused.
+fn one_by_one(alloc: Global, rows: &[JobRow], state: &mut State, top: u32) -> Result<usize, Memory>
+    requires few { length rows.now ≤ MAX_JOBS }
+    requires some_top { 1 ≤ top }
+    requires top_in_range { top ≤ MAX_TOP }
+    requires state { IsState rows.now top state.old }
+    requires more { state.old.next < length rows.now }
+    ensures state { IfOk result (λ _. IsState rows.now top state.new) }
+    ensures more { IfOk result (λ _. state.old.next < state.new.next) }
+    ensures short { IfOk result (λ wanted. wanted ≤ 2 * SHORT_RUN) }
+{
+    let refused = state.refused.len();
+    let count = SHORT_RUN.min(rows.len() - state.next);
+    for _ in 0..count {
+        decide_next(alloc, rows, state, top)?;
+    }
+    Ok(if state.refused.len() > refused {
+        SHORT_RUN
+    } else {
+        2 * SHORT_RUN
+    })
+}
+
+/// Admits the next job where it leaves no interval overfull beside the admitted ones, or refuses it.
+fn decide_next(alloc: Global, rows: &[JobRow], state: &mut State, top: u32) -> Result<(), Memory>
+    requires few { length rows.now ≤ MAX_JOBS }
+    requires some_top { 1 ≤ top }
+    requires top_in_range { top ≤ MAX_TOP }
+    requires state { IsState rows.now top state.old }
+    requires more { state.old.next < length rows.now }
+    ensures state { IfOk result (λ _. IsState rows.now top state.new) }
+    ensures next { IfOk result (λ _. state.new.next ≡ state.old.next + 1) }
+{
+    let row = &rows[state.next];
+    // Reading the row shows that it is a job within the limits.
+    let _work = row.work;
+    let releases = with_release(alloc, &state.by_release, row)?;
+    let deadlines = with_deadline(alloc, &state.by_deadline, row)?;
+    match newly_overfull(alloc, &state.jobs, row, &releases, &deadlines, top)? {
+        None => take_next(rows, state, releases, deadlines, top),
+        Some((from, to)) => {
+            let work = work_between(&deadlines, from, to);
+            refuse_next(rows, state, from, to, work, top)
         }
     }
-    Ok(Decision {
-        taken,
-        jobs,
-        refused,
-    })
+}
+
+/// Admits the next job, which leaves no interval overfull beside the admitted ones.
+fn take_next(
+    rows: &[JobRow],
+    state: &mut State,
+    by_release: Vec<JobRow>,
+    by_deadline: Vec<JobRow>,
+    _top: u32,
+) -> Result<(), Memory>
+    requires few { length rows.now ≤ MAX_JOBS }
+    requires some_top { 1 ≤ _top }
+    requires state { IsState rows.now _top state.old }
+    requires more { state.old.next < length rows.now }
+    requires ordered { AreOrdered (state.old.jobs.items ++ job_at rows.now state.old.next ∷ []) by_release.items by_deadline.items }
+    requires room { HasRoom _top (state.old.jobs.items ++ job_at rows.now state.old.next ∷ []) }
+    ensures state { IfOk result (λ _. IsState rows.now _top state.new) }
+    ensures next { IfOk result (λ _. state.new.next ≡ state.old.next + 1) }
+{
+    let number = state.next;
+    let row = &rows[number];
+    // Reading the row shows that it is a job within the limits.
+    let _work = row.work;
+    state.taken.push(number as u32)?;
+    state.jobs.push(*row)?;
+    state.marks[number] = true;
+    state.by_release = by_release;
+    state.by_deadline = by_deadline;
+    state.next = number + 1;
+    Ok(())
+}
+
+/// Refuses the next job, which leaves an interval overfull beside the admitted ones: this is the first.
+fn refuse_next(
+    rows: &[JobRow],
+    state: &mut State,
+    from: u32,
+    to: u32,
+    work: u64,
+    _top: u32,
+) -> Result<(), Memory>
+    requires few { length rows.now ≤ MAX_JOBS }
+    requires some_top { 1 ≤ _top }
+    requires state { IsState rows.now _top state.old }
+    requires more { state.old.next < length rows.now }
+    requires first { let jobs = state.old.jobs.items ++ job_at rows.now state.old.next ∷ []
+        in IsFirstOverfull jobs _top (numbers_of jobs) from to }
+    requires work { work ≡ work_in (state.old.jobs.items ++ job_at rows.now state.old.next ∷ []) from to }
+    ensures state { IfOk result (λ _. IsState rows.now _top state.new) }
+    ensures next { IfOk result (λ _. state.new.next ≡ state.old.next + 1) }
+{
+    let number = state.next;
+    // Reading the row shows that it is a job within the limits.
+    let row = &rows[number];
+    let _work = row.work;
+    state.refused.push(Refusal {
+        job: number as u32,
+        from,
+        to,
+        work,
+    })?;
+    state.next = number + 1;
+    Ok(())
 }

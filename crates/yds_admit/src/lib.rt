@@ -8,10 +8,12 @@
 #![tactic(auto)]
 
 mod admission;
+mod board;
 mod chain;
 mod decision;
 mod interval;
 mod refusal;
+mod run;
 mod serving;
 mod standing;
 

@@ -1,11 +1,11 @@
 -- The jobs in three parts: those that are over and those that are to come have no part of the stretch.
-use Rattle.std.proofs.Common.{◌≡◌, ℕ, ◌+◌, ◌-◌, ◌*◌, ◌%◌, ◌<◌, ◌≤◌, List, [], ◌∷◌, ◌++◌, length, get_or, take, drop, ◌∙◌, refl, sym, ap, arith, inl, inr, cond, false}
-use Rattle.std.specs.Prelude.{Bool, ◌&&◌, ◌||◌, ◌==◌, not, All, sum_by, filter}
+use Rattle.std.proofs.Common.{◌≡◌, ℕ, ◌+◌, ◌-◌, ◌*◌, ◌%◌, ◌<◌, ◌≤◌, List, [], ◌∷◌, ◌++◌, length, get_or, take, drop, ◌∙◌, refl, sym, ap, arith, inl, inr, cond, true, false}
+use Rattle.std.specs.Prelude.{Bool, ◌&&◌, ◌||◌, ◌==◌, not, nat_lt, nat_le, All, sum_by, filter}
 use Rattle.std.specs.List.{swap, list_any}
 use Rattle.std.specs.List.Sorted.{IsPermutation}
 use Rattle.std.proofs.Math.Nat.{mod-lt, mul-le-mul_left}
 use Rattle.std.proofs.lemmas.Nat.{div-add-mod'}
-use Rattle.std.proofs.lemmas.Bool.{cases_lt, cases_eq, cases_Bool, le-leb, lt-leb, le-ltb}
+use Rattle.std.proofs.lemmas.Bool.{cases_lt, cases_eq, cases_Bool, le-leb, lt-leb, lt-ltb, le-ltb}
 use Rattle.std.proofs.lemmas.List.{take-append-drop, get_or-take, get_or-drop, length-take, length-drop, length-map, append-nil, take_all, drop_all}
 use Rattle.std.proofs.lemmas.List.Edits.{swapped_from_swap}
 use Rattle.std.proofs.lemmas.List.Sums.{sum_by-cons}
@@ -22,10 +22,21 @@ use Rattle.yds_events.specs.Stretch.{IsOutside}
 use Rattle.yds_events.proofs.Neighbours.{stretch_begins, stretch_next}
 use Rattle.yds_events.proofs.Times.{not_later}
 use Rattle.yds_edf.proofs.Numbers.{sum_filter}
-use Rattle.yds_edf.proofs.Parts.{filter_none}
+use Rattle.yds_edf.proofs.Parts.{filter_none, filter_all}
 use Rattle.yds_avr.specs.declared.rate.Rate.{Rate}
-use Rattle.yds_avr.specs.Rate.{rate_of, units_of, rate_live, rate_term, rate_rounds, rates_together, some_rounds, IsRate}
-use Rattle.yds_avr.specs.Live.{no_rate, rate_at, rates_of, AreOver, AreRising, ArePartsBefore}
+use Rattle.yds_avr.specs.Rate.{rate_of, units_of, rate_term, rate_rounds, IsRate, IsLive}
+use Rattle.yds_avr.specs.Live.{no_rate, rate_at, rates_of, AreCome, AreOver, AreNotOver, HaveRisingReleases, ArePartsBefore}
+
+-- the stretch lies in the job's window
+abbrev pub rate_live : Piece → Rate → Bool
+rate_live stretch rate = nat_le rate.release stretch.from && nat_lt stretch.from rate.deadline
+
+-- the parts of the live jobs together, and whether one isn't whole
+abbrev pub rates_together : List Rate → Piece → ℕ
+rates_together rates stretch = sum_by (rate_term stretch) (filter (rate_live stretch) rates)
+
+abbrev pub some_rounds : List Rate → Piece → Bool
+some_rounds rates stretch = list_any (rate_rounds stretch) (filter (rate_live stretch) rates)
 
 -- # Those that are over go to the front
 
@@ -34,6 +45,8 @@ pub record IsPutBack (initial order : List Rate) (arrived time over place : ℕ)
   pub same : IsPermutation initial order
   pub parted : over ≤ place
   pub done : AreOver order over time
+  pub come : AreCome order arrived time
+  pub live : AreNotOver order over place time
   pub rest : (other : ℕ) → arrived ≤ other → rate_at order other ≡ rate_at initial other
 
 pub put_back : (initial xs ys : List Rate) (arrived time over place : ℕ) → place < arrived → arrived ≤ length initial → IsPutBack initial xs arrived time over place →
@@ -55,13 +68,44 @@ put_back initial xs ys arrived time over place before within so due is =
           ap (λ (rate : Rate). rate.deadline) (swapped.2 other (λ (at : other ≡ place). beside (omega arith)) beside),
         )
       ];
+      come = λ other less. elim (cases_eq other over) [
+        | inl here ↦ omega (arith, so.come place before, ap (λ (k : ℕ). (rate_at ys k).release) here, ap (λ (rate : Rate). rate.release) swapped.1)
+        | inr beside ↦ elim (cases_eq other place) [
+          | inl there ↦ omega (arith, so.come over (omega arith), ap (λ (k : ℕ). (rate_at ys k).release) there, ap (λ (rate : Rate). rate.release) swapped.0)
+          | inr apart ↦ omega (arith, so.come other less, ap (λ (rate : Rate). rate.release) (swapped.2 other apart beside))
+        ]
+      ];
+      live = λ other from less. elim (cases_eq other place) [
+        | inl there ↦ omega (
+          arith,
+          so.live over (omega arith) (omega arith),
+          ap (λ (k : ℕ). (rate_at ys k).deadline) there,
+          ap (λ (rate : Rate). rate.deadline) swapped.0,
+        )
+        | inr apart ↦ omega (
+          arith,
+          so.live other (omega arith) (omega arith),
+          ap (λ (rate : Rate). rate.deadline) (swapped.2 other apart (λ (at : other ≡ over). absurd (omega arith))),
+        )
+      ];
       rest = λ other most. swapped.2 other (λ (at : other ≡ place). absurd (omega arith)) (λ (at : other ≡ over). absurd (omega arith)) ∙ so.rest other most;
     }
 
-pub left_there : (initial xs : List Rate) (arrived time over place : ℕ) → IsPutBack initial xs arrived time over place → IsPutBack initial xs arrived time over (place + 1)
-left_there initial xs arrived time over place so =
+pub left_there : (initial xs : List Rate) (arrived time over place : ℕ) → IsPutBack initial xs arrived time over place → time < (rate_at xs place).deadline →
+    IsPutBack initial xs arrived time over (place + 1)
+left_there initial xs arrived time over place so later =
     let parted = so.parted in
-    record { same = so.same; parted = omega arith; done = so.done; rest = so.rest }
+    record {
+      same = so.same;
+      parted = omega arith;
+      done = so.done;
+      come = so.come;
+      live = λ other from less. elim (cases_eq other place) [
+        | inl here ↦ omega (arith, later, ap (λ (k : ℕ). (rate_at xs k).deadline) here)
+        | inr apart ↦ so.live other from (omega arith)
+      ];
+      rest = so.rest;
+    }
 
 -- # What is live stands in the middle
 
@@ -171,19 +215,28 @@ is_rate grid in_range job is = record {
   few = omega (arith, units_same grid job, mul-le-mul_left grid is.work_in_range, in_range);
 }
 
-pub are_rates : (grid : ℕ) (jobs : List Job) → grid ≤ MAX_GRID → All IsJob jobs → All IsRate (rates_of grid jobs)
+are_rates : (grid : ℕ) (jobs : List Job) → grid ≤ MAX_GRID → All IsJob jobs → All IsRate (rates_of grid jobs)
 are_rates grid jobs in_range are = All-map IsRate (rate_of grid) jobs (All-weaker IsJob (λ job. IsRate (rate_of grid job)) (is_rate grid in_range) jobs are)
 
-pub rates_outside : (grid : ℕ) (jobs : List Job) (stretch : Piece) → All (λ job. IsOutside stretch job.deadline) jobs → All (λ rate. IsOutside stretch rate.deadline) (rates_of grid jobs)
+rates_outside : (grid : ℕ) (jobs : List Job) (stretch : Piece) → All (λ job. IsOutside stretch job.deadline) jobs → All (λ rate. IsOutside stretch rate.deadline) (rates_of grid jobs)
 rates_outside grid jobs stretch outside = All-map (λ rate. IsOutside stretch rate.deadline) (rate_of grid) jobs outside
 
 -- those that are to come begin later, where the first of them does
-coming_later : (order : List Rate) (arrived : ℕ) (stretch : Piece) → AreRising order arrived →
+coming_later : (order : List Rate) (arrived : ℕ) (stretch : Piece) → HaveRisingReleases order arrived →
     (arrived < length order → stretch.from < (rate_at order arrived).release) → (place : ℕ) → arrived ≤ place → place < length order → stretch.from < (rate_at order place).release
 coming_later order arrived stretch rising next place most within =
     omega (arith, next (omega arith), rising arrived place (omega arith) most within)
 
 -- # A stretch's step
+
+-- those that had arrived before, and those that arrive now
+pub come_now : (jobs : List Job) (grid : ℕ) (order : List Rate) (over before arrived number : ℕ) (stretch : Piece) → ArePartsBefore jobs grid order over before number →
+    number < length (stretches jobs) → stretch ≡ stretch_at jobs number → ((place : ℕ) → before ≤ place → place < arrived → (rate_at order place).release ≤ stretch.from) →
+    AreCome order arrived stretch.from
+come_now jobs grid order over before arrived number stretch kept known nth more place less = elim (cases_lt place before) [
+  | inl earlier ↦ omega (arith, kept.come number (omega arith) known place earlier, ap (λ (piece : Piece). piece.from) nth)
+  | inr later ↦ more place later less
+]
 
 -- what the policy holds once those that have come have arrived, and those that are due have gone to the front
 pub record IsStep (jobs : List Job) (grid : ℕ) (old order : List Rate) (over_before arrived_before over arrived number : ℕ) (stretch : Piece) : Type 0 where
@@ -195,7 +248,9 @@ pub record IsStep (jobs : List Job) (grid : ℕ) (old order : List Rate) (over_b
   pub next : arrived < length old → stretch.from < (rate_at old arrived).release
   pub same : IsPermutation old order
   pub parted : over ≤ arrived
+  pub come : AreCome order arrived stretch.from
   pub done : AreOver order over stretch.from
+  pub live : AreNotOver order over arrived stretch.from
   pub rest : (place : ℕ) → arrived ≤ place → rate_at order place ≡ rate_at old place
 
 module _ (jobs : List Job) (grid : ℕ) (old order : List Rate) (over_before arrived_before over arrived number : ℕ) (stretch : Piece)
@@ -203,7 +258,7 @@ module _ (jobs : List Job) (grid : ℕ) (old order : List Rate) (over_before arr
   long : length order ≡ length old
   long = length_permutation old order step.same
 
-  rising : AreRising order arrived
+  rising : HaveRisingReleases order arrived
   rising one other from upto less =
       omega (
         arith,
@@ -231,6 +286,7 @@ module _ (jobs : List Job) (grid : ℕ) (old order : List Rate) (over_before arr
     same = permuted;
     parted = step.parted;
     within = omega (arith, step.within, long);
+    come = λ later from less place before. omega (arith, step.come place before, starts_later later (omega arith) less);
     done = λ later from less place before. omega (arith, step.done place before, starts_later later (omega arith) less);
     rising = rising;
   }
@@ -239,19 +295,48 @@ module _ (jobs : List Job) (grid : ℕ) (old order : List Rate) (over_before arr
   coming = coming_later order arrived stretch rising
       (λ less. omega (arith, step.next (omega (arith, less, long)), ap (λ (rate : Rate). rate.release) (step.rest arrived (omega arith))))
 
-  live_middle : filter (rate_live stretch) order ≡ filter (rate_live stretch) (middle order over arrived)
-  live_middle = filter_middle order over arrived stretch step.parted (omega (arith, step.within, long)) step.done coming
+  -- what is looked at is live
+  middle_place : (place : ℕ) → place < length (middle order over arrived) → (over + place < arrived) × (rate_at (middle order over arrived) place ≡ rate_at order (over + place))
+  middle_place place less =
+      let before : place < arrived - over = omega (arith, less, length-take (arrived - over) (drop over order)) in (
+        omega arith,
+        get_or-take (arrived - over) (drop over order) place no_rate before ∙ get_or-drop over order place no_rate,
+      )
 
-  pub middle_terms : rates_together (middle order over arrived) stretch ≡ terms_of jobs grid stretch
-  middle_terms =
-      sym (together_permuted (rates_of grid jobs) order stretch permuted ∙ ap (sum_by (rate_term stretch)) live_middle) ∙ terms_same grid stretch jobs
-
-  pub middle_rounds : some_rounds (middle order over arrived) stretch ≡ average_rate_rounds jobs grid stretch
-  middle_rounds =
-      sym (rounds_permuted (rates_of grid jobs) order stretch permuted ∙ ap (list_any (rate_rounds stretch)) live_middle) ∙ some_same grid stretch jobs
-
-  pub middle_all : (P : Rate → Type 0) → All P (rates_of grid jobs) → All P (middle order over arrived)
+  middle_all : (P : Rate → Type 0) → All P (rates_of grid jobs) → All P (middle order over arrived)
   middle_all P all = All-take P (arrived - over) (drop over order) (All-drop P over order (All-permutation P (rates_of grid jobs) order permuted all))
+
+  pub middle_live : grid ≤ MAX_GRID → All IsJob jobs → All (λ job. IsOutside stretch job.deadline) jobs → All (IsLive stretch) (middle order over arrived)
+  middle_live in_range are outside = All-from_get_or (IsLive stretch) (middle order over arrived) no_rate (λ place less.
+      let at = middle_place place less in
+      let release = ap (λ (rate : Rate). rate.release) at.1 in
+      let deadline = ap (λ (rate : Rate). rate.deadline) at.1 in
+      let later = step.live (over + place) (omega arith) at.0 in
+      record {
+        is_rate = middle_all IsRate (are_rates grid jobs in_range are) place no_rate less;
+        released = omega (arith, step.come (over + place) at.0, release);
+        due = elim (middle_all (λ rate. IsOutside stretch rate.deadline) (rates_outside grid jobs stretch outside) place no_rate less) [
+          | inl over ↦ absurd (omega (arith, over, later, deadline))
+          | inr until ↦ until
+        ];
+      })
+
+  live_passes : All (IsLive stretch) (middle order over arrived) → filter (rate_live stretch) order ≡ middle order over arrived
+  live_passes live =
+      filter_middle order over arrived stretch step.parted (omega (arith, step.within, long)) step.done coming
+      ∙ filter_all (rate_live stretch) (middle order over arrived) (All-from_get_or (λ rate. rate_live stretch rate ≡ true) (middle order over arrived) no_rate (λ place less.
+      let at = middle_place place less in
+      let rate = get_or (middle order over arrived) place no_rate in
+      let deadline : stretch.from < rate.deadline = omega (arith, step.live (over + place) (omega arith) at.0, ap (λ (one : Rate). one.deadline) at.1) in
+      rw (le-leb rate.release stretch.from (live place no_rate less).released, lt-ltb stretch.from rate.deadline deadline) refl))
+
+  pub middle_terms : All (IsLive stretch) (middle order over arrived) → sum_by (rate_term stretch) (middle order over arrived) ≡ terms_of jobs grid stretch
+  middle_terms live =
+      sym (together_permuted (rates_of grid jobs) order stretch permuted ∙ ap (sum_by (rate_term stretch)) (live_passes live)) ∙ terms_same grid stretch jobs
+
+  pub middle_rounds : All (IsLive stretch) (middle order over arrived) → list_any (rate_rounds stretch) (middle order over arrived) ≡ average_rate_rounds jobs grid stretch
+  middle_rounds live =
+      sym (rounds_permuted (rates_of grid jobs) order stretch permuted ∙ ap (list_any (rate_rounds stretch)) (live_passes live)) ∙ some_same grid stretch jobs
 
   pub middle_few : length (middle order over arrived) ≤ length jobs
   middle_few = omega (

@@ -23,9 +23,17 @@ rates_of grid jobs = map (rate_of grid) jobs
 abbrev pub AreOver : List Rate → ℕ → ℕ → Type 0
 AreOver order over time = (place : ℕ) → place < over → (rate_at order place).deadline ≤ time
 
+-- those from there on that have arrived aren't
+abbrev pub AreNotOver : List Rate → ℕ → ℕ → ℕ → Type 0
+AreNotOver order over arrived time = (place : ℕ) → over ≤ place → place < arrived → time < (rate_at order place).deadline
+
+-- the first ones are released by this time
+abbrev pub AreCome : List Rate → ℕ → ℕ → Type 0
+AreCome order arrived time = (place : ℕ) → place < arrived → (rate_at order place).release ≤ time
+
 -- those that are to come stand in order of their releases
-abbrev pub AreRising : List Rate → ℕ → Type 0
-AreRising order arrived = (one other : ℕ) → arrived ≤ one → one ≤ other → other < length order → (rate_at order one).release ≤ (rate_at order other).release
+abbrev pub HaveRisingReleases : List Rate → ℕ → Type 0
+HaveRisingReleases order arrived = (one other : ℕ) → arrived ≤ one → one ≤ other → other < length order → (rate_at order one).release ≤ (rate_at order other).release
 
 -- the three parts before the stretch with this number
 pub record ArePartsBefore (jobs : List Job) (grid : ℕ) (order : List Rate) (over arrived number : ℕ) : Type 0 where
@@ -34,4 +42,5 @@ pub record ArePartsBefore (jobs : List Job) (grid : ℕ) (order : List Rate) (ov
   pub parted : over ≤ arrived
   pub within : arrived ≤ length order
   pub done : (later : ℕ) → number ≤ later → later < length (stretches jobs) → AreOver order over (stretch_at jobs later).from
-  pub rising : AreRising order arrived
+  pub come : (later : ℕ) → number ≤ later → later < length (stretches jobs) → AreCome order arrived (stretch_at jobs later).from
+  pub rising : HaveRisingReleases order arrived

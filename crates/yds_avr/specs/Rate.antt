@@ -1,6 +1,5 @@
 -- A job's rate: its units by the length of its window, as whole units of a time unit and a rest. What it has in a stretch.
-use Rattle.std.specs.Prelude.{◌≡◌, ℕ, ◌+◌, ◌-◌, ◌*◌, ◌/◌, ◌%◌, ◌<◌, ◌≤◌, List, sum_by, Bool, nat_lt, nat_le, ◌==◌, ◌&&◌, not}
-use Rattle.std.specs.List.{filter, list_any}
+use Rattle.std.specs.Prelude.{◌≡◌, ℕ, ◌+◌, ◌-◌, ◌*◌, ◌/◌, ◌%◌, ◌<◌, ◌≤◌, Bool, ◌==◌, not}
 use Rattle.yds_model.specs.declared.limits.TheConstants.{MAX_TIME}
 use Rattle.yds_model.specs.Job.{Job}
 use Rattle.yds_model.specs.Piece.{Piece}
@@ -35,8 +34,10 @@ pub record IsRate (rate : Rate) : Type 0 where
   pub few : units_of rate ≤ 1000000000000
 
 -- the stretch lies in the job's window
-abbrev pub rate_live : Piece → Rate → Bool
-rate_live stretch rate = nat_le rate.release stretch.from && nat_lt stretch.from rate.deadline
+pub record IsLive (stretch : Piece) (rate : Rate) : Type 0 where
+  pub is_rate : IsRate rate
+  pub released : rate.release ≤ stretch.from
+  pub due : stretch.to ≤ rate.deadline
 
 -- the job's units in the stretch, rounded up, and whether they weren't whole
 abbrev pub rate_term : Piece → Rate → ℕ
@@ -44,10 +45,3 @@ rate_term stretch rate = div_up (units_of rate * (stretch.to - stretch.from)) (w
 
 abbrev pub rate_rounds : Piece → Rate → Bool
 rate_rounds stretch rate = not (units_of rate * (stretch.to - stretch.from) % window_of rate == 0)
-
--- those of the live jobs
-abbrev pub rates_together : List Rate → Piece → ℕ
-rates_together rates stretch = sum_by (rate_term stretch) (filter (rate_live stretch) rates)
-
-abbrev pub some_rounds : List Rate → Piece → Bool
-some_rounds rates stretch = list_any (rate_rounds stretch) (filter (rate_live stretch) rates)

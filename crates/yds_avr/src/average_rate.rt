@@ -1,13 +1,13 @@
-ghost use Rattle.std.specs.Prelude.{◌≡◌, ◌≤◌, IfOk, length, All};
+ghost use Rattle.std.specs.Prelude.{◌≡◌, ◌≤◌, IfOk, length, All, sum_by};
+ghost use Rattle.std.specs.List.{list_any};
 ghost use Rattle.yds_model.specs.Policy.{HasRunDenominators};
 ghost use Rattle.yds_model.specs.AverageRate.{IsAverageRateRun, terms_of, average_rate_rounds};
 ghost use Rattle.yds_model.specs.Within.{AreSlotsOf};
-ghost use Rattle.yds_events.specs.Stretch.{IsOutside};
-ghost use Rattle.yds_avr.specs.Rate.{IsRate, rates_together, some_rounds};
+ghost use Rattle.yds_avr.specs.Rate.{IsLive, rate_term, rate_rounds};
 ghost use Rattle.yds_avr.specs.Live.{ArePartsBefore};
 
 use crate::live::{arrived_by, by_release, over_by};
-use crate::rate::{Rate, is_live, term_of};
+use crate::rate::{Rate, rest_of, rounds};
 use std::alloc::Global;
 use yds_edf::{Policy, PolicyRun, Queue, Setting, run_policy};
 use yds_events::Stretch;
@@ -68,23 +68,44 @@ impl Policy for AverageRate {
 }
 
 /// The sum of the live jobs' parts of a stretch, and whether one was rounded up.
-fn terms(rates: &[Rate], stretch: Stretch) -> Setting
-    requires few { length rates.now ≤ MAX_JOBS }
-    requires rates { All IsRate rates.now }
-    requires uncut { All (λ rate. IsOutside stretch rate.deadline) rates.now }
-    ensures units { result.units ≡ rates_together rates.now stretch }
-    ensures rounds { result.rounds ≡ some_rounds rates.now stretch }
+fn terms(live: &[Rate], stretch: Stretch) -> Setting
+    requires few { length live.now ≤ MAX_JOBS }
+    requires live { All (IsLive stretch) live.now }
+    ensures units { result.units ≡ sum_by (rate_term stretch) live.now }
+    ensures rounds { result.rounds ≡ list_any (rate_rounds stretch) live.now }
 {
-    let mut sum = Setting {
-        units: 0,
-        rounds: false,
-    };
-    for rate in rates {
-        if is_live(rate, stretch) {
-            let term = term_of(rate, stretch);
-            sum.units += term.units;
-            sum.rounds |= term.rounds;
+    Setting {
+        units: units_of(live, stretch),
+        rounds: is_rounded(live, stretch),
+    }
+}
+
+/// The sum of the live jobs' parts of a stretch, each rounded up. The whole units of a time unit are added first.
+fn units_of(live: &[Rate], stretch: Stretch) -> u64
+    requires few { length live.now ≤ MAX_JOBS }
+    requires live { All (IsLive stretch) live.now }
+    ensures { result ≡ sum_by (rate_term stretch) live.now }
+{
+    let length = u64::from(stretch.length());
+    let mut whole = 0;
+    let mut more = 0;
+    for rate in live {
+        whole += rate.whole;
+        more += rest_of(rate, length);
+    }
+    whole * length + more
+}
+
+/// Whether some live job's part of a stretch isn't whole. It looks no further than the first.
+fn is_rounded(live: &[Rate], stretch: Stretch) -> bool
+    requires { All (IsLive stretch) live.now }
+    ensures { result ≡ list_any (rate_rounds stretch) live.now }
+{
+    let length = u64::from(stretch.length());
+    for rate in live {
+        if rounds(rate, length) {
+            return true;
         }
     }
-    sum
+    false
 }

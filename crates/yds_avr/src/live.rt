@@ -1,6 +1,6 @@
 ghost use Rattle.std.specs.Prelude.{◌≡◌, ◌<◌, ◌≤◌, ℕ, IfOk, length};
 ghost use Rattle.std.specs.List.Sorted.{IsPermutation, IsNonDecreasingBy};
-ghost use Rattle.yds_avr.specs.Live.{rate_at, rates_of, AreOver};
+ghost use Rattle.yds_avr.specs.Live.{rate_at, rates_of, AreCome, AreOver, AreNotOver};
 
 use crate::rate::{Rate, rate_of};
 use std::alloc::Global;
@@ -35,6 +35,7 @@ pub(crate) fn arrived_by(order: &[Rate], before: usize, time: u32) -> usize
     requires { before ≤ length order.now }
     ensures more { before ≤ result }
     ensures within { result ≤ length order.now }
+    ensures come { (place : ℕ) → before ≤ place → place < result → (rate_at order.now place).release ≤ time }
     ensures next { result < length order.now → time < (rate_at order.now result).release }
 {
     let mut arrived = before;
@@ -49,10 +50,13 @@ pub(crate) fn arrived_by(order: &[Rate], before: usize, time: u32) -> usize
 pub(crate) fn over_by(order: &mut [Rate], before: usize, arrived: usize, time: u32) -> usize
     requires parted { before ≤ arrived }
     requires within { arrived ≤ length order.old }
+    requires come { AreCome order.old arrived time }
     requires done { AreOver order.old before time }
     ensures same { IsPermutation order.old order.new }
     ensures parted { result ≤ arrived }
+    ensures come { AreCome order.new arrived time }
     ensures done { AreOver order.new result time }
+    ensures live { AreNotOver order.new result arrived time }
     ensures rest { (place : ℕ) → arrived ≤ place → rate_at order.new place ≡ rate_at order.old place }
 {
     let mut over = before;

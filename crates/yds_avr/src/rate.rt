@@ -1,8 +1,7 @@
-ghost use Rattle.std.specs.Prelude.{◌≡◌, ◌≤◌};
-ghost use Rattle.yds_avr.specs.Rate.{rate_of, rate_live, rate_term, rate_rounds, units_of, IsRate};
+ghost use Rattle.std.specs.Prelude.{◌≡◌, ◌≤◌, ◌*◌, ◌%◌, ◌==◌, not};
+ghost use Rattle.yds_model.specs.Policy.{div_up};
+ghost use Rattle.yds_avr.specs.Rate.{rate_of, window_of, IsRate};
 
-use yds_edf::Setting;
-use yds_events::Stretch;
 use yds_model::JobRow;
 use yds_model::limits::MAX_GRID;
 
@@ -39,30 +38,24 @@ pub(crate) fn rate_of(row: &JobRow, grid: u32) -> Rate
     }
 }
 
-/// Whether the stretch lies in the job's window.
-pub(crate) fn is_live(rate: &Rate, stretch: Stretch) -> bool
-    ensures { result ≡ rate_live stretch rate.now }
+/// What a job has, beyond the whole units of each time unit, in so many time units of its window: rounded up, by a product in
+/// place of a quotient.
+pub(crate) fn rest_of(rate: &Rate, length: u64) -> u64
+    requires rate { IsRate rate.now }
+    requires within { length ≤ window_of rate.now }
+    ensures rounded_up { result ≡ div_up (rate.now.rest * length) (window_of rate.now) }
+    ensures few { result ≤ rate.now.rest }
 {
-    rate.release <= stretch.from && stretch.from < rate.deadline
+    let parts = u128::from(rate.fraction) * u128::from(length);
+    ((parts + (PARTS - 1)) / PARTS) as u64
 }
 
-/// The job's part of a stretch of its window: its units times the stretch's length, divided by the window's length and
-/// rounded up. What is left of the whole units comes by a product in place of a quotient.
-pub(crate) fn term_of(rate: &Rate, stretch: Stretch) -> Setting
+/// Whether that wasn't whole before it was rounded up.
+pub(crate) fn rounds(rate: &Rate, length: u64) -> bool
     requires rate { IsRate rate.now }
-    requires released { rate.now.release ≤ stretch.from }
-    requires due { stretch.to ≤ rate.now.deadline }
-    ensures units { result.units ≡ rate_term stretch rate.now }
-    ensures rounds { result.rounds ≡ rate_rounds stretch rate.now }
-    ensures few { result.units ≤ units_of rate.now }
+    requires within { length ≤ window_of rate.now }
+    ensures { result ≡ not (rate.now.rest * length % window_of rate.now == 0) }
 {
-    let length = u64::from(stretch.length());
     let window = u64::from(rate.deadline - rate.release);
-    let rest = rate.rest * length;
-    let parts = u128::from(rate.fraction) * u128::from(length);
-    let more = ((parts + (PARTS - 1)) / PARTS) as u64;
-    Setting {
-        units: rate.whole * length + more,
-        rounds: more * window != rest,
-    }
+    rest_of(rate, length) * window != rate.rest * length
 }

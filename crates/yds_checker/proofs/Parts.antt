@@ -1,8 +1,7 @@
 -- The parts of levels that are joined.
-use Rattle.std.proofs.Common.{◌≡◌, ℕ, ◌<◌, ◌≤◌, List, [], ◌∷◌, length, get_or, arith}
-use Rattle.std.specs.List.{All, flat_map}
-use Rattle.std.proofs.lemmas.List.Concat.{flat_map-cons, length-flat_map}
-use Rattle.std.proofs.lemmas.List.Elements.{All-nil, All-head, All-tail, All-append}
+use Rattle.std.proofs.Common.{◌≡◌, ℕ, ◌<◌, ◌≤◌, List, length, get_or, arith}
+use Rattle.std.specs.List.{flat_map}
+use Rattle.std.proofs.lemmas.List.Concat.{length-flat_map}
 use Rattle.std.proofs.lemmas.List.Sums.{get_or-le-sum_by}
 use Rattle.yds_model.specs.declared.limits.TheConstants.{MAX_PIECES, MAX_MEMBERS}
 use Rattle.yds_model.specs.Level.{Level}
@@ -20,10 +19,3 @@ few_in_level levels i level kept within is = (
   rw is (omega (arith, length_part (λ (one : Level). one.pieces) levels i level within, kept.few_pieces)),
   rw is (omega (arith, length_part (λ (one : Level). one.members) levels i level within, kept.few_members)),
 )
-
--- what holds of each element of each part holds of each element of all parts
-pub All-joined : {X A : Type 0} (P : A → Type 0) (f : X → List A) (xs : List X) → All (λ x. All P (f x)) xs → All P (flat_map f xs)
-All-joined P f [] all = All-nil P
-All-joined P f (x ∷ xs) all =
-    rw (flat_map-cons f x xs)
-    (All-append P (f x) (flat_map f xs) (All-head (λ y. All P (f y)) x xs all) (All-joined P f xs (All-tail (λ y. All P (f y)) x xs all)))

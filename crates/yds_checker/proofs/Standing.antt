@@ -11,10 +11,10 @@ use Rattle.yds_model.specs.Proper.{PiecesStand}
 use Rattle.yds_model.specs.Numbers.{IsFirstFailure}
 use Rattle.yds_model.proofs.Lists.{flat_map-take}
 use Rattle.yds_model.proofs.Front.{pieces_forward}
+use Rattle.yds_laws.proofs.TaskNames.{All-flat}
 use Rattle.yds_checker.specs.declared.placed.Placed.{Placed}
 use Rattle.yds_checker.specs.Placed.{has_unit, covering, ArePlaced, AreByStart, AreApartBelow}
 use Rattle.yds_checker.specs.Standing.{IsOrdered, AreInRun}
-use Rattle.yds_checker.proofs.Parts.{All-joined}
 use Rattle.yds_checker.proofs.Units.{no_piece, covered_at, covered_where, in_order_once, apart_in_fewer}
 
 -- of levels in order each piece takes time
@@ -79,7 +79,7 @@ level_stands levels i within ordered once =
     let order = ordered i (omega arith) in
     let own = pieces_forward 0 level.pieces order.in_order in
     let earlier : All IsForward early =
-    All-joined IsForward (λ (one : Level). one.pieces) (take i levels) (front_forward levels i (omega arith) (λ k less. ordered k (omega arith))) in
+    All-flat IsForward (λ (one : Level). one.pieces) (take i levels) (front_forward levels i (omega arith) (λ k less. ordered k (omega arith))) in
     record {
       some = order.some;
       in_order = order.in_order;

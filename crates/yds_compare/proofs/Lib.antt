@@ -4,5 +4,4 @@ pub mod Spending
 pub mod Proportion
 pub mod Agreeing
 pub mod Runs
-pub mod Rates
 pub mod Planned

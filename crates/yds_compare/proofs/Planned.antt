@@ -31,27 +31,12 @@ use Rattle.yds_round.proofs.Held.{back_at, whole, known, forward, held}
 use Rattle.yds_compare.specs.declared.load.Load.{Load}
 use Rattle.yds_compare.specs.Load.{level_load, level_loads, IsHeldAt}
 use Rattle.yds_compare.specs.Spent.{time_of_loads}
-use Rattle.yds_compare.proofs.Points.{idle_time}
-use Rattle.yds_compare.proofs.Proportion.{time_scaled}
+use Rattle.yds_laws.proofs.SpentScale.{time_scaled}
 use Rattle.yds_compare.proofs.Runs.{slots_in_stretch, units_sum}
-use Rattle.yds_compare.proofs.Rates.{all_lengths, lengths_positive, rate, rate_member, rates_together, level_rates}
-
--- whether a list has an element
-some_or_none : {X : Type 0} (xs : List X) → (xs ≡ []) ⊎ (1 ≤ length xs)
-some_or_none [] = inl refl
-some_or_none (x ∷ xs) = inr (omega arith)
-
--- the work of slots of one speed
-work_busy : (work long : ℕ) (slots : List WholeSlot) → All (λ slot. slot.work * long ≡ work * (slot.to - slot.from)) slots →
-    sum_by (λ slot. slot.work) slots * long ≡ work * busy slots
-work_busy work long [] each = omega arith
-work_busy work long (slot ∷ slots) each = omega (
-  arith,
-  ap (λ n. n * long) (sum_by-cons (λ (s : WholeSlot). s.work) slot slots),
-  ap (λ n. work * n) (sum_by-cons (λ (s : WholeSlot). s.to - s.from) slot slots),
-  each 0 slot (omega arith),
-  work_busy work long slots (All-tail (λ (s : WholeSlot). s.work * long ≡ work * (s.to - s.from)) slot slots each),
-)
+use Rattle.yds_laws.proofs.EvenStretches.{some_or_none}
+use Rattle.yds_laws.proofs.PointTimes.{idle_time}
+use Rattle.yds_laws.proofs.RoundedRuns.{rate_together}
+use Rattle.yds_laws.proofs.LevelsEnergy.{all_lengths, lengths_positive, rate, rate_member, rates_together, level_rates}
 
 -- the time in which nothing is done is proportional to all of it
 choice_times : (b : Bool) (time multiple : ℕ) → (if b then time * multiple else 0) ≡ time * (if b then multiple else 0)
@@ -134,7 +119,7 @@ module _ (jobs : List Job) (planned : List WrittenSlot) (levels : List Level) (p
         All-map (λ slot. slot.work * level.length ≡ level.work * (slot.to - slot.from)) (slot_at_scale scale) (planned_in planned stretch)
         (λ i d inside. written_speeds i d inside level (Contains-get_or levels h.place no_level h.within) (h.members i d inside)) in
         let work : ℕ = sum_by (λ slot. slot.work) (here stretch) in
-        let by_speed : work * level.length ≡ level.work * busy (here stretch) = work_busy level.work level.length (here stretch) speeds in
+        let by_speed : work * level.length ≡ level.work * busy (here stretch) = rate_together level.work level.length (here stretch) speeds in
         let by_units : work * speed_den level ≡ total_units (speed_den level) (planned_in planned stretch) * scale =
         units_sum (speed_den level) scale (planned_in planned stretch) (λ i d inside. (h.denominators i d inside).work) (All-filter test (IsDivided scale) planned is.divided) in
         let divisor = common_divisor level.work level.length in

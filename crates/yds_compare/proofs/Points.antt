@@ -10,7 +10,8 @@ use Rattle.yds_model.specs.Table.{Point, no_point, point_at, AreRising, hull_of,
 use Rattle.yds_model.specs.Comparison.{time_at}
 use Rattle.yds_model.specs.Rounding.{top_of}
 use Rattle.yds_table.specs.Table.{last_of}
-use Rattle.yds_round.proofs.Paces.{gap_divides}
+use Rattle.yds_laws.proofs.OneEnergy.{places_rise}
+use Rattle.yds_laws.proofs.PointTimes.{gap_divides, pair_time, idle_time}
 use Rattle.yds_compare.specs.declared.load.Load.{Load}
 use Rattle.yds_compare.specs.declared.share.Share.{Share}
 use Rattle.yds_compare.specs.Load.{IsHeldAt}
@@ -35,12 +36,6 @@ chosen_within false false x y limit one other = omega arith
 
 -- # At a place of the hull
 
--- the time at the point of a speed where the two points around the load's are these
-abbrev pub pair_time : ℕ → ℕ → ℕ → Point → Point → ℕ → ℕ
-pair_time multiple time work low high speed =
-    if speed == high.speed then (work - low.speed * time) * (multiple / (high.speed - low.speed))
-    else (if speed == low.speed then time * multiple - (work - low.speed * time) * (multiple / (high.speed - low.speed)) else 0)
-
 -- the first two points of which the second is fast enough are those
 pub at_place : (multiple time work : ℕ) (hull : List Point) (place : ℕ) → suc place < length hull →
     ((k : ℕ) → 1 ≤ k → k < suc place → (point_at hull k).speed * time < work) → work ≤ (point_at hull (suc place)).speed * time → (speed : ℕ) →
@@ -56,31 +51,6 @@ at_place multiple time work (low ∷ high ∷ points) (suc place) within slower 
     ap (λ (b : Bool). if b then pair_time multiple time work low high speed else time_at multiple time work (high ∷ points) speed) test
     ∙ at_place multiple time work (high ∷ points) place (omega (arith, within))
     (λ k some below. slower (suc k) (omega arith) (omega (arith, below))) enough speed
-
--- neighbours of the hull rise
-pub rises_at : (hull : List Point) (place : ℕ) → AreRising hull → suc place < length hull → (point_at hull place).speed < (point_at hull (suc place)).speed
-rises_at [] place rising within = absurd (omega (arith, within))
-rises_at (only ∷ []) place rising within = absurd (omega (arith, within))
-rises_at (low ∷ high ∷ points) zero rising within = rising.0
-rises_at (low ∷ high ∷ points) (suc place) rising within = rises_at (high ∷ points) place rising.1 (omega (arith, within))
-
--- nothing less a number is nothing
-none_less : (a b : ℕ) → (0 - a) * b ≡ 0
-none_less a b = let none : 0 - a ≡ 0 = omega arith in omega (arith, ap (λ n. n * b) none)
-
--- no work takes all the time at the first point
-pub idle_time : (multiple time : ℕ) (hull : List Point) → AreRising hull → 1 ≤ length hull → (speed : ℕ) →
-    (if speed == (point_at hull 0).speed then time * multiple else 0) ≡ time_at multiple time 0 hull speed
-idle_time multiple time [] rising some speed = absurd (omega (arith, some))
-idle_time multiple time (only ∷ []) rising some speed = refl
-idle_time multiple time (low ∷ high ∷ points) rising some speed =
-    let test : nat_le 0 (high.speed * time) ≡ true = le-leb 0 (high.speed * time) (omega arith) in
-    let fast = none_less (low.speed * time) (multiple / (high.speed - low.speed)) in
-    elim (cases_eq speed high.speed) [
-      | inl same ↦ rw (test, eq-eqb speed high.speed same, ne_eqb speed low.speed (λ at. omega (arith, at, same, rising.0))) (sym fast)
-      | inr other ↦ rw (test, ne_eqb speed high.speed other)
-          (ap (λ n. if speed == low.speed then n else 0) (omega (arith, fast)))
-    ]
 
 -- # The load's share
 
@@ -129,7 +99,7 @@ found points hull load (suc place) low high is rising first some is_low is_high 
       within = first.within;
       is_low = lower;
       is_high = higher;
-      rises = rw (lower, higher) (rises_at hull place rising first.within);
+      rises = rw (lower, higher) (places_rise hull place (suc place) rising (omega arith) first.within);
       divides = rw (lower, higher, is) (
           let next : suc place ≡ place + 1 = omega arith in
           subst (λ (n : ℕ). (point_at (hull_of points) n).speed - (point_at (hull_of points) place).speed ∣ hull_multiple points) (sym next)

@@ -33,30 +33,21 @@ use Rattle.yds_compare.specs.declared.load.Load.{Load}
 use Rattle.yds_compare.specs.Load.{load_of, loads_of, load_at, IsHeldAt}
 use Rattle.yds_compare.specs.Spent.{time_of_loads, IsSpentOn}
 use Rattle.yds_compare.specs.Side.{IsRunOnGrid}
-use Rattle.yds_compare.proofs.Proportion.{time_scaled}
+use Rattle.yds_laws.proofs.SpentScale.{time_scaled}
+use Rattle.yds_laws.proofs.StretchSlots.{lies, lies_told}
 use Rattle.yds_compare.proofs.Agreeing.{TakeAsLong, spent_at}
 
 -- # The slots in a stretch
 
--- the test at a scale
-abbrev lies_whole : ℕ → Piece → WholeSlot → Bool
-lies_whole scale stretch slot = nat_le (stretch.from * scale) slot.from && nat_le slot.to (stretch.to * scale)
-
-parts_true : (a b : Bool) → (a && b) ≡ true → (a ≡ true) × (b ≡ true)
-parts_true true b e = (refl, sym (true-and b) ∙ e)
-parts_true false b e = absurd (let no : false ≡ true = sym (false-and b) ∙ e in cc)
-
 -- both tests say the same
 same_test : (scale : ℕ) (stretch : Piece) (slot : WrittenSlot) → 1 ≤ scale → IsDivided scale slot →
-    lies_whole scale stretch (slot_at_scale scale slot) ≡ lies_between stretch.from stretch.to slot
-same_test scale stretch slot positive divided = elim (cases_Bool (lies_whole scale stretch (slot_at_scale scale slot))) [
-  | inl passes ↦
-      let both = parts_true (nat_le (stretch.from * scale) (slot_at_scale scale slot).from) (nat_le (slot_at_scale scale slot).to (stretch.to * scale)) passes in
-      passes ∙ sym (lies_passes scale stretch slot positive divided (record { from = leb-true _ _ both.0; to = leb-true _ _ both.1 }))
+    lies scale stretch (slot_at_scale scale slot) ≡ lies_between stretch.from stretch.to slot
+same_test scale stretch slot positive divided = elim (cases_Bool (lies scale stretch (slot_at_scale scale slot))) [
+  | inl passes ↦ passes ∙ sym (lies_passes scale stretch slot positive divided (lies_told scale stretch (slot_at_scale scale slot) passes))
   | inr fails ↦ elim (cases_Bool (lies_between stretch.from stretch.to slot)) [
     | inl written ↦
-        let lies = lies_at scale stretch slot positive divided written in
-        both_true (le-leb _ _ lies.from) (le-leb _ _ lies.to) ∙ sym written
+        let there = lies_at scale stretch slot positive divided written in
+        both_true (le-leb _ _ there.from) (le-leb _ _ there.to) ∙ sym written
     | inr not_written ↦ fails ∙ sym not_written
   ]
 ]

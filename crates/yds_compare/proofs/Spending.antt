@@ -9,17 +9,11 @@ use Rattle.yds_model.specs.declared.limits.TheConstants.{MAX_GRID, MAX_TIME, MAX
 use Rattle.yds_model.specs.Table.{Point, hull_of, hull_multiple}
 use Rattle.yds_model.specs.Within.{ArePoints}
 use Rattle.yds_model.specs.Comparison.{time_at}
+use Rattle.yds_edf.proofs.Laid.{all_zip_push}
 use Rattle.yds_compare.specs.declared.load.Load.{Load}
 use Rattle.yds_compare.specs.declared.share.Share.{Share}
 use Rattle.yds_compare.specs.Share.{share_at, IsShareOf}
 use Rattle.yds_compare.specs.Spent.{time_of_loads, energy_of_loads}
-
--- one more of both
-pub zip_push : {X Y : Type 0} (R : X → Y → Type 0) (xs : List X) (ys : List Y) (x : X) (y : Y) → AllZip R xs ys → R x y → AllZip R (xs ++ x ∷ []) (ys ++ y ∷ [])
-zip_push R [] [] x y all one = (one, tt)
-zip_push R [] (b ∷ ys) x y all one = absurd all
-zip_push R (a ∷ xs) [] x y all one = absurd all
-zip_push R (a ∷ xs) (b ∷ ys) x y all one = (all.0, zip_push R xs ys x y all.1 one)
 
 -- the shares' times are the loads'
 pub time_is : (multiple : ℕ) (hull : List Point) (loads : List Load) (shares : List Share) (speed : ℕ) → AllZip (IsShareOf multiple hull) loads shares →
@@ -101,4 +95,4 @@ pub zip_step : (points : List Point) (loads : List Load) (shares : List Share) (
     AllZip (IsShareOf (hull_multiple points) (hull_of points)) (take i loads) shares → IsShareOf (hull_multiple points) (hull_of points) (get_or loads i d) share →
     AllZip (IsShareOf (hull_multiple points) (hull_of points)) (take (i + 1) loads) (shares ++ share ∷ [])
 zip_step points loads shares i d share within all one =
-    rw (take_more loads i d within) (zip_push (IsShareOf (hull_multiple points) (hull_of points)) (take i loads) shares (get_or loads i d) share all one)
+    rw (take_more loads i d within) (all_zip_push (IsShareOf (hull_multiple points) (hull_of points)) (take i loads) shares (get_or loads i d) share all one)

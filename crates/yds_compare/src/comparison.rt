@@ -7,7 +7,7 @@ ghost use Rattle.yds_model.specs.Comparison.{IsSpent};
 ghost use Rattle.yds_model.specs.AverageRate.{IsAverageRateRun};
 ghost use Rattle.yds_model.specs.OptimalAvailable.{IsOptimalAvailableRun};
 ghost use Rattle.yds_events.specs.Stretch.{length_of};
-ghost use Rattle.yds_round.specs.Fault.{IsCause, HasFastLevel, too_slow};
+ghost use Rattle.yds_round.specs.Fault.{IsCauseOfRoundFault, HasFastLevel, too_slow};
 ghost use Rattle.yds_compare.specs.Side.{IsSideOfRun};
 
 use crate::load::{loads_of_levels, total_length};
@@ -90,7 +90,7 @@ pub fn compare(
     ensures optimal_available { IfOk result (λ compared.
         IsSideOfRun (IsOptimalAvailableRun rows.now grid compared.oa_rounded) rows.now table.now grid compared.oa) }
     ensures counts_in_range { IfOk result (λ compared. (compared.avr_rounded ≤ MAX_ROUNDED) × (compared.oa_rounded ≤ MAX_ROUNDED)) }
-    ensures cause { IfErr result (IsCause plan.now.certificate table.now) }
+    ensures cause { IfErr result (IsCauseOfRoundFault plan.now.certificate table.now) }
     ensures too_slow { HasFastLevel plan.now.certificate table.now → result ≡ Err (too_slow plan.now.certificate table.now) }
 {
     if let Some(fault) = fault_of(table, plan.certificate.levels()) {

@@ -7,7 +7,7 @@ use Rattle.std.proofs.lemmas.List.Elements.{All-cons, All-nil, All-append, All-w
 use Rattle.yds_model.specs.Piece.{Piece, PiecesFrom, Covers}
 use Rattle.yds_certificate.proofs.Cover.{Covers-cons, Covers-append}
 use Rattle.yds_contract.specs.Contracted.{AreApartFrom}
-use Rattle.yds_contract.specs.Spread.{MeetsOnlyAt, MeetOnlyAt, IsOutside}
+use Rattle.yds_contract.specs.Spread.{MeetsOnlyAt, MeetOnlyAt, IsUncutAt}
 use Rattle.yds_contract.specs.Cut.{cut_between, cut_all}
 use Rattle.yds_contract.proofs.Cells.{none_covered, apart_weaker}
 
@@ -76,25 +76,25 @@ all_later least (time ∷ times) rise = All-cons (λ (t : ℕ). least ≤ t) tim
     (All-weaker (λ (t : ℕ). time ≤ t) (λ (t : ℕ). least ≤ t) (λ t later. omega (arith, rise.0)) times (all_later time times rise.1))
 
 outside_all : (times : List ℕ) (from to time : ℕ) → (time ≤ from) ⊎ (to ≤ time) → (pieces : List Piece) → All (λ piece. (from ≤ piece.from) × (piece.to ≤ to)) pieces →
-    All (IsOutside time) pieces
-outside_all times from to time (inl early) pieces within = All-weaker (λ (p : Piece). (from ≤ p.from) × (p.to ≤ to)) (IsOutside time) (λ p in_it. inl (omega (arith, in_it.0))) pieces within
-outside_all times from to time (inr late) pieces within = All-weaker (λ (p : Piece). (from ≤ p.from) × (p.to ≤ to)) (IsOutside time) (λ p in_it. inr (omega (arith, in_it.1))) pieces within
+    All (IsUncutAt time) pieces
+outside_all times from to time (inl early) pieces within = All-weaker (λ (p : Piece). (from ≤ p.from) × (p.to ≤ to)) (IsUncutAt time) (λ p in_it. inl (omega (arith, in_it.0))) pieces within
+outside_all times from to time (inr late) pieces within = All-weaker (λ (p : Piece). (from ≤ p.from) × (p.to ≤ to)) (IsUncutAt time) (λ p in_it. inr (omega (arith, in_it.1))) pieces within
 
 -- no time lies strictly inside a piece
-cut_outside : (least from to : ℕ) (times : List ℕ) → RiseFrom least times → All (λ time. All (IsOutside time) (cut_between from to times)) times
-cut_outside least from to [] rise = All-nil (λ (t : ℕ). All (IsOutside t) (cut_between from to []))
+cut_outside : (least from to : ℕ) (times : List ℕ) → RiseFrom least times → All (λ time. All (IsUncutAt time) (cut_between from to times)) times
+cut_outside least from to [] rise = All-nil (λ (t : ℕ). All (IsUncutAt t) (cut_between from to []))
 cut_outside least from to (time ∷ times) rise = elim (stands from to time) [
-  | outside where_it_is ↦ subst (λ (ps : List Piece). All (λ (t : ℕ). All (IsOutside t) ps) (time ∷ times)) (sym (cut_later from to time times where_it_is))
-      (All-cons (λ (t : ℕ). All (IsOutside t) (cut_between from to times)) time times
+  | outside where_it_is ↦ subst (λ (ps : List Piece). All (λ (t : ℕ). All (IsUncutAt t) ps) (time ∷ times)) (sym (cut_later from to time times where_it_is))
+      (All-cons (λ (t : ℕ). All (IsUncutAt t) (cut_between from to times)) time times
       (outside_all times from to time where_it_is (cut_between from to times) (cut_within from to times))
       (cut_outside time from to times rise.1))
   | inside after before ↦
       let first : Piece = record { from = from; to = time } in
       let rest : List Piece = cut_between time to times in
-      subst (λ (ps : List Piece). All (λ (t : ℕ). All (IsOutside t) ps) (time ∷ times)) (sym (cut_here from to time times after before))
-      (All-cons (λ (t : ℕ). All (IsOutside t) (first ∷ rest)) time times
-      (All-cons (IsOutside time) first rest (inr (omega arith)) (outside_all times time to time (inl (omega arith)) rest (cut_within time to times)))
-      (λ k d inside_it. All-cons (IsOutside (get_or times k d)) first rest (inr (all_later time times rise.1 k d inside_it)) (cut_outside time time to times rise.1 k d inside_it)))
+      subst (λ (ps : List Piece). All (λ (t : ℕ). All (IsUncutAt t) ps) (time ∷ times)) (sym (cut_here from to time times after before))
+      (All-cons (λ (t : ℕ). All (IsUncutAt t) (first ∷ rest)) time times
+      (All-cons (IsUncutAt time) first rest (inr (omega arith)) (outside_all times time to time (inl (omega arith)) rest (cut_within time to times)))
+      (λ k d inside_it. All-cons (IsUncutAt (get_or times k d)) first rest (inr (all_later time times rise.1 k d inside_it)) (cut_outside time time to times rise.1 k d inside_it)))
 ]
 
 contains_more : (first : ℕ) (rest : List ℕ) (t : ℕ) → Contains rest t → Contains (first ∷ rest) t
@@ -128,10 +128,10 @@ cut_all_covers times start (span ∷ spans) cell apart =
       (λ covers. elim (whole.0 covers) [ inl here ↦ both.1 (inl (one.1 here)) | inr later ↦ both.1 (inr (rest.1 later)) ]),
     )
 
-pub cut_all_outside : (times : List ℕ) (least : ℕ) (spans : List Piece) → RiseFrom least times → All (λ time. All (IsOutside time) (cut_all times spans)) times
-cut_all_outside times least [] rise k d within = All-nil (IsOutside (get_or times k d))
+pub cut_all_outside : (times : List ℕ) (least : ℕ) (spans : List Piece) → RiseFrom least times → All (λ time. All (IsUncutAt time) (cut_all times spans)) times
+cut_all_outside times least [] rise k d within = All-nil (IsUncutAt (get_or times k d))
 cut_all_outside times least (span ∷ spans) rise k d within =
-    All-append (IsOutside (get_or times k d)) (cut_between span.from span.to times) (cut_all times spans)
+    All-append (IsUncutAt (get_or times k d)) (cut_between span.from span.to times) (cut_all times spans)
     (cut_outside least span.from span.to times rise k d within) (cut_all_outside times least spans rise k d within)
 
 cut_all_meets : (times : List ℕ) (end : ℕ) (spans : List Piece) → AreApartFrom (suc end) spans → MeetsOnlyAt times end (cut_all times spans)

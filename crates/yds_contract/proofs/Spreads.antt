@@ -18,7 +18,7 @@ use Rattle.yds_slots.proofs.Parts.{of_parts_at}
 use Rattle.yds_contract.specs.Contracted.{AreApartFrom, ArePieces}
 use Rattle.yds_contract.specs.Clipped.{clipped, pieces_after}
 use Rattle.yds_contract.specs.Cut.{cut_between, cut_all}
-use Rattle.yds_contract.specs.Spread.{in_parts, span_of, spans_of, slot_over, IsOutside, MeetOnlyAt, IsSpread}
+use Rattle.yds_contract.specs.Spread.{in_parts, span_of, spans_of, slot_over, IsUncutAt, MeetOnlyAt, IsSpread}
 use Rattle.yds_contract.proofs.Cells.{piece_at, no_piece, forward_at, apart_weaker}
 use Rattle.yds_contract.proofs.Cutting.{RiseFrom, cut_here, cut_later, cut_all_run, cut_all_covers, cut_all_outside, cut_all_meet}
 use Rattle.yds_contract.proofs.Pieces.{clipped_cases, pieces_found}
@@ -70,8 +70,8 @@ spread removed slot speed events spans slots some are rise is =
         (λ has. (are.time time).0 ((covers time).0 (subst (λ (ps : List Piece). Covers ps time) back has))),
         (λ has. subst (λ (ps : List Piece). Covers ps time) (sym back) ((covers time).1 ((are.time time).1 has))),
       );
-      uncut = subst (λ (ps : List Piece). All (λ (event : ℕ). All (IsOutside (event * speed.num)) ps) events) (sym back)
-          (λ k d within. subst (λ (t : ℕ). All (IsOutside t) cuts) (get_or-map (λ event. event * speed.num) events k d (d * speed.num) within)
+      uncut = subst (λ (ps : List Piece). All (λ (event : ℕ). All (IsUncutAt (event * speed.num)) ps) events) (sym back)
+          (λ k d within. subst (λ (t : ℕ). All (IsUncutAt t) cuts) (get_or-map (λ event. event * speed.num) events k d (d * speed.num) within)
           (cut_all_outside times (0 * speed.num) spans (events_rise speed.num 0 events (λ n. omega arith) rise) k (d * speed.num)
           (omega (arith, length-map events (λ event. event * speed.num)))));
       cut_at_events = subst (MeetOnlyAt times) (sym back) (cut_all_meet times 0 spans are.apart);

@@ -37,8 +37,8 @@ MeetOnlyAt times [] = Unit {0}
 MeetOnlyAt times (piece ∷ pieces) = MeetsOnlyAt times piece.to pieces
 
 -- the time isn't strictly inside the piece
-abbrev pub IsOutside : ℕ → Piece → Type 0
-IsOutside time piece = (time ≤ piece.from) ⊎ (piece.to ≤ time)
+abbrev pub IsUncutAt : ℕ → Piece → Type 0
+IsUncutAt time piece = (time ≤ piece.from) ⊎ (piece.to ≤ time)
 
 -- The real slots that make up a slot of contracted time: of the same job and at the same speed, one after another, over just
 -- the time that isn't removed and has its place in the slot; no event lies strictly inside one, and where one begins at the end of
@@ -48,5 +48,5 @@ pub record IsSpread (removed : List Piece) (slot : WrittenSlot) (speed : Quotien
   pub in_order : PiecesFrom 0 (spans_of speed.num slots)
   pub time : (time : ℕ) → Covers (spans_of speed.num slots) time
       ↔ HasPlace (map (in_parts speed.num) removed) (at_scale speed.num slot.from) (at_scale speed.num slot.to) time
-  pub uncut : All (λ event. All (IsOutside (event * speed.num)) (spans_of speed.num slots)) events
+  pub uncut : All (λ event. All (IsUncutAt (event * speed.num)) (spans_of speed.num slots)) events
   pub cut_at_events : MeetOnlyAt (map (λ event. event * speed.num) events) (spans_of speed.num slots)

@@ -4,7 +4,7 @@ use Rattle.std.proofs.lemmas.Bool.{cases_lt, cases_order}
 use Rattle.std.proofs.Math.Nat.{lt_of_mul-lt-mul_right, eq_of_mul-eq-mul_right, mul-le-mul_right, mul-lt-mul_of_pos_right}
 use Rattle.yds_critical.specs.declared.interval.Interval.{Interval}
 use Rattle.yds_critical.specs.Leading.{Leads, IsEarlier}
-use Rattle.yds_critical.specs.Choice.{IsForward}
+use Rattle.yds_critical.specs.Choice.{TakesTime}
 
 earlier_total : (one other : Interval) → IsEarlier one other ⊎ IsEarlier other one
 earlier_total one other = elim (cases_order one.start other.start) [
@@ -36,7 +36,7 @@ less_first u v w a b c first second some = lt_of_mul-lt-mul_right b (omega (arit
 same_both : (u v w a b c : ℕ) → v * a ≡ u * b → w * b ≡ v * c → 0 < b → w * a ≡ u * c
 same_both u v w a b c first second some = eq_of_mul-eq-mul_right b some (w * a) (u * c) (omega (arith, ap (λ n. n * c) first, ap (λ n. n * a) second))
 
-pub leads_trans : (one other third : Interval) → IsForward one → IsForward other → IsForward third → Leads one other → Leads other third → Leads one third
+pub leads_trans : (one other third : Interval) → TakesTime one → TakesTime other → TakesTime third → Leads one other → Leads other third → Leads one third
 leads_trans one other third f g h (inl denser) (inl second) =
     inl (less_second one.work other.work third.work (one.end - one.start) (other.end - other.start) (third.end - third.start) (omega arith) second (omega arith))
 leads_trans one other third f g h (inl denser) (inr (as_dense, earlier)) =

@@ -15,12 +15,12 @@ use Rattle.yds_intensity.proofs.Work.{share, share_inside}
 use Rattle.yds_critical.specs.declared.interval.Interval.{Interval}
 use Rattle.yds_critical.specs.Leading.{Leads}
 use Rattle.yds_critical.specs.Critical.{IsCandidate, IsCriticalOf}
-use Rattle.yds_critical.specs.Choice.{IsForward, IsLedBy, interval_of, AreLater, IsPreferred, IsFoundAmong, IsFound}
+use Rattle.yds_critical.specs.Choice.{TakesTime, IsLedBy, interval_of, AreLater, IsPreferred, IsFoundAmong, IsFoundAmongAll}
 use Rattle.yds_critical.proofs.Leading.{leads_total, leads_trans, leads_itself}
 use Rattle.yds_critical.proofs.Shrinking.{IsShrunk, shrinks}
 
 -- the other one where the best so far doesn't lead it
-pub prefers_other : (first other : Interval) → IsForward first → IsForward other → (Leads first other → ⊥) → IsPreferred (Some first) other other
+pub prefers_other : (first other : Interval) → TakesTime first → TakesTime other → (Leads first other → ⊥) → IsPreferred (Some first) other other
 prefers_other first other f g not = record {
   chosen = inr refl;
   leads_other = leads_itself other;
@@ -28,10 +28,10 @@ prefers_other first other f g not = record {
 }
 
 -- what a preferred interval is forward by
-pub preferred_forward : (best : Option Interval) (other preferred : Interval) → IfSome best IsForward → IsForward other → IsPreferred best other preferred → IsForward preferred
+pub preferred_forward : (best : Option Interval) (other preferred : Interval) → IfSome best TakesTime → TakesTime other → IsPreferred best other preferred → TakesTime preferred
 preferred_forward best other preferred f g chose = elim chose.chosen [
-  | inl same ↦ let some : IfSome (Some preferred) IsForward = subst (λ (o : Option Interval). IfSome o IsForward) same f in some
-  | inr same ↦ subst IsForward (sym same) g
+  | inl same ↦ let some : IfSome (Some preferred) TakesTime = subst (λ (o : Option Interval). IfSome o TakesTime) same f in some
+  | inr same ↦ subst TakesTime (sym same) g
 ]
 
 -- one sum more
@@ -83,7 +83,7 @@ led_at jobs start end sums found are each (k, within, is) =
 
 -- one release more
 pub best_more : (n : ℕ) (jobs : List Job) (best found : Option Interval) (sums : List Sum) → n < length jobs → IsJob (job_at jobs n) →
-    AreSums jobs (job_at jobs n).release sums → IsFound best (job_at jobs n).release sums found → IsBestAmong n jobs best → IsBestAmong (n + 1) jobs found
+    AreSums jobs (job_at jobs n).release sums → IsFoundAmongAll best (job_at jobs n).release sums found → IsBestAmong n jobs best → IsBestAmong (n + 1) jobs found
 best_more n jobs best found sums within valid are is so_far =
     let start : ℕ = (job_at jobs n).release in
     record {
@@ -112,7 +112,7 @@ best_more n jobs best found sums within valid are is so_far =
     }
 
 -- the best interval confines work, since it goes before the window of the first job
-best_works : (jobs : List Job) (best : Interval) → 0 < length jobs → IsJob (job_at jobs 0) → 1 ≤ (job_at jobs 0).work → IsForward best →
+best_works : (jobs : List Job) (best : Interval) → 0 < length jobs → IsJob (job_at jobs 0) → 1 ≤ (job_at jobs 0).work → TakesTime best →
     Leads best (record { start = (job_at jobs 0).release; end = (job_at jobs 0).deadline; work = work_within jobs (job_at jobs 0).release (job_at jobs 0).deadline }) →
     1 ≤ best.work
 best_works jobs best some valid works forward leads =
@@ -128,7 +128,7 @@ best_works jobs best some valid works forward leads =
     ]
 
 -- what goes before the shrunk interval goes before the whole one
-leads_wider : (jobs : List Job) (best : Interval) (from to start end : ℕ) → IsForward best → 1 ≤ best.work → from < to → IsShrunk jobs from to start end →
+leads_wider : (jobs : List Job) (best : Interval) (from to start end : ℕ) → TakesTime best → 1 ≤ best.work → from < to → IsShrunk jobs from to start end →
     Leads best (record { start = start; end = end; work = work_within jobs start end }) →
     Leads best (record { start = from; end = to; work = work_within jobs from to })
 leads_wider jobs best from to start end forward works window shrunk leads = elim (cases_lt (end - start) (to - from)) [

@@ -7,8 +7,8 @@ use Rattle.yds_intensity.specs.Sums.{sum_at}
 use Rattle.yds_critical.specs.declared.interval.Interval.{Interval}
 use Rattle.yds_critical.specs.Leading.{Leads}
 
-abbrev pub IsForward : Interval → Type 0
-IsForward interval = interval.start < interval.end
+abbrev pub TakesTime : Interval → Type 0
+TakesTime interval = interval.start < interval.end
 
 -- the best so far goes before the interval
 abbrev pub IsLedBy : Option Interval → Interval → Type 0
@@ -27,13 +27,13 @@ AreLater start sums = All (λ sum. start < sum.end) sums
 pub record IsPreferred (best : Option Interval) (other preferred : Interval) : Type 0 where
   pub chosen : (best ≡ Some preferred) ⊎ (preferred ≡ other)
   pub leads_other : Leads preferred other
-  pub leads : (interval : Interval) → IsForward interval → IsLedBy best interval → Leads preferred interval
+  pub leads : (interval : Interval) → TakesTime interval → IsLedBy best interval → Leads preferred interval
 
 -- the best so far, or one that ends with one of the first n sums: it goes before those and before whatever the best so far does
 pub record IsFoundAmong (n : ℕ) (best : Option Interval) (start : ℕ) (sums : List Sum) (found : Option Interval) : Type 0 where
   pub chosen : (found ≡ best) ⊎ ((k : ℕ) × (k < length sums) × (found ≡ Some (interval_of start (sum_at sums k))))
   pub leads_each : (k : ℕ) → k < n → IsLedBy found (interval_of start (sum_at sums k))
-  pub leads : (interval : Interval) → IsForward interval → IsLedBy best interval → IsLedBy found interval
+  pub leads : (interval : Interval) → TakesTime interval → IsLedBy best interval → IsLedBy found interval
 
-abbrev pub IsFound : Option Interval → ℕ → List Sum → Option Interval → Type 0
-IsFound best start sums found = IsFoundAmong (length sums) best start sums found
+abbrev pub IsFoundAmongAll : Option Interval → ℕ → List Sum → Option Interval → Type 0
+IsFoundAmongAll best start sums found = IsFoundAmong (length sums) best start sums found

@@ -2,7 +2,7 @@ ghost use Rattle.std.specs.Prelude.{◌≡◌, ◌<◌, ◌≤◌, length, IfOk,
 ghost use Rattle.std.specs.List.{All};
 ghost use Rattle.yds_model.specs.declared.limits.TheConstants.{MAX_JOBS};
 ghost use Rattle.yds_critical.specs.Critical.{IsCriticalOf};
-ghost use Rattle.yds_critical.specs.Choice.{IsForward, AreLater, IsPreferred, IsFound};
+ghost use Rattle.yds_critical.specs.Choice.{TakesTime, AreLater, IsPreferred, IsFoundAmongAll};
 
 use crate::interval::Interval;
 use std::alloc::Global;
@@ -11,8 +11,8 @@ use yds_model::{JobRow, Memory};
 
 /// The one of the two intervals that goes before the other.
 fn preferred(best: Option<Interval>, other: Interval) -> Interval
-    requires forward { IfSome best IsForward }
-    requires other_forward { IsForward other }
+    requires forward { IfSome best TakesTime }
+    requires other_forward { TakesTime other }
     ensures { IsPreferred best other result }
 {
     match best {
@@ -23,9 +23,9 @@ fn preferred(best: Option<Interval>, other: Interval) -> Interval
 
 /// The best interval so far, or a better one of those that begin at this time and have these sums.
 fn best_from(best: Option<Interval>, start: u32, sums: &[Sum]) -> Option<Interval>
-    requires forward { IfSome best IsForward }
+    requires forward { IfSome best TakesTime }
     requires later { AreLater start sums.now }
-    ensures { IsFound best start sums.now result }
+    ensures { IsFoundAmongAll best start sums.now result }
 {
     let mut found = best;
     for sum in sums {

@@ -198,7 +198,7 @@ divisor_some a b length divisor same some greatest =
     omega (arith, divisor_is a b length divisor same greatest, divisor_positive a b some)
 
 -- one more pair of related elements
-all_zip_push : {A B : Type 0} (R : A → B → Type 0) (xs : List A) (ys : List B) (x : A) (y : B) → AllZip R xs ys → R x y →
+pub all_zip_push : {A B : Type 0} (R : A → B → Type 0) (xs : List A) (ys : List B) (x : A) (y : B) → AllZip R xs ys → R x y →
     AllZip R (xs ++ x ∷ []) (ys ++ y ∷ [])
 all_zip_push R [] [] x y h k = (k, tt)
 all_zip_push R [] (b ∷ ys) x y h k = absurd h

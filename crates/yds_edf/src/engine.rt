@@ -5,6 +5,7 @@ ghost use Rattle.std.specs.Prelude.{
   ◌-◌,
   ◌*◌,
   IfOk,
+  OnOk,
   OnErr,
   MatchOption,
   None,
@@ -220,18 +221,20 @@ impl Engine {
         self.rows.len()
     }
 
-    /// Serves the lesser of the capacity and the pending units, one share for each job that is served.
+    /// Serves the lesser of the capacity and the pending units, and leaves in the list the shares of this stretch alone, one for
+    /// each job that is served. The list takes memory only where it has room for fewer shares than there are jobs.
     pub(crate) fn serve(
         &mut self,
-        alloc: Global,
         stretch: u32,
         capacity: u64,
-    ) -> Result<Vec<Share>, Memory>
-        ensures ok { IfOk result (λ shares. ServesTied self.old self.new stretch capacity shares.items) }
-        ensures works { IfOk result (λ shares. All (λ share. share.units ≤ MAX_WORK * self.old.queue.grain) shares.items) }
+        shares: &mut Vec<Share>,
+    ) -> Result<(), Memory>
+        ensures ok { OnOk result (ServesTied self.old self.new stretch capacity shares.new.items) }
+        ensures works { OnOk result (All (λ share. share.units ≤ MAX_WORK * self.old.queue.grain) shares.new.items) }
         ensures err { OnErr result (self.new ≡ self.old) }
     {
-        let mut shares = Vec::with_capacity(alloc, self.jobs())?;
+        shares.clear();
+        shares.reserve(self.jobs())?;
         let mut room = capacity;
         while room > 0 {
             let Some((job, units)) = self.serve_first(room) else {
@@ -244,7 +247,7 @@ impl Engine {
             })?;
             room -= units;
         }
-        Ok(shares)
+        Ok(())
     }
 }
 

@@ -41,9 +41,10 @@ pub fn fill(
     let ties = Vec::from_slice(alloc, ties)?;
     let mut engine = Engine::new(alloc, rows, ties, grain)?;
     let mut shares = Vec::new(alloc);
+    let mut served = Vec::new(alloc);
     for (number, stretch) in stretches.iter().enumerate() {
         engine.arrive(stretch.from);
-        let mut served = engine.serve(alloc, number as u32, capacities[number])?;
+        engine.serve(number as u32, capacities[number], &mut served)?;
         shares.append(&mut served)?;
     }
     Ok(shares)

@@ -41,8 +41,11 @@ pub fn lay(
     let pace = Pace::of(stretch, capacity);
     let mut slots = Vec::with_capacity(alloc, shares.len())?;
     let mut served = 0;
+    let mut from = pace.after(served);
     for share in shares {
-        slots.push(pace.slot(served, share, grain))?;
+        let slot = pace.slot(from, served, share, grain);
+        slots.push(slot)?;
+        from = slot.to;
         served += share.units;
     }
     Ok(slots)
@@ -93,8 +96,10 @@ impl Pace {
         Moment::of_parts(start + through, self.parts)
     }
 
-    /// The slot of a share, before which so many units were served.
-    fn slot(&self, served: u64, share: &Share, grain: u64) -> Slot
+    /// The slot of a share, before which so many units were served by this time.
+    fn slot(&self, from: Moment, served: u64, share: &Share, grain: u64) -> Slot
+        requires begins { from ≡ of_parts (self.now.start * self.now.parts + served * self.now.step) self.now.parts }
+        requires kept { IsMixed MAX_DENOMINATOR from }
         requires some_parts { 1 ≤ self.now.parts }
         requires parts_in_range { self.now.parts ≤ MAX_DENOMINATOR }
         requires end_in_range { self.now.start + self.now.length ≤ MAX_TIME }
@@ -103,16 +108,17 @@ impl Pace {
         requires some_grain { 1 ≤ grain }
         requires grain_in_range { grain ≤ MAX_GRAIN }
         requires work_in_range { share.now.units ≤ MAX_WORK * grain }
-        ensures { result ≡ record {
+        ensures slot { result ≡ record {
           job = share.now.job;
           from = of_parts (self.now.start * self.now.parts + served * self.now.step) self.now.parts;
           to = of_parts (self.now.start * self.now.parts + (served + share.now.units) * self.now.step) self.now.parts;
           work = of_parts share.now.units grain;
         } }
+        ensures kept { IsMixed MAX_DENOMINATOR result.to }
     {
         Slot {
             job: share.job,
-            from: self.after(served),
+            from,
             to: self.after(served + share.units),
             work: Amount::of_parts(u128::from(share.units), grain),
         }

@@ -8,6 +8,7 @@ ghost use Rattle.yds_edf.specs.Run.{IsPolicyRun, ServesStretch};
 use crate::lay;
 use crate::policy::Policy;
 use crate::queue::Queue;
+use crate::share::Share;
 use std::alloc::Global;
 use yds_events::{Stretch, stretches};
 use yds_model::limits::{MAX_GRID, MAX_JOBS, MAX_ROUNDED};
@@ -46,12 +47,20 @@ pub fn run_policy<P: Policy>(
     let stretches = stretches(alloc, rows)?;
     let mut queue = Queue::new(alloc, rows, u64::from(grid))?;
     let mut schedule = Schedule::new(alloc, rows.len() as u32)?;
+    let mut shares = Vec::new(alloc);
     let mut rounded = 0;
     for (number, stretch) in stretches.iter().enumerate() {
         queue.arrive(stretch.from);
         let number = number as u32;
         let setting = policy.set(number, &queue, *stretch);
-        let slots = serve_stretch(alloc, &mut queue, number, *stretch, setting.units)?;
+        let slots = serve_stretch(
+            alloc,
+            &mut queue,
+            number,
+            *stretch,
+            setting.units,
+            &mut shares,
+        )?;
         append(&mut schedule, &slots)?;
         rounded += u32::from(setting.rounds);
     }
@@ -60,24 +69,25 @@ pub fn run_policy<P: Policy>(
     Ok(PolicyRun { schedule, rounded })
 }
 
-/// Serves a stretch, and lays what it serves as slots that fill it.
+/// Serves a stretch, and lays what it serves as slots that fill it. The list has its shares then.
 fn serve_stretch(
     alloc: Global,
     queue: &mut Queue,
     number: u32,
     stretch: Stretch,
     units: u64,
+    shares: &mut Vec<Share>,
 ) -> Result<Vec<Slot>, Memory>
     requires { queue.old.grain ≤ MAX_GRID }
     ensures { IfOk result (λ slots. ServesStretch queue.old queue.new number stretch units slots.items) }
 {
     let grain = queue.grain();
     let capacity = units.min(queue.pending());
-    let shares = queue.serve(number, units)?;
+    queue.serve_into(number, units, shares)?;
     if capacity == 0 {
         return Ok(Vec::new(alloc));
     }
-    lay(alloc, stretch, capacity, grain, &shares)
+    lay(alloc, stretch, capacity, grain, shares)
 }
 
 /// Puts the slots last. All works that aren't whole have one denominator.

@@ -1,4 +1,4 @@
-ghost use Rattle.std.specs.Prelude.{◌≡◌, ◌<◌, ◌≤◌, IfOk, OnErr, Some, length, ◌*◌, All};
+ghost use Rattle.std.specs.Prelude.{◌≡◌, ◌<◌, ◌≤◌, IfOk, OnOk, OnErr, Some, length, ◌*◌, All};
 ghost use Rattle.std.specs.List.{range_with_len};
 ghost use Rattle.yds_model.specs.Job.{IsJob};
 ghost use Rattle.yds_edf.specs.Queue.{new_queue, IsNoEarlier, all_pending, pending_in, pending_due, Serves};
@@ -109,7 +109,23 @@ impl Queue {
         ensures works { IfOk result (λ shares. All (λ share. share.units ≤ MAX_WORK * self.old.grain) shares.items) }
         ensures err { OnErr result (self.new ≡ self.old) }
     {
-        self.engine.serve(self.alloc, stretch, capacity)
+        let mut shares = Vec::new(self.alloc);
+        self.serve_into(stretch, capacity, &mut shares)?;
+        Ok(shares)
+    }
+
+    /// The same, into a list in which other shares stood before: a loop keeps it, so that its memory is taken once.
+    pub(crate) fn serve_into(
+        &mut self,
+        stretch: u32,
+        capacity: u64,
+        shares: &mut Vec<Share>,
+    ) -> Result<(), Memory>
+        ensures ok { OnOk result (Serves self.old self.new stretch capacity shares.new.items) }
+        ensures works { OnOk result (All (λ share. share.units ≤ MAX_WORK * self.old.grain) shares.new.items) }
+        ensures err { OnErr result (self.new ≡ self.old) }
+    {
+        self.engine.serve(stretch, capacity, shares)
     }
 }
 

@@ -1,21 +1,24 @@
 -- The number of a name, and what an instance keeps as a job with a new name comes.
-use Rattle.std.proofs.Common.{◌≡◌, ℕ, ◌+◌, ◌<◌, ◌≤◌, Bool, true, false, cond, not, List, [], ◌∷◌, ◌++◌, Option, Some, None, Result, Ok, Err, is_ok, if◌then◌else◌, length, ltb, refl, sym, ap, ◌∙◌, inl, inr, arith, map}
-use Rattle.std.specs.List.{Contains, slice_index_or, prefix_len, position_or_len, position, list_any}
+use Rattle.std.proofs.Common.{◌≡◌, ℕ, ◌+◌, ◌<◌, ◌≤◌, Bool, true, false, cond, not, List, [], ◌∷◌, ◌++◌, Option, Some, None, length, ltb, refl, sym, ap, ◌∙◌, inl, inr, arith, subst, nat_cmp, map}
+use Rattle.std.specs.List.{Contains, slice_index_or, prefix_len, position_or_len, position}
 use Rattle.std.specs.Option.{MatchOption}
 use Rattle.std.specs.Str.{bytes_eq}
 use Rattle.std.specs.Borrow.{Bor}
+use Rattle.std.specs.BTreeMap.{BTreeMap, UpdatesBy}
+use Rattle.std.specs.Cmp.Lexicographic.{slice_cmp}
+use Rattle.std.proofs.lemmas.Grind.{common_steps}
+use Rattle.std.proofs.lemmas.Map.Text.{btree_map_updates_str}
 use Rattle.std.proofs.lemmas.Bool.{cases_Bool, false≢true, ltb-false}
 use Rattle.std.proofs.lemmas.Slice.Eq.{bytes_eq-Decides}
-use Rattle.std.proofs.lemmas.List.{length-map, map-append, length_push, get_or_push, get_or_append_left}
+use Rattle.std.proofs.lemmas.List.{length-map, length_push, get_or_push, get_or_append_left}
 use Rattle.std.proofs.lemmas.List.Sums.{fails_before_first}
-use Rattle.std.proofs.lemmas.List.Folds.{list_any_none}
+use Rattle.std.proofs.lemmas.List.Folds.{position_or_len_push}
 use Rattle.std.proofs.lemmas.List.Quantifiers.{position-Some}
 use Rattle.std.proofs.lemmas.List.Elements.{All-push}
-use Rattle.indexmap.specs.IndexSet.{insert_key}
 use Rattle.yds_model.specs.Job.{Job, IsJob}
 use Rattle.yds_model.specs.declared.limits.TheConstants.{MAX_JOBS}
 use Rattle.yds_model.specs.Within.{AreDifferentNames, AreNamedJobs}
-use Rattle.yds_instance.specs.Named.{Named, number_of}
+use Rattle.yds_instance.specs.Named.{Named, number_of, AreNumbered}
 use Rattle.yds_model.specs.Document.{name_at}
 use Rattle.yds_model.specs.Spelling.{is_name}
 use Rattle.yds_model.proofs.Lists.{place_cases}
@@ -77,32 +80,54 @@ number_says named name None kept is = not_contained named.names name (sym is)
 number_says named name (Some n) kept is =
     let found : (n < length named.names) × (name_at named.names n ≡ name) = has_name named.names name n (sym is) in (omega (arith, kept.one_name_each), found.1)
 
--- the same of the fields of an instance, whose value is `named`
-pub field_number : (keys : List (Bor (List ℕ))) (named : Named) (name : List ℕ) (number : Option ℕ) → map (λ key. key.now) keys ≡ named.names →
-    number ≡ position (λ key. bytes_eq name key.now) keys → number ≡ number_of named.names name
-field_number keys named name number same is =
-    is ∙ sym (position-map (bytes_eq name) (λ key. key.now) keys) ∙ sym (number_found (map (λ key. key.now) keys) name) ∙ ap (λ names. number_of names name) same
-
 -- # A job with a new name comes
 
-pub none_same : (keys : List (Bor (List ℕ))) (name : Bor (List ℕ)) → number_of (map (λ key. key.now) keys) name.now ≡ None →
-    list_any (λ key. bytes_eq name.now key.now) keys ≡ false
-none_same keys name none =
-    let same : number_of (map (λ key. key.now) keys) name.now ≡ position (λ key. bytes_eq name.now key.now) keys =
-    number_found (map (λ key. key.now) keys) name.now ∙ position-map (bytes_eq name.now) (λ key. key.now) keys in
-    let end : length keys ≤ position_or_len (λ key. bytes_eq name.now key.now) keys = position-None (λ key. bytes_eq name.now key.now) keys (sym same ∙ none) in
-    list_any_none (λ key. bytes_eq name.now key.now) keys (λ k d within. fails_before_first (λ key. bytes_eq name.now key.now) keys k d (omega arith))
+-- the first place where the test holds lies within the list, or is its length
+first_within : {X : Type 0} (p : X → Bool) (xs : List X) → position_or_len p xs ≤ length xs
+first_within p [] = omega arith
+first_within p (x ∷ xs) = let rest : position_or_len p xs ≤ length xs = first_within p xs in grind (arith, common_steps, rest)
 
--- what the fields are once both have grown
-pub keys_pushed : (keys grown : List (Bor (List ℕ))) (name : Bor (List ℕ)) → grown ≡ insert_key (λ x y. bytes_eq x.now y.now) keys name →
-    number_of (map (λ key. key.now) keys) name.now ≡ None → map (λ key. key.now) grown ≡ map (λ key. key.now) keys ++ name.now ∷ []
-keys_pushed keys grown name is none =
-    let pushed : grown ≡ keys ++ name ∷ [] = rw (none_same keys name none) at is in rw (pushed, map-append) refl
+-- the first place where the test holds, once there is one more
+position_push : {X : Type 0} (p : X → Bool) (xs : List X) (y : X) → position p (xs ++ y ∷ []) ≡
+    cond (ltb (position_or_len p xs) (length xs)) (position p xs) (cond (p y) (Some (length xs)) None)
+position_push p xs y = let within : position_or_len p xs ≤ length xs = first_within p xs in grind (arith, position_or_len_push p xs y, length_push xs y, within)
 
-pub rows_pushed : {T E : Type 0} (rows reserved grown : List Job) (row : Job) (pushed : Result T E) (done : T) → reserved ≡ rows → grown ≡ (if is_ok pushed then reserved ++ row ∷ [] else reserved) → pushed ≡ Ok done →
-    grown ≡ rows ++ row ∷ []
-rows_pushed rows reserved grown row (Ok done) _ same is ok = is ∙ ap (λ xs. xs ++ row ∷ []) same
-rows_pushed rows reserved grown row (Err fault) done same is ok = cc
+chosen_kept : {X : Type 0} (b : Bool) (x : X) → cond b (cond b (Some x) None) None ≡ cond b (Some x) None
+chosen_kept true x = refl
+chosen_kept false x = refl
+
+number_of_new : (names : List (List ℕ)) (name : List ℕ) → number_of names name ≡ None →
+    number_of (names ++ name ∷ []) name ≡ cond (bytes_eq name name) (Some (length names)) (number_of names name)
+number_of_new names name none =
+    let same : bytes_eq name name ≡ true = (bytes_eq-Decides name name).1 refl in
+    let nowhere : ltb (position_or_len (λ third. bytes_eq third name) names) (length names) ≡ false =
+    chosen (ltb (position_or_len (λ third. bytes_eq third name) names) (length names)) (position_or_len (λ third. bytes_eq third name) names) none in
+    position_push (λ third. bytes_eq third name) names name ∙ rw (nowhere, same) refl
+
+number_of_other : (names : List (List ℕ)) (name other : List ℕ) → bytes_eq name other ≡ false →
+    number_of (names ++ name ∷ []) other ≡ cond (bytes_eq name other) (Some (length names)) (number_of names other)
+number_of_other names name other differ =
+    position_push (λ third. bytes_eq third other) names name
+    ∙ rw differ (chosen_kept (ltb (position_or_len (λ third. bytes_eq third other) names) (length names)) (position_or_len (λ third. bytes_eq third other) names))
+
+-- a new name has the next number, and the others keep theirs
+number_push : (names : List (List ℕ)) (name other : List ℕ) → number_of names name ≡ None →
+    number_of (names ++ name ∷ []) other ≡ cond (bytes_eq name other) (Some (length names)) (number_of names other)
+number_push names name other none = elim (cases_Bool (bytes_eq name other)) [
+  | inl same ↦
+      subst (λ third. number_of (names ++ name ∷ []) third ≡ cond (bytes_eq name third) (Some (length names)) (number_of names third))
+      ((bytes_eq-Decides name other).0 same) (number_of_new names name none)
+  | inr differ ↦ number_of_other names name other differ
+]
+
+-- so the map that gets the name's number has every name's number
+pub numbers_pushed : (names : List (List ℕ)) (name : List ℕ) (old new : BTreeMap (Bor (List ℕ)) ℕ) → AreNumbered names old → number_of names name ≡ None →
+    UpdatesBy (λ one other. slice_cmp nat_cmp one.now other.now) (λ key. slice_cmp nat_cmp name key.now) old new (Some (length names)) →
+    AreNumbered (names ++ name ∷ []) new
+numbers_pushed names name old new numbered none updates other =
+    btree_map_updates_str name old new (Some (length names)) updates other
+    ∙ ap (cond (bytes_eq name other) (Some (length names))) (numbered other)
+    ∙ sym (number_push names name other none)
 
 other_differs : (names : List (List ℕ)) (name : List ℕ) (i : ℕ) → number_of names name ≡ None → i < length names → name_at names i ≡ name → ⊥
 other_differs names name i none within is =

@@ -6,8 +6,8 @@ ghost use Rattle.yds_model.specs.Within.{AreNamedJobs};
 ghost use Rattle.yds_instance.specs.Named.{Named, number_of};
 
 use crate::fault::AddFault;
-use indexmap::IndexSet;
 use std::alloc::Global;
+use std::collections::BTreeMap;
 use std::marker::Model;
 use yds_model::JobRow;
 use yds_model::limits::MAX_JOBS;
@@ -18,20 +18,22 @@ use yds_model::limits::MAX_JOBS;
 /// are at most `MAX_JOBS` jobs.
 #[derive(Drop)]
 pub struct Instance<'a> {
-    names: IndexSet<&'a str>,
+    names: Vec<&'a str>,
+    /// Each name's number. No names make a look-up slow.
+    numbers: BTreeMap<&'a str, u32>,
     rows: Vec<JobRow>,
 }
 
 impl<'a> Model for Instance<'a> {
     ghost use Rattle.std.specs.Prelude.{map};
     ghost use Rattle.yds_model.specs.Within.{AreNamedJobs};
-    ghost use Rattle.yds_instance.specs.Named.{Named};
+    ghost use Rattle.yds_instance.specs.Named.{Named, AreNumbered};
 
     ghost Value = { Named };
 
-    ghost view = { λ i. record { names = map (λ name. name.now) i.names.keys; jobs = i.rows.items } };
+    ghost view = { λ i. record { names = map (λ name. name.now) i.names.items; jobs = i.rows.items } };
 
-    ghost invariant = { λ i. AreNamedJobs (map (λ name. name.now) i.names.keys) i.rows.items };
+    ghost invariant = { λ i. AreNamedJobs (map (λ name. name.now) i.names.items) i.rows.items × AreNumbered (map (λ name. name.now) i.names.items) i.numbers };
 }
 
 impl<'a> Instance<'a> {
@@ -40,7 +42,8 @@ impl<'a> Instance<'a> {
         ensures { result ≡ record { names = []; jobs = [] } }
     {
         Instance {
-            names: IndexSet::new(alloc),
+            names: Vec::new(alloc),
+            numbers: BTreeMap::new(alloc),
             rows: Vec::new(alloc),
         }
     }
@@ -68,9 +71,11 @@ impl<'a> Instance<'a> {
         // Reading a field shows that the row is within the limits.
         let _release = row.release;
         let number = self.rows.len() as u32;
+        self.names.reserve(1)?;
         self.rows.reserve(1)?;
-        self.names.insert(name)?;
-        self.rows.push(row).unwrap();
+        self.numbers.insert(name, number)?;
+        self.names.push_reserved(name);
+        self.rows.push_reserved(row);
         Ok(number)
     }
 
@@ -97,8 +102,7 @@ impl<'a> Instance<'a> {
         ensures found { MatchOption result (¬ (Contains self.now.names name.now)) (λ number. (number < length self.now.jobs) × (name_at self.now.names number ≡ name.now)) }
         ensures kept { AreNamedJobs self.now.names self.now.jobs }
     {
-        let index = self.names.get_index_of(name)?;
-        Some(index as u32)
+        self.numbers.get(name).copied()
     }
 }
 

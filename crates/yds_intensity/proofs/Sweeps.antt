@@ -13,7 +13,7 @@ use Rattle.yds_model.specs.Policy.{numbers_of}
 use Rattle.yds_model.proofs.Lists.{All-front}
 use Rattle.yds_intensity.specs.declared.sweeping.Sum.{Sum}
 use Rattle.yds_intensity.specs.Work.{work_within}
-use Rattle.yds_intensity.specs.Sums.{no_sum, sum_at, AreRising, AreSums}
+use Rattle.yds_intensity.specs.Sums.{no_sum, sum_at, HaveRisingEnds, AreSums}
 use Rattle.yds_intensity.specs.Put.{IsPut}
 use Rattle.yds_intensity.specs.Order.{IsDeadlineOrder}
 use Rattle.yds_intensity.proofs.Work.{share, share_early, share_late, work_from, work_from_more, work_due, work_push}
@@ -80,7 +80,7 @@ sweep_kept seen job start sums are window past = record {
 
 -- what is left of the sums where one is put after them
 record Kept (sums : List Sum) (end : ℕ) (kept : List Sum) : Type 0 where
-  rising : AreRising kept
+  rising : HaveRisingEnds kept
   below : (k : ℕ) → k < length kept → (sum_at kept k).end < end
   works : (jobs : List Job) (start : ℕ) → All (λ sum. sum.work ≡ work_within jobs start sum.end) sums → All (λ sum. sum.work ≡ work_within jobs start sum.end) kept
   stays : (other : ℕ) → Contains (ends_of kept) other → Contains (ends_of sums) other
@@ -92,7 +92,7 @@ put_kept seen start sums put sum are due (kept, is, inl (same, other)) =
     let most : (k : ℕ) → k < length sums → (sum_at sums k).end ≤ sum.end =
     λ k within. due_has seen sum.end (sum_at sums k).end due ((are.ends (sum_at sums k).end).0 (end_at sums k within)).1 in
     record {
-      rising = subst AreRising same are.rising;
+      rising = subst HaveRisingEnds same are.rising;
       below = λ k within.
           let inside : k < length sums = omega (arith, ap (λ (xs : List Sum). length xs) same) in
           let here : (sum_at kept k).end ≡ (sum_at sums k).end = ap (λ (xs : List Sum). (sum_at xs k).end) (sym same) in
@@ -108,7 +108,7 @@ put_kept seen start sums put sum are due (kept, is, inl (same, other)) =
       stood = λ e has. inl (subst (λ (xs : List Sum). Contains (ends_of xs) e) same has);
     }
 put_kept seen start sums put sum are due (kept, is, inr (last, same, was)) =
-    let rising : AreRising (kept ++ last ∷ []) = subst AreRising was are.rising in
+    let rising : HaveRisingEnds (kept ++ last ∷ []) = subst HaveRisingEnds was are.rising in
     let at : (k : ℕ) → k < length kept → sum_at (kept ++ last ∷ []) k ≡ sum_at kept k = λ k within. get_or_append_left kept (last ∷ []) no_sum k within in
     let last_at : sum_at (kept ++ last ∷ []) (length kept) ≡ last = get_or_push kept last no_sum (length kept) refl in
     let count = length_push kept last in

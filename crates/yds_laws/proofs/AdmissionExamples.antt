@@ -7,7 +7,7 @@ use Rattle.std.specs.List.{Contains, list_any}
 use Rattle.std.proofs.Math.Nat.{one-dvd}
 use Rattle.std.proofs.lemmas.Bool.Decides.{nat_tests, not_from_Decides}
 use Rattle.std.proofs.lemmas.List.Elements.{All-from_recursion}
-use Rattle.yds_model.specs.declared.status.Status.TheVariants.{Done}
+use Rattle.yds_model.specs.declared.status.Status.TheVariants.{Done, Refused}
 use Rattle.yds_model.specs.Job.{Job, job_at}
 use Rattle.yds_model.specs.Scale.{of_whole}
 use Rattle.yds_model.specs.Slot.{WrittenSlot, WholeSlot, IsScale, slots_at}
@@ -26,6 +26,7 @@ use Rattle.yds_laws.proofs.DecidedSchedules.{is_run_at, run_decided}
 use Rattle.yds_laws.proofs.DecidedAdmission.{can_serve, cant_serve, overfull_by_test, first_of_all}
 use Rattle.yds_laws.proofs.RunScale.{admitted_run_scaled}
 use Rattle.yds_laws.proofs.Within.{read_is_within_limits}
+use Rattle.yds_laws.proofs.AdmitText.{admission_texts_are_feasible}
 
 abbrev job : ℕ → ℕ → ℕ → Job
 job release deadline work = record { release = release; deadline = deadline; work = work }
@@ -254,3 +255,15 @@ answer = record {
   said = refl;
   ended = refl;
 }
+
+-- By the law `audit` answers that text with 'feasible': the comment is passed over.
+audited : Answers (codes "audit" ∷ []) (codes "job a 0 4 4\njob b 0 2 4\nslot b 0 2 4\nslot a 2 4 4\n# refuse c from 0 to 4 work 9 top 2\n") (codes "feasible\n") Done
+unfolding digits
+audited = admission_texts_are_feasible (codes "admit" ∷ codes "2" ∷ []) 2 refl (codes "job a 0 4 4\njob b 0 2 4\njob c 1 3 1\n")
+    (codes "job a 0 4 4\njob b 0 2 4\nslot b 0 2 4\nslot a 2 4 4\n# refuse c from 0 to 4 work 9 top 2\n") answer
+
+-- Without its sign the same line is refused.
+no_comment : Answers (codes "audit" ∷ []) (codes "job a 0 4 4\njob b 0 2 4\nslot b 0 2 4\nslot a 2 4 4\nrefuse c from 0 to 4 work 9 top 2\n")
+    (codes "refused 5 1 UnknownKind\n") Refused
+unfolding digits
+no_comment = record { said = refl; ended = refl }

@@ -1,17 +1,15 @@
 -- No slot of the admitted jobs' schedule is faster than the top speed: a stretch that serves something is filled at one speed, by which
 -- it serves at most what the top speed does there.
-use Rattle.std.proofs.Common.{◌≡◌, ℕ, zero, suc, ◌+◌, ◌-◌, ◌*◌, ◌<◌, ◌≤◌, min, List, [], ◌∷◌, length, get_or, refl, sym, subst, arith, inl, inr, ap, Bool, true, false, ◌&&◌, nat_le}
-use Rattle.std.specs.List.{All, Any, Contains, filter}
+use Rattle.std.proofs.Common.{◌≡◌, ℕ, zero, suc, ◌-◌, ◌*◌, ◌<◌, ◌≤◌, List, [], ◌∷◌, length, get_or, subst, arith, inl, inr, ap, Bool, true, ◌&&◌, nat_le}
+use Rattle.std.specs.List.{All, Contains, filter}
 use Rattle.std.proofs.lemmas.Bool.{le-leb, and_from, cases_Bool, cases_lt}
 use Rattle.std.proofs.lemmas.List.Elements.{All-nil, All-cons, All-contains, Contains-get_or}
 use Rattle.std.proofs.Math.Nat.{mul-le-mul_right, le_of_mul-le-mul_right, mul-pos}
-use Rattle.yds_model.specs.Job.{Job}
-use Rattle.yds_model.specs.Slot.{WrittenSlot, WholeSlot, IsScale, AtEachScale, slots_at}
+use Rattle.yds_model.specs.Slot.{WholeSlot, slots_at}
 use Rattle.yds_model.specs.Piece.{Piece}
-use Rattle.yds_model.specs.Feasible.{RunFrom}
-use Rattle.yds_model.specs.Event.{stretches, LiesIn}
-use Rattle.yds_model.specs.Policy.{slots_in, FillsAtSpeed, ServesCapacity, IsRunAt}
-use Rattle.yds_model.specs.Admission.{IsWithinTop, top_capacity, IsAdmittedRun}
+use Rattle.yds_model.specs.Event.{LiesIn}
+use Rattle.yds_model.specs.Policy.{slots_in, FillsAtSpeed, ServesCapacity}
+use Rattle.yds_model.specs.Admission.{IsWithinTop, top_capacity}
 use Rattle.yds_model.proofs.Runs.{run_forward}
 use Rattle.yds_laws.specs.AdmissionLaws.{AdmittedRunsAreWithinTop}
 

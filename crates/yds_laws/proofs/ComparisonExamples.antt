@@ -25,6 +25,7 @@ use Rattle.yds_model.specs.Comparison.{work_in, all_time_at, all_energy, Spent, 
 use Rattle.yds_model.specs.Answer.{Answers}
 use Rattle.yds_model.proofs.Scale.{one_scale_of, least_scale_of}
 use Rattle.yds_model.proofs.Divisor.{multiple_is_least}
+use Rattle.yds_laws.specs.CompareText.{CostsNoLess}
 use Rattle.yds_laws.proofs.Decided.{le_decided, all_below, each_decided, all_decided, scale_decided}
 use Rattle.yds_laws.proofs.DecidedSchedules.{feasible_by_test, stretches_decided, run_decided}
 use Rattle.yds_laws.proofs.DecidedPlans.{proper_by_test, plan_by_test}
@@ -136,6 +137,16 @@ available_spent = record { energy = third 3 1; times = third 0 1 ∷ third 2 1 �
 
 available_spends : IsSpent jobs points available available_spent
 available_spends = spends points available available_spent 42 (omega arith) available_scale (record { energy = refl; times = refl })
+
+-- So neither policy spends less than the plan; Optimal Available spends less than Average Rate.
+average_costs_no_less : CostsNoLess planned_spent.energy (Spends average_spent)
+average_costs_no_less = omega arith
+
+available_costs_no_less : CostsNoLess planned_spent.energy (Spends available_spent)
+available_costs_no_less = omega arith
+
+available_costs_less : CostsNoLess average_spent.energy (Spends available_spent) → ⊥
+available_costs_less most = omega (arith, most)
 
 -- The same times with the energy 4 aren't what Average Rate spends,
 other_energy : IsSpent jobs points average (record { energy = of_whole 4; times = average_spent.times }) → ⊥

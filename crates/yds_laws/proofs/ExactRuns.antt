@@ -1,28 +1,28 @@
 -- Runs that never rounded: Average Rate does whole parts of jobs, and Optimal Available has the greatest quotient's speed.
-use Rattle.std.proofs.Common.{◌≡◌, ℕ, zero, suc, ◌+◌, ◌-◌, ◌*◌, ◌/◌, ◌%◌, ◌<◌, ◌≤◌, ◌⊎◌, max, List, [], ◌∷◌, length, get_or, map, ◌∙◌, refl, sym, ap, subst, arith, inl, inr, cond, Bool, true, false}
+use Rattle.std.proofs.Common.{◌≡◌, ℕ, zero, suc, ◌+◌, ◌-◌, ◌*◌, ◌/◌, ◌%◌, ◌<◌, ◌≤◌, ◌⊎◌, max, List, [], ◌∷◌, length, map, ◌∙◌, refl, sym, ap, subst, arith, inl, inr, cond, Bool, true, false}
 use Rattle.std.specs.Prelude.{count_by, sum_by, nat_lt, nat_le, ◌==◌, ◌&&◌, ◌||◌, not, fold}
-use Rattle.std.specs.List.{All, Any, Contains, filter, list_any, list_all}
-use Rattle.std.proofs.lemmas.Bool.{cases_lt, cases_eq, cases_Bool, lt-ltb, le-ltb, le-leb, lt-leb, eqb-true, true≢false}
+use Rattle.std.specs.List.{All, Any, filter, list_any, list_all}
+use Rattle.std.proofs.lemmas.Bool.{cases_lt, cases_Bool, lt-ltb, le-ltb, le-leb, lt-leb, eqb-true, true≢false}
 use Rattle.std.proofs.lemmas.List.{get_or_default}
 use Rattle.std.proofs.lemmas.List.Elements.{All-nil, All-cons, All-head, All-tail, All-filter, All-weaker, All-from_get_or}
 use Rattle.std.proofs.lemmas.List.Sums.{sum_by-cons}
 use Rattle.std.proofs.Math.Nat.{mul-pos, mul-sub, mul-le-mul_right, eq_of_mul-eq-mul_right, div-lt_iff_lt-mul, le-div_iff_mul-le, div-add-mod}
 use Rattle.yds_model.specs.Job.{Job}
-use Rattle.yds_model.specs.Slot.{WrittenSlot, WholeSlot, IsScale, slots_at}
+use Rattle.yds_model.specs.Slot.{WholeSlot, slots_at}
 use Rattle.yds_model.specs.Piece.{Piece}
 use Rattle.yds_model.specs.Event.{stretches}
-use Rattle.yds_model.specs.Policy.{div_up, pending_units, slots_in, FillsAtSpeed, ServesCapacity, IsRunAt}
-use Rattle.yds_model.specs.AverageRate.{is_live, term_numerator, term_of, terms_of, rounds_term, average_rate, average_rate_rounds, IsAverageRateRun}
-use Rattle.yds_model.specs.OptimalAvailable.{due_units, pending_deadlines, asked, units_asked, optimal_available, optimal_available_rounds, IsOptimalAvailableRun}
+use Rattle.yds_model.specs.Policy.{div_up, slots_in, FillsAtSpeed, ServesCapacity, IsRunAt}
+use Rattle.yds_model.specs.AverageRate.{is_live, term_numerator, term_of, rounds_term, average_rate_rounds}
+use Rattle.yds_model.specs.OptimalAvailable.{due_units, pending_deadlines, asked, units_asked, optimal_available, optimal_available_rounds}
 use Rattle.yds_model.specs.Comparison.{work_in, stretch_at}
 use Rattle.yds_model.proofs.Runs.{run_forward}
 use Rattle.yds_events.specs.Stretch.{no_stretch}
 use Rattle.yds_events.proofs.Neighbours.{stretch_forward}
-use Rattle.yds_laws.specs.RunLaws.{HasWholeTerms, DoesItsTerms, AverageRateIsExact, HasGreatestSpeed, OptimalAvailableIsExact}
+use Rattle.yds_laws.specs.RunLaws.{HasWholeTerms, HasGreatestSpeed, OptimalAvailableIsExact}
 
 -- # Nothing that is counted none times holds
 
-none_counted : {X : Type 0} (p : X → Bool) (xs : List X) → 0 ≡ count_by p xs → All (λ x. p x ≡ false) xs
+pub none_counted : {X : Type 0} (p : X → Bool) (xs : List X) → 0 ≡ count_by p xs → All (λ x. p x ≡ false) xs
 none_counted p [] none = All-nil (λ x. p x ≡ false)
 none_counted p (x ∷ xs) none =
     let counted = sum_by-cons (λ y. cond (p y) 1 0) x xs in
@@ -115,24 +115,12 @@ window_long stretch job live = elim (cases_lt stretch.from job.release) [
   ]
 ]
 
-whole_terms : (jobs : List Job) (grid : ℕ) (stretch : Piece) → average_rate_rounds jobs grid stretch ≡ false → HasWholeTerms jobs grid stretch
+pub whole_terms : (jobs : List Job) (grid : ℕ) (stretch : Piece) → average_rate_rounds jobs grid stretch ≡ false → HasWholeTerms jobs grid stretch
 whole_terms jobs grid stretch none =
     All-weaker (λ job. is_live stretch job ≡ true → rounds_term grid stretch job ≡ false)
     (λ job. is_live stretch job ≡ true → term_of grid stretch job * (job.deadline - job.release) ≡ term_numerator grid stretch job)
     (λ job fails live. whole_quotient (term_numerator grid stretch job) (job.deadline - job.release) (not_not _ (fails live)) (window_long stretch job live))
     jobs (none_any (is_live stretch) (rounds_term grid stretch) jobs none)
-
--- the law of Average Rate
-pub average_rate_is_exact : AverageRateIsExact
-average_rate_is_exact jobs grid slots some run =
-    let none = none_counted (average_rate_rounds jobs grid) (stretches jobs) run.rounds in
-    record {
-      solid = run.run.solid;
-      holds = λ scale is. All-from_get_or (DoesItsTerms jobs grid scale (slots_at scale slots)) (stretches jobs) no_stretch (λ k here. record {
-        whole = whole_terms jobs grid (stretch_at jobs k) (none k no_stretch here);
-        does = does_capacity jobs grid scale some is.positive (average_rate jobs grid scale (slots_at scale slots)) (slots_at scale slots) (run.run.holds scale is) k here;
-      });
-    }
 
 -- # Optimal Available
 

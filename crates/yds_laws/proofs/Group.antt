@@ -1,16 +1,16 @@
 -- Sums over the slots of a group of jobs. Each slot is weighed by how often its job stands in the group, so that such a
 -- sum is one of its members' sums, and no slot has to be looked for.
-use Rattle.std.proofs.Common.{◌≡◌, ℕ, ◌+◌, ◌*◌, ◌<◌, ◌==◌, List, [], ◌∷◌, ◌++◌, ◌∙◌, length, get_or, arith, ap}
+use Rattle.std.proofs.Common.{◌≡◌, ℕ, ◌+◌, ◌*◌, ◌<◌, ◌≤◌, ◌==◌, List, [], ◌∷◌, ◌++◌, ◌∙◌, length, get_or, arith, ap}
 use Rattle.std.specs.Prelude.{cond, if◌then◌else◌}
 use Rattle.std.specs.List.{All, sum_by}
 use Rattle.std.proofs.lemmas.List.Sums.{sum_by-cons, sum_by-append}
 use Rattle.std.proofs.lemmas.List.Elements.{All-tail}
 use Rattle.std.proofs.lemmas.Bool.Decides.{nat_tests}
 use Rattle.std.proofs.Math.Nat.{add-mul}
-use Rattle.yds_model.specs.Numbers.{count}
+use Rattle.yds_model.specs.Numbers.{AreDifferent, count}
 use Rattle.yds_model.specs.Job.{Job, job_at, work_of}
 use Rattle.yds_model.specs.Slot.{WholeSlot, work_given}
-use Rattle.yds_model.proofs.Sums.{sum_by-add, sum_by_same, sum_by_zero}
+use Rattle.yds_model.proofs.Sums.{sum_by-add, sum_by_same, sum_by_at_most, sum_by_zero}
 use Rattle.yds_model.proofs.Lists.{count-cons}
 
 -- the sum over the slots of a group's jobs
@@ -60,3 +60,24 @@ work_served jobs scale slots (x ∷ xs) served known =
       work_served jobs scale slots xs served (All-tail (λ number. number < length jobs) x xs known),
       ap (λ n. scale * n) (sum_by-cons (λ number. (job_at jobs number).work) x xs),
     )
+
+-- what the slots give the members, together
+pub given_together : (members : List ℕ) (slots : List WholeSlot) → sum_by (work_given slots) members ≡ group (λ slot. slot.work) members slots
+given_together [] slots = omega (arith, group-nil (λ slot. slot.work) slots)
+given_together (x ∷ xs) slots =
+    omega (
+      arith,
+      sum_by-cons (work_given slots) x xs,
+      group-cons (λ slot. slot.work) x xs slots,
+      sum_by_same (λ slot. cond (slot.job == x) 1 0 * slot.work) (λ slot. if x == slot.job then slot.work else 0) slots
+          (λ k d within. own_part (get_or slots k d).job x (get_or slots k d).work),
+      given_together xs slots,
+    )
+
+once_at_most : (often n : ℕ) → often ≤ 1 → often * n ≤ n
+once_at_most often n once = grind arith
+
+-- is no more than all, where the members are different
+pub group_at_most : (f : WholeSlot → ℕ) (members : List ℕ) (slots : List WholeSlot) → AreDifferent members → group f members slots ≤ sum_by f slots
+group_at_most f members slots different =
+    sum_by_at_most (λ slot. count slot.job members * f slot) f slots (λ k d within. once_at_most (count (get_or slots k d).job members) (f (get_or slots k d)) (different _))

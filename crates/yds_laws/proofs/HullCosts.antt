@@ -78,7 +78,7 @@ abbrev pub power_of : List Point → WholeSlot → ℤ
 power_of points slot = interpolated_power points (slot.to - slot.from) slot.work
 
 -- the line's number is linear in time and work
-gains_more : (low high : Point) (slot : WholeSlot) (slots : List WholeSlot) →
+pub gains_more : (low high : Point) (slot : WholeSlot) (slots : List WholeSlot) →
     gains low high (busy (slot ∷ slots)) (all_work (slot ∷ slots)) ≡ gains low high (slot.to - slot.from) slot.work + gains low high (busy slots) (all_work slots)
 gains_more low high slot slots =
     omega (
@@ -88,7 +88,7 @@ gains_more low high slot slots =
     )
 
 -- and so is what is taken off
-losses_more : (low high : Point) (slot : WholeSlot) (slots : List WholeSlot) →
+pub losses_more : (low high : Point) (slot : WholeSlot) (slots : List WholeSlot) →
     losses low high (busy (slot ∷ slots)) (all_work (slot ∷ slots)) ≡ losses low high (slot.to - slot.from) slot.work + losses low high (busy slots) (all_work slots)
 losses_more low high slot slots =
     omega (

@@ -99,7 +99,7 @@ lines_under before low high (next ∷ hull) point time rising over =
     (both_under _ _ _ (at_most_same _ _ _ bound first) (at_most_same _ _ _ other later))
 
 -- a slot at a point's speed costs by the hull at most the point's power
-slot_under : (points hull : List Point) (point : Point) (time : ℕ) → AreRising points → IsHullOf points hull → Contains points point →
+pub slot_under : (points hull : List Point) (point : Point) (time : ℕ) → AreRising points → IsHullOf points hull → Contains points point →
     interpolated_power hull time (point.speed * time) ≤ℤ pos (product (gaps_of hull) * (point.power * time))
 slot_under [] hull point time rising is_hull on = absurd (omega (arith, on.1))
 slot_under (first ∷ points) [] point time rising is_hull on = absurd is_hull.part

@@ -32,25 +32,25 @@ use Rattle.yds_laws.proofs.FullStretches.{count_joined, contained_counted, membe
 -- # Rates
 
 -- the product of the lengths
-abbrev all_lengths : List Level → ℕ
+abbrev pub all_lengths : List Level → ℕ
 all_lengths [] = 1
 all_lengths (level ∷ levels) = level.length * all_lengths levels
 
 -- it isn't 0
-lengths_positive : (levels : List Level) → All (λ level. (1 ≤ level.work) × (1 ≤ level.length)) levels → 1 ≤ all_lengths levels
+pub lengths_positive : (levels : List Level) → All (λ level. (1 ≤ level.work) × (1 ≤ level.length)) levels → 1 ≤ all_lengths levels
 lengths_positive [] positive = omega arith
 lengths_positive (level ∷ levels) positive =
     mul-pos (All-head (λ level. (1 ≤ level.work) × (1 ≤ level.length)) level levels positive).1
     (lengths_positive levels (All-tail (λ level. (1 ≤ level.work) × (1 ≤ level.length)) level levels positive))
 
 -- what a unit of a job's time costs, times the product of the lengths: its level's cost over its length
-abbrev rate : List Level → List ℕ → ℕ → ℕ
+abbrev pub rate : List Level → List ℕ → ℕ → ℕ
 rate [] costs number = 0
 rate (level ∷ levels) [] number = 0
 rate (level ∷ levels) (cost ∷ costs) number = count number level.members * (cost * all_lengths levels) + level.length * rate levels costs number
 
 -- a job that is no member costs nothing
-rate_none : (levels : List Level) (costs : List ℕ) (number : ℕ) → count number (all_members levels) ≡ 0 → rate levels costs number ≡ 0
+pub rate_none : (levels : List Level) (costs : List ℕ) (number : ℕ) → count number (all_members levels) ≡ 0 → rate levels costs number ≡ 0
 rate_none [] costs number none = refl
 rate_none (level ∷ levels) [] number none = refl
 rate_none (level ∷ levels) (cost ∷ costs) number none =
@@ -60,7 +60,7 @@ rate_none (level ∷ levels) (cost ∷ costs) number none =
     omega (arith, ap (λ n. n * (cost * all_lengths levels)) here, ap (λ n. level.length * n) (rate_none levels costs number later))
 
 -- a member costs what its level does, by its share of the length
-rate_member : (levels : List Level) (costs : List ℕ) (i number : ℕ) → length levels ≡ length costs → i < length levels → Contains (level_at levels i).members number →
+pub rate_member : (levels : List Level) (costs : List ℕ) (i number : ℕ) → length levels ≡ length costs → i < length levels → Contains (level_at levels i).members number →
     count number (all_members levels) ≤ 1 → rate levels costs number * (level_at levels i).length ≡ all_lengths levels * get_or costs i 0
 rate_member [] costs i number same within has once = absurd (omega (arith, within))
 rate_member (level ∷ levels) [] i number same within has once = absurd (omega (arith, same))
@@ -78,7 +78,7 @@ rate_member (level ∷ levels) (cost ∷ costs) (suc i) number same within has o
     omega (arith, ap (λ n. n * (cost * all_lengths levels) * (level_at levels i).length) none, ap (λ n. level.length * n) rest)
 
 -- the slots together cost what the levels do
-rates_together : (scale : ℕ) (slots : List WholeSlot) (levels : List Level) (costs : List ℕ) → length levels ≡ length costs → All (TakesLong slots scale) levels →
+pub rates_together : (scale : ℕ) (slots : List WholeSlot) (levels : List Level) (costs : List ℕ) → length levels ≡ length costs → All (TakesLong slots scale) levels →
     sum_by (λ slot. rate levels costs slot.job * (slot.to - slot.from)) slots ≡ all_lengths levels * (scale * sum costs)
 rates_together scale slots [] [] same long = omega (arith, sum_by_zero (λ slot. 0 * (slot.to - slot.from)) slots (λ k d within. omega arith))
 rates_together scale slots [] (cost ∷ costs) same long = absurd (omega (arith, same))
@@ -114,7 +114,7 @@ record SpendsByRate (points : List Point) (parts power : ℕ) (levels : List Lev
       ≡ sum_by (λ slot. rate levels costs slot.job * (slot.to - slot.from)) planned + parts * all_lengths levels * (power * busy written)
 
 -- slots of one level cost its cost, by their share of its length
-level_rates : (levels : List Level) (costs : List ℕ) (long share : ℕ) (slots : List WholeSlot) → All (λ slot. rate levels costs slot.job * long ≡ share) slots →
+pub level_rates : (levels : List Level) (costs : List ℕ) (long share : ℕ) (slots : List WholeSlot) → All (λ slot. rate levels costs slot.job * long ≡ share) slots →
     sum_by (λ slot. rate levels costs slot.job * (slot.to - slot.from)) slots * long ≡ share * busy slots
 level_rates levels costs long share [] each = omega arith
 level_rates levels costs long share (slot ∷ slots) each =

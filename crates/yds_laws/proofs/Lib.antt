@@ -33,6 +33,14 @@ pub mod Exact
 pub mod Explained
 pub mod RunScale
 pub mod SpentScale
+pub mod StretchSlots
+pub mod PointTimes
+pub mod HullMixed
+pub mod SpentEnergy
+pub mod EvenStretches
+pub mod StretchTimes
+pub mod Compared
+pub mod CompareText
 pub mod RoundingScale
 pub mod OneEnergy
 pub mod OneJudgement
@@ -76,6 +84,9 @@ pub mod RoundText
 pub mod AnsweredOnce
 pub mod RunText
 pub mod ExactRuns
+pub mod JobNumbers
+pub mod ExactRates
+pub mod AdmitText
 pub mod TaskWork
 pub mod OneLevel
 pub mod TasksSaid

@@ -1,9 +1,12 @@
 -- Parts as a fraction, and a quotient in lowest terms, have the quotient's value.
-use Rattle.std.proofs.Common.{◌≡◌, ℕ, ◌+◌, ◌*◌, ◌/◌, ◌%◌, ◌≤◌, ◌==◌, Bool, true, false, arith, ap, refl, eqb-true}
+use Rattle.std.proofs.Common.{◌≡◌, ℕ, ◌+◌, ◌*◌, ◌/◌, ◌%◌, ◌<◌, ◌≤◌, ◌==◌, Bool, true, false, arith, add_comm, ap, ap₂, subst, sym, ◌∙◌, refl, eqb-true}
 use Rattle.std.specs.Prelude.{if◌then◌else◌}
-use Rattle.std.proofs.Math.Nat.{div-mul_cancel, eq_of_mul-eq-mul_left}
+use Rattle.std.specs.Int.{◌∣◌}
+use Rattle.std.proofs.lemmas.Nat.{mod-mul-add}
+use Rattle.std.proofs.lemmas.Nat.Gcd.{dvd-zero, dvd_refl, le_of_dvd}
+use Rattle.std.proofs.Math.Nat.{div-mul_cancel, div-one, dvd-mul_left_of_dvd, dvd-add_iff_left, eq_of_mul-eq-mul_right}
 use Rattle.yds_model.specs.Scale.{Fraction, numerator, of_whole, of_parts}
-use Rattle.yds_model.specs.Divisor.{common_divisor, in_lowest_terms}
+use Rattle.yds_model.specs.Divisor.{common_divisor, in_lowest_terms, IsLowest}
 use Rattle.yds_model.proofs.Divisor.{divisor_is_greatest, divisor_positive}
 use Rattle.yds_model.proofs.Scale.{first_factor}
 
@@ -39,3 +42,34 @@ lowest_value num den some =
       has_parts = value.has_parts;
       same = omega (arith, ap (λ n. n * g) value.same, ap (λ n. numerator x * n) of_den, ap (λ n. n * x.den) of_num);
     }
+
+-- # Fractions in lowest terms
+
+-- parts of a fraction in lowest terms are it
+parts_lowest : (b : Bool) (whole num den : ℕ) → num < den → common_divisor num den ≡ 1 → (num == 0) ≡ b →
+    (if b then of_whole whole else record { whole = whole; num = num; den = den }) ≡ record { whole = whole; num = num; den = den }
+parts_lowest true whole num den below reduced is =
+    let none : num ≡ 0 = eqb-true num 0 is in
+    let divides : den ∣ num = subst (λ n. den ∣ n) (sym none) (dvd-zero den) in
+    let one_divides : den ∣ 1 = subst (λ n. den ∣ n) reduced ((divisor_is_greatest num den).2 den divides (dvd_refl den)) in
+    let one : den ≡ 1 = omega (arith, below, le_of_dvd (omega arith) one_divides) in
+    cc
+parts_lowest false whole num den below reduced is = refl
+
+-- a fraction in lowest terms is the quotient of its numerator
+pub lowest_is : (x : Fraction) → IsLowest x → in_lowest_terms (numerator x) x.den ≡ x
+lowest_is x lowest =
+    let g = common_divisor (numerator x) x.den in
+    let some : 1 ≤ x.den = omega (arith, lowest.below_one) in
+    let greatest = divisor_is_greatest (numerator x) x.den in
+    let sum : g ∣ x.num + x.whole * x.den = subst (λ n. g ∣ n) (add_comm (x.whole * x.den) x.num) greatest.0 in
+    let of_num : g ∣ x.num = (dvd-add_iff_left g {m = x.num} {n = x.whole * x.den} (dvd-mul_left_of_dvd g greatest.1 x.whole)).1 sum in
+    let of_one : g ∣ 1 = subst (λ n. g ∣ n) lowest.reduced ((divisor_is_greatest x.num x.den).2 g of_num greatest.1) in
+    let one : g ≡ 1 = omega (arith, le_of_dvd (omega arith) of_one, divisor_positive (numerator x) x.den some) in
+    let over : numerator x % x.den ≡ x.num = mod-mul-add x.whole x.den x.num lowest.below_one in
+    let whole : numerator x / x.den ≡ x.whole =
+    eq_of_mul-eq-mul_right x.den some (numerator x / x.den) x.whole (let all : numerator x / x.den * x.den + numerator x % x.den ≡ numerator x = omega arith in omega (arith, all, over)) in
+    ap (λ n. of_parts (numerator x / n) (x.den / n)) one
+    ∙ ap₂ of_parts (div-one (numerator x)) (div-one x.den)
+    ∙ ap₂ (λ n m. if n == 0 then of_whole m else record { whole = m; num = n; den = x.den }) over whole
+    ∙ parts_lowest (x.num == 0) x.whole x.num x.den lowest.below_one lowest.reduced refl

@@ -17,7 +17,7 @@ use Rattle.yds_model.proofs.Scale.{scale_exists}
 -- # One point for a speed
 
 -- points that rise do so without the first one
-rising_tail : (point : Point) (points : List Point) → AreRising (point ∷ points) → AreRising points
+pub rising_tail : (point : Point) (points : List Point) → AreRising (point ∷ points) → AreRising points
 rising_tail point [] rising = tt
 rising_tail point (next ∷ points) rising = rising.1
 

@@ -20,7 +20,7 @@ hull_some (point ∷ points) [] table is_hull = absurd is_hull.part
 hull_some points (low ∷ hull) table is_hull = omega arith
 
 -- with a first point, idle, and rising
-hull_table : (points hull : List Point) → IsTable points → IsHullOf points hull → IsTable hull
+pub hull_table : (points hull : List Point) → IsTable points → IsHullOf points hull → IsTable hull
 hull_table points hull table is_hull = record {
   some = hull_some points hull table is_hull;
   idle = ap (λ (x : Point). x.speed) (sym (hull_first points hull is_hull)) ∙ table.idle;

@@ -2,7 +2,7 @@
 use Rattle.std.proofs.Common.{◌≡◌, ℕ, zero, suc, ◌-◌, ◌*◌, ◌/◌, ◌≤◌, List, [], ◌∷◌, map, refl, sym, ap, subst, arith, inl, inr}
 use Rattle.std.specs.Prelude.{count_by}
 use Rattle.std.specs.Int.{◌∣◌}
-use Rattle.std.specs.List.{Contains}
+use Rattle.std.specs.List.{All, Contains}
 use Rattle.std.proofs.lemmas.Bool.Decides.{not_from_Decides}
 use Rattle.std.proofs.Math.Nat.{one-dvd}
 use Rattle.yds_model.specs.Job.{Job}
@@ -16,8 +16,12 @@ use Rattle.yds_model.specs.Plan.{IsOver}
 use Rattle.yds_model.specs.Policy.{IsRunAt, HasRunDenominators}
 use Rattle.yds_model.specs.AverageRate.{average_rate, average_rate_rounds, IsAverageRateRun}
 use Rattle.yds_model.specs.OptimalAvailable.{optimal_available, optimal_available_rounds, IsOptimalAvailableRun}
+use Rattle.yds_model.specs.Comparison.{work_in}
 use Rattle.yds_model.proofs.Scale.{least_scale_of}
 use Rattle.yds_model.proofs.Divisor.{multiple_is_least}
+use Rattle.yds_events.specs.Stretch.{no_stretch}
+use Rattle.yds_laws.specs.RunLaws.{DoesItsTerms}
+use Rattle.yds_laws.proofs.ExactRates.{average_rate_is_exact}
 use Rattle.yds_laws.proofs.RunScale.{average_rate_run_scaled, optimal_available_run_scaled, optimal_available_rounds_scaled}
 use Rattle.yds_laws.proofs.Decided.{scale_decided}
 use Rattle.yds_laws.proofs.DecidedSchedules.{feasible_by_test, is_run_at, run_decided}
@@ -88,6 +92,48 @@ not_rounded_refused is =
     let capacity = average_rate rate_jobs 1 3 (slots_at 3 not_rounded) in
     not_from_Decides (is_run_at rate_jobs 1 3 capacity (slots_at 3 not_rounded)) (run_decided rate_jobs 1 3 capacity (slots_at 3 not_rounded)) refl
     (is.run.holds 3 ((scale_decided 3 not_rounded).0 refl))
+
+-- The second stretch serves those 3, and so less than the sum of the terms: rounding up was more than the jobs had.
+capped : DoesItsTerms rate_jobs 1 3 (slots_at 3 rate_slots) (record { from = 1; to = 3 }) → ⊥
+capped does = absurd (omega (arith, does.does))
+
+-- On the grid 3 each term is whole: 2 units of a until 1, then 4 of a and 6 of b. Slots are whole at scale 15.
+abbrev whole_slots : List WrittenSlot
+whole_slots =
+    record { job = 0; from = of_whole 0; to = of_whole 1; work = of_parts 2 3 }
+    ∷ record { job = 0; from = of_whole 1; to = of_parts 9 5; work = of_parts 4 3 }
+    ∷ record { job = 1; from = of_parts 9 5; to = of_whole 3; work = of_whole 2 } ∷ []
+
+-- the units, times the scale, are those of the terms
+whole_units : map (average_rate rate_jobs 3 15 (slots_at 15 whole_slots)) (stretches rate_jobs) ≡ 2 * 15 ∷ 10 * 15 ∷ []
+whole_units = refl
+
+-- the slots are a run at this scale
+whole_run : IsRunAt rate_jobs 3 15 (average_rate rate_jobs 3 15 (slots_at 15 whole_slots)) (slots_at 15 whole_slots)
+whole_run = (run_decided rate_jobs 3 15 (average_rate rate_jobs 3 15 (slots_at 15 whole_slots)) (slots_at 15 whole_slots)).0 refl
+
+-- 15 is a scale of them, and each is a multiple of it, being one of 5 and of 3
+whole_scale : IsScale 15 whole_slots
+whole_scale = (scale_decided 15 whole_slots).0 refl
+
+whole_divides : (scale : ℕ) → IsScale scale whole_slots → 15 ∣ scale
+whole_divides scale is = (multiple_is_least 5 3).2 scale (is.divided 1 no_written_slot (omega arith)).to (is.divided 0 no_written_slot (omega arith)).work
+
+-- so they are a run at each, which rounds nowhere
+whole_accepted : IsAverageRateRun rate_jobs 3 0 whole_slots
+whole_accepted = record {
+  run = least_scale_of whole_slots (λ scale whole. IsRunAt rate_jobs 3 scale (average_rate rate_jobs 3 scale whole) whole) 15 whole_scale whole_divides
+      (λ k some. average_rate_run_scaled rate_jobs 3 k 15 whole_slots some whole_scale whole_run);
+  rounds = refl;
+}
+
+-- by the law each stretch does the sum of the terms
+whole_terms : AtEachScale whole_slots (λ scale whole. All (DoesItsTerms rate_jobs 3 scale whole) (stretches rate_jobs))
+whole_terms = average_rate_is_exact rate_jobs 3 whole_slots (omega arith) whole_accepted
+
+-- at scale 15, that is 10 units in the second
+second_terms : 3 * work_in 15 (record { from = 1; to = 3 }) (slots_at 15 whole_slots) ≡ 15 * 10
+second_terms = (whole_terms.holds 15 whole_scale 1 no_stretch (omega arith)).does
 
 -- Optimal Available: a from 0 to 3 with work 2, b from 1 to 2 with work 1
 abbrev pub available_jobs : List Job

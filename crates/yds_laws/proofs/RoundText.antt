@@ -57,7 +57,7 @@ pub answered : (question : Question) (input text : List ℕ) (status : Status) �
 answered question input text status other answers = answered_input question input text status (is_too_long input) other answers
 
 -- and one that asks for points has some
-on_points : (Answered : List ℕ → Status → Type 0) (points : List Point) (text : List ℕ) (status : Status) → (status ≡ Refused → ⊥) →
+pub on_points : (Answered : List ℕ → Status → Type 0) (points : List Point) (text : List ℕ) (status : Status) → (status ≡ Refused → ⊥) →
     OnPoints Answered points text status → (1 ≤ length points) × Answered text status
 on_points Answered [] text status other answers = absurd (other answers.ended)
 on_points Answered (point ∷ points) text status other answers = (omega arith, answers)
@@ -69,7 +69,7 @@ points_answer Answered [] text status some answers = absurd (omega (arith, some)
 points_answer Answered (point ∷ points) text status some answers = answers
 
 -- points of a document of which there are some are a table
-points_table : (points : List Point) → ArePoints points → 1 ≤ length points → IsTable points
+pub points_table : (points : List Point) → ArePoints points → 1 ≤ length points → IsTable points
 points_table points are some = elim are.table [
   | inl none ↦ absurd (omega (arith, some, ap (λ (all : List Point). length all) none))
   | inr table ↦ table
@@ -78,20 +78,20 @@ points_table points are some = elim are.table [
 -- # What `round` writes
 
 -- a plan of a document's jobs, rounded to its points, with the text of it
-record IsRounded (input text : List ℕ) : Type 0 where
-  document : Document
-  read : reading input ≡ Ok document
-  some : 1 ≤ length document.points
-  planned : List WrittenSlot
-  levels : List Level
-  plan : IsPlan document.jobs planned levels
-  slots : List WrittenSlot
-  energy : Fraction
-  rounding : IsRounding document.jobs document.points planned levels slots energy
-  said : IsTextOf (with_energy document slots energy) text
+pub record IsRounded (input text : List ℕ) : Type 0 where
+  pub document : Document
+  pub read : reading input ≡ Ok document
+  pub some : 1 ≤ length document.points
+  pub planned : List WrittenSlot
+  pub levels : List Level
+  pub plan : IsPlan document.jobs planned levels
+  pub slots : List WrittenSlot
+  pub energy : Fraction
+  pub rounding : IsRounding document.jobs document.points planned levels slots energy
+  pub said : IsTextOf (with_energy document slots energy) text
 
 -- what is done isn't 'no'
-done_not_no : Done ≡ No → ⊥
+pub done_not_no : Done ≡ No → ⊥
 done_not_no same = absurd cc
 
 -- what is done isn't refused
@@ -116,7 +116,7 @@ rounded_answer input text document read some (inr answer) = record {
 }
 
 -- so its text is that of a rounded plan
-round_read : (input text : List ℕ) → AnswersRequest (Some (OfDocument AskRound)) input text Done → IsRounded input text
+pub round_read : (input text : List ℕ) → AnswersRequest (Some (OfDocument AskRound)) input text Done → IsRounded input text
 round_read input text answers =
     let is = answered AskRound input text Done done_not_refused answers in
     let points = on_points (RoundAnswer is.document) is.document.points text Done done_not_refused is.answers in

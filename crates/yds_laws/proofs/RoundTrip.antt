@@ -317,9 +317,9 @@ energy_brought d (Some energy) fits =
 
 -- ---- the whole
 
--- the law: the text of a document within the limits is read as the document
-pub printed_is_read : PrintedIsRead
-printed_is_read d fits =
+-- the text of a document within the limits brings the document
+pub text_brought : (d : Document) → IsDocument d → Brings no_document (canonical_text d) d
+text_brought d fits =
     let jobs : List ℕ = job_lines d.names d.jobs in
     let points : List ℕ = flat_map point_line d.points in
     let slots : List ℕ = flat_map (slot_line d.names) d.slots in
@@ -332,8 +332,11 @@ printed_is_read d fits =
     let three = Brings-append no_document (after_points d) (after_slots d) (jobs ++ points) slots two (slots_brought d fits) in
     let four = Brings-append no_document (after_slots d) after_levels (jobs ++ points ++ slots) levels three (levels_brought d fits) in
     let five = Brings-append no_document after_levels after_grid (jobs ++ points ++ slots ++ levels) grid four (grid_brought d d.grid fits.grid) in
-    read_whole (canonical_text d) d
-    (Brings-append no_document after_grid d (jobs ++ points ++ slots ++ levels ++ grid) energy five (energy_brought d d.energy fits.energy))
+    Brings-append no_document after_grid d (jobs ++ points ++ slots ++ levels ++ grid) energy five (energy_brought d d.energy fits.energy)
+
+-- the law: so it is read as the document
+pub printed_is_read : PrintedIsRead
+printed_is_read d fits = read_whole (canonical_text d) d (text_brought d fits)
 
 -- the law: the same of jobs and slots alone
 pub jobs_and_slots_are_read : JobsAndSlotsAreRead

@@ -25,7 +25,7 @@ use Rattle.yds_laws.proofs.PlanParts.{scale_times}
 use Rattle.yds_laws.proofs.RoundedEnergy.{rounded_attains_the_hull}
 
 -- the product of the gaps of rising points is at least 1
-gaps_positive : (points : List Point) → AreRising points → 1 ≤ product (gaps_of points)
+pub gaps_positive : (points : List Point) → AreRising points → 1 ≤ product (gaps_of points)
 gaps_positive [] rising = omega arith
 gaps_positive (point ∷ []) rising = omega arith
 gaps_positive (low ∷ high ∷ points) rising =

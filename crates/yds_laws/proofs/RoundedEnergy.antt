@@ -26,7 +26,7 @@ use Rattle.yds_laws.proofs.HullEnergy.{hull_first, hull_rising}
 use Rattle.yds_laws.proofs.OneEnergy.{read_point, one_point, spends_once}
 use Rattle.yds_laws.proofs.PlansEnergy.{plans_cost_least_on_points}
 use Rattle.yds_laws.proofs.PlanParts.{IsPartOfPlan, plan_part}
-use Rattle.yds_laws.proofs.RoundedRuns.{all_work, same_work, runs_busy, runs_work, runs_spend, runs_on_work, SpendsOn, runs_on_spend}
+use Rattle.yds_laws.proofs.RoundedRuns.{all_work, rate_together, same_work, runs_busy, runs_work, runs_spend, runs_on_work, SpendsOn, runs_on_spend}
 use Rattle.yds_laws.proofs.RoundedFeasible.{RoundsAt, rounds_fold, time_within, written_feasible}
 use Rattle.yds_laws.proofs.HullCosts.{IsAtLeast, at_least_plus, cancel_gap, power_of, lines_at_least, point_at_least, hull_in}
 
@@ -124,19 +124,6 @@ on_the_line : (all p r low gap time rest : ℕ) →
     ≡ all * (p * ((low + gap) * time + low * rest) + r * (low * (time + rest))) + gap * (all * (p * rest + r * time))
 on_the_line all p r low gap time rest = omega arith
 
--- the slots of the level have its work and time together
-level_together : (level : Level) (slots : List WholeSlot) → All (λ slot. slot.work * level.length ≡ level.work * (slot.to - slot.from)) slots →
-    all_work slots * level.length ≡ level.work * busy slots
-level_together level [] at = omega arith
-level_together level (slot ∷ slots) at =
-    omega (
-      arith,
-      at 0 slot (omega arith),
-      level_together level slots (All-tail (λ one. one.work * level.length ≡ level.work * (one.to - one.from)) slot slots at),
-      ap (λ n. n * level.length) (sum_by-cons (λ (one : WholeSlot). one.work) slot slots),
-      ap (λ n. level.work * n) (sum_by-cons (λ (one : WholeSlot). one.to - one.from) slot slots),
-    )
-
 -- so the line's number is what the two points cost, times the gap
 line_of_split : (all p r low high gap time rest busy given : ℕ) → low + gap ≡ high → busy ≡ time + rest → given ≡ (low + gap) * time + low * rest →
     all * (p * (high * busy) + r * given) ≡ all * (p * given + r * (low * busy)) + gap * (all * (p * rest + r * time))
@@ -209,7 +196,7 @@ split_spends points hull scale level low high stretch planned fast slow table is
     is.is_time ∙ ap (λ n. (level.work - low.speed * level.length) * n) (sym whole) in
     let fills : busy planned ≡ is.time + rest =
     filled low.speed gap is.time rest level.work level.length (busy planned) (all_work planned) some (omega (arith, around.above_low))
-    (level_together level planned speeds) does is_time in
+    (rate_together level.work level.length planned speeds) does is_time in
     let slower : SpendsOn points idle_power low.power rest slow =
     runs_on_spend points low.speed low idle_power switch end slow (hull_in points hull low is_hull has_low) refl
     (idle_power_is points low table (hull_in points hull low is_hull has_low)) order is.then_slow in

@@ -3,7 +3,7 @@ use Rattle.std.proofs.Common.{◌≡◌, ℕ, zero, suc, ◌+◌, ◌-◌, ◌*�
 use Rattle.std.specs.Prelude.{if◌then◌else◌, nat_lt}
 use Rattle.std.specs.List.{All, Contains, sum_by}
 use Rattle.std.proofs.lemmas.Bool.Decides.{nat_tests}
-use Rattle.std.proofs.lemmas.List.Elements.{All-nil, All-cons, All-weaker}
+use Rattle.std.proofs.lemmas.List.Elements.{All-nil, All-cons, All-tail, All-weaker}
 use Rattle.std.proofs.lemmas.List.Sums.{sum_by-cons, get_or-le-sum_by}
 use Rattle.yds_model.specs.Slot.{WholeSlot, work_given}
 use Rattle.yds_model.specs.Feasible.{RunFrom}
@@ -15,6 +15,22 @@ use Rattle.yds_model.proofs.Sums.{sum_by-add, sum_by_same, sum_by_zero}
 -- the work of all slots together
 abbrev pub all_work : List WholeSlot → ℕ
 all_work slots = sum_by (λ slot. slot.work) slots
+
+-- the slot has the speed `rate / per`
+abbrev pub HasRate : ℕ → ℕ → WholeSlot → Type 0
+HasRate rate per slot = slot.work * per ≡ rate * (slot.to - slot.from)
+
+-- and so have all together
+pub rate_together : (rate per : ℕ) (slots : List WholeSlot) → All (HasRate rate per) slots → all_work slots * per ≡ rate * busy slots
+rate_together rate per [] each = omega arith
+rate_together rate per (slot ∷ slots) each =
+    omega (
+      arith,
+      each 0 slot (omega arith),
+      rate_together rate per slots (All-tail (HasRate rate per) slot slots each),
+      ap (λ n. n * per) (sum_by-cons (λ (one : WholeSlot). one.work) slot slots),
+      ap (λ n. rate * n) (sum_by-cons (λ (one : WholeSlot). one.to - one.from) slot slots),
+    )
 
 -- # At one speed
 

@@ -1,9 +1,8 @@
 -- What the answers of `avr` and `oa` are worth: their texts are read again as the document with the run, and `audit` answers them with
 -- 'feasible'.
-use Rattle.std.proofs.Common.{◌≡◌, ℕ, ◌*◌, ◌≤◌, List, [], ◌∷◌, length, Some, Ok, refl, ap, subst, ◌∙◌, arith}
+use Rattle.std.proofs.Common.{◌≡◌, ℕ, ◌*◌, ◌≤◌, List, length, Some, Ok, refl, ap, subst, ◌∙◌, arith}
 use Rattle.std.specs.Prelude.{codes}
 use Rattle.std.proofs.lemmas.List.{length-map}
-use Rattle.yds_model.specs.declared.limits.TheConstants.{MAX_JOBS}
 use Rattle.yds_model.specs.declared.status.Status.TheVariants.{Done}
 use Rattle.yds_model.specs.Job.{Job}
 use Rattle.yds_model.specs.Slot.{WrittenSlot, WholeSlot, AtEachScale, slot_at_scale}
@@ -16,7 +15,7 @@ use Rattle.yds_model.specs.OptimalAvailable.{optimal_available, IsOptimalAvailab
 use Rattle.yds_model.specs.Document.{Document}
 use Rattle.yds_model.specs.Reading.{reading}
 use Rattle.yds_model.specs.Within.{IsTextOf}
-use Rattle.yds_model.specs.Request.{Question, AskAverageRate, AskOptimalAvailable, AskAudit, OfDocument}
+use Rattle.yds_model.specs.Request.{AskAverageRate, AskOptimalAvailable, AskAudit, OfDocument}
 use Rattle.yds_model.specs.Answer.{AnswersRequest}
 use Rattle.yds_model.proofs.Scale.{scale_exists}
 use Rattle.yds_model.proofs.Verdicts.{verdict_is_exact}
@@ -24,14 +23,14 @@ use Rattle.yds_laws.specs.RunText.{with_run, ReadRun, RunsAreRead, RunsAreFeasib
 use Rattle.yds_laws.proofs.RoundTrip.{printed_is_read}
 use Rattle.yds_laws.proofs.Short.{text_is_short}
 use Rattle.yds_laws.proofs.PlanText.{slots_agree, answers_document}
-use Rattle.yds_laws.proofs.RoundText.{IsAnswered, answered, done_not_refused}
+use Rattle.yds_laws.proofs.RoundText.{answered, done_not_refused}
 
 -- the slots of a run are feasible, and at most three for a job
-run_feasible : (jobs : List Job) (grid : ℕ) (capacity : ℕ → List WholeSlot → Piece → ℕ) (slots : List WrittenSlot) →
+pub run_feasible : (jobs : List Job) (grid : ℕ) (capacity : ℕ → List WholeSlot → Piece → ℕ) (slots : List WrittenSlot) →
     AtEachScale slots (λ scale whole. IsRunAt jobs grid scale (capacity scale whole) whole) → IsFeasible jobs slots
 run_feasible jobs grid capacity slots run = record { solid = run.solid; holds = λ scale is. (run.holds scale is).feasible }
 
-run_few : (jobs : List Job) (grid : ℕ) (capacity : ℕ → List WholeSlot → Piece → ℕ) (slots : List WrittenSlot) →
+pub run_few : (jobs : List Job) (grid : ℕ) (capacity : ℕ → List WholeSlot → Piece → ℕ) (slots : List WrittenSlot) →
     AtEachScale slots (λ scale whole. IsRunAt jobs grid scale (capacity scale whole) whole) → length slots ≤ 3 * length jobs
 run_few jobs grid capacity slots run =
     let scale = scale_exists slots run.solid in

@@ -94,7 +94,7 @@ cond_less true q = omega arith
 cond_less false q = omega arith
 
 -- those that a filter keeps are different
-kept_different : (jobs : List Job) (p : ℕ → Bool) → AreDifferent (filter p (numbers_of jobs))
+pub kept_different : (jobs : List Job) (p : ℕ → Bool) → AreDifferent (filter p (numbers_of jobs))
 kept_different jobs p number = omega (
   arith,
   sum_by-filter p (λ other. cond (number == other) 1 0) (numbers_of jobs),

@@ -14,10 +14,10 @@ use Rattle.yds_model.specs.Slot.{WrittenSlot}
 use Rattle.yds_model.specs.Piece.{Piece}
 use Rattle.yds_model.specs.Level.{Level, all_pieces, all_members}
 use Rattle.yds_model.specs.Table.{Point}
-use Rattle.yds_model.specs.Document.{Grid, name_at}
+use Rattle.yds_model.specs.Document.{Document, Grid, name_at}
 use Rattle.yds_model.specs.Spelling.{is_name}
-use Rattle.yds_model.specs.Text.{line, fraction_text, job_line, job_lines, point_line, slot_line, piece_line, member_line, level_lines, grid_lines, energy_lines}
-use Rattle.yds_model.specs.Within.{IsFraction, IsPoint, IsSlot, IsLevel, IsPiece, IsGrid}
+use Rattle.yds_model.specs.Text.{line, fraction_text, job_line, job_lines, point_line, slot_line, piece_line, member_line, level_lines, grid_lines, energy_lines, canonical_text}
+use Rattle.yds_model.specs.Within.{IsFraction, IsPoint, IsSlot, IsLevel, IsPiece, IsGrid, IsDocument}
 use Rattle.yds_laws.specs.RoundTrip.{LinesAreShort, TextIsShort}
 use Rattle.yds_laws.proofs.KindsRead.{level_texts}
 
@@ -30,7 +30,7 @@ name_short name named =
     leb-true (length name) MAX_NAME (and_parts _ _ parts.0).1
 
 -- and so has the name of each number, or none
-names_short : (names : List (List ℕ)) → All (λ name. is_name name ≡ true) names → (job : ℕ) → length (name_at names job) ≤ MAX_NAME
+pub names_short : (names : List (List ℕ)) → All (λ name. is_name name ≡ true) names → (job : ℕ) → length (name_at names job) ≤ MAX_NAME
 names_short [] named job = omega arith
 names_short (name ∷ names) named zero = name_short name (All-head (λ name. is_name name ≡ true) name names named)
 names_short (name ∷ names) named (suc job) = names_short names (All-tail (λ name. is_name name ≡ true) name names named) job
@@ -149,7 +149,7 @@ lines_are_short = record {
 -- ---- the text
 
 -- texts of at most so many bytes each
-lines_short : {X : Type 0} (text : X → List ℕ) (most : ℕ) (xs : List X) → All (λ x. length (text x) ≤ most) xs → length (flat_map text xs) ≤ most * length xs
+pub lines_short : {X : Type 0} (text : X → List ℕ) (most : ℕ) (xs : List X) → All (λ x. length (text x) ≤ most) xs → length (flat_map text xs) ≤ most * length xs
 lines_short text most [] short = omega arith
 lines_short text most (x ∷ xs) short =
     omega (
@@ -205,9 +205,10 @@ energy_lines_short : (energy : Option Fraction) → MatchOption energy (Unit {0}
 energy_lines_short None fits = omega arith
 energy_lines_short (Some energy) fits = energy_short energy fits
 
--- the law: so the whole text is at most so long
-pub text_is_short : TextIsShort
-text_is_short d fits few_slots few_levels few_pieces few_members =
+-- so the whole text, by how many parts of each kind the document has
+pub text_length : (d : Document) → IsDocument d → length (canonical_text d) ≤ 99 * length d.jobs + 19 * length d.points + 226 * length d.slots
+    + (28 * length d.levels + 28 * length (all_pieces d.levels) + 72 * length (all_members d.levels)) + 88
+text_length d fits =
     let names : (job : ℕ) → length (name_at d.names job) ≤ MAX_NAME = names_short d.names fits.jobs.names_fit in
     let jobs : List ℕ = job_lines d.names d.jobs in
     let points : List ℕ = flat_map point_line d.points in
@@ -223,15 +224,9 @@ text_is_short d fits few_slots few_levels few_pieces few_members =
     omega (
       arith,
       jobs_short d.names d.jobs fits.jobs.names_fit fits.jobs.jobs_fit,
-      fits.jobs.few,
       points_length,
-      fits.points.few,
       slots_length,
-      few_slots,
       levels_short d.names d.levels names fits.levels.fit,
-      few_levels,
-      few_pieces,
-      few_members,
       grid_lines_short d.grid fits.grid,
       energy_lines_short d.energy fits.energy,
       length-append (jobs ++ points ++ slots ++ levels ++ grid) energy,
@@ -240,3 +235,8 @@ text_is_short d fits few_slots few_levels few_pieces few_members =
       length-append (jobs ++ points) slots,
       length-append jobs points,
     )
+
+-- the law: it may be read where the parts are few
+pub text_is_short : TextIsShort
+text_is_short d fits few_slots few_levels few_pieces few_members =
+    omega (arith, text_length d fits, fits.jobs.few, fits.points.few, few_slots, few_levels, few_pieces, few_members)

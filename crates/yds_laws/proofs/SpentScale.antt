@@ -39,7 +39,7 @@ slow_scaled k time work low part multiple =
     rw (fast_scaled k time work low part, mul-sub k (time * multiple) ((work - low * time) * part)) (ap (λ n. n - k * ((work - low * time) * part)) (omega arith))
 
 -- so the time at each point of a hull is k times what it was
-time_scaled : (k : ℕ) → 1 ≤ k → (multiple time work : ℕ) (hull : List Point) (speed : ℕ) →
+pub time_scaled : (k : ℕ) → 1 ≤ k → (multiple time work : ℕ) (hull : List Point) (speed : ℕ) →
     time_at multiple (k * time) (k * work) hull speed ≡ k * time_at multiple time work hull speed
 time_scaled k some multiple time work [] speed = omega arith
 time_scaled k some multiple time work (point ∷ []) speed =

@@ -33,7 +33,7 @@ finer_within top k slots within =
     rw (← mul-sub k slot.to slot.from) (omega (arith, mul-le-mul_left k (within i d inside))))
 
 -- and slots that do nothing above a speed stay at or below it
-none_within : (top : ℕ) (slots : List WholeSlot) → excess top 1 slots ≡ 0 → All (IsWithinTop top) slots
+pub none_within : (top : ℕ) (slots : List WholeSlot) → excess top 1 slots ≡ 0 → All (IsWithinTop top) slots
 none_within top slots none k d inside =
     let part = get_or-le-sum_by (λ (slot : WholeSlot). 1 * slot.work - top * (slot.to - slot.from)) slots k d inside in
     omega (arith, part, none)

@@ -11,3 +11,6 @@ pub mod AnswerLaws
 pub mod AdmissionLaws
 pub mod RunText
 pub mod RunLaws
+pub mod ComparisonLaws
+pub mod CompareText
+pub mod AdmitText

@@ -1,11 +1,10 @@
 -- What a run is that never rounded, by the definitions.
-use Rattle.std.specs.Prelude.{◌≡◌, ℕ, ◌-◌, ◌*◌, ◌<◌, ◌≤◌, ◌⊎◌, min, List, true}
+use Rattle.std.specs.Prelude.{◌≡◌, ℕ, ◌-◌, ◌*◌, ◌<◌, ◌≤◌, ◌⊎◌, List, true}
 use Rattle.std.specs.List.{All, Any}
 use Rattle.yds_model.specs.Job.{Job}
 use Rattle.yds_model.specs.Slot.{WrittenSlot, WholeSlot, AtEachScale}
 use Rattle.yds_model.specs.Piece.{Piece}
 use Rattle.yds_model.specs.Event.{stretches}
-use Rattle.yds_model.specs.Policy.{pending_units}
 use Rattle.yds_model.specs.AverageRate.{is_live, term_numerator, term_of, terms_of, IsAverageRateRun}
 use Rattle.yds_model.specs.OptimalAvailable.{due_units, pending_deadlines, units_asked, IsOptimalAvailableRun}
 use Rattle.yds_model.specs.Comparison.{work_in}
@@ -15,10 +14,10 @@ abbrev pub HasWholeTerms : List Job → ℕ → Piece → Type 0
 HasWholeTerms jobs grid stretch = All (λ job. is_live stretch job ≡ true →
     term_of grid stretch job * (job.deadline - job.release) ≡ term_numerator grid stretch job) jobs
 
--- At a scale: the stretch does the sum of those parts, or all that is pending.
+-- At a scale: the stretch does just the sum of those parts.
 pub record DoesItsTerms (jobs : List Job) (grid scale : ℕ) (slots : List WholeSlot) (stretch : Piece) : Type 0 where
   pub whole : HasWholeTerms jobs grid stretch
-  pub does : grid * work_in scale stretch slots ≡ min (pending_units jobs grid scale slots stretch) (scale * terms_of jobs grid stretch)
+  pub does : grid * work_in scale stretch slots ≡ scale * terms_of jobs grid stretch
 
 -- A run of Average Rate that never rounded does so in each stretch.
 abbrev pub AverageRateIsExact : Type 0

@@ -9,6 +9,7 @@
 #![tactic(auto)]
 
 mod admission_laws;
+mod comparison_laws;
 mod curve_laws;
 mod divisor_laws;
 mod energy_laws;
@@ -24,7 +25,11 @@ mod task_laws;
 mod text_laws;
 
 pub use admission_laws::{
-    admitted_runs_are_within_the_top, served_exactly_where_no_interval_is_overfull,
+    admission_texts_are_feasible, admissions_are_read, admitted_runs_are_within_the_top,
+    served_exactly_where_no_interval_is_overfull,
+};
+pub use comparison_laws::{
+    compared_as_rounded, compared_plan_is_cheapest, plan_spends_its_rounding, plan_spends_least,
 };
 pub use curve_laws::{curve_is_straight, levels_tell_least_excess};
 pub use divisor_laws::{divisor_is_greatest, lowest_terms_are_one, multiple_is_least};

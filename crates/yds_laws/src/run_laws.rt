@@ -2,8 +2,8 @@
 ghost use Rattle.yds_laws.specs.RunLaws.{AverageRateIsExact, OptimalAvailableIsExact};
 ghost use Rattle.yds_laws.specs.RunText.{RunsAreFeasible, RunsAreRead};
 
-/// In a run of Average Rate that never rounded, each live job's part of a stretch is whole, and each stretch does their
-/// sum, or all that is pending.
+/// In a run of Average Rate that never rounded, each live job's part of a stretch is whole, and each stretch does just
+/// their sum.
 pub fn average_rate_is_exact()
     ensures { AverageRateIsExact }
 {}

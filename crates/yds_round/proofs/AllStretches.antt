@@ -16,6 +16,8 @@ use Rattle.yds_model.specs.Plan.{IsPlan, speed_num, speed_den}
 use Rattle.yds_model.specs.Rounding.{RoundsStretch, RoundsStretches}
 use Rattle.yds_events.specs.Stretch.{no_stretch, length_of}
 use Rattle.yds_events.proofs.Neighbours.{few_stretches}
+use Rattle.yds_laws.proofs.EvenStretches.{some_or_none}
+use Rattle.yds_laws.proofs.TaskNames.{All-flat}
 use Rattle.yds_slots.specs.Between.{lies_between}
 use Rattle.yds_round.specs.declared.split.Split.{Split}
 use Rattle.yds_round.specs.declared.pace.Pace.{Pace}
@@ -26,13 +28,8 @@ use Rattle.yds_round.specs.Cut.{CanRound}
 use Rattle.yds_round.specs.Rounded.{planned_in, written_here, written_in}
 use Rattle.yds_round.proofs.Cuts.{WorksOver}
 use Rattle.yds_round.proofs.Decomposed.{lies_written}
-use Rattle.yds_round.proofs.Held.{IsHeld, all_flat, whole, known, forward, in_parts, held, numbered}
+use Rattle.yds_round.proofs.Held.{IsHeld, whole, known, forward, in_parts, held, numbered}
 use Rattle.yds_round.proofs.Rounds.{zip_at, here_written, rounds_by, pace_grain, over_by, jobs_by, more_by, twice_all, more_all, fits_by, full_of}
-
--- whether a list has an element
-some_or_none : {X : Type 0} (xs : List X) → (xs ≡ []) ⊎ (1 ≤ length xs)
-some_or_none [] = inl refl
-some_or_none (x ∷ xs) = inr (omega arith)
 
 -- stretches that are rounded one by one are rounded
 rounds_all : (hull : List Point) (levels : List Level) (planned written : Piece → List WrittenSlot) (pieces : List Piece) →
@@ -177,7 +174,7 @@ module _ (jobs : List Job) (points : List Point) (planned : List WrittenSlot) (l
     before = flat_map (written_in numbers paces planned) (take k (stretches jobs))
 
     before_over : All (λ slot. WorksOver (grain_for slot.job) slot) before
-    before_over = all_flat (λ slot. WorksOver (grain_for slot.job) slot) (written_in numbers paces planned) (take k (stretches jobs))
+    before_over = All-flat (λ slot. WorksOver (grain_for slot.job) slot) (written_in numbers paces planned) (take k (stretches jobs))
         (All-from_get_or (λ piece. All (λ slot. WorksOver (grain_for slot.job) slot) (written_in numbers paces planned piece)) (take k (stretches jobs)) no_stretch
         (λ i inside.
         let earlier : i < k = omega (arith, inside, length-take k (stretches jobs)) in

@@ -27,6 +27,7 @@ use Rattle.yds_laws.proofs.PlanParts.{IsPartOfPlan, plan_part, part_front, part_
 use Rattle.yds_laws.proofs.RoundedFeasible.{IsBetweenEvents, stretches_between, parts_at}
 use Rattle.yds_laws.proofs.RoundedRuns.{all_work}
 use Rattle.yds_laws.proofs.FullStretches.{FillsStretch, stretch_full, one_level}
+use Rattle.yds_laws.proofs.TaskNames.{All-flat}
 use Rattle.yds_slots.specs.Between.{lies_between}
 use Rattle.yds_round.specs.Written.{units_of, total_units}
 use Rattle.yds_round.specs.Rounded.{planned_in}
@@ -45,11 +46,6 @@ pub back_at : (Q : WholeSlot → Type 0) (scale : ℕ) (slots : List WrittenSlot
 back_at Q scale slots all k d within =
     subst Q (get_or-map (slot_at_scale scale) slots k d (slot_at_scale scale d) within)
     (all k (slot_at_scale scale d) (omega (arith, within, length-map slots (slot_at_scale scale))))
-
--- of all parts, and so of the whole
-pub all_flat : {X Y : Type 0} (P : Y → Type 0) (f : X → List Y) (xs : List X) → All (λ x. All P (f x)) xs → All P (flat_map f xs)
-all_flat P f [] each = All-nil P
-all_flat P f (x ∷ xs) each = All-append P (f x) (flat_map f xs) (each 0 x (omega arith)) (all_flat P f xs (All-tail (λ y. All P (f y)) x xs each))
 
 -- a list around one of its places
 pub around : {X : Type 0} (xs : List X) (k : ℕ) (d : X) → k < length xs → xs ≡ take k xs ++ get_or xs k d ∷ drop (suc k) xs
@@ -214,7 +210,7 @@ module _ (jobs : List Job) (planned : List WrittenSlot) (levels : List Level) (p
 
     first : All (λ slot. slot.to ≤ one.from * scale) (slots_at scale (flat_map (planned_in planned) front))
     first = All-map (λ slot. slot.to ≤ one.from * scale) (slot_at_scale scale) (flat_map (planned_in planned) front)
-        (all_flat (λ slot. at_scale scale slot.to ≤ one.from * scale) (planned_in planned) front
+        (All-flat (λ slot. at_scale scale slot.to ≤ one.from * scale) (planned_in planned) front
         (λ i d inside j e at. omega (
           arith,
           (lies_here (get_or front i d) j e at).to,
@@ -223,7 +219,7 @@ module _ (jobs : List Job) (planned : List WrittenSlot) (levels : List Level) (p
 
     last : All (λ slot. one.to * scale ≤ slot.from) (slots_at scale (flat_map (planned_in planned) rest))
     last = All-map (λ slot. one.to * scale ≤ slot.from) (slot_at_scale scale) (flat_map (planned_in planned) rest)
-        (all_flat (λ slot. one.to * scale ≤ at_scale scale slot.from) (planned_in planned) rest
+        (All-flat (λ slot. one.to * scale ≤ at_scale scale slot.from) (planned_in planned) rest
         (λ i d inside j e at. omega (
           arith,
           (lies_here (get_or rest i d) j e at).from,

@@ -4,12 +4,10 @@ use Rattle.std.specs.List.{AllZip}
 use Rattle.std.specs.Int.{◌∣◌}
 use Rattle.std.proofs.lemmas.List.Sums.{sum_by-cons}
 use Rattle.std.proofs.Math.Nat.{div-mul_cancel, mul-le-mul, mul-le-mul_right}
-use Rattle.std.proofs.lemmas.Nat.Gcd.{dvd_trans}
 use Rattle.yds_model.specs.declared.limits.TheConstants.{MAX_LEVEL_LENGTH, MAX_POINT_POWER}
-use Rattle.yds_model.specs.Divisor.{multiple_of_all}
 use Rattle.yds_model.specs.Level.{Level}
-use Rattle.yds_model.specs.Table.{Point, point_at, gaps_of, hull_of, hull_multiple}
-use Rattle.yds_model.proofs.Divisor.{multiple_is_least}
+use Rattle.yds_model.specs.Table.{Point, point_at, hull_of, hull_multiple}
+use Rattle.yds_laws.proofs.PointTimes.{gap_divides}
 use Rattle.yds_round.specs.declared.pace.Pace.{Pace}
 use Rattle.yds_round.specs.declared.split.Split.{Split}
 use Rattle.yds_round.specs.Pace.{RunsAtOne, RunsAs, IsPaceOf}
@@ -57,19 +55,6 @@ pub small : (parts long multiple : ℕ) → parts ≤ MAX_POINT_POWER * long * m
 small parts long multiple few long_fits multiple_fits =
     let most : multiple ≤ 2 ^ 64 = omega (arith, multiple_fits) in
     omega (arith, few, mul-le-mul long_fits most)
-
--- # The common multiple
-
--- a gap between neighbours divides the common multiple of all
-pub gap_divides : (points : List Point) (place : ℕ) → place + 1 < length points →
-    (point_at points (place + 1)).speed - (point_at points place).speed ∣ multiple_of_all (gaps_of points)
-gap_divides [] place within = absurd (omega (arith, within))
-gap_divides (point ∷ []) place within = absurd (omega (arith, within))
-gap_divides (point ∷ next ∷ points) zero within = (multiple_is_least (next.speed - point.speed) (multiple_of_all (gaps_of (next ∷ points)))).0
-gap_divides (point ∷ next ∷ points) (suc place) within =
-    let here : suc (place + 1) ≡ suc place + 1 = omega arith in
-    subst (λ (n : ℕ). (point_at (point ∷ next ∷ points) n).speed - (point_at (next ∷ points) place).speed ∣ multiple_of_all (gaps_of (point ∷ next ∷ points))) here
-    (dvd_trans _ (gap_divides (next ∷ points) place (omega (arith, within))) (multiple_is_least (next.speed - point.speed) (multiple_of_all (gaps_of (next ∷ points)))).1)
 
 -- # The points around a speed
 

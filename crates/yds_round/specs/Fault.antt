@@ -16,6 +16,6 @@ abbrev pub too_slow : List Level → List Point → RoundFault
 too_slow levels points = faults.TooSlow (level_at levels 0).work (level_at levels 0).length (top_of points)
 
 -- the cause of each refusal; want of memory comes only where there is no other
-abbrev pub IsCause : List Level → List Point → RoundFault → Type 0
-IsCause levels points (faults.TooSlow work length top) = HasFastLevel levels points × (faults.TooSlow work length top ≡ too_slow levels points)
-IsCause levels points faults.Memory = ¬ (HasFastLevel levels points)
+abbrev pub IsCauseOfRoundFault : List Level → List Point → RoundFault → Type 0
+IsCauseOfRoundFault levels points (faults.TooSlow work length top) = HasFastLevel levels points × (faults.TooSlow work length top ≡ too_slow levels points)
+IsCauseOfRoundFault levels points faults.Memory = ¬ (HasFastLevel levels points)

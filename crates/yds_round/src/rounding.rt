@@ -5,7 +5,7 @@ ghost use Rattle.yds_model.specs.Event.{stretches as job_stretches};
 ghost use Rattle.yds_model.specs.Plan.{IsPlan};
 ghost use Rattle.yds_model.specs.Rounding.{IsTooFast, IsRounding};
 ghost use Rattle.yds_model.specs.Within.{IsFraction, AreSlotsOf};
-ghost use Rattle.yds_round.specs.Fault.{IsCause, HasFastLevel, too_slow};
+ghost use Rattle.yds_round.specs.Fault.{IsCauseOfRoundFault, HasFastLevel, too_slow};
 ghost use Rattle.yds_round.specs.Members.{Numbers};
 ghost use Rattle.yds_round.specs.Pace.{IsPaceOf};
 ghost use Rattle.yds_round.specs.Written.{written_at};
@@ -141,7 +141,7 @@ pub fn round(
     ensures jobs { IfOk result (λ rounded. rounded.schedule.jobs ≡ length rows.now) }
     ensures slots { IfOk result (λ rounded. AreSlotsOf (length rows.now) rounded.schedule.slots) }
     ensures energy { IfOk result (λ rounded. IsFraction MAX_ENERGY rounded.energy) }
-    ensures cause { IfErr result (IsCause plan.now.certificate table.now) }
+    ensures cause { IfErr result (IsCauseOfRoundFault plan.now.certificate table.now) }
     ensures too_slow { HasFastLevel plan.now.certificate table.now → result ≡ Err (too_slow plan.now.certificate table.now) }
 {
     let levels = plan.certificate.levels();

@@ -14,11 +14,11 @@ use Rattle.yds_model.specs.RoundAnswer.{TooSlowAnswer, RoundAnswer}
 use Rattle.yds_model.specs.CompareAnswer.{CompareAnswer}
 use Rattle.yds_model.specs.Answer.{OnPoints}
 use Rattle.yds_round.specs.declared.fault.RoundFault.TheVariants as faults
-use Rattle.yds_round.specs.Fault.{IsCause}
+use Rattle.yds_round.specs.Fault.{IsCauseOfRoundFault}
 
 -- the fields of the fault are the level's
 too_slow_answers : (document : Document) (slots : List WrittenSlot) (levels : List Level) (work long top : ℕ) (text : List ℕ) → IsPlan document.jobs slots levels →
-    IsCause levels document.points (faults.TooSlow work long top) →
+    IsCauseOfRoundFault levels document.points (faults.TooSlow work long top) →
     text ≡ line (codes "too-slow" ∷ codes "work" ∷ decimal work ∷ codes "length" ∷ decimal long ∷ codes "top" ∷ decimal top ∷ []) →
     TooSlowAnswer document text statuses.No
 too_slow_answers document slots [] work long top text plan cause said = absurd cause.0
@@ -47,7 +47,7 @@ on_points Answered [] text status some answered = absurd (omega (arith, some))
 on_points Answered (point ∷ points) text status some answered = answered
 
 pub too_slow_on_points : (document : Document) (slots : List WrittenSlot) (levels : List Level) (work long top : ℕ) (text : List ℕ) → 1 ≤ length document.points →
-    IsPlan document.jobs slots levels → IsCause levels document.points (faults.TooSlow work long top) →
+    IsPlan document.jobs slots levels → IsCauseOfRoundFault levels document.points (faults.TooSlow work long top) →
     text ≡ line (codes "too-slow" ∷ codes "work" ∷ decimal work ∷ codes "length" ∷ decimal long ∷ codes "top" ∷ decimal top ∷ []) →
     OnPoints (RoundAnswer document) document.points text statuses.No
 too_slow_on_points document slots levels work long top text some plan cause said =
@@ -55,7 +55,7 @@ too_slow_on_points document slots levels work long top text some plan cause said
 
 -- the same of a comparison
 pub too_slow_compared : (document : Document) (grid : ℕ) (slots : List WrittenSlot) (levels : List Level) (work long top : ℕ) (text : List ℕ) → 1 ≤ length document.points →
-    IsPlan document.jobs slots levels → IsCause levels document.points (faults.TooSlow work long top) →
+    IsPlan document.jobs slots levels → IsCauseOfRoundFault levels document.points (faults.TooSlow work long top) →
     text ≡ line (codes "too-slow" ∷ codes "work" ∷ decimal work ∷ codes "length" ∷ decimal long ∷ codes "top" ∷ decimal top ∷ []) →
     OnPoints (CompareAnswer document grid) document.points text statuses.No
 too_slow_compared document grid slots levels work long top text some plan cause said =

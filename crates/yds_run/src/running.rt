@@ -4,7 +4,9 @@ ghost use Rattle.std.specs.Io.KnownBytes.{Appends, IsAtEnd};
 ghost use Rattle.yds_model.specs.Answer.{AnswersReading, AnswersQuestion};
 ghost use Rattle.yds_model.specs.PlanAnswer.{HoldsHeadline};
 ghost use Rattle.yds_model.specs.Reading.{reading};
-ghost use Rattle.yds_model.specs.Request.{usage_line, OfDocument};
+ghost use Rattle.yds_model.specs.Request.{usage_line, OfDocument, AskAdmit, AskCompare};
+ghost use Rattle.yds_laws.specs.AdmitText.{HoldsAdmission};
+ghost use Rattle.yds_laws.specs.CompareText.{HoldsComparison};
 ghost use Rattle.yds_laws.specs.RoundText.{HoldsLeastEnergy, HoldsTooSlow};
 ghost use Rattle.yds_laws.specs.TaskLaws.{HoldsExpansion};
 ghost use Rattle.yds_port.specs.Count.{Rose, next_count};
@@ -94,11 +96,20 @@ pub fn run<S: Source, K: Sink>(
     // Where it says no, the points are too slow: no feasible schedule stays at or below the top one.
     ensures too_slow { words_of words.now ≡ codes "round" ∷ [] → result ≡ Status.No
         → IfSome (S.left source.old) (λ input. (text : List ℕ) × Appends (K.written sink.old) (K.written sink.new) text × HoldsTooSlow input text) }
+    // A comparison that was written tells neither policy less energy than the plan, and the plan the energy that `round`
+    // writes for the same input.
+    ensures comparison { (grid : ℕ) → asked (words_of words.now) ≡ Some (OfDocument (AskCompare grid)) → result ≡ Status.Done
+        → IfSome (S.left source.old) (λ input. (text : List ℕ) × Appends (K.written sink.old) (K.written sink.new) text × HoldsComparison input text) }
 
     // The jobs of periodic tasks that were written are read again as a document with just these jobs, in
     // their order and under different names.
     ensures expansion { words_of words.now ≡ codes "expand" ∷ [] → result ≡ Status.Done
         → IfSome (S.left source.old) (λ input. (text : List ℕ) × Appends (K.written sink.old) (K.written sink.new) text × HoldsExpansion input text) }
+
+    // The admitted jobs that were written, with a comment for each other job, are read again as a document of the admitted jobs
+    // with slots that give each of them its work in its window, nowhere faster than the top speed.
+    ensures admission { (top : ℕ) → asked (words_of words.now) ≡ Some (OfDocument (AskAdmit top)) → result ≡ Status.Done
+        → IfSome (S.left source.old) (λ input. (text : List ℕ) × Appends (K.written sink.old) (K.written sink.new) text × HoldsAdmission top input text) }
 {
     match Command::of(words) {
         Some(Command::Document(question)) => answer_input(alloc, question, source, sink),

@@ -1,7 +1,7 @@
 use super::*;
 use crate::worked_rows::{
-    ADMISSIONS, COMPARISONS, CURVES_AND_JSON, EXPANSIONS, POLICIES, REPORTS_AND_TRIALS, ROUNDINGS,
-    ROWS,
+    ADMISSIONS, COMPARISONS, CURVES_AND_JSON, EXPANSIONS, OVER_BROKEN_STREAMS, POLICIES,
+    REPORTS_AND_TRIALS, ROUNDINGS, ROWS,
 };
 use std::alloc::{AllocError, Global};
 use std::process::Abort;
@@ -142,6 +142,111 @@ fn faults_of_the_source_and_of_the_sink(rt: HostRuntime) -> Result<(), Fail> {
         let mut sink = MemorySink::with_room(rt.alloc(), room, piece, failing)?;
         assert_eq!(rt; run(rt.alloc(), &words, &mut source, &mut sink), status);
         assert_eq!(rt; sink.bytes(), want);
+    }
+    Ok(())
+}
+
+/// The status and the text of a run with these words over this input. It is read in pieces of one byte, of which the read
+/// of this number fails, and written in pieces of seven bytes into so much room; the call of this number on the sink fails.
+fn broken_answer(
+    alloc: Global,
+    text: &str,
+    input: &str,
+    read: u32,
+    call: u32,
+    room: usize,
+) -> Result<(Status, MemorySink), Memory> {
+    let words = words(alloc, text)?;
+    let bytes = input.as_bytes().to_vec(alloc)?;
+    let mut source = MemorySource::new(bytes, 1, [read].to_vec(alloc)?);
+    let mut sink = MemorySink::with_room(alloc, room, 7, [call].to_vec(alloc)?)?;
+    let status = run(alloc, &words, &mut source, &mut sink);
+    Ok((status, sink))
+}
+
+/// Nothing is written where a read fails, the last one too, which finds the end.
+#[test]
+fn each_read_fails_in_turn(rt: HostRuntime) -> Result<(), Fail> {
+    for (text, input, status, want) in &OVER_BROKEN_STREAMS {
+        let mut ended = Status::ReadFault;
+        for read in 1..400 {
+            if ended != Status::ReadFault {
+                break;
+            }
+            let (status, sink) = broken_answer(rt.alloc(), text, input, read, 0, 500)?;
+            ended = status;
+            let written = if ended == Status::ReadFault { "" } else { want };
+            assert_eq!(rt; sink.bytes(), written.as_bytes(), "{text}: read {read}");
+        }
+        assert_eq!(rt; ended, *status, "{text}");
+    }
+    Ok(())
+}
+
+/// A proper front is written where a write fails, and the whole text where the flush does.
+#[test]
+fn each_write_and_the_flush_fail_in_turn(rt: HostRuntime) -> Result<(), Fail> {
+    for (text, input, status, want) in &OVER_BROKEN_STREAMS {
+        let mut ended = Status::WriteFault;
+        let mut whole = 0;
+        for call in 1..400 {
+            if ended != Status::WriteFault {
+                break;
+            }
+            let (status, sink) = broken_answer(rt.alloc(), text, input, 0, call, 500)?;
+            ended = status;
+            assert!(rt;
+                want.as_bytes().starts_with(sink.bytes()),
+                "{text}: call {call}"
+            );
+            if sink.bytes().len() == want.len() {
+                whole += 1;
+            }
+        }
+        assert_eq!(rt; ended, *status, "{text}");
+        assert_eq!(rt; whole, 2, "{text}: the run whose flush fails, and the last");
+    }
+    Ok(())
+}
+
+#[test]
+fn room_for_ten_bytes(rt: HostRuntime) -> Result<(), Fail> {
+    for (text, input, _, want) in &OVER_BROKEN_STREAMS {
+        let (ended, sink) = broken_answer(rt.alloc(), text, input, 0, 0, 10)?;
+        assert_eq!(rt; ended, Status::WriteFault, "{text}");
+        assert_eq!(rt; sink.bytes().len(), 10, "{text}");
+        assert!(rt; want.as_bytes().starts_with(sink.bytes()), "{text}");
+    }
+    Ok(())
+}
+
+/// One level of 100,000 pieces, and 100,000 levels of one piece each and no member.
+#[test]
+fn a_hundred_thousand_pieces_and_levels(rt: HostRuntime) -> Result<(), Fail> {
+    let cases = [
+        (
+            "level 100000 100000\n",
+            "",
+            "member a\n",
+            Status::Done,
+            "accepted\n",
+        ),
+        ("", "level 1 1\n", "", Status::No, "K3 job a\n"),
+    ];
+    for (first, each, last, status, want) in cases {
+        let mut input = format!(in rt.alloc();
+            "job a 0 100000 100000\nslot a 0 100000 100000\n{first}"
+        )?;
+        for time in 0..100_000 {
+            let line = format!(in rt.alloc(); "{each}piece {time} {}\n", time + 1)?;
+            input.push_str(&line)?;
+        }
+        input.push_str(last)?;
+        let mut source = MemorySource::new(input.into_bytes(), 65_536, Vec::new(rt.alloc()));
+        let mut sink = MemorySink::with_room(rt.alloc(), 100, 100, Vec::new(rt.alloc()))?;
+        let words = words(rt.alloc(), "check")?;
+        assert_eq!(rt; run(rt.alloc(), &words, &mut source, &mut sink), status);
+        assert_eq!(rt; sink.bytes(), want.as_bytes());
     }
     Ok(())
 }

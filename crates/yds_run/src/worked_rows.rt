@@ -773,3 +773,37 @@ pub static COMPARISONS: [(&str, &str, Status, &str); 4] = [
         "refused no-table\n",
     ),
 ];
+
+/// Some of them again, over sources and sinks that break.
+pub static OVER_BROKEN_STREAMS: [(&str, &str, Status, &str); 5] = [
+    (
+        "plan",
+        "job a 0 10 10\njob b 4 6 6\n",
+        Status::Done,
+        "job a 0 10 10\njob b 4 6 6\nslot a 0 4 5\nslot b 4 6 6\nslot a 6 10 5\nlevel 6 2\npiece 4 6\nmember b\nlevel 10 8\npiece 0 4\npiece 6 10\nmember a\n",
+    ),
+    (
+        "plan",
+        "# cpu0, governor trace\njob decode 0 33 26100\njob audio 5 20 3000\npoint 0 30\npoint 600 200\npoint 1200 700\npoint 1800 1600\nticks 1000\nrun decode 0 5000 1800\nrun audio 5000 10000 600\nrun decode 10000 19500 1800\n",
+        Status::Done,
+        "job decode 0 33 26100\njob audio 5 20 3000\npoint 0 30\npoint 600 200\npoint 1200 700\npoint 1800 1600\nslot decode 0 5 4409+1/11\nslot audio 5 8+3900/9700 3000\nslot decode 8+3900/9700 20 10227+3/11\nslot decode 20 33 11463+7/11\nlevel 29100 33\npiece 0 33\nmember decode\nmember audio\n",
+    ),
+    (
+        "round",
+        "job a 0 10 10\njob b 4 6 6\npoint 0 0\npoint 1 1\npoint 2 3\npoint 4 10\n",
+        Status::Done,
+        "job a 0 10 10\njob b 4 6 6\npoint 0 0\npoint 1 1\npoint 2 3\npoint 4 10\nslot a 0 1 2\nslot a 1 4 3\nslot b 4 5 4\nslot b 5 6 2\nslot a 6 7 2\nslot a 7 10 3\nenergy 25\n",
+    ),
+    (
+        "audit --points",
+        "job a 0 4 8\nslot a 0 4 8\nlevel 8 4\npiece 0 4\nmember a\npoint 0 0\npoint 1 1\npoint 4 9\n",
+        Status::No,
+        "off-point slot 1 a 0 4 8\n",
+    ),
+    (
+        "expand",
+        "horizon 12\ntask a 0 4 4 2\ntask b 0 6 6 3\n",
+        Status::Done,
+        "job a.0 0 4 2\njob a.1 4 8 2\njob a.2 8 12 2\njob b.0 0 6 3\njob b.1 6 12 3\n# one level 12 12\n",
+    ),
+];

@@ -1,5 +1,8 @@
 -- What the lines before a line said together, as it is kept while tasks are read, and what a reader of lines returned.
-use Rattle.std.specs.Prelude.{◌≡◌, List, [], ◌∷◌, ◌++◌, map, Result, Ok, Err}
+use Rattle.std.specs.Prelude.{◌≡◌, ℕ, List, [], ◌∷◌, ◌++◌, Result, Ok, Err}
+use Rattle.std.specs.Ordering.{nat_cmp}
+use Rattle.std.specs.Cmp.Lexicographic.{slice_cmp}
+use Rattle.std.specs.BTreeSet.{contains_by}
 use Rattle.yds_model.specs.declared.task_reason.TaskReason.{TaskReason}
 use Rattle.yds_model.specs.Lines.{Line}
 use Rattle.yds_model.specs.Fields.{Fault, Spot}
@@ -10,11 +13,11 @@ use Rattle.yds_tasks.specs.declared.draft.Draft.{Draft}
 use Rattle.yds_tasks.specs.declared.line_fault.LineFault.{LineFault}
 use Rattle.yds_tasks.specs.declared.fault.TaskFault.{TaskFault}
 use Rattle.yds_tasks.specs.declared.fault.TaskFault.TheVariants as faults
-use Rattle.yds_tasks.specs.Fields.{Fails}
+use Rattle.yds_tasks.specs.Fields.{Fails, has_name}
 
--- a draft keeps the names of its tasks in their order
+-- a draft keeps the names of its tasks, and no others
 abbrev pub IsDraft : Draft → Type 0
-IsDraft draft = map (λ name. name.now) draft.names.keys ≡ map (λ task. task.name) draft.set.tasks
+IsDraft draft = (name : List ℕ) → contains_by (λ key. slice_cmp nat_cmp name key.now) draft.names ≡ has_name draft.set name
 
 -- the draft holds what these entries said
 abbrev pub Holds : Draft → List TaskEntry → Type 0

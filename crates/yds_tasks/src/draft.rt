@@ -13,8 +13,8 @@ use crate::line_fault::LineFault;
 use crate::line_kind::LineKind;
 use crate::task::Task;
 use crate::task_set::TaskSet;
-use indexmap::IndexSet;
 use std::alloc::Global;
+use std::collections::BTreeSet;
 use yds_model::TaskReason;
 use yds_model::limits::{MAX_TASKS, MAX_TIME, MAX_WORK};
 use yds_text::{Field, Fields, FiveFields, five_fields, one_field};
@@ -22,8 +22,8 @@ use yds_text::{Field, Fields, FiveFields, five_fields, one_field};
 #[derive(Drop)]
 pub(crate) struct Draft<'a> {
     pub(crate) set: TaskSet<'a>,
-    // The names of the tasks, in their order.
-    pub(crate) names: IndexSet<&'a str>,
+    // The names of the tasks.
+    pub(crate) names: BTreeSet<&'a str>,
 }
 
 impl<'a> Draft<'a> {
@@ -34,7 +34,7 @@ impl<'a> Draft<'a> {
     {
         Draft {
             set: TaskSet::new(alloc),
-            names: IndexSet::new(alloc),
+            names: BTreeSet::new(alloc),
         }
     }
 

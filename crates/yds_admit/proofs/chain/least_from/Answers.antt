@@ -1,4 +1,4 @@
-use Rattle.std.proofs.Common.{◌≡◌, ℕ, Some, List, ◌+◌, ◌-◌, ◌*◌, ◌<◌, ◌≤◌, length, get_or, ◌∙◌, subst, ap, arith}
+use Rattle.std.proofs.Common.{◌≡◌, ℕ, Some, List, ◌+◌, ◌-◌, ◌*◌, ◌<◌, ◌≤◌, length, get_or, ◌∙◌, subst, ap, arith, inr, refl}
 use Rattle.std.proofs.lemmas.List.{get_or_read}
 use Rattle.yds_model.specs.declared.limits.TheConstants.{MAX_WORK}
 use Rattle.yds_model.specs.Job.{Job, no_job, job_at}
@@ -54,9 +54,9 @@ loop-job-preserved c =
     let late = subst (λ (some : List ℕ). (q : ℕ) → c.place-place.result ≤ q → q < length some → c.job.inside.deadline ≤ get_or some q 0) c.deref-in-loop-job.ensures.value c.place-place.ensures.after in
     let fits_in = place_in top due jobs c.args.by_deadline.now times m long c.in_ok-times.ensures c.requires.same c.requires.falling n c.place-place.result c.loop-job-test.true
     (λ q less. omega (arith, early q less, ap (λ (one : Job). one.deadline) is)) in
-    let takes = subst (λ (units : ℕ). Takes c.loop-job.gaps c.place-place.result units c.take-passed.new.gaps 0 c.take-passed.result) c.from.ensures c.take-passed.ensures.takes in
-    let went = goes_through top due jobs times m long n c.loop-job-test.true job is c.place-place.result fits_in early late c.loop-job.gaps c.take-passed.new.gaps c.loop-job.passed
-    c.take-passed.result c.loop-job.from c.loop-job.invariant.swept takes in
+    let takes = subst (λ (units : ℕ). Takes c.loop-job.gaps c.place-place.result units c.take-passed.new.gaps 0 c.take-passed.result) c.from.ensures (c.take-passed.ensures.takes (inr refl)) in
+    let went = goes_through top due jobs times m long n c.loop-job-test.true job is c.place-place.result fits_in early late c.loop-job.invariant.swept.done c.loop-job.gaps
+    c.take-passed.new.gaps c.loop-job.passed c.take-passed.result c.loop-job.invariant.swept.chain c.loop-job.invariant.swept.passed_is takes in
     let few : c.loop-job.passed + c.take-passed.result ≤ (n + 1) * MAX_WORK = omega (arith, c.loop-job.invariant.swept.few, takes.within, c.job.invariant.work_in_range) in
     let on = next top due jobs times m long n c.loop-job-test.true job is c.place-place.result fits_in early late c.in_ok-times.ensures.first c.take-passed.new.gaps
     (c.loop-job.passed + c.take-passed.result) went in

@@ -1,4 +1,5 @@
-use Rattle.std.proofs.Common.{◌≡◌, ℕ, suc, ◌+◌, ◌-◌, ◌<◌, ◌∙◌, length, get_or, set, subst, arith, inl, get_or-set_same, length-set}
+use Rattle.std.proofs.Common.{◌≡◌, ℕ, suc, ◌+◌, ◌-◌, ◌<◌, ◌∙◌, length, get_or, set, refl, subst, arith, inl, inr, get_or-set_same, get_or-set_other, length-set}
+use Rattle.std.proofs.lemmas.Bool.{cases_lt}
 use Rattle.yds_admit.specs.Chain.{Takes, AreLinks}
 use Rattle.yds_admit.proofs.GoingOn.{none_taken, some_taken, all_taken}
 use Rattle.yds_admit.proofs.Links.{less_left, linked, slides}
@@ -18,6 +19,7 @@ loop-left-init c =
           (omega (arith, more, c.requires.within))
           (λ q from below. kept.1 q from (omega (arith, below, more)));
       links = kept.0;
+      kept = λ q low. refl;
       within = omega (arith, c.last_open-place.ensures.within, c.requires.within);
     }
 
@@ -32,9 +34,9 @@ loop-left-preserved c =
     let left : ℕ = c.loop-left.left - taken in
     let link : ℕ = c.if-left-gt0.links in
     let to : ℕ = c.last_open-place-in-loop-left.result in
-    let next : c.loop-left.place ≡ suc at = omega (arith, c.if-place-gt0.true) in
+    let next : c.loop-left.place ≡ suc at = omega (arith, c.if-place-lowest.true) in
     let as_long : length before ≡ length old = c.loop-left.invariant.takes.as_long in
-    let below : at < length old = omega (arith, c.if-place-gt0.true, c.loop-left.invariant.within) in
+    let below : at < length old = omega (arith, c.if-place-lowest.true, c.loop-left.invariant.within) in
     let here : at < length before = omega (arith, below, as_long) in
     let step : Takes old c.args.place units gaps at left = some_taken old before c.args.place units at c.loop-left.left taken
     (subst (λ (at : ℕ). Takes old c.args.place units before at c.loop-left.left) next c.loop-left.invariant.takes) below c.min-taken.ensures in
@@ -53,9 +55,16 @@ loop-left-preserved c =
           (omega (arith, more, below))
           (λ q from to. kept.1 q from (omega (arith, to, more)));
       links = kept.0;
+      kept = λ q low. get_or-set_other before at q (get_or before at 0 - taken) 0 (λ e. omega (arith, e, low, c.if-place-lowest.true)) ∙ c.loop-left.invariant.kept q low;
       within = omega (arith, c.last_open-place-in-loop-left.ensures.within, below);
     }
 
 pub returns-after-loop-left-clause-takes : goal.returns-after-loop-left-clause-takes
-returns-after-loop-left-clause-takes c =
-    all_taken c.args.gaps.now c.loop-left.gaps c.args.place c.args.units c.loop-left.place c.loop-left.left c.loop-left.invariant.takes (inl (omega (arith, c.loop-left-test.false)))
+returns-after-loop-left-clause-takes c over =
+    all_taken c.args.gaps.now c.loop-left.gaps c.args.place c.args.units c.loop-left.place c.loop-left.left c.loop-left.invariant.takes (elim over [
+      | inl none ↦ inl none
+      | inr first ↦ elim (cases_lt 0 c.loop-left.left) [
+        | inl some ↦ inr (omega (arith, first, c.loop-left-test.false, some))
+        | inr none ↦ inl (omega (arith, none))
+      ]
+    ])

@@ -1,6 +1,6 @@
 use Rattle.std.specs.Prelude.{IfSome}
-use Rattle.yds_critical.specs.Choice.{IsForward, IsFoundAmong}
+use Rattle.yds_critical.specs.Choice.{TakesTime, IsFoundAmong}
 use Rattle.yds_critical.proofs.search.best_from.Given as goal
 
 abbrev pub invariant-loop-sum : goal.invariant-loop-sum
-invariant-loop-sum l = IsFoundAmong l.sum-index l.fn.best l.start l.sums l.found × IfSome l.found IsForward
+invariant-loop-sum l = IsFoundAmong l.sum-index l.fn.best l.start l.sums l.found × IfSome l.found TakesTime

@@ -3,7 +3,7 @@ use Rattle.std.proofs.lemmas.List.{get_or_read}
 use Rattle.yds_model.specs.Job.{Job, IsJob, job_at, no_job}
 use Rattle.yds_intensity.specs.declared.sweeping.Sum.{Sum}
 use Rattle.yds_intensity.specs.Sums.{AreSums}
-use Rattle.yds_critical.specs.Choice.{AreLater, IsFound}
+use Rattle.yds_critical.specs.Choice.{AreLater, IsFoundAmongAll}
 use Rattle.yds_critical.proofs.Searching.{IsBestAmong, sums_later, best_more, critical_found}
 use Rattle.yds_critical.proofs.search.critical.Goals as goal
 
@@ -19,8 +19,8 @@ loop-row-preserved c =
     let release : c.row.inside.release ≡ (job_at rows n).release = ap (λ (job : Job). job.release) row in
     best_more n rows c.loop-row.best c.best_from-best.result c.in_ok-sums.sums.items c.loop-row-test.true (subst IsJob row c.row.invariant)
     (subst (λ (start : ℕ). AreSums rows start c.in_ok-sums.sums.items) release c.in_ok-sums.ensures)
-    (subst (λ (start : ℕ). IsFound c.loop-row.best start c.in_ok-sums.sums.items c.best_from-best.result) release
-    (subst (λ (sums : List Sum). IsFound c.loop-row.best c.row.inside.release sums c.best_from-best.result) c.deref-in-loop-row.ensures.value c.best_from-best.ensures))
+    (subst (λ (start : ℕ). IsFoundAmongAll c.loop-row.best start c.in_ok-sums.sums.items c.best_from-best.result) release
+    (subst (λ (sums : List Sum). IsFoundAmongAll c.loop-row.best c.row.inside.release sums c.best_from-best.result) c.deref-in-loop-row.ensures.value c.best_from-best.ensures))
     c.loop-row.invariant
 
 pub returns : goal.returns

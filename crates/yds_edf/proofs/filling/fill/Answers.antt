@@ -23,15 +23,15 @@ pub loop-number-preserved : goal.loop-number-preserved
 loop-number-preserved c = record {
   are = c.loop-number.invariant.are;
   works = rw c.in_ok-append.ensures.items (All-append (λ share. share.units ≤ MAX_WORK * c.args.grain)
-      c.loop-number.shares.items c.in_ok-served.served.items c.loop-number.invariant.works
-      (subst (λ (grain : ℕ). All (λ share. share.units ≤ MAX_WORK * grain) c.in_ok-served.served.items)
+      c.loop-number.shares.items c.serve.new.shares.items c.loop-number.invariant.works
+      (subst (λ (grain : ℕ). All (λ share. share.units ≤ MAX_WORK * grain) c.serve.new.shares.items)
       (ap (λ (tied : TiedQueue). tied.queue.grain) c.arrive.ensures ∙ c.loop-number.invariant.filling.same_grain)
-      c.in_ok-served.ensures.works));
+      c.in_ok-serve.ensures.works));
   filling = filled_after c.requires.in_order c.loop-number-test.true c.loop-number.invariant.filling c.stretch.inside.from
       (ap (λ (stretch : Piece). stretch.from) (c.stretch.view_is
       ∙ get_or_read c.args.stretches.now c.loop-number.number c.index-stretches-number.result c.loop-number-test.true
       c.index-stretches-number.is no_stretch))
-      c.arrive.new.self c.arrive.ensures c.in_ok-served.ensures.ok c.in_ok-append.ensures.items;
+      c.arrive.new.self c.arrive.ensures c.in_ok-serve.ensures.ok c.in_ok-append.ensures.items;
 }
 
 pub returns-clause-filled : goal.returns-clause-filled

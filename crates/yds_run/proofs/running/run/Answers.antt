@@ -1,13 +1,17 @@
 use Rattle.std.proofs.Common.{ap, sym, ◌∙◌, ◌≡◌, Some, Option}
 use Rattle.yds_model.specs.Request.{Request}
+use Rattle.yds_laws.specs.AdmitText.{HoldsAdmission}
 use Rattle.yds_model.specs.PlanAnswer.{HoldsHeadline}
+use Rattle.yds_laws.specs.CompareText.{HoldsComparison}
 use Rattle.yds_laws.specs.RoundText.{HoldsLeastEnergy, HoldsTooSlow}
 use Rattle.yds_laws.specs.TaskLaws.{HoldsExpansion}
+use Rattle.yds_laws.proofs.CompareText.{comparison_holds}
+use Rattle.yds_laws.proofs.AdmitText.{admission_held}
 use Rattle.yds_laws.proofs.PlanText.{plans_hold_the_headline}
 use Rattle.yds_laws.proofs.RoundText.{rounded_holds_least_energy, refused_is_too_slow}
 use Rattle.yds_laws.proofs.TaskTexts.{expansions_are_read}
 use Rattle.yds_run.specs.declared.command.Command.{Command}
-use Rattle.yds_run.specs.Words.{asked, request_view}
+use Rattle.yds_run.specs.Words.{words_of, asked, request_view}
 use Rattle.yds_run.proofs.Replied.{made_replies}
 use Rattle.yds_run.proofs.Complete.{question_completes, tasks_complete, trial_answers, answer_holds}
 use Rattle.yds_run.proofs.running.run.Goals as goal
@@ -35,6 +39,18 @@ returns-in-Some-Document-clause-least_energy g c =
 pub returns-in-Some-Document-clause-too_slow : goal.returns-in-Some-Document-clause-too_slow
 returns-in-Some-Document-clause-too_slow g c =
     λ round no. answer_holds _ _ _ _ HoldsTooSlow _ _ _ _ tt refused_is_too_slow (ap asked round) no
+    (question_completes _ _ _ _ _ _ _ _ (named _ _ _ c.in-Some-Document.field-0-is c.in-Some-Document.ensures.asked)
+    (c.answer_input.ensures.answer (λ is. absurd cc) (λ is. absurd cc)))
+
+pub returns-in-Some-Document-clause-comparison : goal.returns-in-Some-Document-clause-comparison
+returns-in-Some-Document-clause-comparison g c =
+    λ grid compare done. answer_holds _ _ _ _ HoldsComparison _ _ _ _ tt (comparison_holds grid) compare done
+    (question_completes _ _ _ _ _ _ _ _ (named _ _ _ c.in-Some-Document.field-0-is c.in-Some-Document.ensures.asked)
+    (c.answer_input.ensures.answer (λ is. absurd cc) (λ is. absurd cc)))
+
+pub returns-in-Some-Document-clause-admission : goal.returns-in-Some-Document-clause-admission
+returns-in-Some-Document-clause-admission g c =
+    λ top admit done. answer_holds _ _ _ _ (HoldsAdmission top) _ _ _ _ tt (admission_held (words_of c.args.words.now) top admit) admit done
     (question_completes _ _ _ _ _ _ _ _ (named _ _ _ c.in-Some-Document.field-0-is c.in-Some-Document.ensures.asked)
     (c.answer_input.ensures.answer (λ is. absurd cc) (λ is. absurd cc)))
 

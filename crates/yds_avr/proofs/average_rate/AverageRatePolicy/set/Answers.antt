@@ -1,5 +1,6 @@
 use Rattle.std.proofs.Common.{◌≡◌, ◌≤◌, ◌<◌, ◌+◌, ◌++◌, ◌∙◌, sym, subst, ap, arith, length, take, drop, List, ℕ}
-use Rattle.std.specs.Prelude.{All}
+use Rattle.std.specs.Prelude.{All, sum_by}
+use Rattle.std.specs.List.{list_any}
 use Rattle.std.specs.List.Sorted.{IsPermutation}
 use Rattle.std.proofs.lemmas.List.Sorted.{length_permutation}
 use Rattle.yds_model.specs.declared.limits.TheConstants.{MAX_JOBS}
@@ -7,10 +8,10 @@ use Rattle.yds_model.specs.Piece.{Piece}
 use Rattle.yds_model.specs.Job.{IsJob}
 use Rattle.yds_events.specs.Stretch.{IsOutside}
 use Rattle.yds_avr.specs.declared.rate.Rate.{Rate}
-use Rattle.yds_avr.specs.Rate.{IsRate, rates_together, some_rounds}
+use Rattle.yds_avr.specs.Rate.{IsLive, rate_term, rate_rounds}
 use Rattle.yds_avr.specs.Live.{rate_at, ArePartsBefore}
 use Rattle.yds_avr.proofs.Terms.{deadlines_outside}
-use Rattle.yds_avr.proofs.Parts.{IsStep, middle, parts_next, middle_terms, middle_rounds, middle_all, middle_few, are_rates, rates_outside, given_back}
+use Rattle.yds_avr.proofs.Parts.{IsStep, middle, parts_next, middle_terms, middle_rounds, middle_live, middle_few, given_back}
 use Rattle.yds_avr.proofs.average_rate.AverageRatePolicy.set.Goals as goal
 
 step_lent : (c : goal.After-terms-arg-1) → IsStep c.args.queue.now.jobs c.args.self.now.grid c.args.self.now.order.items c.over_by-self.new.order c.args.self.now.over c.args.self.now.arrived
@@ -27,7 +28,9 @@ step_lent c =
           (λ less. omega (arith, c.arrived_by-self.ensures.next less, from));
       same = subst (λ (jobs : List Rate). IsPermutation jobs c.over_by-self.new.order) c.deref_mut.ensures.value c.over_by-self.ensures.same;
       parted = c.over_by-self.ensures.parted;
+      come = λ place less. omega (arith, c.over_by-self.ensures.come place less, from);
       done = λ place less. omega (arith, c.over_by-self.ensures.done place less, from);
+      live = λ place most less. omega (arith, c.over_by-self.ensures.live place most less, from);
       rest = subst (λ (jobs : List Rate). (place : ℕ) → c.arrived_by-self.result ≤ place → rate_at c.over_by-self.new.order place ≡ rate_at jobs place) c.deref_mut.ensures.value c.over_by-self.ensures.rest;
     }
 
@@ -45,17 +48,12 @@ terms-requires-clause-few c =
     subst (λ (order : List Rate). length (middle order c.over_by-self.result c.arrived_by-self.result) ≤ MAX_JOBS) (sym (middle_is c))
     (omega (arith, middle_few _ _ _ _ _ _ _ _ _ _ (step_lent c), c.rows-rows.ensures.few, ap length c.rows-rows.ensures.jobs))
 
-pub terms-requires-clause-rates : goal.terms-requires-clause-rates
-terms-requires-clause-rates c =
+pub terms-requires-clause-live : goal.terms-requires-clause-live
+terms-requires-clause-live c =
     let are = subst (All IsJob) c.rows-rows.ensures.jobs c.rows-rows.ensures.kept in
-    subst (λ (order : List Rate). All IsRate (middle order c.over_by-self.result c.arrived_by-self.result)) (sym (middle_is c))
-    (middle_all _ _ _ _ _ _ _ _ _ _ (step_lent c) IsRate (are_rates c.args.self.now.grid c.args.queue.now.jobs c.requires.kept.grid_in_range are))
-
-pub terms-requires-clause-uncut : goal.terms-requires-clause-uncut
-terms-requires-clause-uncut c =
     let outside = subst (λ (piece : Piece). All (λ job. IsOutside piece job.deadline) c.args.queue.now.jobs) (sym c.requires.nth) (deadlines_outside c.args.queue.now.jobs c.args._number c.requires.known) in
-    subst (λ (order : List Rate). All (λ rate. IsOutside c.args.stretch rate.deadline) (middle order c.over_by-self.result c.arrived_by-self.result)) (sym (middle_is c))
-    (middle_all _ _ _ _ _ _ _ _ _ _ (step_lent c) (λ rate. IsOutside c.args.stretch rate.deadline) (rates_outside c.args.self.now.grid c.args.queue.now.jobs c.args.stretch outside))
+    subst (λ (order : List Rate). All (IsLive c.args.stretch) (middle order c.over_by-self.result c.arrived_by-self.result)) (sym (middle_is c))
+    (middle_live _ _ _ _ _ _ _ _ _ _ (step_lent c) c.requires.kept.grid_in_range are outside)
 
 step_after : (c : goal.After-terms) → IsStep c.args.queue.now.jobs c.args.self.now.grid c.args.self.now.order.items c.over_by-self.new.order c.args.self.now.over c.args.self.now.arrived
     c.over_by-self.result c.arrived_by-self.result c.args._number c.args.stretch
@@ -71,7 +69,9 @@ step_after c =
           (λ less. omega (arith, c.arrived_by-self.ensures.next less, from));
       same = subst (λ (jobs : List Rate). IsPermutation jobs c.over_by-self.new.order) c.deref_mut.ensures.value c.over_by-self.ensures.same;
       parted = c.over_by-self.ensures.parted;
+      come = λ place less. omega (arith, c.over_by-self.ensures.come place less, from);
       done = λ place less. omega (arith, c.over_by-self.ensures.done place less, from);
+      live = λ place most less. omega (arith, c.over_by-self.ensures.live place most less, from);
       rest = subst (λ (jobs : List Rate). (place : ℕ) → c.arrived_by-self.result ≤ place → rate_at c.over_by-self.new.order place ≡ rate_at jobs place) c.deref_mut.ensures.value c.over_by-self.ensures.rest;
     }
 
@@ -84,17 +84,23 @@ back_after c =
 middle_after : (c : goal.After-terms) → c.deref-2.result.now ≡ c.over_by-self.new.order
 middle_after c = c.deref-2.ensures.value ∙ back_after c
 
+live_after : (c : goal.After-terms) → All (IsLive c.args.stretch) (middle c.over_by-self.new.order c.over_by-self.result c.arrived_by-self.result)
+live_after c =
+    let are = subst (All IsJob) c.rows-rows.ensures.jobs c.rows-rows.ensures.kept in
+    let outside = subst (λ (piece : Piece). All (λ job. IsOutside piece job.deadline) c.args.queue.now.jobs) (sym c.requires.nth) (deadlines_outside c.args.queue.now.jobs c.args._number c.requires.known) in
+    middle_live _ _ _ _ _ _ _ _ _ _ (step_after c) c.requires.kept.grid_in_range are outside
+
 pub returns-clause-units : goal.returns-clause-units
 returns-clause-units c =
     c.terms.ensures.units
-    ∙ ap (λ (order : List Rate). rates_together (middle order c.over_by-self.result c.arrived_by-self.result) c.args.stretch) (middle_after c)
-    ∙ middle_terms _ _ _ _ _ _ _ _ _ _ (step_after c)
+    ∙ ap (λ (order : List Rate). sum_by (rate_term c.args.stretch) (middle order c.over_by-self.result c.arrived_by-self.result)) (middle_after c)
+    ∙ middle_terms _ _ _ _ _ _ _ _ _ _ (step_after c) (live_after c)
 
 pub returns-clause-rounds : goal.returns-clause-rounds
 returns-clause-rounds c =
     c.terms.ensures.rounds
-    ∙ ap (λ (order : List Rate). some_rounds (middle order c.over_by-self.result c.arrived_by-self.result) c.args.stretch) (middle_after c)
-    ∙ middle_rounds _ _ _ _ _ _ _ _ _ _ (step_after c)
+    ∙ ap (λ (order : List Rate). list_any (rate_rounds c.args.stretch) (middle order c.over_by-self.result c.arrived_by-self.result)) (middle_after c)
+    ∙ middle_rounds _ _ _ _ _ _ _ _ _ _ (step_after c) (live_after c)
 
 pub returns-clause-keeps : goal.returns-clause-keeps
 returns-clause-keeps c =

@@ -1,0 +1,110 @@
+-- Marks of jobs, one job more.
+use Rattle.std.proofs.Common.{◌≡◌, ℕ, ◌+◌, ◌<◌, ◌≤◌, ◌≢◌, Bool, true, false, List, [], ◌∷◌, ◌++◌, length, get_or, set, take, drop, ◌∙◌, refl, sym, arith, inl, inr, ap, cond, get_or-set_same, get_or-set_other, length-set}
+use Rattle.std.specs.List.{All, Any, sum_by, range_with_len}
+use Rattle.std.proofs.lemmas.Bool.{cases_eq}
+use Rattle.std.proofs.lemmas.List.{get_or_default, take_more, drop-append-le, length-take-le, same_lists, length_push, get_or_push, get_or_append_left}
+use Rattle.std.proofs.lemmas.List.Elements.{All-push, All-nil}
+use Rattle.std.proofs.lemmas.List.Sums.{sum_by_push}
+use Rattle.std.proofs.lemmas.List.FromFn.{get_or-range_with_len, length-range_with_len}
+use Rattle.yds_model.specs.Job.{Job, no_job, job_at}
+use Rattle.yds_model.specs.Policy.{numbers_of}
+use Rattle.yds_edf.specs.Pending.{sum_below}
+use Rattle.yds_edf.proofs.Sums.{sum_below_same, sum_below_zero, sum_below_change}
+use Rattle.yds_edf.proofs.Numbers.{sum_places}
+use Rattle.yds_admit.specs.Board.{IsMarked, AreMarked, NoneFrom, if_marked}
+
+numbers_sum : (rows : List Job) (g : ℕ → ℕ) → sum_by g (numbers_of rows) ≡ sum_below (length rows) g
+numbers_sum rows g =
+    let n : ℕ = length rows in
+    sum_places g (numbers_of rows) 0
+    ∙ ap (λ k. sum_below k (λ i. g (get_or (numbers_of rows) i 0))) (length-range_with_len 0 n)
+    ∙ sum_below_same n (λ i. g (get_or (numbers_of rows) i 0)) g
+    (λ k below. ap g (let it : get_or (numbers_of rows) k 0 ≡ k = omega (arith, get_or-range_with_len 0 n k 0 below) in it))
+
+is_marked : (marks : List Bool) (f : ℕ → ℕ) (i : ℕ) → get_or marks i false ≡ true → if_marked marks f i ≡ f i
+is_marked marks f i is = ap {B = ℕ} (λ b. cond b (f i) 0) is
+
+not_marked : (marks : List Bool) (f : ℕ → ℕ) (i : ℕ) → get_or marks i false ≡ false → if_marked marks f i ≡ 0
+not_marked marks f i is = ap {B = ℕ} (λ b. cond b (f i) 0) is
+
+-- no job is marked
+pub none_marked : (rows : List Job) (marks : List Bool) → length marks ≡ length rows → NoneFrom marks 0 → IsMarked rows 0 marks []
+none_marked rows marks long none = record {
+  as_long = long;
+  marked = record {
+    sums = λ f. numbers_sum rows (if_marked marks (λ number. f (job_at rows number)))
+        ∙ sum_below_zero (length rows) (if_marked marks (λ number. f (job_at rows number)))
+        (λ k below. not_marked marks (λ number. f (job_at rows number)) k (none k (omega arith)));
+    known = All-nil (λ job. Any (λ one. one ≡ job) rows);
+  };
+  none = none;
+}
+
+-- one that was not marked
+pub one_marked : (rows : List Job) (marks : List Bool) (jobs : List Job) (i : ℕ) (row : Job) → length marks ≡ length rows → i < length rows → row ≡ job_at rows i →
+    get_or marks i false ≡ false → AreMarked rows marks jobs → AreMarked rows (set marks i true) (jobs ++ row ∷ [])
+one_marked rows marks jobs i row long within is not_yet marked = record {
+  sums = λ f.
+      let F : ℕ → ℕ = λ number. f (job_at rows number) in
+      let there : i < length marks = omega (arith, long, within) in
+      omega (
+        arith,
+        numbers_sum rows (if_marked (set marks i true) F),
+        numbers_sum rows (if_marked marks F),
+        sum_below_change (length rows) i (if_marked (set marks i true) F) (if_marked marks F) within
+            (λ j below other. ap {B = ℕ} (λ b. cond b (F j) 0) (get_or-set_other marks i j true false other)),
+        is_marked (set marks i true) F i (get_or-set_same marks i true false there),
+        not_marked marks F i not_yet,
+        marked.sums f,
+        sum_by_push f jobs row,
+        ap f is,
+      );
+  known = All-push (λ job. Any (λ one. one ≡ job) rows) jobs row marked.known (i, job_at rows i, within, get_or_default rows i (job_at rows i) no_job within, sym is);
+}
+
+pub none_later : (marks : List Bool) (i : ℕ) → NoneFrom marks i → NoneFrom (set marks i true) (i + 1)
+none_later marks i none k later = get_or-set_other marks i k true false (λ e. omega (arith, e, later)) ∙ none k (omega (arith, later))
+
+-- the rows from one number up to the next one after another
+pub run_more : (rows : List Job) (first i : ℕ) → first ≤ i → i < length rows → drop first (take (i + 1) rows) ≡ drop first (take i rows) ++ job_at rows i ∷ []
+run_more rows first i order within =
+    ap (drop first) (take_more rows i no_job within)
+    ∙ drop-append-le first (take i rows) (job_at rows i ∷ []) (omega (arith, order, length-take-le i rows (omega (arith, within))))
+
+-- one mark more
+pub one_more : (rows : List Job) (marks : List Bool) (jobs : List Job) (i : ℕ) (row : Job) → i < length rows → row ≡ job_at rows i →
+    IsMarked rows i marks jobs → IsMarked rows (i + 1) (set marks i true) (jobs ++ row ∷ [])
+one_more rows marks jobs i row within is marked = record {
+  as_long = length-set marks i true ∙ marked.as_long;
+  marked = one_marked rows marks jobs i row marked.as_long within is (marked.none i (omega arith)) marked.marked;
+  none = none_later marks i marked.none;
+}
+
+-- the numbers below n, and n
+pub numbers_more : (n : ℕ) → range_with_len 0 n ++ n ∷ [] ≡ range_with_len 0 (n + 1)
+numbers_more n =
+    same_lists (range_with_len 0 n ++ n ∷ []) (range_with_len 0 (n + 1))
+    (omega (arith, length_push (range_with_len 0 n) n, length-range_with_len 0 n, length-range_with_len 0 (n + 1)))
+    (λ k d below. elim (cases_eq k n) [
+      | inl same ↦ omega (
+        arith,
+        same,
+        get_or_push (range_with_len 0 n) n d k (omega (arith, same, length-range_with_len 0 n)),
+        get_or-range_with_len 0 (n + 1) k d (omega arith),
+      )
+      | inr other ↦
+          let less : k < n = omega (arith, other, below, length_push (range_with_len 0 n) n, length-range_with_len 0 n) in
+          omega (
+            arith,
+            get_or_append_left (range_with_len 0 n) (n ∷ []) d k (omega (arith, less, length-range_with_len 0 n)),
+            get_or-range_with_len 0 n k d less,
+            get_or-range_with_len 0 (n + 1) k d (omega (arith, less)),
+          )
+    ])
+
+pub later_none : (rows : List Job) (marks : List Bool) (jobs : List Job) (i : ℕ) → IsMarked rows i marks jobs → IsMarked rows (i + 1) marks jobs
+later_none rows marks jobs i marked = record {
+  as_long = marked.as_long;
+  marked = marked.marked;
+  none = λ number from. marked.none number (omega (arith, from));
+}

@@ -1,0 +1,33 @@
+use Rattle.std.proofs.Common.{List, ◌∙◌, ℕ, ◌+◌, ◌<◌, ◌*◌, ◌≡◌, length, get_or, arith, sym, subst, ap}
+use Rattle.std.proofs.lemmas.List.Sorted.{IsPermutation-sym, IsPermutation-trans, IsPermutation-map, All-permutation}
+use Rattle.yds_model.specs.Job.{Job}
+use Rattle.yds_admit.specs.declared.board.Spot.{Spot}
+use Rattle.yds_admit.specs.Board.{IsSpot, AreGaps, AreSpots}
+use Rattle.yds_admit.specs.Chain.{AreTimes}
+use Rattle.yds_admit.proofs.Times.{same_times}
+use Rattle.yds_admit.proofs.board.Board.new.Goals as goal
+
+pub spots-requires : goal.spots-requires
+spots-requires c =
+    rw c.deref-3.ensures.value
+    (same_times 0 c.args.rows.now c.in_ok-by_deadline.by_deadline.items c.in_ok-times.times.items
+    (IsPermutation-sym c.args.rows.now c.in_ok-by_deadline.by_deadline.items c.in_ok-by_deadline.ensures.same)
+    (subst (λ (jobs : List Job). AreTimes 0 jobs c.in_ok-times.times.items) c.deref.ensures.value c.in_ok-times.ensures))
+
+pub returns : goal.returns
+returns c =
+    let rows = c.args.rows.now in
+    let times = c.in_ok-times.times.items in
+    let spots = subst (λ (some : List ℕ). AreSpots rows some c.in_ok-spots.field-0.items) c.deref-3.ensures.value c.in_ok-spots.ensures in
+    record {
+      are_times = same_times 0 rows c.in_ok-by_deadline.by_deadline.items times
+          (IsPermutation-sym rows c.in_ok-by_deadline.by_deadline.items c.in_ok-by_deadline.ensures.same)
+          (subst (λ (jobs : List Job). AreTimes 0 jobs times) c.deref.ensures.value c.in_ok-times.ensures);
+      are_gaps = subst (λ (some : List ℕ). AreGaps c.args.top some c.in_ok-gaps.gaps.items) c.deref-2.ensures.value
+          (record { as_long = c.in_ok-gaps.ensures.as_long; each = c.in_ok-gaps.ensures.each });
+      are_spots = record {
+        same = IsPermutation-trans _ _ _ spots.same (IsPermutation-map (λ (spot : Spot). spot.number) _ _ c.in_ok-spots-2.ensures.same);
+        each = All-permutation (IsSpot rows times) _ _ c.in_ok-spots-2.ensures.same spots.each;
+      };
+      falling = c.in_ok-spots-2.ensures.falling;
+    }

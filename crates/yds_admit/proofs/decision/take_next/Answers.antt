@@ -1,0 +1,25 @@
+use Rattle.std.proofs.Common.{◌≡◌, ℕ, List, ◌∷◌, [], ◌++◌, ◌∙◌, refl, sym, arith, subst, length}
+use Rattle.std.proofs.lemmas.List.{get_or_read}
+use Rattle.yds_model.specs.Job.{Job, no_job, job_at}
+use Rattle.yds_laws.specs.AdmissionLaws.{HasRoom}
+use Rattle.yds_admit.specs.Orders.{AreOrdered}
+use Rattle.yds_admit.proofs.Deciding.{takes}
+use Rattle.yds_admit.proofs.Marks.{one_more}
+use Rattle.yds_admit.proofs.decision.take_next.Goals as goal
+
+pub returns-clause-state : goal.returns-clause-state
+returns-clause-state c =
+    let rows = c.args.rows.now in
+    let old = c.args.state.now in
+    let row : Job = record { release = c.row.inside.release; deadline = c.row.inside.deadline; work = c.row.inside.work } in
+    let is : row ≡ job_at rows old.next =
+    c.row.view_is ∙ get_or_read rows old.next c.index-rows-number.result c.requires.more c.index-rows-number.is no_job in
+    record {
+      within = omega (arith, c.requires.more);
+      decided = rw (c.in_ok-push.ensures.items, c.in_ok-push-2.ensures.items)
+          (takes rows c.args._top old.next old.taken.items old.jobs.items old.refused.items c.requires.some_top c.requires.more c.requires.state.decided row is c.row.invariant
+          (subst (λ (one : Job). HasRoom c.args._top (old.jobs.items ++ one ∷ [])) (sym is) c.requires.room));
+      marked = rw c.in_ok-push-2.ensures.items (one_more rows old.marks.items old.jobs.items old.next row c.requires.more is c.requires.state.marked);
+      ordered = rw c.in_ok-push-2.ensures.items
+          (subst (λ (one : Job). AreOrdered (old.jobs.items ++ one ∷ []) c.args.by_release.items c.args.by_deadline.items) (sym is) c.requires.ordered);
+    }

@@ -1,0 +1,92 @@
+ghost use Rattle.std.specs.Prelude.{◌≡◌, ℕ, ◌<◌, ◌≤◌, IfOk, All, length, slice_index};
+ghost use Rattle.std.specs.List.Sorted.{IsPermutation, IsNonDecreasing};
+ghost use Rattle.yds_model.specs.declared.limits.TheConstants.{MAX_TIME};
+ghost use Rattle.yds_admit.specs.Board.{IsBoard, AreSpots, IsFallingSpots};
+ghost use Rattle.yds_admit.specs.Chain.{AreTimes};
+
+use crate::chain::{gaps, place, times};
+use crate::interval::by_deadline;
+use std::alloc::Global;
+use yds_model::limits::{MAX_JOBS, MAX_TOP};
+use yds_model::{JobRow, Memory};
+
+/// A job with its places among the times of a chain.
+#[derive(Clone, Copy, Drop)]
+pub(crate) struct Spot {
+    /// The job's number.
+    pub(crate) number: usize,
+    pub(crate) release: u32,
+    pub(crate) work: u32,
+    /// The place of the last time that isn't after the release.
+    pub(crate) begin: usize,
+    /// The first place of the deadline.
+    pub(crate) end: usize,
+}
+
+/// What all tests of runs of jobs have in common.
+#[derive(Drop)]
+pub(crate) struct Board {
+    /// Time 0 and the deadlines, rising.
+    pub(crate) times: Vec<u32>,
+    /// The work that the top speed does between each time and the next.
+    pub(crate) gaps: Vec<u64>,
+    /// All jobs by falling releases.
+    pub(crate) spots: Vec<Spot>,
+}
+
+impl Board {
+    /// The board of these jobs under this top speed.
+    pub(crate) fn new(alloc: Global, rows: &[JobRow], top: u32) -> Result<Board, Memory>
+        requires few { length rows.now ≤ MAX_JOBS }
+        requires top_in_range { top ≤ MAX_TOP }
+        ensures { IfOk result (λ board. IsBoard rows.now top board.times.items board.gaps.items board.spots.items) }
+    {
+        let by_deadline = by_deadline(alloc, rows)?;
+        let times = times(alloc, &by_deadline, 0)?;
+        let gaps = gaps(alloc, &times, top)?;
+        let spots = falling(spots(alloc, rows, &times)?)?;
+        Ok(Board { times, gaps, spots })
+    }
+}
+
+/// Each job with its places among these times.
+fn spots(alloc: Global, rows: &[JobRow], times: &[u32]) -> Result<Vec<Spot>, Memory>
+    requires { AreTimes 0 rows.now times.now }
+    ensures { IfOk result (λ spots. AreSpots rows.now times.now spots.items) }
+{
+    let mut spots = Vec::new(alloc);
+    for (number, row) in rows.iter().enumerate() {
+        let begin = last_until(times, row.release);
+        let end = place(times, row.deadline);
+        spots.push(Spot {
+            number,
+            release: row.release,
+            work: row.work,
+            begin,
+            end,
+        })?;
+    }
+    Ok(spots)
+}
+
+/// The place of the last of the times that isn't after this one.
+fn last_until(times: &[u32], time: u32) -> usize
+    requires some { 1 ≤ length times.now }
+    requires rising { IsNonDecreasing times.now }
+    requires begun { slice_index times.now 0 ≤ time }
+    ensures within { result < length times.now }
+    ensures until { slice_index times.now result ≤ time }
+    ensures after { (q : ℕ) → result < q → q < length times.now → time < slice_index times.now q }
+{
+    times.partition_point(|other| *other <= time) - 1
+}
+
+/// The spots by falling releases.
+fn falling(mut spots: Vec<Spot>) -> Result<Vec<Spot>, Memory>
+    requires { All (λ spot. spot.release ≤ MAX_TIME) spots.items }
+    ensures same { IfOk result (λ sorted. IsPermutation spots.items sorted.items) }
+    ensures falling { IfOk result (λ sorted. IsFallingSpots sorted.items) }
+{
+    spots.sort_by_key(|spot| u32::MAX - spot.release)?;
+    Ok(spots)
+}

@@ -1,0 +1,150 @@
+-- The stretches of jobs are together as long as the horizon.
+use Rattle.std.proofs.Common.{◌≡◌, ℕ, zero, suc, ◌+◌, ◌-◌, ◌<◌, ◌≤◌, ◌⊎◌, min, max, List, [], ◌∷◌, length, get_or, refl, ap, arith, inl, inr}
+use Rattle.std.specs.Prelude.{sum_by}
+use Rattle.std.specs.List.{All, flat_map, fold}
+use Rattle.std.proofs.lemmas.Bool.{cases_lt}
+use Rattle.std.proofs.lemmas.List.Elements.{All-nil, All-cons, All-head, All-tail, All-from_get_or}
+use Rattle.std.proofs.lemmas.List.Sums.{sum_by-cons}
+use Rattle.yds_model.specs.Job.{Job, no_job, job_at}
+use Rattle.yds_model.specs.Energy.{first_release, last_deadline, horizon}
+use Rattle.yds_model.specs.Event.{event_points, neighbours, stretches}
+use Rattle.yds_events.specs.Stretch.{length_of}
+use Rattle.yds_events.proofs.Rising.{Rises, rises_times, rising_all}
+use Rattle.yds_events.proofs.Times.{not_later, release_at, deadline_at}
+
+-- # From the first time to the last
+
+-- neighbours are together as long as from the first of rising times to the last
+neighbours_long : (low time : ℕ) (times : List ℕ) → Rises low (time ∷ times) → time + sum_by length_of (neighbours (time ∷ times)) ≡ get_or (time ∷ times) (length times) 0
+neighbours_long low time [] rises = omega arith
+neighbours_long low time (next ∷ times) rises =
+    omega (
+      arith,
+      rises.1.0,
+      sum_by-cons length_of (record { from = time; to = next }) (neighbours (next ∷ times)),
+      neighbours_long (suc time) next times rises.1,
+    )
+
+-- # The last deadline and the first release
+
+-- the greatest of a number and the deadlines: none is greater, and it is the number or one of them
+record IsLast (from : ℕ) (jobs : List Job) (last : ℕ) : Type 0 where
+  start : from ≤ last
+  none : (number : ℕ) → number < length jobs → (job_at jobs number).deadline ≤ last
+  one : (last ≡ from) ⊎ ((number : ℕ) × (number < length jobs) × ((job_at jobs number).deadline ≡ last))
+
+last_is : (from : ℕ) (jobs : List Job) → IsLast from jobs (fold (λ time job. max time job.deadline) from jobs)
+last_is from [] = record { start = omega arith; none = λ number within. absurd (omega (arith, within)); one = inl refl }
+last_is from (job ∷ jobs) =
+    let rest = last_is (max from job.deadline) jobs in
+    record {
+      start = omega (arith, rest.start);
+      none = λ number within. none number within rest;
+      one = elim rest.one [
+        | inl is ↦ elim (cases_lt from job.deadline) [
+          | inl less ↦ inr (0, omega arith, omega (arith, is, less))
+          | inr more ↦ inl (omega (arith, is, more))
+        ]
+        | inr (number, within, is) ↦ inr (suc number, omega (arith, within), is)
+      ];
+    }
+  where
+    -- the first job's, or a later one's
+    none : (number : ℕ) → number < length (job ∷ jobs) → IsLast (max from job.deadline) jobs (fold (λ time job. max time job.deadline) (max from job.deadline) jobs) →
+        (job_at (job ∷ jobs) number).deadline ≤ fold (λ time job. max time job.deadline) (max from job.deadline) jobs
+    none zero within rest = omega (arith, rest.start)
+    none (suc number) within rest = rest.none number (omega (arith, within))
+
+-- the least of a number and the releases
+record IsFirst (from : ℕ) (jobs : List Job) (first : ℕ) : Type 0 where
+  start : first ≤ from
+  none : (number : ℕ) → number < length jobs → first ≤ (job_at jobs number).release
+  one : (first ≡ from) ⊎ ((number : ℕ) × (number < length jobs) × ((job_at jobs number).release ≡ first))
+
+first_is : (from : ℕ) (jobs : List Job) → IsFirst from jobs (fold (λ time job. min time job.release) from jobs)
+first_is from [] = record { start = omega arith; none = λ number within. absurd (omega (arith, within)); one = inl refl }
+first_is from (job ∷ jobs) =
+    let rest = first_is (min from job.release) jobs in
+    record {
+      start = omega (arith, rest.start);
+      none = λ number within. none number within rest;
+      one = elim rest.one [
+        | inl is ↦ elim (cases_lt job.release from) [
+          | inl less ↦ inr (0, omega arith, omega (arith, is, less))
+          | inr more ↦ inl (omega (arith, is, more))
+        ]
+        | inr (number, within, is) ↦ inr (suc number, omega (arith, within), is)
+      ];
+    }
+  where
+    -- the first job's, or a later one's
+    none : (number : ℕ) → number < length (job ∷ jobs) → IsFirst (min from job.release) jobs (fold (λ time job. min time job.release) (min from job.release) jobs) →
+        fold (λ time job. min time job.release) (min from job.release) jobs ≤ (job_at (job ∷ jobs) number).release
+    none zero within rest = omega (arith, rest.start)
+    none (suc number) within rest = rest.none number (omega (arith, within))
+
+-- # The horizon
+
+-- all releases and deadlines lie between these two
+ends_between : (first last : ℕ) (jobs : List Job) → All (λ job. (first ≤ job.release) × (job.release < job.deadline) × (job.deadline ≤ last)) jobs →
+    All (λ time. (first ≤ time) × (time ≤ last)) (flat_map (λ job. job.release ∷ job.deadline ∷ []) jobs)
+ends_between first last [] each = All-nil (λ time. (first ≤ time) × (time ≤ last))
+ends_between first last (job ∷ jobs) each =
+    let P : ℕ → Type 0 = λ time. (first ≤ time) × (time ≤ last) in
+    let Q : Job → Type 0 = λ job. (first ≤ job.release) × (job.release < job.deadline) × (job.deadline ≤ last) in
+    let here = All-head Q job jobs each in
+    let rest = flat_map (λ (job : Job). job.release ∷ job.deadline ∷ []) jobs in
+    All-cons P job.release (job.deadline ∷ rest) (here.0, omega (arith, here.1, here.2))
+    (All-cons P job.deadline rest (omega (arith, here.0, here.1), here.2) (ends_between first last jobs (All-tail Q job jobs each)))
+
+-- rising times that begin with the first and end with the last
+long_between : (first last : ℕ) (times : List ℕ) → 1 ≤ length times → Rises 0 times → All (λ time. (first ≤ time) × (time ≤ last)) times → get_or times 0 0 ≤ first →
+    last ≤ get_or times (length times - 1) 0 → sum_by length_of (neighbours times) ≡ last - first
+long_between first last [] some rises between begins ends = absurd (omega (arith, some))
+long_between first last (time ∷ times) some rises between begins ends =
+    let place : suc (length times) - 1 ≡ length times = omega arith in
+    let end : last ≤ get_or (time ∷ times) (length times) 0 = omega (arith, ends, ap (λ n. get_or (time ∷ times) n 0) place) in
+    let at_first = between 0 0 (omega arith) in
+    let at_last = between (length times) 0 (omega arith) in
+    omega (arith, neighbours_long 0 time times rises, at_first.0, at_last.1, begins, end)
+
+-- of jobs whose windows aren't empty, the first release and the last deadline are event points
+first_event : (jobs : List Job) → 1 ≤ length jobs → ((number : ℕ) → number < length jobs → (job_at jobs number).release < (job_at jobs number).deadline) →
+    get_or (event_points jobs) 0 0 ≤ first_release jobs
+first_event jobs some window =
+    let last = last_is 0 jobs in
+    let first = first_is (last_deadline jobs) jobs in
+    elim first.one [
+      | inl is ↦ absurd (omega (arith, is, first.none 0 some, window 0 some, last.none 0 some))
+      | inr (number, within, is) ↦
+          let event = release_at jobs number within in
+          omega (arith, is, event.2, not_later jobs 0 event.0 (omega arith) event.1)
+    ]
+
+last_event : (jobs : List Job) → 1 ≤ length jobs → ((number : ℕ) → number < length jobs → (job_at jobs number).release < (job_at jobs number).deadline) →
+    last_deadline jobs ≤ get_or (event_points jobs) (length (event_points jobs) - 1) 0
+last_event jobs some window =
+    let last = last_is 0 jobs in
+    elim last.one [
+      | inl is ↦ absurd (omega (arith, is, window 0 some, last.none 0 some))
+      | inr (number, within, is) ↦
+          let event = deadline_at jobs number within in
+          omega (arith, is, event.2, not_later jobs event.0 (length (event_points jobs) - 1) (omega (arith, event.1)) (omega (arith, event.1)))
+    ]
+
+-- the law of it, for jobs whose windows aren't empty
+pub stretches_long : (jobs : List Job) → All (λ job. job.release < job.deadline) jobs → sum_by length_of (stretches jobs) ≡ horizon jobs
+stretches_long [] windows = refl
+stretches_long (job ∷ others) windows =
+    let jobs : List Job = job ∷ others in
+    let last = last_is 0 jobs in
+    let first = first_is (last_deadline jobs) jobs in
+    let window : (number : ℕ) → number < length jobs → (job_at jobs number).release < (job_at jobs number).deadline = λ number within. windows number no_job within in
+    let each : All (λ job. (first_release jobs ≤ job.release) × (job.release < job.deadline) × (job.deadline ≤ last_deadline jobs)) jobs =
+    All-from_get_or (λ job. (first_release jobs ≤ job.release) × (job.release < job.deadline) × (job.deadline ≤ last_deadline jobs)) jobs no_job
+    (λ number within. (first.none number within, window number within, last.none number within)) in
+    long_between (first_release jobs) (last_deadline jobs) (event_points jobs) (let event = release_at jobs 0 (omega arith) in omega (arith, event.1))
+    (rises_times (flat_map (λ job. job.release ∷ job.deadline ∷ []) jobs))
+    (rising_all (λ time. (first_release jobs ≤ time) × (time ≤ last_deadline jobs)) (flat_map (λ job. job.release ∷ job.deadline ∷ []) jobs)
+    (ends_between (first_release jobs) (last_deadline jobs) jobs each))
+    (first_event jobs (omega arith) window) (last_event jobs (omega arith) window)

@@ -1,0 +1,205 @@
+#!/bin/sh
+# faults.sh: refuses the built program memory, reads and writes in turn, breaks its standard streams, and looks at how it ends.
+#
+#   sh robustness/faults.sh [PART ..]      parts: memory reads writes streams; all without one
+#
+# Environment: YDS (the program; build/yds_cli beside this folder), CC (cc). It wants a C compiler and glibc: preload.c stands between
+# the program and the C library. The last line is 'N passed, M failed', with a pass for each run; the exit status is 1 where M isn't 0.
+
+here=$(cd "$(dirname "$0")" && pwd)
+YDS=${YDS:-$here/../build/yds_cli}
+case $YDS in /*) ;; *) YDS=$(pwd)/$YDS ;; esac
+CC=${CC:-cc}
+LC_ALL=C
+export LC_ALL
+rows=$here/../examples/rows
+work=$(mktemp -d) || exit 1
+trap 'rm -rf "$work"' EXIT
+passed=0
+failed=0
+
+pass() { passed=$((passed + 1)); }
+fail() {
+	failed=$((failed + 1))
+	echo "FAILED: $1"
+}
+
+# A worked row for each form of command, a refusal, and words that name no command.
+worked="plan-frequency-trace round-frequency-trace check-three-levels-accepted audit-work-short-by-the-least audit-points-off-point
+report-three-jobs report-json-three-jobs curve-three-jobs avr-capped-by-pending-work oa-fine-grid-rounds-nowhere compare-three-points
+admit-third-job-refused trial-two-jobs expand-two-tasks-one-level refused-gaps-too-fine usage-plan-twice"
+
+# row NAME: sets its words, and its document, answer and status as $document, $want and $status.
+row() {
+	is_large=0
+	name=$1
+	words=$(tr '\n' ' ' <"$rows/$1/args")
+	document=$rows/$1/stdin
+	[ ! -f "$rows/$1/document" ] || document=$rows/../$(cat "$rows/$1/document")
+	[ -f "$document" ] || document=/dev/null
+	want=$rows/$1/stdout
+	status=$(cat "$rows/$1/status")
+}
+
+# large WORDS: the same of a document that takes more memory and more than one write, as the program answers it. Of its many
+# allocations and single bytes some numbers alone are tried.
+large() {
+	is_large=1
+	words=$1
+	name="$1 of 1,000 jobs"
+	case $1 in
+	expand) document=$work/tasks ;;
+	check) document=$work/plan ;;
+	audit*) document=$work/rounded ;;
+	*) document=$work/jobs ;;
+	esac
+	want=$work/want
+	# shellcheck disable=SC2086
+	"$YDS" $words <"$document" >"$want"
+	status=$?
+}
+make_large() {
+	awk 'BEGIN {
+		for (i = 0; i < 1000; i++) printf "job job-number-%d %d %d %d\n", i, 7 * i % 1000, 7 * i % 1000 + 1 + i % 60, 1 + i % 90
+		for (i = 0; i < 64; i++) printf "point %d %d\n", 60 * i, i * i
+	}' >"$work/jobs"
+	awk 'BEGIN { print "horizon 1000"; for (i = 0; i < 100; i++) printf "task task-number-%d 0 100 100 %d\n", i, i }' >"$work/tasks"
+	"$YDS" plan <"$work/jobs" >"$work/plan"
+	"$YDS" round <"$work/jobs" >"$work/rounded"
+}
+forms="plan|round|check|audit|audit --points|report|report --json|curve|avr --grid 7|oa --grid 7|compare --grid 7|admit 20|trial 7 1000|expand"
+# with FUNCTION: calls it for each worked row, and then for each large document.
+with() {
+	for name in $worked; do
+		row "$name"
+		$1
+	done
+	IFS='|'
+	for words in $forms; do
+		unset IFS
+		large "$words"
+		$1
+		IFS='|'
+	done
+	unset IFS
+}
+
+# faulty SETTING ..: runs the words over the document with these settings of preload.c, and sets $got and the counts.
+faulty() {
+	# shellcheck disable=SC2086
+	env LD_PRELOAD="$work/preload.so" FAULT_COUNTS="$work/counts" "$@" "$YDS" $words <"$document" >"$work/out" 2>"$work/err"
+	got=$?
+	read -r allocations reads writes <"$work/counts"
+}
+whole() { [ $got = "$status" ] && cmp -s "$work/out" "$want" && [ ! -s "$work/err" ]; }
+nothing() { [ $got = "$1" ] && [ ! -s "$work/out" ] && [ ! -s "$work/err" ]; }
+# A front of the answer, and not all of it.
+front() { [ $got = 5 ] && [ ! -s "$work/err" ] && cmp "$work/out" "$want" 2>&1 | grep -q "EOF on $work/out"; }
+
+refuse_memory() {
+	for setting in FAULT_ALLOCATION FAULT_MEMORY_FROM; do
+		number=1
+		while
+			faulty $setting=$number
+			[ "$allocations" -ge $number ]
+		do
+			if nothing 6 || whole; then pass; else fail "$name: $setting=$number (status $got)"; fi
+			number=$((number + 1 + (is_large ? number / 20 : 0)))
+		done
+		if whole; then pass; else fail "$name: with all its memory (status $got)"; fi
+	done
+}
+
+refuse_reads() {
+	for most in 0 1 7; do
+		for error in 5 4; do # EIO, EINTR
+			number=1
+			while
+				faulty FAULT_READ=$number FAULT_READ_MOST=$most FAULT_ERROR=$error
+				[ "$reads" -ge $number ]
+			do
+				if nothing 4; then pass; else fail "$name: read $number of at most $most bytes, error $error (status $got)"; fi
+				number=$((number + 1 + (is_large && most ? 9999 : 0)))
+			done
+			if whole; then pass; else fail "$name: reads of at most $most bytes (status $got)"; fi
+		done
+	done
+}
+
+refuse_writes() {
+	for most in 0 1 7; do
+		for error in 5 4; do # EIO, EINTR
+			number=1
+			while
+				faulty FAULT_WRITE=$number FAULT_WRITE_MOST=$most FAULT_ERROR=$error
+				[ "$writes" -ge $number ]
+			do
+				if front; then pass; else fail "$name: write $number of at most $most bytes, error $error (status $got)"; fi
+				number=$((number + 1 + (is_large && most ? 9999 : 0)))
+			done
+			if whole; then pass; else fail "$name: writes of at most $most bytes (status $got)"; fi
+		done
+	done
+}
+
+test_memory() { with refuse_memory; }
+test_reads() { with refuse_reads; }
+test_writes() { with refuse_writes; }
+
+# stream NAME STATUS OUTPUT COMMAND: what a shell says of the command's status, and what the command wrote into $out.
+stream() {
+	: >"$work/out"
+	out=$work/out YDS=$YDS jobs=$work/jobs document=$rows/plan-one-job/stdin work=$work sh -c "$4" 2>"$work/err"
+	got=$?
+	printf '%s' "$3" >"$work/wanted"
+	if [ $got = "$2" ] && cmp -s "$work/out" "$work/wanted" && [ ! -s "$work/err" ]; then pass; return; fi
+	fail "$1: status $got, wanted is $2; $(head -n 2 "$work/err")"
+	head -n 3 "$work/out"
+}
+test_streams() {
+	too_long="refused too-long
+"
+	plan=$(cat "$rows/plan-one-job/stdout")"
+"
+	stream "input closed" 4 "" '"$YDS" plan <&- >"$out"'
+	stream "input closed, no command" 2 "$(cat "$rows/usage-plan-twice/stdout")
+" '"$YDS" plan plan <&- >"$out"'
+	stream "input closed, a trial" 0 "$(cat "$rows/trial-two-jobs/stdout")
+" '"$YDS" trial 0 2 <&- >"$out"'
+	stream "a directory as input" 4 "" '"$YDS" plan <"$work" >"$out"'
+	stream "input that is open for writing alone" 4 "" '"$YDS" plan 0>"$work/sink" >"$out"'
+	stream "output closed" 5 "" '"$YDS" plan <"$document" >&-'
+	stream "output closed, usage" 5 "" '"$YDS" >&-'
+	stream "output that is open for reading alone" 5 "" '"$YDS" plan <"$document" 1<"$document"'
+	stream "input and output closed" 4 "" '"$YDS" plan <&- >&-'
+	stream "errors closed" 0 "$plan" '"$YDS" plan <"$document" >"$out" 2>&-'
+	stream "a full device" 5 "" '"$YDS" plan <"$document" >/dev/full'
+	stream "a full device, a long answer" 5 "" '"$YDS" plan <"$jobs" >/dev/full'
+	stream "a full device, an empty answer" 0 "" '"$YDS" plan </dev/null >/dev/full'
+	stream "a file at its greatest size" 5 "" 'trap "" XFSZ; ulimit -f 1; "$YDS" plan <"$jobs" >"$work/small"'
+	stream "a pipe whose reader leaves" 5 "" '{ sleep 0.2; "$YDS" plan <"$document"; echo $? >"$work/status"; } | :; exit "$(cat "$work/status")"'
+	stream "a pipe whose reader leaves, a long answer" 5 "" '{ "$YDS" plan <"$jobs"; echo $? >"$work/status"; } | head -c 1 >/dev/null; exit "$(cat "$work/status")"'
+	stream "endless zeros" 3 "$too_long" '"$YDS" plan </dev/zero >"$out"'
+	stream "endless lines" 3 "$too_long" 'yes | "$YDS" expand >"$out"'
+	stream "an endless line" 3 "$too_long" 'yes job | tr "\\n" " " | "$YDS" audit >"$out"'
+	stream "endless input that a trial doesn't read" 0 "$(cat "$rows/trial-two-jobs/stdout")
+" '"$YDS" trial 0 2 </dev/zero >"$out"'
+	stream "a word that isn't text" 7 "" '"$YDS" "$(printf "\\377")" <"$document" >"$out"'
+	stream "a second word that isn't text" 7 "" '"$YDS" plan "$(printf "a\\200")" <"$document" >"$out"'
+	stream "a word of 100,000 letters" 2 "$(cat "$rows/usage-plan-twice/stdout")
+" '"$YDS" "$(head -c 100000 /dev/zero | tr "\\0" a)" <"$document" >"$out"'
+	stream "an input in pieces of one byte" 0 "$plan" 'dd bs=1 status=none <"$document" | "$YDS" plan >"$out"'
+	stream "a stack of 64 KB" 0 "" 'ulimit -s 64; "$YDS" compare --grid 7 <"$jobs" >"$work/small"'
+	stream "too little memory for a long input" 6 "" 'ulimit -v 8000; head -c 8000000 /dev/zero | "$YDS" plan >"$out"'
+}
+
+[ -x "$YDS" ] || { echo "faults.sh: $YDS isn't there; make builds it" >&2; exit 1; }
+"$CC" -O2 -Wall -shared -fPIC -o "$work/preload.so" "$here/preload.c" || exit 1
+make_large
+for part in ${*:-memory reads writes streams}; do
+	before=$passed
+	test_$part
+	echo "$part: $((passed - before)) passed"
+done
+echo "$passed passed, $failed failed"
+[ $failed = 0 ]
