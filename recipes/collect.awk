@@ -38,7 +38,10 @@ function read_file(i,    line, field, status, n) {
         } else if (field[2] == "rounded") rounded[i] = rounded[i] + field[3]
         else if (field[2] == "too-slow") add_side(field[1])
         else if (field[2] != "time")
-            complain(ARGV[i] ": \"" line "\" is no line of compare or energy.awk", 1)
+        {
+            gsub(/[^ -~]/, "?", line)
+            complain(ARGV[i] ": \"" (length(line) > 60 ? substr(line, 1, 60) ".." : line) "\" is no line of compare or energy.awk", 1)
+        }
     }
     if (status < 0) complain(ARGV[i] " can't be read", 1)
     close(ARGV[i])

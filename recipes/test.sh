@@ -106,11 +106,13 @@ test_trace() {
 		trace -v $t -v ticks=1000 trace-report.txt
 	refuses "trace: an empty trace" 1 failed "trace.awk: no line of a trace was read; the input is the text of trace-cmd report, perf script or the trace file" \
 		trace -v $t /dev/null
+	refuses "trace: no such file" 1 failed "trace.awk: it's nowhere can't be read" trace -v $t "it's nowhere"
+	refuses "trace: a folder" 1 failed "trace.awk: bad can't be read" trace -v $t bad
 	refuses "trace: no such task" 1 failed "trace.awk: no listed task runs or wakes up in this trace; names are as in the trace (at most 15 bytes), see tasks=" \
 		trace -v tasks=encode:10 trace-report.txt
 	refuses "trace: no frequency" 1 failed "trace.awk: no whole job: decode.0 is left out (frequency not known); give start=KHZ" \
 		trace -v tasks=decode:10 -v cpu=3 trace-perf.txt
-	refuses "trace: runs on another CPU" 1 failed "trace.awk: no whole job: Web_Content.0 is left out (ran on CPU 1)" \
+	refuses "trace: runs on another CPU" 1 failed "trace.awk: no whole job: Web_Content.0 is left out (ran on CPU 1); give cpu=1" \
 		trace -v "tasks=Web Content:10" -v cpu=0 trace-report.txt
 	sed '20,$s/ 5123/ 5122/' trace-report.txt >"$work/back"
 	refuses "trace: time goes back" 1 failed "trace.awk: line 20: the time goes back; sort the trace by time, or give one recording" trace -v $t "$work/back"
@@ -170,6 +172,21 @@ test_points() {
 		points -v top=4000 -v khz=1000 "$work/fine"
 	refuses "points: an empty input" 1 failed "points.awk: no operating point was read; the input is an energy model, an opp folder, a device tree, a table of MHz and mW, or frequencies with top=" \
 		points /dev/null
+	refuses "points: no such file" 1 failed "points.awk: nowhere can't be read" points nowhere
+	printf '\357\273\277"Clock (MHz)";"Current (mA)"\r\n0;0,04\r\n4;0,5\r\n16;1,6\r\n24;2,3\r\n48;4,6\r\n80;8,5\r\n' >"$work/sheet"
+	same "points: a spreadsheet's table" 0 points-microcontroller.txt points -v khz=1000 -v uw=10 -v volts=3.0 "$work/sheet"
+	refuses "points: milliamperes without volts" 1 failed "points.awk: line 1: the heading says mA; give volts=" points -v khz=1000 microcontroller.csv
+	for heading in 'MHz,mW@mW; leave volts= out' 'mA,MHz@that MHz is the second column; write it first' \
+		'kHz,mA@another unit than MHz; write the frequencies in MHz' 'MHz,uA@microamperes or microwatts; write milliamperes or milliwatts'; do
+		printf '%s\n4,0.5\n' "${heading%%@*}" >"$work/heading"
+		refuses "points: the heading ${heading%%@*}" 1 failed "points.awk: line 1: the heading says ${heading#*@}" points -v volts=3.0 "$work/heading"
+	done
+	printf '4 MHz,0.5\n16,1.6\n' >"$work/heading"
+	refuses "points: a heading that isn't one" 1 failed "points.awk: line 1: MHz is no number; the columns are MHz and mW" points "$work/heading"
+	printf '4\n16,1.6\n' >"$work/heading"
+	refuses "points: a column is missing" 1 failed "points.awk: line 1: 1 columns; give a table of two, MHz and mW, or top= with frequencies in kHz" points "$work/heading"
+	refuses "points: powers in too coarse a unit" 1 failed \
+		"points.awk: 4000 kHz has 1.5 mW, and 2 units of 1000 uW are more than a twentieth off; give a finer uw=" points -v khz=1000 -v volts=3.0 microcontroller.csv
 	sed 's/cpu0\/flags:0x1/cpu0\/flags:0x5/' energy-model.txt >"$work/artificial"
 	refuses "points: no watts" 1 failed "points.awk: the powers of cpu0 are no watts (flag 4); give a table of measured powers" points -v domain=cpu0 "$work/artificial"
 }
@@ -212,8 +229,14 @@ test_energy() {
 	refuses "energy: above the top" 1 "" "energy.awk: the speed 60 from 0 to 200 is above the top point 41" energy bad/slow.txt
 	refuses "energy: no such point" 1 "" "energy.awk: no point has the speed 50" energy -v at=50 "$work/both"
 	refuses "energy: too much work for a point" 1 "" "energy.awk: the work of all jobs is more than the point 41 does in the whole time" energy -v at=41 "$work/both"
+	sed 's/speed unit 10000 kHz/speed unit 1000 kHz/' "$expected/points.txt" | cat - "$expected/trace.txt" >"$work/units"
+	refuses "energy: two units of speed" 1 "" \
+		"energy.awk: line 10: a unit of speed of 10000 kHz here and 1000 kHz before; give points and trace the same khz=" energy "$work/units"
 	refuses "energy: a refusal" 1 "" "energy.awk: line 1: the input is an answer of no: refused 1 9 EmptyWindow" energy "$expected/compare-refused.txt"
 	same "battery" 0 battery.tsv recipe battery.awk -v mah=220 -v volts=3.0 -v uw=10 "$expected/compare-sensor.txt"
+	same "battery: the points' unit of power" 0 battery.tsv recipe battery.awk -v mah=220 -v volts=3.0 "$expected/points-microcontroller.txt" "$expected/compare-sensor.txt"
+	refuses "battery: no unit of power" 2 "" "battery.awk: no unit of power; give uw=, or the file of points with its comment before the lines" \
+		recipe battery.awk -v mah=220 -v volts=3.0 "$expected/compare-sensor.txt"
 	refuses "battery: a refusal" 1 "" "battery.awk: line 1: the input is an answer of no: refused 1 9 EmptyWindow" \
 		recipe battery.awk -v mah=220 -v volts=3.0 "$expected/compare-refused.txt"
 	refuses "battery: no volts" 2 "" "battery.awk: mah= and volts= of the battery are numbers above 0" recipe battery.awk -v mah=220 "$expected/compare-sensor.txt"
@@ -290,6 +313,9 @@ test_plot() {
 			if xmllint --noout "$work/$file.svg" 2>/dev/null; then pass; else fail "plot: $file.svg is not well-formed"; fi
 		done
 	fi
+	refuses "plot: options after a file" 2 "" "plot.sh: the options come before the files: -t" plot speed "$work/both" -t png
+	sed 's/speed unit 10000 kHz/speed unit 1000 kHz/' "$expected/points.txt" | cat - "$expected/trace.txt" >"$work/units"
+	refuses "plot: two units of speed" 1 "" "plot.sh: line 10: a unit of speed of 10000 kHz here and 1000 kHz before; give points and trace the same khz=" plot speed "$work/units"
 	refuses "plot: no slot" 1 "" "plot.sh: no slot; give a trace's document or the answer of plan, round, avr or oa" plot speed frames.txt
 	refuses "plot: no break" 1 "" "plot.sh: no break line; is this the answer of curve?" plot curve "$work/both"
 	refuses "plot: no energy" 1 "" "plot.sh: no energy line; is this the answer of compare?" plot energy "$work/both"

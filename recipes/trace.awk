@@ -38,6 +38,16 @@ function usage(text) {
     complain(text "\nusage: awk -f trace.awk -v tasks=NAME:MS,.. [-v cpu=N] [-v us=N] [-v khz=N] [-v start=KHZ]" \
         " [-v from=S] [-v to=S] [-v others=MS] [-v lost=cut] [-v jobs=FILE] [-v ticks=N]", 2)
 }
+# The first named file that can't be read. An awk would only warn of it, or end with nothing written.
+function unreadable(    i, file) {
+    for (i = 1; i < ARGC; i++) {
+        file = ARGV[i]
+        if (file == "" || file == "-" || file ~ /^[A-Za-z_][A-Za-z_0-9]*=/) continue
+        gsub(/'/, "'\\''", file)
+        if (system("test -r '" file "' && test ! -d '" file "'")) return ARGV[i]
+    }
+    return ""
+}
 function is_number(text) { return text ~ /^[0-9]+(\.[0-9]*)?$/ }
 function is_whole(text) { return text ~ /^[1-9][0-9]*$/ }
 
@@ -139,6 +149,7 @@ function task_of(name, id,    t) {
 
 BEGIN {
     read_options()
+    if (!over && unreadable() != "") fail(unreadable() " can't be read")
     if (!over && jobs != "") read_jobs()
     if (over) exit
     first_time = ""
@@ -245,7 +256,7 @@ head ~ /sched_wak[a-z_]*:$/ {
 
 function new_job(t, time, reason) {
     begin[++number_of_jobs] = time
-    task[number_of_jobs] = t
+    task_of_job[number_of_jobs] = t
     name_of_job[number_of_jobs] = label[t] "." (count[t] + 0)
     count[t]++
     why[number_of_jobs] = reason
@@ -368,7 +379,7 @@ function choose_jobs(    j, name) {
         if (high != "" && end[j] != "" && end[j] > high) leave_out(j, "after to")
         if (jobs != "") {
             if (name_of_job[j] in in_file) written[j] = name_of_job[j]
-            else if (label[task[j]] in in_file) written[j] = label[task[j]]
+            else if (label[task_of_job[j]] in in_file) written[j] = label[task_of_job[j]]
             else leave_out(j, "not in " jobs)
         } else
             written[j] = name_of_job[j]
@@ -381,7 +392,8 @@ function choose_jobs(    j, name) {
     if (kept) return
     if (!number_of_jobs)
         return fail("no listed task runs or wakes up in this trace; names are as in the trace (at most 15 bytes), see tasks=")
-    fail("no whole job: " name_of_job[1] " is left out (" why[1] ")" (why[1] == "frequency not known" ? "; give start=KHZ" : ""))
+    fail("no whole job: " name_of_job[1] " is left out (" why[1] ")" \
+        (why[1] == "frequency not known" ? "; give start=KHZ" : why[1] ~ /^ran on CPU/ ? "; give cpu=" substr(why[1], 12) : ""))
 }
 
 # Runs in ticks from time 0; those of other tasks are cut at the windows' ends.
@@ -423,7 +435,7 @@ function check_limits(    j, a, d, name) {
         if (why[j] != "" || jobs != "") continue
         name = written[j]
         a = floor_div(begin[j] - zero, tick)
-        d = floor_div(begin[j] + deadline[task[j]] - zero, tick)
+        d = floor_div(begin[j] + deadline[task_of_job[j]] - zero, tick)
         if (d <= a) return fail(name " has its deadline within one unit of time; give a finer us=")
         if (d > 1000000000) return fail(name " has a time above 1000000000; give from= and to=, or a coarser us=")
         if (work[name] > 1000000)
@@ -445,7 +457,7 @@ function write_document(    i, j, w) {
         for (j = 1; j <= number_of_jobs; j++)
             if (why[j] == "")
                 printf "job %s %.0f %.0f %.0f\n", written[j], floor_div(begin[j] - zero, tick),
-                    floor_div(begin[j] + deadline[task[j]] - zero, tick), work[written[j]]
+                    floor_div(begin[j] + deadline[task_of_job[j]] - zero, tick), work[written[j]]
     if (others != "") w = int(others * 1000 / us + 0.5)
     for (i = 1; i <= number_of_others; i++) {
         j = substr(other[i], 8)
