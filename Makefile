@@ -12,6 +12,7 @@
 #   make install    copies build/yds_cli to PREFIX/bin, its manual page, completion and recipes to PREFIX/share
 #   make uninstall  removes just these
 #
+# faults, fuzz and costly want a C compiler (Debian: gcc and libc6-dev).
 # JOBS crates are proved side by side, each in up to 2 GB of memory.
 
 SHELL := /bin/bash
