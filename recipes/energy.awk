@@ -50,6 +50,7 @@ function fraction(whole, n, d,    g, q) {
 
 BEGIN {
     if (at != "" && at !~ /^[0-9]+$/) complain("at=" at " is no speed\nusage: awk -f energy.awk [-v name=NAME] [-v at=SPEED]", 2)
+    else if (name ~ /[ \t]/) complain("name=" name " isn't one word\nusage: awk -f energy.awk [-v name=NAME] [-v at=SPEED]", 2)
     if (over) exit
     if (name == "") name = at == "" ? "trace" : "at-" at
     ticks = 1

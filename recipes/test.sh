@@ -110,6 +110,10 @@ test_trace() {
 	refuses "trace: a folder" 1 failed "trace.awk: bad can't be read" trace -v $t bad
 	refuses "trace: no such task" 1 failed "trace.awk: no listed task runs or wakes up in this trace; names are as in the trace (at most 15 bytes), see tasks=" \
 		trace -v tasks=encode:10 trace-report.txt
+	refuses "trace: one of two tasks isn't there" 1 failed \
+		"trace.awk: no task audoi runs or wakes up in this trace; names are as in the trace (at most 15 bytes), see tasks=" \
+		trace -v tasks=decode:16.667,audoi:10 trace-report.txt
+	same "trace: a space after the comma" 0 trace.txt trace -v "tasks=decode:16.667, audio:10" trace-report.txt
 	refuses "trace: no frequency" 1 failed "trace.awk: no whole job: decode.0 is left out (frequency not known); give start=KHZ" \
 		trace -v tasks=decode:10 -v cpu=3 trace-perf.txt
 	refuses "trace: runs on another CPU" 1 failed "trace.awk: no whole job: Web_Content.0 is left out (ran on CPU 1); give cpu=1" \
@@ -203,6 +207,8 @@ test_rtapp() {
 	refuses "rtapp: phases without -j" 1 failed "rtapp.sh: ramp: several phases; give -j" rtapp -m 1416 workload-phases.json
 	refuses "rtapp: a period that is no multiple" 1 failed "rtapp.sh: decode: the period is no multiple of the time unit, 7 microseconds; give a finer -u, or -j" \
 		rtapp -m 1416 -c 0 -u 7 workload.json
+	refuses "rtapp: a task without a job" 1 failed "rtapp.sh: decode: no job of it is due within the duration; give a longer -H" \
+		rtapp -m 1416 -c 0 -H 0.01 workload.json
 	refuses "rtapp: no frequency" 2 failed "rtapp.sh: no -m MHZ, the frequency to which rt-app was calibrated" rtapp workload.json
 	printf '{\n\t"tasks" : { "a" : {}\n\t} } }\n' >"$work/unmatched"
 	refuses "rtapp: no JSON" 1 failed "rtapp.sh: Unmatched '}' at line 3, column 6" rtapp -m 1416 "$work/unmatched"
@@ -227,6 +233,7 @@ test_energy() {
 	same "energy: flat out" 0 energy-at.txt energy -v at=142 "$work/both"
 	refuses "energy: no points" 1 "" "energy.awk: no point line; put the points before the document, as cat points.txt trace.txt" energy "$expected/trace.txt"
 	refuses "energy: above the top" 1 "" "energy.awk: the speed 60 from 0 to 200 is above the top point 41" energy bad/slow.txt
+	refuses "energy: a name of two words" 2 "" "energy.awk: name=my policy isn't one word" energy -v "name=my policy" "$work/both"
 	refuses "energy: no such point" 1 "" "energy.awk: no point has the speed 50" energy -v at=50 "$work/both"
 	refuses "energy: too much work for a point" 1 "" "energy.awk: the work of all jobs is more than the point 41 does in the whole time" energy -v at=41 "$work/both"
 	sed 's/speed unit 10000 kHz/speed unit 1000 kHz/' "$expected/points.txt" | cat - "$expected/trace.txt" >"$work/units"

@@ -13,7 +13,7 @@
 #
 # Options, each with -v:
 #   tasks=LIST   NAME:DEADLINE[:APART] or PID=NAME:DEADLINE[:APART], parted by commas, in milliseconds.
-#                A wake-up less than APART after the job's begin goes on with the job
+#                A wake-up less than APART after the job's begin goes on with the job. Each task has to be in the trace
 #   cpu=N        the CPU (0)
 #   us=N khz=N   the units of time and speed (10, 10000)
 #   start=KHZ    the speed before the first cpu_frequency line
@@ -91,6 +91,7 @@ function read_options(    i, n, m, list, part, text, name, k) {
     n = split(tasks, list, ",")
     for (i = 1; i <= n; i++) {
         text = list[i]
+        sub(/^ +/, "", text)
         pid[i] = ""
         if (text ~ /^[0-9]+=/) {
             pid[i] = text + 0
@@ -137,7 +138,10 @@ function read_jobs(    line, field, status) {
 
 # The number of the listed task of this name and process, or 0.
 function task_of(name, id,    t) {
-    if (id in number_of_pid) return number_of_pid[id]
+    if (id in number_of_pid) {
+        thread[number_of_pid[id]] = id
+        return number_of_pid[id]
+    }
     name = substr(name, 1, 15)
     if (!(name in number_of_name)) return 0
     t = number_of_name[name]
@@ -373,7 +377,10 @@ function go_through_events(    i, t) {
     for (t = 1; t <= number_of_tasks; t++) if (open[t]) leave_out(open[t], "not ended")
 }
 
-function choose_jobs(    j, name) {
+function choose_jobs(    j, name, t) {
+    if (number_of_jobs)
+        for (t = 1; t <= number_of_tasks; t++)
+            if (!(t in thread)) return fail("no task " label[t] " runs or wakes up in this trace; names are as in the trace (at most 15 bytes), see tasks=")
     for (j = 1; j <= number_of_jobs; j++) {
         if (low != "" && begin[j] < low) leave_out(j, "before from")
         if (high != "" && end[j] != "" && end[j] > high) leave_out(j, "after to")
