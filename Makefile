@@ -2,7 +2,7 @@
 #
 #   make            proves every crate and builds build/yds_cli
 #   make run        the same, and plans the document EXAMPLE with it
-#   make try        runs the program on DOCUMENT with the words of COMMAND, unproved, after about a minute
+#   make try        runs the program on DOCUMENT with the words of COMMAND, unproved, after a minute or two
 #   make test       the gate: every proof, test, refused edit and stored run
 #   make check      the built program answers every example and stored row byte for byte, within seconds
 #   make recipes    every recipe on its sample, with the built program
