@@ -189,6 +189,9 @@ test_points() {
 	refuses "points: a heading that isn't one" 1 failed "points.awk: line 1: MHz is no number; the columns are MHz and mW" points "$work/heading"
 	printf '4\n16,1.6\n' >"$work/heading"
 	refuses "points: a column is missing" 1 failed "points.awk: line 1: 1 columns; give a table of two, MHz and mW, or top= with frequencies in kHz" points "$work/heading"
+	printf '16,48\n48,138\n80,255\n' >"$work/coarse"
+	refuses "points: speeds in too coarse a unit" 1 failed \
+		"points.awk: 16000 kHz is speed 2 in units of 10000 kHz, more than a twentieth off; give a finer khz=" points "$work/coarse"
 	refuses "points: powers in too coarse a unit" 1 failed \
 		"points.awk: 4000 kHz has 1.5 mW, and 2 units of 1000 uW are more than a twentieth off; give a finer uw=" points -v khz=1000 -v volts=3.0 microcontroller.csv
 	sed 's/cpu0\/flags:0x1/cpu0\/flags:0x5/' energy-model.txt >"$work/artificial"
