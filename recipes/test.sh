@@ -305,6 +305,14 @@ test_plot() {
 	counts "plot energy: no percentage" "$work/slow.svg" ' %<' 0
 	plot ratios "$expected/folder.tsv" >"$work/ratios.svg"
 	holds "plot ratios" "$work/ratios.svg" '3 documents' '>avr<' '>oa<' 'share of the documents (%)'
+	printf 'document\tplan\tavr\toa\town\trounded\tanswer\na\t3\t-\t4\t5\t0\tok\nb\t3\t4\t4\t-\t0\tok\n' >"$work/sides.tsv"
+	plot ratios "$work/sides.tsv" >"$work/sides.svg"
+	holds "plot ratios: sides without an energy" "$work/sides.svg" '>avr (1 too slow)<' '>own (1 without)<'
+	plot gantt -r 3000:5400 "$expected/trace-late.txt" >"$work/range.svg"
+	counts "plot gantt -r: no row of a job outside" "$work/range.svg" '>audio.0<' 0
+	holds "plot gantt -r" "$work/range.svg" '>decode.2<' '>late<'
+	$AWK 'BEGIN { for (j = 1; j <= 13; j++) print "job j" j, j, j + 9, 1 "\nslot j" j, j, j + 1, 1 }' | plot gantt >"$work/jobs.svg"
+	holds "plot gantt: names of no tasks" "$work/jobs.svg" '>Who runs when, by job<' '>j13<'
 	"$YDS" plan <"$work/both" >"$work/plan.txt"
 	plot speed "$work/both" "$work/plan.txt" >"$work/two.svg"
 	holds "plot speed of two" "$work/two.svg" '>both<' '>plan<'
