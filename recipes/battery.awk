@@ -31,6 +31,8 @@ BEGIN {
 $1 ~ /^(refused|too-slow|failed|usage:)$/ { complain("line " NR ": the input is an answer of no: " $0, 1) }
 /^#/ && match($0, /power unit [0-9]+ uW/) { told = substr($0, RSTART + 11) + 0 }
 $2 == "energy" || $2 == "too-slow" {
+    if ($1 in known) { complain("line " FNR ": the side " $1 " stands twice; write its lines into a new file", 1); exit 1 }
+    known[$1] = 1
     side[++sides] = $1
     if ($2 == "energy") energy[$1] = value($3)
 }

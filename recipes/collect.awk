@@ -33,6 +33,7 @@ function read_file(i,    line, field, status, n) {
         if (field[1] ~ /^(refused|too-slow|usage:|failed)$/) { answer[i] = line; gsub(/\t/, " ", answer[i]) }
         else if (field[2] == "energy") {
             add_side(field[1])
+            if ((i, field[1]) in energy) complain(ARGV[i] ": the side " field[1] " stands twice; write its lines into a new file", 1)
             energy[i, field[1]] = value(field[3])
             if (answer[i] == "no answer") answer[i] = "ok"
         } else if (field[2] == "rounded") rounded[i] = rounded[i] + field[3]

@@ -151,6 +151,7 @@ test_trace() {
 	same "misses: both of two" 1 misses.txt from /dev/null env YDS="$YDS" sh "$here/misses.sh" late-twice.txt
 	answers "misses: none" 0 feasible env YDS="$YDS" sh "$here/misses.sh" "$expected/trace.txt"
 	answers "misses: another fault" 1 "backward slot 1 a 3 3" env YDS="$YDS" sh "$here/misses.sh" bad/flat.txt
+	refuses "misses: no job" 1 "" "misses.sh: /dev/null has no job, so no deadline was met; look at what wrote it" env YDS="$YDS" sh "$here/misses.sh" /dev/null
 	refuses "misses: no document" 2 "" "misses.sh: no document that can be read" sh "$here/misses.sh" nothing.txt
 	answers "trace: what failed is refused" 3 "refused 1 1 UnknownKind" from bad/failed.txt "$YDS" audit
 }
@@ -247,6 +248,8 @@ test_energy() {
 	same "battery: the points' unit of power" 0 battery.tsv recipe battery.awk -v mah=220 -v volts=3.0 "$expected/points-microcontroller.txt" "$expected/compare-sensor.txt"
 	refuses "battery: no unit of power" 2 "" "battery.awk: no unit of power; give uw=, or the file of points with its comment before the lines" \
 		recipe battery.awk -v mah=220 -v volts=3.0 "$expected/compare-sensor.txt"
+	refuses "battery: a side twice" 1 "" "battery.awk: line 1: the side plan stands twice; write its lines into a new file" \
+		recipe battery.awk -v mah=220 -v volts=3.0 -v uw=10 "$expected/compare-sensor.txt" "$expected/compare-sensor.txt"
 	refuses "battery: a refusal" 1 "" "battery.awk: line 1: the input is an answer of no: refused 1 9 EmptyWindow" \
 		recipe battery.awk -v mah=220 -v volts=3.0 "$expected/compare-refused.txt"
 	refuses "battery: no volts" 2 "" "battery.awk: mah= and volts= of the battery are numbers above 0" recipe battery.awk -v mah=220 "$expected/compare-sensor.txt"
@@ -349,6 +352,8 @@ test_folder() {
 	: >"$work/empty.txt"
 	cat "$expected/compare-a.txt" "$expected/energy.txt" >"$work/more.txt"
 	same "collect: no answer, and another side" 0 more.tsv recipe collect.awk "$work/empty.txt" "$work/more.txt"
+	cat "$expected/energy.txt" "$expected/energy.txt" >"$work/twice.txt"
+	refuses "collect: a side twice" 1 "" "collect.awk: twice.txt: the side governor stands twice; write its lines into a new file" from /dev/null recipe_in "$work" collect.awk twice.txt
 	refuses "collect: another file" 1 "" "collect.awk: points.txt: \"point 0 0\" is no line of compare or energy.awk" from /dev/null recipe_in "$expected" collect.awk points.txt
 	if want jq; then
 		(cd "$expected" && jq -rRn -f "$here/report.jq" report-a.json report-refused.json) >"$work/reports.tsv" 2>&1
