@@ -38,11 +38,14 @@ DOCUMENTS ?= 100000
 
 all: $(BINARY)
 
-tool:
-	@command -v rt >/dev/null 2>&1 || { echo "make: the command 'rt' of the Rattle toolchain is not on the PATH; install the kit that README.md names." >&2; exit 1; }
+HAS_TOOL = command -v rt >/dev/null 2>&1 || { echo "make: the command 'rt' of the Rattle toolchain is not on the PATH; install the kit that README.md names." >&2; exit 1; }
 
-# A line for each crate that is proved. How long it took is kept for the next time.
-$(BINARY): $(SOURCES) | tool
+tool:
+	@$(HAS_TOOL)
+
+# A line for each crate that is proved. How long it took is kept for the next time. Where the program is built, no tool is wanted.
+$(BINARY): $(SOURCES)
+	@$(HAS_TOOL)
 	@mkdir -p build
 	@echo "Proving $(CRATES) crates, $(JOBS) side by side$$(test -f build/seconds && echo "; the last time this took $$(cat build/seconds) seconds")."
 	@set -o pipefail; began=$$(date +%s); \
