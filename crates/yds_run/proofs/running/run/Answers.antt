@@ -11,7 +11,7 @@ use Rattle.yds_laws.proofs.PlanText.{plans_hold_the_headline}
 use Rattle.yds_laws.proofs.RoundText.{rounded_holds_least_energy, refused_is_too_slow}
 use Rattle.yds_laws.proofs.TaskTexts.{expansions_are_read}
 use Rattle.yds_run.specs.declared.command.Command.{Command}
-use Rattle.yds_run.specs.Words.{asked, request_view}
+use Rattle.yds_run.specs.Words.{words_of, asked, request_view}
 use Rattle.yds_run.proofs.Replied.{made_replies}
 use Rattle.yds_run.proofs.Complete.{question_completes, tasks_complete, trial_answers, answer_holds}
 use Rattle.yds_run.proofs.running.run.Goals as goal
@@ -50,7 +50,7 @@ returns-in-Some-Document-clause-comparison g c =
 
 pub returns-in-Some-Document-clause-admission : goal.returns-in-Some-Document-clause-admission
 returns-in-Some-Document-clause-admission g c =
-    λ top admit done. answer_holds _ _ _ _ (HoldsAdmission top) _ _ _ _ tt (admission_held _ top admit) admit done
+    λ top admit done. answer_holds _ _ _ _ (HoldsAdmission top) _ _ _ _ tt (admission_held (words_of c.args.words.now) top admit) admit done
     (question_completes _ _ _ _ _ _ _ _ (named _ _ _ c.in-Some-Document.field-0-is c.in-Some-Document.ensures.asked)
     (c.answer_input.ensures.answer (λ is. absurd cc) (λ is. absurd cc)))
 
