@@ -2,7 +2,7 @@
 #
 #   make            proves every crate and builds build/yds_cli
 #   make run        the same, and plans the document EXAMPLE with it
-#   make try        runs the program on DOCUMENT with the words of COMMAND, unproved, after about a minute
+#   make try        runs the program on DOCUMENT with the words of COMMAND, unproved, after a minute or two
 #   make test       the gate: every proof, test, refused edit and stored run
 #   make check      the built program answers every example and stored row byte for byte, within seconds
 #   make recipes    every recipe on its sample, with the built program
@@ -12,6 +12,7 @@
 #   make install    copies build/yds_cli to PREFIX/bin, its manual page, completion and recipes to PREFIX/share
 #   make uninstall  removes just these
 #
+# faults, fuzz and costly want a C compiler (Debian: gcc and libc6-dev).
 # JOBS crates are proved side by side, each in up to 2 GB of memory.
 
 SHELL := /bin/bash
@@ -37,11 +38,14 @@ DOCUMENTS ?= 100000
 
 all: $(BINARY)
 
-tool:
-	@command -v rt >/dev/null 2>&1 || { echo "make: the command 'rt' of the Rattle toolchain is not on the PATH; install the kit that README.md names." >&2; exit 1; }
+HAS_TOOL = command -v rt >/dev/null 2>&1 || { echo "make: the command 'rt' of the Rattle toolchain is not on the PATH; install the kit that README.md names." >&2; exit 1; }
 
-# A line for each crate that is proved. How long it took is kept for the next time.
-$(BINARY): $(SOURCES) | tool
+tool:
+	@$(HAS_TOOL)
+
+# A line for each crate that is proved. How long it took is kept for the next time. Where the program is built, no tool is wanted.
+$(BINARY): $(SOURCES)
+	@$(HAS_TOOL)
 	@mkdir -p build
 	@echo "Proving $(CRATES) crates, $(JOBS) side by side$$(test -f build/seconds && echo "; the last time this took $$(cat build/seconds) seconds")."
 	@set -o pipefail; began=$$(date +%s); \

@@ -7,7 +7,8 @@
 # in hundredths of the plan's.
 #
 # Options, each with -v: mah=N milliampere-hours and volts=V of the battery; uw=N microwatts in the document's
-# unit of power (1000); other=MW that is drawn besides (0).
+# unit of power (told by the points' comment, where the file of points stands before the lines); other=MW that is
+# drawn besides (0).
 #
 # Exit status: 0 done; 1 a fault in the input; 2 usage.
 
@@ -23,13 +24,15 @@ function value(text,    part) {
     return text + 0
 }
 BEGIN {
-    if (uw == "") uw = 1000
-    if (!is_number(mah) || !is_number(volts) || !is_number(uw) || (other != "" && other !~ /^([0-9]+\.?[0-9]*|\.[0-9]+)$/))
+    if (!is_number(mah) || !is_number(volts) || (uw != "" && !is_number(uw)) || (other != "" && other !~ /^([0-9]+\.?[0-9]*|\.[0-9]+)$/))
         complain("mah= and volts= of the battery are numbers above 0\nusage: awk -f battery.awk -v mah=N -v volts=V [-v uw=N] [-v other=MW]", 2)
     if (over) exit
 }
 $1 ~ /^(refused|too-slow|failed|usage:)$/ { complain("line " NR ": the input is an answer of no: " $0, 1) }
+/^#/ && match($0, /power unit [0-9]+ uW/) { told = substr($0, RSTART + 11) + 0 }
 $2 == "energy" || $2 == "too-slow" {
+    if ($1 in known) { complain("line " FNR ": the side " $1 " stands twice; write its lines into a new file", 1); exit 1 }
+    known[$1] = 1
     side[++sides] = $1
     if ($2 == "energy") energy[$1] = value($3)
 }
@@ -37,6 +40,8 @@ $2 == "time" { time[$1] += value($4) }
 END {
     if (over) exit
     if (!sides) { complain("no energy line; is this the answer of compare?", 1); exit 1 }
+    if (uw == "") uw = told
+    if (uw <= 0) { complain("no unit of power; give uw=, or the file of points with its comment before the lines", 2); exit 2 }
     if (!("plan" in energy)) { complain("no plan among the sides; is this the answer of compare?", 1); exit 1 }
     for (i = 1; i <= sides; i++)
         if (side[i] in energy && time[side[i]] <= 0) { complain("the side " side[i] " has no time; give its time lines too", 1); exit 1 }

@@ -33,12 +33,16 @@ function read_file(i,    line, field, status, n) {
         if (field[1] ~ /^(refused|too-slow|usage:|failed)$/) { answer[i] = line; gsub(/\t/, " ", answer[i]) }
         else if (field[2] == "energy") {
             add_side(field[1])
+            if ((i, field[1]) in energy) complain(ARGV[i] ": the side " field[1] " stands twice; write its lines into a new file", 1)
             energy[i, field[1]] = value(field[3])
             if (answer[i] == "no answer") answer[i] = "ok"
         } else if (field[2] == "rounded") rounded[i] = rounded[i] + field[3]
         else if (field[2] == "too-slow") add_side(field[1])
         else if (field[2] != "time")
-            complain(ARGV[i] ": \"" line "\" is no line of compare or energy.awk", 1)
+        {
+            gsub(/[^ -~]/, "?", line)
+            complain(ARGV[i] ": \"" (length(line) > 60 ? substr(line, 1, 60) ".." : line) "\" is no line of compare or energy.awk", 1)
+        }
     }
     if (status < 0) complain(ARGV[i] " can't be read", 1)
     close(ARGV[i])

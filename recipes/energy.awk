@@ -50,12 +50,18 @@ function fraction(whole, n, d,    g, q) {
 
 BEGIN {
     if (at != "" && at !~ /^[0-9]+$/) complain("at=" at " is no speed\nusage: awk -f energy.awk [-v name=NAME] [-v at=SPEED]", 2)
+    else if (name ~ /[ \t]/) complain("name=" name " isn't one word\nusage: awk -f energy.awk [-v name=NAME] [-v at=SPEED]", 2)
     if (over) exit
     if (name == "") name = at == "" ? "trace" : "at-" at
     ticks = 1
 }
 { sub(/\r$/, "") }
 $1 ~ /^(refused|failed|too-slow|usage:)$/ { fail_line("the input is an answer of no: " $0) }
+/^#/ && match($0, /speed unit [0-9]+ kHz/) {
+    khz = substr($0, RSTART + 11) + 0
+    if (told && told != khz) fail_line("a unit of speed of " khz " kHz here and " told " kHz before; give points and trace the same khz=")
+    told = khz
+}
 $1 == "job" {
     if ($3 !~ /^[0-9]+$/ || $4 !~ /^[0-9]+$/ || $5 !~ /^[0-9]+$/) fail_line("a job wants whole times and work")
     if (jobs == 0 || $3 + 0 < first) first = $3 + 0

@@ -7,7 +7,7 @@
 # job's deadline is moved to the end of its last slot, and the audit goes on. The last line is the last verdict.
 # In the document's units. YDS is the program (yds_cli).
 #
-# Exit status: 0 every deadline is met; 1 some aren't, or the slots have another fault; 2 usage; 3 the document is refused.
+# Exit status: 0 every deadline is met; 1 some aren't, the slots have another fault, or there is no job; 2 usage; 3 the document is refused.
 
 if [ $# != 1 ] || [ ! -r "$1" ]; then
 	echo "misses.sh: no document that can be read
@@ -38,6 +38,10 @@ while verdict=$("${YDS:-yds_cli}" audit <"$work"); status=$?; [ $status = 1 ]; d
 		{ print }' "$work" "$work" >"$next"
 	cat "$next" >"$work"
 done
+if [ $status = 0 ] && ! grep -q '^[[:blank:]]*job[[:blank:]]' "$work"; then
+	echo "misses.sh: $1 has no job, so no deadline was met; look at what wrote it" >&2
+	exit 1
+fi
 [ -n "$verdict" ] && echo "$verdict"
 [ $status = 0 ] && exit $missed
 exit $status

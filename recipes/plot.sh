@@ -52,7 +52,10 @@ case $terminal in svg | png | pdf | dumb) ;; *) usage "-t $terminal" ;; esac
 case $size in '') ;; *[!0-9x]* | x* | *x | *x*x*) usage "-s $size" ;; *x*) ;; *) usage "-s $size" ;; esac
 case $group in '' | job | task) ;; *) usage "-g $group" ;; esac
 case $range in '') ;; *[!0-9.:]* | *:*:* | :* | *:) usage "-r $range" ;; *:*) ;; *) usage "-r $range" ;; esac
-for file in "$@"; do [ -r "$file" ] || complain "$file can't be read" 1; done
+for file in "$@"; do
+	case $file in -*) [ -e "$file" ] || usage "the options come before the files: $file" ;; esac
+	[ -r "$file" ] && [ ! -d "$file" ] || complain "$file can't be read" 1
+done
 [ $# -le 1 ] || [ "$picture" = speed ] || usage "only speed draws several files"
 command -v gnuplot >/dev/null 2>&1 || complain "gnuplot is missing; on Debian: apt-get install gnuplot-nox" 1
 

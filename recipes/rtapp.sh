@@ -142,6 +142,7 @@ def task_line($name; $t; $horizon):
   | ($t.delay // 0 | units($name; "the delay")) as $offset
   | ($p.events.period | units($name; "the period")) as $period
   | ($p.phase | deadline($t | deadline($p.events.period)) | units($name; "the deadline")) as $deadline
+  | if $offset + $deadline > ($horizon / $us | floor) then fail("\($name): no job of it is due within the duration; give a longer -H") else . end
   | "\($offset) \($period) \($deadline) \($p.events | work($name))";
 
 def job_lines($name; $t; $horizon):

@@ -106,11 +106,17 @@ test_trace() {
 		trace -v $t -v ticks=1000 trace-report.txt
 	refuses "trace: an empty trace" 1 failed "trace.awk: no line of a trace was read; the input is the text of trace-cmd report, perf script or the trace file" \
 		trace -v $t /dev/null
+	refuses "trace: no such file" 1 failed "trace.awk: it's nowhere can't be read" trace -v $t "it's nowhere"
+	refuses "trace: a folder" 1 failed "trace.awk: bad can't be read" trace -v $t bad
 	refuses "trace: no such task" 1 failed "trace.awk: no listed task runs or wakes up in this trace; names are as in the trace (at most 15 bytes), see tasks=" \
 		trace -v tasks=encode:10 trace-report.txt
+	refuses "trace: one of two tasks isn't there" 1 failed \
+		"trace.awk: no task audoi runs or wakes up in this trace; names are as in the trace (at most 15 bytes), see tasks=" \
+		trace -v tasks=decode:16.667,audoi:10 trace-report.txt
+	same "trace: a space after the comma" 0 trace.txt trace -v "tasks=decode:16.667, audio:10" trace-report.txt
 	refuses "trace: no frequency" 1 failed "trace.awk: no whole job: decode.0 is left out (frequency not known); give start=KHZ" \
 		trace -v tasks=decode:10 -v cpu=3 trace-perf.txt
-	refuses "trace: runs on another CPU" 1 failed "trace.awk: no whole job: Web_Content.0 is left out (ran on CPU 1)" \
+	refuses "trace: runs on another CPU" 1 failed "trace.awk: no whole job: Web_Content.0 is left out (ran on CPU 1); give cpu=1" \
 		trace -v "tasks=Web Content:10" -v cpu=0 trace-report.txt
 	sed '20,$s/ 5123/ 5122/' trace-report.txt >"$work/back"
 	refuses "trace: time goes back" 1 failed "trace.awk: line 20: the time goes back; sort the trace by time, or give one recording" trace -v $t "$work/back"
@@ -145,6 +151,7 @@ test_trace() {
 	same "misses: both of two" 1 misses.txt from /dev/null env YDS="$YDS" sh "$here/misses.sh" late-twice.txt
 	answers "misses: none" 0 feasible env YDS="$YDS" sh "$here/misses.sh" "$expected/trace.txt"
 	answers "misses: another fault" 1 "backward slot 1 a 3 3" env YDS="$YDS" sh "$here/misses.sh" bad/flat.txt
+	refuses "misses: no job" 1 "" "misses.sh: /dev/null has no job, so no deadline was met; look at what wrote it" env YDS="$YDS" sh "$here/misses.sh" /dev/null
 	refuses "misses: no document" 2 "" "misses.sh: no document that can be read" sh "$here/misses.sh" nothing.txt
 	answers "trace: what failed is refused" 3 "refused 1 1 UnknownKind" from bad/failed.txt "$YDS" audit
 }
@@ -170,6 +177,24 @@ test_points() {
 		points -v top=4000 -v khz=1000 "$work/fine"
 	refuses "points: an empty input" 1 failed "points.awk: no operating point was read; the input is an energy model, an opp folder, a device tree, a table of MHz and mW, or frequencies with top=" \
 		points /dev/null
+	refuses "points: no such file" 1 failed "points.awk: nowhere can't be read" points nowhere
+	printf '\357\273\277"Clock (MHz)";"Current (mA)"\r\n0;0,04\r\n4;0,5\r\n16;1,6\r\n24;2,3\r\n48;4,6\r\n80;8,5\r\n' >"$work/sheet"
+	same "points: a spreadsheet's table" 0 points-microcontroller.txt points -v khz=1000 -v uw=10 -v volts=3.0 "$work/sheet"
+	refuses "points: milliamperes without volts" 1 failed "points.awk: line 1: the heading says mA; give volts=" points -v khz=1000 microcontroller.csv
+	for heading in 'MHz,mW@mW; leave volts= out' 'mA,MHz@that MHz is the second column; write it first' \
+		'kHz,mA@another unit than MHz; write the frequencies in MHz' 'MHz,uA@microamperes or microwatts; write milliamperes or milliwatts'; do
+		printf '%s\n4,0.5\n' "${heading%%@*}" >"$work/heading"
+		refuses "points: the heading ${heading%%@*}" 1 failed "points.awk: line 1: the heading says ${heading#*@}" points -v volts=3.0 "$work/heading"
+	done
+	printf '4 MHz,0.5\n16,1.6\n' >"$work/heading"
+	refuses "points: a heading that isn't one" 1 failed "points.awk: line 1: MHz is no number; the columns are MHz and mW" points "$work/heading"
+	printf '4\n16,1.6\n' >"$work/heading"
+	refuses "points: a column is missing" 1 failed "points.awk: line 1: 1 columns; give a table of two, MHz and mW, or top= with frequencies in kHz" points "$work/heading"
+	printf '16,48\n48,138\n80,255\n' >"$work/coarse"
+	refuses "points: speeds in too coarse a unit" 1 failed \
+		"points.awk: 16000 kHz is speed 2 in units of 10000 kHz, more than a twentieth off; give a finer khz=" points "$work/coarse"
+	refuses "points: powers in too coarse a unit" 1 failed \
+		"points.awk: 4000 kHz has 1.5 mW, and 2 units of 1000 uW are more than a twentieth off; give a finer uw=" points -v khz=1000 -v volts=3.0 microcontroller.csv
 	sed 's/cpu0\/flags:0x1/cpu0\/flags:0x5/' energy-model.txt >"$work/artificial"
 	refuses "points: no watts" 1 failed "points.awk: the powers of cpu0 are no watts (flag 4); give a table of measured powers" points -v domain=cpu0 "$work/artificial"
 }
@@ -186,6 +211,8 @@ test_rtapp() {
 	refuses "rtapp: phases without -j" 1 failed "rtapp.sh: ramp: several phases; give -j" rtapp -m 1416 workload-phases.json
 	refuses "rtapp: a period that is no multiple" 1 failed "rtapp.sh: decode: the period is no multiple of the time unit, 7 microseconds; give a finer -u, or -j" \
 		rtapp -m 1416 -c 0 -u 7 workload.json
+	refuses "rtapp: a task without a job" 1 failed "rtapp.sh: decode: no job of it is due within the duration; give a longer -H" \
+		rtapp -m 1416 -c 0 -H 0.01 workload.json
 	refuses "rtapp: no frequency" 2 failed "rtapp.sh: no -m MHZ, the frequency to which rt-app was calibrated" rtapp workload.json
 	printf '{\n\t"tasks" : { "a" : {}\n\t} } }\n' >"$work/unmatched"
 	refuses "rtapp: no JSON" 1 failed "rtapp.sh: Unmatched '}' at line 3, column 6" rtapp -m 1416 "$work/unmatched"
@@ -210,10 +237,19 @@ test_energy() {
 	same "energy: flat out" 0 energy-at.txt energy -v at=142 "$work/both"
 	refuses "energy: no points" 1 "" "energy.awk: no point line; put the points before the document, as cat points.txt trace.txt" energy "$expected/trace.txt"
 	refuses "energy: above the top" 1 "" "energy.awk: the speed 60 from 0 to 200 is above the top point 41" energy bad/slow.txt
+	refuses "energy: a name of two words" 2 "" "energy.awk: name=my policy isn't one word" energy -v "name=my policy" "$work/both"
 	refuses "energy: no such point" 1 "" "energy.awk: no point has the speed 50" energy -v at=50 "$work/both"
 	refuses "energy: too much work for a point" 1 "" "energy.awk: the work of all jobs is more than the point 41 does in the whole time" energy -v at=41 "$work/both"
+	sed 's/speed unit 10000 kHz/speed unit 1000 kHz/' "$expected/points.txt" | cat - "$expected/trace.txt" >"$work/units"
+	refuses "energy: two units of speed" 1 "" \
+		"energy.awk: line 10: a unit of speed of 10000 kHz here and 1000 kHz before; give points and trace the same khz=" energy "$work/units"
 	refuses "energy: a refusal" 1 "" "energy.awk: line 1: the input is an answer of no: refused 1 9 EmptyWindow" energy "$expected/compare-refused.txt"
 	same "battery" 0 battery.tsv recipe battery.awk -v mah=220 -v volts=3.0 -v uw=10 "$expected/compare-sensor.txt"
+	same "battery: the points' unit of power" 0 battery.tsv recipe battery.awk -v mah=220 -v volts=3.0 "$expected/points-microcontroller.txt" "$expected/compare-sensor.txt"
+	refuses "battery: no unit of power" 2 "" "battery.awk: no unit of power; give uw=, or the file of points with its comment before the lines" \
+		recipe battery.awk -v mah=220 -v volts=3.0 "$expected/compare-sensor.txt"
+	refuses "battery: a side twice" 1 "" "battery.awk: line 1: the side plan stands twice; write its lines into a new file" \
+		recipe battery.awk -v mah=220 -v volts=3.0 -v uw=10 "$expected/compare-sensor.txt" "$expected/compare-sensor.txt"
 	refuses "battery: a refusal" 1 "" "battery.awk: line 1: the input is an answer of no: refused 1 9 EmptyWindow" \
 		recipe battery.awk -v mah=220 -v volts=3.0 "$expected/compare-refused.txt"
 	refuses "battery: no volts" 2 "" "battery.awk: mah= and volts= of the battery are numbers above 0" recipe battery.awk -v mah=220 "$expected/compare-sensor.txt"
@@ -272,6 +308,14 @@ test_plot() {
 	counts "plot energy: no percentage" "$work/slow.svg" ' %<' 0
 	plot ratios "$expected/folder.tsv" >"$work/ratios.svg"
 	holds "plot ratios" "$work/ratios.svg" '3 documents' '>avr<' '>oa<' 'share of the documents (%)'
+	printf 'document\tplan\tavr\toa\town\trounded\tanswer\na\t3\t-\t4\t5\t0\tok\nb\t3\t4\t4\t-\t0\tok\n' >"$work/sides.tsv"
+	plot ratios "$work/sides.tsv" >"$work/sides.svg"
+	holds "plot ratios: sides without an energy" "$work/sides.svg" '>avr (1 too slow)<' '>own (1 without)<'
+	plot gantt -r 3000:5400 "$expected/trace-late.txt" >"$work/range.svg"
+	counts "plot gantt -r: no row of a job outside" "$work/range.svg" '>audio.0<' 0
+	holds "plot gantt -r" "$work/range.svg" '>decode.2<' '>late<'
+	$AWK 'BEGIN { for (j = 1; j <= 13; j++) print "job j" j, j, j + 9, 1 "\nslot j" j, j, j + 1, 1 }' | plot gantt >"$work/jobs.svg"
+	holds "plot gantt: names of no tasks" "$work/jobs.svg" '>Who runs when, by job<' '>j13<'
 	"$YDS" plan <"$work/both" >"$work/plan.txt"
 	plot speed "$work/both" "$work/plan.txt" >"$work/two.svg"
 	holds "plot speed of two" "$work/two.svg" '>both<' '>plan<'
@@ -290,6 +334,9 @@ test_plot() {
 			if xmllint --noout "$work/$file.svg" 2>/dev/null; then pass; else fail "plot: $file.svg is not well-formed"; fi
 		done
 	fi
+	refuses "plot: options after a file" 2 "" "plot.sh: the options come before the files: -t" plot speed "$work/both" -t png
+	sed 's/speed unit 10000 kHz/speed unit 1000 kHz/' "$expected/points.txt" | cat - "$expected/trace.txt" >"$work/units"
+	refuses "plot: two units of speed" 1 "" "plot.sh: line 10: a unit of speed of 10000 kHz here and 1000 kHz before; give points and trace the same khz=" plot speed "$work/units"
 	refuses "plot: no slot" 1 "" "plot.sh: no slot; give a trace's document or the answer of plan, round, avr or oa" plot speed frames.txt
 	refuses "plot: no break" 1 "" "plot.sh: no break line; is this the answer of curve?" plot curve "$work/both"
 	refuses "plot: no energy" 1 "" "plot.sh: no energy line; is this the answer of compare?" plot energy "$work/both"
@@ -305,6 +352,8 @@ test_folder() {
 	: >"$work/empty.txt"
 	cat "$expected/compare-a.txt" "$expected/energy.txt" >"$work/more.txt"
 	same "collect: no answer, and another side" 0 more.tsv recipe collect.awk "$work/empty.txt" "$work/more.txt"
+	cat "$expected/energy.txt" "$expected/energy.txt" >"$work/twice.txt"
+	refuses "collect: a side twice" 1 "" "collect.awk: twice.txt: the side governor stands twice; write its lines into a new file" from /dev/null recipe_in "$work" collect.awk twice.txt
 	refuses "collect: another file" 1 "" "collect.awk: points.txt: \"point 0 0\" is no line of compare or energy.awk" from /dev/null recipe_in "$expected" collect.awk points.txt
 	if want jq; then
 		(cd "$expected" && jq -rRn -f "$here/report.jq" report-a.json report-refused.json) >"$work/reports.tsv" 2>&1

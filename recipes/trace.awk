@@ -13,7 +13,7 @@
 #
 # Options, each with -v:
 #   tasks=LIST   NAME:DEADLINE[:APART] or PID=NAME:DEADLINE[:APART], parted by commas, in milliseconds.
-#                A wake-up less than APART after the job's begin goes on with the job
+#                A wake-up less than APART after the job's begin goes on with the job. Each task has to be in the trace
 #   cpu=N        the CPU (0)
 #   us=N khz=N   the units of time and speed (10, 10000)
 #   start=KHZ    the speed before the first cpu_frequency line
@@ -37,6 +37,16 @@ function fail_line(text) { complain("line " NR ": " text, 1) }
 function usage(text) {
     complain(text "\nusage: awk -f trace.awk -v tasks=NAME:MS,.. [-v cpu=N] [-v us=N] [-v khz=N] [-v start=KHZ]" \
         " [-v from=S] [-v to=S] [-v others=MS] [-v lost=cut] [-v jobs=FILE] [-v ticks=N]", 2)
+}
+# The first named file that can't be read. An awk would only warn of it, or end with nothing written.
+function unreadable(    i, file) {
+    for (i = 1; i < ARGC; i++) {
+        file = ARGV[i]
+        if (file == "" || file == "-" || file ~ /^[A-Za-z_][A-Za-z_0-9]*=/) continue
+        gsub(/'/, "'\\''", file)
+        if (system("test -r '" file "' && test ! -d '" file "'")) return ARGV[i]
+    }
+    return ""
 }
 function is_number(text) { return text ~ /^[0-9]+(\.[0-9]*)?$/ }
 function is_whole(text) { return text ~ /^[1-9][0-9]*$/ }
@@ -81,6 +91,7 @@ function read_options(    i, n, m, list, part, text, name, k) {
     n = split(tasks, list, ",")
     for (i = 1; i <= n; i++) {
         text = list[i]
+        sub(/^ +/, "", text)
         pid[i] = ""
         if (text ~ /^[0-9]+=/) {
             pid[i] = text + 0
@@ -127,7 +138,10 @@ function read_jobs(    line, field, status) {
 
 # The number of the listed task of this name and process, or 0.
 function task_of(name, id,    t) {
-    if (id in number_of_pid) return number_of_pid[id]
+    if (id in number_of_pid) {
+        thread[number_of_pid[id]] = id
+        return number_of_pid[id]
+    }
     name = substr(name, 1, 15)
     if (!(name in number_of_name)) return 0
     t = number_of_name[name]
@@ -139,6 +153,7 @@ function task_of(name, id,    t) {
 
 BEGIN {
     read_options()
+    if (!over && unreadable() != "") fail(unreadable() " can't be read")
     if (!over && jobs != "") read_jobs()
     if (over) exit
     first_time = ""
@@ -245,7 +260,7 @@ head ~ /sched_wak[a-z_]*:$/ {
 
 function new_job(t, time, reason) {
     begin[++number_of_jobs] = time
-    task[number_of_jobs] = t
+    task_of_job[number_of_jobs] = t
     name_of_job[number_of_jobs] = label[t] "." (count[t] + 0)
     count[t]++
     why[number_of_jobs] = reason
@@ -362,13 +377,16 @@ function go_through_events(    i, t) {
     for (t = 1; t <= number_of_tasks; t++) if (open[t]) leave_out(open[t], "not ended")
 }
 
-function choose_jobs(    j, name) {
+function choose_jobs(    j, name, t) {
+    if (number_of_jobs)
+        for (t = 1; t <= number_of_tasks; t++)
+            if (!(t in thread)) return fail("no task " label[t] " runs or wakes up in this trace; names are as in the trace (at most 15 bytes), see tasks=")
     for (j = 1; j <= number_of_jobs; j++) {
         if (low != "" && begin[j] < low) leave_out(j, "before from")
         if (high != "" && end[j] != "" && end[j] > high) leave_out(j, "after to")
         if (jobs != "") {
             if (name_of_job[j] in in_file) written[j] = name_of_job[j]
-            else if (label[task[j]] in in_file) written[j] = label[task[j]]
+            else if (label[task_of_job[j]] in in_file) written[j] = label[task_of_job[j]]
             else leave_out(j, "not in " jobs)
         } else
             written[j] = name_of_job[j]
@@ -381,7 +399,8 @@ function choose_jobs(    j, name) {
     if (kept) return
     if (!number_of_jobs)
         return fail("no listed task runs or wakes up in this trace; names are as in the trace (at most 15 bytes), see tasks=")
-    fail("no whole job: " name_of_job[1] " is left out (" why[1] ")" (why[1] == "frequency not known" ? "; give start=KHZ" : ""))
+    fail("no whole job: " name_of_job[1] " is left out (" why[1] ")" \
+        (why[1] == "frequency not known" ? "; give start=KHZ" : why[1] ~ /^ran on CPU/ ? "; give cpu=" substr(why[1], 12) : ""))
 }
 
 # Runs in ticks from time 0; those of other tasks are cut at the windows' ends.
@@ -423,7 +442,7 @@ function check_limits(    j, a, d, name) {
         if (why[j] != "" || jobs != "") continue
         name = written[j]
         a = floor_div(begin[j] - zero, tick)
-        d = floor_div(begin[j] + deadline[task[j]] - zero, tick)
+        d = floor_div(begin[j] + deadline[task_of_job[j]] - zero, tick)
         if (d <= a) return fail(name " has its deadline within one unit of time; give a finer us=")
         if (d > 1000000000) return fail(name " has a time above 1000000000; give from= and to=, or a coarser us=")
         if (work[name] > 1000000)
@@ -445,7 +464,7 @@ function write_document(    i, j, w) {
         for (j = 1; j <= number_of_jobs; j++)
             if (why[j] == "")
                 printf "job %s %.0f %.0f %.0f\n", written[j], floor_div(begin[j] - zero, tick),
-                    floor_div(begin[j] + deadline[task[j]] - zero, tick), work[written[j]]
+                    floor_div(begin[j] + deadline[task_of_job[j]] - zero, tick), work[written[j]]
     if (others != "") w = int(others * 1000 / us + 0.5)
     for (i = 1; i <= number_of_others; i++) {
         j = substr(other[i], 8)
