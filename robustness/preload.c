@@ -5,6 +5,7 @@
  *   FAULT_MEMORY_FROM=N   so does each from this number on
  *   FAULT_READ=N          the read of this number fails; FAULT_READ_MOST=K: each read gives at most K bytes
  *   FAULT_WRITE=N         the write of this number fails; FAULT_WRITE_MOST=K: each write takes at most K bytes
+ *   FAULT_WRITES_FROM=N   so does each from this number on
  *   FAULT_ERROR=E         with this errno; 5 (EIO) without it
  *   FAULT_COUNTS=FILE     at the end the file has one line: the allocations, reads and writes of the run
  *
@@ -26,25 +27,36 @@ extern void *__libc_realloc(void *block, size_t size);
 extern void *__libc_memalign(size_t alignment, size_t size);
 
 static long allocations, reads, writes;
+static long refused, refused_from, failing_read, failing_write, failing_from, error;
+static size_t read_most, write_most;
 
 /* What the loader takes before the program begins doesn't count. */
 static int begun;
 
-__attribute__((constructor)) static void begin(void) { begun = 1; }
-
-/* The number that the environment gives this name, or 0. It takes no memory. */
+/* The number that the environment gives this name, or 0. */
 static long setting(const char *name) {
 	const char *value = getenv(name);
 	return value ? strtol(value, NULL, 10) : 0;
+}
+
+__attribute__((constructor)) static void begin(void) {
+	refused = setting("FAULT_ALLOCATION");
+	refused_from = setting("FAULT_MEMORY_FROM");
+	failing_read = setting("FAULT_READ");
+	failing_write = setting("FAULT_WRITE");
+	failing_from = setting("FAULT_WRITES_FROM");
+	read_most = (size_t)setting("FAULT_READ_MOST");
+	write_most = (size_t)setting("FAULT_WRITE_MOST");
+	error = setting("FAULT_ERROR");
+	begun = 1;
 }
 
 /* Counts an allocation. Whether it is refused. */
 static int refuses_memory(void) {
 	if (!begun)
 		return 0;
-	long from = setting("FAULT_MEMORY_FROM");
 	allocations++;
-	return allocations == setting("FAULT_ALLOCATION") || (from > 0 && allocations >= from);
+	return allocations == refused || (refused_from > 0 && allocations >= refused_from);
 }
 
 static void *no_memory(void) {
@@ -68,31 +80,22 @@ int posix_memalign(void **block, size_t alignment, size_t size) {
 }
 
 static ssize_t failed(void) {
-	long error = setting("FAULT_ERROR");
 	errno = error ? (int)error : EIO;
 	return -1;
 }
 
-/* Of so many bytes as many as the setting of this name lets through. */
-static size_t at_most(const char *name, size_t size) {
-	long most = setting(name);
-	return most > 0 && (size_t)most < size ? (size_t)most : size;
-}
+static size_t at_most(size_t most, size_t size) { return most > 0 && most < size ? most : size; }
 
 ssize_t read(int file, void *bytes, size_t size) {
-	if (file != 0)
-		return syscall(SYS_read, file, bytes, size);
-	if (++reads == setting("FAULT_READ"))
+	if (file == 0 && ++reads == failing_read)
 		return failed();
-	return syscall(SYS_read, file, bytes, at_most("FAULT_READ_MOST", size));
+	return syscall(SYS_read, file, bytes, file == 0 ? at_most(read_most, size) : size);
 }
 
 ssize_t write(int file, const void *bytes, size_t size) {
-	if (file != 1)
-		return syscall(SYS_write, file, bytes, size);
-	if (++writes == setting("FAULT_WRITE"))
+	if (file == 1 && (++writes == failing_write || (failing_from > 0 && writes >= failing_from)))
 		return failed();
-	return syscall(SYS_write, file, bytes, at_most("FAULT_WRITE_MOST", size));
+	return syscall(SYS_write, file, bytes, file == 1 ? at_most(write_most, size) : size);
 }
 
 ssize_t __write(int file, const void *bytes, size_t size) { return write(file, bytes, size); }
