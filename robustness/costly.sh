@@ -42,6 +42,7 @@ compare() {
 # Jobs. The drawn ones are those of `trial`, and the plain document beside the others.
 awk 'function draw() { s = (1664525 * s + 1013904223) % 4294967296; return int(s / 65536) }
 	BEGIN { for (i = 0; i < 4000; i++) { x = draw(); y = draw(); print "job j" i, 10 * x, 10 * x + 1 + y, 1 + draw() } }' >drawn
+awk '{ $5 = 1; print }' drawn >light
 # 64 points, whose gaps are seven primes: their least common multiple is 584,803,025,179.
 awk 'BEGIN { split("61 59 53 47 43 41 37", gap, " "); for (i = s = 0; i < 64; i++) { print "point", s, int(s * s / 17) + i; s += gap[i % 7 + 1] } }' >points
 # Each window within the one before; all are live in the middle, and each has a level of its own.
@@ -71,11 +72,12 @@ for command in avr oa; do
 done
 compare 0 "compare --grid 1000000" nested-short-on-points slow-on-points "nested windows, levels at all of 64 points of fine gaps"
 compare 0 "compare --grid 1000000" leaning-on-points slow-on-points "windows of half the time, greatest works, 64 points"
-for top in 1 100 1000; do compare 0 "admit $top" nested drawn "nested windows over 10^9"; done
-compare 0 "admit 1000" nested-short drawn "nested windows over 8,000"
-compare 0 "admit 1" pairs drawn "every second job refused"
-compare 0 "admit 1" short drawn "short windows, half refused"
-compare 0 "admit 1" covered drawn "one long job that the others push on"
+compare 0 "admit 100" drawn light "drawn jobs, of which some are refused"
+compare 0 "admit 1" nested light "nested windows over 10^9"
+compare 0 "admit 1000" nested-short light "nested windows over 8,000"
+compare 0 "admit 1" pairs light "every second job refused"
+compare 0 "admit 1" short light "short windows, half refused"
+compare 0 "admit 1" covered light "one long job that the others push on"
 compare 0 "trial 2 1000" /dev/null /dev/null "no document"
 
 # Slots, pieces, levels and members: 100,000 of each, or as many as 8 MB hold.

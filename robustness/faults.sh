@@ -95,6 +95,8 @@ whole() { [ $got = "$status" ] && cmp -s "$work/out" "$want" && [ ! -s "$work/er
 nothing() { [ $got = "$1" ] && [ ! -s "$work/out" ] && [ ! -s "$work/err" ]; }
 # A front of the answer, and not all of it.
 front() { [ $got = 5 ] && [ ! -s "$work/err" ] && cmp "$work/out" "$want" 2>&1 | grep -q "EOF on $work/out"; }
+# A front, or all of it with the status of a fault: what a failed write left is tried once more as the program ends.
+front_or_all() { front || { [ $got = 5 ] && [ ! -s "$work/err" ] && cmp -s "$work/out" "$want"; }; }
 
 refuse_memory() {
 	for setting in FAULT_ALLOCATION FAULT_MEMORY_FROM; do
@@ -126,20 +128,26 @@ refuse_reads() {
 	done
 }
 
-refuse_writes() {
+# refuse_each_write JUDGE SETTING ..: of each number in turn, with all of the answer where no write is left to be refused.
+refuse_each_write() {
+	judge=$1
+	shift
 	for most in 0 1 7; do
-		for error in 5 4; do # EIO, EINTR
-			number=1
-			while
-				faulty FAULT_WRITE=$number FAULT_WRITE_MOST=$most FAULT_ERROR=$error
-				[ "$writes" -ge $number ]
-			do
-				if front; then pass; else fail "$name: write $number of at most $most bytes, error $error (status $got)"; fi
-				number=$((number + 1 + (is_large && most ? 9999 : 0)))
-			done
-			if whole; then pass; else fail "$name: writes of at most $most bytes (status $got)"; fi
+		number=1
+		while
+			faulty "$1=$number" FAULT_WRITE_MOST=$most "${2:-FAULT_ERROR=5}"
+			[ "$writes" -ge $number ]
+		do
+			if $judge; then pass; else fail "$name: $*, number $number of at most $most bytes (status $got)"; fi
+			number=$((number + 1 + (is_large && most ? 9999 : 0)))
 		done
+		if whole; then pass; else fail "$name: writes of at most $most bytes (status $got)"; fi
 	done
+}
+refuse_writes() {
+	refuse_each_write front FAULT_WRITES_FROM
+	refuse_each_write front_or_all FAULT_WRITE
+	refuse_each_write whole FAULT_WRITE FAULT_ERROR=4 # EINTR: such a write is tried again
 }
 
 test_memory() { with refuse_memory; }

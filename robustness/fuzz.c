@@ -10,8 +10,8 @@
  * What is held: a run ends with a status of the table and without a word on standard error. A refusal's line and column are
  * in the input, and every command refuses a document alike. `check` accepts and `audit` finds feasible what `plan` wrote; so does
  * `audit` what `avr`, `oa`, `admit` and `round` wrote, the last with `--points` too; `plan` reads what `expand` wrote. An answer that is
- * a document, read again by the same command, gives itself. `check` and `audit` tell the same cause; a foreign certificate that
- * is accepted has the plan's levels. `report`, `report --json` and `curve` have the same work, `compare` and `round` the same energy.
+ * a document, read again by the same command, gives itself. `check` and `audit` tell the same cause, what is feasible with `--points` is
+ * feasible without, and a foreign certificate that is accepted has the plan's levels. `report`, `report --json` and `curve` have the same work, `compare` and `round` the same energy.
  */
 #define _GNU_SOURCE
 #include <errno.h>
@@ -199,9 +199,7 @@ static void draw_tasks(struct text *text) {
 	size_t horizon = 1 + below(spans[below(5)]);
 	print(text, "horizon %zu\n", horizon);
 	for (size_t tasks = below(6), i = 0; i < tasks; i++) {
-		size_t period = below(2) ? 1 + below(horizon) : horizon / (1 + below(6)) + !horizon;
-		if (period == 0)
-			period = 1;
+		size_t divisor = 1 + below(6), period = below(2) || horizon < divisor ? 1 + below(horizon) : horizon / divisor;
 		print(text, "task t%zu %zu %zu %zu %zu\n", i, below(2) ? 0 : below(horizon), period, below(2) ? period : 1 + below(horizon), below(10));
 	}
 }
@@ -512,6 +510,16 @@ static const char *holds_foreign(const struct text *input) {
 	return same_levels(input, &fourth.written) ? NULL : "an accepted certificate without the plan's levels";
 }
 
+/* What is feasible on the points is feasible. */
+static const char *holds_points(const struct answer *points, const struct text *input) {
+	if (is_no_table(points))
+		return NULL;
+	RUN(&other, "audit", input);
+	if (points->status == 0)
+		return other.status == 0 ? NULL : "feasible on the points and not without them";
+	return other.status == 1 || begins(&points->written, "off-point slot ") ? NULL : "another cause on the points than off-point";
+}
+
 static const char *holds_plan(const struct answer *plan) {
 	const char *fault = answers(&plan->written, "check", "accepted\n", "a plan that isn't accepted");
 	if (!fault)
@@ -625,7 +633,7 @@ static const char *try_input(const struct text *input, int of_tasks, char *line,
 			return answer.status == 0 ? holds_policy(&answer, line, input) : "a policy's run that ends with no";
 		if (line[1] == 'd')
 			return answer.status == 0 ? holds_admission(&answer, line) : "an admission that ends with no";
-		return holds_foreign(input);
+		return strstr(line, "--points") ? holds_points(&answer, input) : holds_foreign(input);
 	case 'o': return answer.status == 0 ? holds_policy(&answer, line, input) : "a policy's run that ends with no";
 	case 'r': return line[1] == 'o' ? holds_round(&answer, input) : strstr(line, "json") ? NULL : holds_report(&answer, input);
 	default: return line[1] == 'h' ? holds_foreign(input) : NULL;

@@ -5,6 +5,7 @@
  *   FAULT_MEMORY_FROM=N   so does each from this number on
  *   FAULT_READ=N          the read of this number fails; FAULT_READ_MOST=K: each read gives at most K bytes
  *   FAULT_WRITE=N         the write of this number fails; FAULT_WRITE_MOST=K: each write takes at most K bytes
+ *   FAULT_WRITES_FROM=N   so does each from this number on
  *   FAULT_ERROR=E         with this errno; 5 (EIO) without it
  *   FAULT_COUNTS=FILE     at the end the file has one line: the allocations, reads and writes of the run
  *
@@ -26,7 +27,7 @@ extern void *__libc_realloc(void *block, size_t size);
 extern void *__libc_memalign(size_t alignment, size_t size);
 
 static long allocations, reads, writes;
-static long refused, refused_from, failing_read, failing_write, error;
+static long refused, refused_from, failing_read, failing_write, failing_from, error;
 static size_t read_most, write_most;
 
 /* What the loader takes before the program begins doesn't count. */
@@ -43,6 +44,7 @@ __attribute__((constructor)) static void begin(void) {
 	refused_from = setting("FAULT_MEMORY_FROM");
 	failing_read = setting("FAULT_READ");
 	failing_write = setting("FAULT_WRITE");
+	failing_from = setting("FAULT_WRITES_FROM");
 	read_most = (size_t)setting("FAULT_READ_MOST");
 	write_most = (size_t)setting("FAULT_WRITE_MOST");
 	error = setting("FAULT_ERROR");
@@ -91,7 +93,7 @@ ssize_t read(int file, void *bytes, size_t size) {
 }
 
 ssize_t write(int file, const void *bytes, size_t size) {
-	if (file == 1 && ++writes == failing_write)
+	if (file == 1 && (++writes == failing_write || (failing_from > 0 && writes >= failing_from)))
 		return failed();
 	return syscall(SYS_write, file, bytes, file == 1 ? at_most(write_most, size) : size);
 }

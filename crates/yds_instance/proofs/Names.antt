@@ -1,13 +1,9 @@
 -- The number of a name, and what an instance keeps as a job with a new name comes.
-use Rattle.std.proofs.Common.{◌≡◌, ℕ, ◌+◌, ◌<◌, ◌≤◌, Bool, true, false, cond, not, List, [], ◌∷◌, ◌++◌, Option, Some, None, length, ltb, refl, sym, ap, ◌∙◌, inl, inr, arith, subst, nat_cmp, map}
+use Rattle.std.proofs.Common.{◌≡◌, ℕ, ◌+◌, ◌<◌, ◌≤◌, Bool, true, false, cond, not, List, [], ◌∷◌, ◌++◌, Option, Some, None, length, ltb, refl, sym, ap, ◌∙◌, inl, inr, arith, subst, map}
 use Rattle.std.specs.List.{Contains, slice_index_or, prefix_len, position_or_len, position}
 use Rattle.std.specs.Option.{MatchOption}
 use Rattle.std.specs.Str.{bytes_eq}
-use Rattle.std.specs.Borrow.{Bor}
-use Rattle.std.specs.BTreeMap.{BTreeMap, UpdatesBy}
-use Rattle.std.specs.Cmp.Lexicographic.{slice_cmp}
 use Rattle.std.proofs.lemmas.Grind.{common_steps}
-use Rattle.std.proofs.lemmas.Map.Text.{btree_map_updates_str}
 use Rattle.std.proofs.lemmas.Bool.{cases_Bool, false≢true, ltb-false}
 use Rattle.std.proofs.lemmas.Slice.Eq.{bytes_eq-Decides}
 use Rattle.std.proofs.lemmas.List.{length-map, length_push, get_or_push, get_or_append_left}
@@ -18,7 +14,7 @@ use Rattle.std.proofs.lemmas.List.Elements.{All-push}
 use Rattle.yds_model.specs.Job.{Job, IsJob}
 use Rattle.yds_model.specs.declared.limits.TheConstants.{MAX_JOBS}
 use Rattle.yds_model.specs.Within.{AreDifferentNames, AreNamedJobs}
-use Rattle.yds_instance.specs.Named.{Named, number_of, AreNumbered}
+use Rattle.yds_instance.specs.Named.{Named, number_of}
 use Rattle.yds_model.specs.Document.{name_at}
 use Rattle.yds_model.specs.Spelling.{is_name}
 use Rattle.yds_model.proofs.Lists.{place_cases}
@@ -111,7 +107,7 @@ number_of_other names name other differ =
     ∙ rw differ (chosen_kept (ltb (position_or_len (λ third. bytes_eq third other) names) (length names)) (position_or_len (λ third. bytes_eq third other) names))
 
 -- a new name has the next number, and the others keep theirs
-number_push : (names : List (List ℕ)) (name other : List ℕ) → number_of names name ≡ None →
+pub number_push : (names : List (List ℕ)) (name other : List ℕ) → number_of names name ≡ None →
     number_of (names ++ name ∷ []) other ≡ cond (bytes_eq name other) (Some (length names)) (number_of names other)
 number_push names name other none = elim (cases_Bool (bytes_eq name other)) [
   | inl same ↦
@@ -119,15 +115,6 @@ number_push names name other none = elim (cases_Bool (bytes_eq name other)) [
       ((bytes_eq-Decides name other).0 same) (number_of_new names name none)
   | inr differ ↦ number_of_other names name other differ
 ]
-
--- so the map that gets the name's number has every name's number
-pub numbers_pushed : (names : List (List ℕ)) (name : List ℕ) (old new : BTreeMap (Bor (List ℕ)) ℕ) → AreNumbered names old → number_of names name ≡ None →
-    UpdatesBy (λ one other. slice_cmp nat_cmp one.now other.now) (λ key. slice_cmp nat_cmp name key.now) old new (Some (length names)) →
-    AreNumbered (names ++ name ∷ []) new
-numbers_pushed names name old new numbered none updates other =
-    btree_map_updates_str name old new (Some (length names)) updates other
-    ∙ ap (cond (bytes_eq name other) (Some (length names))) (numbered other)
-    ∙ sym (number_push names name other none)
 
 other_differs : (names : List (List ℕ)) (name : List ℕ) (i : ℕ) → number_of names name ≡ None → i < length names → name_at names i ≡ name → ⊥
 other_differs names name i none within is =

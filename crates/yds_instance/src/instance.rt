@@ -6,8 +6,8 @@ ghost use Rattle.yds_model.specs.Within.{AreNamedJobs};
 ghost use Rattle.yds_instance.specs.Named.{Named, number_of};
 
 use crate::fault::AddFault;
+use crate::numbers::Numbers;
 use std::alloc::Global;
-use std::collections::BTreeMap;
 use std::marker::Model;
 use yds_model::JobRow;
 use yds_model::limits::MAX_JOBS;
@@ -19,15 +19,15 @@ use yds_model::limits::MAX_JOBS;
 #[derive(Drop)]
 pub struct Instance<'a> {
     names: Vec<&'a str>,
-    /// Each name's number. No names make a look-up slow.
-    numbers: BTreeMap<&'a str, u32>,
+    numbers: Numbers<'a>,
     rows: Vec<JobRow>,
 }
 
 impl<'a> Model for Instance<'a> {
     ghost use Rattle.std.specs.Prelude.{map};
     ghost use Rattle.yds_model.specs.Within.{AreNamedJobs};
-    ghost use Rattle.yds_instance.specs.Named.{Named, AreNumbered};
+    ghost use Rattle.yds_instance.specs.Named.{Named};
+    ghost use Rattle.yds_instance.specs.Numbers.{AreNumbered};
 
     ghost Value = { Named };
 
@@ -43,7 +43,7 @@ impl<'a> Instance<'a> {
     {
         Instance {
             names: Vec::new(alloc),
-            numbers: BTreeMap::new(alloc),
+            numbers: Numbers::new(alloc),
             rows: Vec::new(alloc),
         }
     }
@@ -73,7 +73,7 @@ impl<'a> Instance<'a> {
         let number = self.rows.len() as u32;
         self.names.reserve(1)?;
         self.rows.reserve(1)?;
-        self.numbers.insert(name, number)?;
+        self.numbers.add(name, number)?;
         self.names.push_reserved(name);
         self.rows.push_reserved(row);
         Ok(number)
@@ -102,7 +102,7 @@ impl<'a> Instance<'a> {
         ensures found { MatchOption result (¬ (Contains self.now.names name.now)) (λ number. (number < length self.now.jobs) × (name_at self.now.names number ≡ name.now)) }
         ensures kept { AreNamedJobs self.now.names self.now.jobs }
     {
-        self.numbers.get(name).copied()
+        self.numbers.find(&self.names, name)
     }
 }
 

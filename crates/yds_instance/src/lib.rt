@@ -7,6 +7,7 @@
 
 mod fault;
 mod instance;
+mod numbers;
 
 pub use fault::AddFault;
 pub use instance::Instance;

@@ -1,11 +1,9 @@
-use Rattle.std.proofs.Common.{◌≡◌, ◌∷◌, [], ◌++◌, None, Some, ℕ, List, sym, ap, ◌∙◌, subst, map, length, arith, nat_cmp}
+use Rattle.std.proofs.Common.{◌≡◌, ◌∷◌, [], ◌++◌, None, ℕ, List, sym, ap, ◌∙◌, subst, map, length, arith}
 use Rattle.std.specs.Borrow.{Bor}
 use Rattle.std.proofs.lemmas.List.{map-append}
-use Rattle.std.specs.BTreeMap.{UpdatesBy}
-use Rattle.std.specs.Cmp.Lexicographic.{slice_cmp}
 use Rattle.yds_model.specs.Job.{IsJob, Job}
 use Rattle.yds_instance.specs.Named.{Named, number_of}
-use Rattle.yds_instance.proofs.Names.{named_pushed, numbers_pushed}
+use Rattle.yds_instance.proofs.Names.{named_pushed}
 use Rattle.yds_instance.proofs.instance.Instance.add.Goals as goal
 
 abbrev texts : List (Bor (List ℕ)) → List (List ℕ)
@@ -27,5 +25,5 @@ pub invariant_of-self-2 : goal.invariant_of-self-2
 invariant_of-self-2 c =
     rw (names_grow c, rows_grow c) (
       named_pushed _ _ _ _ c.self.invariant.0 (omega arith) c.requires (subst IsJob c.row.view_is c.row.invariant) (is_new c),
-      numbers_pushed _ _ c.self.inside.numbers c.insert.new.self c.self.invariant.1 (is_new c) (subst (λ n. UpdatesBy (λ (one other : Bor (List ℕ)). slice_cmp nat_cmp one.now other.now) (λ (key : Bor (List ℕ)). slice_cmp nat_cmp c.args.name.now key.now) c.self.inside.numbers c.insert.new.self (Some n)) (number_is c) c.in_ok-insert.ensures.updates),
+      c.in_ok-add.ensures.added (texts c.self.inside.names.items) (number_is c) (is_new c) c.self.invariant.1,
     )
