@@ -18,13 +18,16 @@ function complain(text, status) {
     over = 1
     exit status
 }
+# Debian's awk reads and writes a comma for the decimal point where the locale has one: 16.667 would be 16.
+function has_decimal_comma() { return "1.5" * 2 != 3 || sprintf("%.1f", 1.5) != "1.5" }
 function is_number(text) { return text ~ /^([0-9]+\.?[0-9]*|\.[0-9]+)$/ && text + 0 > 0 }
 function value(text,    part) {
     if (split(text, part, /[+\/]/) == 3) return part[1] + part[2] / part[3]
     return text + 0
 }
 BEGIN {
-    if (!is_number(mah) || !is_number(volts) || (uw != "" && !is_number(uw)) || (other != "" && other !~ /^([0-9]+\.?[0-9]*|\.[0-9]+)$/))
+    if (has_decimal_comma()) complain("this awk has a decimal comma in this locale; say export LC_ALL=C first", 1)
+    else if (!is_number(mah) || !is_number(volts) || (uw != "" && !is_number(uw)) || (other != "" && other !~ /^([0-9]+\.?[0-9]*|\.[0-9]+)$/))
         complain("mah= and volts= of the battery are numbers above 0\nusage: awk -f battery.awk -v mah=N -v volts=V [-v uw=N] [-v other=MW]", 2)
     if (over) exit
 }

@@ -14,6 +14,8 @@ function complain(text, status) {
     close("cat 1>&2")
     exit status
 }
+# Debian's awk reads and writes a comma for the decimal point where the locale has one: 16.667 would be 16.
+function has_decimal_comma() { return "1.5" * 2 != 3 || sprintf("%.1f", 1.5) != "1.5" }
 function value(text,    part) {
     if (split(text, part, /[+\/]/) == 3) return part[1] + part[2] / part[3]
     return text + 0
@@ -48,6 +50,7 @@ function read_file(i,    line, field, status, n) {
     close(ARGV[i])
 }
 BEGIN {
+    if (has_decimal_comma()) complain("this awk has a decimal comma in this locale; say export LC_ALL=C first", 1)
     if (ARGC < 2) complain("no file\nusage: awk -f collect.awk FILE ..", 2)
     add_side("plan")
     add_side("avr")

@@ -23,6 +23,8 @@ function complain(text, status) {
 function fail(text) { complain(text, 1) }
 function fail_line(text) { complain("line " NR ": " text, 1) }
 
+# Debian's awk reads and writes a comma for the decimal point where the locale has one: 16.667 would be 16.
+function has_decimal_comma() { return "1.5" * 2 != 3 || sprintf("%.1f", 1.5) != "1.5" }
 # W+N/D in two parts, so that differences of great times stay exact enough.
 function whole_part(text) { return text + 0 }
 function rest_part(text,    part) {
@@ -49,7 +51,8 @@ function fraction(whole, n, d,    g, q) {
 }
 
 BEGIN {
-    if (at != "" && at !~ /^[0-9]+$/) complain("at=" at " is no speed\nusage: awk -f energy.awk [-v name=NAME] [-v at=SPEED]", 2)
+    if (has_decimal_comma()) fail("this awk has a decimal comma in this locale; say export LC_ALL=C first")
+    else if (at != "" && at !~ /^[0-9]+$/) complain("at=" at " is no speed\nusage: awk -f energy.awk [-v name=NAME] [-v at=SPEED]", 2)
     else if (name ~ /[ \t]/) complain("name=" name " isn't one word\nusage: awk -f energy.awk [-v name=NAME] [-v at=SPEED]", 2)
     if (over) exit
     if (name == "") name = at == "" ? "trace" : "at-" at

@@ -1,7 +1,7 @@
 #!/bin/sh
 # test.sh: runs each recipe on its sample and compares what it writes, byte for byte, with what is stored.
 #
-#   sh recipes/test.sh [PART ..]      parts: trace points energy rtapp plot folder page manual; all without one
+#   sh recipes/test.sh [PART ..]      parts: trace points comma energy rtapp plot folder page manual; all without one
 #
 # Environment: YDS (the program; build/yds_cli beside this folder), AWK (awk). The last line is
 # 'N passed, M failed', and the exit status is 1 where M isn't 0. What wants a missing package, or a command that
@@ -230,6 +230,20 @@ test_rtapp() {
 	if cmp -s "$work/expanded" "$work/jobs" && [ -s "$work/jobs" ]; then pass; else fail "rtapp: -j and expand give the same jobs"; fi
 }
 
+# Where the machine has a locale with a decimal comma, and awk heeds it: no recipe reckons with it.
+test_comma() {
+	comma=$(locale -a 2>/dev/null | grep -iE '^(de|es|fr|it|nl|pl)_.*utf-?8$' | head -n 1)
+	[ -n "$comma" ] || return
+	LC_ALL=$comma $AWK 'BEGIN { exit "1.5" * 2 == 3 }' || return
+	text="this awk has a decimal comma in this locale; say export LC_ALL=C first"
+	refuses "comma: trace" 1 failed "trace.awk: $text" env LC_ALL="$comma" $AWK -f "$here/trace.awk" -v tasks=decode:16.667,audio:10 trace-report.txt
+	refuses "comma: points" 1 failed "points.awk: $text" env LC_ALL="$comma" $AWK -f "$here/points.awk" -v khz=1000 -v volts=3.0 microcontroller.csv
+	refuses "comma: energy" 1 "" "energy.awk: $text" env LC_ALL="$comma" $AWK -f "$here/energy.awk" "$expected/points.txt" "$expected/trace.txt"
+	refuses "comma: battery" 1 "" "battery.awk: $text" env LC_ALL="$comma" $AWK -f "$here/battery.awk" -v mah=220 -v volts=3.0 -v uw=10 "$expected/compare-sensor.txt"
+	refuses "comma: collect" 1 "" "collect.awk: $text" env LC_ALL="$comma" $AWK -f "$here/collect.awk" "$expected/compare-a.txt"
+	same "comma: misses has its own locale" 1 misses.txt from /dev/null env LC_ALL="$comma" YDS="$YDS" sh "$here/misses.sh" late-twice.txt
+}
+
 energy() { recipe energy.awk "$@"; }
 test_energy() {
 	cat "$expected/points.txt" "$expected/trace.txt" >"$work/both"
@@ -438,7 +452,7 @@ test_manual() {
 	done
 }
 
-parts=${*:-trace points energy rtapp plot folder page manual}
+parts=${*:-trace points comma energy rtapp plot folder page manual}
 for part in $parts; do test_$part; done
 missing=
 for word in jq gnuplot parallel mandoc; do

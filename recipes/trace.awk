@@ -38,6 +38,8 @@ function usage(text) {
     complain(text "\nusage: awk -f trace.awk -v tasks=NAME:MS,.. [-v cpu=N] [-v us=N] [-v khz=N] [-v start=KHZ]" \
         " [-v from=S] [-v to=S] [-v others=MS] [-v lost=cut] [-v jobs=FILE] [-v ticks=N]", 2)
 }
+# Debian's awk reads and writes a comma for the decimal point where the locale has one: 16.667 would be 16.
+function has_decimal_comma() { return "1.5" * 2 != 3 || sprintf("%.1f", 1.5) != "1.5" }
 # The first named file that can't be read. An awk would only warn of it, or end with nothing written.
 function unreadable(    i, file) {
     for (i = 1; i < ARGC; i++) {
@@ -152,7 +154,8 @@ function task_of(name, id,    t) {
 }
 
 BEGIN {
-    read_options()
+    if (has_decimal_comma()) fail("this awk has a decimal comma in this locale; say export LC_ALL=C first")
+    if (!over) read_options()
     if (!over && unreadable() != "") fail(unreadable() " can't be read")
     if (!over && jobs != "") read_jobs()
     if (over) exit
