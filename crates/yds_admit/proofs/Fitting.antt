@@ -1,7 +1,6 @@
 -- The walk by falling releases over all deadlines: marked jobs that each find their room after their release leave no interval overfull.
 use Rattle.std.proofs.Common.{◌≡◌, ℕ, ◌+◌, ◌-◌, ◌*◌, ◌<◌, ◌≤◌, Bool, true, false, List, length, get_or, map, take, ◌∙◌, refl, sym, subst, arith, inl, inr, ap, cond, nat_le, ◌&&◌, ◌==◌}
-use Rattle.std.specs.List.{All, Any, Contains, sum_by}
-use Rattle.std.specs.List.Sorted.{IsPermutation}
+use Rattle.std.specs.List.{Any}
 use Rattle.std.proofs.lemmas.Bool.{cases_lt, cases_eq}
 use Rattle.std.proofs.lemmas.List.{get_or-map, get_or_default, length-map}
 use Rattle.std.proofs.lemmas.List.Sorted.{sum_by-IsPermutation, Contains-permutation, IsPermutation-refl}
@@ -9,7 +8,6 @@ use Rattle.std.proofs.lemmas.List.FromFn.{get_or-range_with_len, length-range_wi
 use Rattle.std.proofs.Math.Nat.{mul-sub, mul-le-mul_left}
 use Rattle.yds_model.specs.Job.{Job, no_job, job_at}
 use Rattle.yds_model.specs.Policy.{numbers_of}
-use Rattle.yds_model.specs.Admission.{IsOverfull}
 use Rattle.yds_model.proofs.Sums.{sum_by_same}
 use Rattle.yds_laws.specs.AdmissionLaws.{HasRoom}
 use Rattle.yds_admit.specs.declared.board.Spot.{Spot}

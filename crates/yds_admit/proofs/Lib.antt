@@ -10,3 +10,6 @@ pub mod Inserted
 pub mod Links
 pub mod Fitting
 pub mod Marks
+pub mod Cutting
+pub mod Made
+pub mod Least

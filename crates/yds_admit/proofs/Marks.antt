@@ -1,6 +1,6 @@
 -- Marks of jobs, one job more.
-use Rattle.std.proofs.Common.{◌≡◌, ℕ, ◌+◌, ◌<◌, ◌≤◌, ◌≢◌, Bool, true, false, List, [], ◌∷◌, ◌++◌, length, get_or, set, take, drop, ◌∙◌, refl, sym, arith, inl, inr, ap, cond, get_or-set_same, get_or-set_other, length-set}
-use Rattle.std.specs.List.{All, Any, sum_by, range_with_len}
+use Rattle.std.proofs.Common.{◌≡◌, ℕ, ◌+◌, ◌<◌, ◌≤◌, Bool, true, false, List, [], ◌∷◌, ◌++◌, length, get_or, set, take, drop, ◌∙◌, sym, arith, inl, inr, ap, cond, get_or-set_same, get_or-set_other, length-set}
+use Rattle.std.specs.List.{Any, sum_by, range_with_len}
 use Rattle.std.proofs.lemmas.Bool.{cases_eq}
 use Rattle.std.proofs.lemmas.List.{get_or_default, take_more, drop-append-le, length-take-le, same_lists, length_push, get_or_push, get_or_append_left}
 use Rattle.std.proofs.lemmas.List.Elements.{All-push, All-nil}

@@ -1,5 +1,5 @@
 -- One job more than jobs that leave no interval overfull: only an interval that begins before its deadline and ends then or later can be.
-use Rattle.std.proofs.Common.{◌≡◌, ℕ, ◌+◌, ◌-◌, ◌*◌, ◌<◌, ◌≤◌, ◌⊎◌, List, [], ◌∷◌, ◌++◌, length, get_or, ◌∙◌, sym, subst, arith, inl, inr, ap}
+use Rattle.std.proofs.Common.{◌≡◌, ℕ, ◌-◌, ◌*◌, ◌<◌, ◌≤◌, ◌⊎◌, List, [], ◌∷◌, ◌++◌, length, ◌∙◌, sym, subst, arith, inl, inr, ap}
 use Rattle.std.specs.List.{All, Any, sum_by}
 use Rattle.std.specs.List.Sorted.{IsPermutation}
 use Rattle.std.proofs.lemmas.Bool.{cases_lt, cases_eq}
@@ -18,7 +18,7 @@ use Rattle.yds_admit.proofs.Between.{term, before, after}
 use Rattle.yds_admit.proofs.Overfull.{any_of_all, number_of_any, jobs_work}
 
 -- some element of a list is one of the list in another order
-any_permuted : (P : Job → Type 0) (jobs others : List Job) → IsPermutation jobs others → Any P jobs → Any P others
+pub any_permuted : (P : Job → Type 0) (jobs others : List Job) → IsPermutation jobs others → Any P jobs → Any P others
 any_permuted P jobs others same (k, job, within, is, holds) =
     let there = Contains-permutation jobs others job same (k, within, is) in
     (there.0, job, there.1, there.2, holds)

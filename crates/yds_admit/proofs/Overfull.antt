@@ -1,11 +1,8 @@
 -- Overfull intervals of jobs, of their numbers, and of the jobs in another order.
-use Rattle.std.proofs.Common.{◌≡◌, ℕ, ◌-◌, ◌*◌, ◌<◌, ◌≤◌, List, [], ◌∷◌, ◌++◌, length, get_or, map, ◌∙◌, refl, sym, subst, arith, inl, inr, ap}
-use Rattle.std.specs.List.{Any, Contains, sum_by}
-use Rattle.std.specs.List.Sorted.{IsPermutation, IsNonDecreasing}
-use Rattle.std.proofs.lemmas.Bool.{cases_lt}
+use Rattle.std.proofs.Common.{◌≡◌, ℕ, ◌<◌, List, [], ◌∷◌, ◌++◌, length, get_or, map, ◌∙◌, refl, sym, subst, arith, ap}
+use Rattle.std.specs.List.{Any, sum_by}
 use Rattle.std.proofs.lemmas.List.{same_lists, get_or-map, get_or_default, length-map}
 use Rattle.std.proofs.lemmas.List.Sums.{sum_by-cons, sum_by-append}
-use Rattle.std.proofs.lemmas.List.Sorted.{sum_by-IsPermutation, Contains-permutation, IsPermutation-sym}
 use Rattle.std.proofs.lemmas.List.FromFn.{get_or-range_with_len, length-range_with_len}
 use Rattle.yds_model.specs.Job.{Job, no_job, job_at}
 use Rattle.yds_model.specs.Policy.{numbers_of}
@@ -14,7 +11,7 @@ use Rattle.yds_model.proofs.Lists.{Any-append_left}
 use Rattle.yds_laws.specs.AdmissionLaws.{HasRoom}
 use Rattle.yds_laws.proofs.JobNumbers.{sum_by-map, all_jobs}
 use Rattle.yds_laws.proofs.Served.{confined_sum}
-use Rattle.yds_admit.specs.Interval.{work_in, HasRoomFrom, IsFirstEnd}
+use Rattle.yds_admit.specs.Interval.{work_in}
 use Rattle.yds_admit.proofs.Between.{term}
 
 -- # The work confined to an interval

@@ -51,13 +51,13 @@ module _ (m : ℕ) (reach due_by done : ℕ → ℕ) (gaps : List ℕ) (chain : 
   at_least (suc q) within = omega (arith, at_least q (omega arith), rw (let e : q + 1 ≡ suc q = omega arith in e) at (step_is q (omega arith)))
 
   -- .. and no more
-  pub attained : (rest q : ℕ) → q + rest ≡ m → (p : ℕ) × (p ≤ m) × (due_by p + reach q ≡ done q + reach p)
-  attained zero q is = let e : q ≡ m = omega (arith, is) in (m, omega arith, omega (arith, chain.last, ap done e, ap reach e))
+  pub attained : (rest q : ℕ) → q + rest ≡ m → (p : ℕ) × (q ≤ p) × (p ≤ m) × (due_by p + reach q ≡ done q + reach p)
+  attained zero q is = let e : q ≡ m = omega (arith, is) in (m, omega (arith, e), omega arith, omega (arith, chain.last, ap done e, ap reach e))
   attained (suc rest) q is = elim (cases_lt 0 (get_or gaps q 0)) [
-    | inl some ↦ (q, omega (arith, is), omega (arith, chain.exact q (omega (arith, is)) some))
+    | inl some ↦ (q, omega arith, omega (arith, is), omega (arith, chain.exact q (omega (arith, is)) some))
     | inr none ↦
         let found = attained rest (q + 1) (omega (arith, is)) in
-        (found.0, found.1, omega (arith, found.2, step_is q (omega (arith, is)), none))
+        (found.0, omega (arith, found.1), found.2, omega (arith, found.3, step_is q (omega (arith, is)), none))
   ]
 
 at_first : (place x : ℕ) → cond (nat_le place 0) x 0 ≡ cond (place == 0) x 0
@@ -214,10 +214,10 @@ module _ (top due : ℕ) (jobs : List Job) (times : List ℕ) (m : ℕ) (long : 
             below = omega arith;
             is_release = sym (ap (λ (one : Job). one.release) is);
             q = found.0;
-            within = found.1;
+            within = found.2;
             much = omega (
               arith,
-              found.2,
+              found.3,
               went.passed_is,
               much,
               ap (λ k. top * k) first,
@@ -258,11 +258,11 @@ module _ (top due : ℕ) (jobs : List Job) (times : List ℕ) (m : ℕ) (long : 
 
 -- # What was found
 
-released_all : (from to : ℕ) (job : Job) → from ≤ job.release → term from to job ≡ cond (nat_le job.deadline to) job.work 0
+pub released_all : (from to : ℕ) (job : Job) → from ≤ job.release → term from to job ≡ cond (nat_le job.deadline to) job.work 0
 released_all from to job released = rw (le-leb from job.release released) refl
 
 -- of some numbers that pass a test the last
-last_of : (n : ℕ) (test : ℕ → Bool) (j : ℕ) → j < n → test j ≡ true →
+pub last_of : (n : ℕ) (test : ℕ → Bool) (j : ℕ) → j < n → test j ≡ true →
     (k : ℕ) × (k < n) × (test k ≡ true) × ((i : ℕ) → k < i → i < n → test i ≡ false)
 last_of zero test j below passes = absurd (omega arith)
 last_of (suc n) test j below passes = elim (cases_Bool (test n)) [

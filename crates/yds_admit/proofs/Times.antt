@@ -1,14 +1,15 @@
 -- The times of a chain, deadline by deadline.
 use Rattle.std.proofs.Common.{◌≡◌, ℕ, ◌+◌, ◌-◌, ◌*◌, ◌<◌, ◌≤◌, List, [], ◌∷◌, ◌++◌, length, get_or, take, ◌∙◌, refl, subst, arith, inl, inr, ap}
-use Rattle.std.specs.List.{All, Contains}
+use Rattle.std.specs.List.{All, Any, Contains}
 use Rattle.std.specs.List.Sorted.{IsPermutation, IsNonDecreasing, IsNonDecreasingBy}
 use Rattle.std.proofs.lemmas.List.Sorted.{All-permutation}
 use Rattle.std.proofs.lemmas.Bool.{cases_lt}
-use Rattle.std.proofs.lemmas.List.{length_push, get_or_push, get_or_append_left, take_all}
+use Rattle.std.proofs.lemmas.List.{length_push, get_or_push, get_or_append_left, take_all, get_or_default}
 use Rattle.std.proofs.lemmas.List.Elements.{All-nil, All-cons, All-more, Contains-append_left, Contains-push}
 use Rattle.std.proofs.Math.Nat.{mul-sub, mul-le-mul_left}
-use Rattle.yds_model.specs.Job.{Job, no_job, job_at}
+use Rattle.yds_model.specs.Job.{Job, IsJob, no_job, job_at}
 use Rattle.yds_admit.specs.Chain.{AreTimes}
+use Rattle.yds_admit.specs.Pieces.{AreDue}
 
 -- the deadlines of the first jobs are among the times, of which none is later than `due` and the next deadline
 pub record TimesUpTo (due : ℕ) (jobs : List Job) (i : ℕ) (times : List ℕ) : Type 0 where
@@ -123,3 +124,32 @@ same_times due jobs others times same are = record {
   rising = are.rising;
   all = All-permutation (λ (job : Job). due < job.deadline → Contains times job.deadline) others jobs same are.all;
 }
+
+-- the first place of one of the times
+module _ (times : List ℕ) (time place : ℕ) (rising : IsNonDecreasing times) (known : Contains times time)
+    (early : (q : ℕ) → q < place → get_or times q 0 < time) (late : (q : ℕ) → place ≤ q → q < length times → time ≤ get_or times q 0) where
+  not_after : place ≤ known.0
+  not_after = elim (cases_lt known.0 place) [
+    | inr most ↦ most
+    | inl less ↦ absurd (omega (arith, early known.0 less, get_or_default times known.0 0 time known.1, known.2))
+  ]
+
+  pub place_known : place < length times
+  place_known = omega (arith, not_after, known.1)
+
+  pub time_there : get_or times place 0 ≡ time
+  time_there = omega (
+    arith,
+    late place (omega arith) place_known,
+    rising place known.0 0 not_after known.1,
+    get_or_default times known.0 0 time known.1,
+    known.2,
+  )
+
+-- the deadlines of some of the jobs are among the times
+pub all_due : (rows jobs : List Job) (times : List ℕ) → AreTimes 0 rows times → All (λ job. Any (λ one. one ≡ job) rows) jobs → All IsJob jobs → AreDue times jobs
+all_due rows jobs times are known jobs_are k d below =
+    let some = known k d below in
+    let is : get_or rows some.0 some.1 ≡ get_or jobs k d = some.3 ∙ some.4 in
+    subst (λ (job : Job). Contains times job.deadline) is
+    (are.all some.0 some.1 some.2 (omega (arith, ap (λ (job : Job). job.deadline) is, (jobs_are k d below).has_window)))

@@ -1,6 +1,6 @@
 -- Jobs with their places among the times of a chain, and marks of jobs.
-use Rattle.std.specs.Prelude.{◌≡◌, ℕ, ◌+◌, ◌*◌, ◌<◌, ◌≤◌, Bool, true, false, if◌then◌else◌, List, length, map, slice_index, sum_by}
-use Rattle.std.specs.List.{All, Any, slice_index_or, range_with_len}
+use Rattle.std.specs.Prelude.{◌≡◌, ℕ, ◌+◌, ◌*◌, ◌<◌, ◌≤◌, Bool, false, if◌then◌else◌, List, length, map, slice_index, sum_by}
+use Rattle.std.specs.List.{All, Any, slice_index_or}
 use Rattle.std.specs.List.Sorted.{IsPermutation}
 use Rattle.yds_model.specs.declared.limits.TheConstants.{MAX_TIME}
 use Rattle.yds_model.specs.Job.{Job, job_at}

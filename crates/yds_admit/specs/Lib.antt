@@ -3,4 +3,5 @@ pub mod Serving
 pub mod Chain
 pub mod Board
 pub mod Orders
+pub mod Pieces
 pub mod Decision

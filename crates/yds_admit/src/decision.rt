@@ -1,4 +1,4 @@
-ghost use Rattle.std.specs.Prelude.{◌≡◌, ◌+◌, ◌*◌, ◌<◌, ◌≤◌, ◌++◌, ◌∷◌, [], IfOk, length, take, drop};
+ghost use Rattle.std.specs.Prelude.{◌≡◌, ◌+◌, ◌*◌, ◌<◌, ◌≤◌, ◌++◌, ◌∷◌, [], false, IfOk, length, take, drop};
 ghost use Rattle.yds_model.specs.Job.{job_at};
 ghost use Rattle.yds_model.specs.Policy.{numbers_of};
 ghost use Rattle.yds_model.specs.Admission.{IsFirstOverfull};
@@ -6,10 +6,12 @@ ghost use Rattle.yds_laws.specs.AdmissionLaws.{HasRoom};
 ghost use Rattle.yds_admit.specs.Board.{IsBoard, IsMarked};
 ghost use Rattle.yds_admit.specs.Decision.{IsDecision, IsState};
 ghost use Rattle.yds_admit.specs.Orders.{AreOrdered};
+ghost use Rattle.yds_admit.specs.Pieces.{ArePieces};
 ghost use Rattle.yds_admit.specs.Interval.{work_in};
 
 use crate::board::Board;
 use crate::interval::{by_deadline, by_release, newly_overfull, work_between};
+use crate::pieces::{Pieces, cut_all};
 use crate::refusal::Refusal;
 use crate::run::{fit, marked};
 use crate::standing::{with_deadline, with_release};
@@ -63,7 +65,7 @@ pub(crate) fn decide(alloc: Global, rows: &[JobRow], top: u32) -> Result<Decisio
         wanted = if count > 0 {
             2 * count
         } else {
-            one_by_one(alloc, rows, &mut state, top)?
+            one_by_one(alloc, rows, &board, &mut state, top)?
         };
     }
     Ok(Decision {
@@ -154,49 +156,90 @@ fn take_all(
     Ok(())
 }
 
-/// Decides a short run job by job. Answers how long a run is to be tried next: a longer one where none of them was refused.
-fn one_by_one(alloc: Global, rows: &[JobRow], state: &mut State, top: u32) -> Result<usize, Memory>
+/// Decides jobs one by one until so many in a row are admitted as make a short run. Answers how long a run is to be tried next.
+fn one_by_one(
+    alloc: Global,
+    rows: &[JobRow],
+    board: &Board,
+    state: &mut State,
+    top: u32,
+) -> Result<usize, Memory>
     requires few { length rows.now ≤ MAX_JOBS }
     requires some_top { 1 ≤ top }
     requires top_in_range { top ≤ MAX_TOP }
+    requires board { IsBoard rows.now top board.now.times.items board.now.gaps.items board.now.spots.items }
     requires state { IsState rows.now top state.old }
     requires more { state.old.next < length rows.now }
     ensures state { IfOk result (λ _. IsState rows.now top state.new) }
     ensures more { IfOk result (λ _. state.old.next < state.new.next) }
     ensures short { IfOk result (λ wanted. wanted ≤ 2 * SHORT_RUN) }
 {
-    let refused = state.refused.len();
-    let count = SHORT_RUN.min(rows.len() - state.next);
-    for _ in 0..count {
-        decide_next(alloc, rows, state, top)?;
+    let mut pieces = pieces_of(alloc, rows, board, state, top)?;
+    let mut admitted = 0;
+    while state.next < rows.len() && admitted < SHORT_RUN {
+        if decide_next(alloc, rows, board, state, &pieces, top)? {
+            pieces = pieces_of(alloc, rows, board, state, top)?;
+            admitted += 1;
+        } else {
+            admitted = 0;
+        }
     }
-    Ok(if state.refused.len() > refused {
-        SHORT_RUN
-    } else {
-        2 * SHORT_RUN
-    })
+    Ok(2 * SHORT_RUN)
 }
 
-/// Admits the next job where it leaves no interval overfull beside the admitted ones, or refuses it.
-fn decide_next(alloc: Global, rows: &[JobRow], state: &mut State, top: u32) -> Result<(), Memory>
+/// The pieces of the admitted jobs.
+fn pieces_of(
+    alloc: Global,
+    _rows: &[JobRow],
+    board: &Board,
+    state: &State,
+    top: u32,
+) -> Result<Pieces, Memory>
+    requires few { length _rows.now ≤ MAX_JOBS }
+    requires board { IsBoard _rows.now top board.now.times.items board.now.gaps.items board.now.spots.items }
+    requires state { IsState _rows.now top state.now }
+    ensures { IfOk result (λ pieces.
+        ArePieces top board.now.times.items state.now.jobs.items pieces.jobs.items pieces.places.items) }
+{
+    let pieces = cut_all(alloc, &state.by_release, &board.times, &board.gaps, top)?;
+    Ok(pieces)
+}
+
+/// Admits the next job where it leaves no interval overfull beside the admitted ones, whose pieces these are, or refuses it.
+/// Answers whether it was admitted.
+fn decide_next(
+    alloc: Global,
+    rows: &[JobRow],
+    board: &Board,
+    state: &mut State,
+    pieces: &Pieces,
+    top: u32,
+) -> Result<bool, Memory>
     requires few { length rows.now ≤ MAX_JOBS }
     requires some_top { 1 ≤ top }
     requires top_in_range { top ≤ MAX_TOP }
+    requires board { IsBoard rows.now top board.now.times.items board.now.gaps.items board.now.spots.items }
     requires state { IsState rows.now top state.old }
     requires more { state.old.next < length rows.now }
+    requires pieces { ArePieces top board.now.times.items state.old.jobs.items pieces.now.jobs.items pieces.now.places.items }
     ensures state { IfOk result (λ _. IsState rows.now top state.new) }
     ensures next { IfOk result (λ _. state.new.next ≡ state.old.next + 1) }
+    ensures kept { IfOk result (λ admitted. admitted ≡ false → state.new.jobs.items ≡ state.old.jobs.items) }
 {
     let row = &rows[state.next];
     // Reading the row shows that it is a job within the limits.
     let _work = row.work;
-    let releases = with_release(alloc, &state.by_release, row)?;
     let deadlines = with_deadline(alloc, &state.by_deadline, row)?;
-    match newly_overfull(alloc, &state.jobs, row, &releases, &deadlines, top)? {
-        None => take_next(rows, state, releases, deadlines, top),
+    match newly_overfull(&state.jobs, row, &deadlines, pieces, &board.times, top) {
+        None => {
+            let releases = with_release(alloc, &state.by_release, row)?;
+            take_next(rows, state, releases, deadlines, top)?;
+            Ok(true)
+        }
         Some((from, to)) => {
             let work = work_between(&deadlines, from, to);
-            refuse_next(rows, state, from, to, work, top)
+            refuse_next(rows, state, from, to, work, top)?;
+            Ok(false)
         }
     }
 }
@@ -249,6 +292,7 @@ fn refuse_next(
     requires work { work ≡ work_in (state.old.jobs.items ++ job_at rows.now state.old.next ∷ []) from to }
     ensures state { IfOk result (λ _. IsState rows.now _top state.new) }
     ensures next { IfOk result (λ _. state.new.next ≡ state.old.next + 1) }
+    ensures kept { IfOk result (λ _. state.new.jobs.items ≡ state.old.jobs.items) }
 {
     let number = state.next;
     // Reading the row shows that it is a job within the limits.

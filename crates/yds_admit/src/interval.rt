@@ -1,5 +1,5 @@
 ghost use Rattle.std.specs.Prelude.{◌≡◌, ◌-◌, ◌*◌, ◌<◌, ◌≤◌, ◌++◌, ◌∷◌, [], IfOk, MatchOption, length, All};
-ghost use Rattle.std.specs.List.Sorted.{IsPermutation, IsNonDecreasingBy};
+ghost use Rattle.std.specs.List.Sorted.{IsPermutation, IsNonDecreasing, IsNonDecreasingBy};
 ghost use Rattle.yds_model.specs.declared.limits.TheConstants.{MAX_WORK};
 ghost use Rattle.yds_model.specs.Job.{IsJob};
 ghost use Rattle.yds_model.specs.Policy.{numbers_of};
@@ -7,9 +7,10 @@ ghost use Rattle.yds_model.specs.Admission.{IsFirstOverfull};
 ghost use Rattle.yds_laws.specs.AdmissionLaws.{HasRoom};
 ghost use Rattle.yds_admit.specs.Chain.{IsFalling};
 ghost use Rattle.yds_admit.specs.Interval.{work_in, HasRoomFrom, IsFirstEnd};
-ghost use Rattle.yds_admit.specs.Orders.{AreOrdered};
+ghost use Rattle.yds_admit.specs.Pieces.{ArePieces, AreDue};
 
-use crate::chain::least_from;
+use crate::chain::place;
+use crate::pieces::{Pieces, least_from};
 use std::alloc::Global;
 use yds_model::limits::{MAX_JOBS, MAX_TOP};
 use yds_model::{JobRow, Memory};
@@ -71,28 +72,32 @@ pub(crate) fn work_between(jobs: &[JobRow], from: u32, to: u32) -> u64
 /// The first overfull interval of these jobs and one more, where there is one. Alone they leave none overfull: so it begins before
 /// the one more's deadline, and ends then or later.
 pub(crate) fn newly_overfull(
-    alloc: Global,
     _jobs: &[JobRow],
     row: &JobRow,
-    by_release: &[JobRow],
     by_deadline: &[JobRow],
+    pieces: &Pieces,
+    times: &[u32],
     top: u32,
-) -> Result<Option<(u32, u32)>, Memory>
-    requires few { length by_release.now ≤ MAX_JOBS }
+) -> Option<(u32, u32)>
+    requires few { length by_deadline.now ≤ MAX_JOBS }
     requires top_in_range { top ≤ MAX_TOP }
     requires are { All IsJob (_jobs.now ++ row.now ∷ []) }
     requires room { HasRoom top _jobs.now }
-    requires ordered { AreOrdered (_jobs.now ++ row.now ∷ []) by_release.now by_deadline.now }
-    ensures { IfOk result (λ found. MatchOption found
+    requires deadlines { IsPermutation (_jobs.now ++ row.now ∷ []) by_deadline.now }
+    requires rising { IsNonDecreasingBy (λ job. job.deadline) by_deadline.now }
+    requires pieces { ArePieces top times.now _jobs.now pieces.now.jobs.items pieces.now.places.items }
+    requires in_order { IsNonDecreasing times.now }
+    requires due { AreDue times.now (_jobs.now ++ row.now ∷ []) }
+    ensures { MatchOption result
         (HasRoom top (_jobs.now ++ row.now ∷ []))
-        (λ interval. IsFirstOverfull (_jobs.now ++ row.now ∷ []) top (numbers_of (_jobs.now ++ row.now ∷ [])) interval.0 interval.1)) }
+        (λ interval. IsFirstOverfull (_jobs.now ++ row.now ∷ []) top (numbers_of (_jobs.now ++ row.now ∷ [])) interval.0 interval.1) }
 {
-    let due = row.deadline;
-    let Some(from) = least_from(alloc, by_release, by_deadline, due, top)? else {
-        return Ok(None);
+    let end = place(times, row.deadline);
+    let Some(from) = least_from(pieces, _jobs, times, row, end, top) else {
+        return None;
     };
     match overfull_end(by_deadline, from, top) {
-        Some(to) => Ok(Some((from, to))),
-        None => Ok(None),
+        Some(to) => Some((from, to)),
+        None => None,
     }
 }

@@ -12,6 +12,7 @@ mod board;
 mod chain;
 mod decision;
 mod interval;
+mod pieces;
 mod refusal;
 mod run;
 mod serving;

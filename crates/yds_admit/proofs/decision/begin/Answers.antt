@@ -1,4 +1,4 @@
-use Rattle.std.proofs.Common.{ℕ, ◌≡◌, ◌<◌, false, refl, arith, [], length, ◌∙◌, subst, inl, inr, replicate, get_or}
+use Rattle.std.proofs.Common.{ℕ, ◌≡◌, false, arith, [], length, inl, inr, replicate, get_or}
 use Rattle.std.proofs.lemmas.Bool.{cases_lt}
 use Rattle.std.proofs.lemmas.List.{get_or-replicate, length-replicate, get_or_past}
 use Rattle.std.proofs.lemmas.List.Sorted.{IsPermutation-refl}

@@ -1,4 +1,3 @@
-use Rattle.std.proofs.Common.{arith}
 use Rattle.yds_admit.proofs.Deciding.{is_decision}
 use Rattle.yds_admit.proofs.decision.decide.Goals as goal
 

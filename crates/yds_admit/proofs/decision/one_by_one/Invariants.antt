@@ -1,9 +1,15 @@
-use Rattle.std.proofs.Common.{◌≡◌, ◌+◌, ◌≤◌, length}
+use Rattle.std.proofs.Common.{◌≡◌, ◌-◌, ◌≤◌, length}
 use Rattle.yds_admit.specs.Decision.{IsState}
+use Rattle.yds_admit.specs.Pieces.{ArePieces}
 use Rattle.yds_admit.proofs.decision.one_by_one.Given as goal
 
-abbrev pub invariant-loop : goal.invariant-loop
-invariant-loop l = record {
+abbrev pub invariant-loop-state : goal.invariant-loop-state
+invariant-loop-state l = record {
   state : IsState l.rows l.top l.state;
-  next : l.state.next ≡ l.fn.state.next + l.counter;
+  pieces : ArePieces l.top l.board.times.items l.state.jobs.items l.pieces.jobs.items l.pieces.places.items;
+  later : l.fn.state.next ≤ l.state.next;
+  begun : l.state.next ≡ l.fn.state.next → l.admitted ≡ 0;
 }
+
+abbrev pub decreases-loop-state : goal.decreases-loop-state
+decreases-loop-state l = length l.rows - l.state.next

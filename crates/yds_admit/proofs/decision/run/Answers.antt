@@ -1,6 +1,5 @@
-use Rattle.std.proofs.Common.{ℕ, ◌+◌, ◌++◌, take, drop, List, Bool, ◌∙◌, length, sym, arith, subst}
+use Rattle.std.proofs.Common.{◌+◌, ◌++◌, take, drop, List, Bool, sym, arith, subst}
 use Rattle.yds_model.specs.Job.{Job}
-use Rattle.yds_laws.specs.AdmissionLaws.{HasRoom}
 use Rattle.yds_admit.specs.declared.decision.State.{State}
 use Rattle.yds_admit.specs.Board.{IsMarked, AreMarked}
 use Rattle.yds_admit.specs.Decision.{IsState}

@@ -1,5 +1,5 @@
-use Rattle.std.proofs.Common.{◌≡◌, ℕ, List, ◌∙◌, refl, sym, arith, subst, take, drop, ◌++◌, length}
-use Rattle.std.proofs.lemmas.List.{get_or_read, append-nil, drop_all, length-take-le}
+use Rattle.std.proofs.Common.{◌≡◌, ◌∙◌, arith}
+use Rattle.std.proofs.lemmas.List.{get_or_read}
 use Rattle.yds_model.specs.Job.{Job, no_job, job_at}
 use Rattle.yds_admit.proofs.Deciding.{takes_first}
 use Rattle.yds_admit.proofs.decision.take_all.Goals as goal

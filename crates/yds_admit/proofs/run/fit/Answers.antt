@@ -1,9 +1,9 @@
-use Rattle.std.proofs.Common.{◌≡◌, ℕ, ◌+◌, ◌-◌, ◌*◌, ◌<◌, ◌≤◌, refl, List, length, get_or, ◌∙◌, sym, subst, arith}
+use Rattle.std.proofs.Common.{◌≡◌, ℕ, ◌+◌, ◌-◌, ◌*◌, ◌<◌, ◌≤◌, refl, List, length, get_or, subst, arith}
 use Rattle.yds_admit.specs.declared.board.Spot.{Spot}
 use Rattle.yds_admit.specs.Board.{if_marked}
 use Rattle.yds_admit.specs.Chain.{Takes}
 use Rattle.yds_admit.proofs.Links.{own_are}
-use Rattle.yds_admit.proofs.Fitting.{Walking, spot_at, begun, walks, has_room}
+use Rattle.yds_admit.proofs.Fitting.{spot_at, begun, walks, has_room}
 use Rattle.yds_admit.proofs.run.fit.Goals as goal
 
 pub loop-spot-init : goal.loop-spot-init

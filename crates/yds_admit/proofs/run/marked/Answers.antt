@@ -1,4 +1,4 @@
-use Rattle.std.proofs.Common.{◌≡◌, ℕ, ◌+◌, List, [], ◌∷◌, ◌++◌, true, length, set, take, drop, ◌∙◌, refl, sym, subst, arith, ap, append_assoc}
+use Rattle.std.proofs.Common.{◌≡◌, ℕ, ◌+◌, List, [], ◌∷◌, ◌++◌, true, set, take, drop, ◌∙◌, refl, sym, subst, arith, ap, append_assoc}
 use Rattle.std.proofs.lemmas.List.{append-nil, drop_all, length-take-le}
 use Rattle.yds_model.specs.Job.{Job, job_at}
 use Rattle.yds_admit.specs.Board.{IsMarked}

@@ -1,4 +1,4 @@
-use Rattle.std.proofs.Common.{List, ◌∙◌, ℕ, ◌+◌, ◌<◌, ◌*◌, ◌≡◌, length, get_or, arith, sym, subst, ap}
+use Rattle.std.proofs.Common.{List, ℕ, subst}
 use Rattle.std.proofs.lemmas.List.Sorted.{IsPermutation-sym, IsPermutation-trans, IsPermutation-map, All-permutation}
 use Rattle.yds_model.specs.Job.{Job}
 use Rattle.yds_admit.specs.declared.board.Spot.{Spot}

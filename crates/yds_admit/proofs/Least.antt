@@ -1,0 +1,319 @@
+-- The walk over the pieces of jobs for one job more, and what it finds.
+use Rattle.std.proofs.Common.{◌≡◌, ℕ, zero, suc, ◌+◌, ◌-◌, ◌*◌, ◌<◌, ◌≤◌, ◌⊎◌, List, [], ◌∷◌, ◌++◌, length, get_or, take, drop, ◌∙◌, refl, sym, subst, arith, inl, inr, ap, cond, nat_le, Option, Some, None, ◌==◌}
+use Rattle.std.specs.Prelude.{MatchOption}
+use Rattle.std.specs.List.{All, Any, sum_by}
+use Rattle.std.specs.List.Sorted.{IsNonDecreasing}
+use Rattle.std.proofs.lemmas.Bool.{cases_lt, cases_eq, le-leb, leb-true, leb-false, true≢false, eqb-true, eqb-false}
+use Rattle.yds_edf.proofs.Demand.{found_or_none}
+use Rattle.std.proofs.lemmas.List.{get_or_default, get_or-take, get_or-drop, get_or_append_left, get_or_push, length-take-le, length-drop, length_push}
+use Rattle.std.proofs.lemmas.List.Sums.{sum_by-take-drop, sum_by_push}
+use Rattle.std.proofs.Math.Nat.{mul-sub, mul-le-mul_left}
+use Rattle.yds_model.specs.Job.{Job, IsJob, no_job, job_at}
+use Rattle.yds_model.specs.Policy.{numbers_of}
+use Rattle.yds_model.proofs.Sums.{sum_by_same, sum_by_zero}
+use Rattle.yds_admit.specs.Interval.{work_in}
+use Rattle.yds_admit.specs.Chain.{IsFalling, due_work, HasRoomOver, IsLeastFrom, NoFrom}
+use Rattle.yds_admit.specs.Pieces.{went, ArePieces, AreDue}
+use Rattle.yds_laws.specs.AdmissionLaws.{HasRoom}
+use Rattle.yds_laws.proofs.Served.{room_from, confined_sum}
+use Rattle.yds_admit.proofs.Between.{term, inside, before, after}
+use Rattle.yds_admit.proofs.Overfull.{jobs_work}
+use Rattle.yds_admit.proofs.Sweep.{released_all, last_of}
+
+-- the work in an interval is that of the pieces up to the last one released in it
+work_of_first : (jobs : List Job) (n from to : ℕ) → n ≤ length jobs → ((i : ℕ) → i < n → from ≤ (job_at jobs i).release) →
+    ((i : ℕ) → n ≤ i → i < length jobs → (job_at jobs i).release < from) → work_in jobs from to ≡ due_work (take n jobs) to
+work_of_first jobs n from to within early late = omega (
+  arith,
+  sum_by-take-drop (term from to) jobs n,
+  first_work jobs n from to within early,
+  sum_by_zero (term from to) (drop n jobs)
+      (λ i d below.
+      let there : n + i < length jobs = omega (arith, below, length-drop n jobs) in
+      before from to (get_or (drop n jobs) i d) (omega (
+        arith,
+        late (n + i) (omega arith) there,
+        ap (λ (job : Job). job.release) (get_or-drop n jobs i d),
+        ap (λ (job : Job). job.release) (get_or_default jobs (n + i) d no_job there),
+      ))),
+) where
+  first_work : (jobs : List Job) (n from to : ℕ) → n ≤ length jobs → ((i : ℕ) → i < n → from ≤ (job_at jobs i).release) →
+      sum_by (term from to) (take n jobs) ≡ due_work (take n jobs) to
+  first_work jobs n from to within early =
+      sum_by_same (term from to) (λ (job : Job). cond (nat_le job.deadline to) job.work 0) (take n jobs)
+      (λ i d below.
+      let short : i < n = omega (arith, below, length-take-le n jobs within) in
+      released_all from to (get_or (take n jobs) i d) (omega (
+        arith,
+        early i short,
+        ap (λ (job : Job). job.release) (get_or-take n jobs i d short),
+        ap (λ (job : Job). job.release) (get_or_default jobs i d no_job (omega (arith, short, within))),
+      )))
+
+-- at least that of the first ones
+first_at_most : (jobs : List Job) (n from to : ℕ) → n ≤ length jobs → ((i : ℕ) → i < n → from ≤ (job_at jobs i).release) → due_work (take n jobs) to ≤ work_in jobs from to
+first_at_most jobs n from to within early = omega (
+  arith,
+  sum_by-take-drop (term from to) jobs n,
+  sum_by_same (term from to) (λ (job : Job). cond (nat_le job.deadline to) job.work 0) (take n jobs)
+      (λ i d below.
+      let short : i < n = omega (arith, below, length-take-le n jobs within) in
+      released_all from to (get_or (take n jobs) i d) (omega (
+        arith,
+        early i short,
+        ap (λ (job : Job). job.release) (get_or-take n jobs i d short),
+        ap (λ (job : Job). job.release) (get_or_default jobs i d no_job (omega (arith, short, within))),
+      ))),
+)
+
+module _ (top : ℕ) (times : List ℕ) (all jobs : List Job) (places : List ℕ) (row : Job) (end : ℕ) where
+  -- the first n pieces and the job leave room from this release on
+  abbrev pub LeavesRoom : ℕ → ℕ → Type 0
+  LeavesRoom n from = row.work + went n jobs places end + top * from ≤ top * row.deadline
+
+  -- some of the first n don't
+  pub record HasTooMuch (from : ℕ) : Type 0 where
+    pub n : ℕ
+    pub within : n ≤ length jobs
+    pub early : (i : ℕ) → i < n → from ≤ (job_at jobs i).release
+    pub ahead : from ≤ row.release
+    pub is_release : (from ≡ row.release) ⊎ Any (λ job. job.release ≡ from) jobs
+    pub much : top * row.deadline < row.work + went n jobs places end + top * from
+
+  -- the pieces before `first` are released with the job or later, and the walk has come to the n-th
+  abbrev pub LookedAt : ℕ → ℕ → Option ℕ → Type 0
+  LookedAt first n None = LeavesRoom first row.release × ((k : ℕ) → first ≤ k → k < n → LeavesRoom (k + 1) (job_at jobs k).release)
+  LookedAt first n (Some from) = HasTooMuch from × ((k : ℕ) → first ≤ k → k < n → (job_at jobs k).release < from → LeavesRoom (k + 1) (job_at jobs k).release)
+
+  -- # The walk
+
+  pub begins_some : (first : ℕ) → first ≤ length jobs → ((i : ℕ) → i < first → row.release ≤ (job_at jobs i).release) →
+      top * row.deadline < row.work + went first jobs places end + top * row.release → LookedAt first first (Some row.release)
+  begins_some first known early much = (
+    record { n = first; within = known; early = early; ahead = omega arith; is_release = inl refl; much = much },
+    λ k behind below less. absurd (omega (arith, behind, below)),
+  )
+
+  pub begins_none : (first : ℕ) → LeavesRoom first row.release → LookedAt first first None
+  begins_none first leaves = (leaves, λ k behind below. absurd (omega (arith, behind, below)))
+
+  pub next_some : (first n : ℕ) (from : Option ℕ) → IsFalling jobs → n < length jobs → (job_at jobs n).release ≤ row.release → LookedAt first n from →
+      top * row.deadline < row.work + went (n + 1) jobs places end + top * (job_at jobs n).release → LookedAt first (n + 1) (Some (job_at jobs n).release)
+  next_some first n from falling below ahead looked much = (
+    record {
+      n = n + 1;
+      within = omega (arith, below);
+      early = λ i less. falling i n (omega (arith, less)) below;
+      ahead = ahead;
+      is_release = inr (n, job_at jobs n, below, get_or_default jobs n (job_at jobs n) no_job below, refl);
+      much = much;
+    },
+    λ k behind short less. absurd (omega (arith, less, falling k n (omega (arith, short)) below)),
+  )
+
+  pub next_none : (first n : ℕ) (from : Option ℕ) → LookedAt first n from → LeavesRoom (n + 1) (job_at jobs n).release → LookedAt first (n + 1) from
+  next_none first n None looked leaves = (
+    looked.0,
+    λ k behind below. elim (cases_eq k n) [
+      | inl same ↦ subst (λ j. LeavesRoom (j + 1) (job_at jobs j).release) (sym same) leaves
+      | inr other ↦ looked.1 k behind (omega (arith, below, other))
+    ],
+  )
+  next_none first n (Some from) looked leaves = (
+    looked.0,
+    λ k behind below less. elim (cases_eq k n) [
+      | inl same ↦ subst (λ j. LeavesRoom (j + 1) (job_at jobs j).release) (sym same) leaves
+      | inr other ↦ looked.1 k behind (omega (arith, below, other)) less
+    ],
+  )
+
+-- # Room in any interval
+
+-- jobs that leave no interval overfull have room in any
+module _ (top : ℕ) (all : List Job) (are : All IsJob all) (room : HasRoom top all) (from : ℕ) where
+  known_deadline : (to i : ℕ) → i < length all → (job_at all i).deadline ≡ to → work_in all from to ≤ top * (to - from)
+  known_deadline to i known is = subst (λ (end : ℕ). work_in all from end ≤ top * (end - from)) is (omega (
+    arith,
+    room_from top all are room i known (job_at all i).deadline from (omega arith),
+    confined_sum all (numbers_of all) from (job_at all i).deadline,
+    jobs_work all from (job_at all i).deadline,
+  ))
+
+  same_term : (to : ℕ) (job : Job) → (job.deadline ≡ suc to → ⊥) → term from (suc to) job ≡ term from to job
+  same_term to job other = elim (cases_lt job.release from) [
+    | inl less ↦ before from (suc to) job less ∙ sym (before from to job less)
+    | inr first ↦ elim (cases_lt to job.deadline) [
+      | inl more ↦ after from (suc to) job (apart job.deadline (suc to) (omega (arith, more)) other) ∙ sym (after from to job more)
+      | inr due ↦ inside from (suc to) job first (omega (arith, due)) ∙ sym (inside from to job first due)
+    ]
+  ] where
+    apart : (x y : ℕ) → y ≤ x → (x ≡ y → ⊥) → y < x
+    apart x y most other = elim (cases_lt y x) [ inl less ↦ less | inr more ↦ absurd (other (omega (arith, most, more))) ]
+
+  pub room_to : (to : ℕ) → work_in all from to ≤ top * (to - from)
+  room_to zero = omega (arith, sum_by_zero (term from 0) all (λ k d below. after from 0 (get_or all k d) (omega (arith, (are k d below).has_window))))
+  room_to (suc to) = elim (found_or_none (length all) (λ i. (job_at all i).deadline == suc to)) [
+    | inl found ↦ known_deadline (suc to) found.0 found.1 (eqb-true (job_at all found.0).deadline (suc to) found.2)
+    | inr none ↦ omega (
+      arith,
+      sum_by_same (term from (suc to)) (term from to) all (λ k d below. same_term to (get_or all k d) (λ e.
+          eqb-false (job_at all k).deadline (suc to) (none k below) (ap (λ (job : Job). job.deadline) (get_or_default all k no_job d below) ∙ e))),
+      room_to to,
+      mul-le-mul_left top (let less : to - from ≤ suc to - from = omega arith in less),
+    )
+  ]
+
+-- # What was found
+
+module _ (top : ℕ) (times : List ℕ) (all jobs : List Job) (places : List ℕ) (row : Job) (end m : ℕ) (long : length times ≡ m + 1) (pieces : ArePieces top times all jobs places)
+    (short : end ≤ m) (is_end : get_or times end 0 ≡ row.deadline) (rising : IsNonDecreasing times) (due : AreDue times all) (window : row.release < row.deadline) where
+  with_row : (from to : ℕ) → work_in (all ++ row ∷ []) from to ≡ work_in jobs from to + term from to row
+  with_row from to = omega (arith, sum_by_push (term from to) all row, pieces.same from to)
+
+  at_most : (from to : ℕ) → term from to row ≤ row.work
+  at_most from to = elim (cases_lt row.release from) [
+    | inl less ↦ omega (arith, before from to row less)
+    | inr first ↦ elim (cases_lt to row.deadline) [
+      | inl more ↦ omega (arith, after from to row more)
+      | inr within ↦ omega (arith, inside from to row first within)
+    ]
+  ]
+
+  -- a deadline of the jobs that isn't before the job's own is one of the later times
+  time_of : (to : ℕ) → row.deadline ≤ to → (row.deadline < to → Any (λ (job : Job). job.deadline ≡ to) (all ++ row ∷ [])) →
+      (q : ℕ) × (end ≤ q) × (q ≤ m) × (get_or times q 0 ≡ to)
+  time_of to beyond deadline = elim (cases_lt row.deadline to) [
+    | inr soon ↦ (end, omega arith, short, omega (arith, is_end, beyond, soon))
+    | inl later ↦
+        let some = deadline later in
+        elim (cases_lt some.0 (length all)) [
+          | inr last ↦
+              let own : row.deadline ≡ to =
+              ap (λ (job : Job). job.deadline) (sym (get_or_push all row some.1 some.0 (omega (arith, last, some.2, length_push all row))) ∙ some.3) ∙ some.4 in
+              absurd (omega (arith, own, later))
+          | inl known ↦
+              let there = due some.0 some.1 known in
+              let is : (get_or all some.0 some.1).deadline ≡ to =
+              ap (λ (job : Job). job.deadline) (sym (get_or_append_left all (row ∷ []) some.1 some.0 known) ∙ some.3) ∙ some.4 in
+              let at : get_or times there.0 0 ≡ to = get_or_default times there.0 0 (get_or all some.0 some.1).deadline there.1 ∙ there.2 ∙ is in (
+                there.0,
+                elim (cases_lt there.0 end) [
+                  | inr most ↦ most
+                  | inl less ↦ absurd (omega (arith, rising there.0 end 0 (omega (arith, less)) (omega (arith, short, long)), at, is_end, later))
+                ],
+                omega (arith, there.1, long),
+                at,
+              )
+        ]
+  ]
+
+  -- where the first n pieces, released at a time or later, and the job leave room
+  has_room_over : (n from : ℕ) → n ≤ length jobs → ((i : ℕ) → i < n → from ≤ (job_at jobs i).release) → ((i : ℕ) → n ≤ i → i < length jobs → (job_at jobs i).release < from) →
+      LeavesRoom top times all jobs places row end n from → HasRoomOver top row.deadline (all ++ row ∷ []) from
+  has_room_over n from within early late leaves to beyond deadline =
+      let at = time_of to beyond deadline in
+      let greatest = pieces.greatest m n long within end short in
+      omega (
+        arith,
+        with_row from to,
+        at_most from to,
+        work_of_first jobs n from to within early late,
+        greatest.all at.0 at.1 at.2,
+        ap (λ t. due_work (take n jobs) t) at.3,
+        ap (λ t. top * t) at.3,
+        ap (λ t. top * t) is_end,
+        leaves,
+        mul-sub top to from,
+      )
+
+  module _ (first : ℕ) (known : first ≤ length jobs) (early : (i : ℕ) → i < first → row.release ≤ (job_at jobs i).release)
+      (late : (i : ℕ) → first ≤ i → i < length jobs → (job_at jobs i).release < row.release) where
+    -- an earlier release has a last piece
+    last_piece : (from : ℕ) → from < row.release → Any (λ (job : Job). job.release ≡ from) (all ++ row ∷ []) →
+        (k : ℕ) × (first ≤ k) × (k < length jobs) × ((job_at jobs k).release ≡ from) × ((i : ℕ) → k < i → i < length jobs → (job_at jobs i).release < from)
+    last_piece from less some = elim (cases_lt some.0 (length all)) [
+      | inr last ↦
+          let own : row.release ≡ from =
+          ap (λ (job : Job). job.release) (sym (get_or_push all row some.1 some.0 (omega (arith, last, some.2, length_push all row))) ∙ some.3) ∙ some.4 in
+          absurd (omega (arith, own, less))
+      | inl there ↦
+          let piece = pieces.kept from (some.0, some.1, there, sym (get_or_append_left all (row ∷ []) some.1 some.0 there) ∙ some.3, some.4) in
+          let read : (job_at jobs piece.0).release ≡ from =
+          ap (λ (job : Job). job.release) (get_or_default jobs piece.0 no_job piece.1 piece.2 ∙ piece.3) ∙ piece.4 in
+          let last = last_of (length jobs) (λ i. nat_le from (job_at jobs i).release) piece.0 piece.2 (le-leb from (job_at jobs piece.0).release (omega (arith, read))) in
+          let k : ℕ = last.0 in
+          let is : (job_at jobs k).release ≡ from = elim (cases_lt k piece.0) [
+            | inl ahead ↦ absurd (true≢false (sym (le-leb from (job_at jobs piece.0).release (omega (arith, read))) ∙ last.3 piece.0 ahead piece.2))
+            | inr behind ↦ omega (arith, leb-true from (job_at jobs k).release last.2, pieces.falling piece.0 k behind last.1, read)
+          ] in (
+            k,
+            elim (cases_lt k first) [ inr most ↦ most | inl before_first ↦ absurd (omega (arith, early k before_first, is, less)) ],
+            last.1,
+            is,
+            λ i behind below. leb-false from (job_at jobs i).release (last.3 i behind below),
+          )
+    ]
+
+    earlier_fits : (from : ℕ) → from < row.release → Any (λ (job : Job). job.release ≡ from) (all ++ row ∷ []) →
+        ((k : ℕ) → first ≤ k → k < length jobs → (job_at jobs k).release ≡ from → LeavesRoom top times all jobs places row end (k + 1) (job_at jobs k).release) →
+        HasRoomOver top row.deadline (all ++ row ∷ []) from
+    earlier_fits from less some leaves =
+        let last = last_piece from less some in
+        let k : ℕ = last.0 in
+        has_room_over (k + 1) from (omega (arith, last.2)) (λ i below. omega (arith, last.3, pieces.falling i k (omega (arith, below)) last.2))
+        (λ i behind below. last.4 i (omega (arith, behind)) below)
+        (subst (LeavesRoom top times all jobs places row end (k + 1)) last.3 (leaves k last.1 last.2 last.3))
+
+    pub none_found : All IsJob all → HasRoom top all → LookedAt top times all jobs places row end first (length jobs) None → NoFrom top row.deadline (all ++ row ∷ [])
+    none_found are room found from ahead some = elim (cases_lt row.release from) [
+      | inl later ↦ λ to beyond deadline. omega (arith, with_row from to, before from to row later, pieces.same from to, room_to top all are room from to)
+      | inr most ↦ elim (cases_eq from row.release) [
+        | inl same ↦ has_room_over first from known (λ i below. omega (arith, early i below, same)) (λ i behind below. omega (arith, late i behind below, same))
+            (subst (LeavesRoom top times all jobs places row end first) (sym same) found.0)
+        | inr other ↦ earlier_fits from (less_than from row.release most other) some (λ k behind below is. found.1 k behind below)
+      ]
+    ] where
+      less_than : (x y : ℕ) → x ≤ y → (x ≡ y → ⊥) → x < y
+      less_than x y most other = elim (cases_lt x y) [ inl less ↦ less | inr more ↦ absurd (other (omega (arith, most, more))) ]
+
+    pub some_found : (from : ℕ) → LookedAt top times all jobs places row end first (length jobs) (Some from) → IsLeastFrom top row.deadline (all ++ row ∷ []) from
+    some_found from found =
+        let much = found.0 in
+        let greatest = pieces.greatest m much.n long much.within end short in
+        let to : ℕ = get_or times greatest.at 0 in
+        let later : row.deadline ≤ to = omega (arith, is_end, rising end greatest.at 0 greatest.later (omega (arith, greatest.within, long))) in
+        record {
+          ahead = omega (arith, much.ahead, window);
+          is_release = elim much.is_release [
+            | inl own ↦ (length all, row, omega (arith, length_push all row), get_or_push all row row (length all) refl, sym own)
+            | inr piece ↦
+                let one = pieces.known from piece in
+                (one.0, one.1, omega (arith, one.2, length_push all row), get_or_append_left all (row ∷ []) one.1 one.0 one.2 ∙ one.3, one.4)
+          ];
+          to = to;
+          beyond = later;
+          too_much = omega (
+            arith,
+            with_row from to,
+            inside from to row much.ahead later,
+            first_at_most jobs much.n from to much.within much.early,
+            greatest.exact,
+            ap (λ t. top * t) is_end,
+            much.much,
+            mul-sub top to from,
+            mul-le-mul_left top (let less : from ≤ to = omega (arith, later, much.ahead, window) in less),
+          );
+          earlier = λ other less some. earlier_fits other (omega (arith, less, much.ahead)) some
+              (λ k behind below is. found.1 k behind below (omega (arith, is, less)));
+        }
+
+pub found_is : (top : ℕ) (times : List ℕ) (all jobs : List Job) (places : List ℕ) (row : Job) (end m : ℕ) (long : length times ≡ m + 1) (pieces : ArePieces top times all jobs places)
+    (short : end ≤ m) (is_end : get_or times end 0 ≡ row.deadline) (rising : IsNonDecreasing times) (due : AreDue times all) (window : row.release < row.deadline)
+    (first : ℕ) (known : first ≤ length jobs) (early : (i : ℕ) → i < first → row.release ≤ (job_at jobs i).release)
+    (late : (i : ℕ) → first ≤ i → i < length jobs → (job_at jobs i).release < row.release) → All IsJob all → HasRoom top all →
+    (from : Option ℕ) → LookedAt top times all jobs places row end first (length jobs) from →
+    MatchOption from (NoFrom top row.deadline (all ++ row ∷ [])) (IsLeastFrom top row.deadline (all ++ row ∷ []))
+found_is top times all jobs places row end m long pieces short is_end rising due window first known early late are room None found =
+    none_found top times all jobs places row end m long pieces short is_end rising due window first known early late are room found
+found_is top times all jobs places row end m long pieces short is_end rising due window first known early late are room (Some from) found =
+    some_found top times all jobs places row end m long pieces short is_end rising due window first known early late from found
