@@ -1,6 +1,6 @@
 -- The demand of jobs is within what the stretches serve at a speed, where no interval has more work than the speed does there.
 use Rattle.std.proofs.Common.{◌≡◌, ℕ, zero, suc, ◌+◌, ◌-◌, ◌*◌, ◌<◌, ◌≤◌, List, length, get_or, map, ◌∙◌, sym, arith, inl, inr, ap, cond, add-one}
-use Rattle.std.specs.Prelude.{Bool, nat_le, ◌&&◌, sum_by}
+use Rattle.std.specs.Prelude.{nat_le, ◌&&◌}
 use Rattle.std.specs.List.{All}
 use Rattle.std.proofs.lemmas.Bool.{cases_lt, cases_Bool, le-leb}
 use Rattle.std.proofs.lemmas.List.{get_or-map}

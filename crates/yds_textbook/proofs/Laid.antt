@@ -1,13 +1,13 @@
 -- A slot that is laid in a stretch at a speed.
-use Rattle.std.proofs.Common.{◌≡◌, ℕ, zero, suc, ◌+◌, ◌-◌, ◌*◌, ◌<◌, ◌≤◌, List, [], ◌∷◌, ◌∙◌, refl, sym, subst, arith, inl, inr, ap, cond}
-use Rattle.std.specs.Prelude.{Bool, ◌==◌, sum_by}
-use Rattle.std.specs.List.{All, AllZip}
-use Rattle.std.specs.Int.{◌∣◌, IsGcd}
+use Rattle.std.proofs.Common.{◌≡◌, ℕ, ◌-◌, ◌*◌, ◌<◌, ◌≤◌, List, [], ◌∷◌, ◌∙◌, refl, sym, subst, arith, inl, inr, ap, cond}
+use Rattle.std.specs.Prelude.{◌==◌}
+use Rattle.std.specs.List.{AllZip}
+use Rattle.std.specs.Int.{◌∣◌}
 use Rattle.std.proofs.lemmas.Bool.{cases_eq, eq-eqb, ne_eqb}
 use Rattle.std.proofs.lemmas.List.Sums.{sum_by-cons}
 use Rattle.std.proofs.lemmas.Nat.Gcd.{dvd_refl}
-use Rattle.std.proofs.Math.Nat.{one-dvd, mul-sub, mul-pos, mul_comm, mul-le-mul_left, eq_of_mul-eq-mul_left, le_of_mul-le-mul_left, lt_of_mul-lt-mul_left, dvd-mul_left_of_dvd, dvd-mul_right_of_dvd}
-use Rattle.yds_model.specs.Scale.{Fraction, Quotient, at_scale, of_parts, of_whole}
+use Rattle.std.proofs.Math.Nat.{one-dvd, mul-sub, mul-pos, eq_of_mul-eq-mul_left, le_of_mul-le-mul_left, lt_of_mul-lt-mul_left, dvd-mul_left_of_dvd, dvd-mul_right_of_dvd}
+use Rattle.yds_model.specs.Scale.{Fraction, Quotient, at_scale, of_parts}
 use Rattle.yds_model.specs.Slot.{WrittenSlot, WholeSlot, IsDivided, slot_at_scale, slots_at, work_given}
 use Rattle.yds_model.specs.Piece.{Piece}
 use Rattle.yds_model.specs.Feasible.{RunFrom}

@@ -8,7 +8,7 @@ use Rattle.yds_model.specs.declared.limits.TheConstants.{MAX_TIME}
 use Rattle.yds_model.specs.Within.{IsPiece}
 use Rattle.yds_model.specs.Piece.{Piece, Covers}
 use Rattle.yds_certificate.proofs.Cover.{Covers-cons}
-use Rattle.yds_contract.specs.Contracted.{AreApartFrom, removed_before, place, HasPlace, ArePieces, Removes}
+use Rattle.yds_contract.specs.Contracted.{AreApartFrom, removed_before, place, ArePieces, Removes}
 use Rattle.yds_contract.proofs.Cells.{none_covered, covered_later, first_before, rest_before, few_before}
 
 -- a unit of time is removed, or one more is left before the next

@@ -1,6 +1,6 @@
 -- Stretch by stretch the shares are laid: what the slots of the first stretches are, and in the end those of all.
-use Rattle.std.proofs.Common.{◌≡◌, ℕ, zero, suc, ◌+◌, ◌-◌, ◌*◌, ◌<◌, ◌≤◌, List, [], ◌∷◌, ◌++◌, length, map, get_or, slice_index, ◌∙◌, refl, sym, subst, arith, inl, inr, ap, cond}
-use Rattle.std.specs.Prelude.{Bool, ◌==◌, sum_by, filter}
+use Rattle.std.proofs.Common.{◌≡◌, ℕ, suc, ◌+◌, ◌-◌, ◌*◌, ◌<◌, ◌≤◌, List, [], ◌∷◌, ◌++◌, length, map, get_or, ◌∙◌, refl, sym, subst, arith, ap, cond}
+use Rattle.std.specs.Prelude.{◌==◌}
 use Rattle.std.specs.List.{All, AllZip, range_with_len}
 use Rattle.std.proofs.lemmas.Bool.{eqb-true}
 use Rattle.std.proofs.lemmas.List.{length-map, map-append, get_or-map, get_or_read}
@@ -8,13 +8,12 @@ use Rattle.std.proofs.lemmas.List.Sums.{sum_by-append}
 use Rattle.std.proofs.lemmas.List.Elements.{All-map, All-filter, All-weaker, All-append, All-nil, All-tail, filter_passes}
 use Rattle.std.proofs.lemmas.List.FromFn.{get_or-range_with_len, length-range_with_len}
 use Rattle.std.proofs.Math.Nat.{mul-pos, mul-le-mul, mul-le-mul_right}
-use Rattle.yds_model.specs.Numbers.{Each}
 use Rattle.yds_model.specs.declared.limits.TheConstants.{MAX_TIME, MAX_DENOMINATOR, MAX_LEVEL_WORK}
 use Rattle.yds_model.specs.Job.{Job, IsJob, job_at}
 use Rattle.yds_model.specs.Scale.{Quotient, at_scale, of_whole}
 use Rattle.yds_model.specs.Slot.{WrittenSlot, WholeSlot, IsDivided, IsScale, slot_at_scale, slots_at, work_given}
 use Rattle.yds_model.specs.Piece.{Piece}
-use Rattle.yds_model.specs.Feasible.{RunFrom, IsInWindow, IsFeasibleAt}
+use Rattle.yds_model.specs.Feasible.{RunFrom, IsInWindow}
 use Rattle.yds_model.specs.Event.{stretches}
 use Rattle.yds_model.specs.Comparison.{stretch_at}
 use Rattle.yds_model.proofs.Scale.{one_scale_decides}

@@ -1,9 +1,9 @@
 -- The intensity of an interval as a speed in lowest terms.
-use Rattle.std.proofs.Common.{◌≡◌, ℕ, ◌+◌, ◌-◌, ◌*◌, ◌<◌, ◌≤◌, List, arith, inl, inr, ap, subst}
+use Rattle.std.proofs.Common.{◌≡◌, ℕ, ◌-◌, ◌*◌, ◌≤◌, List, arith, inl, inr, ap, subst}
 use Rattle.std.proofs.lemmas.Bool.{cases_lt}
 use Rattle.std.proofs.Math.Nat.{mul-pos, mul-le-mul_right, le_of_mul-le-mul_left}
 use Rattle.yds_model.specs.Job.{Job}
-use Rattle.yds_model.specs.Scale.{Quotient, IsSameQuotient}
+use Rattle.yds_model.specs.Scale.{Quotient}
 use Rattle.yds_critical.specs.declared.interval.Interval.{Interval}
 use Rattle.yds_textbook.specs.Served.{IsFastEnough}
 use Rattle.yds_textbook.specs.Stages.{IsDensest}

@@ -1,5 +1,5 @@
 -- Slots of contracted time, spread one after another.
-use Rattle.std.proofs.Common.{◌≡◌, ℕ, List, [], ◌∷◌, ◌++◌, ◌∙◌, refl, sym, ap, append_assoc}
+use Rattle.std.proofs.Common.{ℕ, List, [], ◌∷◌, ◌++◌, ◌∙◌, refl, sym, ap, append_assoc}
 use Rattle.std.proofs.lemmas.List.{append-nil}
 use Rattle.yds_model.specs.Scale.{Quotient}
 use Rattle.yds_model.specs.Slot.{WrittenSlot}

@@ -1,5 +1,5 @@
 -- The jobs that wait at first, one after another.
-use Rattle.std.proofs.Common.{◌≡◌, ℕ, ◌+◌, ◌<◌, ◌≤◌, List, [], ◌∷◌, ◌++◌, length, take, get_or, slice_index, cond, ◌∙◌, refl, sym, subst, ap, arith, true, false}
+use Rattle.std.proofs.Common.{◌≡◌, ℕ, ◌+◌, ◌<◌, ◌≤◌, List, [], ◌∷◌, ◌++◌, length, take, get_or, cond, ◌∙◌, refl, sym, subst, ap, arith, true, false}
 use Rattle.std.specs.Prelude.{Bool, filter, not}
 use Rattle.std.specs.List.{All}
 use Rattle.std.proofs.lemmas.Bool.{le-leb, lt-leb}

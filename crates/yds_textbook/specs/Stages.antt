@@ -9,7 +9,6 @@ use Rattle.yds_model.specs.Scale.{Quotient, IsSameQuotient}
 use Rattle.yds_model.specs.Slot.{WrittenSlot}
 use Rattle.yds_model.specs.Piece.{Piece}
 use Rattle.yds_model.specs.Level.{Level}
-use Rattle.yds_model.specs.Plan.{Rise}
 use Rattle.yds_model.specs.Event.{event_points}
 use Rattle.yds_intensity.specs.Work.{work_within}
 use Rattle.yds_critical.specs.declared.interval.Interval.{Interval}

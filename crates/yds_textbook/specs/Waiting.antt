@@ -1,6 +1,5 @@
 -- The jobs that wait, in the time that is left.
-use Rattle.std.specs.Prelude.{◌≡◌, ℕ, ◌<◌, ◌≤◌, Bool, nat_le, not, List, length, map, filter}
-use Rattle.std.specs.List.{All}
+use Rattle.std.specs.Prelude.{ℕ, ◌<◌, ◌≤◌, Bool, nat_le, not, List, length, map, filter}
 use Rattle.yds_model.specs.Job.{Job, IsJob, job_at}
 use Rattle.yds_model.specs.Piece.{Piece}
 use Rattle.yds_intensity.specs.Work.{is_within}

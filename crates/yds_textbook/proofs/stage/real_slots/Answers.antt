@@ -1,4 +1,4 @@
-use Rattle.std.proofs.Common.{◌≡◌, List, ◌++◌, ◌∙◌, take, sym, subst}
+use Rattle.std.proofs.Common.{List, ◌++◌, ◌∙◌, take, sym, subst}
 use Rattle.std.specs.Prelude.{slice_index}
 use Rattle.std.proofs.lemmas.List.{get_or_read, map_more}
 use Rattle.yds_model.specs.Slot.{WrittenSlot, no_written_slot}

@@ -1,4 +1,4 @@
-use Rattle.std.proofs.Common.{◌≡◌, ℕ, ◌+◌, ◌*◌, List, ◌∙◌, sym, subst, ap, arith}
+use Rattle.std.proofs.Common.{ℕ, ◌+◌, List, ◌∙◌, sym, subst, ap, arith}
 use Rattle.std.specs.List.{All}
 use Rattle.std.specs.List.Sorted.{IsStrictlyIncreasing}
 use Rattle.yds_model.specs.Job.{Job, IsJob}

@@ -1,4 +1,4 @@
-use Rattle.std.proofs.Common.{◌≡◌, ℕ, ◌<◌, ◌≤◌, List, [], length, ◌∙◌, sym, subst, ap, arith}
+use Rattle.std.proofs.Common.{◌≡◌, ℕ, List, [], length, ◌∙◌, sym, subst, ap, arith}
 use Rattle.std.specs.List.{All}
 use Rattle.std.proofs.lemmas.List.Elements.{All-filter}
 use Rattle.yds_critical.specs.Critical.{IsCritical}
@@ -7,7 +7,7 @@ use Rattle.yds_textbook.specs.declared.stage.Stage.{Stage}
 use Rattle.yds_textbook.specs.Waiting.{contracted_jobs, CanWait, lies_in, inside, outside}
 use Rattle.yds_textbook.specs.Stages.{IsDensest, IsStage, AreStages}
 use Rattle.yds_textbook.proofs.Chain.{LeadTo, one_more, last_stage}
-use Rattle.yds_textbook.proofs.Densest.{ends_in_time, is_densest, fewer, all_wait_on, none_waits, few_inside, few_outside}
+use Rattle.yds_textbook.proofs.Densest.{ends_in_time, is_densest, fewer, all_wait_on, few_inside, few_outside}
 use Rattle.yds_textbook.proofs.textbook.stages.Goals as goal
 
 pub stage_of-requires-clause-few : goal.stage_of-requires-clause-few

@@ -1,7 +1,7 @@
-use Rattle.std.proofs.Common.{◌≡◌, ℕ, ◌+◌, ◌<◌, ◌≤◌, List, [], length, take, ◌∙◌, refl, sym, subst, ap, arith}
+use Rattle.std.proofs.Common.{◌≡◌, ℕ, ◌≤◌, List, ◌∙◌, refl, sym, subst, ap, arith}
 use Rattle.std.specs.Prelude.{filter}
 use Rattle.std.proofs.lemmas.List.{get_or_read, take_all}
-use Rattle.yds_model.specs.Job.{Job, IsJob, job_at, no_job}
+use Rattle.yds_model.specs.Job.{Job, IsJob, no_job}
 use Rattle.yds_intensity.specs.Order.{IsDeadlineOrder}
 use Rattle.yds_intensity.proofs.Sweeps.{number_known}
 use Rattle.yds_textbook.specs.Waiting.{has_work}
