@@ -112,7 +112,7 @@ best_more n jobs best found sums within valid are is so_far =
     }
 
 -- the best interval confines work, since it goes before the window of the first job
-best_works : (jobs : List Job) (best : Interval) → 0 < length jobs → IsJob (job_at jobs 0) → 1 ≤ (job_at jobs 0).work → TakesTime best →
+pub best_works : (jobs : List Job) (best : Interval) → 0 < length jobs → IsJob (job_at jobs 0) → 1 ≤ (job_at jobs 0).work → TakesTime best →
     Leads best (record { start = (job_at jobs 0).release; end = (job_at jobs 0).deadline; work = work_within jobs (job_at jobs 0).release (job_at jobs 0).deadline }) →
     1 ≤ best.work
 best_works jobs best some valid works forward leads =

@@ -27,7 +27,7 @@ no_share from to job empty window = elim (cases_lt job.release from) [
 ]
 
 -- an interval without length confines nothing
-nothing_within : (jobs : List Job) (from to : ℕ) → All IsJob jobs → to ≤ from → work_within jobs from to ≡ 0
+pub nothing_within : (jobs : List Job) (from to : ℕ) → All IsJob jobs → to ≤ from → work_within jobs from to ≡ 0
 nothing_within jobs from to valid empty = sum_by_zero (share from to) jobs (λ k d within. no_share from to (get_or jobs k d) empty (valid k d within).has_window)
 
 -- an interval that ends with a deadline and begins with a release, inside the first one, to which the same work is confined

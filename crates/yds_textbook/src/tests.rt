@@ -1,11 +1,12 @@
 ghost use Rattle.std.specs.Prelude.{◌<◌};
 ghost use Rattle.yds_model.specs.Job.{IsJob};
 
-use crate::levels::{Textbook, Waiting, compare_level};
+use crate::stage::Stage;
+use crate::textbook::stages;
 use std::alloc::Global;
 use std::process::Abort;
 use std::test::Fail;
-use yds_contract::Contraction;
+use yds_certificate::Level;
 use yds_model::JobRow;
 use yds_model::limits::MAX_JOBS;
 use yds_plan::plan;
@@ -24,34 +25,62 @@ fn draw(state: &mut u32) -> u32
     *state / 65_536
 }
 
-/// The levels of the plan are the textbook's, one after another, and no job with work is left.
-fn compare(rt: &impl Abort, alloc: Global, rows: &[JobRow]) -> Result<(), Fail> {
-    let mut waiting = Vec::new(alloc);
-    for (number, row) in rows.iter().enumerate() {
-        if row.work > 0 && number <= 4_000 {
-            waiting.push(Waiting {
-                number: number as u32,
-                row: *row,
-            })?;
+/// The stages of the level's speed are together the level: as much work, as long, the same pieces and members.
+fn compare_level(
+    rt: &impl Abort,
+    alloc: Global,
+    stages: &[Stage],
+    level: &Level,
+) -> Result<(), Fail> {
+    let mut work: u64 = 0;
+    let mut length: u64 = 0;
+    let mut pieces = Vec::new(alloc);
+    let mut members = Vec::new(alloc);
+    for stage in stages {
+        if stage.level.speed() == level.speed() {
+            work = work.saturating_add(stage.level.work);
+            length = length.saturating_add(stage.level.length);
+            pieces.extend_from_slice(&stage.level.pieces)?;
+            members.extend_from_slice(&stage.level.members)?;
         }
     }
-    let mut book = Textbook {
-        waiting,
-        taken: Contraction::new(alloc),
-    };
+    pieces.sort_by_key(|piece| piece.from)?;
+    members.sort()?;
+    assert_eq!(rt; (work, length), (level.work, level.length));
+    assert_eq!(rt; pieces.as_slice(), level.pieces.as_slice());
+    assert_eq!(rt; members.as_slice(), level.members.as_slice());
+    Ok(())
+}
+
+/// The textbook's stages are the plan's levels, where those of one speed are one level, and their slots in order of time are
+/// the plan's.
+fn compare(rt: &impl Abort, alloc: Global, rows: &[JobRow]) -> Result<(), Fail> {
     assert!(rt; rows.len() <= MAX_JOBS);
+    let stages = stages(alloc, rows)?;
     let planned = plan(alloc, rows)?;
-    for level in planned.certificate.levels() {
-        compare_level(rt, alloc, &mut book, level)?;
+    let mut slots = Vec::new(alloc);
+    let mut members: usize = 0;
+    for stage in &stages {
+        slots.extend_from_slice(&stage.slots)?;
     }
-    assert!(rt; book.waiting.is_empty());
+    for level in planned.certificate.levels() {
+        compare_level(rt, alloc, &stages, level)?;
+        members = members.saturating_add(level.members.len());
+    }
+    let mut staged: usize = 0;
+    for stage in &stages {
+        staged = staged.saturating_add(stage.level.members.len());
+    }
+    assert_eq!(rt; staged, members);
+    slots.sort_by_key(|slot| slot.from)?;
+    assert_eq!(rt; slots.as_slice(), planned.schedule.slots());
     Ok(())
 }
 
 /// No jobs; one; equal deadlines; nested; equal speeds that touch, and apart; jobs of no work; a chain of stretches that are
 /// removed and then joined.
 #[test]
-fn two_ways_find_the_same_levels(rt: HostRuntime) -> Result<(), Fail> {
+fn two_ways_find_the_same_plan(rt: HostRuntime) -> Result<(), Fail> {
     let alloc = rt.alloc();
     let none: [JobRow; 0] = [];
     compare(&rt, alloc, &none)?;

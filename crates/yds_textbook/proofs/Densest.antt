@@ -1,0 +1,204 @@
+-- The critical interval of the waiting jobs, for those inside it, and what its removal leaves for the others.
+use Rattle.std.proofs.Common.{◌≡◌, ℕ, ◌-◌, ◌*◌, ◌<◌, ◌≤◌, List, [], ◌∷◌, length, map, get_or, ◌∙◌, sym, arith, inl, inr, ap, refl, true}
+use Rattle.std.specs.Prelude.{Bool, nat_le, not, filter}
+use Rattle.std.specs.List.{All}
+use Rattle.std.proofs.lemmas.Bool.{cases_Bool, leb-true, le-leb, and_from, and_parts, not_from_true, not_from_false, not-true, true≢false}
+use Rattle.std.proofs.lemmas.List.{get_or-map, length-map}
+use Rattle.std.proofs.lemmas.List.Sums.{sum_by-cons, sum_by-le}
+use Rattle.std.proofs.lemmas.List.Filters.{length-filter_both}
+use Rattle.std.proofs.lemmas.List.Elements.{All-map, All-filter, All-weaker, filter_passes}
+use Rattle.std.proofs.Math.Nat.{mul-le-mul_right}
+use Rattle.yds_model.specs.declared.limits.TheConstants.{MAX_JOBS, MAX_TIME, MAX_WORK}
+use Rattle.yds_model.specs.Job.{Job, IsJob, no_job, job_at}
+use Rattle.yds_model.specs.Piece.{Piece}
+use Rattle.yds_intensity.specs.Work.{is_within, work_within}
+use Rattle.yds_intensity.proofs.Work.{share}
+use Rattle.yds_critical.specs.declared.interval.Interval.{Interval}
+use Rattle.yds_critical.specs.Critical.{IsCritical}
+use Rattle.yds_critical.proofs.Searching.{best_works}
+use Rattle.yds_contract.specs.Contracted.{AreApartFrom, place, Removes}
+use Rattle.yds_textbook.specs.Waiting.{contracted, contracted_jobs, CanWait, lies_in, inside, outside}
+use Rattle.yds_textbook.specs.Stages.{IsDensest}
+use Rattle.yds_textbook.proofs.Places.{place_rises, place_removes, window_left}
+
+-- some of the jobs have no more work in an interval than all have
+inside_less : (f : ℕ → Job) (q : ℕ → Bool) (numbers : List ℕ) (from to : ℕ) →
+    work_within (map f (filter q numbers)) from to ≤ work_within (map f numbers) from to
+inside_less f q [] from to = omega arith
+inside_less f q (number ∷ numbers) from to = elim (cases_Bool (q number)) [
+  | inl holds ↦ rw holds (omega (
+    arith,
+    sum_by-cons (share from to) (f number) (map f (filter q numbers)),
+    sum_by-cons (share from to) (f number) (map f numbers),
+    inside_less f q numbers from to,
+  ))
+  | inr fails ↦ rw fails (omega (arith, sum_by-cons (share from to) (f number) (map f numbers), inside_less f q numbers from to))
+]
+
+share_few : (from to : ℕ) (job : Job) → job.work ≤ MAX_WORK → share from to job ≤ MAX_WORK
+share_few from to job few = elim (cases_Bool (is_within from to job)) [
+  | inl holds ↦ rw holds few
+  | inr fails ↦ rw fails (omega arith)
+]
+
+-- so many jobs have so much work
+work_few : (jobs : List Job) (from to : ℕ) → All IsJob jobs → work_within jobs from to ≤ length jobs * MAX_WORK
+work_few jobs from to are =
+    sum_by-le (share from to) MAX_WORK jobs (All-weaker IsJob (λ job. share from to job ≤ MAX_WORK) (λ job is. share_few from to job is.work_in_range) jobs are)
+
+-- a job that may wait is a job in the time that is left too
+can_be : (jobs : List Job) (removed : List Piece) (number : ℕ) → CanWait jobs removed number → IsJob (contracted removed (job_at jobs number))
+can_be jobs removed number can = record {
+  has_window = can.has_window;
+  time_in_range = omega (arith, can.valid.time_in_range);
+  work_in_range = can.valid.work_in_range;
+}
+
+pub are_jobs : (jobs : List Job) (removed : List Piece) (numbers : List ℕ) → All (CanWait jobs removed) numbers → All IsJob (contracted_jobs jobs removed numbers)
+are_jobs jobs removed numbers can =
+    All-map IsJob (λ number. contracted removed (job_at jobs number)) numbers
+    (All-weaker (CanWait jobs removed) (λ number. IsJob (contracted removed (job_at jobs number))) (can_be jobs removed) numbers can)
+
+pub have_work : (jobs : List Job) (removed : List Piece) (numbers : List ℕ) → All (CanWait jobs removed) numbers →
+    All (λ job. 1 ≤ job.work) (contracted_jobs jobs removed numbers)
+have_work jobs removed numbers can =
+    All-map (λ job. 1 ≤ job.work) (λ number. contracted removed (job_at jobs number)) numbers
+    (All-weaker (CanWait jobs removed) (λ number. 1 ≤ (job_at jobs number).work) (λ number is. is.has_work) numbers can)
+
+-- the job at a place of those that wait
+waits_at : (jobs : List Job) (removed : List Piece) (waiting : List ℕ) (k : ℕ) → k < length waiting →
+    job_at (contracted_jobs jobs removed waiting) k ≡ contracted removed (job_at jobs (get_or waiting k 0))
+waits_at jobs removed waiting k within = get_or-map (λ number. contracted removed (job_at jobs number)) waiting k 0 no_job within
+
+as_many : (jobs : List Job) (removed : List Piece) (waiting : List ℕ) → length (contracted_jobs jobs removed waiting) ≡ length waiting
+as_many jobs removed waiting = length-map waiting (λ number. contracted removed (job_at jobs number))
+
+-- fewer jobs lie outside an interval to which some work is confined
+less_outside : (f : ℕ → Job) (start end : ℕ) (numbers : List ℕ) → 1 ≤ work_within (map f numbers) start end →
+    length (filter (λ number. not (is_within start end (f number))) numbers) < length numbers
+less_outside f start end [] work = absurd (omega arith)
+less_outside f start end (number ∷ numbers) work = elim (cases_Bool (is_within start end (f number))) [
+  | inl holds ↦
+      let few : length (filter (λ (n : ℕ). not (is_within start end (f n))) numbers) ≤ length numbers =
+      omega (arith, length-filter_both (λ (n : ℕ). is_within start end (f n)) (λ n. not (is_within start end (f n))) (λ n. refl) numbers) in
+      rw (not_from_true (is_within start end (f number)) holds) (omega (arith, few))
+  | inr fails ↦
+      let none : share start end (f number) ≡ 0 = rw fails refl in
+      let rest : 1 ≤ work_within (map f numbers) start end = omega (arith, work, none, sum_by-cons (share start end) (f number) (map f numbers)) in
+      rw (not_from_false (is_within start end (f number)) fails) (omega (arith, less_outside f start end numbers rest))
+]
+
+-- a job that lies in an interval ends in it
+ends_within : (start end : ℕ) (job : Job) → is_within start end job ≡ true → job.deadline ≤ end
+ends_within start end job lies = leb-true job.deadline end (and_parts (nat_le start job.release) (nat_le job.deadline end) lies).1
+
+-- and one that doesn't has time left once the interval is removed
+wait_on : (jobs : List Job) (removed changed : List Piece) (interval : Interval) (number : ℕ) → AreApartFrom 0 removed → interval.start < interval.end →
+    Removes removed interval.start interval.end changed → CanWait jobs removed number → not (lies_in jobs removed interval number) ≡ true →
+    CanWait jobs changed number
+wait_on jobs removed changed interval number apart forward removes can outside =
+    let job : Job = job_at jobs number in
+    let from = place_removes interval.start interval.end removed changed apart forward removes job.release in
+    let to = place_removes interval.start interval.end removed changed apart forward removes job.deadline in
+    record {
+      known = can.known;
+      valid = can.valid;
+      has_work = can.has_work;
+      has_window = rw (from, to)
+          (window_left interval.start interval.end (place removed job.release) (place removed job.deadline) forward can.has_window
+          (λ begins ends. true≢false (sym (and_from _ _ (le-leb interval.start (place removed job.release) begins) (le-leb (place removed job.deadline) interval.end ends))
+          ∙ not-true (lies_in jobs removed interval number) outside)));
+    }
+
+module _ (jobs : List Job) (removed : List Piece) (waiting : List ℕ) (interval : Interval) (can : All (CanWait jobs removed) waiting)
+    (critical : IsCritical (contracted_jobs jobs removed waiting) interval) where
+  some : 0 < length (contracted_jobs jobs removed waiting)
+  some = omega (arith, critical.candidate.is_release.1, length-map (contracted_jobs jobs removed waiting) (λ (job : Job). job.release))
+
+  -- the end is that of a job's window
+  abbrev last : ℕ
+  last = get_or waiting critical.candidate.is_deadline.0 0
+
+  last_within : critical.candidate.is_deadline.0 < length waiting
+  last_within = omega (
+    arith,
+    critical.candidate.is_deadline.1,
+    length-map (contracted_jobs jobs removed waiting) (λ (job : Job). job.deadline),
+    as_many jobs removed waiting,
+  )
+
+  ends_at : interval.end ≡ place removed (job_at jobs last).deadline
+  ends_at =
+      let k = critical.candidate.is_deadline.0 in
+      sym critical.candidate.is_deadline.2
+      ∙ get_or-map (λ (job : Job). job.deadline) (contracted_jobs jobs removed waiting) k no_job interval.end (omega (arith, last_within, as_many jobs removed waiting))
+      ∙ ap (λ (job : Job). job.deadline) (waits_at jobs removed waiting k last_within)
+
+  pub ends_in_time : AreApartFrom 0 removed → interval.end ≤ place removed MAX_TIME
+  ends_in_time apart =
+      omega (arith, ends_at, place_rises (job_at jobs last).deadline MAX_TIME removed apart (can critical.candidate.is_deadline.0 0 last_within).valid.time_in_range)
+
+  pub has_work : 1 ≤ interval.work
+  has_work =
+      let all : List Job = contracted_jobs jobs removed waiting in
+      let first : IsJob (job_at all 0) = are_jobs jobs removed waiting can 0 no_job some in
+      best_works all interval some first (have_work jobs removed waiting can 0 no_job some) critical.candidate.forward
+      (critical.leads (job_at all 0).release (job_at all 0).deadline first.has_window)
+
+  is_denser : (from to : ℕ) → from < to →
+      work_within (contracted_jobs jobs removed waiting) from to * (interval.end - interval.start) ≤ interval.work * (to - from)
+  is_denser from to forward = elim (critical.leads from to forward) [
+    | inl denser ↦ omega (arith, denser)
+    | inr same ↦ omega (arith, same.0)
+  ]
+
+  pub is_densest : length waiting ≤ MAX_JOBS → IsDensest (contracted_jobs jobs removed (inside jobs removed interval waiting)) interval
+  is_densest few = record {
+    forward = critical.candidate.forward;
+    ends = omega (arith, ends_at, (can critical.candidate.is_deadline.0 0 last_within).valid.time_in_range);
+    has_work = has_work;
+    few = omega (
+      arith,
+      few,
+      critical.candidate.is_work,
+      as_many jobs removed waiting,
+      work_few (contracted_jobs jobs removed waiting) interval.start interval.end (are_jobs jobs removed waiting can),
+    );
+    inside = All-map (λ job. job.deadline ≤ interval.end) (λ number. contracted removed (job_at jobs number)) (inside jobs removed interval waiting)
+        (All-weaker (λ number. lies_in jobs removed interval number ≡ true) (λ number. place removed (job_at jobs number).deadline ≤ interval.end)
+        (λ number lies. ends_within interval.start interval.end (contracted removed (job_at jobs number)) lies)
+        (inside jobs removed interval waiting) (filter_passes (lies_in jobs removed interval) waiting));
+    densest = λ from to forward. omega (
+      arith,
+      is_denser from to forward,
+      mul-le-mul_right (interval.end - interval.start)
+          (inside_less (λ number. contracted removed (job_at jobs number)) (lies_in jobs removed interval) waiting from to),
+    );
+  }
+
+  -- fewer wait once it is removed
+  pub fewer : length (outside jobs removed interval waiting) < length waiting
+  fewer = less_outside (λ number. contracted removed (job_at jobs number)) interval.start interval.end waiting (omega (arith, has_work, critical.candidate.is_work))
+
+  pub all_wait_on : (changed : List Piece) → AreApartFrom 0 removed → Removes removed interval.start interval.end changed →
+      All (CanWait jobs changed) (outside jobs removed interval waiting)
+  all_wait_on changed apart removes k d within =
+      wait_on jobs removed changed interval (get_or (outside jobs removed interval waiting) k d) apart critical.candidate.forward removes
+      (All-filter (λ number. not (lies_in jobs removed interval number)) (CanWait jobs removed) waiting can k d within)
+      (filter_passes (λ number. not (lies_in jobs removed interval number)) waiting k d within)
+
+-- none waits where there is no critical interval
+pub none_waits : (jobs : List Job) (removed : List Piece) (waiting : List ℕ) → contracted_jobs jobs removed waiting ≡ [] → waiting ≡ []
+none_waits jobs removed [] none = refl
+none_waits jobs removed (number ∷ waiting) none = cc
+
+-- those inside an interval, and those outside, are no more than wait
+pub few_inside : (jobs : List Job) (removed : List Piece) (interval : Interval) (waiting : List ℕ) →
+    length (inside jobs removed interval waiting) ≤ length waiting
+few_inside jobs removed interval waiting =
+    omega (arith, length-filter_both (lies_in jobs removed interval) (λ number. not (lies_in jobs removed interval number)) (λ number. refl) waiting)
+
+pub few_outside : (jobs : List Job) (removed : List Piece) (interval : Interval) (waiting : List ℕ) →
+    length (outside jobs removed interval waiting) ≤ length waiting
+few_outside jobs removed interval waiting =
+    omega (arith, length-filter_both (lies_in jobs removed interval) (λ number. not (lies_in jobs removed interval number)) (λ number. refl) waiting)

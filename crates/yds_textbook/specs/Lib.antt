@@ -1,0 +1,3 @@
+pub mod Waiting
+pub mod Served
+pub mod Stages

@@ -1,0 +1,36 @@
+-- The jobs that wait, in the time that is left.
+use Rattle.std.specs.Prelude.{ℕ, ◌<◌, ◌≤◌, Bool, nat_le, not, List, length, map, filter}
+use Rattle.yds_model.specs.Job.{Job, IsJob, job_at}
+use Rattle.yds_model.specs.Piece.{Piece}
+use Rattle.yds_intensity.specs.Work.{is_within}
+use Rattle.yds_critical.specs.declared.interval.Interval.{Interval}
+use Rattle.yds_contract.specs.Contracted.{place}
+
+-- the job in the time that is left once so much is removed
+abbrev pub contracted : List Piece → Job → Job
+contracted removed job = record { release = place removed job.release; deadline = place removed job.deadline; work = job.work }
+
+abbrev pub contracted_jobs : List Job → List Piece → List ℕ → List Job
+contracted_jobs jobs removed numbers = map (λ number. contracted removed (job_at jobs number)) numbers
+
+-- a job with work, of whose window some time is left
+pub record CanWait (jobs : List Job) (removed : List Piece) (number : ℕ) : Type 0 where
+  pub known : number < length jobs
+  pub valid : IsJob (job_at jobs number)
+  pub has_work : 1 ≤ (job_at jobs number).work
+  pub has_window : place removed (job_at jobs number).release < place removed (job_at jobs number).deadline
+
+-- the job has work
+abbrev pub has_work : List Job → ℕ → Bool
+has_work jobs number = nat_le 1 (job_at jobs number).work
+
+-- in the time that is left the job's window lies in the interval
+abbrev pub lies_in : List Job → List Piece → Interval → ℕ → Bool
+lies_in jobs removed interval number = is_within interval.start interval.end (contracted removed (job_at jobs number))
+
+-- the numbers of the waiting jobs that lie in the interval, and those of the others
+abbrev pub inside : List Job → List Piece → Interval → List ℕ → List ℕ
+inside jobs removed interval waiting = filter (lies_in jobs removed interval) waiting
+
+abbrev pub outside : List Job → List Piece → Interval → List ℕ → List ℕ
+outside jobs removed interval waiting = filter (λ number. not (lies_in jobs removed interval number)) waiting
