@@ -82,6 +82,9 @@ pub(crate) fn place(times: &[u32], time: u32) -> usize
     ensures before { (q : ℕ) → q < result → slice_index times.now q < time }
     ensures after { (q : ℕ) → result ≤ q → q < length times.now → time ≤ slice_index times.now q }
 {
+    if !times.is_empty() && time <= times[0] {
+        return 0;
+    }
     times.partition_point(|other| *other < time)
 }
 
