@@ -145,15 +145,20 @@ fn take_all(
     ensures state { IfOk result (λ _. IsState rows.now _top state.new) }
     ensures last { IfOk result (λ _. state.new.next ≡ last) }
 {
+    // Sorting takes little where most are in order already.
+    let mut releases = Vec::from_slice(alloc, &state.by_release)?;
+    let mut deadlines = Vec::from_slice(alloc, &state.by_deadline)?;
     for number in state.next..last {
         let row = &rows[number];
         // Reading the row shows that it is a job within the limits.
         let _work = row.work;
         state.taken.push(number as u32)?;
         state.jobs.push(*row)?;
+        releases.push(*row)?;
+        deadlines.push(*row)?;
     }
-    state.by_release = by_release(alloc, &state.jobs)?;
-    state.by_deadline = by_deadline(alloc, &state.jobs)?;
+    state.by_release = by_release(alloc, &releases)?;
+    state.by_deadline = by_deadline(alloc, &deadlines)?;
     state.marks = marks;
     state.next = last;
     Ok(())
