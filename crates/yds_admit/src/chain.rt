@@ -7,6 +7,44 @@ use std::alloc::{AllocError, Global};
 use yds_model::limits::{MAX_JOBS, MAX_TIME, MAX_TOP};
 use yds_model::{JobRow, Memory};
 
+/// The least release before `due` of an interval that ends at `due` or at a later deadline and has more work confined to it
+/// than the top speed does there, if there is one.
+///
+/// One walk by falling releases. A job's units take the room that is left in the gaps between the deadlines, from its own deadline
+/// backwards; the units that find no room after `due` go on before it. With a release `s` the greatest work that an interval from
+/// `s` to `due` or later has beyond the room after `due` is the units that went on.
+pub(crate) fn least_from(
+    alloc: Global,
+    by_release: &[JobRow],
+    by_deadline: &[JobRow],
+    due: u32,
+    top: u32,
+) -> Result<Option<u32>, Memory>
+    requires few { length by_release.now ≤ MAX_JOBS }
+    requires in_range { due ≤ MAX_TIME }
+    requires top_in_range { top ≤ MAX_TOP }
+    requires same { IsPermutation by_deadline.now by_release.now }
+    requires falling { IsFalling by_release.now }
+    requires rising { IsNonDecreasingBy (λ job. job.deadline) by_deadline.now }
+    ensures { IfOk result (λ from. MatchOption from (NoFrom top due by_release.now) (IsLeastFrom top due by_release.now)) }
+{
+    let times = times(alloc, by_deadline, due)?;
+    let mut gaps = gaps(alloc, &times, top)?;
+    let gaps = gaps.as_mut_slice();
+    let mut links = own_links(alloc, times.len())?;
+    let links = links.as_mut_slice();
+    let mut passed = 0;
+    let mut from = None;
+    for job in by_release {
+        let place = place(&times, job.deadline);
+        passed += take(gaps, links, place, 0, u64::from(job.work));
+        if job.release < due && passed > u64::from(top) * u64::from(due - job.release) {
+            from = Some(job.release);
+        }
+    }
+    Ok(from)
+}
+
 /// `due` and the deadlines after it.
 pub(crate) fn times(alloc: Global, by_deadline: &[JobRow], due: u32) -> Result<Vec<u32>, Memory>
     requires { IsNonDecreasingBy (λ job. job.deadline) by_deadline.now }
@@ -44,6 +82,9 @@ pub(crate) fn place(times: &[u32], time: u32) -> usize
     ensures before { (q : ℕ) → q < result → slice_index times.now q < time }
     ensures after { (q : ℕ) → result ≤ q → q < length times.now → time ≤ slice_index times.now q }
 {
+    if !times.is_empty() && time <= times[0] {
+        return 0;
+    }
     times.partition_point(|other| *other < time)
 }
 

@@ -1,4 +1,4 @@
-ghost use Rattle.std.specs.Prelude.{◌≡◌, ◌+◌, ◌*◌, ◌<◌, ◌≤◌, ◌++◌, ◌∷◌, [], false, IfOk, length, take, drop};
+ghost use Rattle.std.specs.Prelude.{◌≡◌, ◌+◌, ◌*◌, ◌<◌, ◌≤◌, ◌++◌, ◌∷◌, [], false, IfOk, IfSome, length, take, drop};
 ghost use Rattle.yds_model.specs.Job.{job_at};
 ghost use Rattle.yds_model.specs.Policy.{numbers_of};
 ghost use Rattle.yds_model.specs.Admission.{IsFirstOverfull};
@@ -21,6 +21,9 @@ use yds_model::{JobRow, Memory};
 
 /// Runs of at most so many jobs are decided one by one.
 const SHORT_RUN: usize = 8;
+
+/// The jobs are cut into pieces when more than so many candidates in a row were refused.
+const FEW_REFUSED: usize = 2;
 
 /// Which jobs are admitted, and why the others aren't.
 #[derive(Drop)]
@@ -142,15 +145,20 @@ fn take_all(
     ensures state { IfOk result (λ _. IsState rows.now _top state.new) }
     ensures last { IfOk result (λ _. state.new.next ≡ last) }
 {
+    // Sorting takes little where most are in order already.
+    let mut releases = Vec::from_slice(alloc, &state.by_release)?;
+    let mut deadlines = Vec::from_slice(alloc, &state.by_deadline)?;
     for number in state.next..last {
         let row = &rows[number];
         // Reading the row shows that it is a job within the limits.
         let _work = row.work;
         state.taken.push(number as u32)?;
         state.jobs.push(*row)?;
+        releases.push(*row)?;
+        deadlines.push(*row)?;
     }
-    state.by_release = by_release(alloc, &state.jobs)?;
-    state.by_deadline = by_deadline(alloc, &state.jobs)?;
+    state.by_release = by_release(alloc, &releases)?;
+    state.by_deadline = by_deadline(alloc, &deadlines)?;
     state.marks = marks;
     state.next = last;
     Ok(())
@@ -174,14 +182,21 @@ fn one_by_one(
     ensures more { IfOk result (λ _. state.old.next < state.new.next) }
     ensures short { IfOk result (λ wanted. wanted ≤ 2 * SHORT_RUN) }
 {
-    let mut pieces = pieces_of(alloc, rows, board, state, top)?;
+    let mut pieces = None;
     let mut admitted = 0;
+    let mut refused = 0;
     while state.next < rows.len() && admitted < SHORT_RUN {
         if decide_next(alloc, rows, board, state, &pieces, top)? {
-            pieces = pieces_of(alloc, rows, board, state, top)?;
+            pieces = None;
             admitted += 1;
+            refused = 0;
         } else {
             admitted = 0;
+            if refused < FEW_REFUSED {
+                refused += 1;
+            } else if pieces.is_none() {
+                pieces = Some(pieces_of(alloc, rows, board, state, top)?);
+            }
         }
     }
     Ok(2 * SHORT_RUN)
@@ -205,14 +220,14 @@ fn pieces_of(
     Ok(pieces)
 }
 
-/// Admits the next job where it leaves no interval overfull beside the admitted ones, whose pieces these are, or refuses it.
+/// Admits the next job where it leaves no interval overfull beside the admitted ones, or refuses it. The pieces are theirs.
 /// Answers whether it was admitted.
 fn decide_next(
     alloc: Global,
     rows: &[JobRow],
     board: &Board,
     state: &mut State,
-    pieces: &Pieces,
+    pieces: &Option<Pieces>,
     top: u32,
 ) -> Result<bool, Memory>
     requires few { length rows.now ≤ MAX_JOBS }
@@ -221,7 +236,7 @@ fn decide_next(
     requires board { IsBoard rows.now top board.now.times.items board.now.gaps.items board.now.spots.items }
     requires state { IsState rows.now top state.old }
     requires more { state.old.next < length rows.now }
-    requires pieces { ArePieces top board.now.times.items state.old.jobs.items pieces.now.jobs.items pieces.now.places.items }
+    requires pieces { IfSome pieces.now (λ pieces. ArePieces top board.now.times.items state.old.jobs.items pieces.jobs.items pieces.places.items) }
     ensures state { IfOk result (λ _. IsState rows.now top state.new) }
     ensures next { IfOk result (λ _. state.new.next ≡ state.old.next + 1) }
     ensures kept { IfOk result (λ admitted. admitted ≡ false → state.new.jobs.items ≡ state.old.jobs.items) }
@@ -230,9 +245,11 @@ fn decide_next(
     // Reading the row shows that it is a job within the limits.
     let _work = row.work;
     let deadlines = with_deadline(alloc, &state.by_deadline, row)?;
-    match newly_overfull(&state.jobs, row, &deadlines, pieces, &board.times, top) {
+    let releases = with_release(alloc, &state.by_release, row)?;
+    let jobs = &state.jobs;
+    let times = &board.times;
+    match newly_overfull(alloc, jobs, row, &releases, &deadlines, pieces, times, top)? {
         None => {
-            let releases = with_release(alloc, &state.by_release, row)?;
             take_next(rows, state, releases, deadlines, top)?;
             Ok(true)
         }

@@ -1,4 +1,4 @@
-ghost use Rattle.std.specs.Prelude.{◌≡◌, ◌-◌, ◌*◌, ◌<◌, ◌≤◌, ◌++◌, ◌∷◌, [], IfOk, MatchOption, length, All};
+ghost use Rattle.std.specs.Prelude.{◌≡◌, ◌-◌, ◌*◌, ◌<◌, ◌≤◌, ◌++◌, ◌∷◌, [], IfOk, IfSome, MatchOption, length, All};
 ghost use Rattle.std.specs.List.Sorted.{IsPermutation, IsNonDecreasing, IsNonDecreasingBy};
 ghost use Rattle.yds_model.specs.declared.limits.TheConstants.{MAX_WORK};
 ghost use Rattle.yds_model.specs.Job.{IsJob};
@@ -7,10 +7,11 @@ ghost use Rattle.yds_model.specs.Admission.{IsFirstOverfull};
 ghost use Rattle.yds_laws.specs.AdmissionLaws.{HasRoom};
 ghost use Rattle.yds_admit.specs.Chain.{IsFalling};
 ghost use Rattle.yds_admit.specs.Interval.{work_in, HasRoomFrom, IsFirstEnd};
+ghost use Rattle.yds_admit.specs.Orders.{AreOrdered};
 ghost use Rattle.yds_admit.specs.Pieces.{ArePieces, AreDue};
 
-use crate::chain::place;
-use crate::pieces::{Pieces, least_from};
+use crate::chain::{least_from, place};
+use crate::pieces::{Pieces, least_from_pieces};
 use std::alloc::Global;
 use yds_model::limits::{MAX_JOBS, MAX_TOP};
 use yds_model::{JobRow, Memory};
@@ -70,8 +71,65 @@ pub(crate) fn work_between(jobs: &[JobRow], from: u32, to: u32) -> u64
 }
 
 /// The first overfull interval of these jobs and one more, where there is one. Alone they leave none overfull: so it begins before
-/// the one more's deadline, and ends then or later.
+/// the one more's deadline, and ends then or later. It is found over the pieces of the jobs, if there are any, and else by a chain.
 pub(crate) fn newly_overfull(
+    alloc: Global,
+    jobs: &[JobRow],
+    row: &JobRow,
+    by_release: &[JobRow],
+    by_deadline: &[JobRow],
+    pieces: &Option<Pieces>,
+    times: &[u32],
+    top: u32,
+) -> Result<Option<(u32, u32)>, Memory>
+    requires few { length by_release.now ≤ MAX_JOBS }
+    requires top_in_range { top ≤ MAX_TOP }
+    requires are { All IsJob (jobs.now ++ row.now ∷ []) }
+    requires room { HasRoom top jobs.now }
+    requires ordered { AreOrdered (jobs.now ++ row.now ∷ []) by_release.now by_deadline.now }
+    requires pieces { IfSome pieces.now (λ pieces. ArePieces top times.now jobs.now pieces.jobs.items pieces.places.items) }
+    requires in_order { IsNonDecreasing times.now }
+    requires due { AreDue times.now (jobs.now ++ row.now ∷ []) }
+    ensures { IfOk result (λ found. MatchOption found
+        (HasRoom top (jobs.now ++ row.now ∷ []))
+        (λ interval. IsFirstOverfull (jobs.now ++ row.now ∷ []) top (numbers_of (jobs.now ++ row.now ∷ [])) interval.0 interval.1)) }
+{
+    match pieces {
+        Some(pieces) => Ok(overfull_by_pieces(jobs, row, by_deadline, pieces, times, top)),
+        None => overfull_by_chain(alloc, jobs, row, by_release, by_deadline, top),
+    }
+}
+
+/// The same by a chain.
+fn overfull_by_chain(
+    alloc: Global,
+    _jobs: &[JobRow],
+    row: &JobRow,
+    by_release: &[JobRow],
+    by_deadline: &[JobRow],
+    top: u32,
+) -> Result<Option<(u32, u32)>, Memory>
+    requires few { length by_release.now ≤ MAX_JOBS }
+    requires top_in_range { top ≤ MAX_TOP }
+    requires are { All IsJob (_jobs.now ++ row.now ∷ []) }
+    requires room { HasRoom top _jobs.now }
+    requires ordered { AreOrdered (_jobs.now ++ row.now ∷ []) by_release.now by_deadline.now }
+    ensures { IfOk result (λ found. MatchOption found
+        (HasRoom top (_jobs.now ++ row.now ∷ []))
+        (λ interval. IsFirstOverfull (_jobs.now ++ row.now ∷ []) top (numbers_of (_jobs.now ++ row.now ∷ [])) interval.0 interval.1)) }
+{
+    let due = row.deadline;
+    let Some(from) = least_from(alloc, by_release, by_deadline, due, top)? else {
+        return Ok(None);
+    };
+    match overfull_end(by_deadline, from, top) {
+        Some(to) => Ok(Some((from, to))),
+        None => Ok(None),
+    }
+}
+
+/// The same over the pieces of the jobs.
+fn overfull_by_pieces(
     _jobs: &[JobRow],
     row: &JobRow,
     by_deadline: &[JobRow],
@@ -93,7 +151,7 @@ pub(crate) fn newly_overfull(
         (λ interval. IsFirstOverfull (_jobs.now ++ row.now ∷ []) top (numbers_of (_jobs.now ++ row.now ∷ [])) interval.0 interval.1) }
 {
     let end = place(times, row.deadline);
-    let Some(from) = least_from(pieces, _jobs, times, row, end, top) else {
+    let Some(from) = least_from_pieces(pieces, _jobs, times, row, end, top) else {
         return None;
     };
     match overfull_end(by_deadline, from, top) {

@@ -96,7 +96,7 @@ fn cut(
 
 /// The least release up to one more job's of an interval that ends at its deadline or later and has more work than the top speed does
 /// there, if there is one. Without the job there is none. Its deadline has the place `end` among the times.
-pub(crate) fn least_from(
+pub(crate) fn least_from_pieces(
     pieces: &Pieces,
     _all: &[JobRow],
     _times: &[u32],

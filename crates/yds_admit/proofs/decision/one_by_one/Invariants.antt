@@ -1,4 +1,5 @@
-use Rattle.std.proofs.Common.{◌≡◌, ◌-◌, ◌≤◌, length}
+use Rattle.std.proofs.Common.{◌≡◌, ◌-◌, ◌≤◌, IfSome, length}
+use Rattle.yds_admit.specs.declared.pieces.Pieces.{Pieces}
 use Rattle.yds_admit.specs.Decision.{IsState}
 use Rattle.yds_admit.specs.Pieces.{ArePieces}
 use Rattle.yds_admit.proofs.decision.one_by_one.Given as goal
@@ -6,7 +7,8 @@ use Rattle.yds_admit.proofs.decision.one_by_one.Given as goal
 abbrev pub invariant-loop-state : goal.invariant-loop-state
 invariant-loop-state l = record {
   state : IsState l.rows l.top l.state;
-  pieces : ArePieces l.top l.board.times.items l.state.jobs.items l.pieces.jobs.items l.pieces.places.items;
+  pieces : IfSome l.pieces (λ (pieces : Pieces). ArePieces l.top l.board.times.items l.state.jobs.items pieces.jobs.items pieces.places.items);
+  few : l.refused ≤ 2;
   later : l.fn.state.next ≤ l.state.next;
   begun : l.state.next ≡ l.fn.state.next → l.admitted ≡ 0;
 }

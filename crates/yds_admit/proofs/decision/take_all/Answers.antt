@@ -1,6 +1,11 @@
-use Rattle.std.proofs.Common.{◌≡◌, ◌∙◌, arith}
-use Rattle.std.proofs.lemmas.List.{get_or_read}
-use Rattle.yds_model.specs.Job.{Job, no_job, job_at}
+use Rattle.std.proofs.Common.{◌≡◌, ℕ, ◌∷◌, ◌++◌, [], List, ◌∙◌, length, take, drop, sym, subst, ap, arith}
+use Rattle.std.specs.List.{All}
+use Rattle.std.specs.List.Sorted.{IsPermutation}
+use Rattle.std.proofs.lemmas.List.{get_or_read, append-nil, drop_all, length-take-le}
+use Rattle.yds_admit.specs.Board.{IsMarked}
+use Rattle.yds_admit.specs.Decision.{Decided}
+use Rattle.yds_model.specs.Job.{Job, IsJob, no_job, job_at}
+use Rattle.std.proofs.lemmas.List.Sorted.{IsPermutation-append_left, IsPermutation-trans, All-permutation}
 use Rattle.yds_admit.proofs.Deciding.{takes_first}
 use Rattle.yds_admit.proofs.decision.take_all.Goals as goal
 
@@ -15,4 +20,35 @@ loop-number-preserved c =
     record {
       decided = rw (c.in_ok-push.ensures.items, c.in_ok-push-2.ensures.items) first.0;
       whole = rw c.in_ok-push-2.ensures.items first.1;
+      releases = rw (c.in_ok-push-2.ensures.items, c.in_ok-push-3.ensures.items) (IsPermutation-append_left (row ∷ []) _ _ c.loop-number.invariant.releases);
+      deadlines = rw (c.in_ok-push-2.ensures.items, c.in_ok-push-4.ensures.items) (IsPermutation-append_left (row ∷ []) _ _ c.loop-number.invariant.deadlines);
+    }
+
+pub by_release-requires : goal.by_release-requires
+by_release-requires c =
+    subst (λ (jobs : List Job). All IsJob jobs) (sym c.deref-3.ensures.value)
+    (All-permutation IsJob c.loop-number.state.jobs.items c.loop-number.releases.items c.loop-number.invariant.releases c.loop-number.invariant.decided.are)
+
+pub returns-clause-state : goal.returns-clause-state
+returns-clause-state c =
+    let rows = c.args.rows.now in
+    let last : ℕ = c.args.last in
+    let state = c.loop-number.state in
+    let held = c.loop-number.invariant in
+    let e : c.loop-number.number ≡ last = omega (arith, c.loop-number-test.false, c.loop-number.auto.number-end, c.requires.order) in
+    let none : drop c.loop-number.number (take last rows) ≡ [] =
+    drop_all c.loop-number.number (take last rows) (omega (arith, e, length-take-le last rows c.requires.within)) in
+    let whole = sym (append-nil state.jobs.items) ∙ ap (λ (some : List Job). state.jobs.items ++ some) (sym none) ∙ held.whole in
+    record {
+      within = c.requires.within;
+      decided = subst (λ (n : ℕ). Decided rows c.args._top n state.taken.items state.jobs.items state.refused.items) e held.decided;
+      marked = subst (λ (jobs : List Job). IsMarked rows last c.args.marks.items jobs) (sym whole) c.requires.marks;
+      ordered = record {
+        releases = IsPermutation-trans state.jobs.items c.loop-number.releases.items c.in_ok-state.field-0.items held.releases
+            (subst (λ (some : List Job). IsPermutation some c.in_ok-state.field-0.items) c.deref-3.ensures.value c.in_ok-state.ensures.same);
+        deadlines = IsPermutation-trans state.jobs.items c.loop-number.deadlines.items c.in_ok-state-2.field-0.items held.deadlines
+            (subst (λ (some : List Job). IsPermutation some c.in_ok-state-2.field-0.items) c.deref-4.ensures.value c.in_ok-state-2.ensures.same);
+        falling = c.in_ok-state.ensures.falling;
+        rising = c.in_ok-state-2.ensures.rising;
+      };
     }

@@ -1,7 +1,7 @@
 use Rattle.std.proofs.Common.{◌≡◌, ◌+◌}
 use Rattle.yds_admit.specs.Pieces.{went}
 use Rattle.yds_admit.proofs.Least.{LookedAt}
-use Rattle.yds_admit.proofs.pieces.least_from.Given as goal
+use Rattle.yds_admit.proofs.pieces.least_from_pieces.Given as goal
 
 abbrev pub invariant-loop-next : goal.invariant-loop-next
 invariant-loop-next l = record {

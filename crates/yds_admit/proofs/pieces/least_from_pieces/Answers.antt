@@ -10,8 +10,8 @@ use Rattle.yds_admit.specs.Chain.{IsFalling}
 use Rattle.yds_admit.specs.Pieces.{went}
 use Rattle.yds_admit.proofs.Cutting.{went_fits, next_went}
 use Rattle.yds_admit.proofs.Least.{LookedAt, begins_some, begins_none, next_some, next_none, found_is}
-use Rattle.yds_admit.proofs.pieces.least_from.Goals as goal
-use Rattle.yds_admit.proofs.pieces.least_from.Goals.{then-used-from, else-used-from, then-index-end, else-index-end, then-used-from-2, else-used-from-2}
+use Rattle.yds_admit.proofs.pieces.least_from_pieces.Goals as goal
+use Rattle.yds_admit.proofs.pieces.least_from_pieces.Goals.{then-used-from, else-used-from, then-index-end, else-index-end, then-used-from-2, else-used-from-2}
 
 parted : (jobs : List Job) (release : ℕ) → IsFalling jobs → IsPartitionedBy (λ (job : Job). nat_le release job.release) jobs
 parted jobs release falling i j d order below later = le-leb release (get_or jobs i d).release (omega (

@@ -1,0 +1,48 @@
+use Rattle.std.proofs.Common.{ℕ, List, ◌∷◌, ◌++◌, [], arith, ap}
+use Rattle.std.specs.List.{Contains}
+use Rattle.std.proofs.lemmas.List.Sorted.{IsPermutation-refl}
+use Rattle.yds_model.specs.Job.{Job, IsJob}
+use Rattle.yds_model.proofs.Lists.{All-front, All-last}
+use Rattle.yds_admit.specs.Pieces.{AreDue}
+use Rattle.yds_admit.proofs.Newly.{has_room, first_found, is_found}
+use Rattle.yds_admit.proofs.Times.{place_known, time_there}
+use Rattle.yds_admit.proofs.interval.overfull_by_pieces.Goals as goal
+
+own_due : (times : List ℕ) (jobs : List Job) (row : Job) → AreDue times (jobs ++ row ∷ []) → Contains times row.deadline
+own_due times jobs row due = All-last (λ (job : Job). Contains times job.deadline) jobs row due
+
+pub least_from_pieces-requires-clause-within : goal.least_from_pieces-requires-clause-within
+least_from_pieces-requires-clause-within c =
+    let known = own_due c.args.times.now c.args._jobs.now c.args.row.now c.requires.due in
+    let deadline = ap (λ (job : Job). job.deadline) c.row.view_is in
+    place_known c.args.times.now c.args.row.now.deadline c.place-end.result c.requires.in_order known
+    (λ q less. omega (arith, c.place-end.ensures.before q less, deadline))
+    (λ q after within. omega (arith, c.place-end.ensures.after q after within, deadline))
+
+pub least_from_pieces-requires-clause-end : goal.least_from_pieces-requires-clause-end
+least_from_pieces-requires-clause-end c =
+    let known = own_due c.args.times.now c.args._jobs.now c.args.row.now c.requires.due in
+    let deadline = ap (λ (job : Job). job.deadline) c.row.view_is in
+    time_there c.args.times.now c.args.row.now.deadline c.place-end.result c.requires.in_order known
+    (λ q less. omega (arith, c.place-end.ensures.before q less, deadline))
+    (λ q after within. omega (arith, c.place-end.ensures.after q after within, deadline))
+
+pub least_from_pieces-requires-clause-due : goal.least_from_pieces-requires-clause-due
+least_from_pieces-requires-clause-due c = All-front (λ (job : Job). Contains c.args.times.now job.deadline) c.args._jobs.now (c.args.row.now ∷ []) c.requires.due
+
+pub least_from_pieces-requires-clause-are : goal.least_from_pieces-requires-clause-are
+least_from_pieces-requires-clause-are c = All-front IsJob c.args._jobs.now (c.args.row.now ∷ []) c.requires.are
+
+pub returns-in_default : goal.returns-in_default
+returns-in_default c =
+    has_room c.args.top c.args._jobs.now c.args.row.now c.requires.are c.requires.room (c.args._jobs.now ++ c.args.row.now ∷ []) c.args.by_deadline.now
+    (IsPermutation-refl (c.args._jobs.now ++ c.args.row.now ∷ [])) c.requires.deadlines c.in_default.ensures
+
+pub returns-in-Some-overfull_end : goal.returns-in-Some-overfull_end
+returns-in-Some-overfull_end c =
+    first_found c.args.top c.args._jobs.now c.args.row.now c.requires.are c.requires.room (c.args._jobs.now ++ c.args.row.now ∷ []) c.args.by_deadline.now
+    (IsPermutation-refl (c.args._jobs.now ++ c.args.row.now ∷ [])) c.requires.deadlines c.in-Some.from c.in-Some-overfull_end.to c.in-Some.ensures c.in-Some-overfull_end.ensures
+
+pub returns-in-None : goal.returns-in-None
+returns-in-None c = absurd (is_found c.args.top c.args._jobs.now c.args.row.now c.requires.are c.requires.room (c.args._jobs.now ++ c.args.row.now ∷ []) c.args.by_deadline.now
+    (IsPermutation-refl (c.args._jobs.now ++ c.args.row.now ∷ [])) c.requires.deadlines c.in-Some.from c.in-Some.ensures c.in-None.ensures)
