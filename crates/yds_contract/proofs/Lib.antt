@@ -1,5 +1,6 @@
 pub mod Cells
 pub mod Pieces
+pub mod Places
 pub mod Kept
 pub mod Joined
 pub mod Appending

@@ -1,4 +1,3 @@
-pub mod Places
 pub mod Capacity
 pub mod Densest
 pub mod Laid

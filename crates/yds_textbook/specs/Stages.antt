@@ -18,8 +18,7 @@ use Rattle.yds_textbook.specs.declared.stage.Stage.{Stage}
 use Rattle.yds_textbook.specs.Waiting.{contracted_jobs, inside, outside}
 use Rattle.yds_textbook.specs.Served.{AreServedAt, of_job, AreSpread}
 
--- The interval takes time and some work is confined to it, all of which is that of these jobs, and no interval has a greater intensity
--- of them.
+-- The interval takes time and has some work. These jobs are due in it, and in no interval does their work make a greater intensity.
 pub record IsDensest (jobs : List Job) (interval : Interval) : Type 0 where
   pub forward : interval.start < interval.end
   pub ends : interval.end ≤ MAX_TIME

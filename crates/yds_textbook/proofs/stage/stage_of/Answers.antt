@@ -5,7 +5,7 @@ use Rattle.yds_model.specs.Job.{Job, IsJob}
 use Rattle.yds_events.proofs.Times.{times_rise}
 use Rattle.yds_textbook.specs.Waiting.{contracted_jobs}
 use Rattle.yds_textbook.specs.Served.{IsFastEnough, IsAtSpeed}
-use Rattle.yds_textbook.proofs.Places.{pieces_in_range}
+use Rattle.yds_contract.proofs.Places.{pieces_in_range}
 use Rattle.yds_textbook.proofs.Densest.{are_jobs}
 use Rattle.yds_textbook.proofs.Speeds.{fast_enough}
 use Rattle.yds_textbook.proofs.stage.stage_of.Goals as goal
