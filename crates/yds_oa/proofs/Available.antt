@@ -63,7 +63,7 @@ at_most : (b : Bool) (n m : ℕ) → n ≤ m → cond b n 0 ≤ m
 at_most true n m few = few
 at_most false n m few = omega arith
 
-pub due_most : (jobs : List Job) (pending : ℕ → ℕ) (stretch : Piece) (time : ℕ) → due_by jobs pending stretch time ≤ sum_below (length jobs) pending
+due_most : (jobs : List Job) (pending : ℕ → ℕ) (stretch : Piece) (time : ℕ) → due_by jobs pending stretch time ≤ sum_below (length jobs) pending
 due_most jobs pending stretch time = omega (
   arith,
   due_numbered jobs pending stretch time,

@@ -9,7 +9,6 @@ use Rattle.yds_model.specs.Job.{Job}
 use Rattle.yds_model.specs.Piece.{Piece}
 use Rattle.yds_oa.specs.declared.quotient.Quotient.{Quotient}
 use Rattle.yds_oa.specs.declared.sums.DueUnits.{DueUnits}
-use Rattle.yds_oa.specs.Asked.{due_by}
 use Rattle.yds_oa.specs.Greatest.{IsOfDeadline, IsGreatest, AreRisingAfter, AreSummed, IsNoneOrOf, IsAtMost}
 
 -- what is at most a quotient is at most a greater one
@@ -79,12 +78,12 @@ module _ (jobs : List Job) (pending : ℕ → ℕ) (stretch : Piece) (waiting : 
   pub greatest_is : All (IsAtMost stretch.from greatest) waiting → IsGreatest jobs pending stretch greatest.units greatest.time
   greatest_is upper = record {
     some_time = some;
-    upper = λ deadline later. elim (summed.most deadline later) [
+    upper = λ deadline later. elim (summed.most deadline) [
       | inl none ↦ omega (arith, ap (λ n. n * greatest.time) none)
-      | inr (k, due, within, is, most) ↦
+      | inr (k, due, within, is, (before, most)) ↦
           let at_most : IsAtMost stretch.from greatest due = subst (IsAtMost stretch.from greatest) is (upper k due within) in
-          let after : stretch.from < due.deadline = subst (λ (w : DueUnits). stretch.from < w.deadline) is (summed.rising.later k due within) in
-          through (due_by jobs pending stretch deadline) (deadline - stretch.from) due.units (due.deadline - stretch.from) greatest.units greatest.time most at_most (omega (arith, after))
+          let longer : due.deadline - stretch.from ≤ deadline - stretch.from = omega (arith, before) in
+          omega (arith, at_most, mul-le-mul_right greatest.time most, mul-le-mul_left greatest.units longer)
     ];
     attained = elim attained [
       | inl none ↦ inl none

@@ -1,13 +1,12 @@
 -- The pending units of jobs in order of their deadlines, summed as far as the first ones, with a deadline and the sum for each job that has some.
-use Rattle.std.proofs.Common.{◌≡◌, ℕ, ◌+◌, ◌-◌, ◌*◌, ◌<◌, ◌≤◌, ◌⊎◌, List, [], ◌∷◌, ◌++◌, length, get_or, take, drop, ◌∙◌, refl, sym, subst, ap, arith, inl, inr}
+use Rattle.std.proofs.Common.{◌≡◌, ℕ, ◌+◌, ◌-◌, ◌<◌, ◌≤◌, ◌⊎◌, List, [], ◌∷◌, ◌++◌, length, get_or, take, ◌∙◌, refl, sym, subst, ap, arith, inl, inr}
 use Rattle.std.specs.Prelude.{All, Any, sum_by}
 use Rattle.std.proofs.lemmas.Bool.{cases_lt, le-leb, lt-leb}
-use Rattle.std.proofs.lemmas.List.{take_more, take_all, get_or-take, length-take, get_or_default, get_or-drop, length-drop}
+use Rattle.std.proofs.lemmas.List.{take_more, take_all, get_or-take, length-take, get_or_default}
 use Rattle.std.proofs.lemmas.List.Elements.{All-nil, All-push, All-weaker, Contains-push}
 use Rattle.std.proofs.lemmas.List.Sorted.{IsNonDecreasingBy-push}
 use Rattle.yds_model.proofs.Lists.{Any-append_left}
-use Rattle.std.proofs.lemmas.List.Sums.{sum_by-cons, sum_by_push, sum_by-take-le, sum_by-take-drop}
-use Rattle.std.proofs.Math.Nat.{mul-le-mul_right, mul-le-mul_left}
+use Rattle.std.proofs.lemmas.List.Sums.{sum_by_push, sum_by-take-le}
 use Rattle.yds_model.specs.Job.{Job, job_at}
 use Rattle.yds_model.specs.Piece.{Piece}
 use Rattle.yds_model.proofs.Sums.{sum_by_same, sum_by_at_most}
@@ -157,90 +156,17 @@ module _ (jobs : List Job) (pending : ℕ → ℕ) (stretch : Piece) (near : Lis
       ];
     }
 
--- a deadline of the list after which none asks more, where so many units are pending; none is later than the limit
-abbrev pub IsLast : ℕ → ℕ → List DueUnits → ℕ → Type 0
-IsLast all from waiting last = (last ≡ 1000000000) ⊎ Any (λ due. all * (due.deadline - from) ≤ due.units * (last - from)) waiting
-
-pub last_more : (all from : ℕ) (waiting : List DueUnits) (new : DueUnits) (before last : ℕ) → IsLast all from waiting before →
-    (last ≡ before) ⊎ (all * (new.deadline - from) ≤ new.units * (last - from)) → IsLast all from (waiting ++ new ∷ []) last
-last_more all from waiting new before last old either = elim either [
-  | inl same ↦ rw same (elim old [
-    | inl limit ↦ inl limit
-    | inr found ↦ inr (Any-append_left (λ due. all * (due.deadline - from) ≤ due.units * (before - from)) waiting (new ∷ []) found)
-  ])
-  | inr found ↦ let there = Contains-push waiting new in inr (there.0, new, there.1, there.2, found)
-]
-
-module _ (jobs : List Job) (pending : ℕ → ℕ) (stretch : Piece) (near : List Due) (i units : ℕ) (waiting : List DueUnits) (have : HaveWaiting jobs pending stretch near)
-    (few : units ≤ 4000000000000000000) (summed : Summed jobs pending stretch near i units waiting) where
-  few_each : All (λ due. due.units ≤ 4000000000000000000) waiting
-  few_each = All-weaker (IsBefore near i units) (λ due. due.units ≤ 4000000000000000000) (λ due old. omega (arith, old.units, few)) waiting summed.before
-
-  -- where what is due by a time is among the first ones, the list tells it
-  listed : (deadline : ℕ) → due_by jobs pending stretch deadline ≡ sum_by (units_by pending deadline) (take i near) →
-      (due_by jobs pending stretch deadline ≡ 0)
-      ⊎ Any (λ due. due_by jobs pending stretch deadline * (due.deadline - stretch.from) ≤ due.units * (deadline - stretch.from)) waiting
-  listed deadline same = elim (summed.most deadline) [
-    | inl none ↦ inl (same ∙ none)
-    | inr (k, due, within, is, (before, most)) ↦ inr (
-      k,
-      due,
-      within,
-      is,
-      omega (
-        arith,
-        mul-le-mul_right (due.deadline - stretch.from) (let less : due_by jobs pending stretch deadline ≤ due.units = omega (arith, same, most) in less),
-        mul-le-mul_left due.units (let longer : due.deadline - stretch.from ≤ deadline - stretch.from = omega (arith, before) in longer),
-      ),
-    )
-  ]
-
-  -- once all are summed, the list tells what is due
-  pub all_summed : length near ≤ i → AreSummed jobs pending stretch waiting
-  all_summed all = record {
-    rising = summed.rising;
-    each = summed.each;
-    most = λ deadline later. listed deadline (have.units deadline ∙ ap (sum_by (units_by pending deadline)) (sym (take_all i near all)));
-    few = few_each;
-  }
-
-  -- and where the next one is after the last that may ask more
-  module _ (all last : ℕ) (most : (deadline : ℕ) → due_by jobs pending stretch deadline ≤ all) (found : IsLast all stretch.from waiting last)
-      (here : i < length near) (after : (d : Due) → last < (get_or near i d).deadline) (limit : (d : Due) → (get_or near i d).deadline ≤ 1000000000) where
-    none_behind : (deadline : ℕ) → deadline ≤ last → sum_by (units_by pending deadline) (drop i near) ≡ 0
-    none_behind deadline soon =
-        sum_by_same (units_by pending deadline) (λ due. 0) (drop i near)
-        (λ k d within.
-        let at : get_or (drop i near) k d ≡ get_or near (i + k) d = get_or-drop i near k d in
-        let past : deadline < (get_or near (i + k) d).deadline =
-        omega (arith, soon, after d, have.rising i (i + k) d (omega arith) (omega (arith, within, length-drop i near))) in
-        rw (at, lt-leb (get_or near (i + k) d).deadline deadline past) refl)
-        ∙ no_units (drop i near) where
-          no_units : (dues : List Due) → sum_by (λ due. 0) dues ≡ 0
-          no_units [] = refl
-          no_units (due ∷ dues) = omega (arith, sum_by-cons (λ (d : Due). 0) due dues, no_units dues)
-
-    pub ended_summed : AreSummed jobs pending stretch waiting
-    ended_summed = record {
+-- once all are summed, the list tells what is due
+pub all_summed : (jobs : List Job) (pending : ℕ → ℕ) (stretch : Piece) (near : List Due) (i units : ℕ) (waiting : List DueUnits) → HaveWaiting jobs pending stretch near →
+    length near ≤ i → units ≤ 4000000000000000000 → Summed jobs pending stretch near i units waiting → AreSummed jobs pending stretch waiting
+all_summed jobs pending stretch near i units waiting have all few summed =
+    let whole : take i near ≡ near = take_all i near all in
+    record {
       rising = summed.rising;
       each = summed.each;
-      most = λ deadline later. elim (cases_lt last deadline) [
-        | inr soon ↦ listed deadline (have.units deadline ∙ omega (arith, sum_by-take-drop (units_by pending deadline) near i, none_behind deadline soon))
-        | inl past ↦ elim found [
-          | inl none ↦ absurd (omega (arith, none, after (get_or near i (record { release = 0; deadline = 0; job = 0; work = 0 })), limit (get_or near i (record { release = 0; deadline = 0; job = 0; work = 0 }))))
-          | inr (k, due, within, is, asks) ↦ inr (
-            k,
-            due,
-            within,
-            is,
-            omega (
-              arith,
-              asks,
-              mul-le-mul_right (due.deadline - stretch.from) (most deadline),
-              mul-le-mul_left due.units (let longer : last - stretch.from ≤ deadline - stretch.from = omega (arith, past) in longer),
-            ),
-          )
-        ]
-      ];
-      few = few_each;
+      most = λ deadline.
+          let same : due_by jobs pending stretch deadline ≡ sum_by (units_by pending deadline) (take i near) =
+          have.units deadline ∙ ap (sum_by (units_by pending deadline)) (sym whole) in
+          rw same (summed.most deadline);
+      few = All-weaker (IsBefore near i units) (λ due. due.units ≤ 4000000000000000000) (λ due old. omega (arith, old.units, few)) waiting summed.before;
     }

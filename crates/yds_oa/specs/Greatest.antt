@@ -29,12 +29,12 @@ pub record AreRisingAfter (from : ℕ) (waiting : List DueUnits) : Type 0 where
   pub deadlines : IsNonDecreasingBy (λ due. due.deadline) waiting
   pub units : IsNonDecreasingBy (λ due. due.units) waiting
 
--- Each is of a waiting job, with at most the units that are due by it. No time asks more than some of them.
+-- Each is of a waiting job, with at most the units that are due by it. What is due by any time is due by a deadline before.
 pub record AreSummed (jobs : List Job) (pending : ℕ → ℕ) (stretch : Piece) (waiting : List DueUnits) : Type 0 where
   pub rising : AreRisingAfter stretch.from waiting
   pub each : All (λ due. IsOfDeadline jobs pending stretch due.units (due.deadline - stretch.from)) waiting
-  pub most : (deadline : ℕ) → stretch.from < deadline → (due_by jobs pending stretch deadline ≡ 0)
-      ⊎ Any (λ due. due_by jobs pending stretch deadline * (due.deadline - stretch.from) ≤ due.units * (deadline - stretch.from)) waiting
+  pub most : (deadline : ℕ) → (due_by jobs pending stretch deadline ≡ 0)
+      ⊎ Any (λ due. (due.deadline ≤ deadline) × (due_by jobs pending stretch deadline ≤ due.units)) waiting
   pub few : All (λ due. due.units ≤ 4000000000000000000) waiting
 
 -- the quotient is that of a deadline's units and the time from this one until then

@@ -62,7 +62,7 @@ impl Policy for OptimalAvailable {
     fn set(&mut self, _number: u32, queue: &Queue, stretch: Stretch) -> Setting {
         self.jobs.look_to(stretch.from);
         let near = self.jobs.due_after(stretch.from);
-        sum_pending(near, queue, stretch, self.last, &mut self.waiting);
+        sum_pending(near, queue, stretch, &mut self.waiting);
         let greatest = greatest_quotient(&self.waiting, stretch.from, self.last);
         self.last = stretch.from.saturating_add(greatest.time);
         let units = u128::from(greatest.units) * u128::from(stretch.length());

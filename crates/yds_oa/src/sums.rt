@@ -1,4 +1,4 @@
-ghost use Rattle.std.specs.Prelude.{◌≡◌, ◌≤◌, ◌*◌, ◌-◌, ◌⊎◌, nat_le, if◌then◌else◌, length, slice_index, vec_capacity, Some, All};
+ghost use Rattle.std.specs.Prelude.{◌≡◌, ◌≤◌, ◌*◌, ◌-◌, nat_le, if◌then◌else◌, length, slice_index, vec_capacity, Some, All};
 ghost use Rattle.yds_model.specs.Job.{IsJob};
 ghost use Rattle.yds_edf.specs.Queue.{pending_in};
 ghost use Rattle.yds_oa.specs.Near.{HaveWaiting};
@@ -9,7 +9,7 @@ use crate::quotient::Quotient;
 use yds_edf::Queue;
 use yds_edf::limits::MAX_GRAIN;
 use yds_events::Stretch;
-use yds_model::limits::{MAX_JOBS, MAX_TIME};
+use yds_model::limits::MAX_JOBS;
 
 /// The deadline of a job with pending units, and the pending units of the jobs up to it in order of their deadlines.
 #[derive(Clone, Copy, Debug)]
@@ -29,34 +29,14 @@ impl DueUnits {
             time: self.deadline - from,
         }
     }
-
-    /// The last deadline that may have a greater quotient than this one, where so many units are pending, or the one that was
-    /// found before; it is looked for at the deadline that is expected to have the greatest.
-    fn last_to_ask(self, before: u32, expected: u32, all: u64, from: u32) -> u32
-        requires some { 1 ≤ self.units }
-        requires later { from ≤ self.deadline }
-        ensures { (result ≡ before) ⊎ (all * (self.deadline - from) ≤ self.units * (result - from)) }
-    {
-        if self.deadline < expected || before < MAX_TIME {
-            return before;
-        }
-        let asked = u128::from(all) * u128::from(self.deadline - from);
-        let last = u128::from(from) + (asked / u128::from(self.units) + 1);
-        if last < u128::from(before) {
-            last as u32
-        } else {
-            before
-        }
-    }
 }
 
 /// Sums the pending units of the near jobs in their order, and lists a deadline and the sum for each that has some, in place
-/// of what was listed. It ends where no later deadline can have the greatest quotient.
+/// of what was listed.
 pub(crate) fn sum_pending(
     near: &[Due],
     queue: &Queue,
     stretch: Stretch,
-    expected: u32,
     waiting: &mut Vec<DueUnits>,
 )
     requires few { length near.now ≤ MAX_JOBS }
@@ -69,23 +49,16 @@ pub(crate) fn sum_pending(
     let _rows = queue.rows();
     let served = queue.served();
     let grain = queue.grain();
-    let all = queue.pending();
     let mut units = 0;
-    let mut last = MAX_TIME;
     waiting.clear();
     for due in near {
-        if due.deadline > last {
-            break;
-        }
         let pending = units_pending(due, served, grain, stretch.from);
         if pending > 0 {
             units += pending;
-            let sum = DueUnits {
+            waiting.push_reserved(DueUnits {
                 units,
                 deadline: due.deadline,
-            };
-            waiting.push_reserved(sum);
-            last = sum.last_to_ask(last, expected, all, stretch.from);
+            });
         }
     }
 }
