@@ -188,7 +188,7 @@ fn each_read_fails_in_turn(rt: HostRuntime) -> Result<(), Fail> {
 fn each_write_and_the_flush_fail_in_turn(rt: HostRuntime) -> Result<(), Fail> {
     for (text, input, status, want) in &OVER_BROKEN_STREAMS {
         let mut ended = Status::WriteFault;
-        let mut whole = 0;
+        let mut whole: u32 = 0;
         for call in 1..400 {
             if ended != Status::WriteFault {
                 break;
@@ -200,7 +200,7 @@ fn each_write_and_the_flush_fail_in_turn(rt: HostRuntime) -> Result<(), Fail> {
                 "{text}: call {call}"
             );
             if sink.bytes().len() == want.len() {
-                whole += 1;
+                whole = whole.saturating_add(1);
             }
         }
         assert_eq!(rt; ended, *status, "{text}");
