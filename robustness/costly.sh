@@ -28,14 +28,18 @@ cd "$work" || exit 1
 # compare STATUS WORDS COSTLY PLAIN WHAT: of a document that ends with this status.
 compare() {
 	# shellcheck disable=SC2086
-	set -- "$1" "$2" "$5" $("$work/measure" "$times" "$3" "$4" "$YDS" $2)
-	printf '%-24s %-60s %8s ms %8s ms %7s %6s MB' "$2" "$3" "$4" "$5" "$6" "$7"
-	if awk -v ratio="$6" -v memory="$7" 'BEGIN { exit !(ratio <= 10 && memory <= 200) }' && [ "$8" = "$1" ]; then
+	if "$work/measure" "$times" "$3" "$YDS" $2 -- "$4" "$YDS" $2 | awk -v status="$1" -v words="$2" -v what="$5" '
+		NR == 1 { costly = $1; memory = $2; ended = $3 }
+		NR == 2 { plain = $1 }
+		END {
+			printf "%-24s %-60s %8s ms %8s ms %7.2f %6s MB", words, what, costly, plain, costly / plain, memory
+			good = costly <= 10 * plain && memory <= 200 && ended == status
+			print good ? "" : "  FAILED, status " ended
+			exit !good
+		}'; then
 		passed=$((passed + 1))
-		echo
 	else
 		failed=$((failed + 1))
-		echo "  FAILED, status $8"
 	fi
 }
 
