@@ -60,15 +60,18 @@ done
 
 cat <<TEXT
 
-From 500 to 4,000 jobs (round and compare on ten operating points and works of at most 4,000, admit under a top speed of 100): the exponent
-of the growth is 1 where the time grows as the number of jobs, and 2 where it grows as its square
+From 500 to 4,000 jobs (audit and check of what plan writes, round and compare on ten operating points and works of at most 4,000, admit
+under a top speed of 100): the exponent of the growth is 1 where the time grows as the number of jobs, and 2 where it grows as its square
 words                    kind        500 jobs 4,000 jobs  exponent
 TEXT
-for words in plan round curve "report --json" "avr --grid 1000" "oa --grid 1000" "compare --grid 1000" "admit 100"; do
+for words in plan audit check round report "report --json" curve "avr --grid 1000" "oa --grid 1000" "compare --grid 1000" "admit 100"; do
 	for kind in $kinds; do
 		for jobs in 500 4000; do
 			cp $kind.$jobs in.$jobs
-			case $words in round | compare*) awk '$5 > 4000 { $5 = 1 + $5 % 1000 } 1' points $kind.$jobs >in.$jobs ;; esac
+			case $words in
+			round | compare*) awk '$5 > 4000 { $5 = 1 + $5 % 1000 } 1' points $kind.$jobs >in.$jobs ;;
+			audit | check) "$YDS" plan <$kind.$jobs >in.$jobs ;;
+			esac
 		done
 		# shellcheck disable=SC2086
 		./measure "$times" empty "$YDS" plan -- in.500 "$YDS" $words -- in.4000 "$YDS" $words |
