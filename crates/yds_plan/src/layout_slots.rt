@@ -10,12 +10,11 @@ ghost use Rattle.yds_search.specs.Views.{shares_view, group_view, found_view};
 ghost use Rattle.yds_plan.specs.Laid.{time_after, slots_from, slots_of};
 ghost use Rattle.yds_plan.specs.Room.{structs_in, IsWithin, CanFill, AreTerms};
 
-use crate::share::Share;
 use std::alloc::Global;
 use yds_events::Stretch;
 use yds_fraction::{Amount, Moment, gcd};
 use yds_model::{JobRow, Memory};
-use yds_search::{Found, Group};
+use yds_search::{Found, Group, Share};
 use yds_slots::{Schedule, Slot};
 
 /// So many empty lists.
