@@ -11,13 +11,13 @@ use Rattle.yds_search.specs.Numbers.{IsOneOf, numbers_in, AreWritten}
 use Rattle.yds_search.specs.Closure.{AreAllReaches, AreClosing}
 use Rattle.yds_search.specs.Search.{IsSearch, IsAttempt, IsJobNumber, split_stretch, AreMovedFrom}
 use Rattle.yds_search.specs.Instance.{IsInstance}
-use Rattle.yds_search.specs.Waiting.{Part, IsWaiting}
+use Rattle.yds_search.specs.Waiting.{Part, IsWaiting, AreWithin}
 use Rattle.yds_search.proofs.Numbers.{in_group, in_order}
 use Rattle.yds_search.proofs.Attempts.{part_known, part_stretch_known, range_one, range_rises}
 use Rattle.yds_search.proofs.Closures.{fill_closes}
 use Rattle.yds_search.proofs.Finished.{moved}
 use Rattle.yds_search.proofs.Steps.{split_top}
-use Rattle.yds_search.proofs.Stacks.{list_has, share_own, wanting_own, moved_from, split_cases, split_stretch_is, split_job_is}
+use Rattle.yds_search.proofs.Stacks.{list_has, share_own, wanting_own, roomy_own, moved_from, split_cases, split_stretch_is, split_job_is}
 
 -- the stretches of a group rise
 pub part_rising : (order : List ℕ) (found : Found) (top : ℕ) (part : Part) → IsWaiting order found top part →
@@ -101,3 +101,28 @@ divided jobs instance found top group shares wants' rooms' part m reaches left n
       moved_from (λ k value. value ≡ split_stretch reaches top k) found.group_of_stretch new_stretches part.stretches (range_with_len 0 (length found.group_of_stretch)) top
           waiting.stretches written (λ k value is. stretch_small reaches top k value is),
     )
+
+-- only a filled group's own jobs may want units, and only its own stretches may have room
+pub within_is : (jobs : List Job) (instance : Instance) (found : Found) (top : ℕ) (group : Group) (shares : List Share) (wants' rooms' : List ℕ) (part : Part) →
+    IsInstance jobs instance → IsSearch jobs instance.windows.items found top 1000000 → IsWaiting instance.order.items found top part →
+    IsAttempt jobs instance.windows.items found top group shares wants' rooms' → AreWithin part.jobs part.stretches wants' rooms'
+within_is jobs instance found top group shares wants' rooms' part are search waiting attempt = record {
+  want = wanting_own jobs instance.windows.items found top (per_time group) (per_work group) attempt.wants attempt.rooms shares wants' rooms' part.jobs
+      instance.order.items attempt.filled waiting.jobs are.order.each;
+  room = roomy_own jobs instance.windows.items found top (per_time group) (per_work group) attempt.wants attempt.rooms shares wants' rooms' part.stretches
+      (range_with_len 0 (length found.group_of_stretch)) attempt.filled waiting.stretches
+      (λ k below. range_one (length found.group_of_stretch) k (omega (arith, below, search.all_stretches)));
+  known = λ p within. omega (
+    arith,
+    part_known jobs instance.order.items found top part are.order waiting p within,
+    attempt.filled.fill.same_wants,
+    attempt.filled.all_wants,
+  );
+  known_stretch = λ p within. omega (
+    arith,
+    part_stretch_known instance.order.items found top part waiting p within,
+    search.all_stretches,
+    attempt.filled.fill.same_rooms,
+    attempt.filled.all_rooms,
+  );
+}

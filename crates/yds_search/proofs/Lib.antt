@@ -15,6 +15,7 @@ mod Lowest
 mod Totals
 pub mod Numbers
 mod Stacks
+mod Parts
 mod Reaches
 mod Finish
 mod Attempts

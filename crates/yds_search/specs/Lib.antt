@@ -9,3 +9,5 @@ pub mod Instance
 pub mod Numbers
 pub mod Beginning
 pub mod Waiting
+pub mod Stack
+pub mod Searching

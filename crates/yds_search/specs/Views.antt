@@ -3,9 +3,7 @@ use Rattle.std.specs.Prelude.{List, map}
 use Rattle.yds_search.specs.declared.share.Share as shares
 use Rattle.yds_search.specs.declared.found.Group as groups
 use Rattle.yds_search.specs.declared.found.Found as founds
-use Rattle.yds_search.specs.declared.waiting.Waiting as waitings
 use Rattle.yds_search.specs.Found.{Group, Share, Found}
-use Rattle.yds_search.specs.Waiting.{Part}
 
 abbrev pub share_view : shares.Share → Share
 share_view share = record { job = share.job; stretch = share.stretch; units = share.units }
@@ -23,9 +21,3 @@ found_view found = record {
   group_of_stretch = found.group_of_stretch.items;
   shares = shares_view found.shares.items;
 }
-
-abbrev pub part_view : waitings.Waiting → Part
-part_view waiting = record { jobs = waiting.jobs.items; stretches = waiting.stretches.items }
-
-abbrev pub parts_view : List waitings.Waiting → List Part
-parts_view stack = map part_view stack

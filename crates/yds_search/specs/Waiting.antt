@@ -34,22 +34,18 @@ pub record IsStack (order : List ℕ) (found : Found) (top last : ℕ) (parts : 
   pub count : length parts + top ≡ last + 1
   pub each : (i : ℕ) → i < length parts → IsWaiting order found (last - i) (part_at parts i)
 
--- one workspace has the reaches of another
-abbrev pub KeepsReaches : Workspace → Workspace → Type 0
-KeepsReaches old new = new.reaches ≡ old.reaches
-
 -- so many entries for each kind of reaches
 pub record HasReaches (m : ℕ) (reaches : Reaches) : Type 0 where
   pub late : length reaches.late.items ≡ m
   pub shared : length reaches.shared.items ≡ m
   pub all : length reaches.all.items ≡ m
 
--- only a part's jobs may want units, and only its stretches may have room
-pub record AreWithin (part : Part) (wants rooms : List ℕ) : Type 0 where
-  pub want : (j : ℕ) → 1 ≤ slice_index wants j → IsOneOf part.jobs j
-  pub room : (k : ℕ) → 1 ≤ slice_index rooms k → IsOneOf part.stretches k
-  pub known : (p : ℕ) → p < length part.jobs → slice_index part.jobs p < length wants
-  pub known_stretch : (p : ℕ) → p < length part.stretches → slice_index part.stretches p < length rooms
+-- only these jobs may want units, and only these stretches may have room
+pub record AreWithin (jobs stretches wants rooms : List ℕ) : Type 0 where
+  pub want : (j : ℕ) → 1 ≤ slice_index wants j → IsOneOf jobs j
+  pub room : (k : ℕ) → 1 ≤ slice_index rooms k → IsOneOf stretches k
+  pub known : (p : ℕ) → p < length jobs → slice_index jobs p < length wants
+  pub known_stretch : (p : ℕ) → p < length stretches → slice_index stretches p < length rooms
 
 -- nothing is wanted of n jobs, and m stretches have no room
 pub record IsBlank (n m : ℕ) (space : Workspace) : Type 0 where

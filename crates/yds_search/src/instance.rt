@@ -16,7 +16,9 @@ const NUMBERS: u64 = 4_294_967_296;
 
 /// What stays the same while groups are looked for.
 #[derive(Drop)]
-pub(crate) struct Instance {
+pub(crate) struct Instance<'a> {
+    /// The jobs.
+    pub rows: &'a [JobRow],
     /// Each job's window as a range of stretches.
     pub windows: Vec<Window>,
     /// The jobs in order of deadline and number.
@@ -28,17 +30,19 @@ pub(crate) struct Instance {
 }
 
 /// The windows, the order, the works and the lengths.
-pub(crate) fn prepare(
+pub(crate) fn prepare<'a>(
     alloc: Global,
-    rows: &[JobRow],
+    rows: &'a [JobRow],
     timeline: &[Stretch],
-) -> Result<Instance, Memory>
+) -> Result<Instance<'a>, Memory>
     requires few { length rows.now ≤ MAX_JOBS }
     requires jobs { All IsJob rows.now }
     requires timeline { timeline.now ≡ stretches rows.now }
-    ensures { IfOk result (λ instance. IsInstance rows.now instance) }
+    ensures instance { IfOk result (λ instance. IsInstance rows.now instance) }
+    ensures rows { IfOk result (λ instance. instance.rows.now ≡ rows.now) }
 {
     Ok(Instance {
+        rows,
         windows: windows(alloc, rows, timeline)?,
         order: deadline_order(alloc, rows)?,
         works: works(alloc, rows)?,

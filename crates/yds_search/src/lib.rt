@@ -16,8 +16,7 @@ mod places;
 mod search;
 mod share;
 mod split;
-mod step;
-mod waiting;
+mod stack;
 mod workspace;
 
 pub use found::{Found, Group};

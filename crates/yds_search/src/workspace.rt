@@ -1,6 +1,7 @@
 ghost use Rattle.std.specs.Prelude.{◌≡◌, ℕ, ◌<◌, ◌≤◌, length, IfOk};
-ghost use Rattle.yds_search.specs.Waiting.{IsBlank};
+ghost use Rattle.yds_search.specs.Waiting.{IsBlank, AreWithin, HasReaches};
 
+use crate::amounts::clear;
 use crate::closure::Reaches;
 use std::alloc::Global;
 use yds_model::Memory;
@@ -15,6 +16,8 @@ pub(crate) struct Workspace {
     pub rooms: Vec<u64>,
     /// How far jobs reach that close upon a stretch, of no meaning between groups.
     pub reaches: Reaches,
+    /// Room for the two parts of a list.
+    pub parted: Vec<u32>,
 }
 
 /// Room for so many jobs and so many stretches.
@@ -34,5 +37,16 @@ pub(crate) fn blank_workspace(
             all: vec![in alloc; 0; stretches]?,
             guesses: vec![in alloc; 0; stretches]?,
         },
+        parted: Vec::new(alloc),
     })
+}
+
+/// The workspace is blank again, once a group is done with.
+pub(crate) fn clear_all(space: &mut Workspace, own_jobs: &[u32], own_stretches: &[u32])
+    requires within { AreWithin own_jobs.now own_stretches.now space.old.wants.items space.old.rooms.items }
+    requires reaches { HasReaches (length space.old.rooms.items) space.old.reaches }
+    ensures { IsBlank (length space.old.wants.items) (length space.old.rooms.items) space.new }
+{
+    clear(&mut space.wants, own_jobs);
+    clear(&mut space.rooms, own_stretches);
 }

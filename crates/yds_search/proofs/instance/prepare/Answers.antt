@@ -6,8 +6,8 @@ use Rattle.yds_events.specs.Stretch.{no_stretch, length_of}
 use Rattle.yds_events.proofs.Neighbours.{few_stretches, stretch_long, stretch_in_range}
 use Rattle.yds_search.proofs.instance.prepare.Goals as goal
 
-pub returns : goal.returns
-returns c =
+pub returns-clause-instance : goal.returns-clause-instance
+returns-clause-instance c =
     let jobs : (j : ℕ) → j < length c.args.rows.now → IsJob (job_at c.args.rows.now j) = λ j known. c.requires.jobs j no_job known in
     let count = ap (λ (pieces : List Piece). length pieces) c.requires.timeline in
     record {

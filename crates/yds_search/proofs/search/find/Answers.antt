@@ -1,57 +1,55 @@
-use Rattle.std.proofs.Common.{ℕ, ◌∙◌, List, length, ap, subst, arith}
-use Rattle.std.proofs.lemmas.List.{map_push, length-map}
-use Rattle.yds_events.specs.declared.window.Window.{Window}
-use Rattle.yds_search.specs.Views.{found_view, part_view, parts_view}
-use Rattle.yds_search.specs.Search.{IsBeginning}
-use Rattle.yds_search.specs.Waiting.{Part, IsStack, IsBlank}
-use Rattle.yds_search.proofs.Begin.{start_is}
-use Rattle.yds_search.proofs.Ends.{search_begins, search_ends, few_left}
+use Rattle.std.proofs.Common.{◌∙◌, List, length, sym, ap, subst, arith}
+use Rattle.std.proofs.lemmas.List.{length-map}
+use Rattle.yds_model.specs.Job.{Job}
+use Rattle.yds_search.specs.declared.stack.Size.{Size}
+use Rattle.yds_search.specs.Found.{IsFound}
+use Rattle.yds_search.specs.Views.{found_view}
+use Rattle.yds_search.specs.Waiting.{Part, IsStack}
+use Rattle.yds_search.specs.Stack.{size_of, jobs_of, stretches_of}
+use Rattle.yds_search.proofs.Parts.{jobs_more, stretches_more, last_part}
+use Rattle.yds_search.proofs.Ends.{search_ends, few_left}
 use Rattle.yds_search.proofs.Stacks.{stack_pop}
 use Rattle.yds_search.proofs.search.find.Goals as goal
 
-pub loop-waiting-init : goal.loop-waiting-init
-loop-waiting-init c = record {
-  search = search_begins c.args.rows.now c.in_ok-instance.instance.windows.items (found_view c.in_ok-found.found) 1000000 c.first_group-top.result
-      c.in_ok-instance.ensures.windows
-      (subst (λ (xs : List Window). IsBeginning c.args.rows.now xs (found_view c.in_ok-found.found) 1000000) c.deref.ensures.value c.in_ok-found.ensures)
-      (start_is c.args.rows.now c.in_ok-instance.instance c.deref-2.result.now c.first_group-top.result 1000000 c.in_ok-instance.ensures
-      c.deref-2.ensures.value c.first_group-top.ensures);
-  stack = c.in_ok-stack.ensures;
-  space = subst (λ (n : ℕ). IsBlank (length c.args.rows.now) n c.in_ok-space.space) (omega (arith, c.len-2.ensures, c.in_ok-instance.instance.lengths.ok)) c.in_ok-space.ensures;
-}
-
-pub advance-requires-clause-some : goal.advance-requires-clause-some
-advance-requires-clause-some c = omega (
-  arith,
-  few_left c.args.rows.now c.in_ok-instance.instance.windows.items (found_view c.loop-waiting.found) c.loop-waiting.top 1000000 c.loop-waiting.invariant.search,
-  c.in_ok-instance.ensures.few_stretches,
-)
-
-pub advance-requires-clause-stack : goal.advance-requires-clause-stack
-advance-requires-clause-stack c =
-    (stack_pop c.in_ok-instance.instance.order.items (found_view c.loop-waiting.found) c.loop-waiting.top 1000000 (parts_view c.pop.new.self.items) (part_view c.in-Some.waiting)
-    (subst (λ (parts : List Part). IsStack c.in_ok-instance.instance.order.items (found_view c.loop-waiting.found) c.loop-waiting.top 1000000 parts)
-    (ap parts_view c.in-Some.ensures.items ∙ map_push part_view c.pop.new.self.items c.in-Some.waiting) c.loop-waiting.invariant.stack)).0
-
-pub advance-requires-clause-waiting : goal.advance-requires-clause-waiting
-advance-requires-clause-waiting c =
-    (stack_pop c.in_ok-instance.instance.order.items (found_view c.loop-waiting.found) c.loop-waiting.top 1000000 (parts_view c.pop.new.self.items) (part_view c.in-Some.waiting)
-    (subst (λ (parts : List Part). IsStack c.in_ok-instance.instance.order.items (found_view c.loop-waiting.found) c.loop-waiting.top 1000000 parts)
-    (ap parts_view c.in-Some.ensures.items ∙ map_push part_view c.pop.new.self.items c.in-Some.waiting) c.loop-waiting.invariant.stack)).1
-
-pub advance-requires-clause-within : goal.advance-requires-clause-within
-advance-requires-clause-within c =
-    (stack_pop c.in_ok-instance.instance.order.items (found_view c.loop-waiting.found) c.loop-waiting.top 1000000 (parts_view c.pop.new.self.items) (part_view c.in-Some.waiting)
-    (subst (λ (parts : List Part). IsStack c.in_ok-instance.instance.order.items (found_view c.loop-waiting.found) c.loop-waiting.top 1000000 parts)
-    (ap parts_view c.in-Some.ensures.items ∙ map_push part_view c.pop.new.self.items c.in-Some.waiting) c.loop-waiting.invariant.stack)).2
+pub advance-requires-clause-chosen : goal.advance-requires-clause-chosen
+advance-requires-clause-chosen c =
+    let search = c.loop-size.invariant.search in
+    let cut = last_part search.parts c.pop.new.self.items c.in-Some.size (sym search.laid.sizes ∙ c.in-Some.ensures.items) in
+    let popped = stack_pop c.loop-size.search.instance.order.items (found_view c.loop-size.search.found) c.loop-size.search.top 1000000 cut.0 cut.1
+    (subst (λ (parts : List Part). IsStack c.loop-size.search.instance.order.items (found_view c.loop-size.search.found) c.loop-size.search.top 1000000 parts) cut.2 search.stack) in
+    record {
+      parts = cut.0;
+      part = cut.1;
+      instance = search.instance;
+      groups = search.groups;
+      within = popped.2;
+      some = omega (
+        arith,
+        few_left c.loop-size.search.instance.rows.now c.loop-size.search.instance.windows.items (found_view c.loop-size.search.found) c.loop-size.search.top 1000000 search.groups,
+        search.instance.few_stretches,
+      );
+      stack = popped.0;
+      own = popped.1;
+      last = record {
+        sizes = cut.3;
+        jobs_size = ap (λ (size : Size). size.jobs) cut.4;
+        stretches_size = ap (λ (size : Size). size.stretches) cut.4;
+        jobs = search.laid.jobs ∙ ap jobs_of cut.2 ∙ sym (jobs_more cut.0 cut.1);
+        stretches = search.laid.stretches ∙ ap stretches_of cut.2 ∙ sym (stretches_more cut.0 cut.1);
+      };
+    }
 
 pub returns : goal.returns
 returns c =
-    search_ends c.args.rows.now c.in_ok-instance.instance.windows.items (found_view c.loop-waiting.found) 1000000 c.loop-waiting.top c.in_ok-instance.ensures.windows
+    let search = c.loop-size.invariant.search in
+    subst (λ (jobs : List Job). IsFound jobs (found_view c.loop-size.search.found)) c.loop-size.invariant.rows
+    (search_ends c.loop-size.search.instance.rows.now c.loop-size.search.instance.windows.items (found_view c.loop-size.search.found) 1000000 c.loop-size.search.top
+    search.instance.windows
     (omega (
       arith,
       c.in_default.ensures.cases.0,
-      c.loop-waiting.stack.ok,
-      length-map c.loop-waiting.stack.items part_view,
-      c.loop-waiting.invariant.stack.count,
-    )) c.loop-waiting.invariant.search
+      c.loop-size.search.stack.sizes.ok,
+      ap (λ (xs : List Size). length xs) search.laid.sizes,
+      length-map search.parts size_of,
+      search.stack.count,
+    )) search.groups)

@@ -1,6 +1,6 @@
 use Rattle.std.proofs.Common.{ℕ, List, ◌++◌, ◌∷◌, [], ◌∙◌, ap, sym}
 use Rattle.yds_search.proofs.KeySums.{range_more}
-use Rattle.yds_search.proofs.waiting.all_numbers.Goals as goal
+use Rattle.yds_search.proofs.stack.all_numbers.Goals as goal
 
 pub loop-number-preserved : goal.loop-number-preserved
 loop-number-preserved c =
