@@ -10,11 +10,11 @@ use Rattle.yds_model.specs.Job.{Job}
 use Rattle.yds_model.specs.Piece.{Piece}
 use Rattle.yds_model.specs.Level.{Level, no_level, level_at}
 use Rattle.yds_certificate.specs.Level.{with_member}
-use Rattle.yds_plan.specs.Found.{Found, group_of}
+use Rattle.yds_search.specs.Found.{Found, group_of}
 use Rattle.yds_model.specs.Comparison.{stretch_at}
 use Rattle.yds_plan.specs.Laid.{level_of, levels_among, level_of_place, merged}
 use Rattle.yds_plan.specs.Drafts.{draft, drafts, extended, extended_level}
-use Rattle.yds_plan.proofs.KeySums.{range_more}
+use Rattle.yds_search.proofs.KeySums.{range_more}
 use Rattle.yds_plan.proofs.Speeds.{among_above}
 use Rattle.yds_plan.proofs.Levels.{place_level, place_in_level}
 use Rattle.yds_plan.proofs.Drafts.{map_range_set, map_range_same}

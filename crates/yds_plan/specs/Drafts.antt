@@ -5,7 +5,7 @@ use Rattle.yds_model.specs.Job.{Job}
 use Rattle.yds_model.specs.Piece.{Piece}
 use Rattle.yds_model.specs.Level.{Level, level_at}
 use Rattle.yds_model.specs.declared.limits.TheConstants.{MAX_JOBS, MAX_LEVEL_LENGTH, MAX_LEVEL_WORK}
-use Rattle.yds_plan.specs.Found.{Group, Found, group_at, group_of}
+use Rattle.yds_search.specs.Found.{Group, Found, group_at, group_of}
 use Rattle.yds_events.specs.Stretch.{no_stretch}
 use Rattle.yds_model.specs.Comparison.{stretch_at}
 use Rattle.yds_plan.specs.Laid.{slows_after, level_of, levels_among, level_of_place, merged, together}

@@ -4,11 +4,10 @@ ghost use Rattle.yds_model.specs.declared.limits.TheConstants.{MAX_JOBS, MAX_LEV
 ghost use Rattle.yds_model.specs.Job.{IsJob};
 ghost use Rattle.yds_model.specs.Level.{all_members, all_pieces};
 ghost use Rattle.yds_model.specs.Event.{stretches};
-ghost use Rattle.yds_plan.specs.Found.{IsFound};
-ghost use Rattle.yds_plan.specs.Views.{found_view};
+ghost use Rattle.yds_search.specs.Found.{IsFound};
+ghost use Rattle.yds_search.specs.Views.{found_view};
 ghost use Rattle.yds_plan.specs.Laid.{slots_of, levels_of};
 
-use crate::found::Found;
 use crate::layout_levels::levels_of_groups;
 use crate::layout_members::{add_members, add_pieces};
 use crate::layout_slots::schedule_of;
@@ -16,6 +15,7 @@ use std::alloc::Global;
 use yds_certificate::{Certificate, Level};
 use yds_events::Stretch;
 use yds_model::{JobRow, Memory};
+use yds_search::Found;
 use yds_slots::Schedule;
 
 /// A plan: a schedule of least work above every speed, and the certificate that shows it.

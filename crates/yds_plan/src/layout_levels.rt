@@ -1,15 +1,15 @@
 ghost use Rattle.std.specs.Prelude.{◌≡◌, ◌+◌, ◌-◌, ◌*◌, ◌<◌, ◌≤◌, length, map, nat_lt, IfOk, IsTrue};
 ghost use Rattle.std.specs.List.{range_with_len};
 ghost use Rattle.yds_model.specs.Level.{level_at};
-ghost use Rattle.yds_plan.specs.Views.{group_view};
+ghost use Rattle.yds_search.specs.Views.{group_view};
 ghost use Rattle.yds_plan.specs.Laid.{level_of};
 ghost use Rattle.yds_plan.specs.Drafts.{joins_before, with_group, empty_levels, AreGroupsWithin};
 
-use crate::found::Group;
 use std::alloc::Global;
 use yds_certificate::Level;
 use yds_model::Memory;
 use yds_model::limits::{MAX_LEVEL_LENGTH, MAX_LEVEL_WORK};
+use yds_search::Group;
 
 /// Whether the next group is slower than the one before it.
 fn slows(before: &Group, next: &Group) -> bool

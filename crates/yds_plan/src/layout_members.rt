@@ -4,15 +4,15 @@ ghost use Rattle.yds_model.specs.Level.{level_at};
 ghost use Rattle.yds_model.specs.Event.{stretches};
 ghost use Rattle.yds_model.specs.Within.{IsPiece};
 ghost use Rattle.yds_certificate.specs.Level.{with_member};
-ghost use Rattle.yds_plan.specs.Views.{found_view};
+ghost use Rattle.yds_search.specs.Views.{found_view};
 ghost use Rattle.yds_plan.specs.Laid.{level_of};
 ghost use Rattle.yds_plan.specs.Drafts.{drafts, touches_last, with_next, extended_level};
 
-use crate::found::Found;
 use yds_certificate::{Level, Piece};
 use yds_events::Stretch;
 use yds_model::limits::MAX_JOBS;
 use yds_model::{JobRow, Memory};
+use yds_search::Found;
 
 /// The job stands last among the members of the level.
 fn add_member(levels: &mut Vec<Level>, number: usize, job: u32) -> Result<(), Memory>

@@ -5,42 +5,41 @@ ghost use Rattle.yds_model.specs.Job.{IsJob};
 ghost use Rattle.yds_model.specs.Event.{stretches};
 ghost use Rattle.yds_model.specs.Scale.{of_parts};
 ghost use Rattle.yds_model.specs.Within.{IsFraction, IsSlot};
-ghost use Rattle.yds_plan.specs.Found.{IsFound, group_at, per_time, per_work};
-ghost use Rattle.yds_plan.specs.Views.{portions_view, group_view, found_view};
+ghost use Rattle.yds_search.specs.Found.{IsFound, group_at, per_time, per_work};
+ghost use Rattle.yds_search.specs.Views.{shares_view, group_view, found_view};
 ghost use Rattle.yds_plan.specs.Laid.{time_after, slots_from, slots_of};
 ghost use Rattle.yds_plan.specs.Room.{structs_in, IsWithin, CanFill, AreTerms};
 
-use crate::found::{Found, Group};
-use crate::portion::Portion;
 use std::alloc::Global;
 use yds_events::Stretch;
 use yds_fraction::{Amount, Moment, gcd};
 use yds_model::{JobRow, Memory};
+use yds_search::{Found, Group, Share};
 use yds_slots::{Schedule, Slot};
 
 /// So many empty lists.
-fn empty_lists(alloc: Global, count: usize) -> Result<Vec<Vec<Portion>>, Memory>
+fn empty_lists(alloc: Global, count: usize) -> Result<Vec<Vec<Share>>, Memory>
     ensures { IfOk result (λ lists. map (λ list. list.items) lists.items ≡ map (structs_in []) (range_with_len 0 count)) }
 {
-    let mut lists: Vec<Vec<Portion>> = Vec::new(alloc);
+    let mut lists: Vec<Vec<Share>> = Vec::new(alloc);
     for _ in 0..count {
         lists.push(Vec::new(alloc))?;
     }
     Ok(lists)
 }
 
-/// The portions of each stretch, in the order in which they were found.
-pub(crate) fn portions_by_stretch(
+/// The shares of each stretch, in the order in which they were found.
+pub(crate) fn shares_by_stretch(
     alloc: Global,
-    portions: &[Portion],
+    shares: &[Share],
     stretches: usize,
-) -> Result<Vec<Vec<Portion>>, Memory>
-    requires { All (λ portion. portion.stretch < stretches) portions.now }
-    ensures { IfOk result (λ lists. map (λ list. list.items) lists.items ≡ map (structs_in portions.now) (range_with_len 0 stretches)) }
+) -> Result<Vec<Vec<Share>>, Memory>
+    requires { All (λ share. share.stretch < stretches) shares.now }
+    ensures { IfOk result (λ lists. map (λ list. list.items) lists.items ≡ map (structs_in shares.now) (range_with_len 0 stretches)) }
 {
     let mut lists = empty_lists(alloc, stretches)?;
-    for portion in portions {
-        lists[portion.stretch as usize].push(*portion)?;
+    for share in shares {
+        lists[share.stretch as usize].push(*share)?;
     }
     Ok(lists)
 }
@@ -90,44 +89,44 @@ fn terms_of_groups(alloc: Global, groups: &[Group]) -> Result<Vec<Terms>, Memory
     Ok(terms)
 }
 
-/// The slot of a portion, in a stretch from `start` on, where `done` units are done before it.
-fn slot_of(portion: &Portion, start: u32, done: u64, terms: Terms) -> Slot
-    requires { IsWithin terms.per_time terms.per_work start done portion.now.units }
-    ensures job { result.job ≡ portion.now.job }
+/// The slot of a share, in a stretch from `start` on, where `done` units are done before it.
+fn slot_of(share: &Share, start: u32, done: u64, terms: Terms) -> Slot
+    requires { IsWithin terms.per_time terms.per_work start done share.now.units }
+    ensures job { result.job ≡ share.now.job }
     ensures from { result.from ≡ time_after start done terms.per_time }
-    ensures to { result.to ≡ time_after start (done + portion.now.units) terms.per_time }
-    ensures work { result.work ≡ of_parts portion.now.units terms.per_work }
+    ensures to { result.to ≡ time_after start (done + share.now.units) terms.per_time }
+    ensures work { result.work ≡ of_parts share.now.units terms.per_work }
     ensures kept { IsSlot result }
 {
     Slot {
-        job: portion.job,
+        job: share.job,
         from: time_after(start, done, terms.per_time),
-        to: time_after(start, done + portion.units, terms.per_time),
-        work: Amount::of_parts(u128::from(portion.units), terms.per_work),
+        to: time_after(start, done + share.units, terms.per_time),
+        work: Amount::of_parts(u128::from(share.units), terms.per_work),
     }
 }
 
-/// Fills a stretch, from its start on, with these portions at the group's speed. `_group` is named for the
+/// Fills a stretch, from its start on, with these shares at the group's speed. `_group` is named for the
 /// contract alone.
 fn fill_stretch(
     schedule: &mut Schedule,
     _group: &Group,
     terms: Terms,
     start: u32,
-    portions: &[Portion],
+    shares: &[Share],
 ) -> Result<(), Memory>
     requires per_time { terms.per_time ≡ per_time (group_view _group.now) }
     requires per_work { terms.per_work ≡ per_work (group_view _group.now) }
-    requires fits { CanFill schedule.old.jobs schedule.old.slots (group_view _group.now) start (portions_view portions.now) }
+    requires fits { CanFill schedule.old.jobs schedule.old.slots (group_view _group.now) start (shares_view shares.now) }
     ensures { IfOk result (λ _. schedule.new ≡ record {
       jobs = schedule.old.jobs;
-      slots = schedule.old.slots ++ slots_from (group_view _group.now) start 0 (portions_view portions.now);
+      slots = schedule.old.slots ++ slots_from (group_view _group.now) start 0 (shares_view shares.now);
     }) }
 {
     let mut done: u64 = 0;
-    for portion in portions {
-        schedule.push(slot_of(portion, start, done, terms))?;
-        done += portion.units;
+    for share in shares {
+        schedule.push(slot_of(share, start, done, terms))?;
+        done += share.units;
     }
     Ok(())
 }
@@ -145,14 +144,14 @@ pub(crate) fn schedule_of(
     requires timeline { timeline.now ≡ stretches rows.now }
     ensures { IfOk result (λ schedule. schedule ≡ record { jobs = length rows.now; slots = slots_of rows.now (found_view found.now) }) }
 {
-    let portions = portions_by_stretch(alloc, &found.portions, found.group_of_stretch.len())?;
+    let shares = shares_by_stretch(alloc, &found.shares, found.group_of_stretch.len())?;
     let terms = terms_of_groups(alloc, &found.groups)?;
     let mut schedule = Schedule::new(alloc, rows.len() as u32)?;
     for (stretch, place) in found.group_of_stretch.iter().enumerate() {
         if let Some(group) = found.groups.get(*place as usize) {
             let speed = terms[*place as usize];
             let own = timeline[stretch];
-            fill_stretch(&mut schedule, group, speed, own.from, &portions[stretch])?;
+            fill_stretch(&mut schedule, group, speed, own.from, &shares[stretch])?;
         }
     }
     Ok(schedule)

@@ -1,6 +1,6 @@
 use Rattle.std.proofs.Common.{ap, arith, length}
 use Rattle.yds_model.specs.Level.{all_members, all_pieces}
-use Rattle.yds_plan.specs.Views.{found_view}
+use Rattle.yds_search.specs.Views.{found_view}
 use Rattle.yds_events.proofs.Neighbours.{few_stretches}
 use Rattle.yds_plan.proofs.Speeds.{among_below}
 use Rattle.yds_plan.proofs.Levels.{levels_length, few_members}

@@ -1,6 +1,6 @@
 use Rattle.std.proofs.Common.{◌∙◌, sym, ap, map, length}
 use Rattle.std.proofs.lemmas.List.{length-map}
-use Rattle.yds_plan.specs.Views.{found_view, group_view}
+use Rattle.yds_search.specs.Views.{found_view, group_view}
 use Rattle.yds_plan.specs.Drafts.{empty_levels}
 use Rattle.yds_plan.proofs.Bounds.{groups_within}
 use Rattle.yds_plan.proofs.layout.levels_of_found.Goals as goal

@@ -1,5 +1,5 @@
 use Rattle.std.proofs.Common.{◌∙◌, ap, get_or}
-use Rattle.yds_plan.specs.Views.{found_view}
+use Rattle.yds_search.specs.Views.{found_view}
 use Rattle.yds_plan.proofs.DraftSteps.{number_within, member_step, member_skip}
 use Rattle.yds_plan.proofs.layout_members.add_members.Goals as goal
 use Rattle.yds_plan.proofs.layout_members.add_members.Goals.{in-Some+in_ok-add_member, in_default}

@@ -1,8 +1,8 @@
 use Rattle.std.proofs.Common.{◌∙◌, ap, arith, length, get_or}
 use Rattle.yds_model.specs.Event.{stretches}
-use Rattle.yds_plan.specs.Views.{found_view}
+use Rattle.yds_search.specs.Views.{found_view}
 use Rattle.yds_events.proofs.Neighbours.{stretch_read}
-use Rattle.yds_plan.proofs.Numbers.{still_within}
+use Rattle.yds_search.proofs.Numbers.{still_within}
 use Rattle.yds_plan.proofs.DraftSteps.{number_within, piece_step, piece_skip}
 use Rattle.yds_plan.proofs.layout_members.add_pieces.Goals as goal
 use Rattle.yds_plan.proofs.layout_members.add_pieces.Goals.{in-Some+in_ok-add_piece, in_default}

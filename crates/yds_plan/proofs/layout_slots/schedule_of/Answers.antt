@@ -2,29 +2,29 @@ use Rattle.std.proofs.Common.{ℕ, ◌≡◌, ◌<◌, ◌∙◌, List, map, sym
 use Rattle.std.proofs.lemmas.List.{length-map, get_or-map, get_or_default}
 use Rattle.yds_model.specs.Piece.{Piece}
 use Rattle.yds_model.specs.Event.{stretches}
-use Rattle.yds_plan.specs.declared.found.Group.{Group as GroupStruct}
+use Rattle.yds_search.specs.declared.found.Group.{Group as GroupStruct}
 use Rattle.yds_plan.specs.declared.layout_slots.Terms.{Terms}
 use Rattle.yds_plan.specs.Room.{AreTerms, no_terms}
-use Rattle.yds_plan.specs.Found.{Group, group_at, per_time, per_work, no_portion}
-use Rattle.yds_plan.specs.Views.{found_view, portions_view, group_view, portion_view}
+use Rattle.yds_search.specs.Found.{Group, group_at, per_time, per_work, no_share}
+use Rattle.yds_search.specs.Views.{found_view, shares_view, group_view, share_view}
 use Rattle.yds_events.proofs.Neighbours.{stretch_read}
-use Rattle.yds_plan.proofs.Numbers.{still_within}
+use Rattle.yds_search.proofs.Numbers.{still_within}
 use Rattle.yds_plan.proofs.Buckets.{vectors_count}
-use Rattle.yds_plan.proofs.Laying.{group_read, portions_read, can_fill_next, laid_next, laid_skip}
+use Rattle.yds_plan.proofs.Laying.{group_read, shares_read, can_fill_next, laid_next, laid_skip}
 use Rattle.yds_plan.proofs.layout_slots.schedule_of.Goals as goal
 use Rattle.yds_plan.proofs.layout_slots.schedule_of.Goals.{In-loop-stretch, in-Some+in_ok-fill_stretch, in_default}
 
-pub portions_by_stretch-requires : goal.portions_by_stretch-requires
-portions_by_stretch-requires c = λ k d within.
-    let items = c.args.found.now.portions.items in
+pub shares_by_stretch-requires : goal.shares_by_stretch-requires
+shares_by_stretch-requires c = λ k d within.
+    let items = c.args.found.now.shares.items in
     let inside : k < length items = omega (arith, within, ap length c.deref.ensures.value) in
-    let known = (c.requires.found.portions k no_portion (omega (arith, inside, length-map items portion_view))).known_stretch in
+    let known = (c.requires.found.shares k no_share (omega (arith, inside, length-map items share_view))).known_stretch in
     omega (
       arith,
       c.len.ensures,
       c.requires.found.all_stretches,
       known,
-      ap (λ portion. portion.stretch) (get_or-map portion_view items k d no_portion inside),
+      ap (λ share. share.stretch) (get_or-map share_view items k d no_share inside),
       ap (λ some. (get_or some k d).stretch) c.deref.ensures.value,
     )
 
@@ -45,7 +45,7 @@ index-requires c =
     omega (
       arith,
       counted (goal.at.index-requires c).In-loop-stretch,
-      vectors_count (λ list. list.items) c.deref.result.now c.len.result c.in_ok-portions.portions.items c.in_ok-portions.ensures,
+      vectors_count (λ list. list.items) c.deref.result.now c.len.result c.in_ok-shares.shares.items c.in_ok-shares.ensures,
     )
 
 -- the terms of the group that is read
@@ -91,8 +91,8 @@ fill_stretch-requires-clause-fits c =
     (group_read groups c.deref-in-loop-stretch.result.now _ c.in-Some.group.now c.deref-in-loop-stretch.ensures.value read.3.0 read.1)
     (ap (λ (piece : Piece). piece.from) (stretch_read c.args.rows.now c.args.timeline.now k c.index-timeline-stretch.result _ c.requires.timeline (inside here)
     c.index-timeline-stretch.is c.own.view_is))
-    (portions_read (λ list. list.items) c.deref.result.now c.args.found.now.portions.items c.len.result k c.in_ok-portions.portions.items
-    c.index.result.now c.deref-in-Some.result.now c.deref.ensures.value c.in_ok-portions.ensures (counted here) c.index.ensures
+    (shares_read (λ list. list.items) c.deref.result.now c.args.found.now.shares.items c.len.result k c.in_ok-shares.shares.items
+    c.index.result.now c.deref-in-Some.result.now c.deref.ensures.value c.in_ok-shares.ensures (counted here) c.index.ensures
     c.deref-in-Some.ensures.value)
 
 pub loop-stretch-preserved : goal.loop-stretch-preserved
@@ -106,12 +106,12 @@ loop-stretch-preserved c =
           let read = w.in-Some.ensures.lookup in
           w.schedule-is
           ∙ laid_next c.args.rows.now (found_view c.args.found.now) c.requires.jobs c.requires.found c.requires.few k _ c.loop-stretch.schedule
-          w.fill_stretch.new.schedule (group_view w.in-Some.group.now) _ (portions_view w.deref-in-Some.result.now) c.loop-stretch.invariant place
+          w.fill_stretch.new.schedule (group_view w.in-Some.group.now) _ (shares_view w.deref-in-Some.result.now) c.loop-stretch.invariant place
           (group_read groups c.deref-in-loop-stretch.result.now _ w.in-Some.group.now c.deref-in-loop-stretch.ensures.value read.3.0 read.1)
           (ap (λ (piece : Piece). piece.from) (stretch_read c.args.rows.now c.args.timeline.now k w.index-timeline-stretch.result _ c.requires.timeline (inside here)
           w.index-timeline-stretch.is w.own.view_is))
-          (portions_read (λ list. list.items) c.deref.result.now c.args.found.now.portions.items c.len.result k c.in_ok-portions.portions.items
-          w.index.result.now w.deref-in-Some.result.now c.deref.ensures.value c.in_ok-portions.ensures (counted here) w.index.ensures
+          (shares_read (λ list. list.items) c.deref.result.now c.args.found.now.shares.items c.len.result k c.in_ok-shares.shares.items
+          w.index.result.now w.deref-in-Some.result.now c.deref.ensures.value c.in_ok-shares.ensures (counted here) w.index.ensures
           w.deref-in-Some.ensures.value)
           w.in_ok-fill_stretch.ensures
       | in_default w ↦

@@ -4,10 +4,10 @@ use Rattle.yds_plan.proofs.Fitting.{kept_within, slot_is}
 use Rattle.yds_plan.proofs.layout_slots.slot_of.Goals as goal
 use Rattle.yds_plan.proofs.layout_slots.slot_of.Goals.{After-of_parts}
 
-slot : (c : After-of_parts) → IsSlot (record { job = c.args.portion.now.job; from = c.time_after.result; to = c.time_after-2.result; work = c.of_parts.result })
+slot : (c : After-of_parts) → IsSlot (record { job = c.args.share.now.job; from = c.time_after.result; to = c.time_after-2.result; work = c.of_parts.result })
 slot c =
-    let units = c.args.portion.now.units in
-    slot_is c.args.terms.per_time c.args.start c.args.done units c.args.portion.now.job _ _ _
+    let units = c.args.share.now.units in
+    slot_is c.args.terms.per_time c.args.start c.args.done units c.args.share.now.job _ _ _
     c.time_after.ensures.value c.time_after-2.ensures.value c.time_after.ensures.kept c.time_after-2.ensures.kept
     (kept_within MAX_SLOT_WORK units c.args.terms.per_work _ c.of_parts.ensures.kept.fraction (rw c.from.ensures at c.of_parts.ensures.whole) c.requires.work)
 
