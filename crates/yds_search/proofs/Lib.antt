@@ -13,7 +13,7 @@ mod Deadlines
 mod Ends
 mod Lowest
 mod Totals
-mod Numbers
+pub mod Numbers
 mod Stacks
 mod Reaches
 mod Finish
