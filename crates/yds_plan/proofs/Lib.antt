@@ -11,7 +11,7 @@ pub mod FoundPlan
 pub mod Drafts
 pub mod Extended
 pub mod DraftSteps
-pub mod Buckets
+pub mod Places
 pub mod Fitting
 pub mod Bounds
 pub mod Laying

@@ -1,3 +1,4 @@
 pub mod Laid
 pub mod Drafts
 pub mod Room
+pub mod Sorted

@@ -66,8 +66,8 @@ pub(crate) fn levels_of_groups(
     ensures levels { IfOk result (λ r. r.0.items ≡ empty_levels (map group_view groups.now) (length groups.now)) }
     ensures numbers { IfOk result (λ r. r.1.items ≡ map (level_of (map group_view groups.now)) (range_with_len 0 (length groups.now))) }
 {
-    let mut levels: Vec<Level> = Vec::new(alloc);
-    let mut numbers: Vec<u32> = Vec::new(alloc);
+    let mut levels: Vec<Level> = Vec::with_capacity(alloc, groups.len())?;
+    let mut numbers: Vec<u32> = Vec::with_capacity(alloc, groups.len())?;
     for (i, group) in groups.iter().enumerate() {
         add_group(alloc, &mut levels, joins(groups, i), group)?;
         numbers.push(levels.len() as u32 - 1)?;

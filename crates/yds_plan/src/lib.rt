@@ -9,6 +9,7 @@
 mod layout;
 mod layout_levels;
 mod layout_members;
+mod layout_shares;
 mod layout_slots;
 mod planning;
 
