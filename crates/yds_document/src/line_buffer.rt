@@ -43,15 +43,6 @@ impl LineBuffer {
         LineBuffer { text }
     }
 
-    /// The line begins anew with this word, in the same place.
-    pub(crate) fn restart(&mut self, kind: &str)
-        requires { length kind.now ≤ LINE_BYTES }
-        ensures { self.new ≡ kind.now }
-    {
-        self.text.clear();
-        self.text.push_str(kind);
-    }
-
     /// One more field, after a space.
     pub fn field(mut self, field: &str) -> LineBuffer
         requires { length self + 1 + length field.now ≤ LINE_BYTES }
@@ -63,7 +54,7 @@ impl LineBuffer {
     }
 
     /// The same in place: nothing is moved.
-    pub(crate) fn push_field(&mut self, field: &str)
+    fn push_field(&mut self, field: &str)
         requires { length self.old + 1 + length field.now ≤ LINE_BYTES }
         ensures bytes { self.new ≡ self.old ++ 32 ∷ field.now }
         ensures len { length self.new ≡ length self.old + 1 + length field.now }
@@ -83,7 +74,7 @@ impl LineBuffer {
     }
 
     /// The same in place.
-    pub(crate) fn push_number(&mut self, number: u64)
+    fn push_number(&mut self, number: u64)
         requires { length self.old + 1 + NUMBER_BYTES ≤ LINE_BYTES }
         ensures bytes { self.new ≡ self.old ++ 32 ∷ decimal number }
         ensures short { length self.new ≤ length self.old + 1 + NUMBER_BYTES }
@@ -141,7 +132,7 @@ impl LineBuffer {
     }
 
     /// The same in place.
-    pub(crate) fn push_fraction(&mut self, value: Amount)
+    fn push_fraction(&mut self, value: Amount)
         requires { length self.old + 1 + FRACTION_BYTES ≤ LINE_BYTES }
         ensures bytes { self.new ≡ self.old ++ 32 ∷ fraction_text value }
         ensures short { length self.new ≤ length self.old + 1 + FRACTION_BYTES }
@@ -189,16 +180,8 @@ impl LineBuffer {
         requires { length self + 1 ≤ LINE_BYTES }
         ensures bytes { result ≡ self ++ 10 ∷ [] }
     {
-        self.push_end();
-        self
-    }
-
-    /// The same in place.
-    pub(crate) fn push_end(&mut self)
-        requires { length self.old + 1 ≤ LINE_BYTES }
-        ensures { self.new ≡ self.old ++ 10 ∷ [] }
-    {
         self.text.push_str("\n");
+        self
     }
 
     /// The line's bytes.
