@@ -73,9 +73,9 @@ slot_is p start done next job from to work is_from is_to kept_from kept_to kept_
 }
 
 -- nothing is filled yet
-pub filled_none : (before : WrittenSchedule) (terms : Terms) (start : ℕ) (from : Fraction) {units : ℕ} → 1 ≤ terms.per_time → from ≡ of_whole start →
+pub filled_none : (before : WrittenSchedule) (terms : Terms) (start : ℕ) (from : Fraction) (units : ℕ) → 1 ≤ terms.per_time → from ≡ of_whole start →
     start * terms.per_time + units ≤ MAX_TIME * terms.per_time → IsFraction MAX_WHOLE from → IsFilled before terms start [] 0 from before
-filled_none before terms start from some is room kept = record {
+filled_none before terms start from units some is room kept = record {
   jobs_stay = refl;
   laid = sym (append-nil before.slots);
   units = refl;

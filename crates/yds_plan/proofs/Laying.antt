@@ -24,7 +24,7 @@ use Rattle.yds_search.specs.Views.{share_view, shares_view, group_view}
 use Rattle.yds_plan.specs.declared.layout_slots.Terms.{Terms}
 use Rattle.yds_plan.specs.Laid.{terms_of, slots_from, shares_in, slots_in_stretch, slots_of}
 use Rattle.yds_plan.specs.Room.{CanFill}
-use Rattle.yds_plan.specs.Sorted.{structs_in, first_place, AreSorted}
+use Rattle.yds_plan.specs.Sorted.{structs_in, start_of, AreSorted}
 use Rattle.yds_search.proofs.KeySums.{range_more, range_within}
 use Rattle.yds_events.proofs.Neighbours.{few_stretches, stretch_in_range}
 use Rattle.yds_plan.proofs.Blocks.{all_of_blocks}
@@ -204,9 +204,7 @@ terms_read groups terms place speed are within read =
           ∙ ap terms_of (sym (get_or-map group_view groups place (record { work = 0; length = 0 }) no_group known)),
     )
 
-pub shares_read : (shares sorted own : List Struct) (ends : List ℕ) (n k start end : ℕ) → AreSorted shares n ends sorted → k < n →
-    start ≡ first_place shares k → end ≡ get_or ends k 0 → own ≡ slice_range sorted start end → shares_view own ≡ shares_in (shares_view shares) k
-shares_read shares sorted own ends n k start end are below is_start is_end read =
-    ap shares_view (read ∙ ap (λ from. slice_range sorted from end) is_start
-    ∙ ap (slice_range sorted (first_place shares k)) (is_end ∙ are.end_at k below) ∙ are.parts k below)
-    ∙ view_in shares k
+pub shares_read : (given all sorted own : List Struct) (ends : List ℕ) (n k : ℕ) → given ≡ all → AreSorted given n ends sorted → k < n →
+    own ≡ slice_range sorted (start_of ends k) (get_or ends k 0) → shares_view own ≡ shares_in (shares_view all) k
+shares_read given all sorted own ends n k same are below read =
+    ap shares_view (read ∙ are.parts k below ∙ ap (λ some. structs_in some k) same) ∙ view_in all k

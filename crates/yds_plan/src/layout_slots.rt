@@ -110,14 +110,12 @@ pub(crate) fn schedule_of(
     let sorted = sort_shares(alloc, &found.shares, timeline.len())?;
     let terms = terms_of_groups(alloc, &found.groups)?;
     let mut schedule = Schedule::with_capacity(alloc, rows.len() as u32, found.shares.len())?;
-    let mut start = 0;
     for (stretch, place) in found.group_of_stretch.iter().enumerate() {
-        let end = sorted.ends[stretch] as usize;
         if let Some(speed) = terms.get(*place as usize) {
             let own = timeline[stretch];
-            fill_stretch(&mut schedule, *speed, own.from, &sorted.shares[start..end])?;
+            let shares = sorted.of_stretch(stretch);
+            fill_stretch(&mut schedule, *speed, own.from, shares)?;
         }
-        start = end;
     }
     Ok(schedule)
 }

@@ -11,7 +11,9 @@ within c =
     c.args.start c.requires c.loop-share.done c.loop-share.invariant.units
 
 pub loop-share-init : goal.loop-share-init
-loop-share-init c = filled_none c.args.schedule.now c.args.terms c.args.start _ c.requires.some_time c.from_whole-from.ensures.value c.requires.room c.from_whole-from.ensures.kept.fraction
+loop-share-init c =
+    filled_none c.args.schedule.now c.args.terms c.args.start _ _ c.requires.some_time (rw c.from.ensures at c.from_whole-from.ensures.value)
+    c.requires.room c.from_whole-from.ensures.kept.fraction
 
 pub overflow_add-done : goal.overflow_add-done
 overflow_add-done c =
@@ -44,8 +46,9 @@ push-requires-clause-known c =
 pub push-requires-clause-grain : goal.push-requires-clause-grain
 push-requires-clause-grain c =
     let share = get_or c.args.shares.now c.loop-share.share-index no_struct in
-    fits_next c.args.start 0 share.job share.units c.args.terms c.args.schedule.now.slots c.loop-share.schedule.slots _ c.slot
-    c.requires.some_work refl c.of_parts.ensures.value c.loop-share.invariant.laid
+    fits_next c.args.start 0 share.job share.units c.args.terms c.args.schedule.now.slots c.loop-share.schedule.slots _
+    (record { job = share.job; from = c.loop-share.from; to = c.time_after-to.result; work = c.of_parts.result })
+    c.requires.some_work refl (rw c.from-in-loop-share.ensures at c.of_parts.ensures.value) c.loop-share.invariant.laid
     (grain_next c.args.shares.now c.loop-share.share-index c.loop-share-test.true c.args.schedule.now.jobs c.args.schedule.now.slots c.args.terms
     c.args.start c.requires)
 
@@ -57,5 +60,12 @@ push-requires-clause-room c =
 pub loop-share-preserved : goal.loop-share-preserved
 loop-share-preserved c =
     filled_next c.args.shares.now c.loop-share.share-index c.loop-share-test.true c.args.schedule.now c.loop-share.schedule c.push.new.self
-    c.args.terms c.args.start c.loop-share.done c.loop-share.from _ c.loop-share.invariant refl refl c.time_after-to.ensures.value
-    c.time_after-to.ensures.kept c.of_parts.ensures.value c.in_ok-push.ensures.ok
+    c.args.terms c.args.start c.loop-share.done c.loop-share.from
+    (record {
+      job = (get_or c.args.shares.now c.loop-share.share-index no_struct).job;
+      from = c.loop-share.from;
+      to = c.time_after-to.result;
+      work = c.of_parts.result;
+    })
+    c.loop-share.invariant refl refl c.time_after-to.ensures.value
+    c.time_after-to.ensures.kept (rw c.from-in-loop-share.ensures at c.of_parts.ensures.value) c.in_ok-push.ensures.ok
