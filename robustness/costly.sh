@@ -145,7 +145,7 @@ awk 'BEGIN { for (i = 0; i < 59; i++) x = x "x"; print "horizon 1000000000"; pri
 compare 0 expand named-tasks tasks "4,000 tasks, names of 59 bytes"
 compare 0 expand one-task tasks "4,000 jobs of one task"
 
-# Names whose hashes were chosen to agree, and plain names of the same length.
+# Names that were chosen to come to one place of the table, and plain names of the same length.
 "$work/names" >chosen
 awk '{ printf "aaaaaaaaaaaa%04d\n", NR }' chosen >usual
 for names in chosen usual; do
@@ -155,9 +155,9 @@ for names in chosen usual; do
 		END { for (i = 0; i < 100000; i++) print "slot", name, i, i + 1, 1
 			print "level 100000 100000\npiece 0 100000"; for (i = 0; i < 100000; i++) print "member", name }' $names >members-$names
 done
-compare 0 plan jobs-chosen jobs-usual "4,000 jobs, names whose hashes agree"
+compare 0 plan jobs-chosen jobs-usual "4,000 jobs, names that come to one place"
 compare 1 check members-chosen members-usual "100,000 slots and members of the last of them"
-compare 0 expand tasks-chosen tasks-usual "4,000 tasks, names whose hashes agree"
+compare 0 expand tasks-chosen tasks-usual "4,000 tasks, names that come to one place"
 
 echo "$passed passed, $failed failed"
 [ $failed = 0 ]
