@@ -1,5 +1,5 @@
 use Rattle.std.proofs.Common.{◌≡◌, ◌++◌, replicate}
-use Rattle.yds_document.proofs.line_buffer.LineBuffer.spaces.Given as goal
+use Rattle.yds_document.proofs.line_buffer.LineBuffer.push_spaces.Given as goal
 
 -- so many spaces were put
 abbrev pub invariant-loop : goal.invariant-loop
