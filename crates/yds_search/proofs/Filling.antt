@@ -34,12 +34,6 @@ fill_begins jobs windows order wants rooms = record {
   few = omega arith;
 }
 
--- what is left of wants when one job is served
-want_left : (wants : List ℕ) (place i left before after given : ℕ) → place < length wants →
-    (after + left ≡ before + get_or wants place 0) → before + get_or wants place 0 ≡ given →
-    after + get_or (set wants place left) place 0 ≡ given
-want_left wants place i left before after given within is was = omega (arith, get_or-set_same wants place left 0 within)
-
 wanted_once : (left want given units : ℕ) → units + want ≡ given → min want 1 ≤ (if nat_lt 0 given then 1 else 0)
 wanted_once left want given units is = grind (arith, nat_tests)
 

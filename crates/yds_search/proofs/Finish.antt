@@ -97,12 +97,6 @@ renamed_later groups top one other apart renamed later = elim renamed [
   | inr same ↦ sym same.1
 ]
 
-renamed_before : (groups top one other : ℕ) → groups ≤ top → IsRenamed top groups one other → one < groups → other ≡ one
-renamed_before groups top one other apart renamed before = elim renamed [
-  | inl both ↦ absurd (omega (arith, both.0, apart, before))
-  | inr same ↦ same.1
-]
-
 renamed_same : (groups top one other : ℕ) → IsRenamed top groups one other → (one ≡ top → ⊥) → other ≡ one
 renamed_same groups top one other renamed apart = elim renamed [
   | inl both ↦ absurd (apart both.0)

@@ -1,5 +1,5 @@
 -- The greatest common divisor divides, and what is left by it.
-use Rattle.std.proofs.Common.{◌≡◌, ℕ, zero, suc, ◌+◌, ◌*◌, ◌/◌, ◌%◌, ◌≤◌, ◌∙◌, refl, ap, arith}
+use Rattle.std.proofs.Common.{◌≡◌, ℕ, zero, suc, ◌+◌, ◌*◌, ◌/◌, ◌%◌, ◌≤◌, ◌∙◌, ap, arith}
 use Rattle.std.proofs.Math.Nat.{mul-div_cancel, div-le_self}
 use Rattle.yds_model.specs.Divisor.{divisor_within, common_divisor}
 
@@ -33,21 +33,6 @@ pub record IsLowest (a b divisor : ℕ) : Type 0 where
   pub first_within : a / divisor ≤ a
   pub second_within : b / divisor ≤ b
   pub same : a / divisor * b ≡ b / divisor * a
-
--- turns that are enough make no difference
-more_turns : (turns turns' a b : ℕ) → b ≤ turns → b ≤ turns' → divisor_within turns a b ≡ divisor_within turns' a b
-more_turns zero zero a b few few' = refl
-more_turns zero (suc turns') a zero few few' = refl
-more_turns zero (suc turns') a (suc b) few few' = absurd (omega arith)
-more_turns (suc turns) zero a zero few few' = refl
-more_turns (suc turns) zero a (suc b) few few' = absurd (omega arith)
-more_turns (suc turns) (suc turns') a zero few few' = refl
-more_turns (suc turns) (suc turns') a (suc b) few few' = more_turns turns turns' (suc b) (a % suc b) (omega arith) (omega arith)
-
--- one turn of Euclid's
-pub divisor_turn : (a b : ℕ) → 1 ≤ b → common_divisor a b ≡ common_divisor b (a % b)
-divisor_turn a zero some = absurd (omega arith)
-divisor_turn a (suc b) some = more_turns b (a % suc b) (suc b) (a % suc b) (omega arith) (omega arith)
 
 quotient_some : (one divisor : ℕ) → 1 ≤ one * divisor → (1 ≤ one) × (1 ≤ divisor)
 quotient_some zero divisor some = absurd (omega arith)

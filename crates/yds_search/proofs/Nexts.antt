@@ -11,49 +11,6 @@ use Rattle.yds_search.specs.Numbers.{values_at}
 use Rattle.yds_search.proofs.Numbers.{value_at, value_past, values_count, rising_back}
 use Rattle.yds_search.proofs.Fills.{serve_passes, serve_took, all_taken}
 
--- going on from here to where one may go on from the next place
-pub next_shorter : (rooms next : List ℕ) (place : ℕ) → IsNext rooms next → place < length next → place < get_or next place 0 →
-    IsNext rooms (set next place (get_or next (get_or next place 0) 0))
-next_shorter rooms next place are within more =
-    let after : get_or next place 0 < length next = are.inside place within in
-    let here : get_or (set next place (get_or next (get_or next place 0) 0)) place 0 ≡ get_or next (get_or next place 0) 0 =
-    get_or-set_same next place (get_or next (get_or next place 0) 0) 0 within in
-    let there : (k : ℕ) → k ≢ place → get_or (set next place (get_or next (get_or next place 0) 0)) k 0 ≡ get_or next k 0 =
-    λ k other. get_or-set_other next place k (get_or next (get_or next place 0) 0) 0 other in
-    let same : length (set next place (get_or next (get_or next place 0) 0)) ≡ length next = length-set next place (get_or next (get_or next place 0) 0) in
-    record {
-      count = same ∙ are.count;
-      forward = λ k in_range. elim (cases_eq k place) [
-        | inl at_place ↦ subst (λ (i : ℕ). i ≤ get_or (set next place (get_or next (get_or next place 0) 0)) i 0) (sym at_place)
-            (omega (arith, here, are.forward (get_or next place 0) after))
-        | inr other ↦ omega (arith, there k other, are.forward k (omega (arith, same)))
-      ];
-      inside = λ k in_range. elim (cases_eq k place) [
-        | inl at_place ↦ subst (λ (i : ℕ). get_or (set next place (get_or next (get_or next place 0) 0)) i 0 < length (set next place (get_or next (get_or next place 0) 0))) (sym at_place)
-            (omega (arith, here, same, are.inside (get_or next place 0) after))
-        | inr other ↦ omega (arith, there k other, same, are.inside k (omega (arith, same)))
-      ];
-      full = λ k i in_range from upto. elim (cases_eq k place) [
-        | inl at_place ↦ elim (cases_lt i (get_or next place 0)) [
-          | inl first ↦ are.full place i within (omega arith) first
-          | inr second ↦ are.full (get_or next place 0) i after second
-              (omega (arith, upto, here, ap (λ j. get_or (set next place (get_or next (get_or next place 0) 0)) j 0) at_place))
-        ]
-        | inr other ↦ are.full k i (omega (arith, same)) from (omega (arith, upto, there k other))
-      ];
-    }
-
-pub next_further : (rooms next : List ℕ) (from place : ℕ) → IsNext rooms next → IsNextFrom rooms from place (length next) →
-    IsNextFrom rooms from (get_or next place 0) (length next)
-next_further rooms next from place are so_far = record {
-  after = omega (arith, so_far.after, are.forward place so_far.within);
-  within = are.inside place so_far.within;
-  full = λ i after before. elim (cases_lt i place) [
-    | inl first ↦ so_far.full i after first
-    | inr second ↦ are.full place i so_far.within second before
-  ];
-}
-
 -- a stretch that is full now
 pub next_full : (rooms next : List ℕ) (place : ℕ) → IsNext rooms next → place < length rooms → get_or rooms place 0 ≡ 0 →
     IsNext rooms (set next place (place + 1))
@@ -118,26 +75,6 @@ serve_jumps jobs windows job want shares rooms next next' left shares' rooms' so
     | inl below ↦ so_far.swept some k from below
     | inr above ↦ full k above upto
   ];
-  kept = so_far.kept;
-  few = so_far.few;
-}
-
--- beyond its window, or when it has all, the job is served
-pub serve_stops : (jobs : List Job) (windows : List Window) (job want : ℕ) (shares : List Share) (rooms : List ℕ)
-    (next left : ℕ) (shares' : List Share) (rooms' : List ℕ) →
-    IsServed jobs windows job want shares rooms next left shares' rooms' → (1 ≤ left → (window_at windows job).end ≤ next) →
-    IsServed jobs windows job want shares rooms (window_at windows job).end left shares' rooms'
-serve_stops jobs windows job want shares rooms next left shares' rooms' so_far done = record {
-  taken = so_far.taken;
-  all = so_far.all;
-  ahead = λ i d within same.
-      let part = so_far.taken.parts i d within in
-      omega (arith, part.inside.upto, ap (λ j. (window_at windows j).end) same);
-  wanted = so_far.wanted;
-  others = so_far.others;
-  same_length = so_far.same_length;
-  room = so_far.room;
-  swept = λ some k from upto. so_far.swept some k from (omega (arith, done some));
   kept = so_far.kept;
   few = so_far.few;
 }

@@ -8,8 +8,9 @@ ghost use Rattle.yds_search.specs.Numbers.{AreWritten, IsOneOf};
 ghost use Rattle.yds_search.specs.Waiting.{HasReaches};
 ghost use Rattle.yds_search.specs.Closure.{AreClosing, IsLastBefore, AreLateReaches, AreShareReaches, AreReaches, AreAllReaches};
 
-use crate::places::place_near;
+use crate::places::Places;
 use crate::share::Share;
+use crate::stack::Own;
 use yds_events::Window;
 
 /// For each stretch how far to the left jobs reach that close upon it. Only a group's own stretches count;
@@ -37,36 +38,35 @@ fn set_all(reaches: &mut [u32], own_stretches: &[u32], number: u32)
 }
 
 /// The place of the last of these stretches before `end`.
-fn last_before(own_stretches: &[u32], guesses: &[u32], end: u32) -> usize
-    requires few { length own_stretches.now ≤ 2 * MAX_JOBS }
-    requires rising { (a b : ℕ) → a < b → b < length own_stretches.now → slice_index own_stretches.now a < slice_index own_stretches.now b }
-    requires some { (p : ℕ) × (p < length own_stretches.now) × (slice_index own_stretches.now p < end) }
-    ensures { IsLastBefore own_stretches.now end result }
+fn last_before(own: &Places, end: u32) -> usize
+    requires few { length own.now.numbers.now ≤ 2 * MAX_JOBS }
+    requires rising { (a b : ℕ) → a < b → b < length own.now.numbers.now → slice_index own.now.numbers.now a < slice_index own.now.numbers.now b }
+    requires some { (p : ℕ) × (p < length own.now.numbers.now) × (slice_index own.now.numbers.now p < end) }
+    ensures { IsLastBefore own.now.numbers.now end result }
 {
-    place_near(own_stretches, end, guesses, end) as usize - 1
+    own.place(end, end) as usize - 1
 }
 
 /// For each stretch the least first stretch among the windows of late jobs that have it as their last one.
 fn late_reaches(
     windows: &[Window],
     own_jobs: &[u32],
-    own_stretches: &[u32],
-    guesses: &[u32],
+    own: &Places,
     wants: &[u64],
     reaches: &mut [u32],
 )
-    requires jobs { AreClosing windows.now wants.now own_jobs.now own_stretches.now (length reaches.old) }
+    requires jobs { AreClosing windows.now wants.now own_jobs.now own.now.numbers.now (length reaches.old) }
     requires wants { length wants.now ≡ length windows.now }
-    requires few { length own_stretches.now ≤ 2 * MAX_JOBS }
+    requires few { length own.now.numbers.now ≤ 2 * MAX_JOBS }
     requires fits { length reaches.old < 2 ^ 32 }
-    ensures { AreLateReaches windows.now wants.now own_stretches.now (length reaches.old) reaches.new }
+    ensures { AreLateReaches windows.now wants.now own.now.numbers.now (length reaches.old) reaches.new }
 {
-    set_all(reaches, own_stretches, reaches.len() as u32);
+    set_all(reaches, own.numbers, reaches.len() as u32);
     for job in own_jobs {
         if wants[*job as usize] > 0 {
             let window = windows[*job as usize];
-            let last = last_before(own_stretches, guesses, window.end);
-            let at = own_stretches[last] as usize;
+            let last = last_before(own, window.end);
+            let at = own.numbers[last] as usize;
             reaches[at] = reaches[at].min(window.first);
         }
     }
@@ -110,38 +110,25 @@ fn closure(own_stretches: &[u32], late: &[u32], shared: &[u32], reaches: &mut [u
     }
 }
 
-/// How far to the left the late jobs reach over each stretch of a group.
-pub(crate) fn reach(
-    windows: &[Window],
-    own_jobs: &[u32],
-    own_stretches: &[u32],
-    wants: &[u64],
-    shares: &[Share],
-    reaches: &mut Reaches,
-)
-    requires jobs { AreClosing windows.now wants.now own_jobs.now own_stretches.now (length reaches.old.all.items) }
-    requires wants { length wants.now ≡ length windows.now }
-    requires few { length own_stretches.now ≤ 2 * MAX_JOBS }
-    requires parts { All (IsPart windows.now (length windows.now) (length reaches.old.all.items)) (shares_view shares.now) }
-    requires own { All (λ share. IsOneOf own_stretches.now share.stretch) (shares_view shares.now) }
-    requires reaches { HasReaches (length reaches.old.all.items) reaches.old }
-    requires fits { length reaches.old.all.items < 2 ^ 32 }
-    ensures reach { AreAllReaches windows.now wants.now own_stretches.now (shares_view shares.now) (length reaches.old.all.items) reaches.new.all.items }
-    ensures kept { HasReaches (length reaches.old.all.items) reaches.new }
-{
-    late_reaches(
-        windows,
-        own_jobs,
-        own_stretches,
-        &reaches.guesses,
-        wants,
-        &mut reaches.late,
-    );
-    share_reaches(windows, own_stretches, shares, &mut reaches.shared);
-    closure(
-        own_stretches,
-        &reaches.late,
-        &reaches.shared,
-        &mut reaches.all,
-    );
+impl Reaches {
+    /// How far to the left the late jobs reach over each stretch of a group.
+    pub(crate) fn reach(&mut self, windows: &[Window], own: &Own, wants: &[u64], shares: &[Share])
+        requires jobs { AreClosing windows.now wants.now own.now.jobs.now own.now.stretches.now (length self.old.all.items) }
+        requires wants { length wants.now ≡ length windows.now }
+        requires few { length own.now.stretches.now ≤ 2 * MAX_JOBS }
+        requires parts { All (IsPart windows.now (length windows.now) (length self.old.all.items)) (shares_view shares.now) }
+        requires own { All (λ share. IsOneOf own.now.stretches.now share.stretch) (shares_view shares.now) }
+        requires reaches { HasReaches (length self.old.all.items) self.old }
+        requires fits { length self.old.all.items < 2 ^ 32 }
+        ensures reach { AreAllReaches windows.now wants.now own.now.stretches.now (shares_view shares.now) (length self.old.all.items) self.new.all.items }
+        ensures kept { HasReaches (length self.old.all.items) self.new }
+    {
+        let places = Places {
+            numbers: own.stretches,
+            guesses: &self.guesses,
+        };
+        late_reaches(windows, own.jobs, &places, wants, &mut self.late);
+        share_reaches(windows, own.stretches, shares, &mut self.shared);
+        closure(own.stretches, &self.late, &self.shared, &mut self.all);
+    }
 }

@@ -1,4 +1,4 @@
-ghost use Rattle.std.specs.Prelude.{◌≡◌, ℕ, ◌+◌, ◌-◌, ◌*◌, ◌^◌, ◌<◌, ◌≤◌, length, IfOk, OnOk};
+ghost use Rattle.std.specs.Prelude.{◌≡◌, ℕ, ◌+◌, ◌-◌, ◌*◌, ◌^◌, ◌<◌, ◌≤◌, List, length, IfOk, OnOk};
 ghost use Rattle.std.specs.List.{All, slice_index_or};
 ghost use Rattle.yds_model.specs.Event.{stretches};
 ghost use Rattle.yds_model.specs.declared.limits.TheConstants.{MAX_JOBS};
@@ -8,19 +8,20 @@ ghost use Rattle.yds_search.specs.Order.{Precedes};
 ghost use Rattle.yds_search.specs.Fill.{AreTaken, AreServed, AreOpen, IsServed, IsFill, IsNext, IsNextFrom, IsNumbers, IsTake};
 ghost use Rattle.yds_search.specs.Numbers.{values_at};
 
-use crate::places::place_near;
+use crate::instance::Jobs;
+use crate::places::Places;
 use crate::share::Share;
 use std::alloc::Global;
-use yds_events::Window;
-use yds_model::{JobRow, Memory};
+use yds_model::Memory;
 
-/// The first place from here on at which a stretch may have room. The stretches and `_rooms` are named for
-/// the contract alone.
-fn next_place(_stretches: &[u32], _rooms: &[u64], next: &mut [u32], from: u32) -> u32
-    requires next { IsNext (values_at _stretches.now _rooms.now) next.old }
+/// The first place from here on at which a stretch may have room.
+fn next_place(next: &mut [u32], from: u32) -> u32
+    requires next { (rooms : List ℕ) × IsNext rooms next.old }
     requires within { from < length next.old }
-    ensures next { IsNext (values_at _stretches.now _rooms.now) next.new }
-    ensures place { IsNextFrom (values_at _stretches.now _rooms.now) from result (length next.old) }
+    ensures after { from ≤ result }
+    ensures inside { result < length next.old }
+    ensures next { (rooms : List ℕ) → IsNext rooms next.old → IsNext rooms next.new }
+    ensures place { (rooms : List ℕ) → IsNext rooms next.old → IsNextFrom rooms from result (length next.old) }
 {
     let mut place = from;
     while next[place as usize] > place {
@@ -66,43 +67,40 @@ fn take(
     Ok(left - units)
 }
 
-/// A job takes the earliest room in its window, and still wants so many units then. `_jobs` is named for
-/// the contract alone.
+/// A job takes the earliest room in its window, and still wants so many units then.
 fn serve(
-    _jobs: &[JobRow],
-    windows: &[Window],
-    own_stretches: &[u32],
-    guesses: &[u32],
+    jobs: &Jobs,
+    own: &Places,
     job: u32,
     want: u64,
     rooms: &mut [u64],
     next: &mut [u32],
     shares: &mut Vec<Share>,
 ) -> Result<u64, Memory>
-    requires known { job < length windows.now }
-    requires inside { (window_at windows.now job).end ≤ length rooms.old }
-    requires nonempty { (window_at windows.now job).first ≤ (window_at windows.now job).end }
-    requires own { AreOpen own_stretches.now rooms.old }
-    requires few { length own_stretches.now ≤ 2 * MAX_JOBS }
-    requires next { IsNext (values_at own_stretches.now rooms.old) next.old }
-    requires taken { AreTaken _jobs.now windows.now (length rooms.old) (shares_view shares.old.items) rooms.old }
-    requires later { All (λ share. Precedes _jobs.now share.job job) (shares_view shares.old.items) }
-    ensures served { IfOk result (λ left. IsServed _jobs.now windows.now job want (shares_view shares.old.items) rooms.old (window_at windows.now job).end left (shares_view shares.new.items) rooms.new) }
-    ensures own { OnOk result (AreOpen own_stretches.now rooms.new) }
-    ensures next { OnOk result (IsNext (values_at own_stretches.now rooms.new) next.new) }
+    requires known { job < length jobs.now.windows.now }
+    requires inside { (window_at jobs.now.windows.now job).end ≤ length rooms.old }
+    requires nonempty { (window_at jobs.now.windows.now job).first ≤ (window_at jobs.now.windows.now job).end }
+    requires own { AreOpen own.now.numbers.now rooms.old }
+    requires few { length own.now.numbers.now ≤ 2 * MAX_JOBS }
+    requires next { IsNext (values_at own.now.numbers.now rooms.old) next.old }
+    requires taken { AreTaken jobs.now.rows.now jobs.now.windows.now (length rooms.old) (shares_view shares.old.items) rooms.old }
+    requires later { All (λ share. Precedes jobs.now.rows.now share.job job) (shares_view shares.old.items) }
+    ensures served { IfOk result (λ left. IsServed jobs.now.rows.now jobs.now.windows.now job want (shares_view shares.old.items) rooms.old (window_at jobs.now.windows.now job).end left (shares_view shares.new.items) rooms.new) }
+    ensures own { OnOk result (AreOpen own.now.numbers.now rooms.new) }
+    ensures next { OnOk result (IsNext (values_at own.now.numbers.now rooms.new) next.new) }
 {
-    let window = windows[job as usize];
-    let from = place_near(own_stretches, window.first, guesses, window.first);
-    let mut place = next_place(own_stretches, rooms, next, from);
-    let mut stretch = stretch_at(own_stretches, place, window.end);
+    let window = jobs.windows[job as usize];
+    let from = own.place(window.first, window.first);
+    let mut place = next_place(next, from);
+    let mut stretch = stretch_at(own.numbers, place, window.end);
     let mut left = want;
     while left > 0 && stretch < window.end {
         left = take(job, stretch, left, rooms, shares)?;
         if left > 0 {
             next[place as usize] = place + 1;
         }
-        place = next_place(own_stretches, rooms, next, place + 1);
-        stretch = stretch_at(own_stretches, place, window.end);
+        place = next_place(next, place + 1);
+        stretch = stretch_at(own.numbers, place, window.end);
     }
     Ok(left)
 }
@@ -122,37 +120,25 @@ fn numbers(alloc: Global, last: usize) -> Result<Vec<u32>, Memory>
 /// Each of a group's jobs, in order, takes the earliest room in its window.
 pub(crate) fn fill(
     alloc: Global,
-    rows: &[JobRow],
-    windows: &[Window],
+    jobs: &Jobs,
     own_jobs: &[u32],
-    own_stretches: &[u32],
-    guesses: &[u32],
+    own: &Places,
     wants: &mut [u64],
     rooms: &mut [u64],
 ) -> Result<Vec<Share>, Memory>
-    requires windows { AreWindows rows.now windows.now }
-    requires jobs { AreServed rows.now wants.old own_jobs.now }
-    requires own { AreOpen own_stretches.now rooms.old }
-    requires few { length own_stretches.now ≤ 2 * MAX_JOBS }
-    requires wants { length wants.old ≡ length rows.now }
-    requires rooms { length rooms.old ≡ length (stretches rows.now) }
-    ensures { IfOk result (λ shares. IsFill rows.now windows.now wants.old rooms.old (shares_view shares.items) wants.new rooms.new) }
+    requires windows { AreWindows jobs.now.rows.now jobs.now.windows.now }
+    requires jobs { AreServed jobs.now.rows.now wants.old own_jobs.now }
+    requires own { AreOpen own.now.numbers.now rooms.old }
+    requires few { length own.now.numbers.now ≤ 2 * MAX_JOBS }
+    requires wants { length wants.old ≡ length jobs.now.rows.now }
+    requires rooms { length rooms.old ≡ length (stretches jobs.now.rows.now) }
+    ensures { IfOk result (λ shares. IsFill jobs.now.rows.now jobs.now.windows.now wants.old rooms.old (shares_view shares.items) wants.new rooms.new) }
 {
     let mut shares = Vec::with_capacity(alloc, own_jobs.len())?;
-    let mut next = numbers(alloc, own_stretches.len())?;
+    let mut next = numbers(alloc, own.numbers.len())?;
     for job in own_jobs {
         let at = *job as usize;
-        let left = serve(
-            rows,
-            windows,
-            own_stretches,
-            guesses,
-            *job,
-            wants[at],
-            rooms,
-            &mut next,
-            &mut shares,
-        )?;
+        let left = serve(jobs, own, *job, wants[at], rooms, &mut next, &mut shares)?;
         wants[at] = left;
     }
     Ok(shares)

@@ -29,6 +29,15 @@ pub(crate) struct Instance<'a> {
     pub lengths: Vec<u32>,
 }
 
+/// The jobs, and their windows as ranges of stretches.
+#[derive(Clone, Copy, Debug)]
+pub(crate) struct Jobs<'a> {
+    /// The jobs.
+    pub rows: &'a [JobRow],
+    /// Their windows.
+    pub windows: &'a [Window],
+}
+
 /// The windows, the order, the works and the lengths.
 pub(crate) fn prepare<'a>(
     alloc: Global,

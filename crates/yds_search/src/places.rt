@@ -28,18 +28,29 @@ fn is_place(numbers: &[u32], number: u32, guess: usize) -> bool
     guess == numbers.len() || number <= numbers[guess]
 }
 
-/// How many of these numbers are less than `number`, at once where the guess with number `at` is right.
-pub(crate) fn place_near(numbers: &[u32], number: u32, guesses: &[u32], at: u32) -> u32
-    requires few { length numbers.now ≤ 2 * MAX_JOBS }
-    requires rising { (i j : ℕ) → i < j → j < length numbers.now → slice_index numbers.now i < slice_index numbers.now j }
-    ensures { IsPlace numbers.now number result }
-{
-    if let Some(guess) = guesses.get(at as usize) {
-        if is_place(numbers, number, *guess as usize) {
-            return *guess;
+/// Rising numbers, and guesses at the places of numbers among them.
+#[derive(Clone, Copy, Debug)]
+pub(crate) struct Places<'a> {
+    /// The numbers.
+    pub numbers: &'a [u32],
+    /// A guess at a number's place, for some numbers.
+    pub guesses: &'a [u32],
+}
+
+impl Places<'_> {
+    /// How many of the numbers are less than `number`, at once where the guess with number `at` is right.
+    pub(crate) fn place(&self, number: u32, at: u32) -> u32
+        requires few { length self.now.numbers.now ≤ 2 * MAX_JOBS }
+        requires rising { (i j : ℕ) → i < j → j < length self.now.numbers.now → slice_index self.now.numbers.now i < slice_index self.now.numbers.now j }
+        ensures { IsPlace self.now.numbers.now number result }
+    {
+        if let Some(guess) = self.guesses.get(at as usize) {
+            if is_place(self.numbers, number, *guess as usize) {
+                return *guess;
+            }
         }
+        place(self.numbers, number)
     }
-    place(numbers, number)
 }
 
 /// A guess for each of these stretches: how many of those before it are in the group.

@@ -11,14 +11,13 @@ ghost use Rattle.yds_search.specs.Searching.{IsSearching, IsChosen, IsFilledGrou
 use crate::amounts::{scale, total};
 use crate::attempt::{Attempt, has_late};
 use crate::beginning::{LAST, beginning, first_group};
-use crate::closure::reach;
 use crate::fill::fill;
 use crate::found::{Found, Group};
-use crate::instance::{Instance, prepare};
-use crate::places::guess_places;
+use crate::instance::{Instance, Jobs, prepare};
+use crate::places::{Places, guess_places};
 use crate::share::Share;
 use crate::split::{rename, split_jobs, split_stretches};
-use crate::stack::{Size, Stack, all_numbers, last, members};
+use crate::stack::{Own, Size, Stack, all_numbers, last, members};
 use crate::workspace::{Workspace, blank_workspace, clear_all};
 use std::alloc::Global;
 use yds_events::Stretch;
@@ -104,13 +103,19 @@ impl<'a> Search<'a> {
             per_time,
             &mut self.space.rooms,
         );
+        let jobs = Jobs {
+            rows: self.instance.rows,
+            windows: &self.instance.windows,
+        };
+        let own = Places {
+            numbers: own_stretches,
+            guesses: &self.space.reaches.guesses,
+        };
         let shares = fill(
             alloc,
-            self.instance.rows,
-            &self.instance.windows,
+            &jobs,
             own_jobs,
-            own_stretches,
-            &self.space.reaches.guesses,
+            &own,
             &mut self.space.wants,
             &mut self.space.rooms,
         )?;
@@ -153,14 +158,11 @@ impl<'a> Search<'a> {
         let own_stretches = last(&self.stack.stretches, size.stretches);
         let windows = &self.instance.windows;
         let space = &mut self.space;
-        reach(
-            windows,
-            own_jobs,
-            own_stretches,
-            &space.wants,
-            shares,
-            &mut space.reaches,
-        );
+        let own = Own {
+            jobs: own_jobs,
+            stretches: own_stretches,
+        };
+        space.reaches.reach(windows, &own, &space.wants, shares);
         let groups = &mut self.found.group_of_stretch;
         split_stretches(groups, own_stretches, &space.reaches.all, self.top);
         let left = &mut space.parted;
@@ -168,14 +170,11 @@ impl<'a> Search<'a> {
         members(own_stretches, groups, self.top, left)?;
         guess_places(&mut space.reaches.guesses, own_stretches, groups, self.top);
         let groups = &mut self.found.group_of_job;
-        split_jobs(
-            groups,
-            own_jobs,
-            windows,
-            left,
-            &space.reaches.guesses,
-            self.top,
-        );
+        let left = Places {
+            numbers: left,
+            guesses: &space.reaches.guesses,
+        };
+        split_jobs(groups, own_jobs, windows, &left, self.top);
         clear_all(space, own_jobs, own_stretches);
         self.stack
             .split_last(size, &self.found, self.top, &mut self.space.parted)?;

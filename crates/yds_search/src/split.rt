@@ -5,7 +5,7 @@ ghost use Rattle.yds_events.specs.Window.{window_at};
 ghost use Rattle.yds_search.specs.Numbers.{AreWritten};
 ghost use Rattle.yds_search.specs.Search.{split_stretch, IsJobNumber};
 
-use crate::places::place_near;
+use crate::places::Places;
 use yds_events::Window;
 
 /// Gives these jobs or stretches another group's number.
@@ -32,14 +32,14 @@ pub(crate) fn split_stretches(groups: &mut [u32], own_stretches: &[u32], reaches
 }
 
 /// Whether the window has none of these stretches.
-fn misses(own_stretches: &[u32], guesses: &[u32], window: Window) -> bool
-    requires few { length own_stretches.now ≤ 2 * MAX_JOBS }
-    requires rising { (a b : ℕ) → a < b → b < length own_stretches.now → slice_index own_stretches.now a < slice_index own_stretches.now b }
-    ensures none { result ≡ true → (p : ℕ) → p < length own_stretches.now → window.first ≤ slice_index own_stretches.now p → window.end ≤ slice_index own_stretches.now p }
-    ensures some { result ≡ false → (p : ℕ) × (p < length own_stretches.now) × (window.first ≤ slice_index own_stretches.now p) × (slice_index own_stretches.now p < window.end) }
+fn misses(left: &Places, window: Window) -> bool
+    requires few { length left.now.numbers.now ≤ 2 * MAX_JOBS }
+    requires rising { (a b : ℕ) → a < b → b < length left.now.numbers.now → slice_index left.now.numbers.now a < slice_index left.now.numbers.now b }
+    ensures none { result ≡ true → (p : ℕ) → p < length left.now.numbers.now → window.first ≤ slice_index left.now.numbers.now p → window.end ≤ slice_index left.now.numbers.now p }
+    ensures some { result ≡ false → (p : ℕ) × (p < length left.now.numbers.now) × (window.first ≤ slice_index left.now.numbers.now p) × (slice_index left.now.numbers.now p < window.end) }
 {
-    let next = place_near(own_stretches, window.first, guesses, window.first);
-    match own_stretches.get(next as usize) {
+    let next = left.place(window.first, window.first);
+    match left.numbers.get(next as usize) {
         Some(stretch) => *stretch >= window.end,
         None => true,
     }
@@ -51,19 +51,18 @@ pub(crate) fn split_jobs(
     groups: &mut [u32],
     own_jobs: &[u32],
     windows: &[Window],
-    left: &[u32],
-    guesses: &[u32],
+    left: &Places,
     top: u32,
 )
     requires some { 1 ≤ top }
-    requires few { length left.now ≤ 2 * MAX_JOBS }
-    requires rising { (a b : ℕ) → a < b → b < length left.now → slice_index left.now a < slice_index left.now b }
+    requires few { length left.now.numbers.now ≤ 2 * MAX_JOBS }
+    requires rising { (a b : ℕ) → a < b → b < length left.now.numbers.now → slice_index left.now.numbers.now a < slice_index left.now.numbers.now b }
     requires same { length windows.now ≡ length groups.old }
     requires known { All (λ j. j < length groups.old) own_jobs.now }
-    ensures { AreWritten (IsJobNumber windows.now left.now top) own_jobs.now (length own_jobs.now) groups.old groups.new }
+    ensures { AreWritten (IsJobNumber windows.now left.now.numbers.now top) own_jobs.now (length own_jobs.now) groups.old groups.new }
 {
     for job in own_jobs {
-        let misses = misses(left, guesses, windows[*job as usize]);
+        let misses = misses(left, windows[*job as usize]);
         groups[*job as usize] = if misses { top - 1 } else { top };
     }
 }

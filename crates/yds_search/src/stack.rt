@@ -18,6 +18,15 @@ pub(crate) struct Size {
     pub stretches: usize,
 }
 
+/// A group's own jobs and stretches.
+#[derive(Clone, Copy, Debug)]
+pub(crate) struct Own<'a> {
+    /// Its jobs, in order of deadline and number.
+    pub jobs: &'a [u32],
+    /// Its stretches, in order of time.
+    pub stretches: &'a [u32],
+}
+
 /// The groups that aren't finished, the fastest one last.
 #[derive(Debug, Drop)]
 pub(crate) struct Stack {

@@ -11,12 +11,12 @@ use Rattle.yds_search.proofs.fill.fill.Goals as goal
 
 pub loop-job-init : goal.loop-job-init
 loop-job-init c = record {
-  filling = subst (λ (xs : List Share). IsFilling c.args.rows.now c.args.windows.now c.args.own_jobs.now c.args.wants.now c.args.rooms.now 0 xs c.args.wants.now c.args.rooms.now)
+  filling = subst (λ (xs : List Share). IsFilling c.args.jobs.now.rows.now c.args.jobs.now.windows.now c.args.own_jobs.now c.args.wants.now c.args.rooms.now 0 xs c.args.wants.now c.args.rooms.now)
       (sym (ap shares_view c.in_ok-shares.ensures.items))
-      (fill_begins c.args.rows.now c.args.windows.now c.args.own_jobs.now c.args.wants.now c.args.rooms.now);
+      (fill_begins c.args.jobs.now.rows.now c.args.jobs.now.windows.now c.args.own_jobs.now c.args.wants.now c.args.rooms.now);
   own = c.requires.own;
-  next = next_begins (values_at c.args.own_stretches.now c.args.rooms.now) c.in_ok-next.next.items
-      (subst (λ (n : ℕ). IsNumbers n c.in_ok-next.next.items) (sym (values_count c.args.own_stretches.now c.args.rooms.now)) c.in_ok-next.ensures);
+  next = next_begins (values_at c.args.own.now.numbers.now c.args.rooms.now) c.in_ok-next.next.items
+      (subst (λ (n : ℕ). IsNumbers n c.in_ok-next.next.items) (sym (values_count c.args.own.now.numbers.now c.args.rooms.now)) c.in_ok-next.ensures);
 }
 
 pub serve-requires : goal.serve-requires
@@ -33,8 +33,8 @@ serve-requires c =
       nonempty = omega (arith, c.requires.windows.some (get_or c.args.own_jobs.now c.loop-job.job-index 0) known);
       own = c.loop-job.invariant.own;
       few = c.requires.few;
-      next = subst (λ (xs : List ℕ). IsNext (values_at c.args.own_stretches.now c.loop-job.rooms) xs) (sym c.deref_mut.ensures.value) c.loop-job.invariant.next;
-      taken = subst (λ (m : ℕ). AreTaken c.args.rows.now c.args.windows.now m (shares_view c.loop-job.shares.items) c.loop-job.rooms)
+      next = subst (λ (xs : List ℕ). IsNext (values_at c.args.own.now.numbers.now c.loop-job.rooms) xs) (sym c.deref_mut.ensures.value) c.loop-job.invariant.next;
+      taken = subst (λ (m : ℕ). AreTaken c.args.jobs.now.rows.now c.args.jobs.now.windows.now m (shares_view c.loop-job.shares.items) c.loop-job.rooms)
           (sym c.loop-job.invariant.filling.same_rooms) c.loop-job.invariant.filling.taken;
       later = c.loop-job.invariant.filling.later (omega arith);
     }
@@ -44,16 +44,16 @@ loop-job-preserved c =
     let next : take c.loop-job.next.len (c.serve.new.next ++ drop (length c.serve.new.next) c.loop-job.next.items) ≡ c.serve.new.next =
     take_at _ _ _ (c.serve.auto.next ∙ c.deref_mut.ensures.len) in
     record {
-      filling = fill_more c.args.rows.now c.args.windows.now c.args.own_jobs.now c.args.wants.now c.args.rooms.now c.loop-job.job-index
+      filling = fill_more c.args.jobs.now.rows.now c.args.jobs.now.windows.now c.args.own_jobs.now c.args.wants.now c.args.rooms.now c.loop-job.job-index
           (shares_view c.loop-job.shares.items) c.loop-job.wants c.loop-job.rooms c.in_ok-left.left
           (shares_view c.serve.new.shares.items) c.serve.new.rooms c.requires.jobs c.requires.wants (omega arith) c.loop-job.invariant.filling
           c.in_ok-left.ensures.served;
       own = c.in_ok-left.ensures.own;
-      next = subst (λ (xs : List ℕ). IsNext (values_at c.args.own_stretches.now c.serve.new.rooms) xs) (sym next) c.in_ok-left.ensures.next;
+      next = subst (λ (xs : List ℕ). IsNext (values_at c.args.own.now.numbers.now c.serve.new.rooms) xs) (sym next) c.in_ok-left.ensures.next;
     }
 
 pub returns : goal.returns
 returns c =
-    fill_ends c.args.rows.now c.args.windows.now c.args.own_jobs.now c.args.wants.now c.args.rooms.now c.loop-job.job-index
+    fill_ends c.args.jobs.now.rows.now c.args.jobs.now.windows.now c.args.own_jobs.now c.args.wants.now c.args.rooms.now c.loop-job.job-index
     (shares_view c.loop-job.shares.items) c.loop-job.wants c.loop-job.rooms c.requires.jobs c.requires.wants (omega arith)
     c.loop-job.invariant.filling

@@ -5,8 +5,8 @@ use Rattle.yds_search.proofs.fill.fill.Given as goal
 
 abbrev pub invariant-loop-job : goal.invariant-loop-job
 invariant-loop-job l = record {
-  filling : IsFilling l.rows l.windows l.own_jobs l.initial.wants l.initial.rooms l.job-index
+  filling : IsFilling l.jobs.rows.now l.jobs.windows.now l.own_jobs l.initial.wants l.initial.rooms l.job-index
       (shares_view l.shares.items) l.wants l.rooms;
-  own : AreOpen l.own_stretches l.rooms;
-  next : IsNext (values_at l.own_stretches l.rooms) l.next.items;
+  own : AreOpen l.own.numbers.now l.rooms;
+  next : IsNext (values_at l.own.numbers.now l.rooms) l.next.items;
 }

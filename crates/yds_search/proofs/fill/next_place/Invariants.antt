@@ -1,12 +1,14 @@
-use Rattle.std.proofs.Common.{◌-◌, length}
+use Rattle.std.proofs.Common.{◌-◌, ◌<◌, ◌≤◌, List, ℕ, length}
 use Rattle.yds_search.specs.Fill.{IsNext, IsNextFrom}
-use Rattle.yds_search.specs.Numbers.{values_at}
 use Rattle.yds_search.proofs.fill.next_place.Given as goal
 
 abbrev pub invariant-loop-place : goal.invariant-loop-place
 invariant-loop-place l = record {
-  next : IsNext (values_at l._stretches l._rooms) l.next;
-  place : IsNextFrom (values_at l._stretches l._rooms) l.from l.place (length l.next);
+  one : (rooms : List ℕ) × IsNext rooms l.next;
+  next : (rooms : List ℕ) → IsNext rooms l.initial.next → IsNext rooms l.next;
+  place : (rooms : List ℕ) → IsNext rooms l.initial.next → IsNextFrom rooms l.from l.place (length l.next);
+  after : l.from ≤ l.place;
+  within : l.place < length l.next;
 }
 
 abbrev pub decreases-loop-place : goal.decreases-loop-place

@@ -7,12 +7,12 @@ use Rattle.yds_search.proofs.fill.serve.Given as goal
 
 abbrev pub invariant-loop-left : goal.invariant-loop-left
 invariant-loop-left l = record {
-  served : IsServed l._jobs l.windows l.job l.want (shares_view l.initial.shares.items) l.initial.rooms l.stretch l.left
+  served : IsServed l.jobs.rows.now l.jobs.windows.now l.job l.want (shares_view l.initial.shares.items) l.initial.rooms l.stretch l.left
       (shares_view l.shares.items) l.rooms;
-  next : IsNext (values_at l.own_stretches l.rooms) l.next;
-  own : AreOpen l.own_stretches l.rooms;
-  from : (window_at l.windows l.job).first ≤ l.stretch;
-  stretch_is : l.stretch ≡ get_or l.own_stretches l.place (window_at l.windows l.job).end;
+  next : IsNext (values_at l.own.numbers.now l.rooms) l.next;
+  own : AreOpen l.own.numbers.now l.rooms;
+  from : (window_at l.jobs.windows.now l.job).first ≤ l.stretch;
+  stretch_is : l.stretch ≡ get_or l.own.numbers.now l.place (window_at l.jobs.windows.now l.job).end;
   within : l.place < length l.next;
 }
 

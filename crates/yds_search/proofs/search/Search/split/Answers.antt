@@ -78,7 +78,7 @@ split_jobs-requires-clause-few c =
     ∙ ap (numbers_in c.split_stretches.new.groups c.args.self.now.top) (c.last-own_stretches.ensures (stretches_of c.requires.filled.1.chosen.parts) c.requires.filled.1.chosen.part.stretches (c.deref-2.ensures.value ∙ c.requires.filled.1.chosen.last.stretches) c.requires.filled.1.chosen.last.stretches_size) in
     omega (
       arith,
-      ap (λ (xs : List ℕ). length xs) (c.deref-9.ensures.value ∙ left),
+      ap (λ (xs : List ℕ). length xs) (c.deref-8.ensures.value ∙ left),
       few_in c.split_stretches.new.groups c.args.self.now.top c.requires.filled.1.chosen.part.stretches,
       (part_few c.args.self.now.instance.order.items (found_view c.args.self.now.found) c.args.self.now.top c.requires.filled.1.chosen.part c.requires.filled.1.chosen.own).1,
       c.requires.filled.1.chosen.groups.all_stretches,
@@ -92,7 +92,7 @@ split_jobs-requires-clause-rising c =
     let left : c.members.new.members.items ≡ numbers_in c.split_stretches.new.groups c.args.self.now.top c.requires.filled.1.chosen.part.stretches =
     (c.in_ok-members.ensures ∙ ap (λ (xs : List ℕ). xs ++ numbers_in c.deref-6.result.now c.args.self.now.top c.last-own_stretches.result.now) c.clear.ensures.items) ∙ ap (λ (xs : List ℕ). numbers_in xs c.args.self.now.top c.last-own_stretches.result.now) (c.deref-6.ensures.value ∙ places)
     ∙ ap (numbers_in c.split_stretches.new.groups c.args.self.now.top) (c.last-own_stretches.ensures (stretches_of c.requires.filled.1.chosen.parts) c.requires.filled.1.chosen.part.stretches (c.deref-2.ensures.value ∙ c.requires.filled.1.chosen.last.stretches) c.requires.filled.1.chosen.last.stretches_size) in
-    subst (λ (xs : List ℕ). (a b : ℕ) → a < b → b < length xs → get_or xs a 0 < get_or xs b 0) (sym (c.deref-9.ensures.value ∙ left))
+    subst (λ (xs : List ℕ). (a b : ℕ) → a < b → b < length xs → get_or xs a 0 < get_or xs b 0) (sym (c.deref-8.ensures.value ∙ left))
     (in_order (λ a b. a < b) c.split_stretches.new.groups c.args.self.now.top c.requires.filled.1.chosen.part.stretches
     (part_rising c.args.self.now.instance.order.items (found_view c.args.self.now.found) c.args.self.now.top c.requires.filled.1.chosen.part c.requires.filled.1.chosen.own))
 
@@ -134,8 +134,8 @@ split_last-requires-clause-last c =
           (part_stretch_known c.args.self.now.instance.order.items (found_view c.args.self.now.found) c.args.self.now.top chosen.part chosen.own),
     )
 
-pub returns-clause-nearer : goal.returns-clause-nearer
-returns-clause-nearer c =
+pub returns : goal.returns
+returns c =
     let places : take c.args.self.now.found.group_of_stretch.len (c.split_stretches.new.groups ++ drop (length c.split_stretches.new.groups) c.args.self.now.found.group_of_stretch.items) ≡ c.split_stretches.new.groups =
     take_at _ _ _ (c.split_stretches.auto.groups ∙ c.deref_mut.ensures.len) in
     let left : c.members.new.members.items ≡ numbers_in c.split_stretches.new.groups c.args.self.now.top c.requires.filled.1.chosen.part.stretches =
@@ -144,47 +144,20 @@ returns-clause-nearer c =
     let jobs : take c.args.self.now.found.group_of_job.len (c.split_jobs.new.groups ++ drop (length c.split_jobs.new.groups) c.args.self.now.found.group_of_job.items) ≡ c.split_jobs.new.groups =
     take_at _ _ _ (c.split_jobs.auto.groups ∙ c.deref_mut-3.ensures.len) in
     let all = divided c.args.self.now.instance.rows.now c.args.self.now.instance (found_view c.args.self.now.found) c.args.self.now.top c.requires.filled.0 (shares_view c.args.shares.now)
-    c.args.self.now.space.wants.items c.args.self.now.space.rooms.items c.requires.filled.1.chosen.part (length c.args.self.now.space.reaches.all.items) c.reach.new.reaches.all.items c.members.new.members.items c.split_jobs.new.groups c.split_stretches.new.groups
+    c.args.self.now.space.wants.items c.args.self.now.space.rooms.items c.requires.filled.1.chosen.part (length c.args.self.now.space.reaches.all.items) c.reach.new.self.all.items c.members.new.members.items c.split_jobs.new.groups c.split_stretches.new.groups
     c.requires.filled.1.chosen.some c.requires.filled.1.chosen.instance c.requires.filled.1.chosen.groups c.requires.filled.1.chosen.within c.requires.filled.1.chosen.own c.requires.filled.1.attempt c.requires.late
     (c.requires.filled.1.reaches.all ∙ c.requires.filled.1.chosen.instance.all_lengths)
-    (subst (λ (xs : List Window). AreAllReaches xs c.args.self.now.space.wants.items c.requires.filled.1.chosen.part.stretches (shares_view c.args.shares.now) (length c.args.self.now.space.reaches.all.items) c.reach.new.reaches.all.items) c.deref-3.ensures.value
-    (subst (λ (xs : List ℕ). AreAllReaches c.deref-3.result.now c.args.self.now.space.wants.items xs (shares_view c.args.shares.now) (length c.args.self.now.space.reaches.all.items) c.reach.new.reaches.all.items) (c.last-own_stretches.ensures (stretches_of c.requires.filled.1.chosen.parts) c.requires.filled.1.chosen.part.stretches (c.deref-2.ensures.value ∙ c.requires.filled.1.chosen.last.stretches) c.requires.filled.1.chosen.last.stretches_size)
+    (subst (λ (xs : List Window). AreAllReaches xs c.args.self.now.space.wants.items c.requires.filled.1.chosen.part.stretches (shares_view c.args.shares.now) (length c.args.self.now.space.reaches.all.items) c.reach.new.self.all.items) c.deref-3.ensures.value
+    (subst (λ (xs : List ℕ). AreAllReaches c.deref-3.result.now c.args.self.now.space.wants.items xs (shares_view c.args.shares.now) (length c.args.self.now.space.reaches.all.items) c.reach.new.self.all.items) (c.last-own_stretches.ensures (stretches_of c.requires.filled.1.chosen.parts) c.requires.filled.1.chosen.part.stretches (c.deref-2.ensures.value ∙ c.requires.filled.1.chosen.last.stretches) c.requires.filled.1.chosen.last.stretches_size)
     (rw c.deref-4.ensures.value at c.reach.ensures.reach)))
-    (written_same (λ k value. value ≡ split_stretch c.deref-5.result.now c.args.self.now.top k) (λ k value. value ≡ split_stretch c.reach.new.reaches.all.items c.args.self.now.top k)
+    (written_same (λ k value. value ≡ split_stretch c.deref-5.result.now c.args.self.now.top k) (λ k value. value ≡ split_stretch c.reach.new.self.all.items c.args.self.now.top k)
     c.last-own_stretches.result.now c.requires.filled.1.chosen.part.stretches c.deref_mut.result.now c.args.self.now.found.group_of_stretch.items c.split_stretches.new.groups
     (λ k value is. is ∙ ap (λ (xs : List ℕ). split_stretch xs c.args.self.now.top k) c.deref-5.ensures.value) (c.last-own_stretches.ensures (stretches_of c.requires.filled.1.chosen.parts) c.requires.filled.1.chosen.part.stretches (c.deref-2.ensures.value ∙ c.requires.filled.1.chosen.last.stretches) c.requires.filled.1.chosen.last.stretches_size) c.deref_mut.ensures.value c.split_stretches.ensures)
     left
-    (written_same (IsJobNumber c.deref-8.result.now c.deref-9.result.now c.args.self.now.top) (IsJobNumber c.args.self.now.instance.windows.items c.members.new.members.items c.args.self.now.top)
+    (written_same (IsJobNumber c.deref-10.result.now c.deref-8.result.now c.args.self.now.top) (IsJobNumber c.args.self.now.instance.windows.items c.members.new.members.items c.args.self.now.top)
     c.last-own_jobs.result.now c.requires.filled.1.chosen.part.jobs c.deref_mut-3.result.now c.args.self.now.found.group_of_job.items c.split_jobs.new.groups
-    (λ j value is. subst (λ (xs : List Window). IsJobNumber xs c.members.new.members.items c.args.self.now.top j value) c.deref-8.ensures.value
-    (subst (λ (xs : List ℕ). IsJobNumber c.deref-8.result.now xs c.args.self.now.top j value) c.deref-9.ensures.value is))
-    (c.last-own_jobs.ensures (jobs_of c.requires.filled.1.chosen.parts) c.requires.filled.1.chosen.part.jobs (c.deref.ensures.value ∙ c.requires.filled.1.chosen.last.jobs) c.requires.filled.1.chosen.last.jobs_size) c.deref_mut-3.ensures.value c.split_jobs.ensures) in
-    subst (λ (xs : List ℕ). sum xs < sum c.args.self.now.found.group_of_stretch.items) (sym places) all.0.1
-
-pub returns-clause-search : goal.returns-clause-search
-returns-clause-search c =
-    let places : take c.args.self.now.found.group_of_stretch.len (c.split_stretches.new.groups ++ drop (length c.split_stretches.new.groups) c.args.self.now.found.group_of_stretch.items) ≡ c.split_stretches.new.groups =
-    take_at _ _ _ (c.split_stretches.auto.groups ∙ c.deref_mut.ensures.len) in
-    let left : c.members.new.members.items ≡ numbers_in c.split_stretches.new.groups c.args.self.now.top c.requires.filled.1.chosen.part.stretches =
-    (c.in_ok-members.ensures ∙ ap (λ (xs : List ℕ). xs ++ numbers_in c.deref-6.result.now c.args.self.now.top c.last-own_stretches.result.now) c.clear.ensures.items) ∙ ap (λ (xs : List ℕ). numbers_in xs c.args.self.now.top c.last-own_stretches.result.now) (c.deref-6.ensures.value ∙ places)
-    ∙ ap (numbers_in c.split_stretches.new.groups c.args.self.now.top) (c.last-own_stretches.ensures (stretches_of c.requires.filled.1.chosen.parts) c.requires.filled.1.chosen.part.stretches (c.deref-2.ensures.value ∙ c.requires.filled.1.chosen.last.stretches) c.requires.filled.1.chosen.last.stretches_size) in
-    let jobs : take c.args.self.now.found.group_of_job.len (c.split_jobs.new.groups ++ drop (length c.split_jobs.new.groups) c.args.self.now.found.group_of_job.items) ≡ c.split_jobs.new.groups =
-    take_at _ _ _ (c.split_jobs.auto.groups ∙ c.deref_mut-3.ensures.len) in
-    let all = divided c.args.self.now.instance.rows.now c.args.self.now.instance (found_view c.args.self.now.found) c.args.self.now.top c.requires.filled.0 (shares_view c.args.shares.now)
-    c.args.self.now.space.wants.items c.args.self.now.space.rooms.items c.requires.filled.1.chosen.part (length c.args.self.now.space.reaches.all.items) c.reach.new.reaches.all.items c.members.new.members.items c.split_jobs.new.groups c.split_stretches.new.groups
-    c.requires.filled.1.chosen.some c.requires.filled.1.chosen.instance c.requires.filled.1.chosen.groups c.requires.filled.1.chosen.within c.requires.filled.1.chosen.own c.requires.filled.1.attempt c.requires.late
-    (c.requires.filled.1.reaches.all ∙ c.requires.filled.1.chosen.instance.all_lengths)
-    (subst (λ (xs : List Window). AreAllReaches xs c.args.self.now.space.wants.items c.requires.filled.1.chosen.part.stretches (shares_view c.args.shares.now) (length c.args.self.now.space.reaches.all.items) c.reach.new.reaches.all.items) c.deref-3.ensures.value
-    (subst (λ (xs : List ℕ). AreAllReaches c.deref-3.result.now c.args.self.now.space.wants.items xs (shares_view c.args.shares.now) (length c.args.self.now.space.reaches.all.items) c.reach.new.reaches.all.items) (c.last-own_stretches.ensures (stretches_of c.requires.filled.1.chosen.parts) c.requires.filled.1.chosen.part.stretches (c.deref-2.ensures.value ∙ c.requires.filled.1.chosen.last.stretches) c.requires.filled.1.chosen.last.stretches_size)
-    (rw c.deref-4.ensures.value at c.reach.ensures.reach)))
-    (written_same (λ k value. value ≡ split_stretch c.deref-5.result.now c.args.self.now.top k) (λ k value. value ≡ split_stretch c.reach.new.reaches.all.items c.args.self.now.top k)
-    c.last-own_stretches.result.now c.requires.filled.1.chosen.part.stretches c.deref_mut.result.now c.args.self.now.found.group_of_stretch.items c.split_stretches.new.groups
-    (λ k value is. is ∙ ap (λ (xs : List ℕ). split_stretch xs c.args.self.now.top k) c.deref-5.ensures.value) (c.last-own_stretches.ensures (stretches_of c.requires.filled.1.chosen.parts) c.requires.filled.1.chosen.part.stretches (c.deref-2.ensures.value ∙ c.requires.filled.1.chosen.last.stretches) c.requires.filled.1.chosen.last.stretches_size) c.deref_mut.ensures.value c.split_stretches.ensures)
-    left
-    (written_same (IsJobNumber c.deref-8.result.now c.deref-9.result.now c.args.self.now.top) (IsJobNumber c.args.self.now.instance.windows.items c.members.new.members.items c.args.self.now.top)
-    c.last-own_jobs.result.now c.requires.filled.1.chosen.part.jobs c.deref_mut-3.result.now c.args.self.now.found.group_of_job.items c.split_jobs.new.groups
-    (λ j value is. subst (λ (xs : List Window). IsJobNumber xs c.members.new.members.items c.args.self.now.top j value) c.deref-8.ensures.value
-    (subst (λ (xs : List ℕ). IsJobNumber c.deref-8.result.now xs c.args.self.now.top j value) c.deref-9.ensures.value is))
+    (λ j value is. subst (λ (xs : List Window). IsJobNumber xs c.members.new.members.items c.args.self.now.top j value) c.deref-10.ensures.value
+    (subst (λ (xs : List ℕ). IsJobNumber c.deref-10.result.now xs c.args.self.now.top j value) c.deref-8.ensures.value is))
     (c.last-own_jobs.ensures (jobs_of c.requires.filled.1.chosen.parts) c.requires.filled.1.chosen.part.jobs (c.deref.ensures.value ∙ c.requires.filled.1.chosen.last.jobs) c.requires.filled.1.chosen.last.jobs_size) c.deref_mut-3.ensures.value c.split_jobs.ensures) in
     let blank = c.clear_all.ensures in
     let filled = c.requires.filled.1 in
@@ -198,36 +171,40 @@ returns-clause-search c =
       shares = shares_view c.args.self.now.found.shares.items;
     } in
     record {
-      parts = (chosen.parts ++ part_in new c.args.self.now.top chosen.part ∷ []) ++ part_in new (c.args.self.now.top - 1) chosen.part ∷ [];
-      instance = chosen.instance;
-      groups = subst (λ (xs : List ℕ). IsSearch c.args.self.now.instance.rows.now c.args.self.now.instance.windows.items
-          (record {
-            groups = map group_view c.args.self.now.found.groups.items;
-            group_of_job = xs;
-            group_of_stretch = take c.args.self.now.found.group_of_stretch.len (c.split_stretches.new.groups ++ drop (length c.split_stretches.new.groups) c.args.self.now.found.group_of_stretch.items);
-            shares = shares_view c.args.self.now.found.shares.items;
-          }) (c.args.self.now.top - 1) 1000000) (sym jobs)
-          (subst (λ (xs : List ℕ). IsSearch c.args.self.now.instance.rows.now c.args.self.now.instance.windows.items
-          (record {
-            groups = map group_view c.args.self.now.found.groups.items;
-            group_of_job = c.split_jobs.new.groups;
-            group_of_stretch = xs;
-            shares = shares_view c.args.self.now.found.shares.items;
-          }) (c.args.self.now.top - 1) 1000000) (sym places) all.0.0);
-      stack = stack_split c.args.self.now.instance.rows.now c.args.self.now.instance.windows.items c.args.self.now.instance.order.items (found_view c.args.self.now.found) new
-          c.args.self.now.top 1000000 chosen.parts chosen.part chosen.groups
-          (few_enough c.args.self.now.instance.rows.now c.args.self.now.instance.windows.items (found_view c.args.self.now.found) c.args.self.now.top chosen.groups chosen.instance.few_stretches)
-          chosen.within
-          (ap (λ (xs : List ℕ). length xs) places ∙ c.split_stretches.auto.groups ∙ ap (λ (xs : List ℕ). length xs) c.deref_mut.ensures.value)
-          (subst (λ (xs : List ℕ). AreMovedFrom c.args.self.now.top c.args.self.now.found.group_of_job.items xs) (sym jobs) all.1)
-          (subst (λ (xs : List ℕ). AreMovedFrom c.args.self.now.top c.args.self.now.found.group_of_stretch.items xs) (sym places) all.2)
-          chosen.stack chosen.own;
-      laid = c.in_ok-split_last.ensures chosen.parts chosen.part chosen.last;
-      space = record {
-        all_wants = blank.all_wants ∙ filled.attempt.filled.fill.same_wants ∙ filled.attempt.filled.all_wants;
-        all_rooms = blank.all_rooms ∙ rooms;
-        want = blank.want;
-        room = blank.room;
-        reaches = record { late = blank.reaches.late ∙ rooms; shared = blank.reaches.shared ∙ rooms; all = blank.reaches.all ∙ rooms };
+      search = record {
+        parts = (chosen.parts ++ part_in new c.args.self.now.top chosen.part ∷ []) ++ part_in new (c.args.self.now.top - 1) chosen.part ∷ [];
+        instance = chosen.instance;
+        groups = subst (λ (xs : List ℕ). IsSearch c.args.self.now.instance.rows.now c.args.self.now.instance.windows.items
+            (record {
+              groups = map group_view c.args.self.now.found.groups.items;
+              group_of_job = xs;
+              group_of_stretch = take c.args.self.now.found.group_of_stretch.len (c.split_stretches.new.groups ++ drop (length c.split_stretches.new.groups) c.args.self.now.found.group_of_stretch.items);
+              shares = shares_view c.args.self.now.found.shares.items;
+            }) (c.args.self.now.top - 1) 1000000) (sym jobs)
+            (subst (λ (xs : List ℕ). IsSearch c.args.self.now.instance.rows.now c.args.self.now.instance.windows.items
+            (record {
+              groups = map group_view c.args.self.now.found.groups.items;
+              group_of_job = c.split_jobs.new.groups;
+              group_of_stretch = xs;
+              shares = shares_view c.args.self.now.found.shares.items;
+            }) (c.args.self.now.top - 1) 1000000) (sym places) all.0.0);
+        stack = stack_split c.args.self.now.instance.rows.now c.args.self.now.instance.windows.items c.args.self.now.instance.order.items (found_view c.args.self.now.found) new
+            c.args.self.now.top 1000000 chosen.parts chosen.part chosen.groups
+            (few_enough c.args.self.now.instance.rows.now c.args.self.now.instance.windows.items (found_view c.args.self.now.found) c.args.self.now.top chosen.groups chosen.instance.few_stretches)
+            chosen.within
+            (ap (λ (xs : List ℕ). length xs) places ∙ c.split_stretches.auto.groups ∙ ap (λ (xs : List ℕ). length xs) c.deref_mut.ensures.value)
+            (subst (λ (xs : List ℕ). AreMovedFrom c.args.self.now.top c.args.self.now.found.group_of_job.items xs) (sym jobs) all.1)
+            (subst (λ (xs : List ℕ). AreMovedFrom c.args.self.now.top c.args.self.now.found.group_of_stretch.items xs) (sym places) all.2)
+            chosen.stack chosen.own;
+        laid = c.in_ok-split_last.ensures chosen.parts chosen.part chosen.last;
+        space = record {
+          all_wants = blank.all_wants ∙ filled.attempt.filled.fill.same_wants ∙ filled.attempt.filled.all_wants;
+          all_rooms = blank.all_rooms ∙ rooms;
+          want = blank.want;
+          room = blank.room;
+          reaches = record { late = blank.reaches.late ∙ rooms; shared = blank.reaches.shared ∙ rooms; all = blank.reaches.all ∙ rooms };
+        };
       };
+      nearer = subst (λ (xs : List ℕ). sum xs < sum c.args.self.now.found.group_of_stretch.items) (sym places) all.0.1;
+      instance = refl;
     }
