@@ -1,24 +1,19 @@
 -- What is kept of the numbers as a new name gets one.
-use Rattle.std.proofs.Common.{◌≡◌, ℕ, ◌<◌, true, false, cond, List, [], ◌∷◌, ◌++◌, Option, Some, None, length, refl, sym, ap, ◌∙◌, ◌⊎◌, inl, inr, subst, arith, nat_cmp, Bor, is_some, Equal}
+use Rattle.std.proofs.Common.{◌≡◌, ◌≢◌, ℕ, ◌<◌, true, false, cond, List, [], ◌∷◌, ◌++◌, Option, Some, None, length, refl, sym, ap, ◌∙◌, ◌⊎◌, inl, inr, subst, arith, nat_cmp, Bor, is_some}
 use Rattle.std.specs.Option.{IfSome}
 use Rattle.std.specs.Str.{bytes_eq}
-use Rattle.std.specs.Ordering.{is_eq}
-use Rattle.std.specs.Cmp.{nat_cmp_is}
 use Rattle.std.specs.BTreeMap.{Updates}
 use Rattle.std.specs.Cmp.Lexicographic.{slice_cmp}
 use Rattle.std.proofs.lemmas.Bool.{cases_Bool, false≢true}
-use Rattle.std.proofs.lemmas.Grind.{common_steps}
+use Rattle.std.proofs.lemmas.Bool.Decides.{eqb_tells}
 use Rattle.std.proofs.lemmas.List.{get_or_push, get_or_append_left, length_push}
 use Rattle.std.proofs.lemmas.Map.Text.{btree_map_updates_str}
 use Rattle.std.proofs.lemmas.Slice.Eq.{bytes_eq-Decides}
 use Rattle.yds_model.specs.Document.{name_at}
 use Rattle.yds_instance.specs.Named.{number_of}
-use Rattle.yds_instance.specs.Numbers.{digest_of, first_with, later, found_for, AreNumbered}
+use Rattle.yds_instance.specs.Numbers.{place_for, first_at, later, found_for, AreNumbered}
 use Rattle.yds_instance.specs.declared.numbers.Numbers.{Numbers}
 use Rattle.yds_instance.proofs.Names.{number_push}
-
-digest_same : (x y : ℕ) → is_eq (nat_cmp x y) ≡ true → x ≡ y
-digest_same x y same = grind (arith, common_steps, same)
 
 name_kept : (names : List (List ℕ)) (name : List ℕ) (first : ℕ) → first < length names → name_at (names ++ name ∷ []) first ≡ name_at names first
 name_kept names name first within = get_or_append_left names (name ∷ []) [] first within
@@ -48,7 +43,7 @@ within_kept : (names : List (List ℕ)) (name : List ℕ) (first : Option ℕ) �
 within_kept names name None within = within
 within_kept names name (Some first) within = omega (arith, length_push names name, within)
 
--- # The first name with its digest
+-- # The first name at its place
 
 found_kept : (names : List (List ℕ)) (name other : List ℕ) (old new : Numbers) (first : Option ℕ) → number_of names name ≡ None → new.others ≡ old.others →
     IfSome first (λ n. n < length names) → bytes_eq name other ≡ false → found_for names old other first ≡ number_of names other →
@@ -72,52 +67,44 @@ found_here names name other old new none same nowhere others =
       | inr differ ↦ rw (text, differ, same) (later_none (later old other) names other others nowhere ∙ sym nowhere ∙ number_kept names name other none differ)
     ]
 
-digest_self : (x : ℕ) → is_eq (nat_cmp x x) ≡ true
-digest_self x = ap is_eq (sym (nat_cmp_is x x Equal refl))
-
--- names of different digests differ
-names_differ : (name other : List ℕ) → is_eq (nat_cmp (digest_of name) (digest_of other)) ≡ false → bytes_eq name other ≡ false
+-- names of different places differ
+names_differ : (name other : List ℕ) → place_for name ≢ place_for other → bytes_eq name other ≡ false
 names_differ name other differ = elim (cases_Bool (bytes_eq name other)) [
-  | inl same ↦ absurd (false≢true (sym differ ∙ subst (λ third. is_eq (nat_cmp (digest_of name) (digest_of third)) ≡ true) ((bytes_eq-Decides name other).0 same) (digest_self (digest_of name))))
+  | inl same ↦ absurd (differ (ap place_for ((bytes_eq-Decides name other).0 same)))
   | inr different ↦ different
 ]
-
-pub none_known : (number : Option ℕ) → is_some number ≡ false → number ≡ None
-none_known None is = refl
-none_known (Some number) is = cc
 
 nothing_found : (names : List (List ℕ)) (old : Numbers) (other : List ℕ) (first : Option ℕ) → first ≡ None → found_for names old other first ≡ number_of names other →
     number_of names other ≡ None
 nothing_found names old other None none found = sym found
 nothing_found names old other (Some first) none found = cc
 
+-- the new name comes to a free place
 pub first_added : (names : List (List ℕ)) (name : List ℕ) (old new : Numbers) → AreNumbered names old → number_of names name ≡ None →
-    first_with old (digest_of name) ≡ None → Updates nat_cmp old.by_digest new.by_digest (digest_of name) (Some (length names)) →
-    new.others ≡ old.others → AreNumbered (names ++ name ∷ []) new
-first_added names name old new numbered none nowhere updates same = record {
-  within = λ digest. elim (cases_Bool (is_eq (nat_cmp (digest_of name) digest))) [
-    | inl is ↦
-        let here : first_with new digest ≡ Some (length names) = subst (λ other. first_with new other ≡ Some (length names)) (digest_same _ _ is) updates.1 in
-        rw here (omega (arith, length_push names name))
-    | inr differ ↦ rw (updates.2 digest differ) (within_kept names name (first_with old digest) (numbered.within digest))
+    first_at old (place_for name) ≡ None → first_at new (place_for name) ≡ Some (length names) →
+    ((place : ℕ) → place_for name ≢ place → first_at new place ≡ first_at old place) → new.others ≡ old.others → AreNumbered (names ++ name ∷ []) new
+first_added names name old new numbered none nowhere here elsewhere same = record {
+  within = λ place. elim (eqb_tells (place_for name) place) [
+    | inl (_, is) ↦ subst (λ third. IfSome (first_at new third) (λ n. n < length (names ++ name ∷ []))) is (rw here (omega (arith, length_push names name)))
+    | inr (_, differ) ↦ rw (elsewhere place differ) (within_kept names name (first_at old place) (numbered.within place))
   ];
-  found = λ other. elim (cases_Bool (is_eq (nat_cmp (digest_of name) (digest_of other)))) [
-    | inl is ↦
-        let here : first_with new (digest_of other) ≡ Some (length names) = subst (λ digest. first_with new digest ≡ Some (length names)) (digest_same _ _ is) updates.1 in
-        let unknown : first_with old (digest_of other) ≡ None = subst (λ digest. first_with old digest ≡ None) (digest_same _ _ is) nowhere in
-        rw here (found_here names name other old new none same (nothing_found names old other _ unknown (numbered.found other)) (numbered.others other))
-    | inr differ ↦
-        rw (updates.2 (digest_of other) differ)
-        (found_kept names name other old new (first_with old (digest_of other)) none same (numbered.within (digest_of other)) (names_differ name other differ) (numbered.found other))
+  found = λ other. elim (eqb_tells (place_for name) (place_for other)) [
+    | inl (_, is) ↦
+        let there : first_at new (place_for other) ≡ Some (length names) = subst (λ place. first_at new place ≡ Some (length names)) is here in
+        let unknown : first_at old (place_for other) ≡ None = subst (λ place. first_at old place ≡ None) is nowhere in
+        rw there (found_here names name other old new none same (nothing_found names old other _ unknown (numbered.found other)) (numbered.others other))
+    | inr (_, differ) ↦
+        rw (elsewhere (place_for other) differ)
+        (found_kept names name other old new (first_at old (place_for other)) none same (numbered.within (place_for other)) (names_differ name other differ) (numbered.found other))
   ];
   others = λ other. rw same (others_kept names name other (later old other) none (numbered.others other));
 }
 
--- # A later name with the digest of another
+-- # A later name at the place of another
 
-known_differs : (name other : List ℕ) (old : Numbers) → is_some (first_with old (digest_of name)) ≡ true → first_with old (digest_of other) ≡ None → bytes_eq name other ≡ false
+known_differs : (name other : List ℕ) (old : Numbers) → is_some (first_at old (place_for name)) ≡ true → first_at old (place_for other) ≡ None → bytes_eq name other ≡ false
 known_differs name other old known none = elim (cases_Bool (bytes_eq name other)) [
-  | inl same ↦ absurd (false≢true (sym (ap is_some none) ∙ subst (λ third. is_some (first_with old (digest_of third)) ≡ true) ((bytes_eq-Decides name other).0 same) known))
+  | inl same ↦ absurd (false≢true (sym (ap is_some none) ∙ subst (λ third. is_some (first_at old (place_for third)) ≡ true) ((bytes_eq-Decides name other).0 same) known))
   | inr different ↦ different
 ]
 
@@ -127,8 +114,8 @@ found_differs names name other first none found = elim (cases_Bool (bytes_eq nam
   | inr different ↦ different
 ]
 
-found_later : (names : List (List ℕ)) (name other : List ℕ) (old new : Numbers) (first : Option ℕ) → first_with old (digest_of other) ≡ first → number_of names name ≡ None →
-    is_some (first_with old (digest_of name)) ≡ true → IfSome first (λ n. n < length names) → found_for names old other first ≡ number_of names other →
+found_later : (names : List (List ℕ)) (name other : List ℕ) (old new : Numbers) (first : Option ℕ) → first_at old (place_for other) ≡ first → number_of names name ≡ None →
+    is_some (first_at old (place_for name)) ≡ true → IfSome first (λ n. n < length names) → found_for names old other first ≡ number_of names other →
     later new other ≡ cond (bytes_eq name other) (Some (length names)) (later old other) → found_for (names ++ name ∷ []) new other first ≡ number_of (names ++ name ∷ []) other
 found_later names name other old new None is none known within found laters = found ∙ number_kept names name other none (known_differs name other old known is)
 found_later names name other old new (Some first) is none known within found laters =
@@ -150,15 +137,32 @@ laters_kept names name other before after none is (inl nowhere) = elim (cases_Bo
 laters_kept names name other before after none is (inr kept) =
     inr (is ∙ ap (cond (bytes_eq name other) (Some (length names))) kept ∙ sym (number_push names name other none))
 
+-- the new name comes to a place that another has
 pub later_added : (names : List (List ℕ)) (name : Bor (List ℕ)) (old new : Numbers) → AreNumbered names old → number_of names name.now ≡ None →
-    is_some (first_with old (digest_of name.now)) ≡ true →
+    is_some (first_at old (place_for name.now)) ≡ true →
     Updates (λ one other. slice_cmp nat_cmp one.now other.now) old.others new.others name (Some (length names)) →
-    new.by_digest ≡ old.by_digest → AreNumbered (names ++ name.now ∷ []) new
+    new.places ≡ old.places → AreNumbered (names ++ name.now ∷ []) new
 later_added names name old new numbered none known updates same =
     let laters : (other : List ℕ) → later new other ≡ cond (bytes_eq name.now other) (Some (length names)) (later old other) =
     btree_map_updates_str name.now old.others new.others (Some (length names)) updates in
     record {
-      within = λ digest. rw same (within_kept names name.now (first_with old digest) (numbered.within digest));
-      found = λ other. rw same (found_later names name.now other old new (first_with old (digest_of other)) refl none known (numbered.within (digest_of other)) (numbered.found other) (laters other));
+      within = λ place. rw same (within_kept names name.now (first_at old place) (numbered.within place));
+      found = λ other. rw same (found_later names name.now other old new (first_at old (place_for other)) refl none known (numbered.within (place_for other)) (numbered.found other) (laters other));
       others = λ other. laters_kept names name.now other (later old other) (later new other) none (laters other) (numbered.others other);
     }
+
+-- # The same places, in other memory
+
+found_same : (names : List (List ℕ)) (old new : Numbers) (name : List ℕ) (first : Option ℕ) → new.others ≡ old.others →
+    found_for names old name first ≡ number_of names name → found_for names new name first ≡ number_of names name
+found_same names old new name first same found = rw same found
+
+pub numbered_same : (names : List (List ℕ)) (old new : Numbers) → ((place : ℕ) → first_at new place ≡ first_at old place) → new.others ≡ old.others →
+    AreNumbered names old → AreNumbered names new
+numbered_same names old new places same numbered = record {
+  within = λ place. subst (λ first. IfSome first (λ n. n < length names)) (sym (places place)) (numbered.within place);
+  found = λ name.
+      found_same names old new name (first_at new (place_for name)) same
+      (subst (λ first. found_for names old name first ≡ number_of names name) (sym (places (place_for name))) (numbered.found name));
+  others = λ name. rw same (numbered.others name);
+}

@@ -1,16 +1,28 @@
 //! The numbers of names, found without going through the names.
-ghost use Rattle.std.specs.Prelude.{◌≡◌, ℕ, List, [], ◌∷◌, ◌++◌, None, length, map, OnOk, OnErr};
+ghost use Rattle.std.specs.Prelude.{◌≡◌, ℕ, ◌<◌, ◌≤◌, List, [], ◌∷◌, ◌++◌, None, length, map, OnOk, OnErr};
 ghost use Rattle.yds_instance.specs.Named.{number_of};
-ghost use Rattle.yds_instance.specs.Numbers.{digest_of, AreNumbered};
+ghost use Rattle.yds_instance.specs.Numbers.{place_for, first_at, AreNumbered};
 
 use std::alloc::{AllocError, Global};
 use std::collections::BTreeMap;
+use yds_model::limits::MAX_JOBS;
 
-/// The number of each name, by its digest. Whatever the names are, a look-up takes a few comparisons: those whose digest an
-/// earlier name has are looked up by themselves.
+/// How many places the table has, 2 to the power 15: eight for each job that an instance may have.
+const PLACES: usize = 32_768;
+
+/// How far a digest of 64 bits is shifted down to a place.
+const PLACE_SHIFT: u32 = 49;
+
+/// What a digest is multiplied by for each byte: odd, and near 2 to the power 64 over the golden ratio.
+const DIGEST_FACTOR: u64 = 0x9E37_79B9_7F4A_7C15;
+
+/// The number of each name, in a table by the name's digest. Whatever the names are, a look-up takes a few comparisons: each
+/// place of the table has one name, and those that come to a place later are looked up by themselves.
 #[derive(Drop)]
 pub(crate) struct Numbers<'a> {
-    by_digest: BTreeMap<u64, u32>,
+    // One more than the number of the name that came to the place first, or 0. No places before the first name.
+    places: Vec<u16>,
+    // The numbers of the names that came to a place that another had taken.
     others: BTreeMap<&'a str, u32>,
 }
 
@@ -20,7 +32,7 @@ impl<'a> Numbers<'a> {
         ensures { AreNumbered [] result }
     {
         Numbers {
-            by_digest: BTreeMap::new(alloc),
+            places: Vec::new(alloc),
             others: BTreeMap::new(alloc),
         }
     }
@@ -30,7 +42,7 @@ impl<'a> Numbers<'a> {
         requires { AreNumbered (map (λ name. name.now) names.now) self.now }
         ensures { result ≡ number_of (map (λ name. name.now) names.now) name.now }
     {
-        let first = *self.by_digest.get(&digest(name))?;
+        let first = self.first_at(place_of(name))?;
         if names[first as usize] == name {
             Some(first)
         } else {
@@ -40,26 +52,51 @@ impl<'a> Numbers<'a> {
 
     /// Adds a name that is new, with the next number.
     pub(crate) fn add(&mut self, name: &'a str, number: u32) -> Result<(), AllocError>
+        requires { number < MAX_JOBS }
         ensures added { OnOk result ((names : List (List ℕ)) → number ≡ length names → number_of names name.entry.now ≡ None → AreNumbered names self.old → AreNumbered (names ++ name.entry.now ∷ []) self.new) }
         ensures err { OnErr result ((names : List (List ℕ)) → AreNumbered names self.old → AreNumbered names self.new) }
     {
-        let digest = digest(name);
-        if self.by_digest.contains_key(&digest) {
-            self.others.insert(name, number)?;
+        self.make_places()?;
+        let place = place_of(name);
+        if self.places[place] == 0 {
+            self.places[place] = number as u16 + 1;
         } else {
-            self.by_digest.insert(digest, number)?;
+            self.others.insert(name, number)?;
+        }
+        Ok(())
+    }
+
+    /// The number of the name that came to a place first.
+    fn first_at(&self, place: usize) -> Option<u32>
+        ensures { result ≡ first_at self.now place }
+    {
+        let taken = *self.places.get(place)?;
+        u32::from(taken).checked_sub(1)
+    }
+
+    /// Makes the places, all free, if they aren't there.
+    fn make_places(&mut self) -> Result<(), AllocError>
+        ensures made { OnOk result (PLACES ≤ length self.new.places.items) }
+        ensures same { (place : ℕ) → first_at self.new place ≡ first_at self.old place }
+        ensures others { self.new.others ≡ self.old.others }
+    {
+        if self.places.len() < PLACES {
+            self.places.resize(PLACES, 0)?;
         }
         Ok(())
     }
 }
 
-/// A number that tells a name from most others.
-fn digest(name: &str) -> u64
-    ensures { result ≡ digest_of name.now }
+/// The place of a name in the table, by a digest that tells it from most others.
+fn place_of(name: &str) -> usize
+    ensures place { result ≡ place_for name.now }
+    ensures within { result < PLACES }
 {
     let mut digest: u64 = 0;
     for byte in name.as_bytes() {
-        digest = digest.wrapping_mul(31).wrapping_add(u64::from(*byte));
+        digest = digest
+            .wrapping_mul(DIGEST_FACTOR)
+            .wrapping_add(u64::from(*byte));
     }
-    digest
+    (digest.wrapping_mul(DIGEST_FACTOR) >> PLACE_SHIFT) as usize
 }
