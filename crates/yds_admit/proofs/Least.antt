@@ -1,6 +1,5 @@
 -- The walk over the pieces of jobs for one job more, and what it finds.
-use Rattle.std.proofs.Common.{◌≡◌, ℕ, zero, suc, ◌+◌, ◌-◌, ◌*◌, ◌<◌, ◌≤◌, ◌⊎◌, List, [], ◌∷◌, ◌++◌, length, get_or, take, drop, ◌∙◌, refl, sym, subst, arith, inl, inr, ap, cond, nat_le, Option, Some, None, ◌==◌}
-use Rattle.std.specs.Prelude.{MatchOption}
+use Rattle.std.proofs.Common.{◌≡◌, ℕ, zero, suc, ◌+◌, ◌-◌, ◌*◌, ◌<◌, ◌≤◌, ◌⊎◌, List, [], ◌∷◌, ◌++◌, length, get_or, take, drop, ◌∙◌, refl, sym, subst, arith, inl, inr, ap, cond, nat_le, ◌==◌}
 use Rattle.std.specs.List.{All, Any, sum_by}
 use Rattle.std.specs.List.Sorted.{IsNonDecreasing}
 use Rattle.std.proofs.lemmas.Bool.{cases_lt, cases_eq, le-leb, leb-true, leb-false, true≢false, eqb-true, eqb-false}
@@ -12,7 +11,7 @@ use Rattle.yds_model.specs.Job.{Job, IsJob, no_job, job_at}
 use Rattle.yds_model.specs.Policy.{numbers_of}
 use Rattle.yds_model.proofs.Sums.{sum_by_same, sum_by_zero}
 use Rattle.yds_admit.specs.Interval.{work_in}
-use Rattle.yds_admit.specs.Chain.{IsFalling, due_work, HasRoomOver, IsLeastFrom, NoFrom}
+use Rattle.yds_admit.specs.Chain.{due_work, HasRoomOver, IsLeastFrom, NoFrom}
 use Rattle.yds_admit.specs.Pieces.{went, ArePieces, AreDue}
 use Rattle.yds_laws.specs.AdmissionLaws.{HasRoom}
 use Rattle.yds_laws.proofs.Served.{room_from, confined_sum}
@@ -21,7 +20,7 @@ use Rattle.yds_admit.proofs.Overfull.{jobs_work}
 use Rattle.yds_admit.proofs.Sweep.{released_all, last_of}
 
 -- the work in an interval is that of the pieces up to the last one released in it
-work_of_first : (jobs : List Job) (n from to : ℕ) → n ≤ length jobs → ((i : ℕ) → i < n → from ≤ (job_at jobs i).release) →
+pub work_of_first : (jobs : List Job) (n from to : ℕ) → n ≤ length jobs → ((i : ℕ) → i < n → from ≤ (job_at jobs i).release) →
     ((i : ℕ) → n ≤ i → i < length jobs → (job_at jobs i).release < from) → work_in jobs from to ≡ due_work (take n jobs) to
 work_of_first jobs n from to within early late = omega (
   arith,
@@ -71,61 +70,23 @@ module _ (top : ℕ) (times : List ℕ) (all jobs : List Job) (places : List ℕ
   abbrev pub LeavesRoom : ℕ → ℕ → Type 0
   LeavesRoom n from = row.work + went n jobs places end + top * from ≤ top * row.deadline
 
-  -- some of the first n don't
-  pub record HasTooMuch (from : ℕ) : Type 0 where
-    pub n : ℕ
+  -- so do the pieces from the n-th on, each with those before it from its release on
+  abbrev pub AllLeaveRoom : ℕ → Type 0
+  AllLeaveRoom n = (k : ℕ) → n ≤ k → k < length jobs → LeavesRoom (k + 1) (job_at jobs k).release
+
+  pub one_more : (n : ℕ) → AllLeaveRoom (n + 1) → LeavesRoom (n + 1) (job_at jobs n).release → AllLeaveRoom n
+  one_more n others leaves k behind below = elim (cases_eq k n) [
+    | inl same ↦ subst (λ j. LeavesRoom (j + 1) (job_at jobs j).release) (sym same) leaves
+    | inr other ↦ others k (omega (arith, behind, other)) below
+  ]
+
+  -- the first n don't
+  pub record HasTooMuch (n from : ℕ) : Type 0 where
     pub within : n ≤ length jobs
     pub early : (i : ℕ) → i < n → from ≤ (job_at jobs i).release
     pub ahead : from ≤ row.release
     pub is_release : (from ≡ row.release) ⊎ Any (λ job. job.release ≡ from) jobs
     pub much : top * row.deadline < row.work + went n jobs places end + top * from
-
-  -- the pieces before `first` are released with the job or later, and the walk has come to the n-th
-  abbrev pub LookedAt : ℕ → ℕ → Option ℕ → Type 0
-  LookedAt first n None = LeavesRoom first row.release × ((k : ℕ) → first ≤ k → k < n → LeavesRoom (k + 1) (job_at jobs k).release)
-  LookedAt first n (Some from) = HasTooMuch from × ((k : ℕ) → first ≤ k → k < n → (job_at jobs k).release < from → LeavesRoom (k + 1) (job_at jobs k).release)
-
-  -- # The walk
-
-  pub begins_some : (first : ℕ) → first ≤ length jobs → ((i : ℕ) → i < first → row.release ≤ (job_at jobs i).release) →
-      top * row.deadline < row.work + went first jobs places end + top * row.release → LookedAt first first (Some row.release)
-  begins_some first known early much = (
-    record { n = first; within = known; early = early; ahead = omega arith; is_release = inl refl; much = much },
-    λ k behind below less. absurd (omega (arith, behind, below)),
-  )
-
-  pub begins_none : (first : ℕ) → LeavesRoom first row.release → LookedAt first first None
-  begins_none first leaves = (leaves, λ k behind below. absurd (omega (arith, behind, below)))
-
-  pub next_some : (first n : ℕ) (from : Option ℕ) → IsFalling jobs → n < length jobs → (job_at jobs n).release ≤ row.release → LookedAt first n from →
-      top * row.deadline < row.work + went (n + 1) jobs places end + top * (job_at jobs n).release → LookedAt first (n + 1) (Some (job_at jobs n).release)
-  next_some first n from falling below ahead looked much = (
-    record {
-      n = n + 1;
-      within = omega (arith, below);
-      early = λ i less. falling i n (omega (arith, less)) below;
-      ahead = ahead;
-      is_release = inr (n, job_at jobs n, below, get_or_default jobs n (job_at jobs n) no_job below, refl);
-      much = much;
-    },
-    λ k behind short less. absurd (omega (arith, less, falling k n (omega (arith, short)) below)),
-  )
-
-  pub next_none : (first n : ℕ) (from : Option ℕ) → LookedAt first n from → LeavesRoom (n + 1) (job_at jobs n).release → LookedAt first (n + 1) from
-  next_none first n None looked leaves = (
-    looked.0,
-    λ k behind below. elim (cases_eq k n) [
-      | inl same ↦ subst (λ j. LeavesRoom (j + 1) (job_at jobs j).release) (sym same) leaves
-      | inr other ↦ looked.1 k behind (omega (arith, below, other))
-    ],
-  )
-  next_none first n (Some from) looked leaves = (
-    looked.0,
-    λ k behind below less. elim (cases_eq k n) [
-      | inl same ↦ subst (λ j. LeavesRoom (j + 1) (job_at jobs j).release) (sym same) leaves
-      | inr other ↦ looked.1 k behind (omega (arith, below, other)) less
-    ],
-  )
 
 -- # Room in any interval
 
@@ -165,7 +126,7 @@ module _ (top : ℕ) (all : List Job) (are : All IsJob all) (room : HasRoom top 
 
 -- # What was found
 
-module _ (top : ℕ) (times : List ℕ) (all jobs : List Job) (places : List ℕ) (row : Job) (end m : ℕ) (long : length times ≡ m + 1) (pieces : ArePieces top times all jobs places)
+module _ (top : ℕ) (times : List ℕ) (all jobs : List Job) (places used : List ℕ) (row : Job) (end m : ℕ) (long : length times ≡ m + 1) (pieces : ArePieces top times all jobs places used)
     (short : end ≤ m) (is_end : get_or times end 0 ≡ row.deadline) (rising : IsNonDecreasing times) (due : AreDue times all) (window : row.release < row.deadline) where
   with_row : (from to : ℕ) → work_in (all ++ row ∷ []) from to ≡ work_in jobs from to + term from to row
   with_row from to = omega (arith, sum_by_push (term from to) all row, pieces.same from to)
@@ -226,94 +187,88 @@ module _ (top : ℕ) (times : List ℕ) (all jobs : List Job) (places : List ℕ
         mul-sub top to from,
       )
 
-  module _ (first : ℕ) (known : first ≤ length jobs) (early : (i : ℕ) → i < first → row.release ≤ (job_at jobs i).release)
-      (late : (i : ℕ) → first ≤ i → i < length jobs → (job_at jobs i).release < row.release) where
-    -- an earlier release has a last piece
-    last_piece : (from : ℕ) → from < row.release → Any (λ (job : Job). job.release ≡ from) (all ++ row ∷ []) →
-        (k : ℕ) × (first ≤ k) × (k < length jobs) × ((job_at jobs k).release ≡ from) × ((i : ℕ) → k < i → i < length jobs → (job_at jobs i).release < from)
-    last_piece from less some = elim (cases_lt some.0 (length all)) [
-      | inr last ↦
-          let own : row.release ≡ from =
-          ap (λ (job : Job). job.release) (sym (get_or_push all row some.1 some.0 (omega (arith, last, some.2, length_push all row))) ∙ some.3) ∙ some.4 in
-          absurd (omega (arith, own, less))
-      | inl there ↦
-          let piece = pieces.kept from (some.0, some.1, there, sym (get_or_append_left all (row ∷ []) some.1 some.0 there) ∙ some.3, some.4) in
-          let read : (job_at jobs piece.0).release ≡ from =
-          ap (λ (job : Job). job.release) (get_or_default jobs piece.0 no_job piece.1 piece.2 ∙ piece.3) ∙ piece.4 in
-          let last = last_of (length jobs) (λ i. nat_le from (job_at jobs i).release) piece.0 piece.2 (le-leb from (job_at jobs piece.0).release (omega (arith, read))) in
-          let k : ℕ = last.0 in
-          let is : (job_at jobs k).release ≡ from = elim (cases_lt k piece.0) [
-            | inl ahead ↦ absurd (true≢false (sym (le-leb from (job_at jobs piece.0).release (omega (arith, read))) ∙ last.3 piece.0 ahead piece.2))
-            | inr behind ↦ omega (arith, leb-true from (job_at jobs k).release last.2, pieces.falling piece.0 k behind last.1, read)
-          ] in (
-            k,
-            elim (cases_lt k first) [ inr most ↦ most | inl before_first ↦ absurd (omega (arith, early k before_first, is, less)) ],
-            last.1,
-            is,
-            λ i behind below. leb-false from (job_at jobs i).release (last.3 i behind below),
-          )
-    ]
-
-    earlier_fits : (from : ℕ) → from < row.release → Any (λ (job : Job). job.release ≡ from) (all ++ row ∷ []) →
-        ((k : ℕ) → first ≤ k → k < length jobs → (job_at jobs k).release ≡ from → LeavesRoom top times all jobs places row end (k + 1) (job_at jobs k).release) →
-        HasRoomOver top row.deadline (all ++ row ∷ []) from
-    earlier_fits from less some leaves =
-        let last = last_piece from less some in
+  -- an earlier release has a last piece
+  last_piece : (from : ℕ) → from < row.release → Any (λ (job : Job). job.release ≡ from) (all ++ row ∷ []) →
+      (k : ℕ) × (k < length jobs) × ((job_at jobs k).release ≡ from) × ((i : ℕ) → k < i → i < length jobs → (job_at jobs i).release < from)
+  last_piece from less some = elim (cases_lt some.0 (length all)) [
+    | inr last ↦
+        let own : row.release ≡ from =
+        ap (λ (job : Job). job.release) (sym (get_or_push all row some.1 some.0 (omega (arith, last, some.2, length_push all row))) ∙ some.3) ∙ some.4 in
+        absurd (omega (arith, own, less))
+    | inl there ↦
+        let piece = pieces.kept from (some.0, some.1, there, sym (get_or_append_left all (row ∷ []) some.1 some.0 there) ∙ some.3, some.4) in
+        let read : (job_at jobs piece.0).release ≡ from =
+        ap (λ (job : Job). job.release) (get_or_default jobs piece.0 no_job piece.1 piece.2 ∙ piece.3) ∙ piece.4 in
+        let last = last_of (length jobs) (λ i. nat_le from (job_at jobs i).release) piece.0 piece.2 (le-leb from (job_at jobs piece.0).release (omega (arith, read))) in
         let k : ℕ = last.0 in
-        has_room_over (k + 1) from (omega (arith, last.2)) (λ i below. omega (arith, last.3, pieces.falling i k (omega (arith, below)) last.2))
-        (λ i behind below. last.4 i (omega (arith, behind)) below)
-        (subst (LeavesRoom top times all jobs places row end (k + 1)) last.3 (leaves k last.1 last.2 last.3))
+        let is : (job_at jobs k).release ≡ from = elim (cases_lt k piece.0) [
+          | inl ahead ↦ absurd (true≢false (sym (le-leb from (job_at jobs piece.0).release (omega (arith, read))) ∙ last.3 piece.0 ahead piece.2))
+          | inr behind ↦ omega (arith, leb-true from (job_at jobs k).release last.2, pieces.falling piece.0 k behind last.1, read)
+        ] in
+        (k, last.1, is, λ i behind below. leb-false from (job_at jobs i).release (last.3 i behind below))
+  ]
 
-    pub none_found : All IsJob all → HasRoom top all → LookedAt top times all jobs places row end first (length jobs) None → NoFrom top row.deadline (all ++ row ∷ [])
-    none_found are room found from ahead some = elim (cases_lt row.release from) [
-      | inl later ↦ λ to beyond deadline. omega (arith, with_row from to, before from to row later, pieces.same from to, room_to top all are room from to)
-      | inr most ↦ elim (cases_eq from row.release) [
-        | inl same ↦ has_room_over first from known (λ i below. omega (arith, early i below, same)) (λ i behind below. omega (arith, late i behind below, same))
-            (subst (LeavesRoom top times all jobs places row end first) (sym same) found.0)
-        | inr other ↦ earlier_fits from (less_than from row.release most other) some (λ k behind below is. found.1 k behind below)
-      ]
-    ] where
-      less_than : (x y : ℕ) → x ≤ y → (x ≡ y → ⊥) → x < y
-      less_than x y most other = elim (cases_lt x y) [ inl less ↦ less | inr more ↦ absurd (other (omega (arith, most, more))) ]
+  earlier_fits : (from : ℕ) → from < row.release → Any (λ (job : Job). job.release ≡ from) (all ++ row ∷ []) →
+      ((k : ℕ) → k < length jobs → (job_at jobs k).release ≡ from → LeavesRoom top times all jobs places row end (k + 1) (job_at jobs k).release) →
+      HasRoomOver top row.deadline (all ++ row ∷ []) from
+  earlier_fits from less some leaves =
+      let last = last_piece from less some in
+      let k : ℕ = last.0 in
+      has_room_over (k + 1) from (omega (arith, last.1)) (λ i below. omega (arith, last.2, pieces.falling i k (omega (arith, below)) last.1))
+      (λ i behind below. last.3 i (omega (arith, behind)) below)
+      (subst (LeavesRoom top times all jobs places row end (k + 1)) last.2 (leaves k last.1 last.2))
 
-    pub some_found : (from : ℕ) → LookedAt top times all jobs places row end first (length jobs) (Some from) → IsLeastFrom top row.deadline (all ++ row ∷ []) from
-    some_found from found =
-        let much = found.0 in
-        let greatest = pieces.greatest m much.n long much.within end short in
-        let to : ℕ = get_or times greatest.at 0 in
-        let later : row.deadline ≤ to = omega (arith, is_end, rising end greatest.at 0 greatest.later (omega (arith, greatest.within, long))) in
-        record {
-          ahead = omega (arith, much.ahead, window);
-          is_release = elim much.is_release [
-            | inl own ↦ (length all, row, omega (arith, length_push all row), get_or_push all row row (length all) refl, sym own)
-            | inr piece ↦
-                let one = pieces.known from piece in
-                (one.0, one.1, omega (arith, one.2, length_push all row), get_or_append_left all (row ∷ []) one.1 one.0 one.2 ∙ one.3, one.4)
-          ];
-          to = to;
-          beyond = later;
-          too_much = omega (
-            arith,
-            with_row from to,
-            inside from to row much.ahead later,
-            first_at_most jobs much.n from to much.within much.early,
-            greatest.exact,
-            ap (λ t. top * t) is_end,
-            much.much,
-            mul-sub top to from,
-            mul-le-mul_left top (let less : from ≤ to = omega (arith, later, much.ahead, window) in less),
-          );
-          earlier = λ other less some. earlier_fits other (omega (arith, less, much.ahead)) some
-              (λ k behind below is. found.1 k behind below (omega (arith, is, less)));
-        }
+  -- The first n pieces are released with the job or later.
+  pub none_found : All IsJob all → HasRoom top all → (n : ℕ) → n ≤ length jobs → ((i : ℕ) → i < n → row.release ≤ (job_at jobs i).release) →
+      ((i : ℕ) → n ≤ i → i < length jobs → (job_at jobs i).release < row.release) → LeavesRoom top times all jobs places row end n row.release →
+      AllLeaveRoom top times all jobs places row end n → NoFrom top row.deadline (all ++ row ∷ [])
+  none_found are room n known early late leaves others from ahead some = elim (cases_lt row.release from) [
+    | inl later ↦ λ to beyond deadline. omega (arith, with_row from to, before from to row later, pieces.same from to, room_to top all are room from to)
+    | inr most ↦ elim (cases_eq from row.release) [
+      | inl same ↦ has_room_over n from known (λ i below. omega (arith, early i below, same)) (λ i behind below. omega (arith, late i behind below, same))
+          (subst (LeavesRoom top times all jobs places row end n) (sym same) leaves)
+      | inr other ↦
+          let less : from < row.release = less_than from row.release most other in
+          earlier_fits from less some (λ k below is. others k (elim (cases_lt k n) [
+            | inl first ↦ absurd (omega (arith, early k first, is, less))
+            | inr behind ↦ behind
+          ]) below)
+    ]
+  ] where
+    less_than : (x y : ℕ) → x ≤ y → (x ≡ y → ⊥) → x < y
+    less_than x y most other = elim (cases_lt x y) [ inl less ↦ less | inr more ↦ absurd (other (omega (arith, most, more))) ]
 
-pub found_is : (top : ℕ) (times : List ℕ) (all jobs : List Job) (places : List ℕ) (row : Job) (end m : ℕ) (long : length times ≡ m + 1) (pieces : ArePieces top times all jobs places)
-    (short : end ≤ m) (is_end : get_or times end 0 ≡ row.deadline) (rising : IsNonDecreasing times) (due : AreDue times all) (window : row.release < row.deadline)
-    (first : ℕ) (known : first ≤ length jobs) (early : (i : ℕ) → i < first → row.release ≤ (job_at jobs i).release)
-    (late : (i : ℕ) → first ≤ i → i < length jobs → (job_at jobs i).release < row.release) → All IsJob all → HasRoom top all →
-    (from : Option ℕ) → LookedAt top times all jobs places row end first (length jobs) from →
-    MatchOption from (NoFrom top row.deadline (all ++ row ∷ [])) (IsLeastFrom top row.deadline (all ++ row ∷ []))
-found_is top times all jobs places row end m long pieces short is_end rising due window first known early late are room None found =
-    none_found top times all jobs places row end m long pieces short is_end rising due window first known early late are room found
-found_is top times all jobs places row end m long pieces short is_end rising due window first known early late are room (Some from) found =
-    some_found top times all jobs places row end m long pieces short is_end rising due window first known early late from found
+  -- The first n pieces are released at this time or later.
+  pub some_found : (n from : ℕ) → HasTooMuch top times all jobs places row end n from → AllLeaveRoom top times all jobs places row end n →
+      IsLeastFrom top row.deadline (all ++ row ∷ []) from
+  some_found n from much others =
+      let greatest = pieces.greatest m n long much.within end short in
+      let to : ℕ = get_or times greatest.at 0 in
+      let later : row.deadline ≤ to = omega (arith, is_end, rising end greatest.at 0 greatest.later (omega (arith, greatest.within, long))) in
+      record {
+        ahead = omega (arith, much.ahead, window);
+        is_release = elim much.is_release [
+          | inl own ↦ (length all, row, omega (arith, length_push all row), get_or_push all row row (length all) refl, sym own)
+          | inr piece ↦
+              let one = pieces.known from piece in
+              (one.0, one.1, omega (arith, one.2, length_push all row), get_or_append_left all (row ∷ []) one.1 one.0 one.2 ∙ one.3, one.4)
+        ];
+        to = to;
+        beyond = later;
+        too_much = omega (
+          arith,
+          with_row from to,
+          inside from to row much.ahead later,
+          first_at_most jobs n from to much.within much.early,
+          greatest.exact,
+          ap (λ t. top * t) is_end,
+          much.much,
+          mul-sub top to from,
+          mul-le-mul_left top (let less : from ≤ to = omega (arith, later, much.ahead, window) in less),
+        );
+        earlier = λ other less some. earlier_fits other (omega (arith, less, much.ahead)) some
+            (λ k below is. others k (elim (cases_lt k n) [
+              | inl first ↦ absurd (omega (arith, much.early k first, is, less))
+              | inr behind ↦ behind
+            ]) below);
+      }

@@ -13,3 +13,4 @@ pub mod Marks
 pub mod Cutting
 pub mod Made
 pub mod Least
+pub mod Idleness

@@ -1,5 +1,5 @@
 -- The pieces of jobs, job by job.
-use Rattle.std.proofs.Common.{◌≡◌, ℕ, ◌+◌, ◌-◌, ◌*◌, ◌<◌, ◌≤◌, List, [], length, take, ◌∙◌, refl, sym, subst, arith, inl, inr, ap}
+use Rattle.std.proofs.Common.{◌≡◌, ℕ, ◌+◌, ◌-◌, ◌<◌, ◌≤◌, List, [], length, get_or, ◌∙◌, refl, sym, subst, arith, inl, inr, ap}
 use Rattle.std.specs.List.{sum_by}
 use Rattle.std.proofs.lemmas.Bool.{cases_lt, cases_eq}
 use Rattle.std.proofs.lemmas.List.{get_or_append_left, get_or-append_right, get_or_default, length-append, take_all}
@@ -10,21 +10,12 @@ use Rattle.yds_model.specs.declared.limits.TheConstants.{MAX_JOBS, MAX_WORK}
 use Rattle.yds_model.specs.Job.{Job, no_job, job_at}
 use Rattle.yds_admit.specs.Interval.{work_in}
 use Rattle.yds_admit.specs.Chain.{IsFalling}
-use Rattle.yds_admit.specs.Pieces.{IsGreatest, IsCutting, IsCutInto, ArePieces}
+use Rattle.yds_admit.specs.Pieces.{IsGreatest, IsCutting, IsCutInto, AreCut, ArePieces, went}
 use Rattle.yds_admit.proofs.Between.{term}
 use Rattle.yds_admit.proofs.Newly.{any_permuted}
 use Rattle.yds_admit.proofs.Cutting.{added}
 
--- the pieces of the first n of all jobs
-pub record Made (all : List Job) (n : ℕ) (jobs : List Job) : Type 0 where
-  pub falling : IsFalling jobs
-  pub later : (k : ℕ) → n ≤ k → k < length all → (i : ℕ) → i < length jobs → (job_at all k).release ≤ (job_at jobs i).release
-  pub few : sum_by (λ job. job.work) jobs ≤ n * MAX_WORK
-  pub same : (from to : ℕ) → work_in jobs from to ≡ work_in (take n all) from to
-  pub kept : (k : ℕ) → k < n → (i : ℕ) × (i < length jobs) × ((job_at jobs i).release ≡ (job_at all k).release)
-  pub known : (i : ℕ) → i < length jobs → (k : ℕ) × (k < n) × ((job_at all k).release ≡ (job_at jobs i).release)
-
-pub none_made : (all : List Job) → Made all 0 []
+pub none_made : (all : List Job) → AreCut all 0 []
 none_made all = record {
   falling = λ i j order below. absurd (omega arith);
   later = λ k from below i within. absurd (omega arith);
@@ -35,7 +26,7 @@ none_made all = record {
 }
 
 module _ (all : List Job) (n : ℕ) (falls : IsFalling all) (within : n < length all) (job : Job) (is : job ≡ job_at all n) (light : job.work ≤ MAX_WORK)
-    (old new : List Job) (made : Made all n old) (into : IsCutInto job old new) where
+    (old new : List Job) (made : AreCut all n old) (into : IsCutInto job old new) where
   long : length new ≡ length old + length into.more
   long = ap (λ (jobs : List Job). length jobs) into.is ∙ length-append old into.more
 
@@ -51,7 +42,7 @@ module _ (all : List Job) (n : ℕ) (falls : IsFalling all) (within : n < length
   release : job.release ≡ (job_at all n).release
   release = ap (λ (one : Job). one.release) is
 
-  pub one_made : Made all (n + 1) new
+  pub one_made : AreCut all (n + 1) new
   one_made = record {
     falling = λ i j order below. elim (cases_lt j (length old)) [
       | inl early ↦ omega (
@@ -104,10 +95,13 @@ module _ (all : List Job) (n : ℕ) (falls : IsFalling all) (within : n < length
     ];
   }
 
-pub all_made : (top : ℕ) (times : List ℕ) (all jobs : List Job) (places gaps : List ℕ) (n : ℕ) → length all ≤ n → n ≤ length all → length all ≤ MAX_JOBS →
-    length gaps + 1 ≡ length times → Made all n jobs → IsCutting top times jobs places gaps → ArePieces top times all jobs places
-all_made top times all jobs places gaps n whole within few long made cutting = record {
+pub all_made : (top : ℕ) (times : List ℕ) (all jobs : List Job) (places gaps used : List ℕ) (n : ℕ) → length all ≤ n → n ≤ length all → length all ≤ MAX_JOBS →
+    length gaps + 1 ≡ length times → AreCut all n jobs → IsCutting top times jobs places gaps → length used ≡ length times →
+    ((q : ℕ) → q < length times → get_or used q 0 ≡ went (length jobs) jobs places q) → ArePieces top times all jobs places used
+all_made top times all jobs places gaps used n whole within few long made cutting used_long used_is = record {
   as_long = cutting.as_long;
+  used_as_long = used_long;
+  used_is = used_is;
   falling = made.falling;
   few = omega (arith, made.few, few, within);
   same = λ from to. made.same from to ∙ ap (λ (some : List Job). work_in some from to) (take_all n all whole);
@@ -133,10 +127,12 @@ all_made top times all jobs places gaps n whole within few long made cutting = r
 }
 
 -- the pieces of the jobs in another order
-pub same_pieces : (top : ℕ) (times : List ℕ) (all others jobs : List Job) (places : List ℕ) → IsPermutation all others → ArePieces top times others jobs places →
-    ArePieces top times all jobs places
-same_pieces top times all others jobs places same pieces = record {
+pub same_pieces : (top : ℕ) (times : List ℕ) (all others jobs : List Job) (places used : List ℕ) → IsPermutation all others → ArePieces top times others jobs places used →
+    ArePieces top times all jobs places used
+same_pieces top times all others jobs places used same pieces = record {
   as_long = pieces.as_long;
+  used_as_long = pieces.used_as_long;
+  used_is = pieces.used_is;
   falling = pieces.falling;
   few = pieces.few;
   same = λ from to. pieces.same from to ∙ sum_by-IsPermutation (term from to) all others same;

@@ -1,11 +1,12 @@
 -- One job more than jobs that leave no interval overfull: only an interval that begins before its deadline and ends then or later can be.
-use Rattle.std.proofs.Common.{◌≡◌, ℕ, ◌-◌, ◌*◌, ◌<◌, ◌≤◌, ◌⊎◌, List, [], ◌∷◌, ◌++◌, length, ◌∙◌, sym, subst, arith, inl, inr, ap}
+use Rattle.std.proofs.Common.{◌≡◌, ℕ, ◌-◌, ◌*◌, ◌<◌, ◌≤◌, ◌⊎◌, List, [], ◌∷◌, ◌++◌, min, length, get_or, ◌∙◌, refl, sym, subst, arith, inl, inr, ap}
 use Rattle.std.specs.List.{All, Any, sum_by}
 use Rattle.std.specs.List.Sorted.{IsPermutation}
 use Rattle.std.proofs.lemmas.Bool.{cases_lt, cases_eq}
 use Rattle.std.proofs.lemmas.List.{get_or_default, get_or_append_left, get_or_push, length_push}
+use Rattle.std.proofs.lemmas.List.Elements.{All-push}
 use Rattle.std.proofs.lemmas.List.Sums.{sum_by_push}
-use Rattle.std.proofs.lemmas.List.Sorted.{sum_by-IsPermutation, Contains-permutation, IsPermutation-sym}
+use Rattle.std.proofs.lemmas.List.Sorted.{sum_by-IsPermutation, Contains-permutation, IsPermutation-sym, All-permutation, length_permutation}
 use Rattle.yds_model.specs.Job.{Job, IsJob, no_job, job_at}
 use Rattle.yds_model.specs.Policy.{numbers_of}
 use Rattle.yds_model.specs.Admission.{IsOverfull, IsFirstOverfull}
@@ -13,7 +14,7 @@ use Rattle.yds_model.proofs.Lists.{All-front, All-last}
 use Rattle.yds_laws.specs.AdmissionLaws.{HasRoom}
 use Rattle.yds_laws.proofs.Served.{room_from, confined_sum, confined_term}
 use Rattle.yds_admit.specs.Interval.{work_in, HasRoomFrom, IsFirstEnd}
-use Rattle.yds_admit.specs.Chain.{HasRoomOver, IsLeastFrom, NoFrom}
+use Rattle.yds_admit.specs.Chain.{IsFalling, HasRoomOver, IsLeastFrom, NoFrom}
 use Rattle.yds_admit.proofs.Between.{term, before, after}
 use Rattle.yds_admit.proofs.Overfull.{any_of_all, number_of_any, jobs_work}
 
@@ -134,3 +135,84 @@ module _ (top : ℕ) (jobs : List Job) (row : Job) (are : All IsJob (jobs ++ row
       deadline_work from least.to,
       fits least.to (omega (arith, least.ahead, least.beyond)),
     )
+
+-- # The earliest release
+
+module _ (top : ℕ) (jobs : List Job) (row : Job) (by_deadline : List Job) (deadlines : IsPermutation (jobs ++ row ∷ []) by_deadline) (from : ℕ)
+    (earliest : All (λ (job : Job). from ≤ job.release) (jobs ++ row ∷ [])) (begins : Any (λ (job : Job). job.release ≡ from) (jobs ++ row ∷ [])) where
+  same_work : (start to : ℕ) → work_in by_deadline start to ≡ work_in (jobs ++ row ∷ []) start to
+  same_work start to = sum_by-IsPermutation (term start to) (jobs ++ row ∷ []) by_deadline deadlines
+
+  -- of all overfull intervals the first one from there is the first
+  pub first_from_start : (to : ℕ) → IsFirstEnd top by_deadline from to → IsFirstOverfull (jobs ++ row ∷ []) top (numbers_of (jobs ++ row ∷ [])) from to
+  first_from_start to ends = record {
+    overfull = record {
+      forward = ends.forward;
+      is_release = number_of_any (λ job. job.release ≡ from) (jobs ++ row ∷ []) begins;
+      is_deadline = number_of_any (λ job. job.deadline ≡ to) (jobs ++ row ∷ [])
+          (any_permuted (λ job. job.deadline ≡ to) by_deadline (jobs ++ row ∷ []) (IsPermutation-sym (jobs ++ row ∷ []) by_deadline deadlines) ends.is_deadline);
+      too_much = omega (arith, ends.too_much, same_work from to, jobs_work (jobs ++ row ∷ []) from to);
+    };
+    first = λ other_from other_to full. elim (cases_lt from other_from) [
+      | inl less ↦ inl less
+      | inr most ↦
+          let other = any_of_all (λ job. job.release ≡ other_from) (jobs ++ row ∷ []) full.is_release in
+          let release : (get_or (jobs ++ row ∷ []) other.0 other.1).release ≡ other_from = ap (λ (job : Job). job.release) other.3 ∙ other.4 in
+          let equal : from ≡ other_from = omega (arith, most, release, earliest other.0 other.1 other.2) in
+          inr (
+            equal,
+            elim (cases_lt other_to to) [
+              | inr late ↦ late
+              | inl early ↦ absurd (omega (
+                arith,
+                subst (λ (s : ℕ). top * (other_to - s) < work_in by_deadline s other_to) (sym equal)
+                    (omega (arith, full.too_much, jobs_work (jobs ++ row ∷ []) other_from other_to, same_work other_from other_to)),
+                ends.first other_to (omega (arith, equal, full.forward)) early,
+              ))
+            ],
+          )
+    ];
+  }
+
+-- the earliest release is that of the job that stands last in falling order of the releases, or of the one more
+pub starts_at_last : (jobs : List Job) (row : Job) (by_release : List Job) → IsPermutation jobs by_release → IsFalling by_release → (from : ℕ) → 0 < length by_release →
+    from ≡ min (job_at by_release (length by_release - 1)).release row.release →
+    All (λ (job : Job). from ≤ job.release) (jobs ++ row ∷ []) × Any (λ (job : Job). job.release ≡ from) (jobs ++ row ∷ [])
+starts_at_last jobs row by_release same falling from some is =
+    let last : ℕ = length by_release - 1 in
+    let sorted : All (λ (job : Job). from ≤ job.release) by_release = λ k d below. omega (
+      arith,
+      is,
+      falling k last (omega (arith, below)) (omega (arith, some)),
+      ap (λ (job : Job). job.release) (get_or_default by_release k d no_job below),
+    ) in
+    let earliest : All (λ (job : Job). from ≤ job.release) jobs =
+    All-permutation (λ (job : Job). from ≤ job.release) by_release jobs (IsPermutation-sym jobs by_release same) sorted in (
+      All-push (λ (job : Job). from ≤ job.release) jobs row earliest (omega (arith, is)),
+      elim (cases_lt (job_at by_release last).release row.release) [
+        | inl less ↦
+            let there : Any (λ (job : Job). job.release ≡ from) jobs = any_permuted (λ job. job.release ≡ from) by_release jobs (IsPermutation-sym jobs by_release same)
+            (last, job_at by_release last, omega (arith, some), get_or_default by_release last (job_at by_release last) no_job (omega (arith, some)), omega (arith, is, less)) in
+            (there.0, there.1, omega (arith, there.2, length_push jobs row), get_or_append_left jobs (row ∷ []) there.1 there.0 there.2 ∙ there.3, there.4)
+        | inr most ↦ (length jobs, row, omega (arith, length_push jobs row), get_or_push jobs row row (length jobs) refl, omega (arith, is, most))
+      ],
+    )
+
+-- no job beside the one more
+pub starts_alone : (jobs : List Job) (row : Job) (by_release : List Job) → IsPermutation jobs by_release → (from : ℕ) → length by_release ≤ 0 → from ≡ row.release →
+    All (λ (job : Job). from ≤ job.release) (jobs ++ row ∷ []) × Any (λ (job : Job). job.release ≡ from) (jobs ++ row ∷ [])
+starts_alone jobs row by_release same from none is = (
+  All-push (λ (job : Job). from ≤ job.release) jobs row (λ k d below. absurd (omega (arith, below, none, length_permutation jobs by_release same))) (omega (arith, is)),
+  (length jobs, row, omega (arith, length_push jobs row), get_or_push jobs row row (length jobs) refl, sym is),
+)
+
+-- jobs in another order leave no interval overfull either
+pub room_permuted : (top : ℕ) (jobs others : List Job) → IsPermutation jobs others → HasRoom top jobs → HasRoom top others
+room_permuted top jobs others same room from to full = room from to (record {
+  forward = full.forward;
+  is_release = number_of_any (λ job. job.release ≡ from) jobs
+      (any_permuted (λ job. job.release ≡ from) others jobs (IsPermutation-sym jobs others same) (any_of_all (λ job. job.release ≡ from) others full.is_release));
+  is_deadline = number_of_any (λ job. job.deadline ≡ to) jobs
+      (any_permuted (λ job. job.deadline ≡ to) others jobs (IsPermutation-sym jobs others same) (any_of_all (λ job. job.deadline ≡ to) others full.is_deadline));
+  too_much = omega (arith, full.too_much, jobs_work jobs from to, jobs_work others from to, sum_by-IsPermutation (term from to) jobs others same);
+})

@@ -5,42 +5,51 @@ use Rattle.std.specs.List.Sorted.{IsPermutation, IsNonDecreasing, IsNonDecreasin
 use Rattle.std.proofs.lemmas.List.Sorted.{All-permutation}
 use Rattle.std.proofs.lemmas.Bool.{cases_lt}
 use Rattle.std.proofs.lemmas.List.{length_push, get_or_push, get_or_append_left, take_all, get_or_default}
-use Rattle.std.proofs.lemmas.List.Elements.{All-nil, All-cons, All-more, Contains-append_left, Contains-push}
+use Rattle.std.proofs.lemmas.List.Elements.{All-nil, All-cons, All-push, All-more, Contains-append_left, Contains-push}
 use Rattle.std.proofs.Math.Nat.{mul-sub, mul-le-mul_left}
 use Rattle.yds_model.specs.Job.{Job, IsJob, no_job, job_at}
 use Rattle.yds_admit.specs.Chain.{AreTimes}
 use Rattle.yds_admit.specs.Pieces.{AreDue}
 
--- the deadlines of the first jobs are among the times, of which none is later than `due` and the next deadline
-pub record TimesUpTo (due : ℕ) (jobs : List Job) (i : ℕ) (times : List ℕ) : Type 0 where
+-- the deadlines of the first jobs are among the times, of which none is later than the last one, and that not later than the next deadline
+pub record TimesUpTo (jobs : List Job) (i : ℕ) (times : List ℕ) (last : ℕ) : Type 0 where
   pub some : 1 ≤ length times
-  pub first : get_or times 0 0 ≡ due
+  pub first : get_or times 0 0 ≡ 0
   pub rising : IsNonDecreasing times
-  pub before : (j : ℕ) → i ≤ j → j < length jobs → due < (job_at jobs j).deadline → All (λ time. time ≤ (job_at jobs j).deadline) times
-  pub all : All (λ job. due < job.deadline → Contains times job.deadline) (take i jobs)
+  pub most : All (λ time. time ≤ last) times
+  pub known : Contains times last
+  pub before : (j : ℕ) → i ≤ j → j < length jobs → last ≤ (job_at jobs j).deadline
+  pub all : All (λ job. 0 < job.deadline → Contains times job.deadline) (take i jobs)
 
-pub begun : (due : ℕ) (jobs : List Job) → TimesUpTo due jobs 0 (due ∷ [])
-begun due jobs = record {
+pub begun : (jobs : List Job) → TimesUpTo jobs 0 (0 ∷ []) 0
+begun jobs = record {
   some = omega arith;
   first = refl;
-  rising = λ i j d order within. (let k : i ≡ j = omega (arith, within, order) in omega (arith, ap (λ n. get_or (due ∷ []) n d) k));
-  before = λ j behind within later. All-cons (λ time. time ≤ (job_at jobs j).deadline) due [] (omega (arith, later)) (All-nil (λ time. time ≤ (job_at jobs j).deadline));
-  all = All-nil (λ job. due < job.deadline → Contains (due ∷ []) job.deadline);
+  rising = λ i j d order within. (let k : i ≡ j = omega (arith, within, order) in omega (arith, ap (λ n. get_or (0 ∷ []) n d) k));
+  most = All-cons (λ time. time ≤ 0) 0 [] (omega arith) (All-nil (λ time. time ≤ 0));
+  known = Contains-push [] 0;
+  before = λ j behind within. omega arith;
+  all = All-nil (λ job. 0 < job.deadline → Contains (0 ∷ []) job.deadline);
 }
 
-module _ (due : ℕ) (jobs : List Job) (i : ℕ) (times : List ℕ) (rising : IsNonDecreasingBy (λ (job : Job). job.deadline) jobs) (within : i < length jobs)
-    (up_to : TimesUpTo due jobs i times) (deadline : ℕ) (is : deadline ≡ (job_at jobs i).deadline) where
-  -- a deadline that isn't after `due`
-  pub passed : deadline ≤ due → TimesUpTo due jobs (i + 1) times
-  passed early = record {
-    some = up_to.some;
-    first = up_to.first;
-    rising = up_to.rising;
-    before = λ j behind below later. up_to.before j (omega arith) below later;
-    all = All-more (λ job. due < job.deadline → Contains times job.deadline) jobs i no_job within up_to.all (λ later. absurd (omega (arith, early, is, later)));
-  }
+module _ (jobs : List Job) (i : ℕ) (times : List ℕ) (last : ℕ) (rising : IsNonDecreasingBy (λ (job : Job). job.deadline) jobs) (within : i < length jobs)
+    (up_to : TimesUpTo jobs i times last) (deadline : ℕ) (is : deadline ≡ (job_at jobs i).deadline) where
+  -- a deadline that is there already
+  pub passed : deadline ≤ last → TimesUpTo jobs (i + 1) times last
+  passed early =
+      let same : last ≡ (job_at jobs i).deadline = omega (arith, early, is, up_to.before i (omega arith) within) in
+      record {
+        some = up_to.some;
+        first = up_to.first;
+        rising = up_to.rising;
+        most = up_to.most;
+        known = up_to.known;
+        before = λ j behind below. up_to.before j (omega arith) below;
+        all = All-more (λ job. 0 < job.deadline → Contains times job.deadline) jobs i no_job within up_to.all
+            (λ later. subst (λ time. Contains times time) same up_to.known);
+      }
 
-  pushed_rising : due < deadline → IsNonDecreasing (times ++ deadline ∷ [])
+  pushed_rising : last < deadline → IsNonDecreasing (times ++ deadline ∷ [])
   pushed_rising later k j d order below = elim (cases_lt j (length times)) [
     | inl front ↦ omega (
       arith,
@@ -48,15 +57,15 @@ module _ (due : ℕ) (jobs : List Job) (i : ℕ) (times : List ℕ) (rising : Is
       get_or_append_left times (deadline ∷ []) d k (omega (arith, front, order)),
       get_or_append_left times (deadline ∷ []) d j front,
     )
-    | inr last ↦
-        let at : length times ≡ j = omega (arith, below, length_push times deadline, last) in
+    | inr past ↦
+        let at : length times ≡ j = omega (arith, below, length_push times deadline, past) in
         elim (cases_lt k (length times)) [
           | inl front ↦ omega (
             arith,
             get_or_append_left times (deadline ∷ []) d k front,
             get_or_push times deadline d j at,
-            up_to.before i (omega arith) within (omega (arith, later, is)) k d front,
-            is,
+            up_to.most k d front,
+            later,
           )
           | inr same ↦ omega (
             arith,
@@ -66,32 +75,26 @@ module _ (due : ℕ) (jobs : List Job) (i : ℕ) (times : List ℕ) (rising : Is
         ]
   ]
 
-  -- one that is
-  pub added : due < deadline → TimesUpTo due jobs (i + 1) (times ++ deadline ∷ [])
+  -- a new one
+  pub added : last < deadline → TimesUpTo jobs (i + 1) (times ++ deadline ∷ []) deadline
   added later = record {
     some = omega (arith, length_push times deadline);
     first = get_or_append_left times (deadline ∷ []) 0 0 up_to.some ∙ up_to.first;
     rising = pushed_rising later;
-    before = λ j behind below due_later k d there. elim (cases_lt k (length times)) [
-      | inl front ↦ omega (arith, get_or_append_left times (deadline ∷ []) d k front, up_to.before j (omega arith) below due_later k d front)
-      | inr last ↦ omega (
-        arith,
-        get_or_push times deadline d k (omega (arith, there, length_push times deadline, last)),
-        rising i j no_job (omega arith) below,
-        is,
-      )
-    ];
-    all = All-more (λ job. due < job.deadline → Contains (times ++ deadline ∷ []) job.deadline) jobs i no_job within
+    most = All-push (λ time. time ≤ deadline) times deadline (λ k d below. omega (arith, up_to.most k d below, later)) (omega arith);
+    known = Contains-push times deadline;
+    before = λ j behind below. omega (arith, rising i j no_job (omega arith) below, is);
+    all = All-more (λ job. 0 < job.deadline → Contains (times ++ deadline ∷ []) job.deadline) jobs i no_job within
         (λ k d there after. Contains-append_left times (deadline ∷ []) _ (up_to.all k d there after))
         (λ after. subst (λ time. Contains (times ++ deadline ∷ []) time) is (Contains-push times deadline));
   }
 
-pub are_times : (due : ℕ) (jobs : List Job) (i : ℕ) (times : List ℕ) → length jobs ≤ i → TimesUpTo due jobs i times → AreTimes due jobs times
-are_times due jobs i times all up_to = record {
+pub are_times : (jobs : List Job) (i : ℕ) (times : List ℕ) (last : ℕ) → length jobs ≤ i → TimesUpTo jobs i times last → AreTimes 0 jobs times
+are_times jobs i times last all up_to = record {
   some = up_to.some;
   first = up_to.first;
   rising = up_to.rising;
-  all = subst (λ (some : List Job). All (λ job. due < job.deadline → Contains times job.deadline) some) (take_all i jobs all) up_to.all;
+  all = subst (λ (some : List Job). All (λ job. 0 < job.deadline → Contains times job.deadline) some) (take_all i jobs all) up_to.all;
 }
 
 -- # The gaps between the times

@@ -1,5 +1,5 @@
 -- What is decided of jobs.
-use Rattle.std.specs.Prelude.{◌≡◌, ℕ, ◌<◌, ◌≤◌, ◌++◌, List, length, drop}
+use Rattle.std.specs.Prelude.{◌≡◌, ℕ, ◌<◌, ◌≤◌, ◌++◌, true, List, length, drop}
 use Rattle.std.specs.List.{All}
 use Rattle.yds_model.specs.Job.{Job, IsJob}
 use Rattle.yds_model.specs.Policy.{numbers_of}
@@ -7,7 +7,10 @@ use Rattle.yds_model.specs.Admission.{Refusal, AdmitsAfter, IsAdmission, jobs_wi
 use Rattle.yds_laws.specs.AdmissionLaws.{HasRoom}
 use Rattle.yds_admit.specs.Board.{IsMarked}
 use Rattle.yds_admit.specs.Orders.{AreOrdered}
+use Rattle.yds_admit.specs.Pieces.{ArePieces}
+use Rattle.yds_admit.specs.Idle.{HasIdle}
 use Rattle.yds_admit.specs.declared.decision.State.{State}
+use Rattle.yds_admit.specs.declared.decision.Room.{Room}
 
 -- the numbers of the admitted jobs, these jobs, which leave no interval overfull, and a refusal for each other job
 pub record IsDecision (rows : List Job) (top : ℕ) (taken : List ℕ) (jobs : List Job) (refused : List Refusal) : Type 0 where
@@ -35,3 +38,8 @@ pub record IsState (rows : List Job) (top : ℕ) (state : State) : Type 0 where
   pub decided : Decided rows top state.next state.taken.items state.jobs.items state.refused.items
   pub marked : IsMarked rows state.next state.marks.items state.jobs.items
   pub ordered : AreOrdered state.jobs.items state.by_release.items state.by_deadline.items
+
+-- what the program knows of the room that admitted jobs leave
+pub record IsRoom (top : ℕ) (times : List ℕ) (jobs : List Job) (room : Room) : Type 0 where
+  pub idle : HasIdle top times jobs room.idle.items
+  pub pieces : room.known ≡ true → ArePieces top times jobs room.pieces.jobs.items room.pieces.places.items room.pieces.used.items

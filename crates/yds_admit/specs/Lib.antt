@@ -4,4 +4,5 @@ pub mod Chain
 pub mod Board
 pub mod Orders
 pub mod Pieces
+pub mod Idle
 pub mod Decision

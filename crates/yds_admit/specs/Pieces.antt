@@ -1,5 +1,5 @@
 -- Jobs cut into pieces, each of which takes room in one gap between rising times.
-use Rattle.std.specs.Prelude.{◌≡◌, ℕ, ◌+◌, ◌*◌, ◌≤◌, ◌++◌, nat_le, if◌then◌else◌, List, length, take, slice_index, sum_by}
+use Rattle.std.specs.Prelude.{◌≡◌, ℕ, ◌+◌, ◌*◌, ◌<◌, ◌≤◌, ◌++◌, nat_le, if◌then◌else◌, List, length, take, slice_index, sum_by}
 use Rattle.std.specs.List.{All, Any, Contains}
 use Rattle.yds_model.specs.declared.limits.TheConstants.{MAX_JOBS, MAX_WORK}
 use Rattle.yds_model.specs.Job.{Job, job_at}
@@ -39,12 +39,23 @@ pub record IsCutInto (job : Job) (old new : List Job) : Type 0 where
   pub windows : All (λ piece. (piece.release ≡ job.release) × (piece.deadline ≡ job.deadline)) more
   pub work : sum_by (λ piece. piece.work) more ≡ job.work
 
--- the pieces of jobs
-pub record ArePieces (top : ℕ) (times : List ℕ) (all jobs : List Job) (places : List ℕ) : Type 0 where
+-- the pieces of the first n of all jobs
+pub record AreCut (all : List Job) (n : ℕ) (jobs : List Job) : Type 0 where
+  pub falling : IsFalling jobs
+  pub later : (k : ℕ) → n ≤ k → k < length all → (i : ℕ) → i < length jobs → (job_at all k).release ≤ (job_at jobs i).release
+  pub few : sum_by (λ job. job.work) jobs ≤ n * MAX_WORK
+  pub same : (from to : ℕ) → work_in jobs from to ≡ work_in (take n all) from to
+  pub kept : (k : ℕ) → k < n → (i : ℕ) × (i < length jobs) × ((job_at jobs i).release ≡ (job_at all k).release)
+  pub known : (i : ℕ) → i < length jobs → (k : ℕ) × (k < n) × ((job_at all k).release ≡ (job_at jobs i).release)
+
+-- the pieces of jobs, and the units that take room before each of the times
+pub record ArePieces (top : ℕ) (times : List ℕ) (all jobs : List Job) (places used : List ℕ) : Type 0 where
   pub as_long : length places ≡ length jobs
+  pub used_as_long : length used ≡ length times
   pub falling : IsFalling jobs
   pub few : sum_by (λ job. job.work) jobs ≤ MAX_JOBS * MAX_WORK
   pub same : (from to : ℕ) → work_in jobs from to ≡ work_in all from to
   pub kept : (from : ℕ) → Any (λ job. job.release ≡ from) all → Any (λ job. job.release ≡ from) jobs
   pub known : (from : ℕ) → Any (λ job. job.release ≡ from) jobs → Any (λ job. job.release ≡ from) all
   pub greatest : (m n : ℕ) → length times ≡ m + 1 → n ≤ length jobs → (q : ℕ) → q ≤ m → IsGreatest top times m n jobs places q
+  pub used_is : (q : ℕ) → q < length times → slice_index used q ≡ went (length jobs) jobs places q

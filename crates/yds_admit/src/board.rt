@@ -42,7 +42,7 @@ impl Board {
         ensures { IfOk result (λ board. IsBoard rows.now top board.times.items board.gaps.items board.spots.items) }
     {
         let by_deadline = by_deadline(alloc, rows)?;
-        let times = times(alloc, &by_deadline, 0)?;
+        let times = times(alloc, &by_deadline)?;
         let gaps = gaps(alloc, &times, top)?;
         let spots = falling(spots(alloc, rows, &times)?)?;
         Ok(Board { times, gaps, spots })

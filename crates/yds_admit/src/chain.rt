@@ -1,60 +1,23 @@
-ghost use Rattle.std.specs.Prelude.{◌≡◌, ℕ, ◌+◌, ◌-◌, ◌*◌, ◌<◌, ◌≤◌, ◌⊎◌, IfOk, MatchOption, List, length, slice_index};
+ghost use Rattle.std.specs.Prelude.{◌≡◌, ℕ, ◌+◌, ◌-◌, ◌*◌, ◌<◌, ◌≤◌, ◌⊎◌, IfOk, List, length, slice_index};
 ghost use Rattle.std.specs.List.{range_with_len};
-ghost use Rattle.std.specs.List.Sorted.{IsPermutation, IsNonDecreasing, IsNonDecreasingBy};
-ghost use Rattle.yds_admit.specs.Chain.{IsFalling, AreTimes, Takes, IsLeastFrom, NoFrom, AreLinks, AreEmpty};
+ghost use Rattle.std.specs.List.Sorted.{IsNonDecreasing, IsNonDecreasingBy};
+ghost use Rattle.yds_admit.specs.Chain.{AreTimes, Takes, AreLinks, AreEmpty};
 
 use std::alloc::{AllocError, Global};
-use yds_model::limits::{MAX_JOBS, MAX_TIME, MAX_TOP};
 use yds_model::{JobRow, Memory};
 
-/// The least release before `due` of an interval that ends at `due` or at a later deadline and has more work confined to it
-/// than the top speed does there, if there is one.
-///
-/// One walk by falling releases. A job's units take the room that is left in the gaps between the deadlines, from its own deadline
-/// backwards; the units that find no room after `due` go on before it. With a release `s` the greatest work that an interval from
-/// `s` to `due` or later has beyond the room after `due` is the units that went on.
-pub(crate) fn least_from(
-    alloc: Global,
-    by_release: &[JobRow],
-    by_deadline: &[JobRow],
-    due: u32,
-    top: u32,
-) -> Result<Option<u32>, Memory>
-    requires few { length by_release.now ≤ MAX_JOBS }
-    requires in_range { due ≤ MAX_TIME }
-    requires top_in_range { top ≤ MAX_TOP }
-    requires same { IsPermutation by_deadline.now by_release.now }
-    requires falling { IsFalling by_release.now }
-    requires rising { IsNonDecreasingBy (λ job. job.deadline) by_deadline.now }
-    ensures { IfOk result (λ from. MatchOption from (NoFrom top due by_release.now) (IsLeastFrom top due by_release.now)) }
-{
-    let times = times(alloc, by_deadline, due)?;
-    let mut gaps = gaps(alloc, &times, top)?;
-    let gaps = gaps.as_mut_slice();
-    let mut links = own_links(alloc, times.len())?;
-    let links = links.as_mut_slice();
-    let mut passed = 0;
-    let mut from = None;
-    for job in by_release {
-        let place = place(&times, job.deadline);
-        passed += take(gaps, links, place, 0, u64::from(job.work));
-        if job.release < due && passed > u64::from(top) * u64::from(due - job.release) {
-            from = Some(job.release);
-        }
-    }
-    Ok(from)
-}
-
-/// `due` and the deadlines after it.
-pub(crate) fn times(alloc: Global, by_deadline: &[JobRow], due: u32) -> Result<Vec<u32>, Memory>
+/// Time 0 and the deadlines, each once.
+pub(crate) fn times(alloc: Global, by_deadline: &[JobRow]) -> Result<Vec<u32>, Memory>
     requires { IsNonDecreasingBy (λ job. job.deadline) by_deadline.now }
-    ensures { IfOk result (λ times. AreTimes due by_deadline.now times.items) }
+    ensures { IfOk result (λ times. AreTimes 0 by_deadline.now times.items) }
 {
     let mut times = Vec::new(alloc);
-    times.push(due)?;
+    let mut last = 0;
+    times.push(last)?;
     for job in by_deadline {
-        if due < job.deadline {
-            times.push(job.deadline)?;
+        if last < job.deadline {
+            last = job.deadline;
+            times.push(last)?;
         }
     }
     Ok(times)

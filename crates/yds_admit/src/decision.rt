@@ -1,16 +1,19 @@
-ghost use Rattle.std.specs.Prelude.{◌≡◌, ◌+◌, ◌*◌, ◌<◌, ◌≤◌, ◌++◌, ◌∷◌, [], false, IfOk, IfSome, length, take, drop};
+ghost use Rattle.std.specs.Prelude.{◌≡◌, ◌+◌, ◌*◌, ◌<◌, ◌≤◌, ◌++◌, ◌∷◌, [], true, false, IfOk, length, take, drop};
 ghost use Rattle.yds_model.specs.Job.{job_at};
 ghost use Rattle.yds_model.specs.Policy.{numbers_of};
 ghost use Rattle.yds_model.specs.Admission.{IsFirstOverfull};
 ghost use Rattle.yds_laws.specs.AdmissionLaws.{HasRoom};
 ghost use Rattle.yds_admit.specs.Board.{IsBoard, IsMarked};
-ghost use Rattle.yds_admit.specs.Decision.{IsDecision, IsState};
+ghost use Rattle.yds_admit.specs.Decision.{IsDecision, IsState, IsRoom};
 ghost use Rattle.yds_admit.specs.Orders.{AreOrdered};
-ghost use Rattle.yds_admit.specs.Pieces.{ArePieces};
 ghost use Rattle.yds_admit.specs.Interval.{work_in};
 
 use crate::board::Board;
-use crate::interval::{by_deadline, by_release, newly_overfull, work_between};
+use crate::chain::place;
+use crate::idle::take_idle;
+use crate::interval::{
+    by_deadline, by_release, overfull_by_pieces, overfull_from_start, work_between,
+};
 use crate::pieces::{Pieces, cut_all};
 use crate::refusal::Refusal;
 use crate::run::{fit, marked};
@@ -21,9 +24,6 @@ use yds_model::{JobRow, Memory};
 
 /// Runs of at most so many jobs are decided one by one.
 const SHORT_RUN: usize = 8;
-
-/// The jobs are cut into pieces when more than so many candidates in a row were refused.
-const FEW_REFUSED: usize = 2;
 
 /// Which jobs are admitted, and why the others aren't.
 #[derive(Drop)]
@@ -50,6 +50,16 @@ struct State {
     by_release: Vec<JobRow>,
     /// The admitted jobs by rising deadlines.
     by_deadline: Vec<JobRow>,
+}
+
+/// What is known of the room that the admitted jobs leave.
+#[derive(Drop)]
+struct Room {
+    /// What is idle in each of the gaps between the times.
+    idle: Vec<u64>,
+    /// Whether the pieces are those of the admitted jobs.
+    known: bool,
+    pieces: Pieces,
 }
 
 /// Admits a run of jobs as a whole where they leave no interval overfull beside the jobs admitted before, and a short run job by job.
@@ -182,52 +192,70 @@ fn one_by_one(
     ensures more { IfOk result (λ _. state.old.next < state.new.next) }
     ensures short { IfOk result (λ wanted. wanted ≤ 2 * SHORT_RUN) }
 {
-    let mut pieces = None;
+    let mut room = unknown_room(alloc, rows, board, state, top)?;
     let mut admitted = 0;
-    let mut refused = 0;
     while state.next < rows.len() && admitted < SHORT_RUN {
-        if decide_next(alloc, rows, board, state, &pieces, top)? {
-            pieces = None;
+        if decide_next(alloc, rows, board, state, &mut room, top)? {
             admitted += 1;
-            refused = 0;
         } else {
             admitted = 0;
-            if refused < FEW_REFUSED {
-                refused += 1;
-            } else if pieces.is_none() {
-                pieces = Some(pieces_of(alloc, rows, board, state, top)?);
-            }
         }
     }
     Ok(2 * SHORT_RUN)
 }
 
-/// The pieces of the admitted jobs.
-fn pieces_of(
+/// Nothing is known of the room that the admitted jobs leave: none is said to be idle.
+fn unknown_room(
+    alloc: Global,
+    _rows: &[JobRow],
+    board: &Board,
+    _state: &State,
+    _top: u32,
+) -> Result<Room, Memory>
+    requires board { IsBoard _rows.now _top board.now.times.items board.now.gaps.items board.now.spots.items }
+    requires state { IsState _rows.now _top _state.now }
+    ensures { IfOk result (λ room. IsRoom _top board.now.times.items _state.now.jobs.items room) }
+{
+    Ok(Room {
+        idle: vec![in alloc; 0u64; board.gaps.len()]?,
+        known: false,
+        pieces: Pieces {
+            jobs: Vec::new(alloc),
+            places: Vec::new(alloc),
+            used: Vec::new(alloc),
+        },
+    })
+}
+
+/// The room that the admitted jobs leave.
+fn room_of(
     alloc: Global,
     _rows: &[JobRow],
     board: &Board,
     state: &State,
     top: u32,
-) -> Result<Pieces, Memory>
+) -> Result<Room, Memory>
     requires few { length _rows.now ≤ MAX_JOBS }
     requires board { IsBoard _rows.now top board.now.times.items board.now.gaps.items board.now.spots.items }
     requires state { IsState _rows.now top state.now }
-    ensures { IfOk result (λ pieces.
-        ArePieces top board.now.times.items state.now.jobs.items pieces.jobs.items pieces.places.items) }
+    ensures room { IfOk result (λ room. IsRoom top board.now.times.items state.now.jobs.items room) }
+    ensures known { IfOk result (λ room. room.known ≡ true) }
 {
-    let pieces = cut_all(alloc, &state.by_release, &board.times, &board.gaps, top)?;
-    Ok(pieces)
+    let (pieces, idle) = cut_all(alloc, &state.by_release, &board.times, &board.gaps, top)?;
+    Ok(Room {
+        idle,
+        known: true,
+        pieces,
+    })
 }
 
-/// Admits the next job where it leaves no interval overfull beside the admitted ones, or refuses it. The pieces are theirs.
-/// Answers whether it was admitted.
+/// Admits the next job where it leaves no interval overfull beside the admitted ones, or refuses it. Answers whether it was admitted.
 fn decide_next(
     alloc: Global,
     rows: &[JobRow],
     board: &Board,
     state: &mut State,
-    pieces: &Option<Pieces>,
+    room: &mut Room,
     top: u32,
 ) -> Result<bool, Memory>
     requires few { length rows.now ≤ MAX_JOBS }
@@ -236,21 +264,122 @@ fn decide_next(
     requires board { IsBoard rows.now top board.now.times.items board.now.gaps.items board.now.spots.items }
     requires state { IsState rows.now top state.old }
     requires more { state.old.next < length rows.now }
-    requires pieces { IfSome pieces.now (λ pieces. ArePieces top board.now.times.items state.old.jobs.items pieces.jobs.items pieces.places.items) }
+    requires room { IsRoom top board.now.times.items state.old.jobs.items room.old }
     ensures state { IfOk result (λ _. IsState rows.now top state.new) }
     ensures next { IfOk result (λ _. state.new.next ≡ state.old.next + 1) }
-    ensures kept { IfOk result (λ admitted. admitted ≡ false → state.new.jobs.items ≡ state.old.jobs.items) }
+    ensures room { IfOk result (λ _. IsRoom top board.now.times.items state.new.jobs.items room.new) }
+{
+    if take_idle_next(alloc, rows, board, state, room, top)? {
+        return Ok(true);
+    }
+    if room.known {
+        return decide_by_pieces(alloc, rows, board, state, room, top);
+    }
+    if refuse_from_start(alloc, rows, state, top)? {
+        return Ok(false);
+    }
+    *room = room_of(alloc, rows, board, state, top)?;
+    if take_idle_next(alloc, rows, board, state, room, top)? {
+        return Ok(true);
+    }
+    decide_by_pieces(alloc, rows, board, state, room, top)
+}
+
+/// Admits the next job if enough is idle in its window. Answers whether it did.
+fn take_idle_next(
+    alloc: Global,
+    rows: &[JobRow],
+    board: &Board,
+    state: &mut State,
+    room: &mut Room,
+    top: u32,
+) -> Result<bool, Memory>
+    requires few { length rows.now ≤ MAX_JOBS }
+    requires some_top { 1 ≤ top }
+    requires board { IsBoard rows.now top board.now.times.items board.now.gaps.items board.now.spots.items }
+    requires state { IsState rows.now top state.old }
+    requires more { state.old.next < length rows.now }
+    requires room { IsRoom top board.now.times.items state.old.jobs.items room.old }
+    ensures state { IfOk result (λ _. IsState rows.now top state.new) }
+    ensures next { IfOk result (λ admitted. admitted ≡ true → state.new.next ≡ state.old.next + 1) }
+    ensures room { IfOk result (λ _. IsRoom top board.now.times.items state.new.jobs.items room.new) }
+    ensures kept { IfOk result (λ admitted. admitted ≡ false → state.new ≡ state.old) }
+    ensures known { IfOk result (λ admitted. admitted ≡ false → room.new.known ≡ room.old.known) }
+{
+    let row = &rows[state.next];
+    // Reading the row shows that it is a job within the limits.
+    let _work = row.work;
+    let end = place(&board.times, row.deadline);
+    let times = &board.times;
+    let enough = take_idle(&mut room.idle, &state.jobs, row, times, end, top);
+    if !enough {
+        return Ok(false);
+    }
+    room.known = false;
+    admit_next(alloc, rows, state, top)?;
+    Ok(true)
+}
+
+/// Refuses the next job if an interval from the earliest release of all is overfull with it. Answers whether it did.
+fn refuse_from_start(
+    alloc: Global,
+    rows: &[JobRow],
+    state: &mut State,
+    top: u32,
+) -> Result<bool, Memory>
+    requires few { length rows.now ≤ MAX_JOBS }
+    requires some_top { 1 ≤ top }
+    requires top_in_range { top ≤ MAX_TOP }
+    requires state { IsState rows.now top state.old }
+    requires more { state.old.next < length rows.now }
+    ensures state { IfOk result (λ _. IsState rows.now top state.new) }
+    ensures next { IfOk result (λ refused. refused ≡ true → state.new.next ≡ state.old.next + 1) }
+    ensures jobs { IfOk result (λ refused. refused ≡ true → state.new.jobs.items ≡ state.old.jobs.items) }
+    ensures kept { IfOk result (λ refused. refused ≡ false → state.new ≡ state.old) }
 {
     let row = &rows[state.next];
     // Reading the row shows that it is a job within the limits.
     let _work = row.work;
     let deadlines = with_deadline(alloc, &state.by_deadline, row)?;
-    let releases = with_release(alloc, &state.by_release, row)?;
-    let jobs = &state.jobs;
+    let releases = &state.by_release;
+    let Some((from, to)) = overfull_from_start(&state.jobs, row, releases, &deadlines, top) else {
+        return Ok(false);
+    };
+    let work = work_between(&deadlines, from, to);
+    refuse_next(rows, state, from, to, work, top)?;
+    Ok(true)
+}
+
+/// Decides the next job over the pieces of the admitted ones. Answers whether it was admitted.
+fn decide_by_pieces(
+    alloc: Global,
+    rows: &[JobRow],
+    board: &Board,
+    state: &mut State,
+    room: &mut Room,
+    top: u32,
+) -> Result<bool, Memory>
+    requires few { length rows.now ≤ MAX_JOBS }
+    requires some_top { 1 ≤ top }
+    requires top_in_range { top ≤ MAX_TOP }
+    requires board { IsBoard rows.now top board.now.times.items board.now.gaps.items board.now.spots.items }
+    requires state { IsState rows.now top state.old }
+    requires more { state.old.next < length rows.now }
+    requires room { IsRoom top board.now.times.items state.old.jobs.items room.old }
+    requires known { room.old.known ≡ true }
+    ensures state { IfOk result (λ _. IsState rows.now top state.new) }
+    ensures next { IfOk result (λ _. state.new.next ≡ state.old.next + 1) }
+    ensures room { IfOk result (λ _. IsRoom top board.now.times.items state.new.jobs.items room.new) }
+{
+    let row = &rows[state.next];
+    // Reading the row shows that it is a job within the limits.
+    let _work = row.work;
+    let deadlines = with_deadline(alloc, &state.by_deadline, row)?;
     let times = &board.times;
-    match newly_overfull(alloc, jobs, row, &releases, &deadlines, pieces, times, top)? {
+    match overfull_by_pieces(&state.jobs, row, &deadlines, &room.pieces, times, top) {
         None => {
-            take_next(rows, state, releases, deadlines, top)?;
+            admit_next(alloc, rows, state, top)?;
+            *room = unknown_room(alloc, rows, board, state, top)?;
             Ok(true)
         }
         Some((from, to)) => {
@@ -262,6 +391,26 @@ fn decide_next(
 }
 
 /// Admits the next job, which leaves no interval overfull beside the admitted ones.
+fn admit_next(alloc: Global, rows: &[JobRow], state: &mut State, top: u32) -> Result<(), Memory>
+    requires few { length rows.now ≤ MAX_JOBS }
+    requires some_top { 1 ≤ top }
+    requires state { IsState rows.now top state.old }
+    requires more { state.old.next < length rows.now }
+    requires room { HasRoom top (state.old.jobs.items ++ job_at rows.now state.old.next ∷ []) }
+    ensures state { IfOk result (λ _. IsState rows.now top state.new) }
+    ensures next { IfOk result (λ _. state.new.next ≡ state.old.next + 1) }
+    ensures jobs { IfOk result (λ _. state.new.jobs.items ≡ state.old.jobs.items ++ job_at rows.now state.old.next ∷ []) }
+{
+    let row = &rows[state.next];
+    // Reading the row shows that it is a job within the limits.
+    let _work = row.work;
+    let deadlines = with_deadline(alloc, &state.by_deadline, row)?;
+    let releases = with_release(alloc, &state.by_release, row)?;
+    take_next(rows, state, releases, deadlines, top)?;
+    Ok(())
+}
+
+/// Admits the next job, with which the admitted ones stand in these orders.
 fn take_next(
     rows: &[JobRow],
     state: &mut State,
@@ -277,6 +426,7 @@ fn take_next(
     requires room { HasRoom _top (state.old.jobs.items ++ job_at rows.now state.old.next ∷ []) }
     ensures state { IfOk result (λ _. IsState rows.now _top state.new) }
     ensures next { IfOk result (λ _. state.new.next ≡ state.old.next + 1) }
+    ensures jobs { IfOk result (λ _. state.new.jobs.items ≡ state.old.jobs.items ++ job_at rows.now state.old.next ∷ []) }
 {
     let number = state.next;
     let row = &rows[number];

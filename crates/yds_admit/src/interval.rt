@@ -7,10 +7,9 @@ ghost use Rattle.yds_model.specs.Admission.{IsFirstOverfull};
 ghost use Rattle.yds_laws.specs.AdmissionLaws.{HasRoom};
 ghost use Rattle.yds_admit.specs.Chain.{IsFalling};
 ghost use Rattle.yds_admit.specs.Interval.{work_in, HasRoomFrom, IsFirstEnd};
-ghost use Rattle.yds_admit.specs.Orders.{AreOrdered};
 ghost use Rattle.yds_admit.specs.Pieces.{ArePieces, AreDue};
 
-use crate::chain::{least_from, place};
+use crate::chain::place;
 use crate::pieces::{Pieces, least_from_pieces};
 use std::alloc::Global;
 use yds_model::limits::{MAX_JOBS, MAX_TOP};
@@ -70,66 +69,36 @@ pub(crate) fn work_between(jobs: &[JobRow], from: u32, to: u32) -> u64
     work
 }
 
-/// The first overfull interval of these jobs and one more, where there is one. Alone they leave none overfull: so it begins before
-/// the one more's deadline, and ends then or later. It is found over the pieces of the jobs, if there are any, and else by a chain.
-pub(crate) fn newly_overfull(
-    alloc: Global,
-    jobs: &[JobRow],
-    row: &JobRow,
-    by_release: &[JobRow],
-    by_deadline: &[JobRow],
-    pieces: &Option<Pieces>,
-    times: &[u32],
-    top: u32,
-) -> Result<Option<(u32, u32)>, Memory>
-    requires few { length by_release.now ≤ MAX_JOBS }
-    requires top_in_range { top ≤ MAX_TOP }
-    requires are { All IsJob (jobs.now ++ row.now ∷ []) }
-    requires room { HasRoom top jobs.now }
-    requires ordered { AreOrdered (jobs.now ++ row.now ∷ []) by_release.now by_deadline.now }
-    requires pieces { IfSome pieces.now (λ pieces. ArePieces top times.now jobs.now pieces.jobs.items pieces.places.items) }
-    requires in_order { IsNonDecreasing times.now }
-    requires due { AreDue times.now (jobs.now ++ row.now ∷ []) }
-    ensures { IfOk result (λ found. MatchOption found
-        (HasRoom top (jobs.now ++ row.now ∷ []))
-        (λ interval. IsFirstOverfull (jobs.now ++ row.now ∷ []) top (numbers_of (jobs.now ++ row.now ∷ [])) interval.0 interval.1)) }
-{
-    match pieces {
-        Some(pieces) => Ok(overfull_by_pieces(jobs, row, by_deadline, pieces, times, top)),
-        None => overfull_by_chain(alloc, jobs, row, by_release, by_deadline, top),
-    }
-}
-
-/// The same by a chain.
-fn overfull_by_chain(
-    alloc: Global,
+/// The first overfull interval of these jobs and one more, if one begins at the earliest release of all.
+pub(crate) fn overfull_from_start(
     _jobs: &[JobRow],
     row: &JobRow,
     by_release: &[JobRow],
     by_deadline: &[JobRow],
     top: u32,
-) -> Result<Option<(u32, u32)>, Memory>
-    requires few { length by_release.now ≤ MAX_JOBS }
+) -> Option<(u32, u32)>
+    requires few { length by_deadline.now ≤ MAX_JOBS }
     requires top_in_range { top ≤ MAX_TOP }
-    requires are { All IsJob (_jobs.now ++ row.now ∷ []) }
-    requires room { HasRoom top _jobs.now }
-    requires ordered { AreOrdered (_jobs.now ++ row.now ∷ []) by_release.now by_deadline.now }
-    ensures { IfOk result (λ found. MatchOption found
-        (HasRoom top (_jobs.now ++ row.now ∷ []))
-        (λ interval. IsFirstOverfull (_jobs.now ++ row.now ∷ []) top (numbers_of (_jobs.now ++ row.now ∷ [])) interval.0 interval.1)) }
+    requires releases { IsPermutation _jobs.now by_release.now }
+    requires falling { IsFalling by_release.now }
+    requires deadlines { IsPermutation (_jobs.now ++ row.now ∷ []) by_deadline.now }
+    requires rising { IsNonDecreasingBy (λ job. job.deadline) by_deadline.now }
+    ensures { IfSome result (λ interval.
+        IsFirstOverfull (_jobs.now ++ row.now ∷ []) top (numbers_of (_jobs.now ++ row.now ∷ [])) interval.0 interval.1) }
 {
-    let due = row.deadline;
-    let Some(from) = least_from(alloc, by_release, by_deadline, due, top)? else {
-        return Ok(None);
+    let from = match by_release.last() {
+        Some(job) => job.release.min(row.release),
+        None => row.release,
     };
     match overfull_end(by_deadline, from, top) {
-        Some(to) => Ok(Some((from, to))),
-        None => Ok(None),
+        Some(to) => Some((from, to)),
+        None => None,
     }
 }
 
-/// The same over the pieces of the jobs.
-fn overfull_by_pieces(
+/// The first overfull interval of these jobs and one more, where there is one. Alone they leave none overfull: so it begins before
+/// the one more's deadline, and ends then or later. It is found over the pieces of the jobs.
+pub(crate) fn overfull_by_pieces(
     _jobs: &[JobRow],
     row: &JobRow,
     by_deadline: &[JobRow],
@@ -143,7 +112,7 @@ fn overfull_by_pieces(
     requires room { HasRoom top _jobs.now }
     requires deadlines { IsPermutation (_jobs.now ++ row.now ∷ []) by_deadline.now }
     requires rising { IsNonDecreasingBy (λ job. job.deadline) by_deadline.now }
-    requires pieces { ArePieces top times.now _jobs.now pieces.now.jobs.items pieces.now.places.items }
+    requires pieces { ArePieces top times.now _jobs.now pieces.now.jobs.items pieces.now.places.items pieces.now.used.items }
     requires in_order { IsNonDecreasing times.now }
     requires due { AreDue times.now (_jobs.now ++ row.now ∷ []) }
     ensures { MatchOption result

@@ -11,6 +11,7 @@ mod admission;
 mod board;
 mod chain;
 mod decision;
+mod idle;
 mod interval;
 mod pieces;
 mod refusal;

@@ -1,11 +1,12 @@
-ghost use Rattle.std.specs.Prelude.{◌≡◌, ℕ, ◌+◌, ◌*◌, ◌<◌, ◌≤◌, ◌++◌, ◌∷◌, [], IfOk, MatchOption, All, length, slice_index, sum_by};
+ghost use Rattle.std.specs.Prelude.{◌≡◌, ℕ, ◌+◌, ◌*◌, ◌<◌, ◌≤◌, ◌++◌, ◌∷◌, [], IfOk, MatchOption, All, length, slice_index};
 ghost use Rattle.std.specs.List.Sorted.{IsNonDecreasing};
 ghost use Rattle.yds_admit.specs.Board.{AreGaps};
 ghost use Rattle.yds_model.specs.declared.limits.TheConstants.{MAX_WORK};
 ghost use Rattle.yds_model.specs.Job.{IsJob};
 ghost use Rattle.yds_laws.specs.AdmissionLaws.{HasRoom};
 ghost use Rattle.yds_admit.specs.Chain.{IsFalling, AreLinks, NoFrom, IsLeastFrom};
-ghost use Rattle.yds_admit.specs.Pieces.{IsCutting, IsCutInto, ArePieces, AreDue, went};
+ghost use Rattle.yds_admit.specs.Idle.{HasIdle, taken_before};
+ghost use Rattle.yds_admit.specs.Pieces.{IsCutting, IsCutInto, AreCut, ArePieces, AreDue};
 
 use crate::chain::{last_open, own_links, place};
 use std::alloc::Global;
@@ -19,36 +20,81 @@ pub(crate) struct Pieces {
     pub(crate) jobs: Vec<JobRow>,
     /// The place after the gap. Units that found no room have the place 0.
     pub(crate) places: Vec<usize>,
+    /// The units that take room before each of the times.
+    pub(crate) used: Vec<u64>,
 }
 
-/// The pieces of these jobs: a job's units take the room that is left in the gaps, from its own deadline backwards.
+/// The pieces of these jobs, and what they leave of the gaps.
 pub(crate) fn cut_all(
     alloc: Global,
     by_release: &[JobRow],
     times: &[u32],
     gaps: &[u64],
     top: u32,
-) -> Result<Pieces, Memory>
+) -> Result<(Pieces, Vec<u64>), Memory>
     requires few { length by_release.now ≤ MAX_JOBS }
+    requires are { All IsJob by_release.now }
+    requires room { HasRoom top by_release.now }
     requires gaps { AreGaps top times.now gaps.now }
     requires falling { IsFalling by_release.now }
     requires rising { IsNonDecreasing times.now }
+    requires first { slice_index times.now 0 ≡ 0 }
     requires due { AreDue times.now by_release.now }
-    ensures { IfOk result (λ pieces. ArePieces top times.now by_release.now pieces.jobs.items pieces.places.items) }
+    ensures pieces { IfOk result (λ cut. ArePieces top times.now by_release.now cut.0.jobs.items cut.0.places.items cut.0.used.items) }
+    ensures idle { IfOk result (λ cut. HasIdle top times.now by_release.now cut.1.items) }
 {
-    let mut gaps = Vec::from_slice(alloc, gaps)?;
-    let gaps = gaps.as_mut_slice();
+    let mut left = Vec::from_slice(alloc, gaps)?;
+    let mut pieces = cut_each(alloc, by_release, times, left.as_mut_slice(), top)?;
+    pieces.used = used_before(alloc, gaps, &left)?;
+    Ok((pieces, left))
+}
+
+/// Cuts each job: its units take the room that is left in the gaps, from its own deadline backwards.
+fn cut_each(
+    alloc: Global,
+    by_release: &[JobRow],
+    times: &[u32],
+    gaps: &mut [u64],
+    top: u32,
+) -> Result<Pieces, Memory>
+    requires gaps { AreGaps top times.now gaps.old }
+    requires falling { IsFalling by_release.now }
+    requires rising { IsNonDecreasing times.now }
+    requires due { AreDue times.now by_release.now }
+    ensures cutting { IfOk result (λ pieces. IsCutting top times.now pieces.jobs.items pieces.places.items gaps.new) }
+    ensures cut { IfOk result (λ pieces. AreCut by_release.now (length by_release.now) pieces.jobs.items) }
+    ensures as_long { length gaps.new ≡ length gaps.old }
+{
     let mut links = own_links(alloc, times.len())?;
     let links = links.as_mut_slice();
     let mut pieces = Pieces {
         jobs: Vec::new(alloc),
         places: Vec::new(alloc),
+        used: Vec::new(alloc),
     };
     for job in by_release {
         let end = place(times, job.deadline);
         cut(gaps, links, &mut pieces, job, end, times, top)?;
     }
     Ok(pieces)
+}
+
+/// The units that were taken from the gaps before each of the times: the gaps less what is left of them.
+fn used_before(alloc: Global, gaps: &[u64], left: &[u64]) -> Result<Vec<u64>, Memory>
+    requires as_long { length left.now ≡ length gaps.now }
+    requires less { (q : ℕ) → q < length gaps.now → slice_index left.now q ≤ slice_index gaps.now q }
+    requires few { (q : ℕ) → q ≤ length gaps.now → taken_before gaps.now left.now q ≤ MAX_JOBS * MAX_WORK }
+    ensures as_long { IfOk result (λ used. length used.items ≡ length gaps.now + 1) }
+    ensures each { IfOk result (λ used. (q : ℕ) → q ≤ length gaps.now → slice_index used.items q ≡ taken_before gaps.now left.now q) }
+{
+    let mut used = Vec::new(alloc);
+    let mut units = 0;
+    used.push(units)?;
+    for gap in 0..gaps.len() {
+        units += gaps[gap] - left[gap];
+        used.push(units)?;
+    }
+    Ok(used)
 }
 
 /// Cuts one job more, whose deadline has this place.
@@ -105,7 +151,7 @@ pub(crate) fn least_from_pieces(
     top: u32,
 ) -> Option<u32>
     requires top_in_range { top ≤ MAX_TOP }
-    requires pieces { ArePieces top _times.now _all.now pieces.now.jobs.items pieces.now.places.items }
+    requires pieces { ArePieces top _times.now _all.now pieces.now.jobs.items pieces.now.places.items pieces.now.used.items }
     requires within { end < length _times.now }
     requires end { slice_index _times.now end ≡ row.now.deadline }
     requires rising { IsNonDecreasing _times.now }
@@ -114,38 +160,21 @@ pub(crate) fn least_from_pieces(
     requires room { HasRoom top _all.now }
     ensures { MatchOption result (NoFrom top row.now.deadline (_all.now ++ row.now ∷ [])) (IsLeastFrom top row.now.deadline (_all.now ++ row.now ∷ [])) }
 {
-    let release = row.release;
-    let first = pieces.jobs.partition_point(|job| release <= job.release);
     let room = u64::from(top) * u64::from(row.deadline);
-    let mut used = u64::from(row.work) + units_before(pieces, first, end);
-    let mut from = None;
-    if used + u64::from(top) * u64::from(release) > room {
-        from = Some(release);
-    }
-    for next in first..pieces.jobs.len() {
-        let job = &pieces.jobs[next];
-        if pieces.places[next] <= end {
-            used += u64::from(job.work);
+    let mut wanted = u64::from(row.work) + pieces.used[end];
+    let mut count = pieces.jobs.len();
+    while count > 0 && pieces.jobs[count - 1].release < row.release {
+        let piece = &pieces.jobs[count - 1];
+        if wanted + u64::from(top) * u64::from(piece.release) > room {
+            return Some(piece.release);
         }
-        if used + u64::from(top) * u64::from(job.release) > room {
-            from = Some(job.release);
+        if pieces.places[count - 1] <= end {
+            wanted -= u64::from(piece.work);
         }
+        count -= 1;
     }
-    from
-}
-
-/// The units of the first pieces that take room before this place.
-fn units_before(pieces: &Pieces, count: usize, end: usize) -> u64
-    requires within { count ≤ length pieces.now.jobs.items }
-    requires as_long { length pieces.now.places.items ≡ length pieces.now.jobs.items }
-    requires few { sum_by (λ job. job.work) pieces.now.jobs.items ≤ MAX_JOBS * MAX_WORK }
-    ensures { result ≡ went count pieces.now.jobs.items pieces.now.places.items end }
-{
-    let mut units = 0;
-    for next in 0..count {
-        if pieces.places[next] <= end {
-            units += u64::from(pieces.jobs[next].work);
-        }
+    if wanted + u64::from(top) * u64::from(row.release) > room {
+        return Some(row.release);
     }
-    units
+    None
 }

@@ -1,14 +1,11 @@
-use Rattle.std.proofs.Common.{◌≡◌, ◌-◌, ◌≤◌, IfSome, length}
-use Rattle.yds_admit.specs.declared.pieces.Pieces.{Pieces}
-use Rattle.yds_admit.specs.Decision.{IsState}
-use Rattle.yds_admit.specs.Pieces.{ArePieces}
+use Rattle.std.proofs.Common.{◌≡◌, ◌-◌, ◌≤◌, length}
+use Rattle.yds_admit.specs.Decision.{IsState, IsRoom}
 use Rattle.yds_admit.proofs.decision.one_by_one.Given as goal
 
 abbrev pub invariant-loop-state : goal.invariant-loop-state
 invariant-loop-state l = record {
   state : IsState l.rows l.top l.state;
-  pieces : IfSome l.pieces (λ (pieces : Pieces). ArePieces l.top l.board.times.items l.state.jobs.items pieces.jobs.items pieces.places.items);
-  few : l.refused ≤ 2;
+  room : IsRoom l.top l.board.times.items l.state.jobs.items l.room;
   later : l.fn.state.next ≤ l.state.next;
   begun : l.state.next ≡ l.fn.state.next → l.admitted ≡ 0;
 }

@@ -1,4 +1,4 @@
-use Rattle.std.proofs.Common.{◌≡◌, ◌∷◌, [], ◌++◌, ◌∙◌, sym, arith, subst}
+use Rattle.std.proofs.Common.{◌≡◌, ◌∷◌, [], ◌++◌, ◌∙◌, sym, arith, ap, subst}
 use Rattle.std.proofs.lemmas.List.{get_or_read}
 use Rattle.yds_model.specs.Job.{Job, no_job, job_at}
 use Rattle.yds_laws.specs.AdmissionLaws.{HasRoom}
@@ -23,3 +23,11 @@ returns-clause-state c =
       ordered = rw c.in_ok-push-2.ensures.items
           (subst (λ (one : Job). AreOrdered (old.jobs.items ++ one ∷ []) c.args.by_release.items c.args.by_deadline.items) (sym is) c.requires.ordered);
     }
+
+pub returns-clause-jobs : goal.returns-clause-jobs
+returns-clause-jobs c =
+    let old = c.args.state.now in
+    let row : Job = record { release = c.row.inside.release; deadline = c.row.inside.deadline; work = c.row.inside.work } in
+    let is : row ≡ job_at c.args.rows.now old.next =
+    c.row.view_is ∙ get_or_read c.args.rows.now old.next c.index-rows-number.result c.requires.more c.index-rows-number.is no_job in
+    rw c.in_ok-push-2.ensures.items (ap (λ (one : Job). old.jobs.items ++ one ∷ []) is)

@@ -1,65 +1,82 @@
-use Rattle.std.proofs.Common.{ℕ, ◌≤◌, List, ◌∙◌, length, arith, ap, inl, inr}
-use Rattle.std.proofs.lemmas.Bool.{cases_lt}
-use Rattle.std.proofs.lemmas.List.{get_or_read, get_or_default}
-use Rattle.yds_model.specs.Job.{Job, no_job, job_at}
-use Rattle.yds_admit.proofs.Links.{own_are}
-use Rattle.yds_admit.proofs.Cutting.{none_cut}
-use Rattle.yds_admit.proofs.Made.{none_made, one_made, all_made}
+use Rattle.std.proofs.Common.{◌≡◌, ℕ, ◌+◌, ◌≤◌, ◌++◌, List, length, get_or, take, drop, ◌∙◌, sym, subst, arith, ap}
+use Rattle.std.proofs.lemmas.List.{drop_all, append-nil, take_all}
+use Rattle.yds_model.specs.Job.{Job}
+use Rattle.yds_admit.specs.Interval.{work_in}
+use Rattle.yds_admit.specs.Idle.{HasIdle, taken_before}
+use Rattle.yds_admit.specs.Pieces.{went}
+use Rattle.yds_admit.proofs.Cutting.{went_fits}
+use Rattle.yds_admit.proofs.Idleness.{left_idle, less_left, used_is}
+use Rattle.yds_admit.proofs.Made.{all_made}
 use Rattle.yds_admit.proofs.pieces.cut_all.Goals as goal
 
-pub loop-job-init : goal.loop-job-init
-loop-job-init c = record {
-  cutting = rw (c.new.ensures.items, c.new-2.ensures.items, c.as_mut_slice-gaps.ensures.value, c.in_ok-gaps.ensures.items)
-      (none_cut c.args.top c.args.times.now c.args.gaps.now c.requires.gaps);
-  links = rw (c.as_mut_slice-gaps.ensures.value, c.in_ok-gaps.ensures.items, c.as_mut_slice-links.ensures.value, c.in_ok-links.ensures)
-      (own_are c.args.gaps.now (length c.args.times.now) c.requires.gaps.as_long);
-  made = rw c.new.ensures.items (none_made c.args.by_release.now);
-}
+-- all of a vector was lent
+lent : (len : ℕ) (items new : List ℕ) → len ≡ length items → length new ≡ length items → take len (new ++ drop (length new) items) ≡ new
+lent len items new is as_long =
+    ap (λ (rest : List ℕ). take len (new ++ rest)) (drop_all (length new) items (omega (arith, as_long)))
+    ∙ (ap (λ (some : List ℕ). take len some) (append-nil new) ∙ take_all len new (omega (arith, is, as_long)))
 
-pub cut-requires-clause-within : goal.cut-requires-clause-within
-cut-requires-clause-within c =
-    let is = c.job.view_is ∙ get_or_read c.args.by_release.now c.loop-job.job-index c.job-item.result c.loop-job-test.true c.job-item.is no_job in
-    let there = c.requires.due c.loop-job.job-index no_job c.loop-job-test.true in
-    let deadline = ap (λ (job : Job). job.deadline) is in
-    let short : c.place-end.result ≤ there.0 = elim (cases_lt there.0 c.place-end.result) [
-      | inr most ↦ most
-      | inl less ↦ absurd (omega (
-        arith,
-        c.place-end.ensures.before there.0 less,
-        deadline,
-        get_or_default c.args.times.now there.0 0 (job_at c.args.by_release.now c.loop-job.job-index).deadline there.1,
-        there.2,
-      ))
-    ] in
-    omega (
-      arith,
-      short,
-      there.1,
-      c.requires.gaps.as_long,
-      c.loop-job.auto.gaps,
-      ap (λ (some : List ℕ). length some) c.as_mut_slice-gaps.ensures.value,
-      ap (λ (some : List ℕ). length some) c.in_ok-gaps.ensures.items,
-    )
+-- the work of all jobs
+same_work : (all jobs : List Job) → ((from to : ℕ) → work_in jobs from to ≡ work_in (take (length all) all) from to) → (from to : ℕ) → work_in jobs from to ≡ work_in all from to
+same_work all jobs same from to = same from to ∙ ap (λ (some : List Job). work_in some from to) (take_all (length all) all (omega arith))
 
-pub loop-job-preserved : goal.loop-job-preserved
-loop-job-preserved c = record {
-  cutting = c.in_ok-cut.ensures.cutting;
-  links = c.in_ok-cut.ensures.links;
-  made = one_made c.args.by_release.now c.loop-job.job-index c.requires.falling c.loop-job-test.true c.job-item.result
-      (get_or_read c.args.by_release.now c.loop-job.job-index c.job-item.result c.loop-job-test.true c.job-item.is no_job)
-      (omega (arith, c.job.invariant.work_in_range, ap (λ (job : Job). job.work) c.job.view_is))
-      c.loop-job.pieces.jobs.items c.cut.new.pieces.jobs.items c.loop-job.invariant.made c.in_ok-cut.ensures.into;
-}
+pub used_before-requires-clause-less : goal.used_before-requires-clause-less
+used_before-requires-clause-less c q below =
+    let gaps = c.cut_each.new.gaps in
+    let cut = c.in_ok-pieces.ensures.cut in
+    let value = c.as_mut_slice.ensures.value ∙ c.in_ok-left.ensures.items in
+    let as_long : length gaps ≡ length c.args.gaps.now = c.in_ok-pieces.ensures.as_long ∙ ap (λ (some : List ℕ). length some) value in
+    let items : length c.in_ok-left.left.items ≡ length c.args.gaps.now = ap (λ (some : List ℕ). length some) c.in_ok-left.ensures.items in
+    let shown : c.deref.result.now ≡ gaps = c.deref.ensures.value ∙ lent c.in_ok-left.left.len c.in_ok-left.left.items gaps (c.in_ok-left.left.ok.0) (as_long ∙ sym items) in
+    subst (λ (some : List ℕ). get_or some q 0 ≤ get_or c.args.gaps.now q 0) (sym shown)
+    (less_left c.args.top c.args.times.now c.args.gaps.now c.args.by_release.now c.in_ok-pieces.pieces.jobs.items c.in_ok-pieces.pieces.places.items gaps c.in_ok-pieces.ensures.cutting
+    c.requires.gaps (same_work c.args.by_release.now c.in_ok-pieces.pieces.jobs.items cut.same) cut.falling c.requires.are c.requires.room c.requires.rising
+    (omega (arith, as_long, c.requires.gaps.as_long)) q below)
 
-pub returns : goal.returns
-returns c =
-    all_made c.args.top c.args.times.now c.args.by_release.now c.loop-job.pieces.jobs.items c.loop-job.pieces.places.items c.loop-job.gaps c.loop-job.job-index
-    c.loop-job-test.false c.loop-job.auto.job-index-end c.requires.few
-    (omega (
-      arith,
-      c.requires.gaps.as_long,
-      c.loop-job.auto.gaps,
-      ap (λ (some : List ℕ). length some) c.as_mut_slice-gaps.ensures.value,
-      ap (λ (some : List ℕ). length some) c.in_ok-gaps.ensures.items,
-    ))
-    c.loop-job.invariant.made c.loop-job.invariant.cutting
+pub used_before-requires-clause-few : goal.used_before-requires-clause-few
+used_before-requires-clause-few c q within =
+    let gaps = c.cut_each.new.gaps in
+    let jobs = c.in_ok-pieces.pieces.jobs.items in
+    let places = c.in_ok-pieces.pieces.places.items in
+    let cut = c.in_ok-pieces.ensures.cut in
+    let value = c.as_mut_slice.ensures.value ∙ c.in_ok-left.ensures.items in
+    let as_long : length gaps ≡ length c.args.gaps.now = c.in_ok-pieces.ensures.as_long ∙ ap (λ (some : List ℕ). length some) value in
+    let items : length c.in_ok-left.left.items ≡ length c.args.gaps.now = ap (λ (some : List ℕ). length some) c.in_ok-left.ensures.items in
+    let shown : c.deref.result.now ≡ gaps = c.deref.ensures.value ∙ lent c.in_ok-left.left.len c.in_ok-left.left.items gaps (c.in_ok-left.left.ok.0) (as_long ∙ sym items) in
+    let units = used_is c.args.top c.args.times.now c.args.gaps.now c.args.by_release.now jobs places gaps c.in_ok-pieces.ensures.cutting
+    c.requires.gaps (same_work c.args.by_release.now jobs cut.same) cut.falling c.requires.are c.requires.room c.requires.rising
+    (omega (arith, as_long, c.requires.gaps.as_long)) c.requires.first q within in
+    subst (λ (some : List ℕ). taken_before c.args.gaps.now some q ≤ 4000000000) (sym shown)
+    (omega (arith, units, went_fits (length jobs) jobs places q (omega arith) (omega (arith, cut.few, c.requires.few))))
+
+pub returns-clause-pieces : goal.returns-clause-pieces
+returns-clause-pieces c =
+    let gaps = c.cut_each.new.gaps in
+    let jobs = c.in_ok-pieces.pieces.jobs.items in
+    let places = c.in_ok-pieces.pieces.places.items in
+    let cut = c.in_ok-pieces.ensures.cut in
+    let value = c.as_mut_slice.ensures.value ∙ c.in_ok-left.ensures.items in
+    let as_long : length gaps ≡ length c.args.gaps.now = c.in_ok-pieces.ensures.as_long ∙ ap (λ (some : List ℕ). length some) value in
+    let items : length c.in_ok-left.left.items ≡ length c.args.gaps.now = ap (λ (some : List ℕ). length some) c.in_ok-left.ensures.items in
+    let shown : c.deref.result.now ≡ gaps = c.deref.ensures.value ∙ lent c.in_ok-left.left.len c.in_ok-left.left.items gaps (c.in_ok-left.left.ok.0) (as_long ∙ sym items) in
+    let long : length gaps + 1 ≡ length c.args.times.now = omega (arith, as_long, c.requires.gaps.as_long) in
+    all_made c.args.top c.args.times.now c.args.by_release.now jobs places gaps c.in_ok-pieces-2.field-0.items (length c.args.by_release.now) (omega arith) (omega arith) c.requires.few long
+    cut c.in_ok-pieces.ensures.cutting (omega (arith, c.in_ok-pieces-2.ensures.as_long, c.requires.gaps.as_long))
+    (λ q below.
+    let within : q ≤ length c.args.gaps.now = omega (arith, below, c.requires.gaps.as_long) in
+    c.in_ok-pieces-2.ensures.each q within ∙ subst (λ (some : List ℕ). taken_before c.args.gaps.now some q ≡ went (length jobs) jobs places q) (sym shown)
+    (used_is c.args.top c.args.times.now c.args.gaps.now c.args.by_release.now jobs places gaps c.in_ok-pieces.ensures.cutting
+    c.requires.gaps (same_work c.args.by_release.now jobs cut.same) cut.falling c.requires.are c.requires.room c.requires.rising long c.requires.first q within))
+
+pub returns-clause-idle : goal.returns-clause-idle
+returns-clause-idle c =
+    let gaps = c.cut_each.new.gaps in
+    let jobs = c.in_ok-pieces.pieces.jobs.items in
+    let places = c.in_ok-pieces.pieces.places.items in
+    let cut = c.in_ok-pieces.ensures.cut in
+    let value = c.as_mut_slice.ensures.value ∙ c.in_ok-left.ensures.items in
+    let as_long : length gaps ≡ length c.args.gaps.now = c.in_ok-pieces.ensures.as_long ∙ ap (λ (some : List ℕ). length some) value in
+    let items : length c.in_ok-left.left.items ≡ length c.args.gaps.now = ap (λ (some : List ℕ). length some) c.in_ok-left.ensures.items in
+    subst (HasIdle c.args.top c.args.times.now c.args.by_release.now)
+    (sym (lent c.in_ok-left.left.len c.in_ok-left.left.items gaps (c.in_ok-left.left.ok.0) (as_long ∙ sym items)))
+    (left_idle c.args.top c.args.times.now c.args.gaps.now c.args.by_release.now jobs places gaps c.in_ok-pieces.ensures.cutting
+    c.requires.gaps (same_work c.args.by_release.now jobs cut.same) cut.falling c.requires.are c.requires.room c.requires.rising (omega (arith, as_long, c.requires.gaps.as_long)))

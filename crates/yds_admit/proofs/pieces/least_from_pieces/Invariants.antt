@@ -1,10 +1,16 @@
-use Rattle.std.proofs.Common.{◌≡◌, ◌+◌}
+use Rattle.std.proofs.Common.{◌≡◌, ℕ, ◌+◌, ◌<◌, ◌≤◌, length}
+use Rattle.yds_model.specs.Job.{job_at}
 use Rattle.yds_admit.specs.Pieces.{went}
-use Rattle.yds_admit.proofs.Least.{LookedAt}
+use Rattle.yds_admit.proofs.Least.{AllLeaveRoom}
 use Rattle.yds_admit.proofs.pieces.least_from_pieces.Given as goal
 
-abbrev pub invariant-loop-next : goal.invariant-loop-next
-invariant-loop-next l = record {
-  used : l.used ≡ l.row.work + went l.next l.pieces.jobs.items l.pieces.places.items l.end;
-  found : LookedAt l.top l._times l._all l.pieces.jobs.items l.pieces.places.items l.row l.end l.first l.next l.from;
+abbrev pub invariant-loop-count : goal.invariant-loop-count
+invariant-loop-count l = record {
+  within : l.count ≤ length l.pieces.jobs.items;
+  wanted : l.wanted ≡ l.row.work + went l.count l.pieces.jobs.items l.pieces.places.items l.end;
+  late : (i : ℕ) → l.count ≤ i → i < length l.pieces.jobs.items → (job_at l.pieces.jobs.items i).release < l.row.release;
+  leaves : AllLeaveRoom l.top l._times l._all l.pieces.jobs.items l.pieces.places.items l.row l.end l.count;
 }
+
+abbrev pub decreases-loop-count : goal.decreases-loop-count
+decreases-loop-count l = l.count

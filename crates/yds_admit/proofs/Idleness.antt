@@ -1,0 +1,370 @@
+-- What is idle between the times, jobs that take it, and what a cut leaves of it.
+use Rattle.std.proofs.Common.{◌≡◌, ℕ, zero, suc, ◌+◌, ◌-◌, ◌*◌, ◌<◌, ◌≤◌, List, [], ◌∷◌, ◌++◌, length, get_or, set, replicate, ◌∙◌, subst, arith, inl, inr, ap, cond, nat_le, get_or-set_same, get_or-set_other}
+use Rattle.std.specs.List.{All}
+use Rattle.std.specs.List.Sorted.{IsPermutation, IsNonDecreasing}
+use Rattle.std.proofs.lemmas.Bool.{cases_lt, cases_eq, le-leb, lt-leb}
+use Rattle.std.proofs.lemmas.List.{get_or_default, get_or-replicate, length-replicate, get_or_past}
+use Rattle.std.proofs.lemmas.List.Sums.{sum_by_push}
+use Rattle.std.proofs.lemmas.List.Sorted.{sum_by-IsPermutation}
+use Rattle.std.proofs.Math.Nat.{mul-sub, mul-le-mul_left}
+use Rattle.yds_model.specs.Job.{Job, IsJob, job_at}
+use Rattle.yds_edf.proofs.Sums.{sum_below_same, sum_below_zero}
+use Rattle.yds_laws.specs.AdmissionLaws.{HasRoom}
+use Rattle.yds_admit.specs.Interval.{work_in}
+use Rattle.yds_admit.specs.Chain.{IsFalling, due_work}
+use Rattle.yds_admit.specs.Board.{AreGaps}
+use Rattle.yds_admit.specs.Pieces.{went, IsCutting, AreDue}
+use Rattle.yds_admit.specs.Idle.{HasIdle, IsTaken, idle_before, taken_before}
+use Rattle.yds_admit.proofs.Between.{term, inside, before, after}
+use Rattle.yds_admit.proofs.Overfull.{jobs_work, any_of_all}
+use Rattle.yds_admit.proofs.Sweep.{step_is}
+use Rattle.yds_admit.proofs.Cutting.{next_went}
+use Rattle.yds_admit.proofs.Least.{work_of_first, room_to}
+
+-- # Sums of what is idle
+
+pub next_idle : (idle : List ℕ) (q : ℕ) → idle_before idle (q + 1) ≡ idle_before idle q + get_or idle q 0
+next_idle idle q = let e : q + 1 ≡ suc q = omega arith in ap (λ k. idle_before idle k) e
+
+more_idle : (idle : List ℕ) (a more : ℕ) → idle_before idle a ≤ idle_before idle (a + more)
+more_idle idle a zero = let e : a + zero ≡ a = omega arith in omega (arith, ap (λ k. idle_before idle k) e)
+more_idle idle a (suc more) =
+    let e : a + suc more ≡ suc (a + more) = omega arith in
+    omega (arith, more_idle idle a more, ap (λ k. idle_before idle k) e)
+
+-- a later place has no less before it
+pub later_idle : (idle : List ℕ) (a b : ℕ) → a ≤ b → idle_before idle a ≤ idle_before idle b
+later_idle idle a b order =
+    let e : a + (b - a) ≡ b = omega (arith, order) in
+    omega (arith, more_idle idle a (b - a), ap (λ k. idle_before idle k) e)
+
+-- one gap has another number
+pub set_early : (idle : List ℕ) (at v q : ℕ) → q ≤ at → idle_before (set idle at v) q ≡ idle_before idle q
+set_early idle at v q most = sum_below_same q (λ k. get_or (set idle at v) k 0) (λ k. get_or idle k 0)
+    (λ k below. get_or-set_other idle at k v 0 (λ e. omega (arith, e, below, most)))
+
+set_more : (idle : List ℕ) (at v more : ℕ) → at < length idle →
+    idle_before (set idle at v) (at + 1 + more) + get_or idle at 0 ≡ idle_before idle (at + 1 + more) + v
+set_more idle at v zero within =
+    let e : at + 1 + zero ≡ suc at = omega arith in
+    omega (
+      arith,
+      set_early idle at v at (omega arith),
+      get_or-set_same idle at v 0 within,
+      ap (λ k. idle_before (set idle at v) k) e,
+      ap (λ k. idle_before idle k) e,
+    )
+set_more idle at v (suc more) within =
+    let e : at + 1 + suc more ≡ suc (at + 1 + more) = omega arith in
+    omega (
+      arith,
+      set_more idle at v more within,
+      get_or-set_other idle at (at + 1 + more) v 0 (λ same. omega (arith, same)),
+      ap (λ k. idle_before (set idle at v) k) e,
+      ap (λ k. idle_before idle k) e,
+    )
+
+pub set_late : (idle : List ℕ) (at v q : ℕ) → at < length idle → at < q → idle_before (set idle at v) q + get_or idle at 0 ≡ idle_before idle q + v
+set_late idle at v q within later =
+    let e : at + 1 + (q - (at + 1)) ≡ q = omega (arith, later) in
+    omega (
+      arith,
+      set_more idle at v (q - (at + 1)) within,
+      ap (λ k. idle_before (set idle at v) k) e,
+      ap (λ k. idle_before idle k) e,
+    )
+
+-- # One job more
+
+module _ (top : ℕ) (times : List ℕ) (jobs : List Job) (old : List ℕ) (rising : IsNonDecreasing times) (has : HasIdle top times jobs old) (row : Job) (begin end : ℕ) (new : List ℕ)
+    (taken : IsTaken old new begin end row.work) (order : begin ≤ end) (within : end < length times) (is_end : get_or times end 0 ≡ row.deadline)
+    (first : begin < end → row.release ≤ get_or times begin 0) (window : row.release < row.deadline) where
+  released : row.release ≤ get_or times begin 0
+  released = elim (cases_lt begin end) [
+    | inl less ↦ first less
+    | inr most ↦ let same : begin ≡ end = omega (arith, most, order) in omega (arith, ap (λ q. get_or times q 0) same, is_end, window)
+  ]
+
+  less_more : (a more : ℕ) → idle_before new (a + more) + idle_before old a ≤ idle_before new a + idle_before old (a + more)
+  less_more a zero =
+      let e : a + zero ≡ a = omega arith in
+      omega (arith, ap (λ k. idle_before new k) e, ap (λ k. idle_before old k) e)
+  less_more a (suc more) =
+      let e : a + suc more ≡ suc (a + more) = omega arith in
+      omega (arith, less_more a more, ap (λ k. idle_before new k) e, ap (λ k. idle_before old k) e, taken.less (a + more))
+
+  less_between : (a b : ℕ) → a ≤ b → idle_before new b + idle_before old a ≤ idle_before new a + idle_before old b
+  less_between a b forward =
+      let e : a + (b - a) ≡ b = omega (arith, forward) in
+      omega (arith, less_more a (b - a), ap (λ k. idle_before new k) e, ap (λ k. idle_before old k) e)
+
+  same_early : (q : ℕ) → q ≤ begin → idle_before new q ≡ idle_before old q
+  same_early q most = sum_below_same q (λ k. get_or new k 0) (λ k. get_or old k 0) (λ k below. taken.early k (omega (arith, below, most)))
+
+  less_late : (more : ℕ) → idle_before new (end + more) + row.work ≡ idle_before old (end + more)
+  less_late zero =
+      let e : end + zero ≡ end = omega arith in
+      omega (arith, taken.sum, ap (λ k. idle_before new k) e, ap (λ k. idle_before old k) e)
+  less_late (suc more) =
+      let e : end + suc more ≡ suc (end + more) = omega arith in
+      omega (arith, less_late more, ap (λ k. idle_before new k) e, ap (λ k. idle_before old k) e, taken.late (end + more) (omega arith))
+
+  -- with the job, over an interval that holds its window
+  holds : (from a b : ℕ) → end ≤ b → b < length times → a ≤ b → from ≤ row.release → from ≤ get_or times a 0 →
+      work_in jobs from (get_or times b 0) + row.work + idle_before new b ≤ top * (get_or times b 0 - from) + idle_before new a
+  holds from a b later below forward counts ahead =
+      let e : end + (b - end) ≡ b = omega (arith, later) in
+      let less = less_late (b - end) in
+      elim (cases_lt begin a) [
+        | inr most ↦ omega (
+          arith,
+          has.room from a b forward below ahead,
+          less,
+          same_early a most,
+          ap (λ k. idle_before new k) e,
+          ap (λ k. idle_before old k) e,
+        )
+        | inl more ↦ omega (
+          arith,
+          has.room from begin b (omega (arith, order, later)) below (omega (arith, counts, released)),
+          less,
+          same_early begin (omega arith),
+          later_idle new begin a (omega (arith, more)),
+          ap (λ k. idle_before new k) e,
+          ap (λ k. idle_before old k) e,
+        )
+      ]
+
+  pub has_more : HasIdle top times (jobs ++ row ∷ []) new
+  has_more = record {
+    as_long = omega (arith, taken.as_long, has.as_long);
+    room = λ from a b forward below ahead.
+        let time : ℕ = get_or times b 0 in
+        let added = sum_by_push (term from time) jobs row in
+        elim (cases_lt row.release from) [
+          | inl less ↦ omega (arith, added, before from time row less, has.room from a b forward below ahead, less_between a b forward)
+          | inr counts ↦ elim (cases_lt time row.deadline) [
+            | inl soon ↦ omega (arith, added, after from time row soon, has.room from a b forward below ahead, less_between a b forward)
+            | inr due ↦ elim (cases_lt b end) [
+              | inr later ↦ omega (arith, added, inside from time row counts due, holds from a b later below forward counts ahead)
+              | inl sooner ↦
+                  let same : time ≡ get_or times end 0 = omega (arith, due, is_end, rising b end 0 (omega (arith, sooner)) within) in
+                  omega (
+                    arith,
+                    added,
+                    inside from time row counts due,
+                    holds from a end (omega arith) within (omega (arith, forward, sooner)) counts ahead,
+                    ap (λ t. work_in jobs from t) same,
+                    ap (λ t. top * (t - from)) same,
+                    later_idle new b end (omega (arith, sooner)),
+                  )
+            ]
+          ]
+        ];
+  }
+
+-- # Room
+
+-- jobs that leave something idle leave no interval overfull
+pub idle_room : (top : ℕ) (times : List ℕ) (jobs : List Job) (idle : List ℕ) → AreDue times jobs → HasIdle top times jobs idle → HasRoom top jobs
+idle_room top times jobs idle due has from to full =
+    let ends = any_of_all (λ job. job.deadline ≡ to) jobs full.is_deadline in
+    let there = due ends.0 ends.1 ends.2 in
+    let b : ℕ = there.0 in
+    let is : get_or times b 0 ≡ to =
+    get_or_default times b 0 (get_or jobs ends.0 ends.1).deadline there.1 ∙ there.2 ∙ ap (λ (job : Job). job.deadline) ends.3 ∙ ends.4 in
+    absurd (omega (
+      arith,
+      full.too_much,
+      jobs_work jobs from to,
+      subst (λ (end : ℕ). work_in jobs from end + idle_before idle b ≤ top * (end - from) + idle_before idle b) is
+          (has.room from b b (omega arith) there.1 (omega (arith, is, full.forward))),
+    ))
+
+-- none is idle
+pub none_idle : (top : ℕ) (times : List ℕ) (jobs : List Job) (n : ℕ) → n + 1 ≡ length times → All IsJob jobs → HasRoom top jobs → HasIdle top times jobs (replicate n 0)
+none_idle top times jobs n long are room = record {
+  as_long = omega (arith, length-replicate {A = ℕ} n 0, long);
+  room = λ from a b forward below ahead. omega (
+    arith,
+    room_to top jobs are room from (get_or times b 0),
+    sum_below_zero b (λ k. get_or (replicate n 0) k 0) (λ k less. nothing n k),
+  );
+} where
+  nothing : (n k : ℕ) → ◌≡◌ {A = ℕ} (get_or (replicate n 0) k 0) 0
+  nothing n k = elim (cases_lt k n) [
+    | inl below ↦ get_or-replicate n k 0 0 below
+    | inr past ↦ get_or_past (replicate n 0) k 0 (omega (arith, past, length-replicate {A = ℕ} n 0))
+  ]
+
+-- the jobs in another order
+pub same_idle : (top : ℕ) (times : List ℕ) (jobs others : List Job) (idle : List ℕ) → IsPermutation jobs others → HasIdle top times others idle → HasIdle top times jobs idle
+same_idle top times jobs others idle same has = record {
+  as_long = has.as_long;
+  room = λ from a b forward below ahead. omega (
+    arith,
+    has.room from a b forward below ahead,
+    sum_by-IsPermutation (term from (get_or times b 0)) jobs others same,
+  );
+}
+
+-- # What a cut leaves
+
+-- the first n pieces take no more of a gap than all do
+more_units : (jobs : List Job) (places : List ℕ) (n more q : ℕ) → went n jobs places (q + 1) + went (n + more) jobs places q ≤ went n jobs places q + went (n + more) jobs places (q + 1)
+more_units jobs places n zero q =
+    let e : n + zero ≡ n = omega arith in
+    omega (arith, ap (λ k. went k jobs places q) e, ap (λ k. went k jobs places (q + 1)) e)
+more_units jobs places n (suc more) q =
+    let e : n + suc more ≡ n + more + 1 = omega arith in
+    omega (
+      arith,
+      more_units jobs places n more q,
+      ap (λ k. went k jobs places q) e,
+      ap (λ k. went k jobs places (q + 1)) e,
+      next_went (n + more) jobs places q,
+      next_went (n + more) jobs places (q + 1),
+      later_place (get_or places (n + more) 0) q (job_at jobs (n + more)).work,
+    )
+  where
+    later_place : (place q x : ℕ) → cond (nat_le place q) x 0 ≤ cond (nat_le place (q + 1)) x 0
+    later_place place q x = elim (cases_lt q place) [
+      | inl less ↦ omega (arith, ap {B = ℕ} (λ b. cond b x 0) (lt-leb place q less))
+      | inr most ↦ omega (
+        arith,
+        ap {B = ℕ} (λ b. cond b x 0) (le-leb place q most),
+        ap {B = ℕ} (λ b. cond b x 0) (le-leb place (q + 1) (omega (arith, most))),
+      )
+    ]
+
+-- so many of the first k pieces are released at a time or later
+count_from : (jobs : List Job) → IsFalling jobs → (from k : ℕ) → k ≤ length jobs →
+    (n : ℕ) × (n ≤ k) × ((i : ℕ) → i < n → from ≤ (job_at jobs i).release) × ((i : ℕ) → n ≤ i → i < k → (job_at jobs i).release < from)
+count_from jobs falling from zero within = (0, omega arith, λ i below. absurd (omega (arith, below)), λ i behind below. absurd (omega (arith, below)))
+count_from jobs falling from (suc k) within =
+    let found = count_from jobs falling from k (omega (arith, within)) in
+    elim (cases_lt (job_at jobs k).release from) [
+      | inl less ↦ (
+        found.0,
+        omega (arith, found.1),
+        found.2,
+        λ i behind below. elim (cases_eq i k) [
+          | inl same ↦ omega (arith, less, ap (λ j. (job_at jobs j).release) same)
+          | inr other ↦ found.3 i behind (omega (arith, below, other))
+        ],
+      )
+      | inr more ↦ (
+        suc k,
+        omega arith,
+        λ i below. omega (arith, more, falling i k (omega (arith, below)) (omega (arith, within))),
+        λ i behind below. absurd (omega (arith, behind, below)),
+      )
+    ]
+
+module _ (top : ℕ) (times full : List ℕ) (all jobs : List Job) (places gaps : List ℕ) (cutting : IsCutting top times jobs places gaps) (are_gaps : AreGaps top times full)
+    (same : (from to : ℕ) → work_in jobs from to ≡ work_in all from to) (falling : IsFalling jobs) (are : All IsJob all) (room : HasRoom top all)
+    (rising : IsNonDecreasing times) (long : length gaps + 1 ≡ length times) where
+  abbrev m : ℕ
+  m = length gaps
+
+  abbrev reach : ℕ → ℕ
+  reach q = top * get_or times q 0
+
+  abbrev done : ℕ → ℕ
+  done q = went (length jobs) jobs places q
+
+  -- units of pieces from a release on find their room after it
+  units_before : (n from a : ℕ) → n ≤ length jobs → ((i : ℕ) → i < n → from ≤ (job_at jobs i).release) →
+      ((i : ℕ) → n ≤ i → i < length jobs → (job_at jobs i).release < from) → a ≤ m → from ≤ get_or times a 0 → went n jobs places a + top * from ≤ reach a
+  units_before n from a few early late below first =
+      let greatest = cutting.greatest n few a below in
+      let to : ℕ = get_or times greatest.at 0 in
+      let later : get_or times a 0 ≤ to = rising a greatest.at 0 greatest.later (omega (arith, greatest.within, long)) in
+      omega (
+        arith,
+        greatest.exact,
+        work_of_first jobs n from to few early late,
+        same from to,
+        room_to top all are room from to,
+        mul-sub top to from,
+        mul-le-mul_left top (let less : from ≤ to = omega (arith, first, later) in less),
+      )
+
+  step : (q : ℕ) → q < m → done q + reach (q + 1) ≡ done (q + 1) + reach q + get_or gaps q 0
+  step q below = step_is m reach (λ q. due_work jobs (get_or times q 0)) done gaps cutting.chain q below
+
+  more_done : (n q : ℕ) → n ≤ length jobs → went n jobs places (q + 1) + done q ≤ went n jobs places q + done (q + 1)
+  more_done n q few =
+      let e : n + (length jobs - n) ≡ length jobs = omega (arith, few) in
+      omega (
+        arith,
+        more_units jobs places n (length jobs - n) q,
+        ap (λ k. went k jobs places q) e,
+        ap (λ k. went k jobs places (q + 1)) e,
+      )
+
+  units_between : (n a more : ℕ) → n ≤ length jobs → a + more ≤ m →
+      went n jobs places (a + more) + idle_before gaps (a + more) + reach a ≤ went n jobs places a + idle_before gaps a + reach (a + more)
+  units_between n a zero few within =
+      let e : a + zero ≡ a = omega arith in
+      omega (arith, ap (λ k. went n jobs places k + idle_before gaps k) e, ap reach e)
+  units_between n a (suc more) few within =
+      let e : a + suc more ≡ a + more + 1 = omega arith in
+      omega (
+        arith,
+        units_between n a more few (omega (arith, within)),
+        more_done n (a + more) few,
+        step (a + more) (omega (arith, within)),
+        next_idle gaps (a + more),
+        ap (λ k. went n jobs places k) e,
+        ap (λ k. idle_before gaps k) e,
+        ap reach e,
+      )
+
+  pub left_idle : HasIdle top times all gaps
+  left_idle = record {
+    as_long = long;
+    room = λ from a b forward below ahead.
+        let count = count_from jobs falling from (length jobs) (omega arith) in
+        let n : ℕ = count.0 in
+        let time : ℕ = get_or times b 0 in
+        let e : a + (b - a) ≡ b = omega (arith, forward) in
+        let within : b ≤ m = omega (arith, below, long) in
+        let later : get_or times a 0 ≤ time = rising a b 0 forward below in
+        omega (
+          arith,
+          same from time,
+          work_of_first jobs n from time count.1 count.2 count.3,
+          (cutting.greatest n count.1 b within).all b (omega arith) within,
+          units_between n a (b - a) count.1 (omega (arith, e, within)),
+          ap (λ k. went n jobs places k) e,
+          ap (λ k. idle_before gaps k) e,
+          ap reach e,
+          units_before n from a count.1 count.2 count.3 (omega (arith, forward, within)) ahead,
+          mul-sub top time from,
+          mul-le-mul_left top (let less : from ≤ time = omega (arith, ahead, later) in less),
+        );
+  }
+
+  pub less_left : (q : ℕ) → q < length full → get_or gaps q 0 ≤ get_or full q 0
+  less_left q below = omega (
+    arith,
+    step q (omega (arith, below, are_gaps.as_long, long)),
+    are_gaps.each q (omega (arith, below, are_gaps.as_long)),
+    more_done 0 q (omega arith),
+  )
+
+  pub used_is : get_or times 0 0 ≡ 0 → (q : ℕ) → q ≤ length full → taken_before full gaps q ≡ done q
+  used_is first zero within =
+      let none = units_before (length jobs) 0 0 (omega arith) (λ i below. omega arith) (λ i behind below. absurd (omega (arith, behind, below))) (omega arith) (omega arith) in
+      omega (arith, none, ap (λ t. top * t) first)
+  used_is first (suc q) within =
+      let e : q + 1 ≡ suc q = omega arith in
+      omega (
+        arith,
+        used_is first q (omega (arith, within)),
+        less_left q (omega (arith, within)),
+        step q (omega (arith, within, are_gaps.as_long, long)),
+        are_gaps.each q (omega (arith, within, are_gaps.as_long)),
+        ap done e,
+      )

@@ -1,0 +1,28 @@
+-- What is idle between rising times, so that later jobs may take it.
+use Rattle.std.specs.Prelude.{◌≡◌, ℕ, ◌+◌, ◌-◌, ◌*◌, ◌<◌, ◌≤◌, List, length, slice_index}
+use Rattle.yds_model.specs.Job.{Job}
+use Rattle.yds_edf.specs.Pending.{sum_below}
+use Rattle.yds_admit.specs.Interval.{work_in}
+
+-- what is idle in the gaps before a place
+abbrev pub idle_before : List ℕ → ℕ → ℕ
+idle_before idle q = sum_below q (λ k. slice_index idle k)
+
+-- what was taken from the gaps before a place
+abbrev pub taken_before : List ℕ → List ℕ → ℕ → ℕ
+taken_before gaps left q = sum_below q (λ k. slice_index gaps k - slice_index left k)
+
+-- The jobs whose windows lie in an interval that ends at one of the times leave this much to others, in the gaps between any two of the
+-- times that lie in it.
+pub record HasIdle (top : ℕ) (times : List ℕ) (jobs : List Job) (idle : List ℕ) : Type 0 where
+  pub as_long : length idle + 1 ≡ length times
+  pub room : (from a b : ℕ) → a ≤ b → b < length times → from ≤ slice_index times a →
+      work_in jobs from (slice_index times b) + idle_before idle b ≤ top * (slice_index times b - from) + idle_before idle a
+
+-- so many units were taken from what is idle between two places
+pub record IsTaken (old new : List ℕ) (begin end units : ℕ) : Type 0 where
+  pub as_long : length new ≡ length old
+  pub less : (q : ℕ) → slice_index new q ≤ slice_index old q
+  pub early : (q : ℕ) → q < begin → slice_index new q ≡ slice_index old q
+  pub late : (q : ℕ) → end ≤ q → slice_index new q ≡ slice_index old q
+  pub sum : idle_before new end + units ≡ idle_before old end
