@@ -9,10 +9,11 @@
 #   make faults     refuses the built program memory, reads and writes in turn, and breaks its streams
 #   make fuzz       draws DOCUMENTS documents near the grammar from SEED, and holds the built program's answers against what they promise
 #   make costly     times the built program on the documents that cost most
+#   make bench      times it as documents grow, and beside a plain program of the textbook's method
 #   make install    copies build/yds_cli to PREFIX/bin, its manual page, completion and recipes to PREFIX/share
 #   make uninstall  removes just these
 #
-# faults, fuzz and costly want a C compiler (Debian: gcc and libc6-dev).
+# faults, fuzz and costly want a C compiler (Debian: gcc and libc6-dev), and bench one for C++ besides (g++).
 # JOBS crates are proved side by side, each in up to 2 GB of memory.
 
 SHELL := /bin/bash
@@ -34,7 +35,7 @@ COMMAND ?= plan
 SEED ?= 1
 DOCUMENTS ?= 100000
 
-.PHONY: all run try test check recipes faults fuzz costly install uninstall clean tool
+.PHONY: all run try test check recipes faults fuzz costly bench install uninstall clean tool
 
 all: $(BINARY)
 
@@ -86,6 +87,9 @@ fuzz: $(BINARY) build/fuzz
 
 costly: $(BINARY)
 	@CC=$(CC) sh robustness/costly.sh
+
+bench: $(BINARY)
+	@CC=$(CC) CXX=$(CXX) sh bench/bench.sh
 
 install: $(BINARY)
 	install -d $(BIN) $(MAN) $(COMPLETIONS) $(RECIPES)

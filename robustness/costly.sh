@@ -28,14 +28,18 @@ cd "$work" || exit 1
 # compare STATUS WORDS COSTLY PLAIN WHAT: of a document that ends with this status.
 compare() {
 	# shellcheck disable=SC2086
-	set -- "$1" "$2" "$5" $("$work/measure" "$times" "$3" "$4" "$YDS" $2)
-	printf '%-24s %-60s %8s ms %8s ms %7s %6s MB' "$2" "$3" "$4" "$5" "$6" "$7"
-	if awk -v ratio="$6" -v memory="$7" 'BEGIN { exit !(ratio <= 10 && memory <= 200) }' && [ "$8" = "$1" ]; then
+	if "$work/measure" "$times" "$3" "$YDS" $2 -- "$4" "$YDS" $2 | awk -v status="$1" -v words="$2" -v what="$5" '
+		NR == 1 { costly = $1; memory = $2; ended = $3 }
+		NR == 2 { plain = $1 }
+		END {
+			printf "%-24s %-60s %8s ms %8s ms %7.2f %6s MB", words, what, costly, plain, costly / plain, memory
+			good = costly <= 10 * plain && memory <= 200 && ended == status
+			print good ? "" : "  FAILED, status " ended
+			exit !good
+		}'; then
 		passed=$((passed + 1))
-		echo
 	else
 		failed=$((failed + 1))
-		echo "  FAILED, status $8"
 	fi
 }
 
@@ -141,7 +145,7 @@ awk 'BEGIN { for (i = 0; i < 59; i++) x = x "x"; print "horizon 1000000000"; pri
 compare 0 expand named-tasks tasks "4,000 tasks, names of 59 bytes"
 compare 0 expand one-task tasks "4,000 jobs of one task"
 
-# Names whose hashes were chosen to agree, and plain names of the same length.
+# Names that were chosen to come to one place of the table, and plain names of the same length.
 "$work/names" >chosen
 awk '{ printf "aaaaaaaaaaaa%04d\n", NR }' chosen >usual
 for names in chosen usual; do
@@ -151,9 +155,9 @@ for names in chosen usual; do
 		END { for (i = 0; i < 100000; i++) print "slot", name, i, i + 1, 1
 			print "level 100000 100000\npiece 0 100000"; for (i = 0; i < 100000; i++) print "member", name }' $names >members-$names
 done
-compare 0 plan jobs-chosen jobs-usual "4,000 jobs, names whose hashes agree"
+compare 0 plan jobs-chosen jobs-usual "4,000 jobs, names that come to one place"
 compare 1 check members-chosen members-usual "100,000 slots and members of the last of them"
-compare 0 expand tasks-chosen tasks-usual "4,000 tasks, names whose hashes agree"
+compare 0 expand tasks-chosen tasks-usual "4,000 tasks, names that come to one place"
 
 echo "$passed passed, $failed failed"
 [ $failed = 0 ]

@@ -9,7 +9,7 @@ ghost use Rattle.yds_avr.specs.Live.{ArePartsBefore};
 use crate::live::{arrived_by, by_release, over_by};
 use crate::rate::{Rate, rest_of, rounds};
 use std::alloc::Global;
-use yds_edf::{Policy, PolicyRun, Queue, Setting, run_policy};
+use yds_edf::{Policy, PolicyRun, Queue, Setting, Share, run_policy};
 use yds_events::Stretch;
 use yds_model::limits::{MAX_GRID, MAX_JOBS, MAX_ROUNDED};
 use yds_model::{JobRow, Memory};
@@ -57,9 +57,9 @@ impl Policy for AverageRate {
 
     ghost rounds = { λ policy jobs grid pending stretch. average_rate_rounds jobs policy.grid stretch };
 
-    ghost keeps = { λ policy jobs number. ArePartsBefore jobs policy.grid policy.order.items policy.over policy.arrived number };
+    ghost keeps = { λ policy queue number. ArePartsBefore queue.jobs policy.grid policy.order.items policy.over policy.arrived number };
 
-    fn set(&mut self, _number: u32, queue: &Queue, stretch: Stretch) -> Setting {
+    fn set(&mut self, _number: u32, queue: &Queue, stretch: Stretch, _served: &[Share]) -> Setting {
         self.arrived = arrived_by(&self.order, self.arrived, stretch.from);
         self.over = over_by(&mut self.order, self.over, self.arrived, stretch.from);
         let _rows = queue.rows();

@@ -1,6 +1,8 @@
 ghost use Rattle.std.specs.Prelude.{◌≡◌, ◌+◌, ◌<◌, ◌≤◌, [], ◌∷◌, ◌++◌, ◌↔◌, length, IsTrue, OnOk, OnErr};
+ghost use Rattle.std.specs.List.{All};
 ghost use Rattle.yds_model.specs.declared.limits.TheConstants.{MAX_LEVELS, MAX_PIECES, MAX_MEMBERS};
 ghost use Rattle.yds_model.specs.Level.{all_members, all_pieces, levels_above};
+ghost use Rattle.yds_model.specs.Within.{IsLevel};
 ghost use Rattle.yds_certificate.specs.Level.{with_piece, with_member};
 ghost use Rattle.yds_certificate.specs.Certificate.{IsCertificate, with_last};
 ghost use Rattle.yds_certificate.specs.Merging.{IsOrderly, IsNewTo, CanFollow, HasSpeedOfLast, JoinsLast, last_level};
@@ -42,6 +44,15 @@ fn has_speed_of_last(levels: &[Level], level: &Level) -> bool
     }
 }
 
+/// Shows that each level is within its limits, which is what a level keeps: reading it shows so.
+fn read_levels(levels: &[Level])
+    ensures { All IsLevel levels.now }
+{
+    for level in levels {
+        let _work = level.work;
+    }
+}
+
 impl Certificate {
     /// No levels.
     pub fn new(alloc: Global) -> Certificate
@@ -50,6 +61,17 @@ impl Certificate {
         Certificate {
             levels: Vec::new(alloc),
         }
+    }
+
+    /// These levels, in their order.
+    pub fn from_levels(levels: Vec<Level>) -> Certificate
+        requires few { length levels.items ≤ MAX_LEVELS }
+        requires few_pieces { length (all_pieces levels.items) ≤ MAX_PIECES }
+        requires few_members { length (all_members levels.items) ≤ MAX_MEMBERS }
+        ensures { result ≡ levels.items }
+    {
+        read_levels(&levels);
+        Certificate { levels }
     }
 
     /// The levels, in their order.

@@ -22,7 +22,7 @@ use Rattle.yds_model.proofs.Divisor.{divisor_is_greatest}
 use Rattle.yds_model.proofs.Sums.{sum_by_same}
 use Rattle.yds_events.specs.Stretch.{length_of}
 use Rattle.yds_slots.specs.Between.{lies_between}
-use Rattle.yds_plan.proofs.KeySums.{sum_by-map, sum_by-flat_map}
+use Rattle.yds_search.proofs.KeySums.{sum_by-map, sum_by-flat_map}
 use Rattle.yds_laws.proofs.LevelTimes.{levels_long, plan_busy}
 use Rattle.yds_laws.proofs.PlanParts.{HasSpeeds, plan_part}
 use Rattle.yds_round.specs.Written.{total_units}

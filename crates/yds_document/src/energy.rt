@@ -15,8 +15,9 @@ ghost use Rattle.yds_document.specs.Fields.{Gives};
 
 use crate::draft::Draft;
 use crate::fields::fraction_in;
-use crate::line_buffer::LineBuffer;
+use crate::kept_text::{NumberText, put_fraction};
 use crate::line_fault::LineFault;
+use crate::tail_buffer::Line;
 use yds_fraction::Amount;
 use yds_model::limits::MAX_ENERGY;
 use yds_port::{Sink, WriteFault, write_all};
@@ -68,12 +69,13 @@ pub(crate) fn show_limits(energy: Option<Amount>)
 }
 
 /// Makes the line of an energy.
-fn put(text: &mut LineBuffer, energy: Amount)
+fn put(text: &mut Line, energy: Amount)
     ensures { text.new ≡ line (codes "energy" ∷ fraction_text energy ∷ []) }
 {
-    text.restart("energy");
-    text.push_fraction(energy);
-    text.push_end();
+    text.restart();
+    put_fraction(energy, &mut NumberText::of(energy.den()), text);
+    text.put_byte(b' ');
+    text.put_kind("energy");
 }
 
 /// Appends the line of the energy, where there is one.
@@ -82,7 +84,7 @@ pub(crate) fn print<K: Sink>(energy: Option<Amount>, sink: &mut K) -> Result<(),
 {
     match energy {
         Some(energy) => {
-            let mut line = LineBuffer::new("");
+            let mut line = Line::new();
             put(&mut line, energy);
             write_all(sink, line.as_bytes())
         }

@@ -12,8 +12,8 @@ ghost use Rattle.yds_document.specs.Fields.{Gives};
 
 use crate::draft::Draft;
 use crate::fields::small_in;
-use crate::line_buffer::LineBuffer;
 use crate::line_fault::LineFault;
+use crate::tail_buffer::Line;
 use std::marker::Model;
 use yds_model::limits::{MAX_GRID, MAX_ROUNDED};
 use yds_port::{Sink, WriteFault, write_all};
@@ -88,13 +88,13 @@ pub(crate) fn show_limits(grid: Option<Grid>)
 }
 
 /// Makes the line of a grid.
-fn put(text: &mut LineBuffer, grid: Grid)
+fn put(text: &mut Line, grid: Grid)
     ensures { text.new ≡ line (codes "grid" ∷ decimal grid.grid ∷ decimal grid.rounded ∷ []) }
 {
-    text.restart("grid");
-    text.push_number(u64::from(grid.grid));
-    text.push_number(u64::from(grid.rounded));
-    text.push_end();
+    text.restart();
+    text.put_number_field(u64::from(grid.rounded));
+    text.put_number_field(u64::from(grid.grid));
+    text.put_kind("grid");
 }
 
 /// Appends the line of the grid, where there is one.
@@ -103,7 +103,7 @@ pub(crate) fn print<K: Sink>(grid: Option<Grid>, sink: &mut K) -> Result<(), Wri
 {
     match grid {
         Some(grid) => {
-            let mut line = LineBuffer::new("");
+            let mut line = Line::new();
             put(&mut line, grid);
             write_all(sink, line.as_bytes())
         }

@@ -16,8 +16,8 @@ ghost use Rattle.yds_document.specs.Job.{job_of};
 
 use crate::draft::Draft;
 use crate::fields::{new_name, small_in};
-use crate::line_buffer::LineBuffer;
 use crate::line_fault::LineFault;
+use crate::tail_buffer::Line;
 use yds_instance::Instance;
 use yds_model::limits::{MAX_TIME, MAX_WORK};
 use yds_model::{JobRow, Memory, Reason};
@@ -96,16 +96,16 @@ pub(crate) fn name_of<'a>(instance: &Instance<'a>, job: u32) -> &'a str
 }
 
 /// Makes the line of a job.
-fn put(text: &mut LineBuffer, name: &str, job: &JobRow)
+fn put(text: &mut Line, name: &str, job: &JobRow)
     requires { length name.now ≤ MAX_NAME }
     ensures { text.new ≡ job_line name.now job.now }
 {
-    text.restart("job");
-    text.push_field(name);
-    text.push_number(u64::from(job.release));
-    text.push_number(u64::from(job.deadline));
-    text.push_number(u64::from(job.work));
-    text.push_end();
+    text.restart();
+    text.put_number_field(u64::from(job.work));
+    text.put_number_field(u64::from(job.deadline));
+    text.put_number_field(u64::from(job.release));
+    text.put_field(name);
+    text.put_kind("job");
 }
 
 /// Appends the lines of the jobs, in their order.
@@ -113,7 +113,7 @@ pub(crate) fn print<K: Sink>(instance: &Instance<'_>, sink: &mut K) -> Result<()
     ensures { Puts K.written K.flushed K.flushes K.faults result (job_lines instance.now.names instance.now.jobs) sink.old sink.new }
 {
     let rows = instance.rows();
-    let mut line = LineBuffer::new("");
+    let mut line = Line::new();
     for (job, row) in rows.iter().enumerate() {
         put(&mut line, name_of(instance, job as u32), row);
         write_all(sink, line.as_bytes())?;

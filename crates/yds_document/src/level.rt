@@ -14,8 +14,8 @@ ghost use Rattle.yds_document.specs.Fields.{Gives};
 
 use crate::draft::Draft;
 use crate::fields::number_in;
-use crate::line_buffer::LineBuffer;
 use crate::line_fault::LineFault;
+use crate::tail_buffer::Line;
 use crate::{member, piece};
 use std::alloc::Global;
 use yds_certificate::Level;
@@ -74,13 +74,13 @@ fn add(draft: &mut Draft<'_>, alloc: Global, work: u64, len: u64) -> Result<(), 
 }
 
 /// Makes the line of a level, without those of its pieces and members.
-fn put(text: &mut LineBuffer, level: &Level)
+fn put(text: &mut Line, level: &Level)
     ensures { text.new ≡ line (codes "level" ∷ decimal level.now.work ∷ decimal level.now.length ∷ []) }
 {
-    text.restart("level");
-    text.push_number(level.work);
-    text.push_number(level.length);
-    text.push_end();
+    text.restart();
+    text.put_number_field(level.length);
+    text.put_number_field(level.work);
+    text.put_kind("level");
 }
 
 /// Appends the lines of the levels, in their order, each with its pieces and members.
@@ -92,7 +92,7 @@ pub(crate) fn print<K: Sink>(
     requires { All (λ level. All (λ job. job < length instance.now.jobs) level.members) levels.now }
     ensures { Puts K.written K.flushed K.flushes K.faults result (flat_map (level_lines instance.now.names) levels.now) sink.old sink.new }
 {
-    let mut line = LineBuffer::new("");
+    let mut line = Line::new();
     for level in levels {
         print_level(instance, level, &mut line, sink)?;
     }
@@ -103,7 +103,7 @@ pub(crate) fn print<K: Sink>(
 fn print_level<K: Sink>(
     instance: &Instance<'_>,
     level: &Level,
-    line: &mut LineBuffer,
+    line: &mut Line,
     sink: &mut K,
 ) -> Result<(), WriteFault>
     requires { All (λ job. job < length instance.now.jobs) level.now.members }

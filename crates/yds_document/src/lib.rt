@@ -19,6 +19,7 @@ mod fault;
 mod fields;
 mod grid;
 mod job;
+mod kept_text;
 mod level;
 pub mod line_buffer;
 mod line_fault;
@@ -30,6 +31,7 @@ mod printing;
 mod reader;
 mod run;
 mod slot;
+mod tail_buffer;
 mod ticks;
 
 pub use document::Document;

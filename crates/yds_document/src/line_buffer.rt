@@ -44,7 +44,7 @@ impl LineBuffer {
     }
 
     /// The line begins anew with this word, in the same place.
-    pub(crate) fn restart(&mut self, kind: &str)
+    pub fn restart(&mut self, kind: &str)
         requires { length kind.now ≤ LINE_BYTES }
         ensures { self.new ≡ kind.now }
     {
@@ -63,7 +63,7 @@ impl LineBuffer {
     }
 
     /// The same in place: nothing is moved.
-    pub(crate) fn push_field(&mut self, field: &str)
+    fn push_field(&mut self, field: &str)
         requires { length self.old + 1 + length field.now ≤ LINE_BYTES }
         ensures bytes { self.new ≡ self.old ++ 32 ∷ field.now }
         ensures len { length self.new ≡ length self.old + 1 + length field.now }
@@ -83,7 +83,7 @@ impl LineBuffer {
     }
 
     /// The same in place.
-    pub(crate) fn push_number(&mut self, number: u64)
+    fn push_number(&mut self, number: u64)
         requires { length self.old + 1 + NUMBER_BYTES ≤ LINE_BYTES }
         ensures bytes { self.new ≡ self.old ++ 32 ∷ decimal number }
         ensures short { length self.new ≤ length self.old + 1 + NUMBER_BYTES }
@@ -99,34 +99,54 @@ impl LineBuffer {
         ensures bytes { result ≡ self ++ 32 ∷ right places number }
         ensures short { length result ≤ length self + 1 + NUMBER_BYTES }
     {
+        self.push_column(places, number);
+        self
+    }
+
+    /// The same in place.
+    pub fn push_column(&mut self, places: usize, number: u64)
+        requires few { places ≤ NUMBER_BYTES }
+        requires room { length self.old + 1 + NUMBER_BYTES ≤ LINE_BYTES }
+        ensures bytes { self.new ≡ self.old ++ 32 ∷ right places number }
+        ensures short { length self.new ≤ length self.old + 1 + NUMBER_BYTES }
+    {
         self.text.push_str(" ");
-        self.right(places, number)
+        self.push_right(places, number);
     }
 
     /// The same with no space before it.
-    pub fn right(self, places: usize, number: u64) -> LineBuffer
+    pub fn right(mut self, places: usize, number: u64) -> LineBuffer
         requires few { places ≤ NUMBER_BYTES }
         requires room { length self + NUMBER_BYTES ≤ LINE_BYTES }
         ensures bytes { result ≡ self ++ right places number }
         ensures short { length result ≤ length self + NUMBER_BYTES }
     {
+        self.push_right(places, number);
+        self
+    }
+
+    /// The same in place.
+    pub fn push_right(&mut self, places: usize, number: u64)
+        requires few { places ≤ NUMBER_BYTES }
+        requires room { length self.old + NUMBER_BYTES ≤ LINE_BYTES }
+        ensures bytes { self.new ≡ self.old ++ right places number }
+        ensures short { length self.new ≤ length self.old + NUMBER_BYTES }
+    {
         let mut buffer = Buffer::new();
         let digits = buffer.format(number);
-        let mut line = self.spaces(places.saturating_sub(digits.len()));
-        line.text.push_str(digits);
-        line
+        self.push_spaces(places.saturating_sub(digits.len()));
+        self.text.push_str(digits);
     }
 
     /// So many spaces.
-    fn spaces(mut self, count: usize) -> LineBuffer
-        requires { length self + count ≤ LINE_BYTES }
-        ensures bytes { result ≡ self ++ replicate count 32 }
-        ensures len { length result ≡ length self + count }
+    fn push_spaces(&mut self, count: usize)
+        requires { length self.old + count ≤ LINE_BYTES }
+        ensures bytes { self.new ≡ self.old ++ replicate count 32 }
+        ensures len { length self.new ≡ length self.old + count }
     {
         for _ in 0..count {
             self.text.push_str(" ");
         }
-        self
     }
 
     /// One more field with a fraction, after a space: `W`, or `W+N/D` where the numerator isn't 0. It
@@ -141,7 +161,7 @@ impl LineBuffer {
     }
 
     /// The same in place.
-    pub(crate) fn push_fraction(&mut self, value: Amount)
+    pub fn push_fraction(&mut self, value: Amount)
         requires { length self.old + 1 + FRACTION_BYTES ≤ LINE_BYTES }
         ensures bytes { self.new ≡ self.old ++ 32 ∷ fraction_text value }
         ensures short { length self.new ≤ length self.old + 1 + FRACTION_BYTES }
@@ -194,11 +214,18 @@ impl LineBuffer {
     }
 
     /// The same in place.
-    pub(crate) fn push_end(&mut self)
+    pub fn push_end(&mut self)
         requires { length self.old + 1 ≤ LINE_BYTES }
         ensures { self.new ≡ self.old ++ 10 ∷ [] }
     {
         self.text.push_str("\n");
+    }
+
+    /// The line as text.
+    pub fn as_str(&self) -> &str
+        ensures { result.now ≡ self.now }
+    {
+        self.text.as_str()
     }
 
     /// The line's bytes.

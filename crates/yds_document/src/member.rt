@@ -15,8 +15,8 @@ ghost use Rattle.yds_document.specs.Member.{member_of};
 use crate::draft::Draft;
 use crate::fields::known_job;
 use crate::job::name_of;
-use crate::line_buffer::LineBuffer;
 use crate::line_fault::LineFault;
+use crate::tail_buffer::Line;
 use yds_instance::Instance;
 use yds_model::Memory;
 use yds_port::{Sink, WriteFault, write_all};
@@ -63,20 +63,20 @@ fn add(draft: &mut Draft<'_>, job: u32) -> Result<(), Memory>
 }
 
 /// Makes the line of a member.
-fn put(text: &mut LineBuffer, instance: &Instance<'_>, job: u32)
+fn put(text: &mut Line, instance: &Instance<'_>, job: u32)
     requires { job < length instance.now.jobs }
     ensures { text.new ≡ member_line instance.now.names job }
 {
-    text.restart("member");
-    text.push_field(name_of(instance, job));
-    text.push_end();
+    text.restart();
+    text.put_field(name_of(instance, job));
+    text.put_kind("member");
 }
 
 /// Appends the lines of a level's members, in their order.
 pub(crate) fn print<K: Sink>(
     instance: &Instance<'_>,
     members: &[u32],
-    line: &mut LineBuffer,
+    line: &mut Line,
     sink: &mut K,
 ) -> Result<(), WriteFault>
     requires { All (λ job. job < length instance.now.jobs) members.now }

@@ -14,8 +14,8 @@ ghost use Rattle.yds_document.specs.Fields.{Gives};
 
 use crate::draft::Draft;
 use crate::fields::small_in;
-use crate::line_buffer::LineBuffer;
 use crate::line_fault::LineFault;
+use crate::tail_buffer::Line;
 use yds_certificate::Piece;
 use yds_model::Memory;
 use yds_model::limits::MAX_TIME;
@@ -63,19 +63,19 @@ fn add(draft: &mut Draft<'_>, piece: Piece) -> Result<(), Memory>
 }
 
 /// Makes the line of a piece.
-fn put(text: &mut LineBuffer, piece: &Piece)
+fn put(text: &mut Line, piece: &Piece)
     ensures { text.new ≡ piece_line piece.now }
 {
-    text.restart("piece");
-    text.push_number(u64::from(piece.from));
-    text.push_number(u64::from(piece.to));
-    text.push_end();
+    text.restart();
+    text.put_number_field(u64::from(piece.to));
+    text.put_number_field(u64::from(piece.from));
+    text.put_kind("piece");
 }
 
 /// Appends the lines of a level's pieces, in their order.
 pub(crate) fn print<K: Sink>(
     pieces: &[Piece],
-    line: &mut LineBuffer,
+    line: &mut Line,
     sink: &mut K,
 ) -> Result<(), WriteFault>
     ensures { Puts K.written K.flushed K.flushes K.faults result (flat_map piece_line pieces.now) sink.old sink.new }

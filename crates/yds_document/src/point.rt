@@ -15,8 +15,8 @@ ghost use Rattle.yds_document.specs.Point.{point_of, point_after, table_fault};
 
 use crate::draft::Draft;
 use crate::fields::small_in;
-use crate::line_buffer::LineBuffer;
 use crate::line_fault::LineFault;
+use crate::tail_buffer::Line;
 use std::alloc::Global;
 use yds_hull::Point;
 use yds_model::Reason;
@@ -124,20 +124,20 @@ pub(crate) fn points_in(table: &Option<Table>) -> &[Point]
 }
 
 /// Makes the line of a point.
-fn put(text: &mut LineBuffer, point: &Point)
+fn put(text: &mut Line, point: &Point)
     ensures { text.new ≡ point_line point.now }
 {
-    text.restart("point");
-    text.push_number(u64::from(point.speed));
-    text.push_number(u64::from(point.power));
-    text.push_end();
+    text.restart();
+    text.put_number_field(u64::from(point.power));
+    text.put_number_field(u64::from(point.speed));
+    text.put_kind("point");
 }
 
 /// Appends the lines of the points, in their order.
 pub(crate) fn print<K: Sink>(points: &[Point], sink: &mut K) -> Result<(), WriteFault>
     ensures { Puts K.written K.flushed K.flushes K.faults result (flat_map point_line points.now) sink.old sink.new }
 {
-    let mut line = LineBuffer::new("");
+    let mut line = Line::new();
     for point in points {
         put(&mut line, point);
         write_all(sink, line.as_bytes())?;

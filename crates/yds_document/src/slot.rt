@@ -1,11 +1,11 @@
 //! The lines of slots: a job by its name, two ends that are alike, and a work alike with its job's others.
 
-ghost use Rattle.std.specs.Prelude.{◌≡◌, ◌<◌, ◌∷◌, length, OnOk, IfOk, IsTrue};
+ghost use Rattle.std.specs.Prelude.{◌≡◌, ◌+◌, ◌*◌, ◌<◌, ◌≤◌, ◌∷◌, ◌++◌, length, OnOk, IfOk, IsTrue};
 ghost use Rattle.std.specs.List.{All, flat_map};
 ghost use Rattle.yds_model.specs.declared.limits.TheConstants.{MAX_SLOTS};
 ghost use Rattle.yds_model.specs.Entry.{SlotEntry};
 ghost use Rattle.yds_model.specs.Reading.{SlotLine};
-ghost use Rattle.yds_model.specs.Text.{slot_line};
+ghost use Rattle.yds_model.specs.Text.{fraction_text, slot_line};
 ghost use Rattle.yds_port.specs.Sink.{Puts};
 ghost use Rattle.yds_slots.specs.Schedule.{FitsGrain};
 ghost use Rattle.yds_text.specs.Read.{field_read};
@@ -16,9 +16,11 @@ ghost use Rattle.yds_document.specs.Slot.{fits_among, fits_test, FitsGrainOf, sl
 use crate::draft::Draft;
 use crate::fields::{fraction_in, known_job};
 use crate::job::name_of;
-use crate::line_buffer::LineBuffer;
+use crate::kept_text::{FractionText, NumberText, put_fraction};
+use crate::line_buffer::{FRACTION_BYTES, LINE_BYTES};
 use crate::line_fault::LineFault;
-use yds_fraction::Amount;
+use crate::tail_buffer::Line;
+use yds_fraction::{Amount, Moment};
 use yds_instance::Instance;
 use yds_model::limits::{MAX_SLOT_WORK, MAX_TIME};
 use yds_model::{Memory, Reason};
@@ -107,17 +109,65 @@ pub(crate) fn add(draft: &mut Draft<'_>, slot: Slot) -> Result<(), Memory>
     Ok(())
 }
 
+/// What the lines of slots mostly share: a slot begins where the one before it ends, and those of a level have one
+/// denominator for their ends and one for their works.
+#[derive(Drop)]
+struct KeptTexts {
+    end: FractionText,
+    den_of_ends: NumberText,
+    den_of_works: NumberText,
+}
+
+impl KeptTexts {
+    /// Those of the number 1, for a start.
+    fn new() -> KeptTexts {
+        let mut den = NumberText::of(1);
+        KeptTexts {
+            end: FractionText::of(Amount::from_whole(1), &mut den),
+            den_of_ends: den,
+            den_of_works: NumberText::of(1),
+        }
+    }
+
+    /// Puts the slot's work and its ends before the text, each with a space before it. The last end is kept.
+    fn put(&mut self, slot: &Slot, text: &mut Line)
+        requires { 3 * (1 + FRACTION_BYTES) + length text.old ≤ LINE_BYTES }
+        ensures bytes { text.new ≡ 32 ∷ (fraction_text slot.now.from ++ 32 ∷ (fraction_text slot.now.to ++ 32 ∷ (fraction_text slot.now.work ++ text.old))) }
+        ensures short { length text.new ≤ 3 * (1 + FRACTION_BYTES) + length text.old }
+    {
+        put_fraction(slot.work, &mut self.den_of_works, text);
+        text.put_byte(b' ');
+        let end = FractionText::of(slot.to, &mut self.den_of_ends);
+        end.put(text);
+        text.put_byte(b' ');
+        self.put_start(slot.from, text);
+        text.put_byte(b' ');
+        self.end = end;
+    }
+
+    /// Puts the slot's start before the text.
+    fn put_start(&mut self, start: Moment, text: &mut Line)
+        requires { FRACTION_BYTES + length text.old ≤ LINE_BYTES }
+        ensures bytes { text.new ≡ fraction_text start ++ text.old }
+        ensures short { length text.new ≤ FRACTION_BYTES + length text.old }
+    {
+        if self.end.is_of(start) {
+            self.end.put(text);
+        } else {
+            put_fraction(start, &mut self.den_of_ends, text);
+        }
+    }
+}
+
 /// Makes the line of a slot.
-fn put(text: &mut LineBuffer, instance: &Instance<'_>, slot: &Slot)
+fn put(text: &mut Line, kept: &mut KeptTexts, instance: &Instance<'_>, slot: &Slot)
     requires { slot.now.job < length instance.now.jobs }
     ensures { text.new ≡ slot_line instance.now.names slot.now }
 {
-    text.restart("slot");
-    text.push_field(name_of(instance, slot.job));
-    text.push_fraction(slot.from);
-    text.push_fraction(slot.to);
-    text.push_fraction(slot.work);
-    text.push_end();
+    text.restart();
+    kept.put(slot, text);
+    text.put_field(name_of(instance, slot.job));
+    text.put_kind("slot");
 }
 
 /// Appends the lines of the slots, in their order.
@@ -129,9 +179,10 @@ pub(crate) fn print<K: Sink>(
     requires { All (λ slot. slot.job < length instance.now.jobs) slots.now }
     ensures { Puts K.written K.flushed K.flushes K.faults result (flat_map (slot_line instance.now.names) slots.now) sink.old sink.new }
 {
-    let mut line = LineBuffer::new("");
+    let mut line = Line::new();
+    let mut kept = KeptTexts::new();
     for slot in slots {
-        put(&mut line, instance, slot);
+        put(&mut line, &mut kept, instance, slot);
         write_all(sink, line.as_bytes())?;
     }
     Ok(())

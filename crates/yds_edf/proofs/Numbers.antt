@@ -1,5 +1,5 @@
 -- Sums over the numbers of jobs, as the definitions write them and as sums below a number.
-use Rattle.std.proofs.Common.{◌≡◌, ℕ, zero, suc, ◌+◌, ◌*◌, ◌<◌, List, [], ◌∷◌, length, get_or, ◌∙◌, refl, sym, ap, arith, cond, true, false}
+use Rattle.std.proofs.Common.{◌≡◌, ℕ, zero, suc, ◌+◌, ◌*◌, List, [], ◌∷◌, length, get_or, ◌∙◌, refl, sym, ap, arith, cond, true, false}
 use Rattle.std.specs.Prelude.{Bool, sum_by, filter}
 use Rattle.std.specs.List.{range_with_len}
 use Rattle.std.proofs.lemmas.List.Sums.{sum_by-cons}

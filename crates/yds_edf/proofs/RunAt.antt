@@ -1,11 +1,11 @@
 -- A run of a policy at a scale. What is pending when a stretch begins is what its shares tell, and each stretch serves what the
 -- policy sets. Where each share lies in its job's window and every job is served, the slots are a run by the definition.
-use Rattle.std.proofs.Common.{◌≡◌, ◌≢◌, ℕ, zero, suc, ◌+◌, ◌-◌, ◌*◌, ◌<◌, ◌≤◌, ◌⊎◌, min, List, [], ◌∷◌, length, get_or, ◌∙◌, refl, sym, subst, arith, inl, inr, ap, cond, true, false}
-use Rattle.std.specs.Prelude.{Bool, ◌==◌, nat_le, nat_lt, All, AllPairs, filter, Some}
+use Rattle.std.proofs.Common.{◌≡◌, ℕ, zero, suc, ◌+◌, ◌-◌, ◌*◌, ◌<◌, ◌≤◌, ◌⊎◌, List, [], ◌∷◌, length, ◌∙◌, refl, subst, arith, inl, inr, ap}
+use Rattle.std.specs.Prelude.{nat_le, All, AllPairs, filter}
 use Rattle.std.specs.List.{AllZip, Contains}
-use Rattle.std.proofs.lemmas.Bool.{cases_lt, cases_eq, cases_Bool, le-leb}
-use Rattle.std.proofs.lemmas.List.{get_or_default, length-map}
-use Rattle.std.proofs.lemmas.List.Elements.{All-head, All-tail, All-contains, All-from_get_or, All-weaker, Contains-get_or, length_all_zip}
+use Rattle.std.proofs.lemmas.Bool.{cases_lt, cases_Bool, le-leb}
+use Rattle.std.proofs.lemmas.List.{get_or_default}
+use Rattle.std.proofs.lemmas.List.Elements.{All-head, All-tail, All-contains, All-from_get_or, Contains-get_or}
 use Rattle.std.proofs.Math.Nat.{mul-le-mul_right, mul-sub, mul-pos, eq_of_mul-eq-mul_left}
 use Rattle.yds_model.specs.Numbers.{Each}
 use Rattle.yds_model.specs.Job.{Job, job_at}
@@ -19,14 +19,14 @@ use Rattle.yds_model.specs.Plan.{IsServedInStretches}
 use Rattle.yds_model.specs.Policy.{slots_in, pending_at, FillsAtSpeed, ServesCapacity, IsRunAt}
 use Rattle.yds_model.specs.Comparison.{stretch_at}
 use Rattle.yds_events.specs.Stretch.{no_stretch, length_of}
-use Rattle.yds_events.proofs.Neighbours.{stretch_order, stretch_forward, release_outside, few_stretches}
-use Rattle.yds_events.proofs.Following.{Follows, StartsFrom, Works, run_from_pairs, earliest_after}
+use Rattle.yds_events.proofs.Neighbours.{stretch_order, release_outside, few_stretches}
+use Rattle.yds_events.proofs.Following.{Follows, Works, earliest_after}
 use Rattle.yds_edf.specs.Shares.{JobShare, units_given, total_units, shares_in, shares_before}
 use Rattle.yds_edf.specs.Pending.{units_wanted}
 use Rattle.yds_edf.specs.Serving.{IsDueBefore}
 use Rattle.yds_edf.specs.Filled.{IsInTime}
-use Rattle.yds_edf.specs.Laid.{IsLaid, IsLaidSlot, FollowFrom, end_after}
-use Rattle.yds_edf.specs.Run.{by_number, IsServedBefore, pending_before, IsServed, slots_beside, IsLaidOut}
+use Rattle.yds_edf.specs.Laid.{IsLaidSlot, FollowFrom, end_after}
+use Rattle.yds_edf.specs.Run.{by_number, pending_before, IsServed, slots_beside, IsLaidOut}
 use Rattle.yds_edf.proofs.Parts.{given_next, share_given}
 use Rattle.yds_edf.proofs.Filled.{stands_in}
 use Rattle.yds_edf.proofs.Beside.{zipped_at, all_beside}

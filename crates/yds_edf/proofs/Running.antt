@@ -1,6 +1,6 @@
 -- The loop over the stretches: what a run has come to, and that in the end it is a run of the policy.
-use Rattle.std.proofs.Common.{◌≡◌, ◌≢◌, ℕ, zero, suc, ◌+◌, ◌-◌, ◌*◌, ◌<◌, ◌≤◌, ◌⊎◌, min, List, [], ◌∷◌, ◌++◌, length, get_or, slice_index, map, ◌∙◌, refl, sym, subst, arith, inl, inr, ap, cond, true, false, add-one}
-use Rattle.std.specs.Prelude.{Bool, ◌==◌, nat_le, All, AllPairs, Some, Option}
+use Rattle.std.proofs.Common.{◌≡◌, ℕ, suc, ◌+◌, ◌-◌, ◌*◌, ◌<◌, ◌≤◌, ◌⊎◌, min, List, [], ◌∷◌, ◌++◌, length, slice_index, ◌∙◌, refl, sym, subst, arith, inl, inr, ap, cond, true, false, add-one}
+use Rattle.std.specs.Prelude.{Bool, ◌==◌, All, AllPairs, Some, Option}
 use Rattle.std.specs.List.{AllZip, Contains}
 use Rattle.std.specs.Int.{from_bool}
 use Rattle.std.proofs.lemmas.Bool.{cases_lt, cases_eq}
@@ -26,9 +26,9 @@ use Rattle.yds_events.proofs.InOrder.{starts_rise}
 use Rattle.yds_edf.specs.Shares.{JobShare, units_given, total_units, shares_in}
 use Rattle.yds_edf.specs.Pending.{sum_below, units_wanted, pending_of_job, is_within}
 use Rattle.yds_edf.specs.Serving.{IsServing}
-use Rattle.yds_edf.specs.Queue.{JobQueue, new_queue, IsNoEarlier, pending_in, units_left, unfinished, Serves}
-use Rattle.yds_edf.specs.Laid.{IsLaid, IsLaidSlot, FollowFrom, end_after}
-use Rattle.yds_edf.specs.Run.{by_number, IsServedBefore, pending_before, IsServed, IsBeside, slots_beside, IsLaidOut, IsPolicyRun, ServesStretch}
+use Rattle.yds_edf.specs.Queue.{JobQueue, new_queue, IsNoEarlier, pending_in, units_left, unfinished, Adds, IsTold, Serves}
+use Rattle.yds_edf.specs.Laid.{IsLaid, IsLaidSlot, FollowFrom}
+use Rattle.yds_edf.specs.Run.{by_number, IsServedBefore, pending_before, IsBeside, slots_beside, IsPolicyRun, ServesStretch}
 use Rattle.yds_edf.proofs.Sums.{sum_below_same, sum_below_bound}
 use Rattle.yds_edf.proofs.Parts.{in_added, before_added, in_kept, before_kept}
 use Rattle.yds_edf.proofs.Written.{run_slot}
@@ -52,6 +52,13 @@ pub record Running (jobs : List Job) (grid : ℕ) (units : (ℕ → ℕ) → Pie
       IsLaid (stretch_at jobs k) (total_units (shares_in shares k)) grid (shares_in shares k) (slots_beside k shares slots))
   pub denominators : All (HasRunDenominators jobs grid) slots
 
+-- what the policy saw last of the queue, and what was served since
+pub record Seen (keeps : JobQueue → Type 0) (queue : JobQueue) (shares : List JobShare) : Type 0 where
+  pub before : JobQueue
+  pub kept : keeps before
+  pub known : All (λ share. share.job < length before.jobs) shares
+  pub adds : Adds before queue shares
+
 -- so many of the first stretches were rounded
 abbrev pub count_rounded : List Job → ℕ → ((ℕ → ℕ) → Piece → Bool) → List JobShare → ℕ → ℕ
 count_rounded jobs grid rounds shares i = sum_below i (λ k. cond (rounds (pending_before jobs grid shares k) (stretch_at jobs k)) 1 0)
@@ -74,6 +81,38 @@ begun jobs grid units = record {
   full = λ k within. absurd (omega arith);
   denominators = All-nil (HasRunDenominators jobs grid);
 }
+
+-- # What a policy is told
+
+pub seen_none : (keeps : JobQueue → Type 0) (queue : JobQueue) → keeps queue → Seen keeps queue []
+seen_none keeps queue kept = record {
+  before = queue;
+  kept = kept;
+  known = All-nil (λ share. share.job < length queue.jobs);
+  adds = record { jobs = refl; grain = refl; time = refl; as_long = refl; served = λ number within. omega arith };
+}
+
+pub seen_next : (keeps : JobQueue → Type 0) (started new : JobQueue) (number set : ℕ) (shares : List JobShare) → keeps started →
+    Serves started new number set shares → Seen keeps new shares
+seen_next keeps started new number set shares kept serves =
+    record { before = started; kept = kept; known = serves.serving.known; adds = serves.adds }
+
+-- once jobs have arrived besides
+pub seen_told : (keeps : JobQueue → Type 0) (queue started : JobQueue) (from : ℕ) (shares : List JobShare) → Seen keeps queue shares →
+    IsNoEarlier queue.time from → started ≡ record queue { time = Some from } → IsTold keeps started from shares
+seen_told keeps queue started from shares seen later starts =
+    let before = seen.before in
+    let same : before ≡ record queue { time = before.time; served = before.served } =
+    ap (λ (js : List Job). record before { jobs = js }) (sym seen.adds.jobs) ∙ ap (λ (g : ℕ). record queue { grain = g; time = before.time; served = before.served }) (sym seen.adds.grain) in
+    let long : length queue.jobs ≡ length before.jobs = ap (λ (js : List Job). length js) seen.adds.jobs in
+    subst (λ (q : JobQueue). IsTold keeps q from shares) (sym starts) (record {
+      time = before.time;
+      served = before.served;
+      kept = subst keeps same seen.kept;
+      later = subst (λ (time : Option ℕ). IsNoEarlier time from) seen.adds.time later;
+      known = λ k d within. omega (arith, long, seen.known k d within);
+      since = λ number within. seen.adds.served number (omega (arith, long, within));
+    })
 
 -- # What is pending at a stretch's start
 

@@ -1,5 +1,5 @@
 -- The slots of a run at a scale, each beside its share.
-use Rattle.std.proofs.Common.{◌≡◌, ◌≢◌, ℕ, zero, suc, ◌+◌, ◌-◌, ◌*◌, ◌<◌, ◌≤◌, ◌⊎◌, List, [], ◌∷◌, length, get_or, map, ◌∙◌, refl, sym, subst, arith, inl, inr, ap, cond, true, false}
+use Rattle.std.proofs.Common.{◌≡◌, ℕ, zero, suc, ◌*◌, ◌<◌, ◌≤◌, List, [], ◌∷◌, length, get_or, ◌∙◌, refl, sym, subst, arith, inl, inr, ap, cond, true, false}
 use Rattle.std.specs.Prelude.{Bool, ◌==◌, ◌&&◌, nat_le, nat_lt, All, filter}
 use Rattle.std.specs.List.{AllZip}
 use Rattle.std.specs.Int.{◌∣◌}
@@ -7,19 +7,19 @@ use Rattle.std.proofs.lemmas.Bool.{cases_lt, cases_eq, cases_order, cases_Bool, 
 use Rattle.std.proofs.lemmas.List.Elements.{All-head, All-tail, All-contains, Contains-get_or}
 use Rattle.std.proofs.lemmas.List.Sums.{sum_by-cons}
 use Rattle.std.proofs.Math.Nat.{mul-le-mul_right, mul-add}
-use Rattle.yds_model.specs.Job.{Job, job_at}
+use Rattle.yds_model.specs.Job.{Job}
 use Rattle.yds_model.specs.Scale.{Fraction, at_scale}
-use Rattle.yds_model.specs.Slot.{WrittenSlot, WholeSlot, no_slot, IsDivided, IsScale, slot_at_scale, slots_at, slot_at, work_given}
+use Rattle.yds_model.specs.Slot.{WrittenSlot, WholeSlot, IsDivided, IsScale, slot_at_scale, slots_at, slot_at, work_given}
 use Rattle.yds_model.specs.Piece.{Piece}
 use Rattle.yds_model.specs.Feasible.{RunFrom}
-use Rattle.yds_model.specs.Event.{stretches, LiesIn}
+use Rattle.yds_model.specs.Event.{stretches}
 use Rattle.yds_model.specs.Policy.{slots_in}
 use Rattle.yds_model.specs.Comparison.{stretch_at}
 use Rattle.yds_model.proofs.Runs.{run_forward}
 use Rattle.yds_slots.proofs.Parts.{of_parts_at}
 use Rattle.yds_events.proofs.Neighbours.{stretch_order, stretch_forward}
 use Rattle.yds_edf.specs.Shares.{JobShare, units_given, shares_in, shares_before}
-use Rattle.yds_edf.specs.Run.{by_number, IsServed, IsBeside, slots_beside, IsLaidOut}
+use Rattle.yds_edf.specs.Run.{IsServed, IsBeside, slots_beside, IsLaidOut}
 use Rattle.yds_edf.proofs.Parts.{filter_all}
 use Rattle.yds_edf.proofs.Filled.{stands_in}
 use Rattle.yds_edf.proofs.Beside.{length_zipped}

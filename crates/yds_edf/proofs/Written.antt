@@ -1,12 +1,10 @@
 -- What the slot of a share is as it is written: it lies in the stretch, has its speed, and its denominators are those of a run.
-use Rattle.std.proofs.Common.{◌≡◌, ℕ, ◌-◌, ◌*◌, ◌/◌, ◌<◌, ◌≤◌, ◌⊎◌, List, ap, inl, inr, arith}
-use Rattle.std.specs.Prelude.{◌↔◌}
-use Rattle.std.specs.Int.{◌∣◌}
+use Rattle.std.proofs.Common.{◌≡◌, ℕ, ◌-◌, ◌*◌, ◌<◌, ◌≤◌, List, ap, inl, inr, arith}
 use Rattle.std.specs.List.{Contains}
 use Rattle.std.proofs.Math.Nat.{mul-sub, mul-pos, le_of_mul-le-mul_right, mul-le-mul_right, dvd-mul_left, dvd-mul_right, dvd-mul_right_of_dvd}
 use Rattle.yds_model.specs.Job.{Job}
 use Rattle.yds_model.specs.Scale.{Fraction, at_scale, numerator}
-use Rattle.yds_model.specs.Slot.{WrittenSlot, IsDivided, IsSolid, slot_at_scale}
+use Rattle.yds_model.specs.Slot.{WrittenSlot, IsDivided, IsSolid}
 use Rattle.yds_model.specs.Piece.{Piece}
 use Rattle.yds_model.specs.Event.{stretches}
 use Rattle.yds_model.specs.Audit.{crossed_length, HasSpeed}

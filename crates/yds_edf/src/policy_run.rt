@@ -3,6 +3,7 @@ ghost use Rattle.yds_model.specs.declared.limits.TheConstants.{MAX_SLOTS};
 ghost use Rattle.yds_model.specs.Job.{IsJob};
 ghost use Rattle.yds_model.specs.Plan.{IsOver};
 ghost use Rattle.yds_model.specs.Within.{AreSlotsOf};
+ghost use Rattle.yds_edf.specs.Queue.{new_queue, Serves};
 ghost use Rattle.yds_edf.specs.Run.{IsPolicyRun, ServesStretch};
 
 use crate::lay;
@@ -36,7 +37,7 @@ pub fn run_policy<P: Policy>(
     requires few { length rows.now ≤ MAX_JOBS }
     requires some_grid { 1 ≤ grid }
     requires grid_in_range { grid ≤ MAX_GRID }
-    requires keeps { P.keeps policy.old rows.now 0 }
+    requires keeps { P.keeps policy.old (new_queue rows.now grid) 0 }
     ensures run { IfOk result (λ run.
         IsPolicyRun rows.now grid (P.units policy.old rows.now grid) (P.rounds policy.old rows.now grid) run.rounded run.schedule.slots) }
     ensures jobs { IfOk result (λ run. run.schedule.jobs ≡ length rows.now) }
@@ -52,7 +53,7 @@ pub fn run_policy<P: Policy>(
     for (number, stretch) in stretches.iter().enumerate() {
         queue.arrive(stretch.from);
         let number = number as u32;
-        let setting = policy.set(number, &queue, *stretch);
+        let setting = policy.set(number, &queue, *stretch, &shares);
         let slots = serve_stretch(
             alloc,
             &mut queue,
@@ -79,7 +80,8 @@ fn serve_stretch(
     shares: &mut Vec<Share>,
 ) -> Result<Vec<Slot>, Memory>
     requires { queue.old.grain ≤ MAX_GRID }
-    ensures { IfOk result (λ slots. ServesStretch queue.old queue.new number stretch units slots.items) }
+    ensures laid { IfOk result (λ slots. ServesStretch queue.old queue.new number stretch units slots.items) }
+    ensures serves { IfOk result (λ slots. Serves queue.old queue.new number units shares.new.items) }
 {
     let grain = queue.grain();
     let capacity = units.min(queue.pending());

@@ -1,5 +1,8 @@
-pub mod Waiting
-pub mod Summed
-pub mod Quotients
-pub mod Greatest
 pub mod Available
+pub mod Chosen
+pub mod Fresh
+pub mod Greatest
+pub mod Places
+pub mod Sums
+pub mod Waiting
+pub mod Walked

@@ -1,11 +1,14 @@
 -- The greatest quotient of units that are due by a deadline and the time until then.
-use Rattle.std.specs.Prelude.{◌≡◌, ℕ, ◌-◌, ◌*◌, ◌<◌, ◌≤◌, ◌⊎◌, List, length, true, All, Any}
-use Rattle.std.specs.List.Sorted.{IsNonDecreasingBy}
+use Rattle.std.specs.Prelude.{◌≡◌, ℕ, ◌+◌, ◌-◌, ◌*◌, ◌<◌, ◌≤◌, ◌⊎◌, List, length, true}
 use Rattle.yds_model.specs.Job.{Job, job_at}
 use Rattle.yds_model.specs.Piece.{Piece}
 use Rattle.yds_oa.specs.declared.quotient.Quotient.{Quotient}
-use Rattle.yds_oa.specs.declared.sums.DueUnits.{DueUnits}
+use Rattle.yds_oa.specs.declared.order.Due.{Due}
+use Rattle.yds_oa.specs.declared.pending.PendingJobs.{PendingJobs}
+use Rattle.yds_oa.specs.declared.walk.Walk.{Walk}
 use Rattle.yds_oa.specs.Asked.{is_waiting, due_by}
+use Rattle.yds_oa.specs.Blocks.{units_before}
+use Rattle.yds_oa.specs.Order.{due_at}
 
 -- the quotient is that of a waiting job's deadline, or at least no greater
 pub record IsOfDeadline (jobs : List Job) (pending : ℕ → ℕ) (stretch : Piece) (units time : ℕ) : Type 0 where
@@ -21,31 +24,50 @@ pub record IsGreatest (jobs : List Job) (pending : ℕ → ℕ) (stretch : Piece
   pub upper : (deadline : ℕ) → stretch.from < deadline → due_by jobs pending stretch deadline * time ≤ units * (deadline - stretch.from)
   pub attained : (units ≡ 0) ⊎ IsOfDeadline jobs pending stretch units time
 
--- # Deadlines with their units
+-- # By places
 
--- deadlines after a time, in order, whose units rise with them
-pub record AreRisingAfter (from : ℕ) (waiting : List DueUnits) : Type 0 where
-  pub later : All (λ due. from < due.deadline) waiting
-  pub deadlines : IsNonDecreasingBy (λ due. due.deadline) waiting
-  pub units : IsNonDecreasingBy (λ due. due.units) waiting
+-- the places from the start on are those of the deadlines after a time
+pub record AreDueAfter (order : List Due) (from start : ℕ) : Type 0 where
+  pub within : start ≤ length order
+  pub before : (place : ℕ) → place < start → (due_at order place).deadline ≤ from
+  pub after : (place : ℕ) → start ≤ place → place < length order → from < (due_at order place).deadline
 
--- Each is of a waiting job, with at most the units that are due by it. What is due by any time is due by a deadline before.
-pub record AreSummed (jobs : List Job) (pending : ℕ → ℕ) (stretch : Piece) (waiting : List DueUnits) : Type 0 where
-  pub rising : AreRisingAfter stretch.from waiting
-  pub each : All (λ due. IsOfDeadline jobs pending stretch due.units (due.deadline - stretch.from)) waiting
-  pub most : (deadline : ℕ) → (due_by jobs pending stretch deadline ≡ 0)
-      ⊎ Any (λ due. (due.deadline ≤ deadline) × (due_by jobs pending stretch deadline ≤ due.units)) waiting
-  pub few : All (λ due. due.units ≤ 4000000000000000000) waiting
+-- the quotient is that of the units from the start to a place, and the time until its deadline
+pub record IsQuotientAt (pending : PendingJobs) (from start : ℕ) (quotient : Quotient) : Type 0 where
+  pub place : ℕ
+  pub after : start ≤ place
+  pub known : place < length pending.order.items
+  pub units : units_before pending.units start + quotient.units ≡ units_before pending.units (place + 1)
+  pub time : quotient.time ≡ (due_at pending.order.items place).deadline - from
 
--- the quotient is that of a deadline's units and the time from this one until then
-pub record IsQuotientOf (from : ℕ) (quotient : Quotient) (due : DueUnits) : Type 0 where
-  pub units : quotient.units ≡ due.units
-  pub time : quotient.time ≡ due.deadline - from
+-- or it has no units
+abbrev pub IsQuotientAmong : PendingJobs → ℕ → ℕ → Quotient → Type 0
+IsQuotientAmong pending from start quotient = (quotient.units ≡ 0) ⊎ IsQuotientAt pending from start quotient
 
--- it is that of one of them, or has no units
-abbrev pub IsNoneOrOf : List DueUnits → ℕ → Quotient → Type 0
-IsNoneOrOf waiting from quotient = (quotient.units ≡ 0) ⊎ Any (IsQuotientOf from quotient) waiting
+-- the quotient of a place isn't greater
+abbrev pub IsAtMost : PendingJobs → ℕ → ℕ → Quotient → ℕ → Type 0
+IsAtMost pending from start quotient place =
+    (units_before pending.units (place + 1) - units_before pending.units start) * quotient.time ≤ quotient.units * ((due_at pending.order.items place).deadline - from)
 
--- a deadline's quotient isn't greater
-abbrev pub IsAtMost : ℕ → Quotient → DueUnits → Type 0
-IsAtMost from quotient due = due.units * quotient.time ≤ quotient.units * (due.deadline - from)
+pub record IsGreatestWithin (pending : PendingJobs) (from start end : ℕ) (greatest : Quotient) : Type 0 where
+  pub some_time : 1 ≤ greatest.time
+  pub attained : IsQuotientAmong pending from start greatest
+  pub upper : (place : ℕ) → start ≤ place → place < end → IsAtMost pending from start greatest place
+
+pub record IsGreatestOf (pending : PendingJobs) (from : ℕ) (quotient : Quotient) : Type 0 where
+  pub start : ℕ
+  pub after : AreDueAfter pending.order.items from start
+  pub greatest : IsGreatestWithin pending from start (length pending.order.items) quotient
+
+-- a walk has come to a place
+pub record IsWalk (pending : PendingJobs) (walk : Walk) : Type 0 where
+  pub after : AreDueAfter pending.order.items walk.from walk.start
+  pub past : walk.start ≤ walk.place
+  pub within : walk.place ≤ length pending.order.items
+  pub units : units_before pending.units walk.start + walk.units ≡ units_before pending.units walk.place
+  pub greatest : IsGreatestWithin pending walk.from walk.start walk.place walk.greatest
+
+pub record IsFurther (old new : Walk) : Type 0 where
+  pub from : new.from ≡ old.from
+  pub start : new.start ≡ old.start
+  pub place : old.place < new.place

@@ -1,4 +1,5 @@
 pub mod Asked
-pub mod Order
-pub mod Near
+pub mod Blocks
 pub mod Greatest
+pub mod Order
+pub mod Pending

@@ -6,11 +6,11 @@
 //! the greatest quotient wasn't whole.
 #![tactic(auto)]
 
-mod near;
+mod blocks;
 mod optimal_available;
 mod order;
+mod pending;
 mod quotient;
-mod sums;
 mod walk;
 
 pub use optimal_available::oa;

@@ -3,13 +3,11 @@ ghost use Rattle.yds_model.specs.Policy.{HasRunDenominators};
 ghost use Rattle.yds_model.specs.OptimalAvailable.{IsOptimalAvailableRun};
 ghost use Rattle.yds_model.specs.Within.{AreSlotsOf};
 ghost use Rattle.yds_oa.specs.Asked.{most_asked, most_rounds};
-ghost use Rattle.yds_oa.specs.Near.{AreByDeadline, AreListed};
+ghost use Rattle.yds_oa.specs.Pending.{AreKept};
 
-use crate::near::NearJobs;
-use crate::sums::{DueUnits, sum_pending};
-use crate::walk::greatest_quotient;
+use crate::pending::PendingJobs;
 use std::alloc::Global;
-use yds_edf::{Policy, PolicyRun, Queue, Setting, run_policy};
+use yds_edf::{Policy, PolicyRun, Queue, Setting, Share, run_policy};
 use yds_events::Stretch;
 use yds_model::limits::{MAX_GRID, MAX_JOBS, MAX_ROUNDED};
 use yds_model::{JobRow, Memory};
@@ -29,41 +27,29 @@ pub fn oa(alloc: Global, rows: &[JobRow], grid: u32) -> Result<PolicyRun, Memory
     ensures limits { IfOk result (λ run. AreSlotsOf (length rows.now) run.schedule.slots) }
     ensures count_in_range { IfOk result (λ run. run.rounded ≤ MAX_ROUNDED) }
 {
-    let jobs = NearJobs::new(alloc, rows)?;
-    let waiting = Vec::with_capacity(alloc, rows.len())?;
-    let mut policy = OptimalAvailable {
-        jobs,
-        waiting,
-        last: 0,
-    };
+    let jobs = PendingJobs::new(alloc, rows)?;
+    let mut policy = OptimalAvailable { jobs, last: 0 };
     run_policy(alloc, rows, grid, &mut policy)
 }
 
-/// Optimal Available, which goes through the near jobs in order of their deadlines.
+/// Optimal Available, which looks anew at those jobs alone of which other units are pending than in the last stretch.
 #[derive(Drop)]
 struct OptimalAvailable {
-    jobs: NearJobs,
-    /// The deadlines of pending jobs and the units that are due by each, as a stretch finds them. It has room for all jobs.
-    waiting: Vec<DueUnits>,
+    jobs: PendingJobs,
     /// The deadline that had the greatest quotient in the last stretch, in time units.
     last: u32,
 }
 
 impl Policy for OptimalAvailable {
-    ghost use Rattle.std.specs.Prelude.{length, vec_capacity};
-
     ghost units = { λ policy jobs grid pending stretch. most_asked jobs pending stretch };
 
     ghost rounds = { λ policy jobs grid pending stretch. most_rounds jobs pending stretch };
 
-    ghost keeps = { λ policy jobs number.
-        AreByDeadline jobs policy.jobs.order.items × AreListed policy.jobs × (length policy.jobs.order.items ≤ vec_capacity policy.waiting) };
+    ghost keeps = { λ policy queue number. AreKept queue policy.jobs };
 
-    fn set(&mut self, _number: u32, queue: &Queue, stretch: Stretch) -> Setting {
-        self.jobs.look_to(stretch.from);
-        let near = self.jobs.due_after(stretch.from);
-        sum_pending(near, queue, stretch, &mut self.waiting);
-        let greatest = greatest_quotient(&self.waiting, stretch.from, self.last);
+    fn set(&mut self, _number: u32, queue: &Queue, stretch: Stretch, served: &[Share]) -> Setting {
+        self.jobs.look_at(queue, stretch.from, served);
+        let greatest = self.jobs.greatest_quotient(stretch.from, self.last);
         self.last = stretch.from.saturating_add(greatest.time);
         let units = u128::from(greatest.units) * u128::from(stretch.length());
         let time = u128::from(greatest.time);

@@ -1,8 +1,7 @@
 -- Lists that are merged from blocks, one for each number of a range: facts of elements and of pairs.
-use Rattle.std.proofs.Common.{◌≡◌, ℕ, zero, suc, ◌+◌, ◌<◌, ◌≤◌, List, [], ◌∷◌, ◌++◌, ◌∙◌, length, map, sym, refl, ap, arith}
+use Rattle.std.proofs.Common.{◌≡◌, ℕ, zero, suc, ◌+◌, ◌<◌, ◌≤◌, List, [], ◌∷◌, ◌++◌, ◌∙◌, length, map, refl, ap, arith}
 use Rattle.std.specs.List.{All, AllPairs, Any, flat_map, range_with_len}
 use Rattle.std.proofs.lemmas.List.{map-append, length-append, get_or-append-add}
-use Rattle.std.proofs.lemmas.List.Concat.{flat_map-append}
 use Rattle.std.proofs.lemmas.List.Elements.{All-nil, All-append}
 use Rattle.yds_model.proofs.Lists.{All-front, All-back, AllPairs-append, Any-append_left}
 
@@ -80,14 +79,3 @@ any_block P f a (suc n) (suc i) below some =
 
 pub some_of_blocks : {Y : Type 0} (P : Y → Type 0) (f : ℕ → List Y) (n i : ℕ) → i < n → Any P (f i) → Any P (flat_map f (range_with_len 0 n))
 some_of_blocks P f n i below some = let same : 0 + i ≡ i = omega arith in any_block P f 0 n i below (rw same some)
-
--- what a front of a list and its next element make is no longer than what all make
-pub front_room : {X Y : Type 0} (f : X → List Y) (front rest all : List X) (x : X) → front ++ x ∷ rest ≡ all →
-    length (flat_map f front) + length (f x) ≤ length (flat_map f all)
-front_room f front rest all x is =
-    omega (
-      arith,
-      ap length (ap (flat_map f) (sym is) ∙ flat_map-append f front (x ∷ rest)),
-      length-append (flat_map f front) (f x ++ flat_map f rest),
-      length-append (f x) (flat_map f rest),
-    )

@@ -6,15 +6,14 @@ use Rattle.std.proofs.lemmas.Bool.{eq-eqb, ne_eqb}
 use Rattle.std.proofs.lemmas.List.{append-nil, map-append}
 use Rattle.std.proofs.lemmas.List.Elements.{filter-append}
 use Rattle.std.proofs.lemmas.List.FromFn.{get_or-map-range_with_len, length-map-range_with_len}
-use Rattle.yds_model.specs.Job.{Job}
 use Rattle.yds_model.specs.Piece.{Piece}
 use Rattle.yds_model.specs.Level.{Level, no_level, level_at}
 use Rattle.yds_certificate.specs.Level.{with_member}
-use Rattle.yds_plan.specs.Found.{Found, group_of}
-use Rattle.yds_model.specs.Comparison.{stretch_at}
+use Rattle.yds_search.specs.Found.{Found, group_of}
+use Rattle.yds_events.specs.Stretch.{nth_stretch}
 use Rattle.yds_plan.specs.Laid.{level_of, levels_among, level_of_place, merged}
 use Rattle.yds_plan.specs.Drafts.{draft, drafts, extended, extended_level}
-use Rattle.yds_plan.proofs.KeySums.{range_more}
+use Rattle.yds_search.proofs.KeySums.{range_more}
 use Rattle.yds_plan.proofs.Speeds.{among_above}
 use Rattle.yds_plan.proofs.Levels.{place_level, place_in_level}
 use Rattle.yds_plan.proofs.Drafts.{map_range_set, map_range_same}
@@ -30,7 +29,7 @@ filter_leaves : (p : ℕ → Bool) (n : ℕ) → p n ≡ false → filter p (ran
 filter_leaves p n fails =
     sym (filter_more p n ∙ ap (λ b. filter p (range_with_len 0 n) ++ cond b (n ∷ []) []) fails ∙ append-nil (filter p (range_with_len 0 n)))
 
-module _ (jobs : List Job) (found : Found) where
+module _ (timeline : List Piece) (found : Found) where
   abbrev job_level : ℕ → ℕ
   job_level j = level_of_place found.groups (group_of found.group_of_job j)
 
@@ -40,68 +39,68 @@ module _ (jobs : List Job) (found : Found) where
   abbrev count_of_levels : ℕ
   count_of_levels = levels_among found.groups (length found.groups)
 
-  job_elsewhere : (j k l : ℕ) → (job_level j ≡ l → ⊥) → draft jobs found j k l ≡ draft jobs found (j + 1) k l
+  job_elsewhere : (j k l : ℕ) → (job_level j ≡ l → ⊥) → draft timeline found j k l ≡ draft timeline found (j + 1) k l
   job_elsewhere j k l other = cc (filter_leaves (λ job. job_level job == l) j (ne_eqb (job_level j) l other))
 
-  job_here : (j k l : ℕ) → job_level j ≡ l → with_member j (draft jobs found j k l) ≡ draft jobs found (j + 1) k l
+  job_here : (j k l : ℕ) → job_level j ≡ l → with_member j (draft timeline found j k l) ≡ draft timeline found (j + 1) k l
   job_here j k l same = cc (filter_takes (λ job. job_level job == l) j (eq-eqb (job_level j) l same))
 
-  stretch_elsewhere : (j k l : ℕ) → (stretch_level k ≡ l → ⊥) → draft jobs found j k l ≡ draft jobs found j (k + 1) l
+  stretch_elsewhere : (j k l : ℕ) → (stretch_level k ≡ l → ⊥) → draft timeline found j k l ≡ draft timeline found j (k + 1) l
   stretch_elsewhere j k l other =
-      cc (ap (λ ks. merged (map (stretch_at jobs) ks)) (filter_leaves (λ stretch. stretch_level stretch == l) k (ne_eqb (stretch_level k) l other)))
+      cc (ap (λ ks. merged (map (nth_stretch timeline) ks)) (filter_leaves (λ stretch. stretch_level stretch == l) k (ne_eqb (stretch_level k) l other)))
 
-  stretch_here : (j k l : ℕ) → stretch_level k ≡ l → extended_level (stretch_at jobs k) (draft jobs found j k l) ≡ draft jobs found j (k + 1) l
+  stretch_here : (j k l : ℕ) → stretch_level k ≡ l → extended_level (nth_stretch timeline k) (draft timeline found j k l) ≡ draft timeline found j (k + 1) l
   stretch_here j k l same =
       let ks = filter (λ stretch. stretch_level stretch == l) (range_with_len 0 k) in
-      let pieces : extended (merged (map (stretch_at jobs) ks)) (stretch_at jobs k)
-      ≡ merged (map (stretch_at jobs) (filter (λ stretch. stretch_level stretch == l) (range_with_len 0 (k + 1)))) =
-      sym (merged_more (map (stretch_at jobs) ks) (stretch_at jobs k))
-      ∙ ap merged (sym (map-append (stretch_at jobs) ks (k ∷ [])))
-      ∙ ap (λ some. merged (map (stretch_at jobs) some)) (sym (filter_takes (λ stretch. stretch_level stretch == l) k (eq-eqb (stretch_level k) l same))) in
+      let pieces : extended (merged (map (nth_stretch timeline) ks)) (nth_stretch timeline k)
+      ≡ merged (map (nth_stretch timeline) (filter (λ stretch. stretch_level stretch == l) (range_with_len 0 (k + 1)))) =
+      sym (merged_more (map (nth_stretch timeline) ks) (nth_stretch timeline k))
+      ∙ ap merged (sym (map-append (nth_stretch timeline) ks (k ∷ [])))
+      ∙ ap (λ some. merged (map (nth_stretch timeline) some)) (sym (filter_takes (λ stretch. stretch_level stretch == l) k (eq-eqb (stretch_level k) l same))) in
       cc pieces
 
-  draft_there : (j k l : ℕ) → l < count_of_levels → level_at (drafts jobs found j k) l ≡ draft jobs found j k l
-  draft_there j k l known = get_or-map-range_with_len (draft jobs found j k) 0 count_of_levels l l no_level known (omega arith)
+  draft_there : (j k l : ℕ) → l < count_of_levels → level_at (drafts timeline found j k) l ≡ draft timeline found j k l
+  draft_there j k l known = get_or-map-range_with_len (draft timeline found j k) 0 count_of_levels l l no_level known (omega arith)
 
-  pub drafts_length : (j k : ℕ) → length (drafts jobs found j k) ≡ count_of_levels
-  drafts_length j k = length-map-range_with_len (draft jobs found j k) 0 count_of_levels
+  pub drafts_length : (j k : ℕ) → length (drafts timeline found j k) ≡ count_of_levels
+  drafts_length j k = length-map-range_with_len (draft timeline found j k) 0 count_of_levels
 
   pub level_known : (place : ℕ) → place < length found.groups → level_of found.groups place < count_of_levels
   level_known place grouped = among_above found.groups (length found.groups) place grouped
 
   -- a job of a group becomes a member
   pub member_added : (j k : ℕ) → group_of found.group_of_job j < length found.groups →
-      set (drafts jobs found j k) (level_of found.groups (group_of found.group_of_job j))
-      (with_member j (level_at (drafts jobs found j k) (level_of found.groups (group_of found.group_of_job j)))) ≡ drafts jobs found (j + 1) k
+      set (drafts timeline found j k) (level_of found.groups (group_of found.group_of_job j))
+      (with_member j (level_at (drafts timeline found j k) (level_of found.groups (group_of found.group_of_job j)))) ≡ drafts timeline found (j + 1) k
   member_added j k grouped =
       let place = group_of found.group_of_job j in
       let l = level_of found.groups place in
       let is : job_level j ≡ l = place_level found.groups place grouped in
       rw (draft_there j k l (level_known place grouped), job_here j k l is)
-      (map_range_set no_level (draft jobs found j k) (draft jobs found (j + 1) k) count_of_levels l (level_known place grouped)
+      (map_range_set no_level (draft timeline found j k) (draft timeline found (j + 1) k) count_of_levels l (level_known place grouped)
       (λ other known differ. job_elsewhere j k other (λ same. differ (sym same ∙ is))))
 
   -- and no other job
-  pub member_passed : (j k : ℕ) → length found.groups ≤ group_of found.group_of_job j → drafts jobs found j k ≡ drafts jobs found (j + 1) k
+  pub member_passed : (j k : ℕ) → length found.groups ≤ group_of found.group_of_job j → drafts timeline found j k ≡ drafts timeline found (j + 1) k
   member_passed j k past =
-      map_range_same no_level (draft jobs found j k) (draft jobs found (j + 1) k) count_of_levels
+      map_range_same no_level (draft timeline found j k) (draft timeline found (j + 1) k) count_of_levels
       (λ l known. job_elsewhere j k l (λ same. omega (arith, past, (place_in_level found.groups (group_of found.group_of_job j) l same known).0)))
 
   pub piece_added : (j k : ℕ) → group_of found.group_of_stretch k < length found.groups →
-      set (drafts jobs found j k) (level_of found.groups (group_of found.group_of_stretch k))
-      (extended_level (stretch_at jobs k) (level_at (drafts jobs found j k) (level_of found.groups (group_of found.group_of_stretch k))))
-      ≡ drafts jobs found j (k + 1)
+      set (drafts timeline found j k) (level_of found.groups (group_of found.group_of_stretch k))
+      (extended_level (nth_stretch timeline k) (level_at (drafts timeline found j k) (level_of found.groups (group_of found.group_of_stretch k))))
+      ≡ drafts timeline found j (k + 1)
   piece_added j k grouped =
       let place = group_of found.group_of_stretch k in
       let l = level_of found.groups place in
       let is : stretch_level k ≡ l = place_level found.groups place grouped in
       rw (draft_there j k l (level_known place grouped), stretch_here j k l is)
-      (map_range_set no_level (draft jobs found j k) (draft jobs found j (k + 1)) count_of_levels l (level_known place grouped)
+      (map_range_set no_level (draft timeline found j k) (draft timeline found j (k + 1)) count_of_levels l (level_known place grouped)
       (λ other known differ. stretch_elsewhere j k other (λ same. differ (sym same ∙ is))))
 
-  pub piece_passed : (j k : ℕ) → length found.groups ≤ group_of found.group_of_stretch k → drafts jobs found j k ≡ drafts jobs found j (k + 1)
+  pub piece_passed : (j k : ℕ) → length found.groups ≤ group_of found.group_of_stretch k → drafts timeline found j k ≡ drafts timeline found j (k + 1)
   piece_passed j k past =
-      map_range_same no_level (draft jobs found j k) (draft jobs found j (k + 1)) count_of_levels
+      map_range_same no_level (draft timeline found j k) (draft timeline found j (k + 1)) count_of_levels
       (λ l known. stretch_elsewhere j k l (λ same. omega (arith, past, (place_in_level found.groups (group_of found.group_of_stretch k) l same known).0)))
 
   -- The numbers of the groups' levels, and what a step of the loops makes of the levels.
@@ -118,7 +117,7 @@ module _ (jobs : List Job) (found : Found) where
       ∙ get_or-map-range_with_len (level_of found.groups) 0 (length found.groups) place place number
       (omega (arith, numbers_length numbers are)) (omega arith)
 
-  pub number_within : (j k place number : ℕ) (numbers : List ℕ) (levels : List Level) → AreNumbers numbers → levels ≡ drafts jobs found j k →
+  pub number_within : (j k place number : ℕ) (numbers : List ℕ) (levels : List Level) → AreNumbers numbers → levels ≡ drafts timeline found j k →
       place < length numbers → number ≡ get_or numbers place number → number < length levels
   number_within j k place number numbers levels are before within read =
       omega (
@@ -129,34 +128,34 @@ module _ (jobs : List Job) (found : Found) where
         drafts_length j k,
       )
 
-  pub member_step : (j k place number : ℕ) (numbers : List ℕ) (levels next : List Level) → AreNumbers numbers → levels ≡ drafts jobs found j k →
+  pub member_step : (j k place number : ℕ) (numbers : List ℕ) (levels next : List Level) → AreNumbers numbers → levels ≡ drafts timeline found j k →
       place ≡ group_of found.group_of_job j → place < length numbers → number ≡ get_or numbers place number →
-      next ≡ set levels number (with_member j (level_at levels number)) → next ≡ drafts jobs found (j + 1) k
+      next ≡ set levels number (with_member j (level_at levels number)) → next ≡ drafts timeline found (j + 1) k
   member_step j k place number numbers levels next are before is_place within read after =
       let is = number_is numbers place number are within read ∙ ap (level_of found.groups) is_place in
       after
       ∙ ap (λ some. set some number (with_member j (level_at some number))) before
-      ∙ ap (λ l. set (drafts jobs found j k) l (with_member j (level_at (drafts jobs found j k) l))) is
+      ∙ ap (λ l. set (drafts timeline found j k) l (with_member j (level_at (drafts timeline found j k) l))) is
       ∙ member_added j k (omega (arith, numbers_length numbers are))
 
-  pub member_skip : (j k place : ℕ) (numbers : List ℕ) (levels : List Level) → AreNumbers numbers → levels ≡ drafts jobs found j k →
-      place ≡ group_of found.group_of_job j → length numbers ≤ place → levels ≡ drafts jobs found (j + 1) k
+  pub member_skip : (j k place : ℕ) (numbers : List ℕ) (levels : List Level) → AreNumbers numbers → levels ≡ drafts timeline found j k →
+      place ≡ group_of found.group_of_job j → length numbers ≤ place → levels ≡ drafts timeline found (j + 1) k
   member_skip j k place numbers levels are before is_place past =
       before ∙ member_passed j k (omega (arith, numbers_length numbers are))
 
   pub piece_step : (j k place number : ℕ) (piece : Piece) (numbers : List ℕ) (levels next : List Level) → AreNumbers numbers →
-      levels ≡ drafts jobs found j k → place ≡ group_of found.group_of_stretch k → place < length numbers →
-      number ≡ get_or numbers place number → piece ≡ stretch_at jobs k →
-      next ≡ set levels number (extended_level piece (level_at levels number)) → next ≡ drafts jobs found j (k + 1)
+      levels ≡ drafts timeline found j k → place ≡ group_of found.group_of_stretch k → place < length numbers →
+      number ≡ get_or numbers place number → piece ≡ nth_stretch timeline k →
+      next ≡ set levels number (extended_level piece (level_at levels number)) → next ≡ drafts timeline found j (k + 1)
   piece_step j k place number piece numbers levels next are before is_place within read is_piece after =
       let is = number_is numbers place number are within read ∙ ap (level_of found.groups) is_place in
       after
       ∙ ap (λ some. set some number (extended_level piece (level_at some number))) before
-      ∙ ap (λ one. set (drafts jobs found j k) number (extended_level one (level_at (drafts jobs found j k) number))) is_piece
-      ∙ ap (λ l. set (drafts jobs found j k) l (extended_level (stretch_at jobs k) (level_at (drafts jobs found j k) l))) is
+      ∙ ap (λ one. set (drafts timeline found j k) number (extended_level one (level_at (drafts timeline found j k) number))) is_piece
+      ∙ ap (λ l. set (drafts timeline found j k) l (extended_level (nth_stretch timeline k) (level_at (drafts timeline found j k) l))) is
       ∙ piece_added j k (omega (arith, numbers_length numbers are))
 
-  pub piece_skip : (j k place : ℕ) (numbers : List ℕ) (levels : List Level) → AreNumbers numbers → levels ≡ drafts jobs found j k →
-      place ≡ group_of found.group_of_stretch k → length numbers ≤ place → levels ≡ drafts jobs found j (k + 1)
+  pub piece_skip : (j k place : ℕ) (numbers : List ℕ) (levels : List Level) → AreNumbers numbers → levels ≡ drafts timeline found j k →
+      place ≡ group_of found.group_of_stretch k → length numbers ≤ place → levels ≡ drafts timeline found j (k + 1)
   piece_skip j k place numbers levels are before is_place past =
       before ∙ piece_passed j k (omega (arith, numbers_length numbers are))

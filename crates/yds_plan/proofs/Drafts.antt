@@ -8,12 +8,12 @@ use Rattle.std.proofs.lemmas.List.FromFn.{get_or-map-range_with_len, length-map-
 use Rattle.std.proofs.lemmas.List.Sums.{sum_by_push, sum_by_more_le}
 use Rattle.yds_model.specs.Level.{Level, no_level, level_at}
 use Rattle.yds_model.proofs.Sums.{sum_by_at_most, sum_by_zero}
-use Rattle.yds_plan.specs.Found.{Group, no_group, group_at}
-use Rattle.yds_plan.specs.declared.found.Group.{Group as Struct}
-use Rattle.yds_plan.specs.Views.{group_view}
+use Rattle.yds_search.specs.Found.{Group, no_group, group_at}
+use Rattle.yds_search.specs.declared.found.Group.{Group as Struct}
+use Rattle.yds_search.specs.Views.{group_view}
 use Rattle.yds_plan.specs.Laid.{slows_after, level_of, levels_among}
 use Rattle.yds_plan.specs.Drafts.{among, empty_level, empty_levels, joins_before, level_of_one, with_more, with_group}
-use Rattle.yds_plan.proofs.KeySums.{in_range, not_here, is_here, range_more, sum_of_first, cond_at_most}
+use Rattle.yds_search.proofs.KeySums.{in_range, not_here, is_here, range_more, sum_of_first, cond_at_most}
 use Rattle.yds_plan.proofs.Speeds.{among_above}
 
 -- values over a range, of which one is replaced

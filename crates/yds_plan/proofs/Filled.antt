@@ -1,4 +1,4 @@
--- One stretch, filled from its start with the portions of one group.
+-- One stretch, filled from its start with the shares of one group.
 use Rattle.std.proofs.Common.{◌≡◌, ℕ, suc, ◌+◌, ◌-◌, ◌*◌, ◌<◌, ◌≤◌, ◌==◌, List, [], ◌∷◌, length, refl, arith}
 use Rattle.std.specs.Prelude.{cond}
 use Rattle.std.specs.List.{All, AllByRecursion, AllPairs, sum_by}
@@ -9,8 +9,9 @@ use Rattle.std.proofs.lemmas.List.Kept.{AllPairs-cons}
 use Rattle.std.proofs.Math.Nat.{mul-lt-mul_of_pos_right, lt_of_mul-lt-mul_right, le_of_mul-le-mul_right, mul-le-mul_right, mul-sub, mul-add}
 use Rattle.yds_model.specs.Slot.{WrittenSlot, WholeSlot, IsDivided, slot_at_scale, slots_at}
 use Rattle.yds_model.specs.Plan.{IsOver}
-use Rattle.yds_plan.specs.Found.{Group, Portion, per_time, per_work}
-use Rattle.yds_plan.specs.Laid.{slot_for, slots_from}
+use Rattle.yds_search.specs.Found.{Group, Share, per_time, per_work}
+use Rattle.yds_plan.specs.declared.layout_slots.Terms.{Terms}
+use Rattle.yds_plan.specs.Laid.{terms_of, slot_for, slots_from}
 use Rattle.yds_slots.proofs.Parts.{of_parts_at, of_parts_over}
 
 -- what is written over the terms of the group's speed
@@ -67,14 +68,14 @@ one_work : (q scale job work units : ℕ) (mine other : ℕ) → work * q ≡ un
     q * cond (mine == other) work 0 ≡ scale * cond (other == mine) units 0
 one_work q scale job work units mine other e = grind (arith, nat_tests)
 
--- what holds of each portion's job holds of each slot's
-pub slots_of_jobs : (T : ℕ → Type 0) (group : Group) (start done : ℕ) (portions : List Portion) → All (λ portion. T portion.job) portions →
-    All (λ slot. T slot.job) (slots_from group start done portions)
+-- what holds of each share's job holds of each slot's
+pub slots_of_jobs : (T : ℕ → Type 0) (group : Group) (start done : ℕ) (shares : List Share) → All (λ share. T share.job) shares →
+    All (λ slot. T slot.job) (slots_from (terms_of group) start done shares)
 slots_of_jobs T group start done [] all = All-nil (λ slot. T slot.job)
-slots_of_jobs T group start done (portion ∷ portions) all =
-    All-cons (λ slot. T slot.job) _ (slots_from group start (done + portion.units) portions)
-    (All-head (λ portion. T portion.job) portion portions all)
-    (slots_of_jobs T group start (done + portion.units) portions (All-tail (λ portion. T portion.job) portion portions all))
+slots_of_jobs T group start done (share ∷ shares) all =
+    All-cons (λ slot. T slot.job) _ (slots_from (terms_of group) start (done + share.units) shares)
+    (All-head (λ share. T share.job) share shares all)
+    (slots_of_jobs T group start (done + share.units) shares (All-tail (λ share. T share.job) share shares all))
 
 pub jobs_at : (T : ℕ → Type 0) (scale : ℕ) (slots : List WrittenSlot) → All (λ slot. T slot.job) slots →
     All (λ slot. T slot.job) (slots_at scale slots)
@@ -83,81 +84,81 @@ jobs_at T scale (slot ∷ slots) all =
     All-cons (λ slot. T slot.job) _ (slots_at scale slots) (All-head (λ slot. T slot.job) slot slots all)
     (jobs_at T scale slots (All-tail (λ slot. T slot.job) slot slots all))
 
-pub over_terms : (group : Group) (start done : ℕ) (portions : List Portion) → All (IsOverTerms group) (slots_from group start done portions)
+pub over_terms : (group : Group) (start done : ℕ) (shares : List Share) → All (IsOverTerms group) (slots_from (terms_of group) start done shares)
 over_terms group start done [] = All-nil (IsOverTerms group)
-over_terms group start done (portion ∷ portions) =
-    All-cons (IsOverTerms group) _ (slots_from group start (done + portion.units) portions)
+over_terms group start done (share ∷ shares) =
+    All-cons (IsOverTerms group) _ (slots_from (terms_of group) start (done + share.units) shares)
     (record {
       from = of_parts_over (start * per_time group + done) (per_time group);
-      to = of_parts_over (start * per_time group + (done + portion.units)) (per_time group);
-      work = of_parts_over portion.units (per_work group);
+      to = of_parts_over (start * per_time group + (done + share.units)) (per_time group);
+      work = of_parts_over share.units (per_work group);
     })
-    (over_terms group start (done + portion.units) portions)
+    (over_terms group start (done + share.units) shares)
 
-pub slots_from_length : (group : Group) (start done : ℕ) (portions : List Portion) → length (slots_from group start done portions) ≡ length portions
-slots_from_length group start done [] = refl
-slots_from_length group start done (portion ∷ portions) = omega (arith, slots_from_length group start (done + portion.units) portions)
+pub slots_from_length : (terms : Terms) (start done : ℕ) (shares : List Share) → length (slots_from terms start done shares) ≡ length shares
+slots_from_length terms start done [] = refl
+slots_from_length terms start done (share ∷ shares) = omega (arith, slots_from_length terms start (done + share.units) shares)
 
-abbrev pub units_of : List Portion → ℕ
-units_of portions = sum_by (λ portion. portion.units) portions
+abbrev pub units_of : List Share → ℕ
+units_of shares = sum_by (λ share. share.units) shares
 
 -- the slots follow each other, and so do their jobs
 abbrev pub FollowsBy : (ℕ → ℕ → Type 0) → WholeSlot → WholeSlot → Type 0
 FollowsBy R one other = (one.to ≤ other.from) × R one.job other.job
 
 module _ (group : Group) (scale start : ℕ) (positive : 1 ≤ scale) (some_time : 1 ≤ per_time group) where
-  pub fills : (end done : ℕ) (portions : List Portion) → AllByRecursion (IsDivided scale) (slots_from group start done portions) →
-      All (λ portion. 1 ≤ portion.units) portions → start * per_time group + done + units_of portions ≤ end * per_time group →
-      All (Fills scale start done end (per_time group) (per_work group)) (slots_at scale (slots_from group start done portions))
+  pub fills : (end done : ℕ) (shares : List Share) → AllByRecursion (IsDivided scale) (slots_from (terms_of group) start done shares) →
+      All (λ share. 1 ≤ share.units) shares → start * per_time group + done + units_of shares ≤ end * per_time group →
+      All (Fills scale start done end (per_time group) (per_work group)) (slots_at scale (slots_from (terms_of group) start done shares))
   fills end done [] divided some room = All-nil (Fills scale start done end (per_time group) (per_work group))
-  fills end done (portion ∷ portions) divided some room =
+  fills end done (share ∷ shares) divided some room =
       let from = of_parts_at scale (start * per_time group + done) (per_time group) divided.0.from in
-      let to = of_parts_at scale (start * per_time group + (done + portion.units)) (per_time group) divided.0.to in
-      let work = of_parts_at scale portion.units (per_work group) divided.0.work in
-      let all = sum_by-cons (λ (one : Portion). one.units) portion portions in
-      All-cons (Fills scale start done end (per_time group) (per_work group)) _ (slots_at scale (slots_from group start (done + portion.units) portions))
+      let to = of_parts_at scale (start * per_time group + (done + share.units)) (per_time group) divided.0.to in
+      let work = of_parts_at scale share.units (per_work group) divided.0.work in
+      let all = sum_by-cons (λ (one : Share). one.units) share shares in
+      All-cons (Fills scale start done end (per_time group) (per_work group)) _ (slots_at scale (slots_from (terms_of group) start (done + share.units) shares))
       (record {
         from = omega (arith, from);
-        forward = forward_of _ _ (per_time group) (start * per_time group + done) portion.units scale from
-            (omega (arith, to)) (All-head (λ portion. 1 ≤ portion.units) portion portions some) positive;
-        ends = ends_of _ (per_time group) (start * per_time group + (done + portion.units)) end scale to (omega arith) some_time;
-        speed = speed_of _ _ _ (per_time group) (per_work group) (start * per_time group + done) portion.units scale from
+        forward = forward_of _ _ (per_time group) (start * per_time group + done) share.units scale from
+            (omega (arith, to)) (All-head (λ share. 1 ≤ share.units) share shares some) positive;
+        ends = ends_of _ (per_time group) (start * per_time group + (done + share.units)) end scale to (omega arith) some_time;
+        speed = speed_of _ _ _ (per_time group) (per_work group) (start * per_time group + done) share.units scale from
             (omega (arith, to)) work;
       })
-      (All-weaker (Fills scale start (done + portion.units) end (per_time group) (per_work group))
+      (All-weaker (Fills scale start (done + share.units) end (per_time group) (per_work group))
       (Fills scale start done end (per_time group) (per_work group))
-      (λ slot later. later_from scale start done portion.units end (per_time group) (per_work group) slot later)
-      (slots_at scale (slots_from group start (done + portion.units) portions))
-      (fills end (done + portion.units) portions divided.1 (All-tail (λ portion. 1 ≤ portion.units) portion portions some) (omega arith)))
+      (λ slot later. later_from scale start done share.units end (per_time group) (per_work group) slot later)
+      (slots_at scale (slots_from (terms_of group) start (done + share.units) shares))
+      (fills end (done + share.units) shares divided.1 (All-tail (λ share. 1 ≤ share.units) share shares some) (omega arith)))
 
-  pub filled_pairs : (R : ℕ → ℕ → Type 0) (end done : ℕ) (portions : List Portion) →
-      AllByRecursion (IsDivided scale) (slots_from group start done portions) →
-      All (λ portion. 1 ≤ portion.units) portions → start * per_time group + done + units_of portions ≤ end * per_time group →
-      AllPairs (λ one other. R one.job other.job) portions →
-      AllPairs (FollowsBy R) (slots_at scale (slots_from group start done portions))
+  pub filled_pairs : (R : ℕ → ℕ → Type 0) (end done : ℕ) (shares : List Share) →
+      AllByRecursion (IsDivided scale) (slots_from (terms_of group) start done shares) →
+      All (λ share. 1 ≤ share.units) shares → start * per_time group + done + units_of shares ≤ end * per_time group →
+      AllPairs (λ one other. R one.job other.job) shares →
+      AllPairs (FollowsBy R) (slots_at scale (slots_from (terms_of group) start done shares))
   filled_pairs R end done [] divided some room pairs = λ i j d order within. absurd (omega arith)
-  filled_pairs R end done (portion ∷ portions) divided some room pairs =
-      let to = of_parts_at scale (start * per_time group + (done + portion.units)) (per_time group) divided.0.to in
-      let all = sum_by-cons (λ (one : Portion). one.units) portion portions in
-      let rest = slots_from group start (done + portion.units) portions in
-      let later = fills end (done + portion.units) portions divided.1 (All-tail (λ portion. 1 ≤ portion.units) portion portions some) (omega arith) in
-      let jobs = jobs_at (R portion.job) scale rest (slots_of_jobs (R portion.job) group start (done + portion.units) portions
+  filled_pairs R end done (share ∷ shares) divided some room pairs =
+      let to = of_parts_at scale (start * per_time group + (done + share.units)) (per_time group) divided.0.to in
+      let all = sum_by-cons (λ (one : Share). one.units) share shares in
+      let rest = slots_from (terms_of group) start (done + share.units) shares in
+      let later = fills end (done + share.units) shares divided.1 (All-tail (λ share. 1 ≤ share.units) share shares some) (omega arith) in
+      let jobs = jobs_at (R share.job) scale rest (slots_of_jobs (R share.job) group start (done + share.units) shares
       (λ k d within. pairs 0 (suc k) d (omega arith) (omega arith))) in
       AllPairs-cons (FollowsBy R) _ (slots_at scale rest)
-      (λ k d within. (after_of _ _ (per_time group) (start * per_time group + (done + portion.units)) scale to (later k d within).from some_time, jobs k d within))
-      (filled_pairs R end (done + portion.units) portions divided.1 (All-tail (λ portion. 1 ≤ portion.units) portion portions some) (omega arith)
+      (λ k d within. (after_of _ _ (per_time group) (start * per_time group + (done + share.units)) scale to (later k d within).from some_time, jobs k d within))
+      (filled_pairs R end (done + share.units) shares divided.1 (All-tail (λ share. 1 ≤ share.units) share shares some) (omega arith)
       (λ i j d order within. pairs (suc i) (suc j) d (omega arith) (omega arith)))
 
 -- the work that the slots give a job is that of its units
-pub filled_work : (group : Group) (scale start done job : ℕ) (portions : List Portion) →
-    AllByRecursion (IsDivided scale) (slots_from group start done portions) →
-    per_work group * sum_by (λ slot. cond (job == slot.job) slot.work 0) (slots_at scale (slots_from group start done portions))
-    ≡ scale * sum_by (λ portion. cond (portion.job == job) portion.units 0) portions
+pub filled_work : (group : Group) (scale start done job : ℕ) (shares : List Share) →
+    AllByRecursion (IsDivided scale) (slots_from (terms_of group) start done shares) →
+    per_work group * sum_by (λ slot. cond (job == slot.job) slot.work 0) (slots_at scale (slots_from (terms_of group) start done shares))
+    ≡ scale * sum_by (λ share. cond (share.job == job) share.units 0) shares
 filled_work group scale start done job [] divided = omega arith
-filled_work group scale start done job (portion ∷ portions) divided =
-    let rest = slots_at scale (slots_from group start (done + portion.units) portions) in
+filled_work group scale start done job (share ∷ shares) divided =
+    let rest = slots_at scale (slots_from (terms_of group) start (done + share.units) shares) in
     head_sum (per_work group) scale _ _ _ _ _ _
-    (sum_by-cons (λ (slot : WholeSlot). cond (job == slot.job) slot.work 0) (slot_at_scale scale (slot_for group start done portion)) rest)
-    (sum_by-cons (λ (one : Portion). cond (one.job == job) one.units 0) portion portions)
-    (one_work (per_work group) scale job _ portion.units job portion.job (of_parts_at scale portion.units (per_work group) divided.0.work))
-    (filled_work group scale start (done + portion.units) job portions divided.1)
+    (sum_by-cons (λ (slot : WholeSlot). cond (job == slot.job) slot.work 0) (slot_at_scale scale (slot_for (terms_of group) start done share)) rest)
+    (sum_by-cons (λ (one : Share). cond (one.job == job) one.units 0) share shares)
+    (one_work (per_work group) scale job _ share.units job share.job (of_parts_at scale share.units (per_work group) divided.0.work))
+    (filled_work group scale start (done + share.units) job shares divided.1)

@@ -17,11 +17,11 @@ use Rattle.yds_model.proofs.Sums.{sum_by_same}
 use Rattle.yds_model.proofs.Fractions.{same_through}
 use Rattle.yds_model.proofs.Divisor.{lowest_terms_are_one}
 use Rattle.yds_slots.specs.Schedule.{WrittenSchedule}
-use Rattle.yds_plan.specs.Found.{Found, IsFound, group_of, group_at}
+use Rattle.yds_search.specs.Found.{Found, IsFound, group_of, group_at}
 use Rattle.yds_model.specs.Comparison.{stretch_at}
 use Rattle.yds_events.specs.Window.{length_at}
-use Rattle.yds_plan.specs.Laid.{level_of, levels_among, together, members_of, stretches_of, level_numbered, levels_of, slots_in_stretch, slots_of, portions_in}
-use Rattle.yds_plan.proofs.KeySums.{count_all, split_all}
+use Rattle.yds_plan.specs.Laid.{level_of, levels_among, together, members_of, stretches_of, level_numbered, levels_of, slots_in_stretch, slots_of, shares_in}
+use Rattle.yds_search.proofs.KeySums.{count_all, split_all}
 use Rattle.yds_events.proofs.Neighbours.{release_outside, deadline_outside, stretch_with, few_stretches}
 use Rattle.yds_plan.proofs.Blocks.{all_of_blocks}
 use Rattle.yds_plan.proofs.Served.{Serves, all_serve}
@@ -176,16 +176,16 @@ module _ (jobs : List Job) (found : Found) (is : IsFound jobs found) where
       let member = each_member jobs found l known k d within in
       has_work jobs found is _ member.known member.grouped))
 
-  pub slots_length : length (slots_of jobs found) ≡ length found.portions
+  pub slots_length : length (slots_of jobs found) ≡ length found.shares
   slots_length =
       length-flat_map (slots_in_stretch jobs found) (range_with_len 0 (length (stretches jobs)))
-      ∙ sum_by_same (λ k. length (slots_in_stretch jobs found k)) (λ k. sum_by (λ portion. 1) (portions_in found.portions k))
+      ∙ sum_by_same (λ k. length (slots_in_stretch jobs found k)) (λ k. sum_by (λ share. 1) (shares_in found.shares k))
       (range_with_len 0 (length (stretches jobs)))
-      (λ k d within. slots_from_length _ _ 0 (portions_in found.portions (get_or (range_with_len 0 (length (stretches jobs))) k d))
-      ∙ sym (count_all (portions_in found.portions (get_or (range_with_len 0 (length (stretches jobs))) k d))))
-      ∙ split_all (λ portion. portion.stretch) (λ portion. 1) (length (stretches jobs)) found.portions
-      (λ k d within. (is.portions k d within).known_stretch)
-      ∙ count_all found.portions
+      (λ k d within. slots_from_length _ _ 0 (shares_in found.shares (get_or (range_with_len 0 (length (stretches jobs))) k d))
+      ∙ sym (count_all (shares_in found.shares (get_or (range_with_len 0 (length (stretches jobs))) k d))))
+      ∙ split_all (λ share. share.stretch) (λ share. 1) (length (stretches jobs)) found.shares
+      (λ k d within. (is.shares k d within).known_stretch)
+      ∙ count_all found.shares
 
   -- a slot is written over the terms of the group of its stretch
   abbrev IsWritten : WrittenSlot → Type 0
@@ -197,8 +197,8 @@ module _ (jobs : List Job) (found : Found) (is : IsFound jobs found) where
       (λ k known x d within. (
         k,
         slots_of_jobs (Serves jobs found k) (group_at found.groups (group_of found.group_of_stretch k)) (stretch_at jobs k).from 0
-            (portions_in found.portions k) (all_serve jobs found is k) x d within,
-        over_terms (group_at found.groups (group_of found.group_of_stretch k)) (stretch_at jobs k).from 0 (portions_in found.portions k) x d within,
+            (shares_in found.shares k) (all_serve jobs found is k) x d within,
+        over_terms (group_at found.groups (group_of found.group_of_stretch k)) (stretch_at jobs k).from 0 (shares_in found.shares k) x d within,
       ))
 
   -- so its denominators are at least 1

@@ -13,11 +13,11 @@ use Rattle.yds_model.specs.Level.{Level, all_pieces}
 use Rattle.yds_model.specs.Plan.{DontTouch}
 use Rattle.yds_model.specs.Event.{stretches}
 use Rattle.yds_model.proofs.Front.{pieces_forward, apart_turned}
-use Rattle.yds_plan.specs.Found.{Found, group_of}
+use Rattle.yds_search.specs.Found.{Found, group_of}
 use Rattle.yds_model.specs.Comparison.{stretch_at}
 use Rattle.yds_events.specs.Window.{length_at}
 use Rattle.yds_plan.specs.Laid.{level_of_place, levels_among, stretches_of, merged, level_numbered, levels_of}
-use Rattle.yds_plan.proofs.KeySums.{in_range, split_at_most, count_all, sum_by-map}
+use Rattle.yds_search.proofs.KeySums.{in_range, split_at_most, count_all, sum_by-map}
 use Rattle.yds_events.proofs.Neighbours.{stretch_order}
 use Rattle.yds_plan.proofs.Merged.{Holds, merged_run, merged_apart, merged_total, merged_length, merged_stays_apart, merged_covers, some_stretches_run, some_stretches_cover}
 use Rattle.yds_plan.proofs.Blocks.{flat_map-map, all_of_blocks, some_of_blocks}

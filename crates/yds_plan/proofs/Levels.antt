@@ -12,9 +12,9 @@ use Rattle.yds_model.specs.Job.{Job}
 use Rattle.yds_model.specs.Level.{Level, no_level, level_at, all_members}
 use Rattle.yds_model.specs.Plan.{Rise}
 use Rattle.yds_model.proofs.Sums.{sum_by_same, sum_by_at_most, sum_by_zero}
-use Rattle.yds_plan.specs.Found.{Group, Found, group_of, group_at}
+use Rattle.yds_search.specs.Found.{Group, Found, group_of, group_at}
 use Rattle.yds_plan.specs.Laid.{level_of, levels_among, level_of_place, together, members_of, level_numbered, levels_of}
-use Rattle.yds_plan.proofs.KeySums.{All-range, in_range, sums_swap, not_here, is_here, one_of_range, split_sum, split_at_most, cond_at_most, count_all, sum_by-filter, sum_by-flat_map}
+use Rattle.yds_search.proofs.KeySums.{All-range, in_range, sums_swap, not_here, is_here, one_of_range, split_sum, split_at_most, cond_at_most, count_all, sum_by-filter, sum_by-flat_map}
 use Rattle.yds_plan.proofs.Blocks.{flat_map-map}
 use Rattle.yds_plan.proofs.Speeds.{among_below}
 

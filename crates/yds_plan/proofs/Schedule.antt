@@ -14,15 +14,15 @@ use Rattle.yds_model.specs.Event.{LiesIn, IsUncut, stretches}
 use Rattle.yds_model.specs.EarliestFirst.{ComesFirst}
 use Rattle.yds_model.specs.Plan.{IsServedInStretches}
 use Rattle.yds_model.proofs.Sums.{sum_by-mul, sum_by_same, sum_by_zero}
-use Rattle.yds_plan.specs.Found.{Portion, Found, IsFound, group_of, group_at, per_time, per_work}
+use Rattle.yds_search.specs.Found.{Share, Found, IsFound, group_of, group_at, per_time, per_work}
 use Rattle.yds_events.specs.Stretch.{no_stretch}
 use Rattle.yds_model.specs.Comparison.{stretch_at}
-use Rattle.yds_plan.specs.Laid.{slots_in_stretch, slots_of, portions_in}
+use Rattle.yds_plan.specs.Laid.{slots_in_stretch, slots_of, shares_in}
 use Rattle.yds_plan.proofs.Divisors.{Lowest, lowest}
-use Rattle.yds_plan.proofs.KeySums.{in_range, not_here, sum_by-filter, sum_by-flat_map, split_all}
+use Rattle.yds_search.proofs.KeySums.{in_range, not_here, sum_by-filter, sum_by-flat_map, split_all}
 use Rattle.yds_events.proofs.Neighbours.{stretch_forward, stretch_order, release_outside}
 use Rattle.yds_plan.proofs.Blocks.{map-flat_map, all_of_blocks, block_of_all, pairs_of_blocks}
-use Rattle.yds_plan.proofs.Served.{Serves, IsBefore, all_serve, some_units, portions_in_order}
+use Rattle.yds_plan.proofs.Served.{Serves, IsBefore, all_serve, some_units, shares_in_order}
 use Rattle.yds_plan.proofs.Filled.{fills, filled_pairs, filled_work, slots_of_jobs, jobs_at, units_of}
 use Rattle.yds_events.proofs.Following.{Follows, StartsFrom, Works, run_from_pairs, earliest_after}
 
@@ -56,7 +56,7 @@ module _ (jobs : List Job) (found : Found) (is : IsFound jobs found) where
     | inr some ↦ some
   ]
 
-  -- what a job's portion in a later stretch says
+  -- what a job's share in a later stretch says
   earliest_of : (a b k l : ℕ) → Serves jobs found k a → Serves jobs found l b →
       group_of found.group_of_job b ≡ group_of found.group_of_job a → (job_at jobs b).release ≤ (stretch_at jobs k).from → k < l →
       ComesFirst jobs a b
@@ -86,12 +86,12 @@ module _ (jobs : List Job) (found : Found) (is : IsFound jobs found) where
   terms g known = lowest (group_at found.groups g).work (group_at found.groups g).length (is.some_work g known) (is.some_length g known)
 
   pub room : (k : ℕ) → k < length (stretches jobs) → group_of found.group_of_stretch k < length found.groups →
-      (stretch_at jobs k).from * per_time (group_at found.groups (group_of found.group_of_stretch k)) + 0 + units_of (portions_in found.portions k)
+      (stretch_at jobs k).from * per_time (group_at found.groups (group_of found.group_of_stretch k)) + 0 + units_of (shares_in found.shares k)
       ≤ (stretch_at jobs k).to * per_time (group_at found.groups (group_of found.group_of_stretch k))
   room k within grouped =
       room_of (stretch_at jobs k).from (stretch_at jobs k).to (per_time (group_at found.groups (group_of found.group_of_stretch k)))
-      (units_of (portions_in found.portions k)) (stretch_forward jobs k within)
-      (sum_by-filter (λ portion. portion.stretch == k) (λ portion. portion.units) found.portions ∙ is.full k within grouped)
+      (units_of (shares_in found.shares k)) (stretch_forward jobs k within)
+      (sum_by-filter (λ share. share.stretch == k) (λ share. share.units) found.shares ∙ is.full k within grouped)
 
   module _ (scale : ℕ) (divided : IsScale scale (slots_of jobs found)) where
     block_divided : (k : ℕ) → k < length (stretches jobs) → AllByRecursion (IsDivided scale) (slots_in_stretch jobs found k)
@@ -103,7 +103,7 @@ module _ (jobs : List Job) (found : Found) (is : IsFound jobs found) where
     block_serves k =
         jobs_at (Serves jobs found k) scale (slots_in_stretch jobs found k)
         (slots_of_jobs (Serves jobs found k) (group_at found.groups (group_of found.group_of_stretch k)) (stretch_at jobs k).from 0
-        (portions_in found.portions k) (all_serve jobs found is k))
+        (shares_in found.shares k) (all_serve jobs found is k))
 
     block_stands : (k : ℕ) → k < length (stretches jobs) → All (Stands jobs found scale k) (slots_at scale (slots_in_stretch jobs found k))
     block_stands k inside x d within =
@@ -111,7 +111,7 @@ module _ (jobs : List Job) (found : Found) (is : IsFound jobs found) where
         let grouped : group_of found.group_of_stretch k < length found.groups = omega (arith, serves.same_group, serves.grouped) in
         let low = terms (group_of found.group_of_stretch k) grouped in
         let filled = fills (group_at found.groups (group_of found.group_of_stretch k)) scale (stretch_at jobs k).from divided.positive
-        low.some_first (stretch_at jobs k).to 0 (portions_in found.portions k) (block_divided k inside) (some_units jobs found is k)
+        low.some_first (stretch_at jobs k).to 0 (shares_in found.shares k) (block_divided k inside) (some_units jobs found is k)
         (room k inside grouped) x d within in
         record {
           serves = serves;
@@ -127,8 +127,8 @@ module _ (jobs : List Job) (found : Found) (is : IsFound jobs found) where
         let grouped : group_of found.group_of_stretch k < length found.groups = omega (arith, serves.same_group, serves.grouped) in
         let low = terms (group_of found.group_of_stretch k) grouped in
         let follows = filled_pairs (group_at found.groups (group_of found.group_of_stretch k)) scale (stretch_at jobs k).from divided.positive
-        low.some_first (IsBefore jobs) (stretch_at jobs k).to 0 (portions_in found.portions k) (block_divided k inside)
-        (some_units jobs found is k) (room k inside grouped) (portions_in_order jobs found is k) i j d order within in
+        low.some_first (IsBefore jobs) (stretch_at jobs k).to 0 (shares_in found.shares k) (block_divided k inside)
+        (some_units jobs found is k) (room k inside grouped) (shares_in_order jobs found is k) i j d order within in
         record {
           after = follows.0;
           due = λ released. follows.1.1;
@@ -195,15 +195,15 @@ module _ (jobs : List Job) (found : Found) (is : IsFound jobs found) where
     -- the work that a job gets in a stretch, in units of its group
     job_there : (k job : ℕ) → (k < length (stretches jobs)) → per_work (group_at found.groups (group_of found.group_of_job job))
         * sum_by (λ slot. cond (job == slot.job) slot.work 0) (slots_at scale (slots_in_stretch jobs found k))
-        ≡ scale * sum_by (λ portion. cond (portion.job == job) portion.units 0) (portions_in found.portions k)
+        ≡ scale * sum_by (λ share. cond (share.job == job) share.units 0) (shares_in found.shares k)
     job_there k job inside = elim (cases_eq (group_of found.group_of_stretch k) (group_of found.group_of_job job)) [
       | inl same ↦
           rw (← same) (filled_work (group_at found.groups (group_of found.group_of_stretch k)) scale (stretch_at jobs k).from 0 job
-          (portions_in found.portions k) (block_divided k inside))
+          (shares_in found.shares k) (block_divided k inside))
       | inr other ↦
           let no_work = sum_by_zero (λ (slot : WholeSlot). cond (job == slot.job) slot.work 0) (slots_at scale (slots_in_stretch jobs found k))
           (λ x d within. not_here job _ _ (λ mine. other (rw (← mine) at (block_serves k x d within).same_group))) in
-          let no_units = sum_by_zero (λ (portion : Portion). cond (portion.job == job) portion.units 0) (portions_in found.portions k)
+          let no_units = sum_by_zero (λ (share : Share). cond (share.job == job) share.units 0) (shares_in found.shares k)
           (λ x d within. not_here _ job _ (λ mine. other (rw mine at (all_serve jobs found is k x d within).same_group))) in
           rw (no_work, no_units) (omega arith)
     ]
@@ -214,7 +214,7 @@ module _ (jobs : List Job) (found : Found) (is : IsFound jobs found) where
     job_served job known some =
         let q = per_work (group_at found.groups (group_of found.group_of_job job)) in
         let work = λ (slot : WholeSlot). cond (job == slot.job) slot.work 0 in
-        let units = λ (portion : Portion). cond (portion.job == job) portion.units 0 in
+        let units = λ (share : Share). cond (share.job == job) share.units 0 in
         let all = range_with_len 0 (length (stretches jobs)) in
         let low = terms (group_of found.group_of_job job) (is.with_work job known some) in
         eq_of_mul-eq-mul_left q low.some_second _ _ (omega (
@@ -223,11 +223,11 @@ module _ (jobs : List Job) (found : Found) (is : IsFound jobs found) where
           ap (λ n. q * n) (sum_by-flat_map (λ k. slots_at scale (slots_in_stretch jobs found k)) work all),
           sum_by-mul q (λ k. sum_by work (slots_at scale (slots_in_stretch jobs found k))) all,
           sum_by_same (λ k. q * sum_by work (slots_at scale (slots_in_stretch jobs found k)))
-              (λ k. scale * sum_by units (portions_in found.portions k)) all
+              (λ k. scale * sum_by units (shares_in found.shares k)) all
               (λ i d within. let at = in_range (length (stretches jobs)) i d within in rw (at.1) (job_there i job at.0)),
-          sum_by-mul scale (λ k. sum_by units (portions_in found.portions k)) all,
-          ap (λ n. scale * n) (split_all (λ portion. portion.stretch) units (length (stretches jobs)) found.portions
-              (λ x d within. (is.portions x d within).known_stretch)),
+          sum_by-mul scale (λ k. sum_by units (shares_in found.shares k)) all,
+          ap (λ n. scale * n) (split_all (λ share. share.stretch) units (length (stretches jobs)) found.shares
+              (λ x d within. (is.shares x d within).known_stretch)),
           ap (λ n. scale * n) (is.served job known some),
         ))
 

@@ -8,9 +8,9 @@ use Rattle.std.proofs.lemmas.List.FromFn.{length-range_with_len}
 use Rattle.std.proofs.Math.Nat.{mul-pos, mul-lt-mul_of_pos_right, lt_of_mul-lt-mul_right}
 use Rattle.yds_model.proofs.Sums.{sum_by-mul, sum_by_same}
 use Rattle.yds_model.proofs.Fractions.{same_through}
-use Rattle.yds_plan.specs.Found.{Group, group_at}
+use Rattle.yds_search.specs.Found.{Group, group_at}
 use Rattle.yds_plan.specs.Laid.{slows_after, level_of, levels_among, together}
-use Rattle.yds_plan.proofs.KeySums.{in_range}
+use Rattle.yds_search.proofs.KeySums.{in_range}
 
 -- groups with work and length, none faster than the one before
 pub record AreGroups (groups : List Group) : Type 0 where

@@ -1,13 +1,11 @@
 -- Levels on the way: what stands of them after so many groups, jobs and stretches.
 use Rattle.std.specs.Prelude.{ℕ, zero, suc, ◌+◌, ◌-◌, ◌≤◌, ◌<◌, Bool, true, false, not, List, [], ◌∷◌, ◌++◌, length, map, sum_by, nat_lt, slice_set, ◌==◌, if◌then◌else◌}
 use Rattle.std.specs.List.{slice_index_or, filter, range_with_len}
-use Rattle.yds_model.specs.Job.{Job}
 use Rattle.yds_model.specs.Piece.{Piece}
 use Rattle.yds_model.specs.Level.{Level, level_at}
 use Rattle.yds_model.specs.declared.limits.TheConstants.{MAX_JOBS, MAX_LEVEL_LENGTH, MAX_LEVEL_WORK}
-use Rattle.yds_plan.specs.Found.{Group, Found, group_at, group_of}
-use Rattle.yds_events.specs.Stretch.{no_stretch}
-use Rattle.yds_model.specs.Comparison.{stretch_at}
+use Rattle.yds_search.specs.Found.{Group, Found, group_at, group_of}
+use Rattle.yds_events.specs.Stretch.{no_stretch, nth_stretch}
 use Rattle.yds_plan.specs.Laid.{slows_after, level_of, levels_among, level_of_place, merged, together}
 
 -- what the first groups of a level have together
@@ -27,17 +25,17 @@ abbrev pub empty_levels : List Group → ℕ → List Level
 empty_levels groups n = map (empty_level groups n) (range_with_len 0 (levels_among groups n))
 
 -- the levels with the first jobs as members and the first stretches as pieces
-abbrev pub draft : List Job → Found → ℕ → ℕ → ℕ → Level
-draft jobs found j k level = record {
+abbrev pub draft : List Piece → Found → ℕ → ℕ → ℕ → Level
+draft timeline found j k level = record {
   work = together (λ group. group.work) found.groups level;
   length = together (λ group. group.length) found.groups level;
-  pieces = merged (map (stretch_at jobs)
+  pieces = merged (map (nth_stretch timeline)
       (filter (λ stretch. level_of_place found.groups (group_of found.group_of_stretch stretch) == level) (range_with_len 0 k)));
   members = filter (λ job. level_of_place found.groups (group_of found.group_of_job job) == level) (range_with_len 0 j);
 }
 
-abbrev pub drafts : List Job → Found → ℕ → ℕ → List Level
-drafts jobs found j k = map (draft jobs found j k) (range_with_len 0 (levels_among found.groups (length found.groups)))
+abbrev pub drafts : List Piece → Found → ℕ → ℕ → List Level
+drafts timeline found j k = map (draft timeline found j k) (range_with_len 0 (levels_among found.groups (length found.groups)))
 
 -- the piece begins where the last one ends
 abbrev pub touches_last : List Piece → Piece → Bool

@@ -7,34 +7,39 @@ use Rattle.yds_model.specs.Slot.{WrittenSlot}
 use Rattle.yds_model.specs.Piece.{Piece}
 use Rattle.yds_model.specs.Level.{Level}
 use Rattle.yds_model.specs.Event.{stretches}
-use Rattle.yds_plan.specs.Found.{Group, Portion, Found, group_at, per_time, per_work, group_of}
+use Rattle.yds_plan.specs.declared.layout_slots.Terms.{Terms}
+use Rattle.yds_search.specs.Found.{Group, Share, Found, group_at, per_time, per_work, group_of}
 use Rattle.yds_model.specs.Comparison.{stretch_at}
+
+-- a group's speed in lowest terms
+abbrev pub terms_of : Group → Terms
+terms_of group = record { per_time = per_time group; per_work = per_work group }
 
 -- the time at which so many units are done, from `start` on, where `per_time` of them fill a unit of time
 abbrev pub time_after : ℕ → ℕ → ℕ → Fraction
 time_after start done per_time = of_parts (start * per_time + done) per_time
 
--- the slot of a portion, in a stretch that begins at `start`, where `done` units are done before it
-abbrev pub slot_for : Group → ℕ → ℕ → Portion → WrittenSlot
-slot_for group start done portion = record {
-  job = portion.job;
-  from = time_after start done (per_time group);
-  to = time_after start (done + portion.units) (per_time group);
-  work = of_parts portion.units (per_work group);
+-- the slot of a share, in a stretch that begins at `start`, where `done` units are done before it
+abbrev pub slot_for : Terms → ℕ → ℕ → Share → WrittenSlot
+slot_for terms start done share = record {
+  job = share.job;
+  from = time_after start done terms.per_time;
+  to = time_after start (done + share.units) terms.per_time;
+  work = of_parts share.units terms.per_work;
 }
 
--- one portion after another, without a gap
-abbrev pub slots_from : Group → ℕ → ℕ → List Portion → List WrittenSlot
-slots_from group start done [] = []
-slots_from group start done (portion ∷ portions) = slot_for group start done portion ∷ slots_from group start (done + portion.units) portions
+-- one share after another, without a gap
+abbrev pub slots_from : Terms → ℕ → ℕ → List Share → List WrittenSlot
+slots_from terms start done [] = []
+slots_from terms start done (share ∷ shares) = slot_for terms start done share ∷ slots_from terms start (done + share.units) shares
 
--- the portions of a stretch, in the order in which they were found
-abbrev pub portions_in : List Portion → ℕ → List Portion
-portions_in portions k = filter (λ portion. portion.stretch == k) portions
+-- the shares of a stretch, in the order in which they were found
+abbrev pub shares_in : List Share → ℕ → List Share
+shares_in shares k = filter (λ share. share.stretch == k) shares
 
 abbrev pub slots_in_stretch : List Job → Found → ℕ → List WrittenSlot
 slots_in_stretch jobs found k =
-    slots_from (group_at found.groups (group_of found.group_of_stretch k)) (stretch_at jobs k).from 0 (portions_in found.portions k)
+    slots_from (terms_of (group_at found.groups (group_of found.group_of_stretch k))) (stretch_at jobs k).from 0 (shares_in found.shares k)
 
 -- The slots of a plan: each stretch is filled from its start.
 abbrev pub slots_of : List Job → Found → List WrittenSlot

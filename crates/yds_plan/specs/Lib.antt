@@ -1,14 +1,4 @@
-pub mod Found
-pub mod Views
 pub mod Laid
 pub mod Drafts
 pub mod Room
-pub mod Order
-pub mod Fill
-pub mod Closure
-pub mod Search
-pub mod Amounts
-pub mod Instance
-pub mod Numbers
-pub mod Beginning
-pub mod Waiting
+pub mod Sorted

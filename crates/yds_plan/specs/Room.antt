@@ -1,42 +1,20 @@
--- The portions of each stretch, as the program keeps them, and what a stretch needs so that its slots are within their limits.
-use Rattle.std.specs.Prelude.{◌≡◌, ℕ, ◌+◌, ◌*◌, ◌<◌, ◌≤◌, ◌⊎◌, List, length, sum_by, ◌==◌}
-use Rattle.std.specs.List.{All, filter, slice_index_or}
+-- What a stretch needs so that its slots are within their limits.
+use Rattle.std.specs.Prelude.{◌≡◌, ℕ, ◌+◌, ◌*◌, ◌<◌, ◌≤◌, ◌⊎◌, List, length, sum_by}
+use Rattle.std.specs.List.{All}
 use Rattle.yds_model.specs.declared.limits.TheConstants.{MAX_LEVEL_LENGTH, MAX_LEVEL_WORK, MAX_SLOTS, MAX_SLOT_WORK, MAX_TIME}
 use Rattle.yds_model.specs.Slot.{WrittenSlot}
 use Rattle.yds_model.specs.Audit.{grain_of}
-use Rattle.yds_plan.specs.declared.portion.Portion.{Portion as Struct}
 use Rattle.yds_plan.specs.declared.layout_slots.Terms.{Terms}
-use Rattle.yds_plan.specs.Found.{Group, Portion, group_at, per_time, per_work}
+use Rattle.yds_search.specs.Found.{Share}
 
-abbrev pub structs_in : List Struct → ℕ → List Struct
-structs_in portions k = filter (λ portion. portion.stretch == k) portions
-
--- A slot of so many units is within its limits, where `done` units of the stretch are done before it.
-pub record IsWithin (time_den work_den start done units : ℕ) : Type 0 where
-  pub some_time : 1 ≤ time_den
-  pub some_work : 1 ≤ work_den
-  pub time_in_range : time_den ≤ MAX_LEVEL_WORK
-  pub work_in_range : work_den ≤ MAX_LEVEL_LENGTH
-  pub ends : start * time_den + (done + units) ≤ MAX_TIME * time_den
-  pub work : units ≤ work_den * MAX_SLOT_WORK
-
--- The stretch can be filled with these portions: they fit into it, and each can stand after the slots before it.
-pub record CanFill (jobs : ℕ) (slots : List WrittenSlot) (group : Group) (start : ℕ) (portions : List Portion) : Type 0 where
-  pub some_work : 1 ≤ group.work
-  pub some_length : 1 ≤ group.length
-  pub work_in_range : group.work ≤ MAX_LEVEL_WORK
-  pub length_in_range : group.length ≤ MAX_LEVEL_LENGTH
-  pub room : start * per_time group + sum_by (λ portion. portion.units) portions ≤ MAX_TIME * per_time group
-  pub few : length slots + length portions ≤ MAX_SLOTS
-  pub known : All (λ portion. portion.job < jobs) portions
-  pub units : All (λ portion. portion.units ≤ per_work group * MAX_SLOT_WORK) portions
-  pub grains : All (λ portion. (grain_of slots portion.job ≡ 1) ⊎ (grain_of slots portion.job ≡ per_work group)) portions
-
-abbrev pub no_terms : Terms
-no_terms = record { per_time = 0; per_work = 0 }
-
--- the terms of the first n groups' speeds
-pub record AreTerms (groups : List Group) (n : ℕ) (terms : List Terms) : Type 0 where
-  pub count : length terms ≡ n
-  pub times : (i : ℕ) → i < n → (slice_index_or terms i no_terms).per_time ≡ per_time (group_at groups i)
-  pub works : (i : ℕ) → i < n → (slice_index_or terms i no_terms).per_work ≡ per_work (group_at groups i)
+-- The stretch can be filled with these shares: they fit into it, and each can stand after the slots before it.
+pub record CanFill (jobs : ℕ) (slots : List WrittenSlot) (terms : Terms) (start : ℕ) (shares : List Share) : Type 0 where
+  pub some_time : 1 ≤ terms.per_time
+  pub some_work : 1 ≤ terms.per_work
+  pub time_in_range : terms.per_time ≤ MAX_LEVEL_WORK
+  pub work_in_range : terms.per_work ≤ MAX_LEVEL_LENGTH
+  pub room : start * terms.per_time + sum_by (λ share. share.units) shares ≤ MAX_TIME * terms.per_time
+  pub few : length slots + length shares ≤ MAX_SLOTS
+  pub known : All (λ share. share.job < jobs) shares
+  pub units : All (λ share. share.units ≤ terms.per_work * MAX_SLOT_WORK) shares
+  pub grains : All (λ share. (grain_of slots share.job ≡ 1) ⊎ (grain_of slots share.job ≡ terms.per_work)) shares

@@ -1,14 +1,13 @@
 ghost use Rattle.std.specs.Prelude.{◌≡◌, ◌≤◌, length, IfOk};
 ghost use Rattle.std.specs.List.{All};
-ghost use Rattle.yds_model.specs.declared.limits.TheConstants.{MAX_JOBS, MAX_LEVELS, MAX_MEMBERS, MAX_PIECES};
+ghost use Rattle.yds_model.specs.declared.limits.TheConstants.{MAX_JOBS};
 ghost use Rattle.yds_model.specs.Job.{IsJob};
-ghost use Rattle.yds_model.specs.Level.{all_members, all_pieces};
 ghost use Rattle.yds_model.specs.Event.{stretches};
-ghost use Rattle.yds_plan.specs.Found.{IsFound};
-ghost use Rattle.yds_plan.specs.Views.{found_view};
+ghost use Rattle.yds_search.specs.Found.{IsFound};
+ghost use Rattle.yds_search.specs.Views.{found_view};
 ghost use Rattle.yds_plan.specs.Laid.{slots_of, levels_of};
+ghost use Rattle.yds_plan.specs.Drafts.{AreGroupsWithin, drafts};
 
-use crate::found::Found;
 use crate::layout_levels::levels_of_groups;
 use crate::layout_members::{add_members, add_pieces};
 use crate::layout_slots::schedule_of;
@@ -16,6 +15,7 @@ use std::alloc::Global;
 use yds_certificate::{Certificate, Level};
 use yds_events::Stretch;
 use yds_model::{JobRow, Memory};
+use yds_search::Found;
 use yds_slots::Schedule;
 
 /// A plan: a schedule of least work above every speed, and the certificate that shows it.
@@ -27,36 +27,16 @@ pub struct Planned {
     pub certificate: Certificate,
 }
 
-/// The levels as a certificate.
-fn certificate_of(alloc: Global, levels: Vec<Level>) -> Result<Certificate, Memory>
-    requires levels { length levels.items ≤ MAX_LEVELS }
-    requires pieces { length (all_pieces levels.items) ≤ MAX_PIECES }
-    requires members { length (all_members levels.items) ≤ MAX_MEMBERS }
-    ensures { IfOk result (λ certificate. certificate ≡ levels.items) }
-{
-    let mut certificate = Certificate::new(alloc);
-    for level in levels {
-        certificate.push(level)?;
-    }
-    Ok(certificate)
-}
-
 /// The levels of what was found.
-fn levels_of_found(
-    alloc: Global,
-    rows: &[JobRow],
-    timeline: &[Stretch],
-    found: &Found,
-) -> Result<Vec<Level>, Memory>
-    requires found { IsFound rows.now (found_view found.now) }
-    requires jobs { All IsJob rows.now }
-    requires few { length rows.now ≤ MAX_JOBS }
-    requires timeline { timeline.now ≡ stretches rows.now }
-    ensures { IfOk result (λ levels. levels.items ≡ levels_of rows.now (found_view found.now)) }
+fn levels_of_found(alloc: Global, timeline: &[Stretch], found: &Found) -> Result<Vec<Level>, Memory>
+    requires groups { AreGroupsWithin (found_view found.now).groups }
+    requires jobs { length found.now.group_of_job.items ≤ MAX_JOBS }
+    requires stretches { length found.now.group_of_stretch.items ≡ length timeline.now }
+    ensures { IfOk result (λ levels. levels.items ≡ drafts timeline.now (found_view found.now) (length found.now.group_of_job.items) (length timeline.now)) }
 {
     let (mut levels, numbers) = levels_of_groups(alloc, &found.groups)?;
-    add_members(rows, found, &numbers, &mut levels)?;
-    add_pieces(rows, timeline, found, &numbers, &mut levels)?;
+    add_members(found, &numbers, &mut levels)?;
+    add_pieces(timeline, found, &numbers, &mut levels)?;
     Ok(levels)
 }
 
@@ -75,10 +55,9 @@ pub(crate) fn lay_out(
     ensures certificate { IfOk result (λ planned. planned.certificate ≡ levels_of rows.now (found_view found.now)) }
 {
     let schedule = schedule_of(alloc, rows, timeline, found)?;
-    let levels = levels_of_found(alloc, rows, timeline, found)?;
-    let certificate = certificate_of(alloc, levels)?;
+    let levels = levels_of_found(alloc, timeline, found)?;
     Ok(Planned {
         schedule,
-        certificate,
+        certificate: Certificate::from_levels(levels),
     })
 }

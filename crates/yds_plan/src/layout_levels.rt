@@ -1,15 +1,15 @@
 ghost use Rattle.std.specs.Prelude.{◌≡◌, ◌+◌, ◌-◌, ◌*◌, ◌<◌, ◌≤◌, length, map, nat_lt, IfOk, IsTrue};
 ghost use Rattle.std.specs.List.{range_with_len};
 ghost use Rattle.yds_model.specs.Level.{level_at};
-ghost use Rattle.yds_plan.specs.Views.{group_view};
+ghost use Rattle.yds_search.specs.Views.{group_view};
 ghost use Rattle.yds_plan.specs.Laid.{level_of};
 ghost use Rattle.yds_plan.specs.Drafts.{joins_before, with_group, empty_levels, AreGroupsWithin};
 
-use crate::found::Group;
 use std::alloc::Global;
 use yds_certificate::Level;
 use yds_model::Memory;
 use yds_model::limits::{MAX_LEVEL_LENGTH, MAX_LEVEL_WORK};
+use yds_search::Group;
 
 /// Whether the next group is slower than the one before it.
 fn slows(before: &Group, next: &Group) -> bool
@@ -66,8 +66,8 @@ pub(crate) fn levels_of_groups(
     ensures levels { IfOk result (λ r. r.0.items ≡ empty_levels (map group_view groups.now) (length groups.now)) }
     ensures numbers { IfOk result (λ r. r.1.items ≡ map (level_of (map group_view groups.now)) (range_with_len 0 (length groups.now))) }
 {
-    let mut levels: Vec<Level> = Vec::new(alloc);
-    let mut numbers: Vec<u32> = Vec::new(alloc);
+    let mut levels: Vec<Level> = Vec::with_capacity(alloc, groups.len())?;
+    let mut numbers: Vec<u32> = Vec::with_capacity(alloc, groups.len())?;
     for (i, group) in groups.iter().enumerate() {
         add_group(alloc, &mut levels, joins(groups, i), group)?;
         numbers.push(levels.len() as u32 - 1)?;

@@ -1,18 +1,17 @@
-ghost use Rattle.std.specs.Prelude.{◌≡◌, ◌<◌, ◌≤◌, length, map, slice_set, IfOk, IsTrue};
+ghost use Rattle.std.specs.Prelude.{◌≡◌, ◌<◌, ◌≤◌, [], length, map, slice_set, IfOk, IsTrue};
 ghost use Rattle.std.specs.List.{All, range_with_len};
 ghost use Rattle.yds_model.specs.Level.{level_at};
-ghost use Rattle.yds_model.specs.Event.{stretches};
 ghost use Rattle.yds_model.specs.Within.{IsPiece};
 ghost use Rattle.yds_certificate.specs.Level.{with_member};
-ghost use Rattle.yds_plan.specs.Views.{found_view};
+ghost use Rattle.yds_search.specs.Views.{found_view};
 ghost use Rattle.yds_plan.specs.Laid.{level_of};
 ghost use Rattle.yds_plan.specs.Drafts.{drafts, touches_last, with_next, extended_level};
 
-use crate::found::Found;
 use yds_certificate::{Level, Piece};
 use yds_events::Stretch;
+use yds_model::Memory;
 use yds_model::limits::MAX_JOBS;
-use yds_model::{JobRow, Memory};
+use yds_search::Found;
 
 /// The job stands last among the members of the level.
 fn add_member(levels: &mut Vec<Level>, number: usize, job: u32) -> Result<(), Memory>
@@ -63,16 +62,14 @@ fn add_piece(levels: &mut Vec<Level>, number: usize, piece: Piece) -> Result<(),
 
 /// Each job of a group becomes a member of the group's level.
 pub(crate) fn add_members(
-    rows: &[JobRow],
     found: &Found,
     numbers: &[u32],
     levels: &mut Vec<Level>,
 ) -> Result<(), Memory>
     requires numbers { numbers.now ≡ map (level_of (found_view found.now).groups) (range_with_len 0 (length (found_view found.now).groups)) }
-    requires jobs { length found.now.group_of_job.items ≡ length rows.now }
-    requires few { length rows.now ≤ MAX_JOBS }
-    requires levels { levels.old.items ≡ drafts rows.now (found_view found.now) 0 0 }
-    ensures { IfOk result (λ _. levels.new.items ≡ drafts rows.now (found_view found.now) (length rows.now) 0) }
+    requires few { length found.now.group_of_job.items ≤ MAX_JOBS }
+    requires levels { levels.old.items ≡ drafts [] (found_view found.now) 0 0 }
+    ensures { IfOk result (λ _. levels.new.items ≡ drafts [] (found_view found.now) (length found.now.group_of_job.items) 0) }
 {
     for (job, place) in found.group_of_job.iter().enumerate() {
         if let Some(number) = numbers.get(*place as usize) {
@@ -84,17 +81,15 @@ pub(crate) fn add_members(
 
 /// Each stretch of a group becomes a piece of the group's level, or a part of one.
 pub(crate) fn add_pieces(
-    rows: &[JobRow],
     timeline: &[Stretch],
     found: &Found,
     numbers: &[u32],
     levels: &mut Vec<Level>,
 ) -> Result<(), Memory>
     requires numbers { numbers.now ≡ map (level_of (found_view found.now).groups) (range_with_len 0 (length (found_view found.now).groups)) }
-    requires timeline { timeline.now ≡ stretches rows.now }
-    requires stretches { length found.now.group_of_stretch.items ≡ length (stretches rows.now) }
-    requires levels { levels.old.items ≡ drafts rows.now (found_view found.now) (length rows.now) 0 }
-    ensures { IfOk result (λ _. levels.new.items ≡ drafts rows.now (found_view found.now) (length rows.now) (length (stretches rows.now))) }
+    requires stretches { length found.now.group_of_stretch.items ≡ length timeline.now }
+    requires levels { levels.old.items ≡ drafts timeline.now (found_view found.now) (length found.now.group_of_job.items) 0 }
+    ensures { IfOk result (λ _. levels.new.items ≡ drafts timeline.now (found_view found.now) (length found.now.group_of_job.items) (length timeline.now)) }
 {
     for (stretch, place) in found.group_of_stretch.iter().enumerate() {
         if let Some(number) = numbers.get(*place as usize) {

@@ -1,49 +1,21 @@
-ghost use Rattle.std.specs.Prelude.{◌≡◌, ℕ, ◌+◌, ◌*◌, ◌<◌, ◌≤◌, ◌++◌, [], length, map, IfOk};
-ghost use Rattle.std.specs.List.{All, range_with_len};
+ghost use Rattle.std.specs.Prelude.{◌≡◌, ℕ, ◌+◌, ◌*◌, ◌<◌, ◌≤◌, ◌++◌, length, map, IfOk};
+ghost use Rattle.std.specs.List.{All};
 ghost use Rattle.yds_model.specs.declared.limits.TheConstants.{MAX_DENOMINATOR, MAX_JOBS, MAX_TIME};
 ghost use Rattle.yds_model.specs.Job.{IsJob};
 ghost use Rattle.yds_model.specs.Event.{stretches};
-ghost use Rattle.yds_model.specs.Scale.{of_parts};
-ghost use Rattle.yds_model.specs.Within.{IsFraction, IsSlot};
-ghost use Rattle.yds_plan.specs.Found.{IsFound, group_at, per_time, per_work};
-ghost use Rattle.yds_plan.specs.Views.{portions_view, group_view, found_view};
-ghost use Rattle.yds_plan.specs.Laid.{time_after, slots_from, slots_of};
-ghost use Rattle.yds_plan.specs.Room.{structs_in, IsWithin, CanFill, AreTerms};
+ghost use Rattle.yds_model.specs.Within.{IsFraction};
+ghost use Rattle.yds_search.specs.Found.{IsFound, group_at};
+ghost use Rattle.yds_search.specs.Views.{shares_view, group_view, found_view};
+ghost use Rattle.yds_plan.specs.Laid.{terms_of, time_after, slots_from, slots_of};
+ghost use Rattle.yds_plan.specs.Room.{CanFill};
 
-use crate::found::{Found, Group};
-use crate::portion::Portion;
+use crate::layout_shares::sort_shares;
 use std::alloc::Global;
 use yds_events::Stretch;
 use yds_fraction::{Amount, Moment, gcd};
 use yds_model::{JobRow, Memory};
+use yds_search::{Found, Group, Share};
 use yds_slots::{Schedule, Slot};
-
-/// So many empty lists.
-fn empty_lists(alloc: Global, count: usize) -> Result<Vec<Vec<Portion>>, Memory>
-    ensures { IfOk result (λ lists. map (λ list. list.items) lists.items ≡ map (structs_in []) (range_with_len 0 count)) }
-{
-    let mut lists: Vec<Vec<Portion>> = Vec::new(alloc);
-    for _ in 0..count {
-        lists.push(Vec::new(alloc))?;
-    }
-    Ok(lists)
-}
-
-/// The portions of each stretch, in the order in which they were found.
-pub(crate) fn portions_by_stretch(
-    alloc: Global,
-    portions: &[Portion],
-    stretches: usize,
-) -> Result<Vec<Vec<Portion>>, Memory>
-    requires { All (λ portion. portion.stretch < stretches) portions.now }
-    ensures { IfOk result (λ lists. map (λ list. list.items) lists.items ≡ map (structs_in portions.now) (range_with_len 0 stretches)) }
-{
-    let mut lists = empty_lists(alloc, stretches)?;
-    for portion in portions {
-        lists[portion.stretch as usize].push(*portion)?;
-    }
-    Ok(lists)
-}
 
 /// The time at which so many units are done, from `start` on, where `per_time` of them fill a unit of time.
 fn time_after(start: u32, done: u64, per_time: u64) -> Moment
@@ -53,23 +25,25 @@ fn time_after(start: u32, done: u64, per_time: u64) -> Moment
     ensures value { result ≡ time_after start done per_time }
     ensures kept { IsFraction MAX_TIME result }
 {
-    let start = u128::from(start) * u128::from(per_time);
-    Moment::of_parts(start + u128::from(done), per_time)
+    Moment::new(
+        u64::from(start) + done / per_time,
+        done % per_time,
+        per_time,
+    )
 }
 
 /// A speed in lowest terms: `per_time` units fill a unit of time, and `per_work` of them are a unit of work.
 #[derive(Clone, Copy, Debug, PartialEq, Eq)]
-struct Terms {
-    per_time: u64,
-    per_work: u64,
+pub(crate) struct Terms {
+    pub per_time: u64,
+    pub per_work: u64,
 }
 
 /// The terms of the group's speed.
 fn terms_of(group: &Group) -> Terms
     requires some_work { 1 ≤ group.now.work }
     requires some_length { 1 ≤ group.now.length }
-    ensures per_time { result.per_time ≡ per_time (group_view group.now) }
-    ensures per_work { result.per_work ≡ per_work (group_view group.now) }
+    ensures { result ≡ terms_of (group_view group.now) }
 {
     let divisor = gcd(group.work, group.length);
     Terms {
@@ -81,7 +55,7 @@ fn terms_of(group: &Group) -> Terms
 /// The terms of each group's speed.
 fn terms_of_groups(alloc: Global, groups: &[Group]) -> Result<Vec<Terms>, Memory>
     requires { (i : ℕ) → i < length groups.now → (1 ≤ (group_at (map group_view groups.now) i).work) × (1 ≤ (group_at (map group_view groups.now) i).length) }
-    ensures { IfOk result (λ terms. AreTerms (map group_view groups.now) (length groups.now) terms.items) }
+    ensures { IfOk result (λ terms. terms.items ≡ map (λ group. terms_of (group_view group)) groups.now) }
 {
     let mut terms: Vec<Terms> = Vec::with_capacity(alloc, groups.len())?;
     for group in groups {
@@ -90,44 +64,32 @@ fn terms_of_groups(alloc: Global, groups: &[Group]) -> Result<Vec<Terms>, Memory
     Ok(terms)
 }
 
-/// The slot of a portion, in a stretch from `start` on, where `done` units are done before it.
-fn slot_of(portion: &Portion, start: u32, done: u64, terms: Terms) -> Slot
-    requires { IsWithin terms.per_time terms.per_work start done portion.now.units }
-    ensures job { result.job ≡ portion.now.job }
-    ensures from { result.from ≡ time_after start done terms.per_time }
-    ensures to { result.to ≡ time_after start (done + portion.now.units) terms.per_time }
-    ensures work { result.work ≡ of_parts portion.now.units terms.per_work }
-    ensures kept { IsSlot result }
-{
-    Slot {
-        job: portion.job,
-        from: time_after(start, done, terms.per_time),
-        to: time_after(start, done + portion.units, terms.per_time),
-        work: Amount::of_parts(u128::from(portion.units), terms.per_work),
-    }
-}
-
-/// Fills a stretch, from its start on, with these portions at the group's speed. `_group` is named for the
-/// contract alone.
+/// Fills a stretch, from its start on, with these shares at a speed of these terms.
 fn fill_stretch(
     schedule: &mut Schedule,
-    _group: &Group,
     terms: Terms,
     start: u32,
-    portions: &[Portion],
+    shares: &[Share],
 ) -> Result<(), Memory>
-    requires per_time { terms.per_time ≡ per_time (group_view _group.now) }
-    requires per_work { terms.per_work ≡ per_work (group_view _group.now) }
-    requires fits { CanFill schedule.old.jobs schedule.old.slots (group_view _group.now) start (portions_view portions.now) }
+    requires { CanFill schedule.old.jobs schedule.old.slots terms start (shares_view shares.now) }
     ensures { IfOk result (λ _. schedule.new ≡ record {
       jobs = schedule.old.jobs;
-      slots = schedule.old.slots ++ slots_from (group_view _group.now) start 0 (portions_view portions.now);
+      slots = schedule.old.slots ++ slots_from terms start 0 (shares_view shares.now);
     }) }
 {
     let mut done: u64 = 0;
-    for portion in portions {
-        schedule.push(slot_of(portion, start, done, terms))?;
-        done += portion.units;
+    let mut from = Moment::from_whole(u64::from(start));
+    for share in shares {
+        done += share.units;
+        let to = time_after(start, done, terms.per_time);
+        let slot = Slot {
+            job: share.job,
+            from,
+            to,
+            work: Amount::of_parts(u128::from(share.units), terms.per_work),
+        };
+        schedule.push(slot)?;
+        from = to;
     }
     Ok(())
 }
@@ -145,14 +107,14 @@ pub(crate) fn schedule_of(
     requires timeline { timeline.now ≡ stretches rows.now }
     ensures { IfOk result (λ schedule. schedule ≡ record { jobs = length rows.now; slots = slots_of rows.now (found_view found.now) }) }
 {
-    let portions = portions_by_stretch(alloc, &found.portions, found.group_of_stretch.len())?;
+    let sorted = sort_shares(alloc, &found.shares, timeline.len())?;
     let terms = terms_of_groups(alloc, &found.groups)?;
-    let mut schedule = Schedule::new(alloc, rows.len() as u32)?;
+    let mut schedule = Schedule::with_capacity(alloc, rows.len() as u32, found.shares.len())?;
     for (stretch, place) in found.group_of_stretch.iter().enumerate() {
-        if let Some(group) = found.groups.get(*place as usize) {
-            let speed = terms[*place as usize];
+        if let Some(speed) = terms.get(*place as usize) {
             let own = timeline[stretch];
-            fill_stretch(&mut schedule, group, speed, own.from, &portions[stretch])?;
+            let shares = sorted.of_stretch(stretch);
+            fill_stretch(&mut schedule, *speed, own.from, shares)?;
         }
     }
     Ok(schedule)

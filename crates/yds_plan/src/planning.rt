@@ -4,11 +4,11 @@ ghost use Rattle.yds_model.specs.declared.limits.TheConstants.{MAX_JOBS};
 ghost use Rattle.yds_model.specs.Job.{IsJob};
 ghost use Rattle.yds_model.specs.Plan.{IsPlan};
 
-use crate::finder::find;
 use crate::layout::{Planned, lay_out};
 use std::alloc::Global;
 use yds_events::stretches;
 use yds_model::{JobRow, Memory};
+use yds_search::find;
 
 /// Shows that each row is a job within the limits, which is what a row keeps: reading it shows so.
 fn read_rows(rows: &[JobRow])

@@ -14,7 +14,7 @@ use crate::numbers::{first_release, idle_time, last_deadline, speed_of, total_wo
 use serde_json::Value;
 use std::alloc::Global;
 use yds_certificate::Level;
-use yds_document::Document;
+use yds_document::{Document, LineBuffer};
 use yds_model::{JobRow, Memory};
 use yds_plan::Planned;
 
@@ -67,7 +67,8 @@ fn value_of_level(alloc: Global, level: &Level) -> Result<Value, Memory>
 {
     // Reading a field shows that the level is within its limits.
     let (length, work) = (level.length, level.work);
-    let speed = speed_of(level).to_string(alloc)?;
-    let value = serde_json::json!(in alloc; {"length": length, "speed": speed, "work": work})?;
+    let speed = LineBuffer::new("").mixed(speed_of(level));
+    let value =
+        serde_json::json!(in alloc; {"length": length, "speed": speed.as_str(), "work": work})?;
     Ok(value)
 }

@@ -29,16 +29,16 @@ pub(crate) fn jobs_line(rows: &[JobRow]) -> LineBuffer
         .end()
 }
 
-/// A level's number, its work, its length and its speed, one column each.
-pub(crate) fn level_line(number: u64, level: &Level) -> LineBuffer
-    ensures { result ≡ level_row (number, level.now) }
+/// Makes the line of a level: its number, its work, its length and its speed, one column each.
+pub(crate) fn put_level(line: &mut LineBuffer, number: u64, level: &Level)
+    ensures { line.new ≡ level_row (number, level.now) }
 {
-    LineBuffer::new("")
-        .right(5, number)
-        .column(10, level.work)
-        .column(10, level.length)
-        .fraction(speed_of(level))
-        .end()
+    line.restart("");
+    line.push_right(5, number);
+    line.push_column(10, level.work);
+    line.push_column(10, level.length);
+    line.push_fraction(speed_of(level));
+    line.push_end();
 }
 
 /// The time in which nothing runs.

@@ -3,9 +3,9 @@ ghost use Rattle.std.specs.List.{flat_map, enumerate_from};
 ghost use Rattle.yds_model.specs.ReportAnswer.{level_row, report_text};
 ghost use Rattle.yds_port.specs.Sink.{Puts};
 
-use crate::report_lines::{idle_line, jobs_line, level_line};
+use crate::report_lines::{idle_line, jobs_line, put_level};
 use yds_certificate::Level;
-use yds_document::Document;
+use yds_document::{Document, LineBuffer};
 use yds_plan::Planned;
 use yds_port::{Sink, WriteFault, write_all};
 
@@ -33,8 +33,10 @@ pub fn report<K: Sink>(
 fn write_levels<K: Sink>(levels: &[Level], sink: &mut K) -> Result<(), WriteFault>
     ensures { Puts K.written K.flushed K.flushes K.faults result (flat_map level_row (enumerate_from 1 levels.now)) sink.old sink.new }
 {
+    let mut line = LineBuffer::new("");
     for (place, level) in levels.iter().enumerate() {
-        write_all(sink, level_line(place as u64 + 1, level).as_bytes())?;
+        put_level(&mut line, place as u64 + 1, level);
+        write_all(sink, line.as_bytes())?;
     }
     Ok(())
 }

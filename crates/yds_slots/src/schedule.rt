@@ -57,8 +57,15 @@ impl Schedule {
     pub fn new(alloc: Global, jobs: u32) -> Result<Schedule, Memory>
         ensures { IfOk result (λ schedule. schedule ≡ record { jobs = jobs; slots = [] }) }
     {
+        Schedule::with_capacity(alloc, jobs, 0)
+    }
+
+    /// No slots, of so many jobs, with room for so many slots.
+    pub fn with_capacity(alloc: Global, jobs: u32, slots: usize) -> Result<Schedule, Memory>
+        ensures { IfOk result (λ schedule. schedule ≡ record { jobs = jobs; slots = [] }) }
+    {
         let mut schedule = Schedule {
-            slots: Vec::new(alloc),
+            slots: Vec::with_capacity(alloc, slots)?,
             received: Vec::new(alloc),
         };
         schedule.widen(jobs)?;
@@ -76,7 +83,7 @@ impl Schedule {
         ensures stable { IfOk result (λ schedule. IsStableByKey (λ slot. slot.from) fraction_cmp slots.items schedule.slots) }
     {
         let rising = by_start(slots)?;
-        let mut schedule = Schedule::new(alloc, jobs)?;
+        let mut schedule = Schedule::with_capacity(alloc, jobs, rising.len())?;
         for slot in &rising {
             schedule.push(*slot)?;
         }

@@ -1,13 +1,12 @@
-use Rattle.std.proofs.Common.{◌≡◌, ℕ, ◌+◌, ◌*◌, ◌<◌, ◌≤◌, ◌++◌, List, [], length, slice_index, Some, ◌∙◌, sym, subst, ap, arith, refl, cond, Bool, add-one}
+use Rattle.std.proofs.Common.{◌≡◌, ℕ, ◌+◌, ◌<◌, ◌++◌, List, [], length, ◌∙◌, sym, subst, ap, arith, refl, Bool}
 use Rattle.yds_model.specs.Job.{Job}
 use Rattle.yds_model.specs.Slot.{WrittenSlot}
 use Rattle.yds_model.specs.Piece.{Piece}
 use Rattle.yds_model.specs.Event.{stretches}
-use Rattle.yds_model.specs.Comparison.{stretch_at}
 use Rattle.yds_events.proofs.Neighbours.{few_stretches, stretch_read}
 use Rattle.yds_slots.specs.Schedule.{WrittenSchedule}
-use Rattle.yds_edf.specs.Queue.{JobQueue, pending_in}
-use Rattle.yds_edf.proofs.Running.{Running, begun, can_follow, stepped, few_rounded, all_run, one_or_none, one_at_most}
+use Rattle.yds_edf.specs.Queue.{JobQueue, new_queue, IsNoEarlier, pending_in}
+use Rattle.yds_edf.proofs.Running.{seen_none, seen_told, seen_next, begun, can_follow, stepped, few_rounded, all_run, one_or_none, one_at_most}
 use Rattle.yds_edf.proofs.policy_run.run_policy.Goals as goal
 
 pub loop-number-init : goal.loop-number-init
@@ -16,7 +15,7 @@ loop-number-init g c = record {
   running = rw (c.in_ok-queue.ensures, c.in_ok-schedule.ensures, c.from.ensures) (begun c.args.rows.now c.args.grid (g.P.Policy.units c.args.policy.now c.args.rows.now c.args.grid));
   jobs = ap (λ (schedule : WrittenSchedule). schedule.jobs) c.in_ok-schedule.ensures;
   counted = refl;
-  keeps = c.requires.keeps;
+  seen = rw (c.in_ok-queue.ensures, c.from.ensures, c.new-shares.ensures.items) (seen_none (λ (before : JobQueue). g.P.Policy.keeps c.args.policy.now before 0) (new_queue c.args.rows.now c.args.grid) c.requires.keeps);
   units_stay = refl;
   rounds_stay = refl;
   timeline = c.deref-stretch-items.ensures.value ∙ c.in_ok-stretches.ensures;
@@ -31,37 +30,46 @@ overflow_cast-number g c = omega (
   c.requires.few,
 )
 
+pub set-setting-requires-clause-told : goal.set-setting-requires-clause-told
+set-setting-requires-clause-told g c =
+    let here : c.loop-number.number < length (stretches c.args.rows.now) =
+    omega (arith, c.loop-number-test.true, ap (λ (pieces : List Piece). length pieces) c.loop-number.invariant.timeline) in
+    let is = stretch_read c.args.rows.now c.deref-stretch-items.result.now c.loop-number.number c.stretch-item.result _ c.loop-number.invariant.timeline here c.stretch-item.is c.stretch.view_is in
+    rw (c.deref.ensures.value)
+    (seen_told (λ (before : JobQueue). g.P.Policy.keeps c.loop-number.policy before c.loop-number.number) c.loop-number.queue c.arrive.new.self _ _ c.loop-number.invariant.seen
+    (subst (λ (piece : Piece). IsNoEarlier c.loop-number.queue.time piece.from) (sym is) (c.loop-number.invariant.running.time here)) c.arrive.ensures)
+
 pub append-requires-clause-known : goal.append-requires-clause-known
 append-requires-clause-known g c =
     let here : c.loop-number.number < length (stretches c.args.rows.now) =
     omega (arith, c.loop-number-test.true, ap (λ (pieces : List Piece). length pieces) c.loop-number.invariant.timeline) in
-    rw (c.deref.ensures.value, c.loop-number.invariant.jobs)
+    rw (c.deref-in-loop-number.ensures.value, c.loop-number.invariant.jobs)
     (can_follow c.args.rows.now c.args.grid (g.P.Policy.units c.args.policy.now) c.requires.some_grid c.loop-number.number here _ _ _ _ _ c.loop-number.invariant.running _
     (stretch_read c.args.rows.now c.deref-stretch-items.result.now c.loop-number.number c.stretch-item.result _ c.loop-number.invariant.timeline here c.stretch-item.is c.stretch.view_is)
     c.arrive.ensures _ (c.set-setting.ensures.units ∙ ap (λ (tells : List Job → ℕ → (ℕ → ℕ) → Piece → ℕ). tells c.arrive.new.self.jobs c.arrive.new.self.grain (pending_in c.arrive.new.self)
-    (record { from = c.stretch.inside.from; to = c.stretch.inside.to })) c.loop-number.invariant.units_stay) _ c.in_ok-slots.ensures).known
+    (record { from = c.stretch.inside.from; to = c.stretch.inside.to })) c.loop-number.invariant.units_stay) _ c.in_ok-slots.ensures.laid).known
 
 pub append-requires-clause-grain : goal.append-requires-clause-grain
 append-requires-clause-grain g c =
     let here : c.loop-number.number < length (stretches c.args.rows.now) =
     omega (arith, c.loop-number-test.true, ap (λ (pieces : List Piece). length pieces) c.loop-number.invariant.timeline) in
-    rw (c.deref.ensures.value) (
+    rw (c.deref-in-loop-number.ensures.value) (
       c.args.grid,
       (can_follow c.args.rows.now c.args.grid (g.P.Policy.units c.args.policy.now) c.requires.some_grid c.loop-number.number here _ _ _ _ _ c.loop-number.invariant.running _
           (stretch_read c.args.rows.now c.deref-stretch-items.result.now c.loop-number.number c.stretch-item.result _ c.loop-number.invariant.timeline here c.stretch-item.is c.stretch.view_is)
           c.arrive.ensures _ (c.set-setting.ensures.units ∙ ap (λ (tells : List Job → ℕ → (ℕ → ℕ) → Piece → ℕ). tells c.arrive.new.self.jobs c.arrive.new.self.grain (pending_in c.arrive.new.self)
-          (record { from = c.stretch.inside.from; to = c.stretch.inside.to })) c.loop-number.invariant.units_stay) _ c.in_ok-slots.ensures).over,
+          (record { from = c.stretch.inside.from; to = c.stretch.inside.to })) c.loop-number.invariant.units_stay) _ c.in_ok-slots.ensures.laid).over,
     )
 
 pub append-requires-clause-room : goal.append-requires-clause-room
 append-requires-clause-room g c =
     let here : c.loop-number.number < length (stretches c.args.rows.now) =
     omega (arith, c.loop-number-test.true, ap (λ (pieces : List Piece). length pieces) c.loop-number.invariant.timeline) in
-    rw (c.deref.ensures.value)
+    rw (c.deref-in-loop-number.ensures.value)
     (let few = (can_follow c.args.rows.now c.args.grid (g.P.Policy.units c.args.policy.now) c.requires.some_grid c.loop-number.number here _ _ _ _ _ c.loop-number.invariant.running _
     (stretch_read c.args.rows.now c.deref-stretch-items.result.now c.loop-number.number c.stretch-item.result _ c.loop-number.invariant.timeline here c.stretch-item.is c.stretch.view_is)
     c.arrive.ensures _ (c.set-setting.ensures.units ∙ ap (λ (tells : List Job → ℕ → (ℕ → ℕ) → Piece → ℕ). tells c.arrive.new.self.jobs c.arrive.new.self.grain (pending_in c.arrive.new.self)
-    (record { from = c.stretch.inside.from; to = c.stretch.inside.to })) c.loop-number.invariant.units_stay) _ c.in_ok-slots.ensures).few in
+    (record { from = c.stretch.inside.from; to = c.stretch.inside.to })) c.loop-number.invariant.units_stay) _ c.in_ok-slots.ensures.laid).few in
     omega (arith, few, here, few_stretches c.args.rows.now, c.requires.few))
 
 pub overflow_add-rounded : goal.overflow_add-rounded
@@ -88,16 +96,16 @@ loop-number-preserved g c =
     (stretch_read c.args.rows.now c.deref-stretch-items.result.now c.loop-number.number c.stretch-item.result _ c.loop-number.invariant.timeline here c.stretch-item.is c.stretch.view_is)
     c.arrive.ensures _ (c.set-setting.ensures.units ∙ ap (λ (tells : List Job → ℕ → (ℕ → ℕ) → Piece → ℕ). tells c.arrive.new.self.jobs c.arrive.new.self.grain (pending_in c.arrive.new.self)
     (record { from = c.stretch.inside.from; to = c.stretch.inside.to })) c.loop-number.invariant.units_stay) _ (c.set-setting.ensures.rounds ∙ ap (λ (tells : List Job → ℕ → (ℕ → ℕ) → Piece → Bool). tells c.arrive.new.self.jobs c.arrive.new.self.grain (pending_in c.arrive.new.self)
-    (record { from = c.stretch.inside.from; to = c.stretch.inside.to })) c.loop-number.invariant.rounds_stay) _ c.in_ok-slots.ensures
-    (ap (λ (schedule : WrittenSchedule). schedule.slots) c.in_ok-append.ensures ∙ ap (λ (more : List WrittenSlot). c.loop-number.schedule.slots ++ more) c.deref.ensures.value)
+    (record { from = c.stretch.inside.from; to = c.stretch.inside.to })) c.loop-number.invariant.rounds_stay) _ c.in_ok-slots.ensures.laid
+    (ap (λ (schedule : WrittenSchedule). schedule.slots) c.in_ok-append.ensures ∙ ap (λ (more : List WrittenSlot). c.loop-number.schedule.slots ++ more) c.deref-in-loop-number.ensures.value)
     _ c.loop-number.invariant.counted in
     record {
       shares = next.0;
       running = next.1;
       jobs = ap (λ (schedule : WrittenSchedule). schedule.jobs) c.in_ok-append.ensures ∙ c.loop-number.invariant.jobs;
       counted = omega (arith, next.2, c.from-rounded.ensures, one_or_none c.set-setting.result.rounds);
-      keeps = subst (λ (jobs : List Job). g.P.Policy.keeps c.set-setting.new.self jobs (c.loop-number.number + 1))
-          (ap (λ (queue : JobQueue). queue.jobs) c.arrive.ensures ∙ c.loop-number.invariant.running.same_jobs) c.set-setting.ensures.keeps;
+      seen = seen_next (λ (before : JobQueue). g.P.Policy.keeps c.set-setting.new.self before (c.loop-number.number + 1)) c.arrive.new.self _ c.loop-number.number _ _
+          c.set-setting.ensures.keeps c.in_ok-slots.ensures.serves;
       units_stay = c.set-setting.ensures.units_stay ∙ c.loop-number.invariant.units_stay;
       rounds_stay = c.set-setting.ensures.rounds_stay ∙ c.loop-number.invariant.rounds_stay;
       timeline = c.loop-number.invariant.timeline;

@@ -11,8 +11,8 @@ pub loop-number-preserved : goal.loop-number-preserved
 loop-number-preserved c =
     let row = c.row.view_is ∙ get_or_read c.args.rows.now c.loop-number.number c.index-rows-number.result c.loop-number-test.true c.index-rows-number.is no_job in
     c.in_ok-push.ensures.items
-    ∙ ap (λ (dues : List Due). dues ++ record { release = c.row.inside.release; deadline = c.row.inside.deadline; job = c.loop-number.number; work = c.row.inside.work } ∷ []) c.loop-number.invariant
-    ∙ ap (λ (job : Job). map (due_job c.args.rows.now) (range_with_len 0 c.loop-number.number) ++ record { release = job.release; deadline = job.deadline; job = c.loop-number.number; work = job.work } ∷ []) row
+    ∙ ap (λ (dues : List Due). dues ++ record { release = c.row.inside.release; deadline = c.row.inside.deadline; job = c.loop-number.number } ∷ []) c.loop-number.invariant
+    ∙ ap (λ (job : Job). map (due_job c.args.rows.now) (range_with_len 0 c.loop-number.number) ++ record { release = job.release; deadline = job.deadline; job = c.loop-number.number } ∷ []) row
     ∙ sym (map-range_with_len_more (due_job c.args.rows.now) 0 c.loop-number.number c.loop-number.number (omega arith))
 
 pub returns : goal.returns

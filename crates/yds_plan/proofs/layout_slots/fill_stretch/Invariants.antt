@@ -1,7 +1,6 @@
 use Rattle.std.proofs.Common.{take}
-use Rattle.yds_plan.specs.Views.{group_view}
 use Rattle.yds_plan.proofs.Fitting.{IsFilled}
 use Rattle.yds_plan.proofs.layout_slots.fill_stretch.Given as goal
 
-abbrev pub invariant-loop-portion : goal.invariant-loop-portion
-invariant-loop-portion l = IsFilled l.fn.schedule (group_view l._group) l.start (take l.portion-index l.portions) l.done l.schedule
+abbrev pub invariant-loop-share : goal.invariant-loop-share
+invariant-loop-share l = IsFilled l.fn.schedule l.terms l.start (take l.share-index l.shares) l.done l.from l.schedule

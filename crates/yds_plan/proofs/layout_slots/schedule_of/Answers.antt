@@ -1,122 +1,111 @@
-use Rattle.std.proofs.Common.{ℕ, ◌≡◌, ◌<◌, ◌∙◌, List, map, sym, ap, subst, arith, length, get_or}
-use Rattle.std.proofs.lemmas.List.{length-map, get_or-map, get_or_default}
+use Rattle.std.proofs.Common.{◌≡◌, ◌<◌, ◌∙◌, length, map, ap, arith, get_or}
+use Rattle.std.proofs.lemmas.List.{length-map, get_or-map}
 use Rattle.yds_model.specs.Piece.{Piece}
 use Rattle.yds_model.specs.Event.{stretches}
-use Rattle.yds_plan.specs.declared.found.Group.{Group as GroupStruct}
-use Rattle.yds_plan.specs.declared.layout_slots.Terms.{Terms}
-use Rattle.yds_plan.specs.Room.{AreTerms, no_terms}
-use Rattle.yds_plan.specs.Found.{Group, group_at, per_time, per_work, no_portion}
-use Rattle.yds_plan.specs.Views.{found_view, portions_view, group_view, portion_view}
-use Rattle.yds_events.proofs.Neighbours.{stretch_read}
-use Rattle.yds_plan.proofs.Numbers.{still_within}
-use Rattle.yds_plan.proofs.Buckets.{vectors_count}
-use Rattle.yds_plan.proofs.Laying.{group_read, portions_read, can_fill_next, laid_next, laid_skip}
+use Rattle.yds_search.specs.Found.{no_share, group_at}
+use Rattle.yds_search.specs.Views.{found_view, share_view, group_view}
+use Rattle.yds_events.proofs.Neighbours.{few_stretches, stretch_read}
+use Rattle.yds_plan.specs.Laid.{terms_of}
+use Rattle.yds_plan.proofs.Laying.{terms_read, shares_read, can_fill_next, laid_next, laid_skip}
 use Rattle.yds_plan.proofs.layout_slots.schedule_of.Goals as goal
-use Rattle.yds_plan.proofs.layout_slots.schedule_of.Goals.{In-loop-stretch, in-Some+in_ok-fill_stretch, in_default}
+use Rattle.yds_plan.proofs.layout_slots.schedule_of.Goals.{In-loop-stretch, In-Some, in-Some+in_ok-fill_stretch, in_default}
 
-pub portions_by_stretch-requires : goal.portions_by_stretch-requires
-portions_by_stretch-requires c = λ k d within.
-    let items = c.args.found.now.portions.items in
+pub sort_shares-requires-clause-known : goal.sort_shares-requires-clause-known
+sort_shares-requires-clause-known c = λ k d within.
+    let items = c.args.found.now.shares.items in
     let inside : k < length items = omega (arith, within, ap length c.deref.ensures.value) in
-    let known = (c.requires.found.portions k no_portion (omega (arith, inside, length-map items portion_view))).known_stretch in
+    let known = (c.requires.found.shares k no_share (omega (arith, inside, length-map items share_view))).known_stretch in
     omega (
       arith,
-      c.len.ensures,
-      c.requires.found.all_stretches,
+      ap length c.requires.timeline,
       known,
-      ap (λ portion. portion.stretch) (get_or-map portion_view items k d no_portion inside),
+      ap (λ share. share.stretch) (get_or-map share_view items k d no_share inside),
       ap (λ some. (get_or some k d).stretch) c.deref.ensures.value,
     )
 
-inside : (c : In-loop-stretch) → c.loop-stretch.stretch < length (stretches c.args.rows.now)
-inside c =
-    still_within _ _ c.loop-stretch.stretch (length (stretches c.args.rows.now)) c.deref-place-items.ensures.value c.requires.found.all_stretches c.loop-stretch-test.true
-
-counted : (c : In-loop-stretch) → c.loop-stretch.stretch < c.len.result
-counted c = omega (arith, inside c, c.len.ensures, c.requires.found.all_stretches)
-
-pub bounds-timeline-stretch : goal.bounds-timeline-stretch
-bounds-timeline-stretch c =
-    let here = (goal.at.bounds-timeline-stretch c).In-loop-stretch in
-    omega (arith, inside here, ap length c.requires.timeline)
-
-pub index-requires : goal.index-requires
-index-requires c =
+pub sort_shares-requires-clause-few : goal.sort_shares-requires-clause-few
+sort_shares-requires-clause-few c =
     omega (
       arith,
-      counted (goal.at.index-requires c).In-loop-stretch,
-      vectors_count (λ list. list.items) c.deref.result.now c.len.result c.in_ok-portions.portions.items c.in_ok-portions.ensures,
+      ap length c.deref.ensures.value,
+      length-map c.args.found.now.shares.items share_view,
+      c.requires.found.few,
+      few_stretches c.args.rows.now,
+      c.requires.few,
     )
 
--- the terms of the group that is read
-terms_read : (items listed : List GroupStruct) (place : ℕ) (view : Group) (terms : List Terms) (speed : Terms) → listed ≡ items →
-    AreTerms (map group_view listed) (length listed) terms → place < length items → view ≡ group_at (map group_view items) place → speed ≡ get_or terms place speed →
-    (speed.per_time ≡ per_time view) × (speed.per_work ≡ per_work view)
-terms_read items listed place view terms speed same are within is read =
-    let here : AreTerms (map group_view items) (length items) terms = subst (λ (xs : List GroupStruct). AreTerms (map group_view xs) (length xs) terms) same are in
-    let at : speed ≡ get_or terms place no_terms = read ∙ get_or_default terms place speed no_terms (omega (arith, within, here.count)) in (
-      ap (λ (one : Terms). one.per_time) at ∙ here.times place within ∙ ap per_time (sym is),
-      ap (λ (one : Terms). one.per_work) at ∙ here.works place within ∙ ap per_work (sym is),
-    )
+inside : (c : In-loop-stretch) → c.loop-stretch.stretch < length (stretches c.args.rows.now)
+inside c = omega (arith, ap length c.deref-place-items.ensures.value, c.requires.found.all_stretches, c.loop-stretch-test.true)
 
-pub fill_stretch-requires-clause-per_time : goal.fill_stretch-requires-clause-per_time
-fill_stretch-requires-clause-per_time c =
+counted : (c : In-loop-stretch) → c.loop-stretch.stretch < length c.args.timeline.now
+counted c = omega (arith, inside c, ap length c.requires.timeline)
+
+pub bounds-timeline-stretch : goal.bounds-timeline-stretch
+bounds-timeline-stretch c = counted (goal.at.bounds-timeline-stretch c).In-loop-stretch
+
+speed_read : (c : In-Some) → (get_or c.deref-place-items.result.now c.loop-stretch.stretch 0 < length (map group_view c.args.found.now.groups.items))
+    × (c.in-Some.speed.now ≡ terms_of (group_at (map group_view c.args.found.now.groups.items) (get_or c.deref-place-items.result.now c.loop-stretch.stretch 0)))
+speed_read c =
     let read = c.in-Some.ensures.lookup in
-    let groups = c.args.found.now.groups.items in
-    (terms_read c.args.found.now.groups.items c.deref-2.result.now (get_or c.deref-place-items.result.now c.loop-stretch.stretch 0) (group_view c.in-Some.group.now)
-    c.in_ok-terms.terms.items c.index-speed.result.now c.deref-2.ensures.value c.in_ok-terms.ensures
-    (omega (arith, read.3.0, ap length c.deref-in-loop-stretch.ensures.value))
-    (group_read groups c.deref-in-loop-stretch.result.now _ c.in-Some.group.now c.deref-in-loop-stretch.ensures.value read.3.0 read.1)
-    c.index-speed.ensures).0
+    terms_read c.args.found.now.groups.items c.deref-in-loop-stretch.result.now _ c.in-Some.speed.now
+    (c.deref-in-loop-stretch.ensures.value ∙ c.in_ok-terms.ensures ∙ ap (map (λ group. terms_of (group_view group))) c.deref-2.ensures.value)
+    read.3.0 read.1
 
-pub fill_stretch-requires-clause-per_work : goal.fill_stretch-requires-clause-per_work
-fill_stretch-requires-clause-per_work c =
-    let read = c.in-Some.ensures.lookup in
-    let groups = c.args.found.now.groups.items in
-    (terms_read c.args.found.now.groups.items c.deref-2.result.now (get_or c.deref-place-items.result.now c.loop-stretch.stretch 0) (group_view c.in-Some.group.now)
-    c.in_ok-terms.terms.items c.index-speed.result.now c.deref-2.ensures.value c.in_ok-terms.ensures
-    (omega (arith, read.3.0, ap length c.deref-in-loop-stretch.ensures.value))
-    (group_read groups c.deref-in-loop-stretch.result.now _ c.in-Some.group.now c.deref-in-loop-stretch.ensures.value read.3.0 read.1)
-    c.index-speed.ensures).1
+pub of_stretch-shares-requires-clause-known : goal.of_stretch-shares-requires-clause-known
+of_stretch-shares-requires-clause-known c =
+    omega (arith, counted (goal.at.of_stretch-shares-requires-clause-known c).In-loop-stretch, c.in_ok-sorted.ensures.count)
 
-pub fill_stretch-requires-clause-fits : goal.fill_stretch-requires-clause-fits
-fill_stretch-requires-clause-fits c =
-    let here = (goal.at.fill_stretch-requires-clause-fits c).In-loop-stretch in
+pub of_stretch-shares-requires-clause-forward : goal.of_stretch-shares-requires-clause-forward
+of_stretch-shares-requires-clause-forward c =
+    c.in_ok-sorted.ensures.forward c.loop-stretch.stretch (counted (goal.at.of_stretch-shares-requires-clause-forward c).In-loop-stretch)
+
+pub of_stretch-shares-requires-clause-within : goal.of_stretch-shares-requires-clause-within
+of_stretch-shares-requires-clause-within c =
+    c.in_ok-sorted.ensures.within c.loop-stretch.stretch (counted (goal.at.of_stretch-shares-requires-clause-within c).In-loop-stretch)
+
+pub fill_stretch-requires : goal.fill_stretch-requires
+fill_stretch-requires c =
+    let here = (goal.at.fill_stretch-requires c).In-loop-stretch in
+    let speed = speed_read (goal.at.fill_stretch-requires c).In-Some in
     let k = c.loop-stretch.stretch in
-    let read = c.in-Some.ensures.lookup in
-    let groups = c.args.found.now.groups.items in
-    can_fill_next c.args.rows.now (found_view c.args.found.now) c.requires.jobs c.requires.found c.requires.few k _ c.loop-stretch.schedule _ _ _
-    c.loop-stretch.invariant (inside here) (ap (λ some. get_or some k 0) c.deref-place-items.ensures.value)
-    (omega (arith, read.3.0, ap length c.deref-in-loop-stretch.ensures.value, length-map groups group_view))
-    (group_read groups c.deref-in-loop-stretch.result.now _ c.in-Some.group.now c.deref-in-loop-stretch.ensures.value read.3.0 read.1)
-    (ap (λ (piece : Piece). piece.from) (stretch_read c.args.rows.now c.args.timeline.now k c.index-timeline-stretch.result _ c.requires.timeline (inside here)
-    c.index-timeline-stretch.is c.own.view_is))
-    (portions_read (λ list. list.items) c.deref.result.now c.args.found.now.portions.items c.len.result k c.in_ok-portions.portions.items
-    c.index.result.now c.deref-in-Some.result.now c.deref.ensures.value c.in_ok-portions.ensures (counted here) c.index.ensures
-    c.deref-in-Some.ensures.value)
+    can_fill_next c.args.rows.now (found_view c.args.found.now) c.requires.jobs c.requires.found c.requires.few k _ _ c.loop-stretch.schedule
+    c.in-Some.speed.now _ c.loop-stretch.invariant (ap (λ some. get_or some k 0) c.deref-place-items.ensures.value) speed.1
+    (ap (λ (piece : Piece). piece.from) (stretch_read c.args.rows.now c.args.timeline.now k c.index-timeline-stretch.result _ c.requires.timeline
+    (inside here) c.index-timeline-stretch.is c.own.view_is))
+    (shares_read c.deref.result.now c.args.found.now.shares.items _ _ _ (length c.args.timeline.now) k c.deref.ensures.value c.in_ok-sorted.ensures
+    (counted here) c.of_stretch-shares.ensures)
+    (inside here) speed.0
 
 pub loop-stretch-preserved : goal.loop-stretch-preserved
 loop-stretch-preserved c =
     let here = (goal.at.loop-stretch-preserved c).In-loop-stretch in
     let k = c.loop-stretch.stretch in
     let place = ap (λ some. get_or some k 0) c.deref-place-items.ensures.value in
-    let groups = c.args.found.now.groups.items in
     elim c.match-get.branch [
       | in-Some+in_ok-fill_stretch w ↦
           let read = w.in-Some.ensures.lookup in
           w.schedule-is
-          ∙ laid_next c.args.rows.now (found_view c.args.found.now) c.requires.jobs c.requires.found c.requires.few k _ c.loop-stretch.schedule
-          w.fill_stretch.new.schedule (group_view w.in-Some.group.now) _ (portions_view w.deref-in-Some.result.now) c.loop-stretch.invariant place
-          (group_read groups c.deref-in-loop-stretch.result.now _ w.in-Some.group.now c.deref-in-loop-stretch.ensures.value read.3.0 read.1)
-          (ap (λ (piece : Piece). piece.from) (stretch_read c.args.rows.now c.args.timeline.now k w.index-timeline-stretch.result _ c.requires.timeline (inside here)
-          w.index-timeline-stretch.is w.own.view_is))
-          (portions_read (λ list. list.items) c.deref.result.now c.args.found.now.portions.items c.len.result k c.in_ok-portions.portions.items
-          w.index.result.now w.deref-in-Some.result.now c.deref.ensures.value c.in_ok-portions.ensures (counted here) w.index.ensures
-          w.deref-in-Some.ensures.value)
-          w.in_ok-fill_stretch.ensures
+          ∙ laid_next c.args.rows.now (found_view c.args.found.now) c.requires.jobs c.requires.found c.requires.few k _ _ c.loop-stretch.schedule
+          w.in-Some.speed.now _ c.loop-stretch.invariant place
+          (terms_read c.args.found.now.groups.items c.deref-in-loop-stretch.result.now _ w.in-Some.speed.now
+          (c.deref-in-loop-stretch.ensures.value ∙ c.in_ok-terms.ensures ∙ ap (map (λ group. terms_of (group_view group))) c.deref-2.ensures.value)
+          read.3.0 read.1).1
+          (ap (λ (piece : Piece). piece.from) (stretch_read c.args.rows.now c.args.timeline.now k w.index-timeline-stretch.result _ c.requires.timeline
+          (inside here) w.index-timeline-stretch.is w.own.view_is))
+          (shares_read c.deref.result.now c.args.found.now.shares.items _ _ _ (length c.args.timeline.now) k c.deref.ensures.value c.in_ok-sorted.ensures
+          (counted here) w.of_stretch-shares.ensures)
+          w.fill_stretch.new.schedule w.in_ok-fill_stretch.ensures
       | in_default w ↦
           w.schedule-is
           ∙ laid_skip c.args.rows.now (found_view c.args.found.now) c.requires.jobs c.requires.found c.requires.few k _ c.loop-stretch.schedule
           c.loop-stretch.invariant place
-          (omega (arith, w.in_default.ensures.lookup.3, ap length c.deref-in-loop-stretch.ensures.value, length-map groups group_view))
+          (omega (
+            arith,
+            w.in_default.ensures.lookup.3,
+            ap length c.deref-in-loop-stretch.ensures.value,
+            ap length c.in_ok-terms.ensures,
+            length-map c.deref-2.result.now (λ group. terms_of (group_view group)),
+            ap length c.deref-2.ensures.value,
+            length-map c.args.found.now.groups.items group_view,
+          ))
     ]

@@ -1,6 +1,6 @@
 use Rattle.std.proofs.Common.{◌≡◌, length}
 use Rattle.std.specs.List.{flat_map, range_with_len}
-use Rattle.yds_plan.specs.Views.{found_view}
+use Rattle.yds_search.specs.Views.{found_view}
 use Rattle.yds_plan.specs.Laid.{slots_in_stretch}
 use Rattle.yds_plan.proofs.layout_slots.schedule_of.Given as goal
 

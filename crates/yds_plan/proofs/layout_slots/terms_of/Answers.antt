@@ -15,8 +15,5 @@ pub nonzero_div-result-2 : goal.nonzero_div-result-2
 nonzero_div-result-2 c =
     omega (arith, divisor c, (lowest c.args.group.now.work c.args.group.now.length c.requires.some_work c.requires.some_length).some)
 
-pub returns-clause-per_time : goal.returns-clause-per_time
-returns-clause-per_time c = ap (λ n. c.args.group.now.work / n) (divisor c)
-
-pub returns-clause-per_work : goal.returns-clause-per_work
-returns-clause-per_work c = ap (λ n. c.args.group.now.length / n) (divisor c)
+pub returns : goal.returns
+returns c = ap (λ n. record { per_time = c.args.group.now.work / n; per_work = c.args.group.now.length / n }) (divisor c)

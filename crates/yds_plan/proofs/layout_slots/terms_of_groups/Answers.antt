@@ -1,7 +1,7 @@
 use Rattle.std.proofs.Common.{◌≤◌, subst}
 use Rattle.std.proofs.lemmas.List.{get_or-map}
-use Rattle.yds_plan.specs.Found.{Group, no_group}
-use Rattle.yds_plan.specs.Views.{group_view}
+use Rattle.yds_search.specs.Found.{Group, no_group}
+use Rattle.yds_search.specs.Views.{group_view}
 use Rattle.yds_plan.proofs.layout_slots.terms_of_groups.Goals as goal
 
 pub terms_of-requires-clause-some_work : goal.terms_of-requires-clause-some_work

@@ -1,4 +1,4 @@
-use Rattle.yds_plan.specs.Views.{found_view}
+use Rattle.yds_search.specs.Views.{found_view}
 use Rattle.yds_plan.proofs.FoundPlan.{laid_plan}
 use Rattle.yds_plan.proofs.planning.plan.Goals as goal
 

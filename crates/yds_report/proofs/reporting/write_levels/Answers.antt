@@ -7,13 +7,13 @@ use Rattle.yds_report.proofs.reporting.write_levels.Goals as goal
 pub returns-in_err-write_all : goal.returns-in_err-write_all
 returns-in_err-write_all g c =
     item_failed level_row _ _ _ c.from_residual.ensures.0 (numbered_within c.args.levels.now _ c.loop-place-test.true)
-    (numbered_at c.args.levels.now _ _ c.loop-place-test.true c.index-levels-place.is) (c.as_bytes.ensures ∙ c.level_line.ensures)
+    (numbered_at c.args.levels.now _ _ c.loop-place-test.true c.index-levels-place.is) (c.as_bytes.ensures ∙ c.put_level.ensures)
     c.loop-place.invariant c.in_err-write_all.ensures.puts
 
 pub loop-place-preserved : goal.loop-place-preserved
 loop-place-preserved g c =
     item_put level_row _ _ (numbered_within c.args.levels.now _ c.loop-place-test.true)
-    (numbered_at c.args.levels.now _ _ c.loop-place-test.true c.index-levels-place.is) (c.as_bytes.ensures ∙ c.level_line.ensures)
+    (numbered_at c.args.levels.now _ _ c.loop-place-test.true c.index-levels-place.is) (c.as_bytes.ensures ∙ c.put_level.ensures)
     c.loop-place.invariant c.in_ok-write_all.ensures.puts
 
 pub returns : goal.returns

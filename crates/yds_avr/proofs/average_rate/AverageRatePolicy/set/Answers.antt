@@ -21,7 +21,7 @@ step_lent c =
     record {
       known = c.requires.known;
       nth = c.requires.nth;
-      kept = c.requires.kept;
+      kept = c.requires.told.kept;
       more = c.arrived_by-self.ensures.more;
       within = omega (arith, c.arrived_by-self.ensures.within, ap length c.deref.ensures.value);
       next = subst (λ (jobs : List Rate). c.arrived_by-self.result < length jobs → c.args.stretch.from < (rate_at jobs c.arrived_by-self.result).release) c.deref.ensures.value
@@ -53,7 +53,7 @@ terms-requires-clause-live c =
     let are = subst (All IsJob) c.rows-rows.ensures.jobs c.rows-rows.ensures.kept in
     let outside = subst (λ (piece : Piece). All (λ job. IsOutside piece job.deadline) c.args.queue.now.jobs) (sym c.requires.nth) (deadlines_outside c.args.queue.now.jobs c.args._number c.requires.known) in
     subst (λ (order : List Rate). All (IsLive c.args.stretch) (middle order c.over_by-self.result c.arrived_by-self.result)) (sym (middle_is c))
-    (middle_live _ _ _ _ _ _ _ _ _ _ (step_lent c) c.requires.kept.grid_in_range are outside)
+    (middle_live _ _ _ _ _ _ _ _ _ _ (step_lent c) c.requires.told.kept.grid_in_range are outside)
 
 step_after : (c : goal.After-terms) → IsStep c.args.queue.now.jobs c.args.self.now.grid c.args.self.now.order.items c.over_by-self.new.order c.args.self.now.over c.args.self.now.arrived
     c.over_by-self.result c.arrived_by-self.result c.args._number c.args.stretch
@@ -62,7 +62,7 @@ step_after c =
     record {
       known = c.requires.known;
       nth = c.requires.nth;
-      kept = c.requires.kept;
+      kept = c.requires.told.kept;
       more = c.arrived_by-self.ensures.more;
       within = omega (arith, c.arrived_by-self.ensures.within, ap length c.deref.ensures.value);
       next = subst (λ (jobs : List Rate). c.arrived_by-self.result < length jobs → c.args.stretch.from < (rate_at jobs c.arrived_by-self.result).release) c.deref.ensures.value
@@ -88,7 +88,7 @@ live_after : (c : goal.After-terms) → All (IsLive c.args.stretch) (middle c.ov
 live_after c =
     let are = subst (All IsJob) c.rows-rows.ensures.jobs c.rows-rows.ensures.kept in
     let outside = subst (λ (piece : Piece). All (λ job. IsOutside piece job.deadline) c.args.queue.now.jobs) (sym c.requires.nth) (deadlines_outside c.args.queue.now.jobs c.args._number c.requires.known) in
-    middle_live _ _ _ _ _ _ _ _ _ _ (step_after c) c.requires.kept.grid_in_range are outside
+    middle_live _ _ _ _ _ _ _ _ _ _ (step_after c) c.requires.told.kept.grid_in_range are outside
 
 pub returns-clause-units : goal.returns-clause-units
 returns-clause-units c =

@@ -1,4 +1,4 @@
-use Rattle.std.proofs.Common.{◌∙◌, ◌≤◌, ap, subst, arith}
+use Rattle.std.proofs.Common.{◌∙◌, ap, arith}
 use Rattle.yds_edf.specs.Queue.{all_pending}
 use Rattle.yds_edf.specs.Engine.{TiedQueue}
 use Rattle.yds_edf.proofs.Heaps.{units_tell}

@@ -1,6 +1,0 @@
-use Rattle.std.proofs.Common.{◌≡◌, ◌++◌, replicate}
-use Rattle.yds_document.proofs.line_buffer.LineBuffer.spaces.Given as goal
-
--- so many spaces were put
-abbrev pub invariant-loop : goal.invariant-loop
-invariant-loop l = l.self-inside.text.bytes ≡ l.fn.self ++ replicate l.counter 32

@@ -1,0 +1,24 @@
+//! The search for a plan: from jobs to groups of jobs and stretches of one speed each, and each job's shares of the
+//! stretches. It partitions at the average speed, after Li, Yao and Yao (PNAS 2006).
+//!
+//! It stands on `yds_model`, `yds_fraction` and `yds_events`. Its one promise is what `find` answers: groups that don't
+//! rise in speed, in which each job with work gets all its units and each stretch is full, earliest deadline first.
+#![tactic(auto)]
+
+mod amounts;
+mod attempt;
+mod beginning;
+mod closure;
+mod fill;
+mod found;
+mod instance;
+mod places;
+mod search;
+mod share;
+mod split;
+mod stack;
+mod workspace;
+
+pub use found::{Found, Group};
+pub use search::find;
+pub use share::Share;

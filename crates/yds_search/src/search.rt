@@ -1,0 +1,215 @@
+ghost use Rattle.std.specs.Prelude.{◌≡◌, ℕ, ◌*◌, ◌<◌, ◌≤◌, length, slice_index, IfOk, OnOk};
+ghost use Rattle.std.specs.List.{All};
+ghost use Rattle.yds_model.specs.Job.{IsJob};
+ghost use Rattle.yds_model.specs.Event.{stretches};
+ghost use Rattle.yds_model.specs.declared.limits.TheConstants.{MAX_JOBS};
+ghost use Rattle.yds_search.specs.Found.{IsFound};
+ghost use Rattle.yds_search.specs.Views.{found_view, group_view, shares_view};
+ghost use Rattle.yds_search.specs.Waiting.{IsBlank};
+ghost use Rattle.yds_search.specs.Searching.{IsSearching, IsChosen, IsFilledGroup, IsFilledWith, IsNearer};
+
+use crate::amounts::{scale, total};
+use crate::attempt::{Attempt, has_late};
+use crate::beginning::{LAST, beginning, first_group};
+use crate::closure::reach;
+use crate::fill::fill;
+use crate::found::{Found, Group};
+use crate::instance::{Instance, prepare};
+use crate::places::guess_places;
+use crate::share::Share;
+use crate::split::{rename, split_jobs, split_stretches};
+use crate::stack::{Size, Stack, all_numbers, last, members};
+use crate::workspace::{Workspace, blank_workspace, clear_all};
+use std::alloc::Global;
+use yds_events::Stretch;
+use yds_fraction::gcd;
+use yds_model::{JobRow, Memory};
+
+/// The search for groups: those that are finished, those that wait, the fastest one last, and room to fill one.
+#[derive(Drop)]
+pub(crate) struct Search<'a> {
+    /// What stays the same.
+    pub instance: Instance<'a>,
+    /// What is found so far.
+    pub found: Found,
+    /// The groups that wait.
+    pub stack: Stack,
+    /// The number of the fastest one.
+    pub top: u32,
+    /// Room to fill one.
+    pub space: Workspace,
+}
+
+impl<'a> Search<'a> {
+    /// All jobs with work wait in one group.
+    fn new(alloc: Global, rows: &'a [JobRow], timeline: &[Stretch]) -> Result<Search<'a>, Memory>
+        requires few { length rows.now ≤ MAX_JOBS }
+        requires jobs { All IsJob rows.now }
+        requires timeline { timeline.now ≡ stretches rows.now }
+        ensures search { IfOk result IsSearching }
+        ensures rows { IfOk result (λ search. search.instance.rows.now ≡ rows.now) }
+    {
+        let instance = prepare(alloc, rows, timeline)?;
+        let found = beginning(alloc, rows, &instance.windows, timeline.len())?;
+        let top = first_group(&instance.works);
+        let mut stack = Stack::new(alloc, rows.len(), timeline.len())?;
+        if top <= LAST {
+            let all = all_numbers(alloc, timeline.len())?;
+            members(&instance.order, &found.group_of_job, LAST, &mut stack.jobs)?;
+            members(&all, &found.group_of_stretch, LAST, &mut stack.stretches)?;
+            let jobs = stack.jobs.len();
+            let stretches = stack.stretches.len();
+            stack.sizes.push(Size { jobs, stretches })?;
+        }
+        Ok(Search {
+            instance,
+            found,
+            stack,
+            top,
+            space: blank_workspace(alloc, rows.len(), timeline.len())?,
+        })
+    }
+
+    /// The fastest group is filled at its average speed. What its jobs still want and what room its stretches have is left in
+    /// the workspace.
+    fn fill(&mut self, alloc: Global, size: Size) -> Result<Attempt, Memory>
+        requires chosen { IsChosen self.old size }
+        requires space { IsBlank (length self.old.instance.rows.now) (length self.old.instance.lengths.items) self.old.space }
+        ensures filled { IfOk result (λ attempt. IsFilledGroup self.new size (group_view attempt.group) (shares_view attempt.shares.items)) }
+        ensures found { self.new.found ≡ self.old.found }
+        ensures instance { self.new.instance ≡ self.old.instance }
+    {
+        let own_jobs = last(&self.stack.jobs, size.jobs);
+        let own_stretches = last(&self.stack.stretches, size.stretches);
+        guess_places(
+            &mut self.space.reaches.guesses,
+            own_stretches,
+            &self.found.group_of_stretch,
+            self.top,
+        );
+        let work = total(&self.instance.works, own_jobs);
+        let length = total(&self.instance.lengths, own_stretches);
+        let divisor = gcd(work, length);
+        let per_work = length / divisor;
+        scale(
+            &self.instance.works,
+            own_jobs,
+            per_work,
+            &mut self.space.wants,
+        );
+        let per_time = work / divisor;
+        scale(
+            &self.instance.lengths,
+            own_stretches,
+            per_time,
+            &mut self.space.rooms,
+        );
+        let shares = fill(
+            alloc,
+            self.instance.rows,
+            &self.instance.windows,
+            own_jobs,
+            own_stretches,
+            &self.space.reaches.guesses,
+            &mut self.space.wants,
+            &mut self.space.rooms,
+        )?;
+        Ok(Attempt {
+            group: Group { work, length },
+            shares,
+        })
+    }
+
+    /// The fastest group, which has no late jobs, is finished.
+    fn finish(&mut self, size: Size, attempt: Attempt) -> Result<(), Memory>
+        requires filled { IsFilledGroup self.old size (group_view attempt.group) (shares_view attempt.shares.items) }
+        requires served { (j : ℕ) → j < length self.old.instance.rows.now → slice_index self.old.space.wants.items j ≡ 0 }
+        ensures search { OnOk result (IsSearching self.new) }
+        ensures nearer { OnOk result (IsNearer self.old self.new) }
+        ensures instance { self.new.instance ≡ self.old.instance }
+    {
+        let own_jobs = last(&self.stack.jobs, size.jobs);
+        let own_stretches = last(&self.stack.stretches, size.stretches);
+        let number = self.found.groups.len() as u32;
+        self.found.groups.push(attempt.group)?;
+        self.found.shares.extend_from_slice(&attempt.shares)?;
+        rename(&mut self.found.group_of_job, own_jobs, number);
+        rename(&mut self.found.group_of_stretch, own_stretches, number);
+        clear_all(&mut self.space, own_jobs, own_stretches);
+        self.stack.drop_last(size);
+        self.top += 1;
+        Ok(())
+    }
+
+    /// The fastest group, which has late jobs, is split: what they close upon becomes a faster group.
+    fn split(&mut self, size: Size, shares: &[Share]) -> Result<(), Memory>
+        requires filled { IsFilledWith self.old size (shares_view shares.now) }
+        requires late { (j : ℕ) × (j < length self.old.instance.rows.now) × (1 ≤ slice_index self.old.space.wants.items j) }
+        ensures search { OnOk result (IsSearching self.new) }
+        ensures nearer { OnOk result (IsNearer self.old self.new) }
+        ensures instance { self.new.instance ≡ self.old.instance }
+    {
+        let own_jobs = last(&self.stack.jobs, size.jobs);
+        let own_stretches = last(&self.stack.stretches, size.stretches);
+        let windows = &self.instance.windows;
+        let space = &mut self.space;
+        reach(
+            windows,
+            own_jobs,
+            own_stretches,
+            &space.wants,
+            shares,
+            &mut space.reaches,
+        );
+        let groups = &mut self.found.group_of_stretch;
+        split_stretches(groups, own_stretches, &space.reaches.all, self.top);
+        let left = &mut space.parted;
+        left.clear();
+        members(own_stretches, groups, self.top, left)?;
+        guess_places(&mut space.reaches.guesses, own_stretches, groups, self.top);
+        let groups = &mut self.found.group_of_job;
+        split_jobs(
+            groups,
+            own_jobs,
+            windows,
+            left,
+            &space.reaches.guesses,
+            self.top,
+        );
+        clear_all(space, own_jobs, own_stretches);
+        self.stack
+            .split_last(size, &self.found, self.top, &mut self.space.parted)?;
+        self.top -= 1;
+        Ok(())
+    }
+
+    /// The fastest group, whose size is taken off, is filled, and finished or split.
+    fn advance(&mut self, alloc: Global, size: Size) -> Result<(), Memory>
+        requires chosen { IsChosen self.old size }
+        requires space { IsBlank (length self.old.instance.rows.now) (length self.old.instance.lengths.items) self.old.space }
+        ensures search { OnOk result (IsSearching self.new) }
+        ensures nearer { OnOk result (IsNearer self.old self.new) }
+        ensures instance { self.new.instance ≡ self.old.instance }
+    {
+        let attempt = self.fill(alloc, size)?;
+        if has_late(&self.space.wants, last(&self.stack.jobs, size.jobs)) {
+            self.split(size, &attempt.shares)
+        } else {
+            self.finish(size, attempt)
+        }
+    }
+}
+
+/// Groups of jobs and stretches, the fastest first, with the shares of jobs in stretches.
+pub fn find(alloc: Global, rows: &[JobRow], timeline: &[Stretch]) -> Result<Found, Memory>
+    requires few { length rows.now ≤ MAX_JOBS }
+    requires jobs { All IsJob rows.now }
+    requires timeline { timeline.now ≡ stretches rows.now }
+    ensures { IfOk result (λ found. IsFound rows.now (found_view found)) }
+{
+    let mut search = Search::new(alloc, rows, timeline)?;
+    while let Some(size) = search.stack.sizes.pop() {
+        search.advance(alloc, size)?;
+    }
+    Ok(search.found)
+}

@@ -1,0 +1,10 @@
+/// So many units of work of a job in a stretch between two event points.
+#[derive(Clone, Copy, Debug, PartialEq, Eq)]
+pub struct Share {
+    /// The job's number.
+    pub job: u32,
+    /// The stretch's number among all stretches, in order of time.
+    pub stretch: u32,
+    /// The units, each one part of a unit of work.
+    pub units: u64,
+}
