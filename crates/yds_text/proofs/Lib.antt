@@ -1,5 +1,6 @@
 mod FirstLine
 mod FirstField
 mod Spelled
-mod Split
+mod Digits
+mod Fractions
 pub mod Counted

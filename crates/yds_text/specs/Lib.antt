@@ -1,3 +1,4 @@
 pub mod Left
 pub mod Read
 pub mod Count
+pub mod Parts

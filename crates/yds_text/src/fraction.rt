@@ -1,11 +1,11 @@
 //! The fractions that fields spell.
-ghost use Rattle.std.specs.Prelude.{◌≡◌, ◌≤◌, ◌==◌, true, false, IfSome, IfNone, position};
-ghost use Rattle.std.specs.List.{list_any, before_first, after_first};
-ghost use Rattle.std.specs.Str.Parse.{digits_value};
-ghost use Rattle.yds_model.specs.Spelling.{fraction_at, is_number, is_plus, is_slash, is_mixed, kept};
+ghost use Rattle.std.specs.Prelude.{◌≡◌, ℕ, ◌≤◌, List, IfOk};
+ghost use Rattle.yds_model.specs.declared.limits.TheConstants.{MAX_DENOMINATOR, MAX_WHOLE};
+ghost use Rattle.yds_model.specs.Spelling.{fraction_at, kept, number_at};
+ghost use Rattle.yds_text.specs.Parts.{fraction_after, fraction_of_parts, is_bad};
 
 use crate::field::Field;
-use crate::spelling::{at_most, is_number};
+use crate::spelling::{leading_number, number_of};
 use yds_fraction::Amount;
 use yds_model::NumberFault;
 use yds_model::limits::{MAX_DENOMINATOR, MAX_WHOLE};
@@ -18,66 +18,69 @@ pub fn mixed(field: Field<'_>, most: u64) -> Result<Amount, NumberFault>
     requires { most ≤ MAX_WHOLE }
     ensures { result ≡ fraction_at most field.entry.text.now }
 {
-    if is_number(field.text) {
-        let whole = at_most(field.text, most)?;
-        return Ok(Amount::from_whole(whole));
+    let text = field.text;
+    let (whole, len) = leading_number(text, most);
+    if len == text.len() {
+        return Ok(Amount::from_whole(whole?));
     }
-    match mixed_parts(field.text) {
-        Some((whole, num, den)) => kept(whole, num, den, most),
-        None => Err(NumberFault::BadNumber),
+    if text[len] != b'+' {
+        return Err(NumberFault::BadNumber);
     }
+    fraction_after(whole, &text[len + 1..])
 }
 
-/// The three numbers of `WHOLE+NUM/DEN`.
-fn mixed_parts(text: &[u8]) -> Option<(&[u8], &[u8], &[u8])>
-    ensures none { IfNone result (is_mixed text.now ≡ false) }
-    ensures some { IfSome result (λ parts. is_mixed text.now ≡ true) }
-    ensures whole { IfSome result (λ parts. parts.0.now ≡ before_first is_plus text.now) }
-    ensures num { IfSome result (λ parts. parts.1.now ≡ before_first is_slash (after_first is_plus text.now)) }
-    ensures den { IfSome result (λ parts. parts.2.now ≡ after_first is_slash (after_first is_plus text.now)) }
-    ensures numbers { IfSome result (λ parts. (is_number parts.0.now ≡ true) × (is_number parts.1.now ≡ true) × (is_number parts.2.now ≡ true)) }
+/// The fraction of this whole part and of `NUM/DEN`.
+fn fraction_after(whole: Result<u64, NumberFault>, text: &[u8]) -> Result<Amount, NumberFault>
+    requires { IfOk whole (λ whole. whole ≤ MAX_WHOLE) }
+    ensures { (most : ℕ) (front : List ℕ) → whole ≡ number_at 0 most front → result ≡ fraction_after most front text.now }
 {
-    let (whole, rest) = split_once(text, b'+')?;
-    let (num, den) = split_once(rest, b'/')?;
-    if is_number(whole) && is_number(num) && is_number(den) {
-        Some((whole, num, den))
-    } else {
-        None
+    let (num, len) = leading_number(text, MAX_DENOMINATOR);
+    if len == text.len() {
+        return Err(NumberFault::BadNumber);
     }
+    if text[len] != b'/' {
+        return Err(NumberFault::BadNumber);
+    }
+    let den = number_of(&text[len + 1..], 0, MAX_DENOMINATOR);
+    fraction_of_parts(whole, num, den)
 }
 
-/// What stands before the first `separator` and after it.
-fn split_once(text: &[u8], separator: u8) -> Option<(&[u8], &[u8])>
-    ensures none { IfNone result (list_any (λ byte. byte == separator) text.now ≡ false) }
-    ensures some { IfSome result (λ parts. list_any (λ byte. byte == separator) text.now ≡ true) }
-    ensures before { IfSome result (λ parts. parts.0.now ≡ before_first (λ byte. byte == separator) text.now) }
-    ensures after { IfSome result (λ parts. parts.1.now ≡ after_first (λ byte. byte == separator) text.now) }
+/// The fraction of three numbers. A wrong spelling of any of them goes before a number outside its limits.
+fn fraction_of_parts(
+    whole: Result<u64, NumberFault>,
+    num: Result<u64, NumberFault>,
+    den: Result<u64, NumberFault>,
+) -> Result<Amount, NumberFault>
+    requires whole { IfOk whole (λ whole. whole ≤ MAX_WHOLE) }
+    requires den { IfOk den (λ den. den ≤ MAX_DENOMINATOR) }
+    ensures { (most : ℕ) (front above below : List ℕ) → whole ≡ number_at 0 most front → num ≡ number_at 0 MAX_DENOMINATOR above → den ≡ number_at 0 MAX_DENOMINATOR below
+        → result ≡ fraction_of_parts most front above below }
 {
-    let place = place_of(text, separator)?;
-    Some((&text[..place], &text[place + 1..]))
+    if is_bad(&whole) || is_bad(&num) || is_bad(&den) {
+        return Err(NumberFault::BadNumber);
+    }
+    let whole = whole?;
+    let num = num?;
+    let den = den?;
+    fraction_of(whole, num, den)
 }
 
-/// Where the first `separator` stands.
-fn place_of(text: &[u8], separator: u8) -> Option<usize>
-    ensures { result ≡ position (λ byte. byte == separator) text.now }
+/// The fraction, where its numerator is below its denominator.
+fn fraction_of(whole: u64, num: u64, den: u64) -> Result<Amount, NumberFault>
+    requires whole { whole ≤ MAX_WHOLE }
+    requires den { den ≤ MAX_DENOMINATOR }
+    ensures { (most : ℕ) → whole ≤ most → result ≡ kept most (record { whole = whole; num = num; den = den }) }
 {
-    text.iter().position(|&byte| byte == separator)
-}
-
-/// The fraction of these digits, where it is within its limits.
-fn kept(whole: &[u8], num: &[u8], den: &[u8], most: u64) -> Result<Amount, NumberFault>
-    requires limit { most ≤ MAX_WHOLE }
-    requires whole { is_number whole.now ≡ true }
-    requires num { is_number num.now ≡ true }
-    requires den { is_number den.now ≡ true }
-    ensures { result ≡ kept most (record { whole = digits_value 10 whole.now; num = digits_value 10 num.now; den = digits_value 10 den.now }) }
-{
-    let whole = at_most(whole, most)?;
-    let num = at_most(num, MAX_DENOMINATOR)?;
-    let den = at_most(den, MAX_DENOMINATOR)?;
     if num < den {
         Ok(Amount::new(whole, num, den))
     } else {
         Err(NumberFault::OutOfRange)
     }
+}
+
+/// Whether the spelling is wrong.
+fn is_bad(number: &Result<u64, NumberFault>) -> bool
+    ensures { result ≡ is_bad number.now }
+{
+    matches!(number, Err(NumberFault::BadNumber))
 }

@@ -1,6 +1,7 @@
 //! What fields spell: numbers and names.
-ghost use Rattle.std.specs.Prelude.{◌≡◌, ℕ, ◌^◌, ◌≤◌, ◌&&◌, nat_le, true, All, IfOk, IfSome, IfNone, IsTrue, IsFalse, MatchOption, if◌then◌else◌};
-ghost use Rattle.std.specs.List.{list_all};
+ghost use Rattle.std.specs.Prelude.{◌≡◌, ◌+◌, ◌*◌, ◌^◌, ◌≤◌, ◌&&◌, nat_le, true, length, take, IfOk, IfSome, IfNone, IsTrue, IsFalse, MatchOption};
+ghost use Rattle.std.specs.Char.{digit_value};
+ghost use Rattle.std.specs.List.{list_all, prefix_len};
 ghost use Rattle.std.specs.Str.Parse.{digits_value};
 ghost use Rattle.yds_model.specs.Spelling.{number_at, is_digit, is_number, is_name};
 
@@ -8,6 +9,9 @@ use crate::field::Field;
 use std::str;
 use yds_model::NumberFault;
 use yds_model::limits::MAX_NAME;
+
+/// A number below this one takes a further digit within 64 bits, whatever the digit is.
+const SHORT: u64 = 1_844_674_407_370_955_161;
 
 /// The number that the field spells, at most `most`: `0`, or a digit from 1 to 9 and any digits after
 /// it. Another spelling is a `BadNumber`, and a number above `most`, however long, is `OutOfRange`.
@@ -30,10 +34,11 @@ pub fn number_of(text: &[u8], least: u64, most: u64) -> Result<u64, NumberFault>
     ensures at_least { IfOk result (λ number. least ≤ number) }
     ensures at_most { IfOk result (λ number. number ≤ most) }
 {
-    if !is_number(text) {
+    let (value, len) = leading_number(text, most);
+    if len < text.len() {
         return Err(NumberFault::BadNumber);
     }
-    let value = at_most(text, most)?;
+    let value = value?;
     if least <= value {
         Ok(value)
     } else {
@@ -55,45 +60,77 @@ pub fn name<'a>(field: Field<'a>) -> Option<&'a str>
     }
 }
 
-pub(crate) fn is_number(text: &[u8]) -> bool
-    ensures { result ≡ is_number text.now }
+/// The number, at most `most`, that the digits at the front of a text spell, and how many they are.
+pub(crate) fn leading_number(text: &[u8], most: u64) -> (Result<u64, NumberFault>, usize)
+    ensures value { result.0 ≡ number_at 0 most (take result.1 text.now) }
+    ensures count { result.1 ≡ prefix_len is_digit text.now }
+    ensures within { result.1 ≤ length text.now }
 {
-    match text {
+    let (value, len) = leading_digits(text);
+    if !may_be_number(&text[..len]) {
+        return (Err(NumberFault::BadNumber), len);
+    }
+    match value {
+        Some(value) if value <= most => (Ok(value), len),
+        Some(_) | None => (Err(NumberFault::OutOfRange), len),
+    }
+}
+
+/// Whether these digits are some, without a zero before the others.
+fn may_be_number(digits: &[u8]) -> bool
+    requires { list_all is_digit digits.now ≡ true }
+    ensures { result ≡ is_number digits.now }
+{
+    match digits {
         [] => false,
-        [first, rest @ ..] if *first == b'0' => rest.is_empty(),
-        [..] => are_digits(text),
+        [first, rest @ ..] => *first != b'0' || rest.is_empty(),
     }
 }
 
-fn are_digits(text: &[u8]) -> bool
-    ensures { result ≡ list_all is_digit text.now }
-{
-    text.iter().all(|byte| byte.is_ascii_digit())
-}
-
-/// The number that `text` spells, where it is at most `most`.
-pub(crate) fn at_most(text: &[u8], most: u64) -> Result<u64, NumberFault>
-    requires { is_number text.now ≡ true }
-    ensures { result ≡ (if nat_le (digits_value 10 text.now) most then Ok (digits_value 10 text.now) else Err NumberFault.OutOfRange) }
-{
-    match digits_value(text) {
-        Some(value) if value <= most => Ok(value),
-        Some(_) | None => Err(NumberFault::OutOfRange),
-    }
-}
-
-/// The number that digits write in base ten, or `None` where it takes more than 64 bits.
-fn digits_value(digits: &[u8]) -> Option<u64>
-    requires { All (λ byte. is_digit byte ≡ true) digits.now }
-    ensures { MatchOption result (2 ^ 64 ≤ digits_value 10 digits.now) (λ value. value ≡ digits_value 10 digits.now) }
+/// What the digits at the front of a text write in base ten, or `None` where it takes more than 64 bits, and how
+/// many they are.
+fn leading_digits(text: &[u8]) -> (Option<u64>, usize)
+    ensures value { MatchOption result.0 (2 ^ 64 ≤ digits_value 10 (take result.1 text.now)) (λ value. value ≡ digits_value 10 (take result.1 text.now)) }
+    ensures count { result.1 ≡ prefix_len is_digit text.now }
+    ensures within { result.1 ≤ length text.now }
 {
     let mut value: u64 = 0;
-    for digit in digits {
-        value = value
-            .checked_mul(10)?
-            .checked_add(u64::from(*digit - b'0'))?;
+    for (index, &byte) in text.iter().enumerate() {
+        if !byte.is_ascii_digit() {
+            return (Some(value), index);
+        }
+        match with_digit(value, byte) {
+            Some(next) => value = next,
+            None => return (None, digit_len(text)),
+        }
     }
-    Some(value)
+    (Some(value), text.len())
+}
+
+/// The number with one more digit, or `None` where it takes more than 64 bits.
+fn with_digit(value: u64, digit: u8) -> Option<u64>
+    requires { is_digit digit ≡ true }
+    ensures { MatchOption result (2 ^ 64 ≤ value * 10 + digit_value digit) (λ next. next ≡ value * 10 + digit_value digit) }
+{
+    let digit = u64::from(digit - b'0');
+    if value < SHORT {
+        Some(value * 10 + digit)
+    } else {
+        value.checked_mul(10)?.checked_add(digit)
+    }
+}
+
+/// How many digits stand at the front.
+fn digit_len(text: &[u8]) -> usize
+    ensures value { result ≡ prefix_len is_digit text.now }
+    ensures within { result ≤ length text.now }
+{
+    for (index, &byte) in text.iter().enumerate() {
+        if !byte.is_ascii_digit() {
+            return index;
+        }
+    }
+    text.len()
 }
 
 fn is_name(text: &[u8]) -> bool

@@ -1,0 +1,75 @@
+-- The digits at the front of a text, the byte after them, and the separators of a fraction.
+use Rattle.std.proofs.Common.{◌≡◌, ℕ, ◌<◌, ◌≤◌, Bool, true, false, cond, List, length, get_or, take, nat_le, Ok, Err, refl, sym, ap, ◌∙◌, subst, inl, inr, arith}
+use Rattle.std.specs.List.{list_all, list_any, prefix_len, position_or_len, before_first}
+use Rattle.std.specs.Str.Parse.{digits_value}
+use Rattle.std.proofs.lemmas.Bool.{cases_Bool, cases_order, false≢true, le-leb, leb-true}
+use Rattle.std.proofs.lemmas.List.{get_or-take, length-take, length-take-le}
+use Rattle.std.proofs.lemmas.List.Sums.{prefix_len_passes, prefix_len_stops, position_or_len_is, passes_at_first, list_all-from_AllPass}
+use Rattle.yds_model.specs.declared.number_fault.NumberFault.TheVariants.{BadNumber, OutOfRange}
+use Rattle.yds_model.specs.Spelling.{is_digit, is_number, number_at}
+use Rattle.yds_model.proofs.Spelling.{number_digits}
+
+-- a text with a byte that is no digit is no number
+pub not_number : (text : List ℕ) (i : ℕ) → i < length text → is_digit (get_or text i 0) ≡ false → is_number text ≡ false
+not_number text i within other = elim (cases_Bool (is_number text)) [
+  | inl number ↦ absurd (false≢true (sym other ∙ number_digits text number i 0 within))
+  | inr none ↦ none
+]
+
+-- nor is one that goes on after its digits
+pub number_ends : (text : List ℕ) (len : ℕ) → len ≡ prefix_len is_digit text → len < length text → is_number text ≡ false
+number_ends text len is within =
+    not_number text (prefix_len is_digit text) (omega arith) (prefix_len_stops is_digit text 0 (omega arith))
+
+-- the front has only digits
+pub front_digits : (text : List ℕ) (len : ℕ) → len ≤ length text → len ≡ prefix_len is_digit text → list_all is_digit (take len text) ≡ true
+front_digits text len within is =
+    list_all-from_AllPass is_digit (take len text) (λ k d below.
+    let inside : k < len = omega (arith, length-take-le len text within) in
+    ap is_digit (get_or-take len text k d inside) ∙ prefix_len_passes is_digit text k d (omega arith))
+
+-- # What a number says
+
+fits_told : (number fits : Bool) (said value : ℕ) → cond number (cond fits (Ok said) (Err OutOfRange)) (Err BadNumber) ≡ Ok value →
+    (number ≡ true) × ((fits ≡ true) × (said ≡ value))
+fits_told true true said value is = (refl, (refl, cc))
+fits_told true false said value is = cc
+fits_told false fits said value is = cc
+
+pub record Told (most : ℕ) (text : List ℕ) (value : ℕ) : Type 0 where
+  pub number : is_number text ≡ true
+  pub says : digits_value 10 text ≡ value
+  pub within : value ≤ most
+
+-- a number that is told is what the text writes, within its limit
+pub is_told : (most : ℕ) (text : List ℕ) (value : ℕ) → number_at 0 most text ≡ Ok value → Told most text value
+is_told most text value is =
+    let zero_least : nat_le 0 (digits_value 10 text) ≡ true = le-leb 0 (digits_value 10 text) (omega arith) in
+    let facts = fits_told (is_number text) (nat_le (digits_value 10 text) most) (digits_value 10 text) value (rw zero_least at is) in
+    let small : digits_value 10 text ≤ most = leb-true (digits_value 10 text) most facts.1.0 in
+    record { number = facts.0; says = facts.1.1; within = omega (arith, facts.1.1) }
+
+-- # A separator after the digits
+
+-- it is the first one
+pub first_separator : (separates : ℕ → Bool) → ((byte : ℕ) → is_digit byte ≡ true → separates byte ≡ false) → (text : List ℕ) (len : ℕ) → len ≤ length text →
+    len ≡ prefix_len is_digit text → (len < length text → separates (get_or text len 0) ≡ true) → position_or_len separates text ≡ len
+first_separator separates apart text len within is here =
+    position_or_len_is separates text len 0 within (λ k below. apart (get_or text k 0) (prefix_len_passes is_digit text k 0 (omega arith))) here
+
+-- after another byte, what stands before the first is no number
+pub no_number_before : (separates : ℕ → Bool) → ((byte : ℕ) → is_digit byte ≡ true → separates byte ≡ false) → (text : List ℕ) (len : ℕ) → len < length text →
+    len ≡ prefix_len is_digit text → separates (get_or text len 0) ≡ false → list_any separates text ≡ true → is_number (before_first separates text) ≡ false
+no_number_before separates apart text len within is other some =
+    elim (cases_order (position_or_len separates text) len) [
+      | inl same ↦ absurd (false≢true (sym other ∙ subst (λ place. separates (get_or text place 0) ≡ true) same (passes_at_first separates text 0 (omega arith))))
+      | inr apart_places ↦ elim apart_places [
+        | inl before ↦
+            absurd (false≢true (sym (apart (get_or text (position_or_len separates text) 0) (prefix_len_passes is_digit text (position_or_len separates text) 0 (omega arith)))
+            ∙ passes_at_first separates text 0 (omega arith)))
+        | inr after ↦
+            let stops : is_digit (get_or text len 0) ≡ false = subst (λ place. is_digit (get_or text place 0) ≡ false) (sym is) (prefix_len_stops is_digit text 0 (omega arith)) in
+            not_number (take (position_or_len separates text) text) len (omega (arith, length-take (position_or_len separates text) text))
+            (ap is_digit (get_or-take (position_or_len separates text) text len 0 after) ∙ stops)
+      ]
+    ]
