@@ -112,7 +112,7 @@ pub units_are : (jobs : List Job) (instance : Instance) (found : Found) (top p q
     IsInstance jobs instance → length found.group_of_stretch ≡ length (stretches jobs) → IsWaiting instance.order.items found top part →
     IsBlank (length jobs) (length instance.lengths.items) space →
     AreWritten (λ i value. value ≡ q * get_or instance.works.items i 0) part.jobs (length part.jobs) space.wants.items wants →
-    AreWritten (λ i value. value ≡ p * get_or instance.lengths.items i 0) part.stretches (length part.stretches) space.rooms.items rooms →
+    AreWritten (λ i value. value ≡ p * get_or instance.lengths.items i 0) part.stretches (length part.stretches) space.filling.rooms.items rooms →
     AreUnits jobs instance found top p q wants rooms
 units_are jobs instance found top p q part space wants rooms are all waiting blank wanted room = record {
   all_wants = wanted.count ∙ blank.all_wants;
@@ -120,7 +120,7 @@ units_are jobs instance found top p q part space wants rooms are all waiting bla
   want = scaled_is instance.works.items found.group_of_job part.jobs instance.order.items top q (length jobs) space.wants.items wants waiting.jobs
       are.order.each wanted blank.want;
   room = scaled_is instance.lengths.items found.group_of_stretch part.stretches (range_with_len 0 (length found.group_of_stretch)) top p (length (stretches jobs))
-      space.rooms.items rooms waiting.stretches (λ k below. range_one (length found.group_of_stretch) k (omega (arith, below, all))) room blank.room;
+      space.filling.rooms.items rooms waiting.stretches (λ k below. range_one (length found.group_of_stretch) k (omega (arith, below, all))) room blank.room;
 }
 
 abbrev wanted_one : List ℕ → ℕ → ℕ
@@ -361,7 +361,7 @@ pub units_of : (jobs : List Job) (instance : Instance) (found : Found) (top : �
     (work length_ divisor : ℕ) (old old' wants rooms : List ℕ) → IsInstance jobs instance → length found.group_of_stretch ≡ length (stretches jobs) →
     IsWaiting instance.order.items found top part → IsBlank (length jobs) (length instance.lengths.items) space →
     works ≡ instance.works.items → numbers ≡ part.jobs → lengths ≡ instance.lengths.items → numbers' ≡ part.stretches →
-    divisor ≡ common_divisor work length_ → old ≡ space.wants.items → old' ≡ space.rooms.items →
+    divisor ≡ common_divisor work length_ → old ≡ space.wants.items → old' ≡ space.filling.rooms.items →
     AreWritten (λ i value. value ≡ length_ / divisor * get_or works i 0) numbers (length numbers) old wants →
     AreWritten (λ i value. value ≡ work / divisor * get_or lengths i 0) numbers' (length numbers') old' rooms →
     AreUnits jobs instance found top (work / common_divisor work length_) (length_ / common_divisor work length_) wants rooms
@@ -371,7 +371,7 @@ units_of jobs instance found top part space works lengths numbers numbers' work 
     numbers part.jobs old space.wants.items wants
     (λ i value is. is ∙ ap (λ n. length_ / n * get_or works i 0) divides ∙ ap (λ (xs : List ℕ). length_ / common_divisor work length_ * get_or xs i 0) a) b f wanted)
     (written_same (λ i value. value ≡ work / divisor * get_or lengths i 0) (λ i value. value ≡ work / common_divisor work length_ * get_or instance.lengths.items i 0)
-    numbers' part.stretches old' space.rooms.items rooms
+    numbers' part.stretches old' space.filling.rooms.items rooms
     (λ i value is. is ∙ ap (λ n. work / n * get_or lengths i 0) divides ∙ ap (λ (xs : List ℕ). work / common_divisor work length_ * get_or xs i 0) d) e g room)
 
 -- an order has as many numbers as there are jobs

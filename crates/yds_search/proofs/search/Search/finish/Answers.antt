@@ -27,13 +27,13 @@ pub clear_all-requires-clause-within : goal.clear_all-requires-clause-within
 clear_all-requires-clause-within c =
     let filled = c.requires.filled in
     rw ((c.last-own_jobs.ensures (jobs_of c.requires.filled.chosen.parts) c.requires.filled.chosen.part.jobs (c.deref.ensures.value ∙ c.requires.filled.chosen.last.jobs) c.requires.filled.chosen.last.jobs_size), (c.last-own_stretches.ensures (stretches_of c.requires.filled.chosen.parts) c.requires.filled.chosen.part.stretches (c.deref-2.ensures.value ∙ c.requires.filled.chosen.last.stretches) c.requires.filled.chosen.last.stretches_size))
-    (within_is c.args.self.now.instance.rows.now c.args.self.now.instance (found_view c.args.self.now.found) c.args.self.now.top (group_view c.args.attempt.group) (shares_view c.args.attempt.shares.items)
-    c.args.self.now.space.wants.items c.args.self.now.space.rooms.items filled.chosen.part filled.chosen.instance filled.chosen.groups filled.chosen.own filled.attempt)
+    (within_is c.args.self.now.instance.rows.now c.args.self.now.instance (found_view c.args.self.now.found) c.args.self.now.top (group_view c.args.group) (shares_view c.args.self.now.space.filling.shares.items)
+    c.args.self.now.space.wants.items c.args.self.now.space.filling.rooms.items filled.chosen.part filled.chosen.instance filled.chosen.groups filled.chosen.own filled.attempt)
 
 pub clear_all-requires-clause-reaches : goal.clear_all-requires-clause-reaches
 clear_all-requires-clause-reaches c =
     let filled = c.requires.filled in
-    let rooms : length c.args.self.now.instance.lengths.items ≡ length c.args.self.now.space.rooms.items =
+    let rooms : length c.args.self.now.instance.lengths.items ≡ length c.args.self.now.space.filling.rooms.items =
     filled.chosen.instance.all_lengths ∙ sym (filled.attempt.filled.fill.same_rooms ∙ filled.attempt.filled.all_rooms) in
     record { late = filled.reaches.late ∙ rooms; shared = filled.reaches.shared ∙ rooms; all = filled.reaches.all ∙ rooms }
 
@@ -67,7 +67,7 @@ returns c =
     let all_stretches : length c.rename-2.new.groups ≡ length c.args.self.now.found.group_of_stretch.items =
     c.rename-2.auto.groups ∙ ap (λ (xs : List ℕ). length xs) c.deref_mut-2.ensures.value in
     let blank = c.clear_all.ensures in
-    let rooms : length c.args.self.now.space.rooms.items ≡ length c.args.self.now.instance.lengths.items =
+    let rooms : length c.args.self.now.space.filling.rooms.items ≡ length c.args.self.now.instance.lengths.items =
     c.requires.filled.attempt.filled.fill.same_rooms ∙ c.requires.filled.attempt.filled.all_rooms ∙ sym c.requires.filled.chosen.instance.all_lengths in
     let chosen = c.requires.filled.chosen in
     record {
@@ -88,11 +88,11 @@ returns c =
               group_of_stretch = xs;
               shares = shares_view c.extend_from_slice.new.self.items;
             }) (c.args.self.now.top + 1) 1000000) (sym places)
-            (finish_step c.args.self.now.instance.rows.now c.args.self.now.instance (found_view c.args.self.now.found) c.args.self.now.top (group_view c.args.attempt.group)
-            (shares_view c.args.attempt.shares.items) c.args.self.now.space.wants.items c.args.self.now.space.rooms.items
+            (finish_step c.args.self.now.instance.rows.now c.args.self.now.instance (found_view c.args.self.now.found) c.args.self.now.top (group_view c.args.group)
+            (shares_view c.args.self.now.space.filling.shares.items) c.args.self.now.space.wants.items c.args.self.now.space.filling.rooms.items
             (map group_view c.push.new.self.items) c.rename.new.groups c.rename-2.new.groups (shares_view c.extend_from_slice.new.self.items)
             c.requires.filled.chosen.instance c.requires.filled.chosen.groups c.requires.filled.chosen.within c.requires.filled.attempt c.requires.served
-            (ap (map group_view) c.in_ok-push.ensures.items ∙ map_push group_view c.args.self.now.found.groups.items c.args.attempt.group)
+            (ap (map group_view) c.in_ok-push.ensures.items ∙ map_push group_view c.args.self.now.found.groups.items c.args.group)
             (ap shares_view c.in_ok-extend_from_slice.ensures.items ∙ map-append share_view c.args.self.now.found.shares.items c.deref-3.result.now
             ∙ ap (λ xs. shares_view c.args.self.now.found.shares.items ++ shares_view xs) c.deref-3.ensures.value)
             all_jobs all_stretches

@@ -72,6 +72,13 @@ members-requires-then-top-le-LAST c =
       c.in_ok-found.ensures.all_stretches,
     ))
 
+pub blank_workspace-requires-clause-few_stretches : goal.blank_workspace-requires-clause-few_stretches
+blank_workspace-requires-clause-few_stretches c = omega (
+  arith,
+  ap (λ (pieces : List Piece). length pieces) c.requires.timeline,
+  c.in_ok-instance.ensures.instance.few_stretches,
+)
+
 pub returns-clause-search : goal.returns-clause-search
 returns-clause-search c =
     let found : Found = found_view c.in_ok-found.found in
