@@ -4,7 +4,7 @@ use Rattle.yds_search.specs.Views.{shares_view}
 use Rattle.yds_search.specs.Fill.{AreTaken, IsFilling, IsNumbers}
 use Rattle.yds_search.specs.Numbers.{values_at}
 use Rattle.yds_search.proofs.Numbers.{values_count}
-use Rattle.yds_search.proofs.Filling.{fill_begins, fill_more, fill_ends}
+use Rattle.yds_search.proofs.Fills.{fill_begins, fill_more, fill_ends}
 use Rattle.yds_search.proofs.Nexts.{next_begins}
 use Rattle.yds_search.proofs.fill.Filling.fill.Goals as goal
 

@@ -41,8 +41,7 @@ returns-then-left-eq0-clause-served c =
     (serve_take c.args.jobs.now.rows.now c.args.jobs.now.windows.now c.args.job c.args.want (shares_view c.args.self.now.shares.items) c.args.self.now.rooms.items
     c.loop-stretch.stretch c.loop-stretch.left (shares_view c.loop-stretch.self.shares.items) c.loop-stretch.self.rooms.items c.in_ok-left.left (shares_view c.take.new.self.shares.items)
     c.take.new.self.rooms.items c.loop-stretch.invariant.served c.requires.known c.loop-stretch.invariant.from c.loop-stretch-test.true (omega (arith, c.requires.inside, c.loop-stretch-test.true))
-    c.in_ok-left.ensures.taken)
-    (omega (arith, c.loop-stretch-test.true)) (λ some. absurd (omega (arith, some, c.if-left-eq0.true)))
+    c.in_ok-left.ensures.taken) (omega (arith, c.loop-stretch-test.true)) (λ some. absurd (omega (arith, some, c.if-left-eq0.true)))
 
 pub returns-then-left-eq0-clause-own : goal.returns-then-left-eq0-clause-own
 returns-then-left-eq0-clause-own c =
@@ -84,8 +83,7 @@ loop-stretch-preserved c =
           (serve_take c.args.jobs.now.rows.now c.args.jobs.now.windows.now c.args.job c.args.want (shares_view c.args.self.now.shares.items) c.args.self.now.rooms.items
           c.loop-stretch.stretch c.loop-stretch.left (shares_view c.loop-stretch.self.shares.items) c.loop-stretch.self.rooms.items c.in_ok-left.left (shares_view c.take.new.self.shares.items)
           c.take.new.self.rooms.items c.loop-stretch.invariant.served c.requires.known c.loop-stretch.invariant.from c.loop-stretch-test.true (omega (arith, c.requires.inside, c.loop-stretch-test.true))
-          c.in_ok-left.ensures.taken)
-          after
+          c.in_ok-left.ensures.taken) after
           (λ some k above below. passed_full c.args.own.now.numbers.now c.take.new.self.rooms.items (c.loop-stretch.place + 1) c.next_place-place-in-loop-stretch.result
           (length c.deref_mut-in-loop-stretch.result.now) (c.loop-stretch.stretch + 1) (window_at c.args.jobs.now.windows.now c.args.job).end k open_ found
           (from_next c.args.own.now.numbers.now c.loop-stretch.self.rooms.items c.loop-stretch.place c.loop-stretch.stretch c.loop-stretch.invariant.own here.0 here.1) above

@@ -172,9 +172,5 @@ returns-clause-filled c =
           c.scale.new.scaled c.scale-2.new.scaled (shares_view c.fill.new.self.shares.items) c.fill.new.wants c.fill.new.self.rooms.items c.requires.chosen.instance are units
           (fill_same c.args.self.now.instance.rows.now c.deref-8.result.now c.args.self.now.instance.windows.items c.deref_mut-4.result.now c.scale.new.scaled (take c.args.self.now.space.filling.rooms.len (c.scale-2.new.scaled ++ drop (length c.scale-2.new.scaled) c.args.self.now.space.filling.rooms.items)) c.scale-2.new.scaled
           (shares_view c.fill.new.self.shares.items) c.fill.new.wants c.fill.new.self.rooms.items c.deref-8.ensures.value wants rooms c.in_ok-fill.ensures));
-      reaches = record {
-        late = c.requires.space.reaches.late;
-        shared = c.requires.space.reaches.shared;
-        all = c.requires.space.reaches.all;
-      };
+      reaches = record { late = c.requires.space.reaches.late; shared = c.requires.space.reaches.shared; all = c.requires.space.reaches.all };
     }

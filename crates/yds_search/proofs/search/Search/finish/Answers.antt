@@ -7,8 +7,7 @@ use Rattle.yds_search.specs.Numbers.{AreWritten}
 use Rattle.yds_search.specs.Search.{IsSearch, AreMovedFrom}
 use Rattle.yds_search.proofs.Attempts.{known_at, part_known, part_stretch_known, range_one, written_same}
 use Rattle.yds_search.proofs.Stacks.{renamed_is, moved_from, stack_kept}
-use Rattle.yds_search.proofs.Steps.{few_enough, finish_step, finish_smaller}
-use Rattle.yds_search.proofs.Dividing.{within_is}
+use Rattle.yds_search.proofs.Steps.{few_enough, finish_step, finish_smaller, within_is}
 use Rattle.yds_search.proofs.search.Search.finish.Goals as goal
 
 pub rename-requires : goal.rename-requires
@@ -94,8 +93,7 @@ returns c =
             c.requires.filled.chosen.instance c.requires.filled.chosen.groups c.requires.filled.chosen.within c.requires.filled.attempt c.requires.served
             (ap (map group_view) c.in_ok-push.ensures.items ∙ map_push group_view c.args.self.now.found.groups.items c.args.group)
             (ap shares_view c.in_ok-extend_from_slice.ensures.items ∙ map-append share_view c.args.self.now.found.shares.items c.deref-3.result.now
-            ∙ ap (λ xs. shares_view c.args.self.now.found.shares.items ++ shares_view xs) c.deref-3.ensures.value)
-            all_jobs all_stretches
+            ∙ ap (λ xs. shares_view c.args.self.now.found.shares.items ++ shares_view xs) c.deref-3.ensures.value) all_jobs all_stretches
             (λ j known. job_renamed j (omega (arith, known, c.requires.filled.chosen.groups.all_jobs))) stretch_renamed));
         stack = stack_kept c.args.self.now.instance.order.items (found_view c.args.self.now.found)
             (record {
@@ -103,8 +101,7 @@ returns c =
               group_of_job = take c.args.self.now.found.group_of_job.len (c.rename.new.groups ++ drop (length c.rename.new.groups) c.args.self.now.found.group_of_job.items);
               group_of_stretch = take c.args.self.now.found.group_of_stretch.len (c.rename-2.new.groups ++ drop (length c.rename-2.new.groups) c.args.self.now.found.group_of_stretch.items);
               shares = shares_view c.extend_from_slice.new.self.items;
-            }) c.args.self.now.top 1000000 chosen.parts
-            (ap (λ (xs : List ℕ). length xs) places ∙ all_stretches)
+            }) c.args.self.now.top 1000000 chosen.parts (ap (λ (xs : List ℕ). length xs) places ∙ all_stretches)
             (subst (λ (xs : List ℕ). AreMovedFrom c.args.self.now.top c.args.self.now.found.group_of_job.items xs) (sym jobs)
             (moved_from (λ i value. value ≡ length (map group_view c.args.self.now.found.groups.items)) c.args.self.now.found.group_of_job.items c.rename.new.groups
             c.requires.filled.chosen.part.jobs c.args.self.now.instance.order.items c.args.self.now.top c.requires.filled.chosen.own.jobs written
@@ -112,8 +109,7 @@ returns c =
             (subst (λ (xs : List ℕ). AreMovedFrom c.args.self.now.top c.args.self.now.found.group_of_stretch.items xs) (sym places)
             (moved_from (λ i value. value ≡ length (map group_view c.args.self.now.found.groups.items)) c.args.self.now.found.group_of_stretch.items c.rename-2.new.groups
             c.requires.filled.chosen.part.stretches (range_with_len 0 (length c.args.self.now.found.group_of_stretch.items)) c.args.self.now.top c.requires.filled.chosen.own.stretches written'
-            (λ i value is. omega (arith, is, less))))
-            chosen.stack;
+            (λ i value is. omega (arith, is, less)))) chosen.stack;
         laid = c.drop_last.ensures chosen.parts chosen.part chosen.last;
         space = record {
           all_wants = blank.all_wants ∙ c.requires.filled.attempt.filled.fill.same_wants ∙ c.requires.filled.attempt.filled.all_wants;

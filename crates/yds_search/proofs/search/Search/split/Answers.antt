@@ -12,8 +12,7 @@ use Rattle.yds_search.specs.Search.{IsSearch, IsJobNumber, split_stretch, AreMov
 use Rattle.yds_search.proofs.Attempts.{few_in, known_at, part_known, part_stretch_known, part_few, range_one, written_same}
 use Rattle.yds_search.proofs.Numbers.{in_order}
 use Rattle.yds_search.proofs.Stacks.{share_own, stack_split}
-use Rattle.yds_search.proofs.Steps.{few_enough}
-use Rattle.yds_search.proofs.Dividing.{part_rising, closing_is, divided, within_is}
+use Rattle.yds_search.proofs.Steps.{few_enough, part_rising, closing_is, divided, within_is}
 use Rattle.yds_search.proofs.search.Search.split.Goals as goal
 
 pub reach-requires-clause-jobs : goal.reach-requires-clause-jobs
@@ -192,8 +191,7 @@ returns c =
         stack = stack_split c.args.self.now.instance.rows.now c.args.self.now.instance.windows.items c.args.self.now.instance.order.items (found_view c.args.self.now.found) new
             c.args.self.now.top 1000000 chosen.parts chosen.part chosen.groups
             (few_enough c.args.self.now.instance.rows.now c.args.self.now.instance.windows.items (found_view c.args.self.now.found) c.args.self.now.top chosen.groups chosen.instance.few_stretches)
-            chosen.within
-            (ap (λ (xs : List ℕ). length xs) places ∙ c.split_stretches.auto.groups ∙ ap (λ (xs : List ℕ). length xs) c.deref_mut.ensures.value)
+            chosen.within (ap (λ (xs : List ℕ). length xs) places ∙ c.split_stretches.auto.groups ∙ ap (λ (xs : List ℕ). length xs) c.deref_mut.ensures.value)
             (subst (λ (xs : List ℕ). AreMovedFrom c.args.self.now.top c.args.self.now.found.group_of_job.items xs) (sym jobs) all.1)
             (subst (λ (xs : List ℕ). AreMovedFrom c.args.self.now.top c.args.self.now.found.group_of_stretch.items xs) (sym places) all.2)
             chosen.stack chosen.own;
