@@ -1,23 +1,26 @@
 -- A group is filled at its average speed.
-use Rattle.std.proofs.Common.{◌≡◌, ℕ, ◌*◌, ◌/◌, ◌<◌, ◌≤◌, ◌==◌, List, ◌∙◌, length, get_or, refl, sym, ap, subst, inl, inr, arith}
-use Rattle.std.specs.Prelude.{cond, not, if◌then◌else◌, nat_lt}
+use Rattle.std.proofs.Common.{◌≡◌, ℕ, zero, suc, ◌+◌, ◌*◌, ◌/◌, ◌%◌, ◌≤◌, ◌∙◌, ap, arith, ◌<◌, ◌==◌, List, get_or, inl, inr, length, refl, sym, subst}
+use Rattle.std.proofs.Math.Nat.{mul-div_cancel, div-le_self}
+use Rattle.yds_model.specs.Divisor.{divisor_within, common_divisor}
+use Rattle.std.specs.Prelude.{if◌then◌else◌, cond, not, nat_lt}
+use Rattle.std.proofs.lemmas.Bool.{cases_eq, cases_lt}
+use Rattle.yds_search.specs.Found.{group_of, Found, Share, work_of_group, length_of_group}
+use Rattle.yds_search.specs.Amounts.{amount_in}
+use Rattle.yds_search.proofs.Ranges.{over_at_most, over_mul, over_ones, over, over_same, over_one, over_list}
+use Rattle.yds_model.proofs.Horizon.{part_own, part_other}
 use Rattle.std.specs.List.{All, sum_by, range_with_len}
 use Rattle.std.proofs.lemmas.List.{get_or_past, get_or_default}
 use Rattle.std.proofs.lemmas.List.FromFn.{get_or-range_with_len, length-range_with_len}
 use Rattle.std.proofs.lemmas.List.Sums.{sum_by-le-sum_by}
 use Rattle.std.proofs.lemmas.List.Sorted.{sum_by-IsPermutation, length_permutation}
 use Rattle.std.proofs.lemmas.List.Filters.{length-filter_both}
-use Rattle.std.proofs.lemmas.Bool.{cases_lt}
 use Rattle.std.proofs.lemmas.Nat.{mul-le}
 use Rattle.yds_model.specs.Job.{Job, job_at}
 use Rattle.yds_model.specs.Event.{stretches}
-use Rattle.yds_model.specs.Divisor.{common_divisor}
 use Rattle.yds_events.specs.declared.window.Window.{Window}
 use Rattle.yds_search.specs.declared.instance.Instance.{Instance}
-use Rattle.yds_search.specs.Found.{Found, Share, group_of, work_of_group, length_of_group}
 use Rattle.yds_events.specs.Window.{length_at}
 use Rattle.yds_search.specs.declared.workspace.Workspace.{Workspace}
-use Rattle.yds_search.specs.Amounts.{amount_in}
 use Rattle.yds_search.specs.Order.{Precedes, IsOrder}
 use Rattle.yds_search.specs.Numbers.{IsOneOf, numbers_in, AreWritten}
 use Rattle.yds_search.specs.Waiting.{Part, IsWaiting, IsBlank}
@@ -26,18 +29,84 @@ use Rattle.yds_search.specs.Search.{IsSearch, IsAttempt}
 use Rattle.yds_search.specs.Instance.{IsInstance}
 use Rattle.yds_search.proofs.KeySums.{sum_by-filter, cond_at_most}
 use Rattle.yds_search.proofs.Numbers.{one_or_none, written_at, written_off, in_group, in_known, in_has, in_order}
-use Rattle.yds_search.proofs.Ranges.{over, over_same, over_one, over_list}
-use Rattle.yds_search.proofs.Totals.{amount_small}
-use Rattle.yds_model.proofs.Horizon.{part_own, part_other}
 use Rattle.yds_search.proofs.Shares.{chosen_some}
-use Rattle.yds_search.proofs.Lowest.{IsLowest, lowest}
+
+-- a divisor and the two quotients
+pub record Divides (a b divisor : ℕ) : Type 0 where
+  pub one : ℕ
+  pub other : ℕ
+  pub first : a ≡ one * divisor
+  pub second : b ≡ other * divisor
+
+turn : (a b one other divisor : ℕ) → suc b ≡ one * divisor → a % suc b ≡ other * divisor → a ≡ ((a / suc b) * one + other) * divisor
+turn a b one other divisor first second = omega (arith, first, second, ap (λ n. (a / suc b) * n) first)
+
+divides_within : (turns a b : ℕ) → b ≤ turns → Divides a b (divisor_within turns a b)
+divides_within zero a b few = record { one = 1; other = 0; first = omega arith; second = omega arith }
+divides_within (suc turns) a zero few = record { one = 1; other = 0; first = omega arith; second = omega arith }
+divides_within (suc turns) a (suc b) few =
+    let rest = divides_within turns (suc b) (a % suc b) (omega arith) in
+    record {
+      one = (a / suc b) * rest.one + rest.other;
+      other = rest.one;
+      first = turn a b rest.one rest.other (divisor_within turns (suc b) (a % suc b)) rest.first rest.second;
+      second = rest.first;
+    }
+
+-- lowest terms
+pub record IsLowest (a b divisor : ℕ) : Type 0 where
+  pub some : 1 ≤ divisor
+  pub first : 1 ≤ a / divisor
+  pub second : 1 ≤ b / divisor
+  pub first_within : a / divisor ≤ a
+  pub second_within : b / divisor ≤ b
+  pub same : a / divisor * b ≡ b / divisor * a
+
+quotient_some : (one divisor : ℕ) → 1 ≤ one * divisor → (1 ≤ one) × (1 ≤ divisor)
+quotient_some zero divisor some = absurd (omega arith)
+quotient_some (suc one) zero some = absurd (omega arith)
+quotient_some (suc one) (suc divisor) some = (omega arith, omega arith)
+
+quotient : (a one divisor : ℕ) → 1 ≤ divisor → a ≡ one * divisor → a / divisor ≡ one
+quotient a one divisor some is = ap (λ n. n / divisor) is ∙ mul-div_cancel one some
+
+pub lowest : (a b : ℕ) → 1 ≤ a → 1 ≤ b → IsLowest a b (common_divisor a b)
+lowest a b some some' =
+    let divides = divides_within b a b (omega arith) in
+    let first = quotient_some divides.one (common_divisor a b) (omega (arith, divides.first)) in
+    let second = quotient_some divides.other (common_divisor a b) (omega (arith, divides.second)) in
+    let one : a / common_divisor a b ≡ divides.one = quotient a divides.one (common_divisor a b) first.1 divides.first in
+    let other : b / common_divisor a b ≡ divides.other = quotient b divides.other (common_divisor a b) first.1 divides.second in
+    record {
+      some = first.1;
+      first = omega (arith, one, first.0);
+      second = omega (arith, other, second.0);
+      first_within = div-le_self a (common_divisor a b);
+      second_within = div-le_self b (common_divisor a b);
+      same = omega (arith, ap (λ n. n * b) one, ap (λ n. n * a) other, ap (λ n. divides.one * n) divides.second, ap (λ n. divides.other * n) divides.first);
+    }
+
+-- amounts that are each at most so much are together at most as many times that
+amount_one : (number group amount most : ℕ) → amount ≤ most → (if number == group then amount else 0) ≤ most * 1
+amount_one number group amount most small = elim (cases_eq number group) [
+  | inl same ↦ omega (arith, part_own number group amount same)
+  | inr other ↦ omega (arith, part_other number group amount other)
+]
+
+pub amount_small : (amounts groups : List ℕ) (group n most : ℕ) → ((i : ℕ) → i < n → get_or amounts i 0 ≤ most) → amount_in amounts groups group n ≤ most * n
+amount_small amounts groups group n most small = omega (
+  arith,
+  over_at_most (λ i. if group_of groups i == group then get_or amounts i 0 else 0) (λ i. most * 1) n
+      (λ i below. amount_one (group_of groups i) group (get_or amounts i 0) most (small i below)),
+  over_mul most (λ i. 1) n,
+  ap (λ k. most * k) (over_ones n),
+)
 
 -- a total, of lists that are the same
 pub total_at : (amounts amounts' numbers numbers' : List ℕ) (total : ℕ) → amounts ≡ amounts' → numbers ≡ numbers' →
     total ≡ sum_by (λ i. get_or amounts i 0) numbers → total ≡ sum_by (λ i. get_or amounts' i 0) numbers'
 total_at amounts amounts' numbers numbers' total same same' is =
-    subst (λ (xs : List ℕ). total ≡ sum_by (λ i. get_or xs i 0) numbers') same
-    (subst (λ (xs : List ℕ). total ≡ sum_by (λ i. get_or amounts i 0) xs) same' is)
+    subst (λ (xs : List ℕ). total ≡ sum_by (λ i. get_or xs i 0) numbers') same (subst (λ (xs : List ℕ). total ≡ sum_by (λ i. get_or amounts i 0) xs) same' is)
 
 -- what was written, of lists that are the same
 pub written_same : (P Q : ℕ → ℕ → Type 0) (numbers numbers' old old' new : List ℕ) → ((i value : ℕ) → P i value → Q i value) → numbers ≡ numbers' → old ≡ old' →
@@ -112,7 +181,7 @@ pub units_are : (jobs : List Job) (instance : Instance) (found : Found) (top p q
     IsInstance jobs instance → length found.group_of_stretch ≡ length (stretches jobs) → IsWaiting instance.order.items found top part →
     IsBlank (length jobs) (length instance.lengths.items) space →
     AreWritten (λ i value. value ≡ q * get_or instance.works.items i 0) part.jobs (length part.jobs) space.wants.items wants →
-    AreWritten (λ i value. value ≡ p * get_or instance.lengths.items i 0) part.stretches (length part.stretches) space.rooms.items rooms →
+    AreWritten (λ i value. value ≡ p * get_or instance.lengths.items i 0) part.stretches (length part.stretches) space.filling.rooms.items rooms →
     AreUnits jobs instance found top p q wants rooms
 units_are jobs instance found top p q part space wants rooms are all waiting blank wanted room = record {
   all_wants = wanted.count ∙ blank.all_wants;
@@ -120,7 +189,7 @@ units_are jobs instance found top p q part space wants rooms are all waiting bla
   want = scaled_is instance.works.items found.group_of_job part.jobs instance.order.items top q (length jobs) space.wants.items wants waiting.jobs
       are.order.each wanted blank.want;
   room = scaled_is instance.lengths.items found.group_of_stretch part.stretches (range_with_len 0 (length found.group_of_stretch)) top p (length (stretches jobs))
-      space.rooms.items rooms waiting.stretches (λ k below. range_one (length found.group_of_stretch) k (omega (arith, below, all))) room blank.room;
+      space.filling.rooms.items rooms waiting.stretches (λ k below. range_one (length found.group_of_stretch) k (omega (arith, below, all))) room blank.room;
 }
 
 abbrev wanted_one : List ℕ → ℕ → ℕ
@@ -183,10 +252,7 @@ part_stretch_known order found top part waiting p within =
 
 -- there are no more than all that are in a group
 pub few_in : (groups : List ℕ) (group : ℕ) (numbers : List ℕ) → length (numbers_in groups group numbers) ≤ length numbers
-few_in groups group numbers = omega (
-  arith,
-  length-filter_both (λ i. group_of groups i == group) (λ i. not (group_of groups i == group)) (λ i. refl) numbers,
-)
+few_in groups group numbers = omega (arith, length-filter_both (λ i. group_of groups i == group) (λ i. not (group_of groups i == group)) (λ i. refl) numbers)
 
 -- and are no longer than all
 pub part_few : (order : List ℕ) (found : Found) (top : ℕ) (part : Part) → IsWaiting order found top part →
@@ -252,8 +318,7 @@ pub record AreSums (jobs : List Job) (instance : Instance) (found : Found) (top 
 pub sums : (jobs : List Job) (instance : Instance) (found : Found) (top last work length_ : ℕ) → IsInstance jobs instance →
     IsSearch jobs instance.windows.items found top last → top ≤ last →
     work ≡ amount_in instance.works.items found.group_of_job top (length instance.works.items) →
-    length_ ≡ amount_in instance.lengths.items found.group_of_stretch top (length instance.lengths.items) →
-    AreSums jobs instance found top work length_
+    length_ ≡ amount_in instance.lengths.items found.group_of_stretch top (length instance.lengths.items) → AreSums jobs instance found top work length_
 sums jobs instance found top last work length_ are search within is is' =
     let one = work_is jobs instance found.group_of_job top work are is in
     let other = length_is jobs instance found.group_of_stretch top length_ are is' in
@@ -361,7 +426,7 @@ pub units_of : (jobs : List Job) (instance : Instance) (found : Found) (top : �
     (work length_ divisor : ℕ) (old old' wants rooms : List ℕ) → IsInstance jobs instance → length found.group_of_stretch ≡ length (stretches jobs) →
     IsWaiting instance.order.items found top part → IsBlank (length jobs) (length instance.lengths.items) space →
     works ≡ instance.works.items → numbers ≡ part.jobs → lengths ≡ instance.lengths.items → numbers' ≡ part.stretches →
-    divisor ≡ common_divisor work length_ → old ≡ space.wants.items → old' ≡ space.rooms.items →
+    divisor ≡ common_divisor work length_ → old ≡ space.wants.items → old' ≡ space.filling.rooms.items →
     AreWritten (λ i value. value ≡ length_ / divisor * get_or works i 0) numbers (length numbers) old wants →
     AreWritten (λ i value. value ≡ work / divisor * get_or lengths i 0) numbers' (length numbers') old' rooms →
     AreUnits jobs instance found top (work / common_divisor work length_) (length_ / common_divisor work length_) wants rooms
@@ -371,7 +436,7 @@ units_of jobs instance found top part space works lengths numbers numbers' work 
     numbers part.jobs old space.wants.items wants
     (λ i value is. is ∙ ap (λ n. length_ / n * get_or works i 0) divides ∙ ap (λ (xs : List ℕ). length_ / common_divisor work length_ * get_or xs i 0) a) b f wanted)
     (written_same (λ i value. value ≡ work / divisor * get_or lengths i 0) (λ i value. value ≡ work / common_divisor work length_ * get_or instance.lengths.items i 0)
-    numbers' part.stretches old' space.rooms.items rooms
+    numbers' part.stretches old' space.filling.rooms.items rooms
     (λ i value is. is ∙ ap (λ n. work / n * get_or lengths i 0) divides ∙ ap (λ (xs : List ℕ). work / common_divisor work length_ * get_or xs i 0) d) e g room)
 
 -- an order has as many numbers as there are jobs
@@ -383,6 +448,5 @@ order_few jobs order ordered =
 pub fill_same : (jobs : List Job) (windows windows' : List Window) (wants wants' rooms rooms' : List ℕ) (shares : List Share) (left left' : List ℕ) →
     windows ≡ windows' → wants ≡ wants' → rooms ≡ rooms' → IsFill jobs windows wants rooms shares left left' → IsFill jobs windows' wants' rooms' shares left left'
 fill_same jobs windows windows' wants wants' rooms rooms' shares left left' a b d fill =
-    subst (λ (xs : List Window). IsFill jobs xs wants' rooms' shares left left') a
-    (subst (λ (xs : List ℕ). IsFill jobs windows xs rooms' shares left left') b
+    subst (λ (xs : List Window). IsFill jobs xs wants' rooms' shares left left') a (subst (λ (xs : List ℕ). IsFill jobs windows xs rooms' shares left left') b
     (subst (λ (xs : List ℕ). IsFill jobs windows wants xs shares left left') d fill))

@@ -31,10 +31,8 @@ other_zero k n value above = grind (arith, nat_tests)
 pub over_alone : (value : ℕ) (n k : ℕ) → k < n → over n (λ j. if k == j then value else 0) ≡ value
 over_alone value zero k within = absurd (omega arith)
 over_alone value (suc n) k within =
-    over_more (λ j. if k == j then value else 0) n
-    ∙ alone_more k n value (over n (λ j. if k == j then value else 0)) within
-    (λ before. over_alone value n k before)
-    (λ after. over_zero (λ j. if k == j then value else 0) n (λ j below. other_zero k j value (omega arith)))
+    over_more (λ j. if k == j then value else 0) n ∙ alone_more k n value (over n (λ j. if k == j then value else 0)) within
+    (λ before. over_alone value n k before) (λ after. over_zero (λ j. if k == j then value else 0) n (λ j below. other_zero k j value (omega arith)))
 
 -- a share more, at a number that is tested
 tested_more : (test : Bool) (same : Bool) (units rest : ℕ) →
@@ -52,8 +50,7 @@ nothing true none = refl
 nothing false none = refl
 
 -- at the share's own number the test is that of the share
-tested_at : (test : ℕ → Bool) (k j units : ℕ) →
-    (if k == j then (if test j then units else 0) else 0) ≡ (if k == j then (if test k then units else 0) else 0)
+tested_at : (test : ℕ → Bool) (k j units : ℕ) → (if k == j then (if test j then units else 0) else 0) ≡ (if k == j then (if test k then units else 0) else 0)
 tested_at test k j units = elim (cases_eq k j) [
   | inl same ↦ ap (λ n. if k == j then (if test n then units else 0) else 0) (sym same)
   | inr other ↦ not_same k j (if test j then units else 0) (if test k then units else 0) other
@@ -65,8 +62,7 @@ gather : (key : Share → ℕ) (test : ℕ → Bool) (n : ℕ) (shares : List Sh
 gather key test n [] within = over_zero (λ j. if test j then 0 else 0) n (λ j below. nothing (test j) 0)
 gather key test n (share ∷ shares) within =
     over_same (λ j. if test j then units_at key (share ∷ shares) j else 0)
-    (λ j. (if key share == j then (if test (key share) then share.units else 0) else 0) + (if test j then units_at key shares j else 0)) n
-    (λ j below.
+    (λ j. (if key share == j then (if test (key share) then share.units else 0) else 0) + (if test j then units_at key shares j else 0)) n (λ j below.
     ap (λ sum. if test j then sum else 0) (sum_by-cons (λ one. if key one == j then one.units else 0) share shares)
     ∙ tested_more (test j) (key share == j) share.units (units_at key shares j)
     ∙ ap (λ first. first + (if test j then units_at key shares j else 0)) (tested_at test (key share) j share.units))
@@ -197,8 +193,7 @@ scaled factor number group one = elim (cases_eq number group) [
 
 -- what is left of the wants of a group that was filled at its average speed is what is left of the room
 pub balance : (jobs : List Job) (windows : List Window) (found : Found) (top p q : ℕ) (wants rooms : List ℕ) (shares : List Share) (wants' rooms' : List ℕ) →
-    length windows ≡ length jobs →
-    IsFilled jobs windows found top p q wants rooms shares wants' rooms' →
+    length windows ≡ length jobs → IsFilled jobs windows found top p q wants rooms shares wants' rooms' →
     over (length jobs) (λ j. get_or wants' j 0) ≡ over (length (stretches jobs)) (λ k. get_or rooms' k 0)
 balance jobs windows found top p q wants rooms shares wants' rooms' all filled = omega (
   arith,
@@ -210,8 +205,7 @@ balance jobs windows found top p q wants rooms shares wants' rooms' all filled =
   over_same (λ k. units_in_stretch shares k + get_or rooms' k 0) (λ k. p * (if group_of found.group_of_stretch k == top then length_at jobs k else 0)) (length (stretches jobs))
       (λ k below. filled.fill.room k ∙ filled.room k below ∙ scaled p (group_of found.group_of_stretch k) top (length_at jobs k)),
   over_mul p (λ k. if group_of found.group_of_stretch k == top then length_at jobs k else 0) (length (stretches jobs)),
-  gather (λ share. share.job) (λ j. true) (length jobs) shares
-      (λ x d within. omega (arith, (filled.fill.taken.parts x d within).known)),
+  gather (λ share. share.job) (λ j. true) (length jobs) shares (λ x d within. omega (arith, (filled.fill.taken.parts x d within).known)),
   gather (λ share. share.stretch) (λ k. true) (length (stretches jobs)) shares
       (λ x d within. omega (arith, (filled.fill.taken.parts x d within).known_stretch, filled.all_rooms)),
   filled.balanced,

@@ -1,18 +1,192 @@
 -- What the late jobs close upon is full, and nobody outside has a share in it.
-use Rattle.std.proofs.Common.{◌≡◌, ℕ, zero, suc, ◌+◌, ◌<◌, ◌≤◌, ◌⊎◌, ◌∙◌, min, List, length, get_or, refl, sym, ap, subst, inl, inr, arith}
-use Rattle.std.proofs.lemmas.List.{get_or_default, get_or_past}
+use Rattle.std.proofs.Common.{◌≡◌, ℕ, ◌+◌, ◌<◌, ◌≤◌, ◌≢◌, min, List, ◌∙◌, length, get_or, set, sym, ap, subst, inl, inr, arith, zero, suc, ◌⊎◌, refl}
+use Rattle.std.proofs.lemmas.List.{get_or-set_same, get_or-set_other, length-set, get_or_default, get_or_past}
 use Rattle.std.proofs.lemmas.Bool.{cases_lt, cases_eq}
+use Rattle.yds_events.specs.declared.window.Window.{Window}
+use Rattle.yds_search.specs.Found.{Share, share_at, no_share}
+use Rattle.yds_events.specs.Window.{window_at, IsIn, AreWindows}
+use Rattle.yds_search.specs.Numbers.{values_at, AreWritten, IsOneOf}
+use Rattle.yds_search.specs.Closure.{AreLateReaches, AreShareReaches, AreClosing, IsLastBefore, reach_from, reach_at, AreReaches, AreAllReaches, IsMarked, AreClosed}
+use Rattle.yds_search.proofs.Numbers.{value_at, value_past, values_count, rising_same, rising_back}
 use Rattle.std.proofs.lemmas.Bool.Decides.{nat_tests}
 use Rattle.yds_model.specs.Job.{Job}
 use Rattle.yds_model.specs.EarliestFirst.{ComesFirst}
 use Rattle.yds_model.specs.Event.{stretches}
-use Rattle.yds_events.specs.declared.window.Window.{Window}
-use Rattle.yds_search.specs.Found.{Share, share_at, no_share}
-use Rattle.yds_events.specs.Window.{window_at, IsIn, AreWindows}
 use Rattle.yds_search.specs.Fill.{IsFullBefore, AreTaken, IsFill}
-use Rattle.yds_search.specs.Numbers.{IsOneOf, values_at}
-use Rattle.yds_search.specs.Closure.{AreLateReaches, AreShareReaches, AreReaches, AreAllReaches, IsMarked, AreClosed, reach_from, reach_at}
-use Rattle.yds_search.proofs.Numbers.{value_at, value_past, values_count, rising_back}
+
+-- Of the first n items those that count stand at a place among a group's own stretches, and have a value; m stands where there is
+-- none.
+pub record IsLeastOf (counts : ℕ → Type 0) (stands : ℕ → ℕ → Type 0) (value : ℕ → ℕ) (own : List ℕ) (n m : ℕ) (reaches : List ℕ) : Type 0 where
+  pub all : length reaches ≡ m
+  pub least : (i : ℕ) → i < n → counts i → (p : ℕ) × (p < length own) × stands i p × (get_or reaches (get_or own p 0) 0 ≤ value i)
+  pub some : (p : ℕ) → p < length own → get_or reaches (get_or own p 0) 0 < m →
+      (i : ℕ) × (i < n) × counts i × stands i p × (value i ≡ get_or reaches (get_or own p 0) 0)
+
+pub least_none : (counts : ℕ → Type 0) (stands : ℕ → ℕ → Type 0) (value : ℕ → ℕ) (own : List ℕ) (m : ℕ) (old reaches : List ℕ) → length old ≡ m →
+    AreWritten (λ k number. number ≡ m) own (length own) old reaches → IsLeastOf counts stands value own 0 m reaches
+least_none counts stands value own m old reaches count written = record {
+  all = written.count ∙ count;
+  least = λ i before. absurd (omega arith);
+  some = λ p within less. absurd (omega (arith, less, written.there p within));
+}
+
+-- an item that doesn't count
+pub least_skips : (counts : ℕ → Type 0) (stands : ℕ → ℕ → Type 0) (value : ℕ → ℕ) (own : List ℕ) (n m : ℕ) (reaches : List ℕ) →
+    IsLeastOf counts stands value own n m reaches → (counts n → ⊥) → IsLeastOf counts stands value own (n + 1) m reaches
+least_skips counts stands value own n m reaches so_far idle = record {
+  all = so_far.all;
+  least = λ i before counted. elim (cases_lt i n) [
+    | inl less ↦ so_far.least i less counted
+    | inr more ↦ let same : i ≡ n = omega arith in absurd (idle (subst counts same counted))
+  ];
+  some = λ p within less. let found = so_far.some p within less in (found.0, omega (arith, found.1), found.2, found.3, found.4);
+}
+
+-- an item that counts
+pub least_takes : (counts : ℕ → Type 0) (stands : ℕ → ℕ → Type 0) (value : ℕ → ℕ) (own : List ℕ) (n m place : ℕ) (reaches : List ℕ) →
+    ((a b : ℕ) → a < b → b < length own → get_or own a 0 < get_or own b 0) →
+    IsLeastOf counts stands value own n m reaches → counts n → stands n place → place < length own → get_or own place 0 < m → value n < m →
+    IsLeastOf counts stands value own (n + 1) m (set reaches (get_or own place 0) (min (get_or reaches (get_or own place 0) 0) (value n)))
+least_takes counts stands value own n m place reaches rising so_far counted stand within known small =
+    let here : get_or (set reaches (get_or own place 0) (min (get_or reaches (get_or own place 0) 0) (value n))) (get_or own place 0) 0
+    ≡ min (get_or reaches (get_or own place 0) 0) (value n) =
+    get_or-set_same reaches (get_or own place 0) (min (get_or reaches (get_or own place 0) 0) (value n)) 0 (omega (arith, so_far.all, known)) in
+    let there : (i : ℕ) → i ≢ get_or own place 0 → get_or (set reaches (get_or own place 0) (min (get_or reaches (get_or own place 0) 0) (value n))) i 0 ≡ get_or reaches i 0 =
+    λ i other. get_or-set_other reaches (get_or own place 0) i (min (get_or reaches (get_or own place 0) 0) (value n)) 0 other in
+    let most : (i : ℕ) → get_or (set reaches (get_or own place 0) (min (get_or reaches (get_or own place 0) 0) (value n))) i 0 ≤ get_or reaches i 0 =
+    λ i. elim (cases_eq i (get_or own place 0)) [
+      | inl same ↦ omega (
+        arith,
+        here,
+        ap (λ j. get_or reaches j 0) same,
+        ap (λ j. get_or (set reaches (get_or own place 0) (min (get_or reaches (get_or own place 0) 0) (value n))) j 0) same,
+      )
+      | inr other ↦ omega (arith, there i other)
+    ] in
+    record {
+      all = length-set reaches (get_or own place 0) (min (get_or reaches (get_or own place 0) 0) (value n)) ∙ so_far.all;
+      least = λ i before counts_i. elim (cases_lt i n) [
+        | inl less ↦
+            let found = so_far.least i less counts_i in
+            (found.0, found.1, found.2, omega (arith, found.3, most (get_or own found.0 0)))
+        | inr more ↦
+            let same : n ≡ i = omega arith in
+            subst (λ (j : ℕ). (p : ℕ) × (p < length own) × stands j p
+            × (get_or (set reaches (get_or own place 0) (min (get_or reaches (get_or own place 0) 0) (value n))) (get_or own p 0) 0 ≤ value j)) same
+            (place, within, stand, omega (arith, here))
+      ];
+      some = λ p in_range less. elim (cases_eq p place) [
+        | inr other ↦
+            let differ : get_or own p 0 ≢ get_or own place 0 = λ same. other (rising_same own rising p place in_range within same) in
+            let found = so_far.some p in_range (omega (arith, less, there (get_or own p 0) differ)) in
+            (found.0, omega (arith, found.1), found.2, found.3, found.4 ∙ sym (there (get_or own p 0) differ))
+        | inl same ↦
+            let is : get_or (set reaches (get_or own place 0) (min (get_or reaches (get_or own place 0) 0) (value n))) (get_or own p 0) 0 ≡ min (get_or reaches (get_or own place 0) 0) (value n) =
+            ap (λ j. get_or (set reaches (get_or own place 0) (min (get_or reaches (get_or own place 0) 0) (value n))) (get_or own j 0) 0) same ∙ here in
+            elim (cases_lt (get_or reaches (get_or own place 0) 0) (value n)) [
+              | inl old ↦
+                  let found = so_far.some place within (omega (arith, old, small)) in
+                  (found.0, omega (arith, found.1), found.2, subst (stands found.0) (sym same) found.3, omega (arith, found.4, is, old))
+              | inr new ↦ (n, omega arith, counted, subst (stands n) (sym same) stand, omega (arith, is, new))
+            ]
+      ];
+    }
+
+-- the reaches of the first n of a group's jobs that are late
+abbrev pub LatesTo : List Window → List ℕ → List ℕ → List ℕ → ℕ → ℕ → List ℕ → Type 0
+LatesTo windows wants own_jobs own n m reaches =
+    IsLeastOf (λ i. 1 ≤ get_or wants (get_or own_jobs i 0) 0) (λ i p. IsLastBefore own (window_at windows (get_or own_jobs i 0)).end p)
+    (λ i. (window_at windows (get_or own_jobs i 0)).first) own n m reaches
+
+-- and of the first n shares
+abbrev pub SharesTo : List Window → List Share → List ℕ → ℕ → ℕ → List ℕ → Type 0
+SharesTo windows shares own n m reaches =
+    IsLeastOf (λ x. Unit {0}) (λ x p. (share_at shares x).stretch ≡ get_or own p 0) (λ x. (window_at windows (share_at shares x).job).first) own n m reaches
+
+-- the reaches of late jobs, of a list that has all late jobs
+pub late_least : (windows : List Window) (wants own_jobs own : List ℕ) (m n : ℕ) (reaches : List ℕ) → AreClosing windows wants own_jobs own m →
+    length own_jobs ≤ n → n ≤ length own_jobs → LatesTo windows wants own_jobs own n m reaches → AreLateReaches windows wants own m reaches
+late_least windows wants own_jobs own m n reaches closing end upto least = record {
+  all = least.all;
+  least = λ j known late.
+      let one = closing.each j known late in
+      let found = least.least one.0 (omega (arith, one.1, end)) (subst (λ (i : ℕ). 1 ≤ get_or wants i 0) (sym one.2) late) in (
+        found.0,
+        subst (λ (i : ℕ). IsLastBefore own (window_at windows i).end found.0) one.2 found.2,
+        subst (λ (i : ℕ). get_or reaches (get_or own found.0 0) 0 ≤ (window_at windows i).first) one.2 found.3,
+      );
+  some = λ p within less.
+      let found = least.some p within less in
+      (get_or own_jobs found.0 0, closing.known found.0 (omega (arith, found.1, upto)), found.2, found.3, found.4);
+}
+
+-- and of shares
+pub share_least : (windows : List Window) (shares : List Share) (own : List ℕ) (m : ℕ) (reaches : List ℕ) →
+    SharesTo windows shares own (length shares) m reaches → AreShareReaches windows shares own m reaches
+share_least windows shares own m reaches least = record {
+  all = least.all;
+  least = λ x within.
+      let found = least.least x within tt in
+      omega (arith, found.3, ap (λ k. get_or reaches k 0) found.2);
+  some = λ p within less. let found = least.some p within less in (found.0, found.1, found.3, found.4);
+}
+
+-- the reaches over the own stretches from place `next` on are known
+pub record ReachesFrom (late shared own : List ℕ) (m next least : ℕ) (reaches : List ℕ) : Type 0 where
+  pub all : length reaches ≡ m
+  pub first : least ≡ reach_at own reaches next m
+  pub step : (p : ℕ) → next ≤ p → p < length own → reach_at own reaches p m
+      ≡ reach_from (reach_at own reaches (p + 1) m) (get_or late (get_or own p 0) 0) (get_or shared (get_or own p 0) 0) (get_or own p 0)
+
+-- what is reached over another place, where one is set
+reach_other : (own reaches : List ℕ) (m next p value : ℕ) → ((a b : ℕ) → a < b → b < length own → get_or own a 0 < get_or own b 0) → next < length own →
+    p ≢ next → reach_at own (set reaches (get_or own next 0) value) p m ≡ reach_at own reaches p m
+reach_other own reaches m next p value rising within other = elim (cases_lt p (length own)) [
+  | inl below ↦
+      get_or_default (values_at own (set reaches (get_or own next 0) value)) p m 0 (omega (arith, below, values_count own (set reaches (get_or own next 0) value)))
+      ∙ value_at own (set reaches (get_or own next 0) value) p below
+      ∙ get_or-set_other reaches (get_or own next 0) (get_or own p 0) value 0 (λ same. other (rising_same own rising p next below within same))
+      ∙ sym (get_or_default (values_at own reaches) p m 0 (omega (arith, below, values_count own reaches)) ∙ value_at own reaches p below)
+  | inr past ↦ value_past own (set reaches (get_or own next 0) value) p m past ∙ sym (value_past own reaches p m past)
+]
+
+reach_here : (own reaches : List ℕ) (m next value : ℕ) → next < length own → get_or own next 0 < length reaches →
+    reach_at own (set reaches (get_or own next 0) value) next m ≡ value
+reach_here own reaches m next value within known =
+    get_or_default (values_at own (set reaches (get_or own next 0) value)) next m 0 (omega (arith, within, values_count own (set reaches (get_or own next 0) value)))
+    ∙ value_at own (set reaches (get_or own next 0) value) next within ∙ get_or-set_same reaches (get_or own next 0) value 0 known
+
+pub reach_more : (late shared own : List ℕ) (m next least : ℕ) (reaches : List ℕ) (value : ℕ) →
+    ((a b : ℕ) → a < b → b < length own → get_or own a 0 < get_or own b 0) → ((p : ℕ) → p < length own → get_or own p 0 < m) →
+    ReachesFrom late shared own m (next + 1) least reaches → next < length own →
+    value ≡ reach_from least (get_or late (get_or own next 0) 0) (get_or shared (get_or own next 0) 0) (get_or own next 0) →
+    ReachesFrom late shared own m next value (set reaches (get_or own next 0) value)
+reach_more late shared own m next least reaches value rising known so_far within is =
+    let after : (p : ℕ) → next < p → reach_at own (set reaches (get_or own next 0) value) p m ≡ reach_at own reaches p m =
+    λ p more. reach_other own reaches m next p value rising within (λ same. omega (arith, more, same)) in
+    let here = reach_here own reaches m next value within (omega (arith, known next within, so_far.all)) in
+    record {
+      all = length-set reaches (get_or own next 0) value ∙ so_far.all;
+      first = sym here;
+      step = λ p from upto. elim (cases_eq p next) [
+        | inl same ↦
+            subst (λ (n : ℕ). reach_at own (set reaches (get_or own next 0) value) n m
+            ≡ reach_from (reach_at own (set reaches (get_or own next 0) value) (n + 1) m) (get_or late (get_or own n 0) 0) (get_or shared (get_or own n 0) 0) (get_or own n 0)) (sym same)
+            (here ∙ is ∙ ap (λ last. reach_from last (get_or late (get_or own next 0) 0) (get_or shared (get_or own next 0) 0) (get_or own next 0))
+            (so_far.first ∙ sym (after (next + 1) (omega arith))))
+        | inr other ↦
+            after p (omega arith) ∙ so_far.step p (omega arith) upto
+            ∙ ap (λ last. reach_from last (get_or late (get_or own p 0) 0) (get_or shared (get_or own p 0) 0) (get_or own p 0)) (sym (after (p + 1) (omega arith)))
+      ];
+    }
+
+-- nothing is known yet
+pub reach_none : (late shared own : List ℕ) (m : ℕ) (reaches : List ℕ) → length reaches ≡ m → ReachesFrom late shared own m (length own) m reaches
+reach_none late shared own m reaches all = record {
+  all = all;
+  first = sym (value_past own reaches (length own) m (omega arith));
+  step = λ p from upto. absurd (omega arith);
+}
 
 -- what one step from the right does
 reach_cases : (after late shared k reach : ℕ) → reach ≡ reach_from after late shared k →
@@ -52,8 +226,7 @@ record Known (jobs : List Job) (windows : List Window) (own : List ℕ) (m : ℕ
   reach : AreReaches late shared own m reaches
 
 closed_at_end : (jobs : List Job) (windows : List Window) (own : List ℕ) (m : ℕ) (shares : List Share) (wants rooms late shared reaches : List ℕ) →
-    Known jobs windows own m shares wants rooms late shared reaches →
-    ClosedFrom windows own shares wants rooms reaches m m
+    Known jobs windows own m shares wants rooms late shared reaches → ClosedFrom windows own shares wants rooms reaches m m
 closed_at_end jobs windows own m shares wants rooms late shared reaches known = record {
   share_reach = λ x within after marked. absurd (omega (arith, (known.taken.parts x no_share within).known_stretch));
   late_reach = λ j k within some one after before. absurd (omega (arith, one.2, known.known one.0 one.1));
@@ -66,8 +239,7 @@ closed_at_end jobs windows own m shares wants rooms late shared reaches known = 
 
 -- the same from a place further left, after which there is no other own stretch before p
 closed_between : (windows : List Window) (own : List ℕ) (shares : List Share) (wants rooms reaches : List ℕ) (p next reach : ℕ) →
-    ((x : ℕ) → x < length shares → IsOneOf own (share_at shares x).stretch) →
-    ((k : ℕ) → IsOneOf own k → p < k → next ≤ k) → p < next →
+    ((x : ℕ) → x < length shares → IsOneOf own (share_at shares x).stretch) → ((k : ℕ) → IsOneOf own k → p < k → next ≤ k) → p < next →
     ClosedFrom windows own shares wants rooms reaches next reach → ClosedFrom windows own shares wants rooms reaches (p + 1) reach
 closed_between windows own shares wants rooms reaches p next reach mine nearest before so_far = record {
   share_reach = λ x within after marked. so_far.share_reach x within (nearest (share_at shares x).stretch (mine x within) (omega arith)) marked;
@@ -102,8 +274,7 @@ late_here jobs windows own m shares wants rooms late shared reaches known i p af
 -- what is reached over is full
 open_full : (jobs : List Job) (windows : List Window) (own : List ℕ) (m : ℕ) (shares : List Share) (wants rooms late shared reaches : List ℕ) →
     Known jobs windows own m shares wants rooms late shared reaches → (i p after : ℕ) → i < length own → get_or own i 0 ≡ p →
-    ClosedFrom windows own shares wants rooms reaches (p + 1) after →
-    (k : ℕ) → IsOneOf own k → k ≤ p → min after (get_or late p 0) ≤ k → get_or rooms k 0 ≡ 0
+    ClosedFrom windows own shares wants rooms reaches (p + 1) after → (k : ℕ) → IsOneOf own k → k ≤ p → min after (get_or late p 0) ≤ k → get_or rooms k 0 ≡ 0
 open_full jobs windows own m shares wants rooms late shared reaches known i p after within is so_far k one before reached = elim (cases_lt k after) [
   | inr further ↦ so_far.next_full k one (omega arith) further
   | inl here ↦
@@ -129,8 +300,7 @@ open_shared jobs windows own m shares wants rooms late shared reaches known i p 
       (record { from = omega (arith, found.4, at, reached, here); upto = omega (arith, found.3.before, is, before) }) in
       let first : (window_at windows (share_at shares x).job).end ≤ (window_at windows found.0).end =
       end_first jobs windows known.windows_are (share_at shares x).job found.0
-      (omega (arith, (known.taken.parts x no_share in_range).known, known.windows_are.all)) j_known
-      (full.before x no_share in_range refl) in
+      (omega (arith, (known.taken.parts x no_share in_range).known, known.windows_are.all)) j_known (full.before x no_share in_range refl) in
       let after_it : i < one.0 = rising_back own known.rising i one.0 within (omega (arith, is, one.2, beyond)) in
       absurd (omega (arith, found.3.after one.0 after_it one.1, one.2, first, upto))
 ]
@@ -139,8 +309,7 @@ open_shared jobs windows own m shares wants rooms late shared reaches known i p 
 closed_marked : (jobs : List Job) (windows : List Window) (own : List ℕ) (m : ℕ) (shares : List Share) (wants rooms late shared reaches : List ℕ) →
     Known jobs windows own m shares wants rooms late shared reaches → (i p after reach : ℕ) → i < length own → get_or own i 0 ≡ p →
     ClosedFrom windows own shares wants rooms reaches (p + 1) after → reach ≡ get_or reaches p 0 →
-    min after (get_or late p 0) ≤ p → reach ≡ min (min after (get_or late p 0)) (get_or shared p 0) →
-    ClosedFrom windows own shares wants rooms reaches p reach
+    min after (get_or late p 0) ≤ p → reach ≡ min (min after (get_or late p 0)) (get_or shared p 0) → ClosedFrom windows own shares wants rooms reaches p reach
 closed_marked jobs windows own m shares wants rooms late shared reaches known i p after reach within at so_far is reached step =
     let here : IsMarked reaches p = omega arith in
     record {
@@ -168,8 +337,7 @@ closed_marked jobs windows own m shares wants rooms late shared reaches known i 
               let first : (window_at windows (share_at shares x).job).end ≤ (window_at windows (share_at shares found.0).job).end =
               end_first jobs windows known.windows_are (share_at shares x).job (share_at shares found.0).job
               (omega (arith, (known.taken.parts x no_share in_range).known, known.windows_are.all))
-              (omega (arith, (known.taken.parts found.0 no_share found.1).known, known.windows_are.all))
-              (full.before x no_share in_range refl) in
+              (omega (arith, (known.taken.parts found.0 no_share found.1).known, known.windows_are.all)) (full.before x no_share in_range refl) in
               open_shared jobs windows own m shares wants rooms late shared reaches known i p after within at so_far found.0 k found.1
               (omega (arith, found.2, at)) (omega (arith, found.2, at, reached)) one (omega arith) (omega (arith, first, upto))
         ]
@@ -195,8 +363,7 @@ closed_marked jobs windows own m shares wants rooms late shared reaches known i 
 closed_passed : (jobs : List Job) (windows : List Window) (own : List ℕ) (m : ℕ) (shares : List Share) (wants rooms late shared reaches : List ℕ) →
     Known jobs windows own m shares wants rooms late shared reaches → (i p after reach : ℕ) → i < length own → get_or own i 0 ≡ p →
     ClosedFrom windows own shares wants rooms reaches (p + 1) after → reach ≡ get_or reaches p 0 →
-    p < min after (get_or late p 0) → reach ≡ min after (get_or late p 0) →
-    ClosedFrom windows own shares wants rooms reaches p reach
+    p < min after (get_or late p 0) → reach ≡ min after (get_or late p 0) → ClosedFrom windows own shares wants rooms reaches p reach
 closed_passed jobs windows own m shares wants rooms late shared reaches known i p after reach within at so_far is passed step =
     record {
       share_reach = λ x in_range from marked. elim (cases_eq (share_at shares x).stretch p) [
@@ -285,8 +452,7 @@ closed_from jobs windows own m shares wants rooms late shared reaches known (suc
 pub fill_closes : (jobs : List Job) (windows : List Window) (own wants rooms : List ℕ) (shares : List Share) (wants' rooms' : List ℕ) (m : ℕ) (reaches : List ℕ) →
     AreWindows jobs windows → length rooms ≡ length (stretches jobs) → m ≡ length rooms → IsFill jobs windows wants rooms shares wants' rooms' →
     ((a b : ℕ) → a < b → b < length own → get_or own a 0 < get_or own b 0) → ((p : ℕ) → p < length own → get_or own p 0 < m) →
-    ((x : ℕ) → x < length shares → IsOneOf own (share_at shares x).stretch) →
-    AreAllReaches windows wants' own shares m reaches →
+    ((x : ℕ) → x < length shares → IsOneOf own (share_at shares x).stretch) → AreAllReaches windows wants' own shares m reaches →
     AreClosed windows own shares wants' rooms' reaches
 fill_closes jobs windows own wants rooms shares wants' rooms' m reaches windows_are stretches_are count fill rising known mine are =
     let all_known : Known jobs windows own m shares wants' rooms' are.late are.shared reaches = record {

@@ -63,10 +63,7 @@ all_keys jobs sorted small once = All-permutation (IsKey jobs) (map (key_of jobs
     let is : get_or (map (key_of jobs) (range_with_len 0 (length jobs))) i d ≡ key_of jobs i =
     get_or-map-range_with_len (key_of jobs) 0 (length jobs) i i d below (omega arith) in
     let number : number_of (key_of jobs i) ≡ i = number_back (job_at jobs i).deadline i (omega arith) in
-    subst (IsKey jobs) (sym is) (record {
-      known = omega (arith, number, below);
-      same = ap (key_of jobs) (sym number);
-    }))
+    subst (IsKey jobs) (sym is) (record { known = omega (arith, number, below); same = ap (key_of jobs) (sym number) }))
 
 range_at : (n i d : ℕ) → i < n → get_or (range_with_len 0 n) i d ≡ i
 range_at n i d below = omega (arith, get_or-range_with_len 0 n i d below)
@@ -80,14 +77,12 @@ numbers_back jobs small = same_lists (map number_of (map (key_of jobs) (range_wi
     omega (arith, within, length-map (map (key_of jobs) (range_with_len 0 (length jobs))) number_of) in
     let below : k < length jobs = omega (arith, in_keys, length-map-range_with_len (key_of jobs) 0 (length jobs)) in
     get_or-map number_of (map (key_of jobs) (range_with_len 0 (length jobs))) k 0 d in_keys
-    ∙ ap number_of (get_or-map-range_with_len (key_of jobs) 0 (length jobs) k k 0 below (omega arith))
-    ∙ number_back (job_at jobs k).deadline k (omega arith)
+    ∙ ap number_of (get_or-map-range_with_len (key_of jobs) 0 (length jobs) k k 0 below (omega arith)) ∙ number_back (job_at jobs k).deadline k (omega arith)
     ∙ sym (range_at (length jobs) k d below))
 
 -- sorted keys give the jobs in order
 pub keys_order : (jobs : List Job) (sorted order : List ℕ) → length jobs < 4294967296 →
-    IsPermutation (map (key_of jobs) (range_with_len 0 (length jobs))) sorted → IsNonDecreasing sorted → order ≡ map number_of sorted →
-    IsOrder jobs order
+    IsPermutation (map (key_of jobs) (range_with_len 0 (length jobs))) sorted → IsNonDecreasing sorted → order ≡ map number_of sorted → IsOrder jobs order
 keys_order jobs sorted order small once rises is =
     let keys = all_keys jobs sorted small once in
     let number : (i : ℕ) → i < length order → get_or order i 0 ≡ number_of (get_or sorted i 0) =
@@ -112,8 +107,7 @@ keys_order jobs sorted order small once rises is =
                   (keys b 0 (inside b within)).same,
                   ap (key_of jobs) (number a within_a),
                   ap (key_of jobs) (number b within),
-                ))
-                (omega (arith, number a within_a, (keys a 0 (inside a within_a)).known, small)) (omega (arith, known, small)),
+                )) (omega (arith, number a within_a, (keys a 0 (inside a within_a)).known, small)) (omega (arith, known, small)),
           );
       once = all;
       each = λ j below.

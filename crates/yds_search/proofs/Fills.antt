@@ -1,32 +1,46 @@
 -- The fill, share by share and job by job.
-use Rattle.std.proofs.Common.{◌≡◌, ℕ, ◌+◌, ◌-◌, ◌<◌, ◌≤◌, ◌≢◌, ◌⊎◌, ◌==◌, min, List, [], ◌∷◌, ◌++◌, ◌∙◌, length, get_or, set, refl, sym, ap, subst, inl, inr, arith}
-use Rattle.std.specs.Prelude.{cond, if◌then◌else◌}
-use Rattle.std.specs.List.{All}
-use Rattle.std.proofs.lemmas.List.{get_or-set_same, get_or-set_other, length-set, length_push}
-use Rattle.std.proofs.lemmas.List.Elements.{All-push, All-weaker}
-use Rattle.std.proofs.lemmas.List.Quantifiers.{all_pairs_push}
-use Rattle.std.proofs.lemmas.List.Sums.{sum_by_push, sum_by-set}
-use Rattle.std.proofs.lemmas.Bool.{cases_lt, cases_eq}
-use Rattle.std.proofs.lemmas.Bool.Decides.{nat_tests}
+use Rattle.std.proofs.Common.{◌≡◌, ℕ, ◌<◌, ◌≤◌, ◌⊎◌, List, refl, inr, ap, arith, ◌+◌, ◌-◌, ◌≢◌, ◌==◌, min, [], ◌∷◌, ◌++◌, ◌∙◌, length, get_or, set, sym, subst, inl}
 use Rattle.yds_model.specs.Job.{Job, job_at}
 use Rattle.yds_model.specs.EarliestFirst.{ComesFirst}
-use Rattle.yds_events.specs.declared.window.Window.{Window}
-use Rattle.yds_search.specs.Found.{Share}
-use Rattle.yds_events.specs.Window.{window_at, IsIn}
 use Rattle.yds_search.specs.Order.{Precedes}
-use Rattle.yds_search.specs.Fill.{IsFullBefore, IsPart, FoundFull, StandInOrder, AreTaken, IsServed, full_count}
-use Rattle.yds_search.proofs.Orders.{comes_itself}
+use Rattle.std.specs.Prelude.{cond, if◌then◌else◌, nat_lt}
+use Rattle.std.specs.List.{All, sum_by}
+use Rattle.std.proofs.lemmas.List.{get_or-set_same, get_or-set_other, length-set, length_push, take_all}
+use Rattle.std.proofs.lemmas.List.Elements.{All-push, All-weaker, All-nil}
+use Rattle.std.proofs.lemmas.List.Quantifiers.{all_pairs_push}
+use Rattle.std.proofs.lemmas.List.Sums.{sum_by_push, sum_by-set, sum_by_more}
+use Rattle.std.proofs.lemmas.Bool.{cases_lt, cases_eq}
+use Rattle.std.proofs.lemmas.Bool.Decides.{nat_tests}
+use Rattle.yds_events.specs.declared.window.Window.{Window}
+use Rattle.yds_search.specs.Found.{Share, units_of_job}
+use Rattle.yds_events.specs.Window.{window_at, IsIn}
+use Rattle.yds_search.specs.Fill.{IsFullBefore, IsPart, FoundFull, StandInOrder, AreTaken, IsServed, full_count, IsFilling, IsFill, AreServed}
+
+pub comes_itself : (jobs : List Job) (j : ℕ) → ComesFirst jobs j j
+comes_itself jobs j = inr (refl, omega arith)
+
+-- in numbers: a deadline and a number each
+before_before : (a b c d e f : ℕ) → (a < c) ⊎ ((a ≡ c) × (b ≤ d)) → (c < e) ⊎ ((c ≡ e) × (d ≤ f)) → (a < e) ⊎ ((a ≡ e) × (b ≤ f))
+before_before a b c d e f one two = grind arith
+
+other_before : (a b c d e f : ℕ) → (b ≡ d → ⊥) → (a < c) ⊎ ((a ≡ c) × (b ≤ d)) → (c < e) ⊎ ((c ≡ e) × (d ≤ f)) → a ≡ e → b ≡ f → ⊥
+other_before a b c d e f other one two same is = grind arith
+
+pub precedes_then : (jobs : List Job) (i j k : ℕ) → Precedes jobs i j → Precedes jobs j k → Precedes jobs i k
+precedes_then jobs i j k one two = (
+  λ same. other_before (job_at jobs i).deadline i (job_at jobs j).deadline j (job_at jobs k).deadline k one.0 one.1 two.1
+      (ap (λ number. (job_at jobs number).deadline) same) same,
+  before_before (job_at jobs i).deadline i (job_at jobs j).deadline j (job_at jobs k).deadline k one.1 two.1,
+)
 
 -- a full stretch stays full and keeps its shares, because nothing is put into it
 full_keeps : (jobs : List Job) (shares : List Share) (rooms : List ℕ) (share : Share) (rest k job : ℕ) →
-    IsFullBefore jobs shares rooms k job → 1 ≤ get_or rooms share.stretch 0 →
-    IsFullBefore jobs (shares ++ share ∷ []) (set rooms share.stretch rest) k job
+    IsFullBefore jobs shares rooms k job → 1 ≤ get_or rooms share.stretch 0 → IsFullBefore jobs (shares ++ share ∷ []) (set rooms share.stretch rest) k job
 full_keeps jobs shares rooms share rest k job full room =
     let other : k ≢ share.stretch = λ same. omega (arith, ap (λ i. get_or rooms i 0) same, full.full, room) in
     record {
       full = get_or-set_other rooms share.stretch k rest 0 other ∙ full.full;
-      before = All-push (λ one. one.stretch ≡ k → ComesFirst jobs one.job job) shares share full.before
-          (λ same. absurd (other (sym same)));
+      before = All-push (λ one. one.stretch ≡ k → ComesFirst jobs one.job job) shares share full.before (λ same. absurd (other (sym same)));
     }
 
 -- the job comes after who has a share so far
@@ -42,20 +56,17 @@ come_before jobs shares job all =
 -- one share more
 taken_more : (jobs : List Job) (windows : List Window) (m : ℕ) (shares : List Share) (rooms : List ℕ) (share : Share) (rest : ℕ) →
     AreTaken jobs windows m shares rooms → IsPart windows (length windows) m share → 1 ≤ get_or rooms share.stretch 0 →
-    All (λ one. (one.job ≡ share.job) ⊎ Precedes jobs one.job share.job) shares →
-    All (λ one. one.job ≡ share.job → one.stretch < share.stretch) shares →
+    All (λ one. (one.job ≡ share.job) ⊎ Precedes jobs one.job share.job) shares → All (λ one. one.job ≡ share.job → one.stretch < share.stretch) shares →
     ((k : ℕ) → (window_at windows share.job).first ≤ k → k < share.stretch → get_or rooms k 0 ≡ 0) →
     AreTaken jobs windows m (shares ++ share ∷ []) (set rooms share.stretch rest)
 taken_more jobs windows m shares rooms share rest taken part room all ahead swept = record {
   parts = All-push (IsPart windows (length windows) m) shares share taken.parts part;
   early = All-push (FoundFull jobs windows (shares ++ share ∷ []) (set rooms share.stretch rest)) shares share
-      (λ i d within k from before. full_keeps jobs shares rooms share rest k (get_or shares i d).job
-      (taken.early i d within k from before) room)
+      (λ i d within k from before. full_keeps jobs shares rooms share rest k (get_or shares i d).job (taken.early i d within k from before) room)
       (λ k from before. record {
         full = get_or-set_other rooms share.stretch k rest 0 (omega arith) ∙ swept k from before;
         before = All-push (λ one. one.stretch ≡ k → ComesFirst jobs one.job share.job) shares share
-            (λ i d within same. come_before jobs shares share.job all i d within)
-            (λ same. comes_itself jobs share.job);
+            (λ i d within same. come_before jobs shares share.job all i d within) (λ same. comes_itself jobs share.job);
       });
   ordered = all_pairs_push (StandInOrder jobs) shares share taken.ordered
       (λ i d within same. elim (all i d within) [
@@ -70,8 +81,7 @@ pub serve_begins : (jobs : List Job) (windows : List Window) (job want : ℕ) (s
     IsServed jobs windows job want shares rooms (window_at windows job).first want shares rooms
 serve_begins jobs windows job want shares rooms taken before = record {
   taken = taken;
-  all = All-weaker (λ share. Precedes jobs share.job job) (λ share. (share.job ≡ job) ⊎ Precedes jobs share.job job)
-      (λ share h. inr h) shares before;
+  all = All-weaker (λ share. Precedes jobs share.job job) (λ share. (share.job ≡ job) ⊎ Precedes jobs share.job job) (λ share h. inr h) shares before;
   ahead = λ i d within same. absurd ((before i d within).0 same);
   wanted = refl;
   others = λ i other. refl;
@@ -84,10 +94,8 @@ serve_begins jobs windows job want shares rooms taken before = record {
 
 -- a stretch is passed over, because it is full or the job is done
 pub serve_passes : (jobs : List Job) (windows : List Window) (job want : ℕ) (shares : List Share) (rooms : List ℕ)
-    (next left : ℕ) (shares' : List Share) (rooms' : List ℕ) →
-    IsServed jobs windows job want shares rooms next left shares' rooms' →
-    (1 ≤ left → get_or rooms' next 0 ≡ 0) →
-    IsServed jobs windows job want shares rooms (next + 1) left shares' rooms'
+    (next left : ℕ) (shares' : List Share) (rooms' : List ℕ) → IsServed jobs windows job want shares rooms next left shares' rooms' →
+    (1 ≤ left → get_or rooms' next 0 ≡ 0) → IsServed jobs windows job want shares rooms (next + 1) left shares' rooms'
 serve_passes jobs windows job want shares rooms next left shares' rooms' so_far full = record {
   taken = so_far.taken;
   all = so_far.all;
@@ -135,18 +143,15 @@ swept_more rooms next k left units within is more before upto = elim (cases_eq k
 ]
 
 counts : (shares full full' shares' full'' left want units room : ℕ) → 1 ≤ left → 1 ≤ room → units ≡ min left room →
-    shares' + full + min left 1 ≤ shares + full' + min want 1 →
-    full'' + cond (room == 0) 1 0 ≡ full' + cond ((room - units) == 0) 1 0 →
+    shares' + full + min left 1 ≤ shares + full' + min want 1 → full'' + cond (room == 0) 1 0 ≡ full' + cond ((room - units) == 0) 1 0 →
     (shares' + 1) + full + min (left - units) 1 ≤ shares + full'' + min want 1
 counts shares full full' shares' full'' left want units room some free is few sets = grind (arith, nat_tests)
 
 -- the job takes what it can in a stretch
 pub serve_takes : (jobs : List Job) (windows : List Window) (job want : ℕ) (shares : List Share) (rooms : List ℕ)
-    (next left : ℕ) (shares' : List Share) (rooms' : List ℕ) →
-    IsServed jobs windows job want shares rooms next left shares' rooms' →
+    (next left : ℕ) (shares' : List Share) (rooms' : List ℕ) → IsServed jobs windows job want shares rooms next left shares' rooms' →
     job < length windows → IsIn windows job next → next < length rooms → 1 ≤ left → 1 ≤ get_or rooms' next 0 →
-    (units : ℕ) → units ≡ min left (get_or rooms' next 0) →
-    IsServed jobs windows job want shares rooms (next + 1) (left - units)
+    (units : ℕ) → units ≡ min left (get_or rooms' next 0) → IsServed jobs windows job want shares rooms (next + 1) (left - units)
     (shares' ++ record { job = job; stretch = next; units = units } ∷ []) (set rooms' next (get_or rooms' next 0 - units))
 serve_takes jobs windows job want shares rooms next left shares' rooms' so_far known inside within some free units is =
     let share : Share = record { job = job; stretch = next; units = units } in
@@ -179,18 +184,104 @@ serve_takes jobs windows job want shares rooms next left shares' rooms' so_far k
 
 -- the same, for the lists that are there then
 pub serve_took : (jobs : List Job) (windows : List Window) (job want : ℕ) (shares : List Share) (rooms : List ℕ)
-    (next left : ℕ) (shares' : List Share) (rooms' : List ℕ) →
-    IsServed jobs windows job want shares rooms next left shares' rooms' →
+    (next left : ℕ) (shares' : List Share) (rooms' : List ℕ) → IsServed jobs windows job want shares rooms next left shares' rooms' →
     job < length windows → (window_at windows job).first ≤ next → next < (window_at windows job).end → next < length rooms →
     1 ≤ left → 1 ≤ get_or rooms' next 0 → (units : ℕ) → units ≡ min left (get_or rooms' next 0) →
     (left'' : ℕ) (shares'' : List Share) (rooms'' : List ℕ) → left'' ≡ left - units →
-    shares'' ≡ shares' ++ record { job = job; stretch = next; units = units } ∷ [] →
-    rooms'' ≡ set rooms' next (get_or rooms' next 0 - units) →
+    shares'' ≡ shares' ++ record { job = job; stretch = next; units = units } ∷ [] → rooms'' ≡ set rooms' next (get_or rooms' next 0 - units) →
     IsServed jobs windows job want shares rooms (next + 1) left'' shares'' rooms''
 serve_took jobs windows job want shares rooms next left shares' rooms' so_far known from upto within some free units is left'' shares'' rooms'' a b c =
     subst (λ (n : ℕ). IsServed jobs windows job want shares rooms (next + 1) n shares'' rooms'') (sym a)
     (subst (λ (xs : List Share). IsServed jobs windows job want shares rooms (next + 1) (left - units) xs rooms'') (sym b)
     (subst (λ (xs : List ℕ). IsServed jobs windows job want shares rooms (next + 1) (left - units)
     (shares' ++ record { job = job; stretch = next; units = units } ∷ []) xs) (sym c)
-    (serve_takes jobs windows job want shares rooms next left shares' rooms' so_far known (record { from = from; upto = upto })
-    within some free units is)))
+    (serve_takes jobs windows job want shares rooms next left shares' rooms' so_far known (record { from = from; upto = upto }) within some free units is)))
+
+-- nobody has taken anything
+pub fill_begins : (jobs : List Job) (windows : List Window) (order wants rooms : List ℕ) → IsFilling jobs windows order wants rooms 0 [] wants rooms
+fill_begins jobs windows order wants rooms = record {
+  taken = record {
+    parts = All-nil (IsPart windows (length windows) (length rooms));
+    early = All-nil (FoundFull jobs windows [] rooms);
+    ordered = λ i j d below upto. absurd (omega arith);
+  };
+  same_wants = refl;
+  same_rooms = refl;
+  want = λ j. omega arith;
+  room = λ k. omega arith;
+  later = λ some. All-nil (λ share. Precedes jobs share.job (get_or order 0 0));
+  late = λ a below. absurd (omega arith);
+  few = omega arith;
+}
+
+wanted_once : (left want given units : ℕ) → units + want ≡ given → min want 1 ≤ (if nat_lt 0 given then 1 else 0)
+wanted_once left want given units is = grind (arith, nat_tests)
+
+-- one job more
+pub fill_more : (jobs : List Job) (windows : List Window) (order wants rooms : List ℕ) (i : ℕ)
+    (shares : List Share) (wants' rooms' : List ℕ) (left : ℕ) (shares' : List Share) (rooms'' : List ℕ) →
+    AreServed jobs wants order → length wants ≡ length jobs → i < length order → IsFilling jobs windows order wants rooms i shares wants' rooms' →
+    IsServed jobs windows (get_or order i 0) (get_or wants' (get_or order i 0) 0) shares rooms'
+    (window_at windows (get_or order i 0)).end left shares' rooms'' →
+    IsFilling jobs windows order wants rooms (i + 1) shares' (set wants' (get_or order i 0) left) rooms''
+fill_more jobs windows order wants rooms i shares wants' rooms' left shares' rooms'' ordered all within so_far served =
+    let job : ℕ = get_or order i 0 in
+    let known : get_or order i 0 < length wants' = omega (arith, ordered.known i within, so_far.same_wants) in
+    record {
+      taken = subst (λ (m : ℕ). AreTaken jobs windows m shares' rooms'') so_far.same_rooms served.taken;
+      same_wants = length-set wants' (get_or order i 0) left ∙ so_far.same_wants;
+      same_rooms = served.same_length ∙ so_far.same_rooms;
+      want = λ j. elim (cases_eq j (get_or order i 0)) [
+        | inl same ↦
+            let P : ℕ → Type 0 = λ n. units_of_job shares' n + get_or (set wants' (get_or order i 0) left) n 0 ≡ get_or wants n 0 in
+            subst P (sym same) (omega (arith, get_or-set_same wants' (get_or order i 0) left 0 known, served.wanted, so_far.want (get_or order i 0)))
+        | inr other ↦ omega (arith, served.others j other, get_or-set_other wants' (get_or order i 0) j left 0 other, so_far.want j)
+      ];
+      room = λ k. omega (arith, served.room k, so_far.room k);
+      later = λ more. All-weaker (λ share. (share.job ≡ get_or order i 0) ⊎ Precedes jobs share.job (get_or order i 0))
+          (λ share. Precedes jobs share.job (get_or order (i + 1) 0))
+          (λ share h. elim h [
+            | inl same ↦ subst (λ (n : ℕ). Precedes jobs n (get_or order (i + 1) 0)) (sym same) (ordered.rising i (i + 1) (omega arith) more)
+            | inr precedes ↦ precedes_then jobs share.job (get_or order i 0) (get_or order (i + 1) 0) precedes (ordered.rising i (i + 1) (omega arith) more)
+          ]) shares' served.all;
+      late = λ a below some k inside. elim (cases_eq a i) [
+        | inl same ↦
+            let e : get_or order a 0 ≡ get_or order i 0 = ap (λ n. get_or order n 0) same in
+            let P : ℕ → Type 0 = λ n. 1 ≤ get_or (set wants' (get_or order i 0) left) n 0 → IsIn windows n k → IsFullBefore jobs shares' rooms'' k n in
+            subst P (sym e) (λ more within. record {
+              full = served.swept (omega (arith, more, get_or-set_same wants' (get_or order i 0) left 0 known)) k within.from within.upto;
+              before = λ n d upto stretch. come_before jobs shares' (get_or order i 0) served.all n d upto;
+            }) some inside
+        | inr other ↦
+            let apart : get_or order a 0 ≢ get_or order i 0 = (ordered.rising a i (omega arith) within).0 in
+            served.kept k (get_or order a 0)
+            (so_far.late a (omega arith) (omega (arith, some, get_or-set_other wants' (get_or order i 0) (get_or order a 0) left 0 apart)) k inside)
+      ];
+      few = omega (
+        arith,
+        served.few,
+        so_far.few,
+        sum_by_more (λ j. if nat_lt 0 (get_or wants j 0) then 1 else 0) order i 0 within,
+        wanted_once left (get_or wants' (get_or order i 0) 0) (get_or wants (get_or order i 0) 0) (units_of_job shares (get_or order i 0)) (so_far.want (get_or order i 0)),
+      );
+    }
+
+abbrev wanted : List ℕ → ℕ → ℕ
+wanted wants j = if nat_lt 0 (get_or wants j 0) then 1 else 0
+
+-- everybody has taken what they could
+pub fill_ends : (jobs : List Job) (windows : List Window) (order wants rooms : List ℕ) (i : ℕ)
+    (shares : List Share) (wants' rooms' : List ℕ) → AreServed jobs wants order → length wants ≡ length jobs → length order ≤ i →
+    IsFilling jobs windows order wants rooms i shares wants' rooms' → IsFill jobs windows wants rooms shares wants' rooms'
+fill_ends jobs windows order wants rooms i shares wants' rooms' ordered all end filling = record {
+  taken = filling.taken;
+  same_wants = filling.same_wants;
+  same_rooms = filling.same_rooms;
+  want = filling.want;
+  room = filling.room;
+  late = λ j known some k inside.
+      let found = ordered.each j known (omega (arith, some, filling.want j)) in
+      let P : ℕ → Type 0 = λ n. 1 ≤ get_or wants' n 0 → IsIn windows n k → IsFullBefore jobs shares rooms' k n in
+      subst P found.2 (λ more within. filling.late found.0 (omega (arith, found.1)) more k within) some inside;
+  few = omega (arith, filling.few, ap (sum_by (wanted wants)) (take_all i order end), ordered.few);
+}

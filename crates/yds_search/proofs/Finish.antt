@@ -49,17 +49,11 @@ pub record Finishing : Type 0 where
   pub all_jobs : length new_jobs ≡ length found.group_of_job
   pub all_stretches : length new_stretches ≡ length found.group_of_stretch
   pub job : (j : ℕ) → j < length jobs → IsRenamed top (length found.groups) (group_of found.group_of_job j) (group_of new_jobs j)
-  pub stretch : (k : ℕ) → k < length (stretches jobs) →
-      IsRenamed top (length found.groups) (group_of found.group_of_stretch k) (group_of new_stretches k)
+  pub stretch : (k : ℕ) → k < length (stretches jobs) → IsRenamed top (length found.groups) (group_of found.group_of_stretch k) (group_of new_stretches k)
 
 -- what is found then
 abbrev pub ended : Finishing → Found
-ended f = record {
-  groups = f.found.groups ++ f.group ∷ [];
-  group_of_job = f.new_jobs;
-  group_of_stretch = f.new_stretches;
-  shares = f.found.shares ++ f.shares;
-}
+ended f = record { groups = f.found.groups ++ f.group ∷ []; group_of_job = f.new_jobs; group_of_stretch = f.new_stretches; shares = f.found.shares ++ f.shares }
 
 -- no job and no stretch had the number that the group gets, but if it was its own
 job_number : (f : Finishing) (j : ℕ) → j < length f.jobs → group_of f.found.group_of_job j ≡ length f.found.groups → group_of f.found.group_of_job j ≡ f.top
@@ -211,11 +205,9 @@ each_order : (f : Finishing) (i : ℕ) → i + 1 < length (f.found.groups ++ f.g
 each_order f i within =
     let before : i < length f.found.groups = omega (arith, within, length_push f.found.groups f.group) in
     subst (λ (g : Group). (group_at (f.found.groups ++ f.group ∷ []) (i + 1)).work * g.length ≤ g.work * (group_at (f.found.groups ++ f.group ∷ []) (i + 1)).length)
-    (sym (group_before f i before))
-    (each_group f (λ n g. n ≡ i + 1 → g.work * (group_at f.found.groups i).length ≤ (group_at f.found.groups i).work * g.length)
+    (sym (group_before f i before)) (each_group f (λ n g. n ≡ i + 1 → g.work * (group_at f.found.groups i).length ≤ (group_at f.found.groups i).work * g.length)
     (λ n old is. subst (λ (n : ℕ). (group_at f.found.groups n).work * (group_at f.found.groups i).length ≤ (group_at f.found.groups i).work * (group_at f.found.groups n).length)
-    (sym is) (f.search.finished.order i (omega (arith, old, is))))
-    (λ is. new_order f i (sym is)) (i + 1) within refl)
+    (sym is) (f.search.finished.order i (omega (arith, old, is)))) (λ is. new_order f i (sym is)) (i + 1) within refl)
 
 -- the shares before the new ones, and the new ones
 share_before : (f : Finishing) (x : ℕ) → x < length f.found.shares → share_at (f.found.shares ++ f.shares) x ≡ share_at f.found.shares x
@@ -235,8 +227,7 @@ all_shares f = All-append (IsShare f.jobs (ended f)) f.found.shares f.shares
       in_window = share.in_window;
       grouped = omega (arith, share.grouped, length_push f.found.groups f.group);
       same_group = share.same_group;
-    })
-    (All-from_get_or (IsShare f.jobs (ended f)) f.shares no_share (λ x within.
+    }) (All-from_get_or (IsShare f.jobs (ended f)) f.shares no_share (λ x within.
     let own = own_share f x within in
     record {
       known = own.runs.known;
@@ -344,11 +335,9 @@ all_in_order : (f : Finishing) (x y : ℕ) → x < y → y < length (f.found.sha
     Precedes f.jobs (share_at (f.found.shares ++ f.shares) x).job (share_at (f.found.shares ++ f.shares) y).job
 all_in_order f x y before within =
     each_pair f (λ i j one other. i < j → one.stretch ≡ other.stretch → Precedes f.jobs one.job other.job)
-    (λ i j old old' less same. f.search.finished.in_order i j less old' same)
-    (λ i j old new' in_range less same.
+    (λ i j old old' less same. f.search.finished.in_order i j less old' same) (λ i j old new' in_range less same.
     absurd (omega (arith, old_stretch f i old, (own_share f (j - length f.found.shares) in_range).new_stretch, ap (λ n. group_of f.new_stretches n) same)))
-    (λ i j new in_range old' less same. absurd (omega (arith, less, new, old')))
-    (λ i j new in_range new' in_range' less same.
+    (λ i j new in_range old' less same. absurd (omega (arith, less, new, old'))) (λ i j new in_range new' in_range' less same.
     f.filled.fill.taken.ordered (i - length f.found.shares) (j - length f.found.shares) no_share (omega (arith, less, new)) in_range' same)
     x y (omega (arith, before, within)) within before
 
@@ -359,22 +348,18 @@ all_earliest : (f : Finishing) (x y : ℕ) → x < length (f.found.shares ++ f.s
     ComesFirst f.jobs (share_at (f.found.shares ++ f.shares) y).job (share_at (f.found.shares ++ f.shares) x).job
 all_earliest f x y within within' =
     each_pair f (λ i j one other. group_of f.new_jobs one.job ≡ group_of f.new_jobs other.job → IsIn f.windows one.job other.stretch →
-    other.stretch < one.stretch → ComesFirst f.jobs other.job one.job)
-    (λ i j old old' same inside before. (kept f).earliest i j old old' same inside before)
+    other.stretch < one.stretch → ComesFirst f.jobs other.job one.job) (λ i j old old' same inside before. (kept f).earliest i j old old' same inside before)
     (λ i j old new' in_range same inside before.
-    absurd (omega (arith, old_job f i old, (own_share f (j - length f.found.shares) in_range).new_job, same)))
-    (λ i j new in_range old' same inside before.
+    absurd (omega (arith, old_job f i old, (own_share f (j - length f.found.shares) in_range).new_job, same))) (λ i j new in_range old' same inside before.
     absurd (omega (arith, old_job f j old', (own_share f (i - length f.found.shares) in_range).new_job, same)))
     (λ i j new in_range new' in_range' same inside before.
     (f.filled.fill.taken.early (i - length f.found.shares) no_share in_range (share_at f.shares (j - length f.found.shares)).stretch inside.from before).before
-    (j - length f.found.shares) no_share in_range' refl)
-    x y within within'
+    (j - length f.found.shares) no_share in_range' refl) x y within within'
 
 abbrev one_if : Bool → ℕ
 one_if test = if test then 1 else 0
 
-counted_here : (groups top one other : ℕ) → other ≡ groups → one ≡ top →
-    one_if (nat_lt other (groups + 1)) ≡ one_if (nat_lt other groups) + one_if (one == top)
+counted_here : (groups top one other : ℕ) → other ≡ groups → one ≡ top → one_if (nat_lt other (groups + 1)) ≡ one_if (nat_lt other groups) + one_if (one == top)
 counted_here groups top one other is same = grind (arith, nat_tests)
 
 counted_there : (groups top one other : ℕ) → (one ≡ top → ⊥) → (other ≡ groups → ⊥) →

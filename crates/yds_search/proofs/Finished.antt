@@ -19,8 +19,7 @@ moved found jobs stretches = record { groups = found.groups; group_of_job = jobs
 abbrev pub AreAlike : ℕ → ℕ → ℕ → Type 0
 AreAlike groups one other = (one ≡ other) ⊎ ((groups ≤ one) × (groups ≤ other))
 
-pub alike_chosen : (groups one other i value : ℕ) → i < groups → AreAlike groups one other →
-    (if one == i then value else 0) ≡ (if other == i then value else 0)
+pub alike_chosen : (groups one other i value : ℕ) → i < groups → AreAlike groups one other → (if one == i then value else 0) ≡ (if other == i then value else 0)
 alike_chosen groups one other i value finished alike = elim alike [
   | inl same ↦ ap (λ n. if n == i then value else 0) same
   | inr both ↦ part_other one i value (λ same. omega (arith, both.0, same)) ∙ sym (part_other other i value (λ same. omega (arith, both.1, same)))
@@ -35,12 +34,10 @@ alike_before groups one other alike finished = elim alike [ inl same ↦ same | 
 abbrev counted_as : ℕ → ℕ → ℕ
 counted_as number groups = if nat_lt number groups then 1 else 0
 
-alike_uncounted : (groups one other : ℕ) → groups ≤ one → groups ≤ other →
-    counted_as one groups ≡ counted_as other groups
+alike_uncounted : (groups one other : ℕ) → groups ≤ one → groups ≤ other → counted_as one groups ≡ counted_as other groups
 alike_uncounted groups one other past past' = grind (arith, nat_tests)
 
-alike_counted : (groups one other : ℕ) → AreAlike groups one other →
-    counted_as one groups ≡ counted_as other groups
+alike_counted : (groups one other : ℕ) → AreAlike groups one other → counted_as one groups ≡ counted_as other groups
 alike_counted groups one other alike = elim alike [
   | inl same ↦ ap {B = ℕ} (λ n. if nat_lt n groups then 1 else 0) same
   | inr both ↦ alike_uncounted groups one other both.0 both.1
@@ -78,12 +75,10 @@ kept_finished jobs windows found jobs' stretches' alike alike' finished = record
       };
   served = λ j known group.
       let same = alike_finished (length found.groups) (group_of found.group_of_job j) (group_of jobs' j) (alike j known) group in
-      finished.served j known (omega (arith, same, group))
-      ∙ ap (λ n. per_work (group_at found.groups n) * (job_at jobs j).work) same;
+      finished.served j known (omega (arith, same, group)) ∙ ap (λ n. per_work (group_at found.groups n) * (job_at jobs j).work) same;
   full = λ k known group.
       let same = alike_finished (length found.groups) (group_of found.group_of_stretch k) (group_of stretches' k) (alike' k known) group in
-      finished.full k known (omega (arith, same, group))
-      ∙ ap (λ n. per_time (group_at found.groups n) * length_at jobs k) same;
+      finished.full k known (omega (arith, same, group)) ∙ ap (λ n. per_time (group_at found.groups n) * length_at jobs k) same;
   in_order = finished.in_order;
   earliest = λ x y within within' same inside before.
       let one = finished.shares x no_share within in

@@ -8,13 +8,11 @@ use Rattle.std.proofs.lemmas.List.{map-id, take_all}
 use Rattle.std.proofs.lemmas.List.FromFn.{get_or-range_with_len, length-range_with_len, map-range_with_len_more}
 use Rattle.yds_model.proofs.Sums.{sum_by-add, sum_by_same, sum_by_zero}
 
-filter_step : {X : Type 0} (p : Bool) (x : X) (f : X → ℕ) (xs : List X) →
-    sum_by f (cond p (x ∷ xs) xs) ≡ cond p (f x) 0 + sum_by f xs
+filter_step : {X : Type 0} (p : Bool) (x : X) (f : X → ℕ) (xs : List X) → sum_by f (cond p (x ∷ xs) xs) ≡ cond p (f x) 0 + sum_by f xs
 filter_step true x f xs = sum_by-cons f x xs
 filter_step false x f xs = omega arith
 
-pub sum_by-filter : {X : Type 0} (p : X → Bool) (f : X → ℕ) (xs : List X) →
-    sum_by f (filter p xs) ≡ sum_by (λ x. cond (p x) (f x) 0) xs
+pub sum_by-filter : {X : Type 0} (p : X → Bool) (f : X → ℕ) (xs : List X) → sum_by f (filter p xs) ≡ sum_by (λ x. cond (p x) (f x) 0) xs
 sum_by-filter p f [] = refl
 sum_by-filter p f (x ∷ xs) =
     omega (arith, filter_step (p x) x f (filter p xs), sum_by-cons (λ y. cond (p y) (f y) 0) x xs, sum_by-filter p f xs)
@@ -23,19 +21,16 @@ pub sum_by-map : {X Y : Type 0} (g : X → Y) (f : Y → ℕ) (xs : List X) → 
 sum_by-map g f [] = refl
 sum_by-map g f (x ∷ xs) = omega (arith, sum_by-cons f (g x) (map g xs), sum_by-cons (λ y. f (g y)) x xs, sum_by-map g f xs)
 
-pub sum_by-flat_map : {X Y : Type 0} (g : X → List Y) (f : Y → ℕ) (xs : List X) →
-    sum_by f (flat_map g xs) ≡ sum_by (λ x. sum_by f (g x)) xs
+pub sum_by-flat_map : {X Y : Type 0} (g : X → List Y) (f : Y → ℕ) (xs : List X) → sum_by f (flat_map g xs) ≡ sum_by (λ x. sum_by f (g x)) xs
 sum_by-flat_map g f [] = refl
 sum_by-flat_map g f (x ∷ xs) =
     omega (arith, sum_by-append f (g x) (flat_map g xs), sum_by-cons (λ y. sum_by f (g y)) x xs, sum_by-flat_map g f xs)
 
 -- the order of two sums doesn't matter
-pub sums_swap : {X Y : Type 0} (f : X → Y → ℕ) (xs : List X) (ys : List Y) →
-    sum_by (λ x. sum_by (f x) ys) xs ≡ sum_by (λ y. sum_by (λ x. f x y) xs) ys
+pub sums_swap : {X Y : Type 0} (f : X → Y → ℕ) (xs : List X) (ys : List Y) → sum_by (λ x. sum_by (f x) ys) xs ≡ sum_by (λ y. sum_by (λ x. f x y) xs) ys
 sums_swap f [] ys = sym (sum_by_zero (λ y. 0) ys (λ k d within. refl))
 sums_swap f (x ∷ xs) ys =
-    sum_by-cons (λ one. sum_by (f one) ys) x xs
-    ∙ ap (λ n. sum_by (f x) ys + n) (sums_swap f xs ys)
+    sum_by-cons (λ one. sum_by (f one) ys) x xs ∙ ap (λ n. sum_by (f x) ys + n) (sums_swap f xs ys)
     ∙ sym (sum_by-add (f x) (λ y. sum_by (λ one. f one y) xs) ys)
     ∙ sum_by_same (λ y. f x y + sum_by (λ one. f one y) xs) (λ y. sum_by (λ one. f one y) (x ∷ xs)) ys
     (λ k d within. sym (sum_by-cons (λ one. f one (get_or ys k d)) x xs))
@@ -94,13 +89,11 @@ one_of_range n key v = elim (cases_lt key n) [
 ]
 
 -- the sums over the elements of each key, together
-pub split_sum : {X : Type 0} (key : X → ℕ) (f : X → ℕ) (n : ℕ) (xs : List X) →
-    sum_by (λ k. sum_by f (filter (λ x. key x == k) xs)) (range_with_len 0 n)
+pub split_sum : {X : Type 0} (key : X → ℕ) (f : X → ℕ) (n : ℕ) (xs : List X) → sum_by (λ k. sum_by f (filter (λ x. key x == k) xs)) (range_with_len 0 n)
     ≡ sum_by (λ x. cond (nat_lt (key x) n) (f x) 0) xs
 split_sum key f n xs =
     sum_by_same (λ k. sum_by f (filter (λ x. key x == k) xs)) (λ k. sum_by (λ x. cond (key x == k) (f x) 0) xs) (range_with_len 0 n)
-    (λ i d within. sum_by-filter (λ x. key x == get_or (range_with_len 0 n) i d) f xs)
-    ∙ sums_swap (λ k x. cond (key x == k) (f x) 0) (range_with_len 0 n) xs
+    (λ i d within. sum_by-filter (λ x. key x == get_or (range_with_len 0 n) i d) f xs) ∙ sums_swap (λ k x. cond (key x == k) (f x) 0) (range_with_len 0 n) xs
     ∙ sum_by_same (λ x. sum_by (λ k. cond (key x == k) (f x) 0) (range_with_len 0 n)) (λ x. cond (nat_lt (key x) n) (f x) 0) xs
     (λ i d within. one_of_range n (key (get_or xs i d)) (f (get_or xs i d)))
 
@@ -108,8 +101,7 @@ split_sum key f n xs =
 pub split_all : {X : Type 0} (key : X → ℕ) (f : X → ℕ) (n : ℕ) (xs : List X) → All (λ x. key x < n) xs →
     sum_by (λ k. sum_by f (filter (λ x. key x == k) xs)) (range_with_len 0 n) ≡ sum_by f xs
 split_all key f n xs below =
-    split_sum key f n xs
-    ∙ sum_by_same (λ x. cond (nat_lt (key x) n) (f x) 0) f xs
+    split_sum key f n xs ∙ sum_by_same (λ x. cond (nat_lt (key x) n) (f x) 0) f xs
     (λ i d within. ap (λ b. cond b (f (get_or xs i d)) 0) (lt-ltb (key (get_or xs i d)) n (below i d within)))
 
 pub cond_at_most : (b : Bool) (v : ℕ) → cond b v 0 ≤ v
@@ -120,11 +112,7 @@ cond_at_most false v = omega arith
 pub split_at_most : {X : Type 0} (key : X → ℕ) (f : X → ℕ) (n : ℕ) (xs : List X) →
     sum_by (λ k. sum_by f (filter (λ x. key x == k) xs)) (range_with_len 0 n) ≤ sum_by f xs
 split_at_most key f n xs =
-    omega (
-      arith,
-      split_sum key f n xs,
-      sum_by-le-sum_by (λ x. cond (nat_lt (key x) n) (f x) 0) f xs (λ x. cond_at_most (nat_lt (key x) n) (f x)),
-    )
+    omega (arith, split_sum key f n xs, sum_by-le-sum_by (λ x. cond (nat_lt (key x) n) (f x) 0) f xs (λ x. cond_at_most (nat_lt (key x) n) (f x)))
 
 -- a length is a sum of ones
 pub count_all : {X : Type 0} (xs : List X) → sum_by (λ x. 1) xs ≡ length xs
@@ -134,17 +122,14 @@ count_all (x ∷ xs) = omega (arith, sum_by-cons (λ one. 1) x xs, count_all xs)
 -- a range, one longer
 pub range_more : (n : ℕ) → range_with_len 0 (n + 1) ≡ range_with_len 0 n ++ n ∷ []
 range_more n =
-    sym (map-id (range_with_len 0 (n + 1)))
-    ∙ map-range_with_len_more (λ k. k) 0 n n (omega arith)
-    ∙ ap (λ ks. ks ++ n ∷ []) (map-id (range_with_len 0 n))
+    sym (map-id (range_with_len 0 (n + 1))) ∙ map-range_with_len_more (λ k. k) 0 n n (omega arith) ∙ ap (λ ks. ks ++ n ∷ []) (map-id (range_with_len 0 n))
 
 -- a sum over the first elements, by their places
 pub sum_of_first : {X : Type 0} (f : X → ℕ) (xs : List X) (d : X) (i : ℕ) → i ≤ length xs →
     sum_by (λ k. f (get_or xs k d)) (range_with_len 0 i) ≡ sum_by f (take i xs)
 sum_of_first f xs d zero within = refl
 sum_of_first f xs d (suc i) within =
-    ap (sum_by (λ k. f (get_or xs k d))) (ap (range_with_len 0) (sym (add-one i)) ∙ range_more i)
-    ∙ sum_by_push (λ k. f (get_or xs k d)) (range_with_len 0 i) i
+    ap (sum_by (λ k. f (get_or xs k d))) (ap (range_with_len 0) (sym (add-one i)) ∙ range_more i) ∙ sum_by_push (λ k. f (get_or xs k d)) (range_with_len 0 i) i
     ∙ ap (λ n. n + f (get_or xs i d)) (sum_of_first f xs d i (omega arith))
     ∙ sym (ap (λ n. sum_by f (take n xs)) (sym (add-one i)) ∙ sum_by_more f xs i d (omega arith))
 

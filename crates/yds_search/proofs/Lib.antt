@@ -1,7 +1,5 @@
 pub mod KeySums
-mod Orders
 mod Fills
-mod Filling
 mod Nexts
 mod Ranges
 mod Closures
@@ -11,14 +9,8 @@ mod Finished
 mod Splits
 mod Deadlines
 mod Ends
-mod Lowest
-mod Totals
 pub mod Numbers
 mod Stacks
-mod Parts
-mod Reaches
 mod Finish
 mod Attempts
 mod Steps
-mod Dividing
-mod Begin

@@ -59,10 +59,8 @@ next_begins rooms next numbers = record {
 
 -- full stretches are passed over at once
 pub serve_jumps : (jobs : List Job) (windows : List Window) (job want : ℕ) (shares : List Share) (rooms : List ℕ)
-    (next next' left : ℕ) (shares' : List Share) (rooms' : List ℕ) →
-    IsServed jobs windows job want shares rooms next left shares' rooms' → next ≤ next' →
-    ((k : ℕ) → next ≤ k → k < next' → get_or rooms' k 0 ≡ 0) →
-    IsServed jobs windows job want shares rooms next' left shares' rooms'
+    (next next' left : ℕ) (shares' : List Share) (rooms' : List ℕ) → IsServed jobs windows job want shares rooms next left shares' rooms' → next ≤ next' →
+    (1 ≤ left → (k : ℕ) → next ≤ k → k < next' → get_or rooms' k 0 ≡ 0) → IsServed jobs windows job want shares rooms next' left shares' rooms'
 serve_jumps jobs windows job want shares rooms next next' left shares' rooms' so_far after full = record {
   taken = so_far.taken;
   all = so_far.all;
@@ -73,7 +71,7 @@ serve_jumps jobs windows job want shares rooms next next' left shares' rooms' so
   room = so_far.room;
   swept = λ some k from upto. elim (cases_lt k next) [
     | inl below ↦ so_far.swept some k from below
-    | inr above ↦ full k above upto
+    | inr above ↦ full some k above upto
   ];
   kept = so_far.kept;
   few = so_far.few;
@@ -84,8 +82,7 @@ pub serve_take : (jobs : List Job) (windows : List Window) (job want : ℕ) (sha
     (next left : ℕ) (shares' : List Share) (rooms' : List ℕ) (left'' : ℕ) (shares'' : List Share) (rooms'' : List ℕ) →
     IsServed jobs windows job want shares rooms next left shares' rooms' →
     job < length windows → (window_at windows job).first ≤ next → next < (window_at windows job).end → next < length rooms →
-    IsTake job next left shares' rooms' left'' shares'' rooms'' →
-    IsServed jobs windows job want shares rooms (next + 1) left'' shares'' rooms''
+    IsTake job next left shares' rooms' left'' shares'' rooms'' → IsServed jobs windows job want shares rooms (next + 1) left'' shares'' rooms''
 serve_take jobs windows job want shares rooms next left shares' rooms' left'' shares'' rooms'' so_far known from upto within take = elim take [
   | inl passed ↦
       subst (λ (n : ℕ). IsServed jobs windows job want shares rooms (next + 1) n shares'' rooms'') (sym passed.1)
@@ -154,16 +151,10 @@ passed_full own rooms from place n low end k open_ is after above below = elim (
   | inl some ↦
       let one = open_.covers k some in
       let before : one.0 < place = elim (cases_lt place (length own)) [
-        | inl within ↦ rising_back own open_.rising one.0 place one.1
-            (omega (arith, one.2, below, get_or_default own place end 0 within))
+        | inl within ↦ rising_back own open_.rising one.0 place one.1 (omega (arith, one.2, below, get_or_default own place end 0 within))
         | inr past ↦ omega (arith, one.1, past)
       ] in
-      omega (
-        arith,
-        is.full one.0 (after one.0 one.1 (omega (arith, one.2, above))) before,
-        value_at own rooms one.0 one.1,
-        ap (λ i. get_or rooms i 0) one.2,
-      )
+      omega (arith, is.full one.0 (after one.0 one.1 (omega (arith, one.2, above))) before, value_at own rooms one.0 one.1, ap (λ i. get_or rooms i 0) one.2)
 ]
 
 pub take_fills : (rooms : List ℕ) (job stretch left : ℕ) (shares : List Share) (left' : ℕ) (shares' : List Share) (rooms' : List ℕ) →
@@ -207,3 +198,14 @@ pub from_next : (own rooms : List ℕ) (place stretch : ℕ) → AreOpen own roo
     (p : ℕ) → p < length own → stretch + 1 ≤ get_or own p 0 → place + 1 ≤ p
 from_next own rooms place stretch open_ within same p in_range after =
     omega (arith, rising_back own open_.rising place p within (omega (arith, same, after)))
+
+-- a stretch is full once a job has passed over it and still wants units
+pub next_passed : (own rooms next : List ℕ) (job place end stretch left : ℕ) (shares : List Share) (left' : ℕ) (shares' : List Share) (rooms' : List ℕ) →
+    AreOpen own rooms → IsNext (values_at own rooms) next → stretch ≡ get_or own place end → stretch < end →
+    IsTake job stretch left shares rooms left' shares' rooms' → 1 ≤ left' → IsNext (values_at own rooms') (set next place (place + 1))
+next_passed own rooms next job place end stretch left shares left' shares' rooms' open_ are is before take more =
+    let here = in_place own place end stretch is before in
+    let within : stretch < length rooms = omega (arith, here.1, open_.known place here.0) in
+    next_full (values_at own rooms') next place (take_next own rooms next job stretch left shares left' shares' rooms' are within take)
+    (omega (arith, here.0, values_count own rooms'))
+    (value_at own rooms' place here.0 ∙ ap (λ k. get_or rooms' k 0) (sym here.1) ∙ take_fills rooms job stretch left shares left' shares' rooms' within take more)

@@ -19,11 +19,7 @@ get_or_same numbers i d within = get_or_default numbers i 0 d within
 
 -- nothing is written yet
 pub written_none : (P : ℕ → ℕ → Type 0) (numbers old : List ℕ) → AreWritten P numbers 0 old old
-written_none P numbers old = record {
-  count = refl;
-  there = λ p before. absurd (omega arith);
-  others = λ i outside. refl;
-}
+written_none P numbers old = record { count = refl; there = λ p before. absurd (omega arith); others = λ i outside. refl }
 
 -- one number more
 pub written_more : (P : ℕ → ℕ → Type 0) (numbers : List ℕ) (n : ℕ) (old new : List ℕ) (value : ℕ) → AreWritten P numbers n old new →
@@ -40,13 +36,11 @@ written_more P numbers n old new value so_far within here = record {
         (so_far.there p (omega (arith, before, differ)))
   ];
   others = λ i outside.
-      get_or-set_other new (get_or numbers n 0) i value 0 (λ same. outside n (omega arith) (sym same))
-      ∙ so_far.others i (λ p before. outside p (omega arith));
+      get_or-set_other new (get_or numbers n 0) i value 0 (λ same. outside n (omega arith) (sym same)) ∙ so_far.others i (λ p before. outside p (omega arith));
 }
 
 -- a number is one of the first n of a list, or none of them
-found_among : (numbers : List ℕ) (k n : ℕ) →
-    ((p : ℕ) × (p < n) × (get_or numbers p 0 ≡ k)) ⊎ ((p : ℕ) → p < n → get_or numbers p 0 ≡ k → ⊥)
+found_among : (numbers : List ℕ) (k n : ℕ) → ((p : ℕ) × (p < n) × (get_or numbers p 0 ≡ k)) ⊎ ((p : ℕ) → p < n → get_or numbers p 0 ≡ k → ⊥)
 found_among numbers k zero = inr (λ p before same. omega arith)
 found_among numbers k (suc n) = elim (found_among numbers k n) [
   | inl found ↦ inl (found.0, omega (arith, found.1), found.2)
@@ -77,14 +71,12 @@ written_off P numbers old new k written none = written.others k (λ p before sam
 -- who is in a group's list is in the group, and one of the whole list
 pub in_group : (groups : List ℕ) (group : ℕ) (numbers : List ℕ) (k : ℕ) → IsOneOf (numbers_in groups group numbers) k → group_of groups k ≡ group
 in_group groups group numbers k one =
-    subst (λ (i : ℕ). group_of groups i ≡ group) one.2
-    (eqb-true (group_of groups (get_or (numbers_in groups group numbers) one.0 0)) group
+    subst (λ (i : ℕ). group_of groups i ≡ group) one.2 (eqb-true (group_of groups (get_or (numbers_in groups group numbers) one.0 0)) group
     (filter_passes (λ i. group_of groups i == group) numbers one.0 0 one.1))
 
 pub in_whole : (groups : List ℕ) (group : ℕ) (numbers : List ℕ) (k : ℕ) → IsOneOf (numbers_in groups group numbers) k → IsOneOf numbers k
 in_whole groups group numbers k one =
-    subst (IsOneOf numbers) one.2
-    (All-filter (λ i. group_of groups i == group) (IsOneOf numbers) numbers
+    subst (IsOneOf numbers) one.2 (All-filter (λ i. group_of groups i == group) (IsOneOf numbers) numbers
     (λ i d within. subst (IsOneOf numbers) (get_or_same numbers i d within) (i, within, refl)) one.0 0 one.1)
 
 pub in_known : (groups : List ℕ) (group n : ℕ) (numbers : List ℕ) → ((p : ℕ) → p < length numbers → get_or numbers p 0 < n) →

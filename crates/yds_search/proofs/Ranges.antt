@@ -66,7 +66,6 @@ list_place xs d k within = omega (arith, within, length-map-range_with_len (λ n
 pub over_list : {X : Type 0} (f : X → ℕ) (xs : List X) (d : X) → over (length xs) (λ k. f (get_or xs k d)) ≡ sum_by f xs
 over_list f xs d =
     sym (fold-map (λ a x. a + f x) (λ k. get_or xs k d) 0 (range_with_len 0 (length xs)))
-    ∙ ap (sum_by f) (same_lists (map (λ k. get_or xs k d) (range_with_len 0 (length xs))) xs
-    (length-map-range_with_len (λ k. get_or xs k d) 0 (length xs))
+    ∙ ap (sum_by f) (same_lists (map (λ k. get_or xs k d) (range_with_len 0 (length xs))) xs (length-map-range_with_len (λ k. get_or xs k d) 0 (length xs))
     (λ k e within. get_or-map-range_with_len (λ n. get_or xs n d) 0 (length xs) k k e (list_place xs d k within) (omega arith)
     ∙ get_or_default xs k d e (list_place xs d k within)))

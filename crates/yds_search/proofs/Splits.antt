@@ -55,8 +55,7 @@ below_is : (a b : ℕ) → a + 1 ≡ b + 1 → a ≡ b
 below_is a b same = omega arith
 
 -- a job that wanted something is one of the group
-own_job : (s : Splitting) (j : ℕ) → j < length s.jobs → 1 ≤ get_or s.wants j 0 →
-    (group_of s.found.group_of_job j ≡ s.below + 1) × (1 ≤ (job_at s.jobs j).work)
+own_job : (s : Splitting) (j : ℕ) → j < length s.jobs → 1 ≤ get_or s.wants j 0 → (group_of s.found.group_of_job j ≡ s.below + 1) × (1 ≤ (job_at s.jobs j).work)
 own_job s j known some =
     let chose = chosen_some (group_of s.found.group_of_job j) (s.below + 1) (s.q * (job_at s.jobs j).work) (get_or s.wants j 0) (s.filled.want j known) some in
     (chose.0, factor_some s.q (job_at s.jobs j).work (omega (arith, chose.1, some)))
@@ -170,8 +169,7 @@ upper_only s j known upper k inside mine =
     ]
 
 -- other jobs keep their groups
-other_job : (s : Splitting) (j : ℕ) → j < length s.jobs → (group_of s.new_jobs j ≡ s.below → ⊥) →
-    group_of s.new_jobs j ≡ group_of s.found.group_of_job j
+other_job : (s : Splitting) (j : ℕ) → j < length s.jobs → (group_of s.new_jobs j ≡ s.below → ⊥) → group_of s.new_jobs j ≡ group_of s.found.group_of_job j
 other_job s j known other = elim (s.split.job j (omega (arith, s.search.all_jobs))) [
   | inl upper ↦ absurd (other (omega (arith, upper.2)))
   | inr same ↦ same.1

@@ -1,8 +1,11 @@
 -- The lists of groups that wait, and how they change when a group is finished or split.
-use Rattle.std.proofs.Common.{◌≡◌, ℕ, ◌+◌, ◌-◌, ◌*◌, ◌<◌, ◌≤◌, ◌⊎◌, ◌==◌, List, [], ◌∷◌, ◌++◌, ◌∙◌, length, get_or, refl, sym, ap, subst, inl, inr, arith}
+use Rattle.std.proofs.Common.{◌≡◌, ℕ, List, [], ◌∷◌, ◌++◌, ◌∙◌, length, map, refl, sym, ap, arith, ◌+◌, ◌-◌, ◌*◌, ◌<◌, ◌≤◌, ◌⊎◌, ◌==◌, get_or, subst, inl, inr}
+use Rattle.std.proofs.lemmas.List.{flat_map_more, map_push, length_push, get_or_past, get_or_append_left, get_or_push}
+use Rattle.yds_search.specs.declared.stack.Size.{Size}
+use Rattle.yds_search.specs.Waiting.{Part, part_at, no_part, part_in, IsWaiting, IsStack}
+use Rattle.yds_search.specs.Stack.{size_of, jobs_of, stretches_of}
 use Rattle.std.specs.Prelude.{nat_le, if◌then◌else◌}
 use Rattle.std.specs.List.{range_with_len}
-use Rattle.std.proofs.lemmas.List.{get_or_past, get_or_append_left, get_or_push, length_push}
 use Rattle.std.proofs.lemmas.Bool.{cases_lt, ne_eqb}
 use Rattle.std.proofs.lemmas.Bool.Decides.{nat_tests}
 use Rattle.yds_model.specs.Job.{Job, job_at}
@@ -12,9 +15,36 @@ use Rattle.yds_search.specs.Found.{Found, Share, share_at, no_share, group_of}
 use Rattle.yds_events.specs.Window.{length_at, AreWindows}
 use Rattle.yds_search.specs.Numbers.{IsOneOf, numbers_in, AreWritten}
 use Rattle.yds_search.specs.Search.{IsFilled, IsRenamed, IsSplitStretch, IsSplitJob, IsJobNumber, split_stretch, AreMovedFrom, IsSearch}
-use Rattle.yds_search.specs.Waiting.{Part, part_at, no_part, part_in, IsWaiting, IsStack}
 use Rattle.yds_search.proofs.Numbers.{one_or_none, written_at, written_off, in_group, in_has, in_same, in_twice}
 use Rattle.yds_search.proofs.Shares.{chosen_some, share_counts}
+
+-- one part more
+pub jobs_more : (parts : List Part) (part : Part) → jobs_of parts ++ part.jobs ≡ jobs_of (parts ++ part ∷ [])
+jobs_more parts part = flat_map_more (λ (one : Part). one.jobs) [] parts part
+
+pub stretches_more : (parts : List Part) (part : Part) → stretches_of parts ++ part.stretches ≡ stretches_of (parts ++ part ∷ [])
+stretches_more parts part = flat_map_more (λ (one : Part). one.stretches) [] parts part
+
+same_size : (m n : ℕ) (part : Part) → m ≡ length part.jobs → n ≡ length part.stretches →
+    (let one : Size = record { jobs = m; stretches = n } in one) ≡ size_of part
+same_size m n part a b =
+    ap (λ (k : ℕ). let one : Size = record { jobs = k; stretches = n } in one) a
+    ∙ ap (λ (k : ℕ). let one : Size = record { jobs = length part.jobs; stretches = k } in one) b
+
+pub sizes_more : (parts : List Part) (part : Part) (sizes sizes' : List Size) (m n : ℕ) → sizes ≡ map size_of parts →
+    sizes' ≡ sizes ++ record { jobs = m; stretches = n } ∷ [] → m ≡ length part.jobs → n ≡ length part.stretches → sizes' ≡ map size_of (parts ++ part ∷ [])
+sizes_more parts part sizes sizes' m n are more a b =
+    more ∙ ap (λ (xs : List Size). xs ++ record { jobs = m; stretches = n } ∷ []) are
+    ∙ ap (λ (one : Size). map size_of parts ++ one ∷ []) (same_size m n part a b) ∙ sym (map_push size_of parts part)
+
+-- the last part, by its size
+pub last_part : (parts : List Part) (sizes : List Size) (size : Size) → map size_of parts ≡ sizes ++ size ∷ [] →
+    (front : List Part) × (part : Part) × (parts ≡ front ++ part ∷ []) × (sizes ≡ map size_of front) × (size ≡ size_of part)
+last_part [] sizes size is = absurd (omega (arith, ap (λ (xs : List Size). length xs) is, length_push sizes size))
+last_part (x ∷ []) [] size is = ([], x, refl, refl, cc)
+last_part (x ∷ (y ∷ parts)) [] size is = absurd (omega (arith, ap (λ (xs : List Size). length xs) is))
+last_part (x ∷ parts) (one ∷ sizes) size is =
+    let rest = last_part parts sizes size (cc) in (x ∷ rest.0, rest.1, ap (λ (xs : List Part). x ∷ xs) rest.2, cc (rest.3), rest.4)
 
 -- a number of a group's list is in the group, and no other one
 list_group : (groups : List ℕ) (group : ℕ) (numbers whole : List ℕ) (k : ℕ) → numbers ≡ numbers_in groups group whole → IsOneOf numbers k → group_of groups k ≡ group
@@ -74,8 +104,7 @@ left_has P old new numbers whole left top k same same' written one mine = elim (
 -- and which jobs move
 pub split_job_is : (P : ℕ → ℕ → Type 0) (jobs : List Job) (windows : List Window) (old new numbers whole left old_jobs new_jobs own_jobs order : List ℕ) (top : ℕ) → 1 ≤ top →
     AreWindows jobs windows → numbers ≡ numbers_in old top whole → left ≡ numbers_in new top numbers → ((k : ℕ) → k < length (stretches jobs) → IsOneOf whole k) →
-    AreWritten P numbers (length numbers) old new →
-    own_jobs ≡ numbers_in old_jobs top order → ((j : ℕ) → j < length jobs → IsOneOf order j) →
+    AreWritten P numbers (length numbers) old new → own_jobs ≡ numbers_in old_jobs top order → ((j : ℕ) → j < length jobs → IsOneOf order j) →
     AreWritten (IsJobNumber windows left top) own_jobs (length own_jobs) old_jobs new_jobs →
     (j : ℕ) → j < length jobs → IsSplitJob windows new top j (group_of old_jobs j) (group_of new_jobs j)
 split_job_is P jobs windows old new numbers whole left old_jobs new_jobs own_jobs order top some are same same' all written same'' all_jobs written' j known = elim (one_or_none own_jobs j) [
@@ -88,10 +117,7 @@ split_job_is P jobs windows old new numbers whole left old_jobs new_jobs own_job
               (left_has P old new numbers whole left top k same same' written (all k (omega (arith, inside.upto, are.inside j known))) is)),
           omega (arith, some, misses.1),
         )
-        | inr meets ↦ inr (
-          (λ is. (meets.0.0, meets.0.1, list_group new top left numbers meets.0.0 same' meets.0.2)),
-          meets.1 ∙ sym mine,
-        )
+        | inr meets ↦ inr ((λ is. (meets.0.0, meets.0.1, list_group new top left numbers meets.0.0 same' meets.0.2)), meets.1 ∙ sym mine)
       ]
   | inr none ↦ inr (
     (λ mine. absurd (none (list_has old_jobs top own_jobs order j same'' (all_jobs j known) mine))),
@@ -143,11 +169,9 @@ waiting_kept : (order : List ℕ) (found new : Found) (group top : ℕ) (part : 
     AreMovedFrom top found.group_of_job new.group_of_job → AreMovedFrom top found.group_of_stretch new.group_of_stretch → top < group →
     IsWaiting order found group part → IsWaiting order new group part
 waiting_kept order found new group top part count moved moved' above waiting = record {
-  jobs = waiting.jobs
-      ∙ sym (in_same found.group_of_job new.group_of_job group order
+  jobs = waiting.jobs ∙ sym (in_same found.group_of_job new.group_of_job group order
       (λ i. same_member top (group_of found.group_of_job i) (group_of new.group_of_job i) group above (moved i)));
-  stretches = waiting.stretches
-      ∙ sym (in_same found.group_of_stretch new.group_of_stretch group (range_with_len 0 (length found.group_of_stretch))
+  stretches = waiting.stretches ∙ sym (in_same found.group_of_stretch new.group_of_stretch group (range_with_len 0 (length found.group_of_stretch))
       (λ i. same_member top (group_of found.group_of_stretch i) (group_of new.group_of_stretch i) group above (moved' i)))
       ∙ ap (λ (n : ℕ). numbers_in new.group_of_stretch group (range_with_len 0 n)) (sym count);
 }

@@ -3,8 +3,8 @@ use Rattle.std.specs.Prelude.{◌+◌, ◌<◌, ◌≤◌, List, length, sum}
 use Rattle.yds_search.specs.declared.stack.Size.{Size}
 use Rattle.yds_search.specs.declared.search.Search.{Search}
 use Rattle.yds_search.specs.declared.beginning.TheConstants.{LAST}
-use Rattle.yds_search.specs.Found.{Group, Share}
-use Rattle.yds_search.specs.Views.{found_view}
+use Rattle.yds_search.specs.Found.{Group}
+use Rattle.yds_search.specs.Views.{found_view, shares_view}
 use Rattle.yds_search.specs.Search.{IsSearch, IsAttempt}
 use Rattle.yds_search.specs.Instance.{IsInstance}
 use Rattle.yds_search.specs.Waiting.{Part, IsWaiting, IsStack, IsBlank, HasReaches}
@@ -31,15 +31,15 @@ pub record IsChosen (search : Search) (size : Size) : Type 0 where
   pub own : IsWaiting search.instance.order.items (found_view search.found) search.top part
   pub last : AreLast parts part size search.stack
 
--- and filled with these shares
-pub record IsFilledGroup (search : Search) (size : Size) (group : Group) (shares : List Share) : Type 0 where
+-- and filled
+pub record IsFilledGroup (search : Search) (size : Size) (group : Group) : Type 0 where
   pub chosen : IsChosen search size
-  pub attempt : IsAttempt search.instance.rows.now search.instance.windows.items (found_view search.found) search.top group shares
-      search.space.wants.items search.space.rooms.items
+  pub attempt : IsAttempt search.instance.rows.now search.instance.windows.items (found_view search.found) search.top group (shares_view search.space.filling.shares.items)
+      search.space.wants.items search.space.filling.rooms.items
   pub reaches : HasReaches (length search.instance.lengths.items) search.space.reaches
 
-abbrev pub IsFilledWith : Search → Size → List Share → Type 0
-IsFilledWith search size shares = (group : Group) × IsFilledGroup search size group shares
+abbrev pub IsFilledSome : Search → Size → Type 0
+IsFilledSome search size = (group : Group) × IsFilledGroup search size group
 
 -- the numbers of the stretches' groups fall
 abbrev pub IsNearer : Search → Search → Type 0

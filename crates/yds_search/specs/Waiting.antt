@@ -50,7 +50,7 @@ pub record AreWithin (jobs stretches wants rooms : List ℕ) : Type 0 where
 -- nothing is wanted of n jobs, and m stretches have no room
 pub record IsBlank (n m : ℕ) (space : Workspace) : Type 0 where
   pub all_wants : length space.wants.items ≡ n
-  pub all_rooms : length space.rooms.items ≡ m
+  pub all_rooms : length space.filling.rooms.items ≡ m
   pub want : (j : ℕ) → slice_index space.wants.items j ≡ 0
-  pub room : (k : ℕ) → slice_index space.rooms.items k ≡ 0
+  pub room : (k : ℕ) → slice_index space.filling.rooms.items k ≡ 0
   pub reaches : HasReaches m space.reaches

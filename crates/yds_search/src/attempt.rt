@@ -1,18 +1,6 @@
 ghost use Rattle.std.specs.Prelude.{◌≡◌, ℕ, ◌<◌, ◌≤◌, true, false, length, slice_index};
 ghost use Rattle.std.specs.List.{All};
 
-use crate::found::Group;
-use crate::share::Share;
-
-/// A group, filled at its average speed.
-#[derive(Drop)]
-pub(crate) struct Attempt {
-    /// The group's work and length.
-    pub group: Group,
-    /// The shares that its jobs took in its stretches.
-    pub shares: Vec<Share>,
-}
-
 /// Whether one of these jobs still wants units.
 pub(crate) fn has_late(wants: &[u64], own_jobs: &[u32]) -> bool
     requires { All (λ j. j < length wants.now) own_jobs.now }

@@ -11,8 +11,18 @@ ghost use Rattle.yds_search.specs.Numbers.{values_at};
 use crate::instance::Jobs;
 use crate::places::Places;
 use crate::share::Share;
-use std::alloc::Global;
 use yds_model::Memory;
+
+/// The fill of a group: what room its stretches have, and who takes it.
+#[derive(Debug, Drop)]
+pub(crate) struct Filling {
+    /// The units for which each stretch has room, 0 between groups.
+    pub rooms: Vec<u64>,
+    /// For each place among the group's stretches a place from which to go on, with no room before it.
+    pub next: Vec<u32>,
+    /// The shares that jobs took.
+    pub shares: Vec<Share>,
+}
 
 /// The first place from here on at which a stretch may have room.
 fn next_place(next: &mut [u32], from: u32) -> u32
@@ -42,104 +52,93 @@ fn stretch_at(own_stretches: &[u32], place: u32, end: u32) -> u32
     }
 }
 
-/// A job takes what it can in one stretch, and still wants so many units then.
-fn take(
-    job: u32,
-    stretch: u32,
-    left: u64,
-    rooms: &mut [u64],
-    shares: &mut Vec<Share>,
-) -> Result<u64, Memory>
-    requires { stretch < length rooms.old }
-    ensures { IfOk result (λ rest. IsTake job stretch left (shares_view shares.old.items) rooms.old rest (shares_view shares.new.items) rooms.new) }
-{
-    let room = rooms[stretch as usize];
-    let units = left.min(room);
-    if units == 0 {
-        return Ok(left);
-    }
-    shares.push(Share {
-        job,
-        stretch,
-        units,
-    })?;
-    rooms[stretch as usize] = room - units;
-    Ok(left - units)
-}
-
-/// A job takes the earliest room in its window, and still wants so many units then.
-fn serve(
-    jobs: &Jobs,
-    own: &Places,
-    job: u32,
-    want: u64,
-    rooms: &mut [u64],
-    next: &mut [u32],
-    shares: &mut Vec<Share>,
-) -> Result<u64, Memory>
-    requires known { job < length jobs.now.windows.now }
-    requires inside { (window_at jobs.now.windows.now job).end ≤ length rooms.old }
-    requires nonempty { (window_at jobs.now.windows.now job).first ≤ (window_at jobs.now.windows.now job).end }
-    requires own { AreOpen own.now.numbers.now rooms.old }
-    requires few { length own.now.numbers.now ≤ 2 * MAX_JOBS }
-    requires next { IsNext (values_at own.now.numbers.now rooms.old) next.old }
-    requires taken { AreTaken jobs.now.rows.now jobs.now.windows.now (length rooms.old) (shares_view shares.old.items) rooms.old }
-    requires later { All (λ share. Precedes jobs.now.rows.now share.job job) (shares_view shares.old.items) }
-    ensures served { IfOk result (λ left. IsServed jobs.now.rows.now jobs.now.windows.now job want (shares_view shares.old.items) rooms.old (window_at jobs.now.windows.now job).end left (shares_view shares.new.items) rooms.new) }
-    ensures own { OnOk result (AreOpen own.now.numbers.now rooms.new) }
-    ensures next { OnOk result (IsNext (values_at own.now.numbers.now rooms.new) next.new) }
-{
-    let window = jobs.windows[job as usize];
-    let from = own.place(window.first, window.first);
-    let mut place = next_place(next, from);
-    let mut stretch = stretch_at(own.numbers, place, window.end);
-    let mut left = want;
-    while left > 0 && stretch < window.end {
-        left = take(job, stretch, left, rooms, shares)?;
-        if left > 0 {
-            next[place as usize] = place + 1;
-        }
-        place = next_place(next, place + 1);
-        stretch = stretch_at(own.numbers, place, window.end);
-    }
-    Ok(left)
-}
-
 /// The numbers from 0 to `last`.
-fn numbers(alloc: Global, last: usize) -> Result<Vec<u32>, Memory>
+fn set_numbers(numbers: &mut Vec<u32>, last: usize) -> Result<(), Memory>
     requires { last < 2 ^ 32 - 1 }
-    ensures { IfOk result (λ numbers. IsNumbers last numbers.items) }
+    ensures { OnOk result (IsNumbers last numbers.new.items) }
 {
-    let mut numbers = Vec::with_capacity(alloc, last + 1)?;
+    numbers.clear();
     for number in 0..last + 1 {
         numbers.push(number as u32)?;
     }
-    Ok(numbers)
+    Ok(())
 }
 
-/// Each of a group's jobs, in order, takes the earliest room in its window.
-pub(crate) fn fill(
-    alloc: Global,
-    jobs: &Jobs,
-    own_jobs: &[u32],
-    own: &Places,
-    wants: &mut [u64],
-    rooms: &mut [u64],
-) -> Result<Vec<Share>, Memory>
-    requires windows { AreWindows jobs.now.rows.now jobs.now.windows.now }
-    requires jobs { AreServed jobs.now.rows.now wants.old own_jobs.now }
-    requires own { AreOpen own.now.numbers.now rooms.old }
-    requires few { length own.now.numbers.now ≤ 2 * MAX_JOBS }
-    requires wants { length wants.old ≡ length jobs.now.rows.now }
-    requires rooms { length rooms.old ≡ length (stretches jobs.now.rows.now) }
-    ensures { IfOk result (λ shares. IsFill jobs.now.rows.now jobs.now.windows.now wants.old rooms.old (shares_view shares.items) wants.new rooms.new) }
-{
-    let mut shares = Vec::with_capacity(alloc, own_jobs.len())?;
-    let mut next = numbers(alloc, own.numbers.len())?;
-    for job in own_jobs {
-        let at = *job as usize;
-        let left = serve(jobs, own, *job, wants[at], rooms, &mut next, &mut shares)?;
-        wants[at] = left;
+impl Filling {
+    /// A job takes what it can in one stretch, and still wants so many units then.
+    fn take(&mut self, job: u32, stretch: u32, left: u64) -> Result<u64, Memory>
+        requires { stretch < length self.old.rooms.items }
+        ensures taken { IfOk result (λ rest. IsTake job stretch left (shares_view self.old.shares.items) self.old.rooms.items rest (shares_view self.new.shares.items) self.new.rooms.items) }
+        ensures next { self.new.next ≡ self.old.next }
+    {
+        let room = self.rooms[stretch as usize];
+        let units = left.min(room);
+        if units == 0 {
+            return Ok(left);
+        }
+        self.shares.push(Share {
+            job,
+            stretch,
+            units,
+        })?;
+        self.rooms[stretch as usize] = room - units;
+        Ok(left - units)
     }
-    Ok(shares)
+
+    /// A job takes the earliest room in its window, and still wants so many units then.
+    fn serve(&mut self, jobs: &Jobs, own: &Places, job: u32, want: u64) -> Result<u64, Memory>
+        requires known { job < length jobs.now.windows.now }
+        requires inside { (window_at jobs.now.windows.now job).end ≤ length self.old.rooms.items }
+        requires nonempty { (window_at jobs.now.windows.now job).first ≤ (window_at jobs.now.windows.now job).end }
+        requires own { AreOpen own.now.numbers.now self.old.rooms.items }
+        requires few { length own.now.numbers.now ≤ 2 * MAX_JOBS }
+        requires next { IsNext (values_at own.now.numbers.now self.old.rooms.items) self.old.next.items }
+        requires taken { AreTaken jobs.now.rows.now jobs.now.windows.now (length self.old.rooms.items) (shares_view self.old.shares.items) self.old.rooms.items }
+        requires later { All (λ share. Precedes jobs.now.rows.now share.job job) (shares_view self.old.shares.items) }
+        ensures served { IfOk result (λ left. IsServed jobs.now.rows.now jobs.now.windows.now job want (shares_view self.old.shares.items) self.old.rooms.items (window_at jobs.now.windows.now job).end left (shares_view self.new.shares.items) self.new.rooms.items) }
+        ensures own { OnOk result (AreOpen own.now.numbers.now self.new.rooms.items) }
+        ensures next { OnOk result (IsNext (values_at own.now.numbers.now self.new.rooms.items) self.new.next.items) }
+    {
+        let window = jobs.windows[job as usize];
+        let from = own.place(window.first, window.first);
+        let mut place = next_place(&mut self.next, from);
+        let mut stretch = stretch_at(own.numbers, place, window.end);
+        let mut left = want;
+        while stretch < window.end {
+            left = self.take(job, stretch, left)?;
+            if left == 0 {
+                return Ok(left);
+            }
+            self.next[place as usize] = place + 1;
+            place = next_place(&mut self.next, place + 1);
+            stretch = stretch_at(own.numbers, place, window.end);
+        }
+        Ok(left)
+    }
+
+    /// Each of a group's jobs, in order, takes the earliest room in its window.
+    pub(crate) fn fill(
+        &mut self,
+        jobs: &Jobs,
+        own_jobs: &[u32],
+        own: &Places,
+        wants: &mut [u64],
+    ) -> Result<(), Memory>
+        requires windows { AreWindows jobs.now.rows.now jobs.now.windows.now }
+        requires jobs { AreServed jobs.now.rows.now wants.old own_jobs.now }
+        requires own { AreOpen own.now.numbers.now self.old.rooms.items }
+        requires few { length own.now.numbers.now ≤ 2 * MAX_JOBS }
+        requires wants { length wants.old ≡ length jobs.now.rows.now }
+        requires rooms { length self.old.rooms.items ≡ length (stretches jobs.now.rows.now) }
+        ensures { OnOk result (IsFill jobs.now.rows.now jobs.now.windows.now wants.old self.old.rooms.items (shares_view self.new.shares.items) wants.new self.new.rooms.items) }
+    {
+        self.shares.clear();
+        set_numbers(&mut self.next, own.numbers.len())?;
+        for job in own_jobs {
+            let at = *job as usize;
+            let left = self.serve(jobs, own, *job, wants[at])?;
+            wants[at] = left;
+        }
+        Ok(())
+    }
 }

@@ -4,18 +4,16 @@ ghost use Rattle.yds_model.specs.Job.{IsJob};
 ghost use Rattle.yds_model.specs.Event.{stretches};
 ghost use Rattle.yds_model.specs.declared.limits.TheConstants.{MAX_JOBS};
 ghost use Rattle.yds_search.specs.Found.{IsFound};
-ghost use Rattle.yds_search.specs.Views.{found_view, group_view, shares_view};
+ghost use Rattle.yds_search.specs.Views.{found_view, group_view};
 ghost use Rattle.yds_search.specs.Waiting.{IsBlank};
-ghost use Rattle.yds_search.specs.Searching.{IsSearching, IsChosen, IsFilledGroup, IsFilledWith, IsNearer};
+ghost use Rattle.yds_search.specs.Searching.{IsSearching, IsChosen, IsFilledGroup, IsFilledSome, IsNearer};
 
 use crate::amounts::{scale, total};
-use crate::attempt::{Attempt, has_late};
+use crate::attempt::has_late;
 use crate::beginning::{LAST, beginning, first_group};
-use crate::fill::fill;
 use crate::found::{Found, Group};
 use crate::instance::{Instance, Jobs, prepare};
 use crate::places::{Places, guess_places};
-use crate::share::Share;
 use crate::split::{rename, split_jobs, split_stretches};
 use crate::stack::{Own, Size, Stack, all_numbers, last, members};
 use crate::workspace::{Workspace, blank_workspace, clear_all};
@@ -71,10 +69,10 @@ impl<'a> Search<'a> {
 
     /// The fastest group is filled at its average speed. What its jobs still want and what room its stretches have is left in
     /// the workspace.
-    fn fill(&mut self, alloc: Global, size: Size) -> Result<Attempt, Memory>
+    fn fill(&mut self, size: Size) -> Result<Group, Memory>
         requires chosen { IsChosen self.old size }
         requires space { IsBlank (length self.old.instance.rows.now) (length self.old.instance.lengths.items) self.old.space }
-        ensures filled { IfOk result (λ attempt. IsFilledGroup self.new size (group_view attempt.group) (shares_view attempt.shares.items)) }
+        ensures filled { IfOk result (λ group. IsFilledGroup self.new size (group_view group)) }
         ensures found { self.new.found ≡ self.old.found }
         ensures instance { self.new.instance ≡ self.old.instance }
     {
@@ -101,7 +99,7 @@ impl<'a> Search<'a> {
             &self.instance.lengths,
             own_stretches,
             per_time,
-            &mut self.space.rooms,
+            &mut self.space.filling.rooms,
         );
         let jobs = Jobs {
             rows: self.instance.rows,
@@ -111,23 +109,15 @@ impl<'a> Search<'a> {
             numbers: own_stretches,
             guesses: &self.space.reaches.guesses,
         };
-        let shares = fill(
-            alloc,
-            &jobs,
-            own_jobs,
-            &own,
-            &mut self.space.wants,
-            &mut self.space.rooms,
-        )?;
-        Ok(Attempt {
-            group: Group { work, length },
-            shares,
-        })
+        self.space
+            .filling
+            .fill(&jobs, own_jobs, &own, &mut self.space.wants)?;
+        Ok(Group { work, length })
     }
 
     /// The fastest group, which has no late jobs, is finished.
-    fn finish(&mut self, size: Size, attempt: Attempt) -> Result<(), Memory>
-        requires filled { IsFilledGroup self.old size (group_view attempt.group) (shares_view attempt.shares.items) }
+    fn finish(&mut self, size: Size, group: Group) -> Result<(), Memory>
+        requires filled { IsFilledGroup self.old size (group_view group) }
         requires served { (j : ℕ) → j < length self.old.instance.rows.now → slice_index self.old.space.wants.items j ≡ 0 }
         ensures search { OnOk result (IsSearching self.new) }
         ensures nearer { OnOk result (IsNearer self.old self.new) }
@@ -136,8 +126,10 @@ impl<'a> Search<'a> {
         let own_jobs = last(&self.stack.jobs, size.jobs);
         let own_stretches = last(&self.stack.stretches, size.stretches);
         let number = self.found.groups.len() as u32;
-        self.found.groups.push(attempt.group)?;
-        self.found.shares.extend_from_slice(&attempt.shares)?;
+        self.found.groups.push(group)?;
+        self.found
+            .shares
+            .extend_from_slice(&self.space.filling.shares)?;
         rename(&mut self.found.group_of_job, own_jobs, number);
         rename(&mut self.found.group_of_stretch, own_stretches, number);
         clear_all(&mut self.space, own_jobs, own_stretches);
@@ -147,8 +139,8 @@ impl<'a> Search<'a> {
     }
 
     /// The fastest group, which has late jobs, is split: what they close upon becomes a faster group.
-    fn split(&mut self, size: Size, shares: &[Share]) -> Result<(), Memory>
-        requires filled { IsFilledWith self.old size (shares_view shares.now) }
+    fn split(&mut self, size: Size) -> Result<(), Memory>
+        requires filled { IsFilledSome self.old size }
         requires late { (j : ℕ) × (j < length self.old.instance.rows.now) × (1 ≤ slice_index self.old.space.wants.items j) }
         ensures search { OnOk result (IsSearching self.new) }
         ensures nearer { OnOk result (IsNearer self.old self.new) }
@@ -162,7 +154,9 @@ impl<'a> Search<'a> {
             jobs: own_jobs,
             stretches: own_stretches,
         };
-        space.reaches.reach(windows, &own, &space.wants, shares);
+        space
+            .reaches
+            .reach(windows, &own, &space.wants, &space.filling.shares);
         let groups = &mut self.found.group_of_stretch;
         split_stretches(groups, own_stretches, &space.reaches.all, self.top);
         let left = &mut space.parted;
@@ -183,18 +177,18 @@ impl<'a> Search<'a> {
     }
 
     /// The fastest group, whose size is taken off, is filled, and finished or split.
-    fn advance(&mut self, alloc: Global, size: Size) -> Result<(), Memory>
+    fn advance(&mut self, size: Size) -> Result<(), Memory>
         requires chosen { IsChosen self.old size }
         requires space { IsBlank (length self.old.instance.rows.now) (length self.old.instance.lengths.items) self.old.space }
         ensures search { OnOk result (IsSearching self.new) }
         ensures nearer { OnOk result (IsNearer self.old self.new) }
         ensures instance { self.new.instance ≡ self.old.instance }
     {
-        let attempt = self.fill(alloc, size)?;
+        let group = self.fill(size)?;
         if has_late(&self.space.wants, last(&self.stack.jobs, size.jobs)) {
-            self.split(size, &attempt.shares)
+            self.split(size)
         } else {
-            self.finish(size, attempt)
+            self.finish(size, group)
         }
     }
 }
@@ -208,7 +202,7 @@ pub fn find(alloc: Global, rows: &[JobRow], timeline: &[Stretch]) -> Result<Foun
 {
     let mut search = Search::new(alloc, rows, timeline)?;
     while let Some(size) = search.stack.sizes.pop() {
-        search.advance(alloc, size)?;
+        search.advance(size)?;
     }
     Ok(search.found)
 }

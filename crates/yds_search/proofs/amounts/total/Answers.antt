@@ -6,11 +6,7 @@ use Rattle.yds_search.proofs.amounts.total.Goals as goal
 
 pub loop-i-preserved : goal.loop-i-preserved
 loop-i-preserved c = record {
-  sum = omega (
-    arith,
-    c.loop-i.invariant.sum,
-    sum_by_more (λ i. get_or c.args.amounts.now i 0) c.args.numbers.now c.loop-i.i-index 0 c.loop-i-test.true,
-  );
+  sum = omega (arith, c.loop-i.invariant.sum, sum_by_more (λ i. get_or c.args.amounts.now i 0) c.args.numbers.now c.loop-i.i-index 0 c.loop-i-test.true);
   small = omega (arith, c.loop-i.invariant.small, c.type_inv.amounts (get_or c.args.numbers.now c.loop-i.i-index 0));
 }
 

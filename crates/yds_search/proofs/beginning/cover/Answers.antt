@@ -2,7 +2,7 @@ use Rattle.std.proofs.Common.{ℕ, ◌≡◌, ◌∙◌, max, get_or, nat_cmp, s
 use Rattle.std.specs.Ordering.{ord_max}
 use Rattle.std.proofs.lemmas.Bool.Decides.{nat_tests}
 use Rattle.yds_search.specs.Beginning.{AreCovered}
-use Rattle.yds_search.proofs.Begin.{covering_none, covering_more}
+use Rattle.yds_search.proofs.Ends.{covering_none, covering_more}
 use Rattle.yds_search.proofs.beginning.cover.Goals as goal
 use Rattle.yds_search.proofs.beginning.cover.Goals.{then-end-stretch, else-end-stretch}
 

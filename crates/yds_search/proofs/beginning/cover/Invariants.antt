@@ -1,4 +1,4 @@
-use Rattle.yds_search.proofs.Begin.{IsCovering}
+use Rattle.yds_search.proofs.Ends.{IsCovering}
 use Rattle.yds_search.proofs.beginning.cover.Given as goal
 
 abbrev pub invariant-loop-stretch : goal.invariant-loop-stretch

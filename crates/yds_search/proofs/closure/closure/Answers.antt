@@ -1,7 +1,7 @@
 use Rattle.std.proofs.Common.{ℕ, ◌+◌, ◌-◌, ◌≡◌, ◌≤◌, ◌<◌, ◌∙◌, min, length, get_or, refl, sym, subst, arith}
 use Rattle.std.proofs.lemmas.Bool.Decides.{nat_tests}
 use Rattle.yds_search.specs.Closure.{reach_from}
-use Rattle.yds_search.proofs.Reaches.{ReachesFrom, reach_more, reach_none}
+use Rattle.yds_search.proofs.Closures.{ReachesFrom, reach_more, reach_none}
 use Rattle.yds_search.proofs.closure.closure.Goals as goal
 use Rattle.yds_search.proofs.closure.closure.Goals.{then-least-stretch, else-least-stretch}
 
@@ -9,8 +9,7 @@ reached : (after late shared k least min_least : ℕ) → min_least ≡ min afte
     least ≡ reach_from after late shared k
 reached after late shared k least min_least is within step = grind (arith, nat_tests)
 
-passed : (after late shared k least min_least : ℕ) → min_least ≡ min after late → k < min_least → least ≡ min_least →
-    least ≡ reach_from after late shared k
+passed : (after late shared k least min_least : ℕ) → min_least ≡ min after late → k < min_least → least ≡ min_least → least ≡ reach_from after late shared k
 passed after late shared k least min_least is beyond step = grind (arith, nat_tests)
 
 pub loop-place-init : goal.loop-place-init
@@ -23,8 +22,7 @@ loop-place-preserved c =
     reach_more c.args.late.now c.args.shared.now c.args.own_stretches.now (length c.args.reaches.now) (c.loop-place.place - 1) c.loop-place.least c.loop-place.reaches
     c.if-least-stretch.least c.requires.rising (λ p inside. c.requires.known p 0 inside)
     (subst (λ (n : ℕ). ReachesFrom c.args.late.now c.args.shared.now c.args.own_stretches.now (length c.args.reaches.now) n c.loop-place.least c.loop-place.reaches)
-    (sym back) c.loop-place.invariant)
-    within
+    (sym back) c.loop-place.invariant) within
     (elim c.if-least-stretch.branch [
       | then-least-stretch w ↦
           reached c.loop-place.least (get_or c.args.late.now (get_or c.args.own_stretches.now (c.loop-place.place - 1) 0) 0)
@@ -37,7 +35,4 @@ loop-place-preserved c =
     ])
 
 pub returns : goal.returns
-returns c = record {
-  all = c.loop-place.invariant.all;
-  step = λ p within. c.loop-place.invariant.step p (omega arith) within;
-}
+returns c = record { all = c.loop-place.invariant.all; step = λ p within. c.loop-place.invariant.step p (omega arith) within }

@@ -1,5 +1,5 @@
 use Rattle.std.proofs.Common.{length}
-use Rattle.yds_search.proofs.Reaches.{ReachesFrom}
+use Rattle.yds_search.proofs.Closures.{ReachesFrom}
 use Rattle.yds_search.proofs.closure.closure.Given as goal
 
 abbrev pub invariant-loop-place : goal.invariant-loop-place

@@ -1,7 +1,7 @@
 use Rattle.std.proofs.Common.{ℕ, ◌+◌, ◌≤◌, ◌∙◌, List, length, get_or, set, refl, sym, ap, subst, arith}
 use Rattle.yds_events.specs.Window.{window_at}
 use Rattle.yds_search.specs.Closure.{IsLastBefore}
-use Rattle.yds_search.proofs.Reaches.{LatesTo, least_none, least_skips, least_takes, late_least}
+use Rattle.yds_search.proofs.Closures.{LatesTo, least_none, least_skips, least_takes, late_least}
 use Rattle.yds_search.proofs.closure.late_reaches.Goals as goal
 use Rattle.yds_search.proofs.closure.late_reaches.Goals.{then-wants-job-gt0, else-wants-job-gt0}
 
@@ -38,8 +38,7 @@ loop-job-preserved c =
           )))
       | else-wants-job-gt0 w ↦
           subst (λ (xs : List ℕ). LatesTo c.args.windows.now c.args.wants.now c.args.own_jobs.now c.args.own.now.numbers.now (c.loop-job.job-index + 1) (length c.args.reaches.now) xs)
-          (sym w.reaches-is)
-          (least_skips (λ i. 1 ≤ get_or c.args.wants.now (get_or c.args.own_jobs.now i 0) 0)
+          (sym w.reaches-is) (least_skips (λ i. 1 ≤ get_or c.args.wants.now (get_or c.args.own_jobs.now i 0) 0)
           (λ i p. IsLastBefore c.args.own.now.numbers.now (window_at c.args.windows.now (get_or c.args.own_jobs.now i 0)).end p)
           (λ i. (window_at c.args.windows.now (get_or c.args.own_jobs.now i 0)).first) c.args.own.now.numbers.now c.loop-job.job-index (length c.args.reaches.now)
           c.loop-job.reaches c.loop-job.invariant (λ late. omega (arith, late, w.if-wants-job-gt0.false)))

@@ -1,5 +1,5 @@
 use Rattle.std.proofs.Common.{length}
-use Rattle.yds_search.proofs.Reaches.{LatesTo}
+use Rattle.yds_search.proofs.Closures.{LatesTo}
 use Rattle.yds_search.proofs.closure.late_reaches.Given as goal
 
 abbrev pub invariant-loop-job : goal.invariant-loop-job

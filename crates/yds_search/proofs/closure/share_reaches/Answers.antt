@@ -6,7 +6,7 @@ use Rattle.yds_search.specs.Found.{Share, share_at, no_share}
 use Rattle.yds_search.specs.Views.{share_view, shares_view}
 use Rattle.yds_events.specs.Window.{window_at}
 use Rattle.yds_search.specs.Fill.{IsPart}
-use Rattle.yds_search.proofs.Reaches.{SharesTo, least_none, least_takes, share_least}
+use Rattle.yds_search.proofs.Closures.{SharesTo, least_none, least_takes, share_least}
 use Rattle.yds_search.proofs.closure.share_reaches.Goals as goal
 
 -- the share that is read has what all shares have

@@ -15,18 +15,15 @@ loop-number-preserved c =
     let key : c.from.result * 4294967296 + c.loop-number.number ≡ key_of c.args.rows.now c.loop-number.number =
     omega (arith, c.from.ensures, deadline) in
     let more = map-range_with_len_more (key_of c.args.rows.now) 0 c.loop-number.number c.loop-number.number (omega arith) in
-    c.in_ok-push.ensures.items
-    ∙ ap (λ (xs : List ℕ). xs ++ (c.from.result * 4294967296 + c.loop-number.number) ∷ []) c.loop-number.invariant
-    ∙ ap (λ (k : ℕ). map (key_of c.args.rows.now) (range_with_len 0 c.loop-number.number) ++ k ∷ []) key
-    ∙ sym more
+    c.in_ok-push.ensures.items ∙ ap (λ (xs : List ℕ). xs ++ (c.from.result * 4294967296 + c.loop-number.number) ∷ []) c.loop-number.invariant
+    ∙ ap (λ (k : ℕ). map (key_of c.args.rows.now) (range_with_len 0 c.loop-number.number) ++ k ∷ []) key ∙ sym more
 
 pub loop-key-init : goal.loop-key-init
 loop-key-init c = c.new-order.ensures.items
 
 pub loop-key-preserved : goal.loop-key-preserved
 loop-key-preserved c =
-    c.in_ok-push-2.ensures.items
-    ∙ ap (λ (xs : List ℕ). xs ++ number_of (get_or c.deref-key-items.result.now c.loop-key.key-index 0) ∷ []) c.loop-key.invariant
+    c.in_ok-push-2.ensures.items ∙ ap (λ (xs : List ℕ). xs ++ number_of (get_or c.deref-key-items.result.now c.loop-key.key-index 0) ∷ []) c.loop-key.invariant
     ∙ sym (map_more number_of c.deref-key-items.result.now c.loop-key.key-index 0 c.loop-key-test.true)
 
 pub returns : goal.returns
@@ -35,6 +32,5 @@ returns c =
     (subst (λ (n : ℕ). IsPermutation (map (key_of c.args.rows.now) (range_with_len 0 n)) c.sort_unstable.new.self.items)
     (omega (arith, c.loop-number.auto.number-end, c.loop-number-test.false))
     (subst (λ (xs : List ℕ). IsPermutation xs c.sort_unstable.new.self.items) c.loop-number.invariant c.sort_unstable.ensures.permutation))
-    (IsNonDecreasingBy-from_sort (λ k. k) c.sort_unstable.new.self.items c.sort_unstable.ensures.sorted)
-    (c.loop-key.invariant
+    (IsNonDecreasingBy-from_sort (λ k. k) c.sort_unstable.new.self.items c.sort_unstable.ensures.sorted) (c.loop-key.invariant
     ∙ ap (map number_of) (take_all c.loop-key.key-index c.deref-key-items.result.now c.loop-key-test.false ∙ c.deref-key-items.ensures.value))

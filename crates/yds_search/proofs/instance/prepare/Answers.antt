@@ -20,8 +20,7 @@ returns-clause-instance c =
       work_small = λ j known. (jobs j known).work_in_range;
       all_lengths = ap (λ (xs : List ℕ). length xs) c.in_ok-lengths.ensures ∙ length-map c.args.timeline.now length_of ∙ count;
       length_is = λ k within.
-          ap (λ (xs : List ℕ). get_or xs k 0) c.in_ok-lengths.ensures
-          ∙ get_or-map length_of c.args.timeline.now k no_stretch 0 (omega (arith, within, count))
+          ap (λ (xs : List ℕ). get_or xs k 0) c.in_ok-lengths.ensures ∙ get_or-map length_of c.args.timeline.now k no_stretch 0 (omega (arith, within, count))
           ∙ ap (λ (pieces : List Piece). length_of (get_or pieces k no_stretch)) c.requires.timeline;
       length_some = stretch_long c.args.rows.now;
       length_small = λ k within. omega (arith, stretch_in_range c.args.rows.now k c.requires.jobs within);

@@ -26,8 +26,4 @@ returns-in-Ok c =
 pub returns-in-Err : goal.returns-in-Err
 returns-in-Err c =
     let found = searched c.args.numbers.now c.args.number (Err c.in-Err.place) c.in-Err.ensures.position (not_falling c.args.numbers.now c.requires.rising) in
-    record {
-      within = omega (arith, found.0);
-      before = λ i less. found.1 i less;
-      from = λ i after within. omega (arith, found.2 i after within);
-    }
+    record { within = omega (arith, found.0); before = λ i less. found.1 i less; from = λ i after within. omega (arith, found.2 i after within) }

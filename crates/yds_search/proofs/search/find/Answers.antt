@@ -6,9 +6,8 @@ use Rattle.yds_search.specs.Found.{IsFound}
 use Rattle.yds_search.specs.Views.{found_view}
 use Rattle.yds_search.specs.Waiting.{Part, IsStack}
 use Rattle.yds_search.specs.Stack.{size_of, jobs_of, stretches_of}
-use Rattle.yds_search.proofs.Parts.{jobs_more, stretches_more, last_part}
+use Rattle.yds_search.proofs.Stacks.{jobs_more, stretches_more, last_part, stack_pop}
 use Rattle.yds_search.proofs.Ends.{search_ends, few_left}
-use Rattle.yds_search.proofs.Stacks.{stack_pop}
 use Rattle.yds_search.proofs.search.find.Goals as goal
 
 pub advance-requires-clause-chosen : goal.advance-requires-clause-chosen

@@ -9,7 +9,7 @@ use Rattle.yds_search.proofs.search.Search.advance.Goals as goal
 
 pub has_late-requires : goal.has_late-requires
 has_late-requires c =
-    let filled = c.in_ok-attempt.ensures.filled in
+    let filled = c.in_ok-group.ensures.filled in
     let own : c.last.result.now ≡ filled.chosen.part.jobs =
     c.last.ensures (jobs_of filled.chosen.parts) filled.chosen.part.jobs (c.deref-2.ensures.value ∙ filled.chosen.last.jobs) filled.chosen.last.jobs_size in
     known_at c.last.result.now filled.chosen.part.jobs (length c.deref.result.now) (length c.fill.new.self.instance.rows.now) own
@@ -19,7 +19,7 @@ has_late-requires c =
 
 pub split-requires-clause-late : goal.split-requires-clause-late
 split-requires-clause-late c =
-    let filled = c.in_ok-attempt.ensures.filled in
+    let filled = c.in_ok-group.ensures.filled in
     let own : c.last.result.now ≡ filled.chosen.part.jobs =
     c.last.ensures (jobs_of filled.chosen.parts) filled.chosen.part.jobs (c.deref-2.ensures.value ∙ filled.chosen.last.jobs) filled.chosen.last.jobs_size in
     let late = c.if-has_late.ensures.late refl in (
@@ -34,11 +34,11 @@ pub finish-requires-clause-served : goal.finish-requires-clause-served
 finish-requires-clause-served c = λ j known. elim (cases_lt 0 (get_or c.fill.new.self.space.wants.items j 0)) [
   | inr none ↦ omega (arith, none)
   | inl some ↦
-      let filled = c.in_ok-attempt.ensures.filled in
+      let filled = c.in_ok-group.ensures.filled in
       let own : c.last.result.now ≡ filled.chosen.part.jobs =
       c.last.ensures (jobs_of filled.chosen.parts) filled.chosen.part.jobs (c.deref-2.ensures.value ∙ filled.chosen.last.jobs) filled.chosen.last.jobs_size in
       let one = wanting_own c.fill.new.self.instance.rows.now c.fill.new.self.instance.windows.items (found_view c.fill.new.self.found) c.fill.new.self.top _ _
-      filled.attempt.wants filled.attempt.rooms (shares_view c.in_ok-attempt.attempt.shares.items) c.fill.new.self.space.wants.items c.fill.new.self.space.rooms.items
+      filled.attempt.wants filled.attempt.rooms (shares_view c.fill.new.self.space.filling.shares.items) c.fill.new.self.space.wants.items c.fill.new.self.space.filling.rooms.items
       filled.chosen.part.jobs c.fill.new.self.instance.order.items filled.attempt.filled filled.chosen.own.jobs filled.chosen.instance.order.each j some in
       let listed : IsOneOf c.last.result.now j = subst (λ (xs : List ℕ). IsOneOf xs j) (sym own) one in
       absurd (omega (
@@ -51,4 +51,4 @@ finish-requires-clause-served c = λ j known. elim (cases_lt 0 (get_or c.fill.ne
 ]
 
 pub split-requires-clause-filled : goal.split-requires-clause-filled
-split-requires-clause-filled c = (group_view c.in_ok-attempt.attempt.group, rw c.deref-then-has_late.ensures.value c.in_ok-attempt.ensures.filled)
+split-requires-clause-filled c = (group_view c.in_ok-group.group, c.in_ok-group.ensures.filled)

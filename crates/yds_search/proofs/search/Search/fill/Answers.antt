@@ -107,7 +107,8 @@ fill-requires-clause-jobs c =
     c.deref-6.ensures.value (c.last-own_jobs.ensures (jobs_of c.requires.chosen.parts) c.requires.chosen.part.jobs (c.deref.ensures.value ∙ c.requires.chosen.last.jobs) c.requires.chosen.last.jobs_size) c.deref-7.ensures.value (c.last-own_stretches.ensures (stretches_of c.requires.chosen.parts) c.requires.chosen.part.stretches (c.deref-2.ensures.value ∙ c.requires.chosen.last.stretches) c.requires.chosen.last.stretches_size) c.gcd-divisor.ensures.value
     c.deref_mut-2.ensures.value c.deref_mut-3.ensures.value c.scale.ensures c.scale-2.ensures in
     let wants : c.deref_mut-4.result.now ≡ c.scale.new.scaled = c.deref_mut-4.ensures.value ∙ take_at _ _ _ (c.scale.auto.scaled ∙ c.deref_mut-2.ensures.len) in
-    let rooms : c.deref_mut-5.result.now ≡ c.scale-2.new.scaled = c.deref_mut-5.ensures.value ∙ take_at _ _ _ (c.scale-2.auto.scaled ∙ c.deref_mut-3.ensures.len) in
+    let rooms : take c.args.self.now.space.filling.rooms.len (c.scale-2.new.scaled ++ drop (length c.scale-2.new.scaled) c.args.self.now.space.filling.rooms.items) ≡ c.scale-2.new.scaled =
+    take_at _ _ _ (c.scale-2.auto.scaled ∙ c.deref_mut-3.ensures.len) in
     subst (λ (xs : List ℕ). AreServed c.args.self.now.instance.rows.now xs c.last-own_jobs.result.now) (sym wants)
     (subst (λ (xs : List ℕ). AreServed c.args.self.now.instance.rows.now c.scale.new.scaled xs) (sym (c.last-own_jobs.ensures (jobs_of c.requires.chosen.parts) c.requires.chosen.part.jobs (c.deref.ensures.value ∙ c.requires.chosen.last.jobs) c.requires.chosen.last.jobs_size))
     (served_is c.args.self.now.instance.rows.now c.args.self.now.instance (found_view c.args.self.now.found) c.args.self.now.top (c.total-work.result / common_divisor c.total-work.result c.total-length.result) (c.total-length.result / common_divisor c.total-work.result c.total-length.result) c.requires.chosen.part
@@ -121,7 +122,8 @@ fill-requires-clause-own c =
     c.deref-6.ensures.value (c.last-own_jobs.ensures (jobs_of c.requires.chosen.parts) c.requires.chosen.part.jobs (c.deref.ensures.value ∙ c.requires.chosen.last.jobs) c.requires.chosen.last.jobs_size) c.deref-7.ensures.value (c.last-own_stretches.ensures (stretches_of c.requires.chosen.parts) c.requires.chosen.part.stretches (c.deref-2.ensures.value ∙ c.requires.chosen.last.stretches) c.requires.chosen.last.stretches_size) c.gcd-divisor.ensures.value
     c.deref_mut-2.ensures.value c.deref_mut-3.ensures.value c.scale.ensures c.scale-2.ensures in
     let wants : c.deref_mut-4.result.now ≡ c.scale.new.scaled = c.deref_mut-4.ensures.value ∙ take_at _ _ _ (c.scale.auto.scaled ∙ c.deref_mut-2.ensures.len) in
-    let rooms : c.deref_mut-5.result.now ≡ c.scale-2.new.scaled = c.deref_mut-5.ensures.value ∙ take_at _ _ _ (c.scale-2.auto.scaled ∙ c.deref_mut-3.ensures.len) in
+    let rooms : take c.args.self.now.space.filling.rooms.len (c.scale-2.new.scaled ++ drop (length c.scale-2.new.scaled) c.args.self.now.space.filling.rooms.items) ≡ c.scale-2.new.scaled =
+    take_at _ _ _ (c.scale-2.auto.scaled ∙ c.deref_mut-3.ensures.len) in
     subst (λ (xs : List ℕ). AreOpen c.last-own_stretches.result.now xs) (sym rooms)
     (subst (λ (xs : List ℕ). AreOpen xs c.scale-2.new.scaled) (sym (c.last-own_stretches.ensures (stretches_of c.requires.chosen.parts) c.requires.chosen.part.stretches (c.deref-2.ensures.value ∙ c.requires.chosen.last.stretches) c.requires.chosen.last.stretches_size))
     (open_is c.args.self.now.instance.rows.now c.args.self.now.instance (found_view c.args.self.now.found) c.args.self.now.top (c.total-work.result / common_divisor c.total-work.result c.total-length.result) (c.total-length.result / common_divisor c.total-work.result c.total-length.result) c.requires.chosen.part
@@ -148,7 +150,8 @@ returns-clause-filled c =
     c.deref-6.ensures.value (c.last-own_jobs.ensures (jobs_of c.requires.chosen.parts) c.requires.chosen.part.jobs (c.deref.ensures.value ∙ c.requires.chosen.last.jobs) c.requires.chosen.last.jobs_size) c.deref-7.ensures.value (c.last-own_stretches.ensures (stretches_of c.requires.chosen.parts) c.requires.chosen.part.stretches (c.deref-2.ensures.value ∙ c.requires.chosen.last.stretches) c.requires.chosen.last.stretches_size) c.gcd-divisor.ensures.value
     c.deref_mut-2.ensures.value c.deref_mut-3.ensures.value c.scale.ensures c.scale-2.ensures in
     let wants : c.deref_mut-4.result.now ≡ c.scale.new.scaled = c.deref_mut-4.ensures.value ∙ take_at _ _ _ (c.scale.auto.scaled ∙ c.deref_mut-2.ensures.len) in
-    let rooms : c.deref_mut-5.result.now ≡ c.scale-2.new.scaled = c.deref_mut-5.ensures.value ∙ take_at _ _ _ (c.scale-2.auto.scaled ∙ c.deref_mut-3.ensures.len) in
+    let rooms : take c.args.self.now.space.filling.rooms.len (c.scale-2.new.scaled ++ drop (length c.scale-2.new.scaled) c.args.self.now.space.filling.rooms.items) ≡ c.scale-2.new.scaled =
+    take_at _ _ _ (c.scale-2.auto.scaled ∙ c.deref_mut-3.ensures.len) in
     let chosen = c.requires.chosen in
     record {
       chosen = record {
@@ -163,19 +166,11 @@ returns-clause-filled c =
         last = chosen.last;
       };
       attempt = subst (λ (xs : List ℕ). IsAttempt c.args.self.now.instance.rows.now c.args.self.now.instance.windows.items (found_view c.args.self.now.found) c.args.self.now.top
-          (record { work = c.total-work.result; length = c.total-length.result }) (shares_view c.in_ok-shares.shares.items) xs
-          (take c.args.self.now.space.rooms.len (c.fill.new.rooms ++ drop (length c.fill.new.rooms) (take c.args.self.now.space.rooms.len (c.scale-2.new.scaled ++ drop (length c.scale-2.new.scaled) c.args.self.now.space.rooms.items)))))
+          (record { work = c.total-work.result; length = c.total-length.result }) (shares_view c.fill.new.self.shares.items) xs c.fill.new.self.rooms.items)
           (sym (take_at _ _ _ (c.fill.auto.wants ∙ c.deref_mut-4.ensures.len)))
-          (subst (λ (xs : List ℕ). IsAttempt c.args.self.now.instance.rows.now c.args.self.now.instance.windows.items (found_view c.args.self.now.found) c.args.self.now.top
-          (record { work = c.total-work.result; length = c.total-length.result }) (shares_view c.in_ok-shares.shares.items) c.fill.new.wants xs)
-          (sym (take_at _ _ _ (c.fill.auto.rooms ∙ c.deref_mut-5.ensures.len)))
           (attempt_is c.args.self.now.instance.rows.now c.args.self.now.instance (found_view c.args.self.now.found) c.args.self.now.top c.total-work.result c.total-length.result
-          c.scale.new.scaled c.scale-2.new.scaled (shares_view c.in_ok-shares.shares.items) c.fill.new.wants c.fill.new.rooms c.requires.chosen.instance are units
-          (fill_same c.args.self.now.instance.rows.now c.deref-8.result.now c.args.self.now.instance.windows.items c.deref_mut-4.result.now c.scale.new.scaled c.deref_mut-5.result.now c.scale-2.new.scaled
-          (shares_view c.in_ok-shares.shares.items) c.fill.new.wants c.fill.new.rooms c.deref-8.ensures.value wants rooms c.in_ok-shares.ensures)));
-      reaches = record {
-        late = c.requires.space.reaches.late;
-        shared = c.requires.space.reaches.shared;
-        all = c.requires.space.reaches.all;
-      };
+          c.scale.new.scaled c.scale-2.new.scaled (shares_view c.fill.new.self.shares.items) c.fill.new.wants c.fill.new.self.rooms.items c.requires.chosen.instance are units
+          (fill_same c.args.self.now.instance.rows.now c.deref-8.result.now c.args.self.now.instance.windows.items c.deref_mut-4.result.now c.scale.new.scaled (take c.args.self.now.space.filling.rooms.len (c.scale-2.new.scaled ++ drop (length c.scale-2.new.scaled) c.args.self.now.space.filling.rooms.items)) c.scale-2.new.scaled
+          (shares_view c.fill.new.self.shares.items) c.fill.new.wants c.fill.new.self.rooms.items c.deref-8.ensures.value wants rooms c.in_ok-fill.ensures));
+      reaches = record { late = c.requires.space.reaches.late; shared = c.requires.space.reaches.shared; all = c.requires.space.reaches.all };
     }

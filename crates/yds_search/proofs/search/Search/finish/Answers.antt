@@ -7,8 +7,7 @@ use Rattle.yds_search.specs.Numbers.{AreWritten}
 use Rattle.yds_search.specs.Search.{IsSearch, AreMovedFrom}
 use Rattle.yds_search.proofs.Attempts.{known_at, part_known, part_stretch_known, range_one, written_same}
 use Rattle.yds_search.proofs.Stacks.{renamed_is, moved_from, stack_kept}
-use Rattle.yds_search.proofs.Steps.{few_enough, finish_step, finish_smaller}
-use Rattle.yds_search.proofs.Dividing.{within_is}
+use Rattle.yds_search.proofs.Steps.{few_enough, finish_step, finish_smaller, within_is}
 use Rattle.yds_search.proofs.search.Search.finish.Goals as goal
 
 pub rename-requires : goal.rename-requires
@@ -27,13 +26,13 @@ pub clear_all-requires-clause-within : goal.clear_all-requires-clause-within
 clear_all-requires-clause-within c =
     let filled = c.requires.filled in
     rw ((c.last-own_jobs.ensures (jobs_of c.requires.filled.chosen.parts) c.requires.filled.chosen.part.jobs (c.deref.ensures.value ∙ c.requires.filled.chosen.last.jobs) c.requires.filled.chosen.last.jobs_size), (c.last-own_stretches.ensures (stretches_of c.requires.filled.chosen.parts) c.requires.filled.chosen.part.stretches (c.deref-2.ensures.value ∙ c.requires.filled.chosen.last.stretches) c.requires.filled.chosen.last.stretches_size))
-    (within_is c.args.self.now.instance.rows.now c.args.self.now.instance (found_view c.args.self.now.found) c.args.self.now.top (group_view c.args.attempt.group) (shares_view c.args.attempt.shares.items)
-    c.args.self.now.space.wants.items c.args.self.now.space.rooms.items filled.chosen.part filled.chosen.instance filled.chosen.groups filled.chosen.own filled.attempt)
+    (within_is c.args.self.now.instance.rows.now c.args.self.now.instance (found_view c.args.self.now.found) c.args.self.now.top (group_view c.args.group) (shares_view c.args.self.now.space.filling.shares.items)
+    c.args.self.now.space.wants.items c.args.self.now.space.filling.rooms.items filled.chosen.part filled.chosen.instance filled.chosen.groups filled.chosen.own filled.attempt)
 
 pub clear_all-requires-clause-reaches : goal.clear_all-requires-clause-reaches
 clear_all-requires-clause-reaches c =
     let filled = c.requires.filled in
-    let rooms : length c.args.self.now.instance.lengths.items ≡ length c.args.self.now.space.rooms.items =
+    let rooms : length c.args.self.now.instance.lengths.items ≡ length c.args.self.now.space.filling.rooms.items =
     filled.chosen.instance.all_lengths ∙ sym (filled.attempt.filled.fill.same_rooms ∙ filled.attempt.filled.all_rooms) in
     record { late = filled.reaches.late ∙ rooms; shared = filled.reaches.shared ∙ rooms; all = filled.reaches.all ∙ rooms }
 
@@ -67,7 +66,7 @@ returns c =
     let all_stretches : length c.rename-2.new.groups ≡ length c.args.self.now.found.group_of_stretch.items =
     c.rename-2.auto.groups ∙ ap (λ (xs : List ℕ). length xs) c.deref_mut-2.ensures.value in
     let blank = c.clear_all.ensures in
-    let rooms : length c.args.self.now.space.rooms.items ≡ length c.args.self.now.instance.lengths.items =
+    let rooms : length c.args.self.now.space.filling.rooms.items ≡ length c.args.self.now.instance.lengths.items =
     c.requires.filled.attempt.filled.fill.same_rooms ∙ c.requires.filled.attempt.filled.all_rooms ∙ sym c.requires.filled.chosen.instance.all_lengths in
     let chosen = c.requires.filled.chosen in
     record {
@@ -88,14 +87,13 @@ returns c =
               group_of_stretch = xs;
               shares = shares_view c.extend_from_slice.new.self.items;
             }) (c.args.self.now.top + 1) 1000000) (sym places)
-            (finish_step c.args.self.now.instance.rows.now c.args.self.now.instance (found_view c.args.self.now.found) c.args.self.now.top (group_view c.args.attempt.group)
-            (shares_view c.args.attempt.shares.items) c.args.self.now.space.wants.items c.args.self.now.space.rooms.items
+            (finish_step c.args.self.now.instance.rows.now c.args.self.now.instance (found_view c.args.self.now.found) c.args.self.now.top (group_view c.args.group)
+            (shares_view c.args.self.now.space.filling.shares.items) c.args.self.now.space.wants.items c.args.self.now.space.filling.rooms.items
             (map group_view c.push.new.self.items) c.rename.new.groups c.rename-2.new.groups (shares_view c.extend_from_slice.new.self.items)
             c.requires.filled.chosen.instance c.requires.filled.chosen.groups c.requires.filled.chosen.within c.requires.filled.attempt c.requires.served
-            (ap (map group_view) c.in_ok-push.ensures.items ∙ map_push group_view c.args.self.now.found.groups.items c.args.attempt.group)
+            (ap (map group_view) c.in_ok-push.ensures.items ∙ map_push group_view c.args.self.now.found.groups.items c.args.group)
             (ap shares_view c.in_ok-extend_from_slice.ensures.items ∙ map-append share_view c.args.self.now.found.shares.items c.deref-3.result.now
-            ∙ ap (λ xs. shares_view c.args.self.now.found.shares.items ++ shares_view xs) c.deref-3.ensures.value)
-            all_jobs all_stretches
+            ∙ ap (λ xs. shares_view c.args.self.now.found.shares.items ++ shares_view xs) c.deref-3.ensures.value) all_jobs all_stretches
             (λ j known. job_renamed j (omega (arith, known, c.requires.filled.chosen.groups.all_jobs))) stretch_renamed));
         stack = stack_kept c.args.self.now.instance.order.items (found_view c.args.self.now.found)
             (record {
@@ -103,8 +101,7 @@ returns c =
               group_of_job = take c.args.self.now.found.group_of_job.len (c.rename.new.groups ++ drop (length c.rename.new.groups) c.args.self.now.found.group_of_job.items);
               group_of_stretch = take c.args.self.now.found.group_of_stretch.len (c.rename-2.new.groups ++ drop (length c.rename-2.new.groups) c.args.self.now.found.group_of_stretch.items);
               shares = shares_view c.extend_from_slice.new.self.items;
-            }) c.args.self.now.top 1000000 chosen.parts
-            (ap (λ (xs : List ℕ). length xs) places ∙ all_stretches)
+            }) c.args.self.now.top 1000000 chosen.parts (ap (λ (xs : List ℕ). length xs) places ∙ all_stretches)
             (subst (λ (xs : List ℕ). AreMovedFrom c.args.self.now.top c.args.self.now.found.group_of_job.items xs) (sym jobs)
             (moved_from (λ i value. value ≡ length (map group_view c.args.self.now.found.groups.items)) c.args.self.now.found.group_of_job.items c.rename.new.groups
             c.requires.filled.chosen.part.jobs c.args.self.now.instance.order.items c.args.self.now.top c.requires.filled.chosen.own.jobs written
@@ -112,8 +109,7 @@ returns c =
             (subst (λ (xs : List ℕ). AreMovedFrom c.args.self.now.top c.args.self.now.found.group_of_stretch.items xs) (sym places)
             (moved_from (λ i value. value ≡ length (map group_view c.args.self.now.found.groups.items)) c.args.self.now.found.group_of_stretch.items c.rename-2.new.groups
             c.requires.filled.chosen.part.stretches (range_with_len 0 (length c.args.self.now.found.group_of_stretch.items)) c.args.self.now.top c.requires.filled.chosen.own.stretches written'
-            (λ i value is. omega (arith, is, less))))
-            chosen.stack;
+            (λ i value is. omega (arith, is, less)))) chosen.stack;
         laid = c.drop_last.ensures chosen.parts chosen.part chosen.last;
         space = record {
           all_wants = blank.all_wants ∙ c.requires.filled.attempt.filled.fill.same_wants ∙ c.requires.filled.attempt.filled.all_wants;

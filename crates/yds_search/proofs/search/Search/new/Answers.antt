@@ -14,9 +14,8 @@ use Rattle.yds_search.specs.Instance.{IsInstance}
 use Rattle.yds_search.specs.Waiting.{Part, part_at, IsWaiting, IsStack, IsBlank}
 use Rattle.yds_search.specs.Stack.{AreLaid}
 use Rattle.yds_search.proofs.Attempts.{known_at, range_known}
-use Rattle.yds_search.proofs.Begin.{start_is}
-use Rattle.yds_search.proofs.Ends.{search_begins}
-use Rattle.yds_search.proofs.Parts.{sizes_more}
+use Rattle.yds_search.proofs.Ends.{start_is, search_begins}
+use Rattle.yds_search.proofs.Stacks.{sizes_more}
 use Rattle.yds_search.proofs.search.Search.new.Goals as goal
 use Rattle.yds_search.proofs.search.Search.new.Goals.{then-top-le-LAST+in_ok-all+in_ok-members+in_ok-members-2+in_ok-push, else-top-le-LAST}
 
@@ -48,11 +47,7 @@ one_waits order found top stack sizes m n is jobs stretches none more all all' =
     )
 
 none_waits : (order : List ℕ) (found : Found) (top : ℕ) (stack : Stack) → top ≡ 1000001 → AreLaid [] stack → Begins order found top stack
-none_waits order found top stack is laid = (
-  [],
-  record { count = omega (arith, is); each = λ i within. absurd (omega (arith, within)) },
-  laid,
-)
+none_waits order found top stack is laid = ([], record { count = omega (arith, is); each = λ i within. absurd (omega (arith, within)) }, laid)
 
 -- the members that are added where there were none
 added : (new old groups groups' numbers numbers' : List ℕ) (group : ℕ) → new ≡ old ++ numbers_in groups group numbers → old ≡ [] → groups ≡ groups' → numbers ≡ numbers' →
@@ -72,6 +67,13 @@ members-requires-then-top-le-LAST c =
       c.in_ok-found.ensures.all_stretches,
     ))
 
+pub blank_workspace-requires-clause-few_stretches : goal.blank_workspace-requires-clause-few_stretches
+blank_workspace-requires-clause-few_stretches c = omega (
+  arith,
+  ap (λ (pieces : List Piece). length pieces) c.requires.timeline,
+  c.in_ok-instance.ensures.instance.few_stretches,
+)
+
 pub returns-clause-search : goal.returns-clause-search
 returns-clause-search c =
     let found : Found = found_view c.in_ok-found.found in
@@ -84,17 +86,13 @@ returns-clause-search c =
     let begins : Begins order found top c.if-top-le-LAST.stack = elim c.if-top-le-LAST.branch [
       | then-top-le-LAST+in_ok-all+in_ok-members+in_ok-members-2+in_ok-push w ↦
           let is : top ≡ 1000000 = elim start [ inl some ↦ some.1 | inr none ↦ absurd (omega (arith, none.1, w.if-top-le-LAST.true)) ] in
-          subst (Begins order found top) (sym w.stack-is)
-          (one_waits order found top _ c.in_ok-stack.stack.sizes.items _ _ is
+          subst (Begins order found top) (sym w.stack-is) (one_waits order found top _ c.in_ok-stack.stack.sizes.items _ _ is
           (added _ _ _ found.group_of_job _ order 1000000 w.in_ok-members.ensures c.in_ok-stack.ensures.jobs w.deref-then-top-le-LAST-2.ensures.value
           w.deref-then-top-le-LAST.ensures.value)
           (added _ _ _ found.group_of_stretch _ (range_with_len 0 (length found.group_of_stretch)) 1000000 w.in_ok-members-2.ensures c.in_ok-stack.ensures.stretches
-          w.deref-then-top-le-LAST-4.ensures.value
-          (w.deref-then-top-le-LAST-3.ensures.value ∙ w.in_ok-all.ensures
-          ∙ ap (λ (n : ℕ). range_with_len 0 n) (all ∙ sym c.in_ok-found.ensures.all_stretches)))
-          c.in_ok-stack.ensures.sizes w.in_ok-push.ensures.items
-          (omega (arith, w.len-jobs.ensures, w.members.new.members.ok))
-          (omega (arith, w.len-stretches.ensures, w.members-then-top-le-LAST.new.members.ok)))
+          w.deref-then-top-le-LAST-4.ensures.value (w.deref-then-top-le-LAST-3.ensures.value ∙ w.in_ok-all.ensures
+          ∙ ap (λ (n : ℕ). range_with_len 0 n) (all ∙ sym c.in_ok-found.ensures.all_stretches))) c.in_ok-stack.ensures.sizes w.in_ok-push.ensures.items
+          (omega (arith, w.len-jobs.ensures, w.members.new.members.ok)) (omega (arith, w.len-stretches.ensures, w.members-then-top-le-LAST.new.members.ok)))
       | else-top-le-LAST w ↦
           let is : top ≡ 1000001 = elim start [ inl some ↦ absurd (omega (arith, some.1, w.if-top-le-LAST.false)) | inr none ↦ omega (arith, none.1) ] in
           subst (Begins order found top) (sym w.stack-is) (none_waits order found top c.in_ok-stack.stack is c.in_ok-stack.ensures)

@@ -3,7 +3,7 @@ use Rattle.yds_search.specs.Views.{found_view}
 use Rattle.yds_search.specs.Waiting.{Part, part_in}
 use Rattle.yds_search.specs.Numbers.{numbers_in}
 use Rattle.yds_search.specs.Stack.{jobs_of, stretches_of}
-use Rattle.yds_search.proofs.Parts.{jobs_more, stretches_more, sizes_more}
+use Rattle.yds_search.proofs.Stacks.{jobs_more, stretches_more, sizes_more}
 use Rattle.yds_search.proofs.stack.Stack.split_last.Goals as goal
 
 pub part-requires-clause-own : goal.part-requires-clause-own
