@@ -3,7 +3,7 @@ use Rattle.std.proofs.Common.{◌≡◌, ℕ, ◌+◌, ◌-◌, ◌<◌, ◌≤�
 use Rattle.std.specs.List.{All}
 use Rattle.std.specs.List.Sorted.{IsPermutation, IsNonDecreasingBy}
 use Rattle.std.proofs.lemmas.Bool.{cases_order}
-use Rattle.std.proofs.lemmas.List.{get_or_append_left, get_or-append_right, get_or-take, get_or-drop, length-take-le, length-append, length-drop, length_push, take-append-drop}
+use Rattle.std.proofs.lemmas.List.{get_or_append_left, get_or-append_right, get_or-take, get_or-drop, length-take-le, length-append, length-drop, take-append-drop}
 use Rattle.std.proofs.lemmas.List.Sorted.{IsPermutation-middle, IsPermutation-trans, IsPermutation-sym, IsPermutation-to_front, IsPermutation-append_left, length_permutation}
 use Rattle.yds_model.specs.Job.{Job, IsJob, no_job}
 use Rattle.yds_admit.specs.Chain.{IsFalling}
@@ -83,23 +83,22 @@ falling_keys jobs are rising i j order below = omega (
 )
 
 -- the orders with one job more
-pub ordered_more : (jobs by_release by_deadline releases deadlines release_list deadline_list : List Job) (row : Job) → AreOrdered jobs by_release by_deadline →
-    release_list ≡ by_release → deadline_list ≡ by_deadline → IsPermutation (release_list ++ row ∷ []) releases → IsFalling releases →
-    IsPermutation (deadline_list ++ row ∷ []) deadlines → IsNonDecreasingBy (λ (job : Job). job.deadline) deadlines → AreOrdered (jobs ++ row ∷ []) releases deadlines
-ordered_more jobs by_release by_deadline releases deadlines release_list deadline_list row ordered same_release same_deadline more_release falling more_deadline rising = record {
-  releases = joined jobs by_release releases row ordered.releases (subst (λ (some : List Job). IsPermutation (some ++ row ∷ []) releases) same_release more_release);
-  deadlines = joined jobs by_deadline deadlines row ordered.deadlines (subst (λ (some : List Job). IsPermutation (some ++ row ∷ []) deadlines) same_deadline more_deadline);
+pub ordered_more : (jobs by_release by_deadline : List Job) (release_place deadline_place : ℕ) (row : Job) → AreOrdered jobs by_release by_deadline →
+    IsFalling (with_row by_release release_place row) → IsNonDecreasingBy (λ (job : Job). job.deadline) (with_row by_deadline deadline_place row) →
+    AreOrdered (jobs ++ row ∷ []) (with_row by_release release_place row) (with_row by_deadline deadline_place row)
+ordered_more jobs by_release by_deadline release_place deadline_place row ordered falling rising = record {
+  releases = joined jobs by_release (with_row by_release release_place row) row ordered.releases (same_jobs by_release release_place row);
+  deadlines = joined jobs by_deadline (with_row by_deadline deadline_place row) row ordered.deadlines (same_jobs by_deadline deadline_place row);
   falling = falling;
   rising = rising;
 }
 
 -- there are few
-pub few_more : (jobs more shown : List Job) (row : Job) (next all most : ℕ) → IsPermutation (jobs ++ row ∷ []) more → shown ≡ more → length jobs ≤ next → next + 1 ≤ all → all ≤ most →
+pub few_known : (jobs sorted shown : List Job) (next all most : ℕ) → IsPermutation jobs sorted → shown ≡ sorted → length jobs ≤ next → next ≤ all → all ≤ most →
     length shown ≤ most
-few_more jobs more shown row next all most same is few within short = omega (
+few_known jobs sorted shown next all most same is few within short = omega (
   arith,
   length_permutation _ _ same,
-  length_push jobs row,
   few,
   within,
   short,

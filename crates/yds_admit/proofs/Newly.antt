@@ -6,7 +6,7 @@ use Rattle.std.proofs.lemmas.Bool.{cases_lt, cases_eq}
 use Rattle.std.proofs.lemmas.List.{get_or_default, get_or_append_left, get_or_push, length_push}
 use Rattle.std.proofs.lemmas.List.Elements.{All-push}
 use Rattle.std.proofs.lemmas.List.Sums.{sum_by_push}
-use Rattle.std.proofs.lemmas.List.Sorted.{sum_by-IsPermutation, Contains-permutation, IsPermutation-sym, All-permutation, length_permutation}
+use Rattle.std.proofs.lemmas.List.Sorted.{sum_by-IsPermutation, IsPermutation-append_left, Contains-permutation, IsPermutation-sym, All-permutation, length_permutation}
 use Rattle.yds_model.specs.Job.{Job, IsJob, no_job, job_at}
 use Rattle.yds_model.specs.Policy.{numbers_of}
 use Rattle.yds_model.specs.Admission.{IsOverfull, IsFirstOverfull}
@@ -23,6 +23,27 @@ pub any_permuted : (P : Job → Type 0) (jobs others : List Job) → IsPermutati
 any_permuted P jobs others same (k, job, within, is, holds) =
     let there = Contains-permutation jobs others job same (k, within, is) in
     (there.0, job, there.1, there.2, holds)
+
+-- the same work of jobs in another order
+pub permuted_work : (jobs others : List Job) → IsPermutation jobs others → (from to : ℕ) → work_in others from to ≡ work_in jobs from to
+permuted_work jobs others same from to = sum_by-IsPermutation (term from to) jobs others same
+
+-- the same room
+pub room_from_permuted : (top : ℕ) (jobs others : List Job) → IsPermutation jobs others → (from : ℕ) → HasRoomFrom top others from → HasRoomFrom top jobs from
+room_from_permuted top jobs others same from room to forward = omega (arith, room to forward, permuted_work jobs others same from to)
+
+-- and the same first interval that has none
+pub first_end_permuted : (top : ℕ) (jobs others : List Job) → IsPermutation jobs others → (from to : ℕ) → IsFirstEnd top others from to → IsFirstEnd top jobs from to
+first_end_permuted top jobs others same from to ends = record {
+  forward = ends.forward;
+  is_deadline = any_permuted (λ job. job.deadline ≡ to) others jobs (IsPermutation-sym jobs others same) ends.is_deadline;
+  too_much = omega (arith, ends.too_much, permuted_work jobs others same from to);
+  first = λ other ahead early. omega (arith, ends.first other ahead early, permuted_work jobs others same from other);
+}
+
+-- the same work with one job more
+pub work_more : (jobs others : List Job) (row : Job) → IsPermutation jobs others → (from to : ℕ) → work_in (others ++ row ∷ []) from to ≡ work_in (jobs ++ row ∷ []) from to
+work_more jobs others row same = permuted_work (jobs ++ row ∷ []) (others ++ row ∷ []) (IsPermutation-append_left (row ∷ []) jobs others same)
 
 apart : (x y : ℕ) → y ≤ x → (x ≡ y → ⊥) → y < x
 apart x y most other = elim (cases_lt y x) [ inl less ↦ less | inr more ↦ absurd (other (omega arith)) ]

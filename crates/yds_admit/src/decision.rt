@@ -5,19 +5,18 @@ ghost use Rattle.yds_model.specs.Admission.{IsFirstOverfull};
 ghost use Rattle.yds_laws.specs.AdmissionLaws.{HasRoom};
 ghost use Rattle.yds_admit.specs.Board.{IsBoard, IsMarked};
 ghost use Rattle.yds_admit.specs.Decision.{IsDecision, IsState, IsRoom};
-ghost use Rattle.yds_admit.specs.Orders.{AreOrdered};
 ghost use Rattle.yds_admit.specs.Interval.{work_in};
 
 use crate::board::Board;
 use crate::chain::place;
 use crate::idle::take_idle;
 use crate::interval::{
-    by_deadline, by_release, overfull_by_pieces, overfull_from_start, work_between,
+    by_deadline, by_release, overfull_by_pieces, overfull_from_start, work_with,
 };
 use crate::pieces::{Pieces, cut_all};
 use crate::refusal::Refusal;
 use crate::run::{fit, marked};
-use crate::standing::{with_deadline, with_release};
+use crate::standing::{deadline_place, release_place};
 use std::alloc::Global;
 use yds_model::limits::{MAX_JOBS, MAX_TOP};
 use yds_model::{JobRow, Memory};
@@ -269,17 +268,17 @@ fn decide_next(
     ensures next { IfOk result (λ _. state.new.next ≡ state.old.next + 1) }
     ensures room { IfOk result (λ _. IsRoom top board.now.times.items state.new.jobs.items room.new) }
 {
-    if take_idle_next(alloc, rows, board, state, room, top)? {
+    if take_idle_next(rows, board, state, room, top)? {
         return Ok(true);
     }
     if room.known {
         return decide_by_pieces(alloc, rows, board, state, room, top);
     }
-    if refuse_from_start(alloc, rows, state, top)? {
+    if refuse_from_start(rows, state, top)? {
         return Ok(false);
     }
     *room = room_of(alloc, rows, board, state, top)?;
-    if take_idle_next(alloc, rows, board, state, room, top)? {
+    if take_idle_next(rows, board, state, room, top)? {
         return Ok(true);
     }
     decide_by_pieces(alloc, rows, board, state, room, top)
@@ -287,7 +286,6 @@ fn decide_next(
 
 /// Admits the next job if enough is idle in its window. Answers whether it did.
 fn take_idle_next(
-    alloc: Global,
     rows: &[JobRow],
     board: &Board,
     state: &mut State,
@@ -316,17 +314,12 @@ fn take_idle_next(
         return Ok(false);
     }
     room.known = false;
-    admit_next(alloc, rows, state, top)?;
+    admit_next(rows, state, top)?;
     Ok(true)
 }
 
 /// Refuses the next job if an interval from the earliest release of all is overfull with it. Answers whether it did.
-fn refuse_from_start(
-    alloc: Global,
-    rows: &[JobRow],
-    state: &mut State,
-    top: u32,
-) -> Result<bool, Memory>
+fn refuse_from_start(rows: &[JobRow], state: &mut State, top: u32) -> Result<bool, Memory>
     requires few { length rows.now ≤ MAX_JOBS }
     requires some_top { 1 ≤ top }
     requires top_in_range { top ≤ MAX_TOP }
@@ -340,12 +333,12 @@ fn refuse_from_start(
     let row = &rows[state.next];
     // Reading the row shows that it is a job within the limits.
     let _work = row.work;
-    let deadlines = with_deadline(alloc, &state.by_deadline, row)?;
     let releases = &state.by_release;
-    let Some((from, to)) = overfull_from_start(&state.jobs, row, releases, &deadlines, top) else {
+    let deadlines = &state.by_deadline;
+    let Some((from, to)) = overfull_from_start(&state.jobs, row, releases, deadlines, top) else {
         return Ok(false);
     };
-    let work = work_between(&deadlines, from, to);
+    let work = work_with(&state.by_deadline, row, from, to);
     refuse_next(rows, state, from, to, work, top)?;
     Ok(true)
 }
@@ -374,16 +367,16 @@ fn decide_by_pieces(
     let row = &rows[state.next];
     // Reading the row shows that it is a job within the limits.
     let _work = row.work;
-    let deadlines = with_deadline(alloc, &state.by_deadline, row)?;
+    let deadlines = &state.by_deadline;
     let times = &board.times;
-    match overfull_by_pieces(&state.jobs, row, &deadlines, &room.pieces, times, top) {
+    match overfull_by_pieces(&state.jobs, row, deadlines, &room.pieces, times, top) {
         None => {
-            admit_next(alloc, rows, state, top)?;
+            admit_next(rows, state, top)?;
             *room = unknown_room(alloc, rows, board, state, top)?;
             Ok(true)
         }
         Some((from, to)) => {
-            let work = work_between(&deadlines, from, to);
+            let work = work_with(&state.by_deadline, row, from, to);
             refuse_next(rows, state, from, to, work, top)?;
             Ok(false)
         }
@@ -391,38 +384,11 @@ fn decide_by_pieces(
 }
 
 /// Admits the next job, which leaves no interval overfull beside the admitted ones.
-fn admit_next(alloc: Global, rows: &[JobRow], state: &mut State, top: u32) -> Result<(), Memory>
-    requires few { length rows.now ≤ MAX_JOBS }
-    requires some_top { 1 ≤ top }
-    requires state { IsState rows.now top state.old }
-    requires more { state.old.next < length rows.now }
-    requires room { HasRoom top (state.old.jobs.items ++ job_at rows.now state.old.next ∷ []) }
-    ensures state { IfOk result (λ _. IsState rows.now top state.new) }
-    ensures next { IfOk result (λ _. state.new.next ≡ state.old.next + 1) }
-    ensures jobs { IfOk result (λ _. state.new.jobs.items ≡ state.old.jobs.items ++ job_at rows.now state.old.next ∷ []) }
-{
-    let row = &rows[state.next];
-    // Reading the row shows that it is a job within the limits.
-    let _work = row.work;
-    let deadlines = with_deadline(alloc, &state.by_deadline, row)?;
-    let releases = with_release(alloc, &state.by_release, row)?;
-    take_next(rows, state, releases, deadlines, top)?;
-    Ok(())
-}
-
-/// Admits the next job, with which the admitted ones stand in these orders.
-fn take_next(
-    rows: &[JobRow],
-    state: &mut State,
-    by_release: Vec<JobRow>,
-    by_deadline: Vec<JobRow>,
-    _top: u32,
-) -> Result<(), Memory>
+fn admit_next(rows: &[JobRow], state: &mut State, _top: u32) -> Result<(), Memory>
     requires few { length rows.now ≤ MAX_JOBS }
     requires some_top { 1 ≤ _top }
     requires state { IsState rows.now _top state.old }
     requires more { state.old.next < length rows.now }
-    requires ordered { AreOrdered (state.old.jobs.items ++ job_at rows.now state.old.next ∷ []) by_release.items by_deadline.items }
     requires room { HasRoom _top (state.old.jobs.items ++ job_at rows.now state.old.next ∷ []) }
     ensures state { IfOk result (λ _. IsState rows.now _top state.new) }
     ensures next { IfOk result (λ _. state.new.next ≡ state.old.next + 1) }
@@ -432,11 +398,13 @@ fn take_next(
     let row = &rows[number];
     // Reading the row shows that it is a job within the limits.
     let _work = row.work;
+    let among_releases = release_place(&state.by_release, row);
+    let among_deadlines = deadline_place(&state.by_deadline, row);
     state.taken.push(number as u32)?;
     state.jobs.push(*row)?;
+    state.by_release.insert(among_releases, *row)?;
+    state.by_deadline.insert(among_deadlines, *row)?;
     state.marks[number] = true;
-    state.by_release = by_release;
-    state.by_deadline = by_deadline;
     state.next = number + 1;
     Ok(())
 }

@@ -11,6 +11,7 @@ ghost use Rattle.yds_admit.specs.Pieces.{ArePieces, AreDue};
 
 use crate::chain::place;
 use crate::pieces::{Pieces, least_from_pieces};
+use crate::standing::{deadline_place, job_with};
 use std::alloc::Global;
 use yds_model::limits::{MAX_JOBS, MAX_TOP};
 use yds_model::{JobRow, Memory};
@@ -36,15 +37,19 @@ pub(crate) fn by_release(alloc: Global, jobs: &[JobRow]) -> Result<Vec<JobRow>, 
     Ok(sorted)
 }
 
-/// The first deadline at which an interval from `from` ends that is overfull, if there is one.
-fn overfull_end(by_deadline: &[JobRow], from: u32, top: u32) -> Option<u32>
+/// The first deadline at which an interval from `from` ends that is overfull with one job more, if there is one.
+fn overfull_end(by_deadline: &[JobRow], row: &JobRow, from: u32, top: u32) -> Option<u32>
     requires few { length by_deadline.now ≤ MAX_JOBS }
     requires top_in_range { top ≤ MAX_TOP }
     requires rising { IsNonDecreasingBy (λ job. job.deadline) by_deadline.now }
-    ensures { MatchOption result (HasRoomFrom top by_deadline.now from) (IsFirstEnd top by_deadline.now from) }
+    ensures { MatchOption result
+        (HasRoomFrom top (by_deadline.now ++ row.now ∷ []) from)
+        (IsFirstEnd top (by_deadline.now ++ row.now ∷ []) from) }
 {
+    let place = deadline_place(by_deadline, row);
     let mut work = 0;
-    for job in by_deadline {
+    for number in 0..by_deadline.len() + 1 {
+        let job = job_with(by_deadline, row, place, number);
         if job.release >= from {
             work += u64::from(job.work);
             if work > u64::from(top) * u64::from(job.deadline - from) {
@@ -55,10 +60,23 @@ fn overfull_end(by_deadline: &[JobRow], from: u32, top: u32) -> Option<u32>
     None
 }
 
-/// The work of the jobs whose windows lie between these times, in units of work.
-pub(crate) fn work_between(jobs: &[JobRow], from: u32, to: u32) -> u64
+/// The work of these jobs and one more whose windows lie between these times, in units of work.
+pub(crate) fn work_with(jobs: &[JobRow], row: &JobRow, from: u32, to: u32) -> u64
     requires { length jobs.now ≤ MAX_JOBS }
-    ensures { result ≡ work_in jobs.now from to }
+    ensures { result ≡ work_in (jobs.now ++ row.now ∷ []) from to }
+{
+    let mut work = work_between(jobs, from, to);
+    if from <= row.release && row.deadline <= to {
+        work += u64::from(row.work);
+    }
+    work
+}
+
+/// The work of the jobs whose windows lie between these times, in units of work.
+fn work_between(jobs: &[JobRow], from: u32, to: u32) -> u64
+    requires { length jobs.now ≤ MAX_JOBS }
+    ensures sum { result ≡ work_in jobs.now from to }
+    ensures few { result ≤ MAX_JOBS * MAX_WORK }
 {
     let mut work = 0;
     for job in jobs {
@@ -81,7 +99,7 @@ pub(crate) fn overfull_from_start(
     requires top_in_range { top ≤ MAX_TOP }
     requires releases { IsPermutation _jobs.now by_release.now }
     requires falling { IsFalling by_release.now }
-    requires deadlines { IsPermutation (_jobs.now ++ row.now ∷ []) by_deadline.now }
+    requires deadlines { IsPermutation _jobs.now by_deadline.now }
     requires rising { IsNonDecreasingBy (λ job. job.deadline) by_deadline.now }
     ensures { IfSome result (λ interval.
         IsFirstOverfull (_jobs.now ++ row.now ∷ []) top (numbers_of (_jobs.now ++ row.now ∷ [])) interval.0 interval.1) }
@@ -90,7 +108,7 @@ pub(crate) fn overfull_from_start(
         Some(job) => job.release.min(row.release),
         None => row.release,
     };
-    match overfull_end(by_deadline, from, top) {
+    match overfull_end(by_deadline, row, from, top) {
         Some(to) => Some((from, to)),
         None => None,
     }
@@ -110,7 +128,7 @@ pub(crate) fn overfull_by_pieces(
     requires top_in_range { top ≤ MAX_TOP }
     requires are { All IsJob (_jobs.now ++ row.now ∷ []) }
     requires room { HasRoom top _jobs.now }
-    requires deadlines { IsPermutation (_jobs.now ++ row.now ∷ []) by_deadline.now }
+    requires deadlines { IsPermutation _jobs.now by_deadline.now }
     requires rising { IsNonDecreasingBy (λ job. job.deadline) by_deadline.now }
     requires pieces { ArePieces top times.now _jobs.now pieces.now.jobs.items pieces.now.places.items pieces.now.used.items }
     requires in_order { IsNonDecreasing times.now }
@@ -123,7 +141,7 @@ pub(crate) fn overfull_by_pieces(
     let Some(from) = least_from_pieces(pieces, _jobs, times, row, end, top) else {
         return None;
     };
-    match overfull_end(by_deadline, from, top) {
+    match overfull_end(by_deadline, row, from, top) {
         Some(to) => Some((from, to)),
         None => None,
     }

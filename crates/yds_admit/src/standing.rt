@@ -1,54 +1,41 @@
-ghost use Rattle.std.specs.Prelude.{◌≡◌, ◌≤◌, ◌∷◌, ◌++◌, [], IfOk, length, take, drop};
-ghost use Rattle.std.specs.List.Sorted.{IsPermutation, IsNonDecreasingBy};
+ghost use Rattle.std.specs.Prelude.{◌≡◌, ◌≤◌, insert, length};
+ghost use Rattle.std.specs.List.Sorted.{IsNonDecreasingBy};
+ghost use Rattle.yds_model.specs.Job.{job_at};
 ghost use Rattle.yds_admit.specs.Chain.{IsFalling};
 
-use std::alloc::Global;
-use yds_model::{JobRow, Memory};
+use yds_model::JobRow;
 
-/// These jobs, which stand in falling order of their releases, and one more.
-pub(crate) fn with_release(
-    alloc: Global,
-    by_release: &[JobRow],
-    row: &JobRow,
-) -> Result<Vec<JobRow>, Memory>
+/// The place of one more among these jobs, which stand in falling order of their releases.
+pub(crate) fn release_place(by_release: &[JobRow], row: &JobRow) -> usize
     requires { IsFalling by_release.now }
-    ensures same { IfOk result (λ all. IsPermutation (by_release.now ++ row.now ∷ []) all.items) }
-    ensures falling { IfOk result (λ all. IsFalling all.items) }
+    ensures within { result ≤ length by_release.now }
+    ensures falling { IsFalling (insert by_release.now result row.now) }
 {
     let release = row.release;
-    let place = by_release.partition_point(|job| release < job.release);
-    let all = inserted(alloc, by_release, place, row)?;
-    Ok(all)
+    by_release.partition_point(|job| release < job.release)
 }
 
-/// These jobs, which stand in rising order of their deadlines, and one more.
-pub(crate) fn with_deadline(
-    alloc: Global,
-    by_deadline: &[JobRow],
-    row: &JobRow,
-) -> Result<Vec<JobRow>, Memory>
+/// The place of one more among these jobs, which stand in rising order of their deadlines.
+pub(crate) fn deadline_place(by_deadline: &[JobRow], row: &JobRow) -> usize
     requires { IsNonDecreasingBy (λ job. job.deadline) by_deadline.now }
-    ensures same { IfOk result (λ all. IsPermutation (by_deadline.now ++ row.now ∷ []) all.items) }
-    ensures rising { IfOk result (λ all. IsNonDecreasingBy (λ job. job.deadline) all.items) }
+    ensures within { result ≤ length by_deadline.now }
+    ensures rising { IsNonDecreasingBy (λ job. job.deadline) (insert by_deadline.now result row.now) }
 {
     let deadline = row.deadline;
-    let place = by_deadline.partition_point(|job| job.deadline < deadline);
-    let all = inserted(alloc, by_deadline, place, row)?;
-    Ok(all)
+    by_deadline.partition_point(|job| job.deadline < deadline)
 }
 
-/// The jobs with one more at this place.
-fn inserted(
-    alloc: Global,
-    jobs: &[JobRow],
-    place: usize,
-    row: &JobRow,
-) -> Result<Vec<JobRow>, Memory>
-    requires { place ≤ length jobs.now }
-    ensures { IfOk result (λ all. all.items ≡ take place jobs.now ++ row.now ∷ drop place jobs.now) }
+/// The job of this number among these with one more at a place.
+pub(crate) fn job_with(jobs: &[JobRow], row: &JobRow, place: usize, number: usize) -> JobRow
+    requires place { place ≤ length jobs.now }
+    requires within { number ≤ length jobs.now }
+    ensures { result ≡ job_at (insert jobs.now place row.now) number }
 {
-    let mut all = Vec::from_slice(alloc, &jobs[..place])?;
-    all.push(*row)?;
-    all.extend_from_slice(&jobs[place..])?;
-    Ok(all)
+    if number < place {
+        return jobs[number];
+    }
+    if place < number {
+        return jobs[number - 1];
+    }
+    *row
 }

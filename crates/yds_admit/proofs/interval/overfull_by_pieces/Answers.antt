@@ -1,6 +1,7 @@
 use Rattle.std.proofs.Common.{ℕ, List, ◌∷◌, ◌++◌, [], arith, ap}
 use Rattle.std.specs.List.{Contains}
-use Rattle.std.proofs.lemmas.List.Sorted.{IsPermutation-refl}
+use Rattle.std.specs.List.Sorted.{IsPermutation}
+use Rattle.std.proofs.lemmas.List.Sorted.{IsPermutation-refl, IsPermutation-append_left}
 use Rattle.yds_model.specs.Job.{Job, IsJob}
 use Rattle.yds_model.proofs.Lists.{All-front, All-last}
 use Rattle.yds_admit.specs.Pieces.{AreDue}
@@ -10,6 +11,10 @@ use Rattle.yds_admit.proofs.interval.overfull_by_pieces.Goals as goal
 
 own_due : (times : List ℕ) (jobs : List Job) (row : Job) → AreDue times (jobs ++ row ∷ []) → Contains times row.deadline
 own_due times jobs row due = All-last (λ (job : Job). Contains times job.deadline) jobs row due
+
+-- the jobs by their deadlines, and one more
+same_deadlines : (jobs by_deadline : List Job) (row : Job) → IsPermutation jobs by_deadline → IsPermutation (jobs ++ row ∷ []) (by_deadline ++ row ∷ [])
+same_deadlines jobs by_deadline row same = IsPermutation-append_left (row ∷ []) jobs by_deadline same
 
 pub least_from_pieces-requires-clause-within : goal.least_from_pieces-requires-clause-within
 least_from_pieces-requires-clause-within c =
@@ -35,14 +40,14 @@ least_from_pieces-requires-clause-are c = All-front IsJob c.args._jobs.now (c.ar
 
 pub returns-in_default : goal.returns-in_default
 returns-in_default c =
-    has_room c.args.top c.args._jobs.now c.args.row.now c.requires.are c.requires.room (c.args._jobs.now ++ c.args.row.now ∷ []) c.args.by_deadline.now
-    (IsPermutation-refl (c.args._jobs.now ++ c.args.row.now ∷ [])) c.requires.deadlines c.in_default.ensures
+    has_room c.args.top c.args._jobs.now c.args.row.now c.requires.are c.requires.room (c.args._jobs.now ++ c.args.row.now ∷ []) (c.args.by_deadline.now ++ c.args.row.now ∷ [])
+    (IsPermutation-refl (c.args._jobs.now ++ c.args.row.now ∷ [])) (same_deadlines c.args._jobs.now c.args.by_deadline.now c.args.row.now c.requires.deadlines) c.in_default.ensures
 
 pub returns-in-Some-overfull_end : goal.returns-in-Some-overfull_end
 returns-in-Some-overfull_end c =
-    first_found c.args.top c.args._jobs.now c.args.row.now c.requires.are c.requires.room (c.args._jobs.now ++ c.args.row.now ∷ []) c.args.by_deadline.now
-    (IsPermutation-refl (c.args._jobs.now ++ c.args.row.now ∷ [])) c.requires.deadlines c.in-Some.from c.in-Some-overfull_end.to c.in-Some.ensures c.in-Some-overfull_end.ensures
+    first_found c.args.top c.args._jobs.now c.args.row.now c.requires.are c.requires.room (c.args._jobs.now ++ c.args.row.now ∷ []) (c.args.by_deadline.now ++ c.args.row.now ∷ [])
+    (IsPermutation-refl (c.args._jobs.now ++ c.args.row.now ∷ [])) (same_deadlines c.args._jobs.now c.args.by_deadline.now c.args.row.now c.requires.deadlines) c.in-Some.from c.in-Some-overfull_end.to c.in-Some.ensures c.in-Some-overfull_end.ensures
 
 pub returns-in-None : goal.returns-in-None
-returns-in-None c = absurd (is_found c.args.top c.args._jobs.now c.args.row.now c.requires.are c.requires.room (c.args._jobs.now ++ c.args.row.now ∷ []) c.args.by_deadline.now
-    (IsPermutation-refl (c.args._jobs.now ++ c.args.row.now ∷ [])) c.requires.deadlines c.in-Some.from c.in-Some.ensures c.in-None.ensures)
+returns-in-None c = absurd (is_found c.args.top c.args._jobs.now c.args.row.now c.requires.are c.requires.room (c.args._jobs.now ++ c.args.row.now ∷ []) (c.args.by_deadline.now ++ c.args.row.now ∷ [])
+    (IsPermutation-refl (c.args._jobs.now ++ c.args.row.now ∷ [])) (same_deadlines c.args._jobs.now c.args.by_deadline.now c.args.row.now c.requires.deadlines) c.in-Some.from c.in-Some.ensures c.in-None.ensures)
