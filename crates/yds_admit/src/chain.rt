@@ -1,4 +1,4 @@
-ghost use Rattle.std.specs.Prelude.{◌≡◌, ℕ, ◌+◌, ◌-◌, ◌*◌, ◌<◌, ◌≤◌, ◌⊎◌, IfOk, List, length, slice_index};
+ghost use Rattle.std.specs.Prelude.{◌≡◌, ℕ, ◌+◌, ◌-◌, ◌*◌, ◌<◌, ◌≤◌, ◌⊎◌, IfOk, IsTrue, List, length, slice_index};
 ghost use Rattle.std.specs.List.{range_with_len};
 ghost use Rattle.std.specs.List.Sorted.{IsNonDecreasing, IsNonDecreasingBy};
 ghost use Rattle.yds_admit.specs.Chain.{AreTimes, Takes, AreLinks, AreEmpty};
@@ -49,6 +49,30 @@ pub(crate) fn place(times: &[u32], time: u32) -> usize
         return 0;
     }
     times.partition_point(|other| *other < time)
+}
+
+/// How many of the times come before this one, where one of the guesses may tell.
+pub(crate) fn place_guessed(times: &[u32], time: u32, guesses: &[usize], number: usize) -> usize
+    requires { IsNonDecreasing times.now }
+    ensures before { (q : ℕ) → q < result → slice_index times.now q < time }
+    ensures after { (q : ℕ) → result ≤ q → q < length times.now → time ≤ slice_index times.now q }
+{
+    if number < guesses.len() {
+        let guess = guesses[number];
+        if is_place(times, time, guess) {
+            return guess;
+        }
+    }
+    place(times, time)
+}
+
+/// Whether this is the place of this time: the first where none before it stands.
+fn is_place(times: &[u32], time: u32, guess: usize) -> bool
+    requires { IsNonDecreasing times.now }
+    ensures before { IsTrue result → (q : ℕ) → q < guess → slice_index times.now q < time }
+    ensures after { IsTrue result → (q : ℕ) → guess ≤ q → q < length times.now → time ≤ slice_index times.now q }
+{
+    0 < guess && guess < times.len() && times[guess - 1] < time && time <= times[guess]
 }
 
 /// Takes so many units from the gaps before this place, from the last one on, down to the lowest gap. Answers how many are left.

@@ -8,7 +8,7 @@ ghost use Rattle.yds_admit.specs.Decision.{IsDecision, IsState, IsRoom};
 ghost use Rattle.yds_admit.specs.Interval.{work_in};
 
 use crate::board::Board;
-use crate::chain::place;
+use crate::chain::{place, place_guessed};
 use crate::idle::take_idle;
 use crate::interval::{
     by_deadline, by_release, overfull_by_pieces, overfull_from_start, work_with,
@@ -49,6 +49,8 @@ struct State {
     by_release: Vec<JobRow>,
     /// The admitted jobs by rising deadlines.
     by_deadline: Vec<JobRow>,
+    /// Where the deadlines of the admitted jobs by falling releases stand among the times, as far as it is known: guesses.
+    ends: Vec<usize>,
 }
 
 /// What is known of the room that the admitted jobs leave.
@@ -100,6 +102,7 @@ fn begin(alloc: Global, rows: &[JobRow], _top: u32) -> Result<State, Memory>
         marks: vec![in alloc; false; rows.len()]?,
         by_release: Vec::new(alloc),
         by_deadline: Vec::new(alloc),
+        ends: Vec::new(alloc),
     })
 }
 
@@ -226,6 +229,29 @@ fn unknown_room(
     })
 }
 
+/// Finds where the deadlines stand among the times, so that the guesses are right.
+fn find_ends(
+    alloc: Global,
+    _rows: &[JobRow],
+    board: &Board,
+    state: &mut State,
+    _top: u32,
+) -> Result<(), Memory>
+    requires board { IsBoard _rows.now _top board.now.times.items board.now.gaps.items board.now.spots.items }
+    requires state { IsState _rows.now _top state.old }
+    ensures state { IfOk result (λ _. IsState _rows.now _top state.new) }
+    ensures next { IfOk result (λ _. state.new.next ≡ state.old.next) }
+    ensures jobs { IfOk result (λ _. state.new.jobs.items ≡ state.old.jobs.items) }
+{
+    let mut ends = Vec::new(alloc);
+    for number in 0..state.by_release.len() {
+        let deadline = state.by_release[number].deadline;
+        ends.push(place_guessed(&board.times, deadline, &state.ends, number))?;
+    }
+    state.ends = ends;
+    Ok(())
+}
+
 /// The room that the admitted jobs leave.
 fn room_of(
     alloc: Global,
@@ -240,7 +266,9 @@ fn room_of(
     ensures room { IfOk result (λ room. IsRoom top board.now.times.items state.now.jobs.items room) }
     ensures known { IfOk result (λ room. room.known ≡ true) }
 {
-    let (pieces, idle) = cut_all(alloc, &state.by_release, &board.times, &board.gaps, top)?;
+    let releases = &state.by_release;
+    let ends = &state.ends;
+    let (pieces, idle) = cut_all(alloc, releases, &board.times, &board.gaps, ends, top)?;
     Ok(Room {
         idle,
         known: true,
@@ -277,6 +305,7 @@ fn decide_next(
     if refuse_from_start(rows, state, top)? {
         return Ok(false);
     }
+    find_ends(alloc, rows, board, state, top)?;
     *room = room_of(alloc, rows, board, state, top)?;
     if take_idle_next(rows, board, state, room, top)? {
         return Ok(true);
@@ -404,6 +433,9 @@ fn admit_next(rows: &[JobRow], state: &mut State, _top: u32) -> Result<(), Memor
     state.jobs.push(*row)?;
     state.by_release.insert(among_releases, *row)?;
     state.by_deadline.insert(among_deadlines, *row)?;
+    // The place of its own deadline isn't known yet, but those after it move.
+    let known = among_releases.min(state.ends.len());
+    state.ends.insert(known, 0)?;
     state.marks[number] = true;
     state.next = number + 1;
     Ok(())

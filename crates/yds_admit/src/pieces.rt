@@ -8,7 +8,7 @@ ghost use Rattle.yds_admit.specs.Chain.{IsFalling, AreLinks, NoFrom, IsLeastFrom
 ghost use Rattle.yds_admit.specs.Idle.{HasIdle, taken_before};
 ghost use Rattle.yds_admit.specs.Pieces.{IsCutting, IsCutInto, AreCut, ArePieces, AreDue};
 
-use crate::chain::{last_open, own_links, place};
+use crate::chain::{last_open, own_links, place_guessed};
 use std::alloc::Global;
 use yds_model::limits::{MAX_JOBS, MAX_TOP};
 use yds_model::{JobRow, Memory};
@@ -24,12 +24,13 @@ pub(crate) struct Pieces {
     pub(crate) used: Vec<u64>,
 }
 
-/// The pieces of these jobs, and what they leave of the gaps.
+/// The pieces of these jobs, and what they leave of the gaps. The guesses tell where the deadlines stand among the times.
 pub(crate) fn cut_all(
     alloc: Global,
     by_release: &[JobRow],
     times: &[u32],
     gaps: &[u64],
+    guesses: &[usize],
     top: u32,
 ) -> Result<(Pieces, Vec<u64>), Memory>
     requires few { length by_release.now ≤ MAX_JOBS }
@@ -44,7 +45,7 @@ pub(crate) fn cut_all(
     ensures idle { IfOk result (λ cut. HasIdle top times.now by_release.now cut.1.items) }
 {
     let mut left = Vec::from_slice(alloc, gaps)?;
-    let mut pieces = cut_each(alloc, by_release, times, left.as_mut_slice(), top)?;
+    let mut pieces = cut_each(alloc, by_release, times, left.as_mut_slice(), guesses, top)?;
     pieces.used = used_before(alloc, gaps, &left)?;
     Ok((pieces, left))
 }
@@ -55,6 +56,7 @@ fn cut_each(
     by_release: &[JobRow],
     times: &[u32],
     gaps: &mut [u64],
+    guesses: &[usize],
     top: u32,
 ) -> Result<Pieces, Memory>
     requires gaps { AreGaps top times.now gaps.old }
@@ -72,8 +74,9 @@ fn cut_each(
         places: Vec::new(alloc),
         used: Vec::new(alloc),
     };
-    for job in by_release {
-        let end = place(times, job.deadline);
+    for number in 0..by_release.len() {
+        let job = &by_release[number];
+        let end = place_guessed(times, job.deadline, guesses, number);
         cut(gaps, links, &mut pieces, job, end, times, top)?;
     }
     Ok(pieces)

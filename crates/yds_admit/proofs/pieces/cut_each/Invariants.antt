@@ -2,9 +2,9 @@ use Rattle.yds_admit.specs.Chain.{AreLinks}
 use Rattle.yds_admit.specs.Pieces.{IsCutting, AreCut}
 use Rattle.yds_admit.proofs.pieces.cut_each.Given as goal
 
-abbrev pub invariant-loop-job : goal.invariant-loop-job
-invariant-loop-job l = record {
+abbrev pub invariant-loop-number : goal.invariant-loop-number
+invariant-loop-number l = record {
   cutting : IsCutting l.top l.times l.pieces.jobs.items l.pieces.places.items l.gaps;
   links : AreLinks l.gaps l.links;
-  made : AreCut l.by_release l.job-index l.pieces.jobs.items;
+  made : AreCut l.by_release l.number l.pieces.jobs.items;
 }
