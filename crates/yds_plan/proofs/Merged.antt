@@ -13,42 +13,32 @@ use Rattle.yds_model.specs.Comparison.{stretch_at}
 use Rattle.yds_plan.specs.Laid.{merge, merged}
 use Rattle.yds_events.proofs.Neighbours.{stretch_forward, stretch_order}
 
--- one longer piece in place of two
-both : Piece → Piece → Piece
-both piece next = record { from = piece.from; to = next.to }
-
 -- a fact of the merged list, from the two ways to merge
 merge_cases : (P : List Piece → Type 0) (piece next : Piece) (pieces : List Piece) →
     (piece.to ≡ next.from → P (record { from = piece.from; to = next.to } ∷ pieces)) →
     ((piece.to ≡ next.from → ⊥) → P (piece ∷ next ∷ pieces)) → P (merge piece (next ∷ pieces))
 merge_cases P piece next pieces touch apart =
     cond_both (piece.to == next.from) (record { from = piece.from; to = next.to } ∷ pieces) (piece ∷ next ∷ pieces) P
-    (λ same. touch (eqb-true piece.to next.from same))
-    (λ other. apart (eqb-false piece.to next.from other))
+    (λ same. touch (eqb-true piece.to next.from same)) (λ other. apart (eqb-false piece.to next.from other))
 
 merge_run : (low : ℕ) (piece : Piece) (pieces : List Piece) → low ≤ piece.from → piece.from < piece.to → PiecesFrom piece.to pieces →
     PiecesFrom low (merge piece pieces)
 merge_run low piece [] from forward run = (from, forward, tt)
 merge_run low piece (next ∷ pieces) from forward run =
-    merge_cases (PiecesFrom low) piece next pieces
-    (λ same. (from, omega (arith, run.0, run.1), run.2))
-    (λ other. (from, forward, run))
+    merge_cases (PiecesFrom low) piece next pieces (λ same. (from, omega (arith, run.0, run.1), run.2)) (λ other. (from, forward, run))
 
 pub merged_run : (low : ℕ) (pieces : List Piece) → PiecesFrom low pieces → PiecesFrom low (merged pieces)
 merged_run low [] run = tt
 merged_run low (piece ∷ pieces) run = merge_run low piece (merged pieces) run.0 run.1 (merged_run piece.to pieces run.2)
 
-begin_earlier : (from : ℕ) (next : Piece) (pieces : List Piece) → DontTouch (next ∷ pieces) →
-    DontTouch (record { from = from; to = next.to } ∷ pieces)
+begin_earlier : (from : ℕ) (next : Piece) (pieces : List Piece) → DontTouch (next ∷ pieces) → DontTouch (record { from = from; to = next.to } ∷ pieces)
 begin_earlier from next [] apart = tt
 begin_earlier from next (piece ∷ pieces) apart = apart
 
 merge_apart : (piece : Piece) (pieces : List Piece) → PiecesFrom piece.to pieces → DontTouch pieces → DontTouch (merge piece pieces)
 merge_apart piece [] run apart = tt
 merge_apart piece (next ∷ pieces) run apart =
-    merge_cases DontTouch piece next pieces
-    (λ same. begin_earlier piece.from next pieces apart)
-    (λ other. (strictly piece.to next.from run.0 other, apart))
+    merge_cases DontTouch piece next pieces (λ same. begin_earlier piece.from next pieces apart) (λ other. (strictly piece.to next.from run.0 other, apart))
   where
     strictly : (a b : ℕ) → a ≤ b → (a ≡ b → ⊥) → a < b
     strictly a b h other = elim (cases_lt a b) [ inl below ↦ below | inr above ↦ absurd (other (omega arith)) ]
@@ -70,8 +60,7 @@ merge_total piece (next ∷ pieces) forward run =
       run.1,
       sum_by-cons long (record { from = piece.from; to = next.to }) pieces,
       sum_by-cons long next pieces,
-    ))
-    (λ other. sum_by-cons long piece (next ∷ pieces))
+    )) (λ other. sum_by-cons long piece (next ∷ pieces))
 
 pub merged_total : (low : ℕ) (pieces : List Piece) → PiecesFrom low pieces → total_length (merged pieces) ≡ total_length pieces
 merged_total low [] run = refl
@@ -102,12 +91,9 @@ merge_stays_apart : (one piece : Piece) (pieces : List Piece) → one.from < one
     All (AreApart one) (merge piece pieces)
 merge_stays_apart one piece [] forward first rest = All-cons (AreApart one) piece [] first rest
 merge_stays_apart one piece (next ∷ pieces) forward first rest =
-    merge_cases (All (AreApart one)) piece next pieces
-    (λ same. All-cons (AreApart one) (record { from = piece.from; to = next.to }) pieces
-    (apart_both one.from one.to piece.from piece.to next.to forward first
-    (rw (← same) at (All-head (AreApart one) next pieces rest)))
-    (All-tail (AreApart one) next pieces rest))
-    (λ other. All-cons (AreApart one) piece (next ∷ pieces) first rest)
+    merge_cases (All (AreApart one)) piece next pieces (λ same. All-cons (AreApart one) (record { from = piece.from; to = next.to }) pieces
+    (apart_both one.from one.to piece.from piece.to next.to forward first (rw (← same) at (All-head (AreApart one) next pieces rest)))
+    (All-tail (AreApart one) next pieces rest)) (λ other. All-cons (AreApart one) piece (next ∷ pieces) first rest)
 
 pub merged_stays_apart : (one : Piece) (pieces : List Piece) → one.from < one.to → All (AreApart one) pieces → All (AreApart one) (merged pieces)
 merged_stays_apart one [] forward apart = All-nil (AreApart one)
@@ -146,8 +132,7 @@ merge_covers time piece (next ∷ pieces) forward run (inr covers) =
     (λ same. elim (covers_cases time next pieces covers) [
       | inl holds ↦ covers_head time (record { from = piece.from; to = next.to }) pieces (omega (arith, holds.0, run.0), holds.1)
       | inr rest ↦ covers_tail time (record { from = piece.from; to = next.to }) pieces rest
-    ])
-    (λ other. covers_tail time piece (next ∷ pieces) covers)
+    ]) (λ other. covers_tail time piece (next ∷ pieces) covers)
 
 pub merged_covers : (time low : ℕ) (pieces : List Piece) → PiecesFrom low pieces → Covers pieces time → Covers (merged pieces) time
 merged_covers time low [] run covers = covers
@@ -166,16 +151,14 @@ run_step jobs low a ks true within from run skipped = (from, stretch_forward job
 run_step jobs low a ks false within from run skipped = skipped
 
 range_run : (jobs : List Job) (p : ℕ → Bool) (low a n : ℕ) → a + n ≤ length (stretches jobs) →
-    ((k : ℕ) → a ≤ k → k < length (stretches jobs) → low ≤ (stretch_at jobs k).from) →
-    PiecesFrom low (map (stretch_at jobs) (filter p (range_with_len a n)))
+    ((k : ℕ) → a ≤ k → k < length (stretches jobs) → low ≤ (stretch_at jobs k).from) → PiecesFrom low (map (stretch_at jobs) (filter p (range_with_len a n)))
 range_run jobs p low a zero within from = tt
 range_run jobs p low a (suc n) within from =
     run_step jobs low a (filter p (range_with_len (a + 1) n)) (p a) (omega arith) (from a (omega arith) (omega arith))
     (range_run jobs p (stretch_at jobs a).to (a + 1) n (omega arith) (λ k above below. stretch_order jobs a k (omega arith) below))
     (range_run jobs p low (a + 1) n (omega arith) (λ k above below. from k (omega arith) below))
 
-pub some_stretches_run : (jobs : List Job) (p : ℕ → Bool) →
-    PiecesFrom 0 (map (stretch_at jobs) (filter p (range_with_len 0 (length (stretches jobs)))))
+pub some_stretches_run : (jobs : List Job) (p : ℕ → Bool) → PiecesFrom 0 (map (stretch_at jobs) (filter p (range_with_len 0 (length (stretches jobs)))))
 some_stretches_run jobs p = range_run jobs p 0 0 (length (stretches jobs)) (omega arith) (λ k above below. omega arith)
 
 -- one of some of the stretches covers what it has
@@ -194,8 +177,7 @@ range_covers : (jobs : List Job) (p : ℕ → Bool) (time k a n : ℕ) → a ≤
 range_covers jobs p time k a zero from below passes holds = absurd (omega arith)
 range_covers jobs p time k a (suc n) from below passes holds = elim (cases_lt a k) [
   | inl later ↦
-      later_covers jobs time a (filter p (range_with_len (a + 1) n)) (p a)
-      (range_covers jobs p time k (a + 1) n (omega arith) (omega arith) passes holds)
+      later_covers jobs time a (filter p (range_with_len (a + 1) n)) (p a) (range_covers jobs p time k (a + 1) n (omega arith) (omega arith) passes holds)
   | inr now ↦
       let same : k ≡ a = omega arith in
       here_covers jobs time a (filter p (range_with_len (a + 1) n)) (p a) (rw same at passes) (rw same at holds)

@@ -1,7 +1,7 @@
 use Rattle.std.proofs.Common.{◌+◌, arith, get_or, refl}
 use Rattle.yds_model.specs.declared.limits.TheConstants.{MAX_SLOT_WORK}
 use Rattle.yds_plan.proofs.Places.{no_struct}
-use Rattle.yds_plan.proofs.Fitting.{IsWithin, within_next, small_next, known_next, grain_next, room_next, fits_next, filled_next, filled_none, kept_within, slot_is}
+use Rattle.yds_plan.proofs.Laying.{IsWithin, within_next, small_next, known_next, grain_next, room_next, fits_next, filled_next, filled_none, kept_within, slot_is}
 use Rattle.yds_plan.proofs.layout_slots.fill_stretch.Goals as goal
 use Rattle.yds_plan.proofs.layout_slots.fill_stretch.Goals.{In-loop-share}
 
@@ -66,6 +66,5 @@ loop-share-preserved c =
       from = c.loop-share.from;
       to = c.time_after-to.result;
       work = c.of_parts.result;
-    })
-    c.loop-share.invariant refl refl c.time_after-to.ensures.value
+    }) c.loop-share.invariant refl refl c.time_after-to.ensures.value
     c.time_after-to.ensures.kept (rw c.from-in-loop-share.ensures at c.of_parts.ensures.value) c.in_ok-push.ensures.ok

@@ -1,5 +1,5 @@
 use Rattle.std.proofs.Common.{◌∙◌}
-use Rattle.yds_plan.proofs.Fitting.{time_is, time_kept}
+use Rattle.yds_plan.proofs.Laying.{time_is, time_kept}
 use Rattle.yds_plan.proofs.layout_slots.time_after.Goals as goal
 
 pub returns-clause-value : goal.returns-clause-value
