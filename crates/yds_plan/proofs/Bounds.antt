@@ -48,8 +48,7 @@ places_within places v groups n =
     let all = range_with_len 0 n in
     omega (
       arith,
-      sum_by_same (λ i. sum_by v (filter (λ j. group_of places j == i) all))
-          (λ i. sum_by (λ j. cond (group_of places j == i) (v j) 0) all) (range_with_len 0 groups)
+      sum_by_same (λ i. sum_by v (filter (λ j. group_of places j == i) all)) (λ i. sum_by (λ j. cond (group_of places j == i) (v j) 0) all) (range_with_len 0 groups)
           (λ k d within. sum_by-filter (λ j. group_of places j == get_or (range_with_len 0 groups) k d) v all),
       split_at_most (group_of places) v groups all,
     )
@@ -63,28 +62,34 @@ scaled_cond true v most h = omega arith
 scaled_cond false v most h = omega arith
 
 module _ (jobs : List Job) (all : All IsJob jobs) where
-  work_at_most : All (λ j. (job_at jobs j).work ≤ MAX_WORK) (range_with_len 0 (length jobs)) work_at_most k d within =
+  work_at_most : All (λ j. (job_at jobs j).work ≤ MAX_WORK) (range_with_len 0 (length jobs))
+  work_at_most k d within =
       let at = in_range (length jobs) k d within in
       rw (at.1) (all k no_job at.0).work_in_range
 
-  pub all_work : sum_by (λ j. (job_at jobs j).work) (range_with_len 0 (length jobs)) ≤ length jobs * MAX_WORK all_work =
+  pub all_work : sum_by (λ j. (job_at jobs j).work) (range_with_len 0 (length jobs)) ≤ length jobs * MAX_WORK
+  all_work =
       omega (
         arith,
         sum_by-le (λ j. (job_at jobs j).work) MAX_WORK (range_with_len 0 (length jobs)) work_at_most,
         ap (λ n. n * MAX_WORK) (length-range_with_len 0 (length jobs)),
       )
 
-  all_length : sum_by (length_at jobs) (range_with_len 0 (length (stretches jobs))) ≤ MAX_TIME all_length =
+  all_length : sum_by (length_at jobs) (range_with_len 0 (length (stretches jobs))) ≤ MAX_TIME
+  all_length =
       omega (arith, sum_of_all (λ (piece : Piece). piece.to - piece.from) (stretches jobs) no_stretch, total_in_range jobs all)
 
   module _ (found : Found) (is : IsFound jobs found) where
-    pub group_work : (i : ℕ) → i < length found.groups → (group_at found.groups i).work ≤ length jobs * MAX_WORK group_work i known =
+    pub group_work : (i : ℕ) → i < length found.groups → (group_at found.groups i).work ≤ length jobs * MAX_WORK
+    group_work i known =
         omega (arith, is.works i known, one_place found.group_of_job (λ j. (job_at jobs j).work) i (length jobs), all_work)
 
-    pub group_length : (i : ℕ) → i < length found.groups → (group_at found.groups i).length ≤ MAX_TIME group_length i known =
+    pub group_length : (i : ℕ) → i < length found.groups → (group_at found.groups i).length ≤ MAX_TIME
+    group_length i known =
         omega (arith, is.lengths i known, one_place found.group_of_stretch (length_at jobs) i (length (stretches jobs)), all_length)
 
-    groups_work : sum_by (λ group. group.work) found.groups ≤ length jobs * MAX_WORK groups_work =
+    groups_work : sum_by (λ group. group.work) found.groups ≤ length jobs * MAX_WORK
+    groups_work =
         omega (
           arith,
           sum_of_all (λ (group : Group). group.work) found.groups no_group,
@@ -94,12 +99,14 @@ module _ (jobs : List Job) (all : All IsJob jobs) where
           all_work,
         )
 
-    groups_length : sum_by (λ group. group.length) found.groups ≤ MAX_TIME groups_length =
+    groups_length : sum_by (λ group. group.length) found.groups ≤ MAX_TIME
+    groups_length =
         omega (
           arith,
           sum_of_all (λ (group : Group). group.length) found.groups no_group,
           sum_by_same (λ i. (group_at found.groups i).length) (λ i. length_of_group jobs found.group_of_stretch i (length (stretches jobs)))
-              (range_with_len 0 (length found.groups)) (λ k d within. let at = in_range (length found.groups) k d within in rw (at.1) (is.lengths k at.0)),
+              (range_with_len 0 (length found.groups))
+              (λ k d within. let at = in_range (length found.groups) k d within in rw (at.1) (is.lengths k at.0)),
           places_within found.group_of_stretch (length_at jobs) (length found.groups) (length (stretches jobs)),
           all_length,
         )
@@ -118,19 +125,22 @@ module _ (jobs : List Job) (all : All IsJob jobs) where
           sum_by-mul MAX_WORK (λ j. cond (group_of found.group_of_job j == i) 1 0) (range_with_len 0 (length jobs)),
         )
 
-    pub few_groups : length found.groups ≤ length jobs few_groups =
+    pub few_groups : length found.groups ≤ length jobs
+    few_groups =
         omega (
           arith,
           length-range_with_len 0 (length found.groups),
           count_all (range_with_len 0 (length found.groups)),
           sum_by_at_most (λ i. 1) (λ i. sum_by (λ j. cond (group_of found.group_of_job j == i) 1 0) (range_with_len 0 (length jobs)))
-              (range_with_len 0 (length found.groups)) (λ k d within. let at = in_range (length found.groups) k d within in rw (at.1) (some_job k at.0)),
+              (range_with_len 0 (length found.groups))
+              (λ k d within. let at = in_range (length found.groups) k d within in rw (at.1) (some_job k at.0)),
           places_within found.group_of_job (λ j. 1) (length found.groups) (length jobs),
           count_all (range_with_len 0 (length jobs)),
           length-range_with_len 0 (length jobs),
         )
 
-    pub groups_within : length jobs ≤ MAX_JOBS → AreGroupsWithin found.groups groups_within few =
+    pub groups_within : length jobs ≤ MAX_JOBS → AreGroupsWithin found.groups
+    groups_within few =
         let most : length jobs * MAX_WORK ≤ MAX_JOBS * MAX_WORK = mul-le-mul_right MAX_WORK few in
         record {
           some_work = is.some_work;

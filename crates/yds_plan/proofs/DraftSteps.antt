@@ -26,12 +26,12 @@ add_last (first ∷ next ∷ pieces) piece = first ∷ add_last (next ∷ pieces
 one_less : (n : ℕ) → suc n - 1 ≡ n
 one_less n = omega arith
 
-last_alone : (last piece : Piece) (b : Bool) → cond b (record { from = last.from; to = piece.to } ∷ []) (last ∷ piece ∷ []) ≡ with_next (last ∷ []) b piece
+last_alone : (last piece : Piece) (b : Bool) →
+    cond b (record { from = last.from; to = piece.to } ∷ []) (last ∷ piece ∷ []) ≡ with_next (last ∷ []) b piece
 last_alone last piece true = refl
 last_alone last piece false = refl
 
-deeper : (first next : Piece) (pieces : List Piece) (piece : Piece) (b : Bool) →
-    first ∷ with_next (next ∷ pieces) b piece ≡ with_next (first ∷ next ∷ pieces) b piece
+deeper : (first next : Piece) (pieces : List Piece) (piece : Piece) (b : Bool) → first ∷ with_next (next ∷ pieces) b piece ≡ with_next (first ∷ next ∷ pieces) b piece
 deeper first next pieces piece true = rw (one_less (suc (length pieces)), one_less (length pieces)) refl
 deeper first next pieces piece false = refl
 
@@ -84,9 +84,11 @@ filter_leaves p n fails =
     sym (filter_more p n ∙ ap (λ b. filter p (range_with_len 0 n) ++ cond b (n ∷ []) []) fails ∙ append-nil (filter p (range_with_len 0 n)))
 
 module _ (timeline : List Piece) (found : Found) where
-  abbrev job_level : ℕ → ℕ job_level j = level_of_place found.groups (group_of found.group_of_job j)
+  abbrev job_level : ℕ → ℕ
+  job_level j = level_of_place found.groups (group_of found.group_of_job j)
 
-  abbrev stretch_level : ℕ → ℕ stretch_level k = level_of_place found.groups (group_of found.group_of_stretch k)
+  abbrev stretch_level : ℕ → ℕ
+  stretch_level k = level_of_place found.groups (group_of found.group_of_stretch k)
 
   abbrev count_of_levels : ℕ
   count_of_levels = levels_among found.groups (length found.groups)
@@ -97,7 +99,8 @@ module _ (timeline : List Piece) (found : Found) where
   job_here : (j k l : ℕ) → job_level j ≡ l → with_member j (draft timeline found j k l) ≡ draft timeline found (j + 1) k l
   job_here j k l same = cc (filter_takes (λ job. job_level job == l) j (eq-eqb (job_level j) l same))
 
-  stretch_elsewhere : (j k l : ℕ) → (stretch_level k ≡ l → ⊥) → draft timeline found j k l ≡ draft timeline found j (k + 1) l stretch_elsewhere j k l other =
+  stretch_elsewhere : (j k l : ℕ) → (stretch_level k ≡ l → ⊥) → draft timeline found j k l ≡ draft timeline found j (k + 1) l
+  stretch_elsewhere j k l other =
       cc (ap (λ ks. merged (map (nth_stretch timeline) ks)) (filter_leaves (λ stretch. stretch_level stretch == l) k (ne_eqb (stretch_level k) l other)))
 
   stretch_here : (j k l : ℕ) → stretch_level k ≡ l → extended_level (nth_stretch timeline k) (draft timeline found j k l) ≡ draft timeline found j (k + 1) l
@@ -154,7 +157,8 @@ module _ (timeline : List Piece) (found : Found) where
       (λ l known. stretch_elsewhere j k l (λ same. omega (arith, past, (place_in_level found.groups (group_of found.group_of_stretch k) l same known).0)))
 
   -- The numbers of the groups' levels, and what a step of the loops makes of the levels.
-  abbrev pub AreNumbers : List ℕ → Type 0 AreNumbers numbers = numbers ≡ map (level_of found.groups) (range_with_len 0 (length found.groups))
+  abbrev pub AreNumbers : List ℕ → Type 0
+  AreNumbers numbers = numbers ≡ map (level_of found.groups) (range_with_len 0 (length found.groups))
 
   numbers_length : (numbers : List ℕ) → AreNumbers numbers → length numbers ≡ length found.groups
   numbers_length numbers are = ap length are ∙ length-map-range_with_len (level_of found.groups) 0 (length found.groups)
@@ -168,13 +172,7 @@ module _ (timeline : List Piece) (found : Found) where
   pub number_within : (j k place number : ℕ) (numbers : List ℕ) (levels : List Level) → AreNumbers numbers → levels ≡ drafts timeline found j k →
       place < length numbers → number ≡ get_or numbers place number → number < length levels
   number_within j k place number numbers levels are before within read =
-      omega (
-        arith,
-        number_is numbers place number are within read,
-        level_known place (omega (arith, numbers_length numbers are)),
-        ap length before,
-        drafts_length j k,
-      )
+      omega (arith, number_is numbers place number are within read, level_known place (omega (arith, numbers_length numbers are)), ap length before, drafts_length j k)
 
   pub member_step : (j k place number : ℕ) (numbers : List ℕ) (levels next : List Level) → AreNumbers numbers → levels ≡ drafts timeline found j k →
       place ≡ group_of found.group_of_job j → place < length numbers → number ≡ get_or numbers place number →

@@ -21,8 +21,7 @@ use Rattle.yds_plan.specs.Drafts.{among, empty_level, empty_levels, joins_before
 pub record AreGroups (groups : List Group) : Type 0 where
   pub some_work : (i : ℕ) → i < length groups → 1 ≤ (group_at groups i).work
   pub some_length : (i : ℕ) → i < length groups → 1 ≤ (group_at groups i).length
-  pub order : (i : ℕ) → i + 1 < length groups →
-      (group_at groups (i + 1)).work * (group_at groups i).length ≤ (group_at groups i).work * (group_at groups (i + 1)).length
+  pub order : (i : ℕ) → i + 1 < length groups → (group_at groups (i + 1)).work * (group_at groups i).length ≤ (group_at groups i).work * (group_at groups (i + 1)).length
 
 -- a/b = c/d < e/f = g/h give a/b < g/h
 less_between : (a b c d e f g h : ℕ) → 1 ≤ b → 1 ≤ h → a * d ≡ c * b → g * f ≡ e * h → c * f < e * d → a * h < g * b
@@ -57,11 +56,13 @@ module _ (groups : List Group) where
     | inr below ↦ omega (arith, level_rises i j below)
   ]
 
-  pub level_below : (i : ℕ) → level_of groups i ≤ i level_below zero = omega arith
+  pub level_below : (i : ℕ) → level_of groups i ≤ i
+  level_below zero = omega arith
   level_below (suc i) = omega (arith, level_below i, one_step (slows_after groups i))
 
   -- each number up to a level's is one
-  level_found : (i l : ℕ) → l ≤ level_of groups i → (k : ℕ) × (k ≤ i) × (level_of groups k ≡ l) level_found zero l h = (0, omega arith, omega arith)
+  level_found : (i l : ℕ) → l ≤ level_of groups i → (k : ℕ) × (k ≤ i) × (level_of groups k ≡ l)
+  level_found zero l h = (0, omega arith, omega arith)
   level_found (suc i) l h = elim (cases_lt (level_of groups i) l) [
     | inl above ↦ (suc i, omega arith, omega (arith, one_step (slows_after groups i)))
     | inr below ↦ let found = level_found i l below in (found.0, omega (arith, found.1), found.2)
@@ -75,35 +76,35 @@ module _ (groups : List Group) where
     pub next : level_of groups (place + 1) ≡ l + 1
     pub slower : slows_after groups place ≡ true
 
-  fall_found : (i l : ℕ) → l + 1 ≤ level_of groups i → Falls i l fall_found zero l h = absurd (omega arith)
+  fall_found : (i l : ℕ) → l + 1 ≤ level_of groups i → Falls i l
+  fall_found zero l h = absurd (omega arith)
   fall_found (suc i) l h = elim (cases_lt l (level_of groups i)) [
     | inl more ↦
         let found = fall_found i l (omega arith) in
         record { place = found.place; before = omega (arith, found.before); level = found.level; next = found.next; slower = found.slower }
     | inr here ↦
         let now = falls (slows_after groups i) (level_of groups i) l here h in
-        record {
-          place = i;
-          before = omega arith;
-          level = now.1;
-          next = rw (add-one) (omega (arith, now.1, ap {B = ℕ} (λ b. cond b 1 0) now.0));
-          slower = now.0;
-        }
+        record { place = i; before = omega arith; level = now.1; next = rw (add-one) (omega (arith, now.1, ap {B = ℕ} (λ b. cond b 1 0) now.0)); slower = now.0 }
   ]
 
-  pub among_below : (n : ℕ) → levels_among groups n ≤ n among_below zero = omega arith among_below (suc n) = omega (arith, level_below n)
+  pub among_below : (n : ℕ) → levels_among groups n ≤ n
+  among_below zero = omega arith
+  among_below (suc n) = omega (arith, level_below n)
 
-  pub among_above : (n i : ℕ) → i < n → level_of groups i < levels_among groups n among_above zero i h = absurd (omega arith)
+  pub among_above : (n i : ℕ) → i < n → level_of groups i < levels_among groups n
+  among_above zero i h = absurd (omega arith)
   among_above (suc n) i h = omega (arith, level_rises i n (omega arith))
 
-  pub among_found : (n l : ℕ) → l < levels_among groups n → (k : ℕ) × (k < n) × (level_of groups k ≡ l) among_found zero l h = absurd (omega arith)
+  pub among_found : (n l : ℕ) → l < levels_among groups n → (k : ℕ) × (k < n) × (level_of groups k ≡ l)
+  among_found zero l h = absurd (omega arith)
   among_found (suc n) l h =
       let found = level_found n l (omega arith) in
       (found.0, omega (arith, found.1), found.2)
 
   pub among_falls : (n l : ℕ) → l + 1 < levels_among groups n → (k : ℕ) × (k + 1 < n) × (level_of groups k ≡ l)
       × (level_of groups (k + 1) ≡ l + 1) × (slows_after groups k ≡ true)
-  among_falls zero l h = absurd (omega arith) among_falls (suc n) l h =
+  among_falls zero l h = absurd (omega arith)
+  among_falls (suc n) l h =
       let found = fall_found n l (omega arith) in
       (found.place, omega (arith, found.before), found.level, found.next, found.slower)
 
@@ -136,13 +137,13 @@ module _ (groups : List Group) where
     ]
 
     -- and so has the level
-    weighed : (i j : ℕ) → i < length groups → j < length groups →
-        (group_at groups i).length * cond (level_of groups j == level_of groups i) (group_at groups j).work 0
+    weighed : (i j : ℕ) → i < length groups → j < length groups → (group_at groups i).length * cond (level_of groups j == level_of groups i) (group_at groups j).work 0
         ≡ (group_at groups i).work * cond (level_of groups j == level_of groups i) (group_at groups j).length 0
     weighed i j known_i known_j = choose (level_of groups j == level_of groups i) (λ is. one_speed j i known_j known_i (eqb-true _ _ is)) where
-        choose : (b : Bool) → (b ≡ true → (group_at groups j).work * (group_at groups i).length ≡ (group_at groups i).work * (group_at groups j).length) →
-            (group_at groups i).length * cond b (group_at groups j).work 0 ≡ (group_at groups i).work * cond b (group_at groups j).length 0
-        choose true same = omega (arith, same refl) choose false same = omega arith
+      choose : (b : Bool) → (b ≡ true → (group_at groups j).work * (group_at groups i).length ≡ (group_at groups i).work * (group_at groups j).length) →
+          (group_at groups i).length * cond b (group_at groups j).work 0 ≡ (group_at groups i).work * cond b (group_at groups j).length 0
+      choose true same = omega (arith, same refl)
+      choose false same = omega arith
 
     pub level_speed : (i : ℕ) → i < length groups → together (λ group. group.work) groups (level_of groups i) * (group_at groups i).length
         ≡ (group_at groups i).work * together (λ group. group.length) groups (level_of groups i)
@@ -158,15 +159,15 @@ module _ (groups : List Group) where
         )
 
     -- a level has at least what one of its groups has
-    pub level_has : (f : Group → ℕ) (i : ℕ) → i < length groups → f (group_at groups i) ≤ together f groups (level_of groups i) level_has f i known =
+    pub level_has : (f : Group → ℕ) (i : ℕ) → i < length groups → f (group_at groups i) ≤ together f groups (level_of groups i)
+    level_has f i known =
         let part = get_or-le-sum_by (λ (j : ℕ). cond (level_of groups j == level_of groups i) (f (group_at groups j)) 0)
         (range_with_len 0 (length groups)) i 0 (omega (arith, length-range_with_len 0 (length groups))) in
         let is = in_range (length groups) i 0 (omega (arith, length-range_with_len 0 (length groups))) in
         omega (arith, rw (is.1) at part, ap (λ b. cond b (f (group_at groups i)) 0) (eq-eqb (level_of groups i) (level_of groups i) refl))
 
     -- each level is slower than the one before it
-    pub level_slower : (l : ℕ) → l + 1 < levels_among groups (length groups) →
-        together (λ group. group.work) groups (l + 1) * together (λ group. group.length) groups l
+    pub level_slower : (l : ℕ) → l + 1 < levels_among groups (length groups) → together (λ group. group.work) groups (l + 1) * together (λ group. group.length) groups l
         < together (λ group. group.work) groups l * together (λ group. group.length) groups (l + 1)
     level_slower l h =
         let found = among_falls (length groups) l h in
@@ -201,10 +202,12 @@ map_range_same d f g n same =
     get_or-map-range_with_len f 0 n i i d known (omega arith) ∙ same i known ∙ sym (get_or-map-range_with_len g 0 n i i d known (omega arith)))
 
 module _ (groups : List Group) where
-  pub joining : (i : ℕ) → joins_before groups i ≡ true → level_of groups i + 1 ≡ levels_among groups i joining zero joins = absurd (true≢false (sym joins))
+  pub joining : (i : ℕ) → joins_before groups i ≡ true → level_of groups i + 1 ≡ levels_among groups i
+  joining zero joins = absurd (true≢false (sym joins))
   joining (suc i) joins = omega (arith, ap {B = ℕ} (λ b. cond b 1 0) (not-true (slows_after groups i) joins))
 
-  pub parting : (i : ℕ) → joins_before groups i ≡ false → level_of groups i ≡ levels_among groups i parting zero parts = refl
+  pub parting : (i : ℕ) → joins_before groups i ≡ false → level_of groups i ≡ levels_among groups i
+  parting zero parts = refl
   parting (suc i) parts = omega (arith, ap {B = ℕ} (λ b. cond b 1 0) (not-false (slows_after groups i) parts))
 
   pub among_more : (f : Group → ℕ) (i l : ℕ) → among f groups (i + 1) l ≡ among f groups i l + cond (level_of groups i == l) (f (group_at groups i)) 0
@@ -212,12 +215,14 @@ module _ (groups : List Group) where
       ap (sum_by (λ k. cond (level_of groups k == l) (f (group_at groups k)) 0)) (range_more i)
       ∙ sum_by_push (λ k. cond (level_of groups k == l) (f (group_at groups k)) 0) (range_with_len 0 i) i
 
-  among_none : (f : Group → ℕ) (i l : ℕ) → levels_among groups i ≤ l → among f groups i l ≡ 0 among_none f i l past =
+  among_none : (f : Group → ℕ) (i l : ℕ) → levels_among groups i ≤ l → among f groups i l ≡ 0
+  among_none f i l past =
       sum_by_zero (λ k. cond (level_of groups k == l) (f (group_at groups k)) 0) (range_with_len 0 i) (λ k d within.
       let at = in_range i k d within in
       rw (at.1) (not_here (level_of groups k) l (f (group_at groups k)) (λ same. omega (arith, among_above groups i k at.0))))
 
-  among_other : (f : Group → ℕ) (i l : ℕ) → (l ≡ level_of groups i → ⊥) → among f groups i l ≡ among f groups (i + 1) l among_other f i l other =
+  among_other : (f : Group → ℕ) (i l : ℕ) → (l ≡ level_of groups i → ⊥) → among f groups i l ≡ among f groups (i + 1) l
+  among_other f i l other =
       omega (arith, among_more f i l, not_here (level_of groups i) l (f (group_at groups i)) (λ same. other (sym same)))
 
   among_here : (f : Group → ℕ) (i : ℕ) → among f groups i (level_of groups i) + f (group_at groups i) ≡ among f groups (i + 1) (level_of groups i)
@@ -249,8 +254,7 @@ module _ (groups : List Group) where
       get_or-map-range_with_len (empty_level groups i) 0 (levels_among groups i) (level_of groups i) (level_of groups i) no_level
       (omega (arith, joining i joins)) (omega arith) in
       let count : levels_among groups (i + 1) ≡ levels_among groups i = rw (add-one) (omega (arith, joining i joins)) in
-      rw (last, here, level_more i, count)
-      (map_range_set no_level (empty_level groups i) (empty_level groups (i + 1)) (levels_among groups i) (level_of groups i)
+      rw (last, here, level_more i, count) (map_range_set no_level (empty_level groups i) (empty_level groups (i + 1)) (levels_among groups i) (level_of groups i)
       (omega (arith, joining i joins)) (λ k known other. level_other i k other))
 
   parts_step : (i : ℕ) → joins_before groups i ≡ false → empty_levels groups i ++ level_of_one (group_at groups i) ∷ [] ≡ empty_levels groups (i + 1)
@@ -264,17 +268,18 @@ module _ (groups : List Group) where
       rw (count, front, next) (sym (map-range_with_len_more (empty_level groups (i + 1)) 0 (levels_among groups i) (levels_among groups i) (omega arith)))
 
   with_group_cases : (i : ℕ) (b : Bool) → joins_before groups i ≡ b → with_group (empty_levels groups i) b (group_at groups i) ≡ empty_levels groups (i + 1)
-  with_group_cases i true joins = joins_step i joins with_group_cases i false parts = parts_step i parts
+  with_group_cases i true joins = joins_step i joins
+  with_group_cases i false parts = parts_step i parts
 
   pub draft_step : (i : ℕ) → with_group (empty_levels groups i) (joins_before groups i) (group_at groups i) ≡ empty_levels groups (i + 1)
   draft_step i = with_group_cases i (joins_before groups i) refl
 
   -- what a level has so far, and the next group, are within what all groups have
-  among_within : (f : Group → ℕ) (i l : ℕ) → i < length groups → among f groups i l + f (group_at groups i) ≤ sum_by f groups among_within f i l within =
+  among_within : (f : Group → ℕ) (i l : ℕ) → i < length groups → among f groups i l + f (group_at groups i) ≤ sum_by f groups
+  among_within f i l within =
       omega (
         arith,
-        sum_by_at_most (λ k. cond (level_of groups k == l) (f (group_at groups k)) 0) (λ k. f (group_at groups k)) (range_with_len 0 i)
-            (λ k d inside. cond_at_most _ _),
+        sum_by_at_most (λ k. cond (level_of groups k == l) (f (group_at groups k)) 0) (λ k. f (group_at groups k)) (range_with_len 0 i) (λ k d inside. cond_at_most _ _),
         sum_of_first f groups no_group i (omega arith),
         sum_by_more_le f groups i no_group within,
       )
@@ -289,8 +294,7 @@ module _ (groups : List Group) where
         rw none (omega (arith, sum_by_more_le (λ group. group.work) groups i no_group within))
   ]
 
-  pub length_within : (i x : ℕ) → i < length groups →
-      (level_at (empty_levels groups i) x).length + (group_at groups i).length ≤ sum_by (λ group. group.length) groups
+  pub length_within : (i x : ℕ) → i < length groups → (level_at (empty_levels groups i) x).length + (group_at groups i).length ≤ sum_by (λ group. group.length) groups
   length_within i x within = elim (cases_lt x (levels_among groups i)) [
     | inl known ↦
         let here = get_or-map-range_with_len (empty_level groups i) 0 (levels_among groups i) x x no_level known (omega arith) in

@@ -38,8 +38,7 @@ ends_of to p reached end scale e h some =
     let within : reached * scale ≤ end * p * scale = mul-le-mul_right scale h in
     le_of_mul-le-mul_right {k = p} (omega arith) some
 
-speed_of : (from to work p q begun units scale : ℕ) → from * p ≡ begun * scale → to * p ≡ (begun + units) * scale →
-    work * q ≡ units * scale → work * q ≡ p * (to - from)
+speed_of : (from to work p q begun units scale : ℕ) → from * p ≡ begun * scale → to * p ≡ (begun + units) * scale → work * q ≡ units * scale → work * q ≡ p * (to - from)
 speed_of from to work p q begun units scale e f g = omega (arith, mul-sub p to from)
 
 after_of : (to from p reached scale : ℕ) → to * p ≡ reached * scale → reached * scale ≤ from * p → 1 ≤ p → to ≤ from
@@ -113,14 +112,12 @@ module _ (group : Group) (scale start : ℕ) (positive : 1 ≤ scale) (some_time
             (omega (arith, to)) (All-head (λ share. 1 ≤ share.units) share shares some) positive;
         ends = ends_of _ (per_time group) (start * per_time group + (done + share.units)) end scale to (omega arith) some_time;
         speed = speed_of _ _ _ (per_time group) (per_work group) (start * per_time group + done) share.units scale from (omega (arith, to)) work;
-      }) (All-weaker (Fills scale start (done + share.units) end (per_time group) (per_work group))
-      (Fills scale start done end (per_time group) (per_work group))
+      }) (All-weaker (Fills scale start (done + share.units) end (per_time group) (per_work group)) (Fills scale start done end (per_time group) (per_work group))
       (λ slot later. later_from scale start done share.units end (per_time group) (per_work group) slot later)
       (slots_at scale (slots_from (terms_of group) start (done + share.units) shares))
       (fills end (done + share.units) shares divided.1 (All-tail (λ share. 1 ≤ share.units) share shares some) (omega arith)))
 
-  pub filled_pairs : (R : ℕ → ℕ → Type 0) (end done : ℕ) (shares : List Share) →
-      AllByRecursion (IsDivided scale) (slots_from (terms_of group) start done shares) →
+  pub filled_pairs : (R : ℕ → ℕ → Type 0) (end done : ℕ) (shares : List Share) → AllByRecursion (IsDivided scale) (slots_from (terms_of group) start done shares) →
       All (λ share. 1 ≤ share.units) shares → start * per_time group + done + units_of shares ≤ end * per_time group →
       AllPairs (λ one other. R one.job other.job) shares → AllPairs (FollowsBy R) (slots_at scale (slots_from (terms_of group) start done shares))
   filled_pairs R end done [] divided some room pairs = λ i j d order within. absurd (omega arith)
@@ -137,8 +134,7 @@ module _ (group : Group) (scale start : ℕ) (positive : 1 ≤ scale) (some_time
       (λ i j d order within. pairs (suc i) (suc j) d (omega arith) (omega arith)))
 
 -- the work that the slots give a job is that of its units
-pub filled_work : (group : Group) (scale start done job : ℕ) (shares : List Share) →
-    AllByRecursion (IsDivided scale) (slots_from (terms_of group) start done shares) →
+pub filled_work : (group : Group) (scale start done job : ℕ) (shares : List Share) → AllByRecursion (IsDivided scale) (slots_from (terms_of group) start done shares) →
     per_work group * sum_by (λ slot. cond (job == slot.job) slot.work 0) (slots_at scale (slots_from (terms_of group) start done shares))
     ≡ scale * sum_by (λ share. cond (share.job == job) share.units 0) shares
 filled_work group scale start done job [] divided = omega arith

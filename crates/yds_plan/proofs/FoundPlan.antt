@@ -23,7 +23,7 @@ use Rattle.yds_events.specs.Window.{length_at}
 use Rattle.yds_plan.specs.Laid.{level_of, levels_among, together, members_of, stretches_of, level_numbered, levels_of, slots_in_stretch, slots_of, shares_in}
 use Rattle.yds_search.proofs.KeySums.{count_all, split_all}
 use Rattle.yds_events.proofs.Neighbours.{release_outside, deadline_outside, stretch_with, few_stretches}
-use Rattle.yds_plan.proofs.Blocks.{all_of_blocks}
+use Rattle.yds_plan.proofs.Merged.{all_of_blocks}
 use Rattle.yds_plan.proofs.Schedule.{Serves, all_serve, has_work, terms, all_stand, feasible, served_in_stretches}
 use Rattle.yds_plan.proofs.Filled.{IsOverTerms, over_terms, slots_of_jobs, slots_from_length}
 use Rattle.yds_plan.proofs.Drafts.{AreGroups, level_rises, among_above, among_found, level_speed, level_has, level_slower}
@@ -45,23 +45,29 @@ module _ (jobs : List Job) (found : Found) (is : IsFound jobs found) where
   groups_are : AreGroups found.groups
   groups_are = record { some_work = is.some_work; some_length = is.some_length; order = is.order }
 
-  abbrev level_work : ℕ → ℕ level_work l = together (λ group. group.work) found.groups l
+  abbrev level_work : ℕ → ℕ
+  level_work l = together (λ group. group.work) found.groups l
 
-  abbrev level_length : ℕ → ℕ level_length l = together (λ group. group.length) found.groups l
+  abbrev level_length : ℕ → ℕ
+  level_length l = together (λ group. group.length) found.groups l
 
-  some_level_work : (l : ℕ) → l < count_of_levels → 1 ≤ level_work l some_level_work l known =
+  some_level_work : (l : ℕ) → l < count_of_levels → 1 ≤ level_work l
+  some_level_work l known =
       let k = among_found found.groups (length found.groups) l known in
       omega (arith, is.some_work k.0 k.1, rw (k.2) at (level_has found.groups groups_are (λ group. group.work) k.0 k.1))
 
-  some_level_length : (l : ℕ) → l < count_of_levels → 1 ≤ level_length l some_level_length l known =
+  some_level_length : (l : ℕ) → l < count_of_levels → 1 ≤ level_length l
+  some_level_length l known =
       let k = among_found found.groups (length found.groups) l known in
       omega (arith, is.some_length k.0 k.1, rw (k.2) at (level_has found.groups groups_are (λ group. group.length) k.0 k.1))
 
   -- sums
-  members_work : (l : ℕ) → l < count_of_levels → level_work l ≡ work_of jobs (members_of jobs found l) members_work l known =
+  members_work : (l : ℕ) → l < count_of_levels → level_work l ≡ work_of jobs (members_of jobs found l)
+  members_work l known =
       group_sum found.groups found.group_of_job (λ j. (job_at jobs j).work) (length jobs) l (λ group. group.work) is.works known
 
-  stretches_length : (l : ℕ) → l < count_of_levels → level_length l ≡ sum_by (length_at jobs) (stretches_of jobs found l) stretches_length l known =
+  stretches_length : (l : ℕ) → l < count_of_levels → level_length l ≡ sum_by (length_at jobs) (stretches_of jobs found l)
+  stretches_length l known =
       group_sum found.groups found.group_of_stretch (length_at jobs) (length (stretches jobs)) l (λ group. group.length) is.lengths known
 
   -- by place
@@ -74,11 +80,11 @@ module _ (jobs : List Job) (found : Found) (is : IsFound jobs found) where
   well_formed : AreLevels jobs (levels_of jobs found)
   well_formed = record {
     positive = each_level (λ level. (1 ≤ level.work) × (1 ≤ level.length)) jobs found (λ l known. (some_level_work l known, some_level_length l known));
-    known = each_level (λ level. All (λ number. number < length jobs) level.members) jobs found
-        (λ l known k d within. (each_member jobs found l known k d within).known);
+    known = each_level (λ level. All (λ number. number < length jobs) level.members) jobs found (λ l known k d within. (each_member jobs found l known k d within).known);
   }
 
-  pieces_stand : Each (length (levels_of jobs found)) (PiecesStand (levels_of jobs found)) pieces_stand i within =
+  pieces_stand : Each (length (levels_of jobs found)) (PiecesStand (levels_of jobs found))
+  pieces_stand i within =
       let known : i < count_of_levels = omega (arith, levels_length jobs found) in
       let here = level_there jobs found i known in
       record {
@@ -87,7 +93,8 @@ module _ (jobs : List Job) (found : Found) (is : IsFound jobs found) where
         apart = rw here (pieces_apart jobs found i known);
       }
 
-  sums_agree : Each (length (levels_of jobs found)) (SumsAgree jobs (levels_of jobs found)) sums_agree i within =
+  sums_agree : Each (length (levels_of jobs found)) (SumsAgree jobs (levels_of jobs found))
+  sums_agree i within =
       let known : i < count_of_levels = omega (arith, levels_length jobs found) in
       let here = level_there jobs found i known in
       record { work = rw here (members_work i known); length = rw here (stretches_length i known ∙ sym (pieces_total jobs found i)) }
@@ -101,7 +108,8 @@ module _ (jobs : List Job) (found : Found) (is : IsFound jobs found) where
         (among_above found.groups (length found.groups) (group_of found.group_of_job number) grouped));
   }
 
-  falling : Each (length (levels_of jobs found)) (IsSlower (levels_of jobs found)) falling i within before is_before =
+  falling : Each (length (levels_of jobs found)) (IsSlower (levels_of jobs found))
+  falling i within before is_before =
       let known : i < count_of_levels = omega (arith, levels_length jobs found) in
       let next : before + 1 < count_of_levels = omega arith in
       rw (level_there jobs found i known, level_there jobs found before (omega arith), ← is_before) (level_slower found.groups groups_are before next)
@@ -112,7 +120,8 @@ module _ (jobs : List Job) (found : Found) (is : IsFound jobs found) where
       let known : i < count_of_levels = omega (arith, levels_length jobs found) in
       All-contains (IsMember jobs found i) (members_of jobs found i) number (each_member jobs found i known) (rw (level_there jobs found i known) at contains)
 
-  windows_covered : Each (length jobs) (IsWindowCovered jobs (levels_of jobs found)) windows_covered number known i within contains time from below =
+  windows_covered : Each (length jobs) (IsWindowCovered jobs (levels_of jobs found))
+  windows_covered number known i within contains time from below =
       let member = member_there i number within contains in
       let k = stretch_with jobs number time known from below in
       let released : (job_at jobs number).release ≤ (stretch_at jobs k.0).from =
@@ -144,15 +153,16 @@ module _ (jobs : List Job) (found : Found) (is : IsFound jobs found) where
       (is.some_length g grouped) (at_speed _ _ _ _ _ (group_at found.groups g).work (group_at found.groups g).length stands.2.speed low.first low.second)
       (sym (group_speed i g known grouped level)))
 
-  members_have_work : All (λ number. 1 ≤ (job_at jobs number).work) (all_members (levels_of jobs found)) members_have_work =
+  members_have_work : All (λ number. 1 ≤ (job_at jobs number).work) (all_members (levels_of jobs found))
+  members_have_work =
       rw (members_joined jobs found) (all_of_blocks (λ number. 1 ≤ (job_at jobs number).work) (members_of jobs found) count_of_levels (λ l known k d within.
       let member = each_member jobs found l known k d within in
       has_work jobs found is _ member.known member.grouped))
 
-  pub slots_length : length (slots_of jobs found) ≡ length found.shares slots_length =
+  pub slots_length : length (slots_of jobs found) ≡ length found.shares
+  slots_length =
       length-flat_map (slots_in_stretch jobs found) (range_with_len 0 (length (stretches jobs)))
-      ∙ sum_by_same (λ k. length (slots_in_stretch jobs found k)) (λ k. sum_by (λ share. 1) (shares_in found.shares k))
-      (range_with_len 0 (length (stretches jobs)))
+      ∙ sum_by_same (λ k. length (slots_in_stretch jobs found k)) (λ k. sum_by (λ share. 1) (shares_in found.shares k)) (range_with_len 0 (length (stretches jobs)))
       (λ k d within. slots_from_length _ _ 0 (shares_in found.shares (get_or (range_with_len 0 (length (stretches jobs))) k d))
       ∙ sym (count_all (shares_in found.shares (get_or (range_with_len 0 (length (stretches jobs))) k d))))
       ∙ split_all (λ share. share.stretch) (λ share. 1) (length (stretches jobs)) found.shares (λ k d within. (is.shares k d within).known_stretch)
@@ -162,7 +172,8 @@ module _ (jobs : List Job) (found : Found) (is : IsFound jobs found) where
   abbrev IsWritten : WrittenSlot → Type 0
   IsWritten slot = (k : ℕ) × Serves jobs found k slot.job × IsOverTerms (group_at found.groups (group_of found.group_of_stretch k)) slot
 
-  all_written : All IsWritten (slots_of jobs found) all_written =
+  all_written : All IsWritten (slots_of jobs found)
+  all_written =
       all_of_blocks IsWritten (slots_in_stretch jobs found) (length (stretches jobs))
       (λ k known x d within. (
         k,

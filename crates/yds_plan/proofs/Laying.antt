@@ -34,7 +34,7 @@ use Rattle.yds_model.specs.Comparison.{stretch_at}
 use Rattle.yds_plan.specs.Sorted.{structs_in, start_of, AreSorted}
 use Rattle.yds_search.proofs.KeySums.{range_more, range_within}
 use Rattle.yds_events.proofs.Neighbours.{few_stretches, stretch_in_range}
-use Rattle.yds_plan.proofs.Blocks.{all_of_blocks}
+use Rattle.yds_plan.proofs.Merged.{all_of_blocks}
 use Rattle.yds_plan.proofs.Schedule.{Serves, all_serve, has_work, terms, room}
 use Rattle.yds_plan.proofs.Bounds.{group_work, group_length}
 use Rattle.yds_plan.proofs.FoundPlan.{slots_length}
@@ -135,8 +135,7 @@ grain_is q job slots some all = grains_from q job 1 slots some (inl refl) all
 grain_after : (q job : ℕ) (slots more : List WrittenSlot) → 1 ≤ q → (grain_of slots job ≡ 1) ⊎ (grain_of slots job ≡ q) →
     All (HasGrain q job) more → (grain_of (slots ++ more) job ≡ 1) ⊎ (grain_of (slots ++ more) job ≡ q)
 grain_after q job slots more some now all =
-    rw (fold-append (λ grain slot. cond (slot.job == job) (max grain slot.work.den) grain) 1 slots more)
-    (grains_from q job (grain_of slots job) more some now all)
+    rw (fold-append (λ grain slot. cond (slot.job == job) (max grain slot.work.den) grain) 1 slots more) (grains_from q job (grain_of slots job) more some now all)
 
 slots_have_grain : (terms : Terms) (start done job : ℕ) (shares : List Share) → All (HasGrain (terms.per_work) job) (slots_from terms start done shares)
 slots_have_grain terms start done job [] = All-nil (HasGrain (terms.per_work) job)
@@ -173,11 +172,13 @@ module _ (items : List Struct) (i : ℕ) (within : i < length items) where
   first_view : shares_view (take i items) ≡ take i (shares_view items)
   first_view = sym (take-map share_view i items)
 
-  pub next_view : shares_view (take (i + 1) items) ≡ shares_view (take i items) ++ share_view (get_or items i no_struct) ∷ [] next_view =
+  pub next_view : shares_view (take (i + 1) items) ≡ shares_view (take i items) ++ share_view (get_or items i no_struct) ∷ []
+  next_view =
       sym (take-map share_view (i + 1) items) ∙ take_more (shares_view items) i no_share view_within
       ∙ ap (λ share. take i (shares_view items) ++ share ∷ []) share_here ∙ ap (λ shares. shares ++ share_view (get_or items i no_struct) ∷ []) (sym first_view)
 
-  units_within : units_of (shares_view (take i items)) + (get_or items i no_struct).units ≤ units_of (shares_view items) units_within =
+  units_within : units_of (shares_view (take i items)) + (get_or items i no_struct).units ≤ units_of (shares_view items)
+  units_within =
       rw (first_view) (omega (
         arith,
         sum_by_more_le (λ (share : Share). share.units) (shares_view items) i no_share view_within,
@@ -194,7 +195,8 @@ module _ (items : List Struct) (i : ℕ) (within : i < length items) where
     pub grain_next : (grain_of slots (get_or items i no_struct).job ≡ 1) ⊎ (grain_of slots (get_or items i no_struct).job ≡ terms.per_work)
     grain_next = rw share_here at (can.grains i no_share view_within)
 
-    pub room_next : (now : List WrittenSlot) → now ≡ slots ++ slots_from terms start 0 (shares_view (take i items)) → length now < MAX_SLOTS room_next now is =
+    pub room_next : (now : List WrittenSlot) → now ≡ slots ++ slots_from terms start 0 (shares_view (take i items)) → length now < MAX_SLOTS
+    room_next now is =
         omega (
           arith,
           ap length is,
@@ -216,7 +218,8 @@ module _ (items : List Struct) (i : ℕ) (within : i < length items) where
   pub filled_next : (before now next : WrittenSchedule) (terms : Terms) (start done : ℕ) (from : Fraction) (slot : WrittenSlot) →
       IsFilled before terms start (take i items) done from now → slot.job ≡ (get_or items i no_struct).job → slot.from ≡ from →
       slot.to ≡ time_after start (done + (get_or items i no_struct).units) terms.per_time → IsFraction MAX_TIME slot.to →
-      slot.work ≡ of_parts (get_or items i no_struct).units terms.per_work → next ≡ record { jobs = now.jobs; slots = now.slots ++ slot ∷ [] } →
+      slot.work ≡ of_parts (get_or items i no_struct).units terms.per_work →
+      next ≡ record { jobs = now.jobs; slots = now.slots ++ slot ∷ [] } →
       IsFilled before terms start (take (i + 1) items) (done + (get_or items i no_struct).units) slot.to next
   filled_next before now next terms start done from slot filled is_job is_from is_to kept is_work is_next =
       let share = share_view (get_or items i no_struct) in
@@ -243,26 +246,31 @@ view_in (share ∷ shares) k =
   where
     view_step : (share : Struct) (rest : List Struct) (b : Bool) →
         shares_view (cond b (share ∷ rest) rest) ≡ cond b (share_view share ∷ shares_view rest) (shares_view rest)
-    view_step share rest true = refl view_step share rest false = refl
+    view_step share rest true = refl
+    view_step share rest false = refl
 
 over_den : (den : ℕ) (x : Fraction) → IsOver den x → (x.den ≡ 1) ⊎ (x.den ≡ den)
 over_den den x (inl whole) = inl (ap (λ (y : Fraction). y.den) whole)
 over_den den x (inr over) = inr over
 
 module _ (jobs : List Job) (found : Found) (all : All IsJob jobs) (is : IsFound jobs found) (few : length jobs ≤ MAX_JOBS) where
-  abbrev group_there : ℕ → Group group_there k = group_at found.groups (group_of found.group_of_stretch k)
+  abbrev group_there : ℕ → Group
+  group_there k = group_at found.groups (group_of found.group_of_stretch k)
 
   -- the slots of the first stretches
-  abbrev pub slots_up_to : ℕ → List WrittenSlot slots_up_to k = flat_map (slots_in_stretch jobs found) (range_with_len 0 k)
+  abbrev pub slots_up_to : ℕ → List WrittenSlot
+  slots_up_to k = flat_map (slots_in_stretch jobs found) (range_with_len 0 k)
 
-  pub slots_up_more : (k : ℕ) → slots_up_to (k + 1) ≡ slots_up_to k ++ slots_in_stretch jobs found k slots_up_more k =
+  pub slots_up_more : (k : ℕ) → slots_up_to (k + 1) ≡ slots_up_to k ++ slots_in_stretch jobs found k
+  slots_up_more k =
       ap (flat_map (slots_in_stretch jobs found)) (range_more k) ∙ flat_map-append (slots_in_stretch jobs found) (range_with_len 0 k) (k ∷ [])
       ∙ ap (λ slots. slots_up_to k ++ slots) (append-nil (slots_in_stretch jobs found k))
 
   in_length : (k : ℕ) → length (slots_in_stretch jobs found k) ≡ length (shares_in found.shares k)
   in_length k = slots_from_length (terms_of (group_there k)) (stretch_at jobs k).from 0 (shares_in found.shares k)
 
-  fits_up : (k : ℕ) → k < length (stretches jobs) → length (slots_up_to k) + length (shares_in found.shares k) ≤ length (slots_of jobs found) fits_up k within =
+  fits_up : (k : ℕ) → k < length (stretches jobs) → length (slots_up_to k) + length (shares_in found.shares k) ≤ length (slots_of jobs found)
+  fits_up k within =
       omega (
         arith,
         length-flat_map (slots_in_stretch jobs found) (range_with_len 0 k),
@@ -272,9 +280,11 @@ module _ (jobs : List Job) (found : Found) (all : All IsJob jobs) (is : IsFound 
       )
 
   -- no share has more units than its job has work
-  abbrev HasFewUnits : Share → Type 0 HasFewUnits share = share.units ≤ per_work (group_at found.groups (group_of found.group_of_job share.job)) * MAX_WORK
+  abbrev HasFewUnits : Share → Type 0
+  HasFewUnits share = share.units ≤ per_work (group_at found.groups (group_of found.group_of_job share.job)) * MAX_WORK
 
-  units_at_most : All HasFewUnits found.shares units_at_most =
+  units_at_most : All HasFewUnits found.shares
+  units_at_most =
       All-from_get_or HasFewUnits found.shares no_share (λ x within.
       let share = share_at found.shares x in
       let part = get_or-le-sum_by (λ (one : Share). cond (one.job == share.job) one.units 0) found.shares x no_share within in
@@ -285,9 +295,11 @@ module _ (jobs : List Job) (found : Found) (all : All IsJob jobs) (is : IsFound 
       mul-le-mul_left _ (all share.job no_job facts.known).work_in_range in
       omega (arith, part, mine, is.served share.job facts.known (has_work jobs found is share.job facts.known facts.grouped), most))
 
-  more_work : (q : ℕ) → q * MAX_WORK ≤ q * MAX_SLOT_WORK more_work q = let most : MAX_WORK ≤ MAX_SLOT_WORK = omega arith in mul-le-mul_left q most
+  more_work : (q : ℕ) → q * MAX_WORK ≤ q * MAX_SLOT_WORK
+  more_work q = let most : MAX_WORK ≤ MAX_SLOT_WORK = omega arith in mul-le-mul_left q most
 
-  units_fit : (k : ℕ) → All (λ share. share.units ≤ per_work (group_there k) * MAX_SLOT_WORK) (shares_in found.shares k) units_fit k x d within =
+  units_fit : (k : ℕ) → All (λ share. share.units ≤ per_work (group_there k) * MAX_SLOT_WORK) (shares_in found.shares k)
+  units_fit k x d within =
       let share = get_or (shares_in found.shares k) x d in
       let serves = all_serve jobs found is k x d within in
       let most = All-filter (λ (one : Share). one.stretch == k) HasFewUnits found.shares units_at_most x d within in
@@ -295,9 +307,11 @@ module _ (jobs : List Job) (found : Found) (all : All IsJob jobs) (is : IsFound 
       omega (arith, same, more_work (per_work (group_there k)))
 
   -- a slot of an earlier stretch has its job's grain
-  abbrev IsWritten : WrittenSlot → Type 0 IsWritten slot = (k : ℕ) × Serves jobs found k slot.job × IsOverTerms (group_there k) slot
+  abbrev IsWritten : WrittenSlot → Type 0
+  IsWritten slot = (k : ℕ) × Serves jobs found k slot.job × IsOverTerms (group_there k) slot
 
-  up_to_written : (k : ℕ) → All IsWritten (slots_up_to k) up_to_written k =
+  up_to_written : (k : ℕ) → All IsWritten (slots_up_to k)
+  up_to_written k =
       all_of_blocks IsWritten (slots_in_stretch jobs found) k
       (λ j below x d within. (
         j,
@@ -354,7 +368,8 @@ module _ (jobs : List Job) (found : Found) (all : All IsJob jobs) (is : IsFound 
         let slots : slots_from speed start 0 shares ≡ slots_in_stretch jobs found k =
         ap (λ (t : Terms). slots_from t start 0 shares) here ∙ ap (λ n. slots_from (terms_of (group_there k)) n 0 shares) is_start
         ∙ ap (slots_from (terms_of (group_there k)) (stretch_at jobs k).from 0) is_shares in
-        after ∙ ap (λ (s : WrittenSchedule). record { jobs = s.jobs; slots = s.slots ++ slots_from speed start 0 shares }) laid
+        after
+        ∙ ap (λ (s : WrittenSchedule). record { jobs = s.jobs; slots = s.slots ++ slots_from speed start 0 shares }) laid
         ∙ ap (λ some. record { jobs = length jobs; slots = slots_up_to k ++ some }) slots
         ∙ ap (λ some. record { jobs = length jobs; slots = some }) (sym (slots_up_more k))
 
@@ -366,12 +381,12 @@ module _ (jobs : List Job) (found : Found) (all : All IsJob jobs) (is : IsFound 
   ]
 
   pub laid_skip : (k place : ℕ) (schedule : WrittenSchedule) → schedule ≡ record { jobs = length jobs; slots = slots_up_to k } →
-      place ≡ group_of found.group_of_stretch k → length found.groups ≤ place → schedule ≡ record { jobs = length jobs; slots = slots_up_to (k + 1) }
+      place ≡ group_of found.group_of_stretch k → length found.groups ≤ place →
+      schedule ≡ record { jobs = length jobs; slots = slots_up_to (k + 1) }
   laid_skip k place schedule laid is_place past =
       let none : shares_in found.shares k ≡ [] = nil_from_length (shares_in found.shares k) (no_shares k (omega arith)) in
       let slots : slots_in_stretch jobs found k ≡ [] = ap (slots_from (terms_of (group_there k)) (stretch_at jobs k).from 0) none in
-      laid ∙ ap (λ some. record { jobs = length jobs; slots = some })
-      (sym (slots_up_more k ∙ ap (λ some. slots_up_to k ++ some) slots ∙ append-nil (slots_up_to k)))
+      laid ∙ ap (λ some. record { jobs = length jobs; slots = some }) (sym (slots_up_more k ∙ ap (λ some. slots_up_to k ++ some) slots ∙ append-nil (slots_up_to k)))
 
 -- what the loop reads: the terms of a group's speed, and the shares of a stretch
 pub terms_read : (groups : List GroupStruct) (terms : List Terms) (place : ℕ) (speed : Terms) → terms ≡ map (λ group. terms_of (group_view group)) groups →

@@ -15,7 +15,7 @@ use Rattle.yds_model.proofs.Sums.{sum_by_same, sum_by_at_most, sum_by_zero}
 use Rattle.yds_search.specs.Found.{Group, Found, group_of, group_at}
 use Rattle.yds_plan.specs.Laid.{level_of, levels_among, level_of_place, together, members_of, level_numbered, levels_of, stretches_of, merged}
 use Rattle.yds_search.proofs.KeySums.{All-range, in_range, sums_swap, not_here, is_here, one_of_range, split_sum, split_at_most, cond_at_most, count_all, sum_by-filter, sum_by-flat_map, sum_by-map}
-use Rattle.yds_plan.proofs.Blocks.{flat_map-map, all_of_blocks, some_of_blocks}
+use Rattle.yds_plan.proofs.Merged.{flat_map-map, all_of_blocks, some_of_blocks, Holds, merged_run, merged_apart, merged_total, merged_length, merged_stays_apart, merged_covers, some_stretches_run, some_stretches_cover}
 use Rattle.yds_plan.proofs.Drafts.{among_below}
 use Rattle.std.proofs.lemmas.List.{length-map}
 use Rattle.yds_model.specs.Piece.{Piece, AreApart, PiecesFrom, Covers, total_length}
@@ -24,19 +24,13 @@ use Rattle.yds_model.proofs.Front.{pieces_forward, apart_turned}
 use Rattle.yds_model.specs.Comparison.{stretch_at}
 use Rattle.yds_events.specs.Window.{length_at}
 use Rattle.yds_events.proofs.Neighbours.{stretch_order}
-use Rattle.yds_plan.proofs.Merged.{Holds, merged_run, merged_apart, merged_total, merged_length, merged_stays_apart, merged_covers, some_stretches_run, some_stretches_cover}
 
 -- a level's number is that of a group's place
 pub place_in_level : (groups : List Group) (g l : ℕ) → level_of_place groups g ≡ l → l < levels_among groups (length groups) →
     (g < length groups) × (level_of groups g ≡ l)
 place_in_level groups g l is known = elim (cases_lt g (length groups)) [
   | inl within ↦ (within, sym (ap (λ b. cond b (level_of groups g) (length groups)) (lt-ltb g (length groups) within)) ∙ is)
-  | inr past ↦ absurd (omega (
-    arith,
-    is,
-    ap (λ b. cond b (level_of groups g) (length groups)) (le-ltb g (length groups) past),
-    among_below groups (length groups),
-  ))
+  | inr past ↦ absurd (omega (arith, is, ap (λ b. cond b (level_of groups g) (length groups)) (le-ltb g (length groups) past), among_below groups (length groups)))
 ]
 
 pub place_level : (groups : List Group) (g : ℕ) → g < length groups → level_of_place groups g ≡ level_of groups g
@@ -51,8 +45,7 @@ cond_none : (b : Bool) → cond {A = ℕ} b 0 0 ≡ 0
 cond_none true = refl
 cond_none false = refl
 
-level_of_its_group : (groups : List Group) (l g i v : ℕ) →
-    cond (level_of groups i == l) (cond (g == i) v 0) 0 ≡ cond (g == i) (cond (level_of groups g == l) v 0) 0
+level_of_its_group : (groups : List Group) (l g i v : ℕ) → cond (level_of groups i == l) (cond (g == i) v 0) 0 ≡ cond (g == i) (cond (level_of groups g == l) v 0) 0
 level_of_its_group groups l g i v = elim (cases_eq g i) [
   | inl same ↦ rw (← same) (rw (is_here g g v refl, is_here g g (cond (level_of groups g == l) v 0) refl) refl)
   | inr other ↦ rw (not_here g i v other, not_here g i (cond (level_of groups g == l) v 0) other) (cond_none (level_of groups i == l))
@@ -62,8 +55,7 @@ place_value : (groups : List Group) (l g v : ℕ) → l < levels_among groups (l
     cond (nat_lt g (length groups)) (cond (level_of groups g == l) v 0) 0 ≡ cond (level_of_place groups g == l) v 0
 place_value groups l g v known = elim (cases_lt g (length groups)) [
   | inl within ↦
-      ap (λ b. cond b (cond (level_of groups g == l) v 0) 0) (lt-ltb g (length groups) within)
-      ∙ ap (λ level. cond (level == l) v 0) (sym (place_level groups g within))
+      ap (λ b. cond b (cond (level_of groups g == l) v 0) 0) (lt-ltb g (length groups) within) ∙ ap (λ level. cond (level == l) v 0) (sym (place_level groups g within))
   | inr past ↦
       ap (λ b. cond b (cond (level_of groups g == l) v 0) 0) (le-ltb g (length groups) past)
       ∙ sym (not_here (level_of_place groups g) l v (λ same. absurd (omega (arith, past, (place_in_level groups g l same known).0))))
@@ -106,8 +98,7 @@ range_rise : (p : ℕ → Bool) (a n : ℕ) → Rise (filter p (range_with_len a
 range_rise p a zero = tt
 range_rise p a (suc n) =
     rise_step a (filter p (range_with_len (a + 1) n)) (p a)
-    (All-filter p (λ number. a < number) (range_with_len (a + 1) n) (All-range (λ number. a < number) (a + 1) n (λ i below. omega arith)))
-    (range_rise p (a + 1) n)
+    (All-filter p (λ number. a < number) (range_with_len (a + 1) n) (All-range (λ number. a < number) (a + 1) n (λ i below. omega arith))) (range_rise p (a + 1) n)
 
 -- what holds at the place of each level
 pub level_there : (jobs : List Job) (found : Found) (l : ℕ) → l < levels_among found.groups (length found.groups) →
@@ -135,8 +126,7 @@ pub record IsMember (jobs : List Job) (found : Found) (l number : ℕ) : Type 0 
   pub grouped : group_of found.group_of_job number < length found.groups
   pub level : level_of found.groups (group_of found.group_of_job number) ≡ l
 
-pub each_member : (jobs : List Job) (found : Found) (l : ℕ) → l < levels_among found.groups (length found.groups) →
-    All (IsMember jobs found l) (members_of jobs found l)
+pub each_member : (jobs : List Job) (found : Found) (l : ℕ) → l < levels_among found.groups (length found.groups) → All (IsMember jobs found l) (members_of jobs found l)
 each_member jobs found l known k d within =
     let in_level = λ (j : ℕ). level_of_place found.groups (group_of found.group_of_job j) == l in
     let passes = filter_passes in_level (range_with_len 0 (length jobs)) k d within in
@@ -186,8 +176,8 @@ pub member_once : (jobs : List Job) (found : Found) (number : ℕ) → number < 
 member_once jobs found number known below =
     member_count jobs found number ∙ sum_by_same (counted jobs found number) (λ j. cond (number == j) 1 0) (range_with_len 0 (length jobs))
     (λ k d within. mine_alone (levels_among found.groups (length found.groups)) 1
-    (λ j. level_of_place found.groups (group_of found.group_of_job j)) number (get_or (range_with_len 0 (length jobs)) k d) below)
-    ∙ one_of_range (length jobs) number 1 ∙ ap {B = ℕ} (λ b. cond b 1 0) (lt-ltb number (length jobs) known)
+    (λ j. level_of_place found.groups (group_of found.group_of_job j)) number (get_or (range_with_len 0 (length jobs)) k d) below) ∙ one_of_range (length jobs) number 1
+    ∙ ap {B = ℕ} (λ b. cond b 1 0) (lt-ltb number (length jobs) known)
 
 -- there are no more members than jobs
 pub few_members : (jobs : List Job) (found : Found) → length (all_members (levels_of jobs found)) ≤ length jobs
@@ -234,17 +224,21 @@ some_length [] h = absurd (omega arith)
 some_length (piece ∷ pieces) h = omega arith
 
 module _ (jobs : List Job) (found : Found) where
-  abbrev level_of_stretch : ℕ → ℕ level_of_stretch k = level_of_place found.groups (group_of found.group_of_stretch k)
+  abbrev level_of_stretch : ℕ → ℕ
+  level_of_stretch k = level_of_place found.groups (group_of found.group_of_stretch k)
 
   -- the single stretches of a level
-  abbrev pub single : ℕ → List Piece single l = map (stretch_at jobs) (stretches_of jobs found l)
+  abbrev pub single : ℕ → List Piece
+  single l = map (stretch_at jobs) (stretches_of jobs found l)
 
   pub single_run : (l : ℕ) → PiecesFrom 0 (single l)
   single_run l = some_stretches_run jobs (λ k. level_of_place found.groups (group_of found.group_of_stretch k) == l)
 
-  abbrev IsOfLevel : ℕ → ℕ → Type 0 IsOfLevel l k = (k < length (stretches jobs)) × (level_of_place found.groups (group_of found.group_of_stretch k) ≡ l)
+  abbrev IsOfLevel : ℕ → ℕ → Type 0
+  IsOfLevel l k = (k < length (stretches jobs)) × (level_of_place found.groups (group_of found.group_of_stretch k) ≡ l)
 
-  each_stretch : (l : ℕ) → All (IsOfLevel l) (stretches_of jobs found l) each_stretch l k d within =
+  each_stretch : (l : ℕ) → All (IsOfLevel l) (stretches_of jobs found l)
+  each_stretch l k d within =
       let in_level = λ (j : ℕ). level_of_place found.groups (group_of found.group_of_stretch j) == l in (
         All-filter in_level (λ j. j < length (stretches jobs)) (range_with_len 0 (length (stretches jobs)))
             (λ i e inside. let at = in_range (length (stretches jobs)) i e inside in rw (at.1) at.0) k d within,
@@ -258,7 +252,8 @@ module _ (jobs : List Job) (found : Found) where
     | inr (inr above) ↦ inr (stretch_order jobs k j above known_j)
   ]
 
-  single_apart : (l other : ℕ) → (l ≡ other → ⊥) → AllApart (single l) (single other) single_apart l other differ =
+  single_apart : (l other : ℕ) → (l ≡ other → ⊥) → AllApart (single l) (single other)
+  single_apart l other differ =
       All-map (λ piece. All (AreApart piece) (single other)) (stretch_at jobs) (stretches_of jobs found l)
       (λ i d within. All-map (AreApart _) (stretch_at jobs) (stretches_of jobs found other) (λ j e inside.
       let one = each_stretch l i d within in
@@ -273,11 +268,14 @@ module _ (jobs : List Job) (found : Found) where
       (all_of_blocks (λ piece. All (AreApart piece) (merged (single i))) (λ l. merged (single l)) i
       (λ l below. merged_both (single l) (single i) (single_run l) (single_run i) (single_apart l i (λ same. omega arith)))))
 
-  pub pieces_run : (l : ℕ) → PiecesFrom 0 (merged (single l)) pieces_run l = merged_run 0 (single l) (single_run l)
+  pub pieces_run : (l : ℕ) → PiecesFrom 0 (merged (single l))
+  pieces_run l = merged_run 0 (single l) (single_run l)
 
-  pub pieces_dont_touch : (l : ℕ) → DontTouch (merged (single l)) pieces_dont_touch l = merged_apart 0 (single l) (single_run l)
+  pub pieces_dont_touch : (l : ℕ) → DontTouch (merged (single l))
+  pieces_dont_touch l = merged_apart 0 (single l) (single_run l)
 
-  pub pieces_total : (l : ℕ) → total_length (merged (single l)) ≡ sum_by (length_at jobs) (stretches_of jobs found l) pieces_total l =
+  pub pieces_total : (l : ℕ) → total_length (merged (single l)) ≡ sum_by (length_at jobs) (stretches_of jobs found l)
+  pieces_total l =
       merged_total 0 (single l) (single_run l) ∙ sum_by-map (stretch_at jobs) (λ piece. piece.to - piece.from) (stretches_of jobs found l)
 
   pub some_pieces : (l : ℕ) → 1 ≤ sum_by (length_at jobs) (stretches_of jobs found l) → 1 ≤ length (merged (single l))
@@ -293,7 +291,8 @@ module _ (jobs : List Job) (found : Found) where
       (some_stretches_cover jobs (λ j. level_of_place found.groups (group_of found.group_of_stretch j) == l) time k known (eq-eqb l l refl) holds)))
 
   -- there are no more pieces than stretches
-  pub few_pieces : length (all_pieces (levels_of jobs found)) ≤ length (stretches jobs) few_pieces =
+  pub few_pieces : length (all_pieces (levels_of jobs found)) ≤ length (stretches jobs)
+  few_pieces =
       let all = range_with_len 0 (levels_among found.groups (length found.groups)) in
       omega (
         arith,

@@ -1,5 +1,4 @@
 pub mod Merged
-pub mod Blocks
 pub mod Filled
 pub mod Schedule
 pub mod Levels

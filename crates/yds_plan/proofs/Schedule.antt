@@ -24,7 +24,7 @@ use Rattle.yds_events.specs.Stretch.{no_stretch}
 use Rattle.yds_model.specs.Comparison.{stretch_at}
 use Rattle.yds_search.proofs.KeySums.{in_range, not_here, sum_by-filter, sum_by-flat_map, split_all}
 use Rattle.yds_events.proofs.Neighbours.{stretch_forward, stretch_order, release_outside}
-use Rattle.yds_plan.proofs.Blocks.{map-flat_map, all_of_blocks, block_of_all, pairs_of_blocks}
+use Rattle.yds_plan.proofs.Merged.{map-flat_map, all_of_blocks, block_of_all, pairs_of_blocks}
 use Rattle.yds_plan.proofs.Filled.{fills, filled_pairs, filled_work, slots_of_jobs, jobs_at, units_of}
 use Rattle.yds_events.proofs.Following.{Follows, StartsFrom, Works, run_from_pairs, earliest_after}
 
@@ -87,18 +87,22 @@ module _ (jobs : List Job) (found : Found) (is : IsFound jobs found) where
   passed : (k : ℕ) → All (λ share. share.stretch ≡ k) (shares_in found.shares k)
   passed k i d within = eqb-true _ _ (filter_passes (λ (share : Share). share.stretch == k) found.shares i d within)
 
-  pub all_serve : (k : ℕ) → All (λ share. Serves jobs found k share.job) (shares_in found.shares k) all_serve k i d within =
+  pub all_serve : (k : ℕ) → All (λ share. Serves jobs found k share.job) (shares_in found.shares k)
+  all_serve k i d within =
       All-filter (λ share. share.stretch == k) (λ share. share.stretch ≡ k → Serves jobs found k share.job) found.shares
       (All-from_get_or (λ (share : Share). share.stretch ≡ k → Serves jobs found k share.job) found.shares no_share (λ x below same. serves_at k x below same))
       i d within (passed k i d within)
 
-  pub some_units : (k : ℕ) → All (λ share. 1 ≤ share.units) (shares_in found.shares k) some_units k =
+  pub some_units : (k : ℕ) → All (λ share. 1 ≤ share.units) (shares_in found.shares k)
+  some_units k =
       All-filter (λ share. share.stretch == k) (λ share. 1 ≤ share.units) found.shares (λ i d within. (is.shares i d within).some)
 
-  in_order : AllPairs (λ one other. one.stretch ≡ other.stretch → IsBefore jobs one.job other.job) found.shares in_order i j d order within =
+  in_order : AllPairs (λ one other. one.stretch ≡ other.stretch → IsBefore jobs one.job other.job) found.shares
+  in_order i j d order within =
       rw (get_or_default found.shares i d no_share (omega arith), get_or_default found.shares j d no_share within) (λ same. is.in_order i j order within same)
 
-  pub shares_in_order : (k : ℕ) → AllPairs (λ one other. IsBefore jobs one.job other.job) (shares_in found.shares k) shares_in_order k i j d order within =
+  pub shares_in_order : (k : ℕ) → AllPairs (λ one other. IsBefore jobs one.job other.job) (shares_in found.shares k)
+  shares_in_order k i j d order within =
       AllPairs-filter (λ one other. one.stretch ≡ other.stretch → IsBefore jobs one.job other.job) (λ share. share.stretch == k)
       found.shares in_order i j d order within (passed k i d (omega arith) ∙ sym (passed k j d within))
 
@@ -169,11 +173,13 @@ module _ (jobs : List Job) (found : Found) (is : IsFound jobs found) where
       (sum_by-filter (λ share. share.stretch == k) (λ share. share.units) found.shares ∙ is.full k within grouped)
 
   module _ (scale : ℕ) (divided : IsScale scale (slots_of jobs found)) where
-    block_divided : (k : ℕ) → k < length (stretches jobs) → AllByRecursion (IsDivided scale) (slots_in_stretch jobs found k) block_divided k within =
+    block_divided : (k : ℕ) → k < length (stretches jobs) → AllByRecursion (IsDivided scale) (slots_in_stretch jobs found k)
+    block_divided k within =
         recursion_from_All (IsDivided scale) (slots_in_stretch jobs found k)
         (block_of_all (IsDivided scale) (slots_in_stretch jobs found) (length (stretches jobs)) k within divided.divided)
 
-    block_serves : (k : ℕ) → All (λ slot. Serves jobs found k slot.job) (slots_at scale (slots_in_stretch jobs found k)) block_serves k =
+    block_serves : (k : ℕ) → All (λ slot. Serves jobs found k slot.job) (slots_at scale (slots_in_stretch jobs found k))
+    block_serves k =
         jobs_at (Serves jobs found k) scale (slots_in_stretch jobs found k)
         (slots_of_jobs (Serves jobs found k) (group_at found.groups (group_of found.group_of_stretch k)) (stretch_at jobs k).from 0
         (shares_in found.shares k) (all_serve jobs found is k))
@@ -184,8 +190,7 @@ module _ (jobs : List Job) (found : Found) (is : IsFound jobs found) where
         let grouped : group_of found.group_of_stretch k < length found.groups = omega (arith, serves.same_group, serves.grouped) in
         let low = terms (group_of found.group_of_stretch k) grouped in
         let filled = fills (group_at found.groups (group_of found.group_of_stretch k)) scale (stretch_at jobs k).from divided.positive
-        low.some_first (stretch_at jobs k).to 0 (shares_in found.shares k) (block_divided k inside) (some_units jobs found is k)
-        (room k inside grouped) x d within in
+        low.some_first (stretch_at jobs k).to 0 (shares_in found.shares k) (block_divided k inside) (some_units jobs found is k) (room k inside grouped) x d within in
         record {
           serves = serves;
           from = begin_of (stretch_at jobs k).from _ scale _ filled.from low.some_first;
@@ -238,20 +243,21 @@ module _ (jobs : List Job) (found : Found) (is : IsFound jobs found) where
     }
 
     -- the slots of all stretches
-    whole_blocks : slots_at scale (slots_of jobs found)
-        ≡ flat_map (λ k. slots_at scale (slots_in_stretch jobs found k)) (range_with_len 0 (length (stretches jobs)))
+    whole_blocks : slots_at scale (slots_of jobs found) ≡ flat_map (λ k. slots_at scale (slots_in_stretch jobs found k)) (range_with_len 0 (length (stretches jobs)))
     whole_blocks = map-flat_map _ (slots_in_stretch jobs found) (range_with_len 0 (length (stretches jobs)))
 
-    abbrev pub StandsSomewhere : WholeSlot → Type 0 StandsSomewhere slot = (k : ℕ) × (k < length (stretches jobs)) × Stands jobs found scale k slot
+    abbrev pub StandsSomewhere : WholeSlot → Type 0
+    StandsSomewhere slot = (k : ℕ) × (k < length (stretches jobs)) × Stands jobs found scale k slot
 
-    pub all_stand : All StandsSomewhere (slots_at scale (slots_of jobs found)) all_stand =
+    pub all_stand : All StandsSomewhere (slots_at scale (slots_of jobs found))
+    all_stand =
         rw whole_blocks (all_of_blocks StandsSomewhere (λ k. slots_at scale (slots_in_stretch jobs found k)) (length (stretches jobs))
         (λ k within x d inside. (k, within, block_stands k within x d inside)))
 
-    pub all_follow : AllPairs (Follows jobs scale) (slots_at scale (slots_of jobs found)) all_follow =
+    pub all_follow : AllPairs (Follows jobs scale) (slots_at scale (slots_of jobs found))
+    all_follow =
         rw whole_blocks (pairs_of_blocks (Follows jobs scale) (λ k. slots_at scale (slots_in_stretch jobs found k)) (length (stretches jobs))
-        (λ k within. block_follows k within)
-        (λ k l order within y e inside_y x d inside_x. across k l _ _ order within (block_stands k (omega arith) x d inside_x)
+        (λ k within. block_follows k within) (λ k l order within y e inside_y x d inside_x. across k l _ _ order within (block_stands k (omega arith) x d inside_x)
         (block_stands l within y e inside_y)))
 
     -- the work that a job gets in a stretch, in units of its group
@@ -271,8 +277,7 @@ module _ (jobs : List Job) (found : Found) (is : IsFound jobs found) where
     ]
 
     -- and over all stretches
-    job_served : (job : ℕ) → job < length jobs → 1 ≤ (job_at jobs job).work →
-        work_given (slots_at scale (slots_of jobs found)) job ≡ (job_at jobs job).work * scale
+    job_served : (job : ℕ) → job < length jobs → 1 ≤ (job_at jobs job).work → work_given (slots_at scale (slots_of jobs found)) job ≡ (job_at jobs job).work * scale
     job_served job known some =
         let q = per_work (group_at found.groups (group_of found.group_of_job job)) in
         let work = λ (slot : WholeSlot). cond (job == slot.job) slot.work 0 in
@@ -287,8 +292,7 @@ module _ (jobs : List Job) (found : Found) (is : IsFound jobs found) where
           sum_by_same (λ k. q * sum_by work (slots_at scale (slots_in_stretch jobs found k))) (λ k. scale * sum_by units (shares_in found.shares k)) all
               (λ i d within. let at = in_range (length (stretches jobs)) i d within in rw (at.1) (job_there i job at.0)),
           sum_by-mul scale (λ k. sum_by units (shares_in found.shares k)) all,
-          ap (λ n. scale * n) (split_all (λ share. share.stretch) units (length (stretches jobs)) found.shares
-              (λ x d within. (is.shares x d within).known_stretch)),
+          ap (λ n. scale * n) (split_all (λ share. share.stretch) units (length (stretches jobs)) found.shares (λ x d within. (is.shares x d within).known_stretch)),
           ap (λ n. scale * n) (is.served job known some),
         ))
 
@@ -310,10 +314,8 @@ module _ (jobs : List Job) (found : Found) (is : IsFound jobs found) where
     pub feasible : IsFeasibleAt jobs scale (slots_at scale (slots_of jobs found))
     feasible = record {
       one_at_a_time = run_from_pairs jobs scale 0 (slots_at scale (slots_of jobs found))
-          (All-weaker StandsSomewhere (StartsFrom 0) (λ slot stands. (omega arith, stands.2.forward)) (slots_at scale (slots_of jobs found)) all_stand)
-          all_follow;
-      in_windows = All-weaker StandsSomewhere (IsSlotInWindow jobs scale) (λ slot stands. inside stands.0 slot stands.2)
-          (slots_at scale (slots_of jobs found)) all_stand;
+          (All-weaker StandsSomewhere (StartsFrom 0) (λ slot stands. (omega arith, stands.2.forward)) (slots_at scale (slots_of jobs found)) all_stand) all_follow;
+      in_windows = All-weaker StandsSomewhere (IsSlotInWindow jobs scale) (λ slot stands. inside stands.0 slot stands.2) (slots_at scale (slots_of jobs found)) all_stand;
       served = all_served;
     } where
       inside : (k : ℕ) (slot : WholeSlot) → Stands jobs found scale k slot → IsSlotInWindow jobs scale slot
@@ -326,13 +328,12 @@ module _ (jobs : List Job) (found : Found) (is : IsFound jobs found) where
     pub served_in_stretches : IsServedInStretches jobs scale (slots_at scale (slots_of jobs found))
     served_in_stretches = record {
       earliest_first = earliest_after jobs scale (slots_at scale (slots_of jobs found)) [] (slots_at scale (slots_of jobs found)) refl all_served
-          (All-weaker StandsSomewhere (Works jobs scale) (λ slot stands. works stands.0 slot stands.2) (slots_at scale (slots_of jobs found)) all_stand)
-          all_follow;
-      uncut = All-weaker StandsSomewhere (IsUncut jobs scale) (λ slot stands. uncut stands.0 slot stands.1 stands.2)
-          (slots_at scale (slots_of jobs found)) all_stand;
+          (All-weaker StandsSomewhere (Works jobs scale) (λ slot stands. works stands.0 slot stands.2) (slots_at scale (slots_of jobs found)) all_stand) all_follow;
+      uncut = All-weaker StandsSomewhere (IsUncut jobs scale) (λ slot stands. uncut stands.0 slot stands.1 stands.2) (slots_at scale (slots_of jobs found)) all_stand;
       once = λ i j order within. (all_follow i j no_slot order within).apart;
     } where
-      works : (k : ℕ) (slot : WholeSlot) → Stands jobs found scale k slot → Works jobs scale slot works k slot stands =
+      works : (k : ℕ) (slot : WholeSlot) → Stands jobs found scale k slot → Works jobs scale slot
+      works k slot stands =
           let grouped : group_of found.group_of_stretch k < length found.groups = omega (arith, stands.serves.same_group, stands.serves.grouped) in
           let long : 1 ≤ slot.to - slot.from = omega (arith, stands.forward) in
           record {

@@ -42,8 +42,7 @@ add_group-requires-clause-length c =
     let groups = map group_view c.args.groups.now in
     rw (c.loop-i.invariant.drafts) (omega (
       arith,
-      length_within groups c.loop-i.i (length (empty_levels groups c.loop-i.i) - 1)
-          (omega (arith, c.loop-i-test.true, length-map c.args.groups.now group_view)),
+      length_within groups c.loop-i.i (length (empty_levels groups c.loop-i.i) - 1) (omega (arith, c.loop-i-test.true, length-map c.args.groups.now group_view)),
       length_at c.args.groups.now c.loop-i.i c.loop-i-test.true,
       c.requires.length_in_range,
     ))

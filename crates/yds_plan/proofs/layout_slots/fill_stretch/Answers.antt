@@ -49,8 +49,7 @@ push-requires-clause-grain c =
     fits_next c.args.start 0 share.job share.units c.args.terms c.args.schedule.now.slots c.loop-share.schedule.slots _
     (record { job = share.job; from = c.loop-share.from; to = c.time_after-to.result; work = c.of_parts.result })
     c.requires.some_work refl (rw c.from-in-loop-share.ensures at c.of_parts.ensures.value) c.loop-share.invariant.laid
-    (grain_next c.args.shares.now c.loop-share.share-index c.loop-share-test.true c.args.schedule.now.jobs c.args.schedule.now.slots c.args.terms
-    c.args.start c.requires)
+    (grain_next c.args.shares.now c.loop-share.share-index c.loop-share-test.true c.args.schedule.now.jobs c.args.schedule.now.slots c.args.terms c.args.start c.requires)
 
 pub push-requires-clause-room : goal.push-requires-clause-room
 push-requires-clause-room c =

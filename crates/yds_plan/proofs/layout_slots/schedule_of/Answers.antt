@@ -83,10 +83,8 @@ loop-stretch-preserved c =
       | in-Some+in_ok-fill_stretch w ↦
           let read = w.in-Some.ensures.lookup in
           w.schedule-is ∙ laid_next c.args.rows.now (found_view c.args.found.now) c.requires.jobs c.requires.found c.requires.few k _ _ c.loop-stretch.schedule
-          w.in-Some.speed.now _ c.loop-stretch.invariant place
-          (terms_read c.args.found.now.groups.items c.deref-in-loop-stretch.result.now _ w.in-Some.speed.now
-          (c.deref-in-loop-stretch.ensures.value ∙ c.in_ok-terms.ensures ∙ ap (map (λ group. terms_of (group_view group))) c.deref-2.ensures.value)
-          read.3.0 read.1).1
+          w.in-Some.speed.now _ c.loop-stretch.invariant place (terms_read c.args.found.now.groups.items c.deref-in-loop-stretch.result.now _ w.in-Some.speed.now
+          (c.deref-in-loop-stretch.ensures.value ∙ c.in_ok-terms.ensures ∙ ap (map (λ group. terms_of (group_view group))) c.deref-2.ensures.value) read.3.0 read.1).1
           (ap (λ (piece : Piece). piece.from) (stretch_read c.args.rows.now c.args.timeline.now k w.index-timeline-stretch.result _ c.requires.timeline
           (inside here) w.index-timeline-stretch.is w.own.view_is))
           (shares_read c.deref.result.now c.args.found.now.shares.items _ _ _ (length c.args.timeline.now) k c.deref.ensures.value c.in_ok-sorted.ensures

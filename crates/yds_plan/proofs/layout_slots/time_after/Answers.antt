@@ -7,5 +7,4 @@ returns-clause-value c = (rw c.from.ensures at c.new.ensures.value) ∙ time_is 
 
 pub returns-clause-kept : goal.returns-clause-kept
 returns-clause-kept c =
-    time_kept c.args.start c.args.done c.args.per_time c.new.result c.requires.some (rw c.from.ensures at c.new.ensures.value)
-    c.new.ensures.kept.fraction c.requires.ends
+    time_kept c.args.start c.args.done c.args.per_time c.new.result c.requires.some (rw c.from.ensures at c.new.ensures.value) c.new.ensures.kept.fraction c.requires.ends
