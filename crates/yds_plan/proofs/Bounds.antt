@@ -22,8 +22,7 @@ abbrev EndsBy : ℕ → Piece → Type 0
 EndsBy most piece = piece.to ≤ most
 
 -- pieces one after another are no longer than the time to their end
-run_within : (low most : ℕ) (pieces : List Piece) → low ≤ most → PiecesFrom low pieces → All (EndsBy most) pieces →
-    low + total_length pieces ≤ most
+run_within : (low most : ℕ) (pieces : List Piece) → low ≤ most → PiecesFrom low pieces → All (EndsBy most) pieces → low + total_length pieces ≤ most
 run_within low most [] from run all = omega arith
 run_within low most (piece ∷ pieces) from run all =
     omega (
@@ -44,20 +43,17 @@ total_in_range jobs all =
 
 -- sums over what is in each place, together
 places_within : (places : List ℕ) (v : ℕ → ℕ) (groups n : ℕ) →
-    sum_by (λ i. sum_by (λ j. cond (group_of places j == i) (v j) 0) (range_with_len 0 n)) (range_with_len 0 groups)
-    ≤ sum_by v (range_with_len 0 n)
+    sum_by (λ i. sum_by (λ j. cond (group_of places j == i) (v j) 0) (range_with_len 0 n)) (range_with_len 0 groups) ≤ sum_by v (range_with_len 0 n)
 places_within places v groups n =
     let all = range_with_len 0 n in
     omega (
       arith,
-      sum_by_same (λ i. sum_by v (filter (λ j. group_of places j == i) all))
-          (λ i. sum_by (λ j. cond (group_of places j == i) (v j) 0) all) (range_with_len 0 groups)
+      sum_by_same (λ i. sum_by v (filter (λ j. group_of places j == i) all)) (λ i. sum_by (λ j. cond (group_of places j == i) (v j) 0) all) (range_with_len 0 groups)
           (λ k d within. sum_by-filter (λ j. group_of places j == get_or (range_with_len 0 groups) k d) v all),
       split_at_most (group_of places) v groups all,
     )
 
-one_place : (places : List ℕ) (v : ℕ → ℕ) (i n : ℕ) →
-    sum_by (λ j. cond (group_of places j == i) (v j) 0) (range_with_len 0 n) ≤ sum_by v (range_with_len 0 n)
+one_place : (places : List ℕ) (v : ℕ → ℕ) (i n : ℕ) → sum_by (λ j. cond (group_of places j == i) (v j) 0) (range_with_len 0 n) ≤ sum_by v (range_with_len 0 n)
 one_place places v i n =
     sum_by_at_most (λ j. cond (group_of places j == i) (v j) 0) v (range_with_len 0 n) (λ k d within. cond_at_most _ _)
 

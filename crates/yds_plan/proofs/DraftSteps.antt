@@ -1,23 +1,77 @@
 -- One more job or stretch in the levels on the way.
-use Rattle.std.proofs.Common.{◌≡◌, ℕ, ◌+◌, ◌<◌, ◌≤◌, ◌==◌, List, [], ◌∷◌, ◌++◌, ◌∙◌, length, map, get_or, set, sym, ap, arith, Bool, true, false}
+use Rattle.std.proofs.Common.{◌≡◌, ℕ, suc, ◌-◌, ◌==◌, List, [], ◌∷◌, ◌++◌, ◌∙◌, length, refl, ap, arith, inl, inr, Bool, true, false, ◌+◌, ◌<◌, ◌≤◌, map, get_or, set, sym}
 use Rattle.std.specs.Prelude.{cond}
+use Rattle.std.proofs.lemmas.Bool.{cases_Bool, lt-ltb, eq-eqb, ne_eqb}
+use Rattle.yds_model.specs.Piece.{Piece}
+use Rattle.yds_plan.specs.Laid.{merge, merged, level_of, levels_among, level_of_place}
+use Rattle.yds_plan.specs.Drafts.{touches_last, with_next, extended, draft, drafts, extended_level}
 use Rattle.std.specs.List.{filter, range_with_len}
-use Rattle.std.proofs.lemmas.Bool.{eq-eqb, ne_eqb}
 use Rattle.std.proofs.lemmas.List.{append-nil, map-append}
 use Rattle.std.proofs.lemmas.List.Elements.{filter-append}
 use Rattle.std.proofs.lemmas.List.FromFn.{get_or-map-range_with_len, length-map-range_with_len}
-use Rattle.yds_model.specs.Piece.{Piece}
 use Rattle.yds_model.specs.Level.{Level, no_level, level_at}
 use Rattle.yds_certificate.specs.Level.{with_member}
 use Rattle.yds_search.specs.Found.{Found, group_of}
 use Rattle.yds_events.specs.Stretch.{nth_stretch}
-use Rattle.yds_plan.specs.Laid.{level_of, levels_among, level_of_place, merged}
-use Rattle.yds_plan.specs.Drafts.{draft, drafts, extended, extended_level}
 use Rattle.yds_search.proofs.KeySums.{range_more}
-use Rattle.yds_plan.proofs.Speeds.{among_above}
+use Rattle.yds_plan.proofs.Drafts.{among_above, map_range_set, map_range_same}
 use Rattle.yds_plan.proofs.Levels.{place_level, place_in_level}
-use Rattle.yds_plan.proofs.Drafts.{map_range_set, map_range_same}
-use Rattle.yds_plan.proofs.Extended.{merged_more}
+
+-- the same by recursion
+add_last : List Piece → Piece → List Piece
+add_last [] piece = piece ∷ []
+add_last (last ∷ []) piece = cond (last.to == piece.from) (record { from = last.from; to = piece.to } ∷ []) (last ∷ piece ∷ [])
+add_last (first ∷ next ∷ pieces) piece = first ∷ add_last (next ∷ pieces) piece
+
+one_less : (n : ℕ) → suc n - 1 ≡ n
+one_less n = omega arith
+
+last_alone : (last piece : Piece) (b : Bool) →
+    cond b (record { from = last.from; to = piece.to } ∷ []) (last ∷ piece ∷ []) ≡ with_next (last ∷ []) b piece
+last_alone last piece true = refl
+last_alone last piece false = refl
+
+deeper : (first next : Piece) (pieces : List Piece) (piece : Piece) (b : Bool) → first ∷ with_next (next ∷ pieces) b piece ≡ with_next (first ∷ next ∷ pieces) b piece
+deeper first next pieces piece true = rw (one_less (suc (length pieces)), one_less (length pieces)) refl
+deeper first next pieces piece false = refl
+
+touches_deeper : (first next : Piece) (pieces : List Piece) (piece : Piece) → touches_last (next ∷ pieces) piece ≡ touches_last (first ∷ next ∷ pieces) piece
+touches_deeper first next pieces piece =
+    rw (one_less (suc (length pieces)), one_less (length pieces), lt-ltb 0 (suc (length pieces)) (omega arith), lt-ltb 0 (suc (suc (length pieces))) (omega arith)) refl
+
+add_last_is : (pieces : List Piece) (piece : Piece) → add_last pieces piece ≡ extended pieces piece
+unfolding add_last
+add_last_is [] piece = refl
+add_last_is (last ∷ []) piece = last_alone last piece (last.to == piece.from)
+add_last_is (first ∷ next ∷ pieces) piece =
+    ap (λ some. first ∷ some) (add_last_is (next ∷ pieces) piece) ∙ deeper first next pieces piece (touches_last (next ∷ pieces) piece)
+    ∙ ap (λ b. with_next (first ∷ next ∷ pieces) b piece) (touches_deeper first next pieces piece)
+
+merge_last : (first : Piece) (pieces : List Piece) (piece : Piece) → merge first (add_last pieces piece) ≡ add_last (merge first pieces) piece
+unfolding add_last
+merge_last first [] piece = refl
+merge_last first (next ∷ []) piece = elim (cases_Bool (next.to == piece.from)) [
+  | inl touches ↦ elim (cases_Bool (first.to == next.from)) [
+    | inl also ↦ simp (touches, also) refl
+    | inr apart ↦ simp (touches, apart) refl
+  ]
+  | inr parts ↦ elim (cases_Bool (first.to == next.from)) [
+    | inl also ↦ simp (parts, also) refl
+    | inr apart ↦ simp (parts, apart) refl
+  ]
+]
+merge_last first (next ∷ other ∷ pieces) piece = elim (cases_Bool (first.to == next.from)) [
+  | inl also ↦ simp also refl
+  | inr apart ↦ simp apart refl
+]
+
+merged_last : (pieces : List Piece) (piece : Piece) → merged (pieces ++ piece ∷ []) ≡ add_last (merged pieces) piece
+unfolding add_last
+merged_last [] piece = refl
+merged_last (first ∷ pieces) piece = ap (merge first) (merged_last pieces piece) ∙ merge_last first (merged pieces) piece
+
+pub merged_more : (pieces : List Piece) (piece : Piece) → merged (pieces ++ piece ∷ []) ≡ extended (merged pieces) piece
+merged_more pieces piece = merged_last pieces piece ∙ add_last_is (merged pieces) piece
 
 filter_more : (p : ℕ → Bool) (n : ℕ) → filter p (range_with_len 0 (n + 1)) ≡ filter p (range_with_len 0 n) ++ cond (p n) (n ∷ []) []
 filter_more p n = ap (filter p) (range_more n) ∙ filter-append p (range_with_len 0 n) (n ∷ [])
@@ -54,8 +108,7 @@ module _ (timeline : List Piece) (found : Found) where
       let ks = filter (λ stretch. stretch_level stretch == l) (range_with_len 0 k) in
       let pieces : extended (merged (map (nth_stretch timeline) ks)) (nth_stretch timeline k)
       ≡ merged (map (nth_stretch timeline) (filter (λ stretch. stretch_level stretch == l) (range_with_len 0 (k + 1)))) =
-      sym (merged_more (map (nth_stretch timeline) ks) (nth_stretch timeline k))
-      ∙ ap merged (sym (map-append (nth_stretch timeline) ks (k ∷ [])))
+      sym (merged_more (map (nth_stretch timeline) ks) (nth_stretch timeline k)) ∙ ap merged (sym (map-append (nth_stretch timeline) ks (k ∷ [])))
       ∙ ap (λ some. merged (map (nth_stretch timeline) some)) (sym (filter_takes (λ stretch. stretch_level stretch == l) k (eq-eqb (stretch_level k) l same))) in
       cc pieces
 
@@ -113,28 +166,20 @@ module _ (timeline : List Piece) (found : Found) where
   number_is : (numbers : List ℕ) (place number : ℕ) → AreNumbers numbers → place < length numbers → number ≡ get_or numbers place number →
       number ≡ level_of found.groups place
   number_is numbers place number are within read =
-      read ∙ ap (λ some. get_or some place number) are
-      ∙ get_or-map-range_with_len (level_of found.groups) 0 (length found.groups) place place number
+      read ∙ ap (λ some. get_or some place number) are ∙ get_or-map-range_with_len (level_of found.groups) 0 (length found.groups) place place number
       (omega (arith, numbers_length numbers are)) (omega arith)
 
   pub number_within : (j k place number : ℕ) (numbers : List ℕ) (levels : List Level) → AreNumbers numbers → levels ≡ drafts timeline found j k →
       place < length numbers → number ≡ get_or numbers place number → number < length levels
   number_within j k place number numbers levels are before within read =
-      omega (
-        arith,
-        number_is numbers place number are within read,
-        level_known place (omega (arith, numbers_length numbers are)),
-        ap length before,
-        drafts_length j k,
-      )
+      omega (arith, number_is numbers place number are within read, level_known place (omega (arith, numbers_length numbers are)), ap length before, drafts_length j k)
 
   pub member_step : (j k place number : ℕ) (numbers : List ℕ) (levels next : List Level) → AreNumbers numbers → levels ≡ drafts timeline found j k →
       place ≡ group_of found.group_of_job j → place < length numbers → number ≡ get_or numbers place number →
       next ≡ set levels number (with_member j (level_at levels number)) → next ≡ drafts timeline found (j + 1) k
   member_step j k place number numbers levels next are before is_place within read after =
       let is = number_is numbers place number are within read ∙ ap (level_of found.groups) is_place in
-      after
-      ∙ ap (λ some. set some number (with_member j (level_at some number))) before
+      after ∙ ap (λ some. set some number (with_member j (level_at some number))) before
       ∙ ap (λ l. set (drafts timeline found j k) l (with_member j (level_at (drafts timeline found j k) l))) is
       ∙ member_added j k (omega (arith, numbers_length numbers are))
 
@@ -149,8 +194,7 @@ module _ (timeline : List Piece) (found : Found) where
       next ≡ set levels number (extended_level piece (level_at levels number)) → next ≡ drafts timeline found j (k + 1)
   piece_step j k place number piece numbers levels next are before is_place within read is_piece after =
       let is = number_is numbers place number are within read ∙ ap (level_of found.groups) is_place in
-      after
-      ∙ ap (λ some. set some number (extended_level piece (level_at some number))) before
+      after ∙ ap (λ some. set some number (extended_level piece (level_at some number))) before
       ∙ ap (λ one. set (drafts timeline found j k) number (extended_level one (level_at (drafts timeline found j k) number))) is_piece
       ∙ ap (λ l. set (drafts timeline found j k) l (extended_level (nth_stretch timeline k) (level_at (drafts timeline found j k) l))) is
       ∙ piece_added j k (omega (arith, numbers_length numbers are))

@@ -28,8 +28,7 @@ pub record Fills (scale start done end p q : ℕ) (slot : WholeSlot) : Type 0 wh
   pub speed : slot.work * q ≡ p * (slot.to - slot.from)
 
 -- The next are of plain numbers: the ends of a slot of so many units.
-forward_of : (from to p begun units scale : ℕ) → from * p ≡ begun * scale → to * p ≡ (begun + units) * scale → 1 ≤ units → 1 ≤ scale →
-    from < to
+forward_of : (from to p begun units scale : ℕ) → from * p ≡ begun * scale → to * p ≡ (begun + units) * scale → 1 ≤ units → 1 ≤ scale → from < to
 forward_of from to p begun units scale e f some positive =
     let more : begun * scale < (begun + units) * scale = mul-lt-mul_of_pos_right (omega arith) positive in
     lt_of_mul-lt-mul_right p (omega arith)
@@ -39,15 +38,13 @@ ends_of to p reached end scale e h some =
     let within : reached * scale ≤ end * p * scale = mul-le-mul_right scale h in
     le_of_mul-le-mul_right {k = p} (omega arith) some
 
-speed_of : (from to work p q begun units scale : ℕ) → from * p ≡ begun * scale → to * p ≡ (begun + units) * scale →
-    work * q ≡ units * scale → work * q ≡ p * (to - from)
+speed_of : (from to work p q begun units scale : ℕ) → from * p ≡ begun * scale → to * p ≡ (begun + units) * scale → work * q ≡ units * scale → work * q ≡ p * (to - from)
 speed_of from to work p q begun units scale e f g = omega (arith, mul-sub p to from)
 
 after_of : (to from p reached scale : ℕ) → to * p ≡ reached * scale → reached * scale ≤ from * p → 1 ≤ p → to ≤ from
 after_of to from p reached scale e h some = le_of_mul-le-mul_right {k = p} (omega arith) some
 
-later_from : (scale start done units end p q : ℕ) (slot : WholeSlot) → Fills scale start (done + units) end p q slot →
-    Fills scale start done end p q slot
+later_from : (scale start done units end p q : ℕ) (slot : WholeSlot) → Fills scale start (done + units) end p q slot → Fills scale start done end p q slot
 later_from scale start done units end p q slot fills = record {
   from = let less : (start * p + done) * scale ≤ (start * p + (done + units)) * scale = mul-le-mul_right scale (omega arith) in
       omega (arith, fills.from);
@@ -56,16 +53,11 @@ later_from scale start done units end p q slot fills = record {
   speed = fills.speed;
 }
 
-swapped : (a b v : ℕ) → cond (a == b) v 0 ≡ cond (b == a) v 0
-swapped a b v = grind (arith, nat_tests)
-
-head_sum : (q scale w u work rest units more : ℕ) → w ≡ work + rest → u ≡ units + more → q * work ≡ scale * units → q * rest ≡ scale * more →
-    q * w ≡ scale * u
+head_sum : (q scale w u work rest units more : ℕ) → w ≡ work + rest → u ≡ units + more → q * work ≡ scale * units → q * rest ≡ scale * more → q * w ≡ scale * u
 head_sum q scale w u work rest units more e f g h =
     rw (e, f) (omega (arith, mul-add q work rest, mul-add scale units more))
 
-one_work : (q scale job work units : ℕ) (mine other : ℕ) → work * q ≡ units * scale →
-    q * cond (mine == other) work 0 ≡ scale * cond (other == mine) units 0
+one_work : (q scale job work units : ℕ) (mine other : ℕ) → work * q ≡ units * scale → q * cond (mine == other) work 0 ≡ scale * cond (other == mine) units 0
 one_work q scale job work units mine other e = grind (arith, nat_tests)
 
 -- what holds of each share's job holds of each slot's
@@ -73,12 +65,10 @@ pub slots_of_jobs : (T : ℕ → Type 0) (group : Group) (start done : ℕ) (sha
     All (λ slot. T slot.job) (slots_from (terms_of group) start done shares)
 slots_of_jobs T group start done [] all = All-nil (λ slot. T slot.job)
 slots_of_jobs T group start done (share ∷ shares) all =
-    All-cons (λ slot. T slot.job) _ (slots_from (terms_of group) start (done + share.units) shares)
-    (All-head (λ share. T share.job) share shares all)
+    All-cons (λ slot. T slot.job) _ (slots_from (terms_of group) start (done + share.units) shares) (All-head (λ share. T share.job) share shares all)
     (slots_of_jobs T group start (done + share.units) shares (All-tail (λ share. T share.job) share shares all))
 
-pub jobs_at : (T : ℕ → Type 0) (scale : ℕ) (slots : List WrittenSlot) → All (λ slot. T slot.job) slots →
-    All (λ slot. T slot.job) (slots_at scale slots)
+pub jobs_at : (T : ℕ → Type 0) (scale : ℕ) (slots : List WrittenSlot) → All (λ slot. T slot.job) slots → All (λ slot. T slot.job) (slots_at scale slots)
 jobs_at T scale [] all = All-nil (λ slot. T slot.job)
 jobs_at T scale (slot ∷ slots) all =
     All-cons (λ slot. T slot.job) _ (slots_at scale slots) (All-head (λ slot. T slot.job) slot slots all)
@@ -92,8 +82,7 @@ over_terms group start done (share ∷ shares) =
       from = of_parts_over (start * per_time group + done) (per_time group);
       to = of_parts_over (start * per_time group + (done + share.units)) (per_time group);
       work = of_parts_over share.units (per_work group);
-    })
-    (over_terms group start (done + share.units) shares)
+    }) (over_terms group start (done + share.units) shares)
 
 pub slots_from_length : (terms : Terms) (start done : ℕ) (shares : List Share) → length (slots_from terms start done shares) ≡ length shares
 slots_from_length terms start done [] = refl
@@ -122,20 +111,15 @@ module _ (group : Group) (scale start : ℕ) (positive : 1 ≤ scale) (some_time
         forward = forward_of _ _ (per_time group) (start * per_time group + done) share.units scale from
             (omega (arith, to)) (All-head (λ share. 1 ≤ share.units) share shares some) positive;
         ends = ends_of _ (per_time group) (start * per_time group + (done + share.units)) end scale to (omega arith) some_time;
-        speed = speed_of _ _ _ (per_time group) (per_work group) (start * per_time group + done) share.units scale from
-            (omega (arith, to)) work;
-      })
-      (All-weaker (Fills scale start (done + share.units) end (per_time group) (per_work group))
-      (Fills scale start done end (per_time group) (per_work group))
+        speed = speed_of _ _ _ (per_time group) (per_work group) (start * per_time group + done) share.units scale from (omega (arith, to)) work;
+      }) (All-weaker (Fills scale start (done + share.units) end (per_time group) (per_work group)) (Fills scale start done end (per_time group) (per_work group))
       (λ slot later. later_from scale start done share.units end (per_time group) (per_work group) slot later)
       (slots_at scale (slots_from (terms_of group) start (done + share.units) shares))
       (fills end (done + share.units) shares divided.1 (All-tail (λ share. 1 ≤ share.units) share shares some) (omega arith)))
 
-  pub filled_pairs : (R : ℕ → ℕ → Type 0) (end done : ℕ) (shares : List Share) →
-      AllByRecursion (IsDivided scale) (slots_from (terms_of group) start done shares) →
+  pub filled_pairs : (R : ℕ → ℕ → Type 0) (end done : ℕ) (shares : List Share) → AllByRecursion (IsDivided scale) (slots_from (terms_of group) start done shares) →
       All (λ share. 1 ≤ share.units) shares → start * per_time group + done + units_of shares ≤ end * per_time group →
-      AllPairs (λ one other. R one.job other.job) shares →
-      AllPairs (FollowsBy R) (slots_at scale (slots_from (terms_of group) start done shares))
+      AllPairs (λ one other. R one.job other.job) shares → AllPairs (FollowsBy R) (slots_at scale (slots_from (terms_of group) start done shares))
   filled_pairs R end done [] divided some room pairs = λ i j d order within. absurd (omega arith)
   filled_pairs R end done (share ∷ shares) divided some room pairs =
       let to = of_parts_at scale (start * per_time group + (done + share.units)) (per_time group) divided.0.to in
@@ -150,8 +134,7 @@ module _ (group : Group) (scale start : ℕ) (positive : 1 ≤ scale) (some_time
       (λ i j d order within. pairs (suc i) (suc j) d (omega arith) (omega arith)))
 
 -- the work that the slots give a job is that of its units
-pub filled_work : (group : Group) (scale start done job : ℕ) (shares : List Share) →
-    AllByRecursion (IsDivided scale) (slots_from (terms_of group) start done shares) →
+pub filled_work : (group : Group) (scale start done job : ℕ) (shares : List Share) → AllByRecursion (IsDivided scale) (slots_from (terms_of group) start done shares) →
     per_work group * sum_by (λ slot. cond (job == slot.job) slot.work 0) (slots_at scale (slots_from (terms_of group) start done shares))
     ≡ scale * sum_by (λ share. cond (share.job == job) share.units 0) shares
 filled_work group scale start done job [] divided = omega arith

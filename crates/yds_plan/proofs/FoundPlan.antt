@@ -23,13 +23,11 @@ use Rattle.yds_events.specs.Window.{length_at}
 use Rattle.yds_plan.specs.Laid.{level_of, levels_among, together, members_of, stretches_of, level_numbered, levels_of, slots_in_stretch, slots_of, shares_in}
 use Rattle.yds_search.proofs.KeySums.{count_all, split_all}
 use Rattle.yds_events.proofs.Neighbours.{release_outside, deadline_outside, stretch_with, few_stretches}
-use Rattle.yds_plan.proofs.Blocks.{all_of_blocks}
-use Rattle.yds_plan.proofs.Served.{Serves, all_serve}
+use Rattle.yds_plan.proofs.Merged.{all_of_blocks}
+use Rattle.yds_plan.proofs.Schedule.{Serves, all_serve, has_work, terms, all_stand, feasible, served_in_stretches}
 use Rattle.yds_plan.proofs.Filled.{IsOverTerms, over_terms, slots_of_jobs, slots_from_length}
-use Rattle.yds_plan.proofs.Speeds.{AreGroups, level_rises, among_above, among_found, level_speed, level_has, level_slower}
-use Rattle.yds_plan.proofs.Schedule.{has_work, terms, all_stand, feasible, served_in_stretches}
-use Rattle.yds_plan.proofs.Levels.{IsMember, place_level, group_sum, level_there, levels_length, each_level, members_joined, each_member, members_rise, member_at_most_once, member_once}
-use Rattle.yds_plan.proofs.LevelPieces.{pieces_apart, pieces_run, pieces_dont_touch, pieces_total, some_pieces, stretch_covered, few_pieces}
+use Rattle.yds_plan.proofs.Drafts.{AreGroups, level_rises, among_above, among_found, level_speed, level_has, level_slower}
+use Rattle.yds_plan.proofs.Levels.{IsMember, place_level, group_sum, level_there, levels_length, each_level, members_joined, each_member, members_rise, member_at_most_once, member_once, pieces_apart, pieces_run, pieces_dont_touch, pieces_total, some_pieces, stretch_covered, few_pieces}
 
 -- a speed of work over units, as one of work over length
 at_speed : (work time p q g w l : ℕ) → work * q ≡ p * time → p * g ≡ w → q * g ≡ l → work * l ≡ w * time
@@ -81,10 +79,8 @@ module _ (jobs : List Job) (found : Found) (is : IsFound jobs found) where
 
   well_formed : AreLevels jobs (levels_of jobs found)
   well_formed = record {
-    positive = each_level (λ level. (1 ≤ level.work) × (1 ≤ level.length)) jobs found
-        (λ l known. (some_level_work l known, some_level_length l known));
-    known = each_level (λ level. All (λ number. number < length jobs) level.members) jobs found
-        (λ l known k d within. (each_member jobs found l known k d within).known);
+    positive = each_level (λ level. (1 ≤ level.work) × (1 ≤ level.length)) jobs found (λ l known. (some_level_work l known, some_level_length l known));
+    known = each_level (λ level. All (λ number. number < length jobs) level.members) jobs found (λ l known k d within. (each_member jobs found l known k d within).known);
   }
 
   pieces_stand : Each (length (levels_of jobs found)) (PiecesStand (levels_of jobs found))
@@ -101,18 +97,14 @@ module _ (jobs : List Job) (found : Found) (is : IsFound jobs found) where
   sums_agree i within =
       let known : i < count_of_levels = omega (arith, levels_length jobs found) in
       let here = level_there jobs found i known in
-      record {
-        work = rw here (members_work i known);
-        length = rw here (stretches_length i known ∙ sym (pieces_total jobs found i));
-      }
+      record { work = rw here (members_work i known); length = rw here (stretches_length i known ∙ sym (pieces_total jobs found i)) }
 
   stands_once : Each (length jobs) (StandsOnce jobs (levels_of jobs found))
   stands_once number known = record {
     at_most_once = member_at_most_once jobs found number;
     with_work = λ some.
         let grouped = is.with_work number known some in
-        member_once jobs found number known
-        (rw (place_level found.groups (group_of found.group_of_job number) grouped)
+        member_once jobs found number known (rw (place_level found.groups (group_of found.group_of_job number) grouped)
         (among_above found.groups (length found.groups) (group_of found.group_of_job number) grouped));
   }
 
@@ -120,16 +112,13 @@ module _ (jobs : List Job) (found : Found) (is : IsFound jobs found) where
   falling i within before is_before =
       let known : i < count_of_levels = omega (arith, levels_length jobs found) in
       let next : before + 1 < count_of_levels = omega arith in
-      rw (level_there jobs found i known, level_there jobs found before (omega arith), ← is_before)
-      (level_slower found.groups groups_are before next)
+      rw (level_there jobs found i known, level_there jobs found before (omega arith), ← is_before) (level_slower found.groups groups_are before next)
 
   -- a member of the level at a place
-  member_there : (i number : ℕ) → i < length (levels_of jobs found) → Contains (level_at (levels_of jobs found) i).members number →
-      IsMember jobs found i number
+  member_there : (i number : ℕ) → i < length (levels_of jobs found) → Contains (level_at (levels_of jobs found) i).members number → IsMember jobs found i number
   member_there i number within contains =
       let known : i < count_of_levels = omega (arith, levels_length jobs found) in
-      All-contains (IsMember jobs found i) (members_of jobs found i) number (each_member jobs found i known)
-      (rw (level_there jobs found i known) at contains)
+      All-contains (IsMember jobs found i) (members_of jobs found i) number (each_member jobs found i known) (rw (level_there jobs found i known) at contains)
 
   windows_covered : Each (length jobs) (IsWindowCovered jobs (levels_of jobs found))
   windows_covered number known i within contains time from below =
@@ -141,10 +130,8 @@ module _ (jobs : List Job) (found : Found) (is : IsFound jobs found) where
       elim (deadline_outside jobs number k.0 known k.1.known) [ inl h ↦ absurd (omega (arith, k.1.from)) | inr h ↦ h ] in
       let first = is.windows number k.0 known (has_work jobs found is number known member.grouped) k.1.known (record { released = released; due = due }) in
       let grouped : group_of found.group_of_stretch k.0 < length found.groups = omega (arith, member.grouped) in
-      stretch_covered jobs found k.0 (i + 1) time k.1.known
-      (rw (place_level found.groups (group_of found.group_of_stretch k.0) grouped)
-      (omega (arith, level_rises found.groups _ _ first, member.level)))
-      (omega (arith, levels_length jobs found)) (k.1.from, k.1.below)
+      stretch_covered jobs found k.0 (i + 1) time k.1.known (rw (place_level found.groups (group_of found.group_of_stretch k.0) grouped)
+      (omega (arith, level_rises found.groups _ _ first, member.level))) (omega (arith, levels_length jobs found)) (k.1.from, k.1.below)
 
   -- a level's speed is that of the group of its members' stretches
   group_speed : (i g : ℕ) → i < count_of_levels → g < length found.groups → level_of found.groups g ≡ i →
@@ -162,29 +149,23 @@ module _ (jobs : List Job) (found : Found) (is : IsFound jobs found) where
       let level : level_of found.groups g ≡ i = ap (level_of found.groups) serves.same_group ∙ member.level in
       let known : i < count_of_levels = omega (arith, levels_length jobs found) in
       let low = terms jobs found is g grouped in
-      rw (level_there jobs found i known)
-      (same_through _ (group_at found.groups g).work (level_work i) _ (group_at found.groups g).length (level_length i)
-      (is.some_length g grouped)
-      (at_speed _ _ _ _ _ (group_at found.groups g).work (group_at found.groups g).length stands.2.speed low.first low.second)
+      rw (level_there jobs found i known) (same_through _ (group_at found.groups g).work (level_work i) _ (group_at found.groups g).length (level_length i)
+      (is.some_length g grouped) (at_speed _ _ _ _ _ (group_at found.groups g).work (group_at found.groups g).length stands.2.speed low.first low.second)
       (sym (group_speed i g known grouped level)))
 
   members_have_work : All (λ number. 1 ≤ (job_at jobs number).work) (all_members (levels_of jobs found))
   members_have_work =
-      rw (members_joined jobs found)
-      (all_of_blocks (λ number. 1 ≤ (job_at jobs number).work) (members_of jobs found) count_of_levels
-      (λ l known k d within.
+      rw (members_joined jobs found) (all_of_blocks (λ number. 1 ≤ (job_at jobs number).work) (members_of jobs found) count_of_levels (λ l known k d within.
       let member = each_member jobs found l known k d within in
       has_work jobs found is _ member.known member.grouped))
 
   pub slots_length : length (slots_of jobs found) ≡ length found.shares
   slots_length =
       length-flat_map (slots_in_stretch jobs found) (range_with_len 0 (length (stretches jobs)))
-      ∙ sum_by_same (λ k. length (slots_in_stretch jobs found k)) (λ k. sum_by (λ share. 1) (shares_in found.shares k))
-      (range_with_len 0 (length (stretches jobs)))
+      ∙ sum_by_same (λ k. length (slots_in_stretch jobs found k)) (λ k. sum_by (λ share. 1) (shares_in found.shares k)) (range_with_len 0 (length (stretches jobs)))
       (λ k d within. slots_from_length _ _ 0 (shares_in found.shares (get_or (range_with_len 0 (length (stretches jobs))) k d))
       ∙ sym (count_all (shares_in found.shares (get_or (range_with_len 0 (length (stretches jobs))) k d))))
-      ∙ split_all (λ share. share.stretch) (λ share. 1) (length (stretches jobs)) found.shares
-      (λ k d within. (is.shares k d within).known_stretch)
+      ∙ split_all (λ share. share.stretch) (λ share. 1) (length (stretches jobs)) found.shares (λ k d within. (is.shares k d within).known_stretch)
       ∙ count_all found.shares
 
   -- a slot is written over the terms of the group of its stretch
@@ -225,13 +206,8 @@ module _ (jobs : List Job) (found : Found) (is : IsFound jobs found) where
       let level : level_of found.groups g ≡ i = ap (level_of found.groups) serves.same_group ∙ member.level in
       let known : i < count_of_levels = omega (arith, levels_length jobs found) in
       let same = lowest_terms_are_one (level_work i) (level_length i) (group_at found.groups g).work (group_at found.groups g).length
-      (some_level_length i known) (is.some_length g grouped)
-      (group_speed i g known grouped level) in
-      rw (level_there jobs found i known) (record {
-        from = rw (same.0) written.2.from;
-        to = rw (same.0) written.2.to;
-        work = rw (same.1) written.2.work;
-      })
+      (some_level_length i known) (is.some_length g grouped) (group_speed i g known grouped level) in
+      rw (level_there jobs found i known) (record { from = rw (same.0) written.2.from; to = rw (same.0) written.2.to; work = rw (same.1) written.2.work })
 
   pub makes_plan : IsPlan jobs (slots_of jobs found) (levels_of jobs found)
   makes_plan = record {
@@ -270,5 +246,4 @@ pub laid_plan : {T E : Type 0} (jobs : List Job) (found : Found) (schedule : T �
     IfOk r (λ x. levels x ≡ levels_of jobs found) → IfOk r (λ x. IsPlan jobs (schedule x).slots (levels x))
 laid_plan jobs found schedule levels r is laid certified =
     both_ok (λ x. schedule x ≡ record { jobs = length jobs; slots = slots_of jobs found }) (λ x. levels x ≡ levels_of jobs found)
-    (λ x. IsPlan jobs (schedule x).slots (levels x))
-    (λ x one other. rw (one, other) (found_makes_plan jobs found is)) r laid certified
+    (λ x. IsPlan jobs (schedule x).slots (levels x)) (λ x one other. rw (one, other) (found_makes_plan jobs found is)) r laid certified

@@ -1,17 +1,10 @@
-pub mod Divisors
 pub mod Merged
-pub mod Speeds
-pub mod Blocks
-pub mod Served
 pub mod Filled
 pub mod Schedule
 pub mod Levels
-pub mod LevelPieces
 pub mod FoundPlan
 pub mod Drafts
-pub mod Extended
 pub mod DraftSteps
 pub mod Places
-pub mod Fitting
 pub mod Bounds
 pub mod Laying

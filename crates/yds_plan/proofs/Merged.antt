@@ -1,10 +1,12 @@
 -- Pieces of which those that touch are one: they keep what the single pieces have.
-use Rattle.std.proofs.Common.{◌≡◌, ℕ, zero, suc, ◌+◌, ◌-◌, ◌<◌, ◌≤◌, ◌==◌, ◌⊎◌, List, [], ◌∷◌, length, map, get_or, refl, arith, inl, inr, Bool, true, false}
+use Rattle.std.proofs.Common.{◌≡◌, ℕ, zero, suc, ◌+◌, ◌<◌, ◌≤◌, List, [], ◌∷◌, ◌++◌, ◌∙◌, length, map, refl, ap, arith, ◌-◌, ◌==◌, ◌⊎◌, get_or, inl, inr, Bool, true, false}
+use Rattle.std.specs.List.{All, AllPairs, Any, flat_map, range_with_len, filter}
+use Rattle.std.proofs.lemmas.List.{map-append, length-append, get_or-append-add}
+use Rattle.std.proofs.lemmas.List.Elements.{All-nil, All-append, All-cons, All-head, All-tail}
+use Rattle.yds_model.proofs.Lists.{All-front, All-back, AllPairs-append, Any-append_left}
 use Rattle.std.specs.Prelude.{cond}
-use Rattle.std.specs.List.{All, filter, range_with_len}
 use Rattle.std.proofs.lemmas.Bool.{cases_lt, cond_both, eqb-true, eqb-false, false≢true}
 use Rattle.std.proofs.lemmas.List.Sums.{sum_by-cons}
-use Rattle.std.proofs.lemmas.List.Elements.{All-nil, All-cons, All-head, All-tail}
 use Rattle.yds_model.specs.Job.{Job}
 use Rattle.yds_model.specs.Piece.{Piece, AreApart, PiecesFrom, Covers, total_length}
 use Rattle.yds_model.specs.Plan.{DontTouch}
@@ -13,9 +15,67 @@ use Rattle.yds_model.specs.Comparison.{stretch_at}
 use Rattle.yds_plan.specs.Laid.{merge, merged}
 use Rattle.yds_events.proofs.Neighbours.{stretch_forward, stretch_order}
 
--- one longer piece in place of two
-both : Piece → Piece → Piece
-both piece next = record { from = piece.from; to = next.to }
+pub map-flat_map : {X Y Z : Type 0} (g : Y → Z) (f : X → List Y) (xs : List X) → map g (flat_map f xs) ≡ flat_map (λ x. map g (f x)) xs
+map-flat_map g f [] = refl
+map-flat_map g f (x ∷ xs) = map-append g (f x) (flat_map f xs) ∙ ap (λ ys. map g (f x) ++ ys) (map-flat_map g f xs)
+
+pub flat_map-map : {X Y Z : Type 0} (f : Y → List Z) (g : X → Y) (xs : List X) → flat_map f (map g xs) ≡ flat_map (λ x. f (g x)) xs
+flat_map-map f g [] = refl
+flat_map-map f g (x ∷ xs) = ap (λ ys. f (g x) ++ ys) (flat_map-map f g xs)
+
+-- what holds in each block holds in all, and back
+pub All-blocks : {Y : Type 0} (P : Y → Type 0) (f : ℕ → List Y) (a n : ℕ) → ((i : ℕ) → i < n → All P (f (a + i))) → All P (flat_map f (range_with_len a n))
+All-blocks P f a zero each = All-nil P
+All-blocks P f a (suc n) each =
+    All-append P (f a) (flat_map f (range_with_len (a + 1) n))
+    (let first : a + 0 ≡ a = omega arith in rw first at (each 0 (omega arith)))
+    (All-blocks P f (a + 1) n (λ i below. let same : a + suc i ≡ a + 1 + i = omega arith in rw same at (each (suc i) (omega arith))))
+
+pub All-block : {Y : Type 0} (P : Y → Type 0) (f : ℕ → List Y) (a n i : ℕ) → i < n → All P (flat_map f (range_with_len a n)) → All P (f (a + i))
+All-block P f a zero i below all = absurd (omega arith)
+All-block P f a (suc n) zero below all =
+    let first : a + 0 ≡ a = omega arith in
+    rw first (All-front P (f a) (flat_map f (range_with_len (a + 1) n)) all)
+All-block P f a (suc n) (suc i) below all =
+    let same : a + suc i ≡ a + 1 + i = omega arith in
+    rw same (All-block P f (a + 1) n i (omega arith) (All-back P (f a) (flat_map f (range_with_len (a + 1) n)) all))
+
+pub AllPairs-blocks : {Y : Type 0} (R : Y → Y → Type 0) (f : ℕ → List Y) (a n : ℕ) → ((k : ℕ) → a ≤ k → k < a + n → AllPairs R (f k)) →
+    ((k l : ℕ) → a ≤ k → k < l → l < a + n → All (λ y. All (λ x. R x y) (f k)) (f l)) → AllPairs R (flat_map f (range_with_len a n))
+AllPairs-blocks R f a zero within across = λ i j d order inside. absurd (omega arith)
+AllPairs-blocks R f a (suc n) within across =
+    AllPairs-append R (f a) (flat_map f (range_with_len (a + 1) n)) (within a (omega arith) (omega arith))
+    (AllPairs-blocks R f (a + 1) n (λ k from below. within k (omega arith) (omega arith))
+    (λ k l from order below. across k l (omega arith) order (omega arith))) (All-blocks (λ y. All (λ x. R x y) (f a)) f (a + 1) n
+    (λ i below. across a (a + 1 + i) (omega arith) (omega arith) (omega arith)))
+
+-- the same for blocks from 0 on
+pub all_of_blocks : {Y : Type 0} (P : Y → Type 0) (f : ℕ → List Y) (n : ℕ) → ((i : ℕ) → i < n → All P (f i)) → All P (flat_map f (range_with_len 0 n))
+all_of_blocks P f n each = All-blocks P f 0 n (λ i below. let same : 0 + i ≡ i = omega arith in rw same (each i below))
+
+pub block_of_all : {Y : Type 0} (P : Y → Type 0) (f : ℕ → List Y) (n i : ℕ) → i < n → All P (flat_map f (range_with_len 0 n)) → All P (f i)
+block_of_all P f n i below all = let same : 0 + i ≡ i = omega arith in rw same at (All-block P f 0 n i below all)
+
+pub pairs_of_blocks : {Y : Type 0} (R : Y → Y → Type 0) (f : ℕ → List Y) (n : ℕ) → ((k : ℕ) → k < n → AllPairs R (f k)) →
+    ((k l : ℕ) → k < l → l < n → All (λ y. All (λ x. R x y) (f k)) (f l)) → AllPairs R (flat_map f (range_with_len 0 n))
+pairs_of_blocks R f n within across =
+    AllPairs-blocks R f 0 n (λ k from below. within k (omega arith)) (λ k l from order below. across k l order (omega arith))
+
+-- some element of a block is one of all
+Any-append_right : {Y : Type 0} (P : Y → Type 0) (xs ys : List Y) → Any P ys → Any P (xs ++ ys)
+Any-append_right P xs ys some = (length xs + some.0, some.1, omega (arith, some.2, length-append xs ys), get_or-append-add xs ys some.0 some.1 ∙ some.3, some.4)
+
+any_block : {Y : Type 0} (P : Y → Type 0) (f : ℕ → List Y) (a n i : ℕ) → i < n → Any P (f (a + i)) → Any P (flat_map f (range_with_len a n))
+any_block P f a zero i below some = absurd (omega arith)
+any_block P f a (suc n) zero below some =
+    let first : a + 0 ≡ a = omega arith in
+    Any-append_left P (f a) (flat_map f (range_with_len (a + 1) n)) (rw first at some)
+any_block P f a (suc n) (suc i) below some =
+    let same : a + suc i ≡ a + 1 + i = omega arith in
+    Any-append_right P (f a) (flat_map f (range_with_len (a + 1) n)) (any_block P f (a + 1) n i (omega arith) (rw same at some))
+
+pub some_of_blocks : {Y : Type 0} (P : Y → Type 0) (f : ℕ → List Y) (n i : ℕ) → i < n → Any P (f i) → Any P (flat_map f (range_with_len 0 n))
+some_of_blocks P f n i below some = let same : 0 + i ≡ i = omega arith in any_block P f 0 n i below (rw same some)
 
 -- a fact of the merged list, from the two ways to merge
 merge_cases : (P : List Piece → Type 0) (piece next : Piece) (pieces : List Piece) →
@@ -23,16 +83,12 @@ merge_cases : (P : List Piece → Type 0) (piece next : Piece) (pieces : List Pi
     ((piece.to ≡ next.from → ⊥) → P (piece ∷ next ∷ pieces)) → P (merge piece (next ∷ pieces))
 merge_cases P piece next pieces touch apart =
     cond_both (piece.to == next.from) (record { from = piece.from; to = next.to } ∷ pieces) (piece ∷ next ∷ pieces) P
-    (λ same. touch (eqb-true piece.to next.from same))
-    (λ other. apart (eqb-false piece.to next.from other))
+    (λ same. touch (eqb-true piece.to next.from same)) (λ other. apart (eqb-false piece.to next.from other))
 
-merge_run : (low : ℕ) (piece : Piece) (pieces : List Piece) → low ≤ piece.from → piece.from < piece.to → PiecesFrom piece.to pieces →
-    PiecesFrom low (merge piece pieces)
+merge_run : (low : ℕ) (piece : Piece) (pieces : List Piece) → low ≤ piece.from → piece.from < piece.to → PiecesFrom piece.to pieces → PiecesFrom low (merge piece pieces)
 merge_run low piece [] from forward run = (from, forward, tt)
 merge_run low piece (next ∷ pieces) from forward run =
-    merge_cases (PiecesFrom low) piece next pieces
-    (λ same. (from, omega (arith, run.0, run.1), run.2))
-    (λ other. (from, forward, run))
+    merge_cases (PiecesFrom low) piece next pieces (λ same. (from, omega (arith, run.0, run.1), run.2)) (λ other. (from, forward, run))
 
 pub merged_run : (low : ℕ) (pieces : List Piece) → PiecesFrom low pieces → PiecesFrom low (merged pieces)
 merged_run low [] run = tt
@@ -46,9 +102,7 @@ begin_earlier from next (piece ∷ pieces) apart = apart
 merge_apart : (piece : Piece) (pieces : List Piece) → PiecesFrom piece.to pieces → DontTouch pieces → DontTouch (merge piece pieces)
 merge_apart piece [] run apart = tt
 merge_apart piece (next ∷ pieces) run apart =
-    merge_cases DontTouch piece next pieces
-    (λ same. begin_earlier piece.from next pieces apart)
-    (λ other. (strictly piece.to next.from run.0 other, apart))
+    merge_cases DontTouch piece next pieces (λ same. begin_earlier piece.from next pieces apart) (λ other. (strictly piece.to next.from run.0 other, apart))
   where
     strictly : (a b : ℕ) → a ≤ b → (a ≡ b → ⊥) → a < b
     strictly a b h other = elim (cases_lt a b) [ inl below ↦ below | inr above ↦ absurd (other (omega arith)) ]
@@ -70,8 +124,7 @@ merge_total piece (next ∷ pieces) forward run =
       run.1,
       sum_by-cons long (record { from = piece.from; to = next.to }) pieces,
       sum_by-cons long next pieces,
-    ))
-    (λ other. sum_by-cons long piece (next ∷ pieces))
+    )) (λ other. sum_by-cons long piece (next ∷ pieces))
 
 pub merged_total : (low : ℕ) (pieces : List Piece) → PiecesFrom low pieces → total_length (merged pieces) ≡ total_length pieces
 merged_total low [] run = refl
@@ -103,10 +156,8 @@ merge_stays_apart : (one piece : Piece) (pieces : List Piece) → one.from < one
 merge_stays_apart one piece [] forward first rest = All-cons (AreApart one) piece [] first rest
 merge_stays_apart one piece (next ∷ pieces) forward first rest =
     merge_cases (All (AreApart one)) piece next pieces
-    (λ same. All-cons (AreApart one) (record { from = piece.from; to = next.to }) pieces
-    (apart_both one.from one.to piece.from piece.to next.to forward first
-    (rw (← same) at (All-head (AreApart one) next pieces rest)))
-    (All-tail (AreApart one) next pieces rest))
+    (λ same. All-cons (AreApart one) (record { from = piece.from; to = next.to }) pieces (apart_both one.from one.to piece.from piece.to next.to forward first
+    (rw (← same) at (All-head (AreApart one) next pieces rest))) (All-tail (AreApart one) next pieces rest))
     (λ other. All-cons (AreApart one) piece (next ∷ pieces) first rest)
 
 pub merged_stays_apart : (one : Piece) (pieces : List Piece) → one.from < one.to → All (AreApart one) pieces → All (AreApart one) (merged pieces)
@@ -146,8 +197,7 @@ merge_covers time piece (next ∷ pieces) forward run (inr covers) =
     (λ same. elim (covers_cases time next pieces covers) [
       | inl holds ↦ covers_head time (record { from = piece.from; to = next.to }) pieces (omega (arith, holds.0, run.0), holds.1)
       | inr rest ↦ covers_tail time (record { from = piece.from; to = next.to }) pieces rest
-    ])
-    (λ other. covers_tail time piece (next ∷ pieces) covers)
+    ]) (λ other. covers_tail time piece (next ∷ pieces) covers)
 
 pub merged_covers : (time low : ℕ) (pieces : List Piece) → PiecesFrom low pieces → Covers pieces time → Covers (merged pieces) time
 merged_covers time low [] run covers = covers
@@ -160,22 +210,19 @@ merged_covers time low (piece ∷ pieces) run covers =
 
 -- some of the stretches, in order, lie one after another
 run_step : (jobs : List Job) (low a : ℕ) (ks : List ℕ) (p : Bool) → a < length (stretches jobs) → low ≤ (stretch_at jobs a).from →
-    PiecesFrom (stretch_at jobs a).to (map (stretch_at jobs) ks) → PiecesFrom low (map (stretch_at jobs) ks) →
-    PiecesFrom low (map (stretch_at jobs) (cond p (a ∷ ks) ks))
+    PiecesFrom (stretch_at jobs a).to (map (stretch_at jobs) ks) → PiecesFrom low (map (stretch_at jobs) ks) → PiecesFrom low (map (stretch_at jobs) (cond p (a ∷ ks) ks))
 run_step jobs low a ks true within from run skipped = (from, stretch_forward jobs a within, run)
 run_step jobs low a ks false within from run skipped = skipped
 
 range_run : (jobs : List Job) (p : ℕ → Bool) (low a n : ℕ) → a + n ≤ length (stretches jobs) →
-    ((k : ℕ) → a ≤ k → k < length (stretches jobs) → low ≤ (stretch_at jobs k).from) →
-    PiecesFrom low (map (stretch_at jobs) (filter p (range_with_len a n)))
+    ((k : ℕ) → a ≤ k → k < length (stretches jobs) → low ≤ (stretch_at jobs k).from) → PiecesFrom low (map (stretch_at jobs) (filter p (range_with_len a n)))
 range_run jobs p low a zero within from = tt
 range_run jobs p low a (suc n) within from =
     run_step jobs low a (filter p (range_with_len (a + 1) n)) (p a) (omega arith) (from a (omega arith) (omega arith))
     (range_run jobs p (stretch_at jobs a).to (a + 1) n (omega arith) (λ k above below. stretch_order jobs a k (omega arith) below))
     (range_run jobs p low (a + 1) n (omega arith) (λ k above below. from k (omega arith) below))
 
-pub some_stretches_run : (jobs : List Job) (p : ℕ → Bool) →
-    PiecesFrom 0 (map (stretch_at jobs) (filter p (range_with_len 0 (length (stretches jobs)))))
+pub some_stretches_run : (jobs : List Job) (p : ℕ → Bool) → PiecesFrom 0 (map (stretch_at jobs) (filter p (range_with_len 0 (length (stretches jobs)))))
 some_stretches_run jobs p = range_run jobs p 0 0 (length (stretches jobs)) (omega arith) (λ k above below. omega arith)
 
 -- one of some of the stretches covers what it has
@@ -184,8 +231,7 @@ here_covers : (jobs : List Job) (time a : ℕ) (ks : List ℕ) (p : Bool) → p 
 here_covers jobs time a ks true is holds = covers_head time (stretch_at jobs a) (map (stretch_at jobs) ks) holds
 here_covers jobs time a ks false is holds = absurd (false≢true is)
 
-later_covers : (jobs : List Job) (time a : ℕ) (ks : List ℕ) (p : Bool) → Covers (map (stretch_at jobs) ks) time →
-    Covers (map (stretch_at jobs) (cond p (a ∷ ks) ks)) time
+later_covers : (jobs : List Job) (time a : ℕ) (ks : List ℕ) (p : Bool) → Covers (map (stretch_at jobs) ks) time → Covers (map (stretch_at jobs) (cond p (a ∷ ks) ks)) time
 later_covers jobs time a ks true covers = covers_tail time (stretch_at jobs a) (map (stretch_at jobs) ks) covers
 later_covers jobs time a ks false covers = covers
 
@@ -194,8 +240,7 @@ range_covers : (jobs : List Job) (p : ℕ → Bool) (time k a n : ℕ) → a ≤
 range_covers jobs p time k a zero from below passes holds = absurd (omega arith)
 range_covers jobs p time k a (suc n) from below passes holds = elim (cases_lt a k) [
   | inl later ↦
-      later_covers jobs time a (filter p (range_with_len (a + 1) n)) (p a)
-      (range_covers jobs p time k (a + 1) n (omega arith) (omega arith) passes holds)
+      later_covers jobs time a (filter p (range_with_len (a + 1) n)) (p a) (range_covers jobs p time k (a + 1) n (omega arith) (omega arith) passes holds)
   | inr now ↦
       let same : k ≡ a = omega arith in
       here_covers jobs time a (filter p (range_with_len (a + 1) n)) (p a) (rw same at passes) (rw same at holds)

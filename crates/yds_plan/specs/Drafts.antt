@@ -65,12 +65,7 @@ abbrev pub level_of_one : Group → Level
 level_of_one group = record { work = group.work; length = group.length; pieces = []; members = [] }
 
 abbrev pub with_more : Level → Group → Level
-with_more level group = record {
-  work = level.work + group.work;
-  length = level.length + group.length;
-  pieces = level.pieces;
-  members = level.members;
-}
+with_more level group = record { work = level.work + group.work; length = level.length + group.length; pieces = level.pieces; members = level.members }
 
 -- the group joins the last level, or makes one of its own
 abbrev pub with_group : List Level → Bool → Group → List Level

@@ -6,7 +6,7 @@ use Rattle.std.specs.Prelude.{if◌then◌else◌, cond, not, nat_lt}
 use Rattle.std.proofs.lemmas.Bool.{cases_eq, cases_lt}
 use Rattle.yds_search.specs.Found.{group_of, Found, Share, work_of_group, length_of_group}
 use Rattle.yds_search.specs.Amounts.{amount_in}
-use Rattle.yds_search.proofs.Ranges.{over_at_most, over_mul, over_ones, over, over_same, over_one, over_list}
+use Rattle.yds_search.proofs.KeySums.{over_at_most, over_mul, over_ones, over, over_same, over_one, over_list, sum_by-filter, cond_at_most}
 use Rattle.yds_model.proofs.Horizon.{part_own, part_other}
 use Rattle.std.specs.List.{All, sum_by, range_with_len}
 use Rattle.std.proofs.lemmas.List.{get_or_past, get_or_default}
@@ -27,7 +27,6 @@ use Rattle.yds_search.specs.Waiting.{Part, IsWaiting, IsBlank}
 use Rattle.yds_search.specs.Fill.{IsFill, AreServed, AreOpen}
 use Rattle.yds_search.specs.Search.{IsSearch, IsAttempt}
 use Rattle.yds_search.specs.Instance.{IsInstance}
-use Rattle.yds_search.proofs.KeySums.{sum_by-filter, cond_at_most}
 use Rattle.yds_search.proofs.Numbers.{one_or_none, written_at, written_off, in_group, in_known, in_has, in_order}
 use Rattle.yds_search.proofs.Shares.{chosen_some}
 
@@ -316,8 +315,7 @@ pub record AreSums (jobs : List Job) (instance : Instance) (found : Found) (top 
   pub length_small : length_ ≤ 8000000000000
 
 pub sums : (jobs : List Job) (instance : Instance) (found : Found) (top last work length_ : ℕ) → IsInstance jobs instance →
-    IsSearch jobs instance.windows.items found top last → top ≤ last →
-    work ≡ amount_in instance.works.items found.group_of_job top (length instance.works.items) →
+    IsSearch jobs instance.windows.items found top last → top ≤ last → work ≡ amount_in instance.works.items found.group_of_job top (length instance.works.items) →
     length_ ≡ amount_in instance.lengths.items found.group_of_stretch top (length instance.lengths.items) → AreSums jobs instance found top work length_
 sums jobs instance found top last work length_ are search within is is' =
     let one = work_is jobs instance found.group_of_job top work are is in
@@ -362,8 +360,7 @@ pub lengths_fit : (jobs : List Job) (instance : Instance) (found : Found) (top w
     (i : ℕ) → i < length instance.lengths.items → work / common_divisor work length_ * get_or instance.lengths.items i 0 < 18446744073709551616
 lengths_fit jobs instance found top work length_ are are_sums i within = omega (
   arith,
-  mul-le (work / common_divisor work length_) (get_or instance.lengths.items i 0) 4000000000 1000000000
-      (omega (arith, are_sums.lowest.first_within, are_sums.small))
+  mul-le (work / common_divisor work length_) (get_or instance.lengths.items i 0) 4000000000 1000000000 (omega (arith, are_sums.lowest.first_within, are_sums.small))
       (omega (arith, are.length_is i (omega (arith, are.all_lengths)), are.length_small i (omega (arith, are.all_lengths)))),
 )
 
@@ -418,8 +415,7 @@ pub sums_of : (jobs : List Job) (instance : Instance) (found : Found) (top last 
 sums_of jobs instance found top last part works lengths numbers numbers' work length_ are search within waiting a b d e is is' =
     sums jobs instance found top last work length_ are search within
     (work_total jobs instance found top work part are waiting (total_at works instance.works.items numbers part.jobs work a b is))
-    (length_total jobs instance found top length_ part are search.all_stretches waiting
-    (total_at lengths instance.lengths.items numbers' part.stretches length_ d e is'))
+    (length_total jobs instance found top length_ part are search.all_stretches waiting (total_at lengths instance.lengths.items numbers' part.stretches length_ d e is'))
 
 -- the units of a group, over its own lists
 pub units_of : (jobs : List Job) (instance : Instance) (found : Found) (top : ℕ) (part : Part) (space : Workspace) (works lengths numbers numbers' : List ℕ)

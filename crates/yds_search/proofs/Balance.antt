@@ -15,7 +15,7 @@ use Rattle.yds_events.specs.declared.window.Window.{Window}
 use Rattle.yds_search.specs.Found.{Found, Share, share_at, no_share, group_of, work_of_group, length_of_group, units_of_job, units_in_stretch}
 use Rattle.yds_events.specs.Window.{length_at}
 use Rattle.yds_search.specs.Search.{IsFast, IsSlow, LieInWindows, IsFilled}
-use Rattle.yds_search.proofs.Ranges.{over, over_more, over_same, over_at_most, over_zero, over_add, over_mul}
+use Rattle.yds_search.proofs.KeySums.{over, over_more, over_same, over_at_most, over_zero, over_add, over_mul}
 
 -- the units of shares with this number, of a job or of a stretch
 abbrev units_at : (Share → ℕ) → List Share → ℕ → ℕ
@@ -79,24 +79,21 @@ in_group_same : (factor number group one other : ℕ) → number ≡ group → f
     factor * (if number == group then one else 0) ≤ (if number == group then other else 0)
 in_group_same factor number group one other same most = rw (test_same number group same) most
 
-in_group_apart : (factor number group one other : ℕ) → (number ≡ group → ⊥) →
-    factor * (if number == group then one else 0) ≤ (if number == group then other else 0)
+in_group_apart : (factor number group one other : ℕ) → (number ≡ group → ⊥) → factor * (if number == group then one else 0) ≤ (if number == group then other else 0)
 in_group_apart factor number group one other apart = rw (ne_eqb number group apart) (omega arith)
 
 of_group_same : (factor number group one other : ℕ) → number ≡ group → other ≤ factor * one →
     (if number == group then other else 0) ≤ factor * (if number == group then one else 0)
 of_group_same factor number group one other same most = rw (test_same number group same) most
 
-of_group_apart : (factor number group one other : ℕ) → (number ≡ group → ⊥) →
-    (if number == group then other else 0) ≤ factor * (if number == group then one else 0)
+of_group_apart : (factor number group one other : ℕ) → (number ≡ group → ⊥) → (if number == group then other else 0) ≤ factor * (if number == group then one else 0)
 of_group_apart factor number group one other apart = rw (ne_eqb number group apart) (omega arith)
 
 counted_same : (number group number' group' units : ℕ) → number ≡ group → number' ≡ group' →
     (if number == group then units else 0) ≤ (if number' == group' then units else 0)
 counted_same number group number' group' units same same' = rw (test_same number group same, test_same number' group' same') (omega arith)
 
-counted_apart : (number group number' group' units : ℕ) → (number ≡ group → ⊥) →
-    (if number == group then units else 0) ≤ (if number' == group' then units else 0)
+counted_apart : (number group number' group' units : ℕ) → (number ≡ group → ⊥) → (if number == group then units else 0) ≤ (if number' == group' then units else 0)
 counted_apart number group number' group' units apart = rw (ne_eqb number group apart) (omega arith)
 
 scaled_same : (factor number group one : ℕ) → number ≡ group → (if number == group then factor * one else 0) ≡ factor * (if number == group then one else 0)

@@ -19,8 +19,7 @@ use Rattle.yds_search.specs.Fill.{IsFullBefore, AreTaken, IsFill}
 pub record IsLeastOf (counts : ℕ → Type 0) (stands : ℕ → ℕ → Type 0) (value : ℕ → ℕ) (own : List ℕ) (n m : ℕ) (reaches : List ℕ) : Type 0 where
   pub all : length reaches ≡ m
   pub least : (i : ℕ) → i < n → counts i → (p : ℕ) × (p < length own) × stands i p × (get_or reaches (get_or own p 0) 0 ≤ value i)
-  pub some : (p : ℕ) → p < length own → get_or reaches (get_or own p 0) 0 < m →
-      (i : ℕ) × (i < n) × counts i × stands i p × (value i ≡ get_or reaches (get_or own p 0) 0)
+  pub some : (p : ℕ) → p < length own → get_or reaches (get_or own p 0) 0 < m → (i : ℕ) × (i < n) × counts i × stands i p × (value i ≡ get_or reaches (get_or own p 0) 0)
 
 pub least_none : (counts : ℕ → Type 0) (stands : ℕ → ℕ → Type 0) (value : ℕ → ℕ) (own : List ℕ) (m : ℕ) (old reaches : List ℕ) → length old ≡ m →
     AreWritten (λ k number. number ≡ m) own (length own) old reaches → IsLeastOf counts stands value own 0 m reaches

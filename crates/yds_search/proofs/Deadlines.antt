@@ -68,11 +68,9 @@ all_keys jobs sorted small once = All-permutation (IsKey jobs) (map (key_of jobs
 range_at : (n i d : ℕ) → i < n → get_or (range_with_len 0 n) i d ≡ i
 range_at n i d below = omega (arith, get_or-range_with_len 0 n i d below)
 
-numbers_back : (jobs : List Job) → length jobs < 4294967296 →
-    map number_of (map (key_of jobs) (range_with_len 0 (length jobs))) ≡ range_with_len 0 (length jobs)
+numbers_back : (jobs : List Job) → length jobs < 4294967296 → map number_of (map (key_of jobs) (range_with_len 0 (length jobs))) ≡ range_with_len 0 (length jobs)
 numbers_back jobs small = same_lists (map number_of (map (key_of jobs) (range_with_len 0 (length jobs)))) (range_with_len 0 (length jobs))
-    (omega (arith, length-map (map (key_of jobs) (range_with_len 0 (length jobs))) number_of, length-map (range_with_len 0 (length jobs)) (key_of jobs)))
-    (λ k d within.
+    (omega (arith, length-map (map (key_of jobs) (range_with_len 0 (length jobs))) number_of, length-map (range_with_len 0 (length jobs)) (key_of jobs))) (λ k d within.
     let in_keys : k < length (map (key_of jobs) (range_with_len 0 (length jobs))) =
     omega (arith, within, length-map (map (key_of jobs) (range_with_len 0 (length jobs))) number_of) in
     let below : k < length jobs = omega (arith, in_keys, length-map-range_with_len (key_of jobs) 0 (length jobs)) in

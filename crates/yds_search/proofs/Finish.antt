@@ -17,9 +17,9 @@ use Rattle.yds_search.specs.Order.{Precedes}
 use Rattle.yds_search.specs.Search.{IsFast, IsSlow, LieInWindows, IsLead, IsFinished, MayTake, IsSearch, IsFilled, IsRenamed, finished_count}
 use Rattle.yds_model.proofs.Horizon.{part_own, part_other}
 use Rattle.yds_search.proofs.Shares.{chosen_some, share_counts, no_units}
-use Rattle.yds_search.proofs.Ranges.{over, over_same, over_at_most, over_add, over_ones, over_list}
+use Rattle.yds_search.proofs.KeySums.{over, over_same, over_at_most, over_add, over_ones, over_list}
 use Rattle.yds_search.proofs.Balance.{fast_speed, slow_speed, speed_order}
-use Rattle.yds_search.proofs.Finished.{moved, AreAlike, kept_finished}
+use Rattle.yds_search.proofs.Ends.{moved, AreAlike, kept_finished}
 
 -- all that is known when group `top` is finished
 pub record Finishing : Type 0 where
@@ -174,8 +174,7 @@ renamed_chosen : (groups top one other value : ℕ) → groups ≤ top → (one 
     (if one == top then value else 0) ≡ (if other == groups then value else 0)
 renamed_chosen groups top one other value apart own renamed = elim (cases_eq one top) [
   | inl same ↦ part_own one top value same ∙ sym (part_own other groups value (renamed_own groups top one other renamed same))
-  | inr different ↦ part_other one top value different
-      ∙ sym (part_other other groups value (λ is. different (renamed_here groups top one other apart own renamed is)))
+  | inr different ↦ part_other one top value different ∙ sym (part_other other groups value (λ is. different (renamed_here groups top one other apart own renamed is)))
 ]
 
 new_work : (f : Finishing) → f.group.work ≡ work_of_group f.jobs f.new_jobs (length f.found.groups) (length f.jobs)
@@ -311,8 +310,7 @@ each_pair : (f : Finishing) (R : ℕ → ℕ → Share → Share → Type 0) →
     R x y (share_at f.found.shares x) (share_at f.shares (y - length f.found.shares))) →
     ((x y : ℕ) → length f.found.shares ≤ x → x - length f.found.shares < length f.shares → y < length f.found.shares →
     R x y (share_at f.shares (x - length f.found.shares)) (share_at f.found.shares y)) →
-    ((x y : ℕ) → length f.found.shares ≤ x → x - length f.found.shares < length f.shares →
-    length f.found.shares ≤ y → y - length f.found.shares < length f.shares →
+    ((x y : ℕ) → length f.found.shares ≤ x → x - length f.found.shares < length f.shares → length f.found.shares ≤ y → y - length f.found.shares < length f.shares →
     R x y (share_at f.shares (x - length f.found.shares)) (share_at f.shares (y - length f.found.shares))) →
     (x y : ℕ) → x < length (f.found.shares ++ f.shares) → y < length (f.found.shares ++ f.shares) →
     R x y (share_at (f.found.shares ++ f.shares) x) (share_at (f.found.shares ++ f.shares) y)
@@ -351,8 +349,7 @@ all_earliest f x y within within' =
     other.stretch < one.stretch → ComesFirst f.jobs other.job one.job) (λ i j old old' same inside before. (kept f).earliest i j old old' same inside before)
     (λ i j old new' in_range same inside before.
     absurd (omega (arith, old_job f i old, (own_share f (j - length f.found.shares) in_range).new_job, same))) (λ i j new in_range old' same inside before.
-    absurd (omega (arith, old_job f j old', (own_share f (i - length f.found.shares) in_range).new_job, same)))
-    (λ i j new in_range new' in_range' same inside before.
+    absurd (omega (arith, old_job f j old', (own_share f (i - length f.found.shares) in_range).new_job, same))) (λ i j new in_range new' in_range' same inside before.
     (f.filled.fill.taken.early (i - length f.found.shares) no_share in_range (share_at f.shares (j - length f.found.shares)).stretch inside.from before).before
     (j - length f.found.shares) no_share in_range' refl) x y within within'
 

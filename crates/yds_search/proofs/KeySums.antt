@@ -1,12 +1,13 @@
--- Sums over lists that are filtered, mapped and merged, and a sum that is split by a key.
-use Rattle.std.proofs.Common.{◌≡◌, ℕ, zero, suc, ◌+◌, ◌<◌, ◌≤◌, ◌==◌, List, [], ◌∷◌, ◌++◌, ◌∙◌, length, map, get_or, take, sym, refl, ap, arith, inl, inr, Bool, true, false, add-one}
+-- Sums over lists that are filtered, mapped and merged, over the numbers below n, and a sum that is split by a key.
+use Rattle.std.proofs.Common.{◌≡◌, ℕ, zero, suc, ◌+◌, ◌<◌, ◌≤◌, ◌==◌, List, [], ◌∷◌, ◌++◌, ◌∙◌, length, map, get_or, take, sym, refl, ap, arith, inl, inr, Bool, true, false, add-one, ◌*◌}
 use Rattle.std.specs.Prelude.{cond, nat_lt}
 use Rattle.std.specs.List.{All, sum_by, filter, flat_map, range_with_len}
 use Rattle.std.proofs.lemmas.Bool.{cases_eq, cases_lt, ne_eqb, eq-eqb, lt-ltb, le-ltb}
 use Rattle.std.proofs.lemmas.List.Sums.{sum_by-cons, sum_by-append, sum_by_push, sum_by_more, sum_by-le-sum_by}
-use Rattle.std.proofs.lemmas.List.{map-id, take_all}
-use Rattle.std.proofs.lemmas.List.FromFn.{get_or-range_with_len, length-range_with_len, map-range_with_len_more}
+use Rattle.std.proofs.lemmas.List.{map-id, take_all, same_lists, get_or_default}
+use Rattle.std.proofs.lemmas.List.FromFn.{get_or-range_with_len, length-range_with_len, map-range_with_len_more, length-map-range_with_len, get_or-map-range_with_len}
 use Rattle.yds_model.proofs.Sums.{sum_by-add, sum_by_same, sum_by_zero}
+use Rattle.std.proofs.lemmas.List.Folds.{fold-map}
 
 filter_step : {X : Type 0} (p : Bool) (x : X) (f : X → ℕ) (xs : List X) → sum_by f (cond p (x ∷ xs) xs) ≡ cond p (f x) 0 + sum_by f xs
 filter_step true x f xs = sum_by-cons f x xs
@@ -30,8 +31,7 @@ sum_by-flat_map g f (x ∷ xs) =
 pub sums_swap : {X Y : Type 0} (f : X → Y → ℕ) (xs : List X) (ys : List Y) → sum_by (λ x. sum_by (f x) ys) xs ≡ sum_by (λ y. sum_by (λ x. f x y) xs) ys
 sums_swap f [] ys = sym (sum_by_zero (λ y. 0) ys (λ k d within. refl))
 sums_swap f (x ∷ xs) ys =
-    sum_by-cons (λ one. sum_by (f one) ys) x xs ∙ ap (λ n. sum_by (f x) ys + n) (sums_swap f xs ys)
-    ∙ sym (sum_by-add (f x) (λ y. sum_by (λ one. f one y) xs) ys)
+    sum_by-cons (λ one. sum_by (f one) ys) x xs ∙ ap (λ n. sum_by (f x) ys + n) (sums_swap f xs ys) ∙ sym (sum_by-add (f x) (λ y. sum_by (λ one. f one y) xs) ys)
     ∙ sum_by_same (λ y. f x y + sum_by (λ one. f one y) xs) (λ y. sum_by (λ one. f one y) (x ∷ xs)) ys
     (λ k d within. sym (sum_by-cons (λ one. f one (get_or ys k d)) x xs))
 
@@ -55,31 +55,19 @@ is_here key k v same = ap (λ b. cond b v 0) (eq-eqb key k same)
 -- of a range's terms only that of the key counts
 outside_range : (a n key v : ℕ) → (a + n ≤ key) → sum_by (λ k. cond (key == k) v 0) (range_with_len a n) ≡ 0
 outside_range a n key v out =
-    sum_by_zero (λ k. cond (key == k) v 0) (range_with_len a n)
-    (All-range (λ k. cond (key == k) v 0 ≡ 0) a n (λ i below. not_here key (a + i) v (λ same. omega arith)))
+    sum_by_zero (λ k. cond (key == k) v 0) (range_with_len a n) (All-range (λ k. cond (key == k) v 0 ≡ 0) a n (λ i below. not_here key (a + i) v (λ same. omega arith)))
 
 before_range : (a n key v : ℕ) → key < a → sum_by (λ k. cond (key == k) v 0) (range_with_len a n) ≡ 0
 before_range a n key v out =
-    sum_by_zero (λ k. cond (key == k) v 0) (range_with_len a n)
-    (All-range (λ k. cond (key == k) v 0 ≡ 0) a n (λ i below. not_here key (a + i) v (λ same. omega arith)))
+    sum_by_zero (λ k. cond (key == k) v 0) (range_with_len a n) (All-range (λ k. cond (key == k) v 0 ≡ 0) a n (λ i below. not_here key (a + i) v (λ same. omega arith)))
 
 inside_range : (a n key v : ℕ) → a ≤ key → key < a + n → sum_by (λ k. cond (key == k) v 0) (range_with_len a n) ≡ v
 inside_range a zero key v from below = absurd (omega arith)
 inside_range a (suc n) key v from below = elim (cases_eq key a) [
-  | inl same ↦ omega (
-    arith,
-    sum_by-cons (λ k. cond (key == k) v 0) a (range_with_len (a + 1) n),
-    is_here key a v same,
-    before_range (a + 1) n key v (omega arith),
-  )
+  | inl same ↦ omega (arith, sum_by-cons (λ k. cond (key == k) v 0) a (range_with_len (a + 1) n), is_here key a v same, before_range (a + 1) n key v (omega arith))
   | inr other ↦
       let later : a < key = grind arith in
-      omega (
-        arith,
-        sum_by-cons (λ k. cond (key == k) v 0) a (range_with_len (a + 1) n),
-        not_here key a v other,
-        inside_range (a + 1) n key v (omega arith) (omega arith),
-      )
+      omega (arith, sum_by-cons (λ k. cond (key == k) v 0) a (range_with_len (a + 1) n), not_here key a v other, inside_range (a + 1) n key v (omega arith) (omega arith))
 ]
 
 pub one_of_range : (n key v : ℕ) → sum_by (λ k. cond (key == k) v 0) (range_with_len 0 n) ≡ cond (nat_lt key n) v 0
@@ -109,8 +97,7 @@ cond_at_most true v = omega arith
 cond_at_most false v = omega arith
 
 -- they are never more
-pub split_at_most : {X : Type 0} (key : X → ℕ) (f : X → ℕ) (n : ℕ) (xs : List X) →
-    sum_by (λ k. sum_by f (filter (λ x. key x == k) xs)) (range_with_len 0 n) ≤ sum_by f xs
+pub split_at_most : {X : Type 0} (key : X → ℕ) (f : X → ℕ) (n : ℕ) (xs : List X) → sum_by (λ k. sum_by f (filter (λ x. key x == k) xs)) (range_with_len 0 n) ≤ sum_by f xs
 split_at_most key f n xs =
     omega (arith, split_sum key f n xs, sum_by-le-sum_by (λ x. cond (nat_lt (key x) n) (f x) 0) f xs (λ x. cond_at_most (nat_lt (key x) n) (f x)))
 
@@ -125,13 +112,11 @@ range_more n =
     sym (map-id (range_with_len 0 (n + 1))) ∙ map-range_with_len_more (λ k. k) 0 n n (omega arith) ∙ ap (λ ks. ks ++ n ∷ []) (map-id (range_with_len 0 n))
 
 -- a sum over the first elements, by their places
-pub sum_of_first : {X : Type 0} (f : X → ℕ) (xs : List X) (d : X) (i : ℕ) → i ≤ length xs →
-    sum_by (λ k. f (get_or xs k d)) (range_with_len 0 i) ≡ sum_by f (take i xs)
+pub sum_of_first : {X : Type 0} (f : X → ℕ) (xs : List X) (d : X) (i : ℕ) → i ≤ length xs → sum_by (λ k. f (get_or xs k d)) (range_with_len 0 i) ≡ sum_by f (take i xs)
 sum_of_first f xs d zero within = refl
 sum_of_first f xs d (suc i) within =
     ap (sum_by (λ k. f (get_or xs k d))) (ap (range_with_len 0) (sym (add-one i)) ∙ range_more i) ∙ sum_by_push (λ k. f (get_or xs k d)) (range_with_len 0 i) i
-    ∙ ap (λ n. n + f (get_or xs i d)) (sum_of_first f xs d i (omega arith))
-    ∙ sym (ap (λ n. sum_by f (take n xs)) (sym (add-one i)) ∙ sum_by_more f xs i d (omega arith))
+    ∙ ap (λ n. n + f (get_or xs i d)) (sum_of_first f xs d i (omega arith)) ∙ sym (ap (λ n. sum_by f (take n xs)) (sym (add-one i)) ∙ sum_by_more f xs i d (omega arith))
 
 pub sum_of_all : {X : Type 0} (f : X → ℕ) (xs : List X) (d : X) → sum_by (λ k. f (get_or xs k d)) (range_with_len 0 (length xs)) ≡ sum_by f xs
 sum_of_all f xs d = sum_of_first f xs d (length xs) (omega arith) ∙ ap (sum_by f) (take_all (length xs) xs (omega arith))
@@ -145,3 +130,65 @@ range_within f (suc n) k below =
       | inl before ↦ omega (arith, range_within f n k before, last)
       | inr here ↦ let same : k ≡ n = omega arith in rw same (omega (arith, last))
     ]
+
+-- the sum of f over the numbers below n
+abbrev pub over : ℕ → (ℕ → ℕ) → ℕ
+over n f = sum_by f (range_with_len 0 n)
+
+-- one number more
+pub over_more : (f : ℕ → ℕ) (n : ℕ) → over (suc n) f ≡ over n f + f n
+over_more f n = ap (sum_by f) (ap (range_with_len 0) (sym (add-one n)) ∙ range_more n) ∙ sum_by_push f (range_with_len 0 n) n
+
+pub over_same : (f g : ℕ → ℕ) (n : ℕ) → ((k : ℕ) → k < n → f k ≡ g k) → over n f ≡ over n g
+over_same f g zero same = refl
+over_same f g (suc n) same = omega (arith, over_more f n, over_more g n, same n (omega arith), over_same f g n (λ k below. same k (omega arith)))
+
+pub over_at_most : (f g : ℕ → ℕ) (n : ℕ) → ((k : ℕ) → k < n → f k ≤ g k) → over n f ≤ over n g
+over_at_most f g zero most = omega arith
+over_at_most f g (suc n) most = omega (arith, over_more f n, over_more g n, most n (omega arith), over_at_most f g n (λ k below. most k (omega arith)))
+
+pub over_zero : (f : ℕ → ℕ) (n : ℕ) → ((k : ℕ) → k < n → f k ≡ 0) → over n f ≡ 0
+over_zero f zero none = refl
+over_zero f (suc n) none = omega (arith, over_more f n, none n (omega arith), over_zero f n (λ k below. none k (omega arith)))
+
+-- a number's own term is within the sum
+pub over_one : (f : ℕ → ℕ) (n k : ℕ) → k < n → f k ≤ over n f
+over_one f zero k below = absurd (omega arith)
+over_one f (suc n) k below = elim (cases_lt k n) [
+  | inl before ↦ omega (arith, over_more f n, over_one f n k before)
+  | inr after ↦ let same : k ≡ n = omega arith in omega (arith, over_more f n, ap f same)
+]
+
+-- a sum that isn't 0 has a term that isn't
+pub over_some : (f : ℕ → ℕ) (n : ℕ) → 1 ≤ over n f → (k : ℕ) × (k < n) × (1 ≤ f k)
+over_some f zero some = absurd (omega arith)
+over_some f (suc n) some = elim (cases_lt 0 (f n)) [
+  | inl here ↦ (n, omega arith, here)
+  | inr none ↦
+      let found = over_some f n (omega (arith, over_more f n)) in
+      (found.0, omega (arith, found.1), found.2)
+]
+
+pub over_add : (f g : ℕ → ℕ) (n : ℕ) → over n (λ k. f k + g k) ≡ over n f + over n g
+over_add f g zero = refl
+over_add f g (suc n) = omega (arith, over_more (λ k. f k + g k) n, over_more f n, over_more g n, over_add f g n)
+
+pub over_mul : (factor : ℕ) (f : ℕ → ℕ) (n : ℕ) → over n (λ k. factor * f k) ≡ factor * over n f
+over_mul factor f zero = omega arith
+over_mul factor f (suc n) = omega (arith, over_more (λ k. factor * f k) n, over_more f n, over_mul factor f n, ap (λ x. factor * x) (over_more f n))
+
+pub over_ones : (n : ℕ) → over n (λ k. 1) ≡ n
+over_ones zero = refl
+over_ones (suc n) = omega (arith, over_more (λ k. 1) n, over_ones n)
+
+-- the places of a list read one by one
+list_place : {X : Type 0} (xs : List X) (d : X) (k : ℕ) → k < length (map (λ n. get_or xs n d) (range_with_len 0 (length xs))) → k < length xs
+list_place xs d k within = omega (arith, within, length-map-range_with_len (λ n. get_or xs n d) 0 (length xs))
+
+-- the sum over a list's places is that over the list
+pub over_list : {X : Type 0} (f : X → ℕ) (xs : List X) (d : X) → over (length xs) (λ k. f (get_or xs k d)) ≡ sum_by f xs
+over_list f xs d =
+    sym (fold-map (λ a x. a + f x) (λ k. get_or xs k d) 0 (range_with_len 0 (length xs)))
+    ∙ ap (sum_by f) (same_lists (map (λ k. get_or xs k d) (range_with_len 0 (length xs))) xs (length-map-range_with_len (λ k. get_or xs k d) 0 (length xs))
+    (λ k e within. get_or-map-range_with_len (λ n. get_or xs n d) 0 (length xs) k k e (list_place xs d k within) (omega arith)
+    ∙ get_or_default xs k d e (list_place xs d k within)))

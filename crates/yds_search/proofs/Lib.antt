@@ -1,11 +1,8 @@
 pub mod KeySums
 mod Fills
-mod Nexts
-mod Ranges
 mod Closures
 mod Balance
 mod Shares
-mod Finished
 mod Splits
 mod Deadlines
 mod Ends

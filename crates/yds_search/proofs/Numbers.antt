@@ -60,8 +60,7 @@ one_or_none numbers k = elim (found_among numbers k (length numbers)) [
 ]
 
 -- what stands at a number of the list, and elsewhere
-pub written_at : (P : ℕ → ℕ → Type 0) (numbers old new : List ℕ) (k : ℕ) → AreWritten P numbers (length numbers) old new → IsOneOf numbers k →
-    P k (get_or new k 0)
+pub written_at : (P : ℕ → ℕ → Type 0) (numbers old new : List ℕ) (k : ℕ) → AreWritten P numbers (length numbers) old new → IsOneOf numbers k → P k (get_or new k 0)
 written_at P numbers old new k written one = subst (λ (i : ℕ). P i (get_or new i 0)) one.2 (written.there one.0 one.1)
 
 pub written_off : (P : ℕ → ℕ → Type 0) (numbers old new : List ℕ) (k : ℕ) → AreWritten P numbers (length numbers) old new → (IsOneOf numbers k → ⊥) →
@@ -106,8 +105,7 @@ pub in_order : (R : ℕ → ℕ → Type 0) (groups : List ℕ) (group : ℕ) (n
     ((a b : ℕ) → a < b → b < length numbers → R (get_or numbers a 0) (get_or numbers b 0)) →
     (a b : ℕ) → a < b → b < length (numbers_in groups group numbers) → R (get_or (numbers_in groups group numbers) a 0) (get_or (numbers_in groups group numbers) b 0)
 in_order R groups group numbers rising a b before within =
-    AllPairs-filter R (λ i. group_of groups i == group) numbers
-    (λ i j d less upto. subst (λ (n : ℕ). R n (get_or numbers j d)) (get_or_same numbers i d (omega arith))
+    AllPairs-filter R (λ i. group_of groups i == group) numbers (λ i j d less upto. subst (λ (n : ℕ). R n (get_or numbers j d)) (get_or_same numbers i d (omega arith))
     (subst (R (get_or numbers i 0)) (get_or_same numbers j d upto) (rising i j less upto))) a b 0 before within
 
 -- groups with the same members have the same list

@@ -19,8 +19,7 @@ chosen_some number group value is same some = elim (cases_eq number group) [
 ]
 
 -- a share's own units are among those of its number
-pub share_counts : (key : Share → ℕ) (shares : List Share) (x : ℕ) → x < length shares →
-    (share_at shares x).units ≤ units_at key shares (key (share_at shares x))
+pub share_counts : (key : Share → ℕ) (shares : List Share) (x : ℕ) → x < length shares → (share_at shares x).units ≤ units_at key shares (key (share_at shares x))
 share_counts key shares x within = omega (
   arith,
   get_or-le-sum_by (λ share. if key share == key (share_at shares x) then share.units else 0) shares x no_share within,

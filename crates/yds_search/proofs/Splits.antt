@@ -11,9 +11,9 @@ use Rattle.yds_search.specs.Numbers.{IsOneOf}
 use Rattle.yds_search.specs.Search.{IsFast, IsSlow, LieInWindows, IsBoundary, MayTake, IsSearch, IsFilled, IsSplit}
 use Rattle.yds_model.proofs.Horizon.{part_own}
 use Rattle.yds_search.proofs.Shares.{chosen_some, share_counts, some_share}
-use Rattle.yds_search.proofs.Ranges.{over_some, over_one}
+use Rattle.yds_search.proofs.KeySums.{over_some, over_one}
 use Rattle.yds_search.proofs.Balance.{balance}
-use Rattle.yds_search.proofs.Finished.{moved, AreAlike, kept_finished}
+use Rattle.yds_search.proofs.Ends.{moved, AreAlike, kept_finished}
 
 -- all that is known of a split: group `below` + 1 becomes `below` and itself
 pub record Splitting : Type 0 where
@@ -131,8 +131,7 @@ confined_job s j known mine marked = elim (s.split.job j (omega (arith, s.search
 ]
 
 -- who has a share in a marked stretch is one of the upper part
-shared_job : (s : Splitting) (x : ℕ) → x < length s.shares → IsMarked s.reaches (share_at s.shares x).stretch →
-    group_of s.new_jobs (share_at s.shares x).job ≡ s.below
+shared_job : (s : Splitting) (x : ℕ) → x < length s.shares → IsMarked s.reaches (share_at s.shares x).stretch → group_of s.new_jobs (share_at s.shares x).job ≡ s.below
 shared_job s x within marked =
     let own = own_share s x within in
     confined_job s (share_at s.shares x).job own.runs.known own.job (λ k inside one. s.closed.shared x k within marked inside one)
@@ -341,8 +340,7 @@ job_after s j known some = elim (s.split.job j (omega (arith, s.search.all_jobs)
   ]
 ]
 
-stretch_after : (s : Splitting) (k : ℕ) → k < length (stretches s.jobs) →
-    (group_of s.new_stretches k < length s.found.groups) ⊎ (s.below ≤ group_of s.new_stretches k)
+stretch_after : (s : Splitting) (k : ℕ) → k < length (stretches s.jobs) → (group_of s.new_stretches k < length s.found.groups) ⊎ (s.below ≤ group_of s.new_stretches k)
 stretch_after s k known = elim (s.split.stretch k (omega (arith, s.search.all_stretches))) [
   | inl upper ↦ inr (omega (arith, upper.2))
   | inr same ↦ elim (s.search.stretch k known) [

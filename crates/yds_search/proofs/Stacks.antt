@@ -59,10 +59,7 @@ pub renamed_is : (old new numbers whole : List ℕ) (group to n : ℕ) → numbe
     AreWritten (λ i value. value ≡ to) numbers (length numbers) old new → (k : ℕ) → k < n → IsRenamed group to (group_of old k) (group_of new k)
 renamed_is old new numbers whole group to n same all written k known = elim (one_or_none numbers k) [
   | inl one ↦ inl (list_group old group numbers whole k same one, written_at (λ i value. value ≡ to) numbers old new k written one)
-  | inr none ↦ inr (
-    (λ mine. none (list_has old group numbers whole k same (all k known) mine)),
-    written_off (λ i value. value ≡ to) numbers old new k written none,
-  )
+  | inr none ↦ inr ((λ mine. none (list_has old group numbers whole k same (all k known) mine)), written_off (λ i value. value ≡ to) numbers old new k written none)
 ]
 
 -- only numbers of the group change, and become no greater
@@ -113,8 +110,7 @@ split_job_is P jobs windows old new numbers whole left old_jobs new_jobs own_job
       elim (written_at (IsJobNumber windows left top) own_jobs old_jobs new_jobs j written' one) [
         | inl misses ↦ inl (
           mine,
-          (λ k inside is. misses.0 k inside
-              (left_has P old new numbers whole left top k same same' written (all k (omega (arith, inside.upto, are.inside j known))) is)),
+          (λ k inside is. misses.0 k inside (left_has P old new numbers whole left top k same same' written (all k (omega (arith, inside.upto, are.inside j known))) is)),
           omega (arith, some, misses.1),
         )
         | inr meets ↦ inr ((λ is. (meets.0.0, meets.0.1, list_group new top left numbers meets.0.0 same' meets.0.2)), meets.1 ∙ sym mine)
@@ -182,8 +178,7 @@ pub stack_kept : (order : List ℕ) (found new : Found) (top last : ℕ) (parts 
     IsStack order found (top + 1) last parts → IsStack order new (top + 1) last parts
 stack_kept order found new top last parts count moved moved' stack = record {
   count = stack.count;
-  each = λ i within. waiting_kept order found new (last - i) top (part_at parts i) count moved moved'
-      (omega (arith, stack.count, within)) (stack.each i within);
+  each = λ i within. waiting_kept order found new (last - i) top (part_at parts i) count moved moved' (omega (arith, stack.count, within)) (stack.each i within);
 }
 
 -- the last group is the fastest one

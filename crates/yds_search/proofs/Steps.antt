@@ -11,11 +11,10 @@ use Rattle.yds_search.specs.Numbers.{IsOneOf, numbers_in, AreWritten}
 use Rattle.yds_search.specs.Closure.{AreClosed, AreAllReaches, AreClosing}
 use Rattle.yds_search.specs.Search.{IsSearch, IsAttempt, IsRenamed, IsSplitStretch, IsSplit, IsJobNumber, split_stretch, AreMovedFrom}
 use Rattle.yds_search.specs.Instance.{IsInstance}
-use Rattle.yds_search.proofs.Ranges.{over, over_at_most, over_add, over_one, over_zero, over_list}
+use Rattle.yds_search.proofs.KeySums.{over, over_at_most, over_add, over_one, over_zero, over_list}
 use Rattle.yds_search.proofs.Balance.{over_alone, balance}
 use Rattle.yds_model.proofs.Horizon.{part_own, part_other}
-use Rattle.yds_search.proofs.Ends.{few_groups, few_left}
-use Rattle.yds_search.proofs.Finished.{moved}
+use Rattle.yds_search.proofs.Ends.{few_groups, few_left, moved}
 use Rattle.yds_search.proofs.Finish.{Finishing, finish_search}
 use Rattle.yds_search.proofs.Splits.{Splitting, split_search}
 use Rattle.std.specs.List.{range_with_len}
@@ -35,8 +34,7 @@ less_here k i one other most less = elim (cases_eq k i) [
 over_less : (f g : ℕ → ℕ) (n k : ℕ) → ((i : ℕ) → i < n → f i ≤ g i) → k < n → f k < g k → over n f < over n g
 over_less f g n k most within less = omega (
   arith,
-  over_at_most (λ i. f i + (if k == i then 1 else 0)) g n
-      (λ i below. less_here k i (f i) (g i) (most i below) (λ same. subst (λ (j : ℕ). f j < g j) same less)),
+  over_at_most (λ i. f i + (if k == i then 1 else 0)) g n (λ i below. less_here k i (f i) (g i) (most i below) (λ same. subst (λ (j : ℕ). f j < g j) same less)),
   over_add f (λ i. if k == i then 1 else 0) n,
   over_alone 1 n k within,
 )
@@ -63,8 +61,7 @@ abbrev finishing : (jobs : List Job) (instance : Instance) (found : Found) (top 
     IsAttempt jobs instance.windows.items found top group shares wants' rooms' → ((j : ℕ) → j < length jobs → get_or wants' j 0 ≡ 0) →
     length new_jobs ≡ length found.group_of_job → length new_stretches ≡ length found.group_of_stretch →
     ((j : ℕ) → j < length found.group_of_job → IsRenamed top (length found.groups) (group_of found.group_of_job j) (group_of new_jobs j)) →
-    ((k : ℕ) → k < length found.group_of_stretch → IsRenamed top (length found.groups) (group_of found.group_of_stretch k) (group_of new_stretches k)) →
-    Finishing
+    ((k : ℕ) → k < length found.group_of_stretch → IsRenamed top (length found.groups) (group_of found.group_of_stretch k) (group_of new_stretches k)) → Finishing
 finishing jobs instance found top group shares wants' rooms' new_jobs new_stretches are search within attempt served all_jobs all_stretches job stretch =
     record {
       jobs = jobs;
@@ -137,8 +134,7 @@ finish_smaller jobs instance found top new_stretches are search within all_stret
     let there = search.peopled top (omega arith) within in
     let in_range : there.0 < length found.group_of_stretch = omega (arith, search.all_stretches, there.1) in
     sum_less new_stretches found.group_of_stretch there.0 all_stretches
-    (λ k known. renamed_most top (length found.groups) (group_of found.group_of_stretch k) (group_of new_stretches k) (omega (arith, less)) (stretch k known))
-    in_range
+    (λ k known. renamed_most top (length found.groups) (group_of found.group_of_stretch k) (group_of new_stretches k) (omega (arith, less)) (stretch k known)) in_range
     (renamed_less top (length found.groups) (group_of found.group_of_stretch there.0) (group_of new_stretches there.0) (omega (arith, less)) (stretch there.0 in_range) there.2)
 
 abbrev splitting : (jobs : List Job) (instance : Instance) (found : Found) (below : ℕ) (group : Group) (shares : List Share) (wants' rooms' own reaches : List ℕ)
@@ -220,8 +216,7 @@ split_top jobs instance found top group shares wants' rooms' own reaches new_job
     let is : top ≡ top - 1 + 1 = omega arith in
     split_step jobs instance found (top - 1) group shares wants' rooms' own reaches new_jobs new_stretches are
     (subst (λ (n : ℕ). IsSearch jobs instance.windows.items found n 1000000) is search) (omega arith)
-    (subst (λ (n : ℕ). IsAttempt jobs instance.windows.items found n group shares wants' rooms') is attempt)
-    any (λ k known mine. all k known (mine ∙ sym is)) closed
+    (subst (λ (n : ℕ). IsAttempt jobs instance.windows.items found n group shares wants' rooms') is attempt) any (λ k known mine. all k known (mine ∙ sym is)) closed
     (subst (λ (n : ℕ). IsSplit instance.windows.items reaches n found.group_of_job found.group_of_stretch new_jobs new_stretches) is split)
 
 -- the stretches of a group rise

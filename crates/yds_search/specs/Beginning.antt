@@ -25,5 +25,4 @@ pub record AreCovered (ends : List ℕ) (n : ℕ) (groups : List ℕ) : Type 0 w
 -- the first n jobs have the first group's number where they have work
 pub record AreWorking (jobs : List Job) (n : ℕ) (groups : List ℕ) : Type 0 where
   pub count : length groups ≡ n
-  pub each : (j : ℕ) → j < n →
-      (((job_at jobs j).work ≡ 0) × (group_of groups j ≡ LAST + 1)) ⊎ ((1 ≤ (job_at jobs j).work) × (group_of groups j ≡ LAST))
+  pub each : (j : ℕ) → j < n → (((job_at jobs j).work ≡ 0) × (group_of groups j ≡ LAST + 1)) ⊎ ((1 ≤ (job_at jobs j).work) × (group_of groups j ≡ LAST))

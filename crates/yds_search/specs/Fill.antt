@@ -24,8 +24,7 @@ pub record IsPart (windows : List Window) (n m : ℕ) (share : Share) : Type 0 w
 
 -- a job with a share found each stretch before it in its window full
 abbrev pub FoundFull : List Job → List Window → List Share → List ℕ → Share → Type 0
-FoundFull jobs windows shares rooms share = (k : ℕ) → (window_at windows share.job).first ≤ k → k < share.stretch →
-    IsFullBefore jobs shares rooms k share.job
+FoundFull jobs windows shares rooms share = (k : ℕ) → (window_at windows share.job).first ≤ k → k < share.stretch → IsFullBefore jobs shares rooms k share.job
 
 -- in a stretch one job precedes the next
 abbrev pub StandInOrder : List Job → Share → Share → Type 0

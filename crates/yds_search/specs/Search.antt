@@ -72,8 +72,7 @@ pub record IsFinished (jobs : List Job) (windows : List Window) (found : Found) 
       Precedes jobs (share_at found.shares x).job (share_at found.shares y).job
   pub earliest : (x y : ℕ) → x < length found.shares → y < length found.shares →
       group_of found.group_of_job (share_at found.shares x).job ≡ group_of found.group_of_job (share_at found.shares y).job →
-      IsIn windows (share_at found.shares x).job (share_at found.shares y).stretch →
-      (share_at found.shares y).stretch < (share_at found.shares x).stretch →
+      IsIn windows (share_at found.shares x).job (share_at found.shares y).stretch → (share_at found.shares y).stretch < (share_at found.shares x).stretch →
       ComesFirst jobs (share_at found.shares y).job (share_at found.shares x).job
   pub few : length found.shares ≤ finished_count found.group_of_job (length found.groups) (length jobs)
       + finished_count found.group_of_stretch (length found.groups) (length (stretches jobs))
@@ -92,8 +91,7 @@ pub record IsSearch (jobs : List Job) (windows : List Window) (found : Found) (t
   pub with_work : (j : ℕ) → j < length jobs → 1 ≤ (job_at jobs j).work →
       (group_of found.group_of_job j < length found.groups) ⊎ ((top ≤ group_of found.group_of_job j) × (group_of found.group_of_job j ≤ last))
   pub idle : (j : ℕ) → j < length jobs → (job_at jobs j).work ≡ 0 → last < group_of found.group_of_job j
-  pub stretch : (k : ℕ) → k < length (stretches jobs) →
-      (group_of found.group_of_stretch k < length found.groups) ⊎ (top ≤ group_of found.group_of_stretch k)
+  pub stretch : (k : ℕ) → k < length (stretches jobs) → (group_of found.group_of_stretch k < length found.groups) ⊎ (top ≤ group_of found.group_of_stretch k)
   -- who may run in a stretch of a group, and where a job of a group may run
   pub covered : (k : ℕ) → k < length (stretches jobs) → top ≤ group_of found.group_of_stretch k → group_of found.group_of_stretch k ≤ last →
       (j : ℕ) × MayTake jobs windows j k × (group_of found.group_of_job j ≡ group_of found.group_of_stretch k)
@@ -111,10 +109,8 @@ pub record IsFilled (jobs : List Job) (windows : List Window) (found : Found) (t
   pub fill : IsFill jobs windows wants rooms shares wants' rooms'
   pub all_wants : length wants ≡ length jobs
   pub all_rooms : length rooms ≡ length (stretches jobs)
-  pub want : (j : ℕ) → j < length jobs →
-      slice_index wants j ≡ (if group_of found.group_of_job j == top then q * (job_at jobs j).work else 0)
-  pub room : (k : ℕ) → k < length (stretches jobs) →
-      slice_index rooms k ≡ (if group_of found.group_of_stretch k == top then p * length_at jobs k else 0)
+  pub want : (j : ℕ) → j < length jobs → slice_index wants j ≡ (if group_of found.group_of_job j == top then q * (job_at jobs j).work else 0)
+  pub room : (k : ℕ) → k < length (stretches jobs) → slice_index rooms k ≡ (if group_of found.group_of_stretch k == top then p * length_at jobs k else 0)
   pub some_time : 1 ≤ p
   pub some_work : 1 ≤ q
   pub balanced : p * length_of_group jobs found.group_of_stretch top (length (stretches jobs)) ≡ q * work_of_group jobs found.group_of_job top (length jobs)
@@ -156,8 +152,7 @@ pub record IsBeginning (jobs : List Job) (windows : List Window) (found : Found)
   pub all_stretches : length found.group_of_stretch ≡ length (stretches jobs)
   pub job : (j : ℕ) → j < length jobs →
       (((job_at jobs j).work ≡ 0) × (group_of found.group_of_job j ≡ last + 1)) ⊎ ((1 ≤ (job_at jobs j).work) × (group_of found.group_of_job j ≡ last))
-  pub stretch : (k : ℕ) → k < length (stretches jobs) →
-      (((j : ℕ) × MayTake jobs windows j k) × (group_of found.group_of_stretch k ≡ last))
+  pub stretch : (k : ℕ) → k < length (stretches jobs) → (((j : ℕ) × MayTake jobs windows j k) × (group_of found.group_of_stretch k ≡ last))
       ⊎ (((j : ℕ) → MayTake jobs windows j k → ⊥) × (group_of found.group_of_stretch k ≡ last + 1))
   pub no_groups : found.groups ≡ []
   pub no_shares : found.shares ≡ []

@@ -19,10 +19,7 @@ part_at parts i = slice_index_or parts i no_part
 
 -- those of a part's jobs and stretches that are in a group
 abbrev pub part_in : Found → ℕ → Part → Part
-part_in found group part = record {
-  jobs = numbers_in found.group_of_job group part.jobs;
-  stretches = numbers_in found.group_of_stretch group part.stretches;
-}
+part_in found group part = record { jobs = numbers_in found.group_of_job group part.jobs; stretches = numbers_in found.group_of_stretch group part.stretches }
 
 -- the part has all jobs of a group, in this order, and all its stretches, in order of time
 pub record IsWaiting (order : List ℕ) (found : Found) (group : ℕ) (part : Part) : Type 0 where

@@ -159,7 +159,7 @@ impl<'a> Search<'a> {
             .reach(windows, &own, &space.wants, &space.filling.shares);
         let groups = &mut self.found.group_of_stretch;
         split_stretches(groups, own_stretches, &space.reaches.all, self.top);
-        let left = &mut space.parted;
+        let left = &mut space.parted.kept;
         left.clear();
         members(own_stretches, groups, self.top, left)?;
         guess_places(&mut space.reaches.guesses, own_stretches, groups, self.top);

@@ -64,6 +64,37 @@ pub(crate) fn members(
     Ok(())
 }
 
+/// Room for the two parts of a list.
+#[derive(Debug, Drop)]
+pub(crate) struct Parted {
+    /// Those that are in a group.
+    pub kept: Vec<u32>,
+    /// Those that are in the group before it.
+    pub moved: Vec<u32>,
+}
+
+impl Parted {
+    /// Those of these numbers that are in a group, and those in the group before it.
+    fn part(&mut self, numbers: &[u32], groups: &[u32], group: u32) -> Result<(), Memory>
+        requires some { 1 ≤ group }
+        requires known { All (λ i. i < length groups.now) numbers.now }
+        ensures kept { OnOk result (self.new.kept.items ≡ numbers_in groups.now group numbers.now) }
+        ensures moved { OnOk result (self.new.moved.items ≡ numbers_in groups.now (group - 1) numbers.now) }
+    {
+        self.kept.clear();
+        self.moved.clear();
+        for i in numbers {
+            let number = groups[*i as usize];
+            if number == group {
+                self.kept.push(*i)?;
+            } else if number == group - 1 {
+                self.moved.push(*i)?;
+            }
+        }
+        Ok(())
+    }
+}
+
 /// Parts the last of these numbers, so many: those that are in a group stand before those in the group before it then. Answers
 /// how many they are.
 fn part(
@@ -71,7 +102,7 @@ fn part(
     count: usize,
     groups: &[u32],
     group: u32,
-    parted: &mut Vec<u32>,
+    parted: &mut Parted,
 ) -> Result<(usize, usize), Memory>
     requires some { 1 ≤ group }
     requires own { (front : List ℕ) × (own : List ℕ) × (numbers.old.items ≡ front ++ own) × (count ≡ length own) × All (λ i. i < length groups.now) own }
@@ -82,14 +113,11 @@ fn part(
     ensures second { IfOk result (λ counts. (front own : List ℕ) → numbers.old.items ≡ front ++ own → count ≡ length own →
         counts.1 ≡ length (numbers_in groups.now (group - 1) own)) }
 {
-    parted.clear();
-    members(last(numbers, count), groups, group, parted)?;
-    let kept = parted.len();
-    members(last(numbers, count), groups, group - 1, parted)?;
-    let moved = parted.len() - kept;
+    parted.part(last(numbers, count), groups, group)?;
     numbers.truncate(numbers.len() - count);
-    numbers.extend_from_slice(parted)?;
-    Ok((kept, moved))
+    numbers.extend_from_slice(&parted.kept)?;
+    numbers.extend_from_slice(&parted.moved)?;
+    Ok((parted.kept.len(), parted.moved.len()))
 }
 
 /// The numbers from 0 on, so many.
@@ -132,7 +160,7 @@ impl Stack {
         size: Size,
         found: &Found,
         top: u32,
-        parted: &mut Vec<u32>,
+        parted: &mut Parted,
     ) -> Result<(), Memory>
         requires some { 1 ≤ top }
         requires last { (parts : List Part) × (part : Part) × AreLast parts part size self.old × All (λ j. j < length found.now.group_of_job.items) part.jobs × All (λ k. k < length found.now.group_of_stretch.items) part.stretches }

@@ -5,6 +5,7 @@ ghost use Rattle.yds_search.specs.Waiting.{IsBlank, AreWithin, HasReaches};
 use crate::amounts::clear;
 use crate::closure::Reaches;
 use crate::fill::Filling;
+use crate::stack::Parted;
 use std::alloc::Global;
 use yds_model::Memory;
 
@@ -19,7 +20,7 @@ pub(crate) struct Workspace {
     /// How far jobs reach that close upon a stretch, of no meaning between groups.
     pub reaches: Reaches,
     /// Room for the two parts of a list.
-    pub parted: Vec<u32>,
+    pub parted: Parted,
 }
 
 /// Room for so many jobs and so many stretches.
@@ -45,7 +46,10 @@ pub(crate) fn blank_workspace(
             all: vec![in alloc; 0; stretches]?,
             guesses: vec![in alloc; 0; stretches]?,
         },
-        parted: Vec::with_capacity(alloc, jobs + stretches)?,
+        parted: Parted {
+            kept: Vec::with_capacity(alloc, jobs + stretches)?,
+            moved: Vec::with_capacity(alloc, jobs + stretches)?,
+        },
     })
 }
 

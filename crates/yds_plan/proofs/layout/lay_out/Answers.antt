@@ -5,9 +5,8 @@ use Rattle.yds_search.specs.Views.{found_view}
 use Rattle.yds_plan.specs.Drafts.{drafts}
 use Rattle.yds_plan.specs.Laid.{levels_of}
 use Rattle.yds_events.proofs.Neighbours.{few_stretches}
-use Rattle.yds_plan.proofs.Speeds.{among_below}
-use Rattle.yds_plan.proofs.Levels.{levels_length, few_members}
-use Rattle.yds_plan.proofs.LevelPieces.{few_pieces}
+use Rattle.yds_plan.proofs.Drafts.{among_below}
+use Rattle.yds_plan.proofs.Levels.{levels_length, few_members, few_pieces}
 use Rattle.yds_plan.proofs.Bounds.{few_groups, groups_within}
 use Rattle.yds_plan.proofs.layout.lay_out.Goals as goal
 use Rattle.yds_plan.proofs.layout.lay_out.Goals.{In_ok-levels}
@@ -15,8 +14,7 @@ use Rattle.yds_plan.proofs.layout.lay_out.Goals.{In_ok-levels}
 levels : (c : In_ok-levels) → c.in_ok-levels.levels.items ≡ levels_of c.args.rows.now (found_view c.args.found.now)
 levels c =
     let found = found_view c.args.found.now in
-    c.in_ok-levels.ensures
-    ∙ ap (λ timeline. drafts timeline found (length found.group_of_job) (length timeline)) c.requires.timeline
+    c.in_ok-levels.ensures ∙ ap (λ timeline. drafts timeline found (length found.group_of_job) (length timeline)) c.requires.timeline
     ∙ ap (λ jobs. drafts (stretches c.args.rows.now) found jobs (length (stretches c.args.rows.now))) c.requires.found.all_jobs
 
 pub levels_of_found-requires-clause-groups : goal.levels_of_found-requires-clause-groups

@@ -2,8 +2,7 @@ use Rattle.std.proofs.Common.{◌≡◌, ◌+◌, ◌-◌, ◌∙◌, sym, ap, a
 use Rattle.std.proofs.lemmas.List.{length-map}
 use Rattle.yds_search.specs.Views.{group_view}
 use Rattle.yds_plan.specs.Drafts.{empty_levels}
-use Rattle.yds_plan.proofs.Speeds.{level_below}
-use Rattle.yds_plan.proofs.Drafts.{work_at, length_at, joining, work_within, length_within, empty_length, levels_next, count_next, numbers_next}
+use Rattle.yds_plan.proofs.Drafts.{level_below, work_at, length_at, joining, work_within, length_within, empty_length, levels_next, count_next, numbers_next}
 use Rattle.yds_plan.proofs.layout_levels.levels_of_groups.Goals as goal
 use Rattle.yds_plan.proofs.layout_levels.levels_of_groups.Goals.{After-len}
 
@@ -33,8 +32,7 @@ add_group-requires-clause-work c =
     let groups = map group_view c.args.groups.now in
     rw (c.loop-i.invariant.drafts) (omega (
       arith,
-      work_within groups c.loop-i.i (length (empty_levels groups c.loop-i.i) - 1)
-          (omega (arith, c.loop-i-test.true, length-map c.args.groups.now group_view)),
+      work_within groups c.loop-i.i (length (empty_levels groups c.loop-i.i) - 1) (omega (arith, c.loop-i-test.true, length-map c.args.groups.now group_view)),
       work_at c.args.groups.now c.loop-i.i c.loop-i-test.true,
       c.requires.work_in_range,
     ))
@@ -44,8 +42,7 @@ add_group-requires-clause-length c =
     let groups = map group_view c.args.groups.now in
     rw (c.loop-i.invariant.drafts) (omega (
       arith,
-      length_within groups c.loop-i.i (length (empty_levels groups c.loop-i.i) - 1)
-          (omega (arith, c.loop-i-test.true, length-map c.args.groups.now group_view)),
+      length_within groups c.loop-i.i (length (empty_levels groups c.loop-i.i) - 1) (omega (arith, c.loop-i-test.true, length-map c.args.groups.now group_view)),
       length_at c.args.groups.now c.loop-i.i c.loop-i-test.true,
       c.requires.length_in_range,
     ))

@@ -16,12 +16,9 @@ loop-job-preserved c =
     elim c.match-get.branch [
       | in-Some+in_ok-add_member w ↦
           let read = w.in-Some.ensures.lookup in
-          ap (λ some. some.items) w.levels-is
-          ∙ member_step [] (found_view c.args.found.now) c.loop-job.job 0 _ w.in-Some.number.now c.args.numbers.now
-          c.loop-job.levels.items w.add_member.new.levels.items c.requires.numbers c.loop-job.invariant place read.3.0 read.1
-          w.in_ok-add_member.ensures
+          ap (λ some. some.items) w.levels-is ∙ member_step [] (found_view c.args.found.now) c.loop-job.job 0 _ w.in-Some.number.now c.args.numbers.now
+          c.loop-job.levels.items w.add_member.new.levels.items c.requires.numbers c.loop-job.invariant place read.3.0 read.1 w.in_ok-add_member.ensures
       | in_default w ↦
-          ap (λ some. some.items) w.levels-is
-          ∙ member_skip [] (found_view c.args.found.now) c.loop-job.job 0 _ c.args.numbers.now c.loop-job.levels.items
+          ap (λ some. some.items) w.levels-is ∙ member_skip [] (found_view c.args.found.now) c.loop-job.job 0 _ c.args.numbers.now c.loop-job.levels.items
           c.requires.numbers c.loop-job.invariant place w.in_default.ensures.lookup.3
     ]

@@ -31,8 +31,7 @@ loop-stretch-preserved c =
           ∙ piece_step timeline (found_view c.args.found.now) jobs k _ w.in-Some.number.now _ c.args.numbers.now c.loop-stretch.levels.items
           w.add_piece.new.levels.items c.requires.numbers c.loop-stretch.invariant place read.3.0 read.1
           (w.own.view_is ∙ get_or_read timeline k w.index-timeline-stretch.result (inside (goal.at.loop-stretch-preserved c).In-loop-stretch)
-          w.index-timeline-stretch.is no_stretch)
-          w.in_ok-add_piece.ensures
+          w.index-timeline-stretch.is no_stretch) w.in_ok-add_piece.ensures
       | in_default w ↦
           ap (λ some. some.items) w.levels-is
           ∙ piece_skip timeline (found_view c.args.found.now) jobs k _ c.args.numbers.now c.loop-stretch.levels.items c.requires.numbers

@@ -1,7 +1,7 @@
 use Rattle.std.proofs.Common.{◌+◌, arith, get_or, refl}
 use Rattle.yds_model.specs.declared.limits.TheConstants.{MAX_SLOT_WORK}
 use Rattle.yds_plan.proofs.Places.{no_struct}
-use Rattle.yds_plan.proofs.Fitting.{IsWithin, within_next, small_next, known_next, grain_next, room_next, fits_next, filled_next, filled_none, kept_within, slot_is}
+use Rattle.yds_plan.proofs.Laying.{IsWithin, within_next, small_next, known_next, grain_next, room_next, fits_next, filled_next, filled_none, kept_within, slot_is}
 use Rattle.yds_plan.proofs.layout_slots.fill_stretch.Goals as goal
 use Rattle.yds_plan.proofs.layout_slots.fill_stretch.Goals.{In-loop-share}
 
@@ -49,8 +49,7 @@ push-requires-clause-grain c =
     fits_next c.args.start 0 share.job share.units c.args.terms c.args.schedule.now.slots c.loop-share.schedule.slots _
     (record { job = share.job; from = c.loop-share.from; to = c.time_after-to.result; work = c.of_parts.result })
     c.requires.some_work refl (rw c.from-in-loop-share.ensures at c.of_parts.ensures.value) c.loop-share.invariant.laid
-    (grain_next c.args.shares.now c.loop-share.share-index c.loop-share-test.true c.args.schedule.now.jobs c.args.schedule.now.slots c.args.terms
-    c.args.start c.requires)
+    (grain_next c.args.shares.now c.loop-share.share-index c.loop-share-test.true c.args.schedule.now.jobs c.args.schedule.now.slots c.args.terms c.args.start c.requires)
 
 pub push-requires-clause-room : goal.push-requires-clause-room
 push-requires-clause-room c =
@@ -66,6 +65,5 @@ loop-share-preserved c =
       from = c.loop-share.from;
       to = c.time_after-to.result;
       work = c.of_parts.result;
-    })
-    c.loop-share.invariant refl refl c.time_after-to.ensures.value
+    }) c.loop-share.invariant refl refl c.time_after-to.ensures.value
     c.time_after-to.ensures.kept (rw c.from-in-loop-share.ensures at c.of_parts.ensures.value) c.in_ok-push.ensures.ok

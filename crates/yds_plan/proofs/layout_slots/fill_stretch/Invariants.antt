@@ -1,5 +1,5 @@
 use Rattle.std.proofs.Common.{take}
-use Rattle.yds_plan.proofs.Fitting.{IsFilled}
+use Rattle.yds_plan.proofs.Laying.{IsFilled}
 use Rattle.yds_plan.proofs.layout_slots.fill_stretch.Given as goal
 
 abbrev pub invariant-loop-share : goal.invariant-loop-share

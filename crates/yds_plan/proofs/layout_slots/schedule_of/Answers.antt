@@ -48,8 +48,7 @@ speed_read : (c : In-Some) → (get_or c.deref-place-items.result.now c.loop-str
 speed_read c =
     let read = c.in-Some.ensures.lookup in
     terms_read c.args.found.now.groups.items c.deref-in-loop-stretch.result.now _ c.in-Some.speed.now
-    (c.deref-in-loop-stretch.ensures.value ∙ c.in_ok-terms.ensures ∙ ap (map (λ group. terms_of (group_view group))) c.deref-2.ensures.value)
-    read.3.0 read.1
+    (c.deref-in-loop-stretch.ensures.value ∙ c.in_ok-terms.ensures ∙ ap (map (λ group. terms_of (group_view group))) c.deref-2.ensures.value) read.3.0 read.1
 
 pub of_stretch-shares-requires-clause-known : goal.of_stretch-shares-requires-clause-known
 of_stretch-shares-requires-clause-known c =
@@ -73,8 +72,7 @@ fill_stretch-requires c =
     (ap (λ (piece : Piece). piece.from) (stretch_read c.args.rows.now c.args.timeline.now k c.index-timeline-stretch.result _ c.requires.timeline
     (inside here) c.index-timeline-stretch.is c.own.view_is))
     (shares_read c.deref.result.now c.args.found.now.shares.items _ _ _ (length c.args.timeline.now) k c.deref.ensures.value c.in_ok-sorted.ensures
-    (counted here) c.of_stretch-shares.ensures)
-    (inside here) speed.0
+    (counted here) c.of_stretch-shares.ensures) (inside here) speed.0
 
 pub loop-stretch-preserved : goal.loop-stretch-preserved
 loop-stretch-preserved c =
@@ -84,20 +82,15 @@ loop-stretch-preserved c =
     elim c.match-get.branch [
       | in-Some+in_ok-fill_stretch w ↦
           let read = w.in-Some.ensures.lookup in
-          w.schedule-is
-          ∙ laid_next c.args.rows.now (found_view c.args.found.now) c.requires.jobs c.requires.found c.requires.few k _ _ c.loop-stretch.schedule
-          w.in-Some.speed.now _ c.loop-stretch.invariant place
-          (terms_read c.args.found.now.groups.items c.deref-in-loop-stretch.result.now _ w.in-Some.speed.now
-          (c.deref-in-loop-stretch.ensures.value ∙ c.in_ok-terms.ensures ∙ ap (map (λ group. terms_of (group_view group))) c.deref-2.ensures.value)
-          read.3.0 read.1).1
+          w.schedule-is ∙ laid_next c.args.rows.now (found_view c.args.found.now) c.requires.jobs c.requires.found c.requires.few k _ _ c.loop-stretch.schedule
+          w.in-Some.speed.now _ c.loop-stretch.invariant place (terms_read c.args.found.now.groups.items c.deref-in-loop-stretch.result.now _ w.in-Some.speed.now
+          (c.deref-in-loop-stretch.ensures.value ∙ c.in_ok-terms.ensures ∙ ap (map (λ group. terms_of (group_view group))) c.deref-2.ensures.value) read.3.0 read.1).1
           (ap (λ (piece : Piece). piece.from) (stretch_read c.args.rows.now c.args.timeline.now k w.index-timeline-stretch.result _ c.requires.timeline
           (inside here) w.index-timeline-stretch.is w.own.view_is))
           (shares_read c.deref.result.now c.args.found.now.shares.items _ _ _ (length c.args.timeline.now) k c.deref.ensures.value c.in_ok-sorted.ensures
-          (counted here) w.of_stretch-shares.ensures)
-          w.fill_stretch.new.schedule w.in_ok-fill_stretch.ensures
+          (counted here) w.of_stretch-shares.ensures) w.fill_stretch.new.schedule w.in_ok-fill_stretch.ensures
       | in_default w ↦
-          w.schedule-is
-          ∙ laid_skip c.args.rows.now (found_view c.args.found.now) c.requires.jobs c.requires.found c.requires.few k _ c.loop-stretch.schedule
+          w.schedule-is ∙ laid_skip c.args.rows.now (found_view c.args.found.now) c.requires.jobs c.requires.found c.requires.few k _ c.loop-stretch.schedule
           c.loop-stretch.invariant place
           (omega (
             arith,

@@ -5,8 +5,7 @@ use Rattle.yds_search.proofs.Closures.{ReachesFrom, reach_more, reach_none}
 use Rattle.yds_search.proofs.closure.closure.Goals as goal
 use Rattle.yds_search.proofs.closure.closure.Goals.{then-least-stretch, else-least-stretch}
 
-reached : (after late shared k least min_least : ℕ) → min_least ≡ min after late → min_least ≤ k → least ≡ min min_least shared →
-    least ≡ reach_from after late shared k
+reached : (after late shared k least min_least : ℕ) → min_least ≡ min after late → min_least ≤ k → least ≡ min min_least shared → least ≡ reach_from after late shared k
 reached after late shared k least min_least is within step = grind (arith, nat_tests)
 
 passed : (after late shared k least min_least : ℕ) → min_least ≡ min after late → k < min_least → least ≡ min_least → least ≡ reach_from after late shared k

@@ -4,8 +4,7 @@ use Rattle.yds_search.specs.Views.{shares_view}
 use Rattle.yds_search.specs.Fill.{AreTaken, IsFilling, IsNumbers}
 use Rattle.yds_search.specs.Numbers.{values_at}
 use Rattle.yds_search.proofs.Numbers.{values_count}
-use Rattle.yds_search.proofs.Fills.{fill_begins, fill_more, fill_ends}
-use Rattle.yds_search.proofs.Nexts.{next_begins}
+use Rattle.yds_search.proofs.Fills.{fill_begins, fill_more, fill_ends, next_begins}
 use Rattle.yds_search.proofs.fill.Filling.fill.Goals as goal
 
 pub loop-job-init : goal.loop-job-init
@@ -52,5 +51,4 @@ loop-job-preserved c =
 pub returns : goal.returns
 returns c =
     fill_ends c.args.jobs.now.rows.now c.args.jobs.now.windows.now c.args.own_jobs.now c.args.wants.now c.args.self.now.rooms.items c.loop-job.job-index
-    (shares_view c.loop-job.self.shares.items) c.loop-job.wants c.loop-job.self.rooms.items c.requires.jobs c.requires.wants (omega arith)
-    c.loop-job.invariant.filling
+    (shares_view c.loop-job.self.shares.items) c.loop-job.wants c.loop-job.self.rooms.items c.requires.jobs c.requires.wants (omega arith) c.loop-job.invariant.filling

@@ -4,8 +4,7 @@ use Rattle.yds_search.specs.Views.{shares_view}
 use Rattle.yds_events.specs.Window.{window_at}
 use Rattle.yds_search.specs.Fill.{IsNext}
 use Rattle.yds_search.specs.Numbers.{values_at}
-use Rattle.yds_search.proofs.Fills.{serve_begins}
-use Rattle.yds_search.proofs.Nexts.{serve_jumps, serve_take, take_next, take_open, next_passed, passed_full, in_place, first_after, from_first, next_after, from_next}
+use Rattle.yds_search.proofs.Fills.{serve_begins, serve_jumps, serve_take, take_next, take_open, next_passed, passed_full, in_place, first_after, from_first, next_after, from_next}
 use Rattle.yds_search.proofs.fill.Filling.serve.Goals as goal
 
 pub next_place-place-requires-clause-next : goal.next_place-place-requires-clause-next

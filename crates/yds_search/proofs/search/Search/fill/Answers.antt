@@ -75,8 +75,7 @@ scale-requires-clause-fits c =
     c.deref-4.result.now c.deref-5.result.now c.last-own_jobs.result.now c.last-own_stretches.result.now c.total-work.result c.total-length.result
     c.requires.chosen.instance c.requires.chosen.groups c.requires.chosen.within c.requires.chosen.own c.deref-4.ensures.value (c.last-own_jobs.ensures (jobs_of c.requires.chosen.parts) c.requires.chosen.part.jobs (c.deref.ensures.value ∙ c.requires.chosen.last.jobs) c.requires.chosen.last.jobs_size) c.deref-5.ensures.value (c.last-own_stretches.ensures (stretches_of c.requires.chosen.parts) c.requires.chosen.part.stretches (c.deref-2.ensures.value ∙ c.requires.chosen.last.stretches) c.requires.chosen.last.stretches_size)
     c.total-work.ensures c.total-length.ensures in
-    subst (λ (xs : List ℕ). (i : ℕ) → i < length xs → c.total-length.result / c.gcd-divisor.result * get_or xs i 0 < 18446744073709551616)
-    (sym c.deref-6.ensures.value)
+    subst (λ (xs : List ℕ). (i : ℕ) → i < length xs → c.total-length.result / c.gcd-divisor.result * get_or xs i 0 < 18446744073709551616) (sym c.deref-6.ensures.value)
     (subst (λ (d : ℕ). (i : ℕ) → i < length c.args.self.now.instance.works.items → c.total-length.result / d * get_or c.args.self.now.instance.works.items i 0 < 18446744073709551616)
     (sym c.gcd-divisor.ensures.value)
     (works_fit c.args.self.now.instance.rows.now c.args.self.now.instance (found_view c.args.self.now.found) c.args.self.now.top c.total-work.result c.total-length.result c.requires.chosen.instance are))
@@ -93,8 +92,7 @@ scale-requires-2-clause-fits c =
     c.deref-4.result.now c.deref-5.result.now c.last-own_jobs.result.now c.last-own_stretches.result.now c.total-work.result c.total-length.result
     c.requires.chosen.instance c.requires.chosen.groups c.requires.chosen.within c.requires.chosen.own c.deref-4.ensures.value (c.last-own_jobs.ensures (jobs_of c.requires.chosen.parts) c.requires.chosen.part.jobs (c.deref.ensures.value ∙ c.requires.chosen.last.jobs) c.requires.chosen.last.jobs_size) c.deref-5.ensures.value (c.last-own_stretches.ensures (stretches_of c.requires.chosen.parts) c.requires.chosen.part.stretches (c.deref-2.ensures.value ∙ c.requires.chosen.last.stretches) c.requires.chosen.last.stretches_size)
     c.total-work.ensures c.total-length.ensures in
-    subst (λ (xs : List ℕ). (i : ℕ) → i < length xs → c.total-work.result / c.gcd-divisor.result * get_or xs i 0 < 18446744073709551616)
-    (sym c.deref-7.ensures.value)
+    subst (λ (xs : List ℕ). (i : ℕ) → i < length xs → c.total-work.result / c.gcd-divisor.result * get_or xs i 0 < 18446744073709551616) (sym c.deref-7.ensures.value)
     (subst (λ (d : ℕ). (i : ℕ) → i < length c.args.self.now.instance.lengths.items → c.total-work.result / d * get_or c.args.self.now.instance.lengths.items i 0 < 18446744073709551616)
     (sym c.gcd-divisor.ensures.value)
     (lengths_fit c.args.self.now.instance.rows.now c.args.self.now.instance (found_view c.args.self.now.found) c.args.self.now.top c.total-work.result c.total-length.result c.requires.chosen.instance are))

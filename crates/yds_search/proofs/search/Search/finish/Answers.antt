@@ -79,8 +79,7 @@ returns c =
               group_of_job = xs;
               group_of_stretch = take c.args.self.now.found.group_of_stretch.len (c.rename-2.new.groups ++ drop (length c.rename-2.new.groups) c.args.self.now.found.group_of_stretch.items);
               shares = shares_view c.extend_from_slice.new.self.items;
-            }) (c.args.self.now.top + 1) 1000000) (sym jobs)
-            (subst (λ (xs : List ℕ). IsSearch c.args.self.now.instance.rows.now c.args.self.now.instance.windows.items
+            }) (c.args.self.now.top + 1) 1000000) (sym jobs) (subst (λ (xs : List ℕ). IsSearch c.args.self.now.instance.rows.now c.args.self.now.instance.windows.items
             (record {
               groups = map group_view c.push.new.self.items;
               group_of_job = c.rename.new.groups;

@@ -39,11 +39,7 @@ one_waits order found top stack sizes m n is jobs stretches none more all all' =
         count = omega (arith, is);
         each = λ i within. let here : 0 ≡ i = omega (arith, within) in subst (λ (n : ℕ). IsWaiting order found (1000000 - n) (part_at (part ∷ []) n)) here waiting;
       },
-      record {
-        sizes = sizes_more [] part sizes stack.sizes.items m n none more all all';
-        jobs = alone stack.jobs.items;
-        stretches = alone stack.stretches.items;
-      },
+      record { sizes = sizes_more [] part sizes stack.sizes.items m n none more all all'; jobs = alone stack.jobs.items; stretches = alone stack.stretches.items },
     )
 
 none_waits : (order : List ℕ) (found : Found) (top : ℕ) (stack : Stack) → top ≡ 1000001 → AreLaid [] stack → Begins order found top stack

@@ -180,8 +180,7 @@ returns c =
               group_of_job = xs;
               group_of_stretch = take c.args.self.now.found.group_of_stretch.len (c.split_stretches.new.groups ++ drop (length c.split_stretches.new.groups) c.args.self.now.found.group_of_stretch.items);
               shares = shares_view c.args.self.now.found.shares.items;
-            }) (c.args.self.now.top - 1) 1000000) (sym jobs)
-            (subst (λ (xs : List ℕ). IsSearch c.args.self.now.instance.rows.now c.args.self.now.instance.windows.items
+            }) (c.args.self.now.top - 1) 1000000) (sym jobs) (subst (λ (xs : List ℕ). IsSearch c.args.self.now.instance.rows.now c.args.self.now.instance.windows.items
             (record {
               groups = map group_view c.args.self.now.found.groups.items;
               group_of_job = c.split_jobs.new.groups;
@@ -193,8 +192,7 @@ returns c =
             (few_enough c.args.self.now.instance.rows.now c.args.self.now.instance.windows.items (found_view c.args.self.now.found) c.args.self.now.top chosen.groups chosen.instance.few_stretches)
             chosen.within (ap (λ (xs : List ℕ). length xs) places ∙ c.split_stretches.auto.groups ∙ ap (λ (xs : List ℕ). length xs) c.deref_mut.ensures.value)
             (subst (λ (xs : List ℕ). AreMovedFrom c.args.self.now.top c.args.self.now.found.group_of_job.items xs) (sym jobs) all.1)
-            (subst (λ (xs : List ℕ). AreMovedFrom c.args.self.now.top c.args.self.now.found.group_of_stretch.items xs) (sym places) all.2)
-            chosen.stack chosen.own;
+            (subst (λ (xs : List ℕ). AreMovedFrom c.args.self.now.top c.args.self.now.found.group_of_stretch.items xs) (sym places) all.2) chosen.stack chosen.own;
         laid = c.in_ok-split_last.ensures chosen.parts chosen.part chosen.last;
         space = record {
           all_wants = blank.all_wants ∙ filled.attempt.filled.fill.same_wants ∙ filled.attempt.filled.all_wants;

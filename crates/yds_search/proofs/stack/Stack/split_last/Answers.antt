@@ -43,8 +43,7 @@ returns c = λ parts part last.
           (sizes_more parts slow c.args.self.now.sizes.items c.push.new.self.items _ _ last.sizes c.in_ok-push.ensures.items
           (c.in_ok-jobs.ensures.first (jobs_of parts) part.jobs last.jobs last.jobs_size ∙ count_same _ _ part.jobs c.args.top jobs)
           (c.in_ok-stretches.ensures.first (stretches_of parts) part.stretches last.stretches last.stretches_size ∙ count_same _ _ part.stretches c.args.top stretches))
-          c.in_ok-push-2.ensures.items
-          (c.in_ok-jobs.ensures.second (jobs_of parts) part.jobs last.jobs last.jobs_size ∙ count_same _ _ part.jobs (c.args.top - 1) jobs)
+          c.in_ok-push-2.ensures.items (c.in_ok-jobs.ensures.second (jobs_of parts) part.jobs last.jobs last.jobs_size ∙ count_same _ _ part.jobs (c.args.top - 1) jobs)
           (c.in_ok-stretches.ensures.second (stretches_of parts) part.stretches last.stretches last.stretches_size ∙ count_same _ _ part.stretches (c.args.top - 1) stretches);
       jobs = c.in_ok-jobs.ensures.parted (jobs_of parts) part.jobs last.jobs last.jobs_size
           ∙ parted_same _ _ (jobs_of parts) part.jobs c.args.top jobs ∙ jobs_two parts slow fast;
