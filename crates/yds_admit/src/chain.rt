@@ -51,7 +51,7 @@ pub(crate) fn place(times: &[u32], time: u32) -> usize
     times.partition_point(|other| *other < time)
 }
 
-/// How many of the times come before this one, where one of the guesses may tell.
+/// How many of the times come before this one. The guess of this number is right most of the time, and saves a search.
 pub(crate) fn place_guessed(times: &[u32], time: u32, guesses: &[usize], number: usize) -> usize
     requires { IsNonDecreasing times.now }
     ensures before { (q : ℕ) → q < result → slice_index times.now q < time }
@@ -66,7 +66,7 @@ pub(crate) fn place_guessed(times: &[u32], time: u32, guesses: &[usize], number:
     place(times, time)
 }
 
-/// Whether this is the place of this time: the first where none before it stands.
+/// Whether so many of the times, at least one, come before this one.
 fn is_place(times: &[u32], time: u32, guess: usize) -> bool
     requires { IsNonDecreasing times.now }
     ensures before { IsTrue result → (q : ℕ) → q < guess → slice_index times.now q < time }
