@@ -1,4 +1,6 @@
 mod Named
+pub mod Batches
+pub mod LevelLines
 pub mod LevelGrown
 pub mod Held
 pub mod Told

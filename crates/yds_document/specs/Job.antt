@@ -1,5 +1,6 @@
--- What the line of a job says, by its fields and by the names of the jobs before it.
-use Rattle.std.specs.Prelude.{ℕ, List, Result, Ok, nat_lt}
+-- What the line of a job says, by its fields and by the names of the jobs before it; and the lines of the jobs from a place on.
+use Rattle.std.specs.Prelude.{ℕ, List, Result, Ok, nat_lt, drop}
+use Rattle.std.specs.List.{flat_map, zip}
 use Rattle.yds_model.specs.declared.limits.TheConstants.{MAX_TIME, MAX_WORK}
 use Rattle.yds_model.specs.declared.reason.Reason.{Reason}
 use Rattle.yds_model.specs.declared.reason.Reason.TheVariants as reasons
@@ -7,6 +8,8 @@ use Rattle.yds_model.specs.Lines.{Field}
 use Rattle.yds_model.specs.Entry.{Entry, JobEntry}
 use Rattle.yds_model.specs.Fields.{Spot, ◌>>=◌, demand}
 use Rattle.yds_model.specs.Reading.{number_in}
+use Rattle.yds_model.specs.Text.{job_line}
+use Rattle.yds_instance.specs.Named.{Named}
 use Rattle.yds_document.specs.Fields.{new_name_of}
 
 abbrev pub job_of : List (List ℕ) → Field → Field → Field → Field → Result Entry (Spot Reason)
@@ -17,3 +20,7 @@ job_of names a b c d = do
   work ← number_in 0 MAX_WORK d
   window ← demand (nat_lt release deadline) c.column reasons.EmptyWindow
   Ok (JobEntry name (record { release = release; deadline = deadline; work = work }))
+
+-- the lines of the jobs from this place on
+abbrev pub job_lines_from : ℕ → Named → List ℕ
+job_lines_from place instance = flat_map (λ named. job_line named.0 named.1) (drop place (zip instance.names instance.jobs))

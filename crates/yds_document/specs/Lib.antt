@@ -1,5 +1,6 @@
 pub mod Fields
 pub mod Job
+pub mod Level
 pub mod Point
 pub mod Slot
 pub mod Run

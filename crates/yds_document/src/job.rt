@@ -1,6 +1,6 @@
 //! The lines of jobs: a job with a name of its own.
 
-ghost use Rattle.std.specs.Prelude.{◌≡◌, ◌<◌, ◌≤◌, ◌∷◌, length, None, OnOk, IfOk, IsTrue};
+ghost use Rattle.std.specs.Prelude.{◌≡◌, ◌+◌, ◌<◌, ◌≤◌, ◌∷◌, ◌++◌, length, None, OnOk, IfOk, IsTrue};
 ghost use Rattle.yds_model.specs.declared.limits.TheConstants.{MAX_JOBS, MAX_NAME};
 ghost use Rattle.yds_model.specs.Document.{name_at};
 ghost use Rattle.yds_model.specs.Entry.{JobEntry};
@@ -12,12 +12,13 @@ ghost use Rattle.yds_port.specs.Sink.{Puts};
 ghost use Rattle.yds_text.specs.Read.{field_read};
 ghost use Rattle.yds_document.specs.Draft.{IsDraft, Reads, Takes};
 ghost use Rattle.yds_document.specs.Fields.{Gives};
-ghost use Rattle.yds_document.specs.Job.{job_of};
+ghost use Rattle.yds_document.specs.Job.{job_of, job_lines_from};
 
 use crate::draft::Draft;
 use crate::fields::{new_name, small_in};
+use crate::line_buffer::LINE_BYTES;
 use crate::line_fault::LineFault;
-use crate::tail_buffer::Line;
+use crate::tail_buffer::{BATCH_BYTES, BATCH_LINES, Lines};
 use yds_instance::Instance;
 use yds_model::limits::{MAX_TIME, MAX_WORK};
 use yds_model::{JobRow, Memory, Reason};
@@ -95,12 +96,14 @@ pub(crate) fn name_of<'a>(instance: &Instance<'a>, job: u32) -> &'a str
     instance.name(job)
 }
 
-/// Makes the line of a job.
-fn put(text: &mut Line, name: &str, job: &JobRow)
-    requires { length name.now ≤ MAX_NAME }
-    ensures { text.new ≡ job_line name.now job.now }
+/// Puts the line of a job before the text.
+fn put(text: &mut Lines, name: &str, job: &JobRow)
+    requires name { length name.now ≤ MAX_NAME }
+    requires room { LINE_BYTES + length text.old ≤ BATCH_BYTES }
+    ensures bytes { text.new ≡ job_line name.now job.now ++ text.old }
+    ensures short { length text.new ≤ LINE_BYTES + length text.old }
 {
-    text.restart();
+    text.put_byte(b'\n');
     text.put_number_field(u64::from(job.work));
     text.put_number_field(u64::from(job.deadline));
     text.put_number_field(u64::from(job.release));
@@ -108,15 +111,32 @@ fn put(text: &mut Line, name: &str, job: &JobRow)
     text.put_kind("job");
 }
 
+/// Makes the lines of the jobs from one place to another, from the last to the first.
+fn put_all(text: &mut Lines, instance: &Instance<'_>, from: usize, to: usize)
+    requires forward { from ≤ to }
+    requires within { to ≤ length instance.now.jobs }
+    requires few { to ≤ from + BATCH_LINES }
+    ensures { text.new ++ job_lines_from to instance.now ≡ job_lines_from from instance.now }
+{
+    text.clear();
+    let rows = instance.rows();
+    for job in (from..to).rev() {
+        put(text, name_of(instance, job as u32), &rows[job]);
+    }
+}
+
 /// Appends the lines of the jobs, in their order.
 pub(crate) fn print<K: Sink>(instance: &Instance<'_>, sink: &mut K) -> Result<(), WriteFault>
     ensures { Puts K.written K.flushed K.flushes K.faults result (job_lines instance.now.names instance.now.jobs) sink.old sink.new }
 {
-    let rows = instance.rows();
-    let mut line = Line::new();
-    for (job, row) in rows.iter().enumerate() {
-        put(&mut line, name_of(instance, job as u32), row);
-        write_all(sink, line.as_bytes())?;
+    let count = instance.rows().len();
+    let mut text = Lines::new();
+    let mut from = 0;
+    while from < count {
+        let to = count.min(from + BATCH_LINES);
+        put_all(&mut text, instance, from, to);
+        write_all(sink, text.as_bytes())?;
+        from = to;
     }
     Ok(())
 }

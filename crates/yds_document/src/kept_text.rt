@@ -5,6 +5,7 @@ ghost use Rattle.yds_model.specs.Text.{fraction_text};
 
 use crate::line_buffer::{FRACTION_BYTES, NUMBER_BYTES};
 use crate::tail_buffer::TailBuffer;
+use std::marker::Model;
 use yds_fraction::Amount;
 
 /// A number with its text.
@@ -38,28 +39,48 @@ impl NumberText {
     }
 }
 
-/// A fraction with its text.
+/// A fraction with its text. A contract sees the fraction.
 #[derive(Drop)]
 pub(crate) struct FractionText {
     value: Amount,
     text: TailBuffer<FRACTION_BYTES>,
-    ghost is_text: { text ≡ fraction_text value },
+}
+
+impl Model for FractionText {
+    ghost use Rattle.std.specs.Prelude.{◌≡◌};
+    ghost use Rattle.yds_model.specs.Scale.{Fraction};
+    ghost use Rattle.yds_model.specs.Text.{fraction_text};
+
+    ghost Value = { Fraction };
+
+    ghost view = { λ kept. kept.value };
+
+    ghost invariant = { λ kept. kept.text ≡ fraction_text kept.value };
 }
 
 impl FractionText {
     /// The text of this fraction, whose denominator is mostly the one that is kept.
     pub(crate) fn of(value: Amount, den: &mut NumberText) -> FractionText
-        ensures { result.value ≡ value }
+        ensures { result ≡ value }
     {
         let mut text = TailBuffer::new();
         put_fraction(value, den, &mut text);
         FractionText { value, text }
     }
 
+    /// It becomes the text of this fraction, in the same place.
+    pub(crate) fn set(&mut self, value: Amount, den: &mut NumberText)
+        ensures { self.new ≡ value }
+    {
+        self.text.clear();
+        put_fraction(value, den, &mut self.text);
+        self.value = value;
+    }
+
     /// Puts this fraction before the text.
     pub(crate) fn put<const N: usize>(&self, text: &mut TailBuffer<N>)
         requires { FRACTION_BYTES + length text.old ≤ N }
-        ensures bytes { text.new ≡ fraction_text self.now.value ++ text.old }
+        ensures bytes { text.new ≡ fraction_text self.now ++ text.old }
         ensures short { length text.new ≤ FRACTION_BYTES + length text.old }
     {
         text.put_text(&self.text);
@@ -67,7 +88,7 @@ impl FractionText {
 
     /// Whether it is the text of this fraction.
     pub(crate) fn is_of(&self, value: Amount) -> bool
-        ensures { IsTrue result → self.now.value ≡ value }
+        ensures { IsTrue result → self.now ≡ value }
     {
         self.value.whole() == value.whole()
             && self.value.num() == value.num()

@@ -1,6 +1,6 @@
 //! The lines of pieces: from one time to another, of the level before. A piece that takes no time is kept too.
 
-ghost use Rattle.std.specs.Prelude.{◌≡◌, ◌<◌, ◌≤◌, ◌∷◌, [], length, OnOk};
+ghost use Rattle.std.specs.Prelude.{◌≡◌, ◌+◌, ◌*◌, ◌<◌, ◌≤◌, ◌∷◌, ◌++◌, [], length, OnOk};
 ghost use Rattle.std.specs.List.{flat_map};
 ghost use Rattle.yds_model.specs.declared.limits.TheConstants.{MAX_PIECES};
 ghost use Rattle.yds_model.specs.Entry.{PieceEntry};
@@ -14,8 +14,9 @@ ghost use Rattle.yds_document.specs.Fields.{Gives};
 
 use crate::draft::Draft;
 use crate::fields::small_in;
+use crate::line_buffer::LINE_BYTES;
 use crate::line_fault::LineFault;
-use crate::tail_buffer::Line;
+use crate::tail_buffer::{BATCH_BYTES, BATCH_LINES, Lines};
 use yds_certificate::Piece;
 use yds_model::Memory;
 use yds_model::limits::MAX_TIME;
@@ -62,27 +63,44 @@ fn add(draft: &mut Draft<'_>, piece: Piece) -> Result<(), Memory>
     Ok(())
 }
 
-/// Makes the line of a piece.
-fn put(text: &mut Line, piece: &Piece)
-    ensures { text.new ≡ piece_line piece.now }
+/// Puts the line of a piece before the text.
+fn put(text: &mut Lines, piece: &Piece)
+    requires { LINE_BYTES + length text.old ≤ BATCH_BYTES }
+    ensures bytes { text.new ≡ piece_line piece.now ++ text.old }
+    ensures short { length text.new ≤ LINE_BYTES + length text.old }
 {
-    text.restart();
+    text.put_byte(b'\n');
     text.put_number_field(u64::from(piece.to));
     text.put_number_field(u64::from(piece.from));
     text.put_kind("piece");
 }
 
+/// Puts the lines of these pieces before the text, from the last to the first.
+pub(crate) fn put_all(text: &mut Lines, pieces: &[Piece])
+    requires { LINE_BYTES * length pieces.now + length text.old ≤ BATCH_BYTES }
+    ensures bytes { text.new ≡ flat_map piece_line pieces.now ++ text.old }
+    ensures short { length text.new ≤ LINE_BYTES * length pieces.now + length text.old }
+{
+    for place in (0..pieces.len()).rev() {
+        put(text, &pieces[place]);
+    }
+}
+
 /// Appends the lines of a level's pieces, in their order.
 pub(crate) fn print<K: Sink>(
     pieces: &[Piece],
-    line: &mut Line,
+    text: &mut Lines,
     sink: &mut K,
 ) -> Result<(), WriteFault>
     ensures { Puts K.written K.flushed K.flushes K.faults result (flat_map piece_line pieces.now) sink.old sink.new }
 {
-    for piece in pieces {
-        put(line, piece);
-        write_all(sink, line.as_bytes())?;
+    let mut rest = pieces;
+    while !rest.is_empty() {
+        let (batch, others) = rest.split_at(rest.len().min(BATCH_LINES));
+        text.clear();
+        put_all(text, batch);
+        write_all(sink, text.as_bytes())?;
+        rest = others;
     }
     Ok(())
 }

@@ -19,7 +19,7 @@ use crate::job::name_of;
 use crate::kept_text::{FractionText, NumberText, put_fraction};
 use crate::line_buffer::{FRACTION_BYTES, LINE_BYTES};
 use crate::line_fault::LineFault;
-use crate::tail_buffer::Line;
+use crate::tail_buffer::{BATCH_BYTES, BATCH_LINES, Lines};
 use yds_fraction::{Amount, Moment};
 use yds_instance::Instance;
 use yds_model::limits::{MAX_SLOT_WORK, MAX_TIME};
@@ -109,11 +109,11 @@ pub(crate) fn add(draft: &mut Draft<'_>, slot: Slot) -> Result<(), Memory>
     Ok(())
 }
 
-/// What the lines of slots mostly share: a slot begins where the one before it ends, and those of a level have one
+/// What the lines of slots mostly share: a slot ends where the one after it begins, and those of a level have one
 /// denominator for their ends and one for their works.
 #[derive(Drop)]
 struct KeptTexts {
-    end: FractionText,
+    start: FractionText,
     den_of_ends: NumberText,
     den_of_works: NumberText,
 }
@@ -123,51 +123,64 @@ impl KeptTexts {
     fn new() -> KeptTexts {
         let mut den = NumberText::of(1);
         KeptTexts {
-            end: FractionText::of(Amount::from_whole(1), &mut den),
+            start: FractionText::of(Amount::from_whole(1), &mut den),
             den_of_ends: den,
             den_of_works: NumberText::of(1),
         }
     }
 
-    /// Puts the slot's work and its ends before the text, each with a space before it. The last end is kept.
-    fn put(&mut self, slot: &Slot, text: &mut Line)
-        requires { 3 * (1 + FRACTION_BYTES) + length text.old ≤ LINE_BYTES }
+    /// Puts the slot's work and its ends before the text, each with a space before it. The start is kept.
+    fn put(&mut self, slot: &Slot, text: &mut Lines)
+        requires { 3 * (1 + FRACTION_BYTES) + length text.old ≤ BATCH_BYTES }
         ensures bytes { text.new ≡ 32 ∷ (fraction_text slot.now.from ++ 32 ∷ (fraction_text slot.now.to ++ 32 ∷ (fraction_text slot.now.work ++ text.old))) }
         ensures short { length text.new ≤ 3 * (1 + FRACTION_BYTES) + length text.old }
     {
         put_fraction(slot.work, &mut self.den_of_works, text);
         text.put_byte(b' ');
-        let end = FractionText::of(slot.to, &mut self.den_of_ends);
-        end.put(text);
+        self.put_end(slot.to, text);
         text.put_byte(b' ');
-        self.put_start(slot.from, text);
+        self.start.set(slot.from, &mut self.den_of_ends);
+        self.start.put(text);
         text.put_byte(b' ');
-        self.end = end;
     }
 
-    /// Puts the slot's start before the text.
-    fn put_start(&mut self, start: Moment, text: &mut Line)
-        requires { FRACTION_BYTES + length text.old ≤ LINE_BYTES }
-        ensures bytes { text.new ≡ fraction_text start ++ text.old }
+    /// Puts the slot's end before the text.
+    fn put_end(&mut self, end: Moment, text: &mut Lines)
+        requires { FRACTION_BYTES + length text.old ≤ BATCH_BYTES }
+        ensures bytes { text.new ≡ fraction_text end ++ text.old }
         ensures short { length text.new ≤ FRACTION_BYTES + length text.old }
     {
-        if self.end.is_of(start) {
-            self.end.put(text);
+        if self.start.is_of(end) {
+            self.start.put(text);
         } else {
-            put_fraction(start, &mut self.den_of_ends, text);
+            put_fraction(end, &mut self.den_of_ends, text);
         }
     }
 }
 
-/// Makes the line of a slot.
-fn put(text: &mut Line, kept: &mut KeptTexts, instance: &Instance<'_>, slot: &Slot)
-    requires { slot.now.job < length instance.now.jobs }
-    ensures { text.new ≡ slot_line instance.now.names slot.now }
+/// Puts the line of a slot before the text.
+fn put(text: &mut Lines, kept: &mut KeptTexts, instance: &Instance<'_>, slot: &Slot)
+    requires known { slot.now.job < length instance.now.jobs }
+    requires room { LINE_BYTES + length text.old ≤ BATCH_BYTES }
+    ensures bytes { text.new ≡ slot_line instance.now.names slot.now ++ text.old }
+    ensures short { length text.new ≤ LINE_BYTES + length text.old }
 {
-    text.restart();
+    text.put_byte(b'\n');
     kept.put(slot, text);
     text.put_field(name_of(instance, slot.job));
     text.put_kind("slot");
+}
+
+/// Makes the lines of these slots, from the last to the first.
+fn put_all(text: &mut Lines, kept: &mut KeptTexts, instance: &Instance<'_>, slots: &[Slot])
+    requires known { All (λ slot. slot.job < length instance.now.jobs) slots.now }
+    requires few { length slots.now ≤ BATCH_LINES }
+    ensures { text.new ≡ flat_map (slot_line instance.now.names) slots.now }
+{
+    text.clear();
+    for place in (0..slots.len()).rev() {
+        put(text, kept, instance, &slots[place]);
+    }
 }
 
 /// Appends the lines of the slots, in their order.
@@ -179,11 +192,14 @@ pub(crate) fn print<K: Sink>(
     requires { All (λ slot. slot.job < length instance.now.jobs) slots.now }
     ensures { Puts K.written K.flushed K.flushes K.faults result (flat_map (slot_line instance.now.names) slots.now) sink.old sink.new }
 {
-    let mut line = Line::new();
+    let mut text = Lines::new();
     let mut kept = KeptTexts::new();
-    for slot in slots {
-        put(&mut line, &mut kept, instance, slot);
-        write_all(sink, line.as_bytes())?;
+    let mut rest = slots;
+    while !rest.is_empty() {
+        let (batch, others) = rest.split_at(rest.len().min(BATCH_LINES));
+        put_all(&mut text, &mut kept, instance, batch);
+        write_all(sink, text.as_bytes())?;
+        rest = others;
     }
     Ok(())
 }

@@ -29,6 +29,15 @@ pub(crate) struct TailBuffer<const N: usize> {
 /// A line, with its end.
 pub(crate) type Line = TailBuffer<LINE_BYTES>;
 
+/// How many lines are made together at most.
+pub(crate) const BATCH_LINES: usize = 64;
+
+/// How many bytes lines that are made together have at most.
+pub(crate) const BATCH_BYTES: usize = BATCH_LINES * LINE_BYTES;
+
+/// Lines that are made together, from the last to the first, and written with one call.
+pub(crate) type Lines = TailBuffer<BATCH_BYTES>;
+
 impl<const N: usize> Model for TailBuffer<N> {
     ghost use Rattle.std.specs.Prelude.{◌≡◌, ◌≤◌, ℕ, List, drop, length};
 

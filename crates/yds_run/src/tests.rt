@@ -133,7 +133,7 @@ fn faults_of_the_source_and_of_the_sink(rt: HostRuntime) -> Result<(), Fail> {
         (2, 500, 2, 0, Status::ReadFault, b"".as_slice()),
         (0, 500, 2, 2, Status::WriteFault, b"jo".as_slice()),
         (0, 10, 2, 0, Status::WriteFault, b"job a 0 4 ".as_slice()),
-        (0, 500, 500, 6, Status::WriteFault, PLAN),
+        (0, 500, 500, 4, Status::WriteFault, PLAN),
     ];
     for (read, room, piece, write, status, want) in cases {
         let words = words(rt.alloc(), "plan")?;

@@ -1,10 +1,12 @@
-use Rattle.std.proofs.Common.{take}
-use Rattle.std.specs.List.{flat_map, zip}
-use Rattle.yds_model.specs.Text.{job_line}
-use Rattle.yds_port.proofs.Putting.{PutsWhole}
+use Rattle.std.proofs.Common.{◌-◌, length}
+use Rattle.yds_model.specs.Text.{job_lines}
+use Rattle.yds_document.specs.Job.{job_lines_from}
+use Rattle.yds_document.proofs.Batches.{PutsUpTo}
 use Rattle.yds_document.proofs.job.print.Given as goal
 
--- the lines before this one were put
-abbrev pub invariant-loop-job : goal.invariant-loop-job
-invariant-loop-job g l =
-    PutsWhole g.K.Sink.written g.K.Sink.flushed g.K.Sink.flushes g.K.Sink.faults (flat_map (λ named. job_line named.0 named.1) (take l.job (zip l.instance.names l.instance.jobs))) l.fn.sink l.sink
+-- the lines before this place were put
+abbrev pub invariant-loop-from : goal.invariant-loop-from
+invariant-loop-from g l = PutsUpTo g.K.Sink.written g.K.Sink.flushed g.K.Sink.flushes g.K.Sink.faults (job_lines_from l.from l.instance) (job_lines l.instance.names l.instance.jobs) l.fn.sink l.sink
+
+abbrev pub decreases-loop-from : goal.decreases-loop-from
+decreases-loop-from g l = l.count - l.from

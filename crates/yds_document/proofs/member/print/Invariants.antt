@@ -1,10 +1,15 @@
-use Rattle.std.proofs.Common.{take}
-use Rattle.std.specs.List.{flat_map}
+use Rattle.std.proofs.Common.{◌<◌, length}
+use Rattle.std.specs.Prelude.{flat_map}
+use Rattle.std.specs.List.{All}
 use Rattle.yds_model.specs.Text.{member_line}
-use Rattle.yds_port.proofs.Putting.{PutsWhole}
+use Rattle.yds_document.proofs.Batches.{PutsUpTo}
 use Rattle.yds_document.proofs.member.print.Given as goal
 
--- the lines before this one were put
-abbrev pub invariant-loop-member : goal.invariant-loop-member
-invariant-loop-member g l =
-    PutsWhole g.K.Sink.written g.K.Sink.flushed g.K.Sink.flushes g.K.Sink.faults (flat_map (member_line l.instance.names) (take l.member-index l.members)) l.fn.sink l.sink
+-- the lines before the rest were put
+abbrev pub invariant-loop-rest : goal.invariant-loop-rest
+invariant-loop-rest g l =
+    (PutsUpTo g.K.Sink.written g.K.Sink.flushed g.K.Sink.flushes g.K.Sink.faults (flat_map (member_line l.instance.names) l.rest) (flat_map (member_line l.instance.names) l.members) l.fn.sink l.sink)
+    × All (λ job. job < length l.instance.jobs) l.rest
+
+abbrev pub decreases-loop-rest : goal.decreases-loop-rest
+decreases-loop-rest g l = length l.rest

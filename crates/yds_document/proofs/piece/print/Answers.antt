@@ -1,12 +1,13 @@
-use Rattle.std.proofs.Common.{◌∙◌, sym}
+use Rattle.std.proofs.Common.{◌∙◌}
 use Rattle.yds_model.specs.Text.{piece_line}
-use Rattle.yds_port.proofs.Putting.{item_put, item_failed}
+use Rattle.yds_document.proofs.Batches.{part_put, part_failed, lines_of_both, before_none}
 use Rattle.yds_document.proofs.piece.print.Goals as goal
 
 pub returns-in_err-write_all : goal.returns-in_err-write_all
 returns-in_err-write_all g c =
-    item_failed piece_line _ _ _ c.from_residual.ensures.0 c.loop-piece-test.true (sym c.piece-item.is) (c.as_bytes.ensures ∙ c.put.ensures) c.loop-piece.invariant c.in_err-write_all.ensures.puts
+    part_failed _ (lines_of_both piece_line c.loop-rest.rest.now c.min.result (c.as_bytes.ensures ∙ before_none c.put_all.ensures.bytes c.clear.ensures) c.split_at.ensures.front c.split_at.ensures.back) _ c.from_residual.ensures.0
+    c.loop-rest.invariant c.in_err-write_all.ensures.puts
 
-pub loop-piece-preserved : goal.loop-piece-preserved
-loop-piece-preserved g c =
-    item_put piece_line _ _ c.loop-piece-test.true (sym c.piece-item.is) (c.as_bytes.ensures ∙ c.put.ensures) c.loop-piece.invariant c.in_ok-write_all.ensures.puts
+pub loop-rest-preserved : goal.loop-rest-preserved
+loop-rest-preserved g c =
+    part_put _ (lines_of_both piece_line c.loop-rest.rest.now c.min.result (c.as_bytes.ensures ∙ before_none c.put_all.ensures.bytes c.clear.ensures) c.split_at.ensures.front c.split_at.ensures.back) c.loop-rest.invariant c.in_ok-write_all.ensures.puts

@@ -1,10 +1,13 @@
-use Rattle.std.proofs.Common.{take}
-use Rattle.std.specs.List.{flat_map}
+use Rattle.std.proofs.Common.{length}
+use Rattle.std.specs.Prelude.{flat_map}
 use Rattle.yds_model.specs.Text.{piece_line}
-use Rattle.yds_port.proofs.Putting.{PutsWhole}
+use Rattle.yds_document.proofs.Batches.{PutsUpTo}
 use Rattle.yds_document.proofs.piece.print.Given as goal
 
--- the lines before this one were put
-abbrev pub invariant-loop-piece : goal.invariant-loop-piece
-invariant-loop-piece g l =
-    PutsWhole g.K.Sink.written g.K.Sink.flushed g.K.Sink.flushes g.K.Sink.faults (flat_map piece_line (take l.piece-index l.pieces)) l.fn.sink l.sink
+-- the lines before the rest were put
+abbrev pub invariant-loop-rest : goal.invariant-loop-rest
+invariant-loop-rest g l =
+    PutsUpTo g.K.Sink.written g.K.Sink.flushed g.K.Sink.flushes g.K.Sink.faults (flat_map piece_line l.rest) (flat_map piece_line l.pieces) l.fn.sink l.sink
+
+abbrev pub decreases-loop-rest : goal.decreases-loop-rest
+decreases-loop-rest g l = length l.rest

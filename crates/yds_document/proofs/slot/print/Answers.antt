@@ -1,12 +1,14 @@
-use Rattle.std.proofs.Common.{◌∙◌, sym}
+use Rattle.std.proofs.Common.{◌<◌, ◌∙◌, length}
 use Rattle.yds_model.specs.Text.{slot_line}
-use Rattle.yds_port.proofs.Putting.{item_put, item_failed}
+use Rattle.yds_document.proofs.Batches.{part_put, part_failed, lines_of_both, all_of_others}
 use Rattle.yds_document.proofs.slot.print.Goals as goal
 
 pub returns-in_err-write_all : goal.returns-in_err-write_all
 returns-in_err-write_all g c =
-    item_failed (slot_line c.args.instance.now.names) _ _ _ c.from_residual.ensures.0 c.loop-slot-test.true (sym c.slot-item.is) (c.as_bytes.ensures ∙ c.put.ensures) c.loop-slot.invariant c.in_err-write_all.ensures.puts
+    part_failed _ (lines_of_both (slot_line c.args.instance.now.names) c.loop-rest.rest.now c.min.result (c.as_bytes.ensures ∙ c.put_all.ensures) c.split_at.ensures.front c.split_at.ensures.back) _ c.from_residual.ensures.0
+    c.loop-rest.invariant.0 c.in_err-write_all.ensures.puts
 
-pub loop-slot-preserved : goal.loop-slot-preserved
-loop-slot-preserved g c =
-    item_put (slot_line c.args.instance.now.names) _ _ c.loop-slot-test.true (sym c.slot-item.is) (c.as_bytes.ensures ∙ c.put.ensures) c.loop-slot.invariant c.in_ok-write_all.ensures.puts
+pub loop-rest-preserved : goal.loop-rest-preserved
+loop-rest-preserved g c =
+    (part_put _ (lines_of_both (slot_line c.args.instance.now.names) c.loop-rest.rest.now c.min.result (c.as_bytes.ensures ∙ c.put_all.ensures) c.split_at.ensures.front c.split_at.ensures.back) c.loop-rest.invariant.0 c.in_ok-write_all.ensures.puts,
+    all_of_others (λ slot. slot.job < length c.args.instance.now.jobs) c.loop-rest.rest.now c.min.result c.split_at.ensures.back c.loop-rest.invariant.1)

@@ -1,10 +1,15 @@
-use Rattle.std.proofs.Common.{take}
-use Rattle.std.specs.List.{flat_map}
+use Rattle.std.proofs.Common.{◌<◌, length}
+use Rattle.std.specs.Prelude.{flat_map}
+use Rattle.std.specs.List.{All}
 use Rattle.yds_model.specs.Text.{slot_line}
-use Rattle.yds_port.proofs.Putting.{PutsWhole}
+use Rattle.yds_document.proofs.Batches.{PutsUpTo}
 use Rattle.yds_document.proofs.slot.print.Given as goal
 
--- the lines before this one were put
-abbrev pub invariant-loop-slot : goal.invariant-loop-slot
-invariant-loop-slot g l =
-    PutsWhole g.K.Sink.written g.K.Sink.flushed g.K.Sink.flushes g.K.Sink.faults (flat_map (slot_line l.instance.names) (take l.slot-index l.slots)) l.fn.sink l.sink
+-- the lines before the rest were put
+abbrev pub invariant-loop-rest : goal.invariant-loop-rest
+invariant-loop-rest g l =
+    (PutsUpTo g.K.Sink.written g.K.Sink.flushed g.K.Sink.flushes g.K.Sink.faults (flat_map (slot_line l.instance.names) l.rest) (flat_map (slot_line l.instance.names) l.slots) l.fn.sink l.sink)
+    × All (λ slot. slot.job < length l.instance.jobs) l.rest
+
+abbrev pub decreases-loop-rest : goal.decreases-loop-rest
+decreases-loop-rest g l = length l.rest
