@@ -8,6 +8,9 @@ use crate::tail_buffer::TailBuffer;
 use std::marker::Model;
 use yds_fraction::Amount;
 
+/// How many bytes are kept for a fraction: some more than it has at most, so that they are copied in whole words.
+pub(crate) const FRACTION_ROOM: usize = 64;
+
 /// A number with its text.
 #[derive(Drop)]
 pub(crate) struct NumberText {
@@ -43,7 +46,7 @@ impl NumberText {
 #[derive(Drop)]
 pub(crate) struct FractionText {
     value: Amount,
-    text: TailBuffer<FRACTION_BYTES>,
+    text: TailBuffer<FRACTION_ROOM>,
 }
 
 impl Model for FractionText {
@@ -78,10 +81,11 @@ impl FractionText {
     }
 
     /// Puts this fraction before the text.
+    #[inline(always)]
     pub(crate) fn put<const N: usize>(&self, text: &mut TailBuffer<N>)
-        requires { FRACTION_BYTES + length text.old ≤ N }
+        requires { FRACTION_ROOM + length text.old ≤ N }
         ensures bytes { text.new ≡ fraction_text self.now ++ text.old }
-        ensures short { length text.new ≤ FRACTION_BYTES + length text.old }
+        ensures short { length text.new ≤ FRACTION_ROOM + length text.old }
     {
         text.put_text(&self.text);
     }
@@ -98,6 +102,7 @@ impl FractionText {
 
 /// Puts the fraction before the text: `W`, or `W+N/D` where the numerator isn't 0. It isn't reduced. Its denominator
 /// is mostly the one that is kept.
+#[inline(always)]
 pub(crate) fn put_fraction<const N: usize>(
     value: Amount,
     den: &mut NumberText,

@@ -16,8 +16,8 @@ ghost use Rattle.yds_document.specs.Slot.{fits_among, fits_test, FitsGrainOf, sl
 use crate::draft::Draft;
 use crate::fields::{fraction_in, known_job};
 use crate::job::name_of;
-use crate::kept_text::{FractionText, NumberText, put_fraction};
-use crate::line_buffer::{FRACTION_BYTES, LINE_BYTES};
+use crate::kept_text::{FRACTION_ROOM, FractionText, NumberText, put_fraction};
+use crate::line_buffer::LINE_BYTES;
 use crate::line_fault::LineFault;
 use crate::tail_buffer::{BATCH_BYTES, BATCH_LINES, Lines};
 use yds_fraction::{Amount, Moment};
@@ -131,9 +131,9 @@ impl KeptTexts {
 
     /// Puts the slot's work and its ends before the text, each with a space before it. The start is kept.
     fn put(&mut self, slot: &Slot, text: &mut Lines)
-        requires { 3 * (1 + FRACTION_BYTES) + length text.old ≤ BATCH_BYTES }
+        requires { 3 * (1 + FRACTION_ROOM) + length text.old ≤ BATCH_BYTES }
         ensures bytes { text.new ≡ 32 ∷ (fraction_text slot.now.from ++ 32 ∷ (fraction_text slot.now.to ++ 32 ∷ (fraction_text slot.now.work ++ text.old))) }
-        ensures short { length text.new ≤ 3 * (1 + FRACTION_BYTES) + length text.old }
+        ensures short { length text.new ≤ 3 * (1 + FRACTION_ROOM) + length text.old }
     {
         put_fraction(slot.work, &mut self.den_of_works, text);
         text.put_byte(b' ');
@@ -146,9 +146,9 @@ impl KeptTexts {
 
     /// Puts the slot's end before the text.
     fn put_end(&mut self, end: Moment, text: &mut Lines)
-        requires { FRACTION_BYTES + length text.old ≤ BATCH_BYTES }
+        requires { FRACTION_ROOM + length text.old ≤ BATCH_BYTES }
         ensures bytes { text.new ≡ fraction_text end ++ text.old }
-        ensures short { length text.new ≤ FRACTION_BYTES + length text.old }
+        ensures short { length text.new ≤ FRACTION_ROOM + length text.old }
     {
         if self.start.is_of(end) {
             self.start.put(text);

@@ -9,6 +9,7 @@ returns-in_err-write_all g c =
     c.loop-rest.invariant.0 c.in_err-write_all.ensures.puts
 
 pub loop-rest-preserved : goal.loop-rest-preserved
-loop-rest-preserved g c =
-    (part_put _ (lines_of_both (slot_line c.args.instance.now.names) c.loop-rest.rest.now c.min.result (c.as_bytes.ensures ∙ c.put_all.ensures) c.split_at.ensures.front c.split_at.ensures.back) c.loop-rest.invariant.0 c.in_ok-write_all.ensures.puts,
-    all_of_others (λ slot. slot.job < length c.args.instance.now.jobs) c.loop-rest.rest.now c.min.result c.split_at.ensures.back c.loop-rest.invariant.1)
+loop-rest-preserved g c = (
+  part_put _ (lines_of_both (slot_line c.args.instance.now.names) c.loop-rest.rest.now c.min.result (c.as_bytes.ensures ∙ c.put_all.ensures) c.split_at.ensures.front c.split_at.ensures.back) c.loop-rest.invariant.0 c.in_ok-write_all.ensures.puts,
+  all_of_others (λ slot. slot.job < length c.args.instance.now.jobs) c.loop-rest.rest.now c.min.result c.split_at.ensures.back c.loop-rest.invariant.1,
+)
