@@ -79,8 +79,9 @@ impl<const N: usize> TailBuffer<N> {
         requires { 1 + length self.old ≤ N }
         ensures { self.new ≡ byte ∷ self.old }
     {
-        self.start -= 1;
-        self.bytes[self.start] = byte;
+        let start = self.start - 1;
+        self.bytes[start] = byte;
+        self.start = start;
     }
 
     /// Puts the number before the text.
@@ -93,6 +94,7 @@ impl<const N: usize> TailBuffer<N> {
     }
 
     /// Puts another text before this one. All of its place is copied, so that it is a copy of a fixed length.
+    #[inline(always)]
     pub(crate) fn put_text<const M: usize>(&mut self, front: &TailBuffer<M>)
         requires { M + length self.old ≤ N }
         ensures bytes { self.new ≡ front.now ++ self.old }
