@@ -8,3 +8,4 @@ pub mod RunParts
 pub mod PointTable
 pub mod Placed
 pub mod Limits
+mod PlainLine
