@@ -10,3 +10,4 @@ pub mod RunParts
 pub mod PointTable
 pub mod Placed
 pub mod Limits
+mod PlainLine

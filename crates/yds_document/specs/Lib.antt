@@ -8,3 +8,4 @@ pub mod Member
 pub mod Draft
 pub mod LineKinds
 pub mod Documents
+pub mod Plain

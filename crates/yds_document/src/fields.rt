@@ -1,19 +1,20 @@
 //! What a field of a line is tried for: a number, a fraction, the name of a job.
 
-ghost use Rattle.std.specs.Prelude.{◌≡◌, ◌<◌, ◌≤◌, length, None, IfOk, IsTrue};
+ghost use Rattle.std.specs.Prelude.{◌≡◌, ◌<◌, ◌≤◌, length, None, Ok, IfOk, IfSome, IsTrue};
 ghost use Rattle.yds_model.specs.declared.limits.TheConstants.{MAX_WHOLE};
 ghost use Rattle.yds_model.specs.Reading.{number_in, fraction_in};
-ghost use Rattle.yds_model.specs.Spelling.{is_name};
+ghost use Rattle.yds_model.specs.Spelling.{is_name, fraction_at};
 ghost use Rattle.yds_model.specs.Within.{IsFraction};
 ghost use Rattle.yds_instance.specs.Named.{number_of};
 ghost use Rattle.yds_text.specs.Read.{field_read};
+ghost use Rattle.yds_text.specs.Plain.{ReadsText};
 ghost use Rattle.yds_document.specs.Fields.{Gives, new_name_of, known_job_of};
 
 use crate::line_fault::LineFault;
 use yds_fraction::Amount;
 use yds_instance::Instance;
 use yds_model::Reason;
-use yds_text::{Field, mixed, name, number_from};
+use yds_text::{Field, Fields, mixed, name, number_from};
 
 /// The number that the field spells.
 pub(crate) fn number_in(field: Field<'_>, least: u64, most: u64) -> Result<u64, LineFault>
@@ -49,6 +50,18 @@ pub(crate) fn fraction_in(field: Field<'_>, most: u64) -> Result<Amount, LineFau
         }
         Err(fault) => Err(LineFault::of_number(field.column, fault)),
     }
+}
+
+/// The fraction that the next field spells, where it is plain.
+pub(crate) fn plain_fraction(fields: &mut Fields<'_>, most: u64) -> Option<Amount>
+    requires { most ≤ MAX_WHOLE }
+    ensures says { IfSome result (λ value. ReadsText (λ text. fraction_at most text ≡ Ok value) fields.old.fields fields.new.fields) }
+    ensures within { IfSome result (IsFraction most) }
+{
+    let value = fields.plain_fraction(most)?;
+    // Reading a part shows that the fraction is within its limits.
+    let _den = value.den();
+    Some(value)
 }
 
 /// A name that no job has yet.

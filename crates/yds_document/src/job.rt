@@ -1,6 +1,6 @@
 //! The lines of jobs: a job with a name of its own.
 
-ghost use Rattle.std.specs.Prelude.{◌≡◌, ◌+◌, ◌<◌, ◌≤◌, ◌∷◌, ◌++◌, length, None, OnOk, IfOk, IsTrue};
+ghost use Rattle.std.specs.Prelude.{◌≡◌, ◌+◌, ◌<◌, ◌≤◌, ◌∷◌, ◌++◌, length, None, OnOk, IfOk, IfSome, IsTrue};
 ghost use Rattle.yds_model.specs.declared.limits.TheConstants.{MAX_JOBS, MAX_NAME};
 ghost use Rattle.yds_model.specs.Document.{name_at};
 ghost use Rattle.yds_model.specs.Entry.{JobEntry};
@@ -13,6 +13,7 @@ ghost use Rattle.yds_text.specs.Read.{field_read};
 ghost use Rattle.yds_document.specs.Draft.{IsDraft, Reads, Takes};
 ghost use Rattle.yds_document.specs.Fields.{Gives};
 ghost use Rattle.yds_document.specs.Job.{job_of, job_lines_from};
+ghost use Rattle.yds_document.specs.Plain.{SaysFour};
 
 use crate::draft::Draft;
 use crate::fields::{new_name, small_in};
@@ -23,10 +24,28 @@ use yds_instance::Instance;
 use yds_model::limits::{MAX_TIME, MAX_WORK};
 use yds_model::{JobRow, Memory, Reason};
 use yds_port::{Sink, WriteFault, write_all};
-use yds_text::{Field, Fields, four_fields};
+use yds_text::{Field, Fields, four_fields, name};
 
 /// Reads the line whose first field is `kind`, and adds its job.
 pub(crate) fn read<'a>(
+    draft: &mut Draft<'a>,
+    kind: Field<'a>,
+    fields: Fields<'a>,
+) -> Result<(), LineFault>
+    requires kept { IsDraft draft.old }
+    requires room { length draft.old.instance.names < MAX_JOBS }
+    ensures kept { OnOk result (IsDraft draft.new) }
+    ensures reads { Reads JobLine (field_read kind.entry ∷ fields.entry.fields) result draft.old draft.new }
+{
+    if let Some((name, row)) = plain_job(&draft.instance, fields.again()) {
+        add(draft, name, row)?;
+        return Ok(());
+    }
+    read_each(draft, kind, fields)
+}
+
+/// The same, with the fields read one by one.
+fn read_each<'a>(
     draft: &mut Draft<'a>,
     kind: Field<'a>,
     fields: Fields<'a>,
@@ -44,6 +63,22 @@ pub(crate) fn read<'a>(
         }
         Err(fault) => Err(fault),
     }
+}
+
+/// What the fields say, where they are plain and say a job.
+fn plain_job<'a>(instance: &Instance<'a>, mut fields: Fields<'a>) -> Option<(&'a str, JobRow)>
+    ensures says { IfSome result (λ said. SaysFour (job_of instance.now.names) fields.entry.fields (JobEntry said.0.now said.1)) }
+    ensures named { IfSome result (λ said. IsTrue (is_name said.0.now)) }
+    ensures new { IfSome result (λ said. number_of instance.now.names said.0.now ≡ None) }
+{
+    let name = name(fields.next()?)?;
+    let from = fields.plain_small(0, MAX_TIME)?;
+    let to = fields.plain_small(0, MAX_TIME)?;
+    let work = fields.plain_small(0, MAX_WORK)?;
+    if fields.next().is_some() || to <= from || instance.find(name).is_some() {
+        return None;
+    }
+    Some((name, JobRow::new(from, to, work)))
 }
 
 /// What the fields say.

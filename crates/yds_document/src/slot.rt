@@ -1,6 +1,6 @@
 //! The lines of slots: a job by its name, two ends that are alike, and a work alike with its job's others.
 
-ghost use Rattle.std.specs.Prelude.{◌≡◌, ◌+◌, ◌*◌, ◌<◌, ◌≤◌, ◌∷◌, ◌++◌, length, OnOk, IfOk, IsTrue};
+ghost use Rattle.std.specs.Prelude.{◌≡◌, ◌+◌, ◌*◌, ◌<◌, ◌≤◌, ◌∷◌, ◌++◌, length, OnOk, IfOk, IfSome, IsTrue};
 ghost use Rattle.std.specs.List.{All, flat_map};
 ghost use Rattle.yds_model.specs.declared.limits.TheConstants.{MAX_SLOTS};
 ghost use Rattle.yds_model.specs.Entry.{SlotEntry};
@@ -11,10 +11,11 @@ ghost use Rattle.yds_slots.specs.Schedule.{FitsGrain};
 ghost use Rattle.yds_text.specs.Read.{field_read};
 ghost use Rattle.yds_document.specs.Draft.{IsDraft, Reads, Takes};
 ghost use Rattle.yds_document.specs.Fields.{Gives};
+ghost use Rattle.yds_document.specs.Plain.{SaysFour};
 ghost use Rattle.yds_document.specs.Slot.{fits_among, fits_test, FitsGrainOf, slot_of};
 
 use crate::draft::Draft;
-use crate::fields::{fraction_in, known_job};
+use crate::fields::{fraction_in, known_job, plain_fraction};
 use crate::job::name_of;
 use crate::kept_text::{FRACTION_ROOM, FractionText, NumberText, put_fraction};
 use crate::line_buffer::LINE_BYTES;
@@ -26,10 +27,28 @@ use yds_model::limits::{MAX_SLOT_WORK, MAX_TIME};
 use yds_model::{Memory, Reason};
 use yds_port::{Sink, WriteFault, write_all};
 use yds_slots::{Schedule, Slot};
-use yds_text::{Field, Fields, four_fields};
+use yds_text::{Field, Fields, four_fields, name};
 
 /// Reads the line whose first field is `kind`, and adds its slot.
 pub(crate) fn read<'a>(
+    draft: &mut Draft<'a>,
+    kind: Field<'a>,
+    fields: Fields<'a>,
+) -> Result<(), LineFault>
+    requires kept { IsDraft draft.old }
+    requires room { length draft.old.schedule.slots < MAX_SLOTS }
+    ensures kept { OnOk result (IsDraft draft.new) }
+    ensures reads { Reads SlotLine (field_read kind.entry ∷ fields.entry.fields) result draft.old draft.new }
+{
+    if let Some(slot) = plain_slot(&draft.instance, &draft.schedule, fields.again()) {
+        add(draft, slot)?;
+        return Ok(());
+    }
+    read_each(draft, kind, fields)
+}
+
+/// The same, with the fields read one by one.
+fn read_each<'a>(
     draft: &mut Draft<'a>,
     kind: Field<'a>,
     fields: Fields<'a>,
@@ -43,6 +62,29 @@ pub(crate) fn read<'a>(
     let slot = slot_in(&draft.instance, &draft.schedule, name, from, to, work)?;
     add(draft, slot)?;
     Ok(())
+}
+
+/// What the fields say, where they are plain and say a slot that may stand there.
+fn plain_slot(instance: &Instance<'_>, schedule: &Schedule, mut fields: Fields<'_>) -> Option<Slot>
+    requires { schedule.now.jobs ≡ length instance.now.jobs }
+    ensures says { IfSome result (λ slot. SaysFour (slot_of instance.now.names schedule.now.slots) fields.entry.fields (SlotEntry slot)) }
+    ensures known { IfSome result (λ slot. slot.job < length instance.now.jobs) }
+    ensures grain { IfSome result (λ slot. FitsGrain schedule.now.slots slot) }
+{
+    let job = instance.find(name(fields.next()?)?)?;
+    let latest = u64::from(MAX_TIME);
+    let from = plain_fraction(&mut fields, latest)?;
+    let to = plain_fraction(&mut fields, latest)?;
+    let work = plain_fraction(&mut fields, MAX_SLOT_WORK)?;
+    if fields.next().is_some() || !from.alike(to) || !fits_grain(schedule, job, work) {
+        return None;
+    }
+    Some(Slot {
+        job,
+        from,
+        to,
+        work,
+    })
 }
 
 /// What the fields say: a slot whose work is alike with those that its job got before.

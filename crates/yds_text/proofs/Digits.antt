@@ -1,10 +1,10 @@
 -- The digits at the front of a text, the byte after them, and the separators of a fraction.
-use Rattle.std.proofs.Common.{◌≡◌, ℕ, ◌<◌, ◌≤◌, Bool, true, false, cond, List, length, get_or, take, nat_le, Ok, Err, refl, sym, ap, ◌∙◌, subst, inl, inr, arith}
+use Rattle.std.proofs.Common.{◌≡◌, ℕ, ◌<◌, ◌≤◌, ◌⊎◌, Bool, true, false, cond, List, length, get_or, take, nat_le, Ok, Err, refl, sym, ap, ◌∙◌, subst, inl, inr, arith}
 use Rattle.std.specs.List.{list_all, list_any, prefix_len, position_or_len, before_first}
 use Rattle.std.specs.Str.Parse.{digits_value}
 use Rattle.std.proofs.lemmas.Bool.{cases_Bool, cases_order, false≢true, le-leb, leb-true}
-use Rattle.std.proofs.lemmas.List.{get_or-take, length-take, length-take-le}
-use Rattle.std.proofs.lemmas.List.Sums.{prefix_len_passes, prefix_len_stops, position_or_len_is, passes_at_first, list_all-from_AllPass}
+use Rattle.std.proofs.lemmas.List.{get_or-take, length-take, length-take-le, take_all}
+use Rattle.std.proofs.lemmas.List.Sums.{prefix_len_passes, prefix_len_stops, prefix_len_is, position_or_len_is, passes_at_first, list_all-from_AllPass}
 use Rattle.yds_model.specs.declared.number_fault.NumberFault.TheVariants.{BadNumber, OutOfRange}
 use Rattle.yds_model.specs.Spelling.{is_digit, is_number, number_at}
 use Rattle.yds_model.proofs.Spelling.{number_digits}
@@ -27,6 +27,14 @@ front_digits text len within is =
     list_all-from_AllPass is_digit (take len text) (λ k d below.
     let inside : k < len = omega (arith, length-take-le len text within) in
     ap is_digit (get_or-take len text k d inside) ∙ prefix_len_passes is_digit text k d (omega arith))
+
+-- digits at the front of a part are those at the front of all, unless the part ends with them before the other does
+pub digits_of_part : (text : List ℕ) (part len : ℕ) → part ≤ length text → len ≡ prefix_len is_digit (take part text) → (len < part) ⊎ (part ≡ length text) → len ≡ prefix_len is_digit text
+digits_of_part text part len within is (inr all) = is ∙ ap (prefix_len is_digit) (take_all part text (omega arith))
+digits_of_part text part len within is (inl less) =
+    sym (prefix_len_is is_digit text len 0 (omega arith)
+    (λ k below. ap is_digit (sym (get_or-take part text k 0 (omega arith))) ∙ prefix_len_passes is_digit (take part text) k 0 (omega arith))
+    (λ here. ap is_digit (sym (get_or-take part text len 0 less)) ∙ subst (λ place. is_digit (get_or (take part text) place 0) ≡ false) (sym is) (prefix_len_stops is_digit (take part text) 0 (omega (arith, length-take-le part text within)))))
 
 -- # What a number says
 

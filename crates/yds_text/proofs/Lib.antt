@@ -3,4 +3,5 @@ mod FirstField
 mod Spelled
 mod Digits
 mod Fractions
+mod PlainField
 pub mod Counted

@@ -1,12 +1,16 @@
 //! The fields of a line.
-ghost use Rattle.std.specs.Prelude.{◌≡◌, ℕ, ◌+◌, ◌<◌, ◌≤◌, [], ◌∷◌, length, map};
+ghost use Rattle.std.specs.Prelude.{◌≡◌, ℕ, ◌+◌, ◌<◌, ◌≤◌, [], ◌∷◌, length, map, Ok, IfSome};
 ghost use Rattle.std.specs.List.{prefix_len, position_or_len};
-ghost use Rattle.yds_model.specs.declared.limits.TheConstants.{MAX_BYTES};
+ghost use Rattle.yds_model.specs.declared.limits.TheConstants.{MAX_BYTES, MAX_WHOLE};
 ghost use Rattle.yds_model.specs.Lines.{fields_from, fields_of, is_blank};
 ghost use Rattle.yds_model.specs.Reading.{begins_comment};
+ghost use Rattle.yds_model.specs.Spelling.{number_at, fraction_at};
+ghost use Rattle.yds_text.specs.Plain.{ReadsText};
 
+use crate::plain::{first_fraction, first_number};
 use std::iter::FusedIterator;
 use std::marker::Model;
+use yds_fraction::Amount;
 
 /// A field of a line: one of its longest runs of bytes other than spaces and tabs.
 #[derive(Clone, Copy, Debug, PartialEq, Eq)]
@@ -56,6 +60,52 @@ impl<'a> Fields<'a> {
             column: 1,
         }
     }
+
+    /// The fields that are left, once more, as for a reader that may give up.
+    pub fn again(&self) -> Fields<'a>
+        ensures { result ≡ self.now }
+    {
+        Fields {
+            rest: self.rest,
+            line: self.line,
+            column: self.column,
+        }
+    }
+
+    /// The number from `least` to `most` that the next field spells, where just one space stands before the field. `None`
+    /// tells nothing of the fields, nor of those that are left then.
+    pub fn plain_number(&mut self, least: u64, most: u64) -> Option<u64>
+        ensures says { IfSome result (λ number. ReadsText (λ text. number_at least most text ≡ Ok number) self.old.fields self.new.fields) }
+        ensures within { IfSome result (λ number. (least ≤ number) × (number ≤ most)) }
+    {
+        let (number, rest) = first_number(self.rest, most)?;
+        if number < least {
+            return None;
+        }
+        self.column += (self.rest.len() - rest.len()) as u32;
+        self.rest = rest;
+        Some(number)
+    }
+
+    /// The same of a number of 32 bits.
+    pub fn plain_small(&mut self, least: u32, most: u32) -> Option<u32>
+        ensures says { IfSome result (λ number. ReadsText (λ text. number_at least most text ≡ Ok number) self.old.fields self.new.fields) }
+        ensures within { IfSome result (λ number. (least ≤ number) × (number ≤ most)) }
+    {
+        let number = self.plain_number(u64::from(least), u64::from(most))?;
+        Some(number as u32)
+    }
+
+    /// The same of a fraction, whose whole part is at most `most`.
+    pub fn plain_fraction(&mut self, most: u64) -> Option<Amount>
+        requires { most ≤ MAX_WHOLE }
+        ensures { IfSome result (λ value. ReadsText (λ text. fraction_at most text ≡ Ok value) self.old.fields self.new.fields) }
+    {
+        let (whole, num, den, rest) = first_fraction(self.rest, most)?;
+        self.column += (self.rest.len() - rest.len()) as u32;
+        self.rest = rest;
+        Some(Amount::new(whole, num, den))
+    }
 }
 
 impl<'a> Iterator for Fields<'a> {
@@ -100,7 +150,8 @@ fn first_field(bytes: &[u8]) -> (usize, &[u8], &[u8])
     (blanks.len(), text, rest)
 }
 
-fn is_blank(byte: u8) -> bool
+/// Whether the byte is a space or a tab.
+pub(crate) fn is_blank(byte: u8) -> bool
     ensures { result ≡ is_blank byte }
 {
     // Few bytes of a line are so small, so one comparison tells most of them.

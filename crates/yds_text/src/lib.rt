@@ -10,6 +10,7 @@ mod count;
 mod field;
 mod fraction;
 mod line;
+mod plain;
 mod spelling;
 
 pub use count::{FieldCount, FiveFields, five_fields, four_fields, one_field, two_fields};

@@ -10,8 +10,8 @@ use std::str;
 use yds_model::NumberFault;
 use yds_model::limits::MAX_NAME;
 
-/// A number below this one takes a further digit within 64 bits, whatever the digit is.
-const SHORT: u64 = 1_844_674_407_370_955_161;
+/// So many digits are a number of 64 bits, whatever they are.
+const SHORT: usize = 19;
 
 /// The number that the field spells, at most `most`: `0`, or a digit from 1 to 9 and any digits after
 /// it. Another spelling is a `BadNumber`, and a number above `most`, however long, is `OutOfRange`.
@@ -94,6 +94,37 @@ fn leading_digits(text: &[u8]) -> (Option<u64>, usize)
     ensures count { result.1 ≡ prefix_len is_digit text.now }
     ensures within { result.1 ≤ length text.now }
 {
+    let (value, len) = few_digits(&text[..text.len().min(SHORT)]);
+    if len < SHORT {
+        (Some(value), len)
+    } else {
+        many_digits(text)
+    }
+}
+
+/// The same of a text that is short enough for 64 bits.
+fn few_digits(text: &[u8]) -> (u64, usize)
+    requires { length text.now ≤ SHORT }
+    ensures value { result.0 ≡ digits_value 10 (take result.1 text.now) }
+    ensures count { result.1 ≡ prefix_len is_digit text.now }
+    ensures within { result.1 ≤ length text.now }
+{
+    let mut value: u64 = 0;
+    for (index, &byte) in text.iter().enumerate() {
+        if !byte.is_ascii_digit() {
+            return (value, index);
+        }
+        value = value * 10 + u64::from(byte - b'0');
+    }
+    (value, text.len())
+}
+
+/// The same of a text of any length.
+fn many_digits(text: &[u8]) -> (Option<u64>, usize)
+    ensures value { MatchOption result.0 (2 ^ 64 ≤ digits_value 10 (take result.1 text.now)) (λ value. value ≡ digits_value 10 (take result.1 text.now)) }
+    ensures count { result.1 ≡ prefix_len is_digit text.now }
+    ensures within { result.1 ≤ length text.now }
+{
     let mut value: u64 = 0;
     for (index, &byte) in text.iter().enumerate() {
         if !byte.is_ascii_digit() {
@@ -112,12 +143,7 @@ fn with_digit(value: u64, digit: u8) -> Option<u64>
     requires { is_digit digit ≡ true }
     ensures { MatchOption result (2 ^ 64 ≤ value * 10 + digit_value digit) (λ next. next ≡ value * 10 + digit_value digit) }
 {
-    let digit = u64::from(digit - b'0');
-    if value < SHORT {
-        Some(value * 10 + digit)
-    } else {
-        value.checked_mul(10)?.checked_add(digit)
-    }
+    value.checked_mul(10)?.checked_add(u64::from(digit - b'0'))
 }
 
 /// How many digits stand at the front.

@@ -3,7 +3,7 @@ use Rattle.yds_model.specs.Reading.{JobLine}
 use Rattle.yds_text.specs.Read.{field_read}
 use Rattle.yds_document.specs.Fields.{Fails}
 use Rattle.yds_document.proofs.Told.{fields_failed, job_same}
-use Rattle.yds_document.proofs.job.read.Goals as goal
+use Rattle.yds_document.proofs.job.read_each.Goals as goal
 
 pub returns-in-Err-clause-reads : goal.returns-in-Err-clause-reads
 returns-in-Err-clause-reads c = λ earlier holds.

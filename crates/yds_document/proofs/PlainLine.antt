@@ -1,0 +1,96 @@
+-- What the fields of a line say where they were read in one pass.
+use Rattle.std.proofs.Common.{◌≡◌, ℕ, ◌<◌, ◌⊎◌, inl, inr, Bool, true, false, eq-eqb, List, [], ◌∷◌, Option, Some, None, is_some, Ok, refl, sym, ap, ◌∙◌}
+use Rattle.std.specs.Prelude.{nat_lt, ◌==◌, ◌||◌}
+use Rattle.std.proofs.lemmas.Bool.{lt-ltb}
+use Rattle.yds_model.specs.declared.limits.TheConstants.{MAX_TIME, MAX_WORK, MAX_SLOT_WORK}
+use Rattle.yds_model.specs.Lines.{Field}
+use Rattle.yds_model.specs.Entry.{Entry, JobEntry, SlotEntry}
+use Rattle.yds_model.specs.Fields.{count_fields}
+use Rattle.yds_model.specs.Reading.{SlotLine, are_alike}
+use Rattle.yds_model.specs.Scale.{Fraction, AreAlike}
+use Rattle.yds_model.specs.Slot.{WrittenSlot}
+use Rattle.yds_model.specs.Spelling.{is_name, number_at, fraction_at}
+use Rattle.yds_instance.specs.Named.{number_of}
+use Rattle.yds_text.specs.Left.{FieldsLeft}
+use Rattle.yds_text.specs.declared.field.Field.{Field as FieldRead}
+use Rattle.yds_text.specs.Count.{no_reason}
+use Rattle.yds_text.specs.Read.{GivesField}
+use Rattle.yds_text.specs.Plain.{ReadsText}
+use Rattle.yds_document.specs.declared.draft.Draft.{Draft}
+use Rattle.yds_document.specs.Draft.{Holds, HoldsMore, Takes, count_and_read}
+use Rattle.yds_document.specs.Job.{job_of}
+use Rattle.yds_document.specs.Slot.{fits_among, slot_of}
+use Rattle.yds_document.specs.Plain.{SaysFour}
+use Rattle.yds_document.proofs.Told.{holds_more, slot_same}
+
+-- where no field was given, none is left
+pub no_field_left : (old new : FieldsLeft) (result : Option FieldRead) → is_some result ≡ false → GivesField old result new → old.fields ≡ []
+no_field_left old new None none gives = gives.none
+no_field_left old new (Some field) none gives = cc
+
+pub not_some : {A : Type 0} (o : Option A) → is_some o ≡ false → o ≡ None
+not_some None is = refl
+not_some (Some x) is = cc
+
+-- a name that is new, and three numbers
+pub says_job : (names : List (List ℕ)) (fields rest two one none : List Field) (a : Field) (name : List ℕ) (from to work : ℕ) → fields ≡ a ∷ rest →
+    ReadsText (λ text. number_at 0 MAX_TIME text ≡ Ok from) rest two → ReadsText (λ text. number_at 0 MAX_TIME text ≡ Ok to) two one →
+    ReadsText (λ text. number_at 0 MAX_WORK text ≡ Ok work) one none → none ≡ [] → name ≡ a.text → is_name a.text ≡ true → number_of names name ≡ None → from < to →
+    SaysFour (job_of names) fields (JobEntry name (record { release = from; deadline = to; work = work }))
+says_job names fields rest two one none a name from to work first b c d last text named new before = record {
+  first = a;
+  second = b.field;
+  third = c.field;
+  fourth = d.field;
+  are = first ∙ ap (λ l. a ∷ l) (b.first ∙ ap (λ l. b.field ∷ l) (c.first ∙ ap (λ l. c.field ∷ l) (d.first ∙ ap (λ l. d.field ∷ l) last)));
+  says =
+      let unknown : number_of names a.text ≡ None = ap (number_of names) (sym text) ∙ new in
+      let less : nat_lt from to ≡ true = lt-ltb from to before in
+      rw (named, unknown, b.says, c.says, d.says, less) (ap (λ said. Ok (JobEntry said (record { release = from; deadline = to; work = work }))) (sym text));
+}
+
+-- two fractions that are alike pass the test
+tested : (a b c : Bool) → (a ≡ true) ⊎ ((b ≡ true) ⊎ (c ≡ true)) → (a || b || c) ≡ true
+tested true true c one = refl
+tested true false c one = refl
+tested false true c one = refl
+tested false false true one = refl
+tested false false false (inl one) = cc
+tested false false false (inr (inl one)) = cc
+tested false false false (inr (inr one)) = cc
+
+pub test_alike : (x y : Fraction) → AreAlike x y → are_alike x y ≡ true
+test_alike x y (inl same) = tested (x.den == y.den) (x.den == 1) (y.den == 1) (inl (eq-eqb x.den y.den same))
+test_alike x y (inr (inl one)) = tested (x.den == y.den) (x.den == 1) (y.den == 1) (inr (inl (eq-eqb x.den 1 one)))
+test_alike x y (inr (inr one)) = tested (x.den == y.den) (x.den == 1) (y.den == 1) (inr (inr (eq-eqb y.den 1 one)))
+
+-- a name that is known, and three fractions
+pub says_slot : (names : List (List ℕ)) (slots : List WrittenSlot) (fields rest two one none : List Field) (a : Field) (name : List ℕ) (job most : ℕ) (from to work : Fraction) →
+    fields ≡ a ∷ rest → most ≡ MAX_TIME → ReadsText (λ text. fraction_at most text ≡ Ok from) rest two → ReadsText (λ text. fraction_at most text ≡ Ok to) two one →
+    ReadsText (λ text. fraction_at MAX_SLOT_WORK text ≡ Ok work) one none → none ≡ [] → name ≡ a.text → is_name a.text ≡ true → number_of names name ≡ Some job →
+    are_alike from to ≡ true → fits_among slots job work ≡ true →
+    SaysFour (slot_of names slots) fields (SlotEntry (record { job = job; from = from; to = to; work = work }))
+says_slot names slots fields rest two one none a name job most from to work first limit b c d last text named known alike fits = record {
+  first = a;
+  second = b.field;
+  third = c.field;
+  fourth = d.field;
+  are = first ∙ ap (λ l. a ∷ l) (b.first ∙ ap (λ l. b.field ∷ l) (c.first ∙ ap (λ l. c.field ∷ l) (d.first ∙ ap (λ l. d.field ∷ l) last)));
+  says =
+      let found : number_of names a.text ≡ Some job = ap (number_of names) (sym text) ∙ known in
+      let start : fraction_at MAX_TIME b.field.text ≡ Ok from = ap (λ m. fraction_at m b.field.text) (sym limit) ∙ b.says in
+      let end : fraction_at MAX_TIME c.field.text ≡ Ok to = ap (λ m. fraction_at m c.field.text) (sym limit) ∙ c.says in
+      rw (named, found, start, end, d.says, alike, fits) refl;
+}
+
+-- # Such a line is held
+
+four_counted : (kind a b c d : Field) (fields : List Field) → fields ≡ a ∷ b ∷ c ∷ d ∷ [] →
+    (kind ∷ fields ≡ kind ∷ a ∷ b ∷ c ∷ d ∷ []) × (count_fields no_reason 4 (kind ∷ fields) ≡ Ok true)
+four_counted kind a b c d fields are = (ap (λ l. kind ∷ l) are, ap (λ l. count_fields no_reason 4 (kind ∷ l)) are)
+
+pub holds_slot_line : (old new : Draft) (earlier : List Entry) (kind : Field) (fields : List Field) (entry : Entry) → SaysFour (slot_of old.instance.names old.schedule.slots) fields entry →
+    Holds old earlier → Takes old new entry → HoldsMore (count_and_read SlotLine earlier (kind ∷ fields)) new earlier
+holds_slot_line old new earlier kind fields entry said holds takes =
+    holds_more SlotLine earlier (kind ∷ fields) _ entry old new (four_counted kind said.first said.second said.third said.fourth fields said.are)
+    (sym (slot_same old earlier kind said.first said.second said.third said.fourth holds) ∙ said.says) holds takes

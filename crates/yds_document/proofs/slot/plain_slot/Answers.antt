@@ -1,0 +1,19 @@
+use Rattle.std.proofs.Common.{sym, ◌∙◌, subst}
+use Rattle.yds_model.specs.Within.{IsFraction}
+use Rattle.yds_document.proofs.PlainLine.{no_field_left, says_slot, test_alike}
+use Rattle.yds_document.proofs.slot.plain_slot.Goals as goal
+
+pub invariant_of-result : goal.invariant_of-result
+invariant_of-result c = record {
+  from = subst (λ most. IsFraction most c.in_ok-from.from) c.from-latest.ensures c.in_ok-from.ensures.within;
+  to = subst (λ most. IsFraction most c.in_ok-to.to) c.from-latest.ensures c.in_ok-to.ensures.within;
+  work = c.in_ok-work.ensures.within;
+  ends_alike = c.alike.ensures.0 c.if-not-alike.false;
+}
+
+pub returns-clause-says : goal.returns-clause-says
+returns-clause-says c =
+    says_slot c.args.instance.now.names c.args.schedule.now.slots _ _ _ _ _ _ c.in_ok-name.field-0.now c.in_ok-job.job c.from-latest.result c.in_ok-from.from c.in_ok-to.to c.in_ok-work.work
+    c.in_ok-next.ensures.steps.first c.from-latest.ensures c.in_ok-from.ensures.says c.in_ok-to.ensures.says c.in_ok-work.ensures.says
+    (no_field_left _ _ c.next-2.result (sym c.is_some.ensures ∙ c.if-is_some.false) c.next-2.ensures.steps) c.in_ok-name.ensures.same c.in_ok-name.ensures.some
+    (sym c.find.ensures.number ∙ c.in_ok-job.was) (test_alike c.in_ok-from.from c.in_ok-to.to (c.alike.ensures.0 c.if-not-alike.false)) (sym c.fits_grain.ensures.value ∙ c.if-not-fits_grain.false)
