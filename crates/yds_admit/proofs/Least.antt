@@ -1,16 +1,17 @@
 -- The walk over the pieces of jobs for one job more, and what it finds.
 use Rattle.std.proofs.Common.{◌≡◌, ℕ, zero, suc, ◌+◌, ◌-◌, ◌*◌, ◌<◌, ◌≤◌, ◌⊎◌, List, [], ◌∷◌, ◌++◌, length, get_or, take, drop, ◌∙◌, refl, sym, subst, arith, inl, inr, ap, cond, nat_le, ◌==◌}
 use Rattle.std.specs.List.{All, Any, sum_by}
-use Rattle.std.specs.List.Sorted.{IsNonDecreasing}
+use Rattle.std.specs.List.Sorted.{IsPermutation, IsNonDecreasing}
 use Rattle.std.proofs.lemmas.Bool.{cases_lt, cases_eq, le-leb, leb-true, leb-false, true≢false, eqb-true, eqb-false}
 use Rattle.yds_edf.proofs.Demand.{found_or_none}
 use Rattle.std.proofs.lemmas.List.{get_or_default, get_or-take, get_or-drop, get_or_append_left, get_or_push, length-take-le, length-drop, length_push}
 use Rattle.std.proofs.lemmas.List.Sums.{sum_by-take-drop, sum_by_push}
+use Rattle.std.proofs.lemmas.List.Sorted.{sum_by-IsPermutation}
 use Rattle.std.proofs.Math.Nat.{mul-sub, mul-le-mul_left}
 use Rattle.yds_model.specs.Job.{Job, IsJob, no_job, job_at}
 use Rattle.yds_model.specs.Policy.{numbers_of}
 use Rattle.yds_model.proofs.Sums.{sum_by_same, sum_by_zero}
-use Rattle.yds_admit.specs.Interval.{work_in}
+use Rattle.yds_admit.specs.Interval.{work_in, HasRoomFrom}
 use Rattle.yds_admit.specs.Chain.{due_work, HasRoomOver, IsLeastFrom, NoFrom}
 use Rattle.yds_admit.specs.Pieces.{went, ArePieces, AreDue}
 use Rattle.yds_laws.specs.AdmissionLaws.{HasRoom}
@@ -272,3 +273,23 @@ module _ (top : ℕ) (times : List ℕ) (all jobs : List Job) (places used : Lis
               | inr behind ↦ behind
             ]) below);
       }
+
+-- # Jobs that leave no interval overfull, in another order
+
+module _ (top : ℕ) (jobs others : List Job) (are : All IsJob jobs) (same : IsPermutation jobs others) (room : HasRoom top jobs) where
+  -- they have room from any time on
+  pub room_alone : (from : ℕ) → HasRoomFrom top others from
+  room_alone from to forward = omega (arith, room_to top jobs are room from to, sum_by-IsPermutation (term from to) jobs others same)
+
+-- an interval that is overfull with one job more begins at the job's release or before
+pub until_release : (top : ℕ) (jobs : List Job) (row : Job) (from : ℕ) → All IsJob jobs → HasRoom top jobs → IsLeastFrom top row.deadline (jobs ++ row ∷ []) from → from ≤ row.release
+until_release top jobs row from are room least = elim (cases_lt row.release from) [
+  | inr most ↦ most
+  | inl late ↦ absurd (omega (
+    arith,
+    least.too_much,
+    sum_by_push (term from least.to) jobs row,
+    before from least.to row late,
+    room_to top jobs are room from least.to,
+  ))
+]
