@@ -6,7 +6,7 @@ ghost use Rattle.yds_admit.specs.Decision.{IsDecision, IsState, IsRoom};
 ghost use Rattle.yds_admit.specs.Interval.{IsFirstWith};
 
 use crate::board::Board;
-use crate::chain::{place, place_guessed};
+use crate::chain::place;
 use crate::idle::take_idle;
 use crate::interval::{
     Overfull, overfull_by_pieces, overfull_from_start, sort_by_deadline, sort_by_release,
@@ -224,45 +224,24 @@ fn unknown_room(
     })
 }
 
-/// Finds where the deadlines stand among the times, so that the guesses are right.
-fn find_ends(
-    alloc: Global,
-    _rows: &[JobRow],
-    board: &Board,
-    state: &mut State,
-    _top: u32,
-) -> Result<(), Memory>
-    requires board { IsBoard _rows.now _top board.now.times.items board.now.gaps.items board.now.spots.items }
-    requires state { IsState _rows.now _top state.old }
-    ensures state { IfOk result (λ _. IsState _rows.now _top state.new) }
-    ensures next { IfOk result (λ _. state.new.next ≡ state.old.next) }
-    ensures jobs { IfOk result (λ _. state.new.jobs.items ≡ state.old.jobs.items) }
-{
-    let mut ends = Vec::new(alloc);
-    for number in 0..state.by_release.len() {
-        let deadline = state.by_release[number].deadline;
-        ends.push(place_guessed(&board.times, deadline, &state.ends, number))?;
-    }
-    state.ends = ends;
-    Ok(())
-}
-
 /// The room that the admitted jobs leave.
 fn room_of(
     alloc: Global,
     _rows: &[JobRow],
     board: &Board,
-    state: &State,
+    state: &mut State,
     top: u32,
 ) -> Result<Room, Memory>
     requires few { length _rows.now ≤ MAX_JOBS }
     requires board { IsBoard _rows.now top board.now.times.items board.now.gaps.items board.now.spots.items }
-    requires state { IsState _rows.now top state.now }
-    ensures room { IfOk result (λ room. IsRoom top board.now.times.items state.now.jobs.items room) }
+    requires state { IsState _rows.now top state.old }
+    ensures state { IfOk result (λ _. IsState _rows.now top state.new) }
+    ensures next { IfOk result (λ _. state.new.next ≡ state.old.next) }
+    ensures room { IfOk result (λ room. IsRoom top board.now.times.items state.new.jobs.items room) }
     ensures known { IfOk result (λ room. room.known ≡ true) }
 {
     let releases = &state.by_release;
-    let ends = &state.ends;
+    let ends = &mut state.ends;
     let (pieces, idle) = cut_all(alloc, releases, &board.times, &board.gaps, ends, top)?;
     Ok(Room {
         idle,
@@ -300,7 +279,6 @@ fn decide_next(
     if refuse_from_start(rows, state, top)? {
         return Ok(false);
     }
-    find_ends(alloc, rows, board, state, top)?;
     *room = room_of(alloc, rows, board, state, top)?;
     if take_idle_next(rows, board, state, room, top)? {
         return Ok(true);

@@ -30,7 +30,7 @@ pub(crate) fn cut_all(
     by_release: &[JobRow],
     times: &[u32],
     gaps: &[u64],
-    guesses: &[usize],
+    guesses: &mut Vec<usize>,
     top: u32,
 ) -> Result<(Pieces, Vec<u64>), Memory>
     requires few { length by_release.now ≤ MAX_JOBS }
@@ -51,12 +51,13 @@ pub(crate) fn cut_all(
 }
 
 /// Cuts each job: its units take the room that is left in the gaps, from its own deadline backwards.
+#[inline(never)]
 fn cut_each(
     alloc: Global,
     by_release: &[JobRow],
     times: &[u32],
     gaps: &mut [u64],
-    guesses: &[usize],
+    guesses: &mut Vec<usize>,
     top: u32,
 ) -> Result<Pieces, Memory>
     requires gaps { AreGaps top times.now gaps.old }
@@ -76,13 +77,14 @@ fn cut_each(
     };
     for number in 0..by_release.len() {
         let job = &by_release[number];
-        let end = place_guessed(times, job.deadline, guesses, number);
+        let end = place_guessed(times, job.deadline, guesses, number)?;
         cut(gaps, links, &mut pieces, job, end, times, top)?;
     }
     Ok(pieces)
 }
 
 /// The units that were taken from the gaps before each of the times: the gaps less what is left of them.
+#[inline(never)]
 fn used_before(alloc: Global, gaps: &[u64], left: &[u64]) -> Result<Vec<u64>, Memory>
     requires as_long { length left.now ≡ length gaps.now }
     requires less { (q : ℕ) → q < length gaps.now → slice_index left.now q ≤ slice_index gaps.now q }
