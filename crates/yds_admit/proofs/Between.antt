@@ -1,15 +1,15 @@
 -- The work of jobs whose windows lie in an interval, job by job, and where it first is too much.
-use Rattle.std.proofs.Common.{◌≡◌, ℕ, ◌+◌, ◌-◌, ◌*◌, ◌<◌, ◌≤◌, List, length, get_or, take, drop, ◌∙◌, refl, sym, subst, arith, inl, inr, ap, cond, ◌&&◌, nat_le}
-use Rattle.std.specs.List.{sum_by}
+use Rattle.std.proofs.Common.{◌≡◌, ℕ, ◌+◌, ◌-◌, ◌*◌, ◌<◌, ◌≤◌, List, [], ◌∷◌, ◌++◌, length, get_or, take, drop, ◌∙◌, refl, sym, subst, arith, inl, inr, ap, cond, ◌&&◌, nat_le}
+use Rattle.std.specs.List.{All, Any, sum_by}
 use Rattle.std.specs.List.Sorted.{IsNonDecreasingBy}
-use Rattle.std.proofs.lemmas.Bool.{cases_lt, lt-leb, le-leb}
-use Rattle.std.proofs.lemmas.List.{take_all, get_or-take, get_or-drop, get_or_default, length-take-le, length-drop}
-use Rattle.std.proofs.lemmas.List.Sums.{sum_by_more, sum_by-take-drop}
+use Rattle.std.proofs.lemmas.Bool.{cases_lt, cases_eq, lt-leb, le-leb}
+use Rattle.std.proofs.lemmas.List.{get_or-take, get_or-drop, get_or_default, get_or_append_left, get_or_push, length_push, length-take-le, length-drop}
+use Rattle.std.proofs.lemmas.List.Sums.{sum_by_more, sum_by_push, sum_by-take-drop}
 use Rattle.std.proofs.Math.Nat.{mul-le-mul_left}
 use Rattle.yds_model.specs.declared.limits.TheConstants.{MAX_WORK}
-use Rattle.yds_model.specs.Job.{Job, no_job, job_at}
-use Rattle.yds_model.proofs.Sums.{sum_by_same, sum_by_at_most, sum_by_zero}
-use Rattle.yds_admit.specs.Interval.{work_in, HasRoomFrom, IsFirstEnd}
+use Rattle.yds_model.specs.Job.{Job, IsJob, no_job, job_at}
+use Rattle.yds_model.proofs.Sums.{sum_by_same, sum_by_zero}
+use Rattle.yds_admit.specs.Interval.{work_in, released_work, HasRoomFrom, IsFirstFrom}
 
 -- # What one job adds
 
@@ -38,104 +38,157 @@ is_released from job first = rw (le-leb from job.release first) refl
 pub not_released : (from : ℕ) (job : Job) → job.release < from → released_term from job ≡ 0
 not_released from job less = rw (lt-leb from job.release less) refl
 
-term_at_most : (from to : ℕ) (job : Job) → term from to job ≤ released_term from job
-term_at_most from to job = elim (cases_lt job.release from) [
-  | inl less ↦ omega (arith, before from to job less)
-  | inr first ↦ elim (cases_lt to job.deadline) [
-    | inl more ↦ omega (arith, after from to job more)
-    | inr due ↦ omega (arith, inside from to job first due, is_released from job first)
-  ]
-]
-
 -- # The walk by rising deadlines
 
--- the work of those of the first jobs that are released at a time or later
-abbrev pub released_work : List Job → ℕ → ℕ → ℕ
-released_work jobs from i = sum_by (released_term from) (take i jobs)
+-- The first i jobs and one more are counted. Nothing that is due at `to` or before is left out, and no interval from `from` that ends
+-- before `to` has too much work.
+pub record Counted (top : ℕ) (jobs : List Job) (row : Job) (from work to i : ℕ) : Type 0 where
+  pub within : i ≤ length jobs
+  pub sum : work ≡ released_work (take i jobs) from + row.work
+  pub few : work ≤ (i + 1) * MAX_WORK
+  pub is_deadline : Any (λ (job : Job). job.deadline ≡ to) (jobs ++ row ∷ [])
+  pub own : row.deadline ≤ to
+  pub due : (k : ℕ) → k < i → (job_at jobs k).deadline ≤ to
+  pub later : (k : ℕ) → i ≤ k → k < length jobs → to ≤ (job_at jobs k).deadline
+  pub room : (other : ℕ) → from < other → other < to → work_in (jobs ++ row ∷ []) from other ≤ top * (other - from)
 
--- the first jobs have been walked by: none of the intervals from this time has too much work of theirs
-pub record Walked (top : ℕ) (jobs : List Job) (from work i : ℕ) : Type 0 where
-  pub sum : work ≡ released_work jobs from i
-  pub few : work ≤ i * MAX_WORK
-  pub room : HasRoomFrom top (take i jobs) from
+-- the work of the first jobs, all of which are due by a time
+front_work : (jobs : List Job) (from to i : ℕ) → i ≤ length jobs → ((k : ℕ) → k < i → (job_at jobs k).deadline ≤ to) →
+    sum_by (term from to) (take i jobs) ≡ released_work (take i jobs) from
+front_work jobs from to i within due = sum_by_same (term from to) (released_term from) (take i jobs)
+    (λ k d below.
+    let short : k < i = omega (arith, below, length-take-le i jobs within) in
+    let soon : (get_or (take i jobs) k d).deadline ≤ to = omega (
+      arith,
+      due k short,
+      ap (λ (job : Job). job.deadline) (get_or-take i jobs k d short),
+      ap (λ (job : Job). job.deadline) (get_or_default jobs k d no_job (omega (arith, short, within))),
+    ) in
+    elim (cases_lt (get_or (take i jobs) k d).release from) [
+      | inl less ↦ before from to (get_or (take i jobs) k d) less ∙ sym (not_released from (get_or (take i jobs) k d) less)
+      | inr first ↦ inside from to (get_or (take i jobs) k d) first soon ∙ sym (is_released from (get_or (take i jobs) k d) first)
+    ])
 
-pub begun : (top : ℕ) (jobs : List Job) (from : ℕ) → Walked top jobs from 0 0
-begun top jobs from = record { sum = refl; few = omega arith; room = λ to forward. omega arith }
+-- jobs that are due after a time have no work in an interval that ends by then
+rest_work : (jobs : List Job) (from to i : ℕ) → ((k : ℕ) → i ≤ k → k < length jobs → to < (job_at jobs k).deadline) → sum_by (term from to) (drop i jobs) ≡ 0
+rest_work jobs from to i late = sum_by_zero (term from to) (drop i jobs)
+    (λ k d below.
+    let there : i + k < length jobs = omega (arith, below, length-drop i jobs) in
+    after from to (get_or (drop i jobs) k d) (omega (
+      arith,
+      late (i + k) (omega arith) there,
+      ap (λ (job : Job). job.deadline) (get_or-drop i jobs k d),
+      ap (λ (job : Job). job.deadline) (get_or_default jobs (i + k) d no_job there),
+    )))
 
-module _ (top : ℕ) (jobs : List Job) (from work i : ℕ) (within : i < length jobs) (walked : Walked top jobs from work i)
-    (job : Job) (is : job ≡ job_at jobs i) where
-  more_in : (to : ℕ) → work_in (take (i + 1) jobs) from to ≡ work_in (take i jobs) from to + term from to job
-  more_in to = omega (arith, sum_by_more (term from to) jobs i no_job within, ap (term from to) is)
+-- nothing of jobs that are due before a time is released then or later
+pub none_released : (jobs : List Job) (from i : ℕ) → i ≤ length jobs → All IsJob jobs → ((k : ℕ) → k < i → (job_at jobs k).deadline < from) →
+    released_work (take i jobs) from ≡ 0
+none_released jobs from i within are early = sum_by_zero (released_term from) (take i jobs)
+    (λ k d below.
+    let short : k < i = omega (arith, below, length-take-le i jobs within) in
+    not_released from (get_or (take i jobs) k d) (omega (
+      arith,
+      early k short,
+      (are k no_job (omega (arith, short, within))).has_window,
+      ap (λ (job : Job). job.release) (get_or-take i jobs k d short),
+      ap (λ (job : Job). job.release) (get_or_default jobs k d no_job (omega (arith, short, within))),
+    )))
 
-  more_released : released_work jobs from (i + 1) ≡ work + released_term from job
-  more_released = omega (arith, walked.sum, sum_by_more (released_term from) jobs i no_job within, ap (released_term from) is)
+-- one job more
+pub more_released : (jobs : List Job) (from i : ℕ) → i < length jobs → released_work (take (i + 1) jobs) from ≡ released_work (take i jobs) from + released_term from (job_at jobs i)
+more_released jobs from i within = sum_by_more (released_term from) jobs i no_job within
 
-  -- a job that was released before doesn't count
-  pub passed : job.release < from → Walked top jobs from work (i + 1)
-  passed less = record {
-    sum = omega (arith, more_released, not_released from job less);
-    few = omega (arith, walked.few);
-    room = λ to forward. omega (arith, walked.room to forward, more_in to, before from to job less);
+module _ (top : ℕ) (jobs : List Job) (row : Job) (from : ℕ) (until : from ≤ row.release) where
+  -- where those due before the one more are counted
+  pub begun : (own released to place : ℕ) → own ≡ row.work → to ≡ row.deadline → place ≤ length jobs → released ≡ released_work (take place jobs) from →
+      released ≤ place * MAX_WORK → own ≤ MAX_WORK → ((k : ℕ) → k < place → (job_at jobs k).deadline ≤ to) →
+      ((k : ℕ) → place ≤ k → k < length jobs → to ≤ (job_at jobs k).deadline) → HasRoomFrom top jobs from → Counted top jobs row from (own + released) to place
+  begun own released to place own_is to_is within is few light early late alone = record {
+    within = within;
+    sum = omega (arith, is, own_is);
+    few = omega (arith, few, light);
+    is_deadline = (length jobs, row, omega (arith, length_push jobs row), get_or_push jobs row row (length jobs) refl, sym to_is);
+    own = omega (arith, to_is);
+    due = early;
+    later = late;
+    room = λ other ahead soon. omega (arith, alone other ahead, sum_by_push (term from other) jobs row, after from other row (omega (arith, soon, to_is)));
   }
 
-  -- one that counts and for which there is room
-  pub fits : from ≤ job.release → job.work ≤ MAX_WORK → work + job.work ≤ top * (job.deadline - from) →
-      Walked top jobs from (work + job.work) (i + 1)
-  fits first light room = record {
-    sum = omega (arith, more_released, is_released from job first);
-    few = omega (arith, walked.few, light);
-    room = λ to forward. elim (cases_lt to job.deadline) [
-      | inl more ↦ omega (arith, walked.room to forward, more_in to, after from to job more)
-      | inr due ↦ omega (
-        arith,
-        sum_by_at_most (term from to) (released_term from) (take (i + 1) jobs) (λ k d below. term_at_most from to (get_or (take (i + 1) jobs) k d)),
-        more_released,
-        is_released from job first,
-        room,
-        mul-le-mul_left top (let longer : job.deadline - from ≤ to - from = omega arith in longer),
-      )
-    ];
-  }
+  module _ (work to i : ℕ) (counted : Counted top jobs row from work to i) where
+    -- the work in an interval that ends before the others are due
+    exact : (other : ℕ) → to ≤ other → ((k : ℕ) → i ≤ k → k < length jobs → other < (job_at jobs k).deadline) → work_in (jobs ++ row ∷ []) from other ≡ work
+    exact other most late = omega (
+      arith,
+      sum_by_push (term from other) jobs row,
+      sum_by-take-drop (term from other) jobs i,
+      front_work jobs from other i counted.within (λ k less. omega (arith, counted.due k less, most)),
+      rest_work jobs from other i late,
+      inside from other row until (omega (arith, counted.own, most)),
+      counted.sum,
+    )
 
-  -- one for which there is none: all that has been walked by is due by its deadline, and nothing later is due before
-  pub ends_here : IsNonDecreasingBy (λ (one : Job). one.deadline) jobs → from ≤ job.release → job.release < job.deadline →
-      top * (job.deadline - from) < work + job.work → IsFirstEnd top jobs from job.deadline
-  ends_here rising first forward much =
-      let to : ℕ = job.deadline in
-      let here = λ (d : Job). ap (λ (one : Job). one.deadline) (get_or_default jobs i d no_job within ∙ sym is) in
-      let front = sum_by_same (released_term from) (term from to) (take (i + 1) jobs)
-      (λ k d below. elim (cases_lt (get_or (take (i + 1) jobs) k d).release from) [
-        | inl less ↦ not_released from (get_or (take (i + 1) jobs) k d) less ∙ sym (before from to (get_or (take (i + 1) jobs) k d) less)
-        | inr released ↦ is_released from (get_or (take (i + 1) jobs) k d) released ∙ sym (inside from to (get_or (take (i + 1) jobs) k d) released
-            (let short : k < i + 1 = omega (arith, below, length-take-le (i + 1) jobs (omega arith)) in
-            omega (arith, ap (λ (one : Job). one.deadline) (get_or-take (i + 1) jobs k d short), rising k i d (omega arith) within, here d)))
-      ]) in
-      record {
-        forward = omega (arith, first, forward);
-        is_deadline = (i, job, within, get_or_default jobs i job no_job within ∙ sym is, refl);
-        too_much = omega (
-          arith,
-          much,
-          more_released,
-          is_released from job first,
-          front,
-          sum_by-take-drop (term from to) jobs (i + 1),
-        );
-        first = λ other ahead early. omega (
-          arith,
-          walked.room other ahead,
-          sum_by-take-drop (term from other) jobs i,
-          sum_by_zero (term from other) (drop i jobs)
-              (λ k d below. after from other (get_or (drop i jobs) k d) (omega (
-                arith,
-                ap (λ (one : Job). one.deadline) (get_or-drop i jobs k d),
-                rising i (i + k) d (omega arith) (omega (arith, below, length-drop i jobs)),
-                here d,
-                early,
-              ))),
-        );
-      }
+    -- such an interval has room if the one to `to` has
+    fits : (other : ℕ) → work ≤ top * (to - from) → to ≤ other → ((k : ℕ) → i ≤ k → k < length jobs → other < (job_at jobs k).deadline) →
+        work_in (jobs ++ row ∷ []) from other ≤ top * (other - from)
+    fits other room most late = omega (
+      arith,
+      exact other most late,
+      room,
+      mul-le-mul_left top (let longer : to - from ≤ other - from = omega (arith, most) in longer),
+    )
 
--- all have been walked by
-pub walked_all : (top : ℕ) (jobs : List Job) (from work i : ℕ) → length jobs ≤ i → Walked top jobs from work i → HasRoomFrom top jobs from
-walked_all top jobs from work i all walked = subst (λ (some : List Job). HasRoomFrom top some from) (take_all i jobs all) walked.room
+    -- the next deadline, where there was room up to this one
+    pub moved : IsNonDecreasingBy (λ (job : Job). job.deadline) jobs → i < length jobs → to < (job_at jobs i).deadline → work ≤ top * (to - from) →
+        Counted top jobs row from work (job_at jobs i).deadline i
+    moved rising below more room = record {
+      within = counted.within;
+      sum = counted.sum;
+      few = counted.few;
+      is_deadline = (i, job_at jobs i, omega (arith, below, length_push jobs row), get_or_append_left jobs (row ∷ []) (job_at jobs i) i below ∙ get_or_default jobs i (job_at jobs i) no_job below, refl);
+      own = omega (arith, counted.own, more);
+      due = λ k less. omega (arith, counted.due k less, more);
+      later = λ k behind short. rising i k no_job behind short;
+      room = λ other ahead soon. elim (cases_lt other to) [
+        | inl less ↦ counted.room other ahead less
+        | inr most ↦ fits other room most (λ k behind short. omega (arith, soon, rising i k no_job behind short))
+      ];
+    }
+
+    -- one job more that is due by then
+    pub added : i < length jobs → (job_at jobs i).deadline ≤ to → (job_at jobs i).work ≤ MAX_WORK → (more : ℕ) → more ≡ released_term from (job_at jobs i) → more ≤ MAX_WORK →
+        Counted top jobs row from (work + more) to (i + 1)
+    added below soon light more is few = record {
+      within = omega (arith, below);
+      sum = omega (arith, counted.sum, more_released jobs from i below, is);
+      few = omega (arith, counted.few, few);
+      is_deadline = counted.is_deadline;
+      own = counted.own;
+      due = λ k less. elim (cases_eq k i) [
+        | inl same ↦ subst (λ j. (job_at jobs j).deadline ≤ to) (sym same) soon
+        | inr other ↦ counted.due k (omega (arith, less, other))
+      ];
+      later = λ k behind short. counted.later k (omega (arith, behind)) short;
+      room = counted.room;
+    }
+
+    -- the first interval without room
+    pub first_from : from < row.deadline → top * (to - from) < work → ((k : ℕ) → i ≤ k → k < length jobs → to < (job_at jobs k).deadline) →
+        IsFirstFrom top (jobs ++ row ∷ []) from from to work
+    first_from ahead much late = record {
+      begins = refl;
+      ends = record {
+        forward = omega (arith, ahead, counted.own);
+        is_deadline = counted.is_deadline;
+        too_much = omega (arith, exact to (omega arith) late, much);
+        first = counted.room;
+      };
+      all = sym (exact to (omega arith) late);
+    }
+
+    -- there is none
+    pub none_found : length jobs ≤ i → work ≤ top * (to - from) → HasRoomFrom top (jobs ++ row ∷ []) from
+    none_found all room other ahead = elim (cases_lt other to) [
+      | inl less ↦ counted.room other ahead less
+      | inr most ↦ fits other room most (λ k behind short. absurd (omega (arith, behind, short, all)))
+    ]

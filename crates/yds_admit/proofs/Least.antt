@@ -1,23 +1,25 @@
 -- The walk over the pieces of jobs for one job more, and what it finds.
 use Rattle.std.proofs.Common.{◌≡◌, ℕ, zero, suc, ◌+◌, ◌-◌, ◌*◌, ◌<◌, ◌≤◌, ◌⊎◌, List, [], ◌∷◌, ◌++◌, length, get_or, take, drop, ◌∙◌, refl, sym, subst, arith, inl, inr, ap, cond, nat_le, ◌==◌}
 use Rattle.std.specs.List.{All, Any, sum_by}
-use Rattle.std.specs.List.Sorted.{IsNonDecreasing}
-use Rattle.std.proofs.lemmas.Bool.{cases_lt, cases_eq, le-leb, leb-true, leb-false, true≢false, eqb-true, eqb-false}
+use Rattle.std.specs.List.Sorted.{IsPermutation, IsNonDecreasing}
+use Rattle.std.proofs.lemmas.Bool.{cases_lt, cases_eq, le-leb, lt-leb, leb-true, leb-false, true≢false, eqb-true, eqb-false}
 use Rattle.yds_edf.proofs.Demand.{found_or_none}
 use Rattle.std.proofs.lemmas.List.{get_or_default, get_or-take, get_or-drop, get_or_append_left, get_or_push, length-take-le, length-drop, length_push}
 use Rattle.std.proofs.lemmas.List.Sums.{sum_by-take-drop, sum_by_push}
+use Rattle.std.proofs.lemmas.List.Sorted.{sum_by-IsPermutation}
 use Rattle.std.proofs.Math.Nat.{mul-sub, mul-le-mul_left}
 use Rattle.yds_model.specs.Job.{Job, IsJob, no_job, job_at}
 use Rattle.yds_model.specs.Policy.{numbers_of}
 use Rattle.yds_model.proofs.Sums.{sum_by_same, sum_by_zero}
-use Rattle.yds_admit.specs.Interval.{work_in}
+use Rattle.yds_admit.specs.Interval.{work_in, HasRoomFrom}
 use Rattle.yds_admit.specs.Chain.{due_work, HasRoomOver, IsLeastFrom, NoFrom}
-use Rattle.yds_admit.specs.Pieces.{went, ArePieces, AreDue}
+use Rattle.yds_admit.specs.Pieces.{went, ArePieces, AreDue, IsBehindIdle}
 use Rattle.yds_laws.specs.AdmissionLaws.{HasRoom}
 use Rattle.yds_laws.proofs.Served.{room_from, confined_sum}
 use Rattle.yds_admit.proofs.Between.{term, inside, before, after}
 use Rattle.yds_admit.proofs.Overfull.{jobs_work}
 use Rattle.yds_admit.proofs.Sweep.{released_all, last_of}
+use Rattle.yds_admit.proofs.Cutting.{next_went}
 
 -- the work in an interval is that of the pieces up to the last one released in it
 pub work_of_first : (jobs : List Job) (n from to : ℕ) → n ≤ length jobs → ((i : ℕ) → i < n → from ≤ (job_at jobs i).release) →
@@ -123,6 +125,77 @@ module _ (top : ℕ) (all : List Job) (are : All IsJob all) (room : HasRoom top 
       mul-le-mul_left top (let less : to - from ≤ suc to - from = omega arith in less),
     )
   ]
+
+-- # Pieces that are behind enough idle time
+
+-- the first n pieces have no more units between two places than all have
+less_between : (jobs : List Job) (places : List ℕ) (p q : ℕ) → p ≤ q → (n more : ℕ) →
+    went n jobs places q + went (n + more) jobs places p ≤ went n jobs places p + went (n + more) jobs places q
+less_between jobs places p q order n zero =
+    let e : n + zero ≡ n = omega arith in
+    omega (arith, ap (λ k. went k jobs places p) e, ap (λ k. went k jobs places q) e)
+less_between jobs places p q order n (suc more) =
+    let e : n + suc more ≡ n + more + 1 = omega arith in
+    omega (
+      arith,
+      less_between jobs places p q order n more,
+      ap (λ k. went k jobs places p) e,
+      ap (λ k. went k jobs places q) e,
+      next_went (n + more) jobs places p,
+      next_went (n + more) jobs places q,
+      later_counts (get_or places (n + more) 0) (job_at jobs (n + more)).work,
+    ) where
+      later_counts : (place work : ℕ) → cond (nat_le place p) work 0 ≤ cond (nat_le place q) work 0
+      later_counts place work = elim (cases_lt p place) [
+        | inl more ↦ omega (arith, ap {B = ℕ} (λ b. cond b work 0) (lt-leb place p more))
+        | inr most ↦ omega (arith, ap {B = ℕ} (λ b. cond b work 0) (le-leb place p most), ap {B = ℕ} (λ b. cond b work 0) (le-leb place q (omega (arith, most, order))))
+      ]
+
+module _ (top : ℕ) (times : List ℕ) (all jobs : List Job) (places used : List ℕ) (m : ℕ) (long : length times ≡ m + 1) (pieces : ArePieces top times all jobs places used)
+    (rising : IsNonDecreasing times) (are : All IsJob all) (room : HasRoom top all) where
+  -- pieces that are released at a time or later have no more units before a later place than the top speed does in between
+  units_fit : (n q from : ℕ) → n ≤ length jobs → q ≤ m → ((i : ℕ) → i < n → from ≤ (job_at jobs i).release) → from ≤ get_or times q 0 →
+      went n jobs places q + top * from ≤ top * get_or times q 0
+  units_fit n q from within short early ahead =
+      let greatest = pieces.greatest m n long within q short in
+      let to : ℕ = get_or times greatest.at 0 in
+      let later : get_or times q 0 ≤ to = rising q greatest.at 0 greatest.later (omega (arith, greatest.within, long)) in
+      omega (
+        arith,
+        greatest.exact,
+        first_at_most jobs n from to within early,
+        pieces.same from to,
+        room_to top all are room from to,
+        mul-sub top to from,
+        mul-le-mul_left top (let forward : from ≤ to = omega (arith, ahead, later) in forward),
+      )
+
+  module _ (row : Job) (end : ℕ) (short : end ≤ m) (is_end : get_or times end 0 ≡ row.deadline) where
+    -- none of the pieces that are released at the deadline or later has any before it
+    pub none_near : (n : ℕ) → n ≤ length jobs → ((i : ℕ) → i < n → row.deadline ≤ (job_at jobs i).release) → went n jobs places end ≡ 0
+    none_near n within early = omega (
+      arith,
+      units_fit n end row.deadline within short early (omega (arith, is_end)),
+      ap (λ t. top * t) is_end,
+    )
+
+    -- a piece behind enough idle time leaves room
+    pub behind_leaves : (k : ℕ) → k < length jobs → IsBehindIdle top times used row end (job_at jobs k).release →
+        LeavesRoom top times all jobs places row end (k + 1) (job_at jobs k).release
+    behind_leaves k below behind =
+        let p : ℕ = behind.place in
+        let e : k + 1 + (length jobs - (k + 1)) ≡ length jobs = omega (arith, below) in
+        omega (
+          arith,
+          units_fit (k + 1) p (job_at jobs k).release (omega (arith, below)) (omega (arith, behind.idle.ahead, short))
+              (λ i less. pieces.falling i k (omega (arith, less)) below) behind.released,
+          less_between jobs places p end (omega (arith, behind.idle.ahead)) (k + 1) (length jobs - (k + 1)),
+          ap (λ j. went j jobs places p) e,
+          ap (λ j. went j jobs places end) e,
+          pieces.used_is p (omega (arith, behind.idle.ahead, short, long)),
+          pieces.used_is end (omega (arith, short, long)),
+          behind.idle.enough,
+        )
 
 -- # What was found
 
@@ -272,3 +345,23 @@ module _ (top : ℕ) (times : List ℕ) (all jobs : List Job) (places used : Lis
               | inr behind ↦ behind
             ]) below);
       }
+
+-- # Jobs that leave no interval overfull, in another order
+
+module _ (top : ℕ) (jobs others : List Job) (are : All IsJob jobs) (same : IsPermutation jobs others) (room : HasRoom top jobs) where
+  -- they have room from any time on
+  pub room_alone : (from : ℕ) → HasRoomFrom top others from
+  room_alone from to forward = omega (arith, room_to top jobs are room from to, sum_by-IsPermutation (term from to) jobs others same)
+
+-- an interval that is overfull with one job more begins at the job's release or before
+pub until_release : (top : ℕ) (jobs : List Job) (row : Job) (from : ℕ) → All IsJob jobs → HasRoom top jobs → IsLeastFrom top row.deadline (jobs ++ row ∷ []) from → from ≤ row.release
+until_release top jobs row from are room least = elim (cases_lt row.release from) [
+  | inr most ↦ most
+  | inl late ↦ absurd (omega (
+    arith,
+    least.too_much,
+    sum_by_push (term from least.to) jobs row,
+    before from least.to row late,
+    room_to top jobs are room from least.to,
+  ))
+]

@@ -1,5 +1,5 @@
 -- One job more than jobs that leave no interval overfull: only an interval that begins before its deadline and ends then or later can be.
-use Rattle.std.proofs.Common.{◌≡◌, ℕ, ◌-◌, ◌*◌, ◌<◌, ◌≤◌, ◌⊎◌, List, [], ◌∷◌, ◌++◌, min, length, get_or, ◌∙◌, refl, sym, subst, arith, inl, inr, ap}
+use Rattle.std.proofs.Common.{◌≡◌, ℕ, ◌-◌, ◌*◌, ◌<◌, ◌≤◌, ◌⊎◌, List, [], ◌∷◌, ◌++◌, Option, Some, None, MatchOption, min, length, get_or, ◌∙◌, refl, sym, subst, arith, inl, inr, ap}
 use Rattle.std.specs.List.{All, Any, sum_by}
 use Rattle.std.specs.List.Sorted.{IsPermutation}
 use Rattle.std.proofs.lemmas.Bool.{cases_lt, cases_eq}
@@ -13,7 +13,7 @@ use Rattle.yds_model.specs.Admission.{IsOverfull, IsFirstOverfull}
 use Rattle.yds_model.proofs.Lists.{All-front, All-last}
 use Rattle.yds_laws.specs.AdmissionLaws.{HasRoom}
 use Rattle.yds_laws.proofs.Served.{room_from, confined_sum, confined_term}
-use Rattle.yds_admit.specs.Interval.{work_in, HasRoomFrom, IsFirstEnd}
+use Rattle.yds_admit.specs.Interval.{work_in, HasRoomFrom, IsFirstEnd, IsFirstFrom, IsFirstWith}
 use Rattle.yds_admit.specs.Chain.{IsFalling, HasRoomOver, IsLeastFrom, NoFrom}
 use Rattle.yds_admit.proofs.Between.{term, before, after}
 use Rattle.yds_admit.proofs.Overfull.{any_of_all, number_of_any, jobs_work}
@@ -27,19 +27,6 @@ any_permuted P jobs others same (k, job, within, is, holds) =
 -- the same work of jobs in another order
 pub permuted_work : (jobs others : List Job) → IsPermutation jobs others → (from to : ℕ) → work_in others from to ≡ work_in jobs from to
 permuted_work jobs others same from to = sum_by-IsPermutation (term from to) jobs others same
-
--- the same room
-pub room_from_permuted : (top : ℕ) (jobs others : List Job) → IsPermutation jobs others → (from : ℕ) → HasRoomFrom top others from → HasRoomFrom top jobs from
-room_from_permuted top jobs others same from room to forward = omega (arith, room to forward, permuted_work jobs others same from to)
-
--- and the same first interval that has none
-pub first_end_permuted : (top : ℕ) (jobs others : List Job) → IsPermutation jobs others → (from to : ℕ) → IsFirstEnd top others from to → IsFirstEnd top jobs from to
-first_end_permuted top jobs others same from to ends = record {
-  forward = ends.forward;
-  is_deadline = any_permuted (λ job. job.deadline ≡ to) others jobs (IsPermutation-sym jobs others same) ends.is_deadline;
-  too_much = omega (arith, ends.too_much, permuted_work jobs others same from to);
-  first = λ other ahead early. omega (arith, ends.first other ahead early, permuted_work jobs others same from other);
-}
 
 -- the same work with one job more
 pub work_more : (jobs others : List Job) (row : Job) → IsPermutation jobs others → (from to : ℕ) → work_in (others ++ row ∷ []) from to ≡ work_in (jobs ++ row ∷ []) from to
@@ -116,7 +103,7 @@ module _ (top : ℕ) (jobs : List Job) (row : Job) (are : All IsJob (jobs ++ row
     has_room none from to full = no_overfull from to (none from) full
 
     -- the interval that was found
-    pub first_found : (from to : ℕ) → IsLeastFrom top row.deadline by_release from → IsFirstEnd top by_deadline from to →
+    first_found : (from to : ℕ) → IsLeastFrom top row.deadline by_release from → IsFirstEnd top by_deadline from to →
         IsFirstOverfull (jobs ++ row ∷ []) top (numbers_of (jobs ++ row ∷ [])) from to
     first_found from to least ends = record {
       overfull = record {
@@ -147,6 +134,14 @@ module _ (top : ℕ) (jobs : List Job) (row : Job) (are : All IsJob (jobs ++ row
       ];
     }
 
+    -- with the work in it
+    pub first_with : (start from to work : ℕ) → IsLeastFrom top row.deadline by_release start → IsFirstFrom top by_deadline start from to work →
+        IsFirstWith top (jobs ++ row ∷ []) from to work
+    first_with start from to work least found = record {
+      first = subst (λ begin. IsFirstOverfull (jobs ++ row ∷ []) top (numbers_of (jobs ++ row ∷ [])) begin to) (sym found.begins) (first_found start to least found.ends);
+      all = found.all ∙ deadline_work start to ∙ ap (λ begin. work_in (jobs ++ row ∷ []) begin to) (sym found.begins);
+    }
+
     -- there is one
     pub is_found : (from : ℕ) → IsLeastFrom top row.deadline by_release from → HasRoomFrom top by_deadline from → ⊥
     is_found from least fits = omega (
@@ -165,7 +160,7 @@ module _ (top : ℕ) (jobs : List Job) (row : Job) (by_deadline : List Job) (dea
   same_work start to = sum_by-IsPermutation (term start to) (jobs ++ row ∷ []) by_deadline deadlines
 
   -- of all overfull intervals the first one from there is the first
-  pub first_from_start : (to : ℕ) → IsFirstEnd top by_deadline from to → IsFirstOverfull (jobs ++ row ∷ []) top (numbers_of (jobs ++ row ∷ [])) from to
+  first_from_start : (to : ℕ) → IsFirstEnd top by_deadline from to → IsFirstOverfull (jobs ++ row ∷ []) top (numbers_of (jobs ++ row ∷ [])) from to
   first_from_start to ends = record {
     overfull = record {
       forward = ends.forward;
@@ -193,6 +188,13 @@ module _ (top : ℕ) (jobs : List Job) (row : Job) (by_deadline : List Job) (dea
             ],
           )
     ];
+  }
+
+  -- with the work in it
+  pub first_with_start : (begin to work : ℕ) → IsFirstFrom top by_deadline from begin to work → IsFirstWith top (jobs ++ row ∷ []) begin to work
+  first_with_start begin to work found = record {
+    first = subst (λ start. IsFirstOverfull (jobs ++ row ∷ []) top (numbers_of (jobs ++ row ∷ [])) start to) (sym found.begins) (first_from_start to found.ends);
+    all = found.all ∙ same_work from to ∙ ap (λ start. work_in (jobs ++ row ∷ []) start to) (sym found.begins);
   }
 
 -- the earliest release is that of the job that stands last in falling order of the releases, or of the one more
@@ -237,3 +239,8 @@ room_permuted top jobs others same room from to full = room from to (record {
       (any_permuted (λ job. job.deadline ≡ to) others jobs (IsPermutation-sym jobs others same) (any_of_all (λ job. job.deadline ≡ to) others full.is_deadline));
   too_much = omega (arith, full.too_much, jobs_work jobs from to, jobs_work others from to, sum_by-IsPermutation (term from to) jobs others same);
 })
+
+-- what an option holds, told otherwise
+pub MatchOption-then : {T : Type 0} (some : Option T) {A B : Type 0} {P Q : T → Type 0} → MatchOption some A P → (A → B) → ((x : T) → P x → Q x) → MatchOption some B Q
+MatchOption-then None told none found = none told
+MatchOption-then (Some x) told none found = found x told

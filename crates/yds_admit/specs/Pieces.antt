@@ -59,3 +59,16 @@ pub record ArePieces (top : ℕ) (times : List ℕ) (all jobs : List Job) (place
   pub known : (from : ℕ) → Any (λ job. job.release ≡ from) jobs → Any (λ job. job.release ≡ from) all
   pub greatest : (m n : ℕ) → length times ≡ m + 1 → n ≤ length jobs → (q : ℕ) → q ≤ m → IsGreatest top times m n jobs places q
   pub used_is : (q : ℕ) → q < length times → slice_index used q ≡ went (length jobs) jobs places q
+
+-- From a place before a job's release up to its deadline, which has the place `end`, enough is idle for it: what the top speed does by a
+-- place, less the units before it, is idle before it.
+pub record HasIdleFrom (top : ℕ) (times used : List ℕ) (row : Job) (end place : ℕ) : Type 0 where
+  pub ahead : place < end
+  pub before : slice_index times place < row.release
+  pub enough : top * slice_index times place + slice_index used end + row.work ≤ top * row.deadline + slice_index used place
+
+-- this release isn't after such a place
+pub record IsBehindIdle (top : ℕ) (times used : List ℕ) (row : Job) (end release : ℕ) : Type 0 where
+  pub place : ℕ
+  pub idle : HasIdleFrom top times used row end place
+  pub released : release ≤ slice_index times place

@@ -5,7 +5,7 @@ ghost use Rattle.yds_admit.specs.Board.{IsBoard, AreSpots, IsFallingSpots};
 ghost use Rattle.yds_admit.specs.Chain.{AreTimes};
 
 use crate::chain::{gaps, place, times};
-use crate::interval::by_deadline;
+use crate::interval::sort_by_deadline;
 use std::alloc::Global;
 use yds_model::limits::{MAX_JOBS, MAX_TOP};
 use yds_model::{JobRow, Memory};
@@ -41,7 +41,8 @@ impl Board {
         requires top_in_range { top ≤ MAX_TOP }
         ensures { IfOk result (λ board. IsBoard rows.now top board.times.items board.gaps.items board.spots.items) }
     {
-        let by_deadline = by_deadline(alloc, rows)?;
+        let mut by_deadline = Vec::from_slice(alloc, rows)?;
+        sort_by_deadline(&mut by_deadline)?;
         let times = times(alloc, &by_deadline)?;
         let gaps = gaps(alloc, &times, top)?;
         let spots = falling(spots(alloc, rows, &times)?)?;

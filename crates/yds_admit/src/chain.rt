@@ -51,19 +51,29 @@ pub(crate) fn place(times: &[u32], time: u32) -> usize
     times.partition_point(|other| *other < time)
 }
 
-/// How many of the times come before this one. The guess of this number is right most of the time, and saves a search.
-pub(crate) fn place_guessed(times: &[u32], time: u32, guesses: &[usize], number: usize) -> usize
+/// How many of the times come before this one. The guess of this number is right most of the time, and saves a search. It is set right.
+pub(crate) fn place_guessed(
+    times: &[u32],
+    time: u32,
+    guesses: &mut Vec<usize>,
+    number: usize,
+) -> Result<usize, Memory>
     requires { IsNonDecreasing times.now }
-    ensures before { (q : ℕ) → q < result → slice_index times.now q < time }
-    ensures after { (q : ℕ) → result ≤ q → q < length times.now → time ≤ slice_index times.now q }
+    ensures before { IfOk result (λ place. (q : ℕ) → q < place → slice_index times.now q < time) }
+    ensures after { IfOk result (λ place. (q : ℕ) → place ≤ q → q < length times.now → time ≤ slice_index times.now q) }
 {
     if number < guesses.len() {
         let guess = guesses[number];
         if is_place(times, time, guess) {
-            return guess;
+            return Ok(guess);
         }
+        let found = place(times, time);
+        guesses[number] = found;
+        return Ok(found);
     }
-    place(times, time)
+    let found = place(times, time);
+    guesses.push(found)?;
+    Ok(found)
 }
 
 /// Whether so many of the times, at least one, come before this one.

@@ -1,17 +1,15 @@
 ghost use Rattle.std.specs.Prelude.{◌≡◌, ◌+◌, ◌*◌, ◌<◌, ◌≤◌, ◌++◌, ◌∷◌, [], true, false, IfOk, length, take, drop};
 ghost use Rattle.yds_model.specs.Job.{job_at};
-ghost use Rattle.yds_model.specs.Policy.{numbers_of};
-ghost use Rattle.yds_model.specs.Admission.{IsFirstOverfull};
 ghost use Rattle.yds_laws.specs.AdmissionLaws.{HasRoom};
 ghost use Rattle.yds_admit.specs.Board.{IsBoard, IsMarked};
 ghost use Rattle.yds_admit.specs.Decision.{IsDecision, IsState, IsRoom};
-ghost use Rattle.yds_admit.specs.Interval.{work_in};
+ghost use Rattle.yds_admit.specs.Interval.{IsFirstWith};
 
 use crate::board::Board;
-use crate::chain::{place, place_guessed};
+use crate::chain::place;
 use crate::idle::take_idle;
 use crate::interval::{
-    by_deadline, by_release, overfull_by_pieces, overfull_from_start, work_with,
+    Overfull, overfull_by_pieces, overfull_from_start, sort_by_deadline, sort_by_release,
 };
 use crate::pieces::{Pieces, cut_all};
 use crate::refusal::Refusal;
@@ -130,7 +128,7 @@ fn run(
         let last = state.next + count;
         let marks = marked(alloc, &state.marks, rows, state.next, last)?;
         if fit(alloc, rows, board, &marks, top)? {
-            take_all(alloc, rows, state, last, marks, top)?;
+            take_all(rows, state, last, marks, top)?;
             return Ok(count);
         }
         count /= 2;
@@ -140,7 +138,6 @@ fn run(
 
 /// Admits the next jobs up to the last, which leave no interval overfull beside the admitted ones. They are marked.
 fn take_all(
-    alloc: Global,
     rows: &[JobRow],
     state: &mut State,
     last: usize,
@@ -157,20 +154,18 @@ fn take_all(
     ensures state { IfOk result (λ _. IsState rows.now _top state.new) }
     ensures last { IfOk result (λ _. state.new.next ≡ last) }
 {
-    // Sorting takes little where most are in order already.
-    let mut releases = Vec::from_slice(alloc, &state.by_release)?;
-    let mut deadlines = Vec::from_slice(alloc, &state.by_deadline)?;
     for number in state.next..last {
         let row = &rows[number];
         // Reading the row shows that it is a job within the limits.
         let _work = row.work;
         state.taken.push(number as u32)?;
         state.jobs.push(*row)?;
-        releases.push(*row)?;
-        deadlines.push(*row)?;
+        state.by_release.push(*row)?;
+        state.by_deadline.push(*row)?;
     }
-    state.by_release = by_release(alloc, &releases)?;
-    state.by_deadline = by_deadline(alloc, &deadlines)?;
+    // Sorting takes little where most are in order already.
+    sort_by_release(&mut state.by_release)?;
+    sort_by_deadline(&mut state.by_deadline)?;
     state.marks = marks;
     state.next = last;
     Ok(())
@@ -229,45 +224,24 @@ fn unknown_room(
     })
 }
 
-/// Finds where the deadlines stand among the times, so that the guesses are right.
-fn find_ends(
-    alloc: Global,
-    _rows: &[JobRow],
-    board: &Board,
-    state: &mut State,
-    _top: u32,
-) -> Result<(), Memory>
-    requires board { IsBoard _rows.now _top board.now.times.items board.now.gaps.items board.now.spots.items }
-    requires state { IsState _rows.now _top state.old }
-    ensures state { IfOk result (λ _. IsState _rows.now _top state.new) }
-    ensures next { IfOk result (λ _. state.new.next ≡ state.old.next) }
-    ensures jobs { IfOk result (λ _. state.new.jobs.items ≡ state.old.jobs.items) }
-{
-    let mut ends = Vec::new(alloc);
-    for number in 0..state.by_release.len() {
-        let deadline = state.by_release[number].deadline;
-        ends.push(place_guessed(&board.times, deadline, &state.ends, number))?;
-    }
-    state.ends = ends;
-    Ok(())
-}
-
 /// The room that the admitted jobs leave.
 fn room_of(
     alloc: Global,
     _rows: &[JobRow],
     board: &Board,
-    state: &State,
+    state: &mut State,
     top: u32,
 ) -> Result<Room, Memory>
     requires few { length _rows.now ≤ MAX_JOBS }
     requires board { IsBoard _rows.now top board.now.times.items board.now.gaps.items board.now.spots.items }
-    requires state { IsState _rows.now top state.now }
-    ensures room { IfOk result (λ room. IsRoom top board.now.times.items state.now.jobs.items room) }
+    requires state { IsState _rows.now top state.old }
+    ensures state { IfOk result (λ _. IsState _rows.now top state.new) }
+    ensures next { IfOk result (λ _. state.new.next ≡ state.old.next) }
+    ensures room { IfOk result (λ room. IsRoom top board.now.times.items state.new.jobs.items room) }
     ensures known { IfOk result (λ room. room.known ≡ true) }
 {
     let releases = &state.by_release;
-    let ends = &state.ends;
+    let ends = &mut state.ends;
     let (pieces, idle) = cut_all(alloc, releases, &board.times, &board.gaps, ends, top)?;
     Ok(Room {
         idle,
@@ -305,7 +279,6 @@ fn decide_next(
     if refuse_from_start(rows, state, top)? {
         return Ok(false);
     }
-    find_ends(alloc, rows, board, state, top)?;
     *room = room_of(alloc, rows, board, state, top)?;
     if take_idle_next(rows, board, state, room, top)? {
         return Ok(true);
@@ -364,11 +337,10 @@ fn refuse_from_start(rows: &[JobRow], state: &mut State, top: u32) -> Result<boo
     let _work = row.work;
     let releases = &state.by_release;
     let deadlines = &state.by_deadline;
-    let Some((from, to)) = overfull_from_start(&state.jobs, row, releases, deadlines, top) else {
+    let Some(overfull) = overfull_from_start(&state.jobs, row, releases, deadlines, top) else {
         return Ok(false);
     };
-    let work = work_with(&state.by_deadline, row, from, to);
-    refuse_next(rows, state, from, to, work, top)?;
+    refuse_next(rows, state, overfull, top)?;
     Ok(true)
 }
 
@@ -404,9 +376,8 @@ fn decide_by_pieces(
             *room = unknown_room(alloc, rows, board, state, top)?;
             Ok(true)
         }
-        Some((from, to)) => {
-            let work = work_with(&state.by_deadline, row, from, to);
-            refuse_next(rows, state, from, to, work, top)?;
+        Some(overfull) => {
+            refuse_next(rows, state, overfull, top)?;
             Ok(false)
         }
     }
@@ -445,18 +416,14 @@ fn admit_next(rows: &[JobRow], state: &mut State, _top: u32) -> Result<(), Memor
 fn refuse_next(
     rows: &[JobRow],
     state: &mut State,
-    from: u32,
-    to: u32,
-    work: u64,
+    overfull: Overfull,
     _top: u32,
 ) -> Result<(), Memory>
     requires few { length rows.now ≤ MAX_JOBS }
     requires some_top { 1 ≤ _top }
     requires state { IsState rows.now _top state.old }
     requires more { state.old.next < length rows.now }
-    requires first { let jobs = state.old.jobs.items ++ job_at rows.now state.old.next ∷ []
-        in IsFirstOverfull jobs _top (numbers_of jobs) from to }
-    requires work { work ≡ work_in (state.old.jobs.items ++ job_at rows.now state.old.next ∷ []) from to }
+    requires first { IsFirstWith _top (state.old.jobs.items ++ job_at rows.now state.old.next ∷ []) overfull.from overfull.to overfull.work }
     ensures state { IfOk result (λ _. IsState rows.now _top state.new) }
     ensures next { IfOk result (λ _. state.new.next ≡ state.old.next + 1) }
     ensures kept { IfOk result (λ _. state.new.jobs.items ≡ state.old.jobs.items) }
@@ -467,9 +434,9 @@ fn refuse_next(
     let _work = row.work;
     state.refused.push(Refusal {
         job: number as u32,
-        from,
-        to,
-        work,
+        from: overfull.from,
+        to: overfull.to,
+        work: overfull.work,
     })?;
     state.next = number + 1;
     Ok(())

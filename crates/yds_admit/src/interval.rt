@@ -1,117 +1,125 @@
-ghost use Rattle.std.specs.Prelude.{◌≡◌, ◌-◌, ◌*◌, ◌<◌, ◌≤◌, ◌++◌, ◌∷◌, [], IfOk, IfSome, MatchOption, length, All};
+ghost use Rattle.std.specs.Prelude.{◌≡◌, ◌*◌, ◌≤◌, ◌++◌, ◌∷◌, [], IfOk, IfSome, MatchOption, length, take, All};
 ghost use Rattle.std.specs.List.Sorted.{IsPermutation, IsNonDecreasing, IsNonDecreasingBy};
 ghost use Rattle.yds_model.specs.declared.limits.TheConstants.{MAX_WORK};
 ghost use Rattle.yds_model.specs.Job.{IsJob};
-ghost use Rattle.yds_model.specs.Policy.{numbers_of};
-ghost use Rattle.yds_model.specs.Admission.{IsFirstOverfull};
 ghost use Rattle.yds_laws.specs.AdmissionLaws.{HasRoom};
 ghost use Rattle.yds_admit.specs.Chain.{IsFalling};
-ghost use Rattle.yds_admit.specs.Interval.{work_in, HasRoomFrom, IsFirstEnd};
+ghost use Rattle.yds_admit.specs.Interval.{released_work, HasRoomFrom, IsFirstFrom, IsFirstWith};
 ghost use Rattle.yds_admit.specs.Pieces.{ArePieces, AreDue};
 
 use crate::chain::place;
 use crate::pieces::{Pieces, least_from_pieces};
-use crate::standing::{deadline_place, job_with};
-use std::alloc::Global;
+use crate::standing::due_before;
 use yds_model::limits::{MAX_JOBS, MAX_TOP};
 use yds_model::{JobRow, Memory};
 
-/// The jobs in rising order of their deadlines.
-pub(crate) fn by_deadline(alloc: Global, jobs: &[JobRow]) -> Result<Vec<JobRow>, Memory>
-    ensures same { IfOk result (λ sorted. IsPermutation jobs.now sorted.items) }
-    ensures rising { IfOk result (λ sorted. IsNonDecreasingBy (λ job. job.deadline) sorted.items) }
-{
-    let mut sorted = Vec::from_slice(alloc, jobs)?;
-    sorted.sort_by_key(|job| job.deadline)?;
-    Ok(sorted)
+/// An interval with more work in it than the top speed does there.
+#[derive(Clone, Copy)]
+pub(crate) struct Overfull {
+    /// Where it begins, in time units.
+    pub(crate) from: u32,
+    /// Where it ends, in time units.
+    pub(crate) to: u32,
+    /// The work of the jobs whose windows lie in it, in units of work.
+    pub(crate) work: u64,
 }
 
-/// The jobs in falling order of their releases.
-pub(crate) fn by_release(alloc: Global, jobs: &[JobRow]) -> Result<Vec<JobRow>, Memory>
-    requires { All IsJob jobs.now }
-    ensures same { IfOk result (λ sorted. IsPermutation jobs.now sorted.items) }
-    ensures falling { IfOk result (λ sorted. IsFalling sorted.items) }
+/// Sorts the jobs by rising deadlines.
+pub(crate) fn sort_by_deadline(jobs: &mut Vec<JobRow>) -> Result<(), Memory>
+    ensures same { IfOk result (λ _. IsPermutation jobs.old.items jobs.new.items) }
+    ensures rising { IfOk result (λ _. IsNonDecreasingBy (λ job. job.deadline) jobs.new.items) }
 {
-    let mut sorted = Vec::from_slice(alloc, jobs)?;
-    sorted.sort_by_key(|job| u32::MAX - job.release)?;
-    Ok(sorted)
+    jobs.sort_by_key(|job| job.deadline)?;
+    Ok(())
 }
 
-/// The first deadline at which an interval from `from` ends that is overfull with one job more, if there is one.
-fn overfull_end(by_deadline: &[JobRow], row: &JobRow, from: u32, top: u32) -> Option<u32>
+/// Sorts the jobs by falling releases.
+pub(crate) fn sort_by_release(jobs: &mut Vec<JobRow>) -> Result<(), Memory>
+    requires { All IsJob jobs.old.items }
+    ensures same { IfOk result (λ _. IsPermutation jobs.old.items jobs.new.items) }
+    ensures falling { IfOk result (λ _. IsFalling jobs.new.items) }
+{
+    jobs.sort_by_key(|job| u32::MAX - job.release)?;
+    Ok(())
+}
+
+/// The first interval from `from` that is overfull with one job more, if there is one. Without the job there is none: so it ends at
+/// the job's deadline or later.
+fn overfull_from(by_deadline: &[JobRow], row: &JobRow, from: u32, top: u32) -> Option<Overfull>
     requires few { length by_deadline.now ≤ MAX_JOBS }
+    requires are { All IsJob by_deadline.now }
     requires top_in_range { top ≤ MAX_TOP }
     requires rising { IsNonDecreasingBy (λ job. job.deadline) by_deadline.now }
+    requires until { from ≤ row.now.release }
+    requires alone { HasRoomFrom top by_deadline.now from }
     ensures { MatchOption result
         (HasRoomFrom top (by_deadline.now ++ row.now ∷ []) from)
-        (IsFirstEnd top (by_deadline.now ++ row.now ∷ []) from) }
+        (λ overfull. IsFirstFrom top (by_deadline.now ++ row.now ∷ []) from overfull.from overfull.to overfull.work) }
 {
-    let place = deadline_place(by_deadline, row);
-    let mut work = 0;
-    for number in 0..by_deadline.len() + 1 {
-        let job = job_with(by_deadline, row, place, number);
-        if job.release >= from {
-            work += u64::from(job.work);
-            if work > u64::from(top) * u64::from(job.deadline - from) {
-                return Some(job.deadline);
+    let place = due_before(by_deadline, row.deadline);
+    let mut work = u64::from(row.work) + released_before(by_deadline, place, from);
+    let mut to = row.deadline;
+    for number in place..by_deadline.len() {
+        let job = &by_deadline[number];
+        if to < job.deadline {
+            if work > u64::from(top) * u64::from(to - from) {
+                return Some(Overfull { from, to, work });
             }
+            to = job.deadline;
         }
+        if from <= job.release {
+            work += u64::from(job.work);
+        }
+    }
+    if work > u64::from(top) * u64::from(to - from) {
+        return Some(Overfull { from, to, work });
     }
     None
 }
 
-/// The work of these jobs and one more whose windows lie between these times, in units of work.
-pub(crate) fn work_with(jobs: &[JobRow], row: &JobRow, from: u32, to: u32) -> u64
-    requires { length jobs.now ≤ MAX_JOBS }
-    ensures { result ≡ work_in (jobs.now ++ row.now ∷ []) from to }
-{
-    let mut work = work_between(jobs, from, to);
-    if from <= row.release && row.deadline <= to {
-        work += u64::from(row.work);
-    }
-    work
-}
-
-/// The work of the jobs whose windows lie between these times, in units of work.
-fn work_between(jobs: &[JobRow], from: u32, to: u32) -> u64
-    requires { length jobs.now ≤ MAX_JOBS }
-    ensures sum { result ≡ work_in jobs.now from to }
-    ensures few { result ≤ MAX_JOBS * MAX_WORK }
+/// The work of the jobs before a place that are released at a time or later, in units of work.
+fn released_before(by_deadline: &[JobRow], place: usize, from: u32) -> u64
+    requires few { length by_deadline.now ≤ MAX_JOBS }
+    requires within { place ≤ length by_deadline.now }
+    requires are { All IsJob by_deadline.now }
+    requires rising { IsNonDecreasingBy (λ job. job.deadline) by_deadline.now }
+    ensures sum { result ≡ released_work (take place by_deadline.now) from }
+    ensures few { result ≤ place * MAX_WORK }
 {
     let mut work = 0;
-    for job in jobs {
-        if from <= job.release && job.deadline <= to {
+    // Those that are due before that time were released before it.
+    for number in due_before(by_deadline, from).min(place)..place {
+        let job = &by_deadline[number];
+        if job.release >= from {
             work += u64::from(job.work);
         }
     }
     work
 }
 
-/// The first overfull interval of these jobs and one more, if one begins at the earliest release of all.
+/// The first overfull interval of these jobs and one more, if one begins at the earliest release of all. Alone the jobs leave none overfull.
 pub(crate) fn overfull_from_start(
     _jobs: &[JobRow],
     row: &JobRow,
     by_release: &[JobRow],
     by_deadline: &[JobRow],
     top: u32,
-) -> Option<(u32, u32)>
+) -> Option<Overfull>
     requires few { length by_deadline.now ≤ MAX_JOBS }
     requires top_in_range { top ≤ MAX_TOP }
+    requires are { All IsJob _jobs.now }
+    requires room { HasRoom top _jobs.now }
     requires releases { IsPermutation _jobs.now by_release.now }
     requires falling { IsFalling by_release.now }
     requires deadlines { IsPermutation _jobs.now by_deadline.now }
     requires rising { IsNonDecreasingBy (λ job. job.deadline) by_deadline.now }
-    ensures { IfSome result (λ interval.
-        IsFirstOverfull (_jobs.now ++ row.now ∷ []) top (numbers_of (_jobs.now ++ row.now ∷ [])) interval.0 interval.1) }
+    ensures { IfSome result (λ overfull. IsFirstWith top (_jobs.now ++ row.now ∷ []) overfull.from overfull.to overfull.work) }
 {
     let from = match by_release.last() {
         Some(job) => job.release.min(row.release),
         None => row.release,
     };
-    match overfull_end(by_deadline, row, from, top) {
-        Some(to) => Some((from, to)),
-        None => None,
-    }
+    overfull_from(by_deadline, row, from, top)
 }
 
 /// The first overfull interval of these jobs and one more, where there is one. Alone they leave none overfull: so it begins before
@@ -123,7 +131,7 @@ pub(crate) fn overfull_by_pieces(
     pieces: &Pieces,
     times: &[u32],
     top: u32,
-) -> Option<(u32, u32)>
+) -> Option<Overfull>
     requires few { length by_deadline.now ≤ MAX_JOBS }
     requires top_in_range { top ≤ MAX_TOP }
     requires are { All IsJob (_jobs.now ++ row.now ∷ []) }
@@ -135,14 +143,11 @@ pub(crate) fn overfull_by_pieces(
     requires due { AreDue times.now (_jobs.now ++ row.now ∷ []) }
     ensures { MatchOption result
         (HasRoom top (_jobs.now ++ row.now ∷ []))
-        (λ interval. IsFirstOverfull (_jobs.now ++ row.now ∷ []) top (numbers_of (_jobs.now ++ row.now ∷ [])) interval.0 interval.1) }
+        (λ overfull. IsFirstWith top (_jobs.now ++ row.now ∷ []) overfull.from overfull.to overfull.work) }
 {
     let end = place(times, row.deadline);
     let Some(from) = least_from_pieces(pieces, _jobs, times, row, end, top) else {
         return None;
     };
-    match overfull_end(by_deadline, row, from, top) {
-        Some(to) => Some((from, to)),
-        None => None,
-    }
+    overfull_from(by_deadline, row, from, top)
 }

@@ -13,6 +13,7 @@ mod chain;
 mod decision;
 mod idle;
 mod interval;
+mod nearby;
 mod pieces;
 mod refusal;
 mod run;

@@ -9,6 +9,7 @@ ghost use Rattle.yds_admit.specs.Idle.{HasIdle, taken_before};
 ghost use Rattle.yds_admit.specs.Pieces.{IsCutting, IsCutInto, AreCut, ArePieces, AreDue};
 
 use crate::chain::{last_open, own_links, place_guessed};
+use crate::nearby::{count_near, units_near};
 use std::alloc::Global;
 use yds_model::limits::{MAX_JOBS, MAX_TOP};
 use yds_model::{JobRow, Memory};
@@ -30,7 +31,7 @@ pub(crate) fn cut_all(
     by_release: &[JobRow],
     times: &[u32],
     gaps: &[u64],
-    guesses: &[usize],
+    guesses: &mut Vec<usize>,
     top: u32,
 ) -> Result<(Pieces, Vec<u64>), Memory>
     requires few { length by_release.now ≤ MAX_JOBS }
@@ -51,12 +52,13 @@ pub(crate) fn cut_all(
 }
 
 /// Cuts each job: its units take the room that is left in the gaps, from its own deadline backwards.
+#[inline(never)]
 fn cut_each(
     alloc: Global,
     by_release: &[JobRow],
     times: &[u32],
     gaps: &mut [u64],
-    guesses: &[usize],
+    guesses: &mut Vec<usize>,
     top: u32,
 ) -> Result<Pieces, Memory>
     requires gaps { AreGaps top times.now gaps.old }
@@ -76,13 +78,14 @@ fn cut_each(
     };
     for number in 0..by_release.len() {
         let job = &by_release[number];
-        let end = place_guessed(times, job.deadline, guesses, number);
+        let end = place_guessed(times, job.deadline, guesses, number)?;
         cut(gaps, links, &mut pieces, job, end, times, top)?;
     }
     Ok(pieces)
 }
 
 /// The units that were taken from the gaps before each of the times: the gaps less what is left of them.
+#[inline(never)]
 fn used_before(alloc: Global, gaps: &[u64], left: &[u64]) -> Result<Vec<u64>, Memory>
     requires as_long { length left.now ≡ length gaps.now }
     requires less { (q : ℕ) → q < length gaps.now → slice_index left.now q ≤ slice_index gaps.now q }
@@ -148,24 +151,25 @@ fn cut(
 pub(crate) fn least_from_pieces(
     pieces: &Pieces,
     _all: &[JobRow],
-    _times: &[u32],
+    times: &[u32],
     row: &JobRow,
     end: usize,
     top: u32,
 ) -> Option<u32>
     requires top_in_range { top ≤ MAX_TOP }
-    requires pieces { ArePieces top _times.now _all.now pieces.now.jobs.items pieces.now.places.items pieces.now.used.items }
-    requires within { end < length _times.now }
-    requires end { slice_index _times.now end ≡ row.now.deadline }
-    requires rising { IsNonDecreasing _times.now }
-    requires due { AreDue _times.now _all.now }
+    requires pieces { ArePieces top times.now _all.now pieces.now.jobs.items pieces.now.places.items pieces.now.used.items }
+    requires within { end < length times.now }
+    requires end { slice_index times.now end ≡ row.now.deadline }
+    requires rising { IsNonDecreasing times.now }
+    requires due { AreDue times.now _all.now }
     requires are { All IsJob _all.now }
     requires room { HasRoom top _all.now }
     ensures { MatchOption result (NoFrom top row.now.deadline (_all.now ++ row.now ∷ [])) (IsLeastFrom top row.now.deadline (_all.now ++ row.now ∷ [])) }
 {
     let room = u64::from(top) * u64::from(row.deadline);
-    let mut wanted = u64::from(row.work) + pieces.used[end];
-    let mut count = pieces.jobs.len();
+    // Any other piece is too early: enough is idle between its release and the job's deadline.
+    let mut count = count_near(pieces, times, row, end, top);
+    let mut wanted = u64::from(row.work) + units_near(pieces, count, end, row.deadline);
     while count > 0 && pieces.jobs[count - 1].release < row.release {
         let piece = &pieces.jobs[count - 1];
         if wanted + u64::from(top) * u64::from(piece.release) > room {

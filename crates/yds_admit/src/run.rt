@@ -15,6 +15,7 @@ use yds_model::{JobRow, Memory};
 ///
 /// One walk by falling releases, as `least_from`, over all deadlines. No interval from a release is overfull where the jobs released then
 /// or later find their room after it.
+#[inline(never)]
 pub(crate) fn fit(
     alloc: Global,
     _rows: &[JobRow],

@@ -1,13 +1,11 @@
-use Rattle.std.proofs.Common.{◌≡◌, ℕ, List, [], ◌∷◌, ◌++◌, ◌∙◌, sym, ap, subst}
+use Rattle.std.proofs.Common.{◌≡◌, ℕ, List, [], ◌∷◌, ◌++◌, sym, subst}
 use Rattle.std.specs.List.{All, Any}
 use Rattle.std.proofs.lemmas.List.{get_or_read, get_or_default}
 use Rattle.std.proofs.lemmas.List.Elements.{All-push}
 use Rattle.yds_model.specs.Job.{Job, IsJob, no_job, job_at}
 use Rattle.yds_laws.specs.AdmissionLaws.{HasRoom}
-use Rattle.yds_admit.specs.Interval.{work_in}
 use Rattle.yds_admit.specs.Pieces.{AreDue}
 use Rattle.yds_admit.proofs.Inserted.{few_known}
-use Rattle.yds_admit.proofs.Newly.{work_more}
 use Rattle.yds_admit.proofs.Times.{all_due}
 use Rattle.yds_admit.proofs.decision.decide_by_pieces.Goals as goal
 
@@ -45,19 +43,3 @@ admit_next-requires-clause-room c =
     let is = get_or_read c.args.rows.now state.next c.index-rows-state.result c.requires.more c.index-rows-state.is no_job in
     subst (λ (row : Job). HasRoom c.args.top (state.jobs.items ++ row ∷ [])) is
     (subst (λ (jobs : List Job). HasRoom c.args.top (jobs ++ c.index-rows-state.result ∷ [])) c.deref.ensures.value (rw c.in-None.is at c.overfull_by_pieces.ensures))
-
-pub work_with-work-requires : goal.work_with-work-requires
-work_with-work-requires c =
-    let state = c.args.state.now in
-    few_known state.jobs.items state.by_deadline.items c.deref-in-Some.result.now state.next _ _ c.requires.state.ordered.deadlines c.deref-in-Some.ensures.value
-    c.requires.state.decided.few c.requires.state.within c.requires.few
-
-pub refuse_next-requires-clause-work : goal.refuse_next-requires-clause-work
-refuse_next-requires-clause-work c =
-    let state = c.args.state.now in
-    let row = c.index-rows-state.result in
-    let is = get_or_read c.args.rows.now state.next row c.requires.more c.index-rows-state.is no_job in
-    c.work_with-work.ensures
-    ∙ ap (λ (some : List Job). work_in (some ++ row ∷ []) c.in-Some.from c.in-Some.to) c.deref-in-Some.ensures.value
-    ∙ work_more state.jobs.items state.by_deadline.items row c.requires.state.ordered.deadlines c.in-Some.from c.in-Some.to
-    ∙ ap (λ (row : Job). work_in (state.jobs.items ++ row ∷ []) c.in-Some.from c.in-Some.to) is

@@ -58,3 +58,11 @@ returns-clause-room c =
           (subst (λ (all : List Job). ArePieces c.args.top c.deref-2.result.now all pieces.jobs.items pieces.places.items pieces.used.items) c.deref.ensures.value
           c.in_ok-pieces.ensures.pieces));
     }
+
+pub returns-clause-state : goal.returns-clause-state
+returns-clause-state c = record {
+  within = c.requires.state.within;
+  decided = c.requires.state.decided;
+  marked = c.requires.state.marked;
+  ordered = c.requires.state.ordered;
+}

@@ -1,6 +1,4 @@
 use Rattle.std.proofs.Common.{◌≡◌, ℕ, ◌∷◌, ◌++◌, [], List, ◌∙◌, take, drop, sym, subst, ap, arith}
-use Rattle.std.specs.List.{All}
-use Rattle.std.specs.List.Sorted.{IsPermutation}
 use Rattle.std.proofs.lemmas.List.{get_or_read, append-nil, drop_all, length-take-le}
 use Rattle.yds_admit.specs.Board.{IsMarked}
 use Rattle.yds_admit.specs.Decision.{Decided}
@@ -24,10 +22,9 @@ loop-number-preserved c =
       deadlines = rw (c.in_ok-push-2.ensures.items, c.in_ok-push-4.ensures.items) (IsPermutation-append_left (row ∷ []) _ _ c.loop-number.invariant.deadlines);
     }
 
-pub by_release-requires : goal.by_release-requires
-by_release-requires c =
-    subst (λ (jobs : List Job). All IsJob jobs) (sym c.deref-3.ensures.value)
-    (All-permutation IsJob c.loop-number.state.jobs.items c.loop-number.releases.items c.loop-number.invariant.releases c.loop-number.invariant.decided.are)
+pub sort_by_release-requires : goal.sort_by_release-requires
+sort_by_release-requires c =
+    All-permutation IsJob c.loop-number.state.jobs.items c.loop-number.state.by_release.items c.loop-number.invariant.releases c.loop-number.invariant.decided.are
 
 pub returns-clause-state : goal.returns-clause-state
 returns-clause-state c =
@@ -44,11 +41,9 @@ returns-clause-state c =
       decided = subst (λ (n : ℕ). Decided rows c.args._top n state.taken.items state.jobs.items state.refused.items) e held.decided;
       marked = subst (λ (jobs : List Job). IsMarked rows last c.args.marks.items jobs) (sym whole) c.requires.marks;
       ordered = record {
-        releases = IsPermutation-trans state.jobs.items c.loop-number.releases.items c.in_ok-state.field-0.items held.releases
-            (subst (λ (some : List Job). IsPermutation some c.in_ok-state.field-0.items) c.deref-3.ensures.value c.in_ok-state.ensures.same);
-        deadlines = IsPermutation-trans state.jobs.items c.loop-number.deadlines.items c.in_ok-state-2.field-0.items held.deadlines
-            (subst (λ (some : List Job). IsPermutation some c.in_ok-state-2.field-0.items) c.deref-4.ensures.value c.in_ok-state-2.ensures.same);
-        falling = c.in_ok-state.ensures.falling;
-        rising = c.in_ok-state-2.ensures.rising;
+        releases = IsPermutation-trans state.jobs.items state.by_release.items c.sort_by_release.new.jobs.items held.releases c.in_ok-sort_by_release.ensures.same;
+        deadlines = IsPermutation-trans state.jobs.items state.by_deadline.items c.sort_by_deadline.new.jobs.items held.deadlines c.in_ok-sort_by_deadline.ensures.same;
+        falling = c.in_ok-sort_by_release.ensures.falling;
+        rising = c.in_ok-sort_by_deadline.ensures.rising;
       };
     }

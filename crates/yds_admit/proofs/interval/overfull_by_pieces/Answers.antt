@@ -1,11 +1,12 @@
 use Rattle.std.proofs.Common.{ℕ, List, ◌∷◌, ◌++◌, [], arith, ap}
 use Rattle.std.specs.List.{Contains}
 use Rattle.std.specs.List.Sorted.{IsPermutation}
-use Rattle.std.proofs.lemmas.List.Sorted.{IsPermutation-refl, IsPermutation-append_left}
+use Rattle.std.proofs.lemmas.List.Sorted.{IsPermutation-refl, IsPermutation-append_left, All-permutation}
 use Rattle.yds_model.specs.Job.{Job, IsJob}
 use Rattle.yds_model.proofs.Lists.{All-front, All-last}
 use Rattle.yds_admit.specs.Pieces.{AreDue}
-use Rattle.yds_admit.proofs.Newly.{has_room, first_found, is_found}
+use Rattle.yds_admit.proofs.Least.{room_alone, until_release}
+use Rattle.yds_admit.proofs.Newly.{has_room, first_with, is_found, MatchOption-then}
 use Rattle.yds_admit.proofs.Times.{place_known, time_there}
 use Rattle.yds_admit.proofs.interval.overfull_by_pieces.Goals as goal
 
@@ -38,16 +39,31 @@ least_from_pieces-requires-clause-due c = All-front (λ (job : Job). Contains c.
 pub least_from_pieces-requires-clause-are : goal.least_from_pieces-requires-clause-are
 least_from_pieces-requires-clause-are c = All-front IsJob c.args._jobs.now (c.args.row.now ∷ []) c.requires.are
 
+pub overfull_from-requires-clause-are : goal.overfull_from-requires-clause-are
+overfull_from-requires-clause-are c =
+    All-permutation IsJob c.args._jobs.now c.args.by_deadline.now c.requires.deadlines (All-front IsJob c.args._jobs.now (c.args.row.now ∷ []) c.requires.are)
+
+pub overfull_from-requires-clause-until : goal.overfull_from-requires-clause-until
+overfull_from-requires-clause-until c =
+    until_release c.args.top c.args._jobs.now c.args.row.now c.in-Some.from (All-front IsJob c.args._jobs.now (c.args.row.now ∷ []) c.requires.are) c.requires.room c.in-Some.ensures
+
+pub overfull_from-requires-clause-alone : goal.overfull_from-requires-clause-alone
+overfull_from-requires-clause-alone c =
+    room_alone c.args.top c.args._jobs.now c.args.by_deadline.now (All-front IsJob c.args._jobs.now (c.args.row.now ∷ []) c.requires.are) c.requires.deadlines c.requires.room c.in-Some.from
+
 pub returns-in_default : goal.returns-in_default
 returns-in_default c =
     has_room c.args.top c.args._jobs.now c.args.row.now c.requires.are c.requires.room (c.args._jobs.now ++ c.args.row.now ∷ []) (c.args.by_deadline.now ++ c.args.row.now ∷ [])
     (IsPermutation-refl (c.args._jobs.now ++ c.args.row.now ∷ [])) (same_deadlines c.args._jobs.now c.args.by_deadline.now c.args.row.now c.requires.deadlines) c.in_default.ensures
 
-pub returns-in-Some-overfull_end : goal.returns-in-Some-overfull_end
-returns-in-Some-overfull_end c =
-    first_found c.args.top c.args._jobs.now c.args.row.now c.requires.are c.requires.room (c.args._jobs.now ++ c.args.row.now ∷ []) (c.args.by_deadline.now ++ c.args.row.now ∷ [])
-    (IsPermutation-refl (c.args._jobs.now ++ c.args.row.now ∷ [])) (same_deadlines c.args._jobs.now c.args.by_deadline.now c.args.row.now c.requires.deadlines) c.in-Some.from c.in-Some-overfull_end.to c.in-Some.ensures c.in-Some-overfull_end.ensures
-
-pub returns-in-None : goal.returns-in-None
-returns-in-None c = absurd (is_found c.args.top c.args._jobs.now c.args.row.now c.requires.are c.requires.room (c.args._jobs.now ++ c.args.row.now ∷ []) (c.args.by_deadline.now ++ c.args.row.now ∷ [])
-    (IsPermutation-refl (c.args._jobs.now ++ c.args.row.now ∷ [])) (same_deadlines c.args._jobs.now c.args.by_deadline.now c.args.row.now c.requires.deadlines) c.in-Some.from c.in-Some.ensures c.in-None.ensures)
+pub returns : goal.returns
+returns c =
+    let jobs = c.args._jobs.now in
+    let row : Job = c.args.row.now in
+    let all = jobs ++ row ∷ [] in
+    let sorted = c.args.by_deadline.now ++ row ∷ [] in
+    let same = same_deadlines jobs c.args.by_deadline.now row c.requires.deadlines in
+    MatchOption-then c.overfull_from.result c.overfull_from.ensures
+    (λ none. absurd (is_found c.args.top jobs row c.requires.are c.requires.room all sorted (IsPermutation-refl all) same c.in-Some.from c.in-Some.ensures none))
+    (λ overfull found.
+    first_with c.args.top jobs row c.requires.are c.requires.room all sorted (IsPermutation-refl all) same c.in-Some.from overfull.from overfull.to overfull.work c.in-Some.ensures found)

@@ -20,11 +20,11 @@ cut-requires-clause-within c =
     let is = c.job.view_is ∙ get_or_read c.args.by_release.now c.loop-number.number c.index-by_release-number.result c.loop-number-test.true c.index-by_release-number.is no_job in
     let there = c.requires.due c.loop-number.number no_job c.loop-number-test.true in
     let deadline = ap (λ (job : Job). job.deadline) is in
-    let short : c.place_guessed-end.result ≤ there.0 = elim (cases_lt there.0 c.place_guessed-end.result) [
+    let short : c.in_ok-end.end ≤ there.0 = elim (cases_lt there.0 c.in_ok-end.end) [
       | inr most ↦ most
       | inl less ↦ absurd (omega (
         arith,
-        c.place_guessed-end.ensures.before there.0 less,
+        c.in_ok-end.ensures.before there.0 less,
         deadline,
         get_or_default c.args.times.now there.0 0 (job_at c.args.by_release.now c.loop-number.number).deadline there.1,
         there.2,

@@ -5,23 +5,58 @@ use Rattle.std.proofs.Math.Nat.{mul-le-mul_left}
 use Rattle.yds_model.specs.Job.{Job, no_job, job_at}
 use Rattle.yds_admit.specs.Pieces.{went}
 use Rattle.yds_admit.proofs.Cutting.{went_fits, next_went}
-use Rattle.yds_admit.proofs.Least.{HasTooMuch, one_more, none_found, some_found}
+use Rattle.yds_admit.proofs.Least.{HasTooMuch, one_more, none_near, behind_leaves, none_found, some_found}
 use Rattle.yds_admit.proofs.pieces.least_from_pieces.Goals as goal
 use Rattle.yds_admit.proofs.pieces.least_from_pieces.Goals.{then-index-end, else-index-end, then-loop-count-test+else-index-row, else-loop-count-test}
+
+pub count_near-count-requires-clause-few : goal.count_near-count-requires-clause-few
+count_near-count-requires-clause-few c k d below =
+    let pieces = c.args.pieces.now in
+    let used = pieces.used.items in
+    omega (
+      arith,
+      get_or_default used k d 0 below,
+      c.requires.pieces.used_is k (omega (arith, below, c.requires.pieces.used_as_long)),
+      went_fits (length pieces.jobs.items) pieces.jobs.items pieces.places.items k (omega arith) c.requires.pieces.few,
+    )
 
 pub overflow_add-wanted : goal.overflow_add-wanted
 overflow_add-wanted c =
     let pieces = c.args.pieces.now in
-    let used = pieces.used.items in
-    let within : c.args.end < length used = omega (arith, c.requires.within, c.requires.pieces.used_as_long) in
     omega (
       arith,
       c.from-3.ensures,
       c.row.invariant.work_in_range,
-      get_or_read used c.args.end c.index.result.now within c.index.ensures 0,
-      c.requires.pieces.used_is c.args.end c.requires.within,
-      went_fits (length pieces.jobs.items) pieces.jobs.items pieces.places.items c.args.end (omega arith) c.requires.pieces.few,
+      c.units_near.ensures.3,
+      went_fits c.count_near-count.result pieces.jobs.items pieces.places.items c.args.end c.count_near-count.ensures.within c.requires.pieces.few,
     )
+
+pub loop-count-init : goal.loop-count-init
+loop-count-init c =
+    let top : ℕ = c.args.top in
+    let times = c.args.times.now in
+    let all = c.args._all.now in
+    let pieces = c.args.pieces.now in
+    let jobs = pieces.jobs.items in
+    let places = pieces.places.items in
+    let row : Job = c.args.row.now in
+    let end : ℕ = c.args.end in
+    let m : ℕ = length times - 1 in
+    let long : length times ≡ m + 1 = omega (arith, c.requires.within) in
+    let short : end ≤ m = omega (arith, c.requires.within) in
+    let units = c.units_near.ensures in
+    let deadline = ap (λ (job : Job). job.deadline) c.row.view_is in
+    let first : ℕ = units.0 in
+    let none = none_near top times all jobs places pieces.used.items m long c.requires.pieces c.requires.rising c.requires.are c.requires.room row end short c.requires.end
+    first (omega (arith, units.1, c.count_near-count.ensures.within)) (λ i less. omega (arith, units.2 i less, deadline)) in
+    record {
+      within = c.count_near-count.ensures.within;
+      wanted = omega (arith, units.3, none, c.from-3.ensures, ap (λ (job : Job). job.work) c.row.view_is);
+      late = λ i behind below. let there = c.count_near-count.ensures.behind i behind below in omega (arith, there.released, there.idle.before);
+      leaves = λ k behind below.
+          behind_leaves top times all jobs places pieces.used.items m long c.requires.pieces c.requires.rising c.requires.are c.requires.room row end short c.requires.end k below
+          (c.count_near-count.ensures.behind k behind below);
+    }
 
 pub overflow_add-wanted-in-loop-count : goal.overflow_add-wanted-in-loop-count
 overflow_add-wanted-in-loop-count c = omega (
@@ -38,7 +73,7 @@ overflow_add-wanted-in-loop-count c = omega (
 pub returns-then-wanted-from : goal.returns-then-wanted-from
 returns-then-wanted-from c =
     let top : ℕ = c.args.top in
-    let times = c.args._times.now in
+    let times = c.args.times.now in
     let all = c.args._all.now in
     let pieces = c.args.pieces.now in
     let jobs = pieces.jobs.items in
@@ -50,7 +85,7 @@ returns-then-wanted-from c =
     let release : c.piece.inside.release ≡ (job_at jobs n).release =
     ap (λ (job : Job). job.release) (c.piece.view_is ∙ get_or_read jobs n c.index-piece.result.now below c.index-piece.ensures no_job) in
     let seen : c.behind-pieces.inside.release ≡ (job_at jobs n).release =
-    ap (λ (job : Job). job.release) (c.behind-pieces.view_is ∙ get_or_read jobs n c.index-in-loop-count.result.now below c.index-in-loop-count.ensures no_job) in
+    ap (λ (job : Job). job.release) (c.behind-pieces.view_is ∙ get_or_read jobs n c.index.result.now below c.index.ensures no_job) in
     let own = ap (λ (job : Job). job.release) c.row.view_is in
     let much : HasTooMuch top times all jobs pieces.places.items row c.args.end count c.piece.inside.release = record {
       within = held.within;
@@ -78,7 +113,7 @@ overflow_sub-wanted c =
     let below : n < length jobs = omega (arith, c.loop-count.invariant.within, next) in
     let work : c.piece.inside.work ≡ (job_at jobs n).work =
     ap (λ (job : Job). job.work) (c.piece.view_is ∙ get_or_read jobs n c.index-piece.result.now below c.index-piece.ensures no_job) in
-    let place = get_or_read places n c.index-in-loop-count-2.result.now (omega (arith, below, c.requires.pieces.as_long)) c.index-in-loop-count-2.ensures 0 in
+    let place = get_or_read places n c.index-in-loop-count.result.now (omega (arith, below, c.requires.pieces.as_long)) c.index-in-loop-count.ensures 0 in
     omega (
       arith,
       c.loop-count.invariant.wanted,
@@ -105,9 +140,9 @@ loop-count-preserved c =
     let release : c.piece.inside.release ≡ (job_at jobs n).release = ap (λ (job : Job). job.release) is in
     let work : c.piece.inside.work ≡ (job_at jobs n).work = ap (λ (job : Job). job.work) is in
     let seen : c.behind-pieces.inside.release ≡ (job_at jobs n).release =
-    ap (λ (job : Job). job.release) (c.behind-pieces.view_is ∙ get_or_read jobs n c.index-in-loop-count.result.now below c.index-in-loop-count.ensures no_job) in
+    ap (λ (job : Job). job.release) (c.behind-pieces.view_is ∙ get_or_read jobs n c.index.result.now below c.index.ensures no_job) in
     let own = ap (λ (job : Job). job.release) c.row.view_is in
-    let place = get_or_read places n c.index-in-loop-count-2.result.now (omega (arith, below, c.requires.pieces.as_long)) c.index-in-loop-count-2.ensures 0 in
+    let place = get_or_read places n c.index-in-loop-count.result.now (omega (arith, below, c.requires.pieces.as_long)) c.index-in-loop-count.ensures 0 in
     let count = ap (λ k. went k jobs places end) next in
     record {
       within = omega (arith, held.within);
@@ -135,7 +170,7 @@ loop-count-preserved c =
         | inl same ↦ omega (arith, seen, own, c.if-index-row.true, ap (λ j. (job_at jobs j).release) same)
         | inr other ↦ held.late i (omega (arith, behind, other, next)) short
       ];
-      leaves = one_more top c.args._times.now c.args._all.now jobs places row end n (λ k behind short. held.leaves k (omega (arith, behind, next)) short)
+      leaves = one_more top c.args.times.now c.args._all.now jobs places row end n (λ k behind short. held.leaves k (omega (arith, behind, next)) short)
           (omega (
             arith,
             held.wanted,
@@ -161,7 +196,7 @@ overflow_add-wanted-2 c = omega (
 pub returns-then-wanted-from-2 : goal.returns-then-wanted-from-2
 returns-then-wanted-from-2 c =
     let top : ℕ = c.args.top in
-    let times = c.args._times.now in
+    let times = c.args.times.now in
     let all = c.args._all.now in
     let pieces = c.args.pieces.now in
     let jobs = pieces.jobs.items in
@@ -176,7 +211,7 @@ returns-then-wanted-from-2 c =
           omega (
             arith,
             w.if-index-row.false,
-            ap (λ (job : Job). job.release) (w.behind-pieces.view_is ∙ get_or_read jobs n w.index-in-loop-count.result.now below w.index-in-loop-count.ensures no_job),
+            ap (λ (job : Job). job.release) (w.behind-pieces.view_is ∙ get_or_read jobs n w.index.result.now below w.index.ensures no_job),
             c.requires.pieces.falling i n (omega (arith, less)) below,
           )
       | else-loop-count-test w ↦ absurd (omega (arith, less, w.loop-count-test.false))
@@ -200,7 +235,7 @@ returns-then-wanted-from-2 c =
 pub returns : goal.returns
 returns c =
     let top : ℕ = c.args.top in
-    let times = c.args._times.now in
+    let times = c.args.times.now in
     let all = c.args._all.now in
     let pieces = c.args.pieces.now in
     let jobs = pieces.jobs.items in
@@ -216,7 +251,7 @@ returns c =
             arith,
             own,
             w.if-index-row.false,
-            ap (λ (job : Job). job.release) (w.behind-pieces.view_is ∙ get_or_read jobs n w.index-in-loop-count.result.now below w.index-in-loop-count.ensures no_job),
+            ap (λ (job : Job). job.release) (w.behind-pieces.view_is ∙ get_or_read jobs n w.index.result.now below w.index.ensures no_job),
             c.requires.pieces.falling i n (omega (arith, less)) below,
           )
       | else-loop-count-test w ↦ absurd (omega (arith, less, w.loop-count-test.false))

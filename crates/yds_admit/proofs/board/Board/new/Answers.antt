@@ -10,8 +10,8 @@ use Rattle.yds_admit.proofs.board.Board.new.Goals as goal
 pub spots-requires : goal.spots-requires
 spots-requires c =
     rw c.deref-3.ensures.value
-    (same_times 0 c.args.rows.now c.in_ok-by_deadline.by_deadline.items c.in_ok-times.times.items
-    (IsPermutation-sym c.args.rows.now c.in_ok-by_deadline.by_deadline.items c.in_ok-by_deadline.ensures.same)
+    (same_times 0 c.args.rows.now c.sort_by_deadline.new.jobs.items c.in_ok-times.times.items
+    (IsPermutation-sym c.args.rows.now c.sort_by_deadline.new.jobs.items (rw c.in_ok-by_deadline.ensures.items at c.in_ok-sort_by_deadline.ensures.same))
     (subst (λ (jobs : List Job). AreTimes 0 jobs c.in_ok-times.times.items) c.deref.ensures.value c.in_ok-times.ensures))
 
 pub returns : goal.returns
@@ -20,8 +20,8 @@ returns c =
     let times = c.in_ok-times.times.items in
     let spots = subst (λ (some : List ℕ). AreSpots rows some c.in_ok-spots.field-0.items) c.deref-3.ensures.value c.in_ok-spots.ensures in
     record {
-      are_times = same_times 0 rows c.in_ok-by_deadline.by_deadline.items times
-          (IsPermutation-sym rows c.in_ok-by_deadline.by_deadline.items c.in_ok-by_deadline.ensures.same)
+      are_times = same_times 0 rows c.sort_by_deadline.new.jobs.items times
+          (IsPermutation-sym rows c.sort_by_deadline.new.jobs.items (rw c.in_ok-by_deadline.ensures.items at c.in_ok-sort_by_deadline.ensures.same))
           (subst (λ (jobs : List Job). AreTimes 0 jobs times) c.deref.ensures.value c.in_ok-times.ensures);
       are_gaps = subst (λ (some : List ℕ). AreGaps c.args.top some c.in_ok-gaps.gaps.items) c.deref-2.ensures.value
           (record { as_long = c.in_ok-gaps.ensures.as_long; each = c.in_ok-gaps.ensures.each });

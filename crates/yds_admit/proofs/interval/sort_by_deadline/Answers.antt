@@ -1,7 +1,7 @@
 use Rattle.std.proofs.Common.{rules}
 use Rattle.std.proofs.lemmas.List.Sorted.{IsNonDecreasingBy-from_sort_by_key}
 use Rattle.yds_model.specs.Job.{Job}
-use Rattle.yds_admit.proofs.interval.by_deadline.Goals as goal
+use Rattle.yds_admit.proofs.interval.sort_by_deadline.Goals as goal
 
 pub returns-clause-rising : goal.returns-clause-rising
 returns-clause-rising c =

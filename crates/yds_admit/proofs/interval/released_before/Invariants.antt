@@ -1,0 +1,10 @@
+use Rattle.std.proofs.Common.{◌≡◌, ◌*◌, ◌≤◌, take}
+use Rattle.yds_model.specs.declared.limits.TheConstants.{MAX_WORK}
+use Rattle.yds_admit.specs.Interval.{released_work}
+use Rattle.yds_admit.proofs.interval.released_before.Given as goal
+
+abbrev pub invariant-loop-number : goal.invariant-loop-number
+invariant-loop-number l = record {
+  sum : l.work ≡ released_work (take l.number l.by_deadline) l.from;
+  few : l.work ≤ l.number * MAX_WORK;
+}
