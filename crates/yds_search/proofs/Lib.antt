@@ -1,13 +1,3 @@
-pub mod KeySums
-mod Fills
-mod Closures
-mod Balance
-mod Shares
-mod Splits
+mod KeySums
 mod Deadlines
-mod Ends
 pub mod Numbers
-mod Stacks
-mod Finish
-mod Attempts
-mod Steps

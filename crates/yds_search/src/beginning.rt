@@ -1,3 +1,12 @@
+ghost use Rattle.std.specs.Prelude.{◌≡◌, ◌*◌, ◌<◌, ◌≤◌, ◌++◌, length, IfOk, OnOk};
+ghost use Rattle.std.specs.List.{All};
+ghost use Rattle.yds_model.specs.declared.limits.TheConstants.{MAX_JOBS};
+ghost use Rattle.yds_model.specs.Job.{IsJob};
+ghost use Rattle.yds_model.specs.Event.{stretches};
+ghost use Rattle.yds_events.specs.Window.{AreWindows};
+ghost use Rattle.yds_search.specs.Searching.{IsBegun};
+ghost use Rattle.yds_search.specs.Beginning.{AreFarthest, AreCovered, first_jobs, first_stretches};
+
 use crate::closing::rank;
 use crate::order::deadline_order;
 use crate::own::{OwnJob, OwnStretch};
@@ -7,7 +16,16 @@ use yds_events::{Stretch, Window, windows};
 use yds_model::{JobRow, Memory};
 
 /// For each stretch the greatest end of the windows that begin with it, of jobs with work, or 0.
-fn farthest(alloc: Global, rows: &[JobRow], windows: &[Window], count: usize) -> Result<Vec<u32>, Memory> {
+fn farthest(
+    alloc: Global,
+    rows: &[JobRow],
+    windows: &[Window],
+    count: usize,
+) -> Result<Vec<u32>, Memory>
+    requires windows { AreWindows rows.now windows.now }
+    requires count { count ≡ length (stretches rows.now) }
+    ensures { IfOk result (λ ends. AreFarthest rows.now windows.now (length rows.now) count ends.items) }
+{
     let mut ends = vec![in alloc; 0; count]?;
     for job in 0..rows.len() {
         let row = rows[job];
@@ -21,7 +39,9 @@ fn farthest(alloc: Global, rows: &[JobRow], windows: &[Window], count: usize) ->
 }
 
 /// For each stretch 1 where a job with work may run in it, and 0 elsewhere.
-fn covered(alloc: Global, ends: &[u32]) -> Result<Vec<u32>, Memory> {
+fn covered(alloc: Global, ends: &[u32]) -> Result<Vec<u32>, Memory>
+    ensures { IfOk result (λ marks. AreCovered ends.now (length ends.now) marks.items) }
+{
     let mut marks = Vec::with_capacity(alloc, ends.len())?;
     let mut end = 0;
     for (stretch, next) in ends.iter().enumerate() {
@@ -32,9 +52,21 @@ fn covered(alloc: Global, ends: &[u32]) -> Result<Vec<u32>, Memory> {
 }
 
 /// Adds the jobs with work, in order of deadline and number. Their windows become ranges of the stretches that are counted.
-fn add_jobs(jobs: &mut Vec<OwnJob>, rows: &[JobRow], order: &[u32], windows: &[Window], ranks: &[u32]) -> Result<(), Memory> {
+fn add_jobs(
+    jobs: &mut Vec<OwnJob>,
+    rows: &[JobRow],
+    order: &[u32],
+    windows: &[Window],
+    ranks: &[u32],
+) -> Result<(), Memory>
+    requires known { All (λ j. j < length rows.now) order.now }
+    requires windows { AreWindows rows.now windows.now }
+    requires ranks { length (stretches rows.now) < length ranks.now }
+    ensures { OnOk result (jobs.new.items ≡ jobs.old.items ++ first_jobs rows.now windows.now ranks.now order.now) }
+{
     for job in order {
-        let work = rows[*job as usize].work;
+        let row = &rows[*job as usize];
+        let work = row.work;
         if work > 0 {
             let window = windows[*job as usize];
             jobs.push(OwnJob {
@@ -49,7 +81,15 @@ fn add_jobs(jobs: &mut Vec<OwnJob>, rows: &[JobRow], order: &[u32], windows: &[W
 }
 
 /// Adds the stretches that are marked.
-fn add_stretches(stretches: &mut Vec<OwnStretch>, timeline: &[Stretch], marks: &[u32]) -> Result<(), Memory> {
+fn add_stretches(
+    stretches: &mut Vec<OwnStretch>,
+    timeline: &[Stretch],
+    marks: &[u32],
+) -> Result<(), Memory>
+    requires few { length timeline.now ≤ 2 * MAX_JOBS }
+    requires marks { length marks.now ≡ length timeline.now }
+    ensures { OnOk result (stretches.new.items ≡ stretches.old.items ++ first_stretches timeline.now marks.now) }
+{
     for (stretch, own) in timeline.iter().enumerate() {
         if marks[stretch] > 0 {
             stretches.push(OwnStretch {
@@ -62,7 +102,16 @@ fn add_stretches(stretches: &mut Vec<OwnStretch>, timeline: &[Stretch], marks: &
 }
 
 /// All jobs with work wait in one group, with the stretches in which one of them may run.
-pub(crate) fn first_group(alloc: Global, rows: &[JobRow], timeline: &[Stretch]) -> Result<Stack, Memory> {
+pub(crate) fn first_group(
+    alloc: Global,
+    rows: &[JobRow],
+    timeline: &[Stretch],
+) -> Result<Stack, Memory>
+    requires few { length rows.now ≤ MAX_JOBS }
+    requires jobs { All IsJob rows.now }
+    requires timeline { timeline.now ≡ stretches rows.now }
+    ensures { IfOk result (IsBegun rows.now) }
+{
     let windows = windows(alloc, rows, timeline)?;
     let order = deadline_order(alloc, rows)?;
     let ends = farthest(alloc, rows, &windows, timeline.len())?;

@@ -1,4 +1,4 @@
-ghost use Rattle.std.specs.Prelude.{◌≡◌, ℕ, ◌*◌, ◌≤◌, length, take, slice_index, sum, OnOk};
+ghost use Rattle.std.specs.Prelude.{◌≡◌, ℕ, ◌*◌, ◌^◌, ◌<◌, ◌≤◌, length, replicate, slice_index, OnOk};
 ghost use Rattle.std.specs.List.{All};
 ghost use Rattle.yds_model.specs.declared.limits.TheConstants.{MAX_JOBS};
 ghost use Rattle.yds_search.specs.Views.{shares_view};
@@ -9,6 +9,7 @@ ghost use Rattle.yds_search.specs.Closure.{AreLateReaches, AreShareReaches, AreM
 use crate::filling::Filling;
 use crate::own::OwnJob;
 use crate::share::Share;
+use std::alloc::Global;
 use yds_model::Memory;
 
 /// What the late jobs of a group close upon. Jobs and stretches go by their places in the group.
@@ -28,7 +29,7 @@ pub(crate) struct Closing {
 /// So many times the same number.
 fn set_all(reaches: &mut Vec<u32>, count: usize) -> Result<(), Memory>
     requires { count < 2 ^ 32 }
-    ensures { OnOk result (reaches.new.items ≡ repeat count count) }
+    ensures { OnOk result (reaches.new.items ≡ replicate count count) }
 {
     reaches.clear();
     for _ in 0..count {
@@ -100,6 +101,18 @@ pub(crate) fn rank(marks: &[u32], ranks: &mut Vec<u32>) -> Result<(), Memory>
 }
 
 impl Closing {
+    /// Nothing is closed upon yet, and there is room for so many stretches.
+    pub(crate) fn new(alloc: Global, stretches: usize) -> Result<Closing, Memory>
+        requires { stretches ≤ 2 * MAX_JOBS }
+    {
+        Ok(Closing {
+            late: Vec::with_capacity(alloc, stretches)?,
+            shared: Vec::with_capacity(alloc, stretches)?,
+            marks: Vec::with_capacity(alloc, stretches)?,
+            ranks: Vec::with_capacity(alloc, stretches + 1)?,
+        })
+    }
+
     /// The marks and ranks of the stretches, after a fill of these jobs.
     pub(crate) fn close(&mut self, jobs: &[OwnJob], filling: &Filling) -> Result<(), Memory>
         requires few { length filling.now.rooms.items ≤ 2 * MAX_JOBS }
@@ -108,6 +121,8 @@ impl Closing {
         requires parts { All (IsPart (own_windows jobs.now) (length jobs.now) (length filling.now.rooms.items)) (shares_view filling.now.shares.items) }
         ensures closing { OnOk result (AreClosing (own_windows jobs.now) filling.now.wants.items (shares_view filling.now.shares.items)
             (length filling.now.rooms.items) self.new.marks.items) }
+        ensures marks { OnOk result (All (λ mark. mark ≤ 1) self.new.marks.items) }
+        ensures count { OnOk result (length self.new.marks.items ≡ length filling.now.rooms.items) }
         ensures ranks { OnOk result (AreRanks self.new.marks.items self.new.ranks.items) }
     {
         let count = filling.rooms.len();

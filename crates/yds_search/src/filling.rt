@@ -4,10 +4,11 @@ ghost use Rattle.yds_model.specs.declared.limits.TheConstants.{MAX_JOBS};
 ghost use Rattle.yds_events.specs.Window.{window_at};
 ghost use Rattle.yds_search.specs.Views.{shares_view};
 ghost use Rattle.yds_search.specs.Own.{HaveWindows, own_windows, wants_at, rooms_at};
-ghost use Rattle.yds_search.specs.Fill.{IsAtMost, AreTaken, IsServed, IsFill, IsNext, IsNextFrom, IsNumbers, IsTake};
+ghost use Rattle.yds_search.specs.Fill.{IsNotAfter, AreTaken, IsServed, IsFill, IsNext, IsNextFrom, IsNumbers, IsTake};
 
 use crate::own::{Own, OwnJob};
 use crate::share::Share;
+use std::alloc::Global;
 use yds_model::Memory;
 
 /// The fill of a group: what its jobs want, what room its stretches have, and who takes it. Jobs and stretches go by their
@@ -50,6 +51,19 @@ fn next_place(next: &mut [u32], from: u32) -> u32
 }
 
 impl Filling {
+    /// Nobody is served yet, and there is room for so many jobs and stretches.
+    pub(crate) fn new(alloc: Global, jobs: usize, stretches: usize) -> Result<Filling, Memory>
+        requires few { jobs ≤ MAX_JOBS }
+        requires few_stretches { stretches ≤ 2 * MAX_JOBS }
+    {
+        Ok(Filling {
+            wants: Vec::with_capacity(alloc, jobs)?,
+            rooms: Vec::with_capacity(alloc, stretches)?,
+            next: Vec::with_capacity(alloc, stretches + 1)?,
+            shares: Vec::with_capacity(alloc, jobs + stretches)?,
+        })
+    }
+
     /// Each job wants all its units and each stretch has all its room: nobody took any.
     fn begin(&mut self, own: &Own, speed: Speed) -> Result<(), Memory>
         requires few { length own.now.stretches.now ≤ 2 * MAX_JOBS }
@@ -101,7 +115,7 @@ impl Filling {
         requires known { job < length jobs.now }
         requires windows { HaveWindows (length self.old.rooms.items) jobs.now }
         requires next { IsNext self.old.rooms.items self.old.next.items }
-        requires taken { AreTaken IsAtMost (own_windows jobs.now) (length self.old.rooms.items) (shares_view self.old.shares.items) self.old.rooms.items }
+        requires taken { AreTaken IsNotAfter (own_windows jobs.now) (length self.old.rooms.items) (shares_view self.old.shares.items) self.old.rooms.items }
         requires later { All (λ share. share.job < job) (shares_view self.old.shares.items) }
         ensures served { IfOk result (λ left. IsServed (own_windows jobs.now) job want (shares_view self.old.shares.items) self.old.rooms.items
             (window_at (own_windows jobs.now) job).end left (shares_view self.new.shares.items) self.new.rooms.items) }
@@ -129,7 +143,7 @@ impl Filling {
         requires windows { HaveWindows (length own.now.stretches.now) own.now.jobs.now }
         requires rooms_fit { All (λ one. speed.per_time * one.length < 2 ^ 64) own.now.stretches.now }
         requires wants_fit { All (λ one. speed.per_work * one.work < 2 ^ 64) own.now.jobs.now }
-        ensures { OnOk result (IsFill IsAtMost (own_windows own.now.jobs.now) (wants_at speed.per_work own.now.jobs.now) (rooms_at speed.per_time own.now.stretches.now)
+        ensures { OnOk result (IsFill IsNotAfter (own_windows own.now.jobs.now) (wants_at speed.per_work own.now.jobs.now) (rooms_at speed.per_time own.now.stretches.now)
             (shares_view self.new.shares.items) self.new.wants.items self.new.rooms.items) }
     {
         self.begin(own, speed)?;

@@ -1,9 +1,18 @@
+ghost use Rattle.std.specs.Prelude.{◌≡◌, ◌*◌, ◌<◌, ◌≤◌, ◌++◌, ◌∷◌, [], List, ℕ, length, map, replicate, IfOk, OnOk};
+ghost use Rattle.std.specs.List.{All};
+ghost use Rattle.yds_model.specs.Job.{Job, IsJob};
+ghost use Rattle.yds_model.specs.Event.{stretches};
+ghost use Rattle.yds_model.specs.declared.limits.TheConstants.{MAX_JOBS};
+ghost use Rattle.yds_search.specs.Found.{IsFound, per_time, per_work};
+ghost use Rattle.yds_search.specs.Views.{found_view, group_view, shares_view};
+ghost use Rattle.yds_search.specs.Numbers.{AreWritten};
+ghost use Rattle.yds_search.specs.Own.{job_numbers, stretch_numbers, shares_by_number};
+ghost use Rattle.yds_search.specs.Searching.{IsSearching, IsChosen, IsNearer};
+
 use crate::beginning::first_group;
 use crate::closing::Closing;
 use crate::filling::{Filling, Speed};
-use crate::found::{Found, Group, NO_GROUP};
-use crate::own::Own;
-use crate::share::Share;
+use crate::found::{Found, Group};
 use crate::stack::{Size, Stack};
 use std::alloc::Global;
 use yds_events::Stretch;
@@ -24,7 +33,12 @@ pub(crate) struct Search {
 }
 
 /// The speed of a group.
-fn speed_of(group: &Group) -> Speed {
+fn speed_of(group: &Group) -> Speed
+    requires some_work { 1 ≤ group.now.work }
+    requires some_length { 1 ≤ group.now.length }
+    ensures per_time { result.per_time ≡ per_time (group_view group.now) }
+    ensures per_work { result.per_work ≡ per_work (group_view group.now) }
+{
     let divisor = gcd(group.work, group.length);
     Speed {
         per_time: group.work / divisor,
@@ -32,63 +46,14 @@ fn speed_of(group: &Group) -> Speed {
     }
 }
 
-impl Filling {
-    fn new(alloc: Global, jobs: usize, stretches: usize) -> Result<Filling, Memory> {
-        Ok(Filling {
-            wants: Vec::with_capacity(alloc, jobs)?,
-            rooms: Vec::with_capacity(alloc, stretches)?,
-            next: Vec::with_capacity(alloc, stretches + 1)?,
-            shares: Vec::with_capacity(alloc, jobs + stretches)?,
-        })
-    }
-}
-
-impl Closing {
-    fn new(alloc: Global, stretches: usize) -> Result<Closing, Memory> {
-        Ok(Closing {
-            late: Vec::with_capacity(alloc, stretches)?,
-            shared: Vec::with_capacity(alloc, stretches)?,
-            marks: Vec::with_capacity(alloc, stretches)?,
-            ranks: Vec::with_capacity(alloc, stretches + 1)?,
-        })
-    }
-}
-
-impl Found {
-    /// No groups yet, and room for all.
-    fn new(alloc: Global, jobs: usize, stretches: usize) -> Result<Found, Memory> {
-        Ok(Found {
-            groups: Vec::with_capacity(alloc, stretches)?,
-            group_of_job: vec![in alloc; NO_GROUP; jobs]?,
-            group_of_stretch: vec![in alloc; NO_GROUP; stretches]?,
-            shares: Vec::with_capacity(alloc, jobs + stretches)?,
-        })
-    }
-
-    /// One group more, with its shares.
-    fn add(&mut self, group: Group, own: &Own, shares: &[Share]) -> Result<(), Memory> {
-        let number = self.groups.len() as u32;
-        self.groups.push(group)?;
-        for share in shares {
-            self.shares.push(Share {
-                job: own.jobs[share.job as usize].job,
-                stretch: own.stretches[share.stretch as usize].stretch,
-                units: share.units,
-            })?;
-        }
-        for one in own.jobs {
-            self.group_of_job[one.job as usize] = number;
-        }
-        for one in own.stretches {
-            self.group_of_stretch[one.stretch as usize] = number;
-        }
-        Ok(())
-    }
-}
-
 impl Search {
     /// All jobs with work wait in one group.
-    fn new(alloc: Global, rows: &[JobRow], timeline: &[Stretch]) -> Result<Search, Memory> {
+    fn new(alloc: Global, rows: &[JobRow], timeline: &[Stretch]) -> Result<Search, Memory>
+        requires few { length rows.now ≤ MAX_JOBS }
+        requires jobs { All IsJob rows.now }
+        requires timeline { timeline.now ≡ stretches rows.now }
+        ensures { IfOk result (IsSearching rows.now) }
+    {
         let jobs = rows.len();
         let stretches = timeline.len();
         Ok(Search {
@@ -100,7 +65,11 @@ impl Search {
     }
 
     /// The fastest group, whose size is taken off, is filled at its average speed, and finished, or split where jobs are late.
-    fn advance(&mut self, size: Size) -> Result<(), Memory> {
+    fn advance(&mut self, size: Size) -> Result<(), Memory>
+        requires chosen { (jobs : List Job) × IsChosen jobs size self.old }
+        ensures search { OnOk result ((jobs : List Job) → IsChosen jobs size self.old → IsSearching jobs self.new) }
+        ensures nearer { OnOk result (IsNearer self.old self.new) }
+    {
         let own = self.stack.last(size);
         let group = own.total();
         self.filling.fill(&own, speed_of(&group))?;
@@ -116,7 +85,12 @@ impl Search {
 }
 
 /// Groups of jobs and stretches, the fastest first, with the shares of jobs in stretches.
-pub fn find(alloc: Global, rows: &[JobRow], timeline: &[Stretch]) -> Result<Found, Memory> {
+pub fn find(alloc: Global, rows: &[JobRow], timeline: &[Stretch]) -> Result<Found, Memory>
+    requires few { length rows.now ≤ MAX_JOBS }
+    requires jobs { All IsJob rows.now }
+    requires timeline { timeline.now ≡ stretches rows.now }
+    ensures { IfOk result (λ found. IsFound rows.now (found_view found)) }
+{
     let mut search = Search::new(alloc, rows, timeline)?;
     while let Some(size) = search.stack.sizes.pop() {
         search.advance(size)?;

@@ -1,7 +1,8 @@
-ghost use Rattle.std.specs.Prelude.{◌≡◌, ◌≤◌, ◌<◌, ◌++◌, ◌∷◌, [], List, length, IfOk, OnOk};
-ghost use Rattle.yds_search.specs.Own.{HaveWindows};
+ghost use Rattle.std.specs.Prelude.{◌≡◌, ◌+◌, ◌-◌, ◌≤◌, ◌++◌, ◌∷◌, [], ℕ, List, length, IfOk, OnOk};
+ghost use Rattle.std.specs.List.{All};
+ghost use Rattle.yds_search.specs.Own.{Part, HaveWindows};
 ghost use Rattle.yds_search.specs.Closure.{AreRanks};
-ghost use Rattle.yds_search.specs.Stack.{Part, AreLaid, AreLast, staying_jobs, moving_jobs, staying_stretches, moving_stretches};
+ghost use Rattle.yds_search.specs.Stack.{AreLaid, AreLast, staying_jobs, moving_jobs, marked_with, staying_part, moving_part};
 
 use crate::closing::Closing;
 use crate::own::{Own, OwnJob, OwnStretch};
@@ -39,7 +40,13 @@ fn part_jobs(
     start: usize,
     ranks: &[u32],
     moving: &mut Vec<OwnJob>,
-) -> Result<usize, Memory> {
+) -> Result<usize, Memory>
+    requires own { (marks : List ℕ) × (front : List OwnJob) × (own : List OwnJob) × (jobs.old.items ≡ front ++ own) × (start ≡ length front) × AreRanks marks ranks.now × HaveWindows (length marks) own }
+    ensures parted { OnOk result ((front own : List OwnJob) → jobs.old.items ≡ front ++ own → start ≡ length front →
+        jobs.new.items ≡ (front ++ staying_jobs ranks.now own) ++ moving_jobs ranks.now own) }
+    ensures staying { IfOk result (λ count. (front own : List OwnJob) → jobs.old.items ≡ front ++ own → start ≡ length front →
+        count ≡ length (staying_jobs ranks.now own)) }
+{
     moving.clear();
     let mut staying = start;
     for at in start..jobs.len() {
@@ -69,7 +76,14 @@ fn part_stretches(
     start: usize,
     marks: &[u32],
     moving: &mut Vec<OwnStretch>,
-) -> Result<usize, Memory> {
+) -> Result<usize, Memory>
+    requires marks { All (λ mark. mark ≤ 1) marks.now }
+    requires own { (front : List OwnStretch) × (own : List OwnStretch) × (stretches.old.items ≡ front ++ own) × (start ≡ length front) × (length marks.now ≡ length own) }
+    ensures parted { OnOk result ((front own : List OwnStretch) → stretches.old.items ≡ front ++ own → start ≡ length front → length marks.now ≡ length own →
+        stretches.new.items ≡ (front ++ marked_with 0 marks.now own) ++ marked_with 1 marks.now own) }
+    ensures staying { IfOk result (λ count. (front own : List OwnStretch) → stretches.old.items ≡ front ++ own → start ≡ length front → length marks.now ≡ length own →
+        count ≡ length (marked_with 0 marks.now own)) }
+{
     moving.clear();
     let mut staying = start;
     for at in start..stretches.len() {
@@ -100,8 +114,12 @@ impl Stack {
         })
     }
 
-    /// The last group, which has this size.
-    pub(crate) fn last(&self, size: Size) -> Own<'_> {
+    /// The group whose size was taken off.
+    pub(crate) fn last(&self, size: Size) -> Own<'_>
+        requires { (parts : List Part) × (part : Part) × AreLast parts part size self.now }
+        ensures jobs { (parts : List Part) (part : Part) → AreLast parts part size self.now → result.jobs.now ≡ part.jobs }
+        ensures stretches { (parts : List Part) (part : Part) → AreLast parts part size self.now → result.stretches.now ≡ part.stretches }
+    {
         Own {
             jobs: &self.jobs[self.jobs.len() - size.jobs..],
             stretches: &self.stretches[self.stretches.len() - size.stretches..],
@@ -109,14 +127,23 @@ impl Stack {
     }
 
     /// The group whose size was taken off goes.
-    pub(crate) fn drop_last(&mut self, size: Size) {
+    pub(crate) fn drop_last(&mut self, size: Size)
+        requires { (parts : List Part) × (part : Part) × AreLast parts part size self.old }
+        ensures { (parts : List Part) (part : Part) → AreLast parts part size self.old → AreLaid parts self.new }
+    {
         self.jobs.truncate(self.jobs.len() - size.jobs);
         self.stretches
             .truncate(self.stretches.len() - size.stretches);
     }
 
     /// The group whose size was taken off is split: what is closed upon becomes a group of its own, behind the rest.
-    pub(crate) fn split_last(&mut self, size: Size, closing: &Closing) -> Result<(), Memory> {
+    pub(crate) fn split_last(&mut self, size: Size, closing: &Closing) -> Result<(), Memory>
+        requires marks { All (λ mark. mark ≤ 1) closing.now.marks.items }
+        requires ranks { AreRanks closing.now.marks.items closing.now.ranks.items }
+        requires last { (parts : List Part) × (part : Part) × AreLast parts part size self.old × (length closing.now.marks.items ≡ length part.stretches) × HaveWindows (length part.stretches) part.jobs }
+        ensures { OnOk result ((parts : List Part) (part : Part) → AreLast parts part size self.old → length closing.now.marks.items ≡ length part.stretches →
+            AreLaid ((parts ++ staying_part closing.now.marks.items closing.now.ranks.items part ∷ []) ++ moving_part closing.now.marks.items closing.now.ranks.items part ∷ []) self.new) }
+    {
         let jobs = self.jobs.len() - size.jobs;
         let jobs = part_jobs(&mut self.jobs, jobs, &closing.ranks, &mut self.moving_jobs)?;
         let stretches = self.stretches.len() - size.stretches;

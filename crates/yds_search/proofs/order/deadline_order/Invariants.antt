@@ -1,7 +1,7 @@
 use Rattle.std.proofs.Common.{◌≡◌, map, take}
 use Rattle.std.specs.List.{range_with_len}
 use Rattle.yds_search.proofs.Deadlines.{key_of, number_of}
-use Rattle.yds_search.proofs.instance.deadline_order.Given as goal
+use Rattle.yds_search.proofs.order.deadline_order.Given as goal
 
 abbrev pub invariant-loop-number : goal.invariant-loop-number
 invariant-loop-number l = l.keys.items ≡ map (key_of l.rows) (range_with_len 0 l.number)

@@ -1,6 +1,6 @@
 use Rattle.std.proofs.Common.{◌-◌, ◌<◌, ◌≤◌, List, ℕ, length}
 use Rattle.yds_search.specs.Fill.{IsNext, IsNextFrom}
-use Rattle.yds_search.proofs.fill.next_place.Given as goal
+use Rattle.yds_search.proofs.filling.next_place.Given as goal
 
 abbrev pub invariant-loop-place : goal.invariant-loop-place
 invariant-loop-place l = record {

@@ -6,7 +6,7 @@ use Rattle.std.proofs.lemmas.List.FromFn.{map-range_with_len_more}
 use Rattle.std.proofs.lemmas.List.Sorted.{IsNonDecreasingBy-from_sort}
 use Rattle.yds_model.specs.Job.{Job, job_at, no_job}
 use Rattle.yds_search.proofs.Deadlines.{key_of, number_of, keys_order}
-use Rattle.yds_search.proofs.instance.deadline_order.Goals as goal
+use Rattle.yds_search.proofs.order.deadline_order.Goals as goal
 
 pub loop-number-preserved : goal.loop-number-preserved
 loop-number-preserved c =
