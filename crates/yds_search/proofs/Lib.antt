@@ -1,3 +1,8 @@
-mod KeySums
+pub mod KeySums
+mod Shares
+mod Balance
 mod Deadlines
 pub mod Numbers
+mod Ends
+mod Finish
+mod Splits
