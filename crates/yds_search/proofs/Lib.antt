@@ -1,5 +1,6 @@
 pub mod KeySums
 mod Shares
+mod Spread
 mod Balance
 mod Deadlines
 pub mod Numbers
