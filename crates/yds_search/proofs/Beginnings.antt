@@ -1,5 +1,5 @@
 -- How the search begins.
-use Rattle.std.proofs.Common.{◌≡◌, ℕ, ◌<◌, ◌≤◌, ◌⊎◌, ◌==◌, List, [], ◌∷◌, ◌++◌, ◌∙◌, ◌+◌, max, map, length, get_or, sym, ap, subst, inl, inr, refl, arith}
+use Rattle.std.proofs.Common.{◌≡◌, ℕ, ◌<◌, ◌≤◌, ◌⊎◌, ◌==◌, List, [], ◌∷◌, ◌++◌, ◌∙◌, ◌+◌, ◌-◌, max, map, length, get_or, sym, ap, subst, inl, inr, refl, arith}
 use Rattle.std.specs.Prelude.{Bool, cond, nat_lt}
 use Rattle.std.specs.List.{All, filter, range_with_len}
 use Rattle.std.proofs.lemmas.List.{get_or_append_left, get_or_push, length_push, map-id, get_or-map, get_or_past, get_or_default, length-map}
@@ -8,7 +8,7 @@ use Rattle.std.proofs.lemmas.List.FromFn.{filter_of_map_range_with_len_more, len
 use Rattle.std.proofs.lemmas.Simd.{map-map}
 use Rattle.std.proofs.lemmas.Bool.{cases_lt}
 use Rattle.std.proofs.lemmas.Bool.Decides.{nat_tests}
-use Rattle.yds_model.specs.Job.{Job, job_at, no_job}
+use Rattle.yds_model.specs.Job.{Job, IsJob, job_at, no_job}
 use Rattle.yds_model.specs.Event.{stretches}
 use Rattle.yds_model.specs.Piece.{Piece}
 use Rattle.yds_events.specs.declared.window.Window.{Window}
@@ -19,7 +19,12 @@ use Rattle.yds_search.specs.Found.{Found, group_of}
 use Rattle.yds_search.specs.Numbers.{IsOneOf, numbers_in}
 use Rattle.yds_search.specs.Order.{IsOrder}
 use Rattle.yds_search.specs.Own.{Part, job_numbers, stretch_numbers}
-use Rattle.yds_search.specs.Waiting.{IsWaiting}
+use Rattle.yds_search.specs.Instance.{IsInstance}
+use Rattle.yds_search.specs.Stack.{AreLaid, size_of}
+use Rattle.yds_search.specs.declared.stack.Size.{Size}
+use Rattle.yds_search.specs.declared.stack.Stack.{Stack}
+use Rattle.yds_search.specs.Waiting.{IsWaiting, IsStack, part_at}
+use Rattle.yds_events.proofs.Neighbours.{few_stretches, stretch_long, stretch_in_range}
 use Rattle.yds_search.specs.Closure.{AreRanks}
 use Rattle.yds_search.specs.Search.{IsBeginning}
 use Rattle.yds_search.specs.Beginning.{IsReached, AreCovered, AreFarthest, first_job, first_jobs, first_stretch, first_stretches}
@@ -154,6 +159,12 @@ marks_are ends marks k covered within = elim (covered.each k within) [
   | inr free ↦ free.1 ∙ ap (λ n. cond (nat_lt 0 n) 1 0) (sym free.1)
 ]
 
+pub marks_small : (ends marks : List ℕ) → AreCovered ends (length ends) marks → All (λ mark. mark ≤ 1) marks
+marks_small ends marks covered i d within = elim (covered.each i (omega (arith, within, covered.count))) [
+  | inl reached ↦ omega (arith, get_or_default marks i 0 d within, reached.1)
+  | inr free ↦ omega (arith, get_or_default marks i 0 d within, free.1)
+]
+
 -- the rank is the place among the marked stretches
 begun_place : (timeline : List Piece) (ends marks ranks : List ℕ) (k : ℕ) → AreCovered ends (length marks) marks → length marks ≡ length timeline → AreRanks marks ranks → k ≤ length timeline →
     IsPlace (stretch_numbers (first_stretches timeline marks)) k (get_or ranks k 0)
@@ -166,13 +177,16 @@ begun_place timeline ends marks ranks k covered all ranked within =
         marks_are ends marks i covered known ∙ ap (λ (n : ℕ). cond {A = ℕ} (nat_lt 0 (get_or marks n 0)) 1 0) here)
     (range_place (length timeline) k within))
 
+pub known_all : (jobs : List Job) (order : List ℕ) → IsOrder jobs order → All (λ j. j < length jobs) order
+known_all jobs order ordered i d within = subst (λ (j : ℕ). j < length jobs) (get_or_default order i 0 d within) (ordered.known i within)
+
 -- the first group waits
 pub begun_waits : (jobs : List Job) (windows : List Window) (order ends marks ranks : List ℕ) (last : ℕ) → 1 ≤ last → AreWindows jobs windows → IsOrder jobs order →
     AreCovered ends (length marks) marks → length marks ≡ length (stretches jobs) → AreRanks marks ranks →
     IsWaiting jobs windows order (begun last jobs marks) last (begun_part jobs windows order marks ranks)
 begun_waits jobs windows order ends marks ranks last some are ordered covered all ranked =
     let known : All (λ j. j < length jobs) (filter (λ j. nat_lt 0 (job_at jobs j).work) order) =
-    All-filter (λ j. nat_lt 0 (job_at jobs j).work) (λ j. j < length jobs) order (λ i d within. subst (λ (j : ℕ). j < length jobs) (get_or_default order i 0 d within) (ordered.known i within)) in
+    All-filter (λ j. nat_lt 0 (job_at jobs j).work) (λ j. j < length jobs) order (known_all jobs order ordered) in
     let place = λ (k : ℕ) (within : k ≤ length (stretches jobs)). begun_place (stretches jobs) ends marks ranks k covered all ranked within in
     record {
       jobs_are = begun_jobs jobs windows order marks ranks last some;
@@ -250,4 +264,82 @@ begun_start jobs windows order marks last top part ordered beginning waiting is 
           | inl idle ↦ idle.0
           | inr working ↦ let one = in_has places last order j (ordered.each j known) working.1 in absurd (omega (arith, one.1, none.0, count))
         ]), none.1)
+    ]
+
+-- what stays the same is known from the beginning
+pub instance_is : (jobs : List Job) (windows : List Window) (order : List ℕ) → length jobs ≤ 4000 → All IsJob jobs → AreWindows jobs windows → IsOrder jobs order →
+    IsInstance jobs windows order
+instance_is jobs windows order few are windows_are ordered = record {
+  few = few;
+  few_stretches = omega (arith, few_stretches jobs, few);
+  windows_are = windows_are;
+  order_is = ordered;
+  work_small = λ j known. (are j no_job known).work_in_range;
+  length_some = stretch_long jobs;
+  length_small = λ k within. omega (arith, stretch_in_range jobs k are within);
+}
+
+-- the groups that wait at the beginning, and how they are laid
+pub record AreBegun (jobs : List Job) (windows : List Window) (order : List ℕ) (found : Found) (last top : ℕ) (stack : Stack) : Type 0 where
+  pub parts : List Part
+  pub waits : IsStack jobs windows order found top last parts
+  pub laid : AreLaid parts stack
+
+pub size_is : (jobs stretches : ℕ) (part : Part) → jobs ≡ length part.jobs → stretches ≡ length part.stretches →
+    (let one : Size = record { jobs = jobs; stretches = stretches } in one) ≡ size_of part
+size_is jobs stretches part same same' = cc
+
+alone : {X : Type 0} (xs : List X) → xs ≡ xs ++ []
+alone [] = refl
+alone (x ∷ xs) = ap (λ ys. x ∷ ys) (alone xs)
+
+pub one_begun : (jobs : List Job) (windows : List Window) (order : List ℕ) (found : Found) (last top : ℕ) (stack : Stack) (part : Part) →
+    top ≡ begun_number last (length part.jobs) → 1 ≤ length part.jobs → IsWaiting jobs windows order found last part → stack.jobs.items ≡ part.jobs → stack.stretches.items ≡ part.stretches → stack.sizes.items ≡ size_of part ∷ [] →
+    AreBegun jobs windows order found last top stack
+one_begun jobs windows order found last top stack part is some waiting own own' sizes = record {
+  parts = part ∷ [];
+  waits = record {
+    count = elim (begun_cases last (length part.jobs) top is) [ inl one ↦ omega (arith, one.1) | inr none ↦ absurd (omega (arith, some, none.0)) ];
+    each = λ i within.
+        let here : 0 ≡ i = omega (arith, within) in
+        let group : last ≡ last - i = omega (arith, within) in
+        subst (λ (n : ℕ). IsWaiting jobs windows order found (last - i) (part_at (part ∷ []) n)) here (subst (λ (n : ℕ). IsWaiting jobs windows order found n part) group waiting);
+  };
+  laid = record { sizes = sizes; jobs = own ∙ alone part.jobs; stretches = own' ∙ alone part.stretches };
+}
+
+none_there : {X : Type 0} (xs : List X) → length xs ≡ 0 → xs ≡ []
+none_there [] none = refl
+none_there (x ∷ xs) none = absurd (omega (arith, none))
+
+-- where no job waits there is no stretch in which one may run
+pub none_begun : (jobs : List Job) (windows : List Window) (order marks : List ℕ) (last top : ℕ) (stack : Stack) (part : Part) → IsOrder jobs order →
+    IsBeginning jobs windows (begun last jobs marks) last → IsWaiting jobs windows order (begun last jobs marks) last part → top ≡ begun_number last (length part.jobs) → length part.jobs ≡ 0 →
+    stack.jobs.items ≡ part.jobs → stack.stretches.items ≡ part.stretches → stack.sizes.items ≡ [] → AreBegun jobs windows order (begun last jobs marks) last top stack
+none_begun jobs windows order marks last top stack part ordered beginning waiting is none own own' sizes =
+    let places = (begun last jobs marks).group_of_stretch in
+    let whole = range_with_len 0 (length places) in
+    elim (begun_start jobs windows order marks last top part ordered beginning waiting is) [
+      | inl some ↦
+          let other : top ≡ last + 1 = elim (begun_cases last (length part.jobs) top is) [ inl one ↦ absurd (omega (arith, one.0, none)) | inr all ↦ all.1 ] in
+          absurd (omega (arith, some.1, other))
+      | inr idle ↦
+          let free : length part.stretches ≡ 0 = elim (cases_lt 0 (length part.stretches)) [
+            | inr less ↦ omega (arith, less)
+            | inl some ↦
+                let one : IsOneOf (numbers_in places last whole) (get_or (numbers_in places last whole) 0 0) =
+                (0, omega (arith, some, length-map part.stretches (λ (own : OwnStretch). own.stretch), ap (λ (xs : List ℕ). length xs) waiting.stretches_are), refl) in
+                let here = in_whole places last whole (get_or (numbers_in places last whole) 0 0) one in
+                let known : get_or (numbers_in places last whole) 0 0 < length (stretches jobs) =
+                omega (arith, here.1, here.2, get_or-range_with_len 0 (length places) here.0 0 (omega (arith, here.1, length-range_with_len 0 (length places))), length-range_with_len 0 (length places), beginning.all_stretches) in
+                elim (beginning.stretch (get_or (numbers_in places last whole) 0 0) known) [
+                  | inl covered ↦ absurd (omega (arith, covered.0.1.some, idle.0 covered.0.0 covered.0.1.known))
+                  | inr off ↦ absurd (omega (arith, off.1, in_group places last whole (get_or (numbers_in places last whole) 0 0) one))
+                ]
+          ] in
+          record {
+            parts = [];
+            waits = record { count = omega (arith, idle.1); each = λ i within. absurd (omega (arith, within)) };
+            laid = record { sizes = sizes; jobs = own ∙ none_there part.jobs none; stretches = own' ∙ none_there part.stretches free };
+          }
     ]
