@@ -1,7 +1,7 @@
 -- A group by place and by number: its jobs and stretches, its windows, its work and length, and how it is filled.
 use Rattle.std.proofs.Common.{◌≡◌, ℕ, ◌+◌, ◌*◌, ◌/◌, ◌<◌, ◌≤◌, ◌==◌, List, ◌∙◌, length, get_or, map, refl, sym, ap, subst, inl, inr, arith}
 use Rattle.std.specs.Prelude.{if◌then◌else◌, nat_lt, not}
-use Rattle.std.specs.List.{All, sum_by, range_with_len}
+use Rattle.std.specs.List.{All, AllPairs, sum_by, range_with_len}
 use Rattle.std.proofs.Math.Nat.{div-le_self}
 use Rattle.std.proofs.lemmas.Bool.{cases_lt}
 use Rattle.std.proofs.lemmas.List.{get_or-map, length-map}
@@ -24,14 +24,14 @@ use Rattle.yds_search.specs.Found.{Found, Group, Share, share_at, no_share, grou
 use Rattle.yds_search.specs.Numbers.{IsOneOf, numbers_in}
 use Rattle.yds_search.specs.Order.{Precedes}
 use Rattle.yds_search.specs.Own.{Part, job_numbers, stretch_numbers, window_of, own_windows, HaveWindows, wants_at, rooms_at, spread, share_by_number, shares_by_number}
-use Rattle.yds_search.specs.Fill.{IsNotAfter, IsFullBefore, IsFill}
+use Rattle.yds_search.specs.Fill.{IsNotAfter, IsFullBefore, IsPart, FoundFull, StandInOrder, IsFill}
 use Rattle.yds_search.specs.Closure.{IsMarked, AreClosed}
 use Rattle.yds_search.specs.Instance.{IsInstance}
 use Rattle.yds_search.specs.Search.{IsSearch, IsAttempt}
 use Rattle.yds_search.specs.Waiting.{IsWaiting}
 use Rattle.yds_search.proofs.KeySums.{in_range, sum_by-filter, sum_by-map}
 use Rattle.yds_search.proofs.Lowest.{lowest}
-use Rattle.yds_search.proofs.Numbers.{one_or_none, in_group, in_known, in_has, in_order}
+use Rattle.yds_search.proofs.Numbers.{one_or_none, in_group, in_known, in_has, in_order, rising_back}
 use Rattle.yds_search.proofs.Spread.{AreApart, same_place, spread_length, spread_off, spread_some, spread_at, spread_sum, spread_chosen, units_by_number}
 
 abbrev no_own : OwnJob
@@ -278,3 +278,74 @@ module _ (jobs : List Job) (windows : List Window) (order : List ℕ) (found : F
             (λ x d below same. absurd (none ((get_or shares x d).stretch, omega (arith, stretch_place x d below, stretch_count), same)));
       }
     ]
+
+    ordered_by_number : AllPairs (StandInOrder (ComesFirst jobs)) (shares_by_number part.jobs part.stretches shares)
+    ordered_by_number x y d before upto =
+        let below : y < length shares = omega (arith, upto, length-map shares (share_by_number part.jobs part.stretches)) in
+        let below' : x < length shares = omega (arith, before, below) in
+        rw (get_or-map (share_by_number part.jobs part.stretches) shares x no_share d below', get_or-map (share_by_number part.jobs part.stretches) shares y no_share d below)
+        (λ same.
+        let order = fill.taken.ordered x y no_share before below (same_place (stretch_numbers part.stretches) (length (stretches jobs)) (share_at shares x).stretch
+        (share_at shares y).stretch stretches_apart (omega (arith, stretch_place x no_share below', stretch_count)) (omega (arith, stretch_place y no_share below, stretch_count)) same) in (
+          λ is. order.0 (same_place (job_numbers part.jobs) (length jobs) (share_at shares x).job (share_at shares y).job jobs_apart
+              (omega (arith, job_place x no_share below', job_count)) (omega (arith, job_place y no_share below, job_count)) is),
+          comes_first (share_at shares x).job (share_at shares y).job order.1 (job_place y no_share below),
+        ))
+
+    fill_by_number : IsFill (ComesFirst jobs) windows (spread (job_numbers part.jobs) wants (length jobs)) (spread (stretch_numbers part.stretches) rooms (length (stretches jobs)))
+        (shares_by_number part.jobs part.stretches shares) (spread (job_numbers part.jobs) wants' (length jobs)) (spread (stretch_numbers part.stretches) rooms' (length (stretches jobs)))
+    fill_by_number = record {
+      taken = record {
+        parts = All-map (IsPart windows (length windows) (length (spread (stretch_numbers part.stretches) rooms (length (stretches jobs))))) (share_by_number part.jobs part.stretches) shares
+            (λ x d below.
+            let share = fill.taken.parts x d below in
+            record {
+              known = omega (arith, jobs_apart.below (get_or shares x d).job (omega (arith, job_place x d below, job_count)), are.windows_are.all);
+              known_stretch = omega (
+                arith,
+                stretches_apart.below (get_or shares x d).stretch (omega (arith, stretch_place x d below, stretch_count)),
+                spread_length (stretch_numbers part.stretches) rooms (length (stretches jobs)),
+              );
+              inside = in_number (get_or shares x d).job (get_or shares x d).stretch (job_place x d below) (stretch_place x d below) share.inside;
+              some = share.some;
+            });
+        early = All-map (FoundFull (ComesFirst jobs) windows (shares_by_number part.jobs part.stretches shares) (spread (stretch_numbers part.stretches) rooms' (length (stretches jobs))))
+            (share_by_number part.jobs part.stretches) shares (λ x d below k from before. full_by_number (get_or shares x d).job k (job_place x d below) (λ p upto is.
+            fill.taken.early x d below p (from_place (get_or shares x d).job p (job_place x d below) (omega (arith, from, is)))
+            (rising_back (stretch_numbers part.stretches) stretches_rise p (get_or shares x d).stretch (omega (arith, upto, stretch_count)) (omega (arith, before, is)))));
+        ordered = ordered_by_number;
+      };
+      same_wants = spread_length (job_numbers part.jobs) wants' (length jobs) ∙ sym (spread_length (job_numbers part.jobs) wants (length jobs));
+      same_rooms = spread_length (stretch_numbers part.stretches) rooms' (length (stretches jobs)) ∙ sym (spread_length (stretch_numbers part.stretches) rooms (length (stretches jobs)));
+      want = λ j. omega (
+        arith,
+        sum_by-map (share_by_number part.jobs part.stretches) (λ share. if share.job == j then share.units else 0) shares,
+        units_by_number (λ share. share.job) (job_numbers part.jobs) (length jobs) shares wants wants' jobs_apart
+            (λ x d below. omega (arith, job_place x d below, job_count)) fill.want j,
+      );
+      room = λ k. omega (
+        arith,
+        sum_by-map (share_by_number part.jobs part.stretches) (λ share. if share.stretch == k then share.units else 0) shares,
+        units_by_number (λ share. share.stretch) (stretch_numbers part.stretches) (length (stretches jobs)) shares rooms rooms' stretches_apart
+            (λ x d below. omega (arith, stretch_place x d below, stretch_count)) fill.room k,
+      );
+      late = λ j below some k inside.
+          let one = spread_some (job_numbers part.jobs) wants' (length jobs) j some in
+          let place : one.0 < length part.jobs = omega (arith, one.1, job_count) in
+          subst (λ (n : ℕ). IsFullBefore (ComesFirst jobs) (shares_by_number part.jobs part.stretches shares) (spread (stretch_numbers part.stretches) rooms' (length (stretches jobs))) k n) one.2
+          (full_by_number one.0 k place (λ p upto is. fill.late one.0 (omega (arith, place, length-map part.jobs window_of)) (omega (
+            arith,
+            some,
+            ap (λ n. get_or (spread (job_numbers part.jobs) wants' (length jobs)) n 0) one.2,
+            spread_at (job_numbers part.jobs) wants' (length jobs) one.0 jobs_apart one.1,
+          )) p (in_place one.0 p place upto (subst (λ (n : ℕ). IsIn windows n (get_or (stretch_numbers part.stretches) p 0)) (sym one.2)
+          (subst (λ (n : ℕ). IsIn windows j n) (sym is) inside)))));
+      few = omega (
+        arith,
+        fill.few,
+        length-map shares (share_by_number part.jobs part.stretches),
+        spread_sum (λ room. if room == 0 then 1 else 0) (stretch_numbers part.stretches) rooms (length (stretches jobs)) stretches_apart (omega (arith, all_rooms, stretch_count)),
+        spread_sum (λ room. if room == 0 then 1 else 0) (stretch_numbers part.stretches) rooms' (length (stretches jobs)) stretches_apart (omega (arith, fill.same_rooms, all_rooms, stretch_count)),
+        spread_sum (λ want. if nat_lt 0 want then 1 else 0) (job_numbers part.jobs) wants (length jobs) jobs_apart (omega (arith, all_wants, job_count)),
+      );
+    }
