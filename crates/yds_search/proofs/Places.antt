@@ -1,5 +1,5 @@
 -- A group by place and by number: its jobs and stretches, its windows, its work and length, and how it is filled.
-use Rattle.std.proofs.Common.{◌≡◌, ℕ, ◌+◌, ◌*◌, ◌/◌, ◌<◌, ◌≤◌, ◌==◌, List, ◌∙◌, length, get_or, map, refl, sym, ap, subst, inl, inr, arith}
+use Rattle.std.proofs.Common.{◌≡◌, ℕ, ◌+◌, ◌*◌, ◌/◌, ◌^◌, ◌<◌, ◌≤◌, ◌==◌, List, ◌∙◌, length, get_or, map, refl, sym, ap, subst, inl, inr, arith}
 use Rattle.std.specs.Prelude.{if◌then◌else◌, nat_lt, not}
 use Rattle.std.specs.List.{All, AllPairs, sum_by, range_with_len}
 use Rattle.std.proofs.Math.Nat.{div-le_self}
@@ -349,3 +349,141 @@ module _ (jobs : List Job) (windows : List Window) (order : List ℕ) (found : F
         spread_sum (λ want. if nat_lt 0 want then 1 else 0) (job_numbers part.jobs) wants (length jobs) jobs_apart (omega (arith, all_wants, job_count)),
       );
     }
+
+    -- and so is what late jobs close upon
+    module _ (marks : List ℕ) (all_marks : length marks ≡ length part.stretches) (closed : AreClosed (λ p. p < length part.stretches) (own_windows part.jobs) shares wants' rooms' marks) where
+      marked_place : (p : ℕ) → p < length part.stretches → IsMarked (spread (stretch_numbers part.stretches) marks (length (stretches jobs))) (get_or (stretch_numbers part.stretches) p 0) →
+          IsMarked marks p
+      marked_place p upto marked =
+          omega (arith, marked, spread_at (stretch_numbers part.stretches) marks (length (stretches jobs)) p stretches_apart (omega (arith, upto, stretch_count)))
+
+      -- a stretch of a job's window is marked where its place is
+      marked_number : (i k : ℕ) → i < length part.jobs → IsIn windows (get_or (job_numbers part.jobs) i 0) k → group_of found.group_of_stretch k ≡ top →
+          ((p : ℕ) → p < length part.stretches → IsIn (own_windows part.jobs) i p → IsMarked marks p) →
+          IsMarked (spread (stretch_numbers part.stretches) marks (length (stretches jobs))) k
+      marked_number i k inside is_in mine each =
+          let known = are.windows_are.inside (get_or (job_numbers part.jobs) i 0) (jobs_apart.below i (omega (arith, inside, job_count))) in
+          let one = stretch_here k (omega (arith, is_in.upto, known)) mine in
+          let place : one.0 < length part.stretches = omega (arith, one.1, stretch_count) in
+          let marked = each one.0 place (in_place i one.0 inside place (subst (λ (n : ℕ). IsIn windows (get_or (job_numbers part.jobs) i 0) n) (sym one.2) is_in)) in
+          subst (IsMarked (spread (stretch_numbers part.stretches) marks (length (stretches jobs)))) one.2
+          (omega (arith, marked, spread_at (stretch_numbers part.stretches) marks (length (stretches jobs)) one.0 stretches_apart one.1))
+
+      closed_here : AreClosed (λ k. group_of found.group_of_stretch k ≡ top) windows (shares_by_number part.jobs part.stretches shares)
+          (spread (job_numbers part.jobs) wants' (length jobs)) (spread (stretch_numbers part.stretches) rooms' (length (stretches jobs)))
+          (spread (stretch_numbers part.stretches) marks (length (stretches jobs)))
+      closed_here = record {
+        full = λ k mine marked.
+            let one = spread_some (stretch_numbers part.stretches) marks (length (stretches jobs)) k marked in
+            let place : one.0 < length part.stretches = omega (arith, one.1, stretch_count) in
+            let own = marked_place one.0 place (subst (IsMarked (spread (stretch_numbers part.stretches) marks (length (stretches jobs)))) (sym one.2) marked) in
+            ap (λ n. get_or (spread (stretch_numbers part.stretches) rooms' (length (stretches jobs))) n 0) (sym one.2)
+            ∙ spread_at (stretch_numbers part.stretches) rooms' (length (stretches jobs)) one.0 stretches_apart one.1 ∙ closed.full one.0 place own;
+        shared = λ x k below marked is_in mine.
+            let inside : x < length shares = omega (arith, below, length-map shares (share_by_number part.jobs part.stretches)) in
+            let is = get_or-map (share_by_number part.jobs part.stretches) shares x no_share no_share inside in
+            let own = marked_place (share_at shares x).stretch (stretch_place x no_share inside)
+            (subst (λ (share : Share). IsMarked (spread (stretch_numbers part.stretches) marks (length (stretches jobs))) share.stretch) is marked) in
+            marked_number (share_at shares x).job k (job_place x no_share inside) (subst (λ (share : Share). IsIn windows share.job k) is is_in) mine
+            (λ p upto is_in_own. closed.shared x p inside own is_in_own upto);
+        late = λ j k below some is_in mine.
+            let one = spread_some (job_numbers part.jobs) wants' (length jobs) j some in
+            let place : one.0 < length part.jobs = omega (arith, one.1, job_count) in
+            marked_number one.0 k place (subst (λ (n : ℕ). IsIn windows n k) (sym one.2) is_in) mine
+            (λ p upto is_in_own. closed.late one.0 p (omega (arith, place, length-map part.jobs window_of)) (omega (
+              arith,
+              some,
+              ap (λ n. get_or (spread (job_numbers part.jobs) wants' (length jobs)) n 0) one.2,
+              spread_at (job_numbers part.jobs) wants' (length jobs) one.0 jobs_apart one.1,
+            )) is_in_own upto);
+      }
+
+  pub closed_by_number : (shares : List Share) (wants rooms wants' rooms' marks : List ℕ) → IsFill IsNotAfter (own_windows part.jobs) wants rooms shares wants' rooms' →
+      length wants ≡ length part.jobs → length rooms ≡ length part.stretches → length marks ≡ length part.stretches →
+      AreClosed (λ p. p < length part.stretches) (own_windows part.jobs) shares wants' rooms' marks →
+      AreClosed (λ k. group_of found.group_of_stretch k ≡ top) windows (shares_by_number part.jobs part.stretches shares)
+      (spread (job_numbers part.jobs) wants' (length jobs)) (spread (stretch_numbers part.stretches) rooms' (length (stretches jobs)))
+      (spread (stretch_numbers part.stretches) marks (length (stretches jobs)))
+  closed_by_number shares wants rooms wants' rooms' marks fill all_wants all_rooms all_marks closed =
+      closed_here shares wants rooms wants' rooms' fill all_wants all_rooms marks all_marks closed
+
+  -- who is late by place is late by number, and where no place wants anything no number does
+  pub late_by_number : (wants : List ℕ) → length wants ≡ length part.jobs → (i : ℕ) → i < length wants → 1 ≤ get_or wants i 0 →
+      (j : ℕ) × (j < length jobs) × (1 ≤ get_or (spread (job_numbers part.jobs) wants (length jobs)) j 0)
+  late_by_number wants all i inside some =
+      let place : i < length (job_numbers part.jobs) = omega (arith, inside, all, job_count) in
+      (get_or (job_numbers part.jobs) i 0, jobs_apart.below i place, omega (arith, some, spread_at (job_numbers part.jobs) wants (length jobs) i jobs_apart place))
+
+  pub served_by_number : (wants : List ℕ) → ((i : ℕ) → get_or wants i 0 ≡ 0) → (j : ℕ) → get_or (spread (job_numbers part.jobs) wants (length jobs)) j 0 ≡ 0
+  served_by_number wants none j = elim (one_or_none (job_numbers part.jobs) j) [
+    | inl (p, upto, is) ↦ ap (λ n. get_or (spread (job_numbers part.jobs) wants (length jobs)) n 0) (sym is) ∙ spread_at (job_numbers part.jobs) wants (length jobs) p jobs_apart upto ∙ none p
+    | inr other ↦ spread_off (job_numbers part.jobs) wants (length jobs) j other
+  ]
+
+  -- a group with the work and the length of the part
+  module _ (group : Group) (work : group.work ≡ sum_by (λ own. own.work) part.jobs) (length_is : group.length ≡ sum_by (λ own. own.length) part.stretches) where
+    pub group_some : (1 ≤ group.work) × (1 ≤ group.length)
+    group_some = (
+      omega (arith, work, get_or-le-sum_by (λ own. own.work) part.jobs 0 no_own part_few.2, (job_work 0 no_own part_few.2).0),
+      omega (arith, length_is, get_or-le-sum_by (λ own. own.length) part.stretches 0 no_own_stretch part_few.3, (stretch_length 0 no_own_stretch part_few.3).0),
+    )
+
+    pub units_fit : All (λ own. per_time group * own.length < 2 ^ 64) part.stretches × All (λ own. per_work group * own.work < 2 ^ 64) part.jobs
+    units_fit =
+        let small : per_time group ≤ 4000000000 = omega (
+          arith,
+          div-le_self group.work (common_divisor group.work group.length),
+          work,
+          sum_by-le (λ own. own.work) 1000000 part.jobs (λ i d inside. (job_work i d inside).1),
+          part_few.0,
+        ) in
+        let small' : per_work group ≤ 8000000000000 = omega (
+          arith,
+          div-le_self group.length (common_divisor group.work group.length),
+          length_is,
+          sum_by-le (λ own. own.length) 1000000000 part.stretches (λ i d inside. (stretch_length i d inside).1),
+          part_few.1,
+        ) in (
+          λ i d inside. omega (arith, mul-le (per_time group) (get_or part.stretches i d).length 4000000000 1000000000 small (stretch_length i d inside).1),
+          λ i d inside. omega (arith, mul-le (per_work group) (get_or part.jobs i d).work 8000000000000 1000000 small' (job_work i d inside).1),
+        )
+
+    pub attempt_by_number : (shares : List Share) (wants' rooms' : List ℕ) →
+        IsFill IsNotAfter (own_windows part.jobs) (wants_at (per_work group) part.jobs) (rooms_at (per_time group) part.stretches) shares wants' rooms' →
+        IsAttempt jobs windows found top group (shares_by_number part.jobs part.stretches shares)
+        (spread (job_numbers part.jobs) wants' (length jobs)) (spread (stretch_numbers part.stretches) rooms' (length (stretches jobs)))
+    attempt_by_number shares wants' rooms' fill =
+        let terms = lowest group.work group.length group_some.0 group_some.1 in
+        let works = work ∙ total_work in
+        let lengths = length_is ∙ total_length in
+        record {
+          wants = spread (job_numbers part.jobs) (wants_at (per_work group) part.jobs) (length jobs);
+          rooms = spread (stretch_numbers part.stretches) (rooms_at (per_time group) part.stretches) (length (stretches jobs));
+          filled = record {
+            fill = fill_by_number shares (wants_at (per_work group) part.jobs) (rooms_at (per_time group) part.stretches) wants' rooms' fill
+                (length-map part.jobs (λ own. per_work group * own.work)) (length-map part.stretches (λ own. per_time group * own.length));
+            all_wants = spread_length (job_numbers part.jobs) (wants_at (per_work group) part.jobs) (length jobs);
+            all_rooms = spread_length (stretch_numbers part.stretches) (rooms_at (per_time group) part.stretches) (length (stretches jobs));
+            want = spread_chosen found.group_of_job (job_numbers part.jobs) (wants_at (per_work group) part.jobs) (length jobs) top (λ j. per_work group * (job_at jobs j).work) jobs_apart
+                (λ p upto.
+                let inside : p < length part.jobs = omega (arith, upto, job_count) in
+                get_or-map (λ own. per_work group * own.work) part.jobs p no_own 0 inside ∙ ap (λ n. per_work group * n) (waits.own.work p no_own inside)
+                ∙ ap (λ j. per_work group * (job_at jobs j).work) (sym (get_or-map (λ own. own.job) part.jobs p no_own 0 inside))) job_there job_here;
+            room = spread_chosen found.group_of_stretch (stretch_numbers part.stretches) (rooms_at (per_time group) part.stretches) (length (stretches jobs)) top
+                (λ k. per_time group * length_at jobs k) stretches_apart (λ p upto.
+                let inside : p < length part.stretches = omega (arith, upto, stretch_count) in
+                get_or-map (λ own. per_time group * own.length) part.stretches p no_own_stretch 0 inside ∙ ap (λ n. per_time group * n) (waits.own.length_is p no_own_stretch inside)
+                ∙ ap (λ k. per_time group * length_at jobs k) (sym (get_or-map (λ own. own.stretch) part.stretches p no_own_stretch 0 inside))) stretch_there stretch_here;
+            some_time = terms.some_first;
+            some_work = terms.some_second;
+            balanced = omega (
+              arith,
+              ap (λ n. per_time group * n) (sym lengths ∙ sym terms.second),
+              ap (λ n. per_work group * n) (sym works ∙ sym terms.first),
+            );
+          };
+          work = works;
+          length_is = lengths;
+          some_work = group_some.0;
+          some_length = group_some.1;
+        }
