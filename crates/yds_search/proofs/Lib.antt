@@ -1,6 +1,8 @@
 pub mod KeySums
 mod Shares
 mod Spread
+mod Lowest
+mod Places
 mod Balance
 mod Deadlines
 pub mod Numbers

@@ -8,7 +8,7 @@ use Rattle.std.proofs.lemmas.List.Folds.{sum_by-replicate}
 use Rattle.std.proofs.lemmas.Bool.{cases_lt, cases_eq}
 use Rattle.yds_model.proofs.Horizon.{part_own, part_other}
 use Rattle.yds_model.proofs.Sums.{sum_by_same}
-use Rattle.yds_search.specs.Found.{Share, share_at, no_share}
+use Rattle.yds_search.specs.Found.{Share, share_at, no_share, group_of}
 use Rattle.yds_search.specs.Numbers.{IsOneOf}
 use Rattle.yds_search.specs.Own.{spread}
 use Rattle.yds_search.proofs.Numbers.{one_or_none, one_later}
@@ -112,4 +112,15 @@ units_by_number key numbers m shares values values' apart inside each k = elim (
     spread_off numbers values m k none,
     spread_off numbers values' m k none,
   )
+]
+
+-- a value for each number that is in a group, where those of the list are
+pub spread_chosen : (groups numbers values : List ℕ) (m top : ℕ) (f : ℕ → ℕ) → AreApart numbers m → ((p : ℕ) → p < length numbers → get_or values p 0 ≡ f (get_or numbers p 0)) →
+    ((k : ℕ) → IsOneOf numbers k → group_of groups k ≡ top) → ((k : ℕ) → k < m → group_of groups k ≡ top → IsOneOf numbers k) →
+    (k : ℕ) → k < m → get_or (spread numbers values m) k 0 ≡ (if group_of groups k == top then f k else 0)
+spread_chosen groups numbers values m top f apart each there here k known = elim (one_or_none numbers k) [
+  | inl (p, within, is) ↦ subst (λ (n : ℕ). get_or (spread numbers values m) n 0 ≡ (if group_of groups n == top then f n else 0)) is
+      (spread_at numbers values m p apart within ∙ each p within
+      ∙ sym (part_own (group_of groups (get_or numbers p 0)) top (f (get_or numbers p 0)) (there (get_or numbers p 0) (p, within, refl))))
+  | inr none ↦ spread_off numbers values m k none ∙ sym (part_other (group_of groups k) top (f k) (λ mine. none (here k known mine)))
 ]
