@@ -1,3 +1,5 @@
 mod KeySums
 mod Deadlines
+mod Fills
+mod Closures
 pub mod Numbers
