@@ -5,6 +5,8 @@ mod Lowest
 mod Places
 mod Balance
 mod Deadlines
+mod Fills
+mod Closures
 pub mod Numbers
 mod Ends
 mod Finish
