@@ -1,3 +1,5 @@
 mod KeySums
 mod Deadlines
 pub mod Numbers
+pub mod Ranks
+pub mod Partings

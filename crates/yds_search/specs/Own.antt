@@ -34,7 +34,7 @@ abbrev pub rooms_at : ℕ → List OwnStretch → List ℕ
 rooms_at per_time stretches = map (λ own. per_time * own.length) stretches
 
 -- values by place, as values by number among m: 0 where no place has the number
-pub spread : List ℕ → List ℕ → ℕ → List ℕ
+abbrev pub spread : List ℕ → List ℕ → ℕ → List ℕ
 spread [] values m = replicate m 0
 spread (k ∷ numbers) [] m = replicate m 0
 spread (k ∷ numbers) (value ∷ values) m = slice_set (spread numbers values m) k value
