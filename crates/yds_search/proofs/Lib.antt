@@ -1,5 +1,14 @@
-mod KeySums
+pub mod KeySums
+mod Shares
+mod Spread
+mod Lowest
+mod Places
+mod Balance
 mod Deadlines
 pub mod Numbers
+mod Ends
+mod Finish
+mod Splits
 pub mod Ranks
 pub mod Partings
+mod Stacks

@@ -85,7 +85,7 @@ in_known groups group n numbers known p within =
     subst (λ (i : ℕ). i < n) one.2 (known one.0 one.1)
 
 -- what is one of the rest is one of the whole
-one_later : (x : ℕ) (numbers : List ℕ) (k : ℕ) → IsOneOf numbers k → IsOneOf (x ∷ numbers) k
+pub one_later : (x : ℕ) (numbers : List ℕ) (k : ℕ) → IsOneOf numbers k → IsOneOf (x ∷ numbers) k
 one_later x numbers k one = (suc one.0, omega (arith, one.1), one.2)
 
 -- who is in the group is in its list

@@ -19,7 +19,7 @@ loop-number-preserved c =
     ∙ ap (λ (k : ℕ). map (key_of c.args.rows.now) (range_with_len 0 c.loop-number.number) ++ k ∷ []) key ∙ sym more
 
 pub loop-key-init : goal.loop-key-init
-loop-key-init c = c.new-order.ensures.items
+loop-key-init c = c.in_ok-order.ensures.items
 
 pub loop-key-preserved : goal.loop-key-preserved
 loop-key-preserved c =
