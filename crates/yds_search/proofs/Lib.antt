@@ -11,3 +11,6 @@ pub mod Numbers
 mod Ends
 mod Finish
 mod Splits
+pub mod Ranks
+pub mod Partings
+mod Stacks

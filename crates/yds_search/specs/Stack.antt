@@ -49,7 +49,7 @@ abbrev pub staying_jobs : List ℕ → List OwnJob → List OwnJob
 staying_jobs ranks jobs = map (stayed ranks) (filter (λ own. not (moves ranks own)) jobs)
 
 -- the stretches that have this mark
-pub marked_with : ℕ → List ℕ → List OwnStretch → List OwnStretch
+abbrev pub marked_with : ℕ → List ℕ → List OwnStretch → List OwnStretch
 marked_with mark [] stretches = []
 marked_with mark (one ∷ marks) [] = []
 marked_with mark (one ∷ marks) (own ∷ stretches) = if one == mark then own ∷ marked_with mark marks stretches else marked_with mark marks stretches

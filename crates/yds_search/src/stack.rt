@@ -41,7 +41,7 @@ fn part_jobs(
     ranks: &[u32],
     moving: &mut Vec<OwnJob>,
 ) -> Result<usize, Memory>
-    requires own { (marks : List ℕ) × (front : List OwnJob) × (own : List OwnJob) × (jobs.old.items ≡ front ++ own) × (start ≡ length front) × AreRanks marks ranks.now × HaveWindows (length marks) own }
+    requires own { (marks : List ℕ) × (front : List OwnJob) × (own : List OwnJob) × (jobs.old.items ≡ front ++ own) × (start ≡ length front) × All (λ mark. mark ≤ 1) marks × AreRanks marks ranks.now × HaveWindows (length marks) own }
     ensures parted { OnOk result ((front own : List OwnJob) → jobs.old.items ≡ front ++ own → start ≡ length front →
         jobs.new.items ≡ (front ++ staying_jobs ranks.now own) ++ moving_jobs ranks.now own) }
     ensures staying { IfOk result (λ count. (front own : List OwnJob) → jobs.old.items ≡ front ++ own → start ≡ length front →

@@ -1,0 +1,61 @@
+-- A group's jobs as they are parted in place: who stays comes to the front, who moves is put aside.
+use Rattle.std.proofs.Common.{◌≡◌, ℕ, ◌+◌, ◌-◌, ◌<◌, ◌≤◌, ◌≢◌, ◌==◌, ◌∙◌, Bool, true, false, not, cond, List, [], ◌∷◌, ◌++◌, length, map, take, drop, set, get_or, ap, sym, subst, eq-eqb, arith}
+use Rattle.std.specs.List.{All, filter}
+use Rattle.std.proofs.lemmas.Bool.{ne_eqb}
+use Rattle.std.proofs.lemmas.List.{append_assoc, drop_more, take_more_set, drop-set-lt, length-set}
+use Rattle.std.proofs.lemmas.List.Elements.{All-rest, All-same}
+use Rattle.yds_search.specs.declared.own.OwnJob.{OwnJob}
+use Rattle.yds_search.specs.Stack.{moves, moved, stayed, moving_jobs, staying_jobs}
+use Rattle.yds_search.proofs.Ranks.{IsRanked}
+
+-- those from `at` on are still to be parted
+pub record IsParting (ranks : List ℕ) (stay move jobs aside : List OwnJob) (start staying at : ℕ) : Type 0 where
+  pub stays : take staying jobs ++ staying_jobs ranks (drop at jobs) ≡ stay
+  pub moved : aside ++ moving_jobs ranks (drop at jobs) ≡ move
+  pub left : All (IsRanked ranks) (drop at jobs)
+  pub after : start ≤ staying
+  pub behind : staying ≤ at
+
+-- the first one that is left
+left_is : (jobs : List OwnJob) (at : ℕ) (own : OwnJob) → at < length jobs → own ≡ get_or jobs at own → drop at jobs ≡ own ∷ drop (at + 1) jobs
+left_is jobs at own within is = drop_more jobs at own within ∙ ap (λ (one : OwnJob). one ∷ drop (at + 1) jobs) (sym is)
+
+-- moves
+pub parting_moves : (ranks : List ℕ) (stay move jobs aside : List OwnJob) (start staying at : ℕ) (own : OwnJob) → IsParting ranks stay move jobs aside start staying at →
+    at < length jobs → own ≡ get_or jobs at own → get_or ranks own.end 0 - get_or ranks own.first 0 ≡ own.end - own.first →
+    IsParting ranks stay move jobs (aside ++ moved ranks own ∷ []) start staying (at + 1)
+parting_moves ranks stay move jobs aside start staying at own so_far within is moving =
+    let left = left_is jobs at own within is in
+    let rest : List OwnJob = drop (at + 1) jobs in
+    let yes : moves ranks own ≡ true = eq-eqb (get_or ranks own.end 0 - get_or ranks own.first 0) (own.end - own.first) moving in
+    record {
+      stays = ap (λ (xs : List OwnJob). take staying jobs ++ xs) (sym (ap (staying_jobs ranks) left
+          ∙ ap (λ (b : Bool). map (stayed ranks) (cond (not b) (own ∷ filter (λ one. not (moves ranks one)) rest) (filter (λ one. not (moves ranks one)) rest))) yes)) ∙ so_far.stays;
+      moved = append_assoc aside (moved ranks own ∷ []) (moving_jobs ranks rest) ∙ ap (λ (xs : List OwnJob). aside ++ xs) (sym (ap (moving_jobs ranks) left
+          ∙ ap (λ (b : Bool). map (moved ranks) (cond b (own ∷ filter (moves ranks) rest) (filter (moves ranks) rest))) yes)) ∙ so_far.moved;
+      left = All-rest (IsRanked ranks) own rest (drop at jobs) left so_far.left;
+      after = so_far.after;
+      behind = omega (arith, so_far.behind);
+    }
+
+-- or stays
+pub parting_stays : (ranks : List ℕ) (stay move jobs aside : List OwnJob) (start staying at : ℕ) (own : OwnJob) → IsParting ranks stay move jobs aside start staying at →
+    at < length jobs → own ≡ get_or jobs at own → get_or ranks own.end 0 - get_or ranks own.first 0 ≢ own.end - own.first →
+    IsParting ranks stay move (set jobs staying (stayed ranks own)) aside start (staying + 1) (at + 1)
+parting_stays ranks stay move jobs aside start staying at own so_far within is differs =
+    let left = left_is jobs at own within is in
+    let rest : List OwnJob = drop (at + 1) jobs in
+    let same : drop (at + 1) (set jobs staying (stayed ranks own)) ≡ rest = drop-set-lt (at + 1) jobs staying (stayed ranks own) (omega (arith, so_far.behind)) in
+    let no : moves ranks own ≡ false = ne_eqb (get_or ranks own.end 0 - get_or ranks own.first 0) (own.end - own.first) differs in
+    record {
+      stays = ap (λ (xs : List OwnJob). take (staying + 1) (set jobs staying (stayed ranks own)) ++ staying_jobs ranks xs) same
+          ∙ ap (λ (xs : List OwnJob). xs ++ staying_jobs ranks rest) (take_more_set jobs staying (stayed ranks own) (omega (arith, so_far.behind)))
+          ∙ append_assoc (take staying jobs) (stayed ranks own ∷ []) (staying_jobs ranks rest)
+          ∙ ap (λ (xs : List OwnJob). take staying jobs ++ xs) (sym (ap (staying_jobs ranks) left
+          ∙ ap (λ (b : Bool). map (stayed ranks) (cond (not b) (own ∷ filter (λ one. not (moves ranks one)) rest) (filter (λ one. not (moves ranks one)) rest))) no)) ∙ so_far.stays;
+      moved = ap (λ (xs : List OwnJob). aside ++ xs) (ap (moving_jobs ranks) same ∙ sym (ap (moving_jobs ranks) left
+          ∙ ap (λ (b : Bool). map (moved ranks) (cond b (own ∷ filter (moves ranks) rest) (filter (moves ranks) rest))) no)) ∙ so_far.moved;
+      left = All-same (IsRanked ranks) (drop (at + 1) (set jobs staying (stayed ranks own))) rest same (All-rest (IsRanked ranks) own rest (drop at jobs) left so_far.left);
+      after = omega (arith, so_far.after);
+      behind = omega (arith, so_far.behind);
+    }
