@@ -13,9 +13,9 @@ use Rattle.yds_model.specs.Job.{Job, job_at}
 use Rattle.yds_model.specs.Event.{stretches}
 use Rattle.yds_events.specs.declared.window.Window.{Window}
 use Rattle.yds_search.specs.Found.{Found, Share, share_at, no_share, group_of, work_of_group, length_of_group, units_of_job, units_in_stretch}
-use Rattle.yds_events.specs.Window.{length_at}
-use Rattle.yds_search.specs.Search.{IsFast, IsSlow, LieInWindows, IsFilled}
-use Rattle.yds_search.proofs.Shares.{units_at}
+use Rattle.yds_events.specs.Window.{length_at, AreWindows}
+use Rattle.yds_search.specs.Search.{IsFast, IsSlow, LieInWindows, MayTake, IsFilled}
+use Rattle.yds_search.proofs.Shares.{units_at, chosen_some, share_counts}
 use Rattle.yds_search.proofs.KeySums.{inside_range, over, over_same, over_at_most, over_zero, over_add, over_mul}
 
 -- one number's value, in a sum over all of them
@@ -144,3 +144,42 @@ balance jobs windows found top p q wants rooms shares wants' rooms' all filled =
       (λ x d within. omega (arith, (filled.fill.taken.parts x d within).known_stretch, filled.all_rooms)),
   filled.balanced,
 )
+
+factor_some : (a b : ℕ) → 1 ≤ a * b → 1 ≤ b
+factor_some a zero some = omega arith
+factor_some a (suc b) some = omega arith
+
+-- what a share of a filled group is of
+pub record IsOwn (jobs : List Job) (windows : List Window) (found : Found) (top : ℕ) (share : Share) : Type 0 where
+  pub runs : MayTake jobs windows share.job share.stretch
+  pub stretch_known : share.stretch < length (stretches jobs)
+  pub some : 1 ≤ share.units
+  pub job : group_of found.group_of_job share.job ≡ top
+  pub stretch : group_of found.group_of_stretch share.stretch ≡ top
+
+module _ (jobs : List Job) (windows : List Window) (found : Found) (top p q : ℕ) (wants rooms : List ℕ) (shares : List Share) (wants' rooms' : List ℕ)
+    (windows_are : AreWindows jobs windows) (filled : IsFilled jobs windows found top p q wants rooms shares wants' rooms') where
+  -- a job that wanted something is one of the group
+  pub own_job : (j : ℕ) → j < length jobs → 1 ≤ get_or wants j 0 → (group_of found.group_of_job j ≡ top) × (1 ≤ (job_at jobs j).work)
+  own_job j known some =
+      let chose = chosen_some (group_of found.group_of_job j) top (q * (job_at jobs j).work) (get_or wants j 0) (filled.want j known) some in
+      (chose.0, factor_some q (job_at jobs j).work (omega (arith, chose.1, some)))
+
+  -- a stretch that had room is one of the group
+  pub own_stretch : (k : ℕ) → k < length (stretches jobs) → 1 ≤ get_or rooms k 0 → group_of found.group_of_stretch k ≡ top
+  own_stretch k known some = (chosen_some (group_of found.group_of_stretch k) top (p * length_at jobs k) (get_or rooms k 0) (filled.room k known) some).0
+
+  pub own_share : (x : ℕ) → x < length shares → IsOwn jobs windows found top (share_at shares x)
+  own_share x within =
+      let part = filled.fill.taken.parts x no_share within in
+      let known : (share_at shares x).job < length jobs = omega (arith, part.known, windows_are.all) in
+      let known_stretch : (share_at shares x).stretch < length (stretches jobs) = omega (arith, part.known_stretch, filled.all_rooms) in
+      let mine = own_job (share_at shares x).job known (omega (arith, filled.fill.want (share_at shares x).job, share_counts (λ share. share.job) shares x within, part.some)) in
+      record {
+        runs = record { known = known; some = mine.1; inside = part.inside };
+        stretch_known = known_stretch;
+        some = part.some;
+        job = mine.0;
+        stretch = own_stretch (share_at shares x).stretch known_stretch
+            (omega (arith, filled.fill.room (share_at shares x).stretch, share_counts (λ share. share.stretch) shares x within, part.some));
+      }
