@@ -9,13 +9,15 @@ use Rattle.std.proofs.lemmas.Bool.Decides.{nat_tests}
 use Rattle.yds_model.specs.Job.{Job, job_at}
 use Rattle.yds_model.specs.Event.{stretches}
 use Rattle.yds_events.specs.declared.window.Window.{Window}
+use Rattle.yds_events.specs.Window.{no_window}
+use Rattle.yds_search.specs.declared.own.OwnJob.{OwnJob}
 use Rattle.yds_search.specs.Found.{Found, Group, Share, group_of, per_time, per_work}
 use Rattle.yds_search.specs.Fill.{IsFill, IsNotAfter}
 use Rattle.yds_search.specs.Closure.{AreClosing, AreClosed, AreRanks}
 use Rattle.yds_search.specs.Numbers.{IsOneOf, numbers_in, AreWritten}
 use Rattle.yds_search.specs.Search.{IsSearch, IsAttempt, IsFilled, IsRenamed, IsSplit, AreMovedFrom}
 use Rattle.yds_search.specs.Instance.{IsInstance}
-use Rattle.yds_search.specs.Own.{Part, own_windows, wants_at, rooms_at, shares_by_number, job_numbers, stretch_numbers, spread}
+use Rattle.yds_search.specs.Own.{Part, window_of, own_windows, wants_at, rooms_at, shares_by_number, job_numbers, stretch_numbers, spread}
 use Rattle.yds_search.specs.Stack.{staying_part, moving_part}
 use Rattle.yds_search.specs.Waiting.{IsWaiting, IsStack}
 use Rattle.yds_search.specs.Searching.{last_group, finished_number}
@@ -30,6 +32,9 @@ use Rattle.yds_search.proofs.Closures.{fill_closes}
 use Rattle.yds_search.proofs.Places.{windows_have, part_few, ends_rise, attempt_by_number, closed_by_number, late_by_number, served_by_number}
 use Rattle.yds_search.proofs.Stacks.{split_numbers, job_marks, after_split, split_waits, stack_kept}
 
+abbrev no_own : OwnJob
+no_own = record { job = 0; work = 0; first = 0; end = 0 }
+
 -- one number becomes another
 abbrev pub renamed : ℕ → ℕ → List ℕ → List ℕ
 renamed top to numbers = map (λ n. cond (n == top) to n) numbers
@@ -37,7 +42,7 @@ renamed top to numbers = map (λ n. cond (n == top) to n) numbers
 renamed_one : (top to one other : ℕ) → other ≡ cond (one == top) to one → IsRenamed top to one other
 renamed_one top to one other is = grind (arith, nat_tests)
 
-renamed_is : (top to : ℕ) (numbers : List ℕ) (i : ℕ) → i < length numbers → IsRenamed top to (group_of numbers i) (group_of (renamed top to numbers) i)
+pub renamed_is : (top to : ℕ) (numbers : List ℕ) (i : ℕ) → i < length numbers → IsRenamed top to (group_of numbers i) (group_of (renamed top to numbers) i)
 renamed_is top to numbers i within =
     renamed_one top to (group_of numbers i) (group_of (renamed top to numbers) i) (get_or-map (λ n. cond (n == top) to n) numbers i 0 0 within)
 
@@ -127,7 +132,13 @@ module _ (jobs : List Job) (windows : List Window) (order : List ℕ) (found : F
           let all_wants : length wants ≡ length part.jobs = length-map part.jobs (λ own. per_work group * own.work) in
           let all_rooms : length rooms ≡ length part.stretches = length-map part.stretches (λ own. per_time group * own.length) in
           let own = windows_have jobs windows order found top last_group part are search within waits in
-          let closed = fill_closes (own_windows part.jobs) wants rooms shares wants' rooms' marks fill ? ? (subst (λ (n : ℕ). AreClosing (own_windows part.jobs) wants' shares n marks) fill.same_rooms closing) in
+          let closed = fill_closes (own_windows part.jobs) wants rooms shares wants' rooms' marks fill
+          (λ j inside.
+          let below : j < length part.jobs = omega (arith, inside, length-map part.jobs window_of) in
+          subst (λ (w : Window). (w.first < w.end) × (w.end ≤ length rooms)) (sym (get_or-map window_of part.jobs j no_own no_window below))
+          (subst (λ (n : ℕ). ((get_or part.jobs j no_own).first < (get_or part.jobs j no_own).end) × ((get_or part.jobs j no_own).end ≤ n)) (sym all_rooms) (own j no_own below)))
+          (λ i j before inside. ends_rise jobs windows order found top last_group part are search within waits i j before (omega (arith, inside, length-map part.jobs window_of)))
+          (subst (λ (n : ℕ). AreClosing (own_windows part.jobs) wants' shares n marks) fill.same_rooms closing) in
           let shares' = shares_by_number part.jobs part.stretches shares in
           let left = spread (job_numbers part.jobs) wants' (length jobs) in
           let left' = spread (stretch_numbers part.stretches) rooms' (length (stretches jobs)) in
