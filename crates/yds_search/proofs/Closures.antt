@@ -187,8 +187,11 @@ closed_from {windows} {wants} {rooms} {shares} {wants'} {rooms'} {late} {shared}
                 record {
                   full = full.full;
                   next = λ x i in_range at from upto. (closed p (omega arith) marked.0).next found.0 i found.1 found.3 from
-                      (omega (arith, known.ends (share_at shares x).job (share_at shares found.0).job (full.before x no_share in_range at)
-                      (known.fill.taken.parts found.0 no_share found.1).known));
+                      (omega (
+                        arith,
+                        known.ends (share_at shares x).job (share_at shares found.0).job (full.before x no_share in_range at)
+                            (known.fill.taken.parts found.0 no_share found.1).known,
+                      ));
                 }
           ]
     ]

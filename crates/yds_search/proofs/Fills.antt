@@ -41,22 +41,6 @@ taken_more windows m shares rooms share rest taken part room all ahead swept = r
       (λ i d within same. (λ mine. absurd (omega (arith, ahead i d within mine, same)), all i d within));
 }
 
--- a job begins
-pub serve_begins : {windows : List Window} {job : ℕ} (want : ℕ) {shares : List Share} {rooms : List ℕ} → AreTaken IsNotAfter windows (length rooms) shares rooms →
-    All (λ share. share.job < job) shares → IsServed windows job want shares rooms (window_at windows job).first want shares rooms
-serve_begins {windows} {job} want {shares} {rooms} taken before = record {
-  taken = taken;
-  all = λ i d within. omega (arith, before i d within);
-  ahead = λ i d within same. absurd (omega (arith, before i d within, same));
-  wanted = refl;
-  others = λ i other. refl;
-  same_length = refl;
-  room = λ k. refl;
-  swept = λ some k from upto. omega arith;
-  kept = λ k i full. full;
-  few = omega arith;
-}
-
 -- full stretches are passed over at once, and so is all once the job is done
 pub serve_jumps : {windows : List Window} {job want : ℕ} {shares : List Share} {rooms : List ℕ} {next next' left : ℕ} {shares' : List Share} {rooms' : List ℕ} →
     IsServed windows job want shares rooms next left shares' rooms' → next ≤ next' →
@@ -145,23 +129,6 @@ serve_take {windows} {job} {want} {shares} {rooms} {next} {left} {shares'} {room
       rw (took.4, took.5, took.6) (serve_takes windows job want shares rooms next left shares' rooms' so_far known inside within took.1 took.2 took.0 took.3)
 ]
 
--- nobody has taken anything
-pub fill_begins : (windows : List Window) (wants rooms : List ℕ) → IsFilling windows wants rooms 0 [] wants rooms
-fill_begins windows wants rooms = record {
-  taken = record {
-    parts = All-nil (IsPart windows (length windows) (length rooms));
-    early = All-nil (FoundFull IsNotAfter windows [] rooms);
-    ordered = λ i j d below upto. absurd (omega arith);
-  };
-  same_wants = refl;
-  same_rooms = refl;
-  want = λ j. omega arith;
-  room = λ k. omega arith;
-  later = All-nil (λ share. share.job < 0);
-  late = λ a below. absurd (omega arith);
-  few = omega arith;
-}
-
 wanted_once : (want given units : ℕ) → units + want ≡ given → min want 1 ≤ (if nat_lt 0 given then 1 else 0)
 wanted_once want given units is = grind (arith, nat_tests)
 
@@ -239,15 +206,6 @@ next_full rooms next place are within none =
         | inr other ↦ are.full k i (omega (arith, same)) from (omega (arith, upto, there k other))
       ];
     }
-
--- one may go on from each place to itself
-pub next_begins : (rooms next : List ℕ) → IsNumbers (length rooms) next → IsNext rooms next
-next_begins rooms next numbers = record {
-  count = numbers.count;
-  forward = λ k in_range. omega (arith, numbers.each k (omega (arith, numbers.count)));
-  inside = λ k in_range. omega (arith, numbers.each k (omega (arith, numbers.count)));
-  full = λ k i in_range from upto. absurd (omega (arith, numbers.each k (omega (arith, numbers.count)), from, upto));
-}
 
 -- rooms become no greater, so one may go on as before
 pub take_next : (rooms next : List ℕ) (job place left : ℕ) (shares : List Share) (left' : ℕ) (shares' : List Share) (rooms' : List ℕ) →

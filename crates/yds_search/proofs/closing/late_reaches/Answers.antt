@@ -15,9 +15,9 @@ loop-place-preserved c =
     let place : ℕ = c.loop-place.place in
     elim c.if-wants-place-gt0.branch [
       | then-wants-place-gt0 w ↦
-          let own : OwnJob = get_or jobs place (record { job = 0; work = 0; first = 0; end = 0 }) in
-          let is : window_at (own_windows jobs) place ≡ window_of own = get_or-map window_of jobs place (record { job = 0; work = 0; first = 0; end = 0 }) no_window c.loop-place-test.true in
-          let range = c.requires.windows place (record { job = 0; work = 0; first = 0; end = 0 }) c.loop-place-test.true in
+          let none : OwnJob = record { job = 0; work = 0; first = 0; end = 0 } in
+          let is : window_at (own_windows jobs) place ≡ window_of (get_or jobs place none) = get_or-map window_of jobs place none no_window c.loop-place-test.true in
+          let range = c.requires.windows place none c.loop-place-test.true in
           rw (w.reaches-is, w.min.ensures) (subst (λ (window : Window). AreLateReaches (own_windows jobs) c.args.wants.now (place + 1) (length c.args.reaches.now)
           (set c.loop-place.reaches (window.end - 1) (min (get_or c.loop-place.reaches (window.end - 1) 0) window.first))) is
           (least_takes c.loop-place.invariant w.if-wants-place-gt0.true (omega (arith, range, ap (λ (window : Window). window.end) is))

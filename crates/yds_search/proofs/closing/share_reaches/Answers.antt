@@ -40,15 +40,16 @@ bounds-jobs-share c = (part_read c.args.jobs.now (length c.args.reaches.now) c.a
 pub loop-share-preserved : goal.loop-share-preserved
 loop-share-preserved c =
     let jobs : List OwnJob = c.args.jobs.now in
+    let none : OwnJob = record { job = 0; work = 0; first = 0; end = 0 } in
     let x : ℕ = c.loop-share.share-index in
     let shares : List Share = shares_view c.args.shares.now in
     let part = c.requires.parts x no_share (omega (arith, c.loop-share-test.true, length-map c.args.shares.now share_view)) in
     let read : share_at shares x ≡ share_view (get_or c.args.shares.now x (record { job = 0; stretch = 0; units = 0 })) =
     get_or-map share_view c.args.shares.now x (record { job = 0; stretch = 0; units = 0 }) no_share c.loop-share-test.true in
-    let is : window_at (own_windows jobs) (share_at shares x).job ≡ window_of (get_or jobs (share_at shares x).job (record { job = 0; work = 0; first = 0; end = 0 })) =
-    get_or-map window_of jobs (share_at shares x).job (record { job = 0; work = 0; first = 0; end = 0 }) no_window part.known in
+    let is : window_at (own_windows jobs) (share_at shares x).job ≡ window_of (get_or jobs (share_at shares x).job none) =
+    get_or-map window_of jobs (share_at shares x).job none no_window part.known in
     rw c.min.ensures (subst (λ (share : Share). AreShareReaches (own_windows jobs) shares (x + 1) (length c.args.reaches.now)
-    (set c.loop-share.reaches share.stretch (min (get_or c.loop-share.reaches share.stretch 0) (get_or jobs share.job (record { job = 0; work = 0; first = 0; end = 0 })).first))) read
+    (set c.loop-share.reaches share.stretch (min (get_or c.loop-share.reaches share.stretch 0) (get_or jobs share.job none).first))) read
     (subst (λ (window : Window). AreShareReaches (own_windows jobs) shares (x + 1) (length c.args.reaches.now)
     (set c.loop-share.reaches (share_at shares x).stretch (min (get_or c.loop-share.reaches (share_at shares x).stretch 0) window.first))) is
     (least_takes c.loop-share.invariant tt part.known_stretch (omega (arith, part.inside.from, part.known_stretch)))))
