@@ -1,13 +1,13 @@
 -- How the search begins, what of the finished groups is kept, and what it has found at its end.
 use Rattle.std.proofs.Common.{◌≡◌, ℕ, ◌*◌, ◌<◌, ◌≤◌, ◌⊎◌, ◌==◌, List, ◌∙◌, length, get_or, sym, ap, inl, inr, arith, ◌+◌, max, [], ◌∷◌, ◌++◌, refl, subst, zero, suc, ◌-◌}
-use Rattle.std.specs.Prelude.{if◌then◌else◌, nat_lt}
+use Rattle.std.specs.Prelude.{◌↔◌, if◌then◌else◌, nat_lt}
 use Rattle.std.proofs.lemmas.Bool.Decides.{nat_tests}
 use Rattle.yds_model.specs.Job.{Job, job_at}
 use Rattle.yds_model.specs.Event.{stretches}
 use Rattle.yds_events.specs.declared.window.Window.{Window}
 use Rattle.yds_search.specs.Found.{Found, share_at, no_share, group_at, group_of, per_time, per_work, Group, Share, IsFound}
 use Rattle.yds_events.specs.Window.{length_at, window_at, IsInWindow, IsIn, AreWindows}
-use Rattle.yds_search.specs.Search.{IsFinished, IsBeginning, MayTake, IsSearch, finished_count}
+use Rattle.yds_search.specs.Search.{IsFast, IsSlow, LieInWindows, IsFinished, IsBeginning, MayTake, IsSearch, finished_count}
 use Rattle.yds_model.proofs.Horizon.{part_other, part_own}
 use Rattle.yds_search.proofs.KeySums.{over_same, over, over_at_most, over_ones, over_some, over_one, over_add}
 use Rattle.yds_model.specs.Comparison.{stretch_at}
@@ -22,16 +22,16 @@ moved found jobs stretches = record { groups = found.groups; group_of_job = jobs
 abbrev pub AreAlike : ℕ → ℕ → ℕ → Type 0
 AreAlike groups one other = (one ≡ other) ⊎ ((groups ≤ one) × (groups ≤ other))
 
-pub alike_chosen : (groups one other i value : ℕ) → i < groups → AreAlike groups one other → (if one == i then value else 0) ≡ (if other == i then value else 0)
+alike_chosen : (groups one other i value : ℕ) → i < groups → AreAlike groups one other → (if one == i then value else 0) ≡ (if other == i then value else 0)
 alike_chosen groups one other i value finished alike = elim alike [
   | inl same ↦ ap (λ n. if n == i then value else 0) same
   | inr both ↦ part_other one i value (λ same. omega (arith, both.0, same)) ∙ sym (part_other other i value (λ same. omega (arith, both.1, same)))
 ]
 
-pub alike_finished : (groups one other : ℕ) → AreAlike groups one other → other < groups → one ≡ other
+alike_finished : (groups one other : ℕ) → AreAlike groups one other → other < groups → one ≡ other
 alike_finished groups one other alike finished = elim alike [ inl same ↦ same | inr both ↦ absurd (omega (arith, both.1)) ]
 
-pub alike_before : (groups one other : ℕ) → AreAlike groups one other → one < groups → one ≡ other
+alike_before : (groups one other : ℕ) → AreAlike groups one other → one < groups → one ≡ other
 alike_before groups one other alike finished = elim alike [ inl same ↦ same | inr both ↦ absurd (omega (arith, both.0)) ]
 
 abbrev counted_as : ℕ → ℕ → ℕ
@@ -100,6 +100,32 @@ kept_finished jobs windows found jobs' stretches' alike alike' finished = record
         (λ k. if nat_lt (group_of stretches' k) (length found.groups) then 1 else 0) (length (stretches jobs))
         (λ k below. alike_counted (length found.groups) (group_of found.group_of_stretch k) (group_of stretches' k) (alike' k below)),
   );
+}
+
+-- a group has the same jobs and stretches before and after
+pub record HasSame (jobs : List Job) (found found' : Found) (group : ℕ) : Type 0 where
+  pub job : (j : ℕ) → j < length jobs → ((group_of found.group_of_job j ≡ group) ↔ (group_of found'.group_of_job j ≡ group))
+  pub stretch : (k : ℕ) → k < length (stretches jobs) → ((group_of found.group_of_stretch k ≡ group) ↔ (group_of found'.group_of_stretch k ≡ group))
+
+-- and so is as fast and as slow as it was
+pub same_fast : (jobs : List Job) (windows : List Window) (found found' : Found) (group p q : ℕ) (shares : List Share) → HasSame jobs found found' group →
+    LieInWindows jobs windows shares → IsFast jobs found group p q shares → IsFast jobs found' group p q shares
+same_fast jobs windows found found' group p q shares same inside fast = record {
+  full = λ k known is. fast.full k known ((same.stretch k known).1 is);
+  own = λ x within is.
+      let lies = inside x within in
+      (same.job (share_at shares x).job lies.0).0 (fast.own x within ((same.stretch (share_at shares x).stretch lies.1).1 is));
+  most = λ j known is. fast.most j known ((same.job j known).1 is);
+}
+
+pub same_slow : (jobs : List Job) (windows : List Window) (found found' : Found) (group p q : ℕ) (shares : List Share) → HasSame jobs found found' group →
+    LieInWindows jobs windows shares → IsSlow jobs found group p q shares → IsSlow jobs found' group p q shares
+same_slow jobs windows found found' group p q shares same inside slow = record {
+  served = λ j known is. slow.served j known ((same.job j known).1 is);
+  own = λ x within is.
+      let lies = inside x within in
+      (same.stretch (share_at shares x).stretch lies.1).0 (slow.own x within ((same.job (share_at shares x).job lies.0).1 is));
+  room = λ k known is. slow.room k known ((same.stretch k known).1 is);
 }
 
 abbrev count_one : ℕ → ℕ → ℕ

@@ -1,7 +1,7 @@
 pub mod KeySums
 mod Shares
 mod Spread
-mod Lowest
+pub mod Lowest
 mod Places
 mod Balance
 mod Deadlines

@@ -9,10 +9,11 @@ use Rattle.yds_events.specs.Window.{length_at, IsIn, AreWindows}
 use Rattle.yds_search.specs.Closure.{IsMarked, AreClosed}
 use Rattle.yds_search.specs.Search.{IsFast, IsSlow, LieInWindows, IsBoundary, MayTake, IsSearch, IsFilled, IsSplit}
 use Rattle.yds_model.proofs.Horizon.{part_own}
-use Rattle.yds_search.proofs.Shares.{chosen_some, share_counts, some_share}
+use Rattle.yds_search.proofs.Shares.{some_share}
 use Rattle.yds_search.proofs.KeySums.{over_some, over_one}
-use Rattle.yds_search.proofs.Balance.{balance}
-use Rattle.yds_search.proofs.Ends.{moved, AreAlike, kept_finished}
+use Rattle.yds_search.proofs.Balance.{balance, IsOwn}
+use Rattle.yds_search.proofs.Balance as filled
+use Rattle.yds_search.proofs.Ends.{moved, AreAlike, kept_finished, HasSame, same_fast, same_slow}
 
 -- all that is known of a split: group `below` + 1 becomes `below` and itself
 pub record Splitting : Type 0 where
@@ -41,48 +42,21 @@ pub record Splitting : Type 0 where
   pub split : IsSplit windows marks (below + 1) found.group_of_job found.group_of_stretch new_jobs new_stretches
   pub a_late : (j : ℕ) × (j < length jobs) × (1 ≤ get_or wants_left j 0)
 
-factor_some : (a b : ℕ) → 1 ≤ a * b → 1 ≤ b
-factor_some a zero some = omega arith
-factor_some a (suc b) some = omega arith
-
 product_some : (a b : ℕ) → 1 ≤ a → 1 ≤ b → 1 ≤ a * b
 product_some a b one other = grind arith
 
 below_is : (a b : ℕ) → a + 1 ≡ b + 1 → a ≡ b
 below_is a b same = omega arith
 
--- a job that wanted something is one of the group
+-- what a job that wanted something is, and a stretch that had room, and a share
 own_job : (s : Splitting) (j : ℕ) → j < length s.jobs → 1 ≤ get_or s.wants j 0 → (group_of s.found.group_of_job j ≡ s.below + 1) × (1 ≤ (job_at s.jobs j).work)
-own_job s j known some =
-    let chose = chosen_some (group_of s.found.group_of_job j) (s.below + 1) (s.q * (job_at s.jobs j).work) (get_or s.wants j 0) (s.filled.want j known) some in
-    (chose.0, factor_some s.q (job_at s.jobs j).work (omega (arith, chose.1, some)))
+own_job s = filled.own_job s.jobs s.windows s.found (s.below + 1) s.p s.q s.wants s.rooms s.shares s.wants_left s.rooms_left s.windows_are s.filled
 
--- a stretch that had room is one of the group
 own_stretch : (s : Splitting) (k : ℕ) → k < length (stretches s.jobs) → 1 ≤ get_or s.rooms k 0 → group_of s.found.group_of_stretch k ≡ s.below + 1
-own_stretch s k known some =
-    (chosen_some (group_of s.found.group_of_stretch k) (s.below + 1) (s.p * length_at s.jobs k) (get_or s.rooms k 0) (s.filled.room k known) some).0
+own_stretch s = filled.own_stretch s.jobs s.windows s.found (s.below + 1) s.p s.q s.wants s.rooms s.shares s.wants_left s.rooms_left s.windows_are s.filled
 
--- what a share is of
-record Own (s : Splitting) (x : ℕ) : Type 0 where
-  runs : MayTake s.jobs s.windows (share_at s.shares x).job (share_at s.shares x).stretch
-  stretch_known : (share_at s.shares x).stretch < length (stretches s.jobs)
-  job : group_of s.found.group_of_job (share_at s.shares x).job ≡ s.below + 1
-  stretch : group_of s.found.group_of_stretch (share_at s.shares x).stretch ≡ s.below + 1
-
-own_share : (s : Splitting) (x : ℕ) → x < length s.shares → Own s x
-own_share s x within =
-    let part = s.filled.fill.taken.parts x no_share within in
-    let known : (share_at s.shares x).job < length s.jobs = omega (arith, part.known, s.windows_are.all) in
-    let known_stretch : (share_at s.shares x).stretch < length (stretches s.jobs) = omega (arith, part.known_stretch, s.filled.all_rooms) in
-    let mine = own_job s (share_at s.shares x).job known
-    (omega (arith, s.filled.fill.want (share_at s.shares x).job, share_counts (λ share. share.job) s.shares x within, part.some)) in
-    record {
-      runs = record { known = known; some = mine.1; inside = part.inside };
-      stretch_known = known_stretch;
-      job = mine.0;
-      stretch = own_stretch s (share_at s.shares x).stretch known_stretch
-          (omega (arith, s.filled.fill.room (share_at s.shares x).stretch, share_counts (λ share. share.stretch) s.shares x within, part.some));
-    }
+own_share : (s : Splitting) (x : ℕ) → x < length s.shares → IsOwn s.jobs s.windows s.found (s.below + 1) (share_at s.shares x)
+own_share s = filled.own_share s.jobs s.windows s.found (s.below + 1) s.p s.q s.wants s.rooms s.shares s.wants_left s.rooms_left s.windows_are s.filled
 
 -- a stretch of the upper part is marked
 upper_stretch : (s : Splitting) (k : ℕ) → k < length (stretches s.jobs) → group_of s.new_stretches k ≡ s.below →
@@ -201,25 +175,11 @@ kept_job s j c known other is = elim (s.split.job j (omega (arith, s.search.all_
   | inr same ↦ same.1 ∙ is
 ]
 
--- other groups are as fast and as slow as they were
-kept_fast : (s : Splitting) (c p q : ℕ) (shares : List Share) → s.below + 1 < c → LieInWindows s.jobs s.windows shares →
-    IsFast s.jobs s.found c p q shares → IsFast s.jobs (moved s.found s.new_jobs s.new_stretches) c p q shares
-kept_fast s c p q shares above inside fast = record {
-  full = λ k known is. fast.full k known (sym (other_stretch s k known (λ new. omega (arith, new, is))) ∙ is);
-  own = λ x within is.
-      kept_job s (share_at shares x).job c (inside x within).0 (λ same. omega (arith, same))
-      (fast.own x within (sym (other_stretch s (share_at shares x).stretch (inside x within).1 (λ new. omega (arith, new, is))) ∙ is));
-  most = λ j known is. fast.most j known (sym (other_job s j known (λ new. omega (arith, new, is))) ∙ is);
-}
-
-kept_slow : (s : Splitting) (c p q : ℕ) (shares : List Share) → s.below + 1 < c → LieInWindows s.jobs s.windows shares →
-    IsSlow s.jobs s.found c p q shares → IsSlow s.jobs (moved s.found s.new_jobs s.new_stretches) c p q shares
-kept_slow s c p q shares above inside slow = record {
-  served = λ j known is. slow.served j known (sym (other_job s j known (λ new. omega (arith, new, is))) ∙ is);
-  own = λ x within is.
-      kept_stretch s (share_at shares x).stretch c (inside x within).1 (λ same. omega (arith, same))
-      (slow.own x within (sym (other_job s (share_at shares x).job (inside x within).0 (λ new. omega (arith, new, is))) ∙ is));
-  room = λ k known is. slow.room k known (sym (other_stretch s k known (λ new. omega (arith, new, is))) ∙ is);
+-- later groups are as they were
+later_same : (s : Splitting) (c : ℕ) → s.below + 1 < c → HasSame s.jobs s.found (moved s.found s.new_jobs s.new_stretches) c
+later_same s c above = record {
+  job = λ j known. (kept_job s j c known (λ same. omega (arith, same)), λ is. sym (other_job s j known (λ new. omega (arith, new, is))) ∙ is);
+  stretch = λ k known. (kept_stretch s k c known (λ same. omega (arith, same)), λ is. sym (other_stretch s k known (λ new. omega (arith, new, is))) ∙ is);
 }
 
 -- a job of which the window has a stretch of the lower part is no job of the upper part
@@ -458,9 +418,9 @@ between_after s c from upto = elim (cases_eq c s.below) [
           | inl lower ↦
               subst (λ (n : ℕ). IsFast s.jobs (moved s.found s.new_jobs s.new_stretches) n old.p old.q old.shares) (sym lower)
               (lower_fast s old.p old.q old.shares old.inside (subst (λ (n : ℕ). IsFast s.jobs s.found n old.p old.q old.shares) lower old.fast))
-          | inr above ↦ kept_fast s c old.p old.q old.shares (omega arith) old.inside old.fast
+          | inr above ↦ same_fast s.jobs s.windows s.found (moved s.found s.new_jobs s.new_stretches) c old.p old.q old.shares (later_same s c (omega arith)) old.inside old.fast
         ];
-        slow = kept_slow s (c + 1) old.p old.q old.shares (omega arith) old.inside old.slow;
+        slow = same_slow s.jobs s.windows s.found (moved s.found s.new_jobs s.new_stretches) (c + 1) old.p old.q old.shares (later_same s (c + 1) (omega arith)) old.inside old.slow;
       }
 ]
 
