@@ -34,18 +34,18 @@ use Rattle.yds_search.proofs.Lowest.{lowest}
 use Rattle.yds_search.proofs.Numbers.{one_or_none, in_group, in_known, in_has, in_order, rising_back}
 use Rattle.yds_search.proofs.Spread.{AreApart, same_place, spread_length, spread_off, spread_some, spread_at, spread_sum, spread_chosen, units_by_number}
 
-abbrev no_own : OwnJob
+abbrev pub no_own : OwnJob
 no_own = record { job = 0; work = 0; first = 0; end = 0 }
 
-abbrev no_own_stretch : OwnStretch
+abbrev pub no_own_stretch : OwnStretch
 no_own_stretch = record { stretch = 0; length = 0 }
 
 module _ (jobs : List Job) (windows : List Window) (order : List ℕ) (found : Found) (top last : ℕ) (part : Part)
     (are : IsInstance jobs windows order) (search : IsSearch jobs windows found top last) (within : top ≤ last) (waits : IsWaiting jobs windows order found top part) where
-  job_count : length (job_numbers part.jobs) ≡ length part.jobs
+  pub job_count : length (job_numbers part.jobs) ≡ length part.jobs
   job_count = length-map part.jobs (λ own. own.job)
 
-  stretch_count : length (stretch_numbers part.stretches) ≡ length part.stretches
+  pub stretch_count : length (stretch_numbers part.stretches) ≡ length part.stretches
   stretch_count = length-map part.stretches (λ own. own.stretch)
 
   -- the jobs stand in order, each once
@@ -61,17 +61,17 @@ module _ (jobs : List Job) (windows : List Window) (order : List ℕ) (found : F
         inr (ap (λ i. (job_at jobs (get_or (job_numbers part.jobs) i 0)).deadline) same, omega (arith, ap (λ i. get_or (job_numbers part.jobs) i 0) same))
   ]
 
-  jobs_apart : AreApart (job_numbers part.jobs) (length jobs)
+  pub jobs_apart : AreApart (job_numbers part.jobs) (length jobs)
   jobs_apart = record {
     below = subst (λ (xs : List ℕ). (p : ℕ) → p < length xs → get_or xs p 0 < length jobs) (sym waits.jobs_are) (in_known found.group_of_job top (length jobs) order are.order_is.known);
     differ = λ a b before upto. (jobs_precede a b before upto).0;
   }
 
   -- and are those of the group
-  job_there : (j : ℕ) → IsOneOf (job_numbers part.jobs) j → group_of found.group_of_job j ≡ top
+  pub job_there : (j : ℕ) → IsOneOf (job_numbers part.jobs) j → group_of found.group_of_job j ≡ top
   job_there j one = in_group found.group_of_job top order j (subst (λ (xs : List ℕ). IsOneOf xs j) waits.jobs_are one)
 
-  job_here : (j : ℕ) → j < length jobs → group_of found.group_of_job j ≡ top → IsOneOf (job_numbers part.jobs) j
+  pub job_here : (j : ℕ) → j < length jobs → group_of found.group_of_job j ≡ top → IsOneOf (job_numbers part.jobs) j
   job_here j known mine = subst (λ (xs : List ℕ). IsOneOf xs j) (sym waits.jobs_are) (in_has found.group_of_job top order j (are.order_is.each j known) mine)
 
   -- the stretches rise
@@ -84,7 +84,7 @@ module _ (jobs : List Job) (windows : List Window) (order : List ℕ) (found : F
         (in_range (length found.group_of_stretch) b 0 upto).1,
       )))
 
-  stretches_apart : AreApart (stretch_numbers part.stretches) (length (stretches jobs))
+  pub stretches_apart : AreApart (stretch_numbers part.stretches) (length (stretches jobs))
   stretches_apart = record {
     below = subst (λ (xs : List ℕ). (p : ℕ) → p < length xs → get_or xs p 0 < length (stretches jobs)) (sym waits.stretches_are)
         (in_known found.group_of_stretch top (length (stretches jobs)) (range_with_len 0 (length found.group_of_stretch))
@@ -92,11 +92,11 @@ module _ (jobs : List Job) (windows : List Window) (order : List ℕ) (found : F
     differ = λ a b before upto same. omega (arith, stretches_rise a b before upto, same);
   }
 
-  stretch_there : (k : ℕ) → IsOneOf (stretch_numbers part.stretches) k → group_of found.group_of_stretch k ≡ top
+  pub stretch_there : (k : ℕ) → IsOneOf (stretch_numbers part.stretches) k → group_of found.group_of_stretch k ≡ top
   stretch_there k one =
       in_group found.group_of_stretch top (range_with_len 0 (length found.group_of_stretch)) k (subst (λ (xs : List ℕ). IsOneOf xs k) waits.stretches_are one)
 
-  stretch_here : (k : ℕ) → k < length (stretches jobs) → group_of found.group_of_stretch k ≡ top → IsOneOf (stretch_numbers part.stretches) k
+  pub stretch_here : (k : ℕ) → k < length (stretches jobs) → group_of found.group_of_stretch k ≡ top → IsOneOf (stretch_numbers part.stretches) k
   stretch_here k known mine =
       let below : k < length found.group_of_stretch = omega (arith, known, search.all_stretches) in
       subst (λ (xs : List ℕ). IsOneOf xs k) (sym waits.stretches_are) (in_has found.group_of_stretch top (range_with_len 0 (length found.group_of_stretch)) k
@@ -111,7 +111,7 @@ module _ (jobs : List Job) (windows : List Window) (order : List ℕ) (found : F
       IsPlace (stretch_numbers part.stretches) (window_at windows (get_or (job_numbers part.jobs) i 0)).end (window_at (own_windows part.jobs) i).end
   end_is i inside = rw (get_or-map (λ own. own.job) part.jobs i no_own 0 inside, get_or-map window_of part.jobs i no_own no_window inside) (waits.own.end i no_own inside)
 
-  in_number : (i p : ℕ) → i < length part.jobs → p < length part.stretches → IsIn (own_windows part.jobs) i p →
+  pub in_number : (i p : ℕ) → i < length part.jobs → p < length part.stretches → IsIn (own_windows part.jobs) i p →
       IsIn windows (get_or (job_numbers part.jobs) i 0) (get_or (stretch_numbers part.stretches) p 0)
   in_number i p inside upto is_in = record { from = (first_is i inside).from p is_in.from (omega (arith, upto, stretch_count)); upto = (end_is i inside).before p is_in.upto }
 
@@ -122,7 +122,7 @@ module _ (jobs : List Job) (windows : List Window) (order : List ℕ) (found : F
     | inr after ↦ after
   ]
 
-  in_place : (i p : ℕ) → i < length part.jobs → p < length part.stretches → IsIn windows (get_or (job_numbers part.jobs) i 0) (get_or (stretch_numbers part.stretches) p 0) →
+  pub in_place : (i p : ℕ) → i < length part.jobs → p < length part.stretches → IsIn windows (get_or (job_numbers part.jobs) i 0) (get_or (stretch_numbers part.stretches) p 0) →
       IsIn (own_windows part.jobs) i p
   in_place i p inside upto is_in = record {
     from = from_place i p inside is_in.from;
