@@ -14,3 +14,7 @@ mod Splits
 pub mod Ranks
 pub mod Partings
 mod Stacks
+mod Beginnings
+mod Steps
+mod Kept
+mod Chosen
