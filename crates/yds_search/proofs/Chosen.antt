@@ -1,8 +1,9 @@
 -- The fastest group that is taken off the stack, and the search after it is finished or split.
-use Rattle.std.proofs.Common.{◌≡◌, ℕ, ◌+◌, ◌-◌, ◌*◌, ◌^◌, ◌<◌, ◌≤◌, ◌==◌, List, [], ◌∷◌, ◌++◌, ◌∙◌, length, map, get_or, sym, ap, subst, arith}
+use Rattle.std.proofs.Common.{Vec, Global, ◌≡◌, ℕ, suc, ◌+◌, ◌-◌, ◌*◌, ◌^◌, ◌<◌, ◌≤◌, ◌==◌, List, [], ◌∷◌, ◌++◌, ◌∙◌, length, map, get_or, sym, ap, subst, arith}
 use Rattle.std.specs.Prelude.{cond}
-use Rattle.std.specs.List.{All, sum_by}
-use Rattle.std.proofs.lemmas.List.{length-map, map_push}
+use Rattle.std.specs.List.{All, sum_by, range_with_len}
+use Rattle.std.proofs.lemmas.List.{length-map, length-append, map_push, get_or-map}
+use Rattle.std.proofs.lemmas.List.FromFn.{length-range_with_len, get_or-range_with_len}
 use Rattle.yds_model.specs.Job.{Job}
 use Rattle.yds_search.specs.declared.own.Own.{Own}
 use Rattle.yds_search.specs.declared.own.OwnJob.{OwnJob}
@@ -10,17 +11,20 @@ use Rattle.yds_search.specs.declared.own.OwnStretch.{OwnStretch}
 use Rattle.yds_search.specs.declared.stack.Size.{Size}
 use Rattle.yds_search.specs.declared.search.Search.{Search}
 use Rattle.yds_search.specs.declared.found.Group as groups
+use Rattle.yds_search.specs.declared.share.Share as taken
+use Rattle.yds_search.specs.declared.found.TheConstants.{NO_GROUP}
 use Rattle.yds_search.specs.Found.{Group, Share, per_time, per_work}
-use Rattle.yds_search.specs.Views.{found_view, group_view, shares_view}
+use Rattle.yds_search.specs.Views.{found_view, group_view, share_view, shares_view}
 use Rattle.yds_search.specs.Numbers.{AreWritten}
-use Rattle.yds_search.specs.Fill.{IsFill, IsNotAfter}
+use Rattle.yds_search.specs.Fill.{IsFill, IsNotAfter, IsPart}
 use Rattle.yds_search.specs.Closure.{AreClosing, AreRanks}
-use Rattle.yds_search.specs.Own.{Part, HaveWindows, own_windows, wants_at, rooms_at, shares_by_number, job_numbers, stretch_numbers}
-use Rattle.yds_search.specs.Stack.{AreLaid, AreLast, staying_part, moving_part}
-use Rattle.yds_search.specs.Waiting.{IsWaiting}
+use Rattle.yds_search.specs.Own.{Part, HaveWindows, window_of, own_windows, wants_at, rooms_at, shares_by_number, job_numbers, stretch_numbers}
+use Rattle.yds_search.specs.Stack.{AreLaid, AreLast, size_of, jobs_of, own_stretches_of, staying_part, moving_part}
+use Rattle.yds_search.specs.Waiting.{IsWaiting, IsStack, part_at}
 use Rattle.yds_search.specs.Searching.{IsChosen, IsSearching, last_group, finished_number}
 use Rattle.yds_search.proofs.Places.{windows_have, part_few, part_known, group_some, units_fit}
-use Rattle.yds_search.proofs.Stacks.{after_split, stack_kept}
+use Rattle.yds_search.proofs.Numbers.{in_has}
+use Rattle.yds_search.proofs.Stacks.{after_split, stack_kept, stack_pop, last_part, jobs_more, stretches_more}
 use Rattle.yds_search.proofs.Steps.{few_enough, finished_with, finish_step, split_step}
 use Rattle.yds_search.proofs.Kept.{kept_finish, kept_split, moved_renamed}
 
@@ -51,12 +55,31 @@ chosen_as jobs size search x own jobs_are stretches_are =
       kept = x.kept;
     }
 
+-- what holds of the shares holds of the program's own ones
+pub shares_known : (items : List taken.Share) (n m : ℕ) → All (λ share. (share.job < n) × (share.stretch < m)) (shares_view items) →
+    All (λ share. share.job < n) items × All (λ share. share.stretch < m) items
+shares_known items n m known =
+    let here : (k : ℕ) (d : taken.Share) → k < length items → ((get_or items k d).job < n) × ((get_or items k d).stretch < m) = λ k d within.
+        subst (λ (share : Share). (share.job < n) × (share.stretch < m)) (get_or-map share_view items k d (share_view d) within)
+        (known k (share_view d) (omega (arith, within, length-map items share_view))) in
+    ((λ k d within. (here k d within).0), (λ k d within. (here k d within).1))
+
 module _ (jobs : List Job) (size : Size) (search : Search) (x : IsChosen jobs size search) where
   pub chosen_few : (length x.part.jobs ≤ 4000) × (length x.part.stretches ≤ 8000) × (1 ≤ length x.part.jobs) × (1 ≤ length x.part.stretches)
   chosen_few = part_few jobs x.windows x.order x.numbers x.top last_group x.part x.instance x.groups x.within x.own
 
   pub chosen_windows : HaveWindows (length x.part.stretches) x.part.jobs
   chosen_windows = windows_have jobs x.windows x.order x.numbers x.top last_group x.part x.instance x.groups x.within x.own
+
+  -- there is room for another group
+  pub chosen_room : length search.found.groups.items < NO_GROUP
+  chosen_room = omega (
+    arith,
+    few_enough jobs x.windows x.order x.numbers x.top x.part x.instance x.groups x.within x.own,
+    x.within,
+    length-map search.found.groups.items group_view,
+    ap (λ (xs : List Group). length xs) x.kept.groups,
+  )
 
   -- its numbers are known to what is found
   pub chosen_known : All (λ own. own.job < length search.found.group_of_job.items) x.part.jobs × All (λ own. own.stretch < length search.found.group_of_stretch.items) x.part.stretches
@@ -73,15 +96,22 @@ module _ (jobs : List Job) (size : Size) (search : Search) (x : IsChosen jobs si
     pub chosen_units : All (λ own. per_time (group_view group) * own.length < 2 ^ 64) x.part.stretches × All (λ own. per_work (group_view group) * own.work < 2 ^ 64) x.part.jobs
     chosen_units = units_fit jobs x.windows x.order x.numbers x.top last_group x.part x.instance x.groups x.within x.own (group_view group) work length_is
 
-    module _ (new : Search) (shares : List Share) (wants' rooms' : List ℕ) (fill : IsFill IsNotAfter (own_windows x.part.jobs) (wants_at (per_work (group_view group)) x.part.jobs)
+    module _ (shares : List Share) (wants' rooms' : List ℕ) (fill : IsFill IsNotAfter (own_windows x.part.jobs) (wants_at (per_work (group_view group)) x.part.jobs)
         (rooms_at (per_time (group_view group)) x.part.stretches) shares wants' rooms') where
+      pub chosen_rooms : length rooms' ≡ length x.part.stretches
+      chosen_rooms = fill.same_rooms ∙ length-map x.part.stretches (λ own. per_time (group_view group) * own.length)
+
+      pub chosen_parts : All (IsPart (own_windows x.part.jobs) (length x.part.jobs) (length x.part.stretches)) shares
+      chosen_parts i d within =
+          rw (sym (length-map x.part.jobs window_of), sym (length-map x.part.stretches (λ own. per_time (group_view group) * own.length))) (fill.taken.parts i d within)
+
       -- it is finished
-      pub chosen_finished : ((i : ℕ) → get_or wants' i 0 ≡ 0) → AreLaid x.parts new.stack → new.found.groups.items ≡ search.found.groups.items ++ group ∷ [] →
+      pub chosen_finished : (new : Search) → ((i : ℕ) → get_or wants' i 0 ≡ 0) → AreLaid x.parts new.stack → new.found.groups.items ≡ search.found.groups.items ++ group ∷ [] →
           shares_view new.found.shares.items ≡ shares_view search.found.shares.items ++ shares_by_number x.part.jobs x.part.stretches shares →
           AreWritten (λ j value. value ≡ length search.found.groups.items) (job_numbers x.part.jobs) (length x.part.jobs) search.found.group_of_job.items new.found.group_of_job.items →
           AreWritten (λ k value. value ≡ length search.found.groups.items) (stretch_numbers x.part.stretches) (length x.part.stretches)
           search.found.group_of_stretch.items new.found.group_of_stretch.items → IsSearching jobs new
-      chosen_finished none laid groups shares_are jobs_written stretches_written =
+      chosen_finished new none laid groups shares_are jobs_written stretches_written =
           let less = few_enough jobs x.windows x.order x.numbers x.top x.part x.instance x.groups x.within x.own in
           let found = finished_with x.numbers x.top (group_view group) (shares_by_number x.part.jobs x.part.stretches shares) in
           record {
@@ -102,10 +132,10 @@ module _ (jobs : List Job) (size : Size) (search : Search) (x : IsChosen jobs si
           }
 
       -- it is split
-      pub chosen_split : (marks ranks : List ℕ) → ((i : ℕ) × (i < length wants') × (1 ≤ get_or wants' i 0)) → AreClosing (own_windows x.part.jobs) wants' shares (length rooms') marks →
+      pub chosen_split : (new : Search) (marks ranks : List ℕ) → ((i : ℕ) × (i < length wants') × (1 ≤ get_or wants' i 0)) → AreClosing (own_windows x.part.jobs) wants' shares (length rooms') marks →
           length marks ≡ length rooms' → All (λ mark. mark ≤ 1) marks → AreRanks marks ranks →
           AreLaid ((x.parts ++ staying_part marks ranks x.part ∷ []) ++ moving_part marks ranks x.part ∷ []) new.stack → found_view new.found ≡ found_view search.found → IsSearching jobs new
-      chosen_split marks ranks late closing count small ranked laid same =
+      chosen_split new marks ranks late closing count small ranked laid same =
           let less = few_enough jobs x.windows x.order x.numbers x.top x.part x.instance x.groups x.within x.own in
           let after = split_step jobs x.windows x.order x.numbers x.top x.part x.instance x.groups x.within x.own (group_view group) work length_is shares wants' rooms' fill
           x.parts marks ranks x.stack closing count small ranked late in
@@ -121,3 +151,56 @@ module _ (jobs : List Job) (size : Size) (search : Search) (x : IsChosen jobs si
             laid = laid;
             kept = kept_split jobs x.numbers (found_view new.found) x.top marks ranks x.part less (rw same x.kept);
           }
+
+-- the last group on the stack is the fastest, when its size is taken off
+pub choose : (jobs : List Job) (size : Size) (search new : Search) → IsSearching jobs search → search.stack.sizes.items ≡ new.stack.sizes.items ++ size ∷ [] →
+    new.stack.jobs ≡ search.stack.jobs → new.stack.stretches ≡ search.stack.stretches → new.found ≡ search.found → IsChosen jobs size new
+choose jobs size search new x sizes same same' found =
+    let cut = last_part x.parts new.stack.sizes.items size (sym x.laid.sizes ∙ sizes) in
+    let popped = stack_pop jobs x.windows x.order x.numbers x.top last_group cut.0 cut.1
+    (subst (λ (parts : List Part). IsStack jobs x.windows x.order x.numbers x.top last_group parts) cut.2 x.stack) in
+    record {
+      windows = x.windows;
+      order = x.order;
+      numbers = x.numbers;
+      top = x.top;
+      parts = cut.0;
+      part = cut.1;
+      instance = x.instance;
+      groups = x.groups;
+      within = popped.2;
+      stack = popped.0;
+      own = popped.1;
+      last = record {
+        sizes = cut.3;
+        size_is = cut.4;
+        jobs = ap (λ (one : Vec OwnJob Global). one.items) same ∙ x.laid.jobs ∙ ap jobs_of cut.2 ∙ sym (jobs_more cut.0 cut.1);
+        stretches = ap (λ (one : Vec OwnStretch Global). one.items) same' ∙ x.laid.stretches ∙ ap own_stretches_of cut.2 ∙ sym (stretches_more cut.0 cut.1);
+      };
+      kept = rw found x.kept;
+    }
+
+-- a part has a stretch, so there are no more parts than stretches
+parts_few : (parts : List Part) → ((i : ℕ) → i < length parts → 1 ≤ length (part_at parts i).stretches) → length parts ≤ length (own_stretches_of parts)
+parts_few [] some = omega arith
+parts_few (part ∷ parts) some = omega (
+  arith,
+  some 0 (omega arith),
+  length-append part.stretches (own_stretches_of parts),
+  parts_few parts (λ i within. some (suc i) (omega (arith, within))),
+)
+
+pub sizes_few : (jobs : List Job) (search : Search) → IsSearching jobs search → length search.stack.sizes.items ≤ length search.stack.stretches.items
+sizes_few jobs search x = omega (
+  arith,
+  ap (λ (xs : List Size). length xs) x.laid.sizes,
+  length-map x.parts size_of,
+  ap (λ (xs : List OwnStretch). length xs) x.laid.stretches,
+  parts_few x.parts (λ i within.
+      let part = x.stack.each i within in
+      let there = x.groups.peopled (last_group - i) (omega (arith, within, x.stack.count)) (omega arith) in
+      let below : there.0 < length x.numbers.group_of_stretch = omega (arith, there.1, x.groups.all_stretches) in
+      let one = in_has x.numbers.group_of_stretch (last_group - i) (range_with_len 0 (length x.numbers.group_of_stretch)) there.0
+      (there.0, omega (arith, below, length-range_with_len 0 (length x.numbers.group_of_stretch)), omega (arith, get_or-range_with_len 0 (length x.numbers.group_of_stretch) there.0 0 below)) there.2 in
+      omega (arith, one.1, ap (λ (xs : List ℕ). length xs) part.stretches_are, length-map (part_at x.parts i).stretches (λ (own : OwnStretch). own.stretch))),
+)

@@ -18,3 +18,4 @@ mod Beginnings
 mod Steps
 mod Kept
 mod Chosen
+mod Endings
