@@ -172,9 +172,9 @@ begun_place timeline ends marks ranks k covered all ranked within =
     subst (λ (xs : List ℕ). IsPlace xs k (get_or ranks k 0)) (sym (begun_stretches timeline marks))
     (place_among (λ i. nat_lt 0 (get_or marks i 0)) (range_with_len 0 (length timeline)) marks ranks k k ranked (omega (arith, all, length-range_with_len 0 (length timeline)))
     (λ i below.
-        let known : i < length marks = omega (arith, below, all, length-range_with_len 0 (length timeline)) in
-        let here : i ≡ get_or (range_with_len 0 (length timeline)) i 0 = omega (arith, get_or-range_with_len 0 (length timeline) i 0 (omega (arith, known, all))) in
-        marks_are ends marks i covered known ∙ ap (λ (n : ℕ). cond {A = ℕ} (nat_lt 0 (get_or marks n 0)) 1 0) here)
+    let known : i < length marks = omega (arith, below, all, length-range_with_len 0 (length timeline)) in
+    let here : i ≡ get_or (range_with_len 0 (length timeline)) i 0 = omega (arith, get_or-range_with_len 0 (length timeline) i 0 (omega (arith, known, all))) in
+    marks_are ends marks i covered known ∙ ap (λ (n : ℕ). cond {A = ℕ} (nat_lt 0 (get_or marks n 0)) 1 0) here)
     (range_place (length timeline) k within))
 
 pub known_all : (jobs : List Job) (order : List ℕ) → IsOrder jobs order → All (λ j. j < length jobs) order
@@ -256,14 +256,24 @@ begun_start jobs windows order marks last top part ordered beginning waiting is 
           let one : IsOneOf (numbers_in places last order) (get_or (numbers_in places last order) 0 0) = (0, omega (arith, some.0, count), refl) in
           let here = in_whole places last order (get_or (numbers_in places last order) 0 0) one in
           let known : get_or (numbers_in places last order) 0 0 < length jobs = subst (λ (j : ℕ). j < length jobs) here.2 (ordered.known here.0 here.1) in
-          inl ((get_or (numbers_in places last order) 0 0, known, elim (beginning.job (get_or (numbers_in places last order) 0 0) known) [
-            | inl idle ↦ absurd (omega (arith, idle.1, in_group places last order (get_or (numbers_in places last order) 0 0) one))
-            | inr working ↦ working.0
-          ]), some.1)
-      | inr none ↦ inr ((λ j known. elim (beginning.job j known) [
+          inl (
+            (
+              get_or (numbers_in places last order) 0 0,
+              known,
+              elim (beginning.job (get_or (numbers_in places last order) 0 0) known) [
+                | inl idle ↦ absurd (omega (arith, idle.1, in_group places last order (get_or (numbers_in places last order) 0 0) one))
+                | inr working ↦ working.0
+              ],
+            ),
+            some.1,
+          )
+      | inr none ↦ inr (
+        (λ j known. elim (beginning.job j known) [
           | inl idle ↦ idle.0
           | inr working ↦ let one = in_has places last order j (ordered.each j known) working.1 in absurd (omega (arith, one.1, none.0, count))
-        ]), none.1)
+        ]),
+        none.1,
+      )
     ]
 
 -- what stays the same is known from the beginning

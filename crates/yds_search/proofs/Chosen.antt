@@ -1,8 +1,8 @@
 -- The fastest group that is taken off the stack, and the search after it is finished or split.
-use Rattle.std.proofs.Common.{Vec, Global, ◌≡◌, ℕ, suc, ◌+◌, ◌-◌, ◌*◌, ◌^◌, ◌<◌, ◌≤◌, ◌==◌, List, [], ◌∷◌, ◌++◌, ◌∙◌, length, map, get_or, sym, ap, subst, arith}
+use Rattle.std.proofs.Common.{Vec, Global, ◌≡◌, ℕ, suc, ◌+◌, ◌-◌, ◌*◌, ◌^◌, ◌<◌, ◌≤◌, ◌==◌, List, [], ◌∷◌, ◌++◌, ◌∙◌, length, map, get_or, refl, sym, ap, subst, arith}
 use Rattle.std.specs.Prelude.{cond}
 use Rattle.std.specs.List.{All, sum_by, range_with_len}
-use Rattle.std.proofs.lemmas.List.{length-map, length-append, map_push, get_or-map}
+use Rattle.std.proofs.lemmas.List.{length-map, length_push, length-append, map_push, get_or-map}
 use Rattle.std.proofs.lemmas.List.FromFn.{length-range_with_len, get_or-range_with_len}
 use Rattle.yds_model.specs.Job.{Job}
 use Rattle.yds_search.specs.declared.own.Own.{Own}
@@ -24,7 +24,7 @@ use Rattle.yds_search.specs.Waiting.{IsWaiting, IsStack, part_at}
 use Rattle.yds_search.specs.Searching.{IsChosen, IsSearching, last_group, finished_number}
 use Rattle.yds_search.proofs.Places.{windows_have, part_few, part_known, group_some, units_fit}
 use Rattle.yds_search.proofs.Numbers.{in_has}
-use Rattle.yds_search.proofs.Stacks.{after_split, stack_kept, stack_pop, last_part, jobs_more, stretches_more}
+use Rattle.yds_search.proofs.Stacks.{after_split, stack_kept, stack_pop, jobs_more, stretches_more}
 use Rattle.yds_search.proofs.Steps.{few_enough, finished_with, finish_step, split_step}
 use Rattle.yds_search.proofs.Kept.{kept_finish, kept_split, moved_renamed}
 
@@ -60,8 +60,8 @@ pub shares_known : (items : List taken.Share) (n m : ℕ) → All (λ share. (sh
     All (λ share. share.job < n) items × All (λ share. share.stretch < m) items
 shares_known items n m known =
     let here : (k : ℕ) (d : taken.Share) → k < length items → ((get_or items k d).job < n) × ((get_or items k d).stretch < m) = λ k d within.
-        subst (λ (share : Share). (share.job < n) × (share.stretch < m)) (get_or-map share_view items k d (share_view d) within)
-        (known k (share_view d) (omega (arith, within, length-map items share_view))) in
+    subst (λ (share : Share). (share.job < n) × (share.stretch < m)) (get_or-map share_view items k d (share_view d) within)
+    (known k (share_view d) (omega (arith, within, length-map items share_view))) in
     ((λ k d within. (here k d within).0), (λ k d within. (here k d within).1))
 
 module _ (jobs : List Job) (size : Size) (search : Search) (x : IsChosen jobs size search) where
@@ -151,6 +151,15 @@ module _ (jobs : List Job) (size : Size) (search : Search) (x : IsChosen jobs si
             laid = laid;
             kept = kept_split jobs x.numbers (found_view new.found) x.top marks ranks x.part less (rw same x.kept);
           }
+
+-- the last part, by its size
+last_part : (parts : List Part) (sizes : List Size) (size : Size) → map size_of parts ≡ sizes ++ size ∷ [] →
+    (front : List Part) × (part : Part) × (parts ≡ front ++ part ∷ []) × (sizes ≡ map size_of front) × (size ≡ size_of part)
+last_part [] sizes size is = absurd (omega (arith, ap (λ (xs : List Size). length xs) is, length_push sizes size))
+last_part (x ∷ []) [] size is = ([], x, refl, refl, cc)
+last_part (x ∷ (y ∷ parts)) [] size is = absurd (omega (arith, ap (λ (xs : List Size). length xs) is))
+last_part (x ∷ parts) (one ∷ sizes) size is =
+    let rest = last_part parts sizes size (cc) in (x ∷ rest.0, rest.1, ap (λ (xs : List Part). x ∷ xs) rest.2, cc (rest.3), rest.4)
 
 -- the last group on the stack is the fastest, when its size is taken off
 pub choose : (jobs : List Job) (size : Size) (search new : Search) → IsSearching jobs search → search.stack.sizes.items ≡ new.stack.sizes.items ++ size ∷ [] →

@@ -146,9 +146,13 @@ module _ (jobs : List Job) (windows : List Window) (order : List ℕ) (found : F
           let new = after_split jobs found top marks ranks part in
           let all = subst (λ (n : ℕ). IsSearch jobs windows found n last_group × IsFilled jobs windows found n (per_time group) (per_work group) attempt.wants attempt.rooms shares' left left'
           × AreClosed (λ k. group_of found.group_of_stretch k ≡ n) windows shares' left left' marks'
-          × IsSplit windows marks' n found.group_of_job found.group_of_stretch new.group_of_job new.group_of_stretch) is
-          (search, attempt.filled, closed_by_number jobs windows order found top last_group part are search within waits shares wants rooms wants' rooms' marks fill all_wants all_rooms all_marks
-          (subst (λ (n : ℕ). AreClosed (λ p. p < n) (own_windows part.jobs) shares wants' rooms' marks) all_rooms closed), split_is.0) in (
+          × IsSplit windows marks' n found.group_of_job found.group_of_stretch new.group_of_job new.group_of_stretch) is (
+            search,
+            attempt.filled,
+            closed_by_number jobs windows order found top last_group part are search within waits shares wants rooms wants' rooms' marks fill all_wants all_rooms all_marks
+                (subst (λ (n : ℕ). AreClosed (λ p. p < n) (own_windows part.jobs) shares wants' rooms' marks) all_rooms closed),
+            split_is.0,
+          ) in (
             split_search (record {
               jobs = jobs;
               windows = windows;
