@@ -44,7 +44,7 @@ is_ranked : (marks ranks : List ℕ) (own : OwnJob) → All (λ mark. mark ≤ 1
 is_ranked marks ranks own small are window =
     let gap : own.first + (own.end - own.first) ≡ own.end = omega arith in
     let over = subst (λ (i : ℕ). (get_or ranks own.first 0 ≤ get_or ranks i 0) × (get_or ranks i 0 ≤ get_or ranks own.first 0 + (own.end - own.first))) gap
-        (rank_over marks ranks own.first (own.end - own.first) small are (omega arith)) in
+    (rank_over marks ranks own.first (own.end - own.first) small are (omega arith)) in
     record {
       some = window.0;
       within = omega (arith, are.count);
@@ -68,11 +68,15 @@ filtered_place p numbers number place is =
     let before = filter p (take place numbers) in
     let after = filter p (drop place numbers) in
     let less : All (λ n. n < number) before = All-filter p (λ n. n < number) (take place numbers) (λ i d within. let less : (i < place) × (i < length numbers) =
-        (omega (arith, length-take place numbers), omega (arith, length-take place numbers)) in
-        omega (arith, is.before i less.0, get_or-take place numbers i d less.0, get_or_default numbers i d 0 less.1)) in
+    (omega (arith, length-take place numbers), omega (arith, length-take place numbers)) in
+    omega (arith, is.before i less.0, get_or-take place numbers i d less.0, get_or_default numbers i d 0 less.1)) in
     let more : All (λ n. number ≤ n) after = All-filter p (λ n. number ≤ n) (drop place numbers) (λ i d within.
-        omega (arith, is.from (place + i) (omega arith) (omega (arith, length-drop place numbers)), get_or-drop place numbers i d,
-        get_or_default numbers (place + i) d 0 (omega (arith, length-drop place numbers)))) in
+    omega (
+      arith,
+      is.from (place + i) (omega arith) (omega (arith, length-drop place numbers)),
+      get_or-drop place numbers i d,
+      get_or_default numbers (place + i) d 0 (omega (arith, length-drop place numbers)),
+    )) in
     subst (λ (xs : List ℕ). IsPlace xs number (length before)) (sym (filter-append p (take place numbers) (drop place numbers)) ∙ ap (filter p) (take-append-drop place numbers)) record {
       within = omega (arith, length-append before after);
       before = λ i upto. omega (arith, less i 0 upto, get_or_append_left before after 0 i upto);
@@ -116,14 +120,17 @@ pub over_cases : (marks ranks : List ℕ) (p n : ℕ) → All (λ mark. mark ≤
 over_cases marks ranks p zero small are within = inl (ap (λ i. get_or ranks i 0) (add-zero p) ∙ sym (add-zero (get_or ranks p 0)), λ i after before. absurd (omega arith))
 over_cases marks ranks p (suc n) small are within =
     let next : get_or ranks (p + suc n) 0 ≡ get_or ranks (p + n) 0 + get_or marks (p + n) 0 =
-        ap (λ i. get_or ranks i 0) (omega arith) ∙ rank_more marks ranks (p + n) are (omega arith) in
+    ap (λ i. get_or ranks i 0) (omega arith) ∙ rank_more marks ranks (p + n) are (omega arith) in
     let mark = small (p + n) 0 (omega arith) in
     elim (over_cases marks ranks p n small are (omega arith)) [
       | inl (rise, each) ↦ elim (cases_lt 0 (get_or marks (p + n) 0)) [
-        | inl some ↦ inl (omega arith, λ i after before. elim (cases_lt i (p + n)) [
-          | inl less ↦ each i after less
-          | inr past ↦ let last : i ≡ p + n = omega arith in omega (arith, ap (λ k. get_or marks k 0) last)
-        ])
+        | inl some ↦ inl (
+          omega arith,
+          λ i after before. elim (cases_lt i (p + n)) [
+            | inl less ↦ each i after less
+            | inr past ↦ let last : i ≡ p + n = omega arith in omega (arith, ap (λ k. get_or marks k 0) last)
+          ],
+        )
         | inr none ↦ inr (omega arith, (p + n, omega arith, omega arith, omega arith))
       ]
       | inr (rise, (i, after, before, bare)) ↦ inr (omega arith, (i, after, omega arith, bare))

@@ -308,10 +308,10 @@ module _ (jobs : List Job) (windows : List Window) (order : List ℕ) (found : F
       let is : get_or (job_numbers part.jobs) i 0 ≡ own.job = get_or-map (λ one. one.job) part.jobs i d 0 inside in
       let mine = job_there jobs windows order found top last part are search within waits own.job (i, upto, is) in
       let mark : get_or (spread (job_numbers part.jobs) (job_marks ranks part.jobs) (length jobs)) own.job 0 ≡ cond (moves ranks own) 1 0 =
-          ap (λ (k : ℕ). get_or (spread (job_numbers part.jobs) (job_marks ranks part.jobs) (length jobs)) k 0) (sym is)
-          ∙ spread_at (job_numbers part.jobs) (job_marks ranks part.jobs) (length jobs) i apart upto ∙ get_or-map (λ one. cond (moves ranks one) 1 0) part.jobs i d 0 inside in
+      ap (λ (k : ℕ). get_or (spread (job_numbers part.jobs) (job_marks ranks part.jobs) (length jobs)) k 0) (sym is)
+      ∙ spread_at (job_numbers part.jobs) (job_marks ranks part.jobs) (length jobs) i apart upto ∙ get_or-map (λ one. cond (moves ranks one) 1 0) part.jobs i d 0 inside in
       let number = split_moves top found.group_of_job (spread (job_numbers part.jobs) (job_marks ranks part.jobs) (length jobs)) own.job
-          (omega (arith, apart.below i upto, is, search.all_jobs)) in
+      (omega (arith, apart.below i upto, is, search.all_jobs)) in
       elim (cases_Bool (moves ranks own)) [
         | inl all ↦ elim number [
           | inl one ↦ inr (all, one.2)
@@ -331,12 +331,12 @@ module _ (jobs : List Job) (windows : List Window) (order : List ℕ) (found : F
       let j = get_or (job_numbers part.jobs) i 0 in
       let is : j ≡ own.job = get_or-map (λ one. one.job) part.jobs i no_own 0 inside in
       let known = (jobs_apart jobs windows order found top last part are search within waits).below i
-          (omega (arith, inside, job_count jobs windows order found top last part are search within waits)) in
+      (omega (arith, inside, job_count jobs windows order found top last part are search within waits)) in
       let mine = job_there jobs windows order found top last part are search within waits j
-          (i, omega (arith, inside, job_count jobs windows order found top last part are search within waits), refl) in
+      (i, omega (arith, inside, job_count jobs windows order found top last part are search within waits), refl) in
       let window = get_or-map window_of part.jobs i no_own no_window inside in
       let ranked = are_ranked marks ranks part.jobs small ranks_are
-          (subst (λ (m : ℕ). HaveWindows m part.jobs) (sym count) (windows_have jobs windows order found top last part are search within waits)) i no_own inside in
+      (subst (λ (m : ℕ). HaveWindows m part.jobs) (sym count) (windows_have jobs windows order found top last part are search within waits)) i no_own inside in
       let gap : own.first + (own.end - own.first) ≡ own.end = omega (arith, ranked.some) in
       let end : get_or ranks (own.first + (own.end - own.first)) 0 ≡ get_or ranks own.end 0 = ap (λ i. get_or ranks i 0) gap in
       let here = λ (p : ℕ) (from : own.first ≤ p) (upto : p < own.end). (let one : IsIn (own_windows part.jobs) i p = record {
@@ -350,27 +350,30 @@ module _ (jobs : List Job) (windows : List Window) (order : List ℕ) (found : F
           | inr (all, same) ↦ inl (
             mine,
             (λ k is_in stays.
-              let below : k < length (stretches jobs) = omega (arith, is_in.upto, are.windows_are.inside j known) in
-              let one = stretch_here jobs windows order found top last part are search within waits k below
-                  (was_top top found.group_of_stretch new.group_of_stretch (moved_from top found.group_of_stretch (spread (stretch_numbers part.stretches) marks (length (stretches jobs)))) k stays) in
-              let place : one.0 < length part.stretches = omega (arith, one.1, stretch_count jobs windows order found top last part are search within waits) in
-              let inner = in_place jobs windows order found top last part are search within waits i one.0 inside place (subst (IsIn windows j) (sym one.2) is_in) in
-              elim (stretch_tells one.0 place) [
-                | inl kept ↦ omega (arith, kept.0, each one.0 (omega (arith, inner.from, ap (λ (w : Window). w.first) window)) (omega (arith, inner.upto, gap, ap (λ (w : Window). w.end) window)))
-                | inr gone ↦ omega (arith, gone.1, stays, few, ap (λ (n : ℕ). group_of new.group_of_stretch n) one.2)
-              ]),
+                let below : k < length (stretches jobs) = omega (arith, is_in.upto, are.windows_are.inside j known) in
+                let one = stretch_here jobs windows order found top last part are search within waits k below
+                (was_top top found.group_of_stretch new.group_of_stretch (moved_from top found.group_of_stretch (spread (stretch_numbers part.stretches) marks (length (stretches jobs)))) k stays) in
+                let place : one.0 < length part.stretches = omega (arith, one.1, stretch_count jobs windows order found top last part are search within waits) in
+                let inner = in_place jobs windows order found top last part are search within waits i one.0 inside place (subst (IsIn windows j) (sym one.2) is_in) in
+                elim (stretch_tells one.0 place) [
+                  | inl kept ↦ omega (arith, kept.0, each one.0 (omega (arith, inner.from, ap (λ (w : Window). w.first) window)) (omega (arith, inner.upto, gap, ap (λ (w : Window). w.end) window)))
+                  | inr gone ↦ omega (arith, gone.1, stays, few, ap (λ (n : ℕ). group_of new.group_of_stretch n) one.2)
+                ]),
             omega (arith, few, number (top - 1) same),
           )
         ]
         | inr (rise, (p, from, upto, bare)) ↦ elim (job_tells i no_own inside) [
           | inl (some, same) ↦ inr (
             (λ old.
-              let place : p < length part.stretches = omega (arith, upto, gap, ranked.within, ranks_are.count, count) in
-              elim (stretch_tells p place) [
-                | inl kept ↦ (get_or (stretch_numbers part.stretches) p 0,
-                  in_number jobs windows order found top last part are search within waits i p inside place (here p from (omega (arith, upto, gap))), kept.1)
-                | inr gone ↦ absurd (omega (arith, gone.0, bare))
-              ]),
+                let place : p < length part.stretches = omega (arith, upto, gap, ranked.within, ranks_are.count, count) in
+                elim (stretch_tells p place) [
+                  | inl kept ↦ (
+                    get_or (stretch_numbers part.stretches) p 0,
+                    in_number jobs windows order found top last part are search within waits i p inside place (here p from (omega (arith, upto, gap))),
+                    kept.1,
+                  )
+                  | inr gone ↦ absurd (omega (arith, gone.0, bare))
+                ]),
             number top same ∙ sym mine,
           )
           | inr (all, same) ↦ absurd (omega (arith, ranked.rise, rise, end, eqb-true (get_or ranks own.end 0 - get_or ranks own.first 0) (own.end - own.first) all))
@@ -411,7 +414,7 @@ module _ (jobs : List Job) (windows : List Window) (order : List ℕ) (found : F
       IsWaiting jobs windows order new group (record { jobs = map (placed place) (filter q part.jobs); stretches = marked_with mark marks part.stretches })
   part_waits group mark q place p was was' jobs_agree stretches_agree agree places =
       let still = λ (number n : ℕ) (is : IsPlace (stretch_numbers part.stretches) number n).
-          subst (λ (xs : List ℕ). IsPlace xs number (place n)) (sym (marked_numbers p mark marks part.stretches count agree)) (places number n is) in
+      subst (λ (xs : List ℕ). IsPlace xs number (place n)) (sym (marked_numbers p mark marks part.stretches count agree)) (places number n is) in
       record {
         jobs_are = kept_numbers (λ j. group_of new.group_of_job j == group) q (placed place) (λ own. refl) part.jobs jobs_agree
             ∙ ap (numbers_in new.group_of_job group) waits.jobs_are ∙ in_twice found.group_of_job new.group_of_job top group order was;
@@ -439,9 +442,9 @@ module _ (jobs : List Job) (windows : List Window) (order : List ℕ) (found : F
       let none = none_below jobs windows found top last search few within in
       let some : 1 ≤ top = omega (arith, few) in
       let one = λ (i : ℕ) (inside : i < length part.stretches).
-          marks_tell (get_or marks i 0) (group_of new.group_of_stretch (get_or (stretch_numbers part.stretches) i 0)) top some (stretch_tells i inside) in
+      marks_tell (get_or marks i 0) (group_of new.group_of_stretch (get_or (stretch_numbers part.stretches) i 0)) top some (stretch_tells i inside) in
       let each = λ (i : ℕ) (inside : i < length (stretch_numbers part.stretches)).
-          (one i (omega (arith, inside, stretch_count jobs windows order found top last part are search within waits))).0 in
+      (one i (omega (arith, inside, stretch_count jobs windows order found top last part are search within waits))).0 in
       let counts : length marks ≡ length (stretch_numbers part.stretches) = omega (arith, count, stretch_count jobs windows order found top last part are search within waits) in (
         part_waits top 0 (λ own. not (moves ranks own)) (λ n. n - get_or ranks n 0) (λ k. not (group_of new.group_of_stretch k == (top - 1)))
             (was_top top found.group_of_job new.group_of_job moved_jobs) (was_top top found.group_of_stretch new.group_of_stretch moved_stretches)
@@ -460,15 +463,15 @@ pub split_waits : (jobs : List Job) (windows : List Window) (order : List ℕ) (
     IsInstance jobs windows order → IsSearch jobs windows found top last → length found.groups + 1 < top → top ≤ last →
     IsStack jobs windows order found (top + 1) last parts → IsWaiting jobs windows order found top part →
     length marks ≡ length part.stretches → All (λ mark. mark ≤ 1) marks → AreRanks marks ranks → (let new = after_split jobs found top marks ranks part in
-      IsSplit windows (spread (stretch_numbers part.stretches) marks (length (stretches jobs))) top found.group_of_job found.group_of_stretch new.group_of_job new.group_of_stretch
-      × IsStack jobs windows order new (top - 1) last ((parts ++ staying_part marks ranks part ∷ []) ++ moving_part marks ranks part ∷ []))
+    IsSplit windows (spread (stretch_numbers part.stretches) marks (length (stretches jobs))) top found.group_of_job found.group_of_stretch new.group_of_job new.group_of_stretch
+    × IsStack jobs windows order new (top - 1) last ((parts ++ staying_part marks ranks part ∷ []) ++ moving_part marks ranks part ∷ []))
 split_waits jobs windows order found top last parts part marks ranks are search few within stack waits count small ranks_are =
     let new = after_split jobs found top marks ranks part in
     let split = is_split jobs windows order found top last part marks ranks are search few within waits count small ranks_are in
     let both = both_wait jobs windows order found top last part marks ranks are search few within waits count small ranks_are in
     let kept = stack_kept jobs windows order found new top last parts split.all_stretches
-        (moved_from top found.group_of_job (spread (job_numbers part.jobs) (job_marks ranks part.jobs) (length jobs)))
-        (moved_from top found.group_of_stretch (spread (stretch_numbers part.stretches) marks (length (stretches jobs)))) stack in (
+    (moved_from top found.group_of_job (spread (job_numbers part.jobs) (job_marks ranks part.jobs) (length jobs)))
+    (moved_from top found.group_of_stretch (spread (stretch_numbers part.stretches) marks (length (stretches jobs)))) stack in (
       split,
       stack_push jobs windows order new (top - 1) last (parts ++ staying_part marks ranks part ∷ []) (moving_part marks ranks part)
           (subst (λ (n : ℕ). IsStack jobs windows order new n last (parts ++ staying_part marks ranks part ∷ [])) (omega (arith, few))

@@ -48,13 +48,13 @@ loop-at-init c =
 pub loop-at-preserved : goal.loop-at-preserved
 loop-at-preserved c = elim c.if-end-first.branch [
   | then-end-first+in_ok-push w ↦ rw (w.jobs-is, w.moving-is, w.staying-is, w.in_ok-push.ensures.items) record {
-      parting = parting_moves c.args.ranks.now _ _ c.loop-at.jobs.items c.loop-at.moving.items c.args.start c.loop-at.staying c.loop-at.at c.index-own.result.now c.loop-at.invariant.parting
-      (omega (arith, c.loop-at-test.true, c.loop-at.invariant.count)) c.index-own.ensures w.if-end-first.true;
-      count = c.loop-at.invariant.count;
-    }
+    parting = parting_moves c.args.ranks.now _ _ c.loop-at.jobs.items c.loop-at.moving.items c.args.start c.loop-at.staying c.loop-at.at c.index-own.result.now c.loop-at.invariant.parting
+        (omega (arith, c.loop-at-test.true, c.loop-at.invariant.count)) c.index-own.ensures w.if-end-first.true;
+    count = c.loop-at.invariant.count;
+  }
   | else-end-first w ↦ rw (w.jobs-is, w.moving-is, w.staying-is) record {
-      parting = parting_stays c.args.ranks.now _ _ c.loop-at.jobs.items c.loop-at.moving.items c.args.start c.loop-at.staying c.loop-at.at c.index-own.result.now c.loop-at.invariant.parting
-      (omega (arith, c.loop-at-test.true, c.loop-at.invariant.count)) c.index-own.ensures w.if-end-first.false;
-      count = length-set c.loop-at.jobs.items c.loop-at.staying _ ∙ c.loop-at.invariant.count;
-    }
+    parting = parting_stays c.args.ranks.now _ _ c.loop-at.jobs.items c.loop-at.moving.items c.args.start c.loop-at.staying c.loop-at.at c.index-own.result.now c.loop-at.invariant.parting
+        (omega (arith, c.loop-at-test.true, c.loop-at.invariant.count)) c.index-own.ensures w.if-end-first.false;
+    count = length-set c.loop-at.jobs.items c.loop-at.staying _ ∙ c.loop-at.invariant.count;
+  }
 ]

@@ -21,7 +21,7 @@ overflow_sub-size-2 c =
     let last = c.requires.last.2 in
     let size = ap (λ (size : Size). size.stretches) last.size_is in
     let start = begins_at c.args.self.now.stretches.items (own_stretches_of c.requires.last.0) c.requires.last.1.stretches c.len-2.result c.args.size.stretches last.stretches
-        (omega (arith, c.len-2.ensures)) size in
+    (omega (arith, c.len-2.ensures)) size in
     let staying = rw c.deref-2.ensures.value at (c.in_ok-stretches.ensures.staying (own_stretches_of c.requires.last.0) c.requires.last.1.stretches last.stretches start) in
     omega (arith, size, staying c.requires.last.3, stretches_parted c.args.closing.now.marks.items c.requires.last.1.stretches c.requires.marks c.requires.last.3)
 
@@ -29,7 +29,7 @@ pub returns : goal.returns
 returns c parts part last all =
     let start = begins_at c.args.self.now.jobs.items (jobs_of parts) part.jobs c.len.result c.args.size.jobs last.jobs (omega (arith, c.len.ensures)) (ap (λ (size : Size). size.jobs) last.size_is) in
     let start' = begins_at c.args.self.now.stretches.items (own_stretches_of parts) part.stretches c.len-2.result c.args.size.stretches last.stretches (omega (arith, c.len-2.ensures))
-        (ap (λ (size : Size). size.stretches) last.size_is) in
+    (ap (λ (size : Size). size.stretches) last.size_is) in
     let jobs = rw c.deref.ensures.value at (c.in_ok-jobs.ensures.parted (jobs_of parts) part.jobs last.jobs start) in
     let staying = rw c.deref.ensures.value at (c.in_ok-jobs.ensures.staying (jobs_of parts) part.jobs last.jobs start) in
     let stretches = rw c.deref-2.ensures.value at (c.in_ok-stretches.ensures.parted (own_stretches_of parts) part.stretches last.stretches start') in
