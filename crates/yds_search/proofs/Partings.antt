@@ -27,12 +27,12 @@ pub parting_moves : (ranks : List ℕ) (stay move jobs aside : List OwnJob) (sta
 parting_moves ranks stay move jobs aside start staying at own so_far within is moving =
     let left = left_is jobs at own within is in
     let rest : List OwnJob = drop (at + 1) jobs in
-    let yes : moves ranks own ≡ true = eq-eqb (get_or ranks own.end 0 - get_or ranks own.first 0) (own.end - own.first) moving in
+    let same : moves ranks own ≡ true = eq-eqb (get_or ranks own.end 0 - get_or ranks own.first 0) (own.end - own.first) moving in
+    let stays = rw (left, same) at so_far.stays in
+    let goes = rw (left, same) at so_far.moved in
     record {
-      stays = ap (λ (xs : List OwnJob). take staying jobs ++ xs) (sym (ap (staying_jobs ranks) left
-          ∙ ap (λ (b : Bool). map (stayed ranks) (cond (not b) (own ∷ filter (λ one. not (moves ranks one)) rest) (filter (λ one. not (moves ranks one)) rest))) yes)) ∙ so_far.stays;
-      moved = append_assoc aside (moved ranks own ∷ []) (moving_jobs ranks rest) ∙ ap (λ (xs : List OwnJob). aside ++ xs) (sym (ap (moving_jobs ranks) left
-          ∙ ap (λ (b : Bool). map (moved ranks) (cond b (own ∷ filter (moves ranks) rest) (filter (moves ranks) rest))) yes)) ∙ so_far.moved;
+      stays = stays;
+      moved = append_assoc aside (moved ranks own ∷ []) (moving_jobs ranks rest) ∙ goes;
       left = All-rest (IsRanked ranks) own rest (drop at jobs) left so_far.left;
       after = so_far.after;
       behind = omega (arith, so_far.behind);
@@ -45,17 +45,12 @@ pub parting_stays : (ranks : List ℕ) (stay move jobs aside : List OwnJob) (sta
 parting_stays ranks stay move jobs aside start staying at own so_far within is differs =
     let left = left_is jobs at own within is in
     let rest : List OwnJob = drop (at + 1) jobs in
-    let same : drop (at + 1) (set jobs staying (stayed ranks own)) ≡ rest = drop-set-lt (at + 1) jobs staying (stayed ranks own) (omega (arith, so_far.behind)) in
-    let no : moves ranks own ≡ false = ne_eqb (get_or ranks own.end 0 - get_or ranks own.first 0) (own.end - own.first) differs in
+    let same = drop-set-lt (at + 1) jobs staying (stayed ranks own) (omega (arith, so_far.behind)) in
+    let other : moves ranks own ≡ false = ne_eqb (get_or ranks own.end 0 - get_or ranks own.first 0) (own.end - own.first) differs in
     record {
-      stays = ap (λ (xs : List OwnJob). take (staying + 1) (set jobs staying (stayed ranks own)) ++ staying_jobs ranks xs) same
-          ∙ ap (λ (xs : List OwnJob). xs ++ staying_jobs ranks rest) (take_more_set jobs staying (stayed ranks own) (omega (arith, so_far.behind)))
-          ∙ append_assoc (take staying jobs) (stayed ranks own ∷ []) (staying_jobs ranks rest)
-          ∙ ap (λ (xs : List OwnJob). take staying jobs ++ xs) (sym (ap (staying_jobs ranks) left
-          ∙ ap (λ (b : Bool). map (stayed ranks) (cond (not b) (own ∷ filter (λ one. not (moves ranks one)) rest) (filter (λ one. not (moves ranks one)) rest))) no)) ∙ so_far.stays;
-      moved = ap (λ (xs : List OwnJob). aside ++ xs) (ap (moving_jobs ranks) same ∙ sym (ap (moving_jobs ranks) left
-          ∙ ap (λ (b : Bool). map (moved ranks) (cond b (own ∷ filter (moves ranks) rest) (filter (moves ranks) rest))) no)) ∙ so_far.moved;
-      left = All-same (IsRanked ranks) (drop (at + 1) (set jobs staying (stayed ranks own))) rest same (All-rest (IsRanked ranks) own rest (drop at jobs) left so_far.left);
+      stays = rw (same, take_more_set jobs staying (stayed ranks own) (omega (arith, so_far.behind)), append_assoc) (rw (left, other) at so_far.stays);
+      moved = rw same (rw (left, other) at so_far.moved);
+      left = rw same (All-rest (IsRanked ranks) own rest (drop at jobs) left so_far.left);
       after = omega (arith, so_far.after);
       behind = omega (arith, so_far.behind);
     }
