@@ -1,20 +1,15 @@
 -- How the search begins, what of the finished groups is kept, and what it has found at its end.
 use Rattle.std.proofs.Common.{◌≡◌, ℕ, ◌*◌, ◌<◌, ◌≤◌, ◌⊎◌, ◌==◌, List, ◌∙◌, length, get_or, sym, ap, inl, inr, arith, ◌+◌, max, [], ◌∷◌, ◌++◌, refl, subst, zero, suc, ◌-◌}
-use Rattle.std.specs.Prelude.{if◌then◌else◌, nat_lt}
+use Rattle.std.specs.Prelude.{◌↔◌, if◌then◌else◌, nat_lt}
 use Rattle.std.proofs.lemmas.Bool.Decides.{nat_tests}
 use Rattle.yds_model.specs.Job.{Job, job_at}
 use Rattle.yds_model.specs.Event.{stretches}
 use Rattle.yds_events.specs.declared.window.Window.{Window}
 use Rattle.yds_search.specs.Found.{Found, share_at, no_share, group_at, group_of, per_time, per_work, Group, Share, IsFound}
 use Rattle.yds_events.specs.Window.{length_at, window_at, IsInWindow, IsIn, AreWindows}
-use Rattle.yds_search.specs.Search.{IsFinished, IsBeginning, MayTake, IsSearch, finished_count}
+use Rattle.yds_search.specs.Search.{IsFast, IsSlow, LieInWindows, IsFinished, IsBeginning, MayTake, IsSearch, finished_count}
 use Rattle.yds_model.proofs.Horizon.{part_other, part_own}
 use Rattle.yds_search.proofs.KeySums.{over_same, over, over_at_most, over_ones, over_some, over_one, over_add}
-use Rattle.std.proofs.lemmas.List.{get_or_append_left, get_or_push, length_push}
-use Rattle.std.proofs.lemmas.Bool.{cases_lt}
-use Rattle.yds_search.specs.declared.instance.Instance.{Instance}
-use Rattle.yds_search.specs.Instance.{IsInstance}
-use Rattle.yds_search.specs.Beginning.{AreFarthest, IsReached, AreCovered, AreWorking}
 use Rattle.yds_model.specs.Comparison.{stretch_at}
 use Rattle.yds_search.proofs.Shares.{chosen_some}
 use Rattle.yds_events.proofs.Neighbours.{stretch_forward, stretch_order}
@@ -27,16 +22,16 @@ moved found jobs stretches = record { groups = found.groups; group_of_job = jobs
 abbrev pub AreAlike : ℕ → ℕ → ℕ → Type 0
 AreAlike groups one other = (one ≡ other) ⊎ ((groups ≤ one) × (groups ≤ other))
 
-pub alike_chosen : (groups one other i value : ℕ) → i < groups → AreAlike groups one other → (if one == i then value else 0) ≡ (if other == i then value else 0)
+alike_chosen : (groups one other i value : ℕ) → i < groups → AreAlike groups one other → (if one == i then value else 0) ≡ (if other == i then value else 0)
 alike_chosen groups one other i value finished alike = elim alike [
   | inl same ↦ ap (λ n. if n == i then value else 0) same
   | inr both ↦ part_other one i value (λ same. omega (arith, both.0, same)) ∙ sym (part_other other i value (λ same. omega (arith, both.1, same)))
 ]
 
-pub alike_finished : (groups one other : ℕ) → AreAlike groups one other → other < groups → one ≡ other
+alike_finished : (groups one other : ℕ) → AreAlike groups one other → other < groups → one ≡ other
 alike_finished groups one other alike finished = elim alike [ inl same ↦ same | inr both ↦ absurd (omega (arith, both.1)) ]
 
-pub alike_before : (groups one other : ℕ) → AreAlike groups one other → one < groups → one ≡ other
+alike_before : (groups one other : ℕ) → AreAlike groups one other → one < groups → one ≡ other
 alike_before groups one other alike finished = elim alike [ inl same ↦ same | inr both ↦ absurd (omega (arith, both.0)) ]
 
 abbrev counted_as : ℕ → ℕ → ℕ
@@ -107,107 +102,31 @@ kept_finished jobs windows found jobs' stretches' alike alike' finished = record
   );
 }
 
--- the first n stretches have their numbers, and `end` is the greatest of their ends
-pub record IsCovering (ends : List ℕ) (n end : ℕ) (groups : List ℕ) : Type 0 where
-  pub covered : AreCovered ends n groups
-  pub most : (i : ℕ) → i < n → get_or ends i 0 ≤ end
-  pub one : (end ≡ 0) ⊎ ((i : ℕ) × (i < n) × (get_or ends i 0 ≡ end))
+-- a group has the same jobs and stretches before and after
+pub record HasSame (jobs : List Job) (found found' : Found) (group : ℕ) : Type 0 where
+  pub job : (j : ℕ) → j < length jobs → ((group_of found.group_of_job j ≡ group) ↔ (group_of found'.group_of_job j ≡ group))
+  pub stretch : (k : ℕ) → k < length (stretches jobs) → ((group_of found.group_of_stretch k ≡ group) ↔ (group_of found'.group_of_stretch k ≡ group))
 
-pub covering_none : (ends groups : List ℕ) → groups ≡ [] → IsCovering ends 0 0 groups
-covering_none ends groups none = record {
-  covered = record { count = ap (λ (xs : List ℕ). length xs) none; each = λ k before. absurd (omega arith) };
-  most = λ i before. absurd (omega arith);
-  one = inl refl;
+-- and so is as fast and as slow as it was
+pub same_fast : (jobs : List Job) (windows : List Window) (found found' : Found) (group p q : ℕ) (shares : List Share) → HasSame jobs found found' group →
+    LieInWindows jobs windows shares → IsFast jobs found group p q shares → IsFast jobs found' group p q shares
+same_fast jobs windows found found' group p q shares same inside fast = record {
+  full = λ k known is. fast.full k known ((same.stretch k known).1 is);
+  own = λ x within is.
+      let lies = inside x within in
+      (same.job (share_at shares x).job lies.0).0 (fast.own x within ((same.stretch (share_at shares x).stretch lies.1).1 is));
+  most = λ j known is. fast.most j known ((same.job j known).1 is);
 }
 
--- the greatest end is an end
-covering_one : (ends : List ℕ) (n end end' : ℕ) → (end ≡ 0) ⊎ ((i : ℕ) × (i < n) × (get_or ends i 0 ≡ end)) → end' ≡ max end (get_or ends n 0) →
-    (end' ≡ 0) ⊎ ((i : ℕ) × (i < n + 1) × (get_or ends i 0 ≡ end'))
-covering_one ends n end end' one is = elim (cases_lt end (get_or ends n 0)) [
-  | inl less ↦ inr (n, omega arith, omega (arith, is, less))
-  | inr more ↦ elim one [
-    | inl none ↦ inl (omega (arith, is, more, none))
-    | inr found ↦ inr (found.0, omega (arith, found.1), omega (arith, found.2, is, more))
-  ]
-]
-
-covering_most : (ends : List ℕ) (n end end' : ℕ) → ((i : ℕ) → i < n → get_or ends i 0 ≤ end) → end' ≡ max end (get_or ends n 0) →
-    (i : ℕ) → i < n + 1 → get_or ends i 0 ≤ end'
-covering_most ends n end end' most is i below = elim (cases_lt i n) [
-  | inl before ↦ omega (arith, is, most i before)
-  | inr after ↦ let same : i ≡ n = omega arith in omega (arith, is, ap (λ j. get_or ends j 0) same)
-]
-
--- one stretch more
-pub covering_more : (ends : List ℕ) (n end end' number : ℕ) (groups groups' : List ℕ) → IsCovering ends n end groups → end' ≡ max end (get_or ends n 0) →
-    groups' ≡ groups ++ number ∷ [] → ((n < end') × (number ≡ 1000000)) ⊎ ((end' ≤ n) × (number ≡ 1000001)) → IsCovering ends (n + 1) end' groups'
-covering_more ends n end end' number groups groups' so_far is same here =
-    let one = covering_one ends n end end' so_far.one is in
-    let most = covering_most ends n end end' so_far.most is in
-    record {
-      covered = record {
-        count = omega (arith, ap (λ (xs : List ℕ). length xs) same, length_push groups number, so_far.covered.count);
-        each = λ k below. elim (cases_lt k n) [
-          | inl before ↦
-              subst (λ (group : ℕ). (IsReached ends k × (group ≡ 1000000)) ⊎ ((IsReached ends k → ⊥) × (group ≡ 1000001)))
-              (sym (ap (λ (xs : List ℕ). group_of xs k) same ∙ get_or_append_left groups (number ∷ []) 0 k (omega (arith, before, so_far.covered.count))))
-              (so_far.covered.each k before)
-          | inr after ↦
-              let last : n ≡ k = omega arith in
-              let number_is : group_of groups' n ≡ number = ap (λ (xs : List ℕ). group_of xs n) same ∙ get_or_push groups number 0 n so_far.covered.count in
-              subst (λ (i : ℕ). (IsReached ends i × (group_of groups' i ≡ 1000000)) ⊎ ((IsReached ends i → ⊥) × (group_of groups' i ≡ 1000001))) last
-              (elim here [
-                | inl covered ↦ elim one [
-                  | inl none ↦ absurd (omega (arith, none, covered.0))
-                  | inr found ↦ inl ((found.0, omega (arith, found.1), omega (arith, found.2, covered.0)), number_is ∙ covered.1)
-                ]
-                | inr free ↦ inr ((λ reached. omega (arith, free.0, reached.2, most reached.0 (omega (arith, reached.1)))), number_is ∙ free.1)
-              ])
-        ];
-      };
-      most = most;
-      one = one;
-    }
-
--- all jobs and all stretches
-pub begun_all : (jobs : List Job) (windows : List Window) (ends : List ℕ) (m : ℕ) (found : Found) → m ≡ length (stretches jobs) →
-    AreFarthest jobs windows (length jobs) m ends → AreWorking jobs (length jobs) found.group_of_job → AreCovered ends (length ends) found.group_of_stretch →
-    found.groups ≡ [] → found.shares ≡ [] → IsBeginning jobs windows found 1000000
-begun_all jobs windows ends m found all farthest working covered no_groups no_shares = record {
-  all_jobs = working.count;
-  all_stretches = covered.count ∙ farthest.all ∙ all;
-  job = working.each;
-  stretch = λ k within. elim (covered.each k (omega (arith, within, farthest.all, all))) [
-    | inl reached ↦
-        let found_there = farthest.some reached.0.0 (omega (arith, reached.0.2)) in
-        inl (
-          (
-            found_there.0,
-            record {
-              known = found_there.1;
-              some = found_there.2;
-              inside = record { from = omega (arith, found_there.3, reached.0.1); upto = omega (arith, found_there.4, reached.0.2) };
-            },
-          ),
-          reached.1,
-        )
-    | inr free ↦ inr ((λ j runs. free.0 ((window_at windows j).first, runs.inside.from, omega (arith, runs.inside.upto, farthest.most j runs.known runs.some))), free.1)
-  ];
-  no_groups = no_groups;
-  no_shares = no_shares;
+pub same_slow : (jobs : List Job) (windows : List Window) (found found' : Found) (group p q : ℕ) (shares : List Share) → HasSame jobs found found' group →
+    LieInWindows jobs windows shares → IsSlow jobs found group p q shares → IsSlow jobs found' group p q shares
+same_slow jobs windows found found' group p q shares same inside slow = record {
+  served = λ j known is. slow.served j known ((same.job j known).1 is);
+  own = λ x within is.
+      let lies = inside x within in
+      (same.stretch (share_at shares x).stretch lies.1).0 (slow.own x within ((same.job (share_at shares x).job lies.0).1 is));
+  room = λ k known is. slow.room k known ((same.stretch k known).1 is);
 }
-
--- whether some job wants something, by the works
-pub start_is : (jobs : List Job) (instance : Instance) (works : List ℕ) (top last : ℕ) → IsInstance jobs instance → works ≡ instance.works.items →
-    (((j : ℕ) × (j < length works) × (1 ≤ get_or works j 0)) × (top ≡ last)) ⊎ (((j : ℕ) → j < length works → get_or works j 0 ≡ 0) × (top ≡ last + 1)) →
-    (((j : ℕ) × (j < length jobs) × (1 ≤ (job_at jobs j).work)) × (top ≡ last)) ⊎ (((j : ℕ) → j < length jobs → (job_at jobs j).work ≡ 0) × (top ≡ last + 1))
-start_is jobs instance works top last are same start =
-    let all : length works ≡ length jobs = ap (λ (xs : List ℕ). length xs) same ∙ are.all_works in
-    let work : (j : ℕ) → j < length jobs → get_or works j 0 ≡ (job_at jobs j).work = λ j known. ap (λ (xs : List ℕ). get_or xs j 0) same ∙ are.work j known in
-    elim start [
-      | inl some ↦ inl ((some.0.0, omega (arith, all, some.0.1), omega (arith, some.0.2, work some.0.0 (omega (arith, all, some.0.1)))), some.1)
-      | inr none ↦ inr ((λ j known. omega (arith, none.0 j (omega (arith, all)), work j known)), none.1)
-    ]
 
 abbrev count_one : ℕ → ℕ → ℕ
 count_one number groups = if nat_lt number groups then 1 else 0

@@ -1,6 +1,6 @@
 -- A group without late jobs is finished.
 use Rattle.std.proofs.Common.{◌≡◌, ℕ, zero, suc, ◌+◌, ◌-◌, ◌*◌, ◌<◌, ◌≤◌, ◌≢◌, ◌==◌, Bool, true, false, List, [], ◌∷◌, ◌++◌, ◌∙◌, length, get_or, refl, sym, ap, subst, inl, inr, arith}
-use Rattle.std.specs.Prelude.{if◌then◌else◌, nat_lt}
+use Rattle.std.specs.Prelude.{◌↔◌, if◌then◌else◌, nat_lt}
 use Rattle.std.specs.List.{All}
 use Rattle.std.proofs.lemmas.List.{length_push, length-append, get_or_append_left, get_or-append_right, get_or_push}
 use Rattle.std.proofs.lemmas.List.Elements.{All-append, All-from_get_or}
@@ -16,10 +16,11 @@ use Rattle.yds_model.specs.EarliestFirst.{ComesFirst}
 use Rattle.yds_search.specs.Order.{Precedes}
 use Rattle.yds_search.specs.Search.{IsFast, IsSlow, LieInWindows, IsLead, IsFinished, MayTake, IsSearch, IsFilled, IsRenamed, finished_count}
 use Rattle.yds_model.proofs.Horizon.{part_own, part_other}
-use Rattle.yds_search.proofs.Shares.{chosen_some, share_counts, no_units}
+use Rattle.yds_search.proofs.Shares.{no_units}
 use Rattle.yds_search.proofs.KeySums.{over, over_same, over_at_most, over_add, over_ones, over_list}
-use Rattle.yds_search.proofs.Balance.{fast_speed, slow_speed, speed_order}
-use Rattle.yds_search.proofs.Ends.{moved, AreAlike, kept_finished}
+use Rattle.yds_search.proofs.Balance.{fast_speed, slow_speed, speed_order, IsOwn}
+use Rattle.yds_search.proofs.Balance as filled
+use Rattle.yds_search.proofs.Ends.{moved, AreAlike, kept_finished, HasSame, same_fast, same_slow}
 
 -- all that is known when group `top` is finished
 pub record Finishing : Type 0 where
@@ -111,46 +112,20 @@ kept f = kept_finished f.jobs f.windows f.found f.new_jobs f.new_stretches
     f.search.finished
 
 -- what a share of the fill is of
-record Own (f : Finishing) (x : ℕ) : Type 0 where
-  runs : MayTake f.jobs f.windows (share_at f.shares x).job (share_at f.shares x).stretch
-  stretch_known : (share_at f.shares x).stretch < length (stretches f.jobs)
-  some : 1 ≤ (share_at f.shares x).units
-  job : group_of f.found.group_of_job (share_at f.shares x).job ≡ f.top
-  new_job : group_of f.new_jobs (share_at f.shares x).job ≡ length f.found.groups
-  stretch : group_of f.found.group_of_stretch (share_at f.shares x).stretch ≡ f.top
-  new_stretch : group_of f.new_stretches (share_at f.shares x).stretch ≡ length f.found.groups
+own_share : (f : Finishing) (x : ℕ) → x < length f.shares → IsOwn f.jobs f.windows f.found f.top (share_at f.shares x)
+own_share f = filled.own_share f.jobs f.windows f.found f.top (per_time f.group) (per_work f.group) f.wants f.rooms f.shares f.wants_left f.rooms_left f.windows_are f.filled
 
-factor_some : (a b : ℕ) → 1 ≤ a * b → 1 ≤ b
-factor_some a zero some = omega arith
-factor_some a (suc b) some = omega arith
+new_job : (f : Finishing) (x : ℕ) → x < length f.shares → group_of f.new_jobs (share_at f.shares x).job ≡ length f.found.groups
+new_job f x within =
+    let own = own_share f x within in
+    renamed_own (length f.found.groups) f.top (group_of f.found.group_of_job (share_at f.shares x).job) (group_of f.new_jobs (share_at f.shares x).job)
+    (f.job (share_at f.shares x).job own.runs.known) own.job
 
-own_share : (f : Finishing) (x : ℕ) → x < length f.shares → Own f x
-own_share f x within =
-    let part = f.filled.fill.taken.parts x no_share within in
-    let known : (share_at f.shares x).job < length f.jobs = omega (arith, part.known, f.windows_are.all) in
-    let known_stretch : (share_at f.shares x).stretch < length (stretches f.jobs) = omega (arith, part.known_stretch, f.filled.all_rooms) in
-    let job = chosen_some (group_of f.found.group_of_job (share_at f.shares x).job) f.top (per_work f.group * (job_at f.jobs (share_at f.shares x).job).work)
-    (get_or f.wants (share_at f.shares x).job 0) (f.filled.want (share_at f.shares x).job known)
-    (omega (arith, f.filled.fill.want (share_at f.shares x).job, share_counts (λ share. share.job) f.shares x within, part.some)) in
-    let stretch = chosen_some (group_of f.found.group_of_stretch (share_at f.shares x).stretch) f.top (per_time f.group * length_at f.jobs (share_at f.shares x).stretch)
-    (get_or f.rooms (share_at f.shares x).stretch 0) (f.filled.room (share_at f.shares x).stretch known_stretch)
-    (omega (arith, f.filled.fill.room (share_at f.shares x).stretch, share_counts (λ share. share.stretch) f.shares x within, part.some)) in
-    record {
-      runs = record {
-        known = known;
-        some = factor_some (per_work f.group) (job_at f.jobs (share_at f.shares x).job).work
-            (omega (arith, job.1, f.filled.fill.want (share_at f.shares x).job, share_counts (λ share. share.job) f.shares x within, part.some));
-        inside = part.inside;
-      };
-      stretch_known = known_stretch;
-      some = part.some;
-      job = job.0;
-      new_job = renamed_own (length f.found.groups) f.top (group_of f.found.group_of_job (share_at f.shares x).job) (group_of f.new_jobs (share_at f.shares x).job)
-          (f.job (share_at f.shares x).job known) job.0;
-      stretch = stretch.0;
-      new_stretch = renamed_own (length f.found.groups) f.top (group_of f.found.group_of_stretch (share_at f.shares x).stretch) (group_of f.new_stretches (share_at f.shares x).stretch)
-          (f.stretch (share_at f.shares x).stretch known_stretch) stretch.0;
-    }
+new_stretch : (f : Finishing) (x : ℕ) → x < length f.shares → group_of f.new_stretches (share_at f.shares x).stretch ≡ length f.found.groups
+new_stretch f x within =
+    let own = own_share f x within in
+    renamed_own (length f.found.groups) f.top (group_of f.found.group_of_stretch (share_at f.shares x).stretch) (group_of f.new_stretches (share_at f.shares x).stretch)
+    (f.stretch (share_at f.shares x).stretch own.stretch_known) own.stretch
 
 -- the groups before the new one, and the new one
 group_before : (f : Finishing) (i : ℕ) → i < length f.found.groups → group_at (f.found.groups ++ f.group ∷ []) i ≡ group_at f.found.groups i
@@ -233,8 +208,8 @@ all_shares f = All-append (IsShare f.jobs (ended f)) f.found.shares f.shares
       known_stretch = own.stretch_known;
       some = own.some;
       in_window = (f.windows_are.are (share_at f.shares x).job (share_at f.shares x).stretch own.runs.known own.stretch_known).0 own.runs.inside;
-      grouped = omega (arith, own.new_job, length_push f.found.groups f.group);
-      same_group = own.new_stretch ∙ sym own.new_job;
+      grouped = omega (arith, new_job f x within, length_push f.found.groups f.group);
+      same_group = new_stretch f x within ∙ sym (new_job f x within);
     }))
 
 -- an old share is of a finished group
@@ -334,7 +309,7 @@ all_in_order : (f : Finishing) (x y : ℕ) → x < y → y < length (f.found.sha
 all_in_order f x y before within =
     each_pair f (λ i j one other. i < j → one.stretch ≡ other.stretch → Precedes f.jobs one.job other.job)
     (λ i j old old' less same. f.search.finished.in_order i j less old' same) (λ i j old new' in_range less same.
-    absurd (omega (arith, old_stretch f i old, (own_share f (j - length f.found.shares) in_range).new_stretch, ap (λ n. group_of f.new_stretches n) same)))
+    absurd (omega (arith, old_stretch f i old, new_stretch f (j - length f.found.shares) in_range, ap (λ n. group_of f.new_stretches n) same)))
     (λ i j new in_range old' less same. absurd (omega (arith, less, new, old'))) (λ i j new in_range new' in_range' less same.
     f.filled.fill.taken.ordered (i - length f.found.shares) (j - length f.found.shares) no_share (omega (arith, less, new)) in_range' same)
     x y (omega (arith, before, within)) within before
@@ -348,53 +323,27 @@ all_earliest f x y within within' =
     each_pair f (λ i j one other. group_of f.new_jobs one.job ≡ group_of f.new_jobs other.job → IsIn f.windows one.job other.stretch →
     other.stretch < one.stretch → ComesFirst f.jobs other.job one.job) (λ i j old old' same inside before. (kept f).earliest i j old old' same inside before)
     (λ i j old new' in_range same inside before.
-    absurd (omega (arith, old_job f i old, (own_share f (j - length f.found.shares) in_range).new_job, same))) (λ i j new in_range old' same inside before.
-    absurd (omega (arith, old_job f j old', (own_share f (i - length f.found.shares) in_range).new_job, same))) (λ i j new in_range new' in_range' same inside before.
+    absurd (omega (arith, old_job f i old, new_job f (j - length f.found.shares) in_range, same))) (λ i j new in_range old' same inside before.
+    absurd (omega (arith, old_job f j old', new_job f (i - length f.found.shares) in_range, same))) (λ i j new in_range new' in_range' same inside before.
     (f.filled.fill.taken.early (i - length f.found.shares) no_share in_range (share_at f.shares (j - length f.found.shares)).stretch inside.from before).before
     (j - length f.found.shares) no_share in_range' refl) x y within within'
 
 abbrev one_if : Bool → ℕ
 one_if test = if test then 1 else 0
 
-counted_here : (groups top one other : ℕ) → other ≡ groups → one ≡ top → one_if (nat_lt other (groups + 1)) ≡ one_if (nat_lt other groups) + one_if (one == top)
-counted_here groups top one other is same = grind (arith, nat_tests)
-
-counted_there : (groups top one other : ℕ) → (one ≡ top → ⊥) → (other ≡ groups → ⊥) →
-    one_if (nat_lt other (groups + 1)) ≡ one_if (nat_lt other groups) + one_if (one == top)
-counted_there groups top one other different apart = grind (arith, nat_tests)
-
-counts_at_all : (test : Bool) (number top : ℕ) → number ≡ top → 1 ≤ one_if test + one_if (number == top)
-counts_at_all test number top same = omega (arith, part_own number top 1 same)
-
-counts_empty : (room : ℕ) (test : Bool) → room ≡ 0 → 1 ≤ one_if (room == 0) + one_if test
-counts_empty room test none = omega (arith, part_own room 0 1 none)
-
-counts_at_most : (test : Bool) (number top : ℕ) → number ≡ top → one_if test ≤ one_if (number == top)
-counts_at_most true number top same = omega (arith, part_own number top 1 same)
-counts_at_most false number top same = omega arith
-
-counts_nothing : (want : ℕ) (test : Bool) → want ≡ 0 → one_if (nat_lt 0 want) ≤ one_if test
-counts_nothing want test none = rw none (omega arith)
-
 renamed_counted : (groups top one other : ℕ) → groups ≤ top → (one ≡ groups → one ≡ top) → IsRenamed top groups one other →
     one_if (nat_lt other (groups + 1)) ≡ one_if (nat_lt other groups) + one_if (one == top)
-renamed_counted groups top one other apart own renamed = elim (cases_eq one top) [
-  | inl same ↦ counted_here groups top one other (renamed_own groups top one other renamed same) same
-  | inr different ↦ counted_there groups top one other different (λ is. different (renamed_here groups top one other apart own renamed is))
+renamed_counted groups top one other apart own renamed = elim renamed [
+  | inl both ↦ grind (arith, nat_tests, both.0, both.1)
+  | inr same ↦ grind (arith, nat_tests, same.0, same.1, own)
 ]
 
 -- a stretch without room at first isn't of the group, and a job that wants something is
 room_counted : (number top units room : ℕ) → room ≡ (if number == top then units else 0) → 1 ≤ one_if (room == 0) + one_if (number == top)
-room_counted number top units room is = elim (cases_eq number top) [
-  | inl same ↦ counts_at_all (room == 0) number top same
-  | inr other ↦ counts_empty room (number == top) (is ∙ part_other number top units other)
-]
+room_counted number top units room is = grind (arith, nat_tests)
 
 want_counted : (number top units want : ℕ) → want ≡ (if number == top then units else 0) → one_if (nat_lt 0 want) ≤ one_if (number == top)
-want_counted number top units want is = elim (cases_eq number top) [
-  | inl same ↦ counts_at_most (nat_lt 0 want) number top same
-  | inr other ↦ counts_nothing want (number == top) (is ∙ part_other number top units other)
-]
+want_counted number top units want is = grind (arith, nat_tests)
 
 all_few : (f : Finishing) → length (f.found.shares ++ f.shares) ≤
     finished_count f.new_jobs (length (f.found.groups ++ f.group ∷ [])) (length f.jobs)
@@ -449,49 +398,17 @@ all_finished f = record {
   few = all_few f;
 }
 
--- what has a later group's number had it before, and what goes with it in that group goes with it still
-was_there : (groups top c one other : ℕ) → groups ≤ top → top < c → IsRenamed top groups one other → other ≡ c → one ≡ c
-was_there groups top c one other apart above renamed is = renamed_later groups top one other apart renamed (omega (arith, is, above)) ∙ is
+-- later groups are as they were
+renamed_above : (groups top c one other : ℕ) → groups ≤ top → top < c → IsRenamed top groups one other → ((one ≡ c) ↔ (other ≡ c))
+renamed_above groups top c one other apart above renamed = elim renamed [
+  | inl both ↦ (λ is. absurd (omega (arith, both.0, is, above)), λ is. absurd (omega (arith, both.1, is, apart, above)))
+  | inr same ↦ (λ is. same.1 ∙ is, λ is. sym same.1 ∙ is)
+]
 
-goes_along : (groups top c one other one' other' : ℕ) → groups ≤ top → top < c → IsRenamed top groups one other → IsRenamed top groups one' other' →
-    (one ≡ c → one' ≡ c) → other ≡ c → other' ≡ c
-goes_along groups top c one other one' other' apart above renamed renamed' along is =
-    let there = along (was_there groups top c one other apart above renamed is) in
-    renamed_same groups top one' other' renamed' (λ same. omega (arith, same, there, above)) ∙ there
-
-job_was : (f : Finishing) (c j : ℕ) → f.top < c → j < length f.jobs → group_of f.new_jobs j ≡ c → group_of f.found.group_of_job j ≡ c
-job_was f c j above known =
-    was_there (length f.found.groups) f.top c (group_of f.found.group_of_job j) (group_of f.new_jobs j) f.search.apart above (f.job j known)
-
-stretch_was : (f : Finishing) (c k : ℕ) → f.top < c → k < length (stretches f.jobs) → group_of f.new_stretches k ≡ c → group_of f.found.group_of_stretch k ≡ c
-stretch_was f c k above known =
-    was_there (length f.found.groups) f.top c (group_of f.found.group_of_stretch k) (group_of f.new_stretches k) f.search.apart above (f.stretch k known)
-
--- other groups are as fast and as slow as they were
-kept_fast : (f : Finishing) (c p q : ℕ) (shares : List Share) → f.top < c → LieInWindows f.jobs f.windows shares →
-    IsFast f.jobs f.found c p q shares → IsFast f.jobs (ended f) c p q shares
-kept_fast f c p q shares above inside fast = record {
-  full = λ k known is. fast.full k known (stretch_was f c k above known is);
-  own = λ x within.
-      let lies = inside x within in
-      let j = (share_at shares x).job in
-      let k = (share_at shares x).stretch in
-      goes_along (length f.found.groups) f.top c (group_of f.found.group_of_stretch k) (group_of f.new_stretches k)
-      (group_of f.found.group_of_job j) (group_of f.new_jobs j) f.search.apart above (f.stretch k lies.1) (f.job j lies.0) (fast.own x within);
-  most = λ j known is. fast.most j known (job_was f c j above known is);
-}
-
-kept_slow : (f : Finishing) (c p q : ℕ) (shares : List Share) → f.top < c → LieInWindows f.jobs f.windows shares →
-    IsSlow f.jobs f.found c p q shares → IsSlow f.jobs (ended f) c p q shares
-kept_slow f c p q shares above inside slow = record {
-  served = λ j known is. slow.served j known (job_was f c j above known is);
-  own = λ x within.
-      let lies = inside x within in
-      let j = (share_at shares x).job in
-      let k = (share_at shares x).stretch in
-      goes_along (length f.found.groups) f.top c (group_of f.found.group_of_job j) (group_of f.new_jobs j)
-      (group_of f.found.group_of_stretch k) (group_of f.new_stretches k) f.search.apart above (f.job j lies.0) (f.stretch k lies.1) (slow.own x within);
-  room = λ k known is. slow.room k known (stretch_was f c k above known is);
+later_same : (f : Finishing) (c : ℕ) → f.top < c → HasSame f.jobs f.found (ended f) c
+later_same f c above = record {
+  job = λ j known. renamed_above (length f.found.groups) f.top c (group_of f.found.group_of_job j) (group_of f.new_jobs j) f.search.apart above (f.job j known);
+  stretch = λ k known. renamed_above (length f.found.groups) f.top c (group_of f.found.group_of_stretch k) (group_of f.new_stretches k) f.search.apart above (f.stretch k known);
 }
 
 -- the finished group is not slower than the next one
@@ -512,7 +429,7 @@ new_lead f i is more =
             ap (λ n. old.q * n) f.work,
             ap (λ n. old.p * n) f.length_is,
           ));
-      slow = kept_slow f (f.top + 1) old.p old.q old.shares (omega arith) old.inside old.slow;
+      slow = same_slow f.jobs f.windows f.found (ended f) (f.top + 1) old.p old.q old.shares (later_same f (f.top + 1) (omega arith)) old.inside old.slow;
     }
 
 -- a later group's stretch and job stay
@@ -604,8 +521,8 @@ finish_search f = record {
         shares = old.shares;
         some = old.some;
         inside = old.inside;
-        fast = kept_fast f c old.p old.q old.shares (omega arith) old.inside old.fast;
-        slow = kept_slow f (c + 1) old.p old.q old.shares (omega arith) old.inside old.slow;
+        fast = same_fast f.jobs f.windows f.found (ended f) c old.p old.q old.shares (later_same f c (omega arith)) old.inside old.fast;
+        slow = same_slow f.jobs f.windows f.found (ended f) (c + 1) old.p old.q old.shares (later_same f (c + 1) (omega arith)) old.inside old.slow;
       };
   lead = λ i is within. new_lead f i is (omega arith);
   finished = all_finished f;

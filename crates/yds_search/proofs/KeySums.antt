@@ -61,7 +61,7 @@ before_range : (a n key v : ℕ) → key < a → sum_by (λ k. cond (key == k) v
 before_range a n key v out =
     sum_by_zero (λ k. cond (key == k) v 0) (range_with_len a n) (All-range (λ k. cond (key == k) v 0 ≡ 0) a n (λ i below. not_here key (a + i) v (λ same. omega arith)))
 
-inside_range : (a n key v : ℕ) → a ≤ key → key < a + n → sum_by (λ k. cond (key == k) v 0) (range_with_len a n) ≡ v
+pub inside_range : (a n key v : ℕ) → a ≤ key → key < a + n → sum_by (λ k. cond (key == k) v 0) (range_with_len a n) ≡ v
 inside_range a zero key v from below = absurd (omega arith)
 inside_range a (suc n) key v from below = elim (cases_eq key a) [
   | inl same ↦ omega (arith, sum_by-cons (λ k. cond (key == k) v 0) a (range_with_len (a + 1) n), is_here key a v same, before_range (a + 1) n key v (omega arith))

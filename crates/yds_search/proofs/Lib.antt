@@ -1,13 +1,21 @@
 pub mod KeySums
+mod Shares
+mod Spread
+pub mod Lowest
+mod Places
+mod Balance
+mod Deadlines
 mod Fills
 mod Closures
-mod Balance
-mod Shares
-mod Splits
-mod Deadlines
-mod Ends
 pub mod Numbers
-mod Stacks
+mod Ends
 mod Finish
-mod Attempts
+mod Splits
+pub mod Ranks
+pub mod Partings
+mod Stacks
+mod Beginnings
 mod Steps
+mod Kept
+mod Chosen
+mod Endings

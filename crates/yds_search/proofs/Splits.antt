@@ -7,13 +7,13 @@ use Rattle.yds_events.specs.declared.window.Window.{Window}
 use Rattle.yds_search.specs.Found.{Found, Share, share_at, no_share, group_of}
 use Rattle.yds_events.specs.Window.{length_at, IsIn, AreWindows}
 use Rattle.yds_search.specs.Closure.{IsMarked, AreClosed}
-use Rattle.yds_search.specs.Numbers.{IsOneOf}
 use Rattle.yds_search.specs.Search.{IsFast, IsSlow, LieInWindows, IsBoundary, MayTake, IsSearch, IsFilled, IsSplit}
 use Rattle.yds_model.proofs.Horizon.{part_own}
-use Rattle.yds_search.proofs.Shares.{chosen_some, share_counts, some_share}
+use Rattle.yds_search.proofs.Shares.{some_share}
 use Rattle.yds_search.proofs.KeySums.{over_some, over_one}
-use Rattle.yds_search.proofs.Balance.{balance}
-use Rattle.yds_search.proofs.Ends.{moved, AreAlike, kept_finished}
+use Rattle.yds_search.proofs.Balance.{balance, IsOwn}
+use Rattle.yds_search.proofs.Balance as filled
+use Rattle.yds_search.proofs.Ends.{moved, AreAlike, kept_finished, HasSame, same_fast, same_slow}
 
 -- all that is known of a split: group `below` + 1 becomes `below` and itself
 pub record Splitting : Type 0 where
@@ -29,8 +29,7 @@ pub record Splitting : Type 0 where
   pub shares : List Share
   pub wants_left : List ℕ
   pub rooms_left : List ℕ
-  pub reaches : List ℕ
-  pub own : List ℕ
+  pub marks : List ℕ
   pub new_jobs : List ℕ
   pub new_stretches : List ℕ
   pub windows_are : AreWindows jobs windows
@@ -39,14 +38,9 @@ pub record Splitting : Type 0 where
   pub within : below + 1 ≤ last
   pub apart : length found.groups ≤ below
   pub filled : IsFilled jobs windows found (below + 1) p q wants rooms shares wants_left rooms_left
-  pub own_all : (k : ℕ) → k < length (stretches jobs) → group_of found.group_of_stretch k ≡ below + 1 → IsOneOf own k
-  pub closed : AreClosed windows own shares wants_left rooms_left reaches
-  pub split : IsSplit windows reaches (below + 1) found.group_of_job found.group_of_stretch new_jobs new_stretches
+  pub closed : AreClosed (λ k. group_of found.group_of_stretch k ≡ below + 1) windows shares wants_left rooms_left marks
+  pub split : IsSplit windows marks (below + 1) found.group_of_job found.group_of_stretch new_jobs new_stretches
   pub a_late : (j : ℕ) × (j < length jobs) × (1 ≤ get_or wants_left j 0)
-
-factor_some : (a b : ℕ) → 1 ≤ a * b → 1 ≤ b
-factor_some a zero some = omega arith
-factor_some a (suc b) some = omega arith
 
 product_some : (a b : ℕ) → 1 ≤ a → 1 ≤ b → 1 ≤ a * b
 product_some a b one other = grind arith
@@ -54,42 +48,19 @@ product_some a b one other = grind arith
 below_is : (a b : ℕ) → a + 1 ≡ b + 1 → a ≡ b
 below_is a b same = omega arith
 
--- a job that wanted something is one of the group
+-- what a job that wanted something is, and a stretch that had room, and a share
 own_job : (s : Splitting) (j : ℕ) → j < length s.jobs → 1 ≤ get_or s.wants j 0 → (group_of s.found.group_of_job j ≡ s.below + 1) × (1 ≤ (job_at s.jobs j).work)
-own_job s j known some =
-    let chose = chosen_some (group_of s.found.group_of_job j) (s.below + 1) (s.q * (job_at s.jobs j).work) (get_or s.wants j 0) (s.filled.want j known) some in
-    (chose.0, factor_some s.q (job_at s.jobs j).work (omega (arith, chose.1, some)))
+own_job s = filled.own_job s.jobs s.windows s.found (s.below + 1) s.p s.q s.wants s.rooms s.shares s.wants_left s.rooms_left s.windows_are s.filled
 
--- a stretch that had room is one of the group
 own_stretch : (s : Splitting) (k : ℕ) → k < length (stretches s.jobs) → 1 ≤ get_or s.rooms k 0 → group_of s.found.group_of_stretch k ≡ s.below + 1
-own_stretch s k known some =
-    (chosen_some (group_of s.found.group_of_stretch k) (s.below + 1) (s.p * length_at s.jobs k) (get_or s.rooms k 0) (s.filled.room k known) some).0
+own_stretch s = filled.own_stretch s.jobs s.windows s.found (s.below + 1) s.p s.q s.wants s.rooms s.shares s.wants_left s.rooms_left s.windows_are s.filled
 
--- what a share is of
-record Own (s : Splitting) (x : ℕ) : Type 0 where
-  runs : MayTake s.jobs s.windows (share_at s.shares x).job (share_at s.shares x).stretch
-  stretch_known : (share_at s.shares x).stretch < length (stretches s.jobs)
-  job : group_of s.found.group_of_job (share_at s.shares x).job ≡ s.below + 1
-  stretch : group_of s.found.group_of_stretch (share_at s.shares x).stretch ≡ s.below + 1
-
-own_share : (s : Splitting) (x : ℕ) → x < length s.shares → Own s x
-own_share s x within =
-    let part = s.filled.fill.taken.parts x no_share within in
-    let known : (share_at s.shares x).job < length s.jobs = omega (arith, part.known, s.windows_are.all) in
-    let known_stretch : (share_at s.shares x).stretch < length (stretches s.jobs) = omega (arith, part.known_stretch, s.filled.all_rooms) in
-    let mine = own_job s (share_at s.shares x).job known
-    (omega (arith, s.filled.fill.want (share_at s.shares x).job, share_counts (λ share. share.job) s.shares x within, part.some)) in
-    record {
-      runs = record { known = known; some = mine.1; inside = part.inside };
-      stretch_known = known_stretch;
-      job = mine.0;
-      stretch = own_stretch s (share_at s.shares x).stretch known_stretch
-          (omega (arith, s.filled.fill.room (share_at s.shares x).stretch, share_counts (λ share. share.stretch) s.shares x within, part.some));
-    }
+own_share : (s : Splitting) (x : ℕ) → x < length s.shares → IsOwn s.jobs s.windows s.found (s.below + 1) (share_at s.shares x)
+own_share s = filled.own_share s.jobs s.windows s.found (s.below + 1) s.p s.q s.wants s.rooms s.shares s.wants_left s.rooms_left s.windows_are s.filled
 
 -- a stretch of the upper part is marked
 upper_stretch : (s : Splitting) (k : ℕ) → k < length (stretches s.jobs) → group_of s.new_stretches k ≡ s.below →
-    (group_of s.found.group_of_stretch k ≡ s.below + 1) × IsMarked s.reaches k
+    (group_of s.found.group_of_stretch k ≡ s.below + 1) × IsMarked s.marks k
 upper_stretch s k known new = elim (s.split.stretch k (omega (arith, s.search.all_stretches))) [
   | inl upper ↦ (upper.0, upper.1)
   | inr same ↦ elim (s.search.stretch k known) [
@@ -99,7 +70,7 @@ upper_stretch s k known new = elim (s.split.stretch k (omega (arith, s.search.al
 ]
 
 -- a marked stretch of the group is one of the upper part
-marked_stretch : (s : Splitting) (k : ℕ) → k < length (stretches s.jobs) → group_of s.found.group_of_stretch k ≡ s.below + 1 → IsMarked s.reaches k →
+marked_stretch : (s : Splitting) (k : ℕ) → k < length (stretches s.jobs) → group_of s.found.group_of_stretch k ≡ s.below + 1 → IsMarked s.marks k →
     group_of s.new_stretches k ≡ s.below
 marked_stretch s k known mine marked = elim (s.split.stretch k (omega (arith, s.search.all_stretches))) [
   | inl upper ↦ omega (arith, upper.2)
@@ -116,7 +87,7 @@ other_stretch s k known other = elim (s.split.stretch k (omega (arith, s.search.
 
 -- a job of which all stretches in the group are marked is one of the upper part
 confined_job : (s : Splitting) (j : ℕ) → j < length s.jobs → group_of s.found.group_of_job j ≡ s.below + 1 →
-    ((k : ℕ) → IsIn s.windows j k → IsOneOf s.own k → IsMarked s.reaches k) → group_of s.new_jobs j ≡ s.below
+    ((k : ℕ) → IsIn s.windows j k → group_of s.found.group_of_stretch k ≡ s.below + 1 → IsMarked s.marks k) → group_of s.new_jobs j ≡ s.below
 confined_job s j known mine marked = elim (s.split.job j (omega (arith, s.search.all_jobs))) [
   | inl upper ↦ omega (arith, upper.2)
   | inr same ↦
@@ -126,12 +97,12 @@ confined_job s j known mine marked = elim (s.split.job j (omega (arith, s.search
         | inl upper ↦ absurd (omega (arith, upper.2, meets.2))
         | inr kept ↦
             let same_group : group_of s.found.group_of_stretch meets.0 ≡ s.below + 1 = omega (arith, kept.1, meets.2) in
-            absurd (kept.0 same_group (marked meets.0 meets.1 (s.own_all meets.0 in_range same_group)))
+            absurd (kept.0 same_group (marked meets.0 meets.1 same_group))
       ]
 ]
 
 -- who has a share in a marked stretch is one of the upper part
-shared_job : (s : Splitting) (x : ℕ) → x < length s.shares → IsMarked s.reaches (share_at s.shares x).stretch → group_of s.new_jobs (share_at s.shares x).job ≡ s.below
+shared_job : (s : Splitting) (x : ℕ) → x < length s.shares → IsMarked s.marks (share_at s.shares x).stretch → group_of s.new_jobs (share_at s.shares x).job ≡ s.below
 shared_job s x within marked =
     let own = own_share s x within in
     confined_job s (share_at s.shares x).job own.runs.known own.job (λ k inside one. s.closed.shared x k within marked inside one)
@@ -176,7 +147,7 @@ other_job s j known other = elim (s.split.job j (omega (arith, s.search.all_jobs
 
 -- some stretch of the group keeps room
 some_room : (s : Splitting) → (k : ℕ) × (k < length (stretches s.jobs)) × (group_of s.found.group_of_stretch k ≡ s.below + 1)
-    × (IsMarked s.reaches k → ⊥)
+    × (IsMarked s.marks k → ⊥)
 some_room s =
     let found = over_some (λ k. get_or s.rooms_left k 0) (length (stretches s.jobs)) (omega (
       arith,
@@ -188,7 +159,7 @@ some_room s =
       found.0,
       found.1,
       mine,
-      λ marked. omega (arith, s.closed.full found.0 (s.own_all found.0 found.1 mine) marked, found.2),
+      λ marked. omega (arith, s.closed.full found.0 mine marked, found.2),
     )
 
 -- another group's stretch stays, and so does another group's job
@@ -204,25 +175,11 @@ kept_job s j c known other is = elim (s.split.job j (omega (arith, s.search.all_
   | inr same ↦ same.1 ∙ is
 ]
 
--- other groups are as fast and as slow as they were
-kept_fast : (s : Splitting) (c p q : ℕ) (shares : List Share) → s.below + 1 < c → LieInWindows s.jobs s.windows shares →
-    IsFast s.jobs s.found c p q shares → IsFast s.jobs (moved s.found s.new_jobs s.new_stretches) c p q shares
-kept_fast s c p q shares above inside fast = record {
-  full = λ k known is. fast.full k known (sym (other_stretch s k known (λ new. omega (arith, new, is))) ∙ is);
-  own = λ x within is.
-      kept_job s (share_at shares x).job c (inside x within).0 (λ same. omega (arith, same))
-      (fast.own x within (sym (other_stretch s (share_at shares x).stretch (inside x within).1 (λ new. omega (arith, new, is))) ∙ is));
-  most = λ j known is. fast.most j known (sym (other_job s j known (λ new. omega (arith, new, is))) ∙ is);
-}
-
-kept_slow : (s : Splitting) (c p q : ℕ) (shares : List Share) → s.below + 1 < c → LieInWindows s.jobs s.windows shares →
-    IsSlow s.jobs s.found c p q shares → IsSlow s.jobs (moved s.found s.new_jobs s.new_stretches) c p q shares
-kept_slow s c p q shares above inside slow = record {
-  served = λ j known is. slow.served j known (sym (other_job s j known (λ new. omega (arith, new, is))) ∙ is);
-  own = λ x within is.
-      kept_stretch s (share_at shares x).stretch c (inside x within).1 (λ same. omega (arith, same))
-      (slow.own x within (sym (other_job s (share_at shares x).job (inside x within).0 (λ new. omega (arith, new, is))) ∙ is));
-  room = λ k known is. slow.room k known (sym (other_stretch s k known (λ new. omega (arith, new, is))) ∙ is);
+-- later groups are as they were
+later_same : (s : Splitting) (c : ℕ) → s.below + 1 < c → HasSame s.jobs s.found (moved s.found s.new_jobs s.new_stretches) c
+later_same s c above = record {
+  job = λ j known. (kept_job s j c known (λ same. omega (arith, same)), λ is. sym (other_job s j known (λ new. omega (arith, new, is))) ∙ is);
+  stretch = λ k known. (kept_stretch s k c known (λ same. omega (arith, same)), λ is. sym (other_stretch s k known (λ new. omega (arith, new, is))) ∙ is);
 }
 
 -- a job of which the window has a stretch of the lower part is no job of the upper part
@@ -287,7 +244,7 @@ new_boundary s = record {
           s.filled.room k known,
           part_own (group_of s.found.group_of_stretch k) (s.below + 1) (s.p * length_at s.jobs k) upper.0,
           s.filled.fill.room k,
-          s.closed.full k (s.own_all k known upper.0) upper.1,
+          s.closed.full k upper.0 upper.1,
         );
     own = λ x within is. shared_job s x within (upper_stretch s (share_at s.shares x).stretch (own_share s x within).stretch_known is).1;
     most = λ j known is.
@@ -357,7 +314,7 @@ covered_above s k known new =
     let found = some_share (λ share. share.stretch) s.shares k (omega (
       arith,
       s.filled.fill.room k,
-      s.closed.full k (s.own_all k known upper.0) upper.1,
+      s.closed.full k upper.0 upper.1,
       s.filled.room k known,
       part_own (group_of s.found.group_of_stretch k) (s.below + 1) (s.p * length_at s.jobs k) upper.0,
       product_some s.p (length_at s.jobs k) s.filled.some_time (s.long k known),
@@ -365,7 +322,7 @@ covered_above s k known new =
     let own = own_share s found.0 found.1 in (
       (share_at s.shares found.0).job,
       subst (λ (n : ℕ). MayTake s.jobs s.windows (share_at s.shares found.0).job n) found.2 own.runs,
-      shared_job s found.0 found.1 (subst (λ (n : ℕ). IsMarked s.reaches n) (sym found.2) upper.1) ∙ sym new,
+      shared_job s found.0 found.1 (subst (λ (n : ℕ). IsMarked s.marks n) (sym found.2) upper.1) ∙ sym new,
     )
 
 covered_below : (s : Splitting) (k : ℕ) → k < length (stretches s.jobs) → (group_of s.new_stretches k ≡ s.below → ⊥) →
@@ -428,7 +385,7 @@ peopled_after s c from upto = elim (cases_eq c s.below) [
         found.0,
         known,
         marked_stretch s found.0 known (found.2 ∙ late.0)
-            (s.closed.late s.a_late.0 found.0 (omega (arith, s.windows_are.all, s.a_late.1)) s.a_late.2 found.1 (s.own_all found.0 known (found.2 ∙ late.0))) ∙ sym upper,
+            (s.closed.late s.a_late.0 found.0 (omega (arith, s.windows_are.all, s.a_late.1)) s.a_late.2 found.1 (found.2 ∙ late.0)) ∙ sym upper,
       )
   | inr other ↦ elim (cases_eq c (s.below + 1)) [
     | inl lower ↦
@@ -461,9 +418,9 @@ between_after s c from upto = elim (cases_eq c s.below) [
           | inl lower ↦
               subst (λ (n : ℕ). IsFast s.jobs (moved s.found s.new_jobs s.new_stretches) n old.p old.q old.shares) (sym lower)
               (lower_fast s old.p old.q old.shares old.inside (subst (λ (n : ℕ). IsFast s.jobs s.found n old.p old.q old.shares) lower old.fast))
-          | inr above ↦ kept_fast s c old.p old.q old.shares (omega arith) old.inside old.fast
+          | inr above ↦ same_fast s.jobs s.windows s.found (moved s.found s.new_jobs s.new_stretches) c old.p old.q old.shares (later_same s c (omega arith)) old.inside old.fast
         ];
-        slow = kept_slow s (c + 1) old.p old.q old.shares (omega arith) old.inside old.slow;
+        slow = same_slow s.jobs s.windows s.found (moved s.found s.new_jobs s.new_stretches) (c + 1) old.p old.q old.shares (later_same s (c + 1) (omega arith)) old.inside old.slow;
       }
 ]
 

@@ -1,28 +1,38 @@
--- The lists of groups that wait, and how they change when a group is finished or split.
-use Rattle.std.proofs.Common.{◌≡◌, ℕ, List, [], ◌∷◌, ◌++◌, ◌∙◌, length, map, refl, sym, ap, arith, ◌+◌, ◌-◌, ◌*◌, ◌<◌, ◌≤◌, ◌⊎◌, ◌==◌, get_or, subst, inl, inr}
-use Rattle.std.proofs.lemmas.List.{flat_map_more, map_push, length_push, get_or_past, get_or_append_left, get_or_push}
-use Rattle.yds_search.specs.declared.stack.Size.{Size}
-use Rattle.yds_search.specs.Waiting.{Part, part_at, no_part, part_in, IsWaiting, IsStack}
-use Rattle.yds_search.specs.Stack.{size_of, jobs_of, stretches_of}
-use Rattle.std.specs.Prelude.{nat_le, if◌then◌else◌}
-use Rattle.std.specs.List.{range_with_len}
-use Rattle.std.proofs.lemmas.Bool.{cases_lt, ne_eqb}
+-- The groups that wait, and how they change when one is finished or split.
+use Rattle.std.proofs.Common.{◌≡◌, ℕ, zero, suc, ◌+◌, ◌-◌, ◌<◌, ◌≤◌, ◌⊎◌, ◌==◌, Bool, true, false, not, cond, List, [], ◌∷◌, ◌++◌, ◌∙◌, length, map, get_or, refl, sym, ap, subst, inl, inr, eq-eqb, zero-add, arith}
+use Rattle.std.specs.Prelude.{nat_lt}
+use Rattle.std.specs.List.{All, filter, range_with_len}
+use Rattle.std.proofs.lemmas.Bool.{cases_lt, cases_eq, cases_Bool, ne_eqb, eqb-true, eqb-false, lt-ltb, le-ltb, cond-true, cond-false, cond_both}
 use Rattle.std.proofs.lemmas.Bool.Decides.{nat_tests}
+use Rattle.std.proofs.lemmas.List.{flat_map_more, map_push, length_push, get_or_past, get_or_append_left, get_or_push, get_or-map, length-map}
+use Rattle.std.proofs.lemmas.List.FromFn.{get_or-range_with_len, length-range_with_len}
+use Rattle.std.proofs.lemmas.List.Elements.{All-nil, All-head, All-tail, All-cons, All-map, All-filter}
+use Rattle.std.proofs.lemmas.List.Filters.{length-filter_both}
+use Rattle.yds_search.specs.declared.stack.Size.{Size}
+use Rattle.yds_search.specs.declared.own.OwnJob.{OwnJob}
+use Rattle.yds_search.specs.declared.own.OwnStretch.{OwnStretch}
 use Rattle.yds_model.specs.Job.{Job, job_at}
 use Rattle.yds_model.specs.Event.{stretches}
 use Rattle.yds_events.specs.declared.window.Window.{Window}
-use Rattle.yds_search.specs.Found.{Found, Share, share_at, no_share, group_of}
-use Rattle.yds_events.specs.Window.{length_at, AreWindows}
-use Rattle.yds_search.specs.Numbers.{IsOneOf, numbers_in, AreWritten}
-use Rattle.yds_search.specs.Search.{IsFilled, IsRenamed, IsSplitStretch, IsSplitJob, IsJobNumber, split_stretch, AreMovedFrom, IsSearch}
-use Rattle.yds_search.proofs.Numbers.{one_or_none, written_at, written_off, in_group, in_has, in_same, in_twice}
-use Rattle.yds_search.proofs.Shares.{chosen_some, share_counts}
+use Rattle.yds_events.specs.Window.{window_at, no_window, length_at, IsIn, IsPlace}
+use Rattle.yds_search.specs.Found.{Found, group_of}
+use Rattle.yds_search.specs.Numbers.{IsOneOf, numbers_in}
+use Rattle.yds_search.specs.Search.{IsSplitStretch, IsSplitJob, IsSplit, AreMovedFrom, IsSearch}
+use Rattle.yds_search.specs.Own.{Part, AreOwn, HaveWindows, job_numbers, stretch_numbers, window_of, own_windows, spread}
+use Rattle.yds_search.specs.Closure.{AreRanks}
+use Rattle.yds_search.specs.Instance.{IsInstance}
+use Rattle.yds_search.specs.Waiting.{part_at, no_part, IsWaiting, IsStack}
+use Rattle.yds_search.specs.Stack.{size_of, jobs_of, own_stretches_of, moves, moved, stayed, moving_jobs, staying_jobs, marked_with, staying_part, moving_part}
+use Rattle.yds_search.proofs.Numbers.{one_or_none, in_same, in_twice}
+use Rattle.yds_search.proofs.Spread.{spread_at, spread_off}
+use Rattle.yds_search.proofs.Ranks.{place_among, place_among_others, are_ranked, over_cases}
+use Rattle.yds_search.proofs.Places.{no_own, job_count, stretch_count, jobs_apart, stretches_apart, job_there, job_here, stretch_there, stretch_here, in_number, in_place, windows_have}
 
 -- one part more
 pub jobs_more : (parts : List Part) (part : Part) → jobs_of parts ++ part.jobs ≡ jobs_of (parts ++ part ∷ [])
 jobs_more parts part = flat_map_more (λ (one : Part). one.jobs) [] parts part
 
-pub stretches_more : (parts : List Part) (part : Part) → stretches_of parts ++ part.stretches ≡ stretches_of (parts ++ part ∷ [])
+pub stretches_more : (parts : List Part) (part : Part) → own_stretches_of parts ++ part.stretches ≡ own_stretches_of (parts ++ part ∷ [])
 stretches_more parts part = flat_map_more (λ (one : Part). one.stretches) [] parts part
 
 same_size : (m n : ℕ) (part : Part) → m ≡ length part.jobs → n ≡ length part.stretches →
@@ -37,122 +47,48 @@ sizes_more parts part sizes sizes' m n are more a b =
     more ∙ ap (λ (xs : List Size). xs ++ record { jobs = m; stretches = n } ∷ []) are
     ∙ ap (λ (one : Size). map size_of parts ++ one ∷ []) (same_size m n part a b) ∙ sym (map_push size_of parts part)
 
--- the last part, by its size
-pub last_part : (parts : List Part) (sizes : List Size) (size : Size) → map size_of parts ≡ sizes ++ size ∷ [] →
-    (front : List Part) × (part : Part) × (parts ≡ front ++ part ∷ []) × (sizes ≡ map size_of front) × (size ≡ size_of part)
-last_part [] sizes size is = absurd (omega (arith, ap (λ (xs : List Size). length xs) is, length_push sizes size))
-last_part (x ∷ []) [] size is = ([], x, refl, refl, cc)
-last_part (x ∷ (y ∷ parts)) [] size is = absurd (omega (arith, ap (λ (xs : List Size). length xs) is))
-last_part (x ∷ parts) (one ∷ sizes) size is =
-    let rest = last_part parts sizes size (cc) in (x ∷ rest.0, rest.1, ap (λ (xs : List Part). x ∷ xs) rest.2, cc (rest.3), rest.4)
+-- each job stays or moves
+pub jobs_parted : (ranks : List ℕ) (jobs : List OwnJob) → length (staying_jobs ranks jobs) + length (moving_jobs ranks jobs) ≡ length jobs
+jobs_parted ranks jobs = omega (
+  arith,
+  length-map (filter (λ own. not (moves ranks own)) jobs) (stayed ranks),
+  length-map (filter (moves ranks) jobs) (moved ranks),
+  length-filter_both (moves ranks) (λ own. not (moves ranks own)) (λ own. refl) jobs,
+)
 
--- a number of a group's list is in the group, and no other one
-list_group : (groups : List ℕ) (group : ℕ) (numbers whole : List ℕ) (k : ℕ) → numbers ≡ numbers_in groups group whole → IsOneOf numbers k → group_of groups k ≡ group
-list_group groups group numbers whole k same one = in_group groups group whole k (subst (λ (xs : List ℕ). IsOneOf xs k) same one)
+-- so does each stretch
+pub stretches_parted : (marks : List ℕ) (stretches : List OwnStretch) → All (λ mark. mark ≤ 1) marks → length marks ≡ length stretches →
+    length (marked_with 0 marks stretches) + length (marked_with 1 marks stretches) ≡ length stretches
+stretches_parted [] [] small all = refl
+stretches_parted [] (own ∷ stretches) small all = absurd (omega (arith, all))
+stretches_parted (mark ∷ marks) [] small all = absurd (omega (arith, all))
+stretches_parted (zero ∷ marks) (own ∷ stretches) small all = omega (arith, stretches_parted marks stretches (All-tail (λ mark. mark ≤ 1) 0 marks small) (omega (arith, all)))
+stretches_parted ((suc zero) ∷ marks) (own ∷ stretches) small all = omega (arith, stretches_parted marks stretches (All-tail (λ mark. mark ≤ 1) 1 marks small) (omega (arith, all)))
+stretches_parted ((suc (suc n)) ∷ marks) (own ∷ stretches) small all = absurd (omega (arith, small 0 0 (omega arith)))
 
-pub list_has : (groups : List ℕ) (group : ℕ) (numbers whole : List ℕ) (k : ℕ) → numbers ≡ numbers_in groups group whole → IsOneOf whole k → group_of groups k ≡ group →
-    IsOneOf numbers k
-list_has groups group numbers whole k same one mine = subst (λ (xs : List ℕ). IsOneOf xs k) (sym same) (in_has groups group whole k one mine)
+-- a parted group's jobs are laid behind those of the others
+pub jobs_split : (parts : List Part) (part : Part) (marks ranks : List ℕ) →
+    (jobs_of parts ++ staying_jobs ranks part.jobs) ++ moving_jobs ranks part.jobs ≡ jobs_of ((parts ++ staying_part marks ranks part ∷ []) ++ moving_part marks ranks part ∷ [])
+jobs_split parts part marks ranks =
+    ap (λ (xs : List OwnJob). xs ++ moving_jobs ranks part.jobs) (jobs_more parts (staying_part marks ranks part)) ∙ jobs_more (parts ++ staying_part marks ranks part ∷ []) (moving_part marks ranks part)
 
--- all of a group get another number
-pub renamed_is : (old new numbers whole : List ℕ) (group to n : ℕ) → numbers ≡ numbers_in old group whole → ((k : ℕ) → k < n → IsOneOf whole k) →
-    AreWritten (λ i value. value ≡ to) numbers (length numbers) old new → (k : ℕ) → k < n → IsRenamed group to (group_of old k) (group_of new k)
-renamed_is old new numbers whole group to n same all written k known = elim (one_or_none numbers k) [
-  | inl one ↦ inl (list_group old group numbers whole k same one, written_at (λ i value. value ≡ to) numbers old new k written one)
-  | inr none ↦ inr ((λ mine. none (list_has old group numbers whole k same (all k known) mine)), written_off (λ i value. value ≡ to) numbers old new k written none)
-]
+pub stretches_split : (parts : List Part) (part : Part) (marks ranks : List ℕ) →
+    (own_stretches_of parts ++ marked_with 0 marks part.stretches) ++ marked_with 1 marks part.stretches
+    ≡ own_stretches_of ((parts ++ staying_part marks ranks part ∷ []) ++ moving_part marks ranks part ∷ [])
+stretches_split parts part marks ranks =
+    ap (λ (xs : List OwnStretch). xs ++ marked_with 1 marks part.stretches) (stretches_more parts (staying_part marks ranks part))
+    ∙ stretches_more (parts ++ staying_part marks ranks part ∷ []) (moving_part marks ranks part)
 
--- only numbers of the group change, and become no greater
-pub moved_from : (P : ℕ → ℕ → Type 0) (old new numbers whole : List ℕ) (group : ℕ) → numbers ≡ numbers_in old group whole →
-    AreWritten P numbers (length numbers) old new → ((i value : ℕ) → P i value → value ≤ group) → AreMovedFrom group old new
-moved_from P old new numbers whole group same written small i = elim (one_or_none numbers i) [
-  | inl one ↦ inr (list_group old group numbers whole i same one, small i (group_of new i) (written_at P numbers old new i written one))
-  | inr none ↦ inl (written_off P numbers old new i written none)
-]
-
-pub split_cases : (reach k top value : ℕ) → value ≡ (if nat_le reach k then top - 1 else top) → ((reach ≤ k) × (value ≡ top - 1)) ⊎ ((k < reach) × (value ≡ top))
-split_cases reach k top value is = grind (arith, nat_tests)
-
--- a group's stretches that are marked move to the group before it
-pub split_stretch_is : (reaches old new numbers whole : List ℕ) (top n : ℕ) → 1 ≤ top → numbers ≡ numbers_in old top whole → ((k : ℕ) → k < n → IsOneOf whole k) →
-    AreWritten (λ k value. value ≡ split_stretch reaches top k) numbers (length numbers) old new → (k : ℕ) → k < n →
-    IsSplitStretch reaches top k (group_of old k) (group_of new k)
-split_stretch_is reaches old new numbers whole top n some same all written k known = elim (one_or_none numbers k) [
-  | inl one ↦
-      let mine = list_group old top numbers whole k same one in
-      elim (split_cases (get_or reaches k 0) k top (group_of new k) (written_at (λ i value. value ≡ split_stretch reaches top i) numbers old new k written one)) [
-        | inl moves ↦ inl (mine, moves.0, omega (arith, some, moves.1))
-        | inr stays ↦ inr ((λ is marked. omega (arith, marked, stays.0)), stays.1 ∙ sym mine)
-      ]
-  | inr none ↦ inr (
-    (λ mine marked. none (list_has old top numbers whole k same (all k known) mine)),
-    written_off (λ i value. value ≡ split_stretch reaches top i) numbers old new k written none,
-  )
-]
-
--- which stretches are left of a split group
-left_has : (P : ℕ → ℕ → Type 0) (old new numbers whole left : List ℕ) (top k : ℕ) → numbers ≡ numbers_in old top whole → left ≡ numbers_in new top numbers →
-    AreWritten P numbers (length numbers) old new → IsOneOf whole k → group_of new k ≡ top → IsOneOf left k
-left_has P old new numbers whole left top k same same' written one mine = elim (one_or_none numbers k) [
-  | inl listed ↦ list_has new top left numbers k same' listed mine
-  | inr none ↦ absurd (none (list_has old top numbers whole k same one (sym (written_off P numbers old new k written none) ∙ mine)))
-]
-
--- and which jobs move
-pub split_job_is : (P : ℕ → ℕ → Type 0) (jobs : List Job) (windows : List Window) (old new numbers whole left old_jobs new_jobs own_jobs order : List ℕ) (top : ℕ) → 1 ≤ top →
-    AreWindows jobs windows → numbers ≡ numbers_in old top whole → left ≡ numbers_in new top numbers → ((k : ℕ) → k < length (stretches jobs) → IsOneOf whole k) →
-    AreWritten P numbers (length numbers) old new → own_jobs ≡ numbers_in old_jobs top order → ((j : ℕ) → j < length jobs → IsOneOf order j) →
-    AreWritten (IsJobNumber windows left top) own_jobs (length own_jobs) old_jobs new_jobs →
-    (j : ℕ) → j < length jobs → IsSplitJob windows new top j (group_of old_jobs j) (group_of new_jobs j)
-split_job_is P jobs windows old new numbers whole left old_jobs new_jobs own_jobs order top some are same same' all written same'' all_jobs written' j known = elim (one_or_none own_jobs j) [
-  | inl one ↦
-      let mine = list_group old_jobs top own_jobs order j same'' one in
-      elim (written_at (IsJobNumber windows left top) own_jobs old_jobs new_jobs j written' one) [
-        | inl misses ↦ inl (
-          mine,
-          (λ k inside is. misses.0 k inside (left_has P old new numbers whole left top k same same' written (all k (omega (arith, inside.upto, are.inside j known))) is)),
-          omega (arith, some, misses.1),
-        )
-        | inr meets ↦ inr ((λ is. (meets.0.0, meets.0.1, list_group new top left numbers meets.0.0 same' meets.0.2)), meets.1 ∙ sym mine)
-      ]
-  | inr none ↦ inr (
-    (λ mine. absurd (none (list_has old_jobs top own_jobs order j same'' (all_jobs j known) mine))),
-    written_off (IsJobNumber windows left top) own_jobs old_jobs new_jobs j written' none,
-  )
-]
-
--- shares lie in a group's own stretches
-pub share_own : (jobs : List Job) (windows : List Window) (found : Found) (top p q : ℕ) (wants rooms : List ℕ) (shares : List Share) (wants' rooms' numbers whole : List ℕ) →
-    IsFilled jobs windows found top p q wants rooms shares wants' rooms' → numbers ≡ numbers_in found.group_of_stretch top whole →
-    ((k : ℕ) → k < length (stretches jobs) → IsOneOf whole k) → (x : ℕ) → x < length shares → IsOneOf numbers (share_at shares x).stretch
-share_own jobs windows found top p q wants rooms shares wants' rooms' numbers whole filled same all x within =
-    let part = filled.fill.taken.parts x no_share within in
-    let known : (share_at shares x).stretch < length (stretches jobs) = omega (arith, part.known_stretch, filled.all_rooms) in
-    list_has found.group_of_stretch top numbers whole (share_at shares x).stretch same (all (share_at shares x).stretch known)
-    (chosen_some (group_of found.group_of_stretch (share_at shares x).stretch) top (p * length_at jobs (share_at shares x).stretch)
-    (get_or rooms (share_at shares x).stretch 0) (filled.room (share_at shares x).stretch known)
-    (omega (arith, filled.fill.room (share_at shares x).stretch, share_counts (λ share. share.stretch) shares x within, part.some))).0
-
--- jobs that want units are the group's own
-pub wanting_own : (jobs : List Job) (windows : List Window) (found : Found) (top p q : ℕ) (wants rooms : List ℕ) (shares : List Share) (wants' rooms' numbers whole : List ℕ) →
-    IsFilled jobs windows found top p q wants rooms shares wants' rooms' → numbers ≡ numbers_in found.group_of_job top whole →
-    ((j : ℕ) → j < length jobs → IsOneOf whole j) → (j : ℕ) → 1 ≤ get_or wants' j 0 → IsOneOf numbers j
-wanting_own jobs windows found top p q wants rooms shares wants' rooms' numbers whole filled same all j some = elim (cases_lt j (length jobs)) [
-  | inl known ↦
-      list_has found.group_of_job top numbers whole j same (all j known)
-      (chosen_some (group_of found.group_of_job j) top (q * (job_at jobs j).work) (get_or wants j 0) (filled.want j known) (omega (arith, some, filled.fill.want j))).0
-  | inr past ↦ absurd (omega (arith, some, get_or_past wants' j 0 (omega (arith, past, filled.fill.same_wants, filled.all_wants))))
-]
-
-pub roomy_own : (jobs : List Job) (windows : List Window) (found : Found) (top p q : ℕ) (wants rooms : List ℕ) (shares : List Share) (wants' rooms' numbers whole : List ℕ) →
-    IsFilled jobs windows found top p q wants rooms shares wants' rooms' → numbers ≡ numbers_in found.group_of_stretch top whole →
-    ((k : ℕ) → k < length (stretches jobs) → IsOneOf whole k) → (k : ℕ) → 1 ≤ get_or rooms' k 0 → IsOneOf numbers k
-roomy_own jobs windows found top p q wants rooms shares wants' rooms' numbers whole filled same all k some = elim (cases_lt k (length (stretches jobs))) [
-  | inl known ↦
-      list_has found.group_of_stretch top numbers whole k same (all k known)
-      (chosen_some (group_of found.group_of_stretch k) top (p * length_at jobs k) (get_or rooms k 0) (filled.room k known) (omega (arith, some, filled.fill.room k))).0
-  | inr past ↦ absurd (omega (arith, some, get_or_past rooms' k 0 (omega (arith, past, filled.fill.same_rooms, filled.all_rooms))))
-]
+-- and its parts' sizes
+pub sizes_split : (parts : List Part) (part : Part) (marks ranks : List ℕ) (size : Size) (m n : ℕ) (sizes sizes' sizes'' : List Size) → All (λ mark. mark ≤ 1) marks →
+    length marks ≡ length part.stretches → size ≡ size_of part → sizes ≡ map size_of parts → m ≡ length (staying_jobs ranks part.jobs) → n ≡ length (marked_with 0 marks part.stretches) →
+    sizes' ≡ sizes ++ record { jobs = m; stretches = n } ∷ [] → sizes'' ≡ sizes' ++ record { jobs = size.jobs - m; stretches = size.stretches - n } ∷ [] →
+    sizes'' ≡ map size_of ((parts ++ staying_part marks ranks part ∷ []) ++ moving_part marks ranks part ∷ [])
+sizes_split parts part marks ranks size m n sizes sizes' sizes'' small all is are jobs stretches more more' =
+    sizes_more (parts ++ staying_part marks ranks part ∷ []) (moving_part marks ranks part) sizes' sizes'' (size.jobs - m) (size.stretches - n)
+    (sizes_more parts (staying_part marks ranks part) sizes sizes' m n are more jobs stretches) more'
+    (omega (arith, jobs, ap (λ (one : Size). one.jobs) is, jobs_parted ranks part.jobs))
+    (omega (arith, stretches, ap (λ (one : Size). one.stretches) is, stretches_parted marks part.stretches small all))
 
 -- later groups keep their members
 same_member : (top old new group : ℕ) → top < group → (new ≡ old) ⊎ ((old ≡ top) × (new ≤ top)) → (new == group) ≡ (old == group)
@@ -161,75 +97,56 @@ same_member top old new group above moved = elim moved [
   | inr both ↦ ne_eqb new group (λ is. omega (arith, is, both.1)) ∙ sym (ne_eqb old group (λ is. omega (arith, is, both.0)))
 ]
 
-waiting_kept : (order : List ℕ) (found new : Found) (group top : ℕ) (part : Part) → length new.group_of_stretch ≡ length found.group_of_stretch →
+waiting_kept : (jobs : List Job) (windows : List Window) (order : List ℕ) (found new : Found) (group top : ℕ) (part : Part) → length new.group_of_stretch ≡ length found.group_of_stretch →
     AreMovedFrom top found.group_of_job new.group_of_job → AreMovedFrom top found.group_of_stretch new.group_of_stretch → top < group →
-    IsWaiting order found group part → IsWaiting order new group part
-waiting_kept order found new group top part count moved moved' above waiting = record {
-  jobs = waiting.jobs ∙ sym (in_same found.group_of_job new.group_of_job group order
+    IsWaiting jobs windows order found group part → IsWaiting jobs windows order new group part
+waiting_kept jobs windows order found new group top part count moved moved' above waiting = record {
+  jobs_are = waiting.jobs_are ∙ sym (in_same found.group_of_job new.group_of_job group order
       (λ i. same_member top (group_of found.group_of_job i) (group_of new.group_of_job i) group above (moved i)));
-  stretches = waiting.stretches ∙ sym (in_same found.group_of_stretch new.group_of_stretch group (range_with_len 0 (length found.group_of_stretch))
+  stretches_are = waiting.stretches_are ∙ sym (in_same found.group_of_stretch new.group_of_stretch group (range_with_len 0 (length found.group_of_stretch))
       (λ i. same_member top (group_of found.group_of_stretch i) (group_of new.group_of_stretch i) group above (moved' i)))
       ∙ ap (λ (n : ℕ). numbers_in new.group_of_stretch group (range_with_len 0 n)) (sym count);
+  own = waiting.own;
 }
 
 -- the other groups still wait
-pub stack_kept : (order : List ℕ) (found new : Found) (top last : ℕ) (parts : List Part) → length new.group_of_stretch ≡ length found.group_of_stretch →
-    AreMovedFrom top found.group_of_job new.group_of_job → AreMovedFrom top found.group_of_stretch new.group_of_stretch →
-    IsStack order found (top + 1) last parts → IsStack order new (top + 1) last parts
-stack_kept order found new top last parts count moved moved' stack = record {
+pub stack_kept : (jobs : List Job) (windows : List Window) (order : List ℕ) (found new : Found) (top last : ℕ) (parts : List Part) →
+    length new.group_of_stretch ≡ length found.group_of_stretch → AreMovedFrom top found.group_of_job new.group_of_job →
+    AreMovedFrom top found.group_of_stretch new.group_of_stretch → IsStack jobs windows order found (top + 1) last parts → IsStack jobs windows order new (top + 1) last parts
+stack_kept jobs windows order found new top last parts count moved moved' stack = record {
   count = stack.count;
-  each = λ i within. waiting_kept order found new (last - i) top (part_at parts i) count moved moved' (omega (arith, stack.count, within)) (stack.each i within);
+  each = λ i within. waiting_kept jobs windows order found new (last - i) top (part_at parts i) count moved moved' (omega (arith, stack.count, within)) (stack.each i within);
 }
 
 -- the last group is the fastest one
-pub stack_pop : (order : List ℕ) (found : Found) (top last : ℕ) (parts : List Part) (part : Part) → IsStack order found top last (parts ++ part ∷ []) →
-    IsStack order found (top + 1) last parts × IsWaiting order found top part × (top ≤ last)
-stack_pop order found top last parts part stack =
+pub stack_pop : (jobs : List Job) (windows : List Window) (order : List ℕ) (found : Found) (top last : ℕ) (parts : List Part) (part : Part) →
+    IsStack jobs windows order found top last (parts ++ part ∷ []) →
+    IsStack jobs windows order found (top + 1) last parts × IsWaiting jobs windows order found top part × (top ≤ last)
+stack_pop jobs windows order found top last parts part stack =
     let count : length parts + 1 + top ≡ last + 1 = omega (arith, stack.count, length_push parts part) in (
       record {
         count = omega (arith, count);
-        each = λ i within. subst (IsWaiting order found (last - i)) (get_or_append_left parts (part ∷ []) no_part i within)
+        each = λ i within. subst (IsWaiting jobs windows order found (last - i)) (get_or_append_left parts (part ∷ []) no_part i within)
             (stack.each i (omega (arith, within, length_push parts part)));
       },
-      subst (λ (n : ℕ). IsWaiting order found n part) (omega (arith, count))
-          (subst (IsWaiting order found (last - length parts)) (get_or_push parts part no_part (length parts) refl)
+      subst (λ (n : ℕ). IsWaiting jobs windows order found n part) (omega (arith, count))
+          (subst (IsWaiting jobs windows order found (last - length parts)) (get_or_push parts part no_part (length parts) refl)
           (stack.each (length parts) (omega (arith, length_push parts part)))),
       omega (arith, count),
     )
 
-pub stack_push : (order : List ℕ) (found : Found) (top last : ℕ) (parts : List Part) (part : Part) → IsStack order found (top + 1) last parts → IsWaiting order found top part →
-    IsStack order found top last (parts ++ part ∷ [])
-stack_push order found top last parts part stack waiting = record {
+stack_push : (jobs : List Job) (windows : List Window) (order : List ℕ) (found : Found) (top last : ℕ) (parts : List Part) (part : Part) →
+    IsStack jobs windows order found (top + 1) last parts → IsWaiting jobs windows order found top part → IsStack jobs windows order found top last (parts ++ part ∷ [])
+stack_push jobs windows order found top last parts part stack waiting = record {
   count = omega (arith, stack.count, length_push parts part);
   each = λ i within. elim (cases_lt i (length parts)) [
-    | inl below ↦ subst (IsWaiting order found (last - i)) (sym (get_or_append_left parts (part ∷ []) no_part i below)) (stack.each i below)
+    | inl below ↦ subst (IsWaiting jobs windows order found (last - i)) (sym (get_or_append_left parts (part ∷ []) no_part i below)) (stack.each i below)
     | inr past ↦
         let here : length parts ≡ i = omega (arith, within, length_push parts part) in
-        subst (IsWaiting order found (last - i)) (sym (get_or_push parts part no_part i here))
-        (subst (λ (n : ℕ). IsWaiting order found n part) (omega (arith, stack.count, here)) waiting)
+        subst (IsWaiting jobs windows order found (last - i)) (sym (get_or_push parts part no_part i here))
+        (subst (λ (n : ℕ). IsWaiting jobs windows order found n part) (omega (arith, stack.count, here)) waiting)
   ];
 }
-
--- of a split group the members of a part that were members of the group
-part_waits : (order : List ℕ) (found new : Found) (top group : ℕ) (part : Part) → length new.group_of_stretch ≡ length found.group_of_stretch →
-    ((i : ℕ) → group_of new.group_of_job i ≡ group → group_of found.group_of_job i ≡ top) →
-    ((i : ℕ) → group_of new.group_of_stretch i ≡ group → group_of found.group_of_stretch i ≡ top) →
-    IsWaiting order found top part → IsWaiting order new group (part_in new group part)
-part_waits order found new top group part count was was' waiting = record {
-  jobs = ap (numbers_in new.group_of_job group) waiting.jobs ∙ in_twice found.group_of_job new.group_of_job top group order was;
-  stretches = ap (numbers_in new.group_of_stretch group) waiting.stretches
-      ∙ in_twice found.group_of_stretch new.group_of_stretch top group (range_with_len 0 (length found.group_of_stretch)) was'
-      ∙ ap (λ (n : ℕ). numbers_in new.group_of_stretch group (range_with_len 0 n)) (sym count);
-}
-
--- who is in the group after the split was in it before
-was_top : (top : ℕ) (old new : List ℕ) → AreMovedFrom top old new → (i : ℕ) → group_of new i ≡ top → group_of old i ≡ top
-was_top top old new moved i is = elim (moved i) [ inl same ↦ sym same ∙ is | inr both ↦ both.0 ]
-
--- and who is in the group before it, where nobody had that number
-was_below : (top below : ℕ) (old new : List ℕ) → ((i : ℕ) → group_of old i ≡ below → ⊥) → AreMovedFrom top old new →
-    (i : ℕ) → group_of new i ≡ below → group_of old i ≡ top
-was_below top below old new none moved i is = elim (moved i) [ inl same ↦ absurd (none i (sym same ∙ is)) | inr both ↦ both.0 ]
 
 -- nobody has the number of the group before the fastest one
 none_below : (jobs : List Job) (windows : List Window) (found : Found) (top last : ℕ) → IsSearch jobs windows found top last → length found.groups + 1 < top → top ≤ last →
@@ -254,17 +171,309 @@ none_below jobs windows found top last search few within = (
   ],
 )
 
--- the two parts of a split group wait before the others
-pub stack_split : (jobs : List Job) (windows : List Window) (order : List ℕ) (found new : Found) (top last : ℕ) (parts : List Part) (part : Part) →
-    IsSearch jobs windows found top last → length found.groups + 1 < top → top ≤ last → length new.group_of_stretch ≡ length found.group_of_stretch →
-    AreMovedFrom top found.group_of_job new.group_of_job → AreMovedFrom top found.group_of_stretch new.group_of_stretch →
-    IsStack order found (top + 1) last parts → IsWaiting order found top part →
-    IsStack order new (top - 1) last ((parts ++ part_in new top part ∷ []) ++ part_in new (top - 1) part ∷ [])
-stack_split jobs windows order found new top last parts part search few within count moved moved' stack waiting =
-    let none = none_below jobs windows found top last search few within in
-    stack_push order new (top - 1) last (parts ++ part_in new top part ∷ []) (part_in new (top - 1) part)
-    (subst (λ (n : ℕ). IsStack order new n last (parts ++ part_in new top part ∷ [])) (omega (arith, few))
-    (stack_push order new top last parts (part_in new top part) (stack_kept order found new top last parts count moved moved' stack)
-    (part_waits order found new top top part count (was_top top found.group_of_job new.group_of_job moved) (was_top top found.group_of_stretch new.group_of_stretch moved') waiting)))
-    (part_waits order found new top (top - 1) part count (was_below top (top - 1) found.group_of_job new.group_of_job none.0 moved)
-    (was_below top (top - 1) found.group_of_stretch new.group_of_stretch none.1 moved') waiting)
+-- of group top, whoever is marked moves to the group before it
+abbrev pub split_numbers : ℕ → List ℕ → List ℕ → List ℕ
+split_numbers top old marks =
+    map (λ i. cond (group_of old i == top) (cond (nat_lt 0 (get_or marks i 0)) (top - 1) top) (group_of old i)) (range_with_len 0 (length old))
+
+abbrev pub job_marks : List ℕ → List OwnJob → List ℕ
+job_marks ranks jobs = map (λ own. cond (moves ranks own) 1 0) jobs
+
+abbrev pub after_split : List Job → Found → ℕ → List ℕ → List ℕ → Part → Found
+after_split jobs found top marks ranks part = record {
+  groups = found.groups;
+  group_of_job = split_numbers top found.group_of_job (spread (job_numbers part.jobs) (job_marks ranks part.jobs) (length jobs));
+  group_of_stretch = split_numbers top found.group_of_stretch (spread (stretch_numbers part.stretches) marks (length (stretches jobs)));
+  shares = found.shares;
+}
+
+split_count : (top : ℕ) (old marks : List ℕ) → length (split_numbers top old marks) ≡ length old
+split_count top old marks =
+    length-map (range_with_len 0 (length old)) (λ i. cond (group_of old i == top) (cond (nat_lt 0 (get_or marks i 0)) (top - 1) top) (group_of old i)) ∙ length-range_with_len 0 (length old)
+
+-- who moves, and who keeps its number
+abbrev IsMove : ℕ → ℕ → ℕ → ℕ → Type 0
+IsMove top mark old new = ((old ≡ top) × (1 ≤ mark) × (new ≡ top - 1)) ⊎ ((old ≡ top → mark ≡ 0) × (new ≡ old))
+
+is_move : (top mark old new : ℕ) → new ≡ cond (old == top) (cond (nat_lt 0 mark) (top - 1) top) old → IsMove top mark old new
+is_move top mark old new is = elim (cases_eq old top) [
+  | inl mine ↦ elim (cases_lt 0 mark) [
+    | inl some ↦ inl (mine, some, is ∙ cond-true (old == top) _ old (eq-eqb old top mine) ∙ cond-true (nat_lt 0 mark) (top - 1) top (lt-ltb 0 mark some))
+    | inr none ↦ inr ((λ mine. omega (arith, none)), is ∙ cond-true (old == top) _ old (eq-eqb old top mine) ∙ cond-false (nat_lt 0 mark) (top - 1) top (le-ltb 0 mark none) ∙ sym mine)
+  ]
+  | inr other ↦ inr ((λ mine. absurd (other mine)), is ∙ cond-false (old == top) _ old (ne_eqb old top other))
+]
+
+split_moves : (top : ℕ) (old marks : List ℕ) (i : ℕ) → i < length old → IsMove top (get_or marks i 0) (group_of old i) (group_of (split_numbers top old marks) i)
+split_moves top old marks i known =
+    let number = λ (k : ℕ). cond (group_of old k == top) (cond (nat_lt 0 (get_or marks k 0)) (top - 1) top) (group_of old k) in
+    is_move top (get_or marks i 0) (group_of old i) (group_of (split_numbers top old marks) i)
+    (get_or-map number (range_with_len 0 (length old)) i 0 0 (omega (arith, known, length-range_with_len 0 (length old)))
+    ∙ ap number (get_or-range_with_len 0 (length old) i 0 known ∙ zero-add i))
+
+moved_from : (top : ℕ) (old marks : List ℕ) → AreMovedFrom top old (split_numbers top old marks)
+moved_from top old marks i = elim (cases_lt i (length old)) [
+  | inl known ↦ elim (split_moves top old marks i known) [ inl one ↦ inr (one.0, omega (arith, one.2)) | inr stays ↦ inl stays.1 ]
+  | inr past ↦ inl (get_or_past (split_numbers top old marks) i 0 (omega (arith, past, split_count top old marks)) ∙ sym (get_or_past old i 0 past))
+]
+
+-- who is in the group after the split was in it before
+was_top : (top : ℕ) (old new : List ℕ) → AreMovedFrom top old new → (i : ℕ) → group_of new i ≡ top → group_of old i ≡ top
+was_top top old new moved i is = elim (moved i) [ inl same ↦ sym same ∙ is | inr both ↦ both.0 ]
+
+-- and who is in the group before it, where nobody had that number
+was_below : (top below : ℕ) (old new : List ℕ) → ((i : ℕ) → group_of old i ≡ below → ⊥) → AreMovedFrom top old new →
+    (i : ℕ) → group_of new i ≡ below → group_of old i ≡ top
+was_below top below old new none moved i is = elim (moved i) [ inl same ↦ absurd (none i (sym same ∙ is)) | inr both ↦ both.0 ]
+
+-- one more of a list that is filtered
+cond_one : {X : Type 0} (F : List X → List ℕ) (b : Bool) (x : X) (kept : List X) (n : ℕ) (list : List ℕ) → F (x ∷ kept) ≡ n ∷ list → F kept ≡ list →
+    F (cond b (x ∷ kept) kept) ≡ cond b (n ∷ list) list
+cond_one F true x kept n list more rest = more
+cond_one F false x kept n list more rest = rest
+
+-- the jobs that are kept have the numbers that pass
+kept_numbers : (p : ℕ → Bool) (q : OwnJob → Bool) (change : OwnJob → OwnJob) → ((own : OwnJob) → (change own).job ≡ own.job) → (jobs : List OwnJob) → All (λ own. q own ≡ p own.job) jobs →
+    job_numbers (map change (filter q jobs)) ≡ filter p (job_numbers jobs)
+kept_numbers p q change same [] agree = refl
+kept_numbers p q change same (own ∷ jobs) agree =
+    let rest = kept_numbers p q change same jobs (All-tail (λ one. q one ≡ p one.job) own jobs agree) in
+    ap (λ b. job_numbers (map change (cond b (own ∷ filter q jobs) (filter q jobs)))) (agree 0 own (omega arith))
+    ∙ cond_one (λ xs. job_numbers (map change xs)) (p own.job) own (filter q jobs) own.job (filter p (job_numbers jobs))
+    (ap (λ k. k ∷ job_numbers (map change (filter q jobs))) (same own) ∙ ap (λ (xs : List ℕ). own.job ∷ xs) rest) rest
+
+-- so do the stretches with a mark
+marked_numbers : (p : ℕ → Bool) (mark : ℕ) (marks : List ℕ) (own : List OwnStretch) → length marks ≡ length own →
+    ((i : ℕ) → i < length own → (get_or marks i 0 == mark) ≡ p (get_or (stretch_numbers own) i 0)) → stretch_numbers (marked_with mark marks own) ≡ filter p (stretch_numbers own)
+marked_numbers p mark [] [] count agree = refl
+marked_numbers p mark [] (x ∷ own) count agree = absurd (omega (arith, count))
+marked_numbers p mark (one ∷ marks) [] count agree = absurd (omega (arith, count))
+marked_numbers p mark (one ∷ marks) (x ∷ own) count agree =
+    let rest = marked_numbers p mark marks own (omega (arith, count)) (λ i within. agree (suc i) (omega (arith, within))) in
+    ap (λ b. stretch_numbers (cond b (x ∷ marked_with mark marks own) (marked_with mark marks own))) (agree 0 (omega arith))
+    ∙ cond_one stretch_numbers (p x.stretch) x (marked_with mark marks own) x.stretch (filter p (stretch_numbers own)) (ap (λ (xs : List ℕ). x.stretch ∷ xs) rest) rest
+
+all_marked : (P : OwnStretch → Type 0) (mark : ℕ) (marks : List ℕ) (own : List OwnStretch) → All P own → All P (marked_with mark marks own)
+all_marked P mark [] own all = All-nil P
+all_marked P mark (one ∷ marks) [] all = All-nil P
+all_marked P mark (one ∷ marks) (x ∷ own) all =
+    let rest = all_marked P mark marks own (All-tail P x own all) in
+    cond_both (one == mark) (x ∷ marked_with mark marks own) (marked_with mark marks own) (All P)
+    (λ yes. All-cons P x (marked_with mark marks own) (All-head P x own all) rest) (λ no. rest)
+
+-- what a mark of 0 or 1 says of the numbers after the split
+marks_tell : (mark new top : ℕ) → 1 ≤ top → ((mark ≡ 0) × (new ≡ top)) ⊎ ((mark ≡ 1) × (new ≡ top - 1)) →
+    (mark ≡ cond (new == (top - 1)) 1 0) × ((mark == 1) ≡ (new == (top - 1))) × ((mark == 0) ≡ not (new == (top - 1))) × ((mark == 0) ≡ (new == top))
+marks_tell mark new top some tells = grind (arith, nat_tests)
+
+jobs_tell : (moving : Bool) (new top : ℕ) → 1 ≤ top → ((moving ≡ false) × (new ≡ top)) ⊎ ((moving ≡ true) × (new ≡ top - 1)) → (moving ≡ (new == (top - 1))) × (not moving ≡ (new == top))
+jobs_tell moving new top some tells = elim tells [
+  | inl stays ↦ (stays.0 ∙ sym (ne_eqb new (top - 1) (λ is. omega (arith, is, stays.1, some))), ap not stays.0 ∙ sym (eq-eqb new top stays.1))
+  | inr goes ↦ (goes.0 ∙ sym (eq-eqb new (top - 1) goes.1), ap not goes.0 ∙ sym (ne_eqb new top (λ is. omega (arith, is, goes.1, some))))
+]
+
+-- a job with other places
+abbrev placed : (ℕ → ℕ) → OwnJob → OwnJob
+placed place own = record { job = own.job; work = own.work; first = place own.first; end = place own.end }
+
+module _ (jobs : List Job) (windows : List Window) (order : List ℕ) (found : Found) (top last : ℕ) (part : Part) (marks ranks : List ℕ)
+    (are : IsInstance jobs windows order) (search : IsSearch jobs windows found top last) (few : length found.groups + 1 < top) (within : top ≤ last)
+    (waits : IsWaiting jobs windows order found top part) (count : length marks ≡ length part.stretches) (small : All (λ mark. mark ≤ 1) marks) (ranks_are : AreRanks marks ranks) where
+  abbrev new : Found
+  new = after_split jobs found top marks ranks part
+
+  -- a stretch's number after the split, by its place
+  stretch_tells : (p : ℕ) → p < length part.stretches →
+      ((get_or marks p 0 ≡ 0) × (group_of new.group_of_stretch (get_or (stretch_numbers part.stretches) p 0) ≡ top))
+      ⊎ ((get_or marks p 0 ≡ 1) × (group_of new.group_of_stretch (get_or (stretch_numbers part.stretches) p 0) ≡ top - 1))
+  stretch_tells p inside =
+      let k = get_or (stretch_numbers part.stretches) p 0 in
+      let upto : p < length (stretch_numbers part.stretches) = omega (arith, inside, stretch_count jobs windows order found top last part are search within waits) in
+      let apart = stretches_apart jobs windows order found top last part are search within waits in
+      let mine = stretch_there jobs windows order found top last part are search within waits k (p, upto, refl) in
+      let mark = spread_at (stretch_numbers part.stretches) marks (length (stretches jobs)) p apart upto in
+      elim (split_moves top found.group_of_stretch (spread (stretch_numbers part.stretches) marks (length (stretches jobs))) k (omega (arith, apart.below p upto, search.all_stretches))) [
+        | inl one ↦ inr (omega (arith, mark, one.1, small p 0 (omega (arith, inside, count))), one.2)
+        | inr stays ↦ inl (omega (arith, mark, stays.0 mine), stays.1 ∙ mine)
+      ]
+
+  -- a job's number after the split
+  job_tells : (i : ℕ) (d : OwnJob) → i < length part.jobs →
+      ((moves ranks (get_or part.jobs i d) ≡ false) × (group_of new.group_of_job (get_or part.jobs i d).job ≡ top))
+      ⊎ ((moves ranks (get_or part.jobs i d) ≡ true) × (group_of new.group_of_job (get_or part.jobs i d).job ≡ top - 1))
+  job_tells i d inside =
+      let own = get_or part.jobs i d in
+      let upto : i < length (job_numbers part.jobs) = omega (arith, inside, job_count jobs windows order found top last part are search within waits) in
+      let apart = jobs_apart jobs windows order found top last part are search within waits in
+      let is : get_or (job_numbers part.jobs) i 0 ≡ own.job = get_or-map (λ one. one.job) part.jobs i d 0 inside in
+      let mine = job_there jobs windows order found top last part are search within waits own.job (i, upto, is) in
+      let mark : get_or (spread (job_numbers part.jobs) (job_marks ranks part.jobs) (length jobs)) own.job 0 ≡ cond (moves ranks own) 1 0 =
+      ap (λ (k : ℕ). get_or (spread (job_numbers part.jobs) (job_marks ranks part.jobs) (length jobs)) k 0) (sym is)
+      ∙ spread_at (job_numbers part.jobs) (job_marks ranks part.jobs) (length jobs) i apart upto ∙ get_or-map (λ one. cond (moves ranks one) 1 0) part.jobs i d 0 inside in
+      let number = split_moves top found.group_of_job (spread (job_numbers part.jobs) (job_marks ranks part.jobs) (length jobs)) own.job
+      (omega (arith, apart.below i upto, is, search.all_jobs)) in
+      elim (cases_Bool (moves ranks own)) [
+        | inl all ↦ elim number [
+          | inl one ↦ inr (all, one.2)
+          | inr stays ↦ absurd (omega (arith, mark, stays.0 mine, cond-true {A = ℕ} (moves ranks own) 1 0 all))
+        ]
+        | inr some ↦ elim number [
+          | inl one ↦ absurd (omega (arith, mark, one.1, cond-false {A = ℕ} (moves ranks own) 1 0 some))
+          | inr stays ↦ inl (some, stays.1 ∙ mine)
+        ]
+      ]
+
+  -- a job of the group moves where all stretches of its window do
+  own_split : (i : ℕ) → i < length part.jobs → (let j = get_or (job_numbers part.jobs) i 0 in
+      IsSplitJob windows new.group_of_stretch top j (group_of found.group_of_job j) (group_of new.group_of_job j))
+  own_split i inside =
+      let own = get_or part.jobs i no_own in
+      let j = get_or (job_numbers part.jobs) i 0 in
+      let is : j ≡ own.job = get_or-map (λ one. one.job) part.jobs i no_own 0 inside in
+      let known = (jobs_apart jobs windows order found top last part are search within waits).below i
+      (omega (arith, inside, job_count jobs windows order found top last part are search within waits)) in
+      let mine = job_there jobs windows order found top last part are search within waits j
+      (i, omega (arith, inside, job_count jobs windows order found top last part are search within waits), refl) in
+      let window = get_or-map window_of part.jobs i no_own no_window inside in
+      let ranked = are_ranked marks ranks part.jobs small ranks_are
+      (subst (λ (m : ℕ). HaveWindows m part.jobs) (sym count) (windows_have jobs windows order found top last part are search within waits)) i no_own inside in
+      let gap : own.first + (own.end - own.first) ≡ own.end = omega (arith, ranked.some) in
+      let end : get_or ranks (own.first + (own.end - own.first)) 0 ≡ get_or ranks own.end 0 = ap (λ i. get_or ranks i 0) gap in
+      let here = λ (p : ℕ) (from : own.first ≤ p) (upto : p < own.end). (let one : IsIn (own_windows part.jobs) i p = record {
+        from = omega (arith, from, ap (λ (w : Window). w.first) window);
+        upto = omega (arith, upto, ap (λ (w : Window). w.end) window);
+      } in one) in
+      let number = λ (new_number : ℕ) (same : group_of new.group_of_job own.job ≡ new_number). ap (λ (k : ℕ). group_of new.group_of_job k) is ∙ same in
+      elim (over_cases marks ranks own.first (own.end - own.first) small ranks_are (omega (arith, gap, ranked.within, ranks_are.count))) [
+        | inl (rise, each) ↦ elim (job_tells i no_own inside) [
+          | inl (some, same) ↦ absurd (eqb-false (get_or ranks own.end 0 - get_or ranks own.first 0) (own.end - own.first) some (omega (arith, rise, end)))
+          | inr (all, same) ↦ inl (
+            mine,
+            (λ k is_in stays.
+                let below : k < length (stretches jobs) = omega (arith, is_in.upto, are.windows_are.inside j known) in
+                let one = stretch_here jobs windows order found top last part are search within waits k below
+                (was_top top found.group_of_stretch new.group_of_stretch (moved_from top found.group_of_stretch (spread (stretch_numbers part.stretches) marks (length (stretches jobs)))) k stays) in
+                let place : one.0 < length part.stretches = omega (arith, one.1, stretch_count jobs windows order found top last part are search within waits) in
+                let inner = in_place jobs windows order found top last part are search within waits i one.0 inside place (subst (IsIn windows j) (sym one.2) is_in) in
+                elim (stretch_tells one.0 place) [
+                  | inl kept ↦ omega (arith, kept.0, each one.0 (omega (arith, inner.from, ap (λ (w : Window). w.first) window)) (omega (arith, inner.upto, gap, ap (λ (w : Window). w.end) window)))
+                  | inr gone ↦ omega (arith, gone.1, stays, few, ap (λ (n : ℕ). group_of new.group_of_stretch n) one.2)
+                ]),
+            omega (arith, few, number (top - 1) same),
+          )
+        ]
+        | inr (rise, (p, from, upto, bare)) ↦ elim (job_tells i no_own inside) [
+          | inl (some, same) ↦ inr (
+            (λ old.
+                let place : p < length part.stretches = omega (arith, upto, gap, ranked.within, ranks_are.count, count) in
+                elim (stretch_tells p place) [
+                  | inl kept ↦ (
+                    get_or (stretch_numbers part.stretches) p 0,
+                    in_number jobs windows order found top last part are search within waits i p inside place (here p from (omega (arith, upto, gap))),
+                    kept.1,
+                  )
+                  | inr gone ↦ absurd (omega (arith, gone.0, bare))
+                ]),
+            number top same ∙ sym mine,
+          )
+          | inr (all, same) ↦ absurd (omega (arith, ranked.rise, rise, end, eqb-true (get_or ranks own.end 0 - get_or ranks own.first 0) (own.end - own.first) all))
+        ]
+      ]
+
+  job_split : (j : ℕ) → j < length jobs → IsSplitJob windows new.group_of_stretch top j (group_of found.group_of_job j) (group_of new.group_of_job j)
+  job_split j known = elim (one_or_none (job_numbers part.jobs) j) [
+    | inl (i, upto, is) ↦ subst (λ (n : ℕ). IsSplitJob windows new.group_of_stretch top n (group_of found.group_of_job n) (group_of new.group_of_job n)) is
+        (own_split i (omega (arith, upto, job_count jobs windows order found top last part are search within waits)))
+    | inr none ↦
+        let other = λ (mine : group_of found.group_of_job j ≡ top). none (job_here jobs windows order found top last part are search within waits j known mine) in
+        elim (split_moves top found.group_of_job (spread (job_numbers part.jobs) (job_marks ranks part.jobs) (length jobs)) j (omega (arith, known, search.all_jobs))) [
+          | inl one ↦ absurd (other one.0)
+          | inr stays ↦ inr ((λ mine. absurd (other mine)), stays.1)
+        ]
+  ]
+
+  -- the group is split
+  is_split : IsSplit windows (spread (stretch_numbers part.stretches) marks (length (stretches jobs))) top found.group_of_job found.group_of_stretch new.group_of_job new.group_of_stretch
+  is_split = record {
+    all_jobs = split_count top found.group_of_job (spread (job_numbers part.jobs) (job_marks ranks part.jobs) (length jobs));
+    all_stretches = split_count top found.group_of_stretch (spread (stretch_numbers part.stretches) marks (length (stretches jobs)));
+    stretch = λ k known. elim (split_moves top found.group_of_stretch (spread (stretch_numbers part.stretches) marks (length (stretches jobs))) k known) [
+      | inl one ↦ inl (one.0, one.1, omega (arith, one.2, few))
+      | inr stays ↦ inr ((λ mine marked. omega (arith, stays.0 mine, marked)), stays.1)
+    ];
+    job = λ j known. job_split j (omega (arith, known, search.all_jobs));
+  }
+
+  -- a part waits: its jobs keep their windows, as places among its own stretches
+  part_waits : (group mark : ℕ) (q : OwnJob → Bool) (place : ℕ → ℕ) (p : ℕ → Bool) →
+      ((j : ℕ) → group_of new.group_of_job j ≡ group → group_of found.group_of_job j ≡ top) → ((k : ℕ) → group_of new.group_of_stretch k ≡ group → group_of found.group_of_stretch k ≡ top) →
+      All (λ own. q own ≡ (group_of new.group_of_job own.job == group)) part.jobs →
+      ((i : ℕ) → i < length part.stretches → (get_or marks i 0 == mark) ≡ (group_of new.group_of_stretch (get_or (stretch_numbers part.stretches) i 0) == group)) →
+      ((i : ℕ) → i < length part.stretches → (get_or marks i 0 == mark) ≡ p (get_or (stretch_numbers part.stretches) i 0)) →
+      ((number n : ℕ) → IsPlace (stretch_numbers part.stretches) number n → IsPlace (filter p (stretch_numbers part.stretches)) number (place n)) →
+      IsWaiting jobs windows order new group (record { jobs = map (placed place) (filter q part.jobs); stretches = marked_with mark marks part.stretches })
+  part_waits group mark q place p was was' jobs_agree stretches_agree agree places =
+      let still = λ (number n : ℕ) (is : IsPlace (stretch_numbers part.stretches) number n).
+      subst (λ (xs : List ℕ). IsPlace xs number (place n)) (sym (marked_numbers p mark marks part.stretches count agree)) (places number n is) in
+      record {
+        jobs_are = kept_numbers (λ j. group_of new.group_of_job j == group) q (placed place) (λ own. refl) part.jobs jobs_agree
+            ∙ ap (numbers_in new.group_of_job group) waits.jobs_are ∙ in_twice found.group_of_job new.group_of_job top group order was;
+        stretches_are = marked_numbers (λ k. group_of new.group_of_stretch k == group) mark marks part.stretches count stretches_agree
+            ∙ ap (numbers_in new.group_of_stretch group) waits.stretches_are
+            ∙ in_twice found.group_of_stretch new.group_of_stretch top group (range_with_len 0 (length found.group_of_stretch)) was'
+            ∙ ap (λ (n : ℕ). numbers_in new.group_of_stretch group (range_with_len 0 n)) (sym is_split.all_stretches);
+        own = record {
+          work = All-map (λ own. own.work ≡ (job_at jobs own.job).work) (placed place) (filter q part.jobs)
+              (All-filter q (λ own. own.work ≡ (job_at jobs own.job).work) part.jobs waits.own.work);
+          length_is = all_marked (λ own. own.length ≡ length_at jobs own.stretch) mark marks part.stretches waits.own.length_is;
+          first = All-map (λ own. IsPlace (stretch_numbers (marked_with mark marks part.stretches)) (window_at windows own.job).first own.first) (placed place) (filter q part.jobs)
+              (All-filter q (λ own. IsPlace (stretch_numbers (marked_with mark marks part.stretches)) (window_at windows own.job).first (place own.first)) part.jobs
+              (λ i d inside. still (window_at windows (get_or part.jobs i d).job).first (get_or part.jobs i d).first (waits.own.first i d inside)));
+          end = All-map (λ own. IsPlace (stretch_numbers (marked_with mark marks part.stretches)) (window_at windows own.job).end own.end) (placed place) (filter q part.jobs)
+              (All-filter q (λ own. IsPlace (stretch_numbers (marked_with mark marks part.stretches)) (window_at windows own.job).end (place own.end)) part.jobs
+              (λ i d inside. still (window_at windows (get_or part.jobs i d).job).end (get_or part.jobs i d).end (waits.own.end i d inside)));
+        };
+      }
+
+  both_wait : IsWaiting jobs windows order new top (staying_part marks ranks part) × IsWaiting jobs windows order new (top - 1) (moving_part marks ranks part)
+  both_wait =
+      let moved_jobs = moved_from top found.group_of_job (spread (job_numbers part.jobs) (job_marks ranks part.jobs) (length jobs)) in
+      let moved_stretches = moved_from top found.group_of_stretch (spread (stretch_numbers part.stretches) marks (length (stretches jobs))) in
+      let none = none_below jobs windows found top last search few within in
+      let some : 1 ≤ top = omega (arith, few) in
+      let one = λ (i : ℕ) (inside : i < length part.stretches).
+      marks_tell (get_or marks i 0) (group_of new.group_of_stretch (get_or (stretch_numbers part.stretches) i 0)) top some (stretch_tells i inside) in
+      let each = λ (i : ℕ) (inside : i < length (stretch_numbers part.stretches)).
+      (one i (omega (arith, inside, stretch_count jobs windows order found top last part are search within waits))).0 in
+      let counts : length marks ≡ length (stretch_numbers part.stretches) = omega (arith, count, stretch_count jobs windows order found top last part are search within waits) in (
+        part_waits top 0 (λ own. not (moves ranks own)) (λ n. n - get_or ranks n 0) (λ k. not (group_of new.group_of_stretch k == (top - 1)))
+            (was_top top found.group_of_job new.group_of_job moved_jobs) (was_top top found.group_of_stretch new.group_of_stretch moved_stretches)
+            (λ i d inside. (jobs_tell (moves ranks (get_or part.jobs i d)) (group_of new.group_of_job (get_or part.jobs i d).job) top some (job_tells i d inside)).1)
+            (λ i inside. (one i inside).3) (λ i inside. (one i inside).2)
+            (λ number n is. place_among_others (λ k. group_of new.group_of_stretch k == (top - 1)) (stretch_numbers part.stretches) marks ranks number n ranks_are counts each is),
+        part_waits (top - 1) 1 (moves ranks) (λ n. get_or ranks n 0) (λ k. group_of new.group_of_stretch k == (top - 1))
+            (was_below top (top - 1) found.group_of_job new.group_of_job none.0 moved_jobs) (was_below top (top - 1) found.group_of_stretch new.group_of_stretch none.1 moved_stretches)
+            (λ i d inside. (jobs_tell (moves ranks (get_or part.jobs i d)) (group_of new.group_of_job (get_or part.jobs i d).job) top some (job_tells i d inside)).0)
+            (λ i inside. (one i inside).1) (λ i inside. (one i inside).1)
+            (λ number n is. place_among (λ k. group_of new.group_of_stretch k == (top - 1)) (stretch_numbers part.stretches) marks ranks number n ranks_are counts each is),
+      )
+
+-- a split group's two parts wait before the others
+pub split_waits : (jobs : List Job) (windows : List Window) (order : List ℕ) (found : Found) (top last : ℕ) (parts : List Part) (part : Part) (marks ranks : List ℕ) →
+    IsInstance jobs windows order → IsSearch jobs windows found top last → length found.groups + 1 < top → top ≤ last →
+    IsStack jobs windows order found (top + 1) last parts → IsWaiting jobs windows order found top part →
+    length marks ≡ length part.stretches → All (λ mark. mark ≤ 1) marks → AreRanks marks ranks → (let new = after_split jobs found top marks ranks part in
+    IsSplit windows (spread (stretch_numbers part.stretches) marks (length (stretches jobs))) top found.group_of_job found.group_of_stretch new.group_of_job new.group_of_stretch
+    × IsStack jobs windows order new (top - 1) last ((parts ++ staying_part marks ranks part ∷ []) ++ moving_part marks ranks part ∷ []))
+split_waits jobs windows order found top last parts part marks ranks are search few within stack waits count small ranks_are =
+    let new = after_split jobs found top marks ranks part in
+    let split = is_split jobs windows order found top last part marks ranks are search few within waits count small ranks_are in
+    let both = both_wait jobs windows order found top last part marks ranks are search few within waits count small ranks_are in
+    let kept = stack_kept jobs windows order found new top last parts split.all_stretches
+    (moved_from top found.group_of_job (spread (job_numbers part.jobs) (job_marks ranks part.jobs) (length jobs)))
+    (moved_from top found.group_of_stretch (spread (stretch_numbers part.stretches) marks (length (stretches jobs)))) stack in (
+      split,
+      stack_push jobs windows order new (top - 1) last (parts ++ staying_part marks ranks part ∷ []) (moving_part marks ranks part)
+          (subst (λ (n : ℕ). IsStack jobs windows order new n last (parts ++ staying_part marks ranks part ∷ [])) (omega (arith, few))
+          (stack_push jobs windows order new top last parts (staying_part marks ranks part) kept both.0)) both.1,
+    )

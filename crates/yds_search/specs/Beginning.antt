@@ -1,10 +1,13 @@
 -- What the search begins with, in parts.
-use Rattle.std.specs.Prelude.{◌≡◌, ℕ, ◌+◌, ◌<◌, ◌≤◌, ◌⊎◌, List, length, slice_index}
+use Rattle.std.specs.Prelude.{◌≡◌, ℕ, ◌<◌, ◌≤◌, ◌⊎◌, nat_lt, List, length, map, slice_index}
+use Rattle.std.specs.List.{filter, range_with_len}
 use Rattle.yds_model.specs.Job.{Job, job_at}
+use Rattle.yds_model.specs.Piece.{Piece}
 use Rattle.yds_events.specs.declared.window.Window.{Window}
-use Rattle.yds_search.specs.declared.beginning.TheConstants.{LAST}
+use Rattle.yds_events.specs.Stretch.{nth_stretch, length_of}
 use Rattle.yds_events.specs.Window.{window_at}
-use Rattle.yds_search.specs.Found.{group_of}
+use Rattle.yds_search.specs.declared.own.OwnJob.{OwnJob}
+use Rattle.yds_search.specs.declared.own.OwnStretch.{OwnStretch}
 
 -- among the first n jobs, for each of m stretches the greatest end of the windows that begin with it, of jobs with work, or 0
 pub record AreFarthest (jobs : List Job) (windows : List Window) (n m : ℕ) (ends : List ℕ) : Type 0 where
@@ -17,12 +20,27 @@ pub record AreFarthest (jobs : List Job) (windows : List Window) (n m : ℕ) (en
 abbrev pub IsReached : List ℕ → ℕ → Type 0
 IsReached ends k = (i : ℕ) × (i ≤ k) × (k < slice_index ends i)
 
--- the first n stretches have the first group's number where they lie in such a window
-pub record AreCovered (ends : List ℕ) (n : ℕ) (groups : List ℕ) : Type 0 where
-  pub count : length groups ≡ n
-  pub each : (k : ℕ) → k < n → (IsReached ends k × (group_of groups k ≡ LAST)) ⊎ ((IsReached ends k → ⊥) × (group_of groups k ≡ LAST + 1))
+-- of the first n stretches those that lie in such a window are marked by 1, the others by 0
+pub record AreCovered (ends : List ℕ) (n : ℕ) (marks : List ℕ) : Type 0 where
+  pub count : length marks ≡ n
+  pub each : (k : ℕ) → k < n → (IsReached ends k × (slice_index marks k ≡ 1)) ⊎ ((IsReached ends k → ⊥) × (slice_index marks k ≡ 0))
 
--- the first n jobs have the first group's number where they have work
-pub record AreWorking (jobs : List Job) (n : ℕ) (groups : List ℕ) : Type 0 where
-  pub count : length groups ≡ n
-  pub each : (j : ℕ) → j < n → (((job_at jobs j).work ≡ 0) × (group_of groups j ≡ LAST + 1)) ⊎ ((1 ≤ (job_at jobs j).work) × (group_of groups j ≡ LAST))
+-- a job with its window as a range of the stretches that are counted
+abbrev pub first_job : List Job → List Window → List ℕ → ℕ → OwnJob
+first_job jobs windows ranks j = record {
+  job = j;
+  work = (job_at jobs j).work;
+  first = slice_index ranks (window_at windows j).first;
+  end = slice_index ranks (window_at windows j).end;
+}
+
+-- the jobs with work, in this order
+abbrev pub first_jobs : List Job → List Window → List ℕ → List ℕ → List OwnJob
+first_jobs jobs windows ranks order = map (first_job jobs windows ranks) (filter (λ j. nat_lt 0 (job_at jobs j).work) order)
+
+-- the stretches of a timeline that are marked, numbered in order of time
+abbrev pub first_stretch : List Piece → ℕ → OwnStretch
+first_stretch timeline k = record { stretch = k; length = length_of (nth_stretch timeline k) }
+
+abbrev pub first_stretches : List Piece → List ℕ → List OwnStretch
+first_stretches timeline marks = map (first_stretch timeline) (filter (λ k. nat_lt 0 (slice_index marks k)) (range_with_len 0 (length timeline)))

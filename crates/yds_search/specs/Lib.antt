@@ -1,12 +1,12 @@
 pub mod Found
 pub mod Views
 pub mod Order
+pub mod Numbers
+pub mod Own
 pub mod Fill
 pub mod Closure
 pub mod Search
-pub mod Amounts
 pub mod Instance
-pub mod Numbers
 pub mod Beginning
 pub mod Waiting
 pub mod Stack

@@ -1,6 +1,6 @@
--- The search for groups. Groups are numbered: the finished ones from 0, those that are still to be filled from `top` to
+-- The search for groups. Groups are numbered, here and in proofs alone: the finished ones from 0, those that are still to be filled from `top` to
 -- `last`, the fastest first. What has a number above `last` is in no group.
-use Rattle.std.specs.Prelude.{◌≡◌, ℕ, ◌+◌, ◌-◌, ◌*◌, ◌<◌, ◌≤◌, ◌⊎◌, ◌==◌, nat_lt, nat_le, if◌then◌else◌, List, [], length, sum_by, slice_index}
+use Rattle.std.specs.Prelude.{◌≡◌, ℕ, ◌+◌, ◌-◌, ◌*◌, ◌<◌, ◌≤◌, ◌⊎◌, ◌==◌, nat_lt, if◌then◌else◌, List, [], length, sum_by, slice_index}
 use Rattle.std.specs.List.{All, range_with_len}
 use Rattle.yds_model.specs.Job.{Job, job_at}
 use Rattle.yds_model.specs.Event.{stretches}
@@ -11,7 +11,6 @@ use Rattle.yds_events.specs.Window.{length_at, IsIn}
 use Rattle.yds_search.specs.Order.{Precedes}
 use Rattle.yds_search.specs.Fill.{IsFill}
 use Rattle.yds_search.specs.Closure.{IsMarked}
-use Rattle.yds_search.specs.Numbers.{IsOneOf}
 
 -- A group is not slower than p / q: shares fill its stretches at that speed, and are all of its own jobs.
 pub record IsFast (jobs : List Job) (found : Found) (group p q : ℕ) (shares : List Share) : Type 0 where
@@ -106,7 +105,7 @@ pub record IsSearch (jobs : List Job) (windows : List Window) (found : Found) (t
 -- group `top` has been filled at p / q, its average speed in lowest terms
 pub record IsFilled (jobs : List Job) (windows : List Window) (found : Found) (top p q : ℕ)
     (wants rooms : List ℕ) (shares : List Share) (wants' rooms' : List ℕ) : Type 0 where
-  pub fill : IsFill jobs windows wants rooms shares wants' rooms'
+  pub fill : IsFill (ComesFirst jobs) windows wants rooms shares wants' rooms'
   pub all_wants : length wants ≡ length jobs
   pub all_rooms : length rooms ≡ length (stretches jobs)
   pub want : (j : ℕ) → j < length jobs → slice_index wants j ≡ (if group_of found.group_of_job j == top then q * (job_at jobs j).work else 0)
@@ -119,19 +118,10 @@ pub record IsFilled (jobs : List Job) (windows : List Window) (found : Found) (t
 abbrev pub IsRenamed : ℕ → ℕ → ℕ → ℕ → Type 0
 IsRenamed from to one other = ((one ≡ from) × (other ≡ to)) ⊎ ((one ≡ from → ⊥) × (other ≡ one))
 
--- the new number of a stretch of group `top`: a marked one moves to the group before it
-abbrev pub split_stretch : List ℕ → ℕ → ℕ → ℕ
-split_stretch reaches top k = if nat_le (slice_index reaches k) k then top - 1 else top
-
--- the new number of a job of group `top`, of which these stretches are left: who meets none of them moves to the group before it
-abbrev pub IsJobNumber : List Window → List ℕ → ℕ → ℕ → ℕ → Type 0
-IsJobNumber windows left top j number =
-    (((k : ℕ) → IsIn windows j k → IsOneOf left k → ⊥) × (number ≡ top - 1)) ⊎ (((k : ℕ) × IsIn windows j k × IsOneOf left k) × (number ≡ top))
-
 -- a marked stretch of group `top` moves to the group before it
 abbrev pub IsSplitStretch : List ℕ → ℕ → ℕ → ℕ → ℕ → Type 0
-IsSplitStretch reaches top k one other =
-    ((one ≡ top) × IsMarked reaches k × (other + 1 ≡ top)) ⊎ ((one ≡ top → IsMarked reaches k → ⊥) × (other ≡ one))
+IsSplitStretch marks top k one other =
+    ((one ≡ top) × IsMarked marks k × (other + 1 ≡ top)) ⊎ ((one ≡ top → IsMarked marks k → ⊥) × (other ≡ one))
 
 -- a job of group `top` that meets no stretch of it moves to the group before it
 abbrev pub IsSplitJob : List Window → List ℕ → ℕ → ℕ → ℕ → ℕ → Type 0
@@ -140,10 +130,10 @@ IsSplitJob windows stretches top j one other =
     ⊎ ((one ≡ top → (k : ℕ) × IsIn windows j k × (group_of stretches k ≡ top)) × (other ≡ one))
 
 -- Group `top` is split: its marked stretches, and its jobs that meet no other stretch of it, become the group before it.
-pub record IsSplit (windows : List Window) (reaches : List ℕ) (top : ℕ) (jobs stretches jobs' stretches' : List ℕ) : Type 0 where
+pub record IsSplit (windows : List Window) (marks : List ℕ) (top : ℕ) (jobs stretches jobs' stretches' : List ℕ) : Type 0 where
   pub all_jobs : length jobs' ≡ length jobs
   pub all_stretches : length stretches' ≡ length stretches
-  pub stretch : (k : ℕ) → k < length stretches → IsSplitStretch reaches top k (group_of stretches k) (group_of stretches' k)
+  pub stretch : (k : ℕ) → k < length stretches → IsSplitStretch marks top k (group_of stretches k) (group_of stretches' k)
   pub job : (j : ℕ) → j < length jobs → IsSplitJob windows stretches' top j (group_of jobs j) (group_of jobs' j)
 
 -- the search begins with all jobs that want something in one group, and with the stretches in which one of them may run

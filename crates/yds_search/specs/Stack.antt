@@ -1,30 +1,62 @@
--- How the groups that wait are kept: the lists of all of them stand one after another.
-use Rattle.std.specs.Prelude.{◌≡◌, ℕ, ◌++◌, List, length, map}
-use Rattle.std.specs.List.{flat_map}
+-- How the groups that wait are kept, one after another, and how one is parted.
+use Rattle.std.specs.Prelude.{◌≡◌, ℕ, ◌-◌, ◌==◌, ◌++◌, Bool, not, if◌then◌else◌, List, [], ◌∷◌, length, map, slice_index}
+use Rattle.std.specs.List.{flat_map, filter}
+use Rattle.yds_search.specs.declared.own.OwnJob.{OwnJob}
+use Rattle.yds_search.specs.declared.own.OwnStretch.{OwnStretch}
 use Rattle.yds_search.specs.declared.stack.Size.{Size}
 use Rattle.yds_search.specs.declared.stack.Stack.{Stack}
-use Rattle.yds_search.specs.Waiting.{Part}
+use Rattle.yds_search.specs.Own.{Part}
 
 abbrev pub size_of : Part → Size
 size_of part = record { jobs = length part.jobs; stretches = length part.stretches }
 
 -- the parts' jobs and stretches, one part after another
-abbrev pub jobs_of : List Part → List ℕ
+abbrev pub jobs_of : List Part → List OwnJob
 jobs_of parts = flat_map (λ part. part.jobs) parts
 
-abbrev pub stretches_of : List Part → List ℕ
-stretches_of parts = flat_map (λ part. part.stretches) parts
+abbrev pub own_stretches_of : List Part → List OwnStretch
+own_stretches_of parts = flat_map (λ part. part.stretches) parts
 
 -- the stack has these parts, in order
 pub record AreLaid (parts : List Part) (stack : Stack) : Type 0 where
   pub sizes : stack.sizes.items ≡ map size_of parts
   pub jobs : stack.jobs.items ≡ jobs_of parts
-  pub stretches : stack.stretches.items ≡ stretches_of parts
+  pub stretches : stack.stretches.items ≡ own_stretches_of parts
 
 -- and one more, whose size is taken off
 pub record AreLast (parts : List Part) (part : Part) (size : Size) (stack : Stack) : Type 0 where
   pub sizes : stack.sizes.items ≡ map size_of parts
-  pub jobs_size : size.jobs ≡ length part.jobs
-  pub stretches_size : size.stretches ≡ length part.stretches
+  pub size_is : size ≡ size_of part
   pub jobs : stack.jobs.items ≡ jobs_of parts ++ part.jobs
-  pub stretches : stack.stretches.items ≡ stretches_of parts ++ part.stretches
+  pub stretches : stack.stretches.items ≡ own_stretches_of parts ++ part.stretches
+
+-- whether all stretches of the job's window are closed upon
+abbrev pub moves : List ℕ → OwnJob → Bool
+moves ranks own = (slice_index ranks own.end - slice_index ranks own.first) == (own.end - own.first)
+
+-- the job with its places among the stretches that are closed upon, and among the others
+abbrev pub moved : List ℕ → OwnJob → OwnJob
+moved ranks own = record { job = own.job; work = own.work; first = slice_index ranks own.first; end = slice_index ranks own.end }
+
+abbrev pub stayed : List ℕ → OwnJob → OwnJob
+stayed ranks own = record { job = own.job; work = own.work; first = own.first - slice_index ranks own.first; end = own.end - slice_index ranks own.end }
+
+-- the jobs that move to the faster part of a group, and those that stay
+abbrev pub moving_jobs : List ℕ → List OwnJob → List OwnJob
+moving_jobs ranks jobs = map (moved ranks) (filter (moves ranks) jobs)
+
+abbrev pub staying_jobs : List ℕ → List OwnJob → List OwnJob
+staying_jobs ranks jobs = map (stayed ranks) (filter (λ own. not (moves ranks own)) jobs)
+
+-- the stretches that have this mark
+abbrev pub marked_with : ℕ → List ℕ → List OwnStretch → List OwnStretch
+marked_with mark [] stretches = []
+marked_with mark (one ∷ marks) [] = []
+marked_with mark (one ∷ marks) (own ∷ stretches) = if one == mark then own ∷ marked_with mark marks stretches else marked_with mark marks stretches
+
+-- the faster part of a group, and the rest
+abbrev pub moving_part : List ℕ → List ℕ → Part → Part
+moving_part marks ranks part = record { jobs = moving_jobs ranks part.jobs; stretches = marked_with 1 marks part.stretches }
+
+abbrev pub staying_part : List ℕ → List ℕ → Part → Part
+staying_part marks ranks part = record { jobs = staying_jobs ranks part.jobs; stretches = marked_with 0 marks part.stretches }

@@ -1,30 +1,19 @@
-ghost use Rattle.std.specs.Prelude.{◌≡◌, ℕ, ◌+◌, ◌<◌, ◌≤◌, ◌⊎◌, length, slice_index, IfOk};
+ghost use Rattle.std.specs.Prelude.{◌≡◌, ◌*◌, ◌<◌, ◌≤◌, ◌++◌, length, IfOk, OnOk};
+ghost use Rattle.std.specs.List.{All};
+ghost use Rattle.yds_model.specs.declared.limits.TheConstants.{MAX_JOBS};
+ghost use Rattle.yds_model.specs.Job.{IsJob};
 ghost use Rattle.yds_model.specs.Event.{stretches};
-ghost use Rattle.yds_search.specs.Views.{found_view};
 ghost use Rattle.yds_events.specs.Window.{AreWindows};
-ghost use Rattle.yds_search.specs.Search.{IsBeginning};
-ghost use Rattle.yds_search.specs.Beginning.{AreFarthest, AreCovered, AreWorking};
+ghost use Rattle.yds_search.specs.Searching.{IsBegun};
+ghost use Rattle.yds_search.specs.Beginning.{AreFarthest, AreCovered, first_jobs, first_stretches};
 
-use crate::found::Found;
+use crate::closing::rank;
+use crate::order::deadline_order;
+use crate::own::{OwnJob, OwnStretch};
+use crate::stack::{Size, Stack};
 use std::alloc::Global;
-use yds_events::Window;
+use yds_events::{Stretch, Window, windows};
 use yds_model::{JobRow, Memory};
-
-/// The number of the first group, which all jobs with work are in at first. Groups that aren't finished
-/// have numbers up to it, the fastest one the least.
-pub(crate) const LAST: u32 = 1_000_000;
-
-/// The number of the group to begin with: the first one, or one above it where no job has work.
-pub(crate) fn first_group(works: &[u32]) -> u32
-    ensures { (((j : ℕ) × (j < length works.now) × (1 ≤ slice_index works.now j)) × (result ≡ LAST)) ⊎ (((j : ℕ) → j < length works.now → slice_index works.now j ≡ 0) × (result ≡ LAST + 1)) }
-{
-    for job in 0..works.len() {
-        if works[job] > 0 {
-            return LAST;
-        }
-    }
-    LAST + 1
-}
 
 /// For each stretch the greatest end of the windows that begin with it, of jobs with work, or 0.
 fn farthest(
@@ -49,52 +38,93 @@ fn farthest(
     Ok(ends)
 }
 
-/// The first group's number for each stretch in which a job with work may run, and a greater one for each other.
-fn cover(alloc: Global, ends: &[u32]) -> Result<Vec<u32>, Memory>
-    ensures { IfOk result (λ groups. AreCovered ends.now (length ends.now) groups.items) }
+/// For each stretch 1 where a job with work may run in it, and 0 elsewhere.
+fn covered(alloc: Global, ends: &[u32]) -> Result<Vec<u32>, Memory>
+    ensures { IfOk result (λ marks. AreCovered ends.now (length ends.now) marks.items) }
 {
-    let mut groups = Vec::new(alloc);
+    let mut marks = Vec::with_capacity(alloc, ends.len())?;
     let mut end = 0;
     for (stretch, next) in ends.iter().enumerate() {
         end = end.max(*next);
-        let group = if end as usize > stretch {
-            LAST
-        } else {
-            LAST + 1
-        };
-        groups.push(group)?;
+        marks.push(u32::from(end as usize > stretch))?;
     }
-    Ok(groups)
+    Ok(marks)
 }
 
-/// The first group's number for each job with work, and a greater one for each other.
-fn working(alloc: Global, rows: &[JobRow]) -> Result<Vec<u32>, Memory>
-    ensures { IfOk result (λ groups. AreWorking rows.now (length rows.now) groups.items) }
+/// Adds the jobs with work, in order of deadline and number. Their windows become ranges of the stretches that are counted.
+fn add_jobs(
+    jobs: &mut Vec<OwnJob>,
+    rows: &[JobRow],
+    order: &[u32],
+    windows: &[Window],
+    ranks: &[u32],
+) -> Result<(), Memory>
+    requires known { All (λ j. j < length rows.now) order.now }
+    requires windows { AreWindows rows.now windows.now }
+    requires ranks { length (stretches rows.now) < length ranks.now }
+    ensures { OnOk result (jobs.new.items ≡ jobs.old.items ++ first_jobs rows.now windows.now ranks.now order.now) }
 {
-    let mut groups = Vec::new(alloc);
-    for row in rows {
-        let group = if row.work > 0 { LAST } else { LAST + 1 };
-        groups.push(group)?;
+    for job in order {
+        let row = &rows[*job as usize];
+        let work = row.work;
+        if work > 0 {
+            let window = windows[*job as usize];
+            jobs.push(OwnJob {
+                job: *job,
+                work,
+                first: ranks[window.first as usize],
+                end: ranks[window.end as usize],
+            })?;
+        }
     }
-    Ok(groups)
+    Ok(())
 }
 
-/// All jobs with work in one group, with the stretches in which one of them may run.
-pub(crate) fn beginning(
+/// Adds the stretches that are marked.
+fn add_stretches(
+    stretches: &mut Vec<OwnStretch>,
+    timeline: &[Stretch],
+    marks: &[u32],
+) -> Result<(), Memory>
+    requires few { length timeline.now ≤ 2 * MAX_JOBS }
+    requires marks { length marks.now ≡ length timeline.now }
+    ensures { OnOk result (stretches.new.items ≡ stretches.old.items ++ first_stretches timeline.now marks.now) }
+{
+    for (stretch, own) in timeline.iter().enumerate() {
+        if marks[stretch] > 0 {
+            stretches.push(OwnStretch {
+                stretch: stretch as u32,
+                length: own.length(),
+            })?;
+        }
+    }
+    Ok(())
+}
+
+/// All jobs with work wait in one group, with the stretches in which one of them may run.
+pub(crate) fn first_group(
     alloc: Global,
     rows: &[JobRow],
-    windows: &[Window],
-    count: usize,
-) -> Result<Found, Memory>
-    requires windows { AreWindows rows.now windows.now }
-    requires count { count ≡ length (stretches rows.now) }
-    ensures { IfOk result (λ found. IsBeginning rows.now windows.now (found_view found) LAST) }
+    timeline: &[Stretch],
+) -> Result<Stack, Memory>
+    requires few { length rows.now ≤ MAX_JOBS }
+    requires jobs { All IsJob rows.now }
+    requires timeline { timeline.now ≡ stretches rows.now }
+    ensures { IfOk result (IsBegun rows.now) }
 {
-    let ends = farthest(alloc, rows, windows, count)?;
-    Ok(Found {
-        groups: Vec::new(alloc),
-        group_of_job: working(alloc, rows)?,
-        group_of_stretch: cover(alloc, &ends)?,
-        shares: Vec::new(alloc),
-    })
+    let windows = windows(alloc, rows, timeline)?;
+    let order = deadline_order(alloc, rows)?;
+    let ends = farthest(alloc, rows, &windows, timeline.len())?;
+    let marks = covered(alloc, &ends)?;
+    let mut ranks = Vec::with_capacity(alloc, timeline.len() + 1)?;
+    rank(&marks, &mut ranks)?;
+    let mut stack = Stack::new(alloc, rows.len(), timeline.len())?;
+    add_jobs(&mut stack.jobs, rows, &order, &windows, &ranks)?;
+    add_stretches(&mut stack.stretches, timeline, &marks)?;
+    let jobs = stack.jobs.len();
+    let stretches = stack.stretches.len();
+    if jobs > 0 {
+        stack.sizes.push(Size { jobs, stretches })?;
+    }
+    Ok(stack)
 }

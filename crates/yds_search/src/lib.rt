@@ -5,20 +5,16 @@
 //! rise in speed, in which each job with work gets all its units and each stretch is full, earliest deadline first.
 #![tactic(auto)]
 
-mod amounts;
-mod attempt;
 mod beginning;
-mod closure;
-mod fill;
+mod closing;
+mod filling;
 mod found;
-mod instance;
-mod places;
+mod order;
+mod own;
 mod search;
 mod share;
-mod split;
 mod stack;
-mod workspace;
 
-pub use found::{Found, Group};
+pub use found::{Found, Group, NO_GROUP};
 pub use search::find;
 pub use share::Share;

@@ -1,11 +1,11 @@
-ghost use Rattle.std.specs.Prelude.{◌≡◌, ◌-◌, ◌^◌, ◌<◌, ◌≤◌, ◌++◌, ◌∷◌, [], List, ℕ, length, IfOk, OnOk};
-ghost use Rattle.std.specs.List.{All, range_with_len};
-ghost use Rattle.yds_search.specs.Numbers.{numbers_in};
-ghost use Rattle.yds_search.specs.Views.{found_view};
-ghost use Rattle.yds_search.specs.Waiting.{Part, part_in};
-ghost use Rattle.yds_search.specs.Stack.{AreLaid, AreLast};
+ghost use Rattle.std.specs.Prelude.{◌≡◌, ◌+◌, ◌-◌, ◌≤◌, ◌++◌, ◌∷◌, [], ℕ, List, length, IfOk, OnOk};
+ghost use Rattle.std.specs.List.{All};
+ghost use Rattle.yds_search.specs.Own.{Part, HaveWindows};
+ghost use Rattle.yds_search.specs.Closure.{AreRanks};
+ghost use Rattle.yds_search.specs.Stack.{AreLaid, AreLast, staying_jobs, moving_jobs, marked_with, staying_part, moving_part};
 
-use crate::found::Found;
+use crate::closing::Closing;
+use crate::own::{Own, OwnJob, OwnStretch};
 use std::alloc::Global;
 use yds_model::Memory;
 
@@ -18,118 +18,86 @@ pub(crate) struct Size {
     pub stretches: usize,
 }
 
-/// A group's own jobs and stretches.
-#[derive(Clone, Copy, Debug)]
-pub(crate) struct Own<'a> {
-    /// Its jobs, in order of deadline and number.
-    pub jobs: &'a [u32],
-    /// Its stretches, in order of time.
-    pub stretches: &'a [u32],
-}
-
 /// The groups that aren't finished, the fastest one last.
 #[derive(Debug, Drop)]
 pub(crate) struct Stack {
     /// One group's jobs after another's, each in order of deadline and number.
-    pub jobs: Vec<u32>,
+    pub jobs: Vec<OwnJob>,
     /// One group's stretches after another's, each in order of time.
-    pub stretches: Vec<u32>,
+    pub stretches: Vec<OwnStretch>,
     /// The groups' sizes.
     pub sizes: Vec<Size>,
+    /// Room for the jobs that move as a group is split.
+    moving_jobs: Vec<OwnJob>,
+    /// Room for the stretches that move.
+    moving_stretches: Vec<OwnStretch>,
 }
 
-/// The last of these numbers, so many.
-pub(crate) fn last(numbers: &[u32], count: usize) -> &[u32]
-    requires { count ≤ length numbers.now }
-    ensures { (front own : List ℕ) → numbers.now ≡ front ++ own → count ≡ length own → result.now ≡ own }
+/// Parts a group's jobs, which begin at this place. Those whose windows are closed upon, stretch for stretch, come to stand behind
+/// the others. Each gets its new places. Answers how many stay.
+fn part_jobs(
+    jobs: &mut Vec<OwnJob>,
+    start: usize,
+    ranks: &[u32],
+    moving: &mut Vec<OwnJob>,
+) -> Result<usize, Memory>
+    requires own { (marks : List ℕ) × (front : List OwnJob) × (own : List OwnJob) × (jobs.old.items ≡ front ++ own) × (start ≡ length front) × All (λ mark. mark ≤ 1) marks × AreRanks marks ranks.now × HaveWindows (length marks) own }
+    ensures parted { OnOk result ((front own : List OwnJob) → jobs.old.items ≡ front ++ own → start ≡ length front →
+        jobs.new.items ≡ (front ++ staying_jobs ranks.now own) ++ moving_jobs ranks.now own) }
+    ensures staying { IfOk result (λ count. (front own : List OwnJob) → jobs.old.items ≡ front ++ own → start ≡ length front →
+        count ≡ length (staying_jobs ranks.now own)) }
 {
-    &numbers[numbers.len() - count..]
-}
-
-/// Adds those of these numbers that are in a group.
-pub(crate) fn members(
-    numbers: &[u32],
-    groups: &[u32],
-    group: u32,
-    members: &mut Vec<u32>,
-) -> Result<(), Memory>
-    requires { All (λ i. i < length groups.now) numbers.now }
-    ensures { OnOk result (members.new.items ≡ members.old.items ++ numbers_in groups.now group numbers.now) }
-{
-    for i in numbers {
-        if groups[*i as usize] == group {
-            members.push(*i)?;
+    moving.clear();
+    let mut staying = start;
+    for at in start..jobs.len() {
+        let own = jobs[at];
+        let first = ranks[own.first as usize];
+        let end = ranks[own.end as usize];
+        if end - first == own.end - own.first {
+            moving.push(OwnJob { first, end, ..own })?;
+        } else {
+            jobs[staying] = OwnJob {
+                first: own.first - first,
+                end: own.end - end,
+                ..own
+            };
+            staying += 1;
         }
     }
-    Ok(())
+    jobs.truncate(staying);
+    jobs.extend_from_slice(moving)?;
+    Ok(staying - start)
 }
 
-/// Room for the two parts of a list.
-#[derive(Debug, Drop)]
-pub(crate) struct Parted {
-    /// Those that are in a group.
-    pub kept: Vec<u32>,
-    /// Those that are in the group before it.
-    pub moved: Vec<u32>,
-}
-
-impl Parted {
-    /// Those of these numbers that are in a group, and those in the group before it.
-    fn part(&mut self, numbers: &[u32], groups: &[u32], group: u32) -> Result<(), Memory>
-        requires some { 1 ≤ group }
-        requires known { All (λ i. i < length groups.now) numbers.now }
-        ensures kept { OnOk result (self.new.kept.items ≡ numbers_in groups.now group numbers.now) }
-        ensures moved { OnOk result (self.new.moved.items ≡ numbers_in groups.now (group - 1) numbers.now) }
-    {
-        self.kept.clear();
-        self.moved.clear();
-        for i in numbers {
-            let number = groups[*i as usize];
-            if number == group {
-                self.kept.push(*i)?;
-            } else if number == group - 1 {
-                self.moved.push(*i)?;
-            }
+/// Parts a group's stretches, which begin at this place: those that are closed upon come to stand behind the others. Answers how
+/// many stay.
+fn part_stretches(
+    stretches: &mut Vec<OwnStretch>,
+    start: usize,
+    marks: &[u32],
+    moving: &mut Vec<OwnStretch>,
+) -> Result<usize, Memory>
+    requires marks { All (λ mark. mark ≤ 1) marks.now }
+    requires own { (front : List OwnStretch) × (own : List OwnStretch) × (stretches.old.items ≡ front ++ own) × (start ≡ length front) × (length marks.now ≡ length own) }
+    ensures parted { OnOk result ((front own : List OwnStretch) → stretches.old.items ≡ front ++ own → start ≡ length front → length marks.now ≡ length own →
+        stretches.new.items ≡ (front ++ marked_with 0 marks.now own) ++ marked_with 1 marks.now own) }
+    ensures staying { IfOk result (λ count. (front own : List OwnStretch) → stretches.old.items ≡ front ++ own → start ≡ length front → length marks.now ≡ length own →
+        count ≡ length (marked_with 0 marks.now own)) }
+{
+    moving.clear();
+    let mut staying = start;
+    for at in start..stretches.len() {
+        let own = stretches[at];
+        if marks[at - start] > 0 {
+            moving.push(own)?;
+        } else {
+            stretches[staying] = own;
+            staying += 1;
         }
-        Ok(())
     }
-}
-
-/// Parts the last of these numbers, so many: those that are in a group stand before those in the group before it then. Answers
-/// how many they are.
-fn part(
-    numbers: &mut Vec<u32>,
-    count: usize,
-    groups: &[u32],
-    group: u32,
-    parted: &mut Parted,
-) -> Result<(usize, usize), Memory>
-    requires some { 1 ≤ group }
-    requires own { (front : List ℕ) × (own : List ℕ) × (numbers.old.items ≡ front ++ own) × (count ≡ length own) × All (λ i. i < length groups.now) own }
-    ensures parted { OnOk result ((front own : List ℕ) → numbers.old.items ≡ front ++ own → count ≡ length own →
-        numbers.new.items ≡ (front ++ numbers_in groups.now group own) ++ numbers_in groups.now (group - 1) own) }
-    ensures first { IfOk result (λ counts. (front own : List ℕ) → numbers.old.items ≡ front ++ own → count ≡ length own →
-        counts.0 ≡ length (numbers_in groups.now group own)) }
-    ensures second { IfOk result (λ counts. (front own : List ℕ) → numbers.old.items ≡ front ++ own → count ≡ length own →
-        counts.1 ≡ length (numbers_in groups.now (group - 1) own)) }
-{
-    parted.part(last(numbers, count), groups, group)?;
-    numbers.truncate(numbers.len() - count);
-    numbers.extend_from_slice(&parted.kept)?;
-    numbers.extend_from_slice(&parted.moved)?;
-    Ok((parted.kept.len(), parted.moved.len()))
-}
-
-/// The numbers from 0 on, so many.
-pub(crate) fn all_numbers(alloc: Global, count: usize) -> Result<Vec<u32>, Memory>
-    requires { count < 2 ^ 32 }
-    ensures { IfOk result (λ numbers. numbers.items ≡ range_with_len 0 count) }
-{
-    let mut numbers = Vec::with_capacity(alloc, count)?;
-    for number in 0..count {
-        numbers.push(number as u32)?;
-    }
-    Ok(numbers)
+    stretches.truncate(staying);
+    stretches.extend_from_slice(moving)?;
+    Ok(staying - start)
 }
 
 impl Stack {
@@ -141,7 +109,21 @@ impl Stack {
             jobs: Vec::with_capacity(alloc, jobs)?,
             stretches: Vec::with_capacity(alloc, stretches)?,
             sizes: Vec::with_capacity(alloc, stretches)?,
+            moving_jobs: Vec::with_capacity(alloc, jobs)?,
+            moving_stretches: Vec::with_capacity(alloc, stretches)?,
         })
+    }
+
+    /// The group whose size was taken off.
+    pub(crate) fn last(&self, size: Size) -> Own<'_>
+        requires { (parts : List Part) × (part : Part) × AreLast parts part size self.now }
+        ensures jobs { (parts : List Part) (part : Part) → AreLast parts part size self.now → result.jobs.now ≡ part.jobs }
+        ensures stretches { (parts : List Part) (part : Part) → AreLast parts part size self.now → result.stretches.now ≡ part.stretches }
+    {
+        Own {
+            jobs: &self.jobs[self.jobs.len() - size.jobs..],
+            stretches: &self.stretches[self.stretches.len() - size.stretches..],
+        }
     }
 
     /// The group whose size was taken off goes.
@@ -154,33 +136,27 @@ impl Stack {
             .truncate(self.stretches.len() - size.stretches);
     }
 
-    /// The group whose size was taken off is split: its members that are in group `top` now, and those in the group before it.
-    pub(crate) fn split_last(
-        &mut self,
-        size: Size,
-        found: &Found,
-        top: u32,
-        parted: &mut Parted,
-    ) -> Result<(), Memory>
-        requires some { 1 ≤ top }
-        requires last { (parts : List Part) × (part : Part) × AreLast parts part size self.old × All (λ j. j < length found.now.group_of_job.items) part.jobs × All (λ k. k < length found.now.group_of_stretch.items) part.stretches }
-        ensures { OnOk result ((parts : List Part) (part : Part) → AreLast parts part size self.old →
-            AreLaid ((parts ++ part_in (found_view found.now) top part ∷ []) ++ part_in (found_view found.now) (top - 1) part ∷ []) self.new) }
+    /// The group whose size was taken off is split: what is closed upon becomes a group of its own, behind the rest.
+    pub(crate) fn split_last(&mut self, size: Size, closing: &Closing) -> Result<(), Memory>
+        requires marks { All (λ mark. mark ≤ 1) closing.now.marks.items }
+        requires ranks { AreRanks closing.now.marks.items closing.now.ranks.items }
+        requires last { (parts : List Part) × (part : Part) × AreLast parts part size self.old × (length closing.now.marks.items ≡ length part.stretches) × HaveWindows (length part.stretches) part.jobs }
+        ensures { OnOk result ((parts : List Part) (part : Part) → AreLast parts part size self.old → length closing.now.marks.items ≡ length part.stretches →
+            AreLaid ((parts ++ staying_part closing.now.marks.items closing.now.ranks.items part ∷ []) ++ moving_part closing.now.marks.items closing.now.ranks.items part ∷ []) self.new) }
     {
-        let groups = &found.group_of_job;
-        let (jobs, fast_jobs) = part(&mut self.jobs, size.jobs, groups, top, parted)?;
-        let groups = &found.group_of_stretch;
-        let (stretches, fast_stretches) = part(
+        let jobs = self.jobs.len() - size.jobs;
+        let jobs = part_jobs(&mut self.jobs, jobs, &closing.ranks, &mut self.moving_jobs)?;
+        let stretches = self.stretches.len() - size.stretches;
+        let stretches = part_stretches(
             &mut self.stretches,
-            size.stretches,
-            groups,
-            top,
-            parted,
+            stretches,
+            &closing.marks,
+            &mut self.moving_stretches,
         )?;
         self.sizes.push(Size { jobs, stretches })?;
         self.sizes.push(Size {
-            jobs: fast_jobs,
-            stretches: fast_stretches,
+            jobs: size.jobs - jobs,
+            stretches: size.stretches - stretches,
         })?;
         Ok(())
     }

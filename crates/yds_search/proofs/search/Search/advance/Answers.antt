@@ -1,54 +1,105 @@
-use Rattle.std.proofs.Common.{ℕ, ◌≡◌, ◌≤◌, ◌∙◌, List, length, get_or, refl, sym, ap, subst, inl, inr, arith}
-use Rattle.std.proofs.lemmas.Bool.{cases_lt}
-use Rattle.yds_search.specs.Numbers.{IsOneOf}
-use Rattle.yds_search.specs.Stack.{jobs_of}
-use Rattle.yds_search.specs.Views.{found_view, group_view, shares_view}
-use Rattle.yds_search.proofs.Attempts.{known_at, part_known}
-use Rattle.yds_search.proofs.Stacks.{wanting_own}
+use Rattle.std.proofs.Common.{ℕ, ◌≡◌, ◌*◌, ◌∙◌, arith, refl, ap, List, length}
+use Rattle.yds_search.specs.Searching.{IsChosen}
+use Rattle.yds_search.proofs.Chosen.{chosen_as, chosen_few, chosen_windows, chosen_known, chosen_some, chosen_units, chosen_finished, chosen_split, chosen_rooms, chosen_parts, chosen_room, shares_known}
+use Rattle.yds_search.proofs.Kept.{finish_nearer, split_nearer}
+use Rattle.yds_search.specs.Found.{per_work}
+use Rattle.yds_search.specs.Views.{group_view}
+use Rattle.std.proofs.lemmas.List.{length-map}
+use Rattle.std.proofs.lemmas.Result.{on_ok_weaker}
 use Rattle.yds_search.proofs.search.Search.advance.Goals as goal
 
-pub has_late-requires : goal.has_late-requires
-has_late-requires c =
-    let filled = c.in_ok-group.ensures.filled in
-    let own : c.last.result.now ≡ filled.chosen.part.jobs =
-    c.last.ensures (jobs_of filled.chosen.parts) filled.chosen.part.jobs (c.deref-2.ensures.value ∙ filled.chosen.last.jobs) filled.chosen.last.jobs_size in
-    known_at c.last.result.now filled.chosen.part.jobs (length c.deref.result.now) (length c.fill.new.self.instance.rows.now) own
-    (sym (ap (λ (xs : List ℕ). length xs) c.deref.ensures.value ∙ filled.attempt.filled.fill.same_wants ∙ filled.attempt.filled.all_wants))
-    (part_known c.fill.new.self.instance.rows.now c.fill.new.self.instance.order.items (found_view c.fill.new.self.found) c.fill.new.self.top filled.chosen.part
-    filled.chosen.instance.order filled.chosen.own)
+pub total-group-requires : goal.total-group-requires
+total-group-requires c =
+    let x = chosen_as c.requires.chosen.0 c.args.size c.args.self.now c.requires.chosen.1 c.last-own.result c.last-own.ensures.jobs c.last-own.ensures.stretches in
+    let few = chosen_few c.requires.chosen.0 c.args.size c.args.self.now x in
+    record { few_jobs = few.0; few_stretches = few.1 }
 
-pub split-requires-clause-late : goal.split-requires-clause-late
-split-requires-clause-late c =
-    let filled = c.in_ok-group.ensures.filled in
-    let own : c.last.result.now ≡ filled.chosen.part.jobs =
-    c.last.ensures (jobs_of filled.chosen.parts) filled.chosen.part.jobs (c.deref-2.ensures.value ∙ filled.chosen.last.jobs) filled.chosen.last.jobs_size in
-    let late = c.if-has_late.ensures.late refl in (
-      get_or filled.chosen.part.jobs late.0 0,
-      part_known c.fill.new.self.instance.rows.now c.fill.new.self.instance.order.items (found_view c.fill.new.self.found) c.fill.new.self.top filled.chosen.part
-          filled.chosen.instance.order filled.chosen.own late.0 (omega (arith, late.1, ap (λ (xs : List ℕ). length xs) own)),
-      subst (λ (wants : List ℕ). 1 ≤ get_or wants (get_or filled.chosen.part.jobs late.0 0) 0) c.deref.ensures.value
-          (subst (λ (xs : List ℕ). 1 ≤ get_or c.deref.result.now (get_or xs late.0 0) 0) own late.2),
-    )
+pub speed_of-requires : goal.speed_of-requires
+speed_of-requires c =
+    let x = chosen_as c.requires.chosen.0 c.args.size c.args.self.now c.requires.chosen.1 c.last-own.result c.last-own.ensures.jobs c.last-own.ensures.stretches in
+    let some = chosen_some c.requires.chosen.0 c.args.size c.args.self.now x c.total-group.result c.total-group.ensures.work c.total-group.ensures.length in
+    record { some_work = some.0; some_length = some.1 }
 
-pub finish-requires-clause-served : goal.finish-requires-clause-served
-finish-requires-clause-served c = λ j known. elim (cases_lt 0 (get_or c.fill.new.self.space.wants.items j 0)) [
-  | inr none ↦ omega (arith, none)
-  | inl some ↦
-      let filled = c.in_ok-group.ensures.filled in
-      let own : c.last.result.now ≡ filled.chosen.part.jobs =
-      c.last.ensures (jobs_of filled.chosen.parts) filled.chosen.part.jobs (c.deref-2.ensures.value ∙ filled.chosen.last.jobs) filled.chosen.last.jobs_size in
-      let one = wanting_own c.fill.new.self.instance.rows.now c.fill.new.self.instance.windows.items (found_view c.fill.new.self.found) c.fill.new.self.top _ _
-      filled.attempt.wants filled.attempt.rooms (shares_view c.fill.new.self.space.filling.shares.items) c.fill.new.self.space.wants.items c.fill.new.self.space.filling.rooms.items
-      filled.chosen.part.jobs c.fill.new.self.instance.order.items filled.attempt.filled filled.chosen.own.jobs filled.chosen.instance.order.each j some in
-      let listed : IsOneOf c.last.result.now j = subst (λ (xs : List ℕ). IsOneOf xs j) (sym own) one in
-      absurd (omega (
-        arith,
-        some,
-        c.if-has_late.ensures.none refl listed.0 listed.1,
-        ap (λ (xs : List ℕ). get_or xs (get_or c.last.result.now listed.0 0) 0) c.deref.ensures.value,
-        ap (λ i. get_or c.fill.new.self.space.wants.items i 0) listed.2,
-      ))
-]
+pub fill-requires : goal.fill-requires
+fill-requires c =
+    let x = chosen_as c.requires.chosen.0 c.args.size c.args.self.now c.requires.chosen.1 c.last-own.result c.last-own.ensures.jobs c.last-own.ensures.stretches in
+    let few = chosen_few c.requires.chosen.0 c.args.size c.args.self.now x in
+    let units = chosen_units c.requires.chosen.0 c.args.size c.args.self.now x c.total-group.result c.total-group.ensures.work c.total-group.ensures.length in
+    record {
+      few_jobs = few.0;
+      few = few.1;
+      windows = chosen_windows c.requires.chosen.0 c.args.size c.args.self.now x;
+      rooms_fit = rw c.speed_of.ensures.per_time units.0;
+      wants_fit = rw c.speed_of.ensures.per_work units.1;
+    }
 
-pub split-requires-clause-filled : goal.split-requires-clause-filled
-split-requires-clause-filled c = (group_view c.in_ok-group.group, c.in_ok-group.ensures.filled)
+pub close-requires : goal.close-requires
+close-requires c =
+    let x = chosen_as c.requires.chosen.0 c.args.size c.args.self.now c.requires.chosen.1 c.last-own.result c.last-own.ensures.jobs c.last-own.ensures.stretches in
+    let fill = rw (c.speed_of.ensures.per_time, c.speed_of.ensures.per_work) at c.in_ok-fill.ensures in
+    let rooms = chosen_rooms c.requires.chosen.0 c.args.size c.args.self.now x c.total-group.result c.total-group.ensures.work c.total-group.ensures.length _ _ _ fill in
+    record {
+      few = omega (arith, rooms, (chosen_few c.requires.chosen.0 c.args.size c.args.self.now x).1);
+      windows = rw rooms (chosen_windows c.requires.chosen.0 c.args.size c.args.self.now x);
+      wants = fill.same_wants ∙ length-map x.part.jobs (λ own. per_work (group_view c.total-group.result) * own.work);
+      parts = rw rooms (chosen_parts c.requires.chosen.0 c.args.size c.args.self.now x c.total-group.result c.total-group.ensures.work c.total-group.ensures.length _ _ _ fill);
+    }
+
+pub split_last-requires : goal.split_last-requires
+split_last-requires c =
+    let x = chosen_as c.requires.chosen.0 c.args.size c.args.self.now c.requires.chosen.1 c.last-own.result c.last-own.ensures.jobs c.last-own.ensures.stretches in
+    let fill = rw (c.speed_of.ensures.per_time, c.speed_of.ensures.per_work) at c.in_ok-fill.ensures in
+    let rooms = chosen_rooms c.requires.chosen.0 c.args.size c.args.self.now x c.total-group.result c.total-group.ensures.work c.total-group.ensures.length _ _ _ fill in
+    record {
+      marks = c.in_ok-close.ensures.marks;
+      ranks = c.in_ok-close.ensures.ranks;
+      last = (x.parts, x.part, x.last, c.in_ok-close.ensures.count ∙ rooms, chosen_windows c.requires.chosen.0 c.args.size c.args.self.now x);
+    }
+
+pub add-requires : goal.add-requires
+add-requires c =
+    let x = chosen_as c.requires.chosen.0 c.args.size c.args.self.now c.requires.chosen.1 c.last-own.result c.last-own.ensures.jobs c.last-own.ensures.stretches in
+    let known = chosen_known c.requires.chosen.0 c.args.size c.args.self.now x in
+    let fill = rw (c.speed_of.ensures.per_time, c.speed_of.ensures.per_work) at c.in_ok-fill.ensures in
+    let parts = chosen_parts c.requires.chosen.0 c.args.size c.args.self.now x c.total-group.result c.total-group.ensures.work c.total-group.ensures.length _ _ _ fill in
+    let shares = shares_known c.fill.new.self.shares.items (length x.part.jobs) (length x.part.stretches)
+    (λ i d within. ((parts i d within).known, (parts i d within).known_stretch)) in
+    record {
+      few = chosen_room c.requires.chosen.0 c.args.size c.args.self.now x;
+      jobs = known.0;
+      stretches = known.1;
+      share_jobs = rw c.deref.ensures.value shares.0;
+      share_stretches = rw c.deref.ensures.value shares.1;
+    }
+
+pub returns-in_ok-add-clause-search : goal.returns-in_ok-add-clause-search
+returns-in_ok-add-clause-search c jobs chosen =
+    let x = chosen_as jobs c.args.size c.args.self.now chosen c.last-own.result c.last-own.ensures.jobs c.last-own.ensures.stretches in
+    let fill = rw (c.speed_of.ensures.per_time, c.speed_of.ensures.per_work) at c.in_ok-fill.ensures in
+    chosen_finished jobs c.args.size c.args.self.now x c.total-group.result c.total-group.ensures.work c.total-group.ensures.length _ _ _ fill _ (c.if-has_late.ensures.none refl)
+    (c.drop_last.ensures x.parts x.part x.last) c.in_ok-add.ensures.groups (rw c.deref.ensures.value at c.in_ok-add.ensures.shares)
+    c.in_ok-add.ensures.job_numbers c.in_ok-add.ensures.stretch_numbers
+
+pub returns-in_ok-add-clause-nearer : goal.returns-in_ok-add-clause-nearer
+returns-in_ok-add-clause-nearer c =
+    let x = chosen_as c.requires.chosen.0 c.args.size c.args.self.now c.requires.chosen.1 c.last-own.result c.last-own.ensures.jobs c.last-own.ensures.stretches in
+    finish_nearer x.parts x.part c.args.size c.args.self.now.stack c.drop_last.new.self x.last (c.drop_last.ensures x.parts x.part x.last)
+    (chosen_few c.requires.chosen.0 c.args.size c.args.self.now x).3
+
+pub returns-in_ok-close-clause-search : goal.returns-in_ok-close-clause-search
+returns-in_ok-close-clause-search c = on_ok_weaker c.split_last.result (λ laid jobs chosen.
+    let x = chosen_as jobs c.args.size c.args.self.now chosen c.last-own.result c.last-own.ensures.jobs c.last-own.ensures.stretches in
+    let fill = rw (c.speed_of.ensures.per_time, c.speed_of.ensures.per_work) at c.in_ok-fill.ensures in
+    let rooms = chosen_rooms jobs c.args.size c.args.self.now x c.total-group.result c.total-group.ensures.work c.total-group.ensures.length _ _ _ fill in
+    chosen_split jobs c.args.size c.args.self.now x c.total-group.result c.total-group.ensures.work c.total-group.ensures.length _ _ _ fill _ _ _ (c.if-has_late.ensures.late refl)
+    c.in_ok-close.ensures.closing c.in_ok-close.ensures.count c.in_ok-close.ensures.marks c.in_ok-close.ensures.ranks
+    (laid x.parts x.part x.last (c.in_ok-close.ensures.count ∙ rooms)) refl) c.split_last.ensures
+
+pub returns-in_ok-close-clause-nearer : goal.returns-in_ok-close-clause-nearer
+returns-in_ok-close-clause-nearer c = on_ok_weaker c.split_last.result (λ laid.
+    let x = chosen_as c.requires.chosen.0 c.args.size c.args.self.now c.requires.chosen.1 c.last-own.result c.last-own.ensures.jobs c.last-own.ensures.stretches in
+    let fill = rw (c.speed_of.ensures.per_time, c.speed_of.ensures.per_work) at c.in_ok-fill.ensures in
+    let count = c.in_ok-close.ensures.count
+    ∙ chosen_rooms c.requires.chosen.0 c.args.size c.args.self.now x c.total-group.result c.total-group.ensures.work c.total-group.ensures.length _ _ _ fill in
+    split_nearer x.parts x.part c.args.size c.args.self.now.stack c.split_last.new.self c.close.new.self.marks.items c.close.new.self.ranks.items x.last
+    (laid x.parts x.part x.last count) c.in_ok-close.ensures.marks count) c.split_last.ensures

@@ -1,52 +1,44 @@
-use Rattle.std.proofs.Common.{◌≡◌, ◌-◌, List, ◌∷◌, [], ◌++◌, ◌∙◌, ℕ, length, ap}
-use Rattle.yds_search.specs.Views.{found_view}
-use Rattle.yds_search.specs.Waiting.{Part, part_in}
-use Rattle.yds_search.specs.Numbers.{numbers_in}
-use Rattle.yds_search.specs.Stack.{jobs_of, stretches_of}
-use Rattle.yds_search.proofs.Stacks.{jobs_more, stretches_more, sizes_more}
+use Rattle.std.proofs.Common.{◌≡◌, ℕ, ◌-◌, ◌++◌, ◌∙◌, List, length, ap, arith}
+use Rattle.std.proofs.lemmas.List.{length-append}
+use Rattle.yds_search.specs.declared.stack.Size.{Size}
+use Rattle.yds_search.specs.Stack.{jobs_of, own_stretches_of}
+use Rattle.yds_search.proofs.Stacks.{jobs_split, stretches_split, sizes_split, jobs_parted, stretches_parted}
 use Rattle.yds_search.proofs.stack.Stack.split_last.Goals as goal
 
-pub part-requires-clause-own : goal.part-requires-clause-own
-part-requires-clause-own c =
-    let last = c.requires.last in
-    (jobs_of last.0, last.1.jobs, last.2.jobs, last.2.jobs_size, rw c.deref.ensures.value last.3)
+-- where the last ones of a list begin
+begins_at : {X : Type 0} (items front own : List X) (n size : ℕ) → items ≡ front ++ own → n ≡ length items → size ≡ length own → n - size ≡ length front
+begins_at {X} items front own n size are count last = omega (arith, ap (λ (xs : List X). length xs) are, length-append front own)
 
-pub part-requires-2-clause-own : goal.part-requires-2-clause-own
-part-requires-2-clause-own c =
-    let last = c.requires.last in
-    (stretches_of last.0, last.1.stretches, last.2.stretches, last.2.stretches_size, rw c.deref-2.ensures.value last.4)
+pub overflow_sub-size : goal.overflow_sub-size
+overflow_sub-size c =
+    let last = c.requires.last.2 in
+    let size = ap (λ (size : Size). size.jobs) last.size_is in
+    let start = begins_at c.args.self.now.jobs.items (jobs_of c.requires.last.0) c.requires.last.1.jobs c.len.result c.args.size.jobs last.jobs (omega (arith, c.len.ensures)) size in
+    omega (arith, size, c.in_ok-jobs.ensures.staying (jobs_of c.requires.last.0) c.requires.last.1.jobs last.jobs start, jobs_parted c.deref.result.now c.requires.last.1.jobs)
 
--- the lists of two parts more
-jobs_two : (parts : List Part) (slow fast : Part) → (jobs_of parts ++ slow.jobs) ++ fast.jobs ≡ jobs_of ((parts ++ slow ∷ []) ++ fast ∷ [])
-jobs_two parts slow fast = ap (λ (xs : List ℕ). xs ++ fast.jobs) (jobs_more parts slow) ∙ jobs_more (parts ++ slow ∷ []) fast
-
-stretches_two : (parts : List Part) (slow fast : Part) → (stretches_of parts ++ slow.stretches) ++ fast.stretches ≡ stretches_of ((parts ++ slow ∷ []) ++ fast ∷ [])
-stretches_two parts slow fast = ap (λ (xs : List ℕ). xs ++ fast.stretches) (stretches_more parts slow) ∙ stretches_more (parts ++ slow ∷ []) fast
-
--- the members of two groups, by a list of groups that is the same
-parted_same : (groups groups' front own : List ℕ) (top : ℕ) → groups ≡ groups' →
-    (front ++ numbers_in groups top own) ++ numbers_in groups (top - 1) own ≡ (front ++ numbers_in groups' top own) ++ numbers_in groups' (top - 1) own
-parted_same groups groups' front own top same =
-    ap (λ (xs : List ℕ). (front ++ numbers_in xs top own) ++ numbers_in xs (top - 1) own) same
-
-count_same : (groups groups' own : List ℕ) (group : ℕ) → groups ≡ groups' → length (numbers_in groups group own) ≡ length (numbers_in groups' group own)
-count_same groups groups' own group same = ap (λ (xs : List ℕ). length (numbers_in xs group own)) same
+pub overflow_sub-size-2 : goal.overflow_sub-size-2
+overflow_sub-size-2 c =
+    let last = c.requires.last.2 in
+    let size = ap (λ (size : Size). size.stretches) last.size_is in
+    let start = begins_at c.args.self.now.stretches.items (own_stretches_of c.requires.last.0) c.requires.last.1.stretches c.len-2.result c.args.size.stretches last.stretches
+    (omega (arith, c.len-2.ensures)) size in
+    let staying = rw c.deref-2.ensures.value at (c.in_ok-stretches.ensures.staying (own_stretches_of c.requires.last.0) c.requires.last.1.stretches last.stretches start) in
+    omega (arith, size, staying c.requires.last.3, stretches_parted c.args.closing.now.marks.items c.requires.last.1.stretches c.requires.marks c.requires.last.3)
 
 pub returns : goal.returns
-returns c = λ parts part last.
-    let slow : Part = part_in (found_view c.args.found.now) c.args.top part in
-    let fast : Part = part_in (found_view c.args.found.now) (c.args.top - 1) part in
-    let jobs : c.deref.result.now ≡ c.args.found.now.group_of_job.items = c.deref.ensures.value in
-    let stretches : c.deref-2.result.now ≡ c.args.found.now.group_of_stretch.items = c.deref-2.ensures.value in
+returns c parts part last all =
+    let start = begins_at c.args.self.now.jobs.items (jobs_of parts) part.jobs c.len.result c.args.size.jobs last.jobs (omega (arith, c.len.ensures)) (ap (λ (size : Size). size.jobs) last.size_is) in
+    let start' = begins_at c.args.self.now.stretches.items (own_stretches_of parts) part.stretches c.len-2.result c.args.size.stretches last.stretches (omega (arith, c.len-2.ensures))
+    (ap (λ (size : Size). size.stretches) last.size_is) in
+    let jobs = rw c.deref.ensures.value at (c.in_ok-jobs.ensures.parted (jobs_of parts) part.jobs last.jobs start) in
+    let staying = rw c.deref.ensures.value at (c.in_ok-jobs.ensures.staying (jobs_of parts) part.jobs last.jobs start) in
+    let stretches = rw c.deref-2.ensures.value at (c.in_ok-stretches.ensures.parted (own_stretches_of parts) part.stretches last.stretches start') in
+    let staying' = rw c.deref-2.ensures.value at (c.in_ok-stretches.ensures.staying (own_stretches_of parts) part.stretches last.stretches start') in
+    let marks = c.args.closing.now.marks.items in
+    let ranks = c.args.closing.now.ranks.items in
     record {
-      sizes = sizes_more (parts ++ slow ∷ []) fast c.push.new.self.items c.push-2.new.self.items _ _
-          (sizes_more parts slow c.args.self.now.sizes.items c.push.new.self.items _ _ last.sizes c.in_ok-push.ensures.items
-          (c.in_ok-jobs.ensures.first (jobs_of parts) part.jobs last.jobs last.jobs_size ∙ count_same _ _ part.jobs c.args.top jobs)
-          (c.in_ok-stretches.ensures.first (stretches_of parts) part.stretches last.stretches last.stretches_size ∙ count_same _ _ part.stretches c.args.top stretches))
-          c.in_ok-push-2.ensures.items (c.in_ok-jobs.ensures.second (jobs_of parts) part.jobs last.jobs last.jobs_size ∙ count_same _ _ part.jobs (c.args.top - 1) jobs)
-          (c.in_ok-stretches.ensures.second (stretches_of parts) part.stretches last.stretches last.stretches_size ∙ count_same _ _ part.stretches (c.args.top - 1) stretches);
-      jobs = c.in_ok-jobs.ensures.parted (jobs_of parts) part.jobs last.jobs last.jobs_size
-          ∙ parted_same _ _ (jobs_of parts) part.jobs c.args.top jobs ∙ jobs_two parts slow fast;
-      stretches = c.in_ok-stretches.ensures.parted (stretches_of parts) part.stretches last.stretches last.stretches_size
-          ∙ parted_same _ _ (stretches_of parts) part.stretches c.args.top stretches ∙ stretches_two parts slow fast;
+      sizes = sizes_split parts part marks ranks c.args.size c.in_ok-jobs.jobs c.in_ok-stretches.stretches c.args.self.now.sizes.items c.push.new.self.items c.push-2.new.self.items
+          c.requires.marks all last.size_is last.sizes staying (staying' all) c.in_ok-push.ensures.items c.in_ok-push-2.ensures.items;
+      jobs = jobs ∙ jobs_split parts part marks ranks;
+      stretches = stretches all ∙ stretches_split parts part marks ranks;
     }

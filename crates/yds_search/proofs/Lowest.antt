@@ -1,0 +1,32 @@
+-- Two numbers in lowest terms.
+use Rattle.std.proofs.Common.{◌≡◌, ℕ, zero, suc, ◌*◌, ◌/◌, ◌≤◌, arith}
+use Rattle.std.proofs.Math.Nat.{div-mul_cancel}
+use Rattle.yds_model.specs.Divisor.{common_divisor}
+use Rattle.yds_model.proofs.Divisor.{divisor_is_greatest}
+
+-- the terms of a / b, where neither is 0
+pub record Lowest (a b : ℕ) : Type 0 where
+  pub first : a / common_divisor a b * common_divisor a b ≡ a
+  pub second : b / common_divisor a b * common_divisor a b ≡ b
+  pub some : 1 ≤ common_divisor a b
+  pub some_first : 1 ≤ a / common_divisor a b
+  pub some_second : 1 ≤ b / common_divisor a b
+
+factors : (one other product : ℕ) → one * other ≡ product → 1 ≤ product → (1 ≤ one) × (1 ≤ other)
+factors zero other product is some = absurd (omega arith)
+factors (suc one) zero product is some = absurd (omega arith)
+factors (suc one) (suc other) product is some = (omega arith, omega arith)
+
+pub lowest : (a b : ℕ) → 1 ≤ a → 1 ≤ b → Lowest a b
+lowest a b some some' =
+    let is = divisor_is_greatest a b in
+    let first = div-mul_cancel (common_divisor a b) is.0 in
+    let second = div-mul_cancel (common_divisor a b) is.1 in
+    let terms = factors (a / common_divisor a b) (common_divisor a b) a first some in
+    record {
+      first = first;
+      second = second;
+      some = terms.1;
+      some_first = terms.0;
+      some_second = (factors (b / common_divisor a b) (common_divisor a b) b second some').0;
+    }
