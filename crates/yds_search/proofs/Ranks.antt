@@ -103,15 +103,15 @@ place_among p numbers marks ranks number place are count each is =
     subst (IsPlace (filter p numbers) number) (sym (are.each place (omega (arith, is.within, count)) ∙ rank_counts p numbers marks place count each is.within))
     (filtered_place p numbers number place is)
 
--- and its place among the others is how many before it don't pass
+-- and where a mark says that it doesn't, its place among those that pass is how many before it have none
 pub place_among_others : (p : ℕ → Bool) (numbers marks ranks : List ℕ) (number place : ℕ) → AreRanks marks ranks → length marks ≡ length numbers →
-    ((i : ℕ) → i < length numbers → get_or marks i 0 ≡ cond (p (get_or numbers i 0)) 1 0) → IsPlace numbers number place →
-    IsPlace (filter (λ n. not (p n)) numbers) number (place - get_or ranks place 0)
+    ((i : ℕ) → i < length numbers → get_or marks i 0 ≡ cond (not (p (get_or numbers i 0))) 1 0) → IsPlace numbers number place →
+    IsPlace (filter p numbers) number (place - get_or ranks place 0)
 place_among_others p numbers marks ranks number place are count each is =
-    let rank = are.each place (omega (arith, is.within, count)) ∙ rank_counts p numbers marks place count each is.within in
-    subst (IsPlace (filter (λ n. not (p n)) numbers) number)
+    let rank = are.each place (omega (arith, is.within, count)) ∙ rank_counts (λ n. not (p n)) numbers marks place count each is.within in
+    subst (IsPlace (filter p numbers) number)
     (omega (arith, rank, length-filter_both p (λ n. not (p n)) (λ n. refl) (take place numbers), length-take-le place numbers is.within))
-    (filtered_place (λ n. not (p n)) numbers number place is)
+    (filtered_place p numbers number place is)
 
 -- over some places either all are marked, and ranks rise by their number, or one is not, and ranks rise by less
 pub over_cases : (marks ranks : List ℕ) (p n : ℕ) → All (λ mark. mark ≤ 1) marks → AreRanks marks ranks → p + n ≤ length marks →

@@ -2,7 +2,7 @@
 use Rattle.std.proofs.Common.{◌≡◌, ℕ, zero, suc, ◌+◌, ◌-◌, ◌<◌, ◌≤◌, ◌⊎◌, ◌==◌, Bool, true, false, not, cond, List, [], ◌∷◌, ◌++◌, ◌∙◌, length, map, get_or, refl, sym, ap, subst, inl, inr, eq-eqb, zero-add, arith}
 use Rattle.std.specs.Prelude.{nat_lt}
 use Rattle.std.specs.List.{All, filter, range_with_len}
-use Rattle.std.proofs.lemmas.Bool.{cases_lt, cases_eq, cases_Bool, ne_eqb, eqb-true, eqb-false, lt-ltb, le-ltb, cond-true, cond-false, cond_both}
+use Rattle.std.proofs.lemmas.Bool.{cases_lt, ne_eqb, cond_both}
 use Rattle.std.proofs.lemmas.Bool.Decides.{nat_tests}
 use Rattle.std.proofs.lemmas.List.{flat_map_more, map_push, length_push, get_or_past, get_or_append_left, get_or_push, get_or-map, length-map}
 use Rattle.std.proofs.lemmas.List.FromFn.{get_or-range_with_len, length-range_with_len}
@@ -24,7 +24,7 @@ use Rattle.yds_search.specs.Instance.{IsInstance}
 use Rattle.yds_search.specs.Waiting.{part_at, no_part, IsWaiting, IsStack}
 use Rattle.yds_search.specs.Stack.{size_of, jobs_of, own_stretches_of, moves, moved, stayed, moving_jobs, staying_jobs, marked_with, staying_part, moving_part}
 use Rattle.yds_search.proofs.Numbers.{one_or_none, in_same, in_twice}
-use Rattle.yds_search.proofs.Spread.{spread_at, spread_off}
+use Rattle.yds_search.proofs.Spread.{AreApart, spread_at}
 use Rattle.yds_search.proofs.Ranks.{place_among, place_among_others, are_ranked, over_cases}
 use Rattle.yds_search.proofs.Places.{no_own, job_count, stretch_count, jobs_apart, stretches_apart, job_there, job_here, stretch_there, stretch_here, in_number, in_place, windows_have}
 
@@ -191,31 +191,36 @@ split_count : (top : ℕ) (old marks : List ℕ) → length (split_numbers top o
 split_count top old marks =
     length-map (range_with_len 0 (length old)) (λ i. cond (group_of old i == top) (cond (nat_lt 0 (get_or marks i 0)) (top - 1) top) (group_of old i)) ∙ length-range_with_len 0 (length old)
 
+-- a number after the split
+split_at : (top : ℕ) (old marks : List ℕ) (i : ℕ) → i < length old →
+    group_of (split_numbers top old marks) i ≡ cond (group_of old i == top) (cond (nat_lt 0 (get_or marks i 0)) (top - 1) top) (group_of old i)
+split_at top old marks i known =
+    let number = λ (k : ℕ). cond (group_of old k == top) (cond (nat_lt 0 (get_or marks k 0)) (top - 1) top) (group_of old k) in
+    get_or-map number (range_with_len 0 (length old)) i 0 0 (omega (arith, known, length-range_with_len 0 (length old)))
+    ∙ ap number (get_or-range_with_len 0 (length old) i 0 known ∙ zero-add i)
+
 -- who moves, and who keeps its number
 abbrev IsMove : ℕ → ℕ → ℕ → ℕ → Type 0
 IsMove top mark old new = ((old ≡ top) × (1 ≤ mark) × (new ≡ top - 1)) ⊎ ((old ≡ top → mark ≡ 0) × (new ≡ old))
 
 is_move : (top mark old new : ℕ) → new ≡ cond (old == top) (cond (nat_lt 0 mark) (top - 1) top) old → IsMove top mark old new
-is_move top mark old new is = elim (cases_eq old top) [
-  | inl mine ↦ elim (cases_lt 0 mark) [
-    | inl some ↦ inl (mine, some, is ∙ cond-true (old == top) _ old (eq-eqb old top mine) ∙ cond-true (nat_lt 0 mark) (top - 1) top (lt-ltb 0 mark some))
-    | inr none ↦ inr ((λ mine. omega (arith, none)), is ∙ cond-true (old == top) _ old (eq-eqb old top mine) ∙ cond-false (nat_lt 0 mark) (top - 1) top (le-ltb 0 mark none) ∙ sym mine)
-  ]
-  | inr other ↦ inr ((λ mine. absurd (other mine)), is ∙ cond-false (old == top) _ old (ne_eqb old top other))
-]
+is_move top mark old new is = grind (arith, nat_tests)
 
 split_moves : (top : ℕ) (old marks : List ℕ) (i : ℕ) → i < length old → IsMove top (get_or marks i 0) (group_of old i) (group_of (split_numbers top old marks) i)
-split_moves top old marks i known =
-    let number = λ (k : ℕ). cond (group_of old k == top) (cond (nat_lt 0 (get_or marks k 0)) (top - 1) top) (group_of old k) in
-    is_move top (get_or marks i 0) (group_of old i) (group_of (split_numbers top old marks) i)
-    (get_or-map number (range_with_len 0 (length old)) i 0 0 (omega (arith, known, length-range_with_len 0 (length old)))
-    ∙ ap number (get_or-range_with_len 0 (length old) i 0 known ∙ zero-add i))
+split_moves top old marks i known = is_move top (get_or marks i 0) (group_of old i) (group_of (split_numbers top old marks) i) (split_at top old marks i known)
 
 moved_from : (top : ℕ) (old marks : List ℕ) → AreMovedFrom top old (split_numbers top old marks)
 moved_from top old marks i = elim (cases_lt i (length old)) [
   | inl known ↦ elim (split_moves top old marks i known) [ inl one ↦ inr (one.0, omega (arith, one.2)) | inr stays ↦ inl stays.1 ]
   | inr past ↦ inl (get_or_past (split_numbers top old marks) i 0 (omega (arith, past, split_count top old marks)) ∙ sym (get_or_past old i 0 past))
 ]
+
+-- by the place of its mark
+new_number : (top : ℕ) (old numbers marks : List ℕ) (m p : ℕ) → AreApart numbers m → length old ≡ m → ((k : ℕ) → IsOneOf numbers k → group_of old k ≡ top) → p < length numbers →
+    group_of (split_numbers top old (spread numbers marks m)) (get_or numbers p 0) ≡ cond (nat_lt 0 (get_or marks p 0)) (top - 1) top
+new_number top old numbers marks m p apart count there within =
+    rw (eq-eqb (group_of old (get_or numbers p 0)) top (there (get_or numbers p 0) (p, within, refl)), spread_at numbers marks m p apart within)
+    at (split_at top old (spread numbers marks m) (get_or numbers p 0) (omega (arith, apart.below p within, count)))
 
 -- who is in the group after the split was in it before
 was_top : (top : ℕ) (old new : List ℕ) → AreMovedFrom top old new → (i : ℕ) → group_of new i ≡ top → group_of old i ≡ top
@@ -261,16 +266,18 @@ all_marked P mark (one ∷ marks) (x ∷ own) all =
     cond_both (one == mark) (x ∷ marked_with mark marks own) (marked_with mark marks own) (All P)
     (λ yes. All-cons P x (marked_with mark marks own) (All-head P x own all) rest) (λ no. rest)
 
--- what a mark of 0 or 1 says of the numbers after the split
-marks_tell : (mark new top : ℕ) → 1 ≤ top → ((mark ≡ 0) × (new ≡ top)) ⊎ ((mark ≡ 1) × (new ≡ top - 1)) →
-    (mark ≡ cond (new == (top - 1)) 1 0) × ((mark == 1) ≡ (new == (top - 1))) × ((mark == 0) ≡ not (new == (top - 1))) × ((mark == 0) ≡ (new == top))
-marks_tell mark new top some tells = grind (arith, nat_tests)
+-- what one that moves or not, and what a mark, says of the number after the split
+tells : (moving : Bool) (new top : ℕ) → 1 ≤ top → new ≡ cond moving (top - 1) top → (moving ≡ (new == (top - 1))) × (not moving ≡ (new == top))
+tells true new top some is = (sym (eq-eqb new (top - 1) is), sym (ne_eqb new top (λ same. omega (arith, same, is, some))))
+tells false new top some is = (sym (ne_eqb new (top - 1) (λ same. omega (arith, same, is, some))), sym (eq-eqb new top is))
 
-jobs_tell : (moving : Bool) (new top : ℕ) → 1 ≤ top → ((moving ≡ false) × (new ≡ top)) ⊎ ((moving ≡ true) × (new ≡ top - 1)) → (moving ≡ (new == (top - 1))) × (not moving ≡ (new == top))
-jobs_tell moving new top some tells = elim tells [
-  | inl stays ↦ (stays.0 ∙ sym (ne_eqb new (top - 1) (λ is. omega (arith, is, stays.1, some))), ap not stays.0 ∙ sym (eq-eqb new top stays.1))
-  | inr goes ↦ (goes.0 ∙ sym (eq-eqb new (top - 1) goes.1), ap not goes.0 ∙ sym (ne_eqb new top (λ is. omega (arith, is, goes.1, some))))
-]
+mark_tells : (mark new top : ℕ) → mark ≤ 1 → 1 ≤ top → new ≡ cond (nat_lt 0 mark) (top - 1) top →
+    (mark ≡ cond (new == (top - 1)) 1 0) × (mark ≡ cond (not (new == top)) 1 0) × ((mark == 1) ≡ (new == (top - 1))) × ((mark == 0) ≡ (new == top))
+mark_tells mark new top small some is = grind (arith, nat_tests)
+
+flag_some : (b : Bool) → nat_lt 0 (cond b 1 0) ≡ b
+flag_some true = refl
+flag_some false = refl
 
 -- a job with other places
 abbrev placed : (ℕ → ℕ) → OwnJob → OwnJob
@@ -282,46 +289,26 @@ module _ (jobs : List Job) (windows : List Window) (order : List ℕ) (found : F
   abbrev new : Found
   new = after_split jobs found top marks ranks part
 
-  -- a stretch's number after the split, by its place
-  stretch_tells : (p : ℕ) → p < length part.stretches →
-      ((get_or marks p 0 ≡ 0) × (group_of new.group_of_stretch (get_or (stretch_numbers part.stretches) p 0) ≡ top))
-      ⊎ ((get_or marks p 0 ≡ 1) × (group_of new.group_of_stretch (get_or (stretch_numbers part.stretches) p 0) ≡ top - 1))
-  stretch_tells p inside =
-      let k = get_or (stretch_numbers part.stretches) p 0 in
-      let upto : p < length (stretch_numbers part.stretches) = omega (arith, inside, stretch_count jobs windows order found top last part are search within waits) in
-      let apart = stretches_apart jobs windows order found top last part are search within waits in
-      let mine = stretch_there jobs windows order found top last part are search within waits k (p, upto, refl) in
-      let mark = spread_at (stretch_numbers part.stretches) marks (length (stretches jobs)) p apart upto in
-      elim (split_moves top found.group_of_stretch (spread (stretch_numbers part.stretches) marks (length (stretches jobs))) k (omega (arith, apart.below p upto, search.all_stretches))) [
-        | inl one ↦ inr (omega (arith, mark, one.1, small p 0 (omega (arith, inside, count))), one.2)
-        | inr stays ↦ inl (omega (arith, mark, stays.0 mine), stays.1 ∙ mine)
-      ]
+  abbrev job_list : List ℕ
+  job_list = spread (job_numbers part.jobs) (job_marks ranks part.jobs) (length jobs)
 
-  -- a job's number after the split
-  job_tells : (i : ℕ) (d : OwnJob) → i < length part.jobs →
-      ((moves ranks (get_or part.jobs i d) ≡ false) × (group_of new.group_of_job (get_or part.jobs i d).job ≡ top))
-      ⊎ ((moves ranks (get_or part.jobs i d) ≡ true) × (group_of new.group_of_job (get_or part.jobs i d).job ≡ top - 1))
-  job_tells i d inside =
-      let own = get_or part.jobs i d in
-      let upto : i < length (job_numbers part.jobs) = omega (arith, inside, job_count jobs windows order found top last part are search within waits) in
-      let apart = jobs_apart jobs windows order found top last part are search within waits in
-      let is : get_or (job_numbers part.jobs) i 0 ≡ own.job = get_or-map (λ one. one.job) part.jobs i d 0 inside in
-      let mine = job_there jobs windows order found top last part are search within waits own.job (i, upto, is) in
-      let mark : get_or (spread (job_numbers part.jobs) (job_marks ranks part.jobs) (length jobs)) own.job 0 ≡ cond (moves ranks own) 1 0 =
-      ap (λ (k : ℕ). get_or (spread (job_numbers part.jobs) (job_marks ranks part.jobs) (length jobs)) k 0) (sym is)
-      ∙ spread_at (job_numbers part.jobs) (job_marks ranks part.jobs) (length jobs) i apart upto ∙ get_or-map (λ one. cond (moves ranks one) 1 0) part.jobs i d 0 inside in
-      let number = split_moves top found.group_of_job (spread (job_numbers part.jobs) (job_marks ranks part.jobs) (length jobs)) own.job
-      (omega (arith, apart.below i upto, is, search.all_jobs)) in
-      elim (cases_Bool (moves ranks own)) [
-        | inl all ↦ elim number [
-          | inl one ↦ inr (all, one.2)
-          | inr stays ↦ absurd (omega (arith, mark, stays.0 mine, cond-true {A = ℕ} (moves ranks own) 1 0 all))
-        ]
-        | inr some ↦ elim number [
-          | inl one ↦ absurd (omega (arith, mark, one.1, cond-false {A = ℕ} (moves ranks own) 1 0 some))
-          | inr stays ↦ inl (some, stays.1 ∙ mine)
-        ]
-      ]
+  abbrev stretch_marks : List ℕ
+  stretch_marks = spread (stretch_numbers part.stretches) marks (length (stretches jobs))
+
+  stretch_number : (p : ℕ) → p < length part.stretches → group_of new.group_of_stretch (get_or (stretch_numbers part.stretches) p 0) ≡ cond (nat_lt 0 (get_or marks p 0)) (top - 1) top
+  stretch_number p inside =
+      new_number top found.group_of_stretch (stretch_numbers part.stretches) marks (length (stretches jobs)) p (stretches_apart jobs windows order found top last part are search within waits)
+      search.all_stretches (stretch_there jobs windows order found top last part are search within waits)
+      (omega (arith, inside, stretch_count jobs windows order found top last part are search within waits))
+
+  job_number : (i : ℕ) (d : OwnJob) → i < length part.jobs → group_of new.group_of_job (get_or part.jobs i d).job ≡ cond (moves ranks (get_or part.jobs i d)) (top - 1) top
+  job_number i d inside =
+      ap (λ (k : ℕ). group_of new.group_of_job k) (sym (get_or-map (λ one. one.job) part.jobs i d 0 inside))
+      ∙ new_number top found.group_of_job (job_numbers part.jobs) (job_marks ranks part.jobs) (length jobs) i (jobs_apart jobs windows order found top last part are search within waits)
+      search.all_jobs (job_there jobs windows order found top last part are search within waits)
+      (omega (arith, inside, job_count jobs windows order found top last part are search within waits))
+      ∙ ap (λ (mark : ℕ). cond (nat_lt 0 mark) (top - 1) top) (get_or-map (λ one. cond (moves ranks one) 1 0) part.jobs i d 0 inside)
+      ∙ ap (λ (b : Bool). cond b (top - 1) top) (flag_some (moves ranks (get_or part.jobs i d)))
 
   -- a job of the group moves where all stretches of its window do
   own_split : (i : ℕ) → i < length part.jobs → (let j = get_or (job_numbers part.jobs) i 0 in
@@ -329,55 +316,46 @@ module _ (jobs : List Job) (windows : List Window) (order : List ℕ) (found : F
   own_split i inside =
       let own = get_or part.jobs i no_own in
       let j = get_or (job_numbers part.jobs) i 0 in
-      let is : j ≡ own.job = get_or-map (λ one. one.job) part.jobs i no_own 0 inside in
-      let known = (jobs_apart jobs windows order found top last part are search within waits).below i
-      (omega (arith, inside, job_count jobs windows order found top last part are search within waits)) in
-      let mine = job_there jobs windows order found top last part are search within waits j
-      (i, omega (arith, inside, job_count jobs windows order found top last part are search within waits), refl) in
+      let upto : i < length (job_numbers part.jobs) = omega (arith, inside, job_count jobs windows order found top last part are search within waits) in
+      let known = (jobs_apart jobs windows order found top last part are search within waits).below i upto in
+      let mine = job_there jobs windows order found top last part are search within waits j (i, upto, refl) in
       let window = get_or-map window_of part.jobs i no_own no_window inside in
       let ranked = are_ranked marks ranks part.jobs small ranks_are
       (subst (λ (m : ℕ). HaveWindows m part.jobs) (sym count) (windows_have jobs windows order found top last part are search within waits)) i no_own inside in
       let gap : own.first + (own.end - own.first) ≡ own.end = omega (arith, ranked.some) in
       let end : get_or ranks (own.first + (own.end - own.first)) 0 ≡ get_or ranks own.end 0 = ap (λ i. get_or ranks i 0) gap in
-      let here = λ (p : ℕ) (from : own.first ≤ p) (upto : p < own.end). (let one : IsIn (own_windows part.jobs) i p = record {
-        from = omega (arith, from, ap (λ (w : Window). w.first) window);
-        upto = omega (arith, upto, ap (λ (w : Window). w.end) window);
-      } in one) in
-      let number = λ (new_number : ℕ) (same : group_of new.group_of_job own.job ≡ new_number). ap (λ (k : ℕ). group_of new.group_of_job k) is ∙ same in
+      let number : group_of new.group_of_job j ≡ cond (moves ranks own) (top - 1) top =
+      ap (λ (k : ℕ). group_of new.group_of_job k) (get_or-map (λ one. one.job) part.jobs i no_own 0 inside) ∙ job_number i no_own inside in
       elim (over_cases marks ranks own.first (own.end - own.first) small ranks_are (omega (arith, gap, ranked.within, ranks_are.count))) [
-        | inl (rise, each) ↦ elim (job_tells i no_own inside) [
-          | inl (some, same) ↦ absurd (eqb-false (get_or ranks own.end 0 - get_or ranks own.first 0) (own.end - own.first) some (omega (arith, rise, end)))
-          | inr (all, same) ↦ inl (
-            mine,
-            (λ k is_in stays.
-                let below : k < length (stretches jobs) = omega (arith, is_in.upto, are.windows_are.inside j known) in
-                let one = stretch_here jobs windows order found top last part are search within waits k below
-                (was_top top found.group_of_stretch new.group_of_stretch (moved_from top found.group_of_stretch (spread (stretch_numbers part.stretches) marks (length (stretches jobs)))) k stays) in
-                let place : one.0 < length part.stretches = omega (arith, one.1, stretch_count jobs windows order found top last part are search within waits) in
-                let inner = in_place jobs windows order found top last part are search within waits i one.0 inside place (subst (IsIn windows j) (sym one.2) is_in) in
-                elim (stretch_tells one.0 place) [
-                  | inl kept ↦ omega (arith, kept.0, each one.0 (omega (arith, inner.from, ap (λ (w : Window). w.first) window)) (omega (arith, inner.upto, gap, ap (λ (w : Window). w.end) window)))
-                  | inr gone ↦ omega (arith, gone.1, stays, few, ap (λ (n : ℕ). group_of new.group_of_stretch n) one.2)
-                ]),
-            omega (arith, few, number (top - 1) same),
-          )
-        ]
-        | inr (rise, (p, from, upto, bare)) ↦ elim (job_tells i no_own inside) [
-          | inl (some, same) ↦ inr (
-            (λ old.
-                let place : p < length part.stretches = omega (arith, upto, gap, ranked.within, ranks_are.count, count) in
-                elim (stretch_tells p place) [
-                  | inl kept ↦ (
-                    get_or (stretch_numbers part.stretches) p 0,
-                    in_number jobs windows order found top last part are search within waits i p inside place (here p from (omega (arith, upto, gap))),
-                    kept.1,
-                  )
-                  | inr gone ↦ absurd (omega (arith, gone.0, bare))
-                ]),
-            number top same ∙ sym mine,
-          )
-          | inr (all, same) ↦ absurd (omega (arith, ranked.rise, rise, end, eqb-true (get_or ranks own.end 0 - get_or ranks own.first 0) (own.end - own.first) all))
-        ]
+        | inl (rise, each) ↦
+            let moving : moves ranks own ≡ true = eq-eqb (get_or ranks own.end 0 - get_or ranks own.first 0) (own.end - own.first) (omega (arith, rise, end)) in
+            inl (
+              mine,
+              (λ k is_in stays.
+                  let one = stretch_here jobs windows order found top last part are search within waits k (omega (arith, is_in.upto, are.windows_are.inside j known))
+                  (was_top top found.group_of_stretch new.group_of_stretch (moved_from top found.group_of_stretch stretch_marks) k stays) in
+                  let place : one.0 < length part.stretches = omega (arith, one.1, stretch_count jobs windows order found top last part are search within waits) in
+                  let inner = in_place jobs windows order found top last part are search within waits i one.0 inside place (subst (IsIn windows j) (sym one.2) is_in) in
+                  let mark = each one.0 (omega (arith, inner.from, ap (λ (w : Window). w.first) window)) (omega (arith, inner.upto, gap, ap (λ (w : Window). w.end) window)) in
+                  omega (arith, rw mark at (stretch_number one.0 place), stays, few, ap (λ (n : ℕ). group_of new.group_of_stretch n) one.2)),
+              omega (arith, few, rw moving at number),
+            )
+        | inr (rise, (p, from, upto, bare)) ↦
+            let staying : moves ranks own ≡ false = ne_eqb (get_or ranks own.end 0 - get_or ranks own.first 0) (own.end - own.first)
+            (λ same. omega (arith, same, ranked.rise, rise, end)) in
+            let place : p < length part.stretches = omega (arith, upto, gap, ranked.within, ranks_are.count, count) in
+            let here : IsIn (own_windows part.jobs) i p = record {
+              from = omega (arith, from, ap (λ (w : Window). w.first) window);
+              upto = omega (arith, upto, gap, ap (λ (w : Window). w.end) window);
+            } in
+            inr (
+              (λ old. (
+                get_or (stretch_numbers part.stretches) p 0,
+                in_number jobs windows order found top last part are search within waits i p inside place here,
+                rw bare at (stretch_number p place),
+              )),
+              (rw staying at number) ∙ sym mine,
+            )
       ]
 
   job_split : (j : ℕ) → j < length jobs → IsSplitJob windows new.group_of_stretch top j (group_of found.group_of_job j) (group_of new.group_of_job j)
@@ -386,18 +364,18 @@ module _ (jobs : List Job) (windows : List Window) (order : List ℕ) (found : F
         (own_split i (omega (arith, upto, job_count jobs windows order found top last part are search within waits)))
     | inr none ↦
         let other = λ (mine : group_of found.group_of_job j ≡ top). none (job_here jobs windows order found top last part are search within waits j known mine) in
-        elim (split_moves top found.group_of_job (spread (job_numbers part.jobs) (job_marks ranks part.jobs) (length jobs)) j (omega (arith, known, search.all_jobs))) [
+        elim (split_moves top found.group_of_job job_list j (omega (arith, known, search.all_jobs))) [
           | inl one ↦ absurd (other one.0)
           | inr stays ↦ inr ((λ mine. absurd (other mine)), stays.1)
         ]
   ]
 
   -- the group is split
-  is_split : IsSplit windows (spread (stretch_numbers part.stretches) marks (length (stretches jobs))) top found.group_of_job found.group_of_stretch new.group_of_job new.group_of_stretch
+  is_split : IsSplit windows stretch_marks top found.group_of_job found.group_of_stretch new.group_of_job new.group_of_stretch
   is_split = record {
-    all_jobs = split_count top found.group_of_job (spread (job_numbers part.jobs) (job_marks ranks part.jobs) (length jobs));
-    all_stretches = split_count top found.group_of_stretch (spread (stretch_numbers part.stretches) marks (length (stretches jobs)));
-    stretch = λ k known. elim (split_moves top found.group_of_stretch (spread (stretch_numbers part.stretches) marks (length (stretches jobs))) k known) [
+    all_jobs = split_count top found.group_of_job job_list;
+    all_stretches = split_count top found.group_of_stretch stretch_marks;
+    stretch = λ k known. elim (split_moves top found.group_of_stretch stretch_marks k known) [
       | inl one ↦ inl (one.0, one.1, omega (arith, one.2, few))
       | inr stays ↦ inr ((λ mine marked. omega (arith, stays.0 mine, marked)), stays.1)
     ];
@@ -405,21 +383,20 @@ module _ (jobs : List Job) (windows : List Window) (order : List ℕ) (found : F
   }
 
   -- a part waits: its jobs keep their windows, as places among its own stretches
-  part_waits : (group mark : ℕ) (q : OwnJob → Bool) (place : ℕ → ℕ) (p : ℕ → Bool) →
+  part_waits : (group mark : ℕ) (q : OwnJob → Bool) (place : ℕ → ℕ) →
       ((j : ℕ) → group_of new.group_of_job j ≡ group → group_of found.group_of_job j ≡ top) → ((k : ℕ) → group_of new.group_of_stretch k ≡ group → group_of found.group_of_stretch k ≡ top) →
       All (λ own. q own ≡ (group_of new.group_of_job own.job == group)) part.jobs →
       ((i : ℕ) → i < length part.stretches → (get_or marks i 0 == mark) ≡ (group_of new.group_of_stretch (get_or (stretch_numbers part.stretches) i 0) == group)) →
-      ((i : ℕ) → i < length part.stretches → (get_or marks i 0 == mark) ≡ p (get_or (stretch_numbers part.stretches) i 0)) →
-      ((number n : ℕ) → IsPlace (stretch_numbers part.stretches) number n → IsPlace (filter p (stretch_numbers part.stretches)) number (place n)) →
+      ((number n : ℕ) → IsPlace (stretch_numbers part.stretches) number n →
+      IsPlace (filter (λ k. group_of new.group_of_stretch k == group) (stretch_numbers part.stretches)) number (place n)) →
       IsWaiting jobs windows order new group (record { jobs = map (placed place) (filter q part.jobs); stretches = marked_with mark marks part.stretches })
-  part_waits group mark q place p was was' jobs_agree stretches_agree agree places =
-      let still = λ (number n : ℕ) (is : IsPlace (stretch_numbers part.stretches) number n).
-      subst (λ (xs : List ℕ). IsPlace xs number (place n)) (sym (marked_numbers p mark marks part.stretches count agree)) (places number n is) in
+  part_waits group mark q place was was' jobs_agree agree places =
+      let kept = marked_numbers (λ k. group_of new.group_of_stretch k == group) mark marks part.stretches count agree in
+      let still = λ (number n : ℕ) (is : IsPlace (stretch_numbers part.stretches) number n). subst (λ (xs : List ℕ). IsPlace xs number (place n)) (sym kept) (places number n is) in
       record {
         jobs_are = kept_numbers (λ j. group_of new.group_of_job j == group) q (placed place) (λ own. refl) part.jobs jobs_agree
             ∙ ap (numbers_in new.group_of_job group) waits.jobs_are ∙ in_twice found.group_of_job new.group_of_job top group order was;
-        stretches_are = marked_numbers (λ k. group_of new.group_of_stretch k == group) mark marks part.stretches count stretches_agree
-            ∙ ap (numbers_in new.group_of_stretch group) waits.stretches_are
+        stretches_are = kept ∙ ap (numbers_in new.group_of_stretch group) waits.stretches_are
             ∙ in_twice found.group_of_stretch new.group_of_stretch top group (range_with_len 0 (length found.group_of_stretch)) was'
             ∙ ap (λ (n : ℕ). numbers_in new.group_of_stretch group (range_with_len 0 n)) (sym is_split.all_stretches);
         own = record {
@@ -437,25 +414,22 @@ module _ (jobs : List Job) (windows : List Window) (order : List ℕ) (found : F
 
   both_wait : IsWaiting jobs windows order new top (staying_part marks ranks part) × IsWaiting jobs windows order new (top - 1) (moving_part marks ranks part)
   both_wait =
-      let moved_jobs = moved_from top found.group_of_job (spread (job_numbers part.jobs) (job_marks ranks part.jobs) (length jobs)) in
-      let moved_stretches = moved_from top found.group_of_stretch (spread (stretch_numbers part.stretches) marks (length (stretches jobs))) in
       let none = none_below jobs windows found top last search few within in
       let some : 1 ≤ top = omega (arith, few) in
-      let one = λ (i : ℕ) (inside : i < length part.stretches).
-      marks_tell (get_or marks i 0) (group_of new.group_of_stretch (get_or (stretch_numbers part.stretches) i 0)) top some (stretch_tells i inside) in
-      let each = λ (i : ℕ) (inside : i < length (stretch_numbers part.stretches)).
-      (one i (omega (arith, inside, stretch_count jobs windows order found top last part are search within waits))).0 in
-      let counts : length marks ≡ length (stretch_numbers part.stretches) = omega (arith, count, stretch_count jobs windows order found top last part are search within waits) in (
-        part_waits top 0 (λ own. not (moves ranks own)) (λ n. n - get_or ranks n 0) (λ k. not (group_of new.group_of_stretch k == (top - 1)))
-            (was_top top found.group_of_job new.group_of_job moved_jobs) (was_top top found.group_of_stretch new.group_of_stretch moved_stretches)
-            (λ i d inside. (jobs_tell (moves ranks (get_or part.jobs i d)) (group_of new.group_of_job (get_or part.jobs i d).job) top some (job_tells i d inside)).1)
-            (λ i inside. (one i inside).3) (λ i inside. (one i inside).2)
-            (λ number n is. place_among_others (λ k. group_of new.group_of_stretch k == (top - 1)) (stretch_numbers part.stretches) marks ranks number n ranks_are counts each is),
-        part_waits (top - 1) 1 (moves ranks) (λ n. get_or ranks n 0) (λ k. group_of new.group_of_stretch k == (top - 1))
-            (was_below top (top - 1) found.group_of_job new.group_of_job none.0 moved_jobs) (was_below top (top - 1) found.group_of_stretch new.group_of_stretch none.1 moved_stretches)
-            (λ i d inside. (jobs_tell (moves ranks (get_or part.jobs i d)) (group_of new.group_of_job (get_or part.jobs i d).job) top some (job_tells i d inside)).0)
-            (λ i inside. (one i inside).1) (λ i inside. (one i inside).1)
-            (λ number n is. place_among (λ k. group_of new.group_of_stretch k == (top - 1)) (stretch_numbers part.stretches) marks ranks number n ranks_are counts each is),
+      let marks' = λ (i : ℕ) (inside : i < length part.stretches). mark_tells (get_or marks i 0) (group_of new.group_of_stretch (get_or (stretch_numbers part.stretches) i 0)) top
+      (small i 0 (omega (arith, inside, count))) some (stretch_number i inside) in
+      let jobs' = λ (i : ℕ) (d : OwnJob) (inside : i < length part.jobs).
+      tells (moves ranks (get_or part.jobs i d)) (group_of new.group_of_job (get_or part.jobs i d).job) top some (job_number i d inside) in
+      let counts = stretch_count jobs windows order found top last part are search within waits in (
+        part_waits top 0 (λ own. not (moves ranks own)) (λ n. n - get_or ranks n 0) (was_top top found.group_of_job new.group_of_job (moved_from top found.group_of_job job_list))
+            (was_top top found.group_of_stretch new.group_of_stretch (moved_from top found.group_of_stretch stretch_marks)) (λ i d inside. (jobs' i d inside).1) (λ i inside. (marks' i inside).3)
+            (λ number n. place_among_others (λ k. group_of new.group_of_stretch k == top) (stretch_numbers part.stretches) marks ranks number n ranks_are (count ∙ sym counts)
+            (λ i inside. (marks' i (omega (arith, inside, counts))).1)),
+        part_waits (top - 1) 1 (moves ranks) (λ n. get_or ranks n 0) (was_below top (top - 1) found.group_of_job new.group_of_job none.0 (moved_from top found.group_of_job job_list))
+            (was_below top (top - 1) found.group_of_stretch new.group_of_stretch none.1 (moved_from top found.group_of_stretch stretch_marks))
+            (λ i d inside. (jobs' i d inside).0) (λ i inside. (marks' i inside).2)
+            (λ number n. place_among (λ k. group_of new.group_of_stretch k == (top - 1)) (stretch_numbers part.stretches) marks ranks number n ranks_are (count ∙ sym counts)
+            (λ i inside. (marks' i (omega (arith, inside, counts))).0)),
       )
 
 -- a split group's two parts wait before the others
