@@ -4,29 +4,22 @@ use Rattle.std.specs.Prelude.{nat_lt, ◌==◌, ◌||◌}
 use Rattle.std.proofs.lemmas.Bool.{lt-ltb}
 use Rattle.yds_model.specs.declared.limits.TheConstants.{MAX_TIME, MAX_WORK, MAX_SLOT_WORK}
 use Rattle.yds_model.specs.Lines.{Field}
-use Rattle.yds_model.specs.Entry.{Entry, JobEntry, SlotEntry}
+use Rattle.yds_model.specs.Entry.{Entry, JobEntry, SlotEntry, MemberEntry}
 use Rattle.yds_model.specs.Fields.{count_fields}
 use Rattle.yds_model.specs.Reading.{SlotLine, are_alike}
 use Rattle.yds_model.specs.Scale.{Fraction, AreAlike}
 use Rattle.yds_model.specs.Slot.{WrittenSlot}
 use Rattle.yds_model.specs.Spelling.{is_name, number_at, fraction_at}
 use Rattle.yds_instance.specs.Named.{number_of}
-use Rattle.yds_text.specs.Left.{FieldsLeft}
-use Rattle.yds_text.specs.declared.field.Field.{Field as FieldRead}
 use Rattle.yds_text.specs.Count.{no_reason}
-use Rattle.yds_text.specs.Read.{GivesField}
 use Rattle.yds_text.specs.Plain.{ReadsText}
 use Rattle.yds_document.specs.declared.draft.Draft.{Draft}
 use Rattle.yds_document.specs.Draft.{Holds, HoldsMore, Takes, count_and_read}
 use Rattle.yds_document.specs.Job.{job_of}
 use Rattle.yds_document.specs.Slot.{fits_among, slot_of}
-use Rattle.yds_document.specs.Plain.{SaysFour}
+use Rattle.yds_document.specs.Plain.{SaysOne, SaysFour}
+use Rattle.yds_document.specs.Member.{member_of}
 use Rattle.yds_document.proofs.Told.{holds_more, slot_same}
-
--- where no field was given, none is left
-pub no_field_left : (old new : FieldsLeft) (result : Option FieldRead) → is_some result ≡ false → GivesField old result new → old.fields ≡ []
-no_field_left old new None none gives = gives.none
-no_field_left old new (Some field) none gives = cc
 
 pub not_some : {A : Type 0} (o : Option A) → is_some o ≡ false → o ≡ None
 not_some None is = refl
@@ -81,6 +74,15 @@ says_slot names slots fields rest two one none a name job most from to work firs
       let start : fraction_at MAX_TIME b.field.text ≡ Ok from = ap (λ m. fraction_at m b.field.text) (sym limit) ∙ b.says in
       let end : fraction_at MAX_TIME c.field.text ≡ Ok to = ap (λ m. fraction_at m c.field.text) (sym limit) ∙ c.says in
       rw (named, found, start, end, d.says, alike, fits) refl;
+}
+
+-- a name that is known
+pub says_member : (names : List (List ℕ)) (fields rest : List Field) (a : Field) (job : ℕ) → fields ≡ a ∷ rest → rest ≡ [] → is_name a.text ≡ true → number_of names a.text ≡ Some job →
+    SaysOne (member_of names) fields (MemberEntry job)
+says_member names fields rest a job first last named known = record {
+  only = a;
+  are = first ∙ ap (λ l. a ∷ l) last;
+  says = rw (named, known) refl;
 }
 
 -- # Such a line is held

@@ -75,7 +75,7 @@ fn plain_job<'a>(instance: &Instance<'a>, mut fields: Fields<'a>) -> Option<(&'a
     let from = fields.plain_small(0, MAX_TIME)?;
     let to = fields.plain_small(0, MAX_TIME)?;
     let work = fields.plain_small(0, MAX_WORK)?;
-    if fields.next().is_some() || to <= from || instance.find(name).is_some() {
+    if !fields.at_end() || to <= from || instance.find(name).is_some() {
         return None;
     }
     Some((name, JobRow::new(from, to, work)))
@@ -115,11 +115,8 @@ fn add<'a>(draft: &mut Draft<'a>, name: &'a str, row: JobRow) -> Result<(), Memo
 {
     let jobs = draft.instance.rows().len() as u32;
     draft.schedule.widen(jobs + 1)?;
-    match draft.instance.add(name, row) {
-        Ok(_) => Ok(()),
-        // The name is new and there is room: only memory can be wanting.
-        Err(_) => Err(Memory),
-    }
+    draft.instance.add_new(name, row)?;
+    Ok(())
 }
 
 /// The name of a job, which is short.

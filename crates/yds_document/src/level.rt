@@ -1,6 +1,6 @@
 //! The lines of levels: the work and the length of a level. Its pieces and members stand on the lines after it.
 
-ghost use Rattle.std.specs.Prelude.{◌≡◌, ◌+◌, ◌*◌, ◌<◌, ◌≤◌, ◌∷◌, ◌++◌, [], length, take, codes, decimal, OnOk, IfOk};
+ghost use Rattle.std.specs.Prelude.{◌≡◌, ◌+◌, ◌*◌, ◌<◌, ◌≤◌, ◌∷◌, ◌++◌, [], length, take, codes, decimal, OnOk, IfOk, IfSome};
 ghost use Rattle.std.specs.List.{All, flat_map};
 ghost use Rattle.yds_model.specs.declared.limits.TheConstants.{MAX_LEVELS, MAX_LEVEL_WORK, MAX_LEVEL_LENGTH};
 ghost use Rattle.yds_model.specs.Entry.{LevelEntry};
@@ -12,6 +12,7 @@ ghost use Rattle.yds_text.specs.Read.{field_read};
 ghost use Rattle.yds_document.specs.Draft.{IsDraft, Reads, Takes};
 ghost use Rattle.yds_document.specs.Fields.{Gives};
 ghost use Rattle.yds_document.specs.Level.{line_count, lines_of};
+ghost use Rattle.yds_document.specs.Plain.{SaysTwo, read_level_fields};
 
 use crate::draft::Draft;
 use crate::fields::number_in;
@@ -39,10 +40,44 @@ pub(crate) fn read<'a>(
     ensures kept { OnOk result (IsDraft draft.new) }
     ensures reads { Reads LevelLine (field_read kind.entry ∷ fields.entry.fields) result draft.old draft.new }
 {
+    if let Some((work, len)) = plain_level(fields.again()) {
+        add(draft, alloc, work, len)?;
+        return Ok(());
+    }
+    read_each(draft, alloc, kind, fields)
+}
+
+/// The same, with the fields read one by one.
+fn read_each<'a>(
+    draft: &mut Draft<'a>,
+    alloc: Global,
+    kind: Field<'a>,
+    fields: Fields<'a>,
+) -> Result<(), LineFault>
+    requires kept { IsDraft draft.old }
+    requires room { length draft.old.certificate < MAX_LEVELS }
+    ensures kept { OnOk result (IsDraft draft.new) }
+    ensures reads { Reads LevelLine (field_read kind.entry ∷ fields.entry.fields) result draft.old draft.new }
+{
     let (work, len) = two_fields(kind, fields)?;
     let (work, len) = level_in(work, len)?;
     add(draft, alloc, work, len)?;
     Ok(())
+}
+
+/// What the fields say, where they are plain and say a level: the work and the length.
+fn plain_level(mut fields: Fields<'_>) -> Option<(u64, u64)>
+    ensures says { IfSome result (λ said. SaysTwo read_level_fields fields.entry.fields (LevelEntry said.0 said.1)) }
+    ensures work { IfSome result (λ said. (1 ≤ said.0) × (said.0 ≤ MAX_LEVEL_WORK)) }
+    ensures len { IfSome result (λ said. (1 ≤ said.1) × (said.1 ≤ MAX_LEVEL_LENGTH)) }
+{
+    let work = fields.plain_number(1, MAX_LEVEL_WORK)?;
+    let len = fields.plain_number(1, MAX_LEVEL_LENGTH)?;
+    if fields.at_end() {
+        Some((work, len))
+    } else {
+        None
+    }
 }
 
 /// What the fields say: the work and the length.

@@ -1,6 +1,6 @@
 //! The lines of members: a job of the level before, by its name.
 
-ghost use Rattle.std.specs.Prelude.{◌≡◌, ◌+◌, ◌*◌, ◌<◌, ◌≤◌, ◌∷◌, ◌++◌, length, OnOk, IfOk};
+ghost use Rattle.std.specs.Prelude.{◌≡◌, ◌+◌, ◌*◌, ◌<◌, ◌≤◌, ◌∷◌, ◌++◌, length, OnOk, IfOk, IfSome};
 ghost use Rattle.std.specs.List.{All, flat_map};
 ghost use Rattle.yds_model.specs.declared.limits.TheConstants.{MAX_MEMBERS};
 ghost use Rattle.yds_model.specs.Entry.{MemberEntry};
@@ -11,6 +11,7 @@ ghost use Rattle.yds_text.specs.Read.{field_read};
 ghost use Rattle.yds_document.specs.Draft.{IsDraft, Reads, Takes};
 ghost use Rattle.yds_document.specs.Fields.{Gives};
 ghost use Rattle.yds_document.specs.Member.{member_of};
+ghost use Rattle.yds_document.specs.Plain.{SaysOne};
 
 use crate::draft::Draft;
 use crate::fields::known_job;
@@ -35,10 +36,38 @@ pub(crate) fn read<'a>(
     ensures kept { OnOk result (IsDraft draft.new) }
     ensures reads { Reads MemberLine (field_read kind.entry ∷ fields.entry.fields) result draft.old draft.new }
 {
+    if let Some(job) = plain_member(&draft.instance, fields.again()) {
+        add(draft, job)?;
+        return Ok(());
+    }
+    read_each(draft, kind, fields)
+}
+
+/// The same, with the field read by itself.
+fn read_each<'a>(
+    draft: &mut Draft<'a>,
+    kind: Field<'a>,
+    fields: Fields<'a>,
+) -> Result<(), LineFault>
+    requires kept { IsDraft draft.old }
+    requires some { 1 ≤ length draft.old.certificate }
+    requires room { draft.old.members < MAX_MEMBERS }
+    ensures kept { OnOk result (IsDraft draft.new) }
+    ensures reads { Reads MemberLine (field_read kind.entry ∷ fields.entry.fields) result draft.old draft.new }
+{
     let name = one_field(kind, fields)?;
     let job = member_in(&draft.instance, name)?;
     add(draft, job)?;
     Ok(())
+}
+
+/// What the field says, where it is plain and names a job.
+fn plain_member(instance: &Instance<'_>, mut fields: Fields<'_>) -> Option<u32>
+    ensures says { IfSome result (λ job. SaysOne (member_of instance.now.names) fields.entry.fields (MemberEntry job)) }
+    ensures known { IfSome result (λ job. job < length instance.now.jobs) }
+{
+    let job = instance.find_at_once(fields.next()?.text)?;
+    if fields.at_end() { Some(job) } else { None }
 }
 
 /// What the field says.

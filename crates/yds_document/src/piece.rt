@@ -1,6 +1,6 @@
 //! The lines of pieces: from one time to another, of the level before. A piece that takes no time is kept too.
 
-ghost use Rattle.std.specs.Prelude.{◌≡◌, ◌+◌, ◌*◌, ◌<◌, ◌≤◌, ◌∷◌, ◌++◌, [], length, OnOk};
+ghost use Rattle.std.specs.Prelude.{◌≡◌, ◌+◌, ◌*◌, ◌<◌, ◌≤◌, ◌∷◌, ◌++◌, [], length, OnOk, IfSome};
 ghost use Rattle.std.specs.List.{flat_map};
 ghost use Rattle.yds_model.specs.declared.limits.TheConstants.{MAX_PIECES};
 ghost use Rattle.yds_model.specs.Entry.{PieceEntry};
@@ -11,6 +11,7 @@ ghost use Rattle.yds_port.specs.Sink.{Puts};
 ghost use Rattle.yds_text.specs.Read.{field_read};
 ghost use Rattle.yds_document.specs.Draft.{IsDraft, Reads, Takes};
 ghost use Rattle.yds_document.specs.Fields.{Gives};
+ghost use Rattle.yds_document.specs.Plain.{SaysTwo, read_piece_fields};
 
 use crate::draft::Draft;
 use crate::fields::small_in;
@@ -35,10 +36,42 @@ pub(crate) fn read<'a>(
     ensures kept { OnOk result (IsDraft draft.new) }
     ensures reads { Reads PieceLine (field_read kind.entry ∷ fields.entry.fields) result draft.old draft.new }
 {
+    if let Some(piece) = plain_piece(fields.again()) {
+        add(draft, piece)?;
+        return Ok(());
+    }
+    read_each(draft, kind, fields)
+}
+
+/// The same, with the fields read one by one.
+fn read_each<'a>(
+    draft: &mut Draft<'a>,
+    kind: Field<'a>,
+    fields: Fields<'a>,
+) -> Result<(), LineFault>
+    requires kept { IsDraft draft.old }
+    requires some { 1 ≤ length draft.old.certificate }
+    requires room { draft.old.pieces < MAX_PIECES }
+    ensures kept { OnOk result (IsDraft draft.new) }
+    ensures reads { Reads PieceLine (field_read kind.entry ∷ fields.entry.fields) result draft.old draft.new }
+{
     let (from, to) = two_fields(kind, fields)?;
     let piece = piece_in(from, to)?;
     add(draft, piece)?;
     Ok(())
+}
+
+/// What the fields say, where they are plain and say a piece.
+fn plain_piece(mut fields: Fields<'_>) -> Option<Piece>
+    ensures { IfSome result (λ piece. SaysTwo read_piece_fields fields.entry.fields (PieceEntry piece)) }
+{
+    let from = fields.plain_small(0, MAX_TIME)?;
+    let to = fields.plain_small(0, MAX_TIME)?;
+    if fields.at_end() {
+        Some(Piece { from, to })
+    } else {
+        None
+    }
 }
 
 /// What the fields say.

@@ -27,7 +27,7 @@ use yds_model::limits::{MAX_SLOT_WORK, MAX_TIME};
 use yds_model::{Memory, Reason};
 use yds_port::{Sink, WriteFault, write_all};
 use yds_slots::{Schedule, Slot};
-use yds_text::{Field, Fields, four_fields, name};
+use yds_text::{Field, Fields, four_fields};
 
 /// Reads the line whose first field is `kind`, and adds its slot.
 pub(crate) fn read<'a>(
@@ -71,12 +71,12 @@ fn plain_slot(instance: &Instance<'_>, schedule: &Schedule, mut fields: Fields<'
     ensures known { IfSome result (λ slot. slot.job < length instance.now.jobs) }
     ensures grain { IfSome result (λ slot. FitsGrain schedule.now.slots slot) }
 {
-    let job = instance.find(name(fields.next()?)?)?;
+    let job = instance.find_at_once(fields.next()?.text)?;
     let latest = u64::from(MAX_TIME);
     let from = plain_fraction(&mut fields, latest)?;
     let to = plain_fraction(&mut fields, latest)?;
     let work = plain_fraction(&mut fields, MAX_SLOT_WORK)?;
-    if fields.next().is_some() || !from.alike(to) || !fits_grain(schedule, job, work) {
+    if !fields.at_end() || !from.alike(to) || !fits_grain(schedule, job, work) {
         return None;
     }
     Some(Slot {

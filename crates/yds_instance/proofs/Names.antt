@@ -1,7 +1,7 @@
 -- The number of a name, and what an instance keeps as a job with a new name comes.
 use Rattle.std.proofs.Common.{◌≡◌, ℕ, ◌+◌, ◌<◌, ◌≤◌, Bool, true, false, cond, not, List, [], ◌∷◌, ◌++◌, Option, Some, None, length, ltb, refl, sym, ap, ◌∙◌, inl, inr, arith, subst, map}
 use Rattle.std.specs.List.{Contains, slice_index_or, prefix_len, position_or_len, position}
-use Rattle.std.specs.Option.{MatchOption}
+use Rattle.std.specs.Option.{MatchOption, IfSome}
 use Rattle.std.specs.Str.{bytes_eq}
 use Rattle.std.proofs.lemmas.Grind.{common_steps}
 use Rattle.std.proofs.lemmas.Bool.{cases_Bool, false≢true, ltb-false}
@@ -75,6 +75,14 @@ pub number_says : (named : Named) (name : List ℕ) (number : Option ℕ) → Ar
 number_says named name None kept is = not_contained named.names name (sym is)
 number_says named name (Some n) kept is =
     let found : (n < length named.names) × (name_at named.names n ≡ name) = has_name named.names name n (sym is) in (omega (arith, kept.one_name_each), found.1)
+
+-- what a job is named is a name
+pub some_named : (names : List (List ℕ)) (jobs : List Job) (name : List ℕ) (number : Option ℕ) → AreNamedJobs names jobs → IfSome number (λ n. number_of names name ≡ Some n) →
+    IfSome number (λ n. is_name name ≡ true)
+some_named names jobs name None kept is = tt
+some_named names jobs name (Some n) kept is =
+    let found : (n < length names) × (name_at names n ≡ name) = has_name names name n is in
+    subst (λ name. is_name name ≡ true) found.1 (kept.names_fit n [] found.0)
 
 -- # A job with a new name comes
 

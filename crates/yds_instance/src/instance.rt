@@ -1,4 +1,4 @@
-ghost use Rattle.std.specs.Prelude.{◌≡◌, ℕ, ◌<◌, ◌≤◌, ◌↔◌, List, [], ◌∷◌, ◌++◌, Some, None, length, MatchOption, OnOk, IfOk, OnErr, IsErrOf, IsTrue};
+ghost use Rattle.std.specs.Prelude.{◌≡◌, ℕ, ◌<◌, ◌≤◌, ◌↔◌, List, [], ◌∷◌, ◌++◌, Some, None, length, MatchOption, OnOk, IfOk, IfSome, OnErr, IsErrOf, IsTrue};
 ghost use Rattle.std.specs.List.{Contains};
 ghost use Rattle.yds_model.specs.Document.{name_at};
 ghost use Rattle.yds_model.specs.Spelling.{is_name};
@@ -9,8 +9,8 @@ use crate::fault::AddFault;
 use crate::numbers::Numbers;
 use std::alloc::Global;
 use std::marker::Model;
-use yds_model::JobRow;
 use yds_model::limits::MAX_JOBS;
+use yds_model::{JobRow, Memory};
 
 /// The jobs of a document, in its order, with their names.
 ///
@@ -68,6 +68,21 @@ impl<'a> Instance<'a> {
         if self.rows.len() >= MAX_JOBS {
             return Err(AddFault::Full);
         }
+        match self.add_new(name, row) {
+            Ok(number) => Ok(number),
+            Err(_) => Err(AddFault::Memory),
+        }
+    }
+
+    /// The same for a name that is known to be new, where there is room.
+    pub fn add_new(&mut self, name: &'a str, row: JobRow) -> Result<u32, Memory>
+        requires named { IsTrue (is_name name.now) }
+        requires new { number_of self.old.names name.now ≡ None }
+        requires room { length self.old.jobs < MAX_JOBS }
+        ensures number { IfOk result (λ number. number ≡ length self.old.jobs) }
+        ensures last { OnOk result (self.new ≡ record { names = self.old.names ++ name.entry.now ∷ []; jobs = self.old.jobs ++ row ∷ [] }) }
+        ensures unchanged { OnErr result (self.new ≡ self.old) }
+    {
         // Reading a field shows that the row is within the limits.
         let _release = row.release;
         let number = self.rows.len() as u32;
@@ -103,6 +118,15 @@ impl<'a> Instance<'a> {
         ensures kept { AreNamedJobs self.now.names self.now.jobs }
     {
         self.numbers.find(&self.names, name)
+    }
+
+    /// The number of the job with this name, where it is found at once. `None` tells nothing.
+    pub fn find_at_once(&self, name: &[u8]) -> Option<u32>
+        ensures number { IfSome result (λ number. number_of self.now.names name.now ≡ Some number) }
+        ensures named { IfSome result (λ number. IsTrue (is_name name.now)) }
+        ensures known { IfSome result (λ number. number < length self.now.jobs) }
+    {
+        self.numbers.find_first(&self.names, name)
     }
 }
 

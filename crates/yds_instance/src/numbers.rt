@@ -1,5 +1,5 @@
 //! The numbers of names, found without going through the names.
-ghost use Rattle.std.specs.Prelude.{◌≡◌, ℕ, ◌<◌, ◌≤◌, List, [], ◌∷◌, ◌++◌, None, length, map, OnOk, OnErr};
+ghost use Rattle.std.specs.Prelude.{◌≡◌, ℕ, ◌<◌, ◌≤◌, List, [], ◌∷◌, ◌++◌, Some, None, length, map, IfSome, OnOk, OnErr};
 ghost use Rattle.yds_instance.specs.Named.{number_of};
 ghost use Rattle.yds_instance.specs.Numbers.{place_for, first_at, AreNumbered};
 
@@ -50,6 +50,16 @@ impl<'a> Numbers<'a> {
         }
     }
 
+    /// The number of a name that came to its place first. `None` tells nothing.
+    pub(crate) fn find_first(&self, names: &[&str], name: &[u8]) -> Option<u32>
+        requires { AreNumbered (map (λ name. name.now) names.now) self.now }
+        ensures { IfSome result (λ number. number_of (map (λ name. name.now) names.now) name.now ≡ Some number) }
+    {
+        let first = self.first_at(place_of_bytes(name))?;
+        let found = names[first as usize].as_bytes() == name;
+        found.then_some(first)
+    }
+
     /// Adds a name that is new, with the next number.
     pub(crate) fn add(&mut self, name: &'a str, number: u32) -> Result<(), AllocError>
         requires { number < MAX_JOBS }
@@ -92,8 +102,16 @@ fn place_of(name: &str) -> usize
     ensures place { result ≡ place_for name.now }
     ensures within { result < PLACES }
 {
+    place_of_bytes(name.as_bytes())
+}
+
+/// The same of a name that isn't known to be text.
+fn place_of_bytes(name: &[u8]) -> usize
+    ensures place { result ≡ place_for name.now }
+    ensures within { result < PLACES }
+{
     let mut digest: u64 = 0;
-    for byte in name.as_bytes() {
+    for byte in name {
         digest = digest
             .wrapping_mul(DIGEST_FACTOR)
             .wrapping_add(u64::from(*byte));

@@ -1,7 +1,7 @@
 use Rattle.std.proofs.lemmas.Result.{err_from_is_err_and}
 use Rattle.yds_model.specs.Reading.{PieceLine}
 use Rattle.yds_document.proofs.Told.{passed, fields_failed}
-use Rattle.yds_document.proofs.piece.read.Goals as goal
+use Rattle.yds_document.proofs.piece.read_each.Goals as goal
 
 pub returns-in_err-piece-clause-reads : goal.returns-in_err-piece-clause-reads
 returns-in_err-piece-clause-reads c = λ earlier holds.
