@@ -8,7 +8,7 @@
 //! sink. It carries the promise that a document is read exactly as the definition of reading in
 //! `yds_model` says, faults with their places among it, that what is printed is the canonical text, or
 //! after a fault of the sink a front of it, and that every document is within the limits, so that its text
-//! is read again as the same document. A line is made on the stack, so printing takes no memory.
+//! is read again as the same document. Lines are made on the stack, so printing takes no memory.
 #![tactic(auto)]
 
 mod dispatch;

@@ -1,4 +1,5 @@
-//! Printing: each line is made on the stack, in the place of the one before it, and written with one call.
+//! Printing: some lines at a time are made on the stack, from the last to the first, in the place of those before them, and
+//! written with one call.
 ghost use Rattle.std.specs.Prelude.{◌<◌, ◌≤◌, ◌++◌, IsErr};
 ghost use Rattle.std.specs.List.{flat_map};
 ghost use Rattle.yds_model.specs.Text.{canonical_text, job_lines, point_line, slot_line, level_lines, fraction_text};

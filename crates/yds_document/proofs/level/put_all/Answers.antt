@@ -1,4 +1,4 @@
-use Rattle.std.proofs.Common.{◌-◌, ◌<◌, ◌≤◌, arith, length}
+use Rattle.std.proofs.Common.{◌-◌, arith}
 use Rattle.yds_document.proofs.LevelLines.{lines_of-before, lines_of-drop}
 use Rattle.yds_document.proofs.level.put_all.Goals as goal
 
