@@ -9,7 +9,7 @@ use Rattle.std.proofs.Math.Nat.{mul-le-mul_left}
 use Rattle.yds_model.specs.declared.limits.TheConstants.{MAX_WORK}
 use Rattle.yds_model.specs.Job.{Job, IsJob, no_job, job_at}
 use Rattle.yds_model.proofs.Sums.{sum_by_same, sum_by_zero}
-use Rattle.yds_admit.specs.Interval.{work_in, released_work, HasRoomFrom, IsFirstFrom}
+use Rattle.yds_admit.specs.Interval.{enclosed_work, released_work, HasRoomFrom, IsFirstFrom}
 
 -- # What one job adds
 
@@ -50,7 +50,7 @@ pub record Counted (top : ℕ) (jobs : List Job) (row : Job) (from work to i : �
   pub own : row.deadline ≤ to
   pub due : (k : ℕ) → k < i → (job_at jobs k).deadline ≤ to
   pub later : (k : ℕ) → i ≤ k → k < length jobs → to ≤ (job_at jobs k).deadline
-  pub room : (other : ℕ) → from < other → other < to → work_in (jobs ++ row ∷ []) from other ≤ top * (other - from)
+  pub room : (other : ℕ) → from < other → other < to → enclosed_work (jobs ++ row ∷ []) from other ≤ top * (other - from)
 
 -- the work of the first jobs, all of which are due by a time
 front_work : (jobs : List Job) (from to i : ℕ) → i ≤ length jobs → ((k : ℕ) → k < i → (job_at jobs k).deadline ≤ to) →
@@ -117,7 +117,7 @@ module _ (top : ℕ) (jobs : List Job) (row : Job) (from : ℕ) (until : from �
 
   module _ (work to i : ℕ) (counted : Counted top jobs row from work to i) where
     -- the work in an interval that ends before the others are due
-    exact : (other : ℕ) → to ≤ other → ((k : ℕ) → i ≤ k → k < length jobs → other < (job_at jobs k).deadline) → work_in (jobs ++ row ∷ []) from other ≡ work
+    exact : (other : ℕ) → to ≤ other → ((k : ℕ) → i ≤ k → k < length jobs → other < (job_at jobs k).deadline) → enclosed_work (jobs ++ row ∷ []) from other ≡ work
     exact other most late = omega (
       arith,
       sum_by_push (term from other) jobs row,
@@ -130,7 +130,7 @@ module _ (top : ℕ) (jobs : List Job) (row : Job) (from : ℕ) (until : from �
 
     -- such an interval has room if the one to `to` has
     fits : (other : ℕ) → work ≤ top * (to - from) → to ≤ other → ((k : ℕ) → i ≤ k → k < length jobs → other < (job_at jobs k).deadline) →
-        work_in (jobs ++ row ∷ []) from other ≤ top * (other - from)
+        enclosed_work (jobs ++ row ∷ []) from other ≤ top * (other - from)
     fits other room most late = omega (
       arith,
       exact other most late,

@@ -11,7 +11,7 @@ use Rattle.yds_model.specs.Policy.{numbers_of}
 use Rattle.yds_model.proofs.Sums.{sum_by_same}
 use Rattle.yds_laws.specs.AdmissionLaws.{HasRoom}
 use Rattle.yds_admit.specs.declared.board.Spot.{Spot}
-use Rattle.yds_admit.specs.Interval.{work_in}
+use Rattle.yds_admit.specs.Interval.{enclosed_work}
 use Rattle.yds_admit.specs.Chain.{IsFalling, AreTimes, due_work, IsChain, Takes}
 use Rattle.yds_admit.specs.Board.{IsSpot, IsBoard, AreMarked, if_marked}
 use Rattle.yds_admit.proofs.Between.{term}
@@ -202,7 +202,7 @@ module _ (rows : List Job) (top : ℕ) (times full : List ℕ) (spots : List Spo
     by_mark true = rw (is.release, is.work, is.deadline) refl
 
   module _ (jobs : List Job) (marked : AreMarked rows marks jobs) where
-    same_work : (from to : ℕ) → work_in jobs from to ≡ work_in all from to
+    same_work : (from to : ℕ) → enclosed_work jobs from to ≡ enclosed_work all from to
     same_work from to =
         let g : ℕ → ℕ = if_marked marks (λ n. term from to (job_at rows n)) in
         sym (marked.sums (term from to))

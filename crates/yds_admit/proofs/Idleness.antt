@@ -10,7 +10,7 @@ use Rattle.std.proofs.Math.Nat.{mul-sub, mul-le-mul_left}
 use Rattle.yds_model.specs.Job.{Job, IsJob, job_at}
 use Rattle.yds_edf.proofs.Sums.{sum_below_same, sum_below_zero}
 use Rattle.yds_laws.specs.AdmissionLaws.{HasRoom}
-use Rattle.yds_admit.specs.Interval.{work_in}
+use Rattle.yds_admit.specs.Interval.{enclosed_work}
 use Rattle.yds_admit.specs.Chain.{IsFalling, due_work}
 use Rattle.yds_admit.specs.Board.{AreGaps}
 use Rattle.yds_admit.specs.Pieces.{went, IsCutting, AreDue}
@@ -111,7 +111,7 @@ module _ (top : ℕ) (times : List ℕ) (jobs : List Job) (old : List ℕ) (risi
 
   -- with the job, over an interval that holds its window
   holds : (from a b : ℕ) → end ≤ b → b < length times → a ≤ b → from ≤ row.release → from ≤ get_or times a 0 →
-      work_in jobs from (get_or times b 0) + row.work + idle_before new b ≤ top * (get_or times b 0 - from) + idle_before new a
+      enclosed_work jobs from (get_or times b 0) + row.work + idle_before new b ≤ top * (get_or times b 0 - from) + idle_before new a
   holds from a b later below forward counts ahead =
       let e : end + (b - end) ≡ b = omega (arith, later) in
       let less = less_late (b - end) in
@@ -154,7 +154,7 @@ module _ (top : ℕ) (times : List ℕ) (jobs : List Job) (old : List ℕ) (risi
                     added,
                     inside from time row counts due,
                     holds from a end (omega arith) within (omega (arith, forward, sooner)) counts ahead,
-                    ap (λ t. work_in jobs from t) same,
+                    ap (λ t. enclosed_work jobs from t) same,
                     ap (λ t. top * (t - from)) same,
                     later_idle new b end (omega (arith, sooner)),
                   )
@@ -177,7 +177,7 @@ idle_room top times jobs idle due has from to full =
       arith,
       full.too_much,
       jobs_work jobs from to,
-      subst (λ (end : ℕ). work_in jobs from end + idle_before idle b ≤ top * (end - from) + idle_before idle b) is
+      subst (λ (end : ℕ). enclosed_work jobs from end + idle_before idle b ≤ top * (end - from) + idle_before idle b) is
           (has.room from b b (omega arith) there.1 (omega (arith, is, full.forward))),
     ))
 
@@ -262,7 +262,7 @@ count_from jobs falling from (suc k) within =
     ]
 
 module _ (top : ℕ) (times full : List ℕ) (all jobs : List Job) (places gaps : List ℕ) (cutting : IsCutting top times jobs places gaps) (are_gaps : AreGaps top times full)
-    (same : (from to : ℕ) → work_in jobs from to ≡ work_in all from to) (falling : IsFalling jobs) (are : All IsJob all) (room : HasRoom top all)
+    (same : (from to : ℕ) → enclosed_work jobs from to ≡ enclosed_work all from to) (falling : IsFalling jobs) (are : All IsJob all) (room : HasRoom top all)
     (rising : IsNonDecreasing times) (long : length gaps + 1 ≡ length times) where
   abbrev m : ℕ
   m = length gaps

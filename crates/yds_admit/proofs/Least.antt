@@ -11,7 +11,7 @@ use Rattle.std.proofs.Math.Nat.{mul-sub, mul-le-mul_left}
 use Rattle.yds_model.specs.Job.{Job, IsJob, no_job, job_at}
 use Rattle.yds_model.specs.Policy.{numbers_of}
 use Rattle.yds_model.proofs.Sums.{sum_by_same, sum_by_zero}
-use Rattle.yds_admit.specs.Interval.{work_in, HasRoomFrom}
+use Rattle.yds_admit.specs.Interval.{enclosed_work, HasRoomFrom}
 use Rattle.yds_admit.specs.Chain.{due_work, HasRoomOver, IsLeastFrom, NoFrom}
 use Rattle.yds_admit.specs.Pieces.{went, ArePieces, AreDue, IsBehindIdle}
 use Rattle.yds_laws.specs.AdmissionLaws.{HasRoom}
@@ -23,7 +23,7 @@ use Rattle.yds_admit.proofs.Cutting.{next_went}
 
 -- the work in an interval is that of the pieces up to the last one released in it
 pub work_of_first : (jobs : List Job) (n from to : ℕ) → n ≤ length jobs → ((i : ℕ) → i < n → from ≤ (job_at jobs i).release) →
-    ((i : ℕ) → n ≤ i → i < length jobs → (job_at jobs i).release < from) → work_in jobs from to ≡ due_work (take n jobs) to
+    ((i : ℕ) → n ≤ i → i < length jobs → (job_at jobs i).release < from) → enclosed_work jobs from to ≡ due_work (take n jobs) to
 work_of_first jobs n from to within early late = omega (
   arith,
   sum_by-take-drop (term from to) jobs n,
@@ -52,7 +52,7 @@ work_of_first jobs n from to within early late = omega (
       )))
 
 -- at least that of the first ones
-first_at_most : (jobs : List Job) (n from to : ℕ) → n ≤ length jobs → ((i : ℕ) → i < n → from ≤ (job_at jobs i).release) → due_work (take n jobs) to ≤ work_in jobs from to
+first_at_most : (jobs : List Job) (n from to : ℕ) → n ≤ length jobs → ((i : ℕ) → i < n → from ≤ (job_at jobs i).release) → due_work (take n jobs) to ≤ enclosed_work jobs from to
 first_at_most jobs n from to within early = omega (
   arith,
   sum_by-take-drop (term from to) jobs n,
@@ -94,8 +94,8 @@ module _ (top : ℕ) (times : List ℕ) (all jobs : List Job) (places : List ℕ
 
 -- jobs that leave no interval overfull have room in any
 module _ (top : ℕ) (all : List Job) (are : All IsJob all) (room : HasRoom top all) (from : ℕ) where
-  known_deadline : (to i : ℕ) → i < length all → (job_at all i).deadline ≡ to → work_in all from to ≤ top * (to - from)
-  known_deadline to i known is = subst (λ (end : ℕ). work_in all from end ≤ top * (end - from)) is (omega (
+  known_deadline : (to i : ℕ) → i < length all → (job_at all i).deadline ≡ to → enclosed_work all from to ≤ top * (to - from)
+  known_deadline to i known is = subst (λ (end : ℕ). enclosed_work all from end ≤ top * (end - from)) is (omega (
     arith,
     room_from top all are room i known (job_at all i).deadline from (omega arith),
     confined_sum all (numbers_of all) from (job_at all i).deadline,
@@ -113,7 +113,7 @@ module _ (top : ℕ) (all : List Job) (are : All IsJob all) (room : HasRoom top 
     apart : (x y : ℕ) → y ≤ x → (x ≡ y → ⊥) → y < x
     apart x y most other = elim (cases_lt y x) [ inl less ↦ less | inr more ↦ absurd (other (omega (arith, most, more))) ]
 
-  pub room_to : (to : ℕ) → work_in all from to ≤ top * (to - from)
+  pub room_to : (to : ℕ) → enclosed_work all from to ≤ top * (to - from)
   room_to zero = omega (arith, sum_by_zero (term from 0) all (λ k d below. after from 0 (get_or all k d) (omega (arith, (are k d below).has_window))))
   room_to (suc to) = elim (found_or_none (length all) (λ i. (job_at all i).deadline == suc to)) [
     | inl found ↦ known_deadline (suc to) found.0 found.1 (eqb-true (job_at all found.0).deadline (suc to) found.2)
@@ -201,7 +201,7 @@ module _ (top : ℕ) (times : List ℕ) (all jobs : List Job) (places used : Lis
 
 module _ (top : ℕ) (times : List ℕ) (all jobs : List Job) (places used : List ℕ) (row : Job) (end m : ℕ) (long : length times ≡ m + 1) (pieces : ArePieces top times all jobs places used)
     (short : end ≤ m) (is_end : get_or times end 0 ≡ row.deadline) (rising : IsNonDecreasing times) (due : AreDue times all) (window : row.release < row.deadline) where
-  with_row : (from to : ℕ) → work_in (all ++ row ∷ []) from to ≡ work_in jobs from to + term from to row
+  with_row : (from to : ℕ) → enclosed_work (all ++ row ∷ []) from to ≡ enclosed_work jobs from to + term from to row
   with_row from to = omega (arith, sum_by_push (term from to) all row, pieces.same from to)
 
   at_most : (from to : ℕ) → term from to row ≤ row.work

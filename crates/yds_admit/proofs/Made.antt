@@ -8,7 +8,7 @@ use Rattle.std.proofs.lemmas.List.Sorted.{sum_by-IsPermutation, IsPermutation-sy
 use Rattle.std.proofs.lemmas.List.Sums.{sum_by-append, sum_by_more}
 use Rattle.yds_model.specs.declared.limits.TheConstants.{MAX_JOBS, MAX_WORK}
 use Rattle.yds_model.specs.Job.{Job, no_job, job_at}
-use Rattle.yds_admit.specs.Interval.{work_in}
+use Rattle.yds_admit.specs.Interval.{enclosed_work}
 use Rattle.yds_admit.specs.Chain.{IsFalling}
 use Rattle.yds_admit.specs.Pieces.{IsGreatest, IsCutting, IsCutInto, AreCut, ArePieces, went}
 use Rattle.yds_admit.proofs.Between.{term}
@@ -70,7 +70,7 @@ module _ (all : List Job) (n : ℕ) (falls : IsFalling all) (within : n < length
     );
     same = λ from to. omega (
       arith,
-      ap (λ (jobs : List Job). work_in jobs from to) into.is,
+      ap (λ (jobs : List Job). enclosed_work jobs from to) into.is,
       sum_by-append (term from to) old into.more,
       added from to job into.more into.windows into.work,
       made.same from to,
@@ -104,7 +104,7 @@ all_made top times all jobs places gaps used n whole within few long made cuttin
   used_is = used_is;
   falling = made.falling;
   few = omega (arith, made.few, few, within);
-  same = λ from to. made.same from to ∙ ap (λ (some : List Job). work_in some from to) (take_all n all whole);
+  same = λ from to. made.same from to ∙ ap (λ (some : List Job). enclosed_work some from to) (take_all n all whole);
   kept = λ from some.
       let there = made.kept some.0 (omega (arith, some.2, whole)) in (
         there.0,

@@ -13,7 +13,7 @@ use Rattle.yds_model.specs.Admission.{IsOverfull, IsFirstOverfull}
 use Rattle.yds_model.proofs.Lists.{All-front, All-last}
 use Rattle.yds_laws.specs.AdmissionLaws.{HasRoom}
 use Rattle.yds_laws.proofs.Served.{room_from, confined_sum, confined_term}
-use Rattle.yds_admit.specs.Interval.{work_in, HasRoomFrom, IsFirstEnd, IsFirstFrom, IsFirstWith}
+use Rattle.yds_admit.specs.Interval.{enclosed_work, HasRoomFrom, IsFirstEnd, IsFirstFrom, IsFirstWith}
 use Rattle.yds_admit.specs.Chain.{IsFalling, HasRoomOver, IsLeastFrom, NoFrom}
 use Rattle.yds_admit.proofs.Between.{term, before, after}
 use Rattle.yds_admit.proofs.Overfull.{any_of_all, number_of_any, jobs_work}
@@ -25,11 +25,11 @@ any_permuted P jobs others same (k, job, within, is, holds) =
     (there.0, job, there.1, there.2, holds)
 
 -- the same work of jobs in another order
-pub permuted_work : (jobs others : List Job) → IsPermutation jobs others → (from to : ℕ) → work_in others from to ≡ work_in jobs from to
+pub permuted_work : (jobs others : List Job) → IsPermutation jobs others → (from to : ℕ) → enclosed_work others from to ≡ enclosed_work jobs from to
 permuted_work jobs others same from to = sum_by-IsPermutation (term from to) jobs others same
 
 -- the same work with one job more
-pub work_more : (jobs others : List Job) (row : Job) → IsPermutation jobs others → (from to : ℕ) → work_in (others ++ row ∷ []) from to ≡ work_in (jobs ++ row ∷ []) from to
+pub work_more : (jobs others : List Job) (row : Job) → IsPermutation jobs others → (from to : ℕ) → enclosed_work (others ++ row ∷ []) from to ≡ enclosed_work (jobs ++ row ∷ []) from to
 work_more jobs others row same = permuted_work (jobs ++ row ∷ []) (others ++ row ∷ []) (IsPermutation-append_left (row ∷ []) jobs others same)
 
 apart : (x y : ℕ) → y ≤ x → (x ≡ y → ⊥) → y < x
@@ -73,10 +73,10 @@ module _ (top : ℕ) (jobs : List Job) (row : Job) (are : All IsJob (jobs ++ row
       apart_due due from to (inr late) is forward = omega arith
 
   module _ (by_release by_deadline : List Job) (releases : IsPermutation (jobs ++ row ∷ []) by_release) (deadlines : IsPermutation (jobs ++ row ∷ []) by_deadline) where
-    release_work : (from to : ℕ) → work_in by_release from to ≡ work_in (jobs ++ row ∷ []) from to
+    release_work : (from to : ℕ) → enclosed_work by_release from to ≡ enclosed_work (jobs ++ row ∷ []) from to
     release_work from to = sum_by-IsPermutation (term from to) (jobs ++ row ∷ []) by_release releases
 
-    deadline_work : (from to : ℕ) → work_in by_deadline from to ≡ work_in (jobs ++ row ∷ []) from to
+    deadline_work : (from to : ℕ) → enclosed_work by_deadline from to ≡ enclosed_work (jobs ++ row ∷ []) from to
     deadline_work from to = sum_by-IsPermutation (term from to) (jobs ++ row ∷ []) by_deadline deadlines
 
     -- an overfull interval from a release that has room over the deadline
@@ -124,7 +124,7 @@ module _ (top : ℕ) (jobs : List Job) (row : Job) (are : All IsJob (jobs ++ row
               | inr late ↦ late
               | inl early ↦ absurd (omega (
                 arith,
-                subst (λ (s : ℕ). top * (other_to - s) < work_in by_deadline s other_to) (sym equal)
+                subst (λ (s : ℕ). top * (other_to - s) < enclosed_work by_deadline s other_to) (sym equal)
                     (omega (arith, full.too_much, jobs_work (jobs ++ row ∷ []) other_from other_to, deadline_work other_from other_to)),
                 ends.first other_to (omega (arith, equal, full.forward)) early,
               ))
@@ -139,7 +139,7 @@ module _ (top : ℕ) (jobs : List Job) (row : Job) (are : All IsJob (jobs ++ row
         IsFirstWith top (jobs ++ row ∷ []) from to work
     first_with start from to work least found = record {
       first = subst (λ begin. IsFirstOverfull (jobs ++ row ∷ []) top (numbers_of (jobs ++ row ∷ [])) begin to) (sym found.begins) (first_found start to least found.ends);
-      all = found.all ∙ deadline_work start to ∙ ap (λ begin. work_in (jobs ++ row ∷ []) begin to) (sym found.begins);
+      all = found.all ∙ deadline_work start to ∙ ap (λ begin. enclosed_work (jobs ++ row ∷ []) begin to) (sym found.begins);
     }
 
     -- there is one
@@ -156,7 +156,7 @@ module _ (top : ℕ) (jobs : List Job) (row : Job) (are : All IsJob (jobs ++ row
 
 module _ (top : ℕ) (jobs : List Job) (row : Job) (by_deadline : List Job) (deadlines : IsPermutation (jobs ++ row ∷ []) by_deadline) (from : ℕ)
     (earliest : All (λ (job : Job). from ≤ job.release) (jobs ++ row ∷ [])) (begins : Any (λ (job : Job). job.release ≡ from) (jobs ++ row ∷ [])) where
-  same_work : (start to : ℕ) → work_in by_deadline start to ≡ work_in (jobs ++ row ∷ []) start to
+  same_work : (start to : ℕ) → enclosed_work by_deadline start to ≡ enclosed_work (jobs ++ row ∷ []) start to
   same_work start to = sum_by-IsPermutation (term start to) (jobs ++ row ∷ []) by_deadline deadlines
 
   -- of all overfull intervals the first one from there is the first
@@ -181,7 +181,7 @@ module _ (top : ℕ) (jobs : List Job) (row : Job) (by_deadline : List Job) (dea
               | inr late ↦ late
               | inl early ↦ absurd (omega (
                 arith,
-                subst (λ (s : ℕ). top * (other_to - s) < work_in by_deadline s other_to) (sym equal)
+                subst (λ (s : ℕ). top * (other_to - s) < enclosed_work by_deadline s other_to) (sym equal)
                     (omega (arith, full.too_much, jobs_work (jobs ++ row ∷ []) other_from other_to, same_work other_from other_to)),
                 ends.first other_to (omega (arith, equal, full.forward)) early,
               ))
@@ -194,7 +194,7 @@ module _ (top : ℕ) (jobs : List Job) (row : Job) (by_deadline : List Job) (dea
   pub first_with_start : (begin to work : ℕ) → IsFirstFrom top by_deadline from begin to work → IsFirstWith top (jobs ++ row ∷ []) begin to work
   first_with_start begin to work found = record {
     first = subst (λ start. IsFirstOverfull (jobs ++ row ∷ []) top (numbers_of (jobs ++ row ∷ [])) start to) (sym found.begins) (first_from_start to found.ends);
-    all = found.all ∙ same_work from to ∙ ap (λ start. work_in (jobs ++ row ∷ []) start to) (sym found.begins);
+    all = found.all ∙ same_work from to ∙ ap (λ start. enclosed_work (jobs ++ row ∷ []) start to) (sym found.begins);
   }
 
 -- the earliest release is that of the job that stands last in falling order of the releases, or of the one more

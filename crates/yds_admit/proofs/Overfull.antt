@@ -10,16 +10,16 @@ use Rattle.yds_model.proofs.Lists.{Any-append_left}
 use Rattle.yds_laws.specs.AdmissionLaws.{HasRoom}
 use Rattle.yds_laws.proofs.JobNumbers.{sum_by-map, all_jobs}
 use Rattle.yds_laws.proofs.Served.{confined_sum}
-use Rattle.yds_admit.specs.Interval.{work_in}
+use Rattle.yds_admit.specs.Interval.{enclosed_work}
 use Rattle.yds_admit.proofs.Between.{term}
 
 -- # The work confined to an interval
 
-pub numbers_work : (jobs : List Job) (numbers : List ℕ) (from to : ℕ) → confined_work jobs numbers from to ≡ work_in (jobs_with jobs numbers) from to
+pub numbers_work : (jobs : List Job) (numbers : List ℕ) (from to : ℕ) → confined_work jobs numbers from to ≡ enclosed_work (jobs_with jobs numbers) from to
 numbers_work jobs numbers from to = confined_sum jobs numbers from to ∙ sym (sum_by-map (job_at jobs) (term from to) numbers)
 
-pub jobs_work : (jobs : List Job) (from to : ℕ) → confined_work jobs (numbers_of jobs) from to ≡ work_in jobs from to
-jobs_work jobs from to = numbers_work jobs (numbers_of jobs) from to ∙ ap (λ (some : List Job). work_in some from to) (all_jobs jobs)
+pub jobs_work : (jobs : List Job) (from to : ℕ) → confined_work jobs (numbers_of jobs) from to ≡ enclosed_work jobs from to
+jobs_work jobs from to = numbers_work jobs (numbers_of jobs) from to ∙ ap (λ (some : List Job). enclosed_work some from to) (all_jobs jobs)
 
 -- # Some job, and some number of a job
 

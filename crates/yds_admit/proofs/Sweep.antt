@@ -7,7 +7,7 @@ use Rattle.std.proofs.lemmas.List.{get_or_default, get_or-take, get_or-drop, len
 use Rattle.std.proofs.lemmas.List.Sums.{sum_by_more, sum_by-take-drop}
 use Rattle.yds_model.specs.Job.{Job, no_job, job_at}
 use Rattle.yds_model.proofs.Sums.{sum_by_same, sum_by_zero}
-use Rattle.yds_admit.specs.Interval.{work_in}
+use Rattle.yds_admit.specs.Interval.{enclosed_work}
 use Rattle.yds_admit.specs.Chain.{IsFalling, AreTimes, due_work, IsChain, Takes}
 use Rattle.yds_admit.proofs.Between.{term, before as released_before}
 use Rattle.yds_admit.proofs.GoingOn.{ended}
@@ -179,7 +179,7 @@ module _ (top due : ℕ) (jobs others : List Job) (times : List ℕ) (m : ℕ) (
 
   -- the work in an interval from a release is that of the jobs up to the last one with that release
   pub work_of_front : (k from to : ℕ) → k < length jobs → from ≤ (job_at jobs k).release → ((i : ℕ) → k < i → i < length jobs → (job_at jobs i).release < from) →
-      work_in jobs from to ≡ due_work (take (k + 1) jobs) to
+      enclosed_work jobs from to ≡ due_work (take (k + 1) jobs) to
   work_of_front k from to within released last =
       omega (
         arith,

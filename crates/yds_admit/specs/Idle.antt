@@ -2,7 +2,7 @@
 use Rattle.std.specs.Prelude.{◌≡◌, ℕ, ◌+◌, ◌-◌, ◌*◌, ◌<◌, ◌≤◌, List, length, slice_index}
 use Rattle.yds_model.specs.Job.{Job}
 use Rattle.yds_edf.specs.Pending.{sum_below}
-use Rattle.yds_admit.specs.Interval.{work_in}
+use Rattle.yds_admit.specs.Interval.{enclosed_work}
 
 -- what is idle in the gaps before a place
 abbrev pub idle_before : List ℕ → ℕ → ℕ
@@ -17,7 +17,7 @@ taken_before gaps left q = sum_below q (λ k. slice_index gaps k - slice_index l
 pub record HasIdle (top : ℕ) (times : List ℕ) (jobs : List Job) (idle : List ℕ) : Type 0 where
   pub as_long : length idle + 1 ≡ length times
   pub room : (from a b : ℕ) → a ≤ b → b < length times → from ≤ slice_index times a →
-      work_in jobs from (slice_index times b) + idle_before idle b ≤ top * (slice_index times b - from) + idle_before idle a
+      enclosed_work jobs from (slice_index times b) + idle_before idle b ≤ top * (slice_index times b - from) + idle_before idle a
 
 -- so many units were taken from what is idle between two places
 pub record IsTaken (old new : List ℕ) (begin end units : ℕ) : Type 0 where

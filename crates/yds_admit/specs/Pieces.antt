@@ -4,7 +4,7 @@ use Rattle.std.specs.List.{All, Any, Contains}
 use Rattle.yds_model.specs.declared.limits.TheConstants.{MAX_JOBS, MAX_WORK}
 use Rattle.yds_model.specs.Job.{Job, job_at}
 use Rattle.yds_edf.specs.Pending.{sum_below}
-use Rattle.yds_admit.specs.Interval.{work_in}
+use Rattle.yds_admit.specs.Interval.{enclosed_work}
 use Rattle.yds_admit.specs.Chain.{IsFalling, IsChain, due_work}
 
 -- each job's deadline is one of the times
@@ -44,7 +44,7 @@ pub record AreCut (all : List Job) (n : ℕ) (jobs : List Job) : Type 0 where
   pub falling : IsFalling jobs
   pub later : (k : ℕ) → n ≤ k → k < length all → (i : ℕ) → i < length jobs → (job_at all k).release ≤ (job_at jobs i).release
   pub few : sum_by (λ job. job.work) jobs ≤ n * MAX_WORK
-  pub same : (from to : ℕ) → work_in jobs from to ≡ work_in (take n all) from to
+  pub same : (from to : ℕ) → enclosed_work jobs from to ≡ enclosed_work (take n all) from to
   pub kept : (k : ℕ) → k < n → (i : ℕ) × (i < length jobs) × ((job_at jobs i).release ≡ (job_at all k).release)
   pub known : (i : ℕ) → i < length jobs → (k : ℕ) × (k < n) × ((job_at all k).release ≡ (job_at jobs i).release)
 
@@ -54,7 +54,7 @@ pub record ArePieces (top : ℕ) (times : List ℕ) (all jobs : List Job) (place
   pub used_as_long : length used ≡ length times
   pub falling : IsFalling jobs
   pub few : sum_by (λ job. job.work) jobs ≤ MAX_JOBS * MAX_WORK
-  pub same : (from to : ℕ) → work_in jobs from to ≡ work_in all from to
+  pub same : (from to : ℕ) → enclosed_work jobs from to ≡ enclosed_work all from to
   pub kept : (from : ℕ) → Any (λ job. job.release ≡ from) all → Any (λ job. job.release ≡ from) jobs
   pub known : (from : ℕ) → Any (λ job. job.release ≡ from) jobs → Any (λ job. job.release ≡ from) all
   pub greatest : (m n : ℕ) → length times ≡ m + 1 → n ≤ length jobs → (q : ℕ) → q ≤ m → IsGreatest top times m n jobs places q

@@ -24,7 +24,7 @@ use Rattle.yds_events.proofs.Times.{not_later}
 use Rattle.yds_edf.proofs.Numbers.{sum_filter}
 use Rattle.yds_edf.proofs.Parts.{filter_none, filter_all}
 use Rattle.yds_avr.specs.declared.rate.Rate.{Rate}
-use Rattle.yds_avr.specs.Rate.{rate_of, units_of, rate_term, rate_rounds, IsRate, IsLive}
+use Rattle.yds_avr.specs.Rate.{rate_of, rate_units, rate_term, rate_rounds, IsRate, IsLive}
 use Rattle.yds_avr.specs.Live.{no_rate, rate_at, rates_of, AreCome, AreOver, AreNotOver, HaveRisingReleases, ArePartsBefore}
 
 -- the stretch lies in the job's window
@@ -167,7 +167,7 @@ rounds_permuted rates order stretch same =
 
 -- # A rate is its job's
 
-units_same : (grid : ℕ) (job : Job) → units_of (rate_of grid job) ≡ grid * job.work
+units_same : (grid : ℕ) (job : Job) → rate_units (rate_of grid job) ≡ grid * job.work
 units_same grid job = div-add-mod' (grid * job.work) (job.deadline - job.release)
 
 term_same : (grid : ℕ) (stretch : Piece) (job : Job) → rate_term stretch (rate_of grid job) ≡ term_of grid stretch job

@@ -8,7 +8,7 @@ use Rattle.yds_model.specs.Policy.{div_up}
 use Rattle.yds_model.specs.Piece.{Piece}
 use Rattle.yds_avr.specs.declared.rate.Rate.{Rate}
 use Rattle.yds_events.specs.Stretch.{length_of}
-use Rattle.yds_avr.specs.Rate.{window_of, units_of, rate_term, rate_rounds, IsRate, IsLive}
+use Rattle.yds_avr.specs.Rate.{window_of, rate_units, rate_term, rate_rounds, IsRate, IsLive}
 use Rattle.yds_edf.proofs.Quotients.{up_enough, up_most}
 
 module _ (rest length window fraction : ℕ) (some : 1 ≤ window) (in_range : window ≤ 1000000000) (short : length ≤ window)
@@ -113,7 +113,7 @@ module _ (stretch : Piece) (rate : Rate) (live : IsLive stretch rate) where
   pub part_few : rate_term stretch rate ≤ 1000000000000
   part_few = omega (
     arith,
-    up_most (units_of rate * length_of stretch) (window_of rate) (units_of rate) (omega (arith, live.is_rate.has_window)) (mul-le-mul_left (units_of rate) part_long),
+    up_most (rate_units rate * length_of stretch) (window_of rate) (rate_units rate) (omega (arith, live.is_rate.has_window)) (mul-le-mul_left (rate_units rate) part_long),
     live.is_rate.few,
   )
 

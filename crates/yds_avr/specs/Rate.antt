@@ -10,12 +10,12 @@ abbrev pub window_of : Rate → ℕ
 window_of rate = rate.deadline - rate.release
 
 -- the job's units
-abbrev pub units_of : Rate → ℕ
-units_of rate = rate.whole * window_of rate + rate.rest
+abbrev pub rate_units : Rate → ℕ
+rate_units rate = rate.whole * window_of rate + rate.rest
 
 -- a rest by the window's length, in parts of a unit of which there are 2^64
-abbrev pub fraction_of : ℕ → ℕ → ℕ
-fraction_of rest window = rest * 18446744073709551616 / window
+abbrev pub rest_by_window : ℕ → ℕ → ℕ
+rest_by_window rest window = rest * 18446744073709551616 / window
 
 abbrev pub rate_of : ℕ → Job → Rate
 rate_of grid job = record {
@@ -23,15 +23,15 @@ rate_of grid job = record {
   deadline = job.deadline;
   whole = grid * job.work / (job.deadline - job.release);
   rest = grid * job.work % (job.deadline - job.release);
-  fraction = fraction_of (grid * job.work % (job.deadline - job.release)) (job.deadline - job.release);
+  fraction = rest_by_window (grid * job.work % (job.deadline - job.release)) (job.deadline - job.release);
 }
 
 pub record IsRate (rate : Rate) : Type 0 where
   pub has_window : rate.release < rate.deadline
   pub time_in_range : rate.deadline ≤ MAX_TIME
   pub less : rate.rest < window_of rate
-  pub fraction_is : rate.fraction ≡ fraction_of rate.rest (window_of rate)
-  pub few : units_of rate ≤ 1000000000000
+  pub fraction_is : rate.fraction ≡ rest_by_window rate.rest (window_of rate)
+  pub few : rate_units rate ≤ 1000000000000
 
 -- the stretch lies in the job's window
 pub record IsLive (stretch : Piece) (rate : Rate) : Type 0 where
@@ -41,7 +41,7 @@ pub record IsLive (stretch : Piece) (rate : Rate) : Type 0 where
 
 -- the job's units in the stretch, rounded up, and whether they weren't whole
 abbrev pub rate_term : Piece → Rate → ℕ
-rate_term stretch rate = div_up (units_of rate * (stretch.to - stretch.from)) (window_of rate)
+rate_term stretch rate = div_up (rate_units rate * (stretch.to - stretch.from)) (window_of rate)
 
 abbrev pub rate_rounds : Piece → Rate → Bool
-rate_rounds stretch rate = not (units_of rate * (stretch.to - stretch.from) % window_of rate == 0)
+rate_rounds stretch rate = not (rate_units rate * (stretch.to - stretch.from) % window_of rate == 0)

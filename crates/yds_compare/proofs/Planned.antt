@@ -25,7 +25,7 @@ use Rattle.yds_slots.specs.Between.{lies_between}
 use Rattle.yds_search.proofs.KeySums.{sum_by-map, sum_by-flat_map}
 use Rattle.yds_laws.proofs.LevelTimes.{levels_long, plan_busy}
 use Rattle.yds_laws.proofs.PlanParts.{HasSpeeds, plan_part}
-use Rattle.yds_round.specs.Written.{total_units}
+use Rattle.yds_round.specs.Written.{units_of_slots}
 use Rattle.yds_round.specs.Rounded.{planned_in}
 use Rattle.yds_round.proofs.Held.{back_at, whole, known, forward, held}
 use Rattle.yds_compare.specs.declared.load.Load.{Load}
@@ -120,7 +120,7 @@ module _ (jobs : List Job) (planned : List WrittenSlot) (levels : List Level) (p
         (λ i d inside. written_speeds i d inside level (Contains-get_or levels h.place no_level h.within) (h.members i d inside)) in
         let work : ℕ = sum_by (λ slot. slot.work) (here stretch) in
         let by_speed : work * level.length ≡ level.work * busy (here stretch) = rate_together level.work level.length (here stretch) speeds in
-        let by_units : work * speed_den level ≡ total_units (speed_den level) (planned_in planned stretch) * scale =
+        let by_units : work * speed_den level ≡ units_of_slots (speed_den level) (planned_in planned stretch) * scale =
         units_sum (speed_den level) scale (planned_in planned stretch) (λ i d inside. (h.denominators i d inside).work) (All-filter test (IsDivided scale) planned is.divided) in
         let divisor = common_divisor level.work level.length in
         let gcd = divisor_is_greatest level.work level.length in

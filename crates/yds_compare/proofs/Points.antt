@@ -15,7 +15,7 @@ use Rattle.yds_laws.proofs.PointTimes.{gap_divides, pair_time, idle_time}
 use Rattle.yds_compare.specs.declared.load.Load.{Load}
 use Rattle.yds_compare.specs.declared.share.Share.{Share}
 use Rattle.yds_compare.specs.Load.{IsHeldAt}
-use Rattle.yds_compare.specs.Share.{share_at, IsShareOf, IsShareBetween, IsBelow, IsFirstHolding}
+use Rattle.yds_compare.specs.Share.{time_share_at, IsShareOf, IsShareBetween, IsBelow, IsFirstHolding}
 
 -- # In plain numbers
 
@@ -112,7 +112,7 @@ found points hull load (suc place) low high is rising first some is_low is_high 
 pub found_share : (points hull : List Point) (load : Load) (low high : Point) (share : Share) → hull ≡ hull_of points → AreFound hull load (hull_multiple points) low high →
     IsShareBetween (hull_multiple points) load low high share → IsShareOf (hull_multiple points) (hull_of points) load share
 found_share points hull load low high share is at between =
-    let same : (speed : ℕ) → share_at share speed ≡ pair_time (hull_multiple points) load.time load.work low high speed =
+    let same : (speed : ℕ) → time_share_at share speed ≡ pair_time (hull_multiple points) load.time load.work low high speed =
     λ speed. rw (between.slow, between.fast, between.is_low, between.is_high) refl in
     record {
       each = λ speed. same speed

@@ -23,7 +23,7 @@ use Rattle.yds_model.proofs.Horizon.{part_own}
 use Rattle.yds_model.proofs.Scale.{scale_exists}
 use Rattle.yds_events.specs.Stretch.{length_of}
 use Rattle.yds_slots.specs.Between.{lies_between}
-use Rattle.yds_round.specs.Written.{units_of, total_units}
+use Rattle.yds_round.specs.Written.{slot_units, units_of_slots}
 use Rattle.yds_round.specs.Rounded.{planned_in}
 use Rattle.yds_round.proofs.Decomposed.{lies_at, lies_passes}
 use Rattle.yds_round.proofs.Held.{back_at}
@@ -65,19 +65,19 @@ slots_in_stretch scale stretch (slot ∷ slots) positive divided =
 
 -- the work of slots at a scale, by their units
 pub units_sum : (unit scale : ℕ) (slots : List WrittenSlot) → All (WorksOver unit) slots → All (IsDivided scale) slots →
-    sum_by (λ slot. slot.work) (slots_at scale slots) * unit ≡ total_units unit slots * scale
+    sum_by (λ slot. slot.work) (slots_at scale slots) * unit ≡ units_of_slots unit slots * scale
 units_sum unit scale [] over divided = omega arith
 units_sum unit scale (slot ∷ slots) over divided = omega (
   arith,
   ap (λ n. n * unit) (sum_by-cons (λ (s : WholeSlot). s.work) (slot_at_scale scale slot) (slots_at scale slots)),
-  ap (λ n. n * scale) (sum_by-cons (λ (s : WrittenSlot). units_of unit s) slot slots),
+  ap (λ n. n * scale) (sum_by-cons (λ (s : WrittenSlot). slot_units unit s) slot slots),
   work_at unit scale slot.work (over 0 slot (omega arith)) (divided 0 slot (omega arith)).work,
   units_sum unit scale slots (All-tail (WorksOver unit) slot slots over) (All-tail (IsDivided scale) slot slots divided),
 )
 
 -- the work in a stretch, by its units
 pub work_in_units : (unit scale : ℕ) (stretch : Piece) (slots : List WrittenSlot) → 1 ≤ scale → All (WorksOver unit) slots → All (IsDivided scale) slots →
-    unit * work_in scale stretch (slots_at scale slots) ≡ scale * total_units unit (planned_in slots stretch)
+    unit * work_in scale stretch (slots_at scale slots) ≡ scale * units_of_slots unit (planned_in slots stretch)
 work_in_units unit scale stretch slots positive over divided =
     let all = units_sum unit scale (planned_in slots stretch) (All-filter (lies_between stretch.from stretch.to) (WorksOver unit) slots over)
     (All-filter (lies_between stretch.from stretch.to) (IsDivided scale) slots divided) in
@@ -132,7 +132,7 @@ module _ (jobs : List Job) (points : List Point) (grid scale : ℕ) (slots : Lis
 
   -- # The units are few
 
-  pub slot_few : All IsJob jobs → All (λ slot. units_of grid slot ≤ grid * MAX_WORK) slots
+  pub slot_few : All IsJob jobs → All (λ slot. slot_units grid slot ≤ grid * MAX_WORK) slots
   slot_few jobs_fit k d within =
       let slot = get_or slots k d in
       let whole = slot_at_scale scale slot in
@@ -147,10 +147,10 @@ module _ (jobs : List Job) (points : List Point) (grid scale : ℕ) (slots : Lis
       let less : whole.work ≤ MAX_WORK * scale = omega (arith, given, own, served, mul-le-mul_right scale most) in
       le_of_mul-le-mul_right {k = scale} (omega (arith, at, mul-le-mul_right grid less)) is.positive
 
-  pub units_few : All IsJob jobs → length jobs ≤ MAX_JOBS → grid ≤ MAX_GRID → (stretch : Piece) → total_units grid (planned_in slots stretch) < 2 ^ 64
+  pub units_few : All IsJob jobs → length jobs ≤ MAX_JOBS → grid ≤ MAX_GRID → (stretch : Piece) → units_of_slots grid (planned_in slots stretch) < 2 ^ 64
   units_few jobs_fit few_jobs few_grid stretch =
-      let each = All-filter (lies_between stretch.from stretch.to) (λ slot. units_of grid slot ≤ grid * MAX_WORK) slots (slot_few jobs_fit) in
-      let all = sum_by-le (λ (slot : WrittenSlot). units_of grid slot) (grid * MAX_WORK) (planned_in slots stretch) each in
+      let each = All-filter (lies_between stretch.from stretch.to) (λ slot. slot_units grid slot ≤ grid * MAX_WORK) slots (slot_few jobs_fit) in
+      let all = sum_by-le (λ (slot : WrittenSlot). slot_units grid slot) (grid * MAX_WORK) (planned_in slots stretch) each in
       let number : length (planned_in slots stretch) ≤ 3 * MAX_JOBS = omega (arith, filter_shorter (lies_between stretch.from stretch.to) slots, run.few, few_jobs) in
       let most : grid * MAX_WORK ≤ MAX_GRID * MAX_WORK = mul-le-mul_right MAX_WORK few_grid in
       omega (arith, all, mul-le-mul number most)

@@ -12,30 +12,30 @@ use Rattle.yds_model.specs.Comparison.{time_at}
 use Rattle.yds_edf.proofs.Laid.{all_zip_push}
 use Rattle.yds_compare.specs.declared.load.Load.{Load}
 use Rattle.yds_compare.specs.declared.share.Share.{Share}
-use Rattle.yds_compare.specs.Share.{share_at, IsShareOf}
+use Rattle.yds_compare.specs.Share.{time_share_at, IsShareOf}
 use Rattle.yds_compare.specs.Spent.{time_of_loads, energy_of_loads}
 
 -- the shares' times are the loads'
 pub time_is : (multiple : ℕ) (hull : List Point) (loads : List Load) (shares : List Share) (speed : ℕ) → AllZip (IsShareOf multiple hull) loads shares →
-    sum_by (λ share. share_at share speed) shares ≡ sum_by (λ load. time_at multiple load.time load.work hull speed) loads
+    sum_by (λ share. time_share_at share speed) shares ≡ sum_by (λ load. time_at multiple load.time load.work hull speed) loads
 time_is multiple hull [] [] speed zip = refl
 time_is multiple hull [] (share ∷ shares) speed zip = absurd zip
 time_is multiple hull (load ∷ loads) [] speed zip = absurd zip
 time_is multiple hull (load ∷ loads) (share ∷ shares) speed zip =
-    sum_by-cons (λ (s : Share). share_at s speed) share shares
+    sum_by-cons (λ (s : Share). time_share_at s speed) share shares
     ∙ ap₂ (λ a b. a + b) (zip.0.each speed) (time_is multiple hull loads shares speed zip.1)
     ∙ sym (sum_by-cons (λ (l : Load). time_at multiple l.time l.work hull speed) load loads)
 
 -- and at most all their time
 pub time_short : (multiple : ℕ) (hull : List Point) (loads : List Load) (shares : List Share) (speed : ℕ) → AllZip (IsShareOf multiple hull) loads shares →
-    sum_by (λ share. share_at share speed) shares ≤ sum_by (λ load. load.time) loads * multiple
+    sum_by (λ share. time_share_at share speed) shares ≤ sum_by (λ load. load.time) loads * multiple
 time_short multiple hull [] [] speed zip = omega arith
 time_short multiple hull [] (share ∷ shares) speed zip = absurd zip
 time_short multiple hull (load ∷ loads) [] speed zip = absurd zip
 time_short multiple hull (load ∷ loads) (share ∷ shares) speed zip =
     omega (
       arith,
-      sum_by-cons (λ (s : Share). share_at s speed) share shares,
+      sum_by-cons (λ (s : Share). time_share_at s speed) share shares,
       ap (λ n. n * multiple) (sum_by-cons (λ (l : Load). l.time) load loads),
       zip.0.in_range speed,
       time_short multiple hull loads shares speed zip.1,

@@ -5,13 +5,13 @@ use Rattle.yds_model.specs.Slot.{WrittenSlot}
 use Rattle.yds_model.specs.Piece.{Piece}
 use Rattle.yds_model.specs.Level.{Level}
 use Rattle.yds_events.specs.Stretch.{length_of}
-use Rattle.yds_round.specs.Written.{total_units}
+use Rattle.yds_round.specs.Written.{units_of_slots}
 use Rattle.yds_round.specs.Rounded.{planned_in}
 use Rattle.yds_compare.specs.declared.load.Load.{Load}
 
 -- what the slots do in the stretch, in parts of which `grid` make a unit
 abbrev pub load_of : ℕ → List WrittenSlot → Piece → Load
-load_of grid slots stretch = record { time = length_of stretch * grid; work = total_units grid (planned_in slots stretch) }
+load_of grid slots stretch = record { time = length_of stretch * grid; work = units_of_slots grid (planned_in slots stretch) }
 
 abbrev pub loads_of : ℕ → List WrittenSlot → List Piece → List Load
 loads_of grid slots stretches = map (load_of grid slots) stretches

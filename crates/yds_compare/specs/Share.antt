@@ -6,13 +6,13 @@ use Rattle.yds_compare.specs.declared.load.Load.{Load}
 use Rattle.yds_compare.specs.declared.share.Share.{Share}
 
 -- the time at the point of this speed
-abbrev pub share_at : Share → ℕ → ℕ
-share_at share speed = if speed == share.high then share.fast else (if speed == share.low then share.slow else 0)
+abbrev pub time_share_at : Share → ℕ → ℕ
+time_share_at share speed = if speed == share.high then share.fast else (if speed == share.low then share.slow else 0)
 
 -- at each speed it is the time of the definition, and at most all the time
 pub record IsShareOf (multiple : ℕ) (hull : List Point) (load : Load) (share : Share) : Type 0 where
-  pub each : (speed : ℕ) → share_at share speed ≡ time_at multiple load.time load.work hull speed
-  pub in_range : (speed : ℕ) → share_at share speed ≤ load.time * multiple
+  pub each : (speed : ℕ) → time_share_at share speed ≡ time_at multiple load.time load.work hull speed
+  pub in_range : (speed : ℕ) → time_share_at share speed ≤ load.time * multiple
 
 -- the times at these two points
 pub record IsShareBetween (multiple : ℕ) (load : Load) (low high : Point) (share : Share) : Type 0 where

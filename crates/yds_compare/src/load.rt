@@ -5,7 +5,7 @@ ghost use Rattle.yds_model.specs.Numbers.{IsFirstFailure};
 ghost use Rattle.yds_model.specs.Piece.{PiecesFrom};
 ghost use Rattle.yds_events.specs.Stretch.{length_of};
 ghost use Rattle.yds_slots.specs.Between.{RunInOrder};
-ghost use Rattle.yds_round.specs.Written.{total_units};
+ghost use Rattle.yds_round.specs.Written.{units_of_slots};
 ghost use Rattle.yds_round.specs.Rounded.{planned_in};
 ghost use Rattle.yds_compare.specs.Load.{loads_of, level_loads, load_at, IsHeldAt};
 
@@ -26,8 +26,8 @@ pub(crate) struct Load {
 
 /// What the slots do together, in parts of which `grid` make a unit of work.
 fn units_of(slots: &[Slot], grid: u64) -> u64
-    requires { total_units grid slots.now < 2 ^ 64 }
-    ensures { result ≡ total_units grid slots.now }
+    requires { units_of_slots grid slots.now < 2 ^ 64 }
+    ensures { result ≡ units_of_slots grid slots.now }
 {
     let mut units = 0;
     for slot in slots {
@@ -46,7 +46,7 @@ pub(crate) fn loads_of(
     requires some_grid { 1 ≤ grid }
     requires grid_in_range { grid ≤ MAX_GRID }
     requires in_order { RunInOrder schedule.now.slots }
-    requires fits { All (λ stretch. total_units grid (planned_in schedule.now.slots stretch) < 2 ^ 64) timeline.now }
+    requires fits { All (λ stretch. units_of_slots grid (planned_in schedule.now.slots stretch) < 2 ^ 64) timeline.now }
     ensures { IfOk result (λ loads. loads.items ≡ loads_of grid schedule.now.slots timeline.now) }
 {
     let mut loads = Vec::with_capacity(alloc, timeline.len())?;

@@ -5,7 +5,7 @@ ghost use Rattle.yds_model.specs.declared.limits.TheConstants.{MAX_GAPS, MAX_POI
 ghost use Rattle.yds_model.specs.Table.{hull_of, hull_multiple};
 ghost use Rattle.yds_model.specs.Rounding.{top_of};
 ghost use Rattle.yds_compare.specs.Load.{IsHeldAt};
-ghost use Rattle.yds_compare.specs.Share.{share_at, IsShareOf, IsShareBetween, IsBelow, IsFirstHolding};
+ghost use Rattle.yds_compare.specs.Share.{time_share_at, IsShareOf, IsShareBetween, IsBelow, IsFirstHolding};
 
 use crate::load::Load;
 use yds_hull::Point;
@@ -82,7 +82,7 @@ impl Share {
 
     /// The time at the point of this speed, 0 where it is neither of the two.
     pub(crate) fn at(&self, speed: u32) -> u128
-        ensures { result ≡ share_at self.now speed }
+        ensures { result ≡ time_share_at self.now speed }
     {
         if speed == self.high {
             self.fast

@@ -4,7 +4,7 @@ ghost use Rattle.yds_model.specs.declared.limits.TheConstants.{MAX_GRID, MAX_TIM
 ghost use Rattle.yds_model.specs.Table.{hull_of, hull_multiple};
 ghost use Rattle.yds_model.specs.Rounding.{top_of};
 ghost use Rattle.yds_compare.specs.Load.{IsHeldAt};
-ghost use Rattle.yds_compare.specs.Share.{share_at, IsShareOf};
+ghost use Rattle.yds_compare.specs.Share.{time_share_at, IsShareOf};
 ghost use Rattle.yds_compare.specs.Spent.{IsSpentOn};
 
 use crate::load::Load;
@@ -47,8 +47,8 @@ fn shares_of(alloc: Global, loads: &[Load], table: &Table) -> Result<Vec<Share>,
 
 /// The time at the point of this speed.
 fn time_at(shares: &[Share], speed: u32) -> u128
-    requires { sum_by (λ share. share_at share speed) shares.now < 2 ^ 128 }
-    ensures { result ≡ sum_by (λ share. share_at share speed) shares.now }
+    requires { sum_by (λ share. time_share_at share speed) shares.now < 2 ^ 128 }
+    ensures { result ≡ sum_by (λ share. time_share_at share speed) shares.now }
 {
     shares.iter().map(|share| share.at(speed)).sum()
 }

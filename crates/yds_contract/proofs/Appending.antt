@@ -5,43 +5,43 @@ use Rattle.std.proofs.lemmas.List.{get_or_append_left, get_or_push, length_push,
 use Rattle.std.proofs.lemmas.List.Sums.{sum_by_push}
 use Rattle.yds_model.specs.Piece.{Piece, total_length}
 use Rattle.yds_contract.specs.declared.removed.Removed.{Removed}
-use Rattle.yds_contract.specs.Removed.{removed_at, no_removed, stretch_of, stretches_of, AreSummed}
+use Rattle.yds_contract.specs.Removed.{removed_at, no_removed, stretch_of, removed_stretches, AreSummed}
 use Rattle.yds_contract.specs.Removing.{IsAppended}
 use Rattle.yds_contract.proofs.Cells.{piece_at}
 use Rattle.yds_contract.proofs.Kept.{count, stretch_at}
 
 -- all that is removed, by the last stretch
 pub total_by_last : (removed : List Removed) → AreSummed removed → 0 < length removed →
-    total_length (stretches_of removed) ≡ (removed_at removed (length removed - 1)).before + ((removed_at removed (length removed - 1)).to - (removed_at removed (length removed - 1)).from)
+    total_length (removed_stretches removed) ≡ (removed_at removed (length removed - 1)).before + ((removed_at removed (length removed - 1)).to - (removed_at removed (length removed - 1)).from)
 total_by_last removed summed some =
     let last : ℕ = length removed - 1 in
-    let within : last < length (stretches_of removed) = omega (arith, count removed) in
-    let whole : take (last + 1) (stretches_of removed) ≡ stretches_of removed = take_all (last + 1) (stretches_of removed) (omega (arith, count removed)) in
+    let within : last < length (removed_stretches removed) = omega (arith, count removed) in
+    let whole : take (last + 1) (removed_stretches removed) ≡ removed_stretches removed = take_all (last + 1) (removed_stretches removed) (omega (arith, count removed)) in
     omega (
       arith,
-      ap (λ (ps : List Piece). total_length ps) (sym whole ∙ take_more (stretches_of removed) last (record { from = 0; to = 0 }) within),
-      sum_by_push (λ (p : Piece). p.to - p.from) (take last (stretches_of removed)) (piece_at (stretches_of removed) last),
+      ap (λ (ps : List Piece). total_length ps) (sym whole ∙ take_more (removed_stretches removed) last (record { from = 0; to = 0 }) within),
+      sum_by_push (λ (p : Piece). p.to - p.from) (take last (removed_stretches removed)) (piece_at (removed_stretches removed) last),
       ap (λ (p : Piece). p.to - p.from) (stretch_at removed last (omega arith)),
       summed last (omega arith),
     )
 
 -- one stretch more, with all that is removed before it
-pub appended : (removed : List Removed) (from to before : ℕ) → AreSummed removed → before ≡ total_length (stretches_of removed) →
+pub appended : (removed : List Removed) (from to before : ℕ) → AreSummed removed → before ≡ total_length (removed_stretches removed) →
     IsAppended removed (record { from = from; to = to }) (removed ++ record { from = from; to = to; before = before } ∷ [])
 appended removed from to before summed is =
     let next : Removed = record { from = from; to = to; before = before } in
-    let stretches : stretches_of (removed ++ next ∷ []) ≡ stretches_of removed ++ stretch_of next ∷ [] = map_push stretch_of removed next in
+    let stretches : removed_stretches (removed ++ next ∷ []) ≡ removed_stretches removed ++ stretch_of next ∷ [] = map_push stretch_of removed next in
     record {
       stretches = stretches;
       summed = λ i within. elim (cases_lt i (length removed)) [
         | inl inside ↦
             ap (λ (r : Removed). r.before) (get_or_append_left removed (next ∷ []) no_removed i inside)
             ∙ summed i inside
-            ∙ ap (λ (ps : List Piece). total_length ps) (sym (take-append-le i (stretches_of removed) (stretch_of next ∷ []) (omega (arith, count removed))) ∙ ap (λ (ps : List Piece). take i ps) (sym stretches))
+            ∙ ap (λ (ps : List Piece). total_length ps) (sym (take-append-le i (removed_stretches removed) (stretch_of next ∷ []) (omega (arith, count removed))) ∙ ap (λ (ps : List Piece). take i ps) (sym stretches))
         | inr last ↦
             let here : length removed ≡ i = omega (arith, length_push removed next) in
             ap (λ (r : Removed). r.before) (get_or_push removed next no_removed i here)
             ∙ is
-            ∙ ap (λ (ps : List Piece). total_length ps) (sym (take_at (stretches_of removed) (stretch_of next ∷ []) i (count removed ∙ here)) ∙ ap (λ (ps : List Piece). take i ps) (sym stretches))
+            ∙ ap (λ (ps : List Piece). total_length ps) (sym (take_at (removed_stretches removed) (stretch_of next ∷ []) i (count removed ∙ here)) ∙ ap (λ (ps : List Piece). take i ps) (sym stretches))
       ];
     }

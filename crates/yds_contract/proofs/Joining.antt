@@ -10,7 +10,7 @@ use Rattle.yds_model.specs.Piece.{Piece, IsForward, total_length}
 use Rattle.yds_model.specs.Within.{IsPiece}
 use Rattle.yds_contract.specs.declared.removed.Removed.{Removed}
 use Rattle.yds_contract.specs.Contracted.{AreApartFrom, place, Removes}
-use Rattle.yds_contract.specs.Removed.{stretches_of, AreSummed, IsContraction}
+use Rattle.yds_contract.specs.Removed.{removed_stretches, AreSummed, IsContraction}
 use Rattle.yds_contract.specs.Removing.{IsAppended}
 use Rattle.yds_contract.proofs.Cells.{piece_at}
 use Rattle.yds_contract.proofs.Kept.{ends_fit, end_fits}
@@ -18,7 +18,7 @@ use Rattle.yds_contract.proofs.Joined.{joined, joined_before, joined_inside, joi
 
 -- the first i stretches are taken up: those that lie before, and the one that is being joined, from here to there
 pub record Joining (start end : ℕ) (removed : List Piece) (i from to : ℕ) (changed : List Removed) : Type 0 where
-  pub are : stretches_of changed ++ joined from to (drop i removed) ≡ joined start end removed
+  pub are : removed_stretches changed ++ joined from to (drop i removed) ≡ joined start end removed
   pub summed : AreSummed changed
   pub forward : from < to
 
@@ -34,7 +34,7 @@ pub record Fits (start end : ℕ) (removed : List Piece) : Type 0 where
   pub total : end + total_length removed ≤ MAX_TIME
 
 -- a contraction leaves room for what is removed besides
-pub fits_of : (removed : List Removed) (start end : ℕ) → IsContraction removed → start < end → end ≤ place (stretches_of removed) MAX_TIME → Fits start end (stretches_of removed)
+pub fits_of : (removed : List Removed) (start end : ℕ) → IsContraction removed → start < end → end ≤ place (removed_stretches removed) MAX_TIME → Fits start end (removed_stretches removed)
 fits_of removed start end kept window within = record {
   window = window;
   apart = kept.apart;
@@ -43,16 +43,16 @@ fits_of removed start end kept window within = record {
 }
 
 pub changed_forward : (start end : ℕ) (removed : List Piece) (i from to : ℕ) (changed : List Removed) → Fits start end removed → Joining start end removed i from to changed →
-    All IsForward (stretches_of changed)
+    All IsForward (removed_stretches changed)
 changed_forward start end removed i from to changed fits joining =
-    All-front IsForward (stretches_of changed) (joined from to (drop i removed))
+    All-front IsForward (removed_stretches changed) (joined from to (drop i removed))
     (subst (All IsForward) (sym joining.are) (all_forward 0 (joined start end removed) (joined_apart 0 start end removed (omega arith) fits.window fits.apart)))
 
 pub changed_fits : (start end : ℕ) (removed : List Piece) (i from to : ℕ) (changed : List Removed) → Fits start end removed → Joining start end removed i from to changed →
-    total_length (stretches_of changed) ≤ MAX_TIME
+    total_length (removed_stretches changed) ≤ MAX_TIME
 changed_fits start end removed i from to changed fits joining = omega (
   arith,
-  sum_by-append (λ (p : Piece). p.to - p.from) (stretches_of changed) (joined from to (drop i removed)),
+  sum_by-append (λ (p : Piece). p.to - p.from) (removed_stretches changed) (joined from to (drop i removed)),
   ap (λ (ps : List Piece). total_length ps) joining.are,
   joined_total start end removed fits.window fits.apart,
   fits.total,
@@ -62,7 +62,7 @@ changed_fits start end removed i from to changed fits joining = omega (
 pub end_reached : (start end : ℕ) (removed : List Piece) (i from to : ℕ) (changed : List Removed) → Fits start end removed → Joining start end removed i from to changed → to ≤ MAX_TIME
 end_reached start end removed i from to changed fits joining =
     joined_reaches MAX_TIME from to (drop i removed)
-    (All-back (λ (p : Piece). p.to ≤ MAX_TIME) (stretches_of changed) (joined from to (drop i removed))
+    (All-back (λ (p : Piece). p.to ≤ MAX_TIME) (removed_stretches changed) (joined from to (drop i removed))
     (subst (All (λ (p : Piece). p.to ≤ MAX_TIME)) (sym joining.are) (joined_ends MAX_TIME start end removed fits.window fits.apart fits.total fits.ends)))
 
 next_drop : (from to : ℕ) (removed : List Piece) (i : ℕ) (stretch : Piece) → i < length removed → stretch ≡ piece_at removed i →
@@ -77,8 +77,8 @@ pub joining_before : (start end : ℕ) (removed : List Piece) (i from to : ℕ) 
 joining_before start end removed i from to changed more stretch within is less adds joining = record {
   are =
       ap (λ (ps : List Piece). ps ++ joined (from + (stretch.to - stretch.from)) (to + (stretch.to - stretch.from)) (drop (i + 1) removed)) adds.stretches
-      ∙ append_assoc (stretches_of changed) (stretch ∷ []) (joined (from + (stretch.to - stretch.from)) (to + (stretch.to - stretch.from)) (drop (i + 1) removed))
-      ∙ ap (λ (ps : List Piece). stretches_of changed ++ ps) (sym (next_drop from to removed i stretch within is ∙ joined_before from to stretch (drop (i + 1) removed) less))
+      ∙ append_assoc (removed_stretches changed) (stretch ∷ []) (joined (from + (stretch.to - stretch.from)) (to + (stretch.to - stretch.from)) (drop (i + 1) removed))
+      ∙ ap (λ (ps : List Piece). removed_stretches changed ++ ps) (sym (next_drop from to removed i stretch within is ∙ joined_before from to stretch (drop (i + 1) removed) less))
       ∙ joining.are;
   summed = adds.summed;
   forward = omega (arith, joining.forward);
@@ -89,7 +89,7 @@ pub joining_inside : (start end : ℕ) (removed : List Piece) (i from to : ℕ) 
     from ≤ stretch.from → stretch.from ≤ to → Joining start end removed i from to changed → Joining start end removed (i + 1) from (to + (stretch.to - stretch.from)) changed
 joining_inside start end removed i from to changed stretch within is after_it inside_it joining = record {
   are =
-      ap (λ (ps : List Piece). stretches_of changed ++ ps) (sym (next_drop from to removed i stretch within is ∙ joined_inside from to stretch (drop (i + 1) removed) after_it inside_it))
+      ap (λ (ps : List Piece). removed_stretches changed ++ ps) (sym (next_drop from to removed i stretch within is ∙ joined_inside from to stretch (drop (i + 1) removed) after_it inside_it))
       ∙ joining.are;
   summed = joining.summed;
   forward = omega (arith, joining.forward);
@@ -102,8 +102,8 @@ pub joining_after : (start end : ℕ) (removed : List Piece) (i from to : ℕ) (
 joining_after start end removed i from to changed more stretch within is long after_it beyond adds joining = record {
   are =
       ap (λ (ps : List Piece). ps ++ joined stretch.from stretch.to (drop (i + 1) removed)) adds.stretches
-      ∙ append_assoc (stretches_of changed) (record { from = from; to = to } ∷ []) (joined stretch.from stretch.to (drop (i + 1) removed))
-      ∙ ap (λ (ps : List Piece). stretches_of changed ++ ps) (sym (next_drop from to removed i stretch within is ∙ joined_after from to stretch (drop (i + 1) removed) after_it beyond))
+      ∙ append_assoc (removed_stretches changed) (record { from = from; to = to } ∷ []) (joined stretch.from stretch.to (drop (i + 1) removed))
+      ∙ ap (λ (ps : List Piece). removed_stretches changed ++ ps) (sym (next_drop from to removed i stretch within is ∙ joined_after from to stretch (drop (i + 1) removed) after_it beyond))
       ∙ joining.are;
   summed = adds.summed;
   forward = long;
@@ -111,17 +111,17 @@ joining_after start end removed i from to changed more stretch within is long af
 
 -- after the last
 pub joining_all : (start end : ℕ) (removed : List Piece) (i from to : ℕ) (changed all : List Removed) → length removed ≤ i → IsAppended changed (record { from = from; to = to }) all →
-    Joining start end removed i from to changed → stretches_of all ≡ joined start end removed
+    Joining start end removed i from to changed → removed_stretches all ≡ joined start end removed
 joining_all start end removed i from to changed all ended adds joining =
     adds.stretches
-    ∙ ap (λ (ps : List Piece). stretches_of changed ++ ps) (sym (at_drop_all (joined from to) removed i ended))
+    ∙ ap (λ (ps : List Piece). removed_stretches changed ++ ps) (sym (at_drop_all (joined from to) removed i ended))
     ∙ joining.are
 
 piece_within : (piece : Piece) → IsForward piece → piece.to ≤ MAX_TIME → IsPiece piece
 piece_within piece forward ends = record { from_in_range = omega arith; to_in_range = ends }
 
 -- and the joined stretches are a contraction that removes the time besides
-pub joined_kept : (start end : ℕ) (removed : List Piece) (all : List Removed) → Fits start end removed → AreSummed all → stretches_of all ≡ joined start end removed → IsContraction all
+pub joined_kept : (start end : ℕ) (removed : List Piece) (all : List Removed) → Fits start end removed → AreSummed all → removed_stretches all ≡ joined start end removed → IsContraction all
 joined_kept start end removed all fits summed are = record {
   apart = subst (AreApartFrom 0) (sym are) (joined_apart 0 start end removed (omega arith) fits.window fits.apart);
   in_range = subst (All IsPiece) (sym are) (λ k d within.
@@ -131,6 +131,6 @@ joined_kept start end removed all fits summed are = record {
   summed = summed;
 }
 
-pub joined_changes : (start end : ℕ) (removed : List Piece) (all : List Removed) → Fits start end removed → stretches_of all ≡ joined start end removed →
-    Removes removed start end (stretches_of all)
+pub joined_changes : (start end : ℕ) (removed : List Piece) (all : List Removed) → Fits start end removed → removed_stretches all ≡ joined start end removed →
+    Removes removed start end (removed_stretches all)
 joined_changes start end removed all fits are = subst (Removes removed start end) (sym are) (joined_removes start end removed fits.window fits.apart)

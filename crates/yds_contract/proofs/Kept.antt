@@ -10,28 +10,28 @@ use Rattle.yds_model.specs.Piece.{Piece, total_length}
 use Rattle.yds_model.specs.Within.{IsPiece}
 use Rattle.yds_contract.specs.declared.removed.Removed.{Removed}
 use Rattle.yds_contract.specs.Contracted.{AreApartFrom, removed_before, place, ArePieces}
-use Rattle.yds_contract.specs.Removed.{removed_at, no_removed, stretch_of, stretches_of, AreBegun, IsContraction}
+use Rattle.yds_contract.specs.Removed.{removed_at, no_removed, stretch_of, removed_stretches, AreBegun, IsContraction}
 use Rattle.yds_contract.specs.Clipped.{clipped, pieces_after}
 use Rattle.yds_contract.proofs.Cells.{piece_at, in_order_at, forward_at, none_begun, last_begun, few_before, whole_before}
 use Rattle.yds_contract.proofs.Pieces.{pieces_found}
 
-pub count : (removed : List Removed) → length (stretches_of removed) ≡ length removed
+pub count : (removed : List Removed) → length (removed_stretches removed) ≡ length removed
 count removed = length-map removed stretch_of
 
-pub stretch_at : (removed : List Removed) (k : ℕ) → k < length removed → piece_at (stretches_of removed) k ≡ stretch_of (removed_at removed k)
+pub stretch_at : (removed : List Removed) (k : ℕ) → k < length removed → piece_at (removed_stretches removed) k ≡ stretch_of (removed_at removed k)
 stretch_at removed k within = get_or-map stretch_of removed k no_removed (stretch_of no_removed) within
 
-from_at : (removed : List Removed) (k : ℕ) → k < length removed → (piece_at (stretches_of removed) k).from ≡ (removed_at removed k).from
+from_at : (removed : List Removed) (k : ℕ) → k < length removed → (piece_at (removed_stretches removed) k).from ≡ (removed_at removed k).from
 from_at removed k within = ap (λ (piece : Piece). piece.from) (stretch_at removed k within)
 
-to_at : (removed : List Removed) (k : ℕ) → k < length removed → (piece_at (stretches_of removed) k).to ≡ (removed_at removed k).to
+to_at : (removed : List Removed) (k : ℕ) → k < length removed → (piece_at (removed_stretches removed) k).to ≡ (removed_at removed k).to
 to_at removed k within = ap (λ (piece : Piece). piece.to) (stretch_at removed k within)
 
 -- the stretches begin in order
 pub begin_in_order : (removed : List Removed) → IsContraction removed → IsNonDecreasingBy (λ (stretch : Removed). stretch.from) removed
 begin_in_order removed kept i j d before within = omega (
   arith,
-  in_order_at 0 (stretches_of removed) i j kept.apart before (omega (arith, count removed)),
+  in_order_at 0 (removed_stretches removed) i j kept.apart before (omega (arith, count removed)),
   from_at removed i (omega arith),
   from_at removed j within,
   ap (λ (stretch : Removed). stretch.from) (get_or_default removed i d no_removed (omega arith)),
@@ -40,39 +40,39 @@ begin_in_order removed kept i j d before within = omega (
 
 -- the removed time before a time by which none begins
 pub nothing_before : (removed : List Removed) (time : ℕ) → IsContraction removed → (0 < length removed → time ≤ (removed_at removed 0).from) →
-    removed_before (stretches_of removed) time ≡ 0
-nothing_before removed time kept early = none_begun 0 time (stretches_of removed) kept.apart
+    removed_before (removed_stretches removed) time ≡ 0
+nothing_before removed time kept early = none_begun 0 time (removed_stretches removed) kept.apart
     (λ some. let within : 0 < length removed = omega (arith, count removed) in omega (arith, early within, from_at removed 0 within))
 
 -- the removed time by the stretch that begins last before a time
 pub before_by : (removed : List Removed) (time k : ℕ) → IsContraction removed → k < length removed → (removed_at removed k).from < time →
     (suc k < length removed → time ≤ (removed_at removed (suc k)).from) →
-    removed_before (stretches_of removed) time ≡ (removed_at removed k).before + (min time (removed_at removed k).to - (removed_at removed k).from)
+    removed_before (removed_stretches removed) time ≡ (removed_at removed k).before + (min time (removed_at removed k).to - (removed_at removed k).from)
 before_by removed time k kept within begun next =
-    let last = last_begun 0 time k (stretches_of removed) kept.apart (omega (arith, count removed)) (omega (arith, from_at removed k within, begun))
+    let last = last_begun 0 time k (removed_stretches removed) kept.apart (omega (arith, count removed)) (omega (arith, from_at removed k within, begun))
     (λ more. let inside : suc k < length removed = omega (arith, count removed) in omega (arith, next inside, from_at removed (suc k) inside)) in
-    let same : min time (piece_at (stretches_of removed) k).to - (piece_at (stretches_of removed) k).from ≡ min time (removed_at removed k).to - (removed_at removed k).from =
+    let same : min time (piece_at (removed_stretches removed) k).to - (piece_at (removed_stretches removed) k).from ≡ min time (removed_at removed k).to - (removed_at removed k).from =
     ap (λ (piece : Piece). min time piece.to - piece.from) (stretch_at removed k within) in
     omega (arith, last, same, kept.summed k within)
 
 -- the same, by the number of those that begin before it
 pub before_begun : (removed : List Removed) (time begun : ℕ) → IsContraction removed → AreBegun removed time begun → 1 ≤ begun →
-    removed_before (stretches_of removed) time ≡ (removed_at removed (begun - 1)).before + (min time (removed_at removed (begun - 1)).to - (removed_at removed (begun - 1)).from)
+    removed_before (removed_stretches removed) time ≡ (removed_at removed (begun - 1)).before + (min time (removed_at removed (begun - 1)).to - (removed_at removed (begun - 1)).from)
 before_begun removed time begun kept are some =
     before_by removed time (begun - 1) kept (omega (arith, are.within)) (are.before (begun - 1) (omega arith)) (λ more. are.after (suc (begun - 1)) (omega arith) more)
 
 pub removed_forward : (removed : List Removed) (k : ℕ) → IsContraction removed → k < length removed → (removed_at removed k).from < (removed_at removed k).to
-removed_forward removed k kept within = omega (arith, forward_at 0 (stretches_of removed) k kept.apart (omega (arith, count removed)), from_at removed k within, to_at removed k within)
+removed_forward removed k kept within = omega (arith, forward_at 0 (removed_stretches removed) k kept.apart (omega (arith, count removed)), from_at removed k within, to_at removed k within)
 
-pub few_removed : (removed : List Removed) (time : ℕ) → IsContraction removed → removed_before (stretches_of removed) time ≤ time
-few_removed removed time kept = omega (arith, few_before 0 time (stretches_of removed) kept.apart (omega arith))
+pub few_removed : (removed : List Removed) (time : ℕ) → IsContraction removed → removed_before (removed_stretches removed) time ≤ time
+few_removed removed time kept = omega (arith, few_before 0 time (removed_stretches removed) kept.apart (omega arith))
 
 -- what an end in contracted time leaves for all that is removed
-pub end_fits : (removed : List Removed) (end : ℕ) → IsContraction removed → 1 ≤ end → end ≤ place (stretches_of removed) MAX_TIME →
-    end + total_length (stretches_of removed) ≤ MAX_TIME
+pub end_fits : (removed : List Removed) (end : ℕ) → IsContraction removed → 1 ≤ end → end ≤ place (removed_stretches removed) MAX_TIME →
+    end + total_length (removed_stretches removed) ≤ MAX_TIME
 end_fits removed end kept some within = omega (
   arith,
-  whole_before 0 MAX_TIME (stretches_of removed) kept.apart (All-weaker IsPiece (λ (piece : Piece). piece.to ≤ MAX_TIME) (λ piece fits. fits.to_in_range) (stretches_of removed) kept.in_range),
+  whole_before 0 MAX_TIME (removed_stretches removed) kept.apart (All-weaker IsPiece (λ (piece : Piece). piece.to ≤ MAX_TIME) (λ piece fits. fits.to_in_range) (removed_stretches removed) kept.in_range),
 )
 
 -- a walk over the gaps between the first i stretches
@@ -126,5 +126,5 @@ walked_all most start end removed i from before pieces all ended apart adds walk
     subst (ArePieces removed start end) (sym (walked_pieces most start end removed i from before pieces all ended adds walked)) (pieces_found start end removed apart)
 
 -- no stretch ends after the limit
-pub ends_fit : (removed : List Removed) → IsContraction removed → All (λ piece. piece.to ≤ MAX_TIME) (stretches_of removed)
-ends_fit removed kept = All-weaker IsPiece (λ (piece : Piece). piece.to ≤ MAX_TIME) (λ piece fits. fits.to_in_range) (stretches_of removed) kept.in_range
+pub ends_fit : (removed : List Removed) → IsContraction removed → All (λ piece. piece.to ≤ MAX_TIME) (removed_stretches removed)
+ends_fit removed kept = All-weaker IsPiece (λ (piece : Piece). piece.to ≤ MAX_TIME) (λ piece fits. fits.to_in_range) (removed_stretches removed) kept.in_range

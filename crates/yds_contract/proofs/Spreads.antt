@@ -18,7 +18,7 @@ use Rattle.yds_slots.proofs.Parts.{of_parts_at}
 use Rattle.yds_contract.specs.Contracted.{AreApartFrom, ArePieces}
 use Rattle.yds_contract.specs.Clipped.{clipped, pieces_after}
 use Rattle.yds_contract.specs.Cut.{cut_between, cut_all}
-use Rattle.yds_contract.specs.Spread.{in_parts, span_of, spans_of, slot_over, IsUncutAt, MeetOnlyAt, IsSpread}
+use Rattle.yds_contract.specs.Spread.{piece_in_parts, span_of, spans_of, slot_over, IsUncutAt, MeetOnlyAt, IsSpread}
 use Rattle.yds_contract.proofs.Cells.{piece_at, no_piece, forward_at, apart_weaker}
 use Rattle.yds_contract.proofs.Cutting.{RiseFrom, cut_here, cut_later, cut_all_run, cut_all_covers, cut_all_outside, cut_all_meet}
 use Rattle.yds_contract.proofs.Pieces.{clipped_cases, pieces_found}
@@ -54,7 +54,7 @@ events_rise parts least (event ∷ events) first rise = (
 
 -- slots over cut spans make up the slot
 pub spread : (removed : List Piece) (slot : WrittenSlot) (speed : Quotient) (events : List ℕ) (spans : List Piece) (slots : List WrittenSlot) → 1 ≤ speed.num →
-    ArePieces (map (in_parts speed.num) removed) (at_scale speed.num slot.from) (at_scale speed.num slot.to) spans → IsStrictlyIncreasing events →
+    ArePieces (map (piece_in_parts speed.num) removed) (at_scale speed.num slot.from) (at_scale speed.num slot.to) spans → IsStrictlyIncreasing events →
     slots ≡ map (slot_over slot.job speed) (cut_all (map (λ event. event * speed.num) events) spans) → IsSpread removed slot speed events slots
 spread removed slot speed events spans slots some are rise is =
     let times : List ℕ = map (λ event. event * speed.num) events in
@@ -167,20 +167,20 @@ work_within long short den most work some is fits less =
 
 -- the spans that are found in parts
 pub spans_same : (removed : List Piece) (parts start end p s e : ℕ) (spans : List Piece) → p ≡ parts → s ≡ start → e ≡ end →
-    spans ≡ pieces_after s e 0 0 (map (in_parts p) removed) → spans ≡ pieces_after start end 0 0 (map (in_parts parts) removed)
+    spans ≡ pieces_after s e 0 0 (map (piece_in_parts p) removed) → spans ≡ pieces_after start end 0 0 (map (piece_in_parts parts) removed)
 spans_same removed parts start end p s e spans same_p same_s same_e is =
     is
-    ∙ ap (λ (n : ℕ). pieces_after s e 0 0 (map (in_parts n) removed)) same_p
-    ∙ ap (λ (n : ℕ). pieces_after n e 0 0 (map (in_parts parts) removed)) same_s
-    ∙ ap (λ (n : ℕ). pieces_after start n 0 0 (map (in_parts parts) removed)) same_e
+    ∙ ap (λ (n : ℕ). pieces_after s e 0 0 (map (piece_in_parts n) removed)) same_p
+    ∙ ap (λ (n : ℕ). pieces_after n e 0 0 (map (piece_in_parts parts) removed)) same_s
+    ∙ ap (λ (n : ℕ). pieces_after start n 0 0 (map (piece_in_parts parts) removed)) same_e
 
 pub spans_found : (removed : List Piece) (parts start end : ℕ) (spans : List Piece) → AreApartFrom 0 removed → 1 ≤ parts →
-    spans ≡ pieces_after start end 0 0 (map (in_parts parts) removed) → ArePieces (map (in_parts parts) removed) start end spans
+    spans ≡ pieces_after start end 0 0 (map (piece_in_parts parts) removed) → ArePieces (map (piece_in_parts parts) removed) start end spans
 spans_found removed parts start end spans apart some is =
-    subst (ArePieces (map (in_parts parts) removed) start end) (sym is)
-    (pieces_found start end (map (in_parts parts) removed) (apart_weaker 0 (0 * parts) (map (in_parts parts) removed) (omega arith) (parts_apart parts 0 removed some apart)))
+    subst (ArePieces (map (piece_in_parts parts) removed) start end) (sym is)
+    (pieces_found start end (map (piece_in_parts parts) removed) (apart_weaker 0 (0 * parts) (map (piece_in_parts parts) removed) (omega arith) (parts_apart parts 0 removed some apart)))
 
-pub spans_end : (removed : List Piece) (most parts start end : ℕ) (spans : List Piece) (i : ℕ) → end + total_length (map (in_parts parts) removed) ≤ most →
-    spans ≡ pieces_after start end 0 0 (map (in_parts parts) removed) → i < length spans → (piece_at spans i).to ≤ most
+pub spans_end : (removed : List Piece) (most parts start end : ℕ) (spans : List Piece) (i : ℕ) → end + total_length (map (piece_in_parts parts) removed) ≤ most →
+    spans ≡ pieces_after start end 0 0 (map (piece_in_parts parts) removed) → i < length spans → (piece_at spans i).to ≤ most
 spans_end removed most parts start end spans i fits is within =
-    (subst (All (λ (p : Piece). p.to ≤ most)) (sym is) (pieces_limit most start end 0 0 (map (in_parts parts) removed) (omega (arith, fits)))) i no_piece within
+    (subst (All (λ (p : Piece). p.to ≤ most)) (sym is) (pieces_limit most start end 0 0 (map (piece_in_parts parts) removed) (omega (arith, fits)))) i no_piece within

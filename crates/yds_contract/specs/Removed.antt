@@ -15,16 +15,16 @@ removed_at removed i = slice_index_or removed i no_removed
 abbrev pub stretch_of : Removed → Piece
 stretch_of stretch = record { from = stretch.from; to = stretch.to }
 
-abbrev pub stretches_of : List Removed → List Piece
-stretches_of removed = map stretch_of removed
+abbrev pub removed_stretches : List Removed → List Piece
+removed_stretches removed = map stretch_of removed
 
 -- each has the removed time before it
 abbrev pub AreSummed : List Removed → Type 0
-AreSummed removed = (i : ℕ) → i < length removed → (removed_at removed i).before ≡ total_length (take i (stretches_of removed))
+AreSummed removed = (i : ℕ) → i < length removed → (removed_at removed i).before ≡ total_length (take i (removed_stretches removed))
 
 pub record IsContraction (removed : List Removed) : Type 0 where
-  pub apart : AreApartFrom 0 (stretches_of removed)
-  pub in_range : All IsPiece (stretches_of removed)
+  pub apart : AreApartFrom 0 (removed_stretches removed)
+  pub in_range : All IsPiece (removed_stretches removed)
   pub summed : AreSummed removed
 
 -- so many of them begin before the time, and the others don't

@@ -8,8 +8,8 @@ use Rattle.yds_model.specs.Piece.{Piece, PiecesFrom, Covers}
 use Rattle.yds_contract.specs.Contracted.{HasPlace}
 
 -- the piece in parts, of which each time unit has so many
-abbrev pub in_parts : ℕ → Piece → Piece
-in_parts parts piece = record { from = piece.from * parts; to = piece.to * parts }
+abbrev pub piece_in_parts : ℕ → Piece → Piece
+piece_in_parts parts piece = record { from = piece.from * parts; to = piece.to * parts }
 
 -- the slot's time in parts
 abbrev pub span_of : ℕ → WrittenSlot → Piece
@@ -47,6 +47,6 @@ pub record IsSpread (removed : List Piece) (slot : WrittenSlot) (speed : Quotien
   pub each : All (λ real. real ≡ slot_over slot.job speed (span_of speed.num real)) slots
   pub in_order : PiecesFrom 0 (spans_of speed.num slots)
   pub time : (time : ℕ) → Covers (spans_of speed.num slots) time
-      ↔ HasPlace (map (in_parts speed.num) removed) (at_scale speed.num slot.from) (at_scale speed.num slot.to) time
+      ↔ HasPlace (map (piece_in_parts speed.num) removed) (at_scale speed.num slot.from) (at_scale speed.num slot.to) time
   pub uncut : All (λ event. All (IsUncutAt (event * speed.num)) (spans_of speed.num slots)) events
   pub cut_at_events : MeetOnlyAt (map (λ event. event * speed.num) events) (spans_of speed.num slots)

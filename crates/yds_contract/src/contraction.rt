@@ -26,11 +26,11 @@ pub struct Contraction {
 impl Model for Contraction {
     ghost use Rattle.std.specs.Prelude.{List};
     ghost use Rattle.yds_model.specs.Piece.{Piece as PieceOfTime};
-    ghost use Rattle.yds_contract.specs.Removed.{stretches_of, IsContraction};
+    ghost use Rattle.yds_contract.specs.Removed.{removed_stretches, IsContraction};
 
     ghost Value = { List PieceOfTime };
 
-    ghost view = { λ c. stretches_of c.removed.items };
+    ghost view = { λ c. removed_stretches c.removed.items };
 
     ghost invariant = { λ c. IsContraction c.removed.items };
 }

@@ -1,7 +1,7 @@
 ghost use Rattle.std.specs.Prelude.{◌≡◌, ◌<◌, ◌≤◌, ◌+◌, ◌-◌, [], ◌∷◌, ◌++◌, length, IfOk, OnOk};
 ghost use Rattle.yds_model.specs.declared.limits.TheConstants.{MAX_TIME};
 ghost use Rattle.yds_contract.specs.Contracted.{removed_before, place, ArePieces};
-ghost use Rattle.yds_contract.specs.Removed.{stretches_of, AreBegun, IsContraction};
+ghost use Rattle.yds_contract.specs.Removed.{removed_stretches, AreBegun, IsContraction};
 ghost use Rattle.yds_contract.specs.Clipped.{clipped};
 
 use std::alloc::Global;
@@ -30,7 +30,7 @@ fn begun_before(removed: &[Removed], time: u32) -> usize
 /// The removed time before `time`, by the stretch that begins last before it.
 pub(crate) fn time_before(removed: &[Removed], time: u32) -> u32
     requires { IsContraction removed.now }
-    ensures { result ≡ removed_before (stretches_of removed.now) time }
+    ensures { result ≡ removed_before (removed_stretches removed.now) time }
 {
     let begun = begun_before(removed, time);
     if begun == 0 {
@@ -60,8 +60,8 @@ pub(crate) fn pieces_between(
 ) -> Result<Vec<Piece>, Memory>
     requires removed { IsContraction removed.now }
     requires forward { start < end }
-    requires within { end ≤ place (stretches_of removed.now) MAX_TIME }
-    ensures { IfOk result (λ pieces. ArePieces (stretches_of removed.now) start end pieces.items) }
+    requires within { end ≤ place (removed_stretches removed.now) MAX_TIME }
+    ensures { IfOk result (λ pieces. ArePieces (removed_stretches removed.now) start end pieces.items) }
 {
     let mut pieces = Vec::new(alloc);
     let mut from: u32 = 0;

@@ -3,7 +3,7 @@ ghost use Rattle.std.specs.List.{All};
 ghost use Rattle.yds_model.specs.declared.limits.TheConstants.{MAX_TIME};
 ghost use Rattle.yds_model.specs.Piece.{IsForward, total_length};
 ghost use Rattle.yds_contract.specs.Contracted.{place, Removes};
-ghost use Rattle.yds_contract.specs.Removed.{stretches_of, AreSummed, IsContraction};
+ghost use Rattle.yds_contract.specs.Removed.{removed_stretches, AreSummed, IsContraction};
 ghost use Rattle.yds_contract.specs.Removing.{IsAppended};
 
 use crate::removed::Removed;
@@ -13,9 +13,9 @@ use yds_model::Memory;
 /// How long the removed stretches are together, in time units.
 fn total_removed(removed: &[Removed]) -> u32
     requires summed { AreSummed removed.now }
-    requires forward { All IsForward (stretches_of removed.now) }
-    requires fits { total_length (stretches_of removed.now) ≤ MAX_TIME }
-    ensures { result ≡ total_length (stretches_of removed.now) }
+    requires forward { All IsForward (removed_stretches removed.now) }
+    requires fits { total_length (removed_stretches removed.now) ≤ MAX_TIME }
+    ensures { result ≡ total_length (removed_stretches removed.now) }
 {
     match removed {
         [.., last] => last.before + (last.to - last.from),
@@ -26,8 +26,8 @@ fn total_removed(removed: &[Removed]) -> u32
 /// Puts a stretch last, with the removed time before it.
 fn append(removed: &mut Vec<Removed>, from: u32, to: u32) -> Result<(), Memory>
     requires summed { AreSummed removed.old.items }
-    requires forward { All IsForward (stretches_of removed.old.items) }
-    requires fits { total_length (stretches_of removed.old.items) ≤ MAX_TIME }
+    requires forward { All IsForward (removed_stretches removed.old.items) }
+    requires fits { total_length (removed_stretches removed.old.items) ≤ MAX_TIME }
     ensures { OnOk result (IsAppended removed.old.items (record { from = from; to = to }) removed.new.items) }
 {
     let before = total_removed(removed);
@@ -45,8 +45,8 @@ pub(crate) fn with_removed(
 ) -> Result<Vec<Removed>, Memory>
     requires removed { IsContraction removed.now }
     requires forward { start < end }
-    requires within { end ≤ place (stretches_of removed.now) MAX_TIME }
-    ensures removes { IfOk result (λ changed. Removes (stretches_of removed.now) start end (stretches_of changed.items)) }
+    requires within { end ≤ place (removed_stretches removed.now) MAX_TIME }
+    ensures removes { IfOk result (λ changed. Removes (removed_stretches removed.now) start end (removed_stretches changed.items)) }
     ensures kept { IfOk result (λ changed. IsContraction changed.items) }
 {
     let mut changed = Vec::new(alloc);

@@ -3,9 +3,9 @@ ghost use Rattle.std.specs.List.Sorted.{IsStrictlyIncreasing};
 ghost use Rattle.yds_model.specs.declared.limits.TheConstants.{MAX_TIME, MAX_SLOT_WORK, MAX_LEVEL_WORK, MAX_LEVEL_LENGTH};
 ghost use Rattle.yds_model.specs.Scale.{at_scale, of_parts};
 ghost use Rattle.yds_contract.specs.Contracted.{place};
-ghost use Rattle.yds_contract.specs.Removed.{stretches_of, IsContraction};
+ghost use Rattle.yds_contract.specs.Removed.{removed_stretches, IsContraction};
 ghost use Rattle.yds_contract.specs.Clipped.{clipped, pieces_after};
-ghost use Rattle.yds_contract.specs.Spread.{in_parts, slot_over, IsSpread};
+ghost use Rattle.yds_contract.specs.Spread.{piece_in_parts, slot_over, IsSpread};
 ghost use Rattle.yds_contract.specs.Cut.{cut_between};
 
 use crate::removed::Removed;
@@ -46,8 +46,8 @@ fn spans_between(
     requires some { 1 ≤ parts }
     requires few { parts ≤ MAX_LEVEL_WORK }
     requires forward { start < end }
-    requires within { end ≤ place (stretches_of removed.now) MAX_TIME * parts }
-    ensures { IfOk result (λ spans. spans.items ≡ pieces_after start end 0 0 (map (in_parts parts) (stretches_of removed.now))) }
+    requires within { end ≤ place (removed_stretches removed.now) MAX_TIME * parts }
+    ensures { IfOk result (λ spans. spans.items ≡ pieces_after start end 0 0 (map (piece_in_parts parts) (removed_stretches removed.now))) }
 {
     let mut spans = Vec::new(alloc);
     let mut from: u64 = 0;
@@ -121,10 +121,10 @@ pub(crate) fn spread_over(
     requires removed { IsContraction removed.now }
     requires some { 1 ≤ speed.num }
     requires forward { at_scale speed.num slot.from < at_scale speed.num slot.to }
-    requires within { at_scale speed.num slot.to ≤ place (stretches_of removed.now) MAX_TIME * speed.num }
+    requires within { at_scale speed.num slot.to ≤ place (removed_stretches removed.now) MAX_TIME * speed.num }
     requires at_speed { slot.work ≡ of_parts (at_scale speed.num slot.to - at_scale speed.num slot.from) speed.den }
     requires events { IsStrictlyIncreasing events.now }
-    ensures { IfOk result (λ slots. IsSpread (stretches_of removed.now) slot speed events.now slots.items) }
+    ensures { IfOk result (λ slots. IsSpread (removed_stretches removed.now) slot speed events.now slots.items) }
 {
     let start = parts_of(slot.from, speed.num());
     let end = parts_of(slot.to, speed.num());

@@ -6,23 +6,23 @@ use Rattle.std.proofs.lemmas.Bool.{cases_lt, le-leb, lt-leb, cond-true, cond-fal
 use Rattle.std.proofs.lemmas.List.Sums.{sum_by_push}
 use Rattle.yds_model.specs.Job.{Job}
 use Rattle.yds_model.proofs.Sums.{sum_by_same}
-use Rattle.yds_intensity.specs.Work.{is_within, work_within}
+use Rattle.yds_intensity.specs.Work.{window_is_within, work_within}
 
 -- what the job adds to an interval
 abbrev pub share : ℕ → ℕ → Job → ℕ
-share from to job = if is_within from to job then job.work else 0
+share from to job = if window_is_within from to job then job.work else 0
 
 pub share_inside : (from to : ℕ) (job : Job) → from ≤ job.release → job.deadline ≤ to → share from to job ≡ job.work
 share_inside from to job released due =
-    cond-true (is_within from to job) job.work 0 (and_from (nat_le from job.release) (nat_le job.deadline to) (le-leb from job.release released) (le-leb job.deadline to due))
+    cond-true (window_is_within from to job) job.work 0 (and_from (nat_le from job.release) (nat_le job.deadline to) (le-leb from job.release released) (le-leb job.deadline to due))
 
 pub share_early : (from to : ℕ) (job : Job) → job.release < from → share from to job ≡ 0
 share_early from to job early =
-    cond-false (is_within from to job) job.work 0 (and_left (nat_le from job.release) (nat_le job.deadline to) (lt-leb from job.release early))
+    cond-false (window_is_within from to job) job.work 0 (and_left (nat_le from job.release) (nat_le job.deadline to) (lt-leb from job.release early))
 
 pub share_late : (from to : ℕ) (job : Job) → to < job.deadline → share from to job ≡ 0
 share_late from to job late =
-    cond-false (is_within from to job) job.work 0 (and_right (nat_le from job.release) (nat_le job.deadline to) (lt-leb job.deadline to late))
+    cond-false (window_is_within from to job) job.work 0 (and_right (nat_le from job.release) (nat_le job.deadline to) (lt-leb job.deadline to late))
 
 -- what the job adds where no end is set
 abbrev pub share_from : ℕ → Job → ℕ

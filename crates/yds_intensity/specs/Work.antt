@@ -3,9 +3,9 @@ use Rattle.std.specs.Prelude.{ℕ, Bool, List, sum_by, nat_le, ◌&&◌, if◌th
 use Rattle.yds_model.specs.Job.{Job}
 
 -- the job's window lies between these times
-abbrev pub is_within : ℕ → ℕ → Job → Bool
-is_within from to job = nat_le from job.release && nat_le job.deadline to
+abbrev pub window_is_within : ℕ → ℕ → Job → Bool
+window_is_within from to job = nat_le from job.release && nat_le job.deadline to
 
 -- the work of the jobs whose windows lie between these times
 abbrev pub work_within : List Job → ℕ → ℕ → ℕ
-work_within jobs from to = sum_by (λ job. if is_within from to job then job.work else 0) jobs
+work_within jobs from to = sum_by (λ job. if window_is_within from to job then job.work else 0) jobs

@@ -20,7 +20,7 @@ use Rattle.yds_model.proofs.Sums.{sum_by_same, sum_by_zero}
 use Rattle.yds_model.proofs.Lists.{counted_contains}
 use Rattle.yds_model.proofs.HullExists.{hull_exists}
 use Rattle.yds_events.proofs.Neighbours.{stretches_run}
-use Rattle.yds_laws.specs.RoundingLaws.{IsLevelCost, slots_of, RoundedCostsItsLevel}
+use Rattle.yds_laws.specs.RoundingLaws.{IsLevelCost, member_slots, RoundedCostsItsLevel}
 use Rattle.yds_laws.proofs.Group.{group}
 use Rattle.yds_laws.proofs.Bound.{scale_left, scale_right}
 use Rattle.yds_laws.proofs.HullEnergy.{hull_rising}
@@ -34,7 +34,7 @@ use Rattle.yds_laws.proofs.FullStretches.{contained_counted, one_level, count_jo
 -- # The slots of a level
 
 -- slots of members are all of them
-all_of : (level : Level) (slots : List WholeSlot) → All (λ slot. Contains level.members slot.job) slots → slots_of level slots ≡ slots
+all_of : (level : Level) (slots : List WholeSlot) → All (λ slot. Contains level.members slot.job) slots → member_slots level slots ≡ slots
 all_of level [] members = refl
 all_of level (slot ∷ slots) members =
     let some = contained_counted level.members slot.job (All-head (λ one. Contains level.members one.job) slot slots members) in
@@ -42,7 +42,7 @@ all_of level (slot ∷ slots) members =
     (ap (λ rest. slot ∷ rest) (all_of level slots (All-tail (λ one. Contains level.members one.job) slot slots members)))
 
 -- and slots of others are none
-none_of : (level : Level) (slots : List WholeSlot) → All (λ slot. count slot.job level.members ≡ 0) slots → slots_of level slots ≡ []
+none_of : (level : Level) (slots : List WholeSlot) → All (λ slot. count slot.job level.members ≡ 0) slots → member_slots level slots ≡ []
 none_of level [] others = refl
 none_of level (slot ∷ slots) others =
     let none = All-head (λ one. count one.job level.members ≡ 0) slot slots others in
@@ -69,10 +69,10 @@ written_jobs hull levels scale level stretch planned written P (inr split) each 
 -- ones.
 pub record SpendsOfLevel (points : List Point) (parts power cost : ℕ) (level : Level) (planned written : List WholeSlot) : Type 0 where
   spent : ℕ
-  spends : SpendsAtPoints points (slots_of level written) spent
-  shorter : busy (slots_of level written) ≤ group (λ slot. slot.to - slot.from) level.members planned
+  spends : SpendsAtPoints points (member_slots level written) spent
+  shorter : busy (member_slots level written) ≤ group (λ slot. slot.to - slot.from) level.members planned
   is_spent : parts * level.length * (spent + power * group (λ slot. slot.to - slot.from) level.members planned)
-      ≡ cost * group (λ slot. slot.to - slot.from) level.members planned + parts * level.length * (power * busy (slots_of level written))
+      ≡ cost * group (λ slot. slot.to - slot.from) level.members planned + parts * level.length * (power * busy (member_slots level written))
 
 -- members counted once take all the slots' time
 group_all : (members : List ℕ) (slots : List WholeSlot) → All (λ slot. count slot.job members ≡ 1) slots → group (λ slot. slot.to - slot.from) members slots ≡ busy slots
@@ -176,15 +176,15 @@ module _ (jobs : List Job) (points hull : List Point) (levels : List Level) (par
   of_both planned others written made one other =
       let power : ℕ = (point_at points 0).power in
       let all : ℕ = parts * level.length in
-      let both : slots_of level (written ++ made) ≡ slots_of level written ++ slots_of level made =
+      let both : member_slots level (written ++ made) ≡ member_slots level written ++ member_slots level made =
       filter-append (λ (slot : WholeSlot). nat_le 1 (count slot.job level.members)) written made in
       let times = sum_by-append (λ (slot : WholeSlot). count slot.job level.members * (slot.to - slot.from)) planned others in
-      let together : busy (slots_of level (written ++ made)) ≡ busy (slots_of level written) + busy (slots_of level made) =
-      ap busy both ∙ sum_by-append (λ (slot : WholeSlot). slot.to - slot.from) (slots_of level written) (slots_of level made) in
+      let together : busy (member_slots level (written ++ made)) ≡ busy (member_slots level written) + busy (member_slots level made) =
+      ap busy both ∙ sum_by-append (λ (slot : WholeSlot). slot.to - slot.from) (member_slots level written) (member_slots level made) in
       record {
         spent = one.spent + other.spent;
         spends = subst (λ slots. SpendsAtPoints points slots (one.spent + other.spent)) (sym both)
-            (spends_joined points (slots_of level written) (slots_of level made) one.spent other.spent one.spends other.spends);
+            (spends_joined points (member_slots level written) (member_slots level made) one.spent other.spent one.spends other.spends);
         shorter = omega (arith, times, together, one.shorter, other.shorter);
         is_spent = omega (
           arith,
@@ -215,7 +215,7 @@ rounded_costs_its_level jobs points planned levels written level parts cost scal
     let spends = all_of_level jobs points hull levels parts cost scale level table is_hull (hull_rising points hull table.rising is_hull) positive has is_cost
     (λ number known. (plan.proper.members number known).at_most_once) planned written plan left (scale_right scale planned written is) rounds in
     let long = All-contains (TakesLong (slots_at scale planned) scale) levels level (levels_long jobs planned levels scale plan left) has in
-    let mine : ℕ = busy (slots_of level (slots_at scale written)) in
+    let mine : ℕ = busy (member_slots level (slots_at scale written)) in
     let within : mine ≤ scale * level.length = omega (arith, spends.shorter, long) in (
       spends.spent,
       spends.spends,

@@ -63,8 +63,8 @@ IsLevelCost hull parts level cost =
     × (cost * (high.speed - low.speed) ≡ parts * (high.power * (level.work - low.speed * level.length) + low.power * (high.speed * level.length - level.work))))
 
 -- the slots of a level's members
-abbrev pub slots_of : Level → List WholeSlot → List WholeSlot
-slots_of level slots = filter (λ slot. nat_le 1 (count slot.job level.members)) slots
+abbrev pub member_slots : Level → List WholeSlot → List WholeSlot
+member_slots level slots = filter (λ slot. nat_le 1 (count slot.job level.members)) slots
 
 -- Rounding: what the rounded slots of a level spend is what the level costs, with the power of the first point for the time that they
 -- leave of its length. They take no more time than that.
@@ -72,8 +72,8 @@ abbrev pub RoundedCostsItsLevel : Type 0
 RoundedCostsItsLevel = (jobs : List Job) (points : List Point) (planned : List WrittenSlot) (levels : List Level) (written : List WrittenSlot) (level : Level)
     (parts cost scale : ℕ) → IsPlan jobs planned levels → IsTable points → RoundsStretches (hull_of points) levels (stretches jobs) planned written →
     Contains levels level → IsLevelCost (hull_of points) parts level cost → IsScale scale (planned ++ written) →
-    (spent : ℕ) × SpendsAtPoints points (slots_of level (slots_at scale written)) spent × (busy (slots_of level (slots_at scale written)) ≤ scale * level.length)
-    × (parts * (spent + (point_at points 0).power * (scale * level.length - busy (slots_of level (slots_at scale written)))) ≡ scale * cost)
+    (spent : ℕ) × SpendsAtPoints points (member_slots level (slots_at scale written)) spent × (busy (member_slots level (slots_at scale written)) ≤ scale * level.length)
+    × (parts * (spent + (point_at points 0).power * (scale * level.length - busy (member_slots level (slots_at scale written)))) ≡ scale * cost)
 
 -- Rounding: the energy of the rounded slots is what the levels cost together, and the power of the first point for what the levels'
 -- lengths leave of the horizon.

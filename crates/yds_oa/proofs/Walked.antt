@@ -11,7 +11,7 @@ use Rattle.yds_oa.specs.declared.walk.Walk.{Walk}
 use Rattle.yds_oa.specs.Blocks.{units_before}
 use Rattle.yds_oa.specs.Order.{no_due, due_at}
 use Rattle.yds_oa.specs.Pending.{AreInOrder}
-use Rattle.yds_oa.specs.Greatest.{AreDueAfter, IsQuotientAt, IsQuotientAmong, IsAtMost, IsGreatestWithin, IsWalk}
+use Rattle.yds_oa.specs.Greatest.{AreDueAfter, IsQuotientAt, IsQuotientAmong, IsNotGreater, IsGreatestWithin, IsWalk}
 use Rattle.yds_oa.proofs.Sums.{before_rises}
 
 -- what is at most a quotient is at most a greater one
@@ -47,7 +47,7 @@ module _ (pending : PendingJobs) (from start place units : ℕ) (old new one : Q
   still_some (inl same) = omega (arith, before.some_time, ap (λ (q : Quotient). q.time) same)
   still_some (inr other) = omega (arith, after.after place past known, time_is, ap (λ (q : Quotient). q.time) other)
 
-  here_at_most : IsAtMost pending from start new place
+  here_at_most : IsNotGreater pending from start new place
   here_at_most =
       let more : units_before pending.units (place + 1) - units_before pending.units start ≡ one.units = omega (arith, sum, units_is) in
       omega (
@@ -62,7 +62,7 @@ module _ (pending : PendingJobs) (from start place units : ℕ) (old new one : Q
     some_time = still_some either;
     attained = still_attained either;
     upper = λ p most less. elim (cases_eq p place) [
-      | inl last ↦ subst (IsAtMost pending from start new) (sym last) here_at_most
+      | inl last ↦ subst (IsNotGreater pending from start new) (sym last) here_at_most
       | inr other ↦ through (units_before pending.units (p + 1) - units_before pending.units start) ((due_at pending.order.items p).deadline - from) old.units old.time new.units new.time
           (before.upper p most (omega (arith, less, other))) first before.some_time
     ];

@@ -45,14 +45,14 @@ abbrev pub IsQuotientAmong : PendingJobs → ℕ → ℕ → Quotient → Type 0
 IsQuotientAmong pending from start quotient = (quotient.units ≡ 0) ⊎ IsQuotientAt pending from start quotient
 
 -- the quotient of a place isn't greater
-abbrev pub IsAtMost : PendingJobs → ℕ → ℕ → Quotient → ℕ → Type 0
-IsAtMost pending from start quotient place =
+abbrev pub IsNotGreater : PendingJobs → ℕ → ℕ → Quotient → ℕ → Type 0
+IsNotGreater pending from start quotient place =
     (units_before pending.units (place + 1) - units_before pending.units start) * quotient.time ≤ quotient.units * ((due_at pending.order.items place).deadline - from)
 
 pub record IsGreatestWithin (pending : PendingJobs) (from start end : ℕ) (greatest : Quotient) : Type 0 where
   pub some_time : 1 ≤ greatest.time
   pub attained : IsQuotientAmong pending from start greatest
-  pub upper : (place : ℕ) → start ≤ place → place < end → IsAtMost pending from start greatest place
+  pub upper : (place : ℕ) → start ≤ place → place < end → IsNotGreater pending from start greatest place
 
 pub record IsGreatestOf (pending : PendingJobs) (from : ℕ) (quotient : Quotient) : Type 0 where
   pub start : ℕ

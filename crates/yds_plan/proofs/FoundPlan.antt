@@ -20,7 +20,7 @@ use Rattle.yds_slots.specs.Schedule.{WrittenSchedule}
 use Rattle.yds_search.specs.Found.{Found, IsFound, group_of, group_at}
 use Rattle.yds_model.specs.Comparison.{stretch_at}
 use Rattle.yds_events.specs.Window.{length_at}
-use Rattle.yds_plan.specs.Laid.{level_of, levels_among, together, members_of, stretches_of, level_numbered, levels_of, slots_in_stretch, slots_of, shares_in}
+use Rattle.yds_plan.specs.Laid.{level_of, levels_among, together, members_of, stretches_of_level, level_numbered, levels_of, slots_in_stretch, laid_slots, shares_in_stretch}
 use Rattle.yds_search.proofs.KeySums.{count_all, split_all}
 use Rattle.yds_events.proofs.Neighbours.{release_outside, deadline_outside, stretch_with, few_stretches}
 use Rattle.yds_plan.proofs.Merged.{all_of_blocks}
@@ -66,7 +66,7 @@ module _ (jobs : List Job) (found : Found) (is : IsFound jobs found) where
   members_work l known =
       group_sum found.groups found.group_of_job (λ j. (job_at jobs j).work) (length jobs) l (λ group. group.work) is.works known
 
-  stretches_length : (l : ℕ) → l < count_of_levels → level_length l ≡ sum_by (length_at jobs) (stretches_of jobs found l)
+  stretches_length : (l : ℕ) → l < count_of_levels → level_length l ≡ sum_by (length_at jobs) (stretches_of_level jobs found l)
   stretches_length l known =
       group_sum found.groups found.group_of_stretch (length_at jobs) (length (stretches jobs)) l (λ group. group.length) is.lengths known
 
@@ -138,11 +138,11 @@ module _ (jobs : List Job) (found : Found) (is : IsFound jobs found) where
       level_work i * (group_at found.groups g).length ≡ (group_at found.groups g).work * level_length i
   group_speed i g known grouped level = rw level at (level_speed found.groups groups_are g grouped)
 
-  speeds : (scale : ℕ) → IsScale scale (slots_of jobs found) →
-      Each (length (slots_of jobs found)) (HasLevelSpeed (levels_of jobs found) (slots_at scale (slots_of jobs found)))
+  speeds : (scale : ℕ) → IsScale scale (laid_slots jobs found) →
+      Each (length (laid_slots jobs found)) (HasLevelSpeed (levels_of jobs found) (slots_at scale (laid_slots jobs found)))
   speeds scale divided s within i inside contains =
       let member = member_there i _ inside contains in
-      let stands = all_stand jobs found is scale divided s no_slot (omega (arith, length-map (slots_of jobs found) (slot_at_scale scale))) in
+      let stands = all_stand jobs found is scale divided s no_slot (omega (arith, length-map (laid_slots jobs found) (slot_at_scale scale))) in
       let serves = stands.2.serves in
       let g = group_of found.group_of_stretch stands.0 in
       let grouped : g < length found.groups = omega (arith, serves.same_group, serves.grouped) in
@@ -159,12 +159,12 @@ module _ (jobs : List Job) (found : Found) (is : IsFound jobs found) where
       let member = each_member jobs found l known k d within in
       has_work jobs found is _ member.known member.grouped))
 
-  pub slots_length : length (slots_of jobs found) ≡ length found.shares
+  pub slots_length : length (laid_slots jobs found) ≡ length found.shares
   slots_length =
       length-flat_map (slots_in_stretch jobs found) (range_with_len 0 (length (stretches jobs)))
-      ∙ sum_by_same (λ k. length (slots_in_stretch jobs found k)) (λ k. sum_by (λ share. 1) (shares_in found.shares k)) (range_with_len 0 (length (stretches jobs)))
-      (λ k d within. slots_from_length _ _ 0 (shares_in found.shares (get_or (range_with_len 0 (length (stretches jobs))) k d))
-      ∙ sym (count_all (shares_in found.shares (get_or (range_with_len 0 (length (stretches jobs))) k d))))
+      ∙ sum_by_same (λ k. length (slots_in_stretch jobs found k)) (λ k. sum_by (λ share. 1) (shares_in_stretch found.shares k)) (range_with_len 0 (length (stretches jobs)))
+      (λ k d within. slots_from_length _ _ 0 (shares_in_stretch found.shares (get_or (range_with_len 0 (length (stretches jobs))) k d))
+      ∙ sym (count_all (shares_in_stretch found.shares (get_or (range_with_len 0 (length (stretches jobs))) k d))))
       ∙ split_all (λ share. share.stretch) (λ share. 1) (length (stretches jobs)) found.shares (λ k d within. (is.shares k d within).known_stretch)
       ∙ count_all found.shares
 
@@ -172,19 +172,19 @@ module _ (jobs : List Job) (found : Found) (is : IsFound jobs found) where
   abbrev IsWritten : WrittenSlot → Type 0
   IsWritten slot = (k : ℕ) × Serves jobs found k slot.job × IsOverTerms (group_at found.groups (group_of found.group_of_stretch k)) slot
 
-  all_written : All IsWritten (slots_of jobs found)
+  all_written : All IsWritten (laid_slots jobs found)
   all_written =
       all_of_blocks IsWritten (slots_in_stretch jobs found) (length (stretches jobs))
       (λ k known x d within. (
         k,
         slots_of_jobs (Serves jobs found k) (group_at found.groups (group_of found.group_of_stretch k)) (stretch_at jobs k).from 0
-            (shares_in found.shares k) (all_serve jobs found is k) x d within,
-        over_terms (group_at found.groups (group_of found.group_of_stretch k)) (stretch_at jobs k).from 0 (shares_in found.shares k) x d within,
+            (shares_in_stretch found.shares k) (all_serve jobs found is k) x d within,
+        over_terms (group_at found.groups (group_of found.group_of_stretch k)) (stretch_at jobs k).from 0 (shares_in_stretch found.shares k) x d within,
       ))
 
   -- so its denominators are at least 1
-  all_solid : All IsSolid (slots_of jobs found)
-  all_solid = All-weaker IsWritten IsSolid (λ slot written. solid slot written.0 written.1 written.2) (slots_of jobs found) all_written where
+  all_solid : All IsSolid (laid_slots jobs found)
+  all_solid = All-weaker IsWritten IsSolid (λ slot written. solid slot written.0 written.1 written.2) (laid_slots jobs found) all_written where
     solid : (slot : WrittenSlot) (k : ℕ) → Serves jobs found k slot.job → IsOverTerms (group_at found.groups (group_of found.group_of_stretch k)) slot → IsSolid slot
     solid slot k serves over =
         let low = terms jobs found is (group_of found.group_of_stretch k) (omega (arith, serves.same_group, serves.grouped)) in
@@ -194,9 +194,9 @@ module _ (jobs : List Job) (found : Found) (is : IsFound jobs found) where
           work = over_some _ slot.work low.some_second over.work;
         }
 
-  denominators : (i s : ℕ) → i < length (levels_of jobs found) → s < length (slots_of jobs found) →
-      Contains (level_at (levels_of jobs found) i).members (written_slot_at (slots_of jobs found) s).job →
-      HasLevelDenominators (level_at (levels_of jobs found) i) (written_slot_at (slots_of jobs found) s)
+  denominators : (i s : ℕ) → i < length (levels_of jobs found) → s < length (laid_slots jobs found) →
+      Contains (level_at (levels_of jobs found) i).members (written_slot_at (laid_slots jobs found) s).job →
+      HasLevelDenominators (level_at (levels_of jobs found) i) (written_slot_at (laid_slots jobs found) s)
   denominators i s within inside contains =
       let member = member_there i _ within contains in
       let written = all_written s no_written_slot inside in
@@ -209,7 +209,7 @@ module _ (jobs : List Job) (found : Found) (is : IsFound jobs found) where
       (some_level_length i known) (is.some_length g grouped) (group_speed i g known grouped level) in
       rw (level_there jobs found i known) (record { from = rw (same.0) written.2.from; to = rw (same.0) written.2.to; work = rw (same.1) written.2.work })
 
-  pub makes_plan : IsPlan jobs (slots_of jobs found) (levels_of jobs found)
+  pub makes_plan : IsPlan jobs (laid_slots jobs found) (levels_of jobs found)
   makes_plan = record {
     proper = record {
       well_formed = well_formed;
@@ -232,7 +232,7 @@ module _ (jobs : List Job) (found : Found) (is : IsFound jobs found) where
   }
 
 -- What is found makes a plan.
-pub found_makes_plan : (jobs : List Job) (found : Found) → IsFound jobs found → IsPlan jobs (slots_of jobs found) (levels_of jobs found)
+pub found_makes_plan : (jobs : List Job) (found : Found) → IsFound jobs found → IsPlan jobs (laid_slots jobs found) (levels_of jobs found)
 found_makes_plan = makes_plan
 
 -- two facts of a result's value make a third
@@ -242,8 +242,8 @@ both_ok P Q R join (Err e) first second = tt
 
 -- slots and levels that are those of what was found make a plan
 pub laid_plan : {T E : Type 0} (jobs : List Job) (found : Found) (schedule : T → WrittenSchedule) (levels : T → List Level) (r : Result T E) →
-    IsFound jobs found → IfOk r (λ x. schedule x ≡ record { jobs = length jobs; slots = slots_of jobs found }) →
+    IsFound jobs found → IfOk r (λ x. schedule x ≡ record { jobs = length jobs; slots = laid_slots jobs found }) →
     IfOk r (λ x. levels x ≡ levels_of jobs found) → IfOk r (λ x. IsPlan jobs (schedule x).slots (levels x))
 laid_plan jobs found schedule levels r is laid certified =
-    both_ok (λ x. schedule x ≡ record { jobs = length jobs; slots = slots_of jobs found }) (λ x. levels x ≡ levels_of jobs found)
+    both_ok (λ x. schedule x ≡ record { jobs = length jobs; slots = laid_slots jobs found }) (λ x. levels x ≡ levels_of jobs found)
     (λ x. IsPlan jobs (schedule x).slots (levels x)) (λ x one other. rw (one, other) (found_makes_plan jobs found is)) r laid certified

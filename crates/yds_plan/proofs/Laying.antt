@@ -21,7 +21,7 @@ use Rattle.yds_search.specs.declared.share.Share.{Share as Struct}
 use Rattle.yds_plan.specs.declared.layout_slots.Terms.{Terms}
 use Rattle.yds_search.specs.Found.{Share, no_share, Group, Found, IsFound, share_at, no_group, group_of, group_at, per_time, per_work}
 use Rattle.yds_search.specs.Views.{share_view, shares_view, group_view}
-use Rattle.yds_plan.specs.Laid.{time_after, slot_for, slots_from, terms_of, shares_in, slots_in_stretch, slots_of}
+use Rattle.yds_plan.specs.Laid.{time_after, slot_for, slots_from, speed_terms, shares_in_stretch, slots_in_stretch, laid_slots}
 use Rattle.yds_plan.specs.Room.{CanFill}
 use Rattle.yds_plan.proofs.Places.{no_struct}
 use Rattle.yds_plan.proofs.Filled.{units_of, slots_from_length, IsOverTerms, over_terms, slots_of_jobs}
@@ -239,7 +239,7 @@ module _ (items : List Struct) (i : ℕ) (within : i < length items) where
       }
 
 -- a filtered list of structs, viewed, is the filtered view
-pub view_in : (shares : List Struct) (k : ℕ) → shares_view (structs_in shares k) ≡ shares_in (shares_view shares) k
+pub view_in : (shares : List Struct) (k : ℕ) → shares_view (structs_in shares k) ≡ shares_in_stretch (shares_view shares) k
 view_in [] k = refl
 view_in (share ∷ shares) k =
     view_step share (structs_in shares k) (share.stretch == k) ∙ ap (λ rest. cond (share.stretch == k) (share_view share ∷ rest) rest) (view_in shares k)
@@ -266,10 +266,10 @@ module _ (jobs : List Job) (found : Found) (all : All IsJob jobs) (is : IsFound 
       ap (flat_map (slots_in_stretch jobs found)) (range_more k) ∙ flat_map-append (slots_in_stretch jobs found) (range_with_len 0 k) (k ∷ [])
       ∙ ap (λ slots. slots_up_to k ++ slots) (append-nil (slots_in_stretch jobs found k))
 
-  in_length : (k : ℕ) → length (slots_in_stretch jobs found k) ≡ length (shares_in found.shares k)
-  in_length k = slots_from_length (terms_of (group_there k)) (stretch_at jobs k).from 0 (shares_in found.shares k)
+  in_length : (k : ℕ) → length (slots_in_stretch jobs found k) ≡ length (shares_in_stretch found.shares k)
+  in_length k = slots_from_length (speed_terms (group_there k)) (stretch_at jobs k).from 0 (shares_in_stretch found.shares k)
 
-  fits_up : (k : ℕ) → k < length (stretches jobs) → length (slots_up_to k) + length (shares_in found.shares k) ≤ length (slots_of jobs found)
+  fits_up : (k : ℕ) → k < length (stretches jobs) → length (slots_up_to k) + length (shares_in_stretch found.shares k) ≤ length (laid_slots jobs found)
   fits_up k within =
       omega (
         arith,
@@ -298,9 +298,9 @@ module _ (jobs : List Job) (found : Found) (all : All IsJob jobs) (is : IsFound 
   more_work : (q : ℕ) → q * MAX_WORK ≤ q * MAX_SLOT_WORK
   more_work q = let most : MAX_WORK ≤ MAX_SLOT_WORK = omega arith in mul-le-mul_left q most
 
-  units_fit : (k : ℕ) → All (λ share. share.units ≤ per_work (group_there k) * MAX_SLOT_WORK) (shares_in found.shares k)
+  units_fit : (k : ℕ) → All (λ share. share.units ≤ per_work (group_there k) * MAX_SLOT_WORK) (shares_in_stretch found.shares k)
   units_fit k x d within =
-      let share = get_or (shares_in found.shares k) x d in
+      let share = get_or (shares_in_stretch found.shares k) x d in
       let serves = all_serve jobs found is k x d within in
       let most = All-filter (λ (one : Share). one.stretch == k) HasFewUnits found.shares units_at_most x d within in
       let same : share.units ≤ per_work (group_there k) * MAX_WORK = rw (serves.same_group) most in
@@ -315,14 +315,14 @@ module _ (jobs : List Job) (found : Found) (all : All IsJob jobs) (is : IsFound 
       all_of_blocks IsWritten (slots_in_stretch jobs found) k
       (λ j below x d within. (
         j,
-        slots_of_jobs (Serves jobs found j) (group_there j) (stretch_at jobs j).from 0 (shares_in found.shares j) (all_serve jobs found is j) x d within,
-        over_terms (group_there j) (stretch_at jobs j).from 0 (shares_in found.shares j) x d within,
+        slots_of_jobs (Serves jobs found j) (group_there j) (stretch_at jobs j).from 0 (shares_in_stretch found.shares j) (all_serve jobs found is j) x d within,
+        over_terms (group_there j) (stretch_at jobs j).from 0 (shares_in_stretch found.shares j) x d within,
       ))
 
   grains_fit : (k : ℕ) → group_of found.group_of_stretch k < length found.groups →
-      All (λ share. (grain_of (slots_up_to k) share.job ≡ 1) ⊎ (grain_of (slots_up_to k) share.job ≡ per_work (group_there k))) (shares_in found.shares k)
+      All (λ share. (grain_of (slots_up_to k) share.job ≡ 1) ⊎ (grain_of (slots_up_to k) share.job ≡ per_work (group_there k))) (shares_in_stretch found.shares k)
   grains_fit k grouped x d within =
-      let job = (get_or (shares_in found.shares k) x d).job in
+      let job = (get_or (shares_in_stretch found.shares k) x d).job in
       let serves = all_serve jobs found is k x d within in
       grain_is (per_work (group_there k)) job (slots_up_to k) (terms jobs found is (group_of found.group_of_stretch k) grouped).some_second
       (All-weaker IsWritten (HasGrain (per_work (group_there k)) job) (λ slot written same.
@@ -331,7 +331,7 @@ module _ (jobs : List Job) (found : Found) (all : All IsJob jobs) (is : IsFound 
       rw (← place) (over_den _ slot.work written.2.work)) (slots_up_to k) (up_to_written k))
 
   can_fill : (k : ℕ) → k < length (stretches jobs) → group_of found.group_of_stretch k < length found.groups →
-      CanFill (length jobs) (slots_up_to k) (terms_of (group_there k)) (stretch_at jobs k).from (shares_in found.shares k)
+      CanFill (length jobs) (slots_up_to k) (speed_terms (group_there k)) (stretch_at jobs k).from (shares_in_stretch found.shares k)
   can_fill k within grouped =
       let g = group_of found.group_of_stretch k in
       let low = terms jobs found is g grouped in
@@ -354,10 +354,10 @@ module _ (jobs : List Job) (found : Found) (all : All IsJob jobs) (is : IsFound 
 
   -- The same of what the loop has: the schedule so far, the terms of the stretch's speed, its start and its shares.
   module _ (k place start : ℕ) (schedule : WrittenSchedule) (speed : Terms) (shares : List Share) (laid : schedule ≡ record { jobs = length jobs; slots = slots_up_to k })
-      (is_place : place ≡ group_of found.group_of_stretch k) (is_speed : speed ≡ terms_of (group_at found.groups place))
-      (is_start : start ≡ (stretch_at jobs k).from) (is_shares : shares ≡ shares_in found.shares k) where
-    here : speed ≡ terms_of (group_there k)
-    here = is_speed ∙ ap (λ g. terms_of (group_at found.groups g)) is_place
+      (is_place : place ≡ group_of found.group_of_stretch k) (is_speed : speed ≡ speed_terms (group_at found.groups place))
+      (is_start : start ≡ (stretch_at jobs k).from) (is_shares : shares ≡ shares_in_stretch found.shares k) where
+    here : speed ≡ speed_terms (group_there k)
+    here = is_speed ∙ ap (λ g. speed_terms (group_at found.groups g)) is_place
 
     pub can_fill_next : k < length (stretches jobs) → place < length found.groups → CanFill schedule.jobs schedule.slots speed start shares
     can_fill_next within grouped = rw (laid, here, is_start, is_shares) (can_fill k within (omega arith))
@@ -366,16 +366,16 @@ module _ (jobs : List Job) (found : Found) (all : All IsJob jobs) (is : IsFound 
         next ≡ record { jobs = length jobs; slots = slots_up_to (k + 1) }
     laid_next next after =
         let slots : slots_from speed start 0 shares ≡ slots_in_stretch jobs found k =
-        ap (λ (t : Terms). slots_from t start 0 shares) here ∙ ap (λ n. slots_from (terms_of (group_there k)) n 0 shares) is_start
-        ∙ ap (slots_from (terms_of (group_there k)) (stretch_at jobs k).from 0) is_shares in
+        ap (λ (t : Terms). slots_from t start 0 shares) here ∙ ap (λ n. slots_from (speed_terms (group_there k)) n 0 shares) is_start
+        ∙ ap (slots_from (speed_terms (group_there k)) (stretch_at jobs k).from 0) is_shares in
         after
         ∙ ap (λ (s : WrittenSchedule). record { jobs = s.jobs; slots = s.slots ++ slots_from speed start 0 shares }) laid
         ∙ ap (λ some. record { jobs = length jobs; slots = slots_up_to k ++ some }) slots
         ∙ ap (λ some. record { jobs = length jobs; slots = some }) (sym (slots_up_more k))
 
   -- a stretch of no group has no slots
-  no_shares : (k : ℕ) → length found.groups ≤ group_of found.group_of_stretch k → length (shares_in found.shares k) ≡ 0
-  no_shares k past = elim (cases_lt 0 (length (shares_in found.shares k))) [
+  no_shares : (k : ℕ) → length found.groups ≤ group_of found.group_of_stretch k → length (shares_in_stretch found.shares k) ≡ 0
+  no_shares k past = elim (cases_lt 0 (length (shares_in_stretch found.shares k))) [
     | inl some ↦ let serves = all_serve jobs found is k 0 no_share some in absurd (omega (arith, past, serves.same_group, serves.grouped))
     | inr none ↦ omega arith
   ]
@@ -384,22 +384,22 @@ module _ (jobs : List Job) (found : Found) (all : All IsJob jobs) (is : IsFound 
       place ≡ group_of found.group_of_stretch k → length found.groups ≤ place →
       schedule ≡ record { jobs = length jobs; slots = slots_up_to (k + 1) }
   laid_skip k place schedule laid is_place past =
-      let none : shares_in found.shares k ≡ [] = nil_from_length (shares_in found.shares k) (no_shares k (omega arith)) in
-      let slots : slots_in_stretch jobs found k ≡ [] = ap (slots_from (terms_of (group_there k)) (stretch_at jobs k).from 0) none in
+      let none : shares_in_stretch found.shares k ≡ [] = nil_from_length (shares_in_stretch found.shares k) (no_shares k (omega arith)) in
+      let slots : slots_in_stretch jobs found k ≡ [] = ap (slots_from (speed_terms (group_there k)) (stretch_at jobs k).from 0) none in
       laid ∙ ap (λ some. record { jobs = length jobs; slots = some }) (sym (slots_up_more k ∙ ap (λ some. slots_up_to k ++ some) slots ∙ append-nil (slots_up_to k)))
 
 -- what the loop reads: the terms of a group's speed, and the shares of a stretch
-pub terms_read : (groups : List GroupStruct) (terms : List Terms) (place : ℕ) (speed : Terms) → terms ≡ map (λ group. terms_of (group_view group)) groups →
-    place < length terms → speed ≡ get_or terms place speed → (place < length (map group_view groups)) × (speed ≡ terms_of (group_at (map group_view groups) place))
+pub terms_read : (groups : List GroupStruct) (terms : List Terms) (place : ℕ) (speed : Terms) → terms ≡ map (λ group. speed_terms (group_view group)) groups →
+    place < length terms → speed ≡ get_or terms place speed → (place < length (map group_view groups)) × (speed ≡ speed_terms (group_at (map group_view groups) place))
 terms_read groups terms place speed are within read =
-    let known : place < length groups = omega (arith, within, ap length are, length-map groups (λ group. terms_of (group_view group))) in (
+    let known : place < length groups = omega (arith, within, ap length are, length-map groups (λ group. speed_terms (group_view group))) in (
       omega (arith, known, length-map groups group_view),
       read ∙ ap (λ some. get_or some place speed) are
-          ∙ get_or-map (λ group. terms_of (group_view group)) groups place (record { work = 0; length = 0 }) speed known
-          ∙ ap terms_of (sym (get_or-map group_view groups place (record { work = 0; length = 0 }) no_group known)),
+          ∙ get_or-map (λ group. speed_terms (group_view group)) groups place (record { work = 0; length = 0 }) speed known
+          ∙ ap speed_terms (sym (get_or-map group_view groups place (record { work = 0; length = 0 }) no_group known)),
     )
 
 pub shares_read : (given all sorted own : List Struct) (ends : List ℕ) (n k : ℕ) → given ≡ all → AreSorted given n ends sorted → k < n →
-    own ≡ slice_range sorted (start_of ends k) (get_or ends k 0) → shares_view own ≡ shares_in (shares_view all) k
+    own ≡ slice_range sorted (start_of ends k) (get_or ends k 0) → shares_view own ≡ shares_in_stretch (shares_view all) k
 shares_read given all sorted own ends n k same are below read =
     ap shares_view (read ∙ are.parts k below ∙ ap (λ some. structs_in some k) same) ∙ view_in all k

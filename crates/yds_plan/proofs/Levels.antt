@@ -13,7 +13,7 @@ use Rattle.yds_model.specs.Level.{Level, no_level, level_at, all_members, all_pi
 use Rattle.yds_model.specs.Plan.{Rise, DontTouch}
 use Rattle.yds_model.proofs.Sums.{sum_by_same, sum_by_at_most, sum_by_zero}
 use Rattle.yds_search.specs.Found.{Group, Found, group_of, group_at}
-use Rattle.yds_plan.specs.Laid.{level_of, levels_among, level_of_place, together, members_of, level_numbered, levels_of, stretches_of, merged}
+use Rattle.yds_plan.specs.Laid.{level_of, levels_among, level_of_place, together, members_of, level_numbered, levels_of, stretches_of_level, merged}
 use Rattle.yds_search.proofs.KeySums.{All-range, in_range, sums_swap, not_here, is_here, one_of_range, split_sum, split_at_most, cond_at_most, count_all, sum_by-filter, sum_by-flat_map, sum_by-map}
 use Rattle.yds_plan.proofs.Merged.{flat_map-map, all_of_blocks, some_of_blocks, Holds, merged_run, merged_apart, merged_total, merged_length, merged_stays_apart, merged_covers, some_stretches_run, some_stretches_cover}
 use Rattle.yds_plan.proofs.Drafts.{among_below}
@@ -229,7 +229,7 @@ module _ (jobs : List Job) (found : Found) where
 
   -- the single stretches of a level
   abbrev pub single : ℕ → List Piece
-  single l = map (stretch_at jobs) (stretches_of jobs found l)
+  single l = map (stretch_at jobs) (stretches_of_level jobs found l)
 
   pub single_run : (l : ℕ) → PiecesFrom 0 (single l)
   single_run l = some_stretches_run jobs (λ k. level_of_place found.groups (group_of found.group_of_stretch k) == l)
@@ -237,7 +237,7 @@ module _ (jobs : List Job) (found : Found) where
   abbrev IsOfLevel : ℕ → ℕ → Type 0
   IsOfLevel l k = (k < length (stretches jobs)) × (level_of_place found.groups (group_of found.group_of_stretch k) ≡ l)
 
-  each_stretch : (l : ℕ) → All (IsOfLevel l) (stretches_of jobs found l)
+  each_stretch : (l : ℕ) → All (IsOfLevel l) (stretches_of_level jobs found l)
   each_stretch l k d within =
       let in_level = λ (j : ℕ). level_of_place found.groups (group_of found.group_of_stretch j) == l in (
         All-filter in_level (λ j. j < length (stretches jobs)) (range_with_len 0 (length (stretches jobs)))
@@ -254,8 +254,8 @@ module _ (jobs : List Job) (found : Found) where
 
   single_apart : (l other : ℕ) → (l ≡ other → ⊥) → AllApart (single l) (single other)
   single_apart l other differ =
-      All-map (λ piece. All (AreApart piece) (single other)) (stretch_at jobs) (stretches_of jobs found l)
-      (λ i d within. All-map (AreApart _) (stretch_at jobs) (stretches_of jobs found other) (λ j e inside.
+      All-map (λ piece. All (AreApart piece) (single other)) (stretch_at jobs) (stretches_of_level jobs found l)
+      (λ i d within. All-map (AreApart _) (stretch_at jobs) (stretches_of_level jobs found other) (λ j e inside.
       let one = each_stretch l i d within in
       let two = each_stretch other j e inside in
       stretches_apart _ _ one.0 two.0 (λ same. differ (sym one.1 ∙ ap level_of_stretch same ∙ two.1))))
@@ -274,11 +274,11 @@ module _ (jobs : List Job) (found : Found) where
   pub pieces_dont_touch : (l : ℕ) → DontTouch (merged (single l))
   pieces_dont_touch l = merged_apart 0 (single l) (single_run l)
 
-  pub pieces_total : (l : ℕ) → total_length (merged (single l)) ≡ sum_by (length_at jobs) (stretches_of jobs found l)
+  pub pieces_total : (l : ℕ) → total_length (merged (single l)) ≡ sum_by (length_at jobs) (stretches_of_level jobs found l)
   pieces_total l =
-      merged_total 0 (single l) (single_run l) ∙ sum_by-map (stretch_at jobs) (λ piece. piece.to - piece.from) (stretches_of jobs found l)
+      merged_total 0 (single l) (single_run l) ∙ sum_by-map (stretch_at jobs) (λ piece. piece.to - piece.from) (stretches_of_level jobs found l)
 
-  pub some_pieces : (l : ℕ) → 1 ≤ sum_by (length_at jobs) (stretches_of jobs found l) → 1 ≤ length (merged (single l))
+  pub some_pieces : (l : ℕ) → 1 ≤ sum_by (length_at jobs) (stretches_of_level jobs found l) → 1 ≤ length (merged (single l))
   some_pieces l some = some_length (merged (single l)) (omega (arith, pieces_total l))
 
   -- a stretch of one of the first levels is covered by their pieces
@@ -298,8 +298,8 @@ module _ (jobs : List Job) (found : Found) where
         arith,
         ap length (flat_map-map (λ (level : Level). level.pieces) (level_numbered jobs found) all),
         length-flat_map (λ l. merged (single l)) all,
-        sum_by-le-sum_by (λ l. length (merged (single l))) (λ l. sum_by (λ k. 1) (stretches_of jobs found l)) all
-            (λ l. omega (arith, merged_length (single l), length-map (stretches_of jobs found l) (stretch_at jobs), count_all (stretches_of jobs found l))),
+        sum_by-le-sum_by (λ l. length (merged (single l))) (λ l. sum_by (λ k. 1) (stretches_of_level jobs found l)) all
+            (λ l. omega (arith, merged_length (single l), length-map (stretches_of_level jobs found l) (stretch_at jobs), count_all (stretches_of_level jobs found l))),
         split_at_most (λ k. level_of_place found.groups (group_of found.group_of_stretch k)) (λ k. 1)
             (levels_among found.groups (length found.groups)) (range_with_len 0 (length (stretches jobs))),
         count_all (range_with_len 0 (length (stretches jobs))),

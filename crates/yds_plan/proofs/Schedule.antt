@@ -10,7 +10,7 @@ use Rattle.yds_model.specs.Job.{Job, job_at}
 use Rattle.yds_model.specs.EarliestFirst.{ComesFirst}
 use Rattle.yds_search.specs.Found.{Share, Found, IsFound, group_of, no_share, share_at, group_at, per_time, per_work}
 use Rattle.yds_events.specs.Window.{IsInWindow}
-use Rattle.yds_plan.specs.Laid.{shares_in, slots_in_stretch, slots_of}
+use Rattle.yds_plan.specs.Laid.{shares_in_stretch, slots_in_stretch, laid_slots}
 use Rattle.std.specs.Prelude.{cond}
 use Rattle.yds_model.specs.Slot.{WholeSlot, no_slot, IsDivided, IsScale, slots_at, work_given}
 use Rattle.yds_model.specs.Feasible.{IsInWindow as IsSlotInWindow, IsFeasibleAt}
@@ -57,16 +57,16 @@ module _ (jobs : List Job) (found : Found) (is : IsFound jobs found) where
         stretch_is = same;
       }
 
-  passed : (k : ℕ) → All (λ share. share.stretch ≡ k) (shares_in found.shares k)
+  passed : (k : ℕ) → All (λ share. share.stretch ≡ k) (shares_in_stretch found.shares k)
   passed k i d within = eqb-true _ _ (filter_passes (λ (share : Share). share.stretch == k) found.shares i d within)
 
-  pub all_serve : (k : ℕ) → All (λ share. Serves jobs found k share.job) (shares_in found.shares k)
+  pub all_serve : (k : ℕ) → All (λ share. Serves jobs found k share.job) (shares_in_stretch found.shares k)
   all_serve k i d within =
       All-filter (λ share. share.stretch == k) (λ share. share.stretch ≡ k → Serves jobs found k share.job) found.shares
       (All-from_get_or (λ (share : Share). share.stretch ≡ k → Serves jobs found k share.job) found.shares no_share (λ x below same. serves_at k x below same))
       i d within (passed k i d within)
 
-  pub some_units : (k : ℕ) → All (λ share. 1 ≤ share.units) (shares_in found.shares k)
+  pub some_units : (k : ℕ) → All (λ share. 1 ≤ share.units) (shares_in_stretch found.shares k)
   some_units k =
       All-filter (λ share. share.stretch == k) (λ share. 1 ≤ share.units) found.shares (λ i d within. (is.shares i d within).some)
 
@@ -74,7 +74,7 @@ module _ (jobs : List Job) (found : Found) (is : IsFound jobs found) where
   in_order i j d order within =
       rw (get_or_default found.shares i d no_share (omega arith), get_or_default found.shares j d no_share within) (λ same. is.in_order i j order within same)
 
-  pub shares_in_order : (k : ℕ) → AllPairs (λ one other. IsBefore jobs one.job other.job) (shares_in found.shares k)
+  pub shares_in_order : (k : ℕ) → AllPairs (λ one other. IsBefore jobs one.job other.job) (shares_in_stretch found.shares k)
   shares_in_order k i j d order within =
       AllPairs-filter (λ one other. one.stretch ≡ other.stretch → IsBefore jobs one.job other.job) (λ share. share.stretch == k)
       found.shares in_order i j d order within (passed k i d (omega arith) ∙ sym (passed k j d within))
@@ -138,14 +138,14 @@ module _ (jobs : List Job) (found : Found) (is : IsFound jobs found) where
   terms g known = lowest (group_at found.groups g).work (group_at found.groups g).length (is.some_work g known) (is.some_length g known)
 
   pub room : (k : ℕ) → k < length (stretches jobs) → group_of found.group_of_stretch k < length found.groups →
-      (stretch_at jobs k).from * per_time (group_at found.groups (group_of found.group_of_stretch k)) + 0 + units_of (shares_in found.shares k)
+      (stretch_at jobs k).from * per_time (group_at found.groups (group_of found.group_of_stretch k)) + 0 + units_of (shares_in_stretch found.shares k)
       ≤ (stretch_at jobs k).to * per_time (group_at found.groups (group_of found.group_of_stretch k))
   room k within grouped =
       room_of (stretch_at jobs k).from (stretch_at jobs k).to (per_time (group_at found.groups (group_of found.group_of_stretch k)))
-      (units_of (shares_in found.shares k)) (stretch_forward jobs k within)
+      (units_of (shares_in_stretch found.shares k)) (stretch_forward jobs k within)
       (sum_by-filter (λ share. share.stretch == k) (λ share. share.units) found.shares ∙ is.full k within grouped)
 
-  module _ (scale : ℕ) (divided : IsScale scale (slots_of jobs found)) where
+  module _ (scale : ℕ) (divided : IsScale scale (laid_slots jobs found)) where
     block_divided : (k : ℕ) → k < length (stretches jobs) → AllByRecursion (IsDivided scale) (slots_in_stretch jobs found k)
     block_divided k within =
         recursion_from_All (IsDivided scale) (slots_in_stretch jobs found k)
@@ -155,7 +155,7 @@ module _ (jobs : List Job) (found : Found) (is : IsFound jobs found) where
     block_serves k =
         jobs_at (Serves jobs found k) scale (slots_in_stretch jobs found k)
         (slots_of_jobs (Serves jobs found k) (group_at found.groups (group_of found.group_of_stretch k)) (stretch_at jobs k).from 0
-        (shares_in found.shares k) (all_serve jobs found is k))
+        (shares_in_stretch found.shares k) (all_serve jobs found is k))
 
     block_stands : (k : ℕ) → k < length (stretches jobs) → All (Stands jobs found scale k) (slots_at scale (slots_in_stretch jobs found k))
     block_stands k inside x d within =
@@ -163,7 +163,7 @@ module _ (jobs : List Job) (found : Found) (is : IsFound jobs found) where
         let grouped : group_of found.group_of_stretch k < length found.groups = omega (arith, serves.same_group, serves.grouped) in
         let low = terms (group_of found.group_of_stretch k) grouped in
         let filled = fills (group_at found.groups (group_of found.group_of_stretch k)) scale (stretch_at jobs k).from divided.positive
-        low.some_first (stretch_at jobs k).to 0 (shares_in found.shares k) (block_divided k inside) (some_units jobs found is k) (room k inside grouped) x d within in
+        low.some_first (stretch_at jobs k).to 0 (shares_in_stretch found.shares k) (block_divided k inside) (some_units jobs found is k) (room k inside grouped) x d within in
         record {
           serves = serves;
           from = begin_of (stretch_at jobs k).from _ scale _ filled.from low.some_first;
@@ -178,7 +178,7 @@ module _ (jobs : List Job) (found : Found) (is : IsFound jobs found) where
         let grouped : group_of found.group_of_stretch k < length found.groups = omega (arith, serves.same_group, serves.grouped) in
         let low = terms (group_of found.group_of_stretch k) grouped in
         let follows = filled_pairs (group_at found.groups (group_of found.group_of_stretch k)) scale (stretch_at jobs k).from divided.positive
-        low.some_first (IsBefore jobs) (stretch_at jobs k).to 0 (shares_in found.shares k) (block_divided k inside)
+        low.some_first (IsBefore jobs) (stretch_at jobs k).to 0 (shares_in_stretch found.shares k) (block_divided k inside)
         (some_units jobs found is k) (room k inside grouped) (shares_in_order jobs found is k) i j d order within in
         record { after = follows.0; due = λ released. follows.1.1; apart = λ same. absurd (follows.1.0 same) }
 
@@ -216,18 +216,18 @@ module _ (jobs : List Job) (found : Found) (is : IsFound jobs found) where
     }
 
     -- the slots of all stretches
-    whole_blocks : slots_at scale (slots_of jobs found) ≡ flat_map (λ k. slots_at scale (slots_in_stretch jobs found k)) (range_with_len 0 (length (stretches jobs)))
+    whole_blocks : slots_at scale (laid_slots jobs found) ≡ flat_map (λ k. slots_at scale (slots_in_stretch jobs found k)) (range_with_len 0 (length (stretches jobs)))
     whole_blocks = map-flat_map _ (slots_in_stretch jobs found) (range_with_len 0 (length (stretches jobs)))
 
     abbrev pub StandsSomewhere : WholeSlot → Type 0
     StandsSomewhere slot = (k : ℕ) × (k < length (stretches jobs)) × Stands jobs found scale k slot
 
-    pub all_stand : All StandsSomewhere (slots_at scale (slots_of jobs found))
+    pub all_stand : All StandsSomewhere (slots_at scale (laid_slots jobs found))
     all_stand =
         rw whole_blocks (all_of_blocks StandsSomewhere (λ k. slots_at scale (slots_in_stretch jobs found k)) (length (stretches jobs))
         (λ k within x d inside. (k, within, block_stands k within x d inside)))
 
-    pub all_follow : AllPairs (Follows jobs scale) (slots_at scale (slots_of jobs found))
+    pub all_follow : AllPairs (Follows jobs scale) (slots_at scale (laid_slots jobs found))
     all_follow =
         rw whole_blocks (pairs_of_blocks (Follows jobs scale) (λ k. slots_at scale (slots_in_stretch jobs found k)) (length (stretches jobs))
         (λ k within. block_follows k within) (λ k l order within y e inside_y x d inside_x. across k l _ _ order within (block_stands k (omega arith) x d inside_x)
@@ -236,21 +236,21 @@ module _ (jobs : List Job) (found : Found) (is : IsFound jobs found) where
     -- the work that a job gets in a stretch, in units of its group
     job_there : (k job : ℕ) → (k < length (stretches jobs)) → per_work (group_at found.groups (group_of found.group_of_job job))
         * sum_by (λ slot. cond (job == slot.job) slot.work 0) (slots_at scale (slots_in_stretch jobs found k))
-        ≡ scale * sum_by (λ share. cond (share.job == job) share.units 0) (shares_in found.shares k)
+        ≡ scale * sum_by (λ share. cond (share.job == job) share.units 0) (shares_in_stretch found.shares k)
     job_there k job inside = elim (cases_eq (group_of found.group_of_stretch k) (group_of found.group_of_job job)) [
       | inl same ↦
           rw (← same) (filled_work (group_at found.groups (group_of found.group_of_stretch k)) scale (stretch_at jobs k).from 0 job
-          (shares_in found.shares k) (block_divided k inside))
+          (shares_in_stretch found.shares k) (block_divided k inside))
       | inr other ↦
           let no_work = sum_by_zero (λ (slot : WholeSlot). cond (job == slot.job) slot.work 0) (slots_at scale (slots_in_stretch jobs found k))
           (λ x d within. not_here job _ _ (λ mine. other (rw (← mine) at (block_serves k x d within).same_group))) in
-          let no_units = sum_by_zero (λ (share : Share). cond (share.job == job) share.units 0) (shares_in found.shares k)
+          let no_units = sum_by_zero (λ (share : Share). cond (share.job == job) share.units 0) (shares_in_stretch found.shares k)
           (λ x d within. not_here _ job _ (λ mine. other (rw mine at (all_serve jobs found is k x d within).same_group))) in
           rw (no_work, no_units) (omega arith)
     ]
 
     -- and over all stretches
-    job_served : (job : ℕ) → job < length jobs → 1 ≤ (job_at jobs job).work → work_given (slots_at scale (slots_of jobs found)) job ≡ (job_at jobs job).work * scale
+    job_served : (job : ℕ) → job < length jobs → 1 ≤ (job_at jobs job).work → work_given (slots_at scale (laid_slots jobs found)) job ≡ (job_at jobs job).work * scale
     job_served job known some =
         let q = per_work (group_at found.groups (group_of found.group_of_job job)) in
         let work = λ (slot : WholeSlot). cond (job == slot.job) slot.work 0 in
@@ -262,21 +262,21 @@ module _ (jobs : List Job) (found : Found) (is : IsFound jobs found) where
           ap (λ slots. q * work_given slots job) whole_blocks,
           ap (λ n. q * n) (sum_by-flat_map (λ k. slots_at scale (slots_in_stretch jobs found k)) work all),
           sum_by-mul q (λ k. sum_by work (slots_at scale (slots_in_stretch jobs found k))) all,
-          sum_by_same (λ k. q * sum_by work (slots_at scale (slots_in_stretch jobs found k))) (λ k. scale * sum_by units (shares_in found.shares k)) all
+          sum_by_same (λ k. q * sum_by work (slots_at scale (slots_in_stretch jobs found k))) (λ k. scale * sum_by units (shares_in_stretch found.shares k)) all
               (λ i d within. let at = in_range (length (stretches jobs)) i d within in rw (at.1) (job_there i job at.0)),
-          sum_by-mul scale (λ k. sum_by units (shares_in found.shares k)) all,
+          sum_by-mul scale (λ k. sum_by units (shares_in_stretch found.shares k)) all,
           ap (λ n. scale * n) (split_all (λ share. share.stretch) units (length (stretches jobs)) found.shares (λ x d within. (is.shares x d within).known_stretch)),
           ap (λ n. scale * n) (is.served job known some),
         ))
 
     -- a job of no work has no slot
-    no_work_given : (job : ℕ) → job < length jobs → (job_at jobs job).work < 1 → work_given (slots_at scale (slots_of jobs found)) job ≡ 0
+    no_work_given : (job : ℕ) → job < length jobs → (job_at jobs job).work < 1 → work_given (slots_at scale (laid_slots jobs found)) job ≡ 0
     no_work_given job known none =
-        sum_by_zero (λ slot. cond (job == slot.job) slot.work 0) (slots_at scale (slots_of jobs found)) (λ x d within.
+        sum_by_zero (λ slot. cond (job == slot.job) slot.work 0) (slots_at scale (laid_slots jobs found)) (λ x d within.
         let serves = (all_stand x d within).2.serves in
         not_here job _ _ (λ same. omega (arith, is.idle job known (omega arith), rw (← same) at serves.grouped)))
 
-    all_served : (job : ℕ) → job < length jobs → work_given (slots_at scale (slots_of jobs found)) job ≡ (job_at jobs job).work * scale
+    all_served : (job : ℕ) → job < length jobs → work_given (slots_at scale (laid_slots jobs found)) job ≡ (job_at jobs job).work * scale
     all_served job known = elim (cases_lt (job_at jobs job).work 1) [
       | inl none ↦
           let nothing : (job_at jobs job).work ≡ 0 = omega arith in
@@ -284,11 +284,11 @@ module _ (jobs : List Job) (found : Found) (is : IsFound jobs found) where
       | inr some ↦ job_served job known some
     ]
 
-    pub feasible : IsFeasibleAt jobs scale (slots_at scale (slots_of jobs found))
+    pub feasible : IsFeasibleAt jobs scale (slots_at scale (laid_slots jobs found))
     feasible = record {
-      one_at_a_time = run_from_pairs jobs scale 0 (slots_at scale (slots_of jobs found))
-          (All-weaker StandsSomewhere (StartsFrom 0) (λ slot stands. (omega arith, stands.2.forward)) (slots_at scale (slots_of jobs found)) all_stand) all_follow;
-      in_windows = All-weaker StandsSomewhere (IsSlotInWindow jobs scale) (λ slot stands. inside stands.0 slot stands.2) (slots_at scale (slots_of jobs found)) all_stand;
+      one_at_a_time = run_from_pairs jobs scale 0 (slots_at scale (laid_slots jobs found))
+          (All-weaker StandsSomewhere (StartsFrom 0) (λ slot stands. (omega arith, stands.2.forward)) (slots_at scale (laid_slots jobs found)) all_stand) all_follow;
+      in_windows = All-weaker StandsSomewhere (IsSlotInWindow jobs scale) (λ slot stands. inside stands.0 slot stands.2) (slots_at scale (laid_slots jobs found)) all_stand;
       served = all_served;
     } where
       inside : (k : ℕ) (slot : WholeSlot) → Stands jobs found scale k slot → IsSlotInWindow jobs scale slot
@@ -298,11 +298,11 @@ module _ (jobs : List Job) (found : Found) (is : IsFound jobs found) where
         due = omega (arith, stands.to, mul-le-mul_right scale stands.serves.in_window.due);
       }
 
-    pub served_in_stretches : IsServedInStretches jobs scale (slots_at scale (slots_of jobs found))
+    pub served_in_stretches : IsServedInStretches jobs scale (slots_at scale (laid_slots jobs found))
     served_in_stretches = record {
-      earliest_first = earliest_after jobs scale (slots_at scale (slots_of jobs found)) [] (slots_at scale (slots_of jobs found)) refl all_served
-          (All-weaker StandsSomewhere (Works jobs scale) (λ slot stands. works stands.0 slot stands.2) (slots_at scale (slots_of jobs found)) all_stand) all_follow;
-      uncut = All-weaker StandsSomewhere (IsUncut jobs scale) (λ slot stands. uncut stands.0 slot stands.1 stands.2) (slots_at scale (slots_of jobs found)) all_stand;
+      earliest_first = earliest_after jobs scale (slots_at scale (laid_slots jobs found)) [] (slots_at scale (laid_slots jobs found)) refl all_served
+          (All-weaker StandsSomewhere (Works jobs scale) (λ slot stands. works stands.0 slot stands.2) (slots_at scale (laid_slots jobs found)) all_stand) all_follow;
+      uncut = All-weaker StandsSomewhere (IsUncut jobs scale) (λ slot stands. uncut stands.0 slot stands.1 stands.2) (slots_at scale (laid_slots jobs found)) all_stand;
       once = λ i j order within. (all_follow i j no_slot order within).apart;
     } where
       works : (k : ℕ) (slot : WholeSlot) → Stands jobs found scale k slot → Works jobs scale slot

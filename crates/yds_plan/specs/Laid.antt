@@ -12,8 +12,8 @@ use Rattle.yds_search.specs.Found.{Group, Share, Found, group_at, per_time, per_
 use Rattle.yds_model.specs.Comparison.{stretch_at}
 
 -- a group's speed in lowest terms
-abbrev pub terms_of : Group → Terms
-terms_of group = record { per_time = per_time group; per_work = per_work group }
+abbrev pub speed_terms : Group → Terms
+speed_terms group = record { per_time = per_time group; per_work = per_work group }
 
 -- the time at which so many units are done, from `start` on, where `per_time` of them fill a unit of time
 abbrev pub time_after : ℕ → ℕ → ℕ → Fraction
@@ -34,16 +34,16 @@ slots_from terms start done [] = []
 slots_from terms start done (share ∷ shares) = slot_for terms start done share ∷ slots_from terms start (done + share.units) shares
 
 -- the shares of a stretch, in the order in which they were found
-abbrev pub shares_in : List Share → ℕ → List Share
-shares_in shares k = filter (λ share. share.stretch == k) shares
+abbrev pub shares_in_stretch : List Share → ℕ → List Share
+shares_in_stretch shares k = filter (λ share. share.stretch == k) shares
 
 abbrev pub slots_in_stretch : List Job → Found → ℕ → List WrittenSlot
 slots_in_stretch jobs found k =
-    slots_from (terms_of (group_at found.groups (group_of found.group_of_stretch k))) (stretch_at jobs k).from 0 (shares_in found.shares k)
+    slots_from (speed_terms (group_at found.groups (group_of found.group_of_stretch k))) (stretch_at jobs k).from 0 (shares_in_stretch found.shares k)
 
 -- The slots of a plan: each stretch is filled from its start.
-abbrev pub slots_of : List Job → Found → List WrittenSlot
-slots_of jobs found = flat_map (slots_in_stretch jobs found) (range_with_len 0 (length (stretches jobs)))
+abbrev pub laid_slots : List Job → Found → List WrittenSlot
+laid_slots jobs found = flat_map (slots_in_stretch jobs found) (range_with_len 0 (length (stretches jobs)))
 
 -- the group after this place is slower than the one at it
 abbrev pub slows_after : List Group → ℕ → Bool
@@ -79,8 +79,8 @@ abbrev pub members_of : List Job → Found → ℕ → List ℕ
 members_of jobs found level =
     filter (λ j. level_of_place found.groups (group_of found.group_of_job j) == level) (range_with_len 0 (length jobs))
 
-abbrev pub stretches_of : List Job → Found → ℕ → List ℕ
-stretches_of jobs found level =
+abbrev pub stretches_of_level : List Job → Found → ℕ → List ℕ
+stretches_of_level jobs found level =
     filter (λ k. level_of_place found.groups (group_of found.group_of_stretch k) == level) (range_with_len 0 (length (stretches jobs)))
 
 abbrev pub together : (Group → ℕ) → List Group → ℕ → ℕ
@@ -90,7 +90,7 @@ abbrev pub level_numbered : List Job → Found → ℕ → Level
 level_numbered jobs found level = record {
   work = together (λ group. group.work) found.groups level;
   length = together (λ group. group.length) found.groups level;
-  pieces = merged (map (stretch_at jobs) (stretches_of jobs found level));
+  pieces = merged (map (stretch_at jobs) (stretches_of_level jobs found level));
   members = members_of jobs found level;
 }
 

@@ -5,7 +5,7 @@ ghost use Rattle.yds_model.specs.Job.{IsJob};
 ghost use Rattle.yds_model.specs.Event.{stretches};
 ghost use Rattle.yds_search.specs.Found.{IsFound};
 ghost use Rattle.yds_search.specs.Views.{found_view};
-ghost use Rattle.yds_plan.specs.Laid.{slots_of, levels_of};
+ghost use Rattle.yds_plan.specs.Laid.{laid_slots, levels_of};
 ghost use Rattle.yds_plan.specs.Drafts.{AreGroupsWithin, drafts};
 
 use crate::layout_levels::levels_of_groups;
@@ -51,7 +51,7 @@ pub(crate) fn lay_out(
     requires jobs { All IsJob rows.now }
     requires few { length rows.now ≤ MAX_JOBS }
     requires timeline { timeline.now ≡ stretches rows.now }
-    ensures schedule { IfOk result (λ planned. planned.schedule ≡ record { jobs = length rows.now; slots = slots_of rows.now (found_view found.now) }) }
+    ensures schedule { IfOk result (λ planned. planned.schedule ≡ record { jobs = length rows.now; slots = laid_slots rows.now (found_view found.now) }) }
     ensures certificate { IfOk result (λ planned. planned.certificate ≡ levels_of rows.now (found_view found.now)) }
 {
     let schedule = schedule_of(alloc, rows, timeline, found)?;

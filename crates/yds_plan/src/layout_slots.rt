@@ -6,7 +6,7 @@ ghost use Rattle.yds_model.specs.Event.{stretches};
 ghost use Rattle.yds_model.specs.Within.{IsFraction};
 ghost use Rattle.yds_search.specs.Found.{IsFound, group_at};
 ghost use Rattle.yds_search.specs.Views.{shares_view, group_view, found_view};
-ghost use Rattle.yds_plan.specs.Laid.{terms_of, time_after, slots_from, slots_of};
+ghost use Rattle.yds_plan.specs.Laid.{speed_terms, time_after, slots_from, laid_slots};
 ghost use Rattle.yds_plan.specs.Room.{CanFill};
 
 use crate::layout_shares::sort_shares;
@@ -43,7 +43,7 @@ pub(crate) struct Terms {
 fn terms_of(group: &Group) -> Terms
     requires some_work { 1 ≤ group.now.work }
     requires some_length { 1 ≤ group.now.length }
-    ensures { result ≡ terms_of (group_view group.now) }
+    ensures { result ≡ speed_terms (group_view group.now) }
 {
     let divisor = gcd(group.work, group.length);
     Terms {
@@ -55,7 +55,7 @@ fn terms_of(group: &Group) -> Terms
 /// The terms of each group's speed.
 fn terms_of_groups(alloc: Global, groups: &[Group]) -> Result<Vec<Terms>, Memory>
     requires { (i : ℕ) → i < length groups.now → (1 ≤ (group_at (map group_view groups.now) i).work) × (1 ≤ (group_at (map group_view groups.now) i).length) }
-    ensures { IfOk result (λ terms. terms.items ≡ map (λ group. terms_of (group_view group)) groups.now) }
+    ensures { IfOk result (λ terms. terms.items ≡ map (λ group. speed_terms (group_view group)) groups.now) }
 {
     let mut terms: Vec<Terms> = Vec::with_capacity(alloc, groups.len())?;
     for group in groups {
@@ -105,7 +105,7 @@ pub(crate) fn schedule_of(
     requires jobs { All IsJob rows.now }
     requires few { length rows.now ≤ MAX_JOBS }
     requires timeline { timeline.now ≡ stretches rows.now }
-    ensures { IfOk result (λ schedule. schedule ≡ record { jobs = length rows.now; slots = slots_of rows.now (found_view found.now) }) }
+    ensures { IfOk result (λ schedule. schedule ≡ record { jobs = length rows.now; slots = laid_slots rows.now (found_view found.now) }) }
 {
     let sorted = sort_shares(alloc, &found.shares, timeline.len())?;
     let terms = terms_of_groups(alloc, &found.groups)?;

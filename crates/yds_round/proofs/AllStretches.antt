@@ -23,7 +23,7 @@ use Rattle.yds_round.specs.declared.split.Split.{Split}
 use Rattle.yds_round.specs.declared.pace.Pace.{Pace}
 use Rattle.yds_round.specs.Pace.{RunsAs, IsPaceOf, pace_at}
 use Rattle.yds_round.specs.Members.{Numbers}
-use Rattle.yds_round.specs.Written.{total_units, written_at, FitsJob}
+use Rattle.yds_round.specs.Written.{units_of_slots, written_at, FitsJob}
 use Rattle.yds_round.specs.Cut.{CanRound}
 use Rattle.yds_round.specs.Rounded.{planned_in, written_here, written_in}
 use Rattle.yds_round.proofs.Cuts.{WorksOver}
@@ -52,7 +52,7 @@ rounds_all hull levels planned written (piece ∷ pieces) each =
 
 -- the slots that stay or are cut can be put after others
 can_round_by : (points : List Point) (level : Level) (parts : ℕ) (split : Option Split) (stretch : Piece) (jobs : ℕ) (before here : List WrittenSlot) → RunsAs points level parts split →
-    total_units (speed_den level) here ≡ speed_num level * length_of stretch → All (WorksOver (speed_den level)) here → All (λ slot. slot.job < jobs) here →
+    units_of_slots (speed_den level) here ≡ speed_num level * length_of stretch → All (WorksOver (speed_den level)) here → All (λ slot. slot.job < jobs) here →
     All (λ slot. FitsJob (pace_grain level split) before slot.job) here → length before + 2 * length here ≤ MAX_SLOTS → CanRound split stretch jobs before here
 can_round_by points level parts None stretch jobs before here at units over known fits room = record {
   grain = speed_den level;

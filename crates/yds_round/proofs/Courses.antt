@@ -11,7 +11,7 @@ use Rattle.yds_model.specs.Slot.{WrittenSlot, WholeSlot, IsDivided, slot_at_scal
 use Rattle.yds_model.specs.Piece.{Piece}
 use Rattle.yds_model.specs.Rounding.{RunsAtPoint}
 use Rattle.yds_slots.proofs.Parts.{of_parts_at}
-use Rattle.yds_round.specs.Written.{Course, units_of, total_units, slots_after}
+use Rattle.yds_round.specs.Written.{Course, slot_units, units_of_slots, slots_after}
 use Rattle.yds_round.proofs.Cuts.{piece_between, some_between, none_between}
 
 -- While up to so many units are done the part runs at this speed: its time and work stand as a constant more tells.
@@ -73,8 +73,8 @@ same_time speed grain den first last before after held some_speed some_grain one
 abbrev pub parts_for : Course → ℕ → List WrittenSlot → ℕ → ℕ
 parts_for course done [] job = 0
 parts_for course done (slot ∷ slots) job =
-    (if job == slot.job then course.work (done + units_of course.unit slot) - course.work done else 0)
-    + parts_for course (done + units_of course.unit slot) slots job
+    (if job == slot.job then course.work (done + slot_units course.unit slot) - course.work done else 0)
+    + parts_for course (done + slot_units course.unit slot) slots job
 
 -- where a part begins and ends
 pub record RunsTo (course : Course) (stretch : Piece) (speed scale start units : ℕ) (slots : List WrittenSlot) : Type 0 where
@@ -83,17 +83,17 @@ pub record RunsTo (course : Course) (stretch : Piece) (speed scale start units :
   pub ends : end * course.den ≡ (stretch.from * course.den + course.time units) * scale
 
 module _ (course : Course) (stretch : Piece) (speed most held scale : ℕ) (at : RunsAt course speed most held) (positive : 1 ≤ scale) where
-  pub runs_after : (planned : List WrittenSlot) (done start : ℕ) → done + total_units course.unit planned ≤ most →
+  pub runs_after : (planned : List WrittenSlot) (done start : ℕ) → done + units_of_slots course.unit planned ≤ most →
       start * course.den ≡ (stretch.from * course.den + course.time done) * scale → All (IsDivided scale) (slots_after course stretch done planned) →
-      RunsTo course stretch speed scale start (done + total_units course.unit planned) (slots_after course stretch done planned)
+      RunsTo course stretch speed scale start (done + units_of_slots course.unit planned) (slots_after course stretch done planned)
   runs_after [] done start within begins divided =
       let none : done ≡ done + 0 = omega arith in
       record { end = start; runs = refl; ends = begins ∙ ap (λ n. (stretch.from * course.den + course.time n) * scale) none }
   runs_after (slot ∷ planned) done start within begins divided =
-      let next = done + units_of course.unit slot in
-      let sum = sum_by-cons (λ (s : WrittenSlot). units_of course.unit s) slot planned in
-      let all : next + total_units course.unit planned ≡ done + total_units course.unit (slot ∷ planned) = omega (arith, sum) in
-      let fits : next + total_units course.unit planned ≤ most = omega (arith, all, within) in
+      let next = done + slot_units course.unit slot in
+      let sum = sum_by-cons (λ (s : WrittenSlot). slot_units course.unit s) slot planned in
+      let all : next + units_of_slots course.unit planned ≡ done + units_of_slots course.unit (slot ∷ planned) = omega (arith, sum) in
+      let fits : next + units_of_slots course.unit planned ≤ most = omega (arith, all, within) in
       let order = at.rises done next (omega arith) in
       elim (cases_lt (course.work done) (course.work next)) [
         | inl some ↦
@@ -153,7 +153,7 @@ pub given_after : (course : Course) (stretch : Piece) (scale : ℕ) (planned : L
     work_given (slots_at scale (slots_after course stretch done planned)) job * course.grain ≡ parts_for course done planned job * scale
 given_after course stretch scale [] done job rises divided = omega arith
 given_after course stretch scale (slot ∷ planned) done job rises divided =
-    let next = done + units_of course.unit slot in
+    let next = done + slot_units course.unit slot in
     let order = rises done next (omega arith) in
     elim (cases_lt (course.work done) (course.work next)) [
       | inl some ↦

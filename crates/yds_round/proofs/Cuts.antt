@@ -16,7 +16,7 @@ use Rattle.yds_slots.specs.Schedule.{FitsGrain}
 use Rattle.yds_slots.proofs.Grains.{grain_other, grain_same}
 use Rattle.yds_slots.proofs.Parts.{of_parts_over}
 use Rattle.yds_round.specs.declared.split.Split.{Split}
-use Rattle.yds_round.specs.Written.{Course, units_of, total_units, turn, moment, fast_course, slow_course, slot_between, slots_after, cut_slots, FitsJob, listed}
+use Rattle.yds_round.specs.Written.{Course, slot_units, units_of_slots, turn, moment, fast_course, slow_course, slot_between, slots_after, cut_slots, FitsJob, listed}
 
 -- # One slot of a part
 
@@ -61,53 +61,53 @@ few_between course stretch job from to = elim (cases_lt (course.work from) (cour
 pub slots_push : (course : Course) (stretch : Piece) (done : ℕ) (planned : List WrittenSlot) (slot : WrittenSlot) →
     slots_after course stretch done (planned ++ slot ∷ [])
     ≡ slots_after course stretch done planned
-    ++ slot_between course stretch slot.job (done + total_units course.unit planned) (done + total_units course.unit planned + units_of course.unit slot)
+    ++ slot_between course stretch slot.job (done + units_of_slots course.unit planned) (done + units_of_slots course.unit planned + slot_units course.unit slot)
 slots_push course stretch done [] slot =
     let start : done ≡ done + 0 = omega arith in
-    append-nil (slot_between course stretch slot.job done (done + units_of course.unit slot))
-    ∙ ap (λ n. slot_between course stretch slot.job n (n + units_of course.unit slot)) start
+    append-nil (slot_between course stretch slot.job done (done + slot_units course.unit slot))
+    ∙ ap (λ n. slot_between course stretch slot.job n (n + slot_units course.unit slot)) start
 slots_push course stretch done (first ∷ planned) slot =
-    let more : done + units_of course.unit first + total_units course.unit planned ≡ done + total_units course.unit (first ∷ planned) =
-    omega (arith, sum_by-cons (λ (s : WrittenSlot). units_of course.unit s) first planned) in
-    ap (λ slots. slot_between course stretch first.job done (done + units_of course.unit first) ++ slots)
-    (slots_push course stretch (done + units_of course.unit first) planned slot
-    ∙ ap (λ n. slots_after course stretch (done + units_of course.unit first) planned ++ slot_between course stretch slot.job n (n + units_of course.unit slot)) more)
-    ∙ sym (append_assoc (slot_between course stretch first.job done (done + units_of course.unit first)) (slots_after course stretch (done + units_of course.unit first) planned) _)
+    let more : done + slot_units course.unit first + units_of_slots course.unit planned ≡ done + units_of_slots course.unit (first ∷ planned) =
+    omega (arith, sum_by-cons (λ (s : WrittenSlot). slot_units course.unit s) first planned) in
+    ap (λ slots. slot_between course stretch first.job done (done + slot_units course.unit first) ++ slots)
+    (slots_push course stretch (done + slot_units course.unit first) planned slot
+    ∙ ap (λ n. slots_after course stretch (done + slot_units course.unit first) planned ++ slot_between course stretch slot.job n (n + slot_units course.unit slot)) more)
+    ∙ sym (append_assoc (slot_between course stretch first.job done (done + slot_units course.unit first)) (slots_after course stretch (done + slot_units course.unit first) planned) _)
 
 pub all_after : (P : WrittenSlot → Type 0) (course : Course) (stretch : Piece) (done : ℕ) (planned : List WrittenSlot) →
     ((job from to : ℕ) → course.work from < course.work to → P (piece_between course stretch job from to)) → All P (slots_after course stretch done planned)
 all_after P course stretch done [] has = All-nil P
 all_after P course stretch done (slot ∷ planned) has =
-    All-append P (slot_between course stretch slot.job done (done + units_of course.unit slot)) (slots_after course stretch (done + units_of course.unit slot) planned)
-    (all_between P course stretch slot.job done (done + units_of course.unit slot) (has slot.job done (done + units_of course.unit slot)))
-    (all_after P course stretch (done + units_of course.unit slot) planned has)
+    All-append P (slot_between course stretch slot.job done (done + slot_units course.unit slot)) (slots_after course stretch (done + slot_units course.unit slot) planned)
+    (all_between P course stretch slot.job done (done + slot_units course.unit slot) (has slot.job done (done + slot_units course.unit slot)))
+    (all_after P course stretch (done + slot_units course.unit slot) planned has)
 
 pub few_after : (course : Course) (stretch : Piece) (done : ℕ) (planned : List WrittenSlot) → length (slots_after course stretch done planned) ≤ length planned
 few_after course stretch done [] = omega arith
 few_after course stretch done (slot ∷ planned) = omega (
   arith,
-  few_between course stretch slot.job done (done + units_of course.unit slot),
-  few_after course stretch (done + units_of course.unit slot) planned,
-  length-append (slot_between course stretch slot.job done (done + units_of course.unit slot)) (slots_after course stretch (done + units_of course.unit slot) planned),
+  few_between course stretch slot.job done (done + slot_units course.unit slot),
+  few_after course stretch (done + slot_units course.unit slot) planned,
+  length-append (slot_between course stretch slot.job done (done + slot_units course.unit slot)) (slots_after course stretch (done + slot_units course.unit slot) planned),
 )
 
 -- where the work stays the same there are none
 pub none_after : (course : Course) (stretch : Piece) (done : ℕ) (planned : List WrittenSlot) (most : ℕ) →
-    ((from to : ℕ) → done ≤ from → from ≤ to → to ≤ most → course.work to ≤ course.work from) → done + total_units course.unit planned ≤ most →
+    ((from to : ℕ) → done ≤ from → from ≤ to → to ≤ most → course.work to ≤ course.work from) → done + units_of_slots course.unit planned ≤ most →
     slots_after course stretch done planned ≡ []
 none_after course stretch done [] most same within = refl
 none_after course stretch done (slot ∷ planned) most same within =
-    let sum = sum_by-cons (λ (s : WrittenSlot). units_of course.unit s) slot planned in
-    rw (none_between course stretch slot.job done (done + units_of course.unit slot) (same done (done + units_of course.unit slot) (omega arith) (omega arith) (omega (arith, within, sum))))
-    (none_after course stretch (done + units_of course.unit slot) planned most (λ from to after order below. same from to (omega (arith, after)) order below) (omega (arith, within, sum)))
+    let sum = sum_by-cons (λ (s : WrittenSlot). slot_units course.unit s) slot planned in
+    rw (none_between course stretch slot.job done (done + slot_units course.unit slot) (same done (done + slot_units course.unit slot) (omega arith) (omega arith) (omega (arith, within, sum))))
+    (none_after course stretch (done + slot_units course.unit slot) planned most (λ from to after order below. same from to (omega (arith, after)) order below) (omega (arith, within, sum)))
 
 -- # Both parts
 
 -- up to the switch nothing is done at the slower point
-pub none_slow : (split : Split) (stretch : Piece) (planned : List WrittenSlot) → total_units split.den planned * split.gap ≤ turn split stretch →
+pub none_slow : (split : Split) (stretch : Piece) (planned : List WrittenSlot) → units_of_slots split.den planned * split.gap ≤ turn split stretch →
     slots_after (slow_course split stretch) stretch 0 planned ≡ []
 none_slow split stretch planned within =
-    none_after (slow_course split stretch) stretch 0 planned (total_units split.den planned)
+    none_after (slow_course split stretch) stretch 0 planned (units_of_slots split.den planned)
     (λ from to after order below. omega (arith, within, mul-le-mul_right split.gap order, mul-le-mul_right split.gap below)) (omega arith)
 
 -- from there on nothing at the faster
@@ -126,20 +126,20 @@ joined_by front fast back slow (inr none) = rw (none, append-nil front, append-n
 pub cut_push : (split : Split) (stretch : Piece) (planned : List WrittenSlot) (slot : WrittenSlot) →
     cut_slots split stretch (planned ++ slot ∷ [])
     ≡ (cut_slots split stretch planned
-    ++ slot_between (fast_course split stretch) stretch slot.job (total_units split.den planned) (total_units split.den planned + units_of split.den slot))
-    ++ slot_between (slow_course split stretch) stretch slot.job (total_units split.den planned) (total_units split.den planned + units_of split.den slot)
+    ++ slot_between (fast_course split stretch) stretch slot.job (units_of_slots split.den planned) (units_of_slots split.den planned + slot_units split.den slot))
+    ++ slot_between (slow_course split stretch) stretch slot.job (units_of_slots split.den planned) (units_of_slots split.den planned + slot_units split.den slot)
 cut_push split stretch planned slot =
-    let done = total_units split.den planned in
-    let more = done + units_of split.den slot in
+    let done = units_of_slots split.den planned in
+    let more = done + slot_units split.den slot in
     let start : 0 + done ≡ done = omega arith in
     let fast : slots_after (fast_course split stretch) stretch 0 (planned ++ slot ∷ []) ≡ slots_after (fast_course split stretch) stretch 0 planned
     ++ slot_between (fast_course split stretch) stretch slot.job done more =
     slots_push (fast_course split stretch) stretch 0 planned slot
-    ∙ ap (λ n. slots_after (fast_course split stretch) stretch 0 planned ++ slot_between (fast_course split stretch) stretch slot.job n (n + units_of split.den slot)) start in
+    ∙ ap (λ n. slots_after (fast_course split stretch) stretch 0 planned ++ slot_between (fast_course split stretch) stretch slot.job n (n + slot_units split.den slot)) start in
     let slow : slots_after (slow_course split stretch) stretch 0 (planned ++ slot ∷ []) ≡ slots_after (slow_course split stretch) stretch 0 planned
     ++ slot_between (slow_course split stretch) stretch slot.job done more =
     slots_push (slow_course split stretch) stretch 0 planned slot
-    ∙ ap (λ n. slots_after (slow_course split stretch) stretch 0 planned ++ slot_between (slow_course split stretch) stretch slot.job n (n + units_of split.den slot)) start in
+    ∙ ap (λ n. slots_after (slow_course split stretch) stretch 0 planned ++ slot_between (slow_course split stretch) stretch slot.job n (n + slot_units split.den slot)) start in
     rw (fast, slow) (joined_by (slots_after (fast_course split stretch) stretch 0 planned) (slot_between (fast_course split stretch) stretch slot.job done more)
     (slots_after (slow_course split stretch) stretch 0 planned) (slot_between (slow_course split stretch) stretch slot.job done more)
     (elim (cases_lt (turn split stretch) (done * split.gap)) [

@@ -29,7 +29,7 @@ use Rattle.yds_laws.proofs.RoundedRuns.{all_work}
 use Rattle.yds_laws.proofs.FullStretches.{FillsStretch, stretch_full, one_level}
 use Rattle.yds_laws.proofs.TaskNames.{All-flat}
 use Rattle.yds_slots.specs.Between.{lies_between}
-use Rattle.yds_round.specs.Written.{units_of, total_units}
+use Rattle.yds_round.specs.Written.{slot_units, units_of_slots}
 use Rattle.yds_round.specs.Rounded.{planned_in}
 use Rattle.yds_round.specs.Members.{Numbers}
 use Rattle.yds_round.proofs.Parts.{over_divisor}
@@ -73,12 +73,12 @@ work_busy work long (slot ∷ slots) each = omega (
 )
 
 units_sum : (unit scale : ℕ) (slots : List WrittenSlot) → All (WorksOver unit) slots → All (IsDivided scale) slots →
-    all_work (slots_at scale slots) * unit ≡ total_units unit slots * scale
+    all_work (slots_at scale slots) * unit ≡ units_of_slots unit slots * scale
 units_sum unit scale [] over divided = omega arith
 units_sum unit scale (slot ∷ slots) over divided = omega (
   arith,
   ap (λ n. n * unit) (sum_by-cons (λ (s : WholeSlot). s.work) (slot_at_scale scale slot) (slots_at scale slots)),
-  ap (λ n. n * scale) (sum_by-cons (λ (s : WrittenSlot). units_of unit s) slot slots),
+  ap (λ n. n * scale) (sum_by-cons (λ (s : WrittenSlot). slot_units unit s) slot slots),
   work_at unit scale slot.work (over 0 slot (omega arith)) (divided 0 slot (omega arith)).work,
   units_sum unit scale slots (All-tail (WorksOver unit) slot slots over) (All-tail (IsDivided scale) slot slots divided),
 )
@@ -111,7 +111,7 @@ pub record IsHeld (jobs : List Job) (levels : List Level) (stretch : Piece) (her
   pub within : place < length levels
   pub members : All (λ slot. Contains (level_at levels place).members slot.job) here
   pub denominators : All (HasLevelDenominators (level_at levels place)) here
-  pub units : total_units (speed_den (level_at levels place)) here ≡ speed_num (level_at levels place) * length_of stretch
+  pub units : units_of_slots (speed_den (level_at levels place)) here ≡ speed_num (level_at levels place) * length_of stretch
   pub does : All (DoesWork (speed_den (level_at levels place))) here
   pub apart : AreApartByJob here
 
@@ -271,13 +271,13 @@ module _ (jobs : List Job) (planned : List WrittenSlot) (levels : List Level) (p
           members = members;
           denominators = denominators;
           units = units_by (all_work (slots_at scale (planned_in planned one))) level.work level.length (busy (slots_at scale (planned_in planned one))) (length_of one) scale
-              (speed_den level) (total_units (speed_den level) (planned_in planned one)) (speed_num level) (common_divisor level.work level.length) is.positive positive.1
+              (speed_den level) (units_of_slots (speed_den level) (planned_in planned one)) (speed_num level) (common_divisor level.work level.length) is.positive positive.1
               (work_busy level.work level.length (slots_at scale (planned_in planned one)) speeds) full.full
               (units_sum (speed_den level) scale (planned_in planned one) over divided) of_work of_length;
           does = λ i d inside.
               let slot = get_or (planned_in planned one) i d in
               does_by (at_scale scale slot.work) level.length level.work (at_scale scale slot.to - at_scale scale slot.from) (speed_den level)
-              (units_of (speed_den level) slot) scale positive.0 (omega (arith, written_forward i d inside)) (written_speeds i d inside)
+              (slot_units (speed_den level) slot) scale positive.0 (omega (arith, written_forward i d inside)) (written_speeds i d inside)
               (work_at (speed_den level) scale slot.work (over i d inside) (divided i d inside).work)
               (over_divisor level.length (common_divisor level.work level.length) positive.1 of_length);
           apart = apart_at one contained;

@@ -12,7 +12,7 @@ use Rattle.yds_model.specs.Piece.{Piece}
 use Rattle.yds_model.specs.Rounding.{jobs_in_turn}
 use Rattle.yds_model.proofs.Lists.{count-cons}
 use Rattle.yds_round.specs.declared.split.Split.{Split}
-use Rattle.yds_round.specs.Written.{Course, units_of, total_units, turn, fast_course, slow_course, slot_between, slots_after}
+use Rattle.yds_round.specs.Written.{Course, slot_units, units_of_slots, turn, fast_course, slow_course, slot_between, slots_after}
 use Rattle.yds_round.proofs.Cuts.{piece_between, some_between, none_between, none_after, few_between, few_after}
 
 -- no two of the slots are of one job
@@ -22,7 +22,7 @@ AreApartByJob (slot ∷ slots) = All (λ other. other.job ≡ slot.job → ⊥) 
 
 -- each does some work
 abbrev pub DoesWork : ℕ → WrittenSlot → Type 0
-DoesWork unit slot = 1 ≤ units_of unit slot
+DoesWork unit slot = 1 ≤ slot_units unit slot
 
 abbrev pub jobs_of : List WrittenSlot → List ℕ
 jobs_of slots = map (λ slot. slot.job) slots
@@ -53,7 +53,7 @@ pub jobs_after : (P : ℕ → Type 0) (course : Course) (stretch : Piece) (done 
     All (λ slot. P slot.job) (slots_after course stretch done planned)
 jobs_after P course stretch done [] each = All-nil (λ (slot : WrittenSlot). P slot.job)
 jobs_after P course stretch done (slot ∷ planned) each =
-    let next = done + units_of course.unit slot in
+    let next = done + slot_units course.unit slot in
     let rest = jobs_after P course stretch next planned (All-tail (λ (s : WrittenSlot). P s.job) slot planned each) in
     elim (cases_lt (course.work done) (course.work next)) [
       | inl some ↦ rw (some_between course stretch slot.job done next some)
@@ -66,7 +66,7 @@ pub count_after : (course : Course) (stretch : Piece) (done : ℕ) (planned : Li
     count number (jobs_of (slots_after course stretch done planned)) ≤ count number (jobs_of planned)
 count_after course stretch done [] number = omega arith
 count_after course stretch done (slot ∷ planned) number =
-    let next = done + units_of course.unit slot in
+    let next = done + slot_units course.unit slot in
     let rest = count_after course stretch next planned number in
     let mine = count-cons number slot.job (jobs_of planned) in
     elim (cases_lt (course.work done) (course.work next)) [
@@ -111,7 +111,7 @@ module _ (split : Split) (stretch : Piece) (some_gap : 1 ≤ split.gap) where
   -- after the switch nothing runs at the faster point
   no_fast : (done : ℕ) (planned : List WrittenSlot) → turn split stretch ≤ done * split.gap → slots_after (fast_course split stretch) stretch done planned ≡ []
   no_fast done planned after =
-      none_after (fast_course split stretch) stretch done planned (done + total_units split.den planned)
+      none_after (fast_course split stretch) stretch done planned (done + units_of_slots split.den planned)
       (λ from to begun order below. omega (arith, after, mul-le-mul_right split.gap begun, mul-le-mul_right split.gap order)) (omega arith)
 
   -- the three ways in which a slot lies to the switch
@@ -123,8 +123,8 @@ module _ (split : Split) (stretch : Piece) (some_gap : 1 ≤ split.gap) where
       ++ slots_at scale (slots_after (slow_course split stretch) stretch done planned)) ≡ jobs_of planned
   turns_cut scale done [] apart does = refl
   turns_cut scale done (slot ∷ planned) apart does =
-      let next = done + units_of split.den slot in
-      let grows = more_done done (units_of split.den slot) (does 0 slot (omega arith)) in
+      let next = done + slot_units split.den slot in
+      let grows = more_done done (slot_units split.den slot) (does 0 slot (omega arith)) in
       let rest = turns_cut scale next planned apart.1 (All-tail (DoesWork split.den) slot planned does) in
       let fast_rest = slots_after (fast_course split stretch) stretch next planned in
       let slow_rest = slots_after (slow_course split stretch) stretch next planned in
@@ -169,7 +169,7 @@ module _ (split : Split) (stretch : Piece) (some_gap : 1 ≤ split.gap) where
       length (slots_after (fast_course split stretch) stretch done planned) + length (slots_after (slow_course split stretch) stretch done planned) ≤ length planned + 1
   one_more done [] = omega arith
   one_more done (slot ∷ planned) =
-      let next = done + units_of split.den slot in
+      let next = done + slot_units split.den slot in
       elim (cases_lt (turn split stretch) (next * split.gap)) [
         | inl over ↦
             let late : turn split stretch ≤ next * split.gap = omega (arith, over) in

@@ -10,7 +10,7 @@ use Rattle.yds_model.specs.Within.{IsFraction, IsSlot}
 use Rattle.yds_model.proofs.Fractions.{parts_alike}
 use Rattle.yds_fraction.specs.Mixed.{IsMixed}
 use Rattle.yds_fraction.proofs.Kept.{IsFraction-within}
-use Rattle.yds_round.specs.Written.{units_of, moment}
+use Rattle.yds_round.specs.Written.{slot_units, moment}
 
 -- what is done in a part between two numbers of units is no more than those units
 parts_fit : (from to gap den most done : ℕ) → to < from + most * den → 1 ≤ gap → done + from * gap ≤ to * gap → done < most * (den * gap)
@@ -48,7 +48,7 @@ piece_kept job from to work stretch first last den is_from is_to from_fits to_fi
 
 -- a work in parts of 1/unit is less than its whole part and one
 pub units_few : (unit : ℕ) (slot : WrittenSlot) → 1 ≤ unit → IsOver unit slot.work → slot.work.num < slot.work.den → slot.work.whole ≤ MAX_SLOT_WORK →
-    units_of unit slot < (MAX_SLOT_WORK + 1) * unit
+    slot_units unit slot < (MAX_SLOT_WORK + 1) * unit
 units_few unit slot some (inl plain) below few =
     omega (arith, some, ap (λ (x : Fraction). x.num) plain, mul-le-mul_right unit few)
 units_few unit slot some (inr parts) below few = omega (arith, parts, below, mul-le-mul_right unit few)

@@ -23,7 +23,7 @@ use Rattle.yds_round.specs.declared.split.Split.{Split}
 use Rattle.yds_round.specs.declared.pace.Pace.{Pace}
 use Rattle.yds_round.specs.Split.{IsSplitOf}
 use Rattle.yds_round.specs.Pace.{RunsAtTwo, RunsAs, IsPaceOf, pace_at}
-use Rattle.yds_round.specs.Written.{Course, total_units, all_units, fast_course, slow_course, slots_after, cut_slots, written_at, FitsJob}
+use Rattle.yds_round.specs.Written.{Course, units_of_slots, all_units, fast_course, slow_course, slots_after, cut_slots, written_at, FitsJob}
 use Rattle.yds_round.specs.Rounded.{planned_in, written_here, written_in}
 use Rattle.yds_round.proofs.Cuts.{WorksOver, piece_between, all_after, few_cut, cut_over}
 use Rattle.yds_round.proofs.InTurn.{AreApartByJob, DoesWork, jobs_after, count_after, count_once, one_more}
@@ -71,12 +71,12 @@ all_of_level level low high split stretch is =
 
 -- what the plan has in a stretch, as the code meets it
 pub full_of : (level : Level) (low high : Point) (split : Split) (stretch : Piece) (here : List WrittenSlot) → IsSplitOf level low high split →
-    total_units (speed_den level) here ≡ speed_num level * length_of stretch → total_units split.den here ≡ all_units split stretch
+    units_of_slots (speed_den level) here ≡ speed_num level * length_of stretch → units_of_slots split.den here ≡ all_units split stretch
 full_of level low high split stretch here is units =
-    ap (λ n. total_units n here) is.is_den ∙ units ∙ sym (all_of_level level low high split stretch is)
+    ap (λ n. units_of_slots n here) is.is_den ∙ units ∙ sym (all_of_level level low high split stretch is)
 
 splits : (points : List Point) (level : Level) (parts : ℕ) (split : Split) (stretch : Piece) (here : List WrittenSlot) → RunsAtTwo points level parts split → 1 ≤ level.length →
-    stretch.from < stretch.to → total_units (speed_den level) here ≡ speed_num level * length_of stretch → AreApartByJob here → All (DoesWork (speed_den level)) here →
+    stretch.from < stretch.to → units_of_slots (speed_den level) here ≡ speed_num level * length_of stretch → AreApartByJob here → All (DoesWork (speed_den level)) here →
     All (WorksOver (speed_den level)) here → All IsSolid here → SplitsStretch (hull_of points) level stretch here (cut_slots split stretch here)
 splits points level parts split stretch here at some_length forward units apart does over solid =
     let is = at.numbers in
@@ -131,7 +131,7 @@ splits points level parts split stretch here at some_length forward units apart 
 
 pub rounds_by : (points : List Point) (levels : List Level) (level : Level) (parts : ℕ) (split : Option Split) (stretch : Piece) (here : List WrittenSlot) → RunsAs points level parts split →
     Contains levels level → All (λ slot. Contains level.members slot.job) here → 1 ≤ level.length → stretch.from < stretch.to →
-    total_units (speed_den level) here ≡ speed_num level * length_of stretch → AreApartByJob here → All (DoesWork (speed_den level)) here →
+    units_of_slots (speed_den level) here ≡ speed_num level * length_of stretch → AreApartByJob here → All (DoesWork (speed_den level)) here →
     All (WorksOver (speed_den level)) here → All IsSolid here → RoundsStretch (hull_of points) levels stretch here (written_at stretch here split)
 rounds_by points levels level parts None stretch here at has members some_length forward units apart does over solid =
     inr (level, has, members, inl (record { at_point = (at.in_hull.0, at.point, at.in_hull.1, at.in_hull.2, at.has_speed); kept = refl }))

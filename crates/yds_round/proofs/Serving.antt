@@ -13,14 +13,14 @@ use Rattle.yds_round.specs.declared.split.Split.{Split}
 use Rattle.yds_round.specs.declared.cut.Cut.{Cut}
 use Rattle.yds_round.specs.declared.cut.Reached.{Reached}
 use Rattle.yds_round.specs.Split.{IsSplit}
-use Rattle.yds_round.specs.Written.{units_of, total_units, all_units, fast_course, slow_course, slot_between, cut_slots, FitsJob}
+use Rattle.yds_round.specs.Written.{slot_units, units_of_slots, all_units, fast_course, slow_course, slot_between, cut_slots, FitsJob}
 use Rattle.yds_round.specs.Cut.{IsReached, CanServe}
 use Rattle.yds_round.proofs.Cuts.{cut_push, few_cut, cut_over, fits_more, over_between, WorksOver}
 
 -- these slots of the plan have been served
 pub record IsServed (cut : Cut) (before : WrittenSchedule) (planned : List WrittenSlot) (reached : Reached) (rounded : WrittenSchedule) : Type 0 where
   pub times : IsReached cut reached
-  pub units : reached.units ≡ total_units cut.split.den planned
+  pub units : reached.units ≡ units_of_slots cut.split.den planned
   pub written : rounded ≡ record { jobs = before.jobs; slots = before.slots ++ cut_slots cut.split cut.stretch planned }
 
 -- the level's work in a stretch fits
@@ -35,17 +35,17 @@ module _ (planned : List WrittenSlot) (k : ℕ) (slot : WrittenSlot) (within : k
   taken = take_more planned k slot within ∙ ap (λ (s : WrittenSlot). take k planned ++ s ∷ []) (sym is)
 
   -- one slot's work and that of those before it are no more than the whole
-  pub step_within : (unit done : ℕ) → done ≡ total_units unit (take k planned) → done + units_of unit slot ≤ total_units unit planned
+  pub step_within : (unit done : ℕ) → done ≡ units_of_slots unit (take k planned) → done + slot_units unit slot ≤ units_of_slots unit planned
   step_within unit done sum = omega (
     arith,
     sum,
-    ap (λ (s : WrittenSlot). units_of unit s) is,
-    sum_by_more_le (λ (s : WrittenSlot). units_of unit s) planned k slot within,
+    ap (λ (s : WrittenSlot). slot_units unit s) is,
+    sum_by_more_le (λ (s : WrittenSlot). slot_units unit s) planned k slot within,
   )
 
-  pub units_taken : (unit done : ℕ) → done ≡ total_units unit (take k planned) → done + units_of unit slot ≡ total_units unit (take (k + 1) planned)
+  pub units_taken : (unit done : ℕ) → done ≡ units_of_slots unit (take k planned) → done + slot_units unit slot ≡ units_of_slots unit (take (k + 1) planned)
   units_taken unit done sum =
-      rw taken (omega (arith, sum, sum_by_push (λ (s : WrittenSlot). units_of unit s) (take k planned) slot))
+      rw taken (omega (arith, sum, sum_by_push (λ (s : WrittenSlot). slot_units unit s) (take k planned) slot))
 
 -- there is room for two slots more
 pub room_for : (split : Split) (stretch : Piece) (before planned : List WrittenSlot) (k : ℕ) → k < length planned →
@@ -84,7 +84,7 @@ joined old made fast slow = simp append_assoc
 -- one slot of the plan more
 pub served_more : (cut : Cut) (before : WrittenSchedule) (planned : List WrittenSlot) (k : ℕ) (slot : WrittenSlot) (job : ℕ) (reached next : Reached) (rounded middle after : WrittenSchedule)
     (fast slow : List WrittenSlot) → k < length planned → slot ≡ get_or planned k slot → job ≡ slot.job → IsServed cut before (take k planned) reached rounded → IsReached cut next →
-    next.units ≡ reached.units + units_of cut.split.den slot →
+    next.units ≡ reached.units + slot_units cut.split.den slot →
     fast ≡ slot_between (fast_course cut.split cut.stretch) cut.stretch job reached.units next.units →
     slow ≡ slot_between (slow_course cut.split cut.stretch) cut.stretch job reached.units next.units →
     middle ≡ record { jobs = rounded.jobs; slots = rounded.slots ++ fast } → after ≡ record { jobs = middle.jobs; slots = middle.slots ++ slow } →
@@ -94,21 +94,21 @@ served_more cut before planned k slot job reached next rounded middle after fast
     let old = before.slots in
     let made = cut_slots split cut.stretch (take k planned) in
     let more = cut_push split cut.stretch (take k planned) slot in
-    let next_is : next.units ≡ total_units split.den (take k planned) + units_of split.den slot = units ∙ ap (λ n. n + units_of split.den slot) served.units in
-    let fast_is : fast ≡ slot_between (fast_course split cut.stretch) cut.stretch slot.job (total_units split.den (take k planned))
-    (total_units split.den (take k planned) + units_of split.den slot) =
+    let next_is : next.units ≡ units_of_slots split.den (take k planned) + slot_units split.den slot = units ∙ ap (λ n. n + slot_units split.den slot) served.units in
+    let fast_is : fast ≡ slot_between (fast_course split cut.stretch) cut.stretch slot.job (units_of_slots split.den (take k planned))
+    (units_of_slots split.den (take k planned) + slot_units split.den slot) =
     is_fast ∙ ap (λ n. slot_between (fast_course split cut.stretch) cut.stretch n reached.units next.units) is_job
     ∙ ap (λ n. slot_between (fast_course split cut.stretch) cut.stretch slot.job n next.units) served.units
-    ∙ ap (λ n. slot_between (fast_course split cut.stretch) cut.stretch slot.job (total_units split.den (take k planned)) n) next_is in
-    let slow_is : slow ≡ slot_between (slow_course split cut.stretch) cut.stretch slot.job (total_units split.den (take k planned))
-    (total_units split.den (take k planned) + units_of split.den slot) =
+    ∙ ap (λ n. slot_between (fast_course split cut.stretch) cut.stretch slot.job (units_of_slots split.den (take k planned)) n) next_is in
+    let slow_is : slow ≡ slot_between (slow_course split cut.stretch) cut.stretch slot.job (units_of_slots split.den (take k planned))
+    (units_of_slots split.den (take k planned) + slot_units split.den slot) =
     is_slow ∙ ap (λ n. slot_between (slow_course split cut.stretch) cut.stretch n reached.units next.units) is_job
     ∙ ap (λ n. slot_between (slow_course split cut.stretch) cut.stretch slot.job n next.units) served.units
-    ∙ ap (λ n. slot_between (slow_course split cut.stretch) cut.stretch slot.job (total_units split.den (take k planned)) n) next_is in
+    ∙ ap (λ n. slot_between (slow_course split cut.stretch) cut.stretch slot.job (units_of_slots split.den (take k planned)) n) next_is in
     let list : ((old ++ made) ++ fast) ++ slow ≡ old ++ cut_slots split cut.stretch (take k planned ++ slot ∷ []) =
     joined old made fast slow ∙ ap (λ xs. old ++ xs) (ap (λ f. (made ++ f) ++ slow) fast_is
-    ∙ ap (λ s. (made ++ slot_between (fast_course split cut.stretch) cut.stretch slot.job (total_units split.den (take k planned))
-    (total_units split.den (take k planned) + units_of split.den slot)) ++ s) slow_is ∙ sym more) in
+    ∙ ap (λ s. (made ++ slot_between (fast_course split cut.stretch) cut.stretch slot.job (units_of_slots split.den (take k planned))
+    (units_of_slots split.den (take k planned) + slot_units split.den slot)) ++ s) slow_is ∙ sym more) in
     record {
       times = times;
       units = units ∙ units_taken planned k slot within is split.den reached.units served.units;

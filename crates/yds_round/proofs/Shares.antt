@@ -13,13 +13,13 @@ use Rattle.yds_model.specs.Piece.{Piece}
 use Rattle.yds_model.specs.Plan.{IsOver}
 use Rattle.yds_model.proofs.Fractions.{value-den}
 use Rattle.yds_round.specs.declared.split.Split.{Split}
-use Rattle.yds_round.specs.Written.{units_of, turn, fast_course, slow_course, slots_after}
+use Rattle.yds_round.specs.Written.{slot_units, turn, fast_course, slow_course, slots_after}
 use Rattle.yds_round.proofs.Cuts.{WorksOver}
 use Rattle.yds_round.proofs.Courses.{parts_for, given_after}
 
 -- the units that slots give a job
 abbrev pub units_for : ℕ → List WrittenSlot → ℕ → ℕ
-units_for unit slots job = sum_by (λ slot. if job == slot.job then units_of unit slot else 0) slots
+units_for unit slots job = sum_by (λ slot. if job == slot.job then slot_units unit slot else 0) slots
 
 -- a work over a denominator, at a scale
 pub work_at : (unit scale : ℕ) (x : Fraction) → IsOver unit x → x.den ∣ scale → at_scale scale x * unit ≡ (x.whole * unit + x.num) * scale
@@ -40,8 +40,8 @@ given_planned unit scale [] job over divided = omega arith
 given_planned unit scale (slot ∷ planned) job over divided = omega (
   arith,
   ap (λ n. n * unit) (sum_by-cons (λ (s : WholeSlot). if job == s.job then s.work else 0) (slot_at_scale scale slot) (slots_at scale planned)),
-  ap (λ n. n * scale) (sum_by-cons (λ (s : WrittenSlot). if job == s.job then units_of unit s else 0) slot planned),
-  own_units job slot.job (at_scale scale slot.work) unit (units_of unit slot) scale
+  ap (λ n. n * scale) (sum_by-cons (λ (s : WrittenSlot). if job == s.job then slot_units unit s else 0) slot planned),
+  own_units job slot.job (at_scale scale slot.work) unit (slot_units unit slot) scale
       (work_at unit scale slot.work (over 0 slot (omega arith)) (divided 0 slot (omega arith)).work),
   given_planned unit scale planned job (All-tail (WorksOver unit) slot planned over) (All-tail (IsDivided scale) slot planned divided),
 )
@@ -64,9 +64,9 @@ pub both_parts : (split : Split) (stretch : Piece) (planned : List WrittenSlot) 
 both_parts split stretch [] done job = omega arith
 both_parts split stretch (slot ∷ planned) done job = omega (
   arith,
-  both_own job slot.job _ _ (units_of split.den slot) split.gap (both_work done (units_of split.den slot) split.gap (turn split stretch)),
-  both_parts split stretch planned (done + units_of split.den slot) job,
-  ap (λ n. n * split.gap) (sum_by-cons (λ (s : WrittenSlot). if job == s.job then units_of split.den s else 0) slot planned),
+  both_own job slot.job _ _ (slot_units split.den slot) split.gap (both_work done (slot_units split.den slot) split.gap (turn split stretch)),
+  both_parts split stretch planned (done + slot_units split.den slot) job,
+  ap (λ n. n * split.gap) (sum_by-cons (λ (s : WrittenSlot). if job == s.job then slot_units split.den s else 0) slot planned),
 )
 
 -- of works in parts of 1/(unit * gap)

@@ -14,7 +14,7 @@ use Rattle.yds_laws.proofs.PlanParts.{given_joined}
 use Rattle.yds_events.specs.Stretch.{length_of}
 use Rattle.yds_round.specs.declared.split.Split.{Split}
 use Rattle.yds_round.specs.Split.{IsSplit, IsSplitOf}
-use Rattle.yds_round.specs.Written.{total_units, all_units, surplus_of, turn, fast_course, slow_course, slots_after}
+use Rattle.yds_round.specs.Written.{units_of_slots, all_units, surplus_of, turn, fast_course, slow_course, slots_after}
 use Rattle.yds_round.proofs.Splits.{work_over, length_over}
 use Rattle.yds_round.proofs.Turns.{fast_before, fast_after, slow_before, slow_after, surplus_done, slow_switch_within}
 use Rattle.yds_round.proofs.Cuts.{WorksOver, none_slow}
@@ -191,7 +191,7 @@ module _ (split : Split) (stretch : Piece) (kept : IsSplit split) where
   -- # The slower part
 
   -- where the slower point is the idle one nothing runs there
-  pub no_slow : split.low ≡ 0 → (planned : List WrittenSlot) → total_units split.den planned ≡ all_units split stretch →
+  pub no_slow : split.low ≡ 0 → (planned : List WrittenSlot) → units_of_slots split.den planned ≡ all_units split stretch →
       slots_after (slow_course split stretch) stretch 0 planned ≡ []
   no_slow idle planned full =
       none_slow split stretch planned (omega (
@@ -204,14 +204,14 @@ module _ (split : Split) (stretch : Piece) (kept : IsSplit split) where
       ))
 
   runs_slow : (low scale switch : ℕ) (planned : List WrittenSlot) → low ≡ split.low → 1 ≤ scale → stretch.from < stretch.to →
-      total_units split.den planned ≡ all_units split stretch →
+      units_of_slots split.den planned ≡ all_units split stretch →
       switch * split.slow.den ≡ (stretch.from * split.slow.den + surplus_of split stretch * split.slow.switch) * scale →
       All (IsDivided scale) (slots_after (slow_course split stretch) stretch 0 planned) →
       RunsOn low switch (stretch.to * scale) (slots_at scale (slots_after (slow_course split stretch) stretch 0 planned))
   runs_slow zero scale switch planned is positive forward full begins divided = ap (slots_at scale) (no_slow (sym is) planned full)
   runs_slow (suc low) scale switch planned is positive forward full begins divided =
       let some : 1 ≤ split.low = omega (arith, is) in
-      let all : 0 + total_units split.den planned ≡ all_units split stretch = omega (arith, full) in
+      let all : 0 + units_of_slots split.den planned ≡ all_units split stretch = omega (arith, full) in
       let runs = runs_after (slow_course split stretch) stretch split.low (all_units split stretch) (split.gap * surplus_of split stretch * split.slow.den) scale
       (slow_runs some) positive planned 0 switch (omega (arith, all)) (begins ∙ ap (λ n. (stretch.from * split.slow.den + n) * scale) (sym slow_first)) divided in
       let whole : stretch.to ≡ stretch.from + length_of stretch = omega (arith, forward) in
@@ -244,7 +244,7 @@ begin_at : (from den scale time : ℕ) → time ≡ 0 → from * scale * den ≡
 begin_at from den scale time none = omega (arith, ap (λ n. n * scale) none)
 
 pub split_at : (level : Level) (low high : Point) (split : Split) (stretch : Piece) (planned : List WrittenSlot) (scale : ℕ) → IsSplitOf level low high split →
-    1 ≤ level.length → stretch.from < stretch.to → 1 ≤ scale → total_units split.den planned ≡ all_units split stretch → AreApartByJob planned →
+    1 ≤ level.length → stretch.from < stretch.to → 1 ≤ scale → units_of_slots split.den planned ≡ all_units split stretch → AreApartByJob planned →
     All (DoesWork split.den) planned → All (WorksOver split.den) planned → All (IsDivided scale) planned →
     All (IsDivided scale) (slots_after (fast_course split stretch) stretch 0 planned) → All (IsDivided scale) (slots_after (slow_course split stretch) stretch 0 planned) →
     IsSplitAt scale level low high stretch (slots_at scale planned) (slots_at scale (slots_after (fast_course split stretch) stretch 0 planned))
@@ -254,7 +254,7 @@ split_at level low high split stretch planned scale is some_length forward posit
     let fast = slots_after (fast_course split stretch) stretch 0 planned in
     let slow = slots_after (slow_course split stretch) stretch 0 planned in
     let start : ℕ = stretch.from * scale in
-    let all : 0 + total_units split.den planned ≡ all_units split stretch = omega (arith, full) in
+    let all : 0 + units_of_slots split.den planned ≡ all_units split stretch = omega (arith, full) in
     let first : start * split.fast.den ≡ (stretch.from * split.fast.den + (fast_course split stretch).time 0) * scale =
     begin_at stretch.from split.fast.den scale ((fast_course split stretch).time 0) (fast_first split stretch kept) in
     let runs = runs_after (fast_course split stretch) stretch split.high (all_units split stretch) 0 scale (fast_runs split stretch kept (all_units split stretch)) positive

@@ -11,7 +11,7 @@ use Rattle.yds_round.specs.declared.cut.Cut.{Cut}
 use Rattle.yds_round.specs.declared.cut.Reached.{Reached}
 use Rattle.yds_events.specs.Stretch.{IsStretch}
 use Rattle.yds_round.specs.Split.{IsSplit}
-use Rattle.yds_round.specs.Written.{total_units, all_units, surplus_of, moment, fast_course, slow_course, FitsJob}
+use Rattle.yds_round.specs.Written.{units_of_slots, all_units, surplus_of, moment, fast_course, slow_course, FitsJob}
 
 pub record IsCut (cut : Cut) : Type 0 where
   pub kept : IsSplit cut.split
@@ -32,7 +32,7 @@ pub record IsReached (cut : Cut) (reached : Reached) : Type 0 where
 
 -- what the plan has in the stretch fits it, and can be put after what is written
 pub record CanServe (split : Split) (stretch : Piece) (jobs : ℕ) (before planned : List WrittenSlot) : Type 0 where
-  pub full : total_units split.den planned ≡ all_units split stretch
+  pub full : units_of_slots split.den planned ≡ all_units split stretch
   pub works : All (λ slot. IsOver split.den slot.work) planned
   pub known : All (λ slot. slot.job < jobs) planned
   pub grains : All (λ slot. FitsJob (split.den * split.gap) before slot.job) planned

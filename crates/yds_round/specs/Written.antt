@@ -9,11 +9,11 @@ use Rattle.yds_events.specs.Stretch.{length_of}
 use Rattle.yds_round.specs.declared.split.Split.{Split}
 
 -- the slot's work in units, of which a unit of work has so many
-abbrev pub units_of : ℕ → WrittenSlot → ℕ
-units_of unit slot = slot.work.whole * unit + slot.work.num
+abbrev pub slot_units : ℕ → WrittenSlot → ℕ
+slot_units unit slot = slot.work.whole * unit + slot.work.num
 
-abbrev pub total_units : ℕ → List WrittenSlot → ℕ
-total_units unit slots = sum_by (λ slot. units_of unit slot) slots
+abbrev pub units_of_slots : ℕ → List WrittenSlot → ℕ
+units_of_slots unit slots = sum_by (λ slot. slot_units unit slot) slots
 
 -- what the level does in the stretch, and of that what it does above the slower point's speed
 abbrev pub all_units : Split → Piece → ℕ
@@ -74,8 +74,8 @@ slot_between course stretch job from to =
 abbrev pub slots_after : Course → Piece → ℕ → List WrittenSlot → List WrittenSlot
 slots_after course stretch done [] = []
 slots_after course stretch done (slot ∷ slots) =
-    slot_between course stretch slot.job done (done + units_of course.unit slot)
-    ++ slots_after course stretch (done + units_of course.unit slot) slots
+    slot_between course stretch slot.job done (done + slot_units course.unit slot)
+    ++ slots_after course stretch (done + slot_units course.unit slot) slots
 
 -- both parts
 abbrev pub cut_slots : Split → Piece → List WrittenSlot → List WrittenSlot

@@ -6,7 +6,7 @@ ghost use Rattle.yds_events.specs.Stretch.{length_of};
 ghost use Rattle.yds_fraction.specs.Mixed.{IsMixed};
 ghost use Rattle.yds_slots.specs.Schedule.{FitsGrain};
 ghost use Rattle.yds_round.specs.Split.{IsSplit};
-ghost use Rattle.yds_round.specs.Written.{listed, moment as moment_of, units_of, all_units, turn, fast_course, slow_course, slot_between, cut_slots};
+ghost use Rattle.yds_round.specs.Written.{listed, moment as moment_of, slot_units, all_units, turn, fast_course, slow_course, slot_between, cut_slots};
 ghost use Rattle.yds_round.specs.Cut.{IsCut, IsReached, CanServe};
 
 use crate::split::Split;
@@ -187,8 +187,8 @@ impl Cut {
     fn units(&self, slot: &Slot) -> u64
         requires cut { IsCut self.now }
         requires over { IsOver self.now.split.den slot.now.work }
-        requires fits { units_of self.now.split.den slot.now < 2 ^ 64 }
-        ensures value { result ≡ units_of self.now.split.den slot.now }
+        requires fits { slot_units self.now.split.den slot.now < 2 ^ 64 }
+        ensures value { result ≡ slot_units self.now.split.den slot.now }
         ensures few { result < (MAX_SLOT_WORK + 1) * self.now.split.den }
     {
         slot.work.whole() * self.split.den + slot.work.num()

@@ -9,7 +9,7 @@ use Rattle.yds_model.specs.Fields.{Spot, field_at}
 use Rattle.yds_model.specs.TaskReading.{TaskEntry, read_horizon, read_task, read_task_fields}
 use Rattle.yds_tasks.specs.declared.line_kind.LineKind.{LineKind}
 use Rattle.yds_tasks.specs.declared.line_kind.LineKind.TheVariants as kinds
-use Rattle.yds_tasks.specs.LineKinds.{kind_of}
+use Rattle.yds_tasks.specs.LineKinds.{line_kind_of}
 
 abbrev chosen : Bool → Bool → Option LineKind
 chosen horizon task = if horizon then Some kinds.Horizon else (if task then Some kinds.Task else None)
@@ -22,6 +22,6 @@ first_chosen false false x y z is = cc
 abbrev unknown : List Field → Result TaskEntry (Spot TaskReason)
 unknown fields = Err (record { column = (field_at fields 0).column; reason = reasons.UnknownKind })
 
-pub horizon_line : (earlier : List TaskEntry) (fields : List Field) → Some kinds.Horizon ≡ kind_of (field_at fields 0).text → read_task_fields earlier fields ≡ read_horizon earlier fields
+pub horizon_line : (earlier : List TaskEntry) (fields : List Field) → Some kinds.Horizon ≡ line_kind_of (field_at fields 0).text → read_task_fields earlier fields ≡ read_horizon earlier fields
 horizon_line earlier fields is =
     first_chosen (bytes_eq (field_at fields 0).text (codes "horizon")) (bytes_eq (field_at fields 0).text (codes "task")) (read_horizon earlier fields) (read_task earlier fields) (unknown fields) is

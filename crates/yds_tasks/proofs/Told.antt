@@ -17,7 +17,7 @@ use Rattle.yds_laws.proofs.TasksSaid.{task_more}
 use Rattle.yds_tasks.specs.declared.draft.Draft.{Draft}
 use Rattle.yds_tasks.specs.declared.line_fault.LineFault.{LineFault}
 use Rattle.yds_tasks.specs.declared.line_fault.LineFault.TheVariants as faults
-use Rattle.yds_tasks.specs.Fields.{Fails, has_name, new_name_of, task_of, task_within}
+use Rattle.yds_tasks.specs.Fields.{Fails, has_name, task_name_of, task_of, task_within}
 use Rattle.yds_tasks.specs.Kept.{with_task}
 use Rattle.yds_tasks.specs.Lines.{Holds, Takes, Tells}
 
@@ -71,12 +71,12 @@ horizon_fields earlier fields set a b holds none counted =
 
 -- a name that a task has already
 pub name_taken : (set : TaskSet) (field : Field) (name : List ℕ) → name ≡ field.text → is_task_name name ≡ true → has_name set name ≡ true →
-    new_name_of set field ≡ Err (record { column = field.column; reason = reasons.DuplicateName })
+    task_name_of set field ≡ Err (record { column = field.column; reason = reasons.DuplicateName })
 name_taken set field name same named taken = rw (← same, named, taken) refl
 
 -- and one that is new
 pub name_fresh : (set : TaskSet) (field : Field) (name : List ℕ) → name ≡ field.text → is_task_name name ≡ true → has_name set name ≡ false →
-    new_name_of set field ≡ Ok name
+    task_name_of set field ≡ Ok name
 name_fresh set field name same named new = rw (← same, named, new) refl
 
 -- # The line of a task
@@ -124,8 +124,8 @@ task_fields earlier fields =
 fields_same : (earlier : List TaskEntry) (set : TaskSet) (k a b c d e : Field) → tasks_said earlier ≡ set →
     task_fields earlier (k ∷ a ∷ b ∷ c ∷ d ∷ e ∷ []) ≡ entry_of (task_of set a b c d e)
 fields_same earlier set k a b c d e holds =
-    ap (λ (s : TaskSet). parts (new_name_of s a) (task_number_in 0 MAX_TIME b) (task_number_in 1 MAX_TIME c) (task_number_in 1 MAX_TIME d) (task_number_in 0 MAX_WORK e) (entry_within earlier c)) holds
-    ∙ same_parts (new_name_of set a) (task_number_in 0 MAX_TIME b) (task_number_in 1 MAX_TIME c) (task_number_in 1 MAX_TIME d) (task_number_in 0 MAX_WORK e)
+    ap (λ (s : TaskSet). parts (task_name_of s a) (task_number_in 0 MAX_TIME b) (task_number_in 1 MAX_TIME c) (task_number_in 1 MAX_TIME d) (task_number_in 0 MAX_WORK e) (entry_within earlier c)) holds
+    ∙ same_parts (task_name_of set a) (task_number_in 0 MAX_TIME b) (task_number_in 1 MAX_TIME c) (task_number_in 1 MAX_TIME d) (task_number_in 0 MAX_WORK e)
     (entry_within earlier c) (task_within set c) (λ task. within_same earlier set c task holds)
 
 abbrev task_after : List TaskEntry → List Field → Bool → Bool → Result TaskEntry (Spot TaskReason)

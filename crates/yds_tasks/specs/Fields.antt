@@ -26,16 +26,16 @@ Gives view (Ok x) read = read ≡ Ok (view x)
 Gives view (Err fault) read = Fails fault read
 
 -- the fault of a line of too many or too few fields
-abbrev pub count_fault : FieldCount → LineFault
-count_fault count = faults.At count.column reasons.FieldCount
+abbrev pub task_count_fault : FieldCount → LineFault
+task_count_fault count = faults.At count.column reasons.FieldCount
 
 -- a task of this name is there
 abbrev pub has_name : TaskSet → List ℕ → Bool
 has_name set name = list_any (λ task. bytes_eq task.name name) set.tasks
 
 -- a name that is short enough, and that no task has yet
-abbrev pub new_name_of : TaskSet → Field → Result (List ℕ) (Spot TaskReason)
-new_name_of set field = do
+abbrev pub task_name_of : TaskSet → Field → Result (List ℕ) (Spot TaskReason)
+task_name_of set field = do
   named ← demand (is_task_name field.text) field.column reasons.BadName
   new ← demand (not (has_name set field.text)) field.column reasons.DuplicateName
   Ok field.text
@@ -49,7 +49,7 @@ task_within set period task = do
 -- what the line of a task says, by its fields
 abbrev pub task_of : TaskSet → Field → Field → Field → Field → Field → Result Task (Spot TaskReason)
 task_of set a b c d e = do
-  name ← new_name_of set a
+  name ← task_name_of set a
   offset ← task_number_in 0 MAX_TIME b
   period ← task_number_in 1 MAX_TIME c
   deadline ← task_number_in 1 MAX_TIME d

@@ -53,6 +53,6 @@ pub record HoldsOn (line : Line) (earlier : List TaskEntry) (draft : Draft) : Ty
   pub holds : Holds draft entries
   pub same : (lines : List Line) → read_tasks_after earlier (live_lines (line ∷ lines)) ≡ read_tasks_after entries (live_lines lines)
 
-abbrev pub TellsLine : Result (Unit {0}) TaskFault → Line → List TaskEntry → Draft → Type 0
-TellsLine (Ok done) line earlier draft = HoldsOn line earlier draft
-TellsLine (Err fault) line earlier draft = (lines : List Line) → TaskFails fault (read_tasks_after earlier (live_lines (line ∷ lines)))
+abbrev pub TellsTaskLine : Result (Unit {0}) TaskFault → Line → List TaskEntry → Draft → Type 0
+TellsTaskLine (Ok done) line earlier draft = HoldsOn line earlier draft
+TellsTaskLine (Err fault) line earlier draft = (lines : List Line) → TaskFails fault (read_tasks_after earlier (live_lines (line ∷ lines)))

@@ -3,7 +3,7 @@ ghost use Rattle.std.specs.Prelude.{◌≡◌, ◌≤◌, ◌<◌, ◌∷◌, []
 ghost use Rattle.yds_model.specs.declared.limits.TheConstants.{MAX_TASKS, MAX_JOBS};
 ghost use Rattle.yds_model.specs.TaskReading.{TaskEntry, TaskEntryOf, read_horizon, read_task, read_task_fields, is_task_name, count_of_all};
 ghost use Rattle.yds_text.specs.Read.{field_read};
-ghost use Rattle.yds_tasks.specs.Fields.{Gives, new_name_of, task_of, has_name};
+ghost use Rattle.yds_tasks.specs.Fields.{Gives, task_name_of, task_of, has_name};
 ghost use Rattle.yds_tasks.specs.Kept.{with_task};
 ghost use Rattle.yds_tasks.specs.Lines.{IsDraft, Holds, Takes, Tells};
 ghost use Rattle.yds_tasks.specs.Read.{task_read};
@@ -119,7 +119,7 @@ impl<'a> Draft<'a> {
     /// A name that no task has yet.
     fn new_name(&self, field: Field<'a>) -> Result<&'a str, LineFault>
         requires kept { IsDraft self.now }
-        ensures gives { Gives (λ name. name.now) result (new_name_of self.now.set (field_read field.entry)) }
+        ensures gives { Gives (λ name. name.now) result (task_name_of self.now.set (field_read field.entry)) }
         ensures named { IfOk result (λ name. IsTrue (is_task_name name.now)) }
         ensures new { IfOk result (λ name. IsFalse (has_name self.now.set name.now)) }
     {

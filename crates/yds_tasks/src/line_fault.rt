@@ -37,9 +37,9 @@ impl<T: Drop> From<AllocFailed<T>> for LineFault {
 
 impl From<FieldCount> for LineFault {
     ghost use Rattle.std.specs.Prelude.{◌≡◌};
-    ghost use Rattle.yds_tasks.specs.Fields.{count_fault};
+    ghost use Rattle.yds_tasks.specs.Fields.{task_count_fault};
 
-    ghost from_gives = { λ count fault. fault ≡ count_fault count };
+    ghost from_gives = { λ count fault. fault ≡ task_count_fault count };
 
     fn from(count: FieldCount) -> LineFault {
         LineFault::at(count.column, TaskReason::FieldCount)

@@ -1,6 +1,6 @@
 //! The kinds of line, by the word that each begins with.
 ghost use Rattle.std.specs.Prelude.{◌≡◌};
-ghost use Rattle.yds_tasks.specs.LineKinds.{kind_of};
+ghost use Rattle.yds_tasks.specs.LineKinds.{line_kind_of};
 
 #[derive(Clone, Copy, Debug, PartialEq, Eq)]
 pub(crate) enum LineKind {
@@ -11,7 +11,7 @@ pub(crate) enum LineKind {
 impl LineKind {
     /// The kind of a line whose first field is this word.
     pub(crate) fn of(word: &[u8]) -> Option<LineKind>
-        ensures { result ≡ kind_of word.now }
+        ensures { result ≡ line_kind_of word.now }
     {
         if word == b"horizon".as_slice() {
             Some(LineKind::Horizon)

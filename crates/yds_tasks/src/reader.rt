@@ -2,7 +2,7 @@ ghost use Rattle.std.specs.Prelude.{◌≡◌, ◌≤◌, ℕ, List, length, OnO
 ghost use Rattle.yds_model.specs.declared.limits.TheConstants.{MAX_BYTES};
 ghost use Rattle.yds_model.specs.TaskReading.{TaskEntry, task_reading};
 ghost use Rattle.yds_tasks.specs.Kept.{IsTaskSet};
-ghost use Rattle.yds_tasks.specs.Lines.{IsDraft, Holds, GivesTasks, TellsLine};
+ghost use Rattle.yds_tasks.specs.Lines.{IsDraft, Holds, GivesTasks, TellsTaskLine};
 
 use crate::draft::Draft;
 use crate::fault::TaskFault;
@@ -35,7 +35,7 @@ impl<'a> Draft<'a> {
         requires kept { IsDraft self.old }
         ensures kept { OnOk result (IsDraft self.new) }
         ensures tells { (start : ℕ) (earlier : List TaskEntry) → Holds self.old earlier
-            → TellsLine result (record { number = line.entry.number; start = start; text = line.entry.text.now }) earlier self.new }
+            → TellsTaskLine result (record { number = line.entry.number; start = start; text = line.entry.text.now }) earlier self.new }
     {
         let mut fields = line.fields();
         let Some(first) = fields.next() else {

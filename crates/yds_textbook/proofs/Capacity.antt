@@ -16,7 +16,7 @@ use Rattle.yds_edf.specs.Pending.{sum_below}
 use Rattle.yds_edf.specs.Demand.{capacity_at, confined_units, capacity_between, IsWithinCapacity}
 use Rattle.yds_edf.proofs.Sums.{sum_below_same, sum_below_front}
 use Rattle.yds_edf.proofs.Numbers.{sum_below-mul, sum_places}
-use Rattle.yds_intensity.specs.Work.{is_within, work_within}
+use Rattle.yds_intensity.specs.Work.{window_is_within, work_within}
 use Rattle.yds_intensity.proofs.Work.{share}
 use Rattle.yds_critical.proofs.Shrinking.{nothing_within}
 use Rattle.yds_textbook.specs.Served.{capacity_of, IsFastEnough}
@@ -85,8 +85,8 @@ module _ (speed : Quotient) (jobs : List Job) (first last : ℕ) (first_known : 
       )
 
 -- what a job adds to the confined units
-units_of : (grain from to : ℕ) (job : Job) → cond (is_within from to job) (job.work * grain) 0 ≡ grain * share from to job
-units_of grain from to job = elim (cases_Bool (is_within from to job)) [
+units_of : (grain from to : ℕ) (job : Job) → cond (window_is_within from to job) (job.work * grain) 0 ≡ grain * share from to job
+units_of grain from to job = elim (cases_Bool (window_is_within from to job)) [
   | inl holds ↦ rw holds (mul_comm job.work grain)
   | inr fails ↦ rw fails (omega arith)
 ]
@@ -94,7 +94,7 @@ units_of grain from to job = elim (cases_Bool (is_within from to job)) [
 -- the units confined between two times are the work, so many to a unit of work
 pub confined_is : (jobs : List Job) (grain from to : ℕ) → confined_units jobs grain from to ≡ grain * work_within jobs from to
 confined_is jobs grain from to =
-    sum_below_same (length jobs) (λ number. cond (is_within from to (job_at jobs number)) ((job_at jobs number).work * grain) 0)
+    sum_below_same (length jobs) (λ number. cond (window_is_within from to (job_at jobs number)) ((job_at jobs number).work * grain) 0)
     (λ number. grain * share from to (job_at jobs number)) (λ number within. units_of grain from to (job_at jobs number))
     ∙ sum_below-mul (length jobs) grain (λ number. share from to (job_at jobs number))
     ∙ ap (λ n. grain * n) (sym (sum_places (share from to) jobs no_job))

@@ -11,7 +11,7 @@ use Rattle.std.proofs.Math.Nat.{mul-le-mul_right}
 use Rattle.yds_model.specs.declared.limits.TheConstants.{MAX_JOBS, MAX_TIME, MAX_WORK}
 use Rattle.yds_model.specs.Job.{Job, IsJob, no_job, job_at}
 use Rattle.yds_model.specs.Piece.{Piece}
-use Rattle.yds_intensity.specs.Work.{is_within, work_within}
+use Rattle.yds_intensity.specs.Work.{window_is_within, work_within}
 use Rattle.yds_intensity.proofs.Work.{share}
 use Rattle.yds_critical.specs.declared.interval.Interval.{Interval}
 use Rattle.yds_critical.specs.Critical.{IsCritical}
@@ -36,7 +36,7 @@ inside_less f q (number ∷ numbers) from to = elim (cases_Bool (q number)) [
 ]
 
 share_few : (from to : ℕ) (job : Job) → job.work ≤ MAX_WORK → share from to job ≤ MAX_WORK
-share_few from to job few = elim (cases_Bool (is_within from to job)) [
+share_few from to job few = elim (cases_Bool (window_is_within from to job)) [
   | inl holds ↦ rw holds few
   | inr fails ↦ rw fails (omega arith)
 ]
@@ -75,21 +75,21 @@ as_many jobs removed waiting = length-map waiting (λ number. contracted removed
 
 -- fewer jobs lie outside an interval to which some work is confined
 less_outside : (f : ℕ → Job) (start end : ℕ) (numbers : List ℕ) → 1 ≤ work_within (map f numbers) start end →
-    length (filter (λ number. not (is_within start end (f number))) numbers) < length numbers
+    length (filter (λ number. not (window_is_within start end (f number))) numbers) < length numbers
 less_outside f start end [] work = absurd (omega arith)
-less_outside f start end (number ∷ numbers) work = elim (cases_Bool (is_within start end (f number))) [
+less_outside f start end (number ∷ numbers) work = elim (cases_Bool (window_is_within start end (f number))) [
   | inl holds ↦
-      let few : length (filter (λ (n : ℕ). not (is_within start end (f n))) numbers) ≤ length numbers =
-      omega (arith, length-filter_both (λ (n : ℕ). is_within start end (f n)) (λ n. not (is_within start end (f n))) (λ n. refl) numbers) in
-      rw (not_from_true (is_within start end (f number)) holds) (omega (arith, few))
+      let few : length (filter (λ (n : ℕ). not (window_is_within start end (f n))) numbers) ≤ length numbers =
+      omega (arith, length-filter_both (λ (n : ℕ). window_is_within start end (f n)) (λ n. not (window_is_within start end (f n))) (λ n. refl) numbers) in
+      rw (not_from_true (window_is_within start end (f number)) holds) (omega (arith, few))
   | inr fails ↦
       let none : share start end (f number) ≡ 0 = rw fails refl in
       let rest : 1 ≤ work_within (map f numbers) start end = omega (arith, work, none, sum_by-cons (share start end) (f number) (map f numbers)) in
-      rw (not_from_false (is_within start end (f number)) fails) (omega (arith, less_outside f start end numbers rest))
+      rw (not_from_false (window_is_within start end (f number)) fails) (omega (arith, less_outside f start end numbers rest))
 ]
 
 -- a job that lies in an interval ends in it
-ends_within : (start end : ℕ) (job : Job) → is_within start end job ≡ true → job.deadline ≤ end
+ends_within : (start end : ℕ) (job : Job) → window_is_within start end job ≡ true → job.deadline ≤ end
 ends_within start end job lies = leb-true job.deadline end (and_parts (nat_le start job.release) (nat_le job.deadline end) lies).1
 
 -- and one that doesn't has time left once the interval is removed

@@ -2,7 +2,7 @@
 use Rattle.std.specs.Prelude.{ℕ, ◌<◌, ◌≤◌, Bool, nat_le, not, List, length, map, filter}
 use Rattle.yds_model.specs.Job.{Job, IsJob, job_at}
 use Rattle.yds_model.specs.Piece.{Piece}
-use Rattle.yds_intensity.specs.Work.{is_within}
+use Rattle.yds_intensity.specs.Work.{window_is_within}
 use Rattle.yds_critical.specs.declared.interval.Interval.{Interval}
 use Rattle.yds_contract.specs.Contracted.{place}
 
@@ -17,16 +17,16 @@ contracted_jobs jobs removed numbers = map (λ number. contracted removed (job_a
 pub record CanWait (jobs : List Job) (removed : List Piece) (number : ℕ) : Type 0 where
   pub known : number < length jobs
   pub valid : IsJob (job_at jobs number)
-  pub has_work : 1 ≤ (job_at jobs number).work
+  pub job_has_work : 1 ≤ (job_at jobs number).work
   pub has_window : place removed (job_at jobs number).release < place removed (job_at jobs number).deadline
 
 -- the job has work
-abbrev pub has_work : List Job → ℕ → Bool
-has_work jobs number = nat_le 1 (job_at jobs number).work
+abbrev pub job_has_work : List Job → ℕ → Bool
+job_has_work jobs number = nat_le 1 (job_at jobs number).work
 
 -- in the time that is left the job's window lies in the interval
 abbrev pub lies_in : List Job → List Piece → Interval → ℕ → Bool
-lies_in jobs removed interval number = is_within interval.start interval.end (contracted removed (job_at jobs number))
+lies_in jobs removed interval number = window_is_within interval.start interval.end (contracted removed (job_at jobs number))
 
 -- the numbers of the waiting jobs that lie in the interval, and those of the others
 abbrev pub inside : List Job → List Piece → Interval → List ℕ → List ℕ

@@ -1,7 +1,7 @@
 ghost use Rattle.std.specs.Prelude.{◌≡◌, ◌≤◌, ℕ, List, [], length, filter, IfOk};
 ghost use Rattle.yds_model.specs.declared.limits.TheConstants.{MAX_JOBS};
 ghost use Rattle.yds_intensity.specs.Order.{IsDeadlineOrder};
-ghost use Rattle.yds_textbook.specs.Waiting.{has_work};
+ghost use Rattle.yds_textbook.specs.Waiting.{job_has_work};
 ghost use Rattle.yds_textbook.specs.Stages.{AreStages};
 
 use crate::stage::{Stage, stage_of};
@@ -16,7 +16,7 @@ use yds_model::{JobRow, Memory};
 pub fn stages(alloc: Global, rows: &[JobRow]) -> Result<Vec<Stage>, Memory>
     requires { length rows.now ≤ MAX_JOBS }
     ensures { IfOk result (λ stages. (order : List ℕ) × IsDeadlineOrder rows.now order
-        × AreStages rows.now [] (filter (has_work rows.now) order) stages.items) }
+        × AreStages rows.now [] (filter (job_has_work rows.now) order) stages.items) }
 {
     let events = events(alloc, rows)?;
     let mut waiting = jobs_with_work(alloc, rows)?;

@@ -4,7 +4,7 @@ ghost use Rattle.yds_model.specs.declared.limits.TheConstants.{MAX_JOBS};
 ghost use Rattle.yds_intensity.specs.Order.{IsDeadlineOrder};
 ghost use Rattle.yds_critical.specs.Critical.{IsCriticalOf};
 ghost use Rattle.yds_contract.specs.Contracted.{place};
-ghost use Rattle.yds_textbook.specs.Waiting.{contracted, contracted_jobs, CanWait, has_work, inside, outside};
+ghost use Rattle.yds_textbook.specs.Waiting.{contracted, contracted_jobs, CanWait, job_has_work, inside, outside};
 
 use crate::window::is_within;
 use std::alloc::Global;
@@ -16,7 +16,7 @@ use yds_model::{JobRow, Memory};
 /// The numbers of the jobs with work, in order of deadline.
 pub(crate) fn jobs_with_work(alloc: Global, rows: &[JobRow]) -> Result<Vec<u32>, Memory>
     requires { length rows.now ≤ MAX_JOBS }
-    ensures all { IfOk result (λ waiting. (order : List ℕ) × IsDeadlineOrder rows.now order × (waiting.items ≡ filter (has_work rows.now) order)) }
+    ensures all { IfOk result (λ waiting. (order : List ℕ) × IsDeadlineOrder rows.now order × (waiting.items ≡ filter (job_has_work rows.now) order)) }
     ensures can_wait { IfOk result (λ waiting. All (CanWait rows.now []) waiting.items) }
     ensures few { IfOk result (λ waiting. length waiting.items ≤ length rows.now) }
 {

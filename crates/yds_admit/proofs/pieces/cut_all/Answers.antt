@@ -1,7 +1,7 @@
 use Rattle.std.proofs.Common.{◌≡◌, ℕ, ◌+◌, ◌≤◌, ◌++◌, List, length, get_or, take, drop, ◌∙◌, sym, subst, arith, ap}
 use Rattle.std.proofs.lemmas.List.{drop_all, append-nil, take_all}
 use Rattle.yds_model.specs.Job.{Job}
-use Rattle.yds_admit.specs.Interval.{work_in}
+use Rattle.yds_admit.specs.Interval.{enclosed_work}
 use Rattle.yds_admit.specs.Idle.{HasIdle, taken_before}
 use Rattle.yds_admit.specs.Pieces.{went}
 use Rattle.yds_admit.proofs.Cutting.{went_fits}
@@ -16,8 +16,8 @@ lent len items new is as_long =
     ∙ (ap (λ (some : List ℕ). take len some) (append-nil new) ∙ take_all len new (omega (arith, is, as_long)))
 
 -- the work of all jobs
-same_work : (all jobs : List Job) → ((from to : ℕ) → work_in jobs from to ≡ work_in (take (length all) all) from to) → (from to : ℕ) → work_in jobs from to ≡ work_in all from to
-same_work all jobs same from to = same from to ∙ ap (λ (some : List Job). work_in some from to) (take_all (length all) all (omega arith))
+same_work : (all jobs : List Job) → ((from to : ℕ) → enclosed_work jobs from to ≡ enclosed_work (take (length all) all) from to) → (from to : ℕ) → enclosed_work jobs from to ≡ enclosed_work all from to
+same_work all jobs same from to = same from to ∙ ap (λ (some : List Job). enclosed_work some from to) (take_all (length all) all (omega arith))
 
 pub used_before-requires-clause-less : goal.used_before-requires-clause-less
 used_before-requires-clause-less c q below =

@@ -2,9 +2,9 @@ use Rattle.std.proofs.Common.{◌*◌, ◌≤◌, List, map, ◌++◌, ap, sym, 
 use Rattle.std.proofs.Math.Nat.{mul-le-mul, mul-le-mul_right}
 use Rattle.yds_model.specs.declared.limits.TheConstants.{MAX_TIME}
 use Rattle.yds_model.specs.Piece.{Piece}
-use Rattle.yds_contract.specs.Removed.{removed_at, stretch_of, stretches_of}
+use Rattle.yds_contract.specs.Removed.{removed_at, stretch_of, removed_stretches}
 use Rattle.yds_contract.specs.Clipped.{pieces_after}
-use Rattle.yds_contract.specs.Spread.{in_parts}
+use Rattle.yds_contract.specs.Spread.{piece_in_parts}
 use Rattle.yds_contract.proofs.Cells.{no_piece}
 use Rattle.yds_contract.proofs.Kept.{count, stretch_at, removed_forward, ends_fit, next_fits, walked_more, walked_pieces}
 use Rattle.yds_contract.proofs.Scaled.{parts_at, parts_count, parts_fit}
@@ -12,7 +12,7 @@ use Rattle.yds_contract.proofs.spreading.spans_between.Goals as goal
 
 pub loop-stretch-init : goal.loop-stretch-init
 loop-stretch-init c = record {
-  are = ap (λ (ps : List Piece). ps ++ pieces_after c.args.start c.args.end 0 0 (map (in_parts c.args.parts) (stretches_of c.args.removed.now))) c.new-spans.ensures.items;
+  are = ap (λ (ps : List Piece). ps ++ pieces_after c.args.start c.args.end 0 0 (map (piece_in_parts c.args.parts) (removed_stretches c.args.removed.now))) c.new-spans.ensures.items;
   sums = refl;
   fits = omega (arith, parts_fit c.args.removed.now c.args.parts c.args.end c.requires.removed c.requires.within);
 }
@@ -39,7 +39,7 @@ pub overflow_add-before : goal.overflow_add-before
 overflow_add-before c =
     let removed = c.args.removed.now in
     let i = c.loop-stretch.stretch-index in
-    let next = next_fits (map (in_parts c.args.parts) (stretches_of removed)) i c.loop-stretch.before (in_parts c.args.parts (stretch_of (removed_at removed i)))
+    let next = next_fits (map (piece_in_parts c.args.parts) (removed_stretches removed)) i c.loop-stretch.before (piece_in_parts c.args.parts (stretch_of (removed_at removed i)))
     (omega (arith, parts_count c.args.parts removed)) (sym (parts_at c.args.parts removed i c.loop-stretch-test.true)) c.loop-stretch.invariant.sums in
     rw (c.from.ensures, c.from-in-loop-stretch.ensures)
     (omega (arith, next, parts_fit removed c.args.parts c.args.end c.requires.removed c.requires.within, c.requires.few))
@@ -50,8 +50,8 @@ loop-stretch-preserved c =
     let i = c.loop-stretch.stretch-index in
     let adds = rw (c.max.ensures, c.min.ensures, c.from.ensures) at c.in_ok-add.ensures in
     rw (c.from.ensures, c.from-in-loop-stretch.ensures)
-    (walked_more (MAX_TIME * c.args.parts) c.args.start c.args.end (map (in_parts c.args.parts) (stretches_of removed)) i c.loop-stretch.from c.loop-stretch.before
-    c.loop-stretch.spans.items c.add.new.spans.items (in_parts c.args.parts (stretch_of (removed_at removed i)))
+    (walked_more (MAX_TIME * c.args.parts) c.args.start c.args.end (map (piece_in_parts c.args.parts) (removed_stretches removed)) i c.loop-stretch.from c.loop-stretch.before
+    c.loop-stretch.spans.items c.add.new.spans.items (piece_in_parts c.args.parts (stretch_of (removed_at removed i)))
     (omega (arith, parts_count c.args.parts removed)) (sym (parts_at c.args.parts removed i c.loop-stretch-test.true))
     adds
     (parts_fit removed c.args.parts c.args.end c.requires.removed c.requires.within)
@@ -61,5 +61,5 @@ pub returns : goal.returns
 returns c =
     let removed = c.args.removed.now in
     let adds = rw (c.max-2.ensures) at c.in_ok-add-2.ensures in
-    walked_pieces (MAX_TIME * c.args.parts) c.args.start c.args.end (map (in_parts c.args.parts) (stretches_of removed)) c.loop-stretch.stretch-index c.loop-stretch.from c.loop-stretch.before
+    walked_pieces (MAX_TIME * c.args.parts) c.args.start c.args.end (map (piece_in_parts c.args.parts) (removed_stretches removed)) c.loop-stretch.stretch-index c.loop-stretch.from c.loop-stretch.before
     c.loop-stretch.spans.items c.add-2.new.spans.items (omega (arith, parts_count c.args.parts removed, c.loop-stretch-test.false)) adds c.loop-stretch.invariant

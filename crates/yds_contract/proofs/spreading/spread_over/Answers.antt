@@ -4,7 +4,7 @@ use Rattle.yds_model.specs.declared.limits.TheConstants.{MAX_TIME, MAX_SLOT_WORK
 use Rattle.yds_model.specs.Scale.{at_scale}
 use Rattle.yds_model.specs.Slot.{WrittenSlot}
 use Rattle.yds_model.specs.Piece.{Piece}
-use Rattle.yds_contract.specs.Removed.{stretches_of}
+use Rattle.yds_contract.specs.Removed.{removed_stretches}
 use Rattle.yds_contract.specs.Cut.{cut_all}
 use Rattle.yds_contract.specs.Spread.{slot_over}
 use Rattle.yds_contract.proofs.Cells.{piece_at, no_piece}
@@ -16,7 +16,7 @@ pub cut-requires-clause-forward : goal.cut-requires-clause-forward
 cut-requires-clause-forward c =
     let speed = c.args.speed in
     let slot = c.args.slot in
-    let removed = stretches_of c.args.removed.now in
+    let removed = removed_stretches c.args.removed.now in
     let spans = c.in_ok-spans.spans.items in
     let start : c.parts_of-start.result ≡ at_scale speed.num slot.from =
     c.parts_of-start.ensures ∙ ap (λ (n : ℕ). at_scale n c.slot.inside.from) c.num.ensures.value ∙ ap (λ (s : WrittenSlot). at_scale speed.num s.from) c.slot.view_is in
@@ -34,7 +34,7 @@ pub cut-requires-clause-within : goal.cut-requires-clause-within
 cut-requires-clause-within c =
     let speed = c.args.speed in
     let slot = c.args.slot in
-    let removed = stretches_of c.args.removed.now in
+    let removed = removed_stretches c.args.removed.now in
     let spans = c.in_ok-spans.spans.items in
     let start : c.parts_of-start.result ≡ at_scale speed.num slot.from =
     c.parts_of-start.ensures ∙ ap (λ (n : ℕ). at_scale n c.slot.inside.from) c.num.ensures.value ∙ ap (λ (s : WrittenSlot). at_scale speed.num s.from) c.slot.view_is in
@@ -53,7 +53,7 @@ pub cut-requires-clause-work_fits : goal.cut-requires-clause-work_fits
 cut-requires-clause-work_fits c =
     let speed = c.args.speed in
     let slot = c.args.slot in
-    let removed = stretches_of c.args.removed.now in
+    let removed = removed_stretches c.args.removed.now in
     let spans = c.in_ok-spans.spans.items in
     let start : c.parts_of-start.result ≡ at_scale speed.num slot.from =
     c.parts_of-start.ensures ∙ ap (λ (n : ℕ). at_scale n c.slot.inside.from) c.num.ensures.value ∙ ap (λ (s : WrittenSlot). at_scale speed.num s.from) c.slot.view_is in
@@ -74,7 +74,7 @@ pub returns : goal.returns
 returns c =
     let speed = c.args.speed in
     let slot = c.args.slot in
-    let removed = stretches_of c.args.removed.now in
+    let removed = removed_stretches c.args.removed.now in
     let spans = c.in_ok-spans.spans.items in
     let start : c.parts_of-start.result ≡ at_scale speed.num slot.from =
     c.parts_of-start.ensures ∙ ap (λ (n : ℕ). at_scale n c.slot.inside.from) c.num.ensures.value ∙ ap (λ (s : WrittenSlot). at_scale speed.num s.from) c.slot.view_is in

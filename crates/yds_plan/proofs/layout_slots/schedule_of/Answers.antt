@@ -5,7 +5,7 @@ use Rattle.yds_model.specs.Event.{stretches}
 use Rattle.yds_search.specs.Found.{no_share, group_at}
 use Rattle.yds_search.specs.Views.{found_view, share_view, group_view}
 use Rattle.yds_events.proofs.Neighbours.{few_stretches, stretch_read}
-use Rattle.yds_plan.specs.Laid.{terms_of}
+use Rattle.yds_plan.specs.Laid.{speed_terms}
 use Rattle.yds_plan.proofs.Laying.{terms_read, shares_read, can_fill_next, laid_next, laid_skip}
 use Rattle.yds_plan.proofs.layout_slots.schedule_of.Goals as goal
 use Rattle.yds_plan.proofs.layout_slots.schedule_of.Goals.{In-loop-stretch, In-Some, in-Some+in_ok-fill_stretch, in_default}
@@ -44,11 +44,11 @@ pub bounds-timeline-stretch : goal.bounds-timeline-stretch
 bounds-timeline-stretch c = counted (goal.at.bounds-timeline-stretch c).In-loop-stretch
 
 speed_read : (c : In-Some) → (get_or c.deref-place-items.result.now c.loop-stretch.stretch 0 < length (map group_view c.args.found.now.groups.items))
-    × (c.in-Some.speed.now ≡ terms_of (group_at (map group_view c.args.found.now.groups.items) (get_or c.deref-place-items.result.now c.loop-stretch.stretch 0)))
+    × (c.in-Some.speed.now ≡ speed_terms (group_at (map group_view c.args.found.now.groups.items) (get_or c.deref-place-items.result.now c.loop-stretch.stretch 0)))
 speed_read c =
     let read = c.in-Some.ensures.lookup in
     terms_read c.args.found.now.groups.items c.deref-in-loop-stretch.result.now _ c.in-Some.speed.now
-    (c.deref-in-loop-stretch.ensures.value ∙ c.in_ok-terms.ensures ∙ ap (map (λ group. terms_of (group_view group))) c.deref-2.ensures.value) read.3.0 read.1
+    (c.deref-in-loop-stretch.ensures.value ∙ c.in_ok-terms.ensures ∙ ap (map (λ group. speed_terms (group_view group))) c.deref-2.ensures.value) read.3.0 read.1
 
 pub of_stretch-shares-requires-clause-known : goal.of_stretch-shares-requires-clause-known
 of_stretch-shares-requires-clause-known c =
@@ -84,7 +84,7 @@ loop-stretch-preserved c =
           let read = w.in-Some.ensures.lookup in
           w.schedule-is ∙ laid_next c.args.rows.now (found_view c.args.found.now) c.requires.jobs c.requires.found c.requires.few k _ _ c.loop-stretch.schedule
           w.in-Some.speed.now _ c.loop-stretch.invariant place (terms_read c.args.found.now.groups.items c.deref-in-loop-stretch.result.now _ w.in-Some.speed.now
-          (c.deref-in-loop-stretch.ensures.value ∙ c.in_ok-terms.ensures ∙ ap (map (λ group. terms_of (group_view group))) c.deref-2.ensures.value) read.3.0 read.1).1
+          (c.deref-in-loop-stretch.ensures.value ∙ c.in_ok-terms.ensures ∙ ap (map (λ group. speed_terms (group_view group))) c.deref-2.ensures.value) read.3.0 read.1).1
           (ap (λ (piece : Piece). piece.from) (stretch_read c.args.rows.now c.args.timeline.now k w.index-timeline-stretch.result _ c.requires.timeline
           (inside here) w.index-timeline-stretch.is w.own.view_is))
           (shares_read c.deref.result.now c.args.found.now.shares.items _ _ _ (length c.args.timeline.now) k c.deref.ensures.value c.in_ok-sorted.ensures
@@ -97,7 +97,7 @@ loop-stretch-preserved c =
             w.in_default.ensures.lookup.3,
             ap length c.deref-in-loop-stretch.ensures.value,
             ap length c.in_ok-terms.ensures,
-            length-map c.deref-2.result.now (λ group. terms_of (group_view group)),
+            length-map c.deref-2.result.now (λ group. speed_terms (group_view group)),
             ap length c.deref-2.ensures.value,
             length-map c.args.found.now.groups.items group_view,
           ))
