@@ -22,7 +22,7 @@ with_next jobs order i number waiting within is known valid work so_far can =
     let next : filter (job_has_work jobs) (take (i + 1) order) ≡ filter (job_has_work jobs) (take i order) ++ get_or order i 0 ∷ [] =
     filter_more (job_has_work jobs) order i 0 within
     ∙ ap (λ (b : Bool). filter (job_has_work jobs) (take i order) ++ cond b (get_or order i 0 ∷ []) []) passes in
-    let can_next : CanWait jobs [] number = record { known = known; valid = valid; job_has_work = work; has_window = omega (arith, valid.has_window) } in (
+    let can_next : CanWait jobs [] number = record { known = known; valid = valid; has_work = work; has_window = omega (arith, valid.has_window) } in (
       ap (λ (xs : List ℕ). xs ++ number ∷ []) so_far ∙ ap (λ (n : ℕ). filter (job_has_work jobs) (take i order) ++ n ∷ []) is ∙ sym next,
       All-append (CanWait jobs []) waiting (number ∷ []) can (All-cons (CanWait jobs []) number [] can_next (All-nil (CanWait jobs []))),
     )

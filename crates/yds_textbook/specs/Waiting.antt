@@ -17,7 +17,7 @@ contracted_jobs jobs removed numbers = map (λ number. contracted removed (job_a
 pub record CanWait (jobs : List Job) (removed : List Piece) (number : ℕ) : Type 0 where
   pub known : number < length jobs
   pub valid : IsJob (job_at jobs number)
-  pub job_has_work : 1 ≤ (job_at jobs number).work
+  pub has_work : 1 ≤ (job_at jobs number).work
   pub has_window : place removed (job_at jobs number).release < place removed (job_at jobs number).deadline
 
 -- the job has work
