@@ -1,8 +1,6 @@
 -- The slots of what was found: each lies in a stretch of its job's window, each follows those before it, and each job gets its work.
-use Rattle.std.proofs.Common.{◌≡◌, ℕ, zero, suc, ◌*◌, ◌/◌, ◌≤◌, arith, ◌<◌, ◌==◌, List, ◌∙◌, length, sym, refl, ◌+◌, ◌-◌, [], ap, inl, inr}
-use Rattle.std.proofs.Math.Nat.{div-mul_cancel, mul-pos, mul-le-mul_right, le_of_mul-le-mul_right, mul-sub, eq_of_mul-eq-mul_left}
-use Rattle.yds_model.specs.Divisor.{common_divisor}
-use Rattle.yds_model.proofs.Divisor.{divisor_is_greatest}
+use Rattle.std.proofs.Common.{◌≡◌, ℕ, zero, suc, ◌*◌, ◌≤◌, arith, ◌<◌, ◌==◌, List, ◌∙◌, length, sym, refl, ◌+◌, ◌-◌, [], ap, inl, inr}
+use Rattle.std.proofs.Math.Nat.{mul-pos, mul-le-mul_right, le_of_mul-le-mul_right, mul-sub, eq_of_mul-eq-mul_left}
 use Rattle.std.specs.List.{All, AllPairs, AllByRecursion, sum_by, flat_map, range_with_len}
 use Rattle.std.proofs.lemmas.Bool.{eqb-true, cases_lt, cases_eq}
 use Rattle.std.proofs.lemmas.List.{get_or_default}
@@ -22,37 +20,12 @@ use Rattle.yds_model.specs.Plan.{IsServedInStretches}
 use Rattle.yds_model.proofs.Sums.{sum_by-mul, sum_by_same, sum_by_zero}
 use Rattle.yds_events.specs.Stretch.{no_stretch}
 use Rattle.yds_model.specs.Comparison.{stretch_at}
+use Rattle.yds_search.proofs.Lowest.{Lowest, lowest}
 use Rattle.yds_search.proofs.KeySums.{in_range, not_here, sum_by-filter, sum_by-flat_map, split_all}
 use Rattle.yds_events.proofs.Neighbours.{stretch_forward, stretch_order, release_outside}
 use Rattle.yds_plan.proofs.Merged.{map-flat_map, all_of_blocks, block_of_all, pairs_of_blocks}
 use Rattle.yds_plan.proofs.Filled.{fills, filled_pairs, filled_work, slots_of_jobs, jobs_at, units_of}
 use Rattle.yds_events.proofs.Following.{Follows, StartsFrom, Works, run_from_pairs, earliest_after}
-
--- the terms of a / b, where neither is 0
-pub record Lowest (a b : ℕ) : Type 0 where
-  pub first : a / common_divisor a b * common_divisor a b ≡ a
-  pub second : b / common_divisor a b * common_divisor a b ≡ b
-  pub some : 1 ≤ common_divisor a b
-  pub some_first : 1 ≤ a / common_divisor a b
-  pub some_second : 1 ≤ b / common_divisor a b
-
-factor : (p g a : ℕ) → p * g ≡ a → 1 ≤ a → (1 ≤ p) × (1 ≤ g)
-factor zero g a e some = absurd (omega arith)
-factor (suc p) zero a e some = absurd (omega arith)
-factor (suc p) (suc g) a e some = (omega arith, omega arith)
-
-pub lowest : (a b : ℕ) → 1 ≤ a → 1 ≤ b → Lowest a b
-lowest a b some_a some_b =
-    let is = divisor_is_greatest a b in
-    let first = div-mul_cancel (common_divisor a b) is.0 in
-    let second = div-mul_cancel (common_divisor a b) is.1 in
-    record {
-      first = first;
-      second = second;
-      some = (factor _ _ a first some_a).1;
-      some_first = (factor _ _ a first some_a).0;
-      some_second = (factor _ _ b second some_b).0;
-    }
 
 -- a job has a share in a stretch
 pub record Serves (jobs : List Job) (found : Found) (k job : ℕ) : Type 0 where

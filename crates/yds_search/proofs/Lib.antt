@@ -5,6 +5,8 @@ pub mod Lowest
 mod Places
 mod Balance
 mod Deadlines
+mod Fills
+mod Closures
 pub mod Numbers
 mod Ends
 mod Finish
@@ -12,3 +14,8 @@ mod Splits
 pub mod Ranks
 pub mod Partings
 mod Stacks
+mod Beginnings
+mod Steps
+mod Kept
+mod Chosen
+mod Endings

@@ -2,12 +2,12 @@
 use Rattle.std.proofs.Common.{◌≡◌, ℕ, zero, suc, ◌+◌, ◌<◌, ◌≤◌, ◌≢◌, ◌⊎◌, ◌==◌, Bool, true, false, List, [], ◌∷◌, ◌∙◌, length, get_or, set, refl, sym, ap, subst, inl, inr, arith, eq-eqb}
 use Rattle.std.specs.Prelude.{cond}
 use Rattle.std.specs.List.{filter}
-use Rattle.std.proofs.lemmas.List.{get_or-set_same, get_or-set_other, length-set, get_or_default, get_or-map, get_or_past, length-map}
+use Rattle.std.proofs.lemmas.List.{get_or-set_same, get_or-set_other, length-set, get_or_default}
 use Rattle.std.proofs.lemmas.List.Elements.{All-filter, filter_passes}
 use Rattle.std.proofs.lemmas.List.Kept.{AllPairs-filter}
 use Rattle.std.proofs.lemmas.Bool.{cases_lt, cases_eq, eqb-true}
 use Rattle.yds_search.specs.Found.{group_of}
-use Rattle.yds_search.specs.Numbers.{IsOneOf, numbers_in, values_at, AreWritten}
+use Rattle.yds_search.specs.Numbers.{IsOneOf, numbers_in, AreWritten}
 
 -- where two numbers of a list differ, so do their places
 apart : (numbers : List ℕ) (p n : ℕ) → get_or numbers p 0 ≢ get_or numbers n 0 → p ≢ n
@@ -16,10 +16,6 @@ apart numbers p n other same = other (ap (λ i. get_or numbers i 0) same)
 -- within a list the default doesn't matter
 get_or_same : (numbers : List ℕ) (i d : ℕ) → i < length numbers → get_or numbers i 0 ≡ get_or numbers i d
 get_or_same numbers i d within = get_or_default numbers i 0 d within
-
--- nothing is written yet
-pub written_none : (P : ℕ → ℕ → Type 0) (numbers old : List ℕ) → AreWritten P numbers 0 old old
-written_none P numbers old = record { count = refl; there = λ p before. absurd (omega arith); others = λ i outside. refl }
 
 -- one number more
 pub written_more : (P : ℕ → ℕ → Type 0) (numbers : List ℕ) (n : ℕ) (old new : List ℕ) (value : ℕ) → AreWritten P numbers n old new →
@@ -132,16 +128,6 @@ in_twice old new top group (x ∷ numbers) was = twice_step (group_of old x == t
     (λ i. group_of new i == group) (numbers_in old top numbers) (numbers_in new group numbers) refl (in_twice old new top group numbers was)
     (λ member. eq-eqb (group_of old x) top (was x (eqb-true (group_of new x) group member)))
 
--- what stands at a number of the list
-pub value_at : (numbers values : List ℕ) (p : ℕ) → p < length numbers → get_or (values_at numbers values) p 0 ≡ get_or values (get_or numbers p 0) 0
-value_at numbers values p within = get_or-map (λ i. get_or values i 0) numbers p 0 0 within
-
-pub value_past : (numbers values : List ℕ) (p d : ℕ) → length numbers ≤ p → get_or (values_at numbers values) p d ≡ d
-value_past numbers values p d past = get_or_past (values_at numbers values) p d (omega (arith, length-map numbers (λ i. get_or values i 0)))
-
-pub values_count : (numbers values : List ℕ) → length (values_at numbers values) ≡ length numbers
-values_count numbers values = length-map numbers (λ i. get_or values i 0)
-
 -- in a rising list the places rise with the numbers
 pub rising_back : (numbers : List ℕ) → ((a b : ℕ) → a < b → b < length numbers → get_or numbers a 0 < get_or numbers b 0) →
     (a b : ℕ) → a < length numbers → get_or numbers a 0 < get_or numbers b 0 → a < b
@@ -152,17 +138,3 @@ rising_back numbers rising a b within less = elim (cases_lt a b) [
     | inr other ↦ absurd (omega (arith, less, rising b a (omega arith) within))
   ]
 ]
-
-pub rising_same : (numbers : List ℕ) → ((a b : ℕ) → a < b → b < length numbers → get_or numbers a 0 < get_or numbers b 0) →
-    (a b : ℕ) → a < length numbers → b < length numbers → get_or numbers a 0 ≡ get_or numbers b 0 → a ≡ b
-rising_same numbers rising a b within within' same = elim (cases_lt a b) [
-  | inl before ↦ absurd (omega (arith, same, rising a b before within'))
-  | inr after ↦ elim (cases_eq b a) [
-    | inl is ↦ sym is
-    | inr other ↦ absurd (omega (arith, same, rising b a (omega arith) within))
-  ]
-]
-
--- what is within a list is within what it is equal to
-pub still_within : (items whole : List ℕ) (k n : ℕ) → items ≡ whole → length whole ≡ n → k < length items → k < n
-still_within items whole k n same count within = omega (arith, ap (λ (xs : List ℕ). length xs) same, count, within)

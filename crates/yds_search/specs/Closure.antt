@@ -4,27 +4,28 @@ use Rattle.yds_events.specs.declared.window.Window.{Window}
 use Rattle.yds_search.specs.Found.{Share, share_at}
 use Rattle.yds_events.specs.Window.{window_at, IsIn}
 
--- for each of m stretches the least first one of the windows that have it as their last one, of jobs that still want units
-pub record AreLateReaches (windows : List Window) (wants : List ℕ) (m : ℕ) (reaches : List ℕ) : Type 0 where
+-- Of the first n items those that count have a place among m and a value each: for each place the least value, or m where there is none.
+pub record AreLeast (Counts : ℕ → Type 0) (place value : ℕ → ℕ) (n m : ℕ) (reaches : List ℕ) : Type 0 where
   pub all : length reaches ≡ m
-  pub least : (j : ℕ) → j < length windows → 1 ≤ slice_index wants j →
-      (p : ℕ) → p + 1 ≡ (window_at windows j).end → slice_index reaches p ≤ (window_at windows j).first
-  pub some : (p : ℕ) → p < m → slice_index reaches p < m →
-      (j : ℕ) × (j < length windows) × (1 ≤ slice_index wants j) × (p + 1 ≡ (window_at windows j).end) × ((window_at windows j).first ≡ slice_index reaches p)
+  pub least : (i : ℕ) → i < n → Counts i → slice_index reaches (place i) ≤ value i
+  pub some : (p : ℕ) → p < m → slice_index reaches p < m → (i : ℕ) × (i < n) × Counts i × (place i ≡ p) × (value i ≡ slice_index reaches p)
 
--- for each of m stretches the least first one of the windows of the jobs with a share in it
-pub record AreShareReaches (windows : List Window) (shares : List Share) (m : ℕ) (reaches : List ℕ) : Type 0 where
-  pub all : length reaches ≡ m
-  pub least : (x : ℕ) → x < length shares → slice_index reaches (share_at shares x).stretch ≤ (window_at windows (share_at shares x).job).first
-  pub some : (p : ℕ) → p < m → slice_index reaches p < m →
-      (x : ℕ) × (x < length shares) × ((share_at shares x).stretch ≡ p) × ((window_at windows (share_at shares x).job).first ≡ slice_index reaches p)
+-- for each of m stretches the least first one of the windows that have it as their last one, of those of the first n jobs that still want units
+abbrev pub AreLateReaches : List Window → List ℕ → ℕ → ℕ → List ℕ → Type 0
+AreLateReaches windows wants n m reaches =
+    AreLeast (λ j. 1 ≤ slice_index wants j) (λ j. (window_at windows j).end - 1) (λ j. (window_at windows j).first) n m reaches
+
+-- for each of m stretches the least first one of the windows of the jobs with one of the first n shares in it
+abbrev pub AreShareReaches : List Window → List Share → ℕ → ℕ → List ℕ → Type 0
+AreShareReaches windows shares n m reaches =
+    AreLeast (λ x. Unit {0}) (λ x. (share_at shares x).stretch) (λ x. (window_at windows (share_at shares x).job).first) n m reaches
 
 -- from the right: as far to the left as one reaches that ends here, and if it reaches this stretch, as who has a share here
 abbrev pub reach_from : ℕ → ℕ → ℕ → ℕ → ℕ
 reach_from after late shared k = if nat_le (min after late) k then min (min after late) shared else min after late
 
 -- what is reached over the last of m stretches, so many
-pub reach_over : List ℕ → List ℕ → ℕ → ℕ → ℕ
+abbrev pub reach_over : List ℕ → List ℕ → ℕ → ℕ → ℕ
 reach_over late shared m zero = m
 reach_over late shared m (suc count) =
     reach_from (reach_over late shared m count) (slice_index late (m - suc count)) (slice_index shared (m - suc count)) (m - suc count)
@@ -38,8 +39,8 @@ pub record AreMarksOf (late shared : List ℕ) (m : ℕ) (marks : List ℕ) : Ty
 pub record AreClosing (windows : List Window) (wants : List ℕ) (shares : List Share) (m : ℕ) (marks : List ℕ) : Type 0 where
   pub late : List ℕ
   pub shared : List ℕ
-  pub lates : AreLateReaches windows wants m late
-  pub shareds : AreShareReaches windows shares m shared
+  pub lates : AreLateReaches windows wants (length windows) m late
+  pub shareds : AreShareReaches windows shares (length shares) m shared
   pub are : AreMarksOf late shared m marks
 
 -- the stretch is closed upon

@@ -1,5 +1,5 @@
 -- Lists of numbers, as of a group's jobs or stretches, and what is written at their places.
-use Rattle.std.specs.Prelude.{◌≡◌, ℕ, ◌<◌, ◌==◌, List, length, map, slice_index}
+use Rattle.std.specs.Prelude.{◌≡◌, ℕ, ◌<◌, ◌==◌, List, length, slice_index}
 use Rattle.std.specs.List.{filter}
 use Rattle.yds_search.specs.Found.{group_of}
 
@@ -10,10 +10,6 @@ IsOneOf numbers k = (p : ℕ) × (p < length numbers) × (slice_index numbers p 
 -- those of the list that are in a group
 abbrev pub numbers_in : List ℕ → ℕ → List ℕ → List ℕ
 numbers_in groups group numbers = filter (λ i. group_of groups i == group) numbers
-
--- what stands at the list's numbers
-abbrev pub values_at : List ℕ → List ℕ → List ℕ
-values_at numbers values = map (λ i. slice_index values i) numbers
 
 -- At the first n numbers of the list stand values with a property, elsewhere what stood there before.
 pub record AreWritten (P : ℕ → ℕ → Type 0) (numbers : List ℕ) (n : ℕ) (old new : List ℕ) : Type 0 where

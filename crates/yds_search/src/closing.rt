@@ -43,7 +43,7 @@ fn late_reaches(jobs: &[OwnJob], wants: &[u64], reaches: &mut [u32])
     requires windows { HaveWindows (length reaches.old) jobs.now }
     requires wants { length wants.now ≡ length jobs.now }
     requires none { (p : ℕ) → p < length reaches.old → slice_index reaches.old p ≡ length reaches.old }
-    ensures { AreLateReaches (own_windows jobs.now) wants.now (length reaches.old) reaches.new }
+    ensures { AreLateReaches (own_windows jobs.now) wants.now (length (own_windows jobs.now)) (length reaches.old) reaches.new }
 {
     for (place, own) in jobs.iter().enumerate() {
         if wants[place] > 0 {
@@ -57,7 +57,7 @@ fn late_reaches(jobs: &[OwnJob], wants: &[u64], reaches: &mut [u32])
 fn share_reaches(jobs: &[OwnJob], shares: &[Share], reaches: &mut [u32])
     requires parts { All (IsPart (own_windows jobs.now) (length jobs.now) (length reaches.old)) (shares_view shares.now) }
     requires none { (p : ℕ) → p < length reaches.old → slice_index reaches.old p ≡ length reaches.old }
-    ensures { AreShareReaches (own_windows jobs.now) (shares_view shares.now) (length reaches.old) reaches.new }
+    ensures { AreShareReaches (own_windows jobs.now) (shares_view shares.now) (length (shares_view shares.now)) (length reaches.old) reaches.new }
 {
     for share in shares {
         let at = share.stretch as usize;

@@ -1,6 +1,6 @@
 use Rattle.std.proofs.Common.{◌≡◌, ◌/◌, ap, arith}
 use Rattle.yds_model.specs.Divisor.{common_divisor}
-use Rattle.yds_plan.proofs.Schedule.{lowest}
+use Rattle.yds_search.proofs.Lowest.{lowest}
 use Rattle.yds_plan.proofs.layout_slots.terms_of.Goals as goal
 use Rattle.yds_plan.proofs.layout_slots.terms_of.Goals.{After-gcd-divisor}
 

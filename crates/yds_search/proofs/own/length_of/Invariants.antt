@@ -1,0 +1,6 @@
+use Rattle.std.proofs.Common.{◌≡◌, ◌*◌, ◌≤◌, take}
+use Rattle.std.specs.List.{sum_by}
+use Rattle.yds_search.proofs.own.length_of.Given as goal
+
+abbrev pub invariant-loop-own : goal.invariant-loop-own
+invariant-loop-own l = record { sum : l.length ≡ sum_by (λ own. own.length) (take l.own-index l.stretches); small : l.length ≤ l.own-index * 4294967296 }

@@ -1,0 +1,105 @@
+use Rattle.std.proofs.Common.{ℕ, ◌≡◌, ◌*◌, ◌∙◌, arith, refl, ap, List, length}
+use Rattle.yds_search.specs.Searching.{IsChosen}
+use Rattle.yds_search.proofs.Chosen.{chosen_as, chosen_few, chosen_windows, chosen_known, chosen_some, chosen_units, chosen_finished, chosen_split, chosen_rooms, chosen_parts, chosen_room, shares_known}
+use Rattle.yds_search.proofs.Kept.{finish_nearer, split_nearer}
+use Rattle.yds_search.specs.Found.{per_work}
+use Rattle.yds_search.specs.Views.{group_view}
+use Rattle.std.proofs.lemmas.List.{length-map}
+use Rattle.std.proofs.lemmas.Result.{on_ok_weaker}
+use Rattle.yds_search.proofs.search.Search.advance.Goals as goal
+
+pub total-group-requires : goal.total-group-requires
+total-group-requires c =
+    let x = chosen_as c.requires.chosen.0 c.args.size c.args.self.now c.requires.chosen.1 c.last-own.result c.last-own.ensures.jobs c.last-own.ensures.stretches in
+    let few = chosen_few c.requires.chosen.0 c.args.size c.args.self.now x in
+    record { few_jobs = few.0; few_stretches = few.1 }
+
+pub speed_of-requires : goal.speed_of-requires
+speed_of-requires c =
+    let x = chosen_as c.requires.chosen.0 c.args.size c.args.self.now c.requires.chosen.1 c.last-own.result c.last-own.ensures.jobs c.last-own.ensures.stretches in
+    let some = chosen_some c.requires.chosen.0 c.args.size c.args.self.now x c.total-group.result c.total-group.ensures.work c.total-group.ensures.length in
+    record { some_work = some.0; some_length = some.1 }
+
+pub fill-requires : goal.fill-requires
+fill-requires c =
+    let x = chosen_as c.requires.chosen.0 c.args.size c.args.self.now c.requires.chosen.1 c.last-own.result c.last-own.ensures.jobs c.last-own.ensures.stretches in
+    let few = chosen_few c.requires.chosen.0 c.args.size c.args.self.now x in
+    let units = chosen_units c.requires.chosen.0 c.args.size c.args.self.now x c.total-group.result c.total-group.ensures.work c.total-group.ensures.length in
+    record {
+      few_jobs = few.0;
+      few = few.1;
+      windows = chosen_windows c.requires.chosen.0 c.args.size c.args.self.now x;
+      rooms_fit = rw c.speed_of.ensures.per_time units.0;
+      wants_fit = rw c.speed_of.ensures.per_work units.1;
+    }
+
+pub close-requires : goal.close-requires
+close-requires c =
+    let x = chosen_as c.requires.chosen.0 c.args.size c.args.self.now c.requires.chosen.1 c.last-own.result c.last-own.ensures.jobs c.last-own.ensures.stretches in
+    let fill = rw (c.speed_of.ensures.per_time, c.speed_of.ensures.per_work) at c.in_ok-fill.ensures in
+    let rooms = chosen_rooms c.requires.chosen.0 c.args.size c.args.self.now x c.total-group.result c.total-group.ensures.work c.total-group.ensures.length _ _ _ fill in
+    record {
+      few = omega (arith, rooms, (chosen_few c.requires.chosen.0 c.args.size c.args.self.now x).1);
+      windows = rw rooms (chosen_windows c.requires.chosen.0 c.args.size c.args.self.now x);
+      wants = fill.same_wants ∙ length-map x.part.jobs (λ own. per_work (group_view c.total-group.result) * own.work);
+      parts = rw rooms (chosen_parts c.requires.chosen.0 c.args.size c.args.self.now x c.total-group.result c.total-group.ensures.work c.total-group.ensures.length _ _ _ fill);
+    }
+
+pub split_last-requires : goal.split_last-requires
+split_last-requires c =
+    let x = chosen_as c.requires.chosen.0 c.args.size c.args.self.now c.requires.chosen.1 c.last-own.result c.last-own.ensures.jobs c.last-own.ensures.stretches in
+    let fill = rw (c.speed_of.ensures.per_time, c.speed_of.ensures.per_work) at c.in_ok-fill.ensures in
+    let rooms = chosen_rooms c.requires.chosen.0 c.args.size c.args.self.now x c.total-group.result c.total-group.ensures.work c.total-group.ensures.length _ _ _ fill in
+    record {
+      marks = c.in_ok-close.ensures.marks;
+      ranks = c.in_ok-close.ensures.ranks;
+      last = (x.parts, x.part, x.last, c.in_ok-close.ensures.count ∙ rooms, chosen_windows c.requires.chosen.0 c.args.size c.args.self.now x);
+    }
+
+pub add-requires : goal.add-requires
+add-requires c =
+    let x = chosen_as c.requires.chosen.0 c.args.size c.args.self.now c.requires.chosen.1 c.last-own.result c.last-own.ensures.jobs c.last-own.ensures.stretches in
+    let known = chosen_known c.requires.chosen.0 c.args.size c.args.self.now x in
+    let fill = rw (c.speed_of.ensures.per_time, c.speed_of.ensures.per_work) at c.in_ok-fill.ensures in
+    let parts = chosen_parts c.requires.chosen.0 c.args.size c.args.self.now x c.total-group.result c.total-group.ensures.work c.total-group.ensures.length _ _ _ fill in
+    let shares = shares_known c.fill.new.self.shares.items (length x.part.jobs) (length x.part.stretches)
+    (λ i d within. ((parts i d within).known, (parts i d within).known_stretch)) in
+    record {
+      few = chosen_room c.requires.chosen.0 c.args.size c.args.self.now x;
+      jobs = known.0;
+      stretches = known.1;
+      share_jobs = rw c.deref.ensures.value shares.0;
+      share_stretches = rw c.deref.ensures.value shares.1;
+    }
+
+pub returns-in_ok-add-clause-search : goal.returns-in_ok-add-clause-search
+returns-in_ok-add-clause-search c jobs chosen =
+    let x = chosen_as jobs c.args.size c.args.self.now chosen c.last-own.result c.last-own.ensures.jobs c.last-own.ensures.stretches in
+    let fill = rw (c.speed_of.ensures.per_time, c.speed_of.ensures.per_work) at c.in_ok-fill.ensures in
+    chosen_finished jobs c.args.size c.args.self.now x c.total-group.result c.total-group.ensures.work c.total-group.ensures.length _ _ _ fill _ (c.if-has_late.ensures.none refl)
+    (c.drop_last.ensures x.parts x.part x.last) c.in_ok-add.ensures.groups (rw c.deref.ensures.value at c.in_ok-add.ensures.shares)
+    c.in_ok-add.ensures.job_numbers c.in_ok-add.ensures.stretch_numbers
+
+pub returns-in_ok-add-clause-nearer : goal.returns-in_ok-add-clause-nearer
+returns-in_ok-add-clause-nearer c =
+    let x = chosen_as c.requires.chosen.0 c.args.size c.args.self.now c.requires.chosen.1 c.last-own.result c.last-own.ensures.jobs c.last-own.ensures.stretches in
+    finish_nearer x.parts x.part c.args.size c.args.self.now.stack c.drop_last.new.self x.last (c.drop_last.ensures x.parts x.part x.last)
+    (chosen_few c.requires.chosen.0 c.args.size c.args.self.now x).3
+
+pub returns-in_ok-close-clause-search : goal.returns-in_ok-close-clause-search
+returns-in_ok-close-clause-search c = on_ok_weaker c.split_last.result (λ laid jobs chosen.
+    let x = chosen_as jobs c.args.size c.args.self.now chosen c.last-own.result c.last-own.ensures.jobs c.last-own.ensures.stretches in
+    let fill = rw (c.speed_of.ensures.per_time, c.speed_of.ensures.per_work) at c.in_ok-fill.ensures in
+    let rooms = chosen_rooms jobs c.args.size c.args.self.now x c.total-group.result c.total-group.ensures.work c.total-group.ensures.length _ _ _ fill in
+    chosen_split jobs c.args.size c.args.self.now x c.total-group.result c.total-group.ensures.work c.total-group.ensures.length _ _ _ fill _ _ _ (c.if-has_late.ensures.late refl)
+    c.in_ok-close.ensures.closing c.in_ok-close.ensures.count c.in_ok-close.ensures.marks c.in_ok-close.ensures.ranks
+    (laid x.parts x.part x.last (c.in_ok-close.ensures.count ∙ rooms)) refl) c.split_last.ensures
+
+pub returns-in_ok-close-clause-nearer : goal.returns-in_ok-close-clause-nearer
+returns-in_ok-close-clause-nearer c = on_ok_weaker c.split_last.result (λ laid.
+    let x = chosen_as c.requires.chosen.0 c.args.size c.args.self.now c.requires.chosen.1 c.last-own.result c.last-own.ensures.jobs c.last-own.ensures.stretches in
+    let fill = rw (c.speed_of.ensures.per_time, c.speed_of.ensures.per_work) at c.in_ok-fill.ensures in
+    let count = c.in_ok-close.ensures.count
+    ∙ chosen_rooms c.requires.chosen.0 c.args.size c.args.self.now x c.total-group.result c.total-group.ensures.work c.total-group.ensures.length _ _ _ fill in
+    split_nearer x.parts x.part c.args.size c.args.self.now.stack c.split_last.new.self c.close.new.self.marks.items c.close.new.self.ranks.items x.last
+    (laid x.parts x.part x.last count) c.in_ok-close.ensures.marks count) c.split_last.ensures
