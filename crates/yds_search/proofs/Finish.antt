@@ -47,8 +47,7 @@ module _ (jobs : List Job) (windows : List Window) (found : Found) (top last : �
     | inr none ↦ absurd (omega (arith, searched.idle j known (omega arith), is, searched.apart, waits))
   ]
 
-  stretch_number : (k : ℕ) → k < length (stretches jobs) → group_of found.group_of_stretch k ≡ length found.groups →
-      group_of found.group_of_stretch k ≡ top
+  stretch_number : (k : ℕ) → k < length (stretches jobs) → group_of found.group_of_stretch k ≡ length found.groups → group_of found.group_of_stretch k ≡ top
   stretch_number k known is = elim (searched.stretch k known) [
     | inl finished ↦ absurd (omega (arith, finished, is))
     | inr later ↦ omega (arith, later, is, searched.apart)
@@ -146,8 +145,7 @@ module _ (jobs : List Job) (windows : List Window) (found : Found) (top last : �
       searched.apart (stretch_number k known) (stretch_renamed k known))
 
   -- the group is not faster than the one before it
-  new_order : (i : ℕ) → i + 1 ≡ length found.groups →
-      own_group.work * (group_at found.groups i).length ≤ (group_at found.groups i).work * own_group.length
+  new_order : (i : ℕ) → i + 1 ≡ length found.groups → own_group.work * (group_at found.groups i).length ≤ (group_at found.groups i).work * own_group.length
   new_order i last =
       let lead = searched.lead i last waits in
       let slow = slow_speed jobs windows found top lead.p lead.q lead.shares lead.inside lead.slow in
@@ -414,8 +412,7 @@ module _ (jobs : List Job) (windows : List Window) (found : Found) (top last : �
       }
 
   -- a later group's stretch and job stay
-  later_stretch : (k : ℕ) → k < length (stretches jobs) → top < group_of new_stretches k →
-      group_of found.group_of_stretch k ≡ group_of new_stretches k
+  later_stretch : (k : ℕ) → k < length (stretches jobs) → top < group_of new_stretches k → group_of found.group_of_stretch k ≡ group_of new_stretches k
   later_stretch k known later =
       renamed_later (length found.groups) top (group_of found.group_of_stretch k) (group_of new_stretches k) searched.apart (stretch_renamed k known) later
 
@@ -423,8 +420,7 @@ module _ (jobs : List Job) (windows : List Window) (found : Found) (top last : �
   stays_job j known later =
       renamed_same (length found.groups) top (group_of found.group_of_job j) (group_of new_jobs j) (job_renamed j known) (λ same. omega (arith, same, later))
 
-  stays_stretch : (k : ℕ) → k < length (stretches jobs) → top < group_of found.group_of_stretch k →
-      group_of new_stretches k ≡ group_of found.group_of_stretch k
+  stays_stretch : (k : ℕ) → k < length (stretches jobs) → top < group_of found.group_of_stretch k → group_of new_stretches k ≡ group_of found.group_of_stretch k
   stays_stretch k known later =
       renamed_same (length found.groups) top (group_of found.group_of_stretch k) (group_of new_stretches k) (stretch_renamed k known) (λ same. omega (arith, same, later))
 

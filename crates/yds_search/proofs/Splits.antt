@@ -41,8 +41,7 @@ module _ (jobs : List Job) (windows : List Window) (found : Found) (below last t
   own_share = filled.own_share jobs windows found (below + 1) top_p top_q group_wants group_rooms own_shares wants_left rooms_left windows_are group_filled
 
   -- a stretch of the upper part is marked
-  upper_stretch : (k : ℕ) → k < length (stretches jobs) → group_of new_stretches k ≡ below →
-      (group_of found.group_of_stretch k ≡ below + 1) × IsMarked marks k
+  upper_stretch : (k : ℕ) → k < length (stretches jobs) → group_of new_stretches k ≡ below → (group_of found.group_of_stretch k ≡ below + 1) × IsMarked marks k
   upper_stretch k known new = elim (split.stretch k (omega (arith, searched.all_stretches))) [
     | inl upper ↦ (upper.0, upper.1)
     | inr same ↦ elim (searched.stretch k known) [
@@ -52,16 +51,14 @@ module _ (jobs : List Job) (windows : List Window) (found : Found) (below last t
   ]
 
   -- a marked stretch of the group is one of the upper part
-  marked_stretch : (k : ℕ) → k < length (stretches jobs) → group_of found.group_of_stretch k ≡ below + 1 → IsMarked marks k →
-      group_of new_stretches k ≡ below
+  marked_stretch : (k : ℕ) → k < length (stretches jobs) → group_of found.group_of_stretch k ≡ below + 1 → IsMarked marks k → group_of new_stretches k ≡ below
   marked_stretch k known mine marked = elim (split.stretch k (omega (arith, searched.all_stretches))) [
     | inl upper ↦ omega (arith, upper.2)
     | inr same ↦ absurd (same.0 mine marked)
   ]
 
   -- other stretches keep their groups
-  other_stretch : (k : ℕ) → k < length (stretches jobs) → (group_of new_stretches k ≡ below → ⊥) →
-      group_of new_stretches k ≡ group_of found.group_of_stretch k
+  other_stretch : (k : ℕ) → k < length (stretches jobs) → (group_of new_stretches k ≡ below → ⊥) → group_of new_stretches k ≡ group_of found.group_of_stretch k
   other_stretch k known other = elim (split.stretch k (omega (arith, searched.all_stretches))) [
     | inl upper ↦ absurd (other (omega (arith, upper.2)))
     | inr same ↦ same.1
@@ -111,8 +108,7 @@ module _ (jobs : List Job) (windows : List Window) (found : Found) (below last t
   ]
 
   -- a job of the upper part has a stretch of the group only in the upper part
-  upper_only : (j : ℕ) → j < length jobs → Upper j → (k : ℕ) → IsIn windows j k →
-      group_of found.group_of_stretch k ≡ below + 1 → group_of new_stretches k ≡ below
+  upper_only : (j : ℕ) → j < length jobs → Upper j → (k : ℕ) → IsIn windows j k → group_of found.group_of_stretch k ≡ below + 1 → group_of new_stretches k ≡ below
   upper_only j known upper k inside mine =
       let in_range : k < length (stretches jobs) = omega (arith, inside.upto, windows_are.inside j known) in
       elim (split.stretch k (omega (arith, searched.all_stretches, in_range))) [
@@ -165,8 +161,7 @@ module _ (jobs : List Job) (windows : List Window) (found : Found) (below last t
   }
 
   -- a job of which the window has a stretch of the lower part is no job of the upper part
-  lower_job : (j k : ℕ) → j < length jobs → IsIn windows j k → group_of new_stretches k ≡ below + 1 →
-      group_of new_jobs j ≡ group_of found.group_of_job j
+  lower_job : (j k : ℕ) → j < length jobs → IsIn windows j k → group_of new_stretches k ≡ below + 1 → group_of new_jobs j ≡ group_of found.group_of_job j
   lower_job j k known inside is = elim (split.job j (omega (arith, searched.all_jobs))) [
     | inl upper ↦ absurd (upper.1 k inside is)
     | inr same ↦ same.1
@@ -307,8 +302,7 @@ module _ (jobs : List Job) (windows : List Window) (found : Found) (below last t
         shared_job one.0 one.1 (subst (λ (n : ℕ). IsMarked marks n) (sym one.2) upper.1) ∙ sym new,
       )
 
-  covered_below : (k : ℕ) → k < length (stretches jobs) → (group_of new_stretches k ≡ below → ⊥) →
-      below ≤ group_of new_stretches k → group_of new_stretches k ≤ last →
+  covered_below : (k : ℕ) → k < length (stretches jobs) → (group_of new_stretches k ≡ below → ⊥) → below ≤ group_of new_stretches k → group_of new_stretches k ≤ last →
       (j : ℕ) × MayTake jobs windows j k × (group_of new_jobs j ≡ group_of new_stretches k)
   covered_below k known other from upto =
       let same = other_stretch k known other in
