@@ -122,8 +122,7 @@ slow_speed jobs windows found group p q shares inside slow = speeds (λ share. s
 
 -- in lowest or any terms: speeds that p / q stands between
 pub speed_order : (work length work' length' p q : ℕ) → 1 ≤ q → p * length ≤ q * work → q * work' ≤ p * length' → work' * length ≤ work * length'
-speed_order work length work' length' p q some fast slow =
-    le_of_mul-le-mul_left {k = q} (omega (arith, mul-le-mul_right length slow, mul-le-mul_right length' fast)) some
+speed_order work length work' length' p q some fast slow = le_of_mul-le-mul_left {k = q} (omega (arith, mul-le-mul_right length slow, mul-le-mul_right length' fast)) some
 
 -- what is left of the wants of a group that was filled at its average speed is what is left of the room
 pub balance : (jobs : List Job) (windows : List Window) (found : Found) (top p q : ℕ) (wants rooms : List ℕ) (shares : List Share) (wants' rooms' : List ℕ) →

@@ -15,8 +15,7 @@ filter_step false x f xs = omega arith
 
 pub sum_by-filter : {X : Type 0} (p : X → Bool) (f : X → ℕ) (xs : List X) → sum_by f (filter p xs) ≡ sum_by (λ x. cond (p x) (f x) 0) xs
 sum_by-filter p f [] = refl
-sum_by-filter p f (x ∷ xs) =
-    omega (arith, filter_step (p x) x f (filter p xs), sum_by-cons (λ y. cond (p y) (f y) 0) x xs, sum_by-filter p f xs)
+sum_by-filter p f (x ∷ xs) = omega (arith, filter_step (p x) x f (filter p xs), sum_by-cons (λ y. cond (p y) (f y) 0) x xs, sum_by-filter p f xs)
 
 pub sum_by-map : {X Y : Type 0} (g : X → Y) (f : Y → ℕ) (xs : List X) → sum_by f (map g xs) ≡ sum_by (λ x. f (g x)) xs
 sum_by-map g f [] = refl
@@ -24,8 +23,7 @@ sum_by-map g f (x ∷ xs) = omega (arith, sum_by-cons f (g x) (map g xs), sum_by
 
 pub sum_by-flat_map : {X Y : Type 0} (g : X → List Y) (f : Y → ℕ) (xs : List X) → sum_by f (flat_map g xs) ≡ sum_by (λ x. sum_by f (g x)) xs
 sum_by-flat_map g f [] = refl
-sum_by-flat_map g f (x ∷ xs) =
-    omega (arith, sum_by-append f (g x) (flat_map g xs), sum_by-cons (λ y. sum_by f (g y)) x xs, sum_by-flat_map g f xs)
+sum_by-flat_map g f (x ∷ xs) = omega (arith, sum_by-append f (g x) (flat_map g xs), sum_by-cons (λ y. sum_by f (g y)) x xs, sum_by-flat_map g f xs)
 
 -- the order of two sums doesn't matter
 pub sums_swap : {X Y : Type 0} (f : X → Y → ℕ) (xs : List X) (ys : List Y) → sum_by (λ x. sum_by (f x) ys) xs ≡ sum_by (λ y. sum_by (λ x. f x y) xs) ys
@@ -98,8 +96,7 @@ cond_at_most false v = omega arith
 
 -- they are never more
 pub split_at_most : {X : Type 0} (key : X → ℕ) (f : X → ℕ) (n : ℕ) (xs : List X) → sum_by (λ k. sum_by f (filter (λ x. key x == k) xs)) (range_with_len 0 n) ≤ sum_by f xs
-split_at_most key f n xs =
-    omega (arith, split_sum key f n xs, sum_by-le-sum_by (λ x. cond (nat_lt (key x) n) (f x) 0) f xs (λ x. cond_at_most (nat_lt (key x) n) (f x)))
+split_at_most key f n xs = omega (arith, split_sum key f n xs, sum_by-le-sum_by (λ x. cond (nat_lt (key x) n) (f x) 0) f xs (λ x. cond_at_most (nat_lt (key x) n) (f x)))
 
 -- a length is a sum of ones
 pub count_all : {X : Type 0} (xs : List X) → sum_by (λ x. 1) xs ≡ length xs
@@ -108,8 +105,7 @@ count_all (x ∷ xs) = omega (arith, sum_by-cons (λ one. 1) x xs, count_all xs)
 
 -- a range, one longer
 pub range_more : (n : ℕ) → range_with_len 0 (n + 1) ≡ range_with_len 0 n ++ n ∷ []
-range_more n =
-    sym (map-id (range_with_len 0 (n + 1))) ∙ map-range_with_len_more (λ k. k) 0 n n (omega arith) ∙ ap (λ ks. ks ++ n ∷ []) (map-id (range_with_len 0 n))
+range_more n = sym (map-id (range_with_len 0 (n + 1))) ∙ map-range_with_len_more (λ k. k) 0 n n (omega arith) ∙ ap (λ ks. ks ++ n ∷ []) (map-id (range_with_len 0 n))
 
 -- a sum over the first elements, by their places
 pub sum_of_first : {X : Type 0} (f : X → ℕ) (xs : List X) (d : X) (i : ℕ) → i ≤ length xs → sum_by (λ k. f (get_or xs k d)) (range_with_len 0 i) ≡ sum_by f (take i xs)

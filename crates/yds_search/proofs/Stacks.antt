@@ -35,8 +35,7 @@ jobs_more parts part = flat_map_more (λ (one : Part). one.jobs) [] parts part
 pub stretches_more : (parts : List Part) (part : Part) → own_stretches_of parts ++ part.stretches ≡ own_stretches_of (parts ++ part ∷ [])
 stretches_more parts part = flat_map_more (λ (one : Part). one.stretches) [] parts part
 
-same_size : (m n : ℕ) (part : Part) → m ≡ length part.jobs → n ≡ length part.stretches →
-    (let one : Size = record { jobs = m; stretches = n } in one) ≡ size_of part
+same_size : (m n : ℕ) (part : Part) → m ≡ length part.jobs → n ≡ length part.stretches → (let one : Size = record { jobs = m; stretches = n } in one) ≡ size_of part
 same_size m n part a b =
     ap (λ (k : ℕ). let one : Size = record { jobs = k; stretches = n } in one) a
     ∙ ap (λ (k : ℕ). let one : Size = record { jobs = length part.jobs; stretches = k } in one) b
@@ -170,8 +169,7 @@ none_below jobs windows found top last search few within = (
 
 -- of group top, whoever is marked moves to the group before it
 abbrev pub split_numbers : ℕ → List ℕ → List ℕ → List ℕ
-split_numbers top old marks =
-    map (λ i. cond (group_of old i == top) (cond (nat_lt 0 (get_or marks i 0)) (top - 1) top) (group_of old i)) (range_with_len 0 (length old))
+split_numbers top old marks = map (λ i. cond (group_of old i == top) (cond (nat_lt 0 (get_or marks i 0)) (top - 1) top) (group_of old i)) (range_with_len 0 (length old))
 
 abbrev pub job_marks : List ℕ → List OwnJob → List ℕ
 job_marks ranks jobs = map (λ own. cond (moves ranks own) 1 0) jobs

@@ -25,8 +25,8 @@ use Rattle.yds_search.specs.declared.found.TheConstants.{NO_GROUP}
 use Rattle.yds_search.proofs.KeySums.{over_one, over_zero}
 use Rattle.yds_search.proofs.Balance.{balance}
 use Rattle.yds_search.proofs.Ends.{few_groups, few_left, moved}
-use Rattle.yds_search.proofs.Finish.{Finishing, finish_search}
-use Rattle.yds_search.proofs.Splits.{Splitting, split_search}
+use Rattle.yds_search.proofs.Finish.{finish_search}
+use Rattle.yds_search.proofs.Splits.{split_search}
 use Rattle.yds_search.proofs.Numbers.{one_or_none, written_at, written_off, in_group, in_has}
 use Rattle.yds_search.proofs.Closures.{fill_closes}
 use Rattle.yds_search.proofs.Places.{windows_have, part_few, ends_rise, attempt_by_number, closed_by_number, late_by_number, served_by_number}
@@ -72,42 +72,22 @@ module _ (jobs : List Job) (windows : List Window) (order : List ℕ) (found : F
     pub finish_step : ((i : ℕ) → get_or wants' i 0 ≡ 0) →
         IsSearch jobs windows (finished_with found top group (shares_by_number part.jobs part.stretches shares)) (top + 1) last_group
     finish_step none =
-        let served = served_by_number jobs windows order found top last_group part are search within waits wants' none in
-        finish_search (record {
-          jobs = jobs;
-          windows = windows;
-          found = found;
-          top = top;
-          last = last_group;
-          group = group;
-          wants = attempt.wants;
-          rooms = attempt.rooms;
-          shares = shares_by_number part.jobs part.stretches shares;
-          wants_left = spread (job_numbers part.jobs) wants' (length jobs);
-          rooms_left = spread (stretch_numbers part.stretches) rooms' (length (stretches jobs));
-          new_jobs = renamed top (length found.groups) found.group_of_job;
-          new_stretches = renamed top (length found.groups) found.group_of_stretch;
-          windows_are = are.windows_are;
-          search = search;
-          within = within;
-          filled = attempt.filled;
-          served = λ j known. served j;
-          full = λ k known. omega (
-            arith,
-            over_one (λ i. get_or (spread (stretch_numbers part.stretches) rooms' (length (stretches jobs))) i 0) (length (stretches jobs)) k known,
-            balance jobs windows found top (per_time group) (per_work group) attempt.wants attempt.rooms (shares_by_number part.jobs part.stretches shares)
-                (spread (job_numbers part.jobs) wants' (length jobs)) (spread (stretch_numbers part.stretches) rooms' (length (stretches jobs))) are.windows_are.all attempt.filled,
-            over_zero (λ j. get_or (spread (job_numbers part.jobs) wants' (length jobs)) j 0) (length jobs) (λ j known. served j),
-          );
-          work = attempt.work;
-          length_is = attempt.length_is;
-          some_work = attempt.some_work;
-          some_length = attempt.some_length;
-          all_jobs = length-map found.group_of_job (λ n. cond (n == top) (length found.groups) n);
-          all_stretches = length-map found.group_of_stretch (λ n. cond (n == top) (length found.groups) n);
-          job = λ j known. renamed_is top (length found.groups) found.group_of_job j (omega (arith, search.all_jobs, known));
-          stretch = λ k known. renamed_is top (length found.groups) found.group_of_stretch k (omega (arith, search.all_stretches, known));
-        })
+        let shares' = shares_by_number part.jobs part.stretches shares in
+        let left = spread (job_numbers part.jobs) wants' (length jobs) in
+        let left' = spread (stretch_numbers part.stretches) rooms' (length (stretches jobs)) in
+        let served : (j : ℕ) → j < length jobs → get_or left j 0 ≡ 0 =
+        λ j known. served_by_number jobs windows order found top last_group part are search within waits wants' none j in
+        finish_search jobs windows found top last_group group attempt.wants attempt.rooms shares' left left' (renamed top (length found.groups) found.group_of_job)
+        (renamed top (length found.groups) found.group_of_stretch) are.windows_are search within attempt.filled served
+        (λ k known. omega (
+          arith,
+          over_one (λ i. get_or left' i 0) (length (stretches jobs)) k known,
+          balance jobs windows found top (per_time group) (per_work group) attempt.wants attempt.rooms shares' left left' are.windows_are.all attempt.filled,
+          over_zero (λ j. get_or left j 0) (length jobs) served,
+        )) attempt.work attempt.length_is attempt.some_work attempt.some_length (length-map found.group_of_job (λ n. cond (n == top) (length found.groups) n))
+        (length-map found.group_of_stretch (λ n. cond (n == top) (length found.groups) n))
+        (λ j known. renamed_is top (length found.groups) found.group_of_job j (omega (arith, search.all_jobs, known)))
+        (λ k known. renamed_is top (length found.groups) found.group_of_stretch k (omega (arith, search.all_stretches, known)))
 
     -- where somebody is late it is split
     module _ (parts : List Part) (marks ranks : List ℕ) (stack : IsStack jobs windows order found (top + 1) last_group parts)
@@ -153,31 +133,8 @@ module _ (jobs : List Job) (windows : List Window) (order : List ℕ) (found : F
                 (subst (λ (n : ℕ). AreClosed (λ p. p < n) (own_windows part.jobs) shares wants' rooms' marks) all_rooms closed),
             split_is.0,
           ) in (
-            split_search (record {
-              jobs = jobs;
-              windows = windows;
-              found = found;
-              below = top - 1;
-              last = last_group;
-              p = per_time group;
-              q = per_work group;
-              wants = attempt.wants;
-              rooms = attempt.rooms;
-              shares = shares';
-              wants_left = left;
-              rooms_left = left';
-              marks = marks';
-              new_jobs = new.group_of_job;
-              new_stretches = new.group_of_stretch;
-              windows_are = are.windows_are;
-              long = are.length_some;
-              search = all.0;
-              within = omega (arith, within, is);
-              apart = omega (arith, few_enough);
-              filled = all.1;
-              closed = all.2;
-              split = all.3;
-              a_late = late_by_number jobs windows order found top last_group part are search within waits wants' (fill.same_wants ∙ all_wants) late.0 late.1 late.2;
-            }),
+            split_search jobs windows found (top - 1) last_group (per_time group) (per_work group) attempt.wants attempt.rooms shares' left left' marks' new.group_of_job new.group_of_stretch
+                are.windows_are are.length_some all.0 (omega (arith, within, is)) (omega (arith, few_enough)) all.1 all.2 all.3
+                (late_by_number jobs windows order found top last_group part are search within waits wants' (fill.same_wants ∙ all_wants) late.0 late.1 late.2),
             split_is.1,
           )
