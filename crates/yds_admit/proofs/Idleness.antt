@@ -1,9 +1,9 @@
 -- What is idle between the times, jobs that take it, and what a cut leaves of it.
-use Rattle.std.proofs.Common.{◌≡◌, ℕ, zero, suc, ◌+◌, ◌-◌, ◌*◌, ◌<◌, ◌≤◌, List, [], ◌∷◌, ◌++◌, length, get_or, set, replicate, ◌∙◌, subst, arith, inl, inr, ap, cond, nat_le, get_or-set_same, get_or-set_other}
+use Rattle.std.proofs.Common.{◌≡◌, ℕ, zero, suc, ◌+◌, ◌-◌, ◌*◌, ◌<◌, ◌≤◌, List, [], ◌∷◌, ◌++◌, length, get_or, take, drop, set, replicate, ◌∙◌, subst, arith, inl, inr, ap, cond, nat_le, get_or-set_same, get_or-set_other}
 use Rattle.std.specs.List.{All}
 use Rattle.std.specs.List.Sorted.{IsPermutation, IsNonDecreasing}
 use Rattle.std.proofs.lemmas.Bool.{cases_lt, cases_eq, le-leb, lt-leb}
-use Rattle.std.proofs.lemmas.List.{get_or_default, get_or-replicate, length-replicate, get_or_past}
+use Rattle.std.proofs.lemmas.List.{get_or_default, get_or-replicate, length-replicate, get_or_past, drop_all, append-nil, take_all}
 use Rattle.std.proofs.lemmas.List.Sums.{sum_by_push}
 use Rattle.std.proofs.lemmas.List.Sorted.{sum_by-IsPermutation}
 use Rattle.std.proofs.Math.Nat.{mul-sub, mul-le-mul_left}
@@ -13,13 +13,22 @@ use Rattle.yds_laws.specs.AdmissionLaws.{HasRoom}
 use Rattle.yds_admit.specs.Interval.{enclosed_work}
 use Rattle.yds_admit.specs.Chain.{IsFalling, due_work}
 use Rattle.yds_admit.specs.Board.{AreGaps}
-use Rattle.yds_admit.specs.Pieces.{went, IsCutting, AreDue}
-use Rattle.yds_admit.specs.Idle.{HasIdle, IsTaken, idle_before, taken_before}
+use Rattle.yds_admit.specs.Pieces.{went, IsCutting, ArePieces, AreDue}
+use Rattle.yds_admit.specs.Idle.{HasIdle, IsTaken, IsCleared, IsRest, idle_before, taken_before}
 use Rattle.yds_admit.proofs.Between.{term, inside, before, after}
 use Rattle.yds_admit.proofs.Overfull.{jobs_work, any_of_all}
 use Rattle.yds_admit.proofs.Sweep.{step_is}
 use Rattle.yds_admit.proofs.Cutting.{next_went}
-use Rattle.yds_admit.proofs.Least.{work_of_first, room_to}
+use Rattle.yds_admit.proofs.Least.{work_of_first, room_to, less_between}
+use Rattle.yds_model.proofs.Lists.{All-last}
+
+-- # All of a vector was lent
+
+-- what it holds then
+pub lent : (len : ℕ) (items new : List ℕ) → len ≡ length items → length new ≡ length items → take len (new ++ drop (length new) items) ≡ new
+lent len items new is as_long =
+    ap (λ (rest : List ℕ). take len (new ++ rest)) (drop_all (length new) items (omega (arith, as_long)))
+    ∙ (ap (λ (some : List ℕ). take len some) (append-nil new) ∙ take_all len new (omega (arith, is, as_long)))
 
 -- # Sums of what is idle
 
@@ -74,7 +83,73 @@ set_late idle at v q within later =
       ap (λ k. idle_before idle k) e,
     )
 
+-- where no gap has more idle, there is no more between two places
+fewer_more : (old new : List ℕ) → ((q : ℕ) → get_or new q 0 ≤ get_or old q 0) → (a more : ℕ) →
+    idle_before new (a + more) + idle_before old a ≤ idle_before new a + idle_before old (a + more)
+fewer_more old new less a zero =
+    let e : a + zero ≡ a = omega arith in
+    omega (arith, ap (λ k. idle_before new k) e, ap (λ k. idle_before old k) e)
+fewer_more old new less a (suc more) =
+    let e : a + suc more ≡ suc (a + more) = omega arith in
+    omega (arith, fewer_more old new less a more, ap (λ k. idle_before new k) e, ap (λ k. idle_before old k) e, less (a + more))
+
+fewer_between : (old new : List ℕ) → ((q : ℕ) → get_or new q 0 ≤ get_or old q 0) → (a b : ℕ) → a ≤ b →
+    idle_before new b + idle_before old a ≤ idle_before new a + idle_before old b
+fewer_between old new less a b forward =
+    let e : a + (b - a) ≡ b = omega (arith, forward) in
+    omega (arith, fewer_more old new less a (b - a), ap (λ k. idle_before new k) e, ap (λ k. idle_before old k) e)
+
+-- where nothing is idle, later places have no more before them
+nothing_more : (idle : List ℕ) (a more : ℕ) → ((q : ℕ) → a ≤ q → q < a + more → get_or idle q 0 ≡ 0) → idle_before idle (a + more) ≡ idle_before idle a
+nothing_more idle a zero none = let e : a + zero ≡ a = omega arith in ap (λ k. idle_before idle k) e
+nothing_more idle a (suc more) none =
+    let e : a + suc more ≡ suc (a + more) = omega arith in
+    omega (
+      arith,
+      nothing_more idle a more (λ q behind less. none q behind (omega (arith, less))),
+      none (a + more) (omega arith) (omega arith),
+      ap (λ k. idle_before idle k) e,
+    )
+
+nothing_between : (idle : List ℕ) (a b : ℕ) → a ≤ b → ((q : ℕ) → a ≤ q → q < b → get_or idle q 0 ≡ 0) → idle_before idle b ≡ idle_before idle a
+nothing_between idle a b forward none =
+    let e : a + (b - a) ≡ b = omega (arith, forward) in
+    omega (arith, nothing_more idle a (b - a) (λ q behind less. none q behind (omega (arith, less, e))), ap (λ k. idle_before idle k) e)
+
 -- # One job more
+
+-- one job more, where an interval that holds its window leaves as much
+module _ (top : ℕ) (times : List ℕ) (jobs : List Job) (old : List ℕ) (rising : IsNonDecreasing times) (has : HasIdle top times jobs old) (row : Job) (end : ℕ) (new : List ℕ)
+    (within : end < length times) (is_end : get_or times end 0 ≡ row.deadline) (as_long : length new ≡ length old) (less : (q : ℕ) → get_or new q 0 ≤ get_or old q 0)
+    (holds : (from a b : ℕ) → end ≤ b → b < length times → a ≤ b → from ≤ row.release → from ≤ get_or times a 0 →
+    enclosed_work jobs from (get_or times b 0) + row.work + idle_before new b ≤ top * (get_or times b 0 - from) + idle_before new a) where
+  has_with : HasIdle top times (jobs ++ row ∷ []) new
+  has_with = record {
+    as_long = omega (arith, as_long, has.as_long);
+    room = λ from a b forward below ahead.
+        let time : ℕ = get_or times b 0 in
+        let added = sum_by_push (term from time) jobs row in
+        elim (cases_lt row.release from) [
+          | inl early ↦ omega (arith, added, before from time row early, has.room from a b forward below ahead, fewer_between old new less a b forward)
+          | inr counts ↦ elim (cases_lt time row.deadline) [
+            | inl soon ↦ omega (arith, added, after from time row soon, has.room from a b forward below ahead, fewer_between old new less a b forward)
+            | inr due ↦ elim (cases_lt b end) [
+              | inr later ↦ omega (arith, added, inside from time row counts due, holds from a b later below forward counts ahead)
+              | inl sooner ↦
+                  let same : time ≡ get_or times end 0 = omega (arith, due, is_end, rising b end 0 (omega (arith, sooner)) within) in
+                  omega (
+                    arith,
+                    added,
+                    inside from time row counts due,
+                    holds from a end (omega arith) within (omega (arith, forward, sooner)) counts ahead,
+                    ap (λ t. enclosed_work jobs from t) same,
+                    ap (λ t. top * (t - from)) same,
+                    later_idle new b end (omega (arith, sooner)),
+                  )
+            ]
+          ]
+        ];
+  }
 
 module _ (top : ℕ) (times : List ℕ) (jobs : List Job) (old : List ℕ) (rising : IsNonDecreasing times) (has : HasIdle top times jobs old) (row : Job) (begin end : ℕ) (new : List ℕ)
     (taken : IsTaken old new begin end row.work) (order : begin ≤ end) (within : end < length times) (is_end : get_or times end 0 ≡ row.deadline)
@@ -84,19 +159,6 @@ module _ (top : ℕ) (times : List ℕ) (jobs : List Job) (old : List ℕ) (risi
     | inl less ↦ first less
     | inr most ↦ let same : begin ≡ end = omega (arith, most, order) in omega (arith, ap (λ q. get_or times q 0) same, is_end, window)
   ]
-
-  less_more : (a more : ℕ) → idle_before new (a + more) + idle_before old a ≤ idle_before new a + idle_before old (a + more)
-  less_more a zero =
-      let e : a + zero ≡ a = omega arith in
-      omega (arith, ap (λ k. idle_before new k) e, ap (λ k. idle_before old k) e)
-  less_more a (suc more) =
-      let e : a + suc more ≡ suc (a + more) = omega arith in
-      omega (arith, less_more a more, ap (λ k. idle_before new k) e, ap (λ k. idle_before old k) e, taken.less (a + more))
-
-  less_between : (a b : ℕ) → a ≤ b → idle_before new b + idle_before old a ≤ idle_before new a + idle_before old b
-  less_between a b forward =
-      let e : a + (b - a) ≡ b = omega (arith, forward) in
-      omega (arith, less_more a (b - a), ap (λ k. idle_before new k) e, ap (λ k. idle_before old k) e)
 
   same_early : (q : ℕ) → q ≤ begin → idle_before new q ≡ idle_before old q
   same_early q most = sum_below_same q (λ k. get_or new k 0) (λ k. get_or old k 0) (λ k below. taken.early k (omega (arith, below, most)))
@@ -136,32 +198,50 @@ module _ (top : ℕ) (times : List ℕ) (jobs : List Job) (old : List ℕ) (risi
       ]
 
   pub has_more : HasIdle top times (jobs ++ row ∷ []) new
-  has_more = record {
-    as_long = omega (arith, taken.as_long, has.as_long);
-    room = λ from a b forward below ahead.
-        let time : ℕ = get_or times b 0 in
-        let added = sum_by_push (term from time) jobs row in
-        elim (cases_lt row.release from) [
-          | inl less ↦ omega (arith, added, before from time row less, has.room from a b forward below ahead, less_between a b forward)
-          | inr counts ↦ elim (cases_lt time row.deadline) [
-            | inl soon ↦ omega (arith, added, after from time row soon, has.room from a b forward below ahead, less_between a b forward)
-            | inr due ↦ elim (cases_lt b end) [
-              | inr later ↦ omega (arith, added, inside from time row counts due, holds from a b later below forward counts ahead)
-              | inl sooner ↦
-                  let same : time ≡ get_or times end 0 = omega (arith, due, is_end, rising b end 0 (omega (arith, sooner)) within) in
-                  omega (
-                    arith,
-                    added,
-                    inside from time row counts due,
-                    holds from a end (omega arith) within (omega (arith, forward, sooner)) counts ahead,
-                    ap (λ t. enclosed_work jobs from t) same,
-                    ap (λ t. top * (t - from)) same,
-                    later_idle new b end (omega (arith, sooner)),
-                  )
-            ]
-          ]
-        ];
-  }
+  has_more = has_with top times jobs old rising has row end new within is_end taken.as_long taken.less holds
+
+-- one that takes all that is idle before its deadline, as far back as it needs
+module _ (top : ℕ) (times : List ℕ) (jobs : List Job) (old : List ℕ) (rising : IsNonDecreasing times) (has : HasIdle top times jobs old) (row : Job) (end : ℕ) (new : List ℕ)
+    (cleared : IsCleared old new end row.work) (within : end < length times) (is_end : get_or times end 0 ≡ row.deadline)
+    (far : (from b : ℕ) → from ≤ row.release → end ≤ b → b < length times →
+    enclosed_work jobs from (get_or times b 0) + row.work + idle_before old b ≤ top * (get_or times b 0 - from) + idle_before old end) where
+  cleared_less : (q : ℕ) → get_or new q 0 ≤ get_or old q 0
+  cleared_less q = elim (cases_lt q cleared.place) [
+    | inl less ↦ omega (arith, cleared.early q less)
+    | inr more ↦ elim (cases_lt q end) [
+      | inl soon ↦ omega (arith, cleared.none q more soon)
+      | inr later ↦ omega (arith, cleared.late q later)
+    ]
+  ]
+
+  cleared_early : (q : ℕ) → q ≤ cleared.place → idle_before new q ≡ idle_before old q
+  cleared_early q most = sum_below_same q (λ k. get_or new k 0) (λ k. get_or old k 0) (λ k below. cleared.early k (omega (arith, below, most)))
+
+  cleared_holds : (from a b : ℕ) → end ≤ b → b < length times → a ≤ b → from ≤ row.release → from ≤ get_or times a 0 →
+      enclosed_work jobs from (get_or times b 0) + row.work + idle_before new b ≤ top * (get_or times b 0 - from) + idle_before new a
+  cleared_holds from a b later below forward counts ahead = elim (cases_lt a cleared.place) [
+    | inl less ↦ omega (
+      arith,
+      has.room from a b forward below ahead,
+      cleared.enough (omega (arith, less)),
+      cleared_early a (omega (arith, less)),
+      cleared_early cleared.place (omega arith),
+      nothing_between new cleared.place end cleared.most cleared.none,
+      fewer_between old new cleared_less end b later,
+    )
+    | inr more ↦ elim (cases_lt a end) [
+      | inl soon ↦ omega (
+        arith,
+        far from b counts later below,
+        nothing_between new a end (omega (arith, soon)) (λ q behind less. cleared.none q (omega (arith, behind, more)) less),
+        fewer_between old new cleared_less end b later,
+      )
+      | inr behind ↦ omega (arith, far from b counts later below, later_idle old end a behind, fewer_between old new cleared_less a b forward)
+    ]
+  ]
+
+  pub has_cleared : HasIdle top times (jobs ++ row ∷ []) new
+  has_cleared = has_with top times jobs old rising has row end new within is_end cleared.as_long cleared_less cleared_holds
 
 -- # Room
 
@@ -368,3 +448,50 @@ module _ (top : ℕ) (times full : List ℕ) (all jobs : List Job) (places gaps 
         are_gaps.each q (omega (arith, within, are_gaps.as_long)),
         ap done e,
       )
+
+  pub is_rest : get_or times 0 0 ≡ 0 → (q : ℕ) → q ≤ m → idle_before gaps q + done q ≡ reach q
+  is_rest first zero within =
+      let none = units_before (length jobs) 0 0 (omega arith) (λ i below. omega arith) (λ i behind below. absurd (omega (arith, behind, below))) (omega arith) (omega arith) in
+      omega (arith, none, ap (λ t. top * t) first)
+  is_rest first (suc q) within =
+      let e : q + 1 ≡ suc q = omega arith in
+      omega (arith, is_rest first q (omega (arith, within)), step q (omega (arith, within)), next_idle gaps q, ap done e, ap reach e, ap (λ k. idle_before gaps k) e)
+
+-- With one job more that leaves no interval overfull, an interval that holds its window leaves all that is idle after its deadline.
+pub far_idle : (top : ℕ) (times : List ℕ) (all jobs : List Job) (places used idle : List ℕ) (m : ℕ) → length times ≡ m + 1 → ArePieces top times all jobs places used →
+    IsRest top times idle used → (row : Job) (end : ℕ) → end ≤ m → get_or times end 0 ≡ row.deadline → IsNonDecreasing times → All IsJob (all ++ row ∷ []) → HasRoom top (all ++ row ∷ []) →
+    (from b : ℕ) → from ≤ row.release → end ≤ b → b < length times →
+    enclosed_work all from (get_or times b 0) + row.work + idle_before idle b ≤ top * (get_or times b 0 - from) + idle_before idle end
+far_idle top times all jobs places used idle m long pieces rest row end short is_end rising are room from b counts later below =
+    let count = count_from jobs pieces.falling from (length jobs) (omega arith) in
+    let n : ℕ = count.0 in
+    let time : ℕ = get_or times b 0 in
+    let near = pieces.greatest m n long count.1 end short in
+    let to : ℕ = get_or times near.at 0 in
+    let due : row.deadline ≤ to = omega (arith, is_end, rising end near.at 0 near.later (omega (arith, near.within, long))) in
+    let window = (All-last IsJob all row are).has_window in
+    let e : n + (length jobs - n) ≡ length jobs = omega (arith, count.1) in
+    omega (
+      arith,
+      pieces.same from time,
+      work_of_first jobs n from time count.1 count.2 count.3,
+      (pieces.greatest m n long count.1 b (omega (arith, below, long))).all b (omega arith) (omega (arith, below, long)),
+      less_between jobs places end b later n (length jobs - n),
+      ap (λ k. went k jobs places end) e,
+      ap (λ k. went k jobs places b) e,
+      pieces.used_is end (omega (arith, short, long)),
+      pieces.used_is b below,
+      rest end (omega (arith, short, long)),
+      rest b below,
+      near.exact,
+      pieces.same from to,
+      work_of_first jobs n from to count.1 count.2 count.3,
+      room_to top (all ++ row ∷ []) are room from to,
+      sum_by_push (term from to) all row,
+      inside from to row counts due,
+      ap (λ t. top * t) is_end,
+      mul-sub top to from,
+      mul-sub top time from,
+      mul-le-mul_left top (let forward : from ≤ to = omega (arith, counts, window, due) in forward),
+      mul-le-mul_left top (let ahead : from ≤ time = omega (arith, counts, window, is_end, rising end b 0 later below) in ahead),
+    )

@@ -129,7 +129,7 @@ module _ (top : ℕ) (all : List Job) (are : All IsJob all) (room : HasRoom top 
 -- # Pieces that are behind enough idle time
 
 -- the first n pieces have no more units between two places than all have
-less_between : (jobs : List Job) (places : List ℕ) (p q : ℕ) → p ≤ q → (n more : ℕ) →
+pub less_between : (jobs : List Job) (places : List ℕ) (p q : ℕ) → p ≤ q → (n more : ℕ) →
     went n jobs places q + went (n + more) jobs places p ≤ went n jobs places p + went (n + more) jobs places q
 less_between jobs places p q order n zero =
     let e : n + zero ≡ n = omega arith in

@@ -8,7 +8,7 @@ use Rattle.yds_laws.specs.AdmissionLaws.{HasRoom}
 use Rattle.yds_admit.specs.Board.{IsMarked}
 use Rattle.yds_admit.specs.Orders.{AreOrdered}
 use Rattle.yds_admit.specs.Pieces.{ArePieces}
-use Rattle.yds_admit.specs.Idle.{HasIdle}
+use Rattle.yds_admit.specs.Idle.{HasIdle, IsRest}
 use Rattle.yds_admit.specs.declared.decision.State.{State}
 use Rattle.yds_admit.specs.declared.decision.Room.{Room}
 
@@ -43,3 +43,4 @@ pub record IsState (rows : List Job) (top : ℕ) (state : State) : Type 0 where
 pub record IsRoom (top : ℕ) (times : List ℕ) (jobs : List Job) (room : Room) : Type 0 where
   pub idle : HasIdle top times jobs room.idle.items
   pub pieces : room.known ≡ true → ArePieces top times jobs room.pieces.jobs.items room.pieces.places.items room.pieces.used.items
+  pub rest : room.known ≡ true → IsRest top times room.idle.items room.pieces.used.items

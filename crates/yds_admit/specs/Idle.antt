@@ -26,3 +26,17 @@ pub record IsTaken (old new : List ℕ) (begin end units : ℕ) : Type 0 where
   pub early : (q : ℕ) → q < begin → slice_index new q ≡ slice_index old q
   pub late : (q : ℕ) → end ≤ q → slice_index new q ≡ slice_index old q
   pub sum : idle_before new end + units ≡ idle_before old end
+
+-- nothing is left idle from some place up to `end`: before it, where there is any, so many units or more were idle from there
+pub record IsCleared (old new : List ℕ) (end units : ℕ) : Type 0 where
+  pub as_long : length new ≡ length old
+  pub place : ℕ
+  pub most : place ≤ end
+  pub early : (q : ℕ) → q < place → slice_index new q ≡ slice_index old q
+  pub none : (q : ℕ) → place ≤ q → q < end → slice_index new q ≡ 0
+  pub late : (q : ℕ) → end ≤ q → slice_index new q ≡ slice_index old q
+  pub enough : 1 ≤ place → idle_before old place + units ≤ idle_before old end
+
+-- what is idle before each time is all that the top speed does by then, less what is used
+abbrev pub IsRest : ℕ → List ℕ → List ℕ → List ℕ → Type 0
+IsRest top times idle used = (q : ℕ) → q < length times → idle_before idle q + slice_index used q ≡ top * slice_index times q

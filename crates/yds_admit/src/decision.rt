@@ -7,7 +7,7 @@ ghost use Rattle.yds_admit.specs.Interval.{IsFirstWith};
 
 use crate::board::Board;
 use crate::chain::place;
-use crate::idle::take_idle;
+use crate::idle::{clear_idle, take_idle};
 use crate::interval::{
     Overfull, overfull_by_pieces, overfull_from_start, sort_by_deadline, sort_by_release,
 };
@@ -274,7 +274,7 @@ fn decide_next(
         return Ok(true);
     }
     if room.known {
-        return decide_by_pieces(alloc, rows, board, state, room, top);
+        return decide_by_pieces(rows, board, state, room, top);
     }
     if refuse_from_start(rows, state, top)? {
         return Ok(false);
@@ -283,7 +283,7 @@ fn decide_next(
     if take_idle_next(rows, board, state, room, top)? {
         return Ok(true);
     }
-    decide_by_pieces(alloc, rows, board, state, room, top)
+    decide_by_pieces(rows, board, state, room, top)
 }
 
 /// Admits the next job if enough is idle in its window. Answers whether it did.
@@ -346,7 +346,6 @@ fn refuse_from_start(rows: &[JobRow], state: &mut State, top: u32) -> Result<boo
 
 /// Decides the next job over the pieces of the admitted ones. Answers whether it was admitted.
 fn decide_by_pieces(
-    alloc: Global,
     rows: &[JobRow],
     board: &Board,
     state: &mut State,
@@ -372,8 +371,14 @@ fn decide_by_pieces(
     let times = &board.times;
     match overfull_by_pieces(&state.jobs, row, deadlines, &room.pieces, times, top) {
         None => {
+            // The job may take what is idle before its release too.
+            clear_idle(
+                &mut room.idle,
+                place(times, row.deadline),
+                u64::from(row.work),
+            );
+            room.known = false;
             admit_next(rows, state, top)?;
-            *room = unknown_room(alloc, rows, board, state, top)?;
             Ok(true)
         }
         Some(overfull) => {

@@ -1,6 +1,6 @@
 ghost use Rattle.std.specs.Prelude.{◌≡◌, ℕ, ◌+◌, ◌<◌, ◌≤◌, ◌++◌, ◌∷◌, [], true, false, length, slice_index, IfSome};
 ghost use Rattle.std.specs.List.Sorted.{IsNonDecreasing};
-ghost use Rattle.yds_admit.specs.Idle.{HasIdle, IsTaken, idle_before};
+ghost use Rattle.yds_admit.specs.Idle.{HasIdle, IsTaken, IsCleared, idle_before};
 
 use yds_model::JobRow;
 
@@ -19,7 +19,7 @@ pub(crate) fn take_idle(
     requires within { end < length times.now }
     requires end { slice_index times.now end ≡ row.now.deadline }
     ensures taken { result ≡ true → HasIdle _top times.now (_jobs.now ++ row.now ∷ []) idle.new }
-    ensures kept { result ≡ false → HasIdle _top times.now _jobs.now idle.new }
+    ensures kept { result ≡ false → idle.new ≡ idle.old }
 {
     let units = u64::from(row.work);
     let Some(begin) = idle_begin(idle, times, row.release, end, units) else {
@@ -63,5 +63,19 @@ fn take_between(idle: &mut [u64], begin: usize, end: usize, units: u64)
         let taken = left.min(idle[place]);
         idle[place] -= taken;
         left -= taken;
+    }
+}
+
+/// Leaves nothing idle from `end` backwards, until so many units were.
+pub(crate) fn clear_idle(idle: &mut [u64], end: usize, units: u64)
+    requires within { end ≤ length idle.old }
+    ensures { IsCleared idle.old idle.new end units }
+{
+    let mut wanted = units;
+    let mut place = end;
+    while wanted > 0 && place > 0 {
+        place -= 1;
+        wanted -= wanted.min(idle[place]);
+        idle[place] = 0;
     }
 }

@@ -76,11 +76,25 @@ pub(crate) fn units_near(pieces: &Pieces, count: usize, end: usize, due: u32) ->
     ensures { (first : ℕ) × (first ≤ count) × ((i : ℕ) → i < first → due ≤ (job_at pieces.now.jobs.items i).release)
         × (result + went first pieces.now.jobs.items pieces.now.places.items end ≡ went count pieces.now.jobs.items pieces.now.places.items end) }
 {
-    if count == pieces.jobs.len() {
-        return pieces.used[end];
+    let first = released_from(&pieces.jobs, due).min(count);
+    let all = pieces.jobs.len();
+    if all - count < count - first {
+        return pieces.used[end] - units_between(pieces, count, all, end);
     }
+    units_between(pieces, first, count, end)
+}
+
+/// The units before the place `end` of the pieces from one up to another.
+fn units_between(pieces: &Pieces, first: usize, last: usize, end: usize) -> u64
+    requires as_long { length pieces.now.places.items ≡ length pieces.now.jobs.items }
+    requires few { sum_by (λ job. job.work) pieces.now.jobs.items ≤ MAX_JOBS * MAX_WORK }
+    requires order { first ≤ last }
+    requires within { last ≤ length pieces.now.jobs.items }
+    ensures { result + went first pieces.now.jobs.items pieces.now.places.items end ≡
+        went last pieces.now.jobs.items pieces.now.places.items end }
+{
     let mut units = 0;
-    for number in released_from(&pieces.jobs, due).min(count)..count {
+    for number in first..last {
         if pieces.places[number] <= end {
             units += u64::from(pieces.jobs[number].work);
         }

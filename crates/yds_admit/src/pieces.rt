@@ -5,7 +5,7 @@ ghost use Rattle.yds_model.specs.declared.limits.TheConstants.{MAX_WORK};
 ghost use Rattle.yds_model.specs.Job.{IsJob};
 ghost use Rattle.yds_laws.specs.AdmissionLaws.{HasRoom};
 ghost use Rattle.yds_admit.specs.Chain.{IsFalling, AreLinks, NoFrom, IsLeastFrom};
-ghost use Rattle.yds_admit.specs.Idle.{HasIdle, taken_before};
+ghost use Rattle.yds_admit.specs.Idle.{HasIdle, IsRest, taken_before};
 ghost use Rattle.yds_admit.specs.Pieces.{IsCutting, IsCutInto, AreCut, ArePieces, AreDue};
 
 use crate::chain::{last_open, own_links, place_guessed};
@@ -44,6 +44,7 @@ pub(crate) fn cut_all(
     requires due { AreDue times.now by_release.now }
     ensures pieces { IfOk result (λ cut. ArePieces top times.now by_release.now cut.0.jobs.items cut.0.places.items cut.0.used.items) }
     ensures idle { IfOk result (λ cut. HasIdle top times.now by_release.now cut.1.items) }
+    ensures rest { IfOk result (λ cut. IsRest top times.now cut.1.items cut.0.used.items) }
 {
     let mut left = Vec::from_slice(alloc, gaps)?;
     let mut pieces = cut_each(alloc, by_release, times, left.as_mut_slice(), guesses, top)?;

@@ -4,7 +4,7 @@ use Rattle.std.proofs.lemmas.List.Sorted.{length_permutation, All-permutation}
 use Rattle.yds_model.specs.Job.{Job, IsJob}
 use Rattle.yds_laws.specs.AdmissionLaws.{HasRoom}
 use Rattle.yds_admit.specs.Pieces.{AreDue, ArePieces}
-use Rattle.yds_admit.specs.Idle.{HasIdle}
+use Rattle.yds_admit.specs.Idle.{HasIdle, IsRest}
 use Rattle.yds_admit.proofs.Idleness.{same_idle}
 use Rattle.yds_admit.proofs.Made.{same_pieces}
 use Rattle.yds_admit.proofs.Newly.{room_permuted}
@@ -57,6 +57,7 @@ returns-clause-room c =
           (subst (λ (some : List ℕ). ArePieces c.args.top some jobs pieces.jobs.items pieces.places.items pieces.used.items) c.deref-2.ensures.value
           (subst (λ (all : List Job). ArePieces c.args.top c.deref-2.result.now all pieces.jobs.items pieces.places.items pieces.used.items) c.deref.ensures.value
           c.in_ok-pieces.ensures.pieces));
+      rest = λ known. subst (λ (some : List ℕ). IsRest c.args.top some idle pieces.used.items) c.deref-2.ensures.value c.in_ok-pieces.ensures.rest;
     }
 
 pub returns-clause-state : goal.returns-clause-state

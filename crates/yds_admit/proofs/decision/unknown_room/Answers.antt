@@ -10,4 +10,5 @@ returns c =
       idle = rw is (none_idle c.args._top c.args.board.now.times.items c.args._state.now.jobs.items c.len.result
           (omega (arith, c.len.ensures, c.requires.board.are_gaps.as_long)) c.requires.state.decided.are c.requires.state.decided.room);
       pieces = λ known. absurd (true≢false (sym known));
+      rest = λ known. absurd (true≢false (sym known));
     }

@@ -1,19 +1,13 @@
-use Rattle.std.proofs.Common.{◌≡◌, ℕ, ◌+◌, ◌≤◌, ◌++◌, List, length, get_or, take, drop, ◌∙◌, sym, subst, arith, ap}
-use Rattle.std.proofs.lemmas.List.{drop_all, append-nil, take_all}
+use Rattle.std.proofs.Common.{◌≡◌, ℕ, ◌+◌, ◌*◌, ◌≤◌, List, length, get_or, take, ◌∙◌, sym, subst, arith, ap}
+use Rattle.std.proofs.lemmas.List.{take_all}
 use Rattle.yds_model.specs.Job.{Job}
 use Rattle.yds_admit.specs.Interval.{enclosed_work}
-use Rattle.yds_admit.specs.Idle.{HasIdle, taken_before}
+use Rattle.yds_admit.specs.Idle.{HasIdle, idle_before, taken_before}
 use Rattle.yds_admit.specs.Pieces.{went}
 use Rattle.yds_admit.proofs.Cutting.{went_fits}
-use Rattle.yds_admit.proofs.Idleness.{left_idle, less_left, used_is}
+use Rattle.yds_admit.proofs.Idleness.{lent, left_idle, less_left, used_is, is_rest}
 use Rattle.yds_admit.proofs.Made.{all_made}
 use Rattle.yds_admit.proofs.pieces.cut_all.Goals as goal
-
--- all of a vector was lent
-lent : (len : ℕ) (items new : List ℕ) → len ≡ length items → length new ≡ length items → take len (new ++ drop (length new) items) ≡ new
-lent len items new is as_long =
-    ap (λ (rest : List ℕ). take len (new ++ rest)) (drop_all (length new) items (omega (arith, as_long)))
-    ∙ (ap (λ (some : List ℕ). take len some) (append-nil new) ∙ take_all len new (omega (arith, is, as_long)))
 
 -- the work of all jobs
 same_work : (all jobs : List Job) → ((from to : ℕ) → enclosed_work jobs from to ≡ enclosed_work (take (length all) all) from to) → (from to : ℕ) → enclosed_work jobs from to ≡ enclosed_work all from to
@@ -80,3 +74,24 @@ returns-clause-idle c =
     (sym (lent c.in_ok-left.left.len c.in_ok-left.left.items gaps (c.in_ok-left.left.ok.0) (as_long ∙ sym items)))
     (left_idle c.args.top c.args.times.now c.args.gaps.now c.args.by_release.now jobs places gaps c.in_ok-pieces.ensures.cutting
     c.requires.gaps (same_work c.args.by_release.now jobs cut.same) cut.falling c.requires.are c.requires.room c.requires.rising (omega (arith, as_long, c.requires.gaps.as_long)))
+
+pub returns-clause-rest : goal.returns-clause-rest
+returns-clause-rest c q below =
+    let gaps = c.cut_each.new.gaps in
+    let jobs = c.in_ok-pieces.pieces.jobs.items in
+    let places = c.in_ok-pieces.pieces.places.items in
+    let cut = c.in_ok-pieces.ensures.cut in
+    let value = c.as_mut_slice.ensures.value ∙ c.in_ok-left.ensures.items in
+    let as_long : length gaps ≡ length c.args.gaps.now = c.in_ok-pieces.ensures.as_long ∙ ap (λ (some : List ℕ). length some) value in
+    let items : length c.in_ok-left.left.items ≡ length c.args.gaps.now = ap (λ (some : List ℕ). length some) c.in_ok-left.ensures.items in
+    let shown : c.deref.result.now ≡ gaps = c.deref.ensures.value ∙ lent c.in_ok-left.left.len c.in_ok-left.left.items gaps (c.in_ok-left.left.ok.0) (as_long ∙ sym items) in
+    let long : length gaps + 1 ≡ length c.args.times.now = omega (arith, as_long, c.requires.gaps.as_long) in
+    let within : q ≤ length c.args.gaps.now = omega (arith, below, c.requires.gaps.as_long) in
+    let same = same_work c.args.by_release.now jobs cut.same in
+    let units = c.in_ok-pieces-2.ensures.each q within ∙ subst (λ (some : List ℕ). taken_before c.args.gaps.now some q ≡ went (length jobs) jobs places q) (sym shown)
+    (used_is c.args.top c.args.times.now c.args.gaps.now c.args.by_release.now jobs places gaps c.in_ok-pieces.ensures.cutting
+    c.requires.gaps same cut.falling c.requires.are c.requires.room c.requires.rising long c.requires.first q within) in
+    let rest = is_rest c.args.top c.args.times.now c.args.gaps.now c.args.by_release.now jobs places gaps c.in_ok-pieces.ensures.cutting
+    c.requires.gaps same cut.falling c.requires.are c.requires.room c.requires.rising long c.requires.first q (omega (arith, within, as_long)) in
+    subst (λ (some : List ℕ). idle_before some q + get_or c.in_ok-pieces-2.field-0.items q 0 ≡ c.args.top * get_or c.args.times.now q 0)
+    (sym (lent c.in_ok-left.left.len c.in_ok-left.left.items gaps (c.in_ok-left.left.ok.0) (as_long ∙ sym items))) (omega (arith, units, rest))

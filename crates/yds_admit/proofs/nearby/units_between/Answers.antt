@@ -1,6 +1,6 @@
 use Rattle.std.proofs.Common.{arith}
 use Rattle.yds_admit.proofs.Cutting.{went_fits}
-use Rattle.yds_admit.proofs.nearby.units_near.Goals as goal
+use Rattle.yds_admit.proofs.nearby.units_between.Goals as goal
 
 pub overflow_add-units : goal.overflow_add-units
 overflow_add-units c =
