@@ -145,6 +145,7 @@ mod tests {
         assert_eq!(rt; instance.rows(), [first, second].as_slice());
         assert_eq!(rt; instance.find("b"), Some(1));
         assert_eq!(rt; instance.find("c"), None);
+        assert_eq!(rt; instance.find_at_once(b"b"), Some(1));
         assert_eq!(rt; instance.rows().len(), 2);
         assert_eq!(rt; instance.name(1), "b");
         Ok(())

@@ -56,3 +56,19 @@ fn what_fields_spell(rt: HostRuntime) {
     assert_eq!(rt; name(field(b"a_1")), Some("a_1"));
     assert_eq!(rt; name(field(b"")), None);
 }
+
+#[test]
+fn plain_fields_are_read_as_they_stand(rt: HostRuntime) {
+    for line in lines(b" 12 3+1/4 0\n") {
+        let mut fields = line.fields();
+        let mut again = fields.again();
+        assert_eq!(rt; fields.plain_number(1, 12), Some(12));
+        let value = fields
+            .plain_fraction(9)
+            .map(|value| (value.whole(), value.num(), value.den()));
+        assert_eq!(rt; value, Some((3, 1, 4)));
+        assert_eq!(rt; fields.plain_small(0, 9), Some(0));
+        assert_eq!(rt; fields.at_end(), true);
+        assert_eq!(rt; again.plain_small(13, 99), None);
+    }
+}
