@@ -1,9 +1,9 @@
 -- A group's jobs as they are parted in place: who stays comes to the front, who moves is put aside.
-use Rattle.std.proofs.Common.{◌≡◌, ℕ, ◌+◌, ◌-◌, ◌<◌, ◌≤◌, ◌≢◌, ◌∙◌, true, false, List, [], ◌∷◌, ◌++◌, length, take, drop, set, get_or, ap, sym, eq-eqb, arith}
-use Rattle.std.specs.List.{All}
+use Rattle.std.proofs.Common.{◌≡◌, ℕ, ◌+◌, ◌-◌, ◌<◌, ◌≤◌, ◌≢◌, ◌==◌, ◌∙◌, Bool, true, false, not, cond, List, [], ◌∷◌, ◌++◌, length, map, take, drop, set, get_or, ap, sym, subst, eq-eqb, arith}
+use Rattle.std.specs.List.{All, filter}
 use Rattle.std.proofs.lemmas.Bool.{ne_eqb}
-use Rattle.std.proofs.lemmas.List.{append_assoc, drop_more, take_more_set, drop-set-lt}
-use Rattle.std.proofs.lemmas.List.Elements.{All-rest}
+use Rattle.std.proofs.lemmas.List.{append_assoc, drop_more, take_more_set, drop-set-lt, length-set}
+use Rattle.std.proofs.lemmas.List.Elements.{All-head, All-rest}
 use Rattle.yds_search.specs.declared.own.OwnJob.{OwnJob}
 use Rattle.yds_search.specs.Stack.{moves, moved, stayed, moving_jobs, staying_jobs}
 use Rattle.yds_search.proofs.Ranks.{IsRanked}
@@ -20,37 +20,39 @@ pub record IsParting (ranks : List ℕ) (stay move jobs aside : List OwnJob) (st
 left_is : (jobs : List OwnJob) (at : ℕ) (own : OwnJob) → at < length jobs → own ≡ get_or jobs at own → drop at jobs ≡ own ∷ drop (at + 1) jobs
 left_is jobs at own within is = drop_more jobs at own within ∙ ap (λ (one : OwnJob). one ∷ drop (at + 1) jobs) (sym is)
 
+-- has ranks
+pub left_ranked : {ranks : List ℕ} {stay move jobs aside : List OwnJob} {start staying at n : ℕ} {own : OwnJob} → IsParting ranks stay move jobs aside start staying at →
+    at < n → length jobs ≡ n → own ≡ get_or jobs at own → IsRanked ranks own
+left_ranked {jobs = jobs} {at = at} {own = own} so_far within count is = All-head (IsRanked _) own (drop (at + 1) jobs) (rw (left_is jobs at own (omega arith) is) at so_far.left)
+
 -- moves
-pub parting_moves : (ranks : List ℕ) (stay move jobs aside : List OwnJob) (start staying at : ℕ) (own : OwnJob) → IsParting ranks stay move jobs aside start staying at →
-    at < length jobs → own ≡ get_or jobs at own → get_or ranks own.end 0 - get_or ranks own.first 0 ≡ own.end - own.first →
+pub parting_moves : {ranks : List ℕ} {stay move jobs aside : List OwnJob} {start staying at n : ℕ} {own : OwnJob} → IsParting ranks stay move jobs aside start staying at →
+    at < n → length jobs ≡ n → own ≡ get_or jobs at own → get_or ranks own.end 0 - get_or ranks own.first 0 ≡ own.end - own.first →
     IsParting ranks stay move jobs (aside ++ moved ranks own ∷ []) start staying (at + 1)
-parting_moves ranks stay move jobs aside start staying at own so_far within is moving =
-    let left = left_is jobs at own within is in
+parting_moves {ranks = ranks} {jobs = jobs} {aside = aside} {at = at} {own = own} so_far within count is moving =
+    let left = left_is jobs at own (omega arith) is in
     let rest : List OwnJob = drop (at + 1) jobs in
     let same : moves ranks own ≡ true = eq-eqb (get_or ranks own.end 0 - get_or ranks own.first 0) (own.end - own.first) moving in
-    let stays = rw (left, same) at so_far.stays in
-    let goes = rw (left, same) at so_far.moved in
     record {
-      stays = stays;
-      moved = append_assoc aside (moved ranks own ∷ []) (moving_jobs ranks rest) ∙ goes;
+      stays = rw (left, same) at so_far.stays;
+      moved = append_assoc aside (moved ranks own ∷ []) (moving_jobs ranks rest) ∙ (rw (left, same) at so_far.moved);
       left = All-rest (IsRanked ranks) own rest (drop at jobs) left so_far.left;
       after = so_far.after;
       behind = omega (arith, so_far.behind);
     }
 
 -- or stays
-pub parting_stays : (ranks : List ℕ) (stay move jobs aside : List OwnJob) (start staying at : ℕ) (own : OwnJob) → IsParting ranks stay move jobs aside start staying at →
-    at < length jobs → own ≡ get_or jobs at own → get_or ranks own.end 0 - get_or ranks own.first 0 ≢ own.end - own.first →
+pub parting_stays : {ranks : List ℕ} {stay move jobs aside : List OwnJob} {start staying at n : ℕ} {own : OwnJob} → IsParting ranks stay move jobs aside start staying at →
+    at < n → length jobs ≡ n → own ≡ get_or jobs at own → get_or ranks own.end 0 - get_or ranks own.first 0 ≢ own.end - own.first →
     IsParting ranks stay move (set jobs staying (stayed ranks own)) aside start (staying + 1) (at + 1)
-parting_stays ranks stay move jobs aside start staying at own so_far within is differs =
-    let left = left_is jobs at own within is in
-    let rest : List OwnJob = drop (at + 1) jobs in
+parting_stays {ranks = ranks} {jobs = jobs} {staying = staying} {at = at} {own = own} so_far within count is differs =
+    let left = left_is jobs at own (omega arith) is in
     let same = drop-set-lt (at + 1) jobs staying (stayed ranks own) (omega (arith, so_far.behind)) in
     let other : moves ranks own ≡ false = ne_eqb (get_or ranks own.end 0 - get_or ranks own.first 0) (own.end - own.first) differs in
     record {
       stays = rw (same, take_more_set jobs staying (stayed ranks own) (omega (arith, so_far.behind)), append_assoc) (rw (left, other) at so_far.stays);
       moved = rw same (rw (left, other) at so_far.moved);
-      left = rw same (All-rest (IsRanked ranks) own rest (drop at jobs) left so_far.left);
+      left = rw same (All-rest (IsRanked ranks) own (drop (at + 1) jobs) (drop at jobs) left so_far.left);
       after = omega (arith, so_far.after);
       behind = omega (arith, so_far.behind);
     }

@@ -57,11 +57,6 @@ is_ranked marks ranks own small are window =
 pub are_ranked : (marks ranks : List ℕ) (jobs : List OwnJob) → All (λ mark. mark ≤ 1) marks → AreRanks marks ranks → HaveWindows (length marks) jobs → All (IsRanked ranks) jobs
 are_ranked marks ranks jobs small are windows i d within = is_ranked marks ranks (get_or jobs i d) small are (windows i d within)
 
--- also of one that is read from what is left
-pub left_ranked : (ranks : List ℕ) (jobs : List OwnJob) (i n : ℕ) (own : OwnJob) → All (IsRanked ranks) (drop i jobs) → i < n → length jobs ≡ n → own ≡ get_or jobs i own → IsRanked ranks own
-left_ranked ranks jobs i n own all within count is =
-    subst (IsRanked ranks) (get_or-drop i jobs 0 own ∙ ap (λ (k : ℕ). get_or jobs k own) (add-zero i) ∙ sym is) (all 0 own (omega (arith, length-drop i jobs)))
-
 -- a number's place among those that pass is how many before it pass
 filtered_place : (p : ℕ → Bool) (numbers : List ℕ) (number place : ℕ) → IsPlace numbers number place → IsPlace (filter p numbers) number (length (filter p (take place numbers)))
 filtered_place p numbers number place is =

@@ -5,7 +5,7 @@ use Rattle.std.specs.List.{All, filter, range_with_len}
 use Rattle.std.proofs.lemmas.Bool.{cases_lt, ne_eqb, cond_both}
 use Rattle.std.proofs.lemmas.Bool.Decides.{nat_tests}
 use Rattle.std.proofs.lemmas.List.{flat_map_more, map_push, length_push, get_or_past, get_or_append_left, get_or_push, get_or-map, length-map}
-use Rattle.std.proofs.lemmas.List.FromFn.{get_or-range_with_len, length-range_with_len}
+use Rattle.std.proofs.lemmas.List.FromFn.{get_or-map-range_with_len, length-map-range_with_len}
 use Rattle.std.proofs.lemmas.List.Elements.{All-nil, All-head, All-tail, All-cons, All-map, All-filter}
 use Rattle.std.proofs.lemmas.List.Filters.{length-filter_both}
 use Rattle.yds_search.specs.declared.stack.Size.{Size}
@@ -96,25 +96,22 @@ same_member top old new group above moved = elim moved [
   | inr both ↦ ne_eqb new group (λ is. omega (arith, is, both.1)) ∙ sym (ne_eqb old group (λ is. omega (arith, is, both.0)))
 ]
 
-waiting_kept : (jobs : List Job) (windows : List Window) (order : List ℕ) (found new : Found) (group top : ℕ) (part : Part) → length new.group_of_stretch ≡ length found.group_of_stretch →
-    AreMovedFrom top found.group_of_job new.group_of_job → AreMovedFrom top found.group_of_stretch new.group_of_stretch → top < group →
-    IsWaiting jobs windows order found group part → IsWaiting jobs windows order new group part
-waiting_kept jobs windows order found new group top part count moved moved' above waiting = record {
-  jobs_are = waiting.jobs_are ∙ sym (in_same found.group_of_job new.group_of_job group order
-      (λ i. same_member top (group_of found.group_of_job i) (group_of new.group_of_job i) group above (moved i)));
-  stretches_are = waiting.stretches_are ∙ sym (in_same found.group_of_stretch new.group_of_stretch group (range_with_len 0 (length found.group_of_stretch))
-      (λ i. same_member top (group_of found.group_of_stretch i) (group_of new.group_of_stretch i) group above (moved' i)))
-      ∙ ap (λ (n : ℕ). numbers_in new.group_of_stretch group (range_with_len 0 n)) (sym count);
-  own = waiting.own;
-}
-
 -- the other groups still wait
 pub stack_kept : (jobs : List Job) (windows : List Window) (order : List ℕ) (found new : Found) (top last : ℕ) (parts : List Part) →
     length new.group_of_stretch ≡ length found.group_of_stretch → AreMovedFrom top found.group_of_job new.group_of_job →
     AreMovedFrom top found.group_of_stretch new.group_of_stretch → IsStack jobs windows order found (top + 1) last parts → IsStack jobs windows order new (top + 1) last parts
 stack_kept jobs windows order found new top last parts count moved moved' stack = record {
   count = stack.count;
-  each = λ i within. waiting_kept jobs windows order found new (last - i) top (part_at parts i) count moved moved' (omega (arith, stack.count, within)) (stack.each i within);
+  each = λ i within.
+      let waiting = stack.each i within in
+      let above : top < last - i = omega (arith, stack.count, within) in record {
+        jobs_are = waiting.jobs_are ∙ sym (in_same found.group_of_job new.group_of_job (last - i) order
+            (λ j. same_member top (group_of found.group_of_job j) (group_of new.group_of_job j) (last - i) above (moved j)));
+        stretches_are = waiting.stretches_are ∙ sym (in_same found.group_of_stretch new.group_of_stretch (last - i) (range_with_len 0 (length found.group_of_stretch))
+            (λ k. same_member top (group_of found.group_of_stretch k) (group_of new.group_of_stretch k) (last - i) above (moved' k)))
+            ∙ ap (λ (n : ℕ). numbers_in new.group_of_stretch (last - i) (range_with_len 0 n)) (sym count);
+        own = waiting.own;
+      };
 }
 
 -- the last group is the fastest one
@@ -186,25 +183,21 @@ after_split jobs found top marks ranks part = record {
 }
 
 split_count : (top : ℕ) (old marks : List ℕ) → length (split_numbers top old marks) ≡ length old
-split_count top old marks =
-    length-map (range_with_len 0 (length old)) (λ i. cond (group_of old i == top) (cond (nat_lt 0 (get_or marks i 0)) (top - 1) top) (group_of old i)) ∙ length-range_with_len 0 (length old)
+split_count top old marks = length-map-range_with_len (λ i. cond (group_of old i == top) (cond (nat_lt 0 (get_or marks i 0)) (top - 1) top) (group_of old i)) 0 (length old)
 
 -- a number after the split
 split_at : (top : ℕ) (old marks : List ℕ) (i : ℕ) → i < length old →
     group_of (split_numbers top old marks) i ≡ cond (group_of old i == top) (cond (nat_lt 0 (get_or marks i 0)) (top - 1) top) (group_of old i)
 split_at top old marks i known =
-    let number = λ (k : ℕ). cond (group_of old k == top) (cond (nat_lt 0 (get_or marks k 0)) (top - 1) top) (group_of old k) in
-    get_or-map number (range_with_len 0 (length old)) i 0 0 (omega (arith, known, length-range_with_len 0 (length old)))
-    ∙ ap number (get_or-range_with_len 0 (length old) i 0 known ∙ zero-add i)
+    get_or-map-range_with_len (λ k. cond (group_of old k == top) (cond (nat_lt 0 (get_or marks k 0)) (top - 1) top) (group_of old k)) 0 (length old) i i 0 known (omega arith)
 
 -- who moves, and who keeps its number
-abbrev IsMove : ℕ → ℕ → ℕ → ℕ → Type 0
-IsMove top mark old new = ((old ≡ top) × (1 ≤ mark) × (new ≡ top - 1)) ⊎ ((old ≡ top → mark ≡ 0) × (new ≡ old))
-
-is_move : (top mark old new : ℕ) → new ≡ cond (old == top) (cond (nat_lt 0 mark) (top - 1) top) old → IsMove top mark old new
+is_move : (top mark old new : ℕ) → new ≡ cond (old == top) (cond (nat_lt 0 mark) (top - 1) top) old → ((old ≡ top) × (1 ≤ mark) × (new ≡ top - 1)) ⊎ ((old ≡ top → mark ≡ 0) × (new ≡ old))
 is_move top mark old new is = grind (arith, nat_tests)
 
-split_moves : (top : ℕ) (old marks : List ℕ) (i : ℕ) → i < length old → IsMove top (get_or marks i 0) (group_of old i) (group_of (split_numbers top old marks) i)
+split_moves : (top : ℕ) (old marks : List ℕ) (i : ℕ) → i < length old →
+    ((group_of old i ≡ top) × (1 ≤ get_or marks i 0) × (group_of (split_numbers top old marks) i ≡ top - 1))
+    ⊎ ((group_of old i ≡ top → get_or marks i 0 ≡ 0) × (group_of (split_numbers top old marks) i ≡ group_of old i))
 split_moves top old marks i known = is_move top (get_or marks i 0) (group_of old i) (group_of (split_numbers top old marks) i) (split_at top old marks i known)
 
 moved_from : (top : ℕ) (old marks : List ℕ) → AreMovedFrom top old (split_numbers top old marks)
@@ -235,15 +228,18 @@ cond_one : {X : Type 0} (F : List X → List ℕ) (b : Bool) (x : X) (kept : Lis
 cond_one F true x kept n list more rest = more
 cond_one F false x kept n list more rest = rest
 
+-- a job with other places
+abbrev placed : (ℕ → ℕ) → OwnJob → OwnJob
+placed place own = record { job = own.job; work = own.work; first = place own.first; end = place own.end }
+
 -- the jobs that are kept have the numbers that pass
-kept_numbers : (p : ℕ → Bool) (q : OwnJob → Bool) (change : OwnJob → OwnJob) → ((own : OwnJob) → (change own).job ≡ own.job) → (jobs : List OwnJob) → All (λ own. q own ≡ p own.job) jobs →
-    job_numbers (map change (filter q jobs)) ≡ filter p (job_numbers jobs)
-kept_numbers p q change same [] agree = refl
-kept_numbers p q change same (own ∷ jobs) agree =
-    let rest = kept_numbers p q change same jobs (All-tail (λ one. q one ≡ p one.job) own jobs agree) in
-    ap (λ b. job_numbers (map change (cond b (own ∷ filter q jobs) (filter q jobs)))) (agree 0 own (omega arith))
-    ∙ cond_one (λ xs. job_numbers (map change xs)) (p own.job) own (filter q jobs) own.job (filter p (job_numbers jobs))
-    (ap (λ k. k ∷ job_numbers (map change (filter q jobs))) (same own) ∙ ap (λ (xs : List ℕ). own.job ∷ xs) rest) rest
+kept_numbers : (p : ℕ → Bool) (q : OwnJob → Bool) (place : ℕ → ℕ) (jobs : List OwnJob) → All (λ own. q own ≡ p own.job) jobs →
+    job_numbers (map (placed place) (filter q jobs)) ≡ filter p (job_numbers jobs)
+kept_numbers p q place [] agree = refl
+kept_numbers p q place (own ∷ jobs) agree =
+    let rest = kept_numbers p q place jobs (All-tail (λ one. q one ≡ p one.job) own jobs agree) in
+    ap (λ b. job_numbers (map (placed place) (cond b (own ∷ filter q jobs) (filter q jobs)))) (agree 0 own (omega arith))
+    ∙ cond_one (λ xs. job_numbers (map (placed place) xs)) (p own.job) own (filter q jobs) own.job (filter p (job_numbers jobs)) (ap (λ (xs : List ℕ). own.job ∷ xs) rest) rest
 
 -- so do the stretches with a mark
 marked_numbers : (p : ℕ → Bool) (mark : ℕ) (marks : List ℕ) (own : List OwnStretch) → length marks ≡ length own →
@@ -266,8 +262,7 @@ all_marked P mark (one ∷ marks) (x ∷ own) all =
 
 -- what one that moves or not, and what a mark, says of the number after the split
 tells : (moving : Bool) (new top : ℕ) → 1 ≤ top → new ≡ cond moving (top - 1) top → (moving ≡ (new == (top - 1))) × (not moving ≡ (new == top))
-tells true new top some is = (sym (eq-eqb new (top - 1) is), sym (ne_eqb new top (λ same. omega (arith, same, is, some))))
-tells false new top some is = (sym (ne_eqb new (top - 1) (λ same. omega (arith, same, is, some))), sym (eq-eqb new top is))
+tells moving new top some is = grind (arith, nat_tests)
 
 mark_tells : (mark new top : ℕ) → mark ≤ 1 → 1 ≤ top → new ≡ cond (nat_lt 0 mark) (top - 1) top →
     (mark ≡ cond (new == (top - 1)) 1 0) × (mark ≡ cond (not (new == top)) 1 0) × ((mark == 1) ≡ (new == (top - 1))) × ((mark == 0) ≡ (new == top))
@@ -276,10 +271,6 @@ mark_tells mark new top small some is = grind (arith, nat_tests)
 flag_some : (b : Bool) → nat_lt 0 (cond b 1 0) ≡ b
 flag_some true = refl
 flag_some false = refl
-
--- a job with other places
-abbrev placed : (ℕ → ℕ) → OwnJob → OwnJob
-placed place own = record { job = own.job; work = own.work; first = place own.first; end = place own.end }
 
 module _ (jobs : List Job) (windows : List Window) (order : List ℕ) (found : Found) (top last : ℕ) (part : Part) (marks ranks : List ℕ)
     (are : IsInstance jobs windows order) (search : IsSearch jobs windows found top last) (few : length found.groups + 1 < top) (within : top ≤ last)
@@ -392,7 +383,7 @@ module _ (jobs : List Job) (windows : List Window) (order : List ℕ) (found : F
       let kept = marked_numbers (λ k. group_of new.group_of_stretch k == group) mark marks part.stretches count agree in
       let still = λ (number n : ℕ) (is : IsPlace (stretch_numbers part.stretches) number n). subst (λ (xs : List ℕ). IsPlace xs number (place n)) (sym kept) (places number n is) in
       record {
-        jobs_are = kept_numbers (λ j. group_of new.group_of_job j == group) q (placed place) (λ own. refl) part.jobs jobs_agree
+        jobs_are = kept_numbers (λ j. group_of new.group_of_job j == group) q place part.jobs jobs_agree
             ∙ ap (numbers_in new.group_of_job group) waits.jobs_are ∙ in_twice found.group_of_job new.group_of_job top group order was;
         stretches_are = kept ∙ ap (numbers_in new.group_of_stretch group) waits.stretches_are
             ∙ in_twice found.group_of_stretch new.group_of_stretch top group (range_with_len 0 (length found.group_of_stretch)) was'
