@@ -5,9 +5,9 @@ use Rattle.std.proofs.lemmas.List.{get_or-set_same, get_or-set_other, length-set
 use Rattle.std.proofs.lemmas.Bool.{cases_lt, cases_eq}
 use Rattle.std.proofs.lemmas.Bool.Decides.{nat_tests}
 use Rattle.yds_events.specs.declared.window.Window.{Window}
-use Rattle.yds_events.specs.Window.{window_at, IsIn}
+use Rattle.yds_events.specs.Window.{window_at}
 use Rattle.yds_search.specs.Found.{Share, share_at, no_share}
-use Rattle.yds_search.specs.Fill.{IsNotAfter, IsFullBefore, IsFill}
+use Rattle.yds_search.specs.Fill.{IsNotAfter, IsFill}
 use Rattle.yds_search.specs.Closure.{AreLeast, reach_from, reach_over, AreLateReaches, AreShareReaches, AreMarksOf, AreClosing, IsMarked, AreClosed}
 
 -- an item that doesn't count

@@ -1,5 +1,5 @@
 -- How the search begins, what of the finished groups is kept, and what it has found at its end.
-use Rattle.std.proofs.Common.{◌≡◌, ℕ, ◌*◌, ◌<◌, ◌≤◌, ◌⊎◌, ◌==◌, List, ◌∙◌, length, get_or, sym, ap, inl, inr, arith, ◌+◌, max, [], ◌∷◌, ◌++◌, refl, subst, zero, suc, ◌-◌}
+use Rattle.std.proofs.Common.{◌≡◌, ℕ, ◌*◌, ◌<◌, ◌≤◌, ◌⊎◌, ◌==◌, List, ◌∙◌, length, get_or, sym, ap, inl, inr, arith, ◌+◌, [], refl, zero, suc, ◌-◌}
 use Rattle.std.specs.Prelude.{◌↔◌, if◌then◌else◌, nat_lt}
 use Rattle.std.proofs.lemmas.Bool.Decides.{nat_tests}
 use Rattle.yds_model.specs.Job.{Job, job_at}

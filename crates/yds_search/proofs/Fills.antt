@@ -1,9 +1,9 @@
 -- The fill by place, share by share and job by job; full stretches are jumped over.
-use Rattle.std.proofs.Common.{◌≡◌, ℕ, ◌<◌, ◌≤◌, ◌+◌, ◌-◌, ◌≢◌, ◌==◌, min, List, [], ◌∷◌, ◌++◌, ◌∙◌, length, get_or, set, take, refl, sym, ap, subst, inl, inr, arith}
+use Rattle.std.proofs.Common.{◌≡◌, ℕ, ◌<◌, ◌≤◌, ◌+◌, ◌-◌, ◌≢◌, ◌==◌, min, List, [], ◌∷◌, ◌++◌, ◌∙◌, length, get_or, set, take, sym, ap, subst, inl, inr, arith}
 use Rattle.std.specs.Prelude.{cond, if◌then◌else◌, nat_lt}
 use Rattle.std.specs.List.{All}
 use Rattle.std.proofs.lemmas.List.{get_or-set_same, get_or-set_other, length-set, length_push, take_all}
-use Rattle.std.proofs.lemmas.List.Elements.{All-push, All-weaker, All-nil}
+use Rattle.std.proofs.lemmas.List.Elements.{All-push}
 use Rattle.std.proofs.lemmas.List.Quantifiers.{all_pairs_push}
 use Rattle.std.proofs.lemmas.List.Sums.{sum_by_push, sum_by-set, sum_by_more}
 use Rattle.std.proofs.lemmas.Bool.{cases_lt, cases_eq}
@@ -11,7 +11,7 @@ use Rattle.std.proofs.lemmas.Bool.Decides.{nat_tests}
 use Rattle.yds_events.specs.declared.window.Window.{Window}
 use Rattle.yds_events.specs.Window.{window_at, IsIn}
 use Rattle.yds_search.specs.Found.{Share, units_of_job}
-use Rattle.yds_search.specs.Fill.{IsNotAfter, IsFullBefore, IsPart, FoundFull, StandInOrder, AreTaken, IsServed, full_count, wanting_count, IsFilling, IsFill, IsNext, IsNumbers, IsTake}
+use Rattle.yds_search.specs.Fill.{IsNotAfter, IsFullBefore, IsPart, FoundFull, StandInOrder, AreTaken, IsServed, full_count, wanting_count, IsFilling, IsFill, IsNext, IsTake}
 
 -- a full stretch stays full and keeps its shares, because nothing is put into it
 full_keeps : (shares : List Share) (rooms : List ℕ) (share : Share) (rest k job : ℕ) → IsFullBefore IsNotAfter shares rooms k job →

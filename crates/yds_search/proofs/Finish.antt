@@ -1,5 +1,5 @@
 -- A group without late jobs is finished.
-use Rattle.std.proofs.Common.{◌≡◌, ℕ, zero, suc, ◌+◌, ◌-◌, ◌*◌, ◌<◌, ◌≤◌, ◌≢◌, ◌==◌, Bool, true, false, List, [], ◌∷◌, ◌++◌, ◌∙◌, length, get_or, refl, sym, ap, subst, inl, inr, arith}
+use Rattle.std.proofs.Common.{◌≡◌, ℕ, ◌+◌, ◌-◌, ◌*◌, ◌<◌, ◌≤◌, ◌≢◌, ◌==◌, Bool, List, [], ◌∷◌, ◌++◌, ◌∙◌, length, get_or, refl, sym, ap, subst, inl, inr, arith}
 use Rattle.std.specs.Prelude.{◌↔◌, if◌then◌else◌, nat_lt}
 use Rattle.std.specs.List.{All}
 use Rattle.std.proofs.lemmas.List.{length_push, length-append, get_or_append_left, get_or-append_right, get_or_push}
@@ -14,7 +14,7 @@ use Rattle.yds_search.specs.Found.{Found, Group, Share, share_at, no_share, grou
 use Rattle.yds_events.specs.Window.{length_at, IsIn, AreWindows}
 use Rattle.yds_model.specs.EarliestFirst.{ComesFirst}
 use Rattle.yds_search.specs.Order.{Precedes}
-use Rattle.yds_search.specs.Search.{IsFast, IsSlow, LieInWindows, IsLead, IsFinished, MayTake, IsSearch, IsFilled, IsRenamed, finished_count}
+use Rattle.yds_search.specs.Search.{IsLead, IsFinished, MayTake, IsSearch, IsFilled, IsRenamed, finished_count}
 use Rattle.yds_model.proofs.Horizon.{part_own, part_other}
 use Rattle.yds_search.proofs.Shares.{no_units}
 use Rattle.yds_search.proofs.KeySums.{over, over_same, over_at_most, over_add, over_ones, over_list}

@@ -1,5 +1,5 @@
 -- What of a numbering of all groups is kept: the finished ones' numbers. And how near the search's end is.
-use Rattle.std.proofs.Common.{◌≡◌, ℕ, ◌+◌, ◌-◌, ◌*◌, ◌<◌, ◌≤◌, ◌⊎◌, ◌≢◌, ◌==◌, List, [], ◌∷◌, ◌++◌, ◌∙◌, length, map, replicate, get_or, refl, sym, ap, subst, inl, inr, arith}
+use Rattle.std.proofs.Common.{◌≡◌, ℕ, ◌+◌, ◌-◌, ◌*◌, ◌<◌, ◌≤◌, ◌⊎◌, ◌≢◌, ◌==◌, List, [], ◌∷◌, ◌++◌, ◌∙◌, length, map, replicate, get_or, sym, ap, subst, inl, inr, arith}
 use Rattle.std.specs.Prelude.{cond, nat_lt}
 use Rattle.std.specs.List.{All, range_with_len}
 use Rattle.std.proofs.lemmas.List.{same_lists, get_or-map, length_push, get_or_past, length-map, length-append, get_or_default, length-replicate, get_or-replicate}

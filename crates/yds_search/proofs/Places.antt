@@ -1,5 +1,5 @@
 -- A group by place and by number: its jobs and stretches, its windows, its work and length, and how it is filled.
-use Rattle.std.proofs.Common.{◌≡◌, ℕ, ◌+◌, ◌*◌, ◌/◌, ◌^◌, ◌<◌, ◌≤◌, ◌==◌, List, ◌∙◌, length, get_or, map, refl, sym, ap, subst, inl, inr, arith}
+use Rattle.std.proofs.Common.{◌≡◌, ℕ, ◌*◌, ◌^◌, ◌<◌, ◌≤◌, ◌==◌, List, ◌∙◌, length, get_or, refl, sym, ap, subst, inl, inr, arith}
 use Rattle.std.specs.Prelude.{if◌then◌else◌, nat_lt, not}
 use Rattle.std.specs.List.{All, AllPairs, sum_by, range_with_len}
 use Rattle.std.proofs.Math.Nat.{div-le_self}

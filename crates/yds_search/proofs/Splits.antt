@@ -1,10 +1,10 @@
 -- A group with late jobs is split in two.
-use Rattle.std.proofs.Common.{◌≡◌, ℕ, zero, suc, ◌+◌, ◌*◌, ◌<◌, ◌≤◌, ◌⊎◌, List, ◌∙◌, length, get_or, refl, sym, subst, inl, inr, arith}
+use Rattle.std.proofs.Common.{◌≡◌, ℕ, ◌+◌, ◌*◌, ◌<◌, ◌≤◌, ◌⊎◌, List, ◌∙◌, length, get_or, refl, sym, subst, inl, inr, arith}
 use Rattle.std.proofs.lemmas.Bool.{cases_lt, cases_eq}
 use Rattle.yds_model.specs.Job.{Job, job_at}
 use Rattle.yds_model.specs.Event.{stretches}
 use Rattle.yds_events.specs.declared.window.Window.{Window}
-use Rattle.yds_search.specs.Found.{Found, Share, share_at, no_share, group_of}
+use Rattle.yds_search.specs.Found.{Found, Share, share_at, group_of}
 use Rattle.yds_events.specs.Window.{length_at, IsIn, AreWindows}
 use Rattle.yds_search.specs.Closure.{IsMarked, AreClosed}
 use Rattle.yds_search.specs.Search.{IsFast, IsSlow, LieInWindows, IsBoundary, MayTake, IsSearch, IsFilled, IsSplit}

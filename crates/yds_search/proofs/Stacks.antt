@@ -17,8 +17,8 @@ use Rattle.yds_events.specs.declared.window.Window.{Window}
 use Rattle.yds_events.specs.Window.{window_at, no_window, length_at, IsIn, IsPlace}
 use Rattle.yds_search.specs.Found.{Found, group_of}
 use Rattle.yds_search.specs.Numbers.{IsOneOf, numbers_in}
-use Rattle.yds_search.specs.Search.{IsSplitStretch, IsSplitJob, IsSplit, AreMovedFrom, IsSearch}
-use Rattle.yds_search.specs.Own.{Part, AreOwn, HaveWindows, job_numbers, stretch_numbers, window_of, own_windows, spread}
+use Rattle.yds_search.specs.Search.{IsSplitJob, IsSplit, AreMovedFrom, IsSearch}
+use Rattle.yds_search.specs.Own.{Part, HaveWindows, job_numbers, stretch_numbers, window_of, own_windows, spread}
 use Rattle.yds_search.specs.Closure.{AreRanks}
 use Rattle.yds_search.specs.Instance.{IsInstance}
 use Rattle.yds_search.specs.Waiting.{part_at, no_part, IsWaiting, IsStack}

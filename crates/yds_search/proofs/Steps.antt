@@ -1,12 +1,10 @@
 -- One step of the search: the fastest group is filled, and finished or split.
-use Rattle.std.proofs.Common.{◌≡◌, ℕ, ◌+◌, ◌-◌, ◌*◌, ◌<◌, ◌≤◌, ◌⊎◌, ◌==◌, List, [], ◌∷◌, ◌++◌, ◌∙◌, length, map, replicate, get_or, refl, sym, ap, subst, inl, inr, arith}
-use Rattle.std.specs.Prelude.{cond, nat_lt}
-use Rattle.std.specs.List.{All, range_with_len, sum_by}
-use Rattle.std.proofs.lemmas.List.{same_lists, get_or-map, length-map, length_push, get_or_default}
-use Rattle.std.proofs.lemmas.List.FromFn.{length-range_with_len, get_or-range_with_len}
-use Rattle.std.proofs.lemmas.Bool.{cases_lt, cases_eq}
+use Rattle.std.proofs.Common.{◌≡◌, ℕ, ◌+◌, ◌-◌, ◌*◌, ◌<◌, ◌≤◌, ◌==◌, List, [], ◌∷◌, ◌++◌, ◌∙◌, length, map, get_or, sym, subst, arith}
+use Rattle.std.specs.Prelude.{cond}
+use Rattle.std.specs.List.{All, sum_by}
+use Rattle.std.proofs.lemmas.List.{get_or-map, length-map}
 use Rattle.std.proofs.lemmas.Bool.Decides.{nat_tests}
-use Rattle.yds_model.specs.Job.{Job, job_at}
+use Rattle.yds_model.specs.Job.{Job}
 use Rattle.yds_model.specs.Event.{stretches}
 use Rattle.yds_events.specs.declared.window.Window.{Window}
 use Rattle.yds_events.specs.Window.{no_window}
@@ -14,23 +12,20 @@ use Rattle.yds_search.specs.declared.own.OwnJob.{OwnJob}
 use Rattle.yds_search.specs.Found.{Found, Group, Share, group_of, per_time, per_work}
 use Rattle.yds_search.specs.Fill.{IsFill, IsNotAfter}
 use Rattle.yds_search.specs.Closure.{AreClosing, AreClosed, AreRanks}
-use Rattle.yds_search.specs.Numbers.{IsOneOf, numbers_in, AreWritten}
-use Rattle.yds_search.specs.Search.{IsSearch, IsAttempt, IsFilled, IsRenamed, IsSplit, AreMovedFrom}
+use Rattle.yds_search.specs.Search.{IsSearch, IsAttempt, IsFilled, IsRenamed, IsSplit}
 use Rattle.yds_search.specs.Instance.{IsInstance}
 use Rattle.yds_search.specs.Own.{Part, window_of, own_windows, wants_at, rooms_at, shares_by_number, job_numbers, stretch_numbers, spread}
 use Rattle.yds_search.specs.Stack.{staying_part, moving_part}
 use Rattle.yds_search.specs.Waiting.{IsWaiting, IsStack}
-use Rattle.yds_search.specs.Searching.{last_group, finished_number}
-use Rattle.yds_search.specs.declared.found.TheConstants.{NO_GROUP}
+use Rattle.yds_search.specs.Searching.{last_group}
 use Rattle.yds_search.proofs.KeySums.{over_one, over_zero}
 use Rattle.yds_search.proofs.Balance.{balance}
-use Rattle.yds_search.proofs.Ends.{few_groups, few_left, moved}
+use Rattle.yds_search.proofs.Ends.{few_groups, few_left}
 use Rattle.yds_search.proofs.Finish.{finish_search}
 use Rattle.yds_search.proofs.Splits.{split_search}
-use Rattle.yds_search.proofs.Numbers.{one_or_none, written_at, written_off, in_group, in_has}
 use Rattle.yds_search.proofs.Closures.{fill_closes}
-use Rattle.yds_search.proofs.Places.{windows_have, part_few, ends_rise, attempt_by_number, closed_by_number, late_by_number, served_by_number}
-use Rattle.yds_search.proofs.Stacks.{split_numbers, job_marks, after_split, split_waits, stack_kept}
+use Rattle.yds_search.proofs.Places.{windows_have, ends_rise, attempt_by_number, closed_by_number, late_by_number, served_by_number}
+use Rattle.yds_search.proofs.Stacks.{after_split, split_waits}
 
 abbrev no_own : OwnJob
 no_own = record { job = 0; work = 0; first = 0; end = 0 }

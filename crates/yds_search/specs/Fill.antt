@@ -1,5 +1,5 @@
 -- The fill of stretches with room by jobs that want units: each job, in order, takes the earliest room in its window.
-use Rattle.std.specs.Prelude.{◌≡◌, ℕ, ◌+◌, ◌-◌, ◌<◌, ◌≤◌, ◌⊎◌, ◌==◌, nat_lt, min, if◌then◌else◌, List, [], ◌∷◌, ◌++◌, length, take, slice_index, slice_set, count_by}
+use Rattle.std.specs.Prelude.{◌≡◌, ℕ, ◌+◌, ◌-◌, ◌<◌, ◌≤◌, ◌⊎◌, ◌==◌, nat_lt, min, List, [], ◌∷◌, ◌++◌, length, take, slice_index, slice_set, count_by}
 use Rattle.std.specs.List.{All, AllPairs}
 use Rattle.yds_events.specs.declared.window.Window.{Window}
 use Rattle.yds_search.specs.Found.{Share, units_of_job, units_in_stretch}

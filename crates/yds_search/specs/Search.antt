@@ -1,6 +1,6 @@
 -- The search for groups. Groups are numbered, here and in proofs alone: the finished ones from 0, those that are still to be filled from `top` to
 -- `last`, the fastest first. What has a number above `last` is in no group.
-use Rattle.std.specs.Prelude.{◌≡◌, ℕ, ◌+◌, ◌-◌, ◌*◌, ◌<◌, ◌≤◌, ◌⊎◌, ◌==◌, nat_lt, if◌then◌else◌, List, [], length, sum_by, slice_index}
+use Rattle.std.specs.Prelude.{◌≡◌, ℕ, ◌+◌, ◌*◌, ◌<◌, ◌≤◌, ◌⊎◌, ◌==◌, nat_lt, if◌then◌else◌, List, [], length, sum_by, slice_index}
 use Rattle.std.specs.List.{All, range_with_len}
 use Rattle.yds_model.specs.Job.{Job, job_at}
 use Rattle.yds_model.specs.Event.{stretches}

@@ -1,5 +1,4 @@
-use Rattle.std.proofs.Common.{ℕ, ◌≡◌, ◌*◌, ◌∙◌, arith, refl, ap, List, length}
-use Rattle.yds_search.specs.Searching.{IsChosen}
+use Rattle.std.proofs.Common.{◌*◌, ◌∙◌, arith, refl, length}
 use Rattle.yds_search.proofs.Chosen.{chosen_as, chosen_few, chosen_windows, chosen_known, chosen_some, chosen_units, chosen_finished, chosen_split, chosen_rooms, chosen_parts, chosen_room, shares_known}
 use Rattle.yds_search.proofs.Kept.{finish_nearer, split_nearer}
 use Rattle.yds_search.specs.Found.{per_work}
