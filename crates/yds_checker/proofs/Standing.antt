@@ -11,7 +11,7 @@ use Rattle.yds_model.specs.Proper.{PiecesStand}
 use Rattle.yds_model.specs.Numbers.{IsFirstFailure}
 use Rattle.yds_model.proofs.Lists.{flat_map-take}
 use Rattle.yds_model.proofs.Front.{pieces_forward}
-use Rattle.yds_laws.proofs.TaskNames.{All-flat}
+use Rattle.yds_laws.proofs.Lists.{All-flat}
 use Rattle.yds_checker.specs.declared.placed.Placed.{Placed}
 use Rattle.yds_checker.specs.Placed.{has_unit, covering, ArePlaced, AreByStart, AreApartBelow}
 use Rattle.yds_checker.specs.Standing.{IsOrdered, AreInRun}

@@ -11,8 +11,10 @@ ghost use Rattle.std.specs.Result.{IfErr};
 ghost use Rattle.yds_model.specs.Status.{status_code};
 ghost use Rattle.yds_cli.specs.Codes.{code_without_words};
 
+use std::hash::RandomState;
 use std::io::{BufWriter, ErrorKind};
 use std::process::ExitCode;
+use std::random::RandomSource;
 use std::rt::Env;
 use std::{env, io};
 use yds_model::Status;
@@ -35,7 +37,24 @@ fn run_words(rt: &HostRuntime) -> io::Result<Status> {
     let output = BufWriter::with_capacity(rt.alloc(), OUTPUT_BUFFER, rt.stdout())?;
     let mut source = StdSource::new(rt.stdin());
     let mut sink = StdSink::new(output);
-    Ok(run(rt.alloc(), &words, &mut source, &mut sink))
+    let keys = drawn_keys(rt)?;
+    Ok(run(rt.alloc(), keys, &words, &mut source, &mut sink))
+}
+
+/// The keys that names are looked up with, drawn anew in each run, so that nobody can choose names that are slow to look
+/// up. Fixed ones where the machine gives no random bytes: no answer depends on them.
+fn drawn_keys(random: &impl RandomSource) -> io::Result<RandomState> {
+    RandomState::new(random).or_else(|_error| RandomState::new(&FixedBytes))
+}
+
+/// What is drawn where there are no random bytes: bytes that are all 0.
+struct FixedBytes;
+
+impl RandomSource for FixedBytes {
+    fn fill_bytes(&self, bytes: &mut [u8]) -> io::Result<()> {
+        bytes.fill(0);
+        Ok(())
+    }
 }
 
 /// The words of the command line, without the program's name.

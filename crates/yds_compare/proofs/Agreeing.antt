@@ -6,7 +6,7 @@ use Rattle.yds_model.specs.Table.{Point}
 use Rattle.yds_model.specs.Comparison.{Spent, IsSpentAt, all_time_at, all_energy, in_parts}
 use Rattle.yds_model.proofs.Scale.{shifted}
 use Rattle.yds_model.proofs.Sums.{sum_by-mul, sum_by_same}
-use Rattle.yds_laws.proofs.RunScale.{map_agree}
+use Rattle.yds_energy.proofs.RunScale.{map_agree}
 use Rattle.yds_compare.specs.declared.load.Load.{Load}
 use Rattle.yds_compare.specs.Spent.{time_of_loads, energy_of_loads, IsSpentOn}
 use Rattle.yds_compare.proofs.Proportion.{parts_same}

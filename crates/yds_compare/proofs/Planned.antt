@@ -23,20 +23,20 @@ use Rattle.yds_model.proofs.Sums.{sum_by_same}
 use Rattle.yds_events.specs.Stretch.{length_of}
 use Rattle.yds_slots.specs.Between.{lies_between}
 use Rattle.yds_search.proofs.KeySums.{sum_by-map, sum_by-flat_map}
-use Rattle.yds_laws.proofs.LevelTimes.{levels_long, plan_busy}
-use Rattle.yds_laws.proofs.PlanParts.{HasSpeeds, plan_part}
+use Rattle.yds_energy.proofs.LevelTimes.{levels_long, plan_busy}
+use Rattle.yds_energy.proofs.PlanParts.{HasSpeeds, plan_part}
 use Rattle.yds_round.specs.Written.{units_of_slots}
 use Rattle.yds_round.specs.Rounded.{planned_in}
 use Rattle.yds_round.proofs.Held.{back_at, whole, known, forward, held}
 use Rattle.yds_compare.specs.declared.load.Load.{Load}
 use Rattle.yds_compare.specs.Load.{level_load, level_loads, IsHeldAt}
 use Rattle.yds_compare.specs.Spent.{time_of_loads}
-use Rattle.yds_laws.proofs.SpentScale.{time_scaled}
+use Rattle.yds_energy.proofs.SpentScale.{time_scaled}
 use Rattle.yds_compare.proofs.Runs.{slots_in_stretch, units_sum}
-use Rattle.yds_laws.proofs.EvenStretches.{some_or_none}
-use Rattle.yds_laws.proofs.PointTimes.{idle_time}
-use Rattle.yds_laws.proofs.RoundedRuns.{rate_together}
-use Rattle.yds_laws.proofs.LevelsEnergy.{all_lengths, lengths_positive, rate, rate_member, rates_together, level_rates}
+use Rattle.yds_energy.proofs.EvenStretches.{some_or_none}
+use Rattle.yds_energy.proofs.PointTimes.{idle_time}
+use Rattle.yds_energy.proofs.RoundedRuns.{rate_together}
+use Rattle.yds_energy.proofs.LevelsEnergy.{all_lengths, lengths_positive, rate, rate_member, rates_together, level_rates}
 
 -- the time in which nothing is done is proportional to all of it
 choice_times : (b : Bool) (time multiple : ℕ) → (if b then time * multiple else 0) ≡ time * (if b then multiple else 0)

@@ -10,8 +10,8 @@ use Rattle.yds_model.specs.Table.{Point, no_point, point_at, AreRising, hull_of,
 use Rattle.yds_model.specs.Comparison.{time_at}
 use Rattle.yds_model.specs.Rounding.{top_of}
 use Rattle.yds_table.specs.Table.{last_of}
-use Rattle.yds_laws.proofs.OneEnergy.{places_rise}
-use Rattle.yds_laws.proofs.PointTimes.{gap_divides, pair_time, idle_time}
+use Rattle.yds_energy.proofs.OneEnergy.{places_rise}
+use Rattle.yds_energy.proofs.PointTimes.{gap_divides, pair_time, idle_time}
 use Rattle.yds_compare.specs.declared.load.Load.{Load}
 use Rattle.yds_compare.specs.declared.share.Share.{Share}
 use Rattle.yds_compare.specs.Load.{IsHeldAt}

@@ -33,8 +33,8 @@ use Rattle.yds_compare.specs.declared.load.Load.{Load}
 use Rattle.yds_compare.specs.Load.{load_of, loads_of, load_at, IsHeldAt}
 use Rattle.yds_compare.specs.Spent.{time_of_loads, IsSpentOn}
 use Rattle.yds_compare.specs.Side.{IsRunOnGrid}
-use Rattle.yds_laws.proofs.SpentScale.{time_scaled}
-use Rattle.yds_laws.proofs.StretchSlots.{lies, lies_told}
+use Rattle.yds_energy.proofs.SpentScale.{time_scaled}
+use Rattle.yds_energy.proofs.StretchSlots.{lies, lies_told}
 use Rattle.yds_compare.proofs.Agreeing.{TakeAsLong, spent_at}
 
 -- # The slots in a stretch

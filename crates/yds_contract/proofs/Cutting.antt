@@ -1,14 +1,18 @@
 -- Spans that are cut at times are the same time, in pieces that have no time strictly inside and meet at times alone.
-use Rattle.std.proofs.Common.{◌≡◌, ℕ, suc, ◌<◌, ◌≤◌, ◌⊎◌, List, [], ◌∷◌, ◌++◌, get_or, sym, subst, inl, inr, arith, refl}
-use Rattle.std.specs.Prelude.{◌↔◌, nat_lt, ◌&&◌}
+use Rattle.std.proofs.Common.{◌≡◌, ℕ, zero, suc, ◌-◌, ◌*◌, ◌<◌, ◌≤◌, ◌⊎◌, List, [], ◌∷◌, ◌++◌, ◌∙◌, length, get_or, map, take, drop, cond, true, false, ap, sym, subst, inl, inr, arith, refl}
+use Rattle.std.specs.Prelude.{◌↔◌, ◌/◌, ◌+◌, Bool, nat_lt, nat_le, ◌&&◌, filter}
 use Rattle.std.specs.List.{All, Contains}
-use Rattle.std.proofs.lemmas.Bool.{cases_lt, cond-true, cond-false, lt-ltb, le-ltb, and_from, and_left, and_right}
+use Rattle.std.proofs.lemmas.Bool.{cases_lt, cases_Bool, cases_eq, le-leb, lt-leb, both_ways, cond-true, cond-false, lt-ltb, le-ltb, and_from, and_left, and_right}
+use Rattle.std.specs.List.Sorted.{IsStrictlyIncreasing, IsNonDecreasingBy, IsPartitionedBy}
+use Rattle.std.proofs.Math.Nat.{mul-le-mul_right}
+use Rattle.std.proofs.lemmas.List.Kept.{AllPairs-from_increasing}
+use Rattle.std.proofs.lemmas.List.Sorted.{IsPartitionedBy-leb}
 use Rattle.std.proofs.lemmas.List.Elements.{All-cons, All-nil, All-append, All-weaker}
 use Rattle.yds_model.specs.Piece.{Piece, PiecesFrom, Covers}
 use Rattle.yds_certificate.proofs.Cover.{Covers-cons, Covers-append}
 use Rattle.yds_contract.specs.Contracted.{AreApartFrom}
 use Rattle.yds_contract.specs.Spread.{MeetsOnlyAt, MeetOnlyAt, IsUncutAt}
-use Rattle.yds_contract.specs.Cut.{cut_between, cut_all}
+use Rattle.yds_contract.specs.Cut.{AreUpto, lies_between, cut_between, cut_all}
 use Rattle.yds_contract.proofs.Cells.{none_covered, apart_weaker}
 
 pub cut_here : (from to time : ℕ) (times : List ℕ) → from < time → time < to →
@@ -149,3 +153,107 @@ cut_all_meet times start [] apart = tt
 cut_all_meet times start (span ∷ spans) apart =
     some_meets times (suc span.from) (cut_all times (span ∷ spans))
     (cut_meets times (suc span.from) span.from span.to times (cut_all times spans) (λ t has. has) (λ same. absurd (omega arith)) (cut_all_meets times span.to spans apart.2))
+
+-- a test that passes each time strictly inside the span keeps its cuts
+pub same_cuts : (parts low from to : ℕ) (p : ℕ → Bool) (times : List ℕ) → low ≤ from → ((time : ℕ) → p time ≡ false → (time * parts ≤ low) ⊎ (to ≤ time * parts)) →
+    cut_between from to (map (λ time. time * parts) (filter p times)) ≡ cut_between from to (map (λ time. time * parts) times)
+same_cuts parts low from to p [] first fails = refl
+same_cuts parts low from to p (time ∷ times) first fails = elim (cases_Bool (p time)) [
+  | inr off ↦
+      let outside_it : (time * parts ≤ from) ⊎ (to ≤ time * parts) = elim (fails time off) [ inl early ↦ inl (omega (arith, early, first)) | inr late ↦ inr late ] in
+      ap (λ (b : Bool). cut_between from to (map (λ t. t * parts) (cond b (time ∷ filter p times) (filter p times)))) off
+      ∙ same_cuts parts low from to p times first fails
+      ∙ sym (cut_later from to (time * parts) (map (λ t. t * parts) times) outside_it)
+  | inl kept ↦
+      ap (λ (b : Bool). cut_between from to (map (λ t. t * parts) (cond b (time ∷ filter p times) (filter p times)))) kept
+      ∙ (let both : cut_between from to (time * parts ∷ map (λ t. t * parts) (filter p times)) ≡ cut_between from to (time * parts ∷ map (λ t. t * parts) times) =
+      elim (stands from to (time * parts)) [
+        | inside after before ↦
+            cut_here from to (time * parts) (map (λ t. t * parts) (filter p times)) after before
+            ∙ ap (λ (ps : List Piece). record { from = from; to = time * parts } ∷ ps) (same_cuts parts low (time * parts) to p times (omega (arith, first, after)) fails)
+            ∙ sym (cut_here from to (time * parts) (map (λ t. t * parts) times) after before)
+        | outside where_it_is ↦
+            cut_later from to (time * parts) (map (λ t. t * parts) (filter p times)) where_it_is
+            ∙ same_cuts parts low from to p times first fails
+            ∙ sym (cut_later from to (time * parts) (map (λ t. t * parts) times) where_it_is)
+      ] in both)
+]
+
+-- where none passes a test, none is kept
+rest_fails : (p : ℕ → Bool) (times : List ℕ) → ((k : ℕ) → k < length times → p (get_or times k 0) ≡ false) → [] ≡ filter p times
+rest_fails p [] none = refl
+rest_fails p (time ∷ times) none =
+    rest_fails p times (λ k below. none (suc k) (omega arith)) ∙ sym (ap (λ (b : Bool). cond b (time ∷ filter p times) (filter p times)) (none 0 (omega arith)))
+
+-- the elements of a range that pass a test, where those before it and those after it don't
+pub kept_range : (p : ℕ → Bool) (times : List ℕ) (first last : ℕ) → first ≤ last → last ≤ length times →
+    ((k : ℕ) → k < first → p (get_or times k 0) ≡ false) → ((k : ℕ) → first ≤ k → k < last → p (get_or times k 0) ≡ true) →
+    ((k : ℕ) → last ≤ k → k < length times → p (get_or times k 0) ≡ false) → take (last - first) (drop first times) ≡ filter p times
+kept_range p [] first last order within before inside_it after =
+    let none : last - first ≡ 0 = omega (arith, within) in
+    ap (λ (n : ℕ). take n (drop first [])) none
+kept_range p (time ∷ times) zero zero order within before inside_it after =
+    rest_fails p (time ∷ times) (λ k below. after k (omega arith) below)
+kept_range p (time ∷ times) zero (suc last) order within before inside_it after =
+    let count : suc last - 0 ≡ suc (last - 0) = omega arith in
+    ap (λ (n : ℕ). take n (time ∷ times)) count
+    ∙ ap (λ (rest : List ℕ). time ∷ rest)
+    (kept_range p times 0 last (omega arith) (omega (arith, within)) (λ k below. absurd (omega arith)) (λ k from below. inside_it (suc k) (omega arith) (omega arith))
+    (λ k from below. after (suc k) (omega arith) (omega arith)))
+    ∙ sym (ap (λ (b : Bool). cond b (time ∷ filter p times) (filter p times)) (inside_it 0 (omega arith) (omega arith)))
+kept_range p (time ∷ times) (suc first) zero order within before inside_it after = absurd (omega (arith, order))
+kept_range p (time ∷ times) (suc first) (suc last) order within before inside_it after =
+    let count : suc last - suc first ≡ last - first = omega arith in
+    ap (λ (n : ℕ). take n (drop first times)) count
+    ∙ kept_range p times first last (omega (arith, order)) (omega (arith, within)) (λ k below. before (suc k) (omega arith))
+    (λ k from below. inside_it (suc k) (omega arith) (omega arith)) (λ k from below. after (suc k) (omega arith) (omega arith))
+    ∙ sym (ap (λ (b : Bool). cond b (time ∷ filter p times) (filter p times)) (before 0 (omega arith)))
+
+-- rising times are parted by a time
+rises_by : (times : List ℕ) → IsStrictlyIncreasing times → IsNonDecreasingBy (λ (time : ℕ). time) times
+rises_by times rise i j d before within = elim (cases_eq i j) [
+  | inl same ↦ omega (arith, ap (λ (k : ℕ). get_or times k d) same)
+  | inr other ↦ omega (arith, AllPairs-from_increasing times rise i j d (omega arith) within)
+]
+
+pub parted_upto : (times : List ℕ) (time : ℕ) → IsStrictlyIncreasing times → IsPartitionedBy (λ (t : ℕ). nat_le t time) times
+parted_upto times time rise = IsPartitionedBy-leb (λ (t : ℕ). t) times time (rises_by times rise)
+
+-- counts up to two times stand in their order
+pub counts_rise : (times : List ℕ) (after upto first last : ℕ) → after ≤ upto → AreUpto times after first → AreUpto times upto last → first ≤ last
+counts_rise times after upto first last forward one other = elim (cases_lt last first) [
+  | inl less ↦ absurd (omega (arith, one.before last less, other.after last (omega arith) (omega (arith, one.within, less)), forward))
+  | inr more ↦ more
+]
+
+-- the times between them are those that lie between
+pub between_counts : (times : List ℕ) (after upto first last : ℕ) → after ≤ upto → AreUpto times after first → AreUpto times upto last →
+    take (last - first) (drop first times) ≡ filter (lies_between after upto) times
+between_counts times after upto first last forward one other =
+    kept_range (lies_between after upto) times first last (counts_rise times after upto first last forward one other) other.within
+    (λ k below. and_left (nat_lt after (get_or times k 0)) (nat_le (get_or times k 0) upto) (le-ltb after (get_or times k 0) (one.before k below)))
+    (λ k from below. and_from (nat_lt after (get_or times k 0)) (nat_le (get_or times k 0) upto)
+    (lt-ltb after (get_or times k 0) (one.after k from (omega (arith, below, other.within)))) (le-leb (get_or times k 0) upto (other.before k below)))
+    (λ k from below. and_right (nat_lt after (get_or times k 0)) (nat_le (get_or times k 0) upto) (lt-leb (get_or times k 0) upto (other.after k from below)))
+
+-- a time that isn't after the span's begin, in whole time units, or is after its last part, isn't strictly inside it
+pub not_inside : (parts from to time : ℕ) → 1 ≤ parts → from < to → lies_between (from / parts) ((to - 1) / parts) time ≡ false →
+    (time * parts ≤ from) ⊎ (to ≤ time * parts)
+not_inside parts from to time some forward off = elim (cases_lt (from / parts) time) [
+  | inr early ↦ inl (omega (arith, mul-le-mul_right parts early, some))
+  | inl later ↦ elim (cases_lt ((to - 1) / parts) time) [
+    | inl past ↦
+        let next : (to - 1) / parts + 1 ≤ time = omega (arith, past) in
+        inr (omega (arith, mul-le-mul_right parts next, some, forward))
+    | inr within ↦ absurd (both_ways (lies_between (from / parts) ((to - 1) / parts) time) off
+        (and_from (nat_lt (from / parts) time) (nat_le time ((to - 1) / parts)) (lt-ltb (from / parts) time later) (le-leb time ((to - 1) / parts) within)))
+  ]
+]
+
+pub units_forward : (parts from to : ℕ) → 1 ≤ parts → from < to → from / parts ≤ (to - 1) / parts
+units_forward parts from to some forward = elim (cases_lt ((to - 1) / parts) (from / parts)) [
+  | inr more ↦ more
+  | inl less ↦
+      let next : (to - 1) / parts + 1 ≤ from / parts = omega (arith, less) in
+      absurd (omega (arith, mul-le-mul_right parts next, some, forward))
+]

@@ -184,3 +184,21 @@ pub spans_end : (removed : List Piece) (most parts start end : ℕ) (spans : Lis
     spans ≡ pieces_after start end 0 0 (map (piece_in_parts parts) removed) → i < length spans → (piece_at spans i).to ≤ most
 spans_end removed most parts start end spans i fits is within =
     (subst (All (λ (p : Piece). p.to ≤ most)) (sym is) (pieces_limit most start end 0 0 (map (piece_in_parts parts) removed) (omega (arith, fits)))) i no_piece within
+
+-- the cuts of one span more, at the events inside it
+pub cuts_next : (speed : Quotient) (job num : ℕ) (events inside : List ℕ) (spans : List Piece) (i : ℕ) (span : Piece) (old new : List WrittenSlot) → num ≡ speed.num →
+    i < length spans → span ≡ get_or spans i span →
+    cut_between span.from span.to (map (λ event. event * num) inside) ≡ cut_between span.from span.to (map (λ event. event * num) events) →
+    new ≡ old ++ map (slot_over job speed) (cut_between span.from span.to (map (λ event. event * speed.num) inside)) →
+    old ≡ map (slot_over job speed) (cut_all (map (λ event. event * speed.num) events) (take i spans)) →
+    new ≡ map (slot_over job speed) (cut_all (map (λ event. event * speed.num) events) (take (i + 1) spans))
+cuts_next speed job num events inside spans i span old new is_num within is same next so_far =
+    let times : List ℕ = map (λ event. event * speed.num) events in
+    let cuts : cut_between span.from span.to (map (λ event. event * speed.num) inside) ≡ cut_between span.from span.to times =
+    subst (λ (n : ℕ). cut_between span.from span.to (map (λ event. event * n) inside) ≡ cut_between span.from span.to (map (λ event. event * n) events)) is_num same in
+    next
+    ∙ ap (λ (slots : List WrittenSlot). slots ++ map (slot_over job speed) (cut_between span.from span.to (map (λ event. event * speed.num) inside))) so_far
+    ∙ ap (λ (ps : List Piece). map (slot_over job speed) (cut_all times (take i spans)) ++ map (slot_over job speed) ps) cuts
+    ∙ sym (map-append (slot_over job speed) (cut_all times (take i spans)) (cut_between span.from span.to times))
+    ∙ ap (λ (p : Piece). map (slot_over job speed) (cut_all times (take i spans) ++ cut_between p.from p.to times)) is
+    ∙ ap (map (slot_over job speed)) (sym (rw add-one (flat_map-take (λ (p : Piece). cut_between p.from p.to times) spans i span within)))

@@ -1,4 +1,4 @@
-ghost use Rattle.std.specs.Prelude.{◌≡◌, ◌<◌, ◌≤◌, ◌+◌, ◌-◌, ◌*◌, ◌/◌, [], ◌∷◌, ◌++◌, length, map, IfOk, OnOk};
+ghost use Rattle.std.specs.Prelude.{◌≡◌, ◌<◌, ◌≤◌, ◌+◌, ◌-◌, ◌*◌, ◌/◌, [], ◌∷◌, ◌++◌, length, map, filter, IfOk, OnOk};
 ghost use Rattle.std.specs.List.Sorted.{IsStrictlyIncreasing};
 ghost use Rattle.yds_model.specs.declared.limits.TheConstants.{MAX_TIME, MAX_SLOT_WORK, MAX_LEVEL_WORK, MAX_LEVEL_LENGTH};
 ghost use Rattle.yds_model.specs.Scale.{at_scale, of_parts};
@@ -6,7 +6,7 @@ ghost use Rattle.yds_contract.specs.Contracted.{place};
 ghost use Rattle.yds_contract.specs.Removed.{removed_stretches, IsContraction};
 ghost use Rattle.yds_contract.specs.Clipped.{clipped, pieces_after};
 ghost use Rattle.yds_contract.specs.Spread.{piece_in_parts, slot_over, IsSpread};
-ghost use Rattle.yds_contract.specs.Cut.{cut_between};
+ghost use Rattle.yds_contract.specs.Cut.{AreUpto, lies_between, cut_between};
 
 use crate::removed::Removed;
 use crate::span::Span;
@@ -83,6 +83,39 @@ fn slot_between(job: u32, speed: Speed, from: u64, to: u64) -> Slot
     }
 }
 
+/// How many of the events are at this time or before it. They are looked through by halves.
+fn count_upto(events: &[u32], time: u32) -> usize
+    requires { IsStrictlyIncreasing events.now }
+    ensures { AreUpto events.now time result }
+{
+    events.partition_point(|event| *event <= time)
+}
+
+/// The events after the one time, up to the other.
+fn events_between(events: &[u32], after: u32, upto: u32) -> &[u32]
+    requires forward { after ≤ upto }
+    requires events { IsStrictlyIncreasing events.now }
+    ensures { result.now ≡ filter (lies_between after upto) events.now }
+{
+    let first = count_upto(events, after);
+    let last = count_upto(events, upto);
+    &events[first..last]
+}
+
+/// The events strictly inside the span of parts, of which each time unit has so many.
+fn events_inside(events: &[u32], span: Span, parts: u64) -> &[u32]
+    requires some { 1 ≤ parts }
+    requires forward { span.from < span.to }
+    requires within { span.to ≤ MAX_TIME * parts }
+    requires events { IsStrictlyIncreasing events.now }
+    ensures { cut_between span.from span.to (map (λ event. event * parts) result.now)
+        ≡ cut_between span.from span.to (map (λ event. event * parts) events.now) }
+{
+    let after = span.from / parts;
+    let upto = (span.to - 1) / parts;
+    events_between(events, after as u32, upto as u32)
+}
+
 /// Puts the job's slots over the span last, cut at each event that lies strictly inside it.
 fn cut(
     slots: &mut Vec<Slot>,
@@ -131,7 +164,8 @@ pub(crate) fn spread_over(
     let spans = spans_between(alloc, removed, speed.num(), start, end)?;
     let mut slots = Vec::new(alloc);
     for span in &spans {
-        cut(&mut slots, slot.job, speed, *span, events)?;
+        let inside = events_inside(events, *span, speed.num());
+        cut(&mut slots, slot.job, speed, *span, inside)?;
     }
     Ok(slots)
 }

@@ -1,12 +1,14 @@
 -- What the fields of a line say where they were read in one pass.
-use Rattle.std.proofs.Common.{◌≡◌, ℕ, ◌<◌, ◌⊎◌, inl, inr, Bool, true, false, eq-eqb, List, [], ◌∷◌, Option, Some, None, is_some, Ok, refl, sym, ap, ◌∙◌}
+use Rattle.std.proofs.Common.{◌≡◌, ℕ, ◌<◌, ◌⊎◌, inl, inr, Bool, true, false, eq-eqb, List, [], ◌∷◌, Option, Some, None, Result, Ok, refl, sym, ap, ◌∙◌}
 use Rattle.std.specs.Prelude.{nat_lt, ◌==◌, ◌||◌}
 use Rattle.std.proofs.lemmas.Bool.{lt-ltb}
 use Rattle.yds_model.specs.declared.limits.TheConstants.{MAX_TIME, MAX_WORK, MAX_SLOT_WORK}
 use Rattle.yds_model.specs.Lines.{Field}
 use Rattle.yds_model.specs.Entry.{Entry, JobEntry, SlotEntry, MemberEntry}
-use Rattle.yds_model.specs.Fields.{count_fields}
-use Rattle.yds_model.specs.Reading.{SlotLine, are_alike}
+use Rattle.yds_model.specs.declared.reason.Reason.{Reason}
+use Rattle.yds_model.specs.declared.reason.Reason.TheVariants as reasons
+use Rattle.yds_model.specs.Fields.{Spot, ◌>>=◌, demand, count_fields}
+use Rattle.yds_model.specs.Reading.{SlotLine, are_alike, fraction_in}
 use Rattle.yds_model.specs.Scale.{Fraction, AreAlike}
 use Rattle.yds_model.specs.Slot.{WrittenSlot}
 use Rattle.yds_model.specs.Spelling.{is_name, number_at, fraction_at}
@@ -15,15 +17,12 @@ use Rattle.yds_text.specs.Count.{no_reason}
 use Rattle.yds_text.specs.Plain.{ReadsText}
 use Rattle.yds_document.specs.declared.draft.Draft.{Draft}
 use Rattle.yds_document.specs.Draft.{Holds, HoldsMore, Takes, count_and_read}
+use Rattle.yds_document.specs.Fields.{known_job_of}
 use Rattle.yds_document.specs.Job.{job_of}
 use Rattle.yds_document.specs.Slot.{fits_among, slot_of}
 use Rattle.yds_document.specs.Plain.{SaysOne, SaysFour}
 use Rattle.yds_document.specs.Member.{member_of}
 use Rattle.yds_document.proofs.Told.{holds_more, slot_same}
-
-pub not_some : {A : Type 0} (o : Option A) → is_some o ≡ false → o ≡ None
-not_some None is = refl
-not_some (Some x) is = cc
 
 -- a name that is new, and three numbers
 pub says_job : (names : List (List ℕ)) (fields rest two one none : List Field) (a : Field) (name : List ℕ) (from to work : ℕ) → fields ≡ a ∷ rest →
@@ -57,32 +56,42 @@ test_alike x y (inl same) = tested (x.den == y.den) (x.den == 1) (y.den == 1) (i
 test_alike x y (inr (inl one)) = tested (x.den == y.den) (x.den == 1) (y.den == 1) (inr (inl (eq-eqb x.den 1 one)))
 test_alike x y (inr (inr one)) = tested (x.den == y.den) (x.den == 1) (y.den == 1) (inr (inr (eq-eqb y.den 1 one)))
 
+-- what the line of a slot says, once its job is known
+abbrev slot_after : List WrittenSlot → ℕ → Field → Field → Field → Result Entry (Spot Reason)
+slot_after slots job b c d = do
+  from ← fraction_in MAX_TIME b
+  to ← fraction_in MAX_TIME c
+  work ← fraction_in MAX_SLOT_WORK d
+  ends ← demand (are_alike from to) c.column reasons.MixedEnds
+  grain ← demand (fits_among slots job work) d.column reasons.MixedGrain
+  Ok (SlotEntry (record { job = job; from = from; to = to; work = work }))
+
 -- a name that is known, and three fractions
-pub says_slot : (names : List (List ℕ)) (slots : List WrittenSlot) (fields rest two one none : List Field) (a : Field) (name : List ℕ) (job most : ℕ) (from to work : Fraction) →
+pub says_slot : (names : List (List ℕ)) (slots : List WrittenSlot) (fields rest two one none : List Field) (a : Field) (job most : ℕ) (from to work : Fraction) →
     fields ≡ a ∷ rest → most ≡ MAX_TIME → ReadsText (λ text. fraction_at most text ≡ Ok from) rest two → ReadsText (λ text. fraction_at most text ≡ Ok to) two one →
-    ReadsText (λ text. fraction_at MAX_SLOT_WORK text ≡ Ok work) one none → none ≡ [] → name ≡ a.text → is_name a.text ≡ true → number_of names name ≡ Some job →
+    ReadsText (λ text. fraction_at MAX_SLOT_WORK text ≡ Ok work) one none → none ≡ [] → known_job_of names a ≡ Ok job →
     are_alike from to ≡ true → fits_among slots job work ≡ true →
     SaysFour (slot_of names slots) fields (SlotEntry (record { job = job; from = from; to = to; work = work }))
-says_slot names slots fields rest two one none a name job most from to work first limit b c d last text named known alike fits = record {
+says_slot names slots fields rest two one none a job most from to work first limit b c d last known alike fits = record {
   first = a;
   second = b.field;
   third = c.field;
   fourth = d.field;
   are = first ∙ ap (λ l. a ∷ l) (b.first ∙ ap (λ l. b.field ∷ l) (c.first ∙ ap (λ l. c.field ∷ l) (d.first ∙ ap (λ l. d.field ∷ l) last)));
   says =
-      let found : number_of names a.text ≡ Some job = ap (number_of names) (sym text) ∙ known in
       let start : fraction_at MAX_TIME b.field.text ≡ Ok from = ap (λ m. fraction_at m b.field.text) (sym limit) ∙ b.says in
       let end : fraction_at MAX_TIME c.field.text ≡ Ok to = ap (λ m. fraction_at m c.field.text) (sym limit) ∙ c.says in
-      rw (named, found, start, end, d.says, alike, fits) refl;
+      let rest : slot_after slots job b.field c.field d.field ≡ Ok (SlotEntry (record { job = job; from = from; to = to; work = work })) = rw (start, end, d.says, alike, fits) refl in
+      ap (λ (r : Result ℕ (Spot Reason)). r >>= (λ job. slot_after slots job b.field c.field d.field)) known ∙ rest;
 }
 
 -- a name that is known
-pub says_member : (names : List (List ℕ)) (fields rest : List Field) (a : Field) (job : ℕ) → fields ≡ a ∷ rest → rest ≡ [] → is_name a.text ≡ true → number_of names a.text ≡ Some job →
+pub says_member : (names : List (List ℕ)) (fields rest : List Field) (a : Field) (job : ℕ) → fields ≡ a ∷ rest → rest ≡ [] → known_job_of names a ≡ Ok job →
     SaysOne (member_of names) fields (MemberEntry job)
-says_member names fields rest a job first last named known = record {
+says_member names fields rest a job first last known = record {
   only = a;
   are = first ∙ ap (λ l. a ∷ l) last;
-  says = rw (named, known) refl;
+  says = ap (λ (r : Result ℕ (Spot Reason)). r >>= (λ job. Ok (MemberEntry job))) known;
 }
 
 -- # Such a line is held

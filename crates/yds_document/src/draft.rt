@@ -5,6 +5,7 @@ ghost use Rattle.yds_document.specs.Draft.{IsDraft, Holds};
 
 use crate::grid::Grid;
 use std::alloc::Global;
+use std::hash::RandomState;
 use yds_certificate::Certificate;
 use yds_fraction::Amount;
 use yds_instance::Instance;
@@ -28,14 +29,14 @@ pub(crate) struct Draft<'a> {
 }
 
 impl<'a> Draft<'a> {
-    /// That before any line.
-    pub(crate) fn new(alloc: Global) -> Result<Draft<'a>, Memory>
+    /// That before any line, whose names will be looked up with these keys.
+    pub(crate) fn new(alloc: Global, keys: RandomState) -> Result<Draft<'a>, Memory>
         ensures kept { IfOk result (λ draft. IsDraft draft) }
         ensures holds { IfOk result (λ draft. Holds draft []) }
     {
         let schedule = Schedule::new(alloc, 0)?;
         Ok(Draft {
-            instance: Instance::new(alloc),
+            instance: Instance::new(alloc, keys),
             table: None,
             schedule,
             certificate: Certificate::new(alloc),

@@ -84,6 +84,9 @@ pub(crate) fn known_job(instance: &Instance<'_>, field: Field<'_>) -> Result<u32
     ensures gives { Gives (λ job. job) result (known_job_of instance.now.names (field_read field.entry)) }
     ensures known { IfOk result (λ job. job < length instance.now.jobs) }
 {
+    if let Some(job) = instance.find_at_once(field.text) {
+        return Ok(job);
+    }
     let Some(name) = name(field) else {
         return Err(LineFault::at(field.column, Reason::BadName));
     };

@@ -1,6 +1,6 @@
 //! The lines of jobs: a job with a name of its own.
 
-ghost use Rattle.std.specs.Prelude.{◌≡◌, ◌+◌, ◌<◌, ◌≤◌, ◌∷◌, ◌++◌, length, None, OnOk, IfOk, IfSome, IsTrue};
+ghost use Rattle.std.specs.Prelude.{◌≡◌, ◌+◌, ◌<◌, ◌≤◌, ◌∷◌, ◌++◌, ℕ, List, length, None, OnOk, IfOk, IfSome, IsTrue, IsFalse};
 ghost use Rattle.yds_model.specs.declared.limits.TheConstants.{MAX_JOBS, MAX_NAME};
 ghost use Rattle.yds_model.specs.Document.{name_at};
 ghost use Rattle.yds_model.specs.Entry.{JobEntry};
@@ -20,7 +20,7 @@ use crate::fields::{new_name, small_in};
 use crate::line_buffer::LINE_BYTES;
 use crate::line_fault::LineFault;
 use crate::tail_buffer::{BATCH_BYTES, BATCH_LINES, Lines};
-use yds_instance::Instance;
+use yds_instance::{AddFault, Instance};
 use yds_model::limits::{MAX_TIME, MAX_WORK};
 use yds_model::{JobRow, Memory, Reason};
 use yds_port::{Sink, WriteFault, write_all};
@@ -37,9 +37,10 @@ pub(crate) fn read<'a>(
     ensures kept { OnOk result (IsDraft draft.new) }
     ensures reads { Reads JobLine (field_read kind.entry ∷ fields.entry.fields) result draft.old draft.new }
 {
-    if let Some((name, row)) = plain_job(&draft.instance, fields.again()) {
-        add(draft, name, row)?;
-        return Ok(());
+    if let Some((name, row)) = plain_job(fields.again()) {
+        if add_new(draft, name, row)? {
+            return Ok(());
+        }
     }
     read_each(draft, kind, fields)
 }
@@ -65,17 +66,17 @@ fn read_each<'a>(
     }
 }
 
-/// What the fields say, where they are plain and say a job.
-fn plain_job<'a>(instance: &Instance<'a>, mut fields: Fields<'a>) -> Option<(&'a str, JobRow)>
-    ensures says { IfSome result (λ said. SaysFour (job_of instance.now.names) fields.entry.fields (JobEntry said.0.now said.1)) }
+/// What the fields say, where they are plain and say a job if its name is new.
+fn plain_job(mut fields: Fields<'_>) -> Option<(&str, JobRow)>
+    ensures says { IfSome result (λ said. (names : List (List ℕ)) → number_of names said.0.now ≡ None
+        → SaysFour (job_of names) fields.entry.fields (JobEntry said.0.now said.1)) }
     ensures named { IfSome result (λ said. IsTrue (is_name said.0.now)) }
-    ensures new { IfSome result (λ said. number_of instance.now.names said.0.now ≡ None) }
 {
     let name = name(fields.next()?)?;
     let from = fields.plain_small(0, MAX_TIME)?;
     let to = fields.plain_small(0, MAX_TIME)?;
     let work = fields.plain_small(0, MAX_WORK)?;
-    if !fields.at_end() || to <= from || instance.find(name).is_some() {
+    if !fields.at_end() || to <= from {
         return None;
     }
     Some((name, JobRow::new(from, to, work)))
@@ -102,6 +103,27 @@ fn job_in<'a>(
         Ok((name, JobRow::new(from, to, work)))
     } else {
         Err(LineFault::at(deadline.column, Reason::EmptyWindow))
+    }
+}
+
+/// Puts the job last, if no other has its name: whether that is so.
+fn add_new<'a>(draft: &mut Draft<'a>, name: &'a str, row: JobRow) -> Result<bool, Memory>
+    requires kept { IsDraft draft.old }
+    requires named { IsTrue (is_name name.now) }
+    requires room { length draft.old.instance.names < MAX_JOBS }
+    ensures kept { OnOk result (IsDraft draft.new) }
+    ensures new { IfOk result (λ added. IsTrue added → number_of draft.old.instance.names name.entry.now ≡ None) }
+    ensures takes { IfOk result (λ added. IsTrue added → Takes draft.old draft.new (JobEntry name.entry.now row)) }
+    ensures same { IfOk result (λ added. IsFalse added → draft.new ≡ draft.old) }
+{
+    let jobs = draft.instance.rows().len() as u32;
+    match draft.instance.add(name, row) {
+        Ok(_) => {
+            draft.schedule.widen(jobs + 1)?;
+            Ok(true)
+        }
+        Err(AddFault::Duplicate(_)) => Ok(false),
+        Err(AddFault::Full | AddFault::Memory) => Err(Memory),
     }
 }
 

@@ -66,7 +66,9 @@ fn plain_member(instance: &Instance<'_>, mut fields: Fields<'_>) -> Option<u32>
     ensures says { IfSome result (λ job. SaysOne (member_of instance.now.names) fields.entry.fields (MemberEntry job)) }
     ensures known { IfSome result (λ job. job < length instance.now.jobs) }
 {
-    let job = instance.find_at_once(fields.next()?.text)?;
+    let Ok(job) = known_job(instance, fields.next()?) else {
+        return None;
+    };
     if fields.at_end() { Some(job) } else { None }
 }
 

@@ -11,18 +11,23 @@ use crate::draft::Draft;
 use crate::fault::DocFault;
 use crate::line_fault::LineFault;
 use std::alloc::Global;
+use std::hash::RandomState;
 use yds_text::{Line, lines};
 
-/// Reads the document that the bytes are, line by line.
+/// Reads the document that the bytes are, line by line. Names are looked up with the keys, on which no answer depends.
 ///
 /// Fails as `At` exactly where a line has a fault, with the first fault of the first such line, or as
 /// `Memory` for want of memory.
-pub fn read_document<'a>(alloc: Global, bytes: &'a [u8]) -> Result<Document<'a>, DocFault>
+pub fn read_document<'a>(
+    alloc: Global,
+    keys: RandomState,
+    bytes: &'a [u8],
+) -> Result<Document<'a>, DocFault>
     requires { length bytes.now ≤ MAX_BYTES }
     ensures exact { GivesDocument result (reading bytes.now) }
     ensures possible { IfOk result (λ document. IsDocument (document_view document)) }
 {
-    let mut draft = match Draft::new(alloc) {
+    let mut draft = match Draft::new(alloc, keys) {
         Ok(draft) => draft,
         Err(_) => return Err(DocFault::Memory),
     };

@@ -71,7 +71,9 @@ fn plain_slot(instance: &Instance<'_>, schedule: &Schedule, mut fields: Fields<'
     ensures known { IfSome result (λ slot. slot.job < length instance.now.jobs) }
     ensures grain { IfSome result (λ slot. FitsGrain schedule.now.slots slot) }
 {
-    let job = instance.find_at_once(fields.next()?.text)?;
+    let Ok(job) = known_job(instance, fields.next()?) else {
+        return None;
+    };
     let latest = u64::from(MAX_TIME);
     let from = plain_fraction(&mut fields, latest)?;
     let to = plain_fraction(&mut fields, latest)?;

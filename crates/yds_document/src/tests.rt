@@ -1,6 +1,7 @@
 //! One table of refusals, a document that is read and printed again, and one with an answer.
 use crate::{DocFault, Document, Reason, print, read_document, write_mixed};
 use std::alloc::Global;
+use std::hash::RandomState;
 use std::process::Abort;
 use std::test::Fail;
 use yds_certificate::Certificate;
@@ -39,9 +40,14 @@ pub static REFUSALS: [(&str, Option<(u32, u32, Reason)>); 16] = [
 ];
 
 /// Where the text is refused, and why.
-fn refusal(rt: &impl Abort, alloc: Global, text: &str) -> Option<(u32, u32, Reason)> {
+fn refusal(
+    rt: &impl Abort,
+    alloc: Global,
+    keys: RandomState,
+    text: &str,
+) -> Option<(u32, u32, Reason)> {
     assert!(rt; text.len() <= MAX_BYTES);
-    match read_document(alloc, text.as_bytes()) {
+    match read_document(alloc, keys, text.as_bytes()) {
         Ok(_) | Err(DocFault::Memory) => None,
         Err(
             DocFault::At {
@@ -54,10 +60,12 @@ fn refusal(rt: &impl Abort, alloc: Global, text: &str) -> Option<(u32, u32, Reas
 }
 
 #[test]
-fn the_first_fault_is_told_with_its_place(rt: HostRuntime) {
+fn the_first_fault_is_told_with_its_place(rt: HostRuntime) -> Result<(), Fail> {
+    let keys = RandomState::new(&rt)?;
     for (text, fault) in &REFUSALS {
-        assert_eq!(rt; refusal(&rt, rt.alloc(), text), *fault, "{text}");
+        assert_eq!(rt; refusal(&rt, rt.alloc(), keys, text), *fault, "{text}");
     }
+    Ok(())
 }
 
 #[test]
@@ -67,7 +75,7 @@ fn a_document_of_each_kind_is_printed_as_it_is_read(rt: HostRuntime) -> Result<(
     let printed =
         b"job a 0 4 8\npoint 0 1\npoint 3 5\nslot a 0 4 8\nlevel 8 4\npiece 0 4\nmember a\ngrid 5 1\nenergy 3+2/4\n";
     let mut sink = MemorySink::with_room(rt.alloc(), 200, 200, Vec::new(rt.alloc()))?;
-    let document = read_document(rt.alloc(), text)?;
+    let document = read_document(rt.alloc(), RandomState::new(&rt)?, text)?;
     print(&document, &mut sink)?;
     assert_eq!(rt; sink.bytes(), printed.as_slice());
     Ok(())
@@ -79,7 +87,7 @@ fn a_document_with_an_answer(rt: HostRuntime) -> Result<(), Fail> {
     let text = b"job a 0 3 2\nslot a 0 3 2\ngrid 5 1\n";
     let printed = b"job a 0 3 2\nslot a 1 1+4/6 0+1/2\nenergy 3+2/4\n";
     let mut sink = MemorySink::with_room(rt.alloc(), 200, 200, Vec::new(rt.alloc()))?;
-    let document = read_document(rt.alloc(), text)?;
+    let document = read_document(rt.alloc(), RandomState::new(&rt)?, text)?;
     assert_eq!(rt; document.instance.rows().len(), 1);
     let mut schedule = Schedule::new(rt.alloc(), 1)?;
     schedule.push(Slot {

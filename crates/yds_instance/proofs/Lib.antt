@@ -1,3 +1,1 @@
 pub mod Names
-mod NewNumber
-mod Places

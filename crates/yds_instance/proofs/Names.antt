@@ -1,14 +1,13 @@
 -- The number of a name, and what an instance keeps as a job with a new name comes.
-use Rattle.std.proofs.Common.{◌≡◌, ℕ, ◌+◌, ◌<◌, ◌≤◌, Bool, true, false, cond, not, List, [], ◌∷◌, ◌++◌, Option, Some, None, length, ltb, refl, sym, ap, ◌∙◌, inl, inr, arith, subst, map}
-use Rattle.std.specs.List.{Contains, slice_index_or, prefix_len, position_or_len, position}
-use Rattle.std.specs.Option.{MatchOption, IfSome}
+use Rattle.std.proofs.Common.{Bor, ⊎_elim, ◌≡◌, ℕ, ◌+◌, ◌<◌, ◌≤◌, Bool, true, false, cond, not, List, [], ◌∷◌, ◌++◌, Option, Some, None, length, ltb, refl, sym, ap, ◌∙◌, inl, inr, arith, subst, map}
+use Rattle.std.specs.List.{Contains, list_any, slice_index_or, prefix_len, position_or_len, position}
+use Rattle.std.specs.Option.{MatchOption}
 use Rattle.std.specs.Str.{bytes_eq}
 use Rattle.std.proofs.lemmas.Grind.{common_steps}
 use Rattle.std.proofs.lemmas.Bool.{cases_Bool, false≢true, ltb-false}
 use Rattle.std.proofs.lemmas.Slice.Eq.{bytes_eq-Decides}
-use Rattle.std.proofs.lemmas.List.{length-map, length_push, get_or_push, get_or_append_left}
+use Rattle.std.proofs.lemmas.List.{length-map, get_or-map, length_push, get_or_push, get_or_append_left}
 use Rattle.std.proofs.lemmas.List.Sums.{fails_before_first}
-use Rattle.std.proofs.lemmas.List.Folds.{position_or_len_push}
 use Rattle.std.proofs.lemmas.List.Quantifiers.{position-Some}
 use Rattle.std.proofs.lemmas.List.Elements.{All-push}
 use Rattle.yds_model.specs.Job.{Job, IsJob}
@@ -65,7 +64,7 @@ not_contained : (names : List (List ℕ)) (name : List ℕ) → number_of names 
 not_contained names name none (i, within, is) =
     false≢true (sym (others_differ names name none i name within) ∙ (bytes_eq-Decides name (slice_index_or names i name)).1 (sym is))
 
-has_name : (names : List (List ℕ)) (name : List ℕ) (number : ℕ) → number_of names name ≡ Some number → (number < length names) × (name_at names number ≡ name)
+pub has_name : (names : List (List ℕ)) (name : List ℕ) (number : ℕ) → number_of names name ≡ Some number → (number < length names) × (name_at names number ≡ name)
 has_name names name number is =
     let found = position-Some (λ other. bytes_eq other name) names number [] is in
     (found.0, (bytes_eq-Decides (name_at names number) name).0 found.1)
@@ -76,53 +75,68 @@ number_says named name None kept is = not_contained named.names name (sym is)
 number_says named name (Some n) kept is =
     let found : (n < length named.names) × (name_at named.names n ≡ name) = has_name named.names name n (sym is) in (omega (arith, kept.one_name_each), found.1)
 
--- what a job is named is a name
-pub some_named : (names : List (List ℕ)) (jobs : List Job) (name : List ℕ) (number : Option ℕ) → AreNamedJobs names jobs → IfSome number (λ n. number_of names name ≡ Some n) →
-    IfSome number (λ n. is_name name ≡ true)
-some_named names jobs name None kept is = tt
-some_named names jobs name (Some n) kept is =
-    let found : (n < length names) × (name_at names n ≡ name) = has_name names name n is in
-    subst (λ name. is_name name ≡ true) found.1 (kept.names_fit n [] found.0)
+-- the job at this place has this name
+pub number_at : (names : List (List ℕ)) (name : List ℕ) (i : ℕ) → AreDifferentNames names → i < length names → name_at names i ≡ name → number_of names name ≡ Some i
+number_at names name i different within is = by (number_of names name) refl
+  where
+    by : (r : Option ℕ) → number_of names name ≡ r → number_of names name ≡ Some i
+    by None none = absurd (false≢true (sym (others_differ names name none i [] within) ∙ (bytes_eq-Decides name (name_at names i)).1 (sym is)))
+    by (Some j) some =
+        let found : (j < length names) × (name_at names j ≡ name) = has_name names name j some in
+        some ∙ ap Some (sym (different i j within found.0 (is ∙ sym found.1)))
 
--- # A job with a new name comes
+-- what a job is named is a name
+pub named_at : (names : List (List ℕ)) (jobs : List Job) (name : List ℕ) (i : ℕ) → AreNamedJobs names jobs → i < length names → name_at names i ≡ name → is_name name ≡ true
+named_at names jobs name i kept within is = subst (λ name. is_name name ≡ true) is (kept.names_fit i [] within)
+
+-- # The number as the set of names tells it
+
+abbrev pub texts : List (Bor (List ℕ)) → List (List ℕ)
+texts keys = map (λ (key : Bor (List ℕ)). key.now) keys
+
+pub number_of_key : (keys : List (Bor (List ℕ))) (name : List ℕ) → position (λ key. bytes_eq name key.now) keys ≡ number_of (texts keys) name
+number_of_key keys name = sym (position-map (bytes_eq name) (λ (key : Bor (List ℕ)). key.now) keys) ∙ sym (number_found (texts keys) name)
 
 -- the first place where the test holds lies within the list, or is its length
 first_within : {X : Type 0} (p : X → Bool) (xs : List X) → position_or_len p xs ≤ length xs
 first_within p [] = omega arith
 first_within p (x ∷ xs) = let rest : position_or_len p xs ≤ length xs = first_within p xs in grind (arith, common_steps, rest)
 
--- the first place where the test holds, once there is one more
-position_push : {X : Type 0} (p : X → Bool) (xs : List X) (y : X) → position p (xs ++ y ∷ []) ≡
-    cond (ltb (position_or_len p xs) (length xs)) (position p xs) (cond (p y) (Some (length xs)) None)
-position_push p xs y = let within : position_or_len p xs ≤ length xs = first_within p xs in grind (arith, position_or_len_push p xs y, length_push xs y, within)
+any_within : {X : Type 0} (p : X → Bool) (xs : List X) → ltb (position_or_len p xs) (length xs) ≡ list_any p xs
+any_within p [] = refl
+any_within p (x ∷ xs) = let rest : ltb (position_or_len p xs) (length xs) ≡ list_any p xs = any_within p xs in grind (arith, common_steps, rest)
 
-chosen_kept : {X : Type 0} (b : Bool) (x : X) → cond b (cond b (Some x) None) None ≡ cond b (Some x) None
-chosen_kept true x = refl
-chosen_kept false x = refl
+-- a name that the set hasn't has no number, and its place is the next one
+pub number_of_none : (keys : List (Bor (List ℕ))) (name : List ℕ) → list_any (λ key. bytes_eq name key.now) keys ≡ false → number_of (texts keys) name ≡ None
+number_of_none keys name none =
+    sym (number_of_key keys name) ∙ ap (λ b. cond b (Some (position_or_len (λ key. bytes_eq name key.now) keys)) None) (any_within (λ key. bytes_eq name key.now) keys ∙ none)
 
-number_of_new : (names : List (List ℕ)) (name : List ℕ) → number_of names name ≡ None →
-    number_of (names ++ name ∷ []) name ≡ cond (bytes_eq name name) (Some (length names)) (number_of names name)
-number_of_new names name none =
-    let same : bytes_eq name name ≡ true = (bytes_eq-Decides name name).1 refl in
-    let nowhere : ltb (position_or_len (λ third. bytes_eq third name) names) (length names) ≡ false =
-    chosen (ltb (position_or_len (λ third. bytes_eq third name) names) (length names)) (position_or_len (λ third. bytes_eq third name) names) none in
-    position_push (λ third. bytes_eq third name) names name ∙ rw (nowhere, same) refl
+pub place_of_none : (keys : List (Bor (List ℕ))) (name : List ℕ) → list_any (λ key. bytes_eq name key.now) keys ≡ false → position_or_len (λ key. bytes_eq name key.now) keys ≡ length keys
+place_of_none keys name none =
+    let past : length keys ≤ position_or_len (λ key. bytes_eq name key.now) keys = ltb-false _ _ (any_within (λ key. bytes_eq name key.now) keys ∙ none) in
+    let within : position_or_len (λ key. bytes_eq name key.now) keys ≤ length keys = first_within (λ key. bytes_eq name key.now) keys in
+    omega arith
 
-number_of_other : (names : List (List ℕ)) (name other : List ℕ) → bytes_eq name other ≡ false →
-    number_of (names ++ name ∷ []) other ≡ cond (bytes_eq name other) (Some (length names)) (number_of names other)
-number_of_other names name other differ =
-    position_push (λ third. bytes_eq third other) names name
-    ∙ rw differ (chosen_kept (ltb (position_or_len (λ third. bytes_eq third other) names) (length names)) (position_or_len (λ third. bytes_eq third other) names))
+-- the number of one that it has is its place
+pub number_of_some : (keys : List (Bor (List ℕ))) (name : List ℕ) → list_any (λ key. bytes_eq name key.now) keys ≡ true →
+    number_of (texts keys) name ≡ Some (position_or_len (λ key. bytes_eq name key.now) keys)
+number_of_some keys name some =
+    sym (number_of_key keys name) ∙ ap (λ b. cond b (Some (position_or_len (λ key. bytes_eq name key.now) keys)) None) (any_within (λ key. bytes_eq name key.now) keys ∙ some)
 
--- a new name has the next number, and the others keep theirs
-pub number_push : (names : List (List ℕ)) (name other : List ℕ) → number_of names name ≡ None →
-    number_of (names ++ name ∷ []) other ≡ cond (bytes_eq name other) (Some (length names)) (number_of names other)
-number_push names name other none = elim (cases_Bool (bytes_eq name other)) [
-  | inl same ↦
-      subst (λ third. number_of (names ++ name ∷ []) third ≡ cond (bytes_eq name third) (Some (length names)) (number_of names third))
-      ((bytes_eq-Decides name other).0 same) (number_of_new names name none)
-  | inr differ ↦ number_of_other names name other differ
-]
+-- the name of a job, in the set
+pub name_of_key : (keys : List (Bor (List ℕ))) (i : ℕ) (d : Bor (List ℕ)) → i < length keys → name_at (texts keys) i ≡ (slice_index_or keys i d).now
+name_of_key keys i d within = get_or-map (λ (key : Bor (List ℕ)). key.now) keys i d [] within
+
+-- what the set was found to add: a new name last, or none
+pub added_none : (keys : List (Bor (List ℕ))) (name : List ℕ) (is_new : Bool) → is_new ≡ not (list_any (λ key. bytes_eq name key.now) keys) → is_new ≡ true →
+    list_any (λ key. bytes_eq name key.now) keys ≡ false
+added_none keys name is_new is new = ⊎_elim (λ yes. absurd (false≢true (ap not (sym yes) ∙ sym is ∙ new))) (λ no. no) (cases_Bool (list_any (λ key. bytes_eq name key.now) keys))
+
+pub added_some : (keys : List (Bor (List ℕ))) (name : List ℕ) (is_new : Bool) → is_new ≡ not (list_any (λ key. bytes_eq name key.now) keys) → is_new ≡ false →
+    list_any (λ key. bytes_eq name key.now) keys ≡ true
+added_some keys name is_new is old = ⊎_elim (λ yes. yes) (λ no. absurd (false≢true (sym old ∙ is ∙ ap not no))) (cases_Bool (list_any (λ key. bytes_eq name key.now) keys))
+
+-- # A job with a new name comes
 
 other_differs : (names : List (List ℕ)) (name : List ℕ) (i : ℕ) → number_of names name ≡ None → i < length names → name_at names i ≡ name → ⊥
 other_differs names name i none within is =

@@ -7,7 +7,6 @@
 
 mod fault;
 mod instance;
-mod numbers;
 
 pub use fault::AddFault;
 pub use instance::Instance;

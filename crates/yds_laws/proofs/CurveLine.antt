@@ -23,7 +23,7 @@ use Rattle.yds_laws.proofs.LeastAbove.{above_curve}
 -- # One level
 
 -- where a speed isn't above another one, and that isn't above a third, the first isn't above the third
-at_most_still : (a b p q c d : ℕ) → 1 ≤ q → a * q ≤ p * b → p * d ≤ c * q → a * d ≤ c * b
+pub at_most_still : (a b p q c d : ℕ) → 1 ≤ q → a * q ≤ p * b → p * d ≤ c * q → a * d ≤ c * b
 at_most_still a b p q c d some first second =
     le_of_mul-le-mul_right {k = q} (omega (arith, mul-le-mul_right d first, mul-le-mul_right b second)) some
 

@@ -1,13 +1,13 @@
 -- Parts as a fraction, and a quotient in lowest terms, have the quotient's value.
 use Rattle.std.proofs.Common.{◌≡◌, ℕ, ◌+◌, ◌*◌, ◌/◌, ◌%◌, ◌<◌, ◌≤◌, ◌==◌, Bool, true, false, arith, add_comm, ap, ap₂, subst, sym, ◌∙◌, refl, eqb-true}
 use Rattle.std.specs.Prelude.{if◌then◌else◌}
-use Rattle.std.specs.Int.{◌∣◌}
+use Rattle.std.specs.Int.{◌∣◌, IsGcd}
 use Rattle.std.proofs.lemmas.Nat.{mod-mul-add}
-use Rattle.std.proofs.lemmas.Nat.Gcd.{dvd-zero, dvd_refl, le_of_dvd}
-use Rattle.std.proofs.Math.Nat.{div-mul_cancel, div-one, dvd-mul_left_of_dvd, dvd-add_iff_left, eq_of_mul-eq-mul_right}
+use Rattle.std.proofs.lemmas.Nat.Gcd.{dvd-zero, dvd_refl, le_of_dvd, same_from_IsGcd}
+use Rattle.std.proofs.Math.Nat.{div-mul_cancel, div-one, dvd-mul_left_of_dvd, dvd-add_iff_left, one-dvd, eq_of_mul-eq-mul_left, eq_of_mul-eq-mul_right}
 use Rattle.yds_model.specs.Scale.{Fraction, numerator, of_whole, of_parts}
 use Rattle.yds_model.specs.Divisor.{common_divisor, in_lowest_terms, IsLowest}
-use Rattle.yds_model.proofs.Divisor.{divisor_is_greatest, divisor_positive}
+use Rattle.yds_model.proofs.Divisor.{divisor_is_greatest, divisor_positive, divisor_times, lowest_terms_are_one}
 use Rattle.yds_model.proofs.Scale.{first_factor}
 
 -- the fraction has the value num/den
@@ -73,3 +73,49 @@ lowest_is x lowest =
     ∙ ap₂ of_parts (div-one (numerator x)) (div-one x.den)
     ∙ ap₂ (λ n m. if n == 0 then of_whole m else record { whole = m; num = n; den = x.den }) over whole
     ∙ parts_lowest (x.num == 0) x.whole x.num x.den lowest.below_one lowest.reduced refl
+
+-- # In lowest terms
+
+-- a divisor of what is left over and of the denominator is one of the parts
+left_over : (parts den : ℕ) → common_divisor parts den ≡ 1 → IsGcd (parts % den) den 1
+left_over parts den reduced = (
+  one-dvd (parts % den),
+  one-dvd den,
+  λ t of_rest of_den.
+      let all : parts / den * den + parts % den ≡ parts = omega arith in
+      let both : t ∣ parts = subst (λ n. t ∣ n) all ((dvd-add_iff_left t {m = parts / den * den} {n = parts % den} of_rest).0 (dvd-mul_left_of_dvd t of_den (parts / den))) in
+      subst (λ n. t ∣ n) reduced ((divisor_is_greatest parts den).2 t both of_den),
+)
+
+parts_are_lowest : (b : Bool) (parts den : ℕ) → 1 ≤ den → common_divisor parts den ≡ 1 → (parts % den == 0) ≡ b →
+    IsLowest (if b then of_whole (parts / den) else record { whole = parts / den; num = parts % den; den = den })
+parts_are_lowest true parts den some reduced is = record { below_one = omega arith; reduced = refl }
+parts_are_lowest false parts den some reduced is = record {
+  below_one = omega arith;
+  reduced = same_from_IsGcd (parts % den) den (common_divisor (parts % den) den) 1 (divisor_is_greatest (parts % den) den) (left_over parts den reduced);
+}
+
+-- a quotient in lowest terms is so
+pub lowest_is_lowest : (num den : ℕ) → 1 ≤ den → IsLowest (in_lowest_terms num den)
+lowest_is_lowest num den some =
+    let g = common_divisor num den in
+    let greatest = divisor_is_greatest num den in
+    let of_num : num / g * g ≡ num = div-mul_cancel g greatest.0 in
+    let of_den : den / g * g ≡ den = div-mul_cancel g greatest.1 in
+    let some_g = divisor_positive num den some in
+    let times : IsGcd num den (g * common_divisor (num / g) (den / g)) =
+    let first : g * (num / g) ≡ num = omega (arith, of_num) in
+    let second : g * (den / g) ≡ den = omega (arith, of_den) in
+    subst (λ a. IsGcd a den (g * common_divisor (num / g) (den / g))) first
+    (subst (λ b. IsGcd (g * (num / g)) b (g * common_divisor (num / g) (den / g))) second (divisor_times g (num / g) (den / g))) in
+    let same : g ≡ g * common_divisor (num / g) (den / g) = same_from_IsGcd num den g (g * common_divisor (num / g) (den / g)) greatest times in
+    let reduced : common_divisor (num / g) (den / g) ≡ 1 = eq_of_mul-eq-mul_left g some_g (common_divisor (num / g) (den / g)) 1 (omega (arith, same)) in
+    parts_are_lowest ((num / g) % (den / g) == 0) (num / g) (den / g) (first_factor (den / g) g den of_den some) reduced refl
+
+-- # Equal quotients
+
+-- quotients that are the same have the same lowest terms
+pub lowest_same : (a b c d : ℕ) → 1 ≤ b → 1 ≤ d → a * d ≡ c * b → in_lowest_terms a b ≡ in_lowest_terms c d
+lowest_same a b c d some_b some_d same =
+    let terms = lowest_terms_are_one a b c d some_b some_d same in
+    ap₂ of_parts terms.0 terms.1

@@ -72,7 +72,7 @@ counted_after number start (suc n) before = omega (
   ap {B = ℕ} (λ b. cond b 1 0) (ne_eqb number start (λ is. omega (arith, is, before))),
 )
 
-counted_once : (number start n : ℕ) → count number (range_with_len start n) ≤ 1
+pub counted_once : (number start n : ℕ) → count number (range_with_len start n) ≤ 1
 counted_once number start zero = omega arith
 counted_once number start (suc n) = elim (cases_eq number start) [
   | inl same ↦ omega (
@@ -89,7 +89,7 @@ counted_once number start (suc n) = elim (cases_eq number start) [
   )
 ]
 
-cond_less : (p q : Bool) → cond p (cond q 1 0) 0 ≤ cond q 1 0
+pub cond_less : (p q : Bool) → cond p (cond q 1 0) 0 ≤ cond q 1 0
 cond_less true q = omega arith
 cond_less false q = omega arith
 
@@ -522,7 +522,7 @@ module _ (top : ℕ) (jobs : List Job) (some : 1 ≤ top) (are : All IsJob jobs)
       }
 
 -- a job's window lies within an interval where the test says so
-lies : (jobs : List Job) (from to number : ℕ) → lies_within jobs from to number ≡ true →
+pub lies : (jobs : List Job) (from to number : ℕ) → lies_within jobs from to number ≡ true →
     (from ≤ (job_at jobs number).release) × ((job_at jobs number).deadline ≤ to)
 lies jobs from to number passes =
     let both = and_parts (nat_le from (job_at jobs number).release) (nat_le (job_at jobs number).deadline to) passes in

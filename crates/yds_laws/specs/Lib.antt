@@ -1,16 +1,5 @@
-pub mod TextLaws
-pub mod RoundTrip
 pub mod Laws
-pub mod EnergyLaws
-pub mod PlanText
-pub mod TaskLaws
-pub mod RoundingLaws
-pub mod RoundText
 pub mod CurveLaws
 pub mod AnswerLaws
 pub mod AdmissionLaws
-pub mod RunText
 pub mod RunLaws
-pub mod ComparisonLaws
-pub mod CompareText
-pub mod AdmitText

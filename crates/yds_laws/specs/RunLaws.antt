@@ -19,10 +19,14 @@ pub record DoesItsTerms (jobs : List Job) (grid scale : ℕ) (slots : List Whole
   pub whole : HasWholeTerms jobs grid stretch
   pub does : grid * work_in scale stretch slots ≡ scale * terms_of jobs grid stretch
 
--- A run of Average Rate that never rounded does so in each stretch.
+-- Average Rate itself, without rounding: each stretch does so.
+abbrev pub IsExactAverageRate : List Job → ℕ → List WrittenSlot → Type 0
+IsExactAverageRate jobs grid slots = AtEachScale slots (λ scale whole. All (DoesItsTerms jobs grid scale whole) (stretches jobs))
+
+-- A run of Average Rate that never rounded is that.
 abbrev pub AverageRateIsExact : Type 0
 AverageRateIsExact = (jobs : List Job) (grid : ℕ) (slots : List WrittenSlot) → 1 ≤ grid → IsAverageRateRun jobs grid 0 slots →
-    AtEachScale slots (λ scale whole. All (DoesItsTerms jobs grid scale whole) (stretches jobs))
+    IsExactAverageRate jobs grid slots
 
 -- At a scale: the stretch does the units that are asked, no deadline of a pending job asks more, and where some are asked, one asks
 -- just that much. So its speed is the greatest quotient of the units that are due by a deadline and the time until then.
@@ -34,7 +38,11 @@ pub record HasGreatestSpeed (jobs : List Job) (grid scale : ℕ) (slots : List W
       ⊎ Any (λ deadline. due_units jobs grid scale slots stretch deadline * (stretch.to - stretch.from)
       ≡ units_asked jobs grid scale slots stretch * (scale * (deadline - stretch.from))) (pending_deadlines jobs scale slots stretch)
 
--- A run of Optimal Available that never rounded has it in each stretch.
+-- Optimal Available itself, without rounding: each stretch has it.
+abbrev pub IsExactOptimalAvailable : List Job → ℕ → List WrittenSlot → Type 0
+IsExactOptimalAvailable jobs grid slots = AtEachScale slots (λ scale whole. All (HasGreatestSpeed jobs grid scale whole) (stretches jobs))
+
+-- A run of Optimal Available that never rounded is that.
 abbrev pub OptimalAvailableIsExact : Type 0
 OptimalAvailableIsExact = (jobs : List Job) (grid : ℕ) (slots : List WrittenSlot) → 1 ≤ grid → IsOptimalAvailableRun jobs grid 0 slots →
-    AtEachScale slots (λ scale whole. All (HasGreatestSpeed jobs grid scale whole) (stretches jobs))
+    IsExactOptimalAvailable jobs grid slots

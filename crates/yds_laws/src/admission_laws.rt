@@ -1,6 +1,5 @@
 //! The laws of admission, each as the contract of a call that does nothing.
-ghost use Rattle.yds_laws.specs.AdmissionLaws.{ServedWhereRoom, AdmittedRunsAreWithinTop};
-ghost use Rattle.yds_laws.specs.AdmitText.{AdmissionsAreRead, AdmissionsAreFeasible};
+ghost use Rattle.yds_laws.specs.AdmissionLaws.{ServedWhereRoom, AdmittedRunsAreWithinTop, RefusalsAreForced};
 
 /// There is a feasible schedule at or below a top speed exactly where no interval, from a release to a deadline of the
 /// jobs, has more work confined to it than the top speed times its length.
@@ -13,13 +12,8 @@ pub fn admitted_runs_are_within_the_top()
     ensures { AdmittedRunsAreWithinTop }
 {}
 
-/// The text that `admit` writes is short enough to be read, and is read again as a document of the admitted jobs with
-/// their slots, which are feasible and nowhere faster than the top speed.
-pub fn admissions_are_read()
-    ensures { AdmissionsAreRead }
-{}
-
-/// `audit` answers the text that `admit` writes with `feasible`.
-pub fn admission_texts_are_feasible()
-    ensures { AdmissionsAreFeasible }
+/// Each job that isn't admitted has its interval: in it lie the windows of jobs, this one and admitted ones, whose work is more
+/// than the top speed does there, so that no schedule at or below the top speed serves them.
+pub fn refusals_are_forced()
+    ensures { RefusalsAreForced }
 {}

@@ -1,6 +1,5 @@
 //! The laws of the policies' runs, each as the contract of a call that does nothing.
 ghost use Rattle.yds_laws.specs.RunLaws.{AverageRateIsExact, OptimalAvailableIsExact};
-ghost use Rattle.yds_laws.specs.RunText.{RunsAreFeasible, RunsAreRead};
 
 /// In a run of Average Rate that never rounded, each live job's part of a stretch is whole, and each stretch does just
 /// their sum.
@@ -12,14 +11,4 @@ pub fn average_rate_is_exact()
 /// that are due by a pending job's deadline and the time until then.
 pub fn optimal_available_is_exact()
     ensures { OptimalAvailableIsExact }
-{}
-
-/// The texts of `avr` and `oa` are short enough to be read, and are read again as the document with the run.
-pub fn runs_are_read()
-    ensures { RunsAreRead }
-{}
-
-/// `audit` answers the texts of `avr` and `oa` with 'feasible'.
-pub fn runs_are_feasible()
-    ensures { RunsAreFeasible }
 {}

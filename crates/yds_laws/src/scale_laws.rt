@@ -1,6 +1,5 @@
 //! The laws of fractions and of scale. Each is a call of no parameters that does nothing: its contract is the law, and
 //! a proof of a crate above cites it by such a call.
-
 ghost use Rattle.yds_model.specs.ScaleLaws.{OrderIsOfValues, EqualityIsOfValues, SumIsOfValues, MultipleIsOfValues, OrderIsTransitive, EqualityIsTransitive, OrderAgreesWithEquality, ScaleExists, ScaleKeepsFeasible, ScaleMultipliesExcess, OneScaleDecides};
 
 /// One fraction is less than another, by cross products, where its value is less at each common scale.

@@ -3,11 +3,12 @@ use Rattle.std.proofs.Common.{◌≡◌, ℕ, zero, suc, ◌+◌, ◌-◌, ◌*�
 use Rattle.std.specs.Prelude.{if◌then◌else◌}
 use Rattle.std.specs.List.{All, sum_by, fold}
 use Rattle.std.proofs.lemmas.List.Sums.{sum_by-cons}
-use Rattle.std.proofs.lemmas.List.Elements.{All-tail}
+use Rattle.std.proofs.lemmas.List.Elements.{All-tail, All-head}
 use Rattle.std.proofs.lemmas.Bool.{cases_eq}
 use Rattle.std.proofs.lemmas.Bool.Decides.{nat_tests}
 use Rattle.std.proofs.Math.Nat.{mul-le-mul_right}
-use Rattle.yds_model.specs.Job.{Job, job_at}
+use Rattle.yds_model.specs.declared.limits.TheConstants.{MAX_TIME, MAX_WORK}
+use Rattle.yds_model.specs.Job.{Job, job_at, IsJob}
 use Rattle.yds_model.specs.Slot.{WholeSlot, work_given}
 use Rattle.yds_model.specs.Feasible.{RunFrom, IsFeasibleAt}
 use Rattle.yds_model.specs.Energy.{last_deadline, first_release, horizon, busy, idle}
@@ -141,3 +142,21 @@ busy_and_idle jobs scale slots feasible =
           (λ k d within. omega (arith, (feasible.in_windows k d within).released, mul-le-mul_right scale (releases_above jobs (last_deadline jobs) _ (feasible.in_windows k d within).known))))
           (λ k d within. omega (arith, (feasible.in_windows k d within).due, mul-le-mul_right scale (deadlines_below jobs 0 _ (feasible.in_windows k d within).known))),
     )
+
+-- # Jobs within their limits
+
+-- the work of jobs together
+pub works_few : (jobs : List Job) → All IsJob jobs → sum_by (λ job. job.work) jobs ≤ MAX_WORK * length jobs
+works_few [] fit = omega arith
+works_few (job ∷ jobs) fit =
+    omega (arith, sum_by-cons (λ (job : Job). job.work) job jobs, (All-head IsJob job jobs fit).work_in_range, works_few jobs (All-tail IsJob job jobs fit))
+
+-- the greatest of their deadlines, and of an earlier time
+deadlines_within : (time : ℕ) (jobs : List Job) → time ≤ MAX_TIME → All IsJob jobs → fold (λ time job. max time job.deadline) time jobs ≤ MAX_TIME
+deadlines_within time [] within fit = within
+deadlines_within time (job ∷ jobs) within fit =
+    let own = (All-head IsJob job jobs fit).time_in_range in
+    deadlines_within (max time job.deadline) jobs (grind (arith, own, within)) (All-tail IsJob job jobs fit)
+
+pub last_within : (jobs : List Job) → All IsJob jobs → last_deadline jobs ≤ MAX_TIME
+last_within jobs fit = deadlines_within 0 jobs (omega arith) fit

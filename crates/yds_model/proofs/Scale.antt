@@ -54,7 +54,7 @@ excess_split k p q work from to =
     rw (mul-sub k (q * work) (p * (to - from)), ← mul-sub k to from) (omega arith)
 
 -- so the excess is k times what it was
-finer_excess : (k p q : ℕ) (slots : List WholeSlot) → excess p q (map (finer k) slots) ≡ k * excess p q slots
+pub finer_excess : (k p q : ℕ) (slots : List WholeSlot) → excess p q (map (finer k) slots) ≡ k * excess p q slots
 finer_excess k p q slots =
     finer_sum k (λ slot. q * slot.work - p * (slot.to - slot.from)) (λ slot. excess_split k p q slot.work slot.from slot.to) slots
 

@@ -52,6 +52,9 @@ pub record IsSpentAt (jobs : List Job) (points : List Point) (spent : Spent) (sc
   pub energy : spent.energy ≡ in_parts points scale (all_energy jobs points scale slots)
   pub times : spent.times ≡ map (λ point. in_parts points scale (all_time_at jobs points scale slots point.speed)) points
 
+-- at each of their scales. This looks at how much work is done in each stretch, and not at when. So it is what the slots spend on the points only
+-- where each stretch is filled at one speed or empty, as in a plan's schedule and in a policy's run. Of a job from 0 to 2 of work 3 on the points
+-- (0,0), (1,1), (2,3), (3,9), slots that do all the work from 0 to 1, and none from 1 to 2, have the energy 4 here; on the points it is 9.
 abbrev pub IsSpent : List Job → List Point → List WrittenSlot → Spent → Type 0
 IsSpent jobs points slots spent = AtEachScale slots (IsSpentAt jobs points spent)
 

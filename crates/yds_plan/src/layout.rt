@@ -40,8 +40,8 @@ fn levels_of_found(alloc: Global, timeline: &[Stretch], found: &Found) -> Result
     Ok(levels)
 }
 
-/// The plan of what was found.
-pub(crate) fn lay_out(
+/// The plan of what was found: each stretch is filled from its start with its shares, and groups of the same speed make one level.
+pub fn lay_out(
     alloc: Global,
     rows: &[JobRow],
     timeline: &[Stretch],

@@ -13,5 +13,5 @@ mod layout_shares;
 mod layout_slots;
 mod planning;
 
-pub use layout::Planned;
-pub use planning::plan;
+pub use layout::{Planned, lay_out};
+pub use planning::{plan, read_rows};

@@ -1,24 +1,35 @@
 -- The text of a report is read with its line feed as it is without: after the last token a line feed is no token.
-use Rattle.std.proofs.Common.{◌≡◌, ℕ, ◌≤◌, Bool, true, false, cond, ◌&&◌, List, [], ◌∷◌, ◌++◌, refl, sym, ap, ap₂, subst, ◌∙◌, append_assoc, append-nil, arith, max, map, Some, option_and_then}
+use Rattle.std.proofs.Common.{◌≡◌, ℕ, ◌-◌, ◌^◌, ◌<◌, length, ◌≤◌, Bool, true, false, cond, ◌&&◌, List, [], ◌∷◌, ◌++◌, refl, sym, ap, ap₂, subst, ◌∙◌, append_assoc, append-nil, arith, map, Some, option_and_then}
 use Rattle.json.specs.Token.{Token, begin_object, end_object, begin_array, end_array, key, string, number, boolean, null, bad}
 use Rattle.json.specs.Word.{ends_word, word}
 use Rattle.json.specs.Lex.{token, comma, string_token, lex, between, fresh, punctuate, tokens}
-use Rattle.json.specs.Print.{escape, quoted, token_text, begins, ends, print_from, print, IsPrintable, ArePrintable}
-use Rattle.json.specs.Json.{value, if_last, max_depth as json_depth}
+use Rattle.json.specs.Print.{escape, quoted, token_text, begins, ends, print_from, IsPrintable, ArePrintable}
+use Rattle.json.specs.Json.{value, if_last}
 use Rattle.json.specs.Tree.{json_tokens, HasNumbers}
 use Rattle.json.specs.Tree as trees
 use Rattle.json.proofs.Printed.Strings.{content-escape, lex-escape}
 use Rattle.json.proofs.Printed.Numbers.{lex-number, in_word-ended}
 use Rattle.json.proofs.Printed.Trees.{value-json_tokens, ArePrintable-json_tokens}
-use Rattle.json.proofs.Numbered.{document-HasNumbers}
+use Rattle.json.proofs.Printed.Decimals.{IsNumber-decimal}
+use Rattle.json.proofs.Printed.Tokens.{tokens-print}
+use Rattle.serde_json.proofs.Numbers.{number_of-decimal}
 use Rattle.serde_json.specs.Data.{Data}
-use Rattle.serde_json.specs.Read.{read, of_json, max_depth}
+use Rattle.serde_json.specs.Read.{read, of_json, of_items, max_depth}
 use Rattle.serde_json.specs.View.{items_of}
 use Rattle.serde_json.specs.Written.{compact_text, outline, items_outline}
 use Rattle.serde_json.proofs.Texts.{print-outline}
-use Rattle.yds_model.specs.Job.{Job}
+use Rattle.yds_model.specs.declared.limits.TheConstants.{MAX_JOBS}
+use Rattle.yds_model.specs.Job.{Job, IsJob}
 use Rattle.yds_model.specs.Level.{Level}
-use Rattle.yds_report.specs.JsonValue.{level_value, report_value}
+use Rattle.std.specs.Prelude.{sum_by}
+use Rattle.std.specs.List.{All}
+use Rattle.std.proofs.lemmas.List.Elements.{All-tail}
+use Rattle.yds_model.specs.Within.{IsLevel}
+use Rattle.yds_model.specs.Energy.{first_release, last_deadline, horizon}
+use Rattle.yds_model.specs.JsonAnswer.{report_json}
+use Rattle.yds_model.proofs.Horizon.{last_within, releases_from, works_few}
+use Rattle.yds_report.proofs.JsonText.{report_text}
+use Rattle.yds_report.specs.JsonValue.{level_value, report_value, ReportsAreRead}
 
 -- # Tokens before a text
 
@@ -98,12 +109,103 @@ depth_levels : (levels : List Level) → trees.items_depth (items_outline (items
 depth_levels [] = omega arith
 depth_levels (level ∷ levels) = let rest = depth_levels levels in grind arith
 
--- the numbers of a report are numbers of JSON, as its text shows
-pub report_numbers : (jobs : List Job) (levels : List Level) (text : List ℕ) → tokens text ≡ json_tokens (outline (report_value jobs levels)) →
-    HasNumbers (outline (report_value jobs levels))
-report_numbers jobs levels text is =
-    let j = outline (report_value jobs levels) in
-    let shallow : trees.depth j ≤ json_depth = let most = depth_levels levels in grind arith in
-    document-HasNumbers text j
-    (ap (λ ts. option_and_then (λ p. if_last p.0 p.1) (value json_depth ts)) (is ∙ sym (append-nil (json_tokens j)))
-    ∙ ap (option_and_then (λ p. if_last p.0 p.1)) (value-json_tokens j json_depth [] shallow))
+-- the numbers of levels are numbers of JSON
+levels_numbers : (levels : List Level) → All IsLevel levels → trees.ItemsHaveNumbers (items_outline (items_of (map level_value levels)))
+levels_numbers [] fit = tt
+levels_numbers (level ∷ levels) fit =
+    let one = fit 0 level (omega arith) in
+    let small_length = one.length_in_range in
+    let small_work = one.work_in_range in (
+      (IsNumber-decimal level.length (omega arith), (tt, (IsNumber-decimal level.work (omega arith), tt))),
+      levels_numbers levels (All-tail IsLevel level levels fit),
+    )
+
+-- and are read as what they are
+level_back : (level : Level) → IsLevel level → of_json (outline (level_value level)) ≡ Some (level_value level)
+level_back level one =
+    let small_length = one.length_in_range in
+    let small_work = one.work_in_range in
+    rw (number_of-decimal level.length (omega arith), number_of-decimal level.work (omega arith)) refl
+
+levels_back : (levels : List Level) → All IsLevel levels → of_items (items_outline (items_of (map level_value levels))) ≡ Some (items_of (map level_value levels))
+levels_back [] fit = refl
+levels_back (level ∷ levels) fit =
+    rw (level_back level (fit 0 level (omega arith)), levels_back levels (All-tail IsLevel level levels fit)) refl
+
+-- the other numbers of a report are below 2 to the power of 64
+record AreSmall (jobs : List Job) (levels : List Level) : Type 0 where
+  first : first_release jobs < 2 ^ 64
+  idle : horizon jobs - sum_by (λ level. level.length) levels < 2 ^ 64
+  count : length jobs < 2 ^ 64
+  last : last_deadline jobs < 2 ^ 64
+  work : sum_by (λ job. job.work) jobs < 2 ^ 64
+
+-- so the report's numbers are numbers of JSON, and are read as what they are
+report_numbers : (jobs : List Job) (levels : List Level) → All IsLevel levels → AreSmall jobs levels → HasNumbers (outline (report_value jobs levels))
+report_numbers jobs levels fit small = (
+  IsNumber-decimal (first_release jobs) small.first,
+  (
+    IsNumber-decimal (horizon jobs - sum_by (λ level. level.length) levels) small.idle,
+    (
+      IsNumber-decimal (length jobs) small.count,
+      (
+        levels_numbers levels fit,
+        (
+          IsNumber-decimal (last_deadline jobs) small.last,
+          (IsNumber-decimal (sum_by (λ job. job.work) jobs) small.work, tt),
+        ),
+      ),
+    ),
+  ),
+)
+
+report_back : (jobs : List Job) (levels : List Level) → All IsLevel levels → AreSmall jobs levels → of_json (outline (report_value jobs levels)) ≡ Some (report_value jobs levels)
+report_back jobs levels fit small =
+    rw (
+      number_of-decimal (first_release jobs) small.first,
+      number_of-decimal (horizon jobs - sum_by (λ level. level.length) levels) small.idle,
+      number_of-decimal (length jobs) small.count,
+      levels_back levels fit,
+      number_of-decimal (last_deadline jobs) small.last,
+      number_of-decimal (sum_by (λ job. job.work) jobs) small.work,
+    ) refl
+
+-- what is written for a value whose numbers are numbers, and are read as what they are, is read as it
+written_read : (d : Data) → HasNumbers (outline d) → trees.depth (outline d) ≤ max_depth → of_json (outline d) ≡ Some d → read (compact_text d) ≡ Some d
+written_read d numbers shallow back =
+    let ts = json_tokens (outline d) in
+    let lexed : tokens (compact_text d) ≡ ts ++ [] =
+    ap tokens (sym (print-outline d)) ∙ tokens-print ts (ArePrintable-json_tokens (outline d) numbers) ∙ sym (append-nil ts) in
+    ap (λ ts. option_and_then of_json (option_and_then (λ p. if_last p.0 p.1) (value max_depth ts))) lexed
+    ∙ ap (λ parsed. option_and_then of_json (option_and_then (λ p. if_last p.0 p.1) parsed)) (value-json_tokens (outline d) max_depth [] shallow)
+    ∙ back
+
+-- the text of a report is read as the report
+report_read : (jobs : List Job) (levels : List Level) → All IsLevel levels → AreSmall jobs levels → read (report_json jobs levels) ≡ Some (report_value jobs levels)
+report_read jobs levels fit small =
+    let d = report_value jobs levels in
+    let numbers = report_numbers jobs levels fit small in
+    let shallow : trees.depth (outline d) ≤ max_depth = let most = depth_levels levels in grind arith in
+    ap read (sym (report_text jobs levels fit)) ∙ line_feed_read d numbers ∙ written_read d numbers shallow (report_back jobs levels fit small)
+
+-- the numbers of jobs within their limits are small
+small_numbers : (jobs : List Job) (levels : List Level) → All IsJob jobs → length jobs ≤ MAX_JOBS → AreSmall jobs levels
+small_numbers jobs levels fit few =
+    let last = last_within jobs fit in
+    let works = works_few jobs fit in
+    record {
+      first = omega (arith, last, releases_from jobs (last_deadline jobs));
+      idle = omega (arith, last);
+      count = omega (arith, few);
+      last = omega (arith, last);
+      work = omega (arith, works, few);
+    }
+
+-- the law of it
+pub reports_are_read : ReportsAreRead
+reports_are_read jobs levels fit few levels_fit = report_read jobs levels levels_fit (small_numbers jobs levels fit few)
+
+-- so a text that is one is read as the report
+pub text_read : (text : List ℕ) (jobs : List Job) (levels : List Level) → text ≡ report_json jobs levels → All IsJob jobs → length jobs ≤ MAX_JOBS → All IsLevel levels →
+    read text ≡ Some (report_value jobs levels)
+text_read text jobs levels is fit few levels_fit = ap read is ∙ reports_are_read jobs levels fit few levels_fit

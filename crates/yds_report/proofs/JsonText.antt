@@ -1,14 +1,12 @@
 -- The text that `serde_json` writes for the value of a report is the one of the definition.
-use Rattle.std.proofs.Common.{◌≡◌, ℕ, suc, ◌+◌, ◌-◌, ◌*◌, ◌/◌, ◌%◌, ◌^◌, ◌<◌, ◌≤◌, List, [], ◌∷◌, ◌++◌, length, map, ap, sym, ◌∙◌, refl, arith, append_assoc, Bool, true, false, max}
+use Rattle.std.proofs.Common.{◌≡◌, ℕ, ◌-◌, ◌/◌, ◌%◌, ◌^◌, ◌<◌, List, [], ◌∷◌, ◌++◌, length, map, ap, sym, ◌∙◌, refl, arith, append_assoc, Bool, true, false}
 use Rattle.std.specs.Prelude.{codes, decimal, ◌==◌, if◌then◌else◌, sum_by}
 use Rattle.std.specs.List.{All, join_with_byte}
-use Rattle.std.proofs.lemmas.List.Elements.{All-tail, All-append, All-cons, All-nil, All-weaker}
+use Rattle.std.proofs.lemmas.List.Elements.{All-tail, All-append, All-cons, All-nil}
 use Rattle.json.specs.Print.{escape_byte, escape}
 use Rattle.json.proofs.Printed.Strings.{escape_byte_plain}
-use Rattle.serde_json.specs.Data.{items_depth, depth}
 use Rattle.serde_json.specs.View.{items_of}
 use Rattle.serde_json.specs.Written.{compact_text, items_text, has_float, items_have_float}
-use Rattle.yds_model.specs.declared.limits.TheConstants.{MAX_LEVEL_WORK, MAX_LEVEL_LENGTH}
 use Rattle.yds_model.specs.Job.{Job}
 use Rattle.yds_model.specs.Scale.{of_whole}
 use Rattle.yds_model.specs.Divisor.{common_divisor, in_lowest_terms}
@@ -16,7 +14,6 @@ use Rattle.yds_model.specs.Energy.{first_release, last_deadline, horizon}
 use Rattle.std.proofs.Math.Nat.{div-le_self, mod-le}
 use Rattle.yds_model.specs.Level.{Level}
 use Rattle.yds_model.specs.Within.{IsLevel}
-use Rattle.yds_model.specs.Text.{fraction_text}
 use Rattle.yds_model.specs.ReportAnswer.{speed_text}
 use Rattle.yds_model.specs.JsonAnswer.{level_json, report_json}
 use Rattle.yds_model.specs.Spelling.{is_digit}
@@ -86,13 +83,6 @@ no_float_levels (level ∷ levels) = no_float_levels levels
 
 pub no_float : (jobs : List Job) (levels : List Level) → has_float (report_value jobs levels) ≡ false
 no_float jobs levels = rw (no_float_levels levels) refl
-
-depth_levels : (levels : List Level) → items_depth (items_of (map level_value levels)) ≤ 1
-depth_levels [] = omega arith
-depth_levels (level ∷ levels) = let rest = depth_levels levels in grind arith
-
-pub depth_report : (jobs : List Job) (levels : List Level) → depth (report_value jobs levels) ≤ 127
-depth_report jobs levels = let most = depth_levels levels in grind arith
 
 -- # The whole text
 

@@ -1,5 +1,11 @@
 -- The report of a plan's levels as a value of JSON. An object's members stand in order of their keys.
-use Rattle.std.specs.Prelude.{ℕ, ◌-◌, List, length, codes, map, sum_by}
+use Rattle.std.specs.Prelude.{◌≡◌, ℕ, ◌-◌, ◌≤◌, List, length, codes, map, sum_by, Some}
+use Rattle.std.specs.List.{All}
+use Rattle.serde_json.specs.Read.{read}
+use Rattle.yds_model.specs.declared.limits.TheConstants.{MAX_JOBS}
+use Rattle.yds_model.specs.Job.{IsJob}
+use Rattle.yds_model.specs.JsonAnswer.{report_json}
+use Rattle.yds_model.specs.Within.{IsLevel}
 use Rattle.serde_json.specs.Data.{Data, number, unsigned, string, array, object, member, no_members}
 use Rattle.serde_json.specs.View.{items_of}
 use Rattle.yds_model.specs.Job.{Job}
@@ -23,3 +29,8 @@ report_value jobs levels =
     (member (codes "levels") (array (items_of (map level_value levels)))
     (member (codes "to") (whole (last_deadline jobs))
     (member (codes "work") (whole (sum_by (λ job. job.work) jobs)) no_members))))))
+
+-- The text of a report of levels within the limits is read by `serde_json` as the value of the report.
+abbrev pub ReportsAreRead : Type 0
+ReportsAreRead = (jobs : List Job) (levels : List Level) → All IsJob jobs → length jobs ≤ MAX_JOBS → All IsLevel levels →
+    read (report_json jobs levels) ≡ Some (report_value jobs levels)

@@ -8,7 +8,7 @@ ghost use Rattle.yds_model.specs.declared.limits.TheConstants.{MAX_JOBS, MAX_LEV
 ghost use Rattle.yds_model.specs.Job.{IsJob};
 ghost use Rattle.yds_model.specs.JsonAnswer.{report_json};
 ghost use Rattle.yds_model.specs.Within.{IsLevel};
-ghost use Rattle.yds_report.specs.JsonValue.{level_value, report_value};
+ghost use Rattle.yds_report.specs.JsonValue.{level_value, report_value, ReportsAreRead};
 
 use crate::numbers::{first_release, idle_time, last_deadline, speed_of, total_work};
 use serde_json::Value;
@@ -22,6 +22,7 @@ use yds_plan::Planned;
 /// `report`, in units of work and of time, and a level's speed in lowest terms as a string.
 pub fn json(alloc: Global, document: &Document<'_>, plan: &Planned) -> Result<Vec<u8>, Memory>
     ensures text { IfOk result (λ text. text.items ≡ report_json document.now.instance.jobs plan.now.certificate) }
+    ensures levels { All IsLevel plan.now.certificate }
     ensures read { IfOk result (λ text. read text.items ≡ Some (report_value document.now.instance.jobs plan.now.certificate)) }
 {
     let report = value_of_report(alloc, document.instance.rows(), plan.certificate.levels())?;
@@ -72,3 +73,8 @@ fn value_of_level(alloc: Global, level: &Level) -> Result<Value, Memory>
         serde_json::json!(in alloc; {"length": length, "speed": speed.as_str(), "work": work})?;
     Ok(value)
 }
+
+/// The text of a report is read by `serde_json` as the report: its members, and an object for each level.
+pub fn reports_are_read()
+    ensures { ReportsAreRead }
+{}

@@ -11,7 +11,7 @@ mod numbers;
 mod report_lines;
 mod reporting;
 
-pub use json_text::json;
+pub use json_text::{json, reports_are_read};
 pub use reporting::report;
 
 #[cfg(test)]

@@ -16,8 +16,8 @@ use Rattle.yds_model.specs.Plan.{IsPlan, speed_num, speed_den}
 use Rattle.yds_model.specs.Rounding.{RoundsStretch, RoundsStretches}
 use Rattle.yds_events.specs.Stretch.{no_stretch, length_of}
 use Rattle.yds_events.proofs.Neighbours.{few_stretches}
-use Rattle.yds_laws.proofs.EvenStretches.{some_or_none}
-use Rattle.yds_laws.proofs.TaskNames.{All-flat}
+use Rattle.yds_energy.proofs.EvenStretches.{some_or_none}
+use Rattle.yds_laws.proofs.Lists.{All-flat}
 use Rattle.yds_slots.specs.Between.{lies_between}
 use Rattle.yds_round.specs.declared.split.Split.{Split}
 use Rattle.yds_round.specs.declared.pace.Pace.{Pace}

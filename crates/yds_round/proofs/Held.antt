@@ -23,11 +23,11 @@ use Rattle.yds_model.proofs.Lists.{All-back}
 use Rattle.yds_model.proofs.Runs.{run_forward}
 use Rattle.yds_events.specs.Stretch.{length_of}
 use Rattle.yds_events.proofs.Neighbours.{stretches_run}
-use Rattle.yds_laws.proofs.PlanParts.{IsPartOfPlan, plan_part, part_front, part_back, level_found}
-use Rattle.yds_laws.proofs.RoundedFeasible.{IsBetweenEvents, stretches_between, parts_at}
-use Rattle.yds_laws.proofs.RoundedRuns.{all_work}
-use Rattle.yds_laws.proofs.FullStretches.{FillsStretch, stretch_full, one_level}
-use Rattle.yds_laws.proofs.TaskNames.{All-flat}
+use Rattle.yds_energy.proofs.PlanParts.{IsPartOfPlan, plan_part, part_front, part_back, level_found}
+use Rattle.yds_energy.proofs.RoundedFeasible.{IsBetweenEvents, stretches_between, parts_at}
+use Rattle.yds_energy.proofs.RoundedRuns.{all_work}
+use Rattle.yds_energy.proofs.FullStretches.{FillsStretch, stretch_full, one_level}
+use Rattle.yds_laws.proofs.Lists.{All-flat}
 use Rattle.yds_slots.specs.Between.{lies_between}
 use Rattle.yds_round.specs.Written.{slot_units, units_of_slots}
 use Rattle.yds_round.specs.Rounded.{planned_in}

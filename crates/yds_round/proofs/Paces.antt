@@ -7,7 +7,7 @@ use Rattle.std.proofs.Math.Nat.{div-mul_cancel, mul-le-mul, mul-le-mul_right}
 use Rattle.yds_model.specs.declared.limits.TheConstants.{MAX_LEVEL_LENGTH, MAX_POINT_POWER}
 use Rattle.yds_model.specs.Level.{Level}
 use Rattle.yds_model.specs.Table.{Point, point_at, hull_of, hull_multiple}
-use Rattle.yds_laws.proofs.PointTimes.{gap_divides}
+use Rattle.yds_energy.proofs.PointTimes.{gap_divides}
 use Rattle.yds_round.specs.declared.pace.Pace.{Pace}
 use Rattle.yds_round.specs.declared.split.Split.{Split}
 use Rattle.yds_round.specs.Pace.{RunsAtOne, RunsAs, IsPaceOf}

@@ -17,10 +17,10 @@ use Rattle.yds_model.specs.Within.{IsSlot}
 use Rattle.yds_model.specs.Rounding.{top_of, IsTooFast, RoundsStretches, IsEnergyOf}
 use Rattle.yds_model.proofs.Scale.{scale_exists}
 use Rattle.yds_fraction.proofs.Kept.{some_parts}
-use Rattle.yds_laws.specs.RoundingLaws.{IsLevelCost}
+use Rattle.yds_energy.specs.RoundingLaws.{IsLevelCost}
 use Rattle.yds_laws.proofs.Bound.{scale_right}
-use Rattle.yds_laws.proofs.RoundingScale.{one_scale_decides_energy}
-use Rattle.yds_laws.proofs.LevelsEnergy.{rounded_costs_its_levels}
+use Rattle.yds_energy.proofs.RoundingScale.{one_scale_decides_energy}
+use Rattle.yds_energy.proofs.LevelsEnergy.{rounded_costs_its_levels}
 use Rattle.yds_round.specs.declared.split.Split.{Split}
 use Rattle.yds_round.specs.declared.pace.Pace.{Pace}
 use Rattle.yds_round.specs.Pace.{RunsAs, IsPaceOf}

@@ -10,7 +10,7 @@ use Rattle.yds_model.specs.Level.{Level}
 use Rattle.yds_model.specs.Table.{Point}
 use Rattle.yds_model.specs.Plan.{speed_num}
 use Rattle.yds_model.specs.Rounding.{RunsAtPoint, RunsOn, IsSplitAt}
-use Rattle.yds_laws.proofs.PlanParts.{given_joined}
+use Rattle.yds_energy.proofs.PlanParts.{given_joined}
 use Rattle.yds_events.specs.Stretch.{length_of}
 use Rattle.yds_round.specs.declared.split.Split.{Split}
 use Rattle.yds_round.specs.Split.{IsSplit, IsSplitOf}

@@ -1,6 +1,6 @@
 -- From the bytes that were taken to all bytes of the input.
-use Rattle.std.proofs.Common.{◌≡◌, ◌⊎◌, ℕ, ◌+◌, ◌<◌, ◌≤◌, List, [], ◌++◌, length, Option, Some, None, subst, sym, ap, ◌∙◌, arith, inl, inr, length-append, lt-ltb, le-ltb}
-use Rattle.std.specs.Prelude.{IfSome}
+use Rattle.std.proofs.Common.{◌≡◌, ◌⊎◌, ℕ, ◌+◌, ◌<◌, ◌≤◌, List, [], ◌++◌, length, Option, Some, None, refl, subst, sym, ap, ◌∙◌, arith, inl, inr, length-append, lt-ltb, le-ltb}
+use Rattle.std.specs.Prelude.{◌≢◌, IfSome}
 use Rattle.std.proofs.lemmas.List.{append-nil}
 use Rattle.std.specs.Io.KnownBytes.{Appends}
 use Rattle.yds_model.specs.declared.limits.TheConstants.{MAX_INPUT}
@@ -11,6 +11,7 @@ use Rattle.yds_model.specs.Answer.{AnswersRequest, AnswersReading, AnswersTasks,
 use Rattle.yds_model.specs.Reading.{reading}
 use Rattle.yds_model.specs.TaskReading.{task_reading}
 use Rattle.yds_model.specs.TrialAnswer.{TrialAnswer}
+use Rattle.yds_texts.specs.JudgedText.{IsJudged}
 use Rattle.yds_run.specs.Run.{IsWhole, Writes, WritesWhole, AnswersBytes, AnswersTaken, Outcome}
 
 -- what is an answer to one thing and so to another
@@ -119,3 +120,35 @@ pub answer_holds : (named : Option Request) (request : Request) (ended result : 
 answer_holds named request ended result Holds None old new flushed whole law asks is answered = tt
 answer_holds named request ended result Holds (Some input) old new flushed whole law asks is answered =
     text_holds request ended result Holds input old new flushed whole law is (subst (λ asked. AnswersBytes asked input result old new flushed) asks answered)
+
+-- # A yes or a no
+
+-- what was answered by yes or no had its memory,
+pub judged_keeps : (result : Status) → IsJudged result → result ≢ statuses.Memory
+judged_keeps result (inl is) wanting = absurd (done_kept (sym is ∙ wanting)) where
+  done_kept : statuses.Done ≡ statuses.Memory → ⊥
+  done_kept same = absurd cc
+judged_keeps result (inr is) wanting = absurd (no_kept (sym is ∙ wanting)) where
+  no_kept : statuses.No ≡ statuses.Memory → ⊥
+  no_kept same = absurd cc
+
+-- and its input
+pub judged_reads : (result : Status) → IsJudged result → result ≢ statuses.ReadFault
+judged_reads result (inl is) fault = absurd (done_read (sym is ∙ fault)) where
+  done_read : statuses.Done ≡ statuses.ReadFault → ⊥
+  done_read same = absurd cc
+judged_reads result (inr is) fault = absurd (no_read (sym is ∙ fault)) where
+  no_read : statuses.No ≡ statuses.ReadFault → ⊥
+  no_read same = absurd cc
+
+-- a yes or a no holds what each such answer holds, where the words ask for it and the input is told
+pub judged_holds : (named : Option Request) (request : Request) (result : Status) (Holds : List ℕ → List ℕ → Status → Type 0) (left old new : Option (List ℕ)) (flushed : Option ℕ)
+    → ((input text : List ℕ) (status : Status) → IsJudged status → AnswersRequest (Some request) input text status → Holds input text status)
+    → named ≡ Some request → IsJudged result → IfSome left (λ input. AnswersBytes named input result old new flushed)
+    → IfSome left (λ input. (text : List ℕ) × Appends old new text × Holds input text result)
+judged_holds named request result Holds left old new flushed law asks (inl wanted) answered =
+    answer_holds named request statuses.Done result (λ input text. Holds input text result) left old new flushed tt
+    (λ input text answers. subst (Holds input text) (sym wanted) (law input text statuses.Done (inl refl) answers)) asks wanted answered
+judged_holds named request result Holds left old new flushed law asks (inr unwanted) answered =
+    answer_holds named request statuses.No result (λ input text. Holds input text result) left old new flushed tt
+    (λ input text answers. subst (Holds input text) (sym unwanted) (law input text statuses.No (inr refl) answers)) asks unwanted answered

@@ -7,3 +7,4 @@ pub mod Comments
 pub mod Admitting
 pub mod TooSlow
 pub mod Compared
+pub mod Reported

@@ -1,5 +1,5 @@
 -- The text of a document of admitted jobs, with a comment for each refused job.
-use Rattle.std.specs.Prelude.{ℕ, List, [], ◌∷◌, ◌++◌, codes, decimal}
+use Rattle.std.specs.Prelude.{ℕ, ◌+◌, ◌≤◌, List, [], ◌∷◌, ◌++◌, codes, decimal}
 use Rattle.std.specs.List.{flat_map}
 use Rattle.yds_model.specs.Document.{name_at}
 use Rattle.yds_model.specs.Text.{line, canonical_text}
@@ -18,3 +18,8 @@ comments_text admitted = flat_map (comment_text admitted.instance.names admitted
 
 abbrev pub admitted_text : AdmittedDocument → List ℕ
 admitted_text admitted = canonical_text (document_view admitted.document) ++ comments_text admitted
+
+-- the numbers rise, from this one on
+abbrev pub RiseFrom : ℕ → List ℕ → Type 0
+RiseFrom least [] = Unit {0}
+RiseFrom least (number ∷ numbers) = (least ≤ number) × RiseFrom (number + 1) numbers

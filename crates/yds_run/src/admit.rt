@@ -7,7 +7,7 @@ ghost use Rattle.yds_model.specs.Admission.{jobs_with};
 ghost use Rattle.yds_model.specs.AdmitAnswer.{AdmitAnswer};
 ghost use Rattle.yds_port.specs.Sink.{Puts};
 ghost use Rattle.yds_document.specs.Documents.{document_view};
-ghost use Rattle.yds_run.specs.Admit.{comment_text, comments_text, admitted_text};
+ghost use Rattle.yds_run.specs.Admit.{comment_text, comments_text, admitted_text, RiseFrom};
 
 use crate::admitted::AdmittedDocument;
 use crate::answer::Answer;
@@ -57,26 +57,24 @@ pub fn admit_document<'a>(
     })
 }
 
-/// The jobs with these numbers, in this order.
+/// The jobs with these numbers, which rise, in this order.
 fn chosen<'a>(
     alloc: Global,
     instance: &Instance<'a>,
     numbers: &[u32],
 ) -> Result<Instance<'a>, Memory>
-    requires { All (λ number. number < length instance.now.jobs) numbers.now }
+    requires known { All (λ number. number < length instance.now.jobs) numbers.now }
+    requires rising { RiseFrom 0 numbers.now }
     ensures { IfOk result (λ chosen. chosen ≡ record {
       names = map (name_at instance.now.names) numbers.now;
       jobs = jobs_with instance.now.jobs numbers.now;
     }) }
 {
     let rows = instance.rows();
-    let mut chosen = Instance::new(alloc);
+    let mut chosen = Instance::new(alloc, instance.keys());
     for number in numbers {
         let row = rows[*number as usize];
-        // The names are different, and no more than the instance has: only memory can be wanting.
-        if chosen.add(instance.name(*number), row).is_err() {
-            return Err(Memory);
-        }
+        chosen.add_new(instance.name(*number), row)?;
     }
     Ok(chosen)
 }

@@ -11,6 +11,7 @@ use crate::answer::Answer;
 use crate::deliver::deliver;
 use crate::refusal::{RefusedAt, TooLong};
 use std::alloc::Global;
+use std::hash::RandomState;
 use yds_model::Status;
 use yds_model::limits::MAX_INPUT;
 use yds_port::{ReadAllFault, Sink, Source, WriteFault, read_all};
@@ -35,7 +36,12 @@ impl Answer for TaskSet<'_> {
 }
 
 /// Answers with the jobs of the tasks in the input.
-pub fn expand_input<S: Source, K: Sink>(alloc: Global, source: &mut S, sink: &mut K) -> Status
+pub fn expand_input<S: Source, K: Sink>(
+    alloc: Global,
+    keys: RandomState,
+    source: &mut S,
+    sink: &mut K,
+) -> Status
     ensures source { CountTells Status.ReadFault result (S.faults source.old) (S.faults source.new) }
     ensures sink { CountTells Status.WriteFault result (K.faults sink.old) (K.faults sink.new) }
     ensures nothing_written { (result ≡ Status.Memory) ⊎ (result ≡ Status.ReadFault) → sink.new ≡ sink.old }
@@ -44,7 +50,7 @@ pub fn expand_input<S: Source, K: Sink>(alloc: Global, source: &mut S, sink: &mu
         → AnswersTaken (Some OfTasks) result (S.left source.old) (S.left source.new) (K.written sink.old) (K.written sink.new) (K.flushed sink.new) }
 {
     match read_all(alloc, source, MAX_INPUT) {
-        Ok(bytes) => expand_bytes(alloc, &bytes, sink),
+        Ok(bytes) => expand_bytes(alloc, keys, &bytes, sink),
         Err(ReadAllFault::TooLong) => deliver(&TooLong, sink),
         Err(ReadAllFault::ReadFault) => Status::ReadFault,
         Err(ReadAllFault::Memory) => Status::Memory,
@@ -52,11 +58,11 @@ pub fn expand_input<S: Source, K: Sink>(alloc: Global, source: &mut S, sink: &mu
 }
 
 /// Answers with the jobs of the tasks that the bytes are.
-fn expand_bytes<K: Sink>(alloc: Global, bytes: &[u8], sink: &mut K) -> Status
+fn expand_bytes<K: Sink>(alloc: Global, keys: RandomState, bytes: &[u8], sink: &mut K) -> Status
     requires { length bytes.now ≤ MAX_INPUT }
     ensures { Replies K.written K.flushed K.flushes K.faults (AnswersTasks (task_reading bytes.now)) result sink.old sink.new }
 {
-    match read_tasks(alloc, bytes) {
+    match read_tasks(alloc, keys, bytes) {
         Ok(tasks) => deliver(&tasks, sink),
         Err(
             TaskFault::At {

@@ -2,7 +2,7 @@
 //! the input, computes the answer and writes it.
 //!
 //! It stands on `yds_document` and `yds_tasks`, which read and print, on a crate for each command's work,
-//! on `yds_port`, which gives and takes bytes, and on the laws of `yds_laws` that tell what the texts
+//! on `yds_port`, which gives and takes bytes, and on the laws of `yds_texts` that tell what the texts
 //! are worth. It carries the promise that what was written is
 //! the answer of the definitions to the words and to all bytes of the input, whole and flushed, or that
 //! the status tells what came between: a fault that the source or the sink counted, or want of memory

@@ -2,13 +2,17 @@ ghost use Rattle.std.specs.Prelude.{◌≡◌, ◌≢◌, ◌⊎◌, ◌<◌, �
 ghost use Rattle.yds_model.specs.declared.limits.TheConstants.{MAX_INPUT};
 ghost use Rattle.std.specs.Io.KnownBytes.{Appends, IsAtEnd};
 ghost use Rattle.yds_model.specs.Answer.{AnswersReading, AnswersQuestion};
-ghost use Rattle.yds_model.specs.PlanAnswer.{HoldsHeadline};
 ghost use Rattle.yds_model.specs.Reading.{reading};
-ghost use Rattle.yds_model.specs.Request.{usage_line, OfDocument, AskAdmit, AskCompare};
-ghost use Rattle.yds_laws.specs.AdmitText.{HoldsAdmission};
-ghost use Rattle.yds_laws.specs.CompareText.{HoldsComparison};
-ghost use Rattle.yds_laws.specs.RoundText.{HoldsLeastEnergy, HoldsTooSlow};
-ghost use Rattle.yds_laws.specs.TaskLaws.{HoldsExpansion};
+ghost use Rattle.yds_model.specs.Request.{usage_line, OfDocument, AskAverageRate, AskOptimalAvailable, AskAdmit, AskCompare};
+ghost use Rattle.yds_texts.specs.AdmitText.{HoldsAdmission};
+ghost use Rattle.yds_texts.specs.CompareText.{HoldsComparison};
+ghost use Rattle.yds_texts.specs.CurveText.{HoldsCurve};
+ghost use Rattle.yds_report.specs.JsonText.{HoldsReport};
+ghost use Rattle.yds_texts.specs.JudgedText.{HoldsJudgement, HoldsVerdict, HoldsVerdictOnPoints};
+ghost use Rattle.yds_texts.specs.PlanText.{HoldsHeadline};
+ghost use Rattle.yds_texts.specs.RoundText.{HoldsLeastEnergy, HoldsTooSlow};
+ghost use Rattle.yds_texts.specs.RunText.{HoldsAverageRate, HoldsOptimalAvailable};
+ghost use Rattle.yds_texts.specs.TaskLaws.{HoldsExpansion};
 ghost use Rattle.yds_port.specs.Count.{Rose, next_count};
 ghost use Rattle.yds_document.specs.Documents.{document_view};
 ghost use Rattle.yds_run.specs.Words.{words_of, asked, IsTrial, ReadsInput, question_view, IsAskable};
@@ -31,6 +35,7 @@ use crate::report_json::json_document;
 use crate::round::round_document;
 use crate::trial::try_plan;
 use std::alloc::Global;
+use std::hash::RandomState;
 use yds_document::{DocFault, Document, read_document};
 use yds_model::limits::MAX_INPUT;
 use yds_model::{Memory, Status};
@@ -45,8 +50,11 @@ use yds_port::{ReadAllFault, Sink, Source, read_all};
 /// bytes of the source. Where the source doesn't, as standard input, `answer` says only that what was written
 /// is the answer to some input; and where neither does, only that the status is that of the answer to some
 /// input. The code is one for all sources and sinks.
+///
+/// Names are looked up with the keys, on which no answer depends.
 pub fn run<S: Source, K: Sink>(
     alloc: Global,
+    keys: RandomState,
     words: &[String],
     source: &mut S,
     sink: &mut K,
@@ -85,21 +93,52 @@ pub fn run<S: Source, K: Sink>(
         → IsAtEnd (S.left source.new) ⊎ IsTooLong result (S.left source.old) (S.left source.new) (K.written sink.old) (K.written sink.new) }
 
     // A plan that was written is read again as the document with that plan, which gives every job its
-    // work in its window and, for every speed, does no more work above it than any feasible schedule.
+    // work in its window and, for every speed, does no more work above it than any feasible schedule. By every convex table
+    // of points it takes no more energy than any of them.
     ensures headline { words_of words.now ≡ codes "plan" ∷ [] → result ≡ Status.Done
         → IfSome (S.left source.old) (λ input. (text : List ℕ) × Appends (K.written sink.old) (K.written sink.new) text × HoldsHeadline input text) }
+
+    // `check` is done and says 'accepted' exactly where the document's levels are a proper certificate of its slots, and says
+    // no exactly where they aren't. Where they are, the slots are as good as those of a plan: least above every speed and
+    // cheapest by every convex table.
+    ensures accepted { words_of words.now ≡ codes "check" ∷ [] → (result ≡ Status.Done) ⊎ (result ≡ Status.No)
+        → IfSome (S.left source.old) (λ input. (text : List ℕ) × Appends (K.written sink.old) (K.written sink.new) text × HoldsJudgement input text result) }
+    // `audit` is done and says 'feasible' exactly where the document's slots give every job its work inside its window, one job
+    // at a time, and says no exactly where they don't. With `--points` it is so where each also runs at a point's speed.
+    ensures feasible { words_of words.now ≡ codes "audit" ∷ [] → (result ≡ Status.Done) ⊎ (result ≡ Status.No)
+        → IfSome (S.left source.old) (λ input. (text : List ℕ) × Appends (K.written sink.old) (K.written sink.new) text × HoldsVerdict input text result) }
+    ensures feasible_on_points { words_of words.now ≡ codes "audit" ∷ codes "--points" ∷ [] → (result ≡ Status.Done) ⊎ (result ≡ Status.No)
+        → IfSome (S.left source.old) (λ input. (text : List ℕ) × Appends (K.written sink.old) (K.written sink.new) text × HoldsVerdictOnPoints input text result) }
 
     // A rounded plan that was written is read again as the document with slots at the speeds of its points,
     // which give every job its work in its window, and no feasible schedule on the points takes less energy.
     ensures least_energy { words_of words.now ≡ codes "round" ∷ [] → result ≡ Status.Done
         → IfSome (S.left source.old) (λ input. (text : List ℕ) × Appends (K.written sink.old) (K.written sink.new) text × HoldsLeastEnergy input text) }
-    // Where it says no, the points are too slow: no feasible schedule stays at or below the top one.
+    // Where it says no, the points are too slow: no feasible schedule stays at or below the top one, and the first level of a
+    // plan, whose work and length are told, is faster.
     ensures too_slow { words_of words.now ≡ codes "round" ∷ [] → result ≡ Status.No
         → IfSome (S.left source.old) (λ input. (text : List ℕ) × Appends (K.written sink.old) (K.written sink.new) text × HoldsTooSlow input text) }
+    // A policy's run that was written is read again as the document with the run, which gives every job its work in its window.
+    // Where it says that it never rounded, it is the policy's own.
+    ensures average_rate { (grid : ℕ) → asked (words_of words.now) ≡ Some (OfDocument (AskAverageRate grid)) → result ≡ Status.Done
+        → IfSome (S.left source.old) (λ input. (text : List ℕ) × Appends (K.written sink.old) (K.written sink.new) text × HoldsAverageRate grid input text) }
+    ensures optimal_available { (grid : ℕ) → asked (words_of words.now) ≡ Some (OfDocument (AskOptimalAvailable grid)) → result ≡ Status.Done
+        → IfSome (S.left source.old) (λ input. (text : List ℕ) × Appends (K.written sink.old) (K.written sink.new) text × HoldsOptimalAvailable grid input text) }
     // A comparison that was written tells neither policy less energy than the plan, and the plan the energy that `round`
     // writes for the same input.
     ensures comparison { (grid : ℕ) → asked (words_of words.now) ≡ Some (OfDocument (AskCompare grid)) → result ≡ Status.Done
-        → IfSome (S.left source.old) (λ input. (text : List ℕ) × Appends (K.written sink.old) (K.written sink.new) text × HoldsComparison input text) }
+        → IfSome (S.left source.old) (λ input. (text : List ℕ) × Appends (K.written sink.old) (K.written sink.new) text × HoldsComparison grid input text) }
+    // Where it says no, the points are too slow, as for `round`.
+    ensures compared_too_slow { (grid : ℕ) → asked (words_of words.now) ≡ Some (OfDocument (AskCompare grid)) → result ≡ Status.No
+        → IfSome (S.left source.old) (λ input. (text : List ℕ) × Appends (K.written sink.old) (K.written sink.new) text × HoldsTooSlow input text) }
+
+    // A curve that was written tells at rising speeds, from 0 on, the least work that any feasible schedule does above them. Between two of
+    // them it goes in a straight line, and above the last it is 0.
+    ensures least_excess { words_of words.now ≡ codes "curve" ∷ [] → result ≡ Status.Done
+        → IfSome (S.left source.old) (λ input. (text : List ℕ) × Appends (K.written sink.old) (K.written sink.new) text × HoldsCurve input text) }
+    // A report of JSON that was written is read by `serde_json` as the numbers of the jobs and of a plan's levels.
+    ensures json { words_of words.now ≡ codes "report" ∷ codes "--json" ∷ [] → result ≡ Status.Done
+        → IfSome (S.left source.old) (λ input. (text : List ℕ) × Appends (K.written sink.old) (K.written sink.new) text × HoldsReport input text) }
 
     // The jobs of periodic tasks that were written are read again as a document with just these jobs, in
     // their order and under different names.
@@ -107,13 +146,14 @@ pub fn run<S: Source, K: Sink>(
         → IfSome (S.left source.old) (λ input. (text : List ℕ) × Appends (K.written sink.old) (K.written sink.new) text × HoldsExpansion input text) }
 
     // The admitted jobs that were written, with a comment for each other job, are read again as a document of the admitted jobs
-    // with slots that give each of them its work in its window, nowhere faster than the top speed.
+    // with slots that give each of them its work in its window, nowhere faster than the top speed. In the interval of each comment lie the
+    // windows of that job and of admitted ones whose work is more than the top speed does there.
     ensures admission { (top : ℕ) → asked (words_of words.now) ≡ Some (OfDocument (AskAdmit top)) → result ≡ Status.Done
         → IfSome (S.left source.old) (λ input. (text : List ℕ) × Appends (K.written sink.old) (K.written sink.new) text × HoldsAdmission top input text) }
 {
     match Command::of(words) {
-        Some(Command::Document(question)) => answer_input(alloc, question, source, sink),
-        Some(Command::Expand) => expand_input(alloc, source, sink),
+        Some(Command::Document(question)) => answer_input(alloc, keys, question, source, sink),
+        Some(Command::Expand) => expand_input(alloc, keys, source, sink),
         Some(Command::Trial { seed, jobs }) => reply(try_plan(alloc, seed, jobs), sink),
         None => deliver(&Usage, sink),
     }
@@ -122,6 +162,7 @@ pub fn run<S: Source, K: Sink>(
 /// Answers the question about the document in the input.
 fn answer_input<S: Source, K: Sink>(
     alloc: Global,
+    keys: RandomState,
     question: Question,
     source: &mut S,
     sink: &mut K,
@@ -135,7 +176,7 @@ fn answer_input<S: Source, K: Sink>(
         → AnswersTaken (Some (OfDocument (question_view question))) result (S.left source.old) (S.left source.new) (K.written sink.old) (K.written sink.new) (K.flushed sink.new) }
 {
     match read_all(alloc, source, MAX_INPUT) {
-        Ok(bytes) => answer_bytes(alloc, question, &bytes, sink),
+        Ok(bytes) => answer_bytes(alloc, keys, question, &bytes, sink),
         Err(ReadAllFault::TooLong) => deliver(&TooLong, sink),
         Err(ReadAllFault::ReadFault) => Status::ReadFault,
         Err(ReadAllFault::Memory) => Status::Memory,
@@ -143,12 +184,18 @@ fn answer_input<S: Source, K: Sink>(
 }
 
 /// Answers the question about the document that the bytes are.
-fn answer_bytes<K: Sink>(alloc: Global, question: Question, bytes: &[u8], sink: &mut K) -> Status
+fn answer_bytes<K: Sink>(
+    alloc: Global,
+    keys: RandomState,
+    question: Question,
+    bytes: &[u8],
+    sink: &mut K,
+) -> Status
     requires askable { IsAskable question }
     requires short { length bytes.now ≤ MAX_INPUT }
     ensures { Replies K.written K.flushed K.flushes K.faults (AnswersReading (question_view question) (reading bytes.now)) result sink.old sink.new }
 {
-    match read_document(alloc, bytes) {
+    match read_document(alloc, keys, bytes) {
         Ok(document) => answer_document(alloc, question, document, sink),
         Err(
             DocFault::At {

@@ -4,7 +4,10 @@ use crate::worked_rows::{
     REPORTS_AND_TRIALS, ROUNDINGS, ROWS,
 };
 use std::alloc::{AllocError, Global};
+use std::hash::RandomState;
+use std::io;
 use std::process::Abort;
+use std::random::RandomSource;
 use std::test::Fail;
 use yds_model::{Memory, Status};
 use yds_port::{MemorySink, MemorySource, read_all};
@@ -12,6 +15,16 @@ use yds_port::{MemorySink, MemorySource, read_all};
 const ONE_JOB: &[u8] = b"job a 0 4 8\n";
 
 const PLAN: &[u8] = b"job a 0 4 8\nslot a 0 4 8\nlevel 8 4\npiece 0 4\nmember a\n";
+
+/// Bytes that are all the same, for keys that are known.
+struct SameBytes(u8);
+
+impl RandomSource for SameBytes {
+    fn fill_bytes(&self, bytes: &mut [u8]) -> io::Result<()> {
+        bytes.fill(self.0);
+        Ok(())
+    }
+}
 
 /// The words between the spaces of a text.
 fn words(alloc: Global, text: &str) -> Result<Vec<String>, AllocError> {
@@ -28,26 +41,37 @@ fn source(alloc: Global, input: &[u8], failing: u32) -> Result<MemorySource, All
     Ok(MemorySource::new(bytes, 4, [failing].to_vec(alloc)?))
 }
 
-/// The status and the text of a run with these words over this input, read and written in pieces of four bytes.
-fn answer(alloc: Global, text: &str, input: &str) -> Result<(Status, MemorySink), Memory> {
+/// The status and the text of a run with these keys and words over this input, read and written in pieces of four bytes.
+fn answer(
+    alloc: Global,
+    keys: RandomState,
+    text: &str,
+    input: &str,
+) -> Result<(Status, MemorySink), Memory> {
     let words = words(alloc, text)?;
     let bytes = input.as_bytes().to_vec(alloc)?;
     let mut source = MemorySource::new(bytes, 4, Vec::new(alloc));
     let mut sink = MemorySink::with_room(alloc, 500, 4, Vec::new(alloc))?;
-    let status = run(alloc, &words, &mut source, &mut sink);
+    let status = run(alloc, keys, &words, &mut source, &mut sink);
     Ok((status, sink))
 }
 
-/// The words of each row, over its input, end with its status and write its text.
+/// The words of each row, over its input, end with its status and write its text, with one set of keys as with another.
 fn answers_are(
     rt: &impl Abort,
     alloc: Global,
     rows: &[(&str, &str, Status, &str)],
 ) -> Result<(), Fail> {
+    let two = [
+        RandomState::new(&SameBytes(0))?,
+        RandomState::new(&SameBytes(171))?,
+    ];
     for (text, input, status, want) in rows {
-        let (ended, sink) = answer(alloc, text, input)?;
-        assert_eq!(rt; ended, *status, "{text}: {input}");
-        assert_eq!(rt; sink.bytes(), want.as_bytes(), "{text}: {input}");
+        for keys in two {
+            let (ended, sink) = answer(alloc, keys, text, input)?;
+            assert_eq!(rt; ended, *status, "{text}: {input}");
+            assert_eq!(rt; sink.bytes(), want.as_bytes(), "{text}: {input}");
+        }
     }
     Ok(())
 }
@@ -94,8 +118,9 @@ fn the_answers_of_admissions(rt: HostRuntime) -> Result<(), Fail> {
 
 #[test]
 fn a_trial_of_a_thousand_jobs_is_the_same_each_time(rt: HostRuntime) -> Result<(), Fail> {
-    let (first_ended, first) = answer(rt.alloc(), "trial 0 1000", "")?;
-    let (second_ended, second) = answer(rt.alloc(), "trial 0 1000", "")?;
+    let keys = RandomState::new(&rt)?;
+    let (first_ended, first) = answer(rt.alloc(), keys, "trial 0 1000", "")?;
+    let (second_ended, second) = answer(rt.alloc(), keys, "trial 0 1000", "")?;
     assert_eq!(rt; first_ended, Status::Done);
     assert_eq!(rt; second_ended, Status::Done);
     assert_eq!(rt; first.bytes(), second.bytes());
@@ -106,6 +131,7 @@ fn a_trial_of_a_thousand_jobs_is_the_same_each_time(rt: HostRuntime) -> Result<(
 
 #[test]
 fn an_input_of_the_greatest_size_and_one_byte_more(rt: HostRuntime) -> Result<(), Fail> {
+    let keys = RandomState::new(&rt)?;
     let cases = [
         (8_388_608, Status::Done, b"".as_slice()),
         (8_388_609, Status::Refused, b"refused too-long\n".as_slice()),
@@ -117,7 +143,7 @@ fn an_input_of_the_greatest_size_and_one_byte_more(rt: HostRuntime) -> Result<()
         let mut source = MemorySource::new(bytes, 65_536, Vec::new(rt.alloc()));
         let mut sink = MemorySink::with_room(rt.alloc(), 100, 100, Vec::new(rt.alloc()))?;
         assert_eq!(rt;
-            run(rt.alloc(), &words, &mut source, &mut sink),
+            run(rt.alloc(), keys, &words, &mut source, &mut sink),
             status,
             "{size}"
         );
@@ -129,6 +155,7 @@ fn an_input_of_the_greatest_size_and_one_byte_more(rt: HostRuntime) -> Result<()
 /// The second read fails; the second write fails; there is room for ten bytes; the flush fails.
 #[test]
 fn faults_of_the_source_and_of_the_sink(rt: HostRuntime) -> Result<(), Fail> {
+    let keys = RandomState::new(&rt)?;
     let cases = [
         (2, 500, 2, 0, Status::ReadFault, b"".as_slice()),
         (0, 500, 2, 2, Status::WriteFault, b"jo".as_slice()),
@@ -140,7 +167,10 @@ fn faults_of_the_source_and_of_the_sink(rt: HostRuntime) -> Result<(), Fail> {
         let mut source = source(rt.alloc(), ONE_JOB, read)?;
         let failing = [write].to_vec(rt.alloc())?;
         let mut sink = MemorySink::with_room(rt.alloc(), room, piece, failing)?;
-        assert_eq!(rt; run(rt.alloc(), &words, &mut source, &mut sink), status);
+        assert_eq!(rt;
+            run(rt.alloc(), keys, &words, &mut source, &mut sink),
+            status
+        );
         assert_eq!(rt; sink.bytes(), want);
     }
     Ok(())
@@ -150,6 +180,7 @@ fn faults_of_the_source_and_of_the_sink(rt: HostRuntime) -> Result<(), Fail> {
 /// of this number fails, and written in pieces of seven bytes into so much room; the call of this number on the sink fails.
 fn broken_answer(
     alloc: Global,
+    keys: RandomState,
     text: &str,
     input: &str,
     read: u32,
@@ -160,20 +191,21 @@ fn broken_answer(
     let bytes = input.as_bytes().to_vec(alloc)?;
     let mut source = MemorySource::new(bytes, 1, [read].to_vec(alloc)?);
     let mut sink = MemorySink::with_room(alloc, room, 7, [call].to_vec(alloc)?)?;
-    let status = run(alloc, &words, &mut source, &mut sink);
+    let status = run(alloc, keys, &words, &mut source, &mut sink);
     Ok((status, sink))
 }
 
 /// Nothing is written where a read fails, the last one too, which finds the end.
 #[test]
 fn each_read_fails_in_turn(rt: HostRuntime) -> Result<(), Fail> {
+    let keys = RandomState::new(&rt)?;
     for (text, input, status, want) in &OVER_BROKEN_STREAMS {
         let mut ended = Status::ReadFault;
         for read in 1..400 {
             if ended != Status::ReadFault {
                 break;
             }
-            let (status, sink) = broken_answer(rt.alloc(), text, input, read, 0, 500)?;
+            let (status, sink) = broken_answer(rt.alloc(), keys, text, input, read, 0, 500)?;
             ended = status;
             let written = if ended == Status::ReadFault { "" } else { want };
             assert_eq!(rt; sink.bytes(), written.as_bytes(), "{text}: read {read}");
@@ -186,6 +218,7 @@ fn each_read_fails_in_turn(rt: HostRuntime) -> Result<(), Fail> {
 /// A proper front is written where a write fails, and the whole text where the flush does.
 #[test]
 fn each_write_and_the_flush_fail_in_turn(rt: HostRuntime) -> Result<(), Fail> {
+    let keys = RandomState::new(&rt)?;
     for (text, input, status, want) in &OVER_BROKEN_STREAMS {
         let mut ended = Status::WriteFault;
         let mut whole: u32 = 0;
@@ -193,7 +226,7 @@ fn each_write_and_the_flush_fail_in_turn(rt: HostRuntime) -> Result<(), Fail> {
             if ended != Status::WriteFault {
                 break;
             }
-            let (status, sink) = broken_answer(rt.alloc(), text, input, 0, call, 500)?;
+            let (status, sink) = broken_answer(rt.alloc(), keys, text, input, 0, call, 500)?;
             ended = status;
             assert!(rt;
                 want.as_bytes().starts_with(sink.bytes()),
@@ -211,8 +244,9 @@ fn each_write_and_the_flush_fail_in_turn(rt: HostRuntime) -> Result<(), Fail> {
 
 #[test]
 fn room_for_ten_bytes(rt: HostRuntime) -> Result<(), Fail> {
+    let keys = RandomState::new(&rt)?;
     for (text, input, _, want) in &OVER_BROKEN_STREAMS {
-        let (ended, sink) = broken_answer(rt.alloc(), text, input, 0, 0, 10)?;
+        let (ended, sink) = broken_answer(rt.alloc(), keys, text, input, 0, 0, 10)?;
         assert_eq!(rt; ended, Status::WriteFault, "{text}");
         assert_eq!(rt; sink.bytes().len(), 10, "{text}");
         assert!(rt; want.as_bytes().starts_with(sink.bytes()), "{text}");
@@ -223,6 +257,7 @@ fn room_for_ten_bytes(rt: HostRuntime) -> Result<(), Fail> {
 /// One level of 100,000 pieces, and 100,000 levels of one piece each and no member.
 #[test]
 fn a_hundred_thousand_pieces_and_levels(rt: HostRuntime) -> Result<(), Fail> {
+    let keys = RandomState::new(&rt)?;
     let cases = [
         (
             "level 100000 100000\n",
@@ -245,7 +280,10 @@ fn a_hundred_thousand_pieces_and_levels(rt: HostRuntime) -> Result<(), Fail> {
         let mut source = MemorySource::new(input.into_bytes(), 65_536, Vec::new(rt.alloc()));
         let mut sink = MemorySink::with_room(rt.alloc(), 100, 100, Vec::new(rt.alloc()))?;
         let words = words(rt.alloc(), "check")?;
-        assert_eq!(rt; run(rt.alloc(), &words, &mut source, &mut sink), status);
+        assert_eq!(rt;
+            run(rt.alloc(), keys, &words, &mut source, &mut sink),
+            status
+        );
         assert_eq!(rt; sink.bytes(), want.as_bytes());
     }
     Ok(())
@@ -253,11 +291,12 @@ fn a_hundred_thousand_pieces_and_levels(rt: HostRuntime) -> Result<(), Fail> {
 
 #[test]
 fn words_that_name_no_command_leave_the_source_unread(rt: HostRuntime) -> Result<(), Fail> {
+    let keys = RandomState::new(&rt)?;
     let words = words(rt.alloc(), "plan plan")?;
     let mut source = source(rt.alloc(), ONE_JOB, 0)?;
     let mut sink = MemorySink::with_room(rt.alloc(), 500, 500, Vec::new(rt.alloc()))?;
     assert_eq!(rt;
-        run(rt.alloc(), &words, &mut source, &mut sink),
+        run(rt.alloc(), keys, &words, &mut source, &mut sink),
         Status::Usage
     );
     let left = read_all(rt.alloc(), &mut source, 100)?;

@@ -1,12 +1,10 @@
 -- The names of the tasks, by the set that is kept beside them.
-use Rattle.std.proofs.Common.{◌≡◌, ℕ, Bool, true, false, cond, ◌||◌, List, [], ◌∷◌, ◌++◌, map, nat_cmp, refl, sym, ap, ◌∙◌, ⊎_elim}
+use Rattle.std.proofs.Common.{◌≡◌, ℕ, Bool, true, false, cond, ◌||◌, List, [], ◌∷◌, ◌++◌, map, refl, sym, ap, ◌∙◌, ⊎_elim}
 use Rattle.std.proofs.lemmas.Bool.{cases_Bool}
 use Rattle.std.specs.Borrow.{Bor}
 use Rattle.std.specs.List.{list_any}
 use Rattle.std.specs.Str.{bytes_eq}
-use Rattle.std.specs.BTreeSet.{BTreeSet, Updates, contains_by}
-use Rattle.std.specs.Cmp.Lexicographic.{slice_cmp}
-use Rattle.std.proofs.lemmas.Map.Text.{is_eq-slice_cmp}
+use Rattle.indexmap.specs.IndexSet.{IndexSet, Updates, contains_by}
 use Rattle.yds_model.specs.Tasks.{Task, TaskSet}
 use Rattle.yds_tasks.specs.Fields.{has_name}
 use Rattle.yds_tasks.specs.Kept.{with_task}
@@ -28,14 +26,13 @@ one_more (first ∷ rest) task name =
     ∙ ap (λ b. bytes_eq first.name name || b) (one_more rest task name)
 
 -- once a task's name has come to the set of those of the others, it is the set of all
-pub names_pushed : (old new : BTreeSet (Bor (List ℕ))) (name : Bor (List ℕ)) (set : TaskSet) (task : Task) → task.name ≡ name.now →
-    Updates (λ one other. slice_cmp nat_cmp one.now other.now) old new name true →
-    ((other : List ℕ) → contains_by (λ key. slice_cmp nat_cmp other key.now) old ≡ has_name set other) →
-    (other : List ℕ) → contains_by (λ key. slice_cmp nat_cmp other key.now) new ≡ has_name (with_task set task) other
+pub names_pushed : {S : Type 0} (old new : IndexSet (Bor (List ℕ)) S) (name : Bor (List ℕ)) (set : TaskSet) (task : Task) → task.name ≡ name.now →
+    Updates (λ one other. bytes_eq one.now other.now) old new name true →
+    ((other : List ℕ) → contains_by (λ key. bytes_eq other key.now) old ≡ has_name set other) →
+    (other : List ℕ) → contains_by (λ key. bytes_eq other key.now) new ≡ has_name (with_task set task) other
 names_pushed old new name set task named updates kept other =
     let key : Bor (List ℕ) = record { ref_ptr = name.ref_ptr; now = other } in
     updates.0 key
-    ∙ ap (λ same. cond same true (contains_by (λ key. slice_cmp nat_cmp other key.now) old)) (is_eq-slice_cmp name.now other)
     ∙ ap (cond (bytes_eq name.now other) true) (kept other)
     ∙ ap (λ text. cond (bytes_eq text other) true (has_name set other)) (sym named)
     ∙ one_more set.tasks task other

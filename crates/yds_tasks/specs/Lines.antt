@@ -1,8 +1,7 @@
 -- What the lines before a line said together, as it is kept while tasks are read, and what a reader of lines returned.
 use Rattle.std.specs.Prelude.{◌≡◌, ℕ, List, [], ◌∷◌, ◌++◌, Result, Ok, Err}
-use Rattle.std.specs.Ordering.{nat_cmp}
-use Rattle.std.specs.Cmp.Lexicographic.{slice_cmp}
-use Rattle.std.specs.BTreeSet.{contains_by}
+use Rattle.std.specs.Str.{bytes_eq}
+use Rattle.indexmap.specs.IndexSet.{contains_by}
 use Rattle.yds_model.specs.declared.task_reason.TaskReason.{TaskReason}
 use Rattle.yds_model.specs.Lines.{Line}
 use Rattle.yds_model.specs.Fields.{Fault, Spot}
@@ -17,7 +16,7 @@ use Rattle.yds_tasks.specs.Fields.{Fails, has_name}
 
 -- a draft keeps the names of its tasks, and no others
 abbrev pub IsDraft : Draft → Type 0
-IsDraft draft = (name : List ℕ) → contains_by (λ key. slice_cmp nat_cmp name key.now) draft.names ≡ has_name draft.set name
+IsDraft draft = (name : List ℕ) → contains_by (λ key. bytes_eq name key.now) draft.names ≡ has_name draft.set name
 
 -- the draft holds what these entries said
 abbrev pub Holds : Draft → List TaskEntry → Type 0

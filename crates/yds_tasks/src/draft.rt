@@ -13,8 +13,9 @@ use crate::line_fault::LineFault;
 use crate::line_kind::LineKind;
 use crate::task::Task;
 use crate::task_set::TaskSet;
+use indexmap::IndexSet;
 use std::alloc::Global;
-use std::collections::BTreeSet;
+use std::hash::RandomState;
 use yds_model::TaskReason;
 use yds_model::limits::{MAX_TASKS, MAX_TIME, MAX_WORK};
 use yds_text::{Field, Fields, FiveFields, five_fields, one_field};
@@ -22,19 +23,19 @@ use yds_text::{Field, Fields, FiveFields, five_fields, one_field};
 #[derive(Drop)]
 pub(crate) struct Draft<'a> {
     pub(crate) set: TaskSet<'a>,
-    // The names of the tasks.
-    pub(crate) names: BTreeSet<&'a str>,
+    // The names of the tasks, looked up by a digest with secret keys.
+    pub(crate) names: IndexSet<&'a str, RandomState>,
 }
 
 impl<'a> Draft<'a> {
-    /// That before any line. Takes no memory.
-    pub(crate) fn new(alloc: Global) -> Draft<'a>
+    /// That before any line, whose names will be looked up with these keys. Takes no memory.
+    pub(crate) fn new(alloc: Global, keys: RandomState) -> Draft<'a>
         ensures kept { IsDraft result }
         ensures holds { Holds result [] }
     {
         Draft {
             set: TaskSet::new(alloc),
-            names: BTreeSet::new(alloc),
+            names: IndexSet::with_hasher(alloc, keys),
         }
     }
 

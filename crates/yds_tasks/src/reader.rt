@@ -9,18 +9,23 @@ use crate::fault::TaskFault;
 use crate::line_fault::LineFault;
 use crate::task_set::TaskSet;
 use std::alloc::Global;
+use std::hash::RandomState;
 use yds_text::{Line, lines};
 
-/// Reads the tasks that the bytes are, line by line.
+/// Reads the tasks that the bytes are, line by line. Names are looked up with the keys, on which no answer depends.
 ///
 /// Fails as `At` exactly where a line has a fault, with the first fault of the first such line, or as
 /// `Memory` for want of memory.
-pub fn read_tasks<'a>(alloc: Global, bytes: &'a [u8]) -> Result<TaskSet<'a>, TaskFault>
+pub fn read_tasks<'a>(
+    alloc: Global,
+    keys: RandomState,
+    bytes: &'a [u8],
+) -> Result<TaskSet<'a>, TaskFault>
     requires { length bytes.now ≤ MAX_BYTES }
     ensures exact { GivesTasks result (task_reading bytes.now) }
     ensures possible { IfOk result IsTaskSet }
 {
-    let mut draft = Draft::new(alloc);
+    let mut draft = Draft::new(alloc, keys);
     for line in lines(bytes) {
         draft.read_line(line)?;
     }

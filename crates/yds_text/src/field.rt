@@ -1,5 +1,5 @@
 //! The fields of a line.
-ghost use Rattle.std.specs.Prelude.{◌≡◌, ℕ, ◌+◌, ◌<◌, ◌≤◌, [], ◌∷◌, length, map, Ok, IfSome, IsTrue};
+ghost use Rattle.std.specs.Prelude.{◌≡◌, ℕ, ◌+◌, ◌<◌, ◌≤◌, ◌↔◌, [], ◌∷◌, length, map, Ok, IfSome, IsTrue};
 ghost use Rattle.std.specs.List.{prefix_len, position_or_len};
 ghost use Rattle.yds_model.specs.declared.limits.TheConstants.{MAX_BYTES, MAX_WHOLE};
 ghost use Rattle.yds_model.specs.Lines.{fields_from, fields_of, is_blank};
@@ -72,11 +72,12 @@ impl<'a> Fields<'a> {
         }
     }
 
-    /// Whether no byte of the line is left, and so no field.
+    /// Whether no field of the line is left.
     pub fn at_end(&self) -> bool
-        ensures { IsTrue result → self.now.fields ≡ [] }
+        ensures { IsTrue result ↔ self.now.fields ≡ [] }
     {
-        self.rest.is_empty()
+        let (_, text, _) = first_field(self.rest);
+        text.is_empty()
     }
 
     /// The number from `least` to `most` that the next field spells, where just one space stands before the field. `None`

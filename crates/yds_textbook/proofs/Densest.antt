@@ -66,11 +66,11 @@ have_work jobs removed numbers can =
     (All-weaker (CanWait jobs removed) (λ number. 1 ≤ (job_at jobs number).work) (λ number is. is.has_work) numbers can)
 
 -- the job at a place of those that wait
-waits_at : (jobs : List Job) (removed : List Piece) (waiting : List ℕ) (k : ℕ) → k < length waiting →
+pub waits_at : (jobs : List Job) (removed : List Piece) (waiting : List ℕ) (k : ℕ) → k < length waiting →
     job_at (contracted_jobs jobs removed waiting) k ≡ contracted removed (job_at jobs (get_or waiting k 0))
 waits_at jobs removed waiting k within = get_or-map (λ number. contracted removed (job_at jobs number)) waiting k 0 no_job within
 
-as_many : (jobs : List Job) (removed : List Piece) (waiting : List ℕ) → length (contracted_jobs jobs removed waiting) ≡ length waiting
+pub as_many : (jobs : List Job) (removed : List Piece) (waiting : List ℕ) → length (contracted_jobs jobs removed waiting) ≡ length waiting
 as_many jobs removed waiting = length-map waiting (λ number. contracted removed (job_at jobs number))
 
 -- fewer jobs lie outside an interval to which some work is confined
@@ -110,6 +110,15 @@ wait_on jobs removed changed interval number apart forward removes can outside =
           ∙ not-true (lies_in jobs removed interval number) outside)));
     }
 
+-- an interval from the release of a job to the deadline of one, in the time that is left
+pub record IsFromEvents (jobs : List Job) (removed : List Piece) (interval : Interval) : Type 0 where
+  pub first : ℕ
+  pub last : ℕ
+  pub first_known : first < length jobs
+  pub last_known : last < length jobs
+  pub start : interval.start ≡ place removed (job_at jobs first).release
+  pub end : interval.end ≡ place removed (job_at jobs last).deadline
+
 module _ (jobs : List Job) (removed : List Piece) (waiting : List ℕ) (interval : Interval) (can : All (CanWait jobs removed) waiting)
     (critical : IsCritical (contracted_jobs jobs removed waiting) interval) where
   some : 0 < length (contracted_jobs jobs removed waiting)
@@ -134,6 +143,31 @@ module _ (jobs : List Job) (removed : List Piece) (waiting : List ℕ) (interval
       ∙ get_or-map (λ (job : Job). job.deadline) (contracted_jobs jobs removed waiting) k no_job interval.end (omega (arith, last_within, as_many jobs removed waiting))
       ∙ ap (λ (job : Job). job.deadline) (waits_at jobs removed waiting k last_within)
 
+  first_within : critical.candidate.is_release.0 < length waiting
+  first_within = omega (
+    arith,
+    critical.candidate.is_release.1,
+    length-map (contracted_jobs jobs removed waiting) (λ (job : Job). job.release),
+    as_many jobs removed waiting,
+  )
+
+  starts_at : interval.start ≡ place removed (job_at jobs (get_or waiting critical.candidate.is_release.0 0)).release
+  starts_at =
+      let k = critical.candidate.is_release.0 in
+      sym critical.candidate.is_release.2
+      ∙ get_or-map (λ (job : Job). job.release) (contracted_jobs jobs removed waiting) k no_job interval.start (omega (arith, first_within, as_many jobs removed waiting))
+      ∙ ap (λ (job : Job). job.release) (waits_at jobs removed waiting k first_within)
+
+  pub from_events : IsFromEvents jobs removed interval
+  from_events = record {
+    first = get_or waiting critical.candidate.is_release.0 0;
+    last = last;
+    first_known = (can critical.candidate.is_release.0 0 first_within).known;
+    last_known = (can critical.candidate.is_deadline.0 0 last_within).known;
+    start = starts_at;
+    end = ends_at;
+  }
+
   pub ends_in_time : AreApartFrom 0 removed → interval.end ≤ place removed MAX_TIME
   ends_in_time apart =
       omega (arith, ends_at, place_rises (job_at jobs last).deadline MAX_TIME removed apart (can critical.candidate.is_deadline.0 0 last_within).valid.time_in_range)
@@ -145,7 +179,7 @@ module _ (jobs : List Job) (removed : List Piece) (waiting : List ℕ) (interval
       best_works all interval some first (have_work jobs removed waiting can 0 no_job some) critical.candidate.forward
       (critical.leads (job_at all 0).release (job_at all 0).deadline first.has_window)
 
-  is_denser : (from to : ℕ) → from < to →
+  pub is_denser : (from to : ℕ) → from < to →
       work_within (contracted_jobs jobs removed waiting) from to * (interval.end - interval.start) ≤ interval.work * (to - from)
   is_denser from to forward = elim (critical.leads from to forward) [
     | inl denser ↦ omega (arith, denser)

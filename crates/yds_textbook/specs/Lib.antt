@@ -1,3 +1,4 @@
 pub mod Waiting
 pub mod Served
 pub mod Stages
+pub mod Together

@@ -1,7 +1,10 @@
--- The jobs that wait, in the time that is left.
-use Rattle.std.specs.Prelude.{ℕ, ◌<◌, ◌≤◌, Bool, nat_le, not, List, length, map, filter}
+-- The jobs that wait and the stretches, in the time that is left.
+use Rattle.std.specs.Prelude.{◌≡◌, ℕ, ◌+◌, ◌-◌, ◌<◌, ◌≤◌, ◌⊎◌, Bool, nat_le, nat_lt, not, ◌&&◌, List, length, map, filter}
+use Rattle.std.specs.List.{range_with_len}
 use Rattle.yds_model.specs.Job.{Job, IsJob, job_at}
+use Rattle.yds_model.specs.Numbers.{Each}
 use Rattle.yds_model.specs.Piece.{Piece}
+use Rattle.yds_events.specs.Stretch.{nth_stretch}
 use Rattle.yds_intensity.specs.Work.{window_is_within}
 use Rattle.yds_critical.specs.declared.interval.Interval.{Interval}
 use Rattle.yds_contract.specs.Contracted.{place}
@@ -34,3 +37,31 @@ inside jobs removed interval waiting = filter (lies_in jobs removed interval) wa
 
 abbrev pub outside : List Job → List Piece → Interval → List ℕ → List ℕ
 outside jobs removed interval waiting = filter (λ number. not (lies_in jobs removed interval number)) waiting
+
+-- the stretch in the time that is left
+abbrev pub contracted_stretch : List Piece → Piece → Piece
+contracted_stretch removed stretch = record { from = place removed stretch.from; to = place removed stretch.to }
+
+abbrev pub contracted_stretches : List Piece → List Piece → List ℕ → List Piece
+contracted_stretches timeline removed numbers = map (λ k. contracted_stretch removed (nth_stretch timeline k)) numbers
+
+-- some of the stretch is left, and in the time that is left it lies in the interval
+abbrev pub is_left_in : List Piece → Interval → Piece → Bool
+is_left_in removed interval stretch =
+    nat_lt (place removed stretch.from) (place removed stretch.to)
+    && (nat_le interval.start (place removed stretch.from) && nat_le (place removed stretch.to) interval.end)
+
+abbrev pub stretch_lies_in : List Piece → List Piece → Interval → ℕ → Bool
+stretch_lies_in timeline removed interval k = is_left_in removed interval (nth_stretch timeline k)
+
+-- the numbers of the stretches that lie in the interval
+abbrev pub stretches_inside : List Piece → List Piece → Interval → List ℕ
+stretches_inside timeline removed interval = filter (stretch_lies_in timeline removed interval) (range_with_len 0 (length timeline))
+
+-- each stretch is removed whole, or is left whole
+abbrev pub AreWhole : List Piece → List Piece → Type 0
+AreWhole timeline removed =
+    Each (length timeline) (λ k.
+    (place removed (nth_stretch timeline k).to ≡ place removed (nth_stretch timeline k).from)
+    ⊎ (place removed (nth_stretch timeline k).to
+    ≡ place removed (nth_stretch timeline k).from + ((nth_stretch timeline k).to - (nth_stretch timeline k).from)))

@@ -1,19 +1,20 @@
 //! A second opinion of the planner: the plan as Yao, Demers and Shenker tell it (FOCS 1995). Critical interval after critical
 //! interval, the jobs inside it are served at its intensity, earliest deadline first, and its time is taken away.
 //!
-//! It stands on `yds_critical` and `yds_contract`, on `yds_edf` for the filling, and in its tests on `yds_plan`. It promises that
-//! each critical interval serves the jobs inside it in full, inside their windows in the time that is left, at one speed. That
-//! the stages together are the planner's levels and slots is what its tests show, for the jobs that they name.
+//! It stands on `yds_critical` and `yds_contract`, on `yds_edf` for the filling, and on `yds_plan` for the layout. It carries their
+//! theorem: `textbook` answers a plan by the model's definition. `stages` promises that each stage is that of the critical
+//! interval of the jobs that wait, in the time that is left.
 #![tactic(auto)]
 
+mod planning;
 mod serving;
 mod stage;
-mod textbook;
+mod together;
 mod waiting;
 mod window;
 
+pub use planning::{stages, textbook};
 pub use stage::Stage;
-pub use textbook::stages;
 pub use window::{have_work, is_within};
 
 #[cfg(test)]

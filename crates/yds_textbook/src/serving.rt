@@ -1,16 +1,16 @@
-ghost use Rattle.std.specs.Prelude.{◌≡◌, ℕ, ◌<◌, ◌≤◌, length, map, IfOk};
+ghost use Rattle.std.specs.Prelude.{◌≡◌, ◌*◌, ◌≤◌, length, map, IfOk};
 ghost use Rattle.std.specs.List.{All, range_with_len};
 ghost use Rattle.yds_model.specs.declared.limits.TheConstants.{MAX_JOBS};
-ghost use Rattle.yds_model.specs.Job.{IsJob};
-ghost use Rattle.yds_edf.specs.Shares.{shares_in};
-ghost use Rattle.yds_textbook.specs.Served.{capacity_of, IsFastEnough, AreServedAt, EndsBy};
+ghost use Rattle.yds_model.specs.Piece.{PiecesFrom};
+ghost use Rattle.yds_edf.specs.Demand.{AreUncut, IsWithinCapacity};
+ghost use Rattle.yds_edf.specs.Filled.{IsFilled};
+ghost use Rattle.yds_textbook.specs.Served.{capacity_of};
 
 use std::alloc::{AllocError, Global};
-use yds_edf::{Share, fill, lay};
-use yds_events::{Stretch, stretches};
+use yds_edf::{Share, fill};
+use yds_events::Stretch;
 use yds_fraction::Speed;
 use yds_model::{JobRow, Memory};
-use yds_slots::Slot;
 
 /// The units that each stretch serves at this speed, of which a unit of work has as many as the speed's denominator.
 fn capacities(alloc: Global, stretches: &[Stretch], speed: Speed) -> Result<Vec<u64>, Memory>
@@ -30,39 +30,24 @@ fn numbers_below(alloc: Global, count: u32) -> Result<Vec<u32>, AllocError>
     (0..count).collect(alloc)
 }
 
-/// The shares in this stretch.
-fn shares_of(alloc: Global, shares: &[Share], stretch: u32) -> Result<Vec<Share>, Memory>
-    ensures { IfOk result (λ own. own.items ≡ shares_in shares.now stretch) }
-{
-    let mut own = Vec::new(alloc);
-    for share in shares {
-        if share.stretch == stretch {
-            own.push(*share)?;
-        }
-    }
-    Ok(own)
-}
-
-/// A feasible schedule of the jobs at this speed, earliest deadline first, and of jobs of the same deadline the first in the
-/// list. The speed is in lowest terms, and no interval of time has more work than it does there.
-pub(crate) fn serve(alloc: Global, rows: &[JobRow], speed: Speed) -> Result<Vec<Slot>, Memory>
+/// What each job gets in each of these stretches at this speed, earliest deadline first, and of jobs of the same deadline the
+/// first in the list. The speed is in lowest terms, and the stretches serve at it whatever jobs demand between two times.
+pub(crate) fn serve(
+    alloc: Global,
+    rows: &[JobRow],
+    stretches: &[Stretch],
+    speed: Speed,
+) -> Result<Vec<Share>, Memory>
     requires few { length rows.now ≤ MAX_JOBS }
-    requires jobs { All IsJob rows.now }
-    requires some_speed { 1 ≤ speed.num }
-    requires fast_enough { IsFastEnough rows.now speed }
-    ensures served { IfOk result (λ slots. AreServedAt rows.now speed slots.items) }
-    ensures known { IfOk result (λ slots. All (λ slot. slot.job < length rows.now) slots.items) }
-    ensures ends { IfOk result (λ slots. (end : ℕ) → All (λ job. job.deadline ≤ end) rows.now → All (EndsBy end speed) slots.items) }
+    requires few_stretches { length stretches.now ≤ 2 * MAX_JOBS }
+    requires some { 1 ≤ speed.den }
+    requires in_order { PiecesFrom 0 stretches.now }
+    requires uncut { AreUncut rows.now stretches.now }
+    requires demand { IsWithinCapacity rows.now speed.den stretches.now (map (capacity_of speed) stretches.now) }
+    ensures { IfOk result (λ shares. IsFilled rows.now (range_with_len 0 (length rows.now)) speed.den stretches.now
+        (map (capacity_of speed) stretches.now) shares.items) }
 {
-    let stretches = stretches(alloc, rows)?;
-    let capacities = capacities(alloc, &stretches, speed)?;
+    let capacities = capacities(alloc, stretches, speed)?;
     let ties = numbers_below(alloc, rows.len() as u32)?;
-    let shares = fill(alloc, rows, &ties, speed.den(), &stretches, &capacities)?;
-    let mut slots = Vec::new(alloc);
-    for (number, stretch) in stretches.iter().enumerate() {
-        let own = shares_of(alloc, &shares, number as u32)?;
-        let mut laid = lay(alloc, *stretch, capacities[number], speed.den(), &own)?;
-        slots.append(&mut laid)?;
-    }
-    Ok(slots)
+    fill(alloc, rows, &ties, speed.den(), stretches, &capacities)
 }

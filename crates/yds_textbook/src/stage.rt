@@ -1,90 +1,93 @@
-ghost use Rattle.std.specs.Prelude.{◌≡◌, ◌*◌, ◌<◌, ◌≤◌, length, IfOk};
+ghost use Rattle.std.specs.Prelude.{◌≡◌, ◌<◌, ◌≤◌, length, map, IfOk};
 ghost use Rattle.std.specs.List.{All};
-ghost use Rattle.std.specs.List.Sorted.{IsStrictlyIncreasing};
-ghost use Rattle.yds_model.specs.declared.limits.TheConstants.{MAX_TIME, MAX_JOBS};
-ghost use Rattle.yds_model.specs.Event.{event_points};
-ghost use Rattle.yds_contract.specs.Contracted.{AreApartFrom, place};
-ghost use Rattle.yds_textbook.specs.Waiting.{CanWait, contracted_jobs};
-ghost use Rattle.yds_textbook.specs.Served.{IsAtSpeed, EndsBy, AreSpread};
-ghost use Rattle.yds_textbook.specs.Stages.{IsDensest, of_members, IsStage};
+ghost use Rattle.yds_model.specs.declared.limits.TheConstants.{MAX_JOBS};
+ghost use Rattle.yds_model.specs.Event.{stretches};
+ghost use Rattle.yds_critical.specs.Critical.{IsCritical};
+ghost use Rattle.yds_contract.specs.Contracted.{AreApartFrom};
+ghost use Rattle.yds_search.specs.Views.{shares_view};
+ghost use Rattle.yds_textbook.specs.Waiting.{CanWait, AreWhole, contracted_jobs, inside};
+ghost use Rattle.yds_textbook.specs.Stages.{IsStage, share_of_members};
 
 use crate::serving::serve;
-use crate::waiting::contracted_rows;
+use crate::waiting::{contracted_rows, contracted_stretches, stretches_inside};
 use std::alloc::Global;
-use yds_certificate::Level;
 use yds_contract::Contraction;
 use yds_critical::Interval;
+use yds_edf::Share as ShareByPlace;
+use yds_events::Stretch;
 use yds_fraction::Speed;
 use yds_model::{JobRow, Memory};
-use yds_slots::Slot;
+use yds_search::{Group, Share};
 
-/// What a critical interval has: its jobs with their work and the time that it takes, and their slots.
+/// What a critical interval has: its jobs and stretches, and how they are served.
 #[derive(Debug, Drop)]
 pub struct Stage {
-    /// The work and the length of the interval, its pieces of real time, and the numbers of the jobs inside it.
-    pub level: Level,
-    /// The slots of these jobs in real time.
-    pub slots: Vec<Slot>,
+    /// The work and the length of the interval, in units of work and in time units.
+    pub group: Group,
+    /// The numbers of the jobs inside it, in order of deadline.
+    pub members: Vec<u32>,
+    /// The numbers of the stretches of real time that lie in it, in order of time.
+    pub stretches: Vec<u32>,
+    /// What each of the jobs gets in each of the stretches.
+    pub shares: Vec<Share>,
 }
 
-/// The slots of the jobs with these numbers in real time, where in the time that is left these slots serve them.
-fn real_slots(
+/// The shares, which tell a job and a stretch by their places in these lists, with the numbers at those places.
+fn shares_by_number(
     alloc: Global,
-    taken: &Contraction,
     members: &[u32],
-    speed: Speed,
-    slots: &[Slot],
-    events: &[u32],
-) -> Result<Vec<Slot>, Memory>
-    requires some_speed { 1 ≤ speed.num }
-    requires known { All (λ slot. slot.job < length members.now) slots.now }
-    requires at_speed { All (IsAtSpeed speed) slots.now }
-    requires ends { All (EndsBy (place taken.now MAX_TIME) speed) slots.now }
-    requires events { IsStrictlyIncreasing events.now }
-    ensures { IfOk result (λ real. AreSpread taken.now speed events.now (of_members members.now slots.now) real.items) }
+    stretches: &[u32],
+    shares: &[ShareByPlace],
+) -> Result<Vec<Share>, Memory>
+    requires members { All (λ share. share.job < length members.now) shares.now }
+    requires stretches { All (λ share. share.stretch < length stretches.now) shares.now }
+    ensures { IfOk result (λ own. shares_view own.items ≡ map (share_of_members members.now stretches.now) shares.now) }
 {
-    let mut real = Vec::new(alloc);
-    for slot in slots {
-        let own = Slot {
-            job: members[slot.job as usize],
-            ..*slot
-        };
-        let mut spread = taken.spread(own, speed, events)?;
-        real.append(&mut spread)?;
+    let mut own = Vec::new(alloc);
+    for share in shares {
+        own.push(Share {
+            job: members[share.job as usize],
+            stretch: stretches[share.stretch as usize],
+            units: share.units,
+        })?;
     }
-    Ok(real)
+    Ok(own)
 }
 
-/// The stage of the critical interval of waiting jobs in the time that is left. `members` are the numbers of those inside it.
+/// The stage of the critical interval of the waiting jobs in the time that is left. `members` are the numbers of those inside it.
 pub(crate) fn stage_of(
     alloc: Global,
     rows: &[JobRow],
+    timeline: &[Stretch],
     taken: &Contraction,
-    mut members: Vec<u32>,
+    waiting: &[u32],
+    members: Vec<u32>,
     interval: &Interval,
-    events: &[u32],
 ) -> Result<Stage, Memory>
-    requires few { length members.items ≤ MAX_JOBS }
+    requires few { length waiting.now ≤ MAX_JOBS }
+    requires few_rows { length rows.now ≤ MAX_JOBS }
+    requires timeline { timeline.now ≡ stretches rows.now }
     requires apart { AreApartFrom 0 taken.now }
-    requires can_wait { All (CanWait rows.now taken.now) members.items }
-    requires densest { IsDensest (contracted_jobs rows.now taken.now members.items) interval.now }
-    requires within { interval.now.end ≤ place taken.now MAX_TIME }
-    requires events { events.now ≡ event_points rows.now }
-    ensures { IfOk result (λ stage. IsStage rows.now taken.now interval.now members.items stage.level stage.slots.items) }
+    requires whole { AreWhole (stretches rows.now) taken.now }
+    requires can_wait { All (CanWait rows.now taken.now) waiting.now }
+    requires critical { IsCritical (contracted_jobs rows.now taken.now waiting.now) interval.now }
+    requires members { members.items ≡ inside rows.now taken.now interval.now waiting.now }
+    ensures { IfOk result (IsStage rows.now taken.now interval.now waiting.now) }
 {
     let length = u64::from(interval.end - interval.start);
     let speed = Speed::new(interval.work, length).reduced();
     let inside = contracted_rows(alloc, rows, taken, &members)?;
-    let slots = serve(alloc, &inside, speed)?;
-    let slots = real_slots(alloc, taken, &members, speed, &slots, events)?;
-    members.sort()?;
+    let stretches = stretches_inside(alloc, timeline, taken, interval)?;
+    let left = contracted_stretches(alloc, timeline, taken, &stretches)?;
+    let served = serve(alloc, &inside, &left, speed)?;
+    let shares = shares_by_number(alloc, &members, &stretches, &served)?;
     Ok(Stage {
-        level: Level {
+        group: Group {
             work: interval.work,
             length,
-            pieces: taken.pieces(interval.start, interval.end)?,
-            members,
         },
-        slots,
+        members,
+        stretches,
+        shares,
     })
 }

@@ -1,15 +1,15 @@
 ghost use Rattle.std.specs.Prelude.{◌<◌};
 ghost use Rattle.yds_model.specs.Job.{IsJob};
 
-use crate::stage::Stage;
-use crate::textbook::stages;
+use crate::planning::{stages, textbook};
 use std::alloc::Global;
 use std::process::Abort;
 use std::test::Fail;
-use yds_certificate::Level;
+use yds_events::stretches;
 use yds_model::JobRow;
 use yds_model::limits::MAX_JOBS;
 use yds_plan::plan;
+use yds_search::{Group, Share};
 
 fn row(release: u32, deadline: u32, work: u32) -> JobRow
     requires { IsJob (record { release = release; deadline = deadline; work = work }) }
@@ -25,55 +25,61 @@ fn draw(state: &mut u32) -> u32
     *state / 65_536
 }
 
-/// The stages of the level's speed are together the level: as much work, as long, the same pieces and members.
-fn compare_level(
-    rt: &impl Abort,
-    alloc: Global,
-    stages: &[Stage],
-    level: &Level,
-) -> Result<(), Fail> {
-    let mut work: u64 = 0;
-    let mut length: u64 = 0;
-    let mut pieces = Vec::new(alloc);
-    let mut members = Vec::new(alloc);
-    for stage in stages {
-        if stage.level.speed() == level.speed() {
-            work = work.saturating_add(stage.level.work);
-            length = length.saturating_add(stage.level.length);
-            pieces.extend_from_slice(&stage.level.pieces)?;
-            members.extend_from_slice(&stage.level.members)?;
-        }
+/// Both ways find the same slots, to the last fraction, and the same pieces and members of each level.
+fn compare(rt: &impl Abort, alloc: Global, rows: &[JobRow]) -> Result<(), Fail> {
+    assert!(rt; rows.len() <= MAX_JOBS);
+    let told = textbook(alloc, rows)?;
+    let planned = plan(alloc, rows)?;
+    assert_eq!(rt; told.schedule.slots(), planned.schedule.slots());
+    let own = told.certificate.levels();
+    let levels = planned.certificate.levels();
+    assert_eq!(rt; own.len(), levels.len());
+    for (place, level) in levels.iter().enumerate() {
+        assert!(rt; place < own.len());
+        let own_level = &own[place];
+        assert_eq!(rt;
+            (own_level.work, own_level.length),
+            (level.work, level.length)
+        );
+        assert_eq!(rt; own_level.pieces.as_slice(), level.pieces.as_slice());
+        assert_eq!(rt; own_level.members.as_slice(), level.members.as_slice());
     }
-    pieces.sort_by_key(|piece| piece.from)?;
-    members.sort()?;
-    assert_eq!(rt; (work, length), (level.work, level.length));
-    assert_eq!(rt; pieces.as_slice(), level.pieces.as_slice());
-    assert_eq!(rt; members.as_slice(), level.members.as_slice());
     Ok(())
 }
 
-/// The textbook's stages are the plan's levels, where those of one speed are one level, and their slots in order of time are
-/// the plan's.
-fn compare(rt: &impl Abort, alloc: Global, rows: &[JobRow]) -> Result<(), Fail> {
-    assert!(rt; rows.len() <= MAX_JOBS);
-    let stages = stages(alloc, rows)?;
-    let planned = plan(alloc, rows)?;
-    let mut slots = Vec::new(alloc);
-    let mut members: usize = 0;
-    for stage in &stages {
-        slots.extend_from_slice(&stage.slots)?;
-    }
-    for level in planned.certificate.levels() {
-        compare_level(rt, alloc, &stages, level)?;
-        members = members.saturating_add(level.members.len());
-    }
-    let mut staged: usize = 0;
-    for stage in &stages {
-        staged = staged.saturating_add(stage.level.members.len());
-    }
-    assert_eq!(rt; staged, members);
-    slots.sort_by_key(|slot| slot.from)?;
-    assert_eq!(rt; slots.as_slice(), planned.schedule.slots());
+/// 4 to 6 is critical, with c's work of 6. Without it b has a work of 8 in 6 units of time, and then a a work of 4 in 4.
+#[test]
+fn stages_of_three_jobs(rt: HostRuntime) -> Result<(), Fail> {
+    let alloc = rt.alloc();
+    let rows = [row(0, 12, 4), row(2, 10, 8), row(4, 6, 6)];
+    let timeline = stretches(alloc, &rows)?;
+    let stages = stages(alloc, &rows, &timeline)?;
+    assert_eq!(rt; stages.len(), 3);
+    assert!(rt; stages.len() == 3);
+    assert_eq!(rt; stages[0].group, Group { work: 6, length: 2 });
+    assert_eq!(rt; stages[0].members.as_slice(), [2].as_slice());
+    assert_eq!(rt; stages[0].stretches.as_slice(), [2].as_slice());
+    let c = Share {
+        job: 2,
+        stretch: 2,
+        units: 6,
+    };
+    assert_eq!(rt; stages[0].shares.as_slice(), [c].as_slice());
+    assert_eq!(rt; stages[1].group, Group { work: 8, length: 6 });
+    assert_eq!(rt; stages[1].stretches.as_slice(), [1, 3].as_slice());
+    let before = Share {
+        job: 1,
+        stretch: 1,
+        units: 8,
+    };
+    let after = Share {
+        job: 1,
+        stretch: 3,
+        units: 16,
+    };
+    assert_eq!(rt; stages[1].shares.as_slice(), [before, after].as_slice());
+    assert_eq!(rt; stages[2].group, Group { work: 4, length: 4 });
+    assert_eq!(rt; stages[2].stretches.as_slice(), [0, 4].as_slice());
     Ok(())
 }
 
@@ -119,5 +125,26 @@ fn two_ways_agree_on_drawn_jobs(rt: HostRuntime) -> Result<(), Fail> {
         }
         compare(&rt, alloc, &rows)?;
     }
+    Ok(())
+}
+
+/// As many jobs as a document holds: with ample memory there is a plan, and each job with work is a member of one level.
+#[test]
+fn four_thousand_jobs_are_planned(rt: HostRuntime) -> Result<(), Fail> {
+    let alloc = rt.alloc();
+    let mut rows = Vec::new(alloc);
+    let mut state = 7;
+    for _ in 0..MAX_JOBS {
+        let release = draw(&mut state);
+        let length = draw(&mut state) % 2_000;
+        rows.push(row(release, release + 1 + length, 1 + draw(&mut state) % 9))?;
+    }
+    assert!(rt; rows.len() <= MAX_JOBS);
+    let planned = plan(alloc, &rows)?;
+    let mut members: usize = 0;
+    for level in planned.certificate.levels() {
+        members = members.saturating_add(level.members.len());
+    }
+    assert_eq!(rt; members, 4_000);
     Ok(())
 }

@@ -1,15 +1,17 @@
-ghost use Rattle.std.specs.Prelude.{◌≡◌, ℕ, ◌<◌, ◌≤◌, List, [], length, filter, IfOk};
+ghost use Rattle.std.specs.Prelude.{◌≡◌, ℕ, ◌*◌, ◌<◌, ◌≤◌, List, [], length, filter, IfOk};
 ghost use Rattle.std.specs.List.{All};
 ghost use Rattle.yds_model.specs.declared.limits.TheConstants.{MAX_JOBS};
 ghost use Rattle.yds_intensity.specs.Order.{IsDeadlineOrder};
 ghost use Rattle.yds_critical.specs.Critical.{IsCriticalOf};
 ghost use Rattle.yds_contract.specs.Contracted.{place};
-ghost use Rattle.yds_textbook.specs.Waiting.{contracted, contracted_jobs, CanWait, job_has_work, inside, outside};
+ghost use Rattle.yds_events.specs.Stretch.{nth_stretch};
+ghost use Rattle.yds_textbook.specs.Waiting.{contracted, contracted_jobs, CanWait, job_has_work, inside, outside, contracted_stretches, is_left_in, stretches_inside};
 
 use crate::window::is_within;
 use std::alloc::Global;
 use yds_contract::Contraction;
 use yds_critical::{Interval, critical};
+use yds_events::Stretch;
 use yds_intensity::order;
 use yds_model::{JobRow, Memory};
 
@@ -95,4 +97,51 @@ pub(crate) fn parted(
         }
     }
     Ok((members, others))
+}
+
+/// Whether some of the stretch is left, and it lies in the interval in the time that is left.
+fn is_left_in(taken: &Contraction, stretch: Stretch, interval: &Interval) -> bool
+    ensures { result ≡ is_left_in taken.now interval.now stretch }
+{
+    let from = taken.place(stretch.from);
+    let to = taken.place(stretch.to);
+    from < to && interval.start <= from && to <= interval.end
+}
+
+/// The numbers of the stretches that lie in the interval, in the time that is left.
+pub(crate) fn stretches_inside(
+    alloc: Global,
+    timeline: &[Stretch],
+    taken: &Contraction,
+    interval: &Interval,
+) -> Result<Vec<u32>, Memory>
+    requires { length timeline.now ≤ 2 * MAX_JOBS }
+    ensures { IfOk result (λ numbers. numbers.items ≡ stretches_inside timeline.now taken.now interval.now) }
+{
+    let mut numbers = Vec::new(alloc);
+    for (number, stretch) in timeline.iter().enumerate() {
+        if is_left_in(taken, *stretch, interval) {
+            numbers.push(number as u32)?;
+        }
+    }
+    Ok(numbers)
+}
+
+/// The stretches with these numbers, in the time that is left.
+pub(crate) fn contracted_stretches(
+    alloc: Global,
+    timeline: &[Stretch],
+    taken: &Contraction,
+    numbers: &[u32],
+) -> Result<Vec<Stretch>, Memory>
+    requires known { All (λ k. k < length timeline.now) numbers.now }
+    requires left { All (λ k. place taken.now (nth_stretch timeline.now k).from < place taken.now (nth_stretch timeline.now k).to) numbers.now }
+    ensures { IfOk result (λ left. left.items ≡ contracted_stretches timeline.now taken.now numbers.now) }
+{
+    let mut left = Vec::new(alloc);
+    for number in numbers {
+        let stretch = timeline[*number as usize];
+        left.push(Stretch::new(taken.place(stretch.from), taken.place(stretch.to)))?;
+    }
+    Ok(left)
 }

@@ -1,13 +1,12 @@
-use Rattle.std.proofs.Common.{sym, ◌∙◌, subst, arith}
+use Rattle.std.proofs.Common.{sym, subst, arith}
 use Rattle.yds_model.specs.Entry.{JobEntry}
 use Rattle.yds_document.specs.Job.{job_of}
 use Rattle.yds_document.specs.Plain.{SaysFour}
-use Rattle.yds_document.proofs.PlainLine.{not_some, says_job}
+use Rattle.yds_document.proofs.PlainLine.{says_job}
 use Rattle.yds_document.proofs.job.plain_job.Goals as goal
 
 pub returns-clause-says : goal.returns-clause-says
-returns-clause-says c =
-    subst (λ row. SaysFour (job_of c.args.instance.now.names) c.args.fields.fields (JobEntry c.in_ok-name.name.now row)) (sym c.new.ensures)
-    (says_job c.args.instance.now.names _ _ _ _ _ _ c.in_ok-name.name.now _ _ _ c.in_ok-next.ensures.steps.first c.in_ok-from.ensures.says c.in_ok-to.ensures.says c.in_ok-work.ensures.says
-    (c.at_end.ensures c.if-not-at_end.false) c.in_ok-name.ensures.same (c.in_ok-name.ensures.some)
-    (sym c.find.ensures.number ∙ not_some c.find.result (sym c.is_some.ensures ∙ c.if-is_some.false)) (omega arith))
+returns-clause-says c = λ names new.
+    subst (λ row. SaysFour (job_of names) c.args.fields.fields (JobEntry c.in_ok-name.name.now row)) (sym c.new.ensures)
+    (says_job names _ _ _ _ _ _ c.in_ok-name.name.now _ _ _ c.in_ok-next.ensures.steps.first c.in_ok-from.ensures.says c.in_ok-to.ensures.says c.in_ok-work.ensures.says
+    (c.at_end.ensures.0 c.if-not-at_end.false) c.in_ok-name.ensures.same (c.in_ok-name.ensures.some) new (omega arith))

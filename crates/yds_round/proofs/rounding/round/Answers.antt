@@ -6,7 +6,7 @@ use Rattle.yds_model.specs.Level.{Level}
 use Rattle.yds_model.specs.Table.{hull_multiple}
 use Rattle.yds_model.specs.Rounding.{IsTooFast}
 use Rattle.yds_fraction.proofs.Kept.{some_parts}
-use Rattle.yds_laws.proofs.LevelTimes.{levels_fit_the_horizon}
+use Rattle.yds_energy.proofs.LevelTimes.{levels_fit_the_horizon}
 use Rattle.yds_slots.specs.Schedule.{WrittenSchedule}
 use Rattle.yds_round.specs.Pace.{IsPaceOf}
 use Rattle.yds_round.specs.Energy.{energy_parts}

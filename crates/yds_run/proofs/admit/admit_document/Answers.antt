@@ -1,4 +1,5 @@
-use Rattle.std.proofs.Common.{◌≡◌, ℕ, List, [], ◌∙◌, None, ap, subst}
+use Rattle.std.proofs.Common.{◌≡◌, ℕ, List, [], ◌∙◌, None, ap, subst, sym}
+use Rattle.yds_run.specs.Admit.{RiseFrom}
 use Rattle.yds_model.specs.Job.{Job}
 use Rattle.yds_model.specs.Document.{Document}
 use Rattle.yds_model.specs.Admission.{jobs_with, IsAdmission, IsAdmittedRun}
@@ -6,7 +7,7 @@ use Rattle.yds_model.specs.AdmitAnswer.{with_taken}
 use Rattle.yds_instance.specs.Named.{Named}
 use Rattle.yds_document.specs.Documents.{document_view}
 use Rattle.yds_document.specs.Draft.{points_of}
-use Rattle.yds_run.proofs.Admitting.{admit_answered}
+use Rattle.yds_run.proofs.Admitting.{admit_answered, admitted_rise}
 use Rattle.yds_run.proofs.admit.admit_document.Goals as goal
 
 pub returns : goal.returns
@@ -27,3 +28,7 @@ returns c =
     (subst (λ (jobs : List Job). IsAdmittedRun (jobs_with jobs admission.taken.items) c.args.top admission.schedule.slots) c.rows.ensures.jobs c.in_ok-admission.ensures.run)
     c.of_slots.ensures.possible
     (c.of_slots.ensures.shown ∙ ap of_named c.in_ok-instance.ensures ∙ ap of_taken c.deref.ensures.value)
+
+pub chosen-requires-clause-rising : goal.chosen-requires-clause-rising
+chosen-requires-clause-rising c =
+    subst (RiseFrom 0) (sym c.deref.ensures.value) (admitted_rise _ c.args.top c.in_ok-admission.admission.taken.items c.in_ok-admission.admission.refused.items c.in_ok-admission.ensures.admission)

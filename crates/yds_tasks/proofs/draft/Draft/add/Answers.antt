@@ -1,4 +1,5 @@
 use Rattle.std.proofs.Common.{◌∙◌, ap, sym, refl}
+use Rattle.std.specs.declared.random_state.RandomState.{RandomState}
 use Rattle.yds_model.specs.Tasks.{TaskSet}
 use Rattle.yds_tasks.specs.Fields.{has_name}
 use Rattle.yds_tasks.specs.Read.{task_read}
@@ -8,7 +9,7 @@ use Rattle.yds_tasks.proofs.draft.Draft.add.Goals as goal
 
 pub returns-clause-kept : goal.returns-clause-kept
 returns-clause-kept c = λ name.
-    names_pushed _ _ c.args.task.name c.args.self.now.set (task_read c.args.task) refl c.in_ok-insert.ensures.updates c.requires.kept name
+    names_pushed {S = RandomState} c.args.self.now.names c.insert.new.self c.args.task.name c.args.self.now.set (task_read c.args.task) refl c.in_ok-insert.ensures.updates c.requires.kept name
     ∙ ap (λ (s : TaskSet). has_name s name) (sym c.in_ok-add.ensures)
 
 pub returns-clause-takes : goal.returns-clause-takes

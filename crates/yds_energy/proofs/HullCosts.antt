@@ -1,0 +1,179 @@
+-- What slots cost at the points of a table and between two neighbours is at most the energy that is interpolated.
+use Rattle.std.proofs.Common.{◌≡◌, ℕ, zero, suc, ◌+◌, ◌-◌, ◌*◌, ◌<◌, ◌≤◌, List, [], ◌∷◌, length, map, refl, ap, subst, arith, inl, inr}
+use Rattle.std.specs.Prelude.{ℤ, ◌+ℤ◌}
+use Rattle.std.specs.List.{All, Contains}
+use Rattle.std.proofs.lemmas.Bool.{cases_lt}
+use Rattle.std.proofs.lemmas.Int.{ints}
+use Rattle.std.proofs.lemmas.List.Elements.{All-nil, All-cons, All-weaker, All-contains}
+use Rattle.std.proofs.lemmas.List.Sums.{sum_by-cons}
+use Rattle.std.proofs.Math.Nat.{le_of_mul-le-mul_left}
+use borrow.Author.Differences.{up, down}
+use Rattle.yds_model.specs.Slot.{WholeSlot}
+use Rattle.yds_model.specs.Table.{Point, point_at, AreRising, GoesOn, IsHullOf, gaps_of}
+use Rattle.yds_model.specs.Energy.{busy, product, on_line, interpolated_power, total}
+use Rattle.yds_energy.proofs.Differences.{difference_times, total-cons}
+use Rattle.yds_energy.proofs.Hinges.{gains, losses, line_is}
+use Rattle.yds_energy.proofs.LineEnergy.{lines_are_at_most_energy}
+use Rattle.yds_energy.proofs.OneEnergy.{places_rise}
+use Rattle.yds_energy.proofs.RoundedRuns.{all_work}
+
+-- # The hull's points are of the table
+
+-- what a list has, it has with one more before it
+contains_more : (first : Point) (points : List Point) (point : Point) → Contains points point → Contains (first ∷ points) point
+contains_more first points point (place, within, is) = (suc place, omega (arith, within), is)
+
+-- from a point of the hull on
+goes_in : (low : Point) (points hull : List Point) → GoesOn low points hull → All (Contains points) hull
+goes_in low [] [] goes = All-nil (Contains [])
+goes_in low (point ∷ points) [] goes = absurd goes
+goes_in low [] (high ∷ hull) goes = absurd goes
+goes_in low (point ∷ points) (high ∷ hull) (inl (reached, goes)) =
+    All-cons (Contains (point ∷ points)) high hull (0, omega arith, reached)
+    (All-weaker (Contains points) (Contains (point ∷ points)) (λ one has. contains_more point points one has) hull (goes_in high points hull goes))
+goes_in low (point ∷ points) (high ∷ hull) (inr (above, goes)) =
+    All-weaker (Contains points) (Contains (point ∷ points)) (λ one has. contains_more point points one has) (high ∷ hull) (goes_in low points (high ∷ hull) goes)
+
+-- so each is
+pub hull_in : (points hull : List Point) (point : Point) → IsHullOf points hull → Contains hull point → Contains points point
+hull_in [] [] point is_hull has = has
+hull_in [] (low ∷ hull) point is_hull has = absurd is_hull.part
+hull_in (first ∷ points) [] point is_hull has = absurd is_hull.part
+hull_in (first ∷ points) (low ∷ hull) point is_hull has =
+    All-contains (Contains (first ∷ points)) (low ∷ hull) point
+    (All-cons (Contains (first ∷ points)) low hull (0, omega arith, is_hull.part.0)
+    (All-weaker (Contains points) (Contains (first ∷ points)) (λ one there. contains_more first points one there) hull (goes_in low points hull is_hull.part.1))) has
+
+-- # Lower bounds of an energy
+
+-- k times the energy is at least a - b
+abbrev pub IsAtLeast : ℕ → ℕ → ℕ → ℤ → Type 0
+IsAtLeast a b k z = a + k * down z ≤ k * up z + b
+
+-- bounds of two energies are one of their sum
+pub at_least_plus : (a b c d k : ℕ) (x y : ℤ) → IsAtLeast a b k x → IsAtLeast c d k y → IsAtLeast (a + c) (b + d) k (x +ℤ y)
+at_least_plus a b c d k x y one other =
+    let sum : up (x +ℤ y) + (down x + down y) ≡ up x + up y + down (x +ℤ y) = omega (arith, ints) in
+    omega (arith, one, other, ap (λ n. k * n) sum)
+
+-- a line is one, times its gap
+line_at_least : (points : List Point) (k time work : ℕ) → k + 1 < length points →
+    IsAtLeast (product (gaps_of points) * gains (point_at points k) (point_at points (k + 1)) time work)
+    (product (gaps_of points) * losses (point_at points k) (point_at points (k + 1)) time work)
+    ((point_at points (k + 1)).speed - (point_at points k).speed) (interpolated_power points time work)
+line_at_least points k time work within =
+    let low = point_at points k in
+    let high = point_at points (k + 1) in
+    let power = interpolated_power points time work in
+    omega (
+      arith,
+      ints,
+      lines_are_at_most_energy points k time work within,
+      difference_times (product (gaps_of points)) (gains low high time work) (losses low high time work) (on_line low high time work) (line_is low high time work),
+      difference_times (high.speed - low.speed) (up power) (down power) power refl,
+    )
+
+-- the energy of slots by a table, one after another
+abbrev pub power_of : List Point → WholeSlot → ℤ
+power_of points slot = interpolated_power points (slot.to - slot.from) slot.work
+
+-- the line's number is linear in time and work
+pub gains_more : (low high : Point) (slot : WholeSlot) (slots : List WholeSlot) →
+    gains low high (busy (slot ∷ slots)) (all_work (slot ∷ slots)) ≡ gains low high (slot.to - slot.from) slot.work + gains low high (busy slots) (all_work slots)
+gains_more low high slot slots =
+    omega (
+      arith,
+      ap (λ n. low.power * (high.speed * n)) (sum_by-cons (λ (one : WholeSlot). one.to - one.from) slot slots),
+      ap (λ n. high.power * n) (sum_by-cons (λ (one : WholeSlot). one.work) slot slots),
+    )
+
+-- and so is what is taken off
+pub losses_more : (low high : Point) (slot : WholeSlot) (slots : List WholeSlot) →
+    losses low high (busy (slot ∷ slots)) (all_work (slot ∷ slots)) ≡ losses low high (slot.to - slot.from) slot.work + losses low high (busy slots) (all_work slots)
+losses_more low high slot slots =
+    omega (
+      arith,
+      ap (λ n. high.power * (low.speed * n)) (sum_by-cons (λ (one : WholeSlot). one.to - one.from) slot slots),
+      ap (λ n. low.power * n) (sum_by-cons (λ (one : WholeSlot). one.work) slot slots),
+    )
+
+-- so all slots together are bounded by a line
+pub lines_at_least : (points : List Point) (k : ℕ) (slots : List WholeSlot) → k + 1 < length points →
+    IsAtLeast (product (gaps_of points) * gains (point_at points k) (point_at points (k + 1)) (busy slots) (all_work slots))
+    (product (gaps_of points) * losses (point_at points k) (point_at points (k + 1)) (busy slots) (all_work slots))
+    ((point_at points (k + 1)).speed - (point_at points k).speed) (total (map (power_of points) slots))
+lines_at_least points k [] within = omega arith
+lines_at_least points k (slot ∷ slots) within =
+    let low = point_at points k in
+    let high = point_at points (k + 1) in
+    let all = product (gaps_of points) in
+    let time = slot.to - slot.from in
+    rw (total-cons (power_of points slot) (map (power_of points) slots), gains_more low high slot slots, losses_more low high slot slots)
+    (omega (
+      arith,
+      at_least_plus (all * gains low high time slot.work) (all * losses low high time slot.work) (all * gains low high (busy slots) (all_work slots))
+          (all * losses low high (busy slots) (all_work slots)) (high.speed - low.speed) (power_of points slot) (total (map (power_of points) slots))
+          (line_at_least points k time slot.work within) (lines_at_least points k slots within),
+    ))
+
+-- # At a point's speed
+
+-- a bound that is times a gap
+pub cancel_gap : (gap a b cost : ℕ) (z : ℤ) → 0 < gap → IsAtLeast a b gap z → a ≡ b + gap * cost → IsAtLeast cost 0 1 z
+cancel_gap gap a b cost z some least is =
+    let less : gap * (cost + down z) ≤ gap * up z = omega (arith, least, is) in
+    let bound : cost + down z ≤ up z = le_of_mul-le-mul_left {k = gap} less some in
+    omega (arith, bound)
+
+-- at the lower end of a line
+low_end : (all p r low high time : ℕ) → low < high →
+    all * (p * (high * time) + r * (low * time)) ≡ all * (p * (low * time) + r * (low * time)) + (high - low) * (all * (p * time))
+low_end all p r low high time rises =
+    let gap : low + (high - low) ≡ high = omega (arith, rises) in
+    omega (arith, ap (λ n. all * p * time * n) gap)
+
+-- and at the upper end
+high_end : (all p r low high time : ℕ) → low < high →
+    all * (p * (high * time) + r * (high * time)) ≡ all * (p * (high * time) + r * (low * time)) + (high - low) * (all * (r * time))
+high_end all p r low high time rises =
+    let gap : low + (high - low) ≡ high = omega (arith, rises) in
+    omega (arith, ap (λ n. all * r * time * n) gap)
+
+-- a point that isn't the last is the lower end of a line
+point_before : (points : List Point) (k time : ℕ) → AreRising points → k + 1 < length points →
+    IsAtLeast (product (gaps_of points) * ((point_at points k).power * time)) 0 1 (interpolated_power points time ((point_at points k).speed * time))
+point_before points k time rising within =
+    let low = point_at points k in
+    let high = point_at points (k + 1) in
+    let all = product (gaps_of points) in
+    let work : ℕ = low.speed * time in
+    let rises : low.speed < high.speed = places_rise points k (k + 1) rising (omega arith) within in
+    cancel_gap (high.speed - low.speed) (all * gains low high time work) (all * losses low high time work) (all * (low.power * time)) (interpolated_power points time work)
+    (omega (arith, rises)) (line_at_least points k time work within) (low_end all low.power high.power low.speed high.speed time rises)
+
+-- one that isn't the first is the upper end
+point_after : (points : List Point) (k time : ℕ) → AreRising points → k + 1 < length points →
+    IsAtLeast (product (gaps_of points) * ((point_at points (k + 1)).power * time)) 0 1 (interpolated_power points time ((point_at points (k + 1)).speed * time))
+point_after points k time rising within =
+    let low = point_at points k in
+    let high = point_at points (k + 1) in
+    let all = product (gaps_of points) in
+    let work : ℕ = high.speed * time in
+    let rises : low.speed < high.speed = places_rise points k (k + 1) rising (omega arith) within in
+    cancel_gap (high.speed - low.speed) (all * gains low high time work) (all * losses low high time work) (all * (high.power * time)) (interpolated_power points time work)
+    (omega (arith, rises)) (line_at_least points k time work within) (high_end all low.power high.power low.speed high.speed time rises)
+
+-- so at each point's speed the energy is at least the point's
+pub point_at_least : (points : List Point) (k time : ℕ) → AreRising points → k < length points →
+    IsAtLeast (product (gaps_of points) * ((point_at points k).power * time)) 0 1 (interpolated_power points time ((point_at points k).speed * time))
+point_at_least [] k time rising within = absurd (omega (arith, within))
+point_at_least (point ∷ []) zero time rising within = omega (arith, ints)
+point_at_least (point ∷ []) (suc k) time rising within = absurd (omega (arith, within))
+point_at_least (point ∷ next ∷ points) k time rising within = elim (cases_lt (k + 1) (length (point ∷ next ∷ points))) [
+  | inl before ↦ point_before (point ∷ next ∷ points) k time rising before
+  | inr last ↦
+      let all : List Point = point ∷ next ∷ points in
+      let place : (k - 1) + 1 ≡ k = omega (arith, last) in
+      subst (λ (n : ℕ). IsAtLeast (product (gaps_of all) * ((point_at all n).power * time)) 0 1 (interpolated_power all time ((point_at all n).speed * time))) place
+      (point_after all (k - 1) time rising (omega (arith, place, within)))
+]

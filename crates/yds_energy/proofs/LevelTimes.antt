@@ -1,0 +1,65 @@
+-- How long a plan's slots run: those of a level as long as the level, and all together at most the horizon.
+use Rattle.std.proofs.Common.{◌≡◌, ℕ, ◌-◌, ◌*◌, ◌≤◌, List, [], ◌∷◌, get_or, sym, ap, ◌∙◌, arith}
+use Rattle.std.specs.Prelude.{sum_by}
+use Rattle.std.specs.List.{All}
+use Rattle.std.proofs.lemmas.List.Elements.{All-head, All-tail}
+use Rattle.std.proofs.lemmas.List.Sums.{sum_by-cons}
+use Rattle.std.proofs.Math.Nat.{le_of_mul-le-mul_left}
+use Rattle.yds_model.specs.Numbers.{count}
+use Rattle.yds_model.specs.Job.{Job}
+use Rattle.yds_model.specs.Slot.{WrittenSlot, WholeSlot, IsScale, slots_at}
+use Rattle.yds_model.specs.Level.{Level, all_members}
+use Rattle.yds_model.specs.Plan.{IsPlan}
+use Rattle.yds_model.specs.Energy.{busy, horizon}
+use Rattle.yds_model.proofs.Sums.{sum_by_same}
+use Rattle.yds_model.proofs.Horizon.{busy_and_idle}
+use Rattle.yds_model.proofs.Scale.{scale_exists}
+use Rattle.yds_energy.specs.RoundingLaws.{LevelsFitTheHorizon}
+use Rattle.yds_laws.proofs.Group.{group, group-nil, group-append}
+use Rattle.yds_laws.proofs.Exact.{level_time}
+use Rattle.yds_energy.proofs.FullStretches.{planned_once, plan_fits}
+
+-- the slots of a level take as long as the level, at a scale
+abbrev pub TakesLong : List WholeSlot → ℕ → Level → Type 0
+TakesLong slots scale level = group (λ slot. slot.to - slot.from) level.members slots ≡ scale * level.length
+
+-- so they do in a plan
+pub levels_long : (jobs : List Job) (planned : List WrittenSlot) (levels : List Level) (scale : ℕ) → IsPlan jobs planned levels → IsScale scale planned →
+    All (TakesLong (slots_at scale planned) scale) levels
+levels_long jobs planned levels scale plan is k d within =
+    let level = get_or levels k d in
+    let fits = plan_fits jobs planned levels scale plan is k d within in
+    level_time jobs scale (slots_at scale planned) (plan.proper.feasible.holds scale is).served level fits ∙ ap (λ n. scale * n) (sym fits.long)
+
+-- and all of them together
+all_long : (scale : ℕ) (slots : List WholeSlot) (levels : List Level) → All (TakesLong slots scale) levels →
+    group (λ slot. slot.to - slot.from) (all_members levels) slots ≡ scale * sum_by (λ level. level.length) levels
+all_long scale slots [] long = omega (arith, group-nil (λ slot. slot.to - slot.from) slots)
+all_long scale slots (level ∷ levels) long =
+    omega (
+      arith,
+      group-append (λ slot. slot.to - slot.from) level.members (all_members levels) slots,
+      All-head (TakesLong slots scale) level levels long,
+      all_long scale slots levels (All-tail (TakesLong slots scale) level levels long),
+      ap (λ n. scale * n) (sum_by-cons (λ (one : Level). one.length) level levels),
+    )
+
+-- so a plan's slots take as long as its levels
+pub plan_busy : (jobs : List Job) (planned : List WrittenSlot) (levels : List Level) (scale : ℕ) → IsPlan jobs planned levels → IsScale scale planned →
+    busy (slots_at scale planned) ≡ scale * sum_by (λ level. level.length) levels
+plan_busy jobs planned levels scale plan is =
+    let slots = slots_at scale planned in
+    sum_by_same (λ slot. slot.to - slot.from) (λ slot. count slot.job (all_members levels) * (slot.to - slot.from)) slots
+    (λ k d within. omega (arith, ap (λ n. n * ((get_or slots k d).to - (get_or slots k d).from)) (planned_once jobs planned levels scale plan is k d within)))
+    ∙ all_long scale slots levels (levels_long jobs planned levels scale plan is)
+
+-- the law: and that is at most the horizon
+pub levels_fit_the_horizon : LevelsFitTheHorizon
+levels_fit_the_horizon jobs slots levels plan =
+    let scale = scale_exists slots plan.proper.feasible.solid in
+    let less : scale.0 * sum_by (λ level. level.length) levels ≤ scale.0 * horizon jobs = omega (
+      arith,
+      plan_busy jobs slots levels scale.0 plan scale.1,
+      busy_and_idle jobs scale.0 (slots_at scale.0 slots) (plan.proper.feasible.holds scale.0 scale.1),
+    ) in
+    le_of_mul-le-mul_left {k = scale.0} less scale.1.positive

@@ -1,0 +1,5 @@
+use Rattle.yds_energy.proofs.LevelEnergy.{rounded_costs_its_level as law}
+use Rattle.yds_energy.proofs.rounding_laws.rounded_costs_its_level.Goals as goal
+
+pub returns : goal.returns
+returns c = law

@@ -1,0 +1,3 @@
+pub mod EnergyLaws
+pub mod RoundingLaws
+pub mod ComparisonLaws

@@ -1,0 +1,342 @@
+-- What schedules spend on the operating points, and the answer of `compare`, tried on its worked rows: a from 0 to 3 with work 2 and b from
+-- 1 to 2 with work 1, on the grid 6.
+use Rattle.std.proofs.Common.{◌≡◌, ℕ, zero, suc, ◌+◌, ◌-◌, ◌*◌, ◌<◌, ◌≤◌, List, [], ◌∷◌, length, map, refl, ap, arith, inl, inr, Bool, true, false, nat_le}
+use Rattle.std.specs.Prelude.{codes}
+use Rattle.std.specs.Fmt.{digits}
+use Rattle.std.specs.Bool.{Decides}
+use Rattle.std.specs.List.{All, list_all}
+use Rattle.std.proofs.lemmas.Bool.Decides.{not_from_Decides}
+use Rattle.std.proofs.Math.Nat.{one-dvd}
+use Rattle.std.proofs.lemmas.List.Elements.{All-from_recursion}
+use Rattle.yds_model.specs.declared.status.Status.TheVariants.{Done, No, Refused}
+use Rattle.yds_model.specs.Numbers.{IsFirstFailure}
+use Rattle.yds_model.specs.Job.{Job}
+use Rattle.yds_model.specs.Scale.{Fraction, of_whole, of_parts}
+use Rattle.yds_model.specs.Slot.{WrittenSlot, WholeSlot, IsScale, slots_at, no_written_slot}
+use Rattle.yds_model.specs.Piece.{Piece}
+use Rattle.yds_model.specs.Level.{Level}
+use Rattle.yds_model.specs.Table.{Point, hull_multiple}
+use Rattle.yds_model.specs.Event.{stretches}
+use Rattle.yds_model.specs.Plan.{IsServedInStretches, IsPlan}
+use Rattle.yds_model.specs.Policy.{IsRunAt}
+use Rattle.yds_model.specs.AverageRate.{average_rate, IsAverageRateRun}
+use Rattle.yds_model.specs.Rounding.{top_of, IsTooFast}
+use Rattle.yds_model.specs.Comparison.{work_in, all_time_at, all_energy, Spent, IsSpentAt, IsSpent, HoldsStretch, stretch_at, IsTooSlowFor, Spends, TooSlowFor, HoldsAll, IsSide}
+use Rattle.yds_model.specs.Answer.{Answers}
+use Rattle.yds_model.proofs.Scale.{one_scale_of, least_scale_of}
+use Rattle.yds_model.proofs.Divisor.{multiple_is_least}
+use Rattle.yds_texts.specs.CompareText.{CostsNoLess}
+use Rattle.yds_examples.proofs.Decided.{le_decided, all_below, each_decided, all_decided, scale_decided}
+use Rattle.yds_examples.proofs.DecidedSchedules.{feasible_by_test, stretches_decided, run_decided}
+use Rattle.yds_examples.proofs.DecidedPlans.{proper_by_test, plan_by_test}
+use Rattle.yds_energy.proofs.RunScale.{served_in_stretches_scaled, average_rate_run_scaled}
+use Rattle.yds_examples.proofs.Policies.{available_jobs as jobs, fine_slots as available, fine_scale as available_scale, fine_accepted as available_run}
+use Rattle.yds_energy.proofs.SpentScale.{spent_kept, all_hold_kept, first_failure_kept, units_kept}
+
+-- the points: speed 0 at no power, 1 at 1, 2 at 3
+abbrev points : List Point
+points = record { speed = 0; power = 0 } ∷ record { speed = 1; power = 1 } ∷ record { speed = 2; power = 3 } ∷ []
+
+abbrev slot : ℕ → Fraction → Fraction → Fraction → WrittenSlot
+slot job from to work = record { job = job; from = from; to = to; work = work }
+
+-- # Three schedules
+
+-- The plan runs all at the speed 1.
+abbrev planned : List WrittenSlot
+planned = slot 0 (of_whole 0) (of_whole 1) (of_whole 1) ∷ slot 1 (of_whole 1) (of_whole 2) (of_whole 1) ∷ slot 0 (of_whole 2) (of_whole 3) (of_whole 1) ∷ []
+
+plan_scale : IsScale 1 planned
+plan_scale = (scale_decided 1 planned).0 refl
+
+abbrev level : Level
+level = record { work = 3; length = 3; pieces = record { from = 0; to = 3 } ∷ []; members = 0 ∷ 1 ∷ [] }
+
+plan_served : (scale : ℕ) → IsScale scale planned → IsServedInStretches jobs scale (slots_at scale planned)
+plan_served =
+    (least_scale_of planned (IsServedInStretches jobs) 1 plan_scale (λ scale is. one-dvd scale)
+    (λ k some. served_in_stretches_scaled jobs k 1 planned some plan_scale ((stretches_decided jobs 1 (slots_at 1 planned)).0 refl))).holds
+
+plan : IsPlan jobs planned (level ∷ [])
+plan = plan_by_test jobs planned (level ∷ []) (proper_by_test jobs planned (level ∷ []) (feasible_by_test jobs planned 1 refl refl) refl) plan_served refl
+
+-- Average Rate serves 4, 10 and 4 sixths. (Optimal Available serves 4, 7 and 7, and is a run too.)
+abbrev average : List WrittenSlot
+average =
+    slot 0 (of_whole 0) (of_whole 1) (of_parts 4 6)
+    ∷ slot 1 (of_whole 1) (of_parts 8 5) (of_whole 1)
+    ∷ slot 0 (of_parts 8 5) (of_whole 2) (of_parts 4 6)
+    ∷ slot 0 (of_whole 2) (of_whole 3) (of_parts 4 6) ∷ []
+
+average_scale : IsScale 30 average
+average_scale = (scale_decided 30 average).0 refl
+
+average_run_at : IsRunAt jobs 6 30 (average_rate jobs 6 30 (slots_at 30 average)) (slots_at 30 average)
+average_run_at = (run_decided jobs 6 30 (average_rate jobs 6 30 (slots_at 30 average)) (slots_at 30 average)).0 refl
+
+-- Each of its scales is a multiple of 5 and of 6, so it is a run, and rounds nowhere.
+average_run : IsAverageRateRun jobs 6 0 average
+average_run = record {
+  run = least_scale_of average (λ scale whole. IsRunAt jobs 6 scale (average_rate jobs 6 scale whole) whole) 30 average_scale
+      (λ scale is. (multiple_is_least 5 6).2 scale (is.divided 1 no_written_slot (omega arith)).to (is.divided 0 no_written_slot (omega arith)).work)
+      (λ k some. average_rate_run_scaled jobs 6 k 30 average some average_scale average_run_at);
+  rounds = refl;
+}
+
+-- # What they spend
+
+-- The times at the speeds 0, 1 and 2, in parts of a scale: the plan has 3 time units at 1,
+planned_times : map (all_time_at jobs points 1 (slots_at 1 planned)) (0 ∷ 1 ∷ 2 ∷ []) ≡ 0 ∷ 3 ∷ 0 ∷ []
+planned_times = refl
+
+-- Average Rate 2/3, 5/3 and 2/3, in thirtieths,
+average_times : map (all_time_at jobs points 30 (slots_at 30 average)) (0 ∷ 1 ∷ 2 ∷ []) ≡ 20 ∷ 50 ∷ 20 ∷ []
+average_times = refl
+
+-- Optimal Available 1/3, 7/3 and 1/3, in parts of 42.
+available_times : map (all_time_at jobs points 42 (slots_at 42 available)) (0 ∷ 1 ∷ 2 ∷ []) ≡ 14 ∷ 98 ∷ 14 ∷ []
+available_times = refl
+
+-- The energies are 3,
+planned_energy : all_energy jobs points 1 (slots_at 1 planned) ≡ 3
+planned_energy = refl
+
+-- 11/3
+average_energy : all_energy jobs points 30 (slots_at 30 average) ≡ 110
+average_energy = refl
+
+-- and 10/3.
+available_energy : all_energy jobs points 42 (slots_at 42 available) ≡ 140
+available_energy = refl
+
+abbrev third : ℕ → ℕ → Fraction
+third whole num = record { whole = whole; num = num; den = 3 }
+
+-- One scale decides: what is spent at one of them is spent.
+spends : (points : List Point) (slots : List WrittenSlot) (spent : Spent) (scale : ℕ) → 1 ≤ hull_multiple points → IsScale scale slots →
+    IsSpentAt jobs points spent scale (slots_at scale slots) → IsSpent jobs points slots spent
+spends points slots spent scale wide is at_one = one_scale_of slots (IsSpentAt jobs points spent) (spent_kept jobs points slots spent wide) scale is at_one
+
+-- the plan
+abbrev planned_spent : Spent
+planned_spent = record { energy = of_whole 3; times = of_whole 0 ∷ of_whole 3 ∷ of_whole 0 ∷ [] }
+
+plan_spends : IsSpent jobs points planned planned_spent
+plan_spends = spends points planned planned_spent 1 (omega arith) plan_scale (record { energy = refl; times = refl })
+
+-- Average Rate
+abbrev average_spent : Spent
+average_spent = record { energy = third 3 2; times = third 0 2 ∷ third 1 2 ∷ third 0 2 ∷ [] }
+
+average_spends : IsSpent jobs points average average_spent
+average_spends = spends points average average_spent 30 (omega arith) average_scale (record { energy = refl; times = refl })
+
+-- Optimal Available
+abbrev available_spent : Spent
+available_spent = record { energy = third 3 1; times = third 0 1 ∷ third 2 1 ∷ third 0 1 ∷ [] }
+
+available_spends : IsSpent jobs points available available_spent
+available_spends = spends points available available_spent 42 (omega arith) available_scale (record { energy = refl; times = refl })
+
+-- So neither policy spends less than the plan; Optimal Available spends less than Average Rate.
+average_costs_no_less : CostsNoLess planned_spent.energy (Spends average_spent)
+average_costs_no_less = omega arith
+
+available_costs_no_less : CostsNoLess planned_spent.energy (Spends available_spent)
+available_costs_no_less = omega arith
+
+available_costs_less : CostsNoLess average_spent.energy (Spends available_spent) → ⊥
+available_costs_less most = omega (arith, most)
+
+-- The same times with the energy 4 aren't what Average Rate spends,
+other_energy : IsSpent jobs points average (record { energy = of_whole 4; times = average_spent.times }) → ⊥
+other_energy spent = absurd (omega (arith, ap (λ (x : Fraction). x.whole) (spent.holds 30 average_scale).energy))
+
+-- nor with its energy told in sixths,
+in_sixths : IsSpent jobs points average (record { energy = record { whole = 3; num = 4; den = 6 }; times = average_spent.times }) → ⊥
+in_sixths spent = absurd (omega (arith, ap (λ (x : Fraction). x.den) (spent.holds 30 average_scale).energy))
+
+-- nor with five thirds beside 2,
+improper : IsSpent jobs points average (record { energy = third 2 5; times = average_spent.times }) → ⊥
+improper spent = absurd (omega (arith, ap (λ (x : Fraction). x.whole) (spent.holds 30 average_scale).energy))
+
+-- nor with the last time left out.
+time_missing : IsSpent jobs points average (record { energy = third 3 2; times = third 0 2 ∷ third 1 2 ∷ [] }) → ⊥
+time_missing spent = absurd (omega (arith, ap (λ (times : List Fraction). length times) (spent.holds 30 average_scale).times))
+
+-- A point above the hull is left out: with a power of 5 at the speed 1 half of the time at 2 costs less.
+abbrev costly : List Point
+costly = record { speed = 0; power = 0 } ∷ record { speed = 1; power = 5 } ∷ record { speed = 2; power = 3 } ∷ []
+
+-- in halves, since the gap of the hull is 2
+by_the_hull : map (all_time_at jobs costly 1 (slots_at 1 planned)) (0 ∷ 1 ∷ 2 ∷ []) ≡ 3 ∷ 0 ∷ 3 ∷ []
+by_the_hull = refl
+
+-- Time in which nothing runs costs the power of the first point: here 2, for each of the 2 time units between two jobs.
+abbrev apart : List Job
+apart = record { release = 0; deadline = 1; work = 1 } ∷ record { release = 3; deadline = 4; work = 1 } ∷ []
+
+with_a_gap : all_energy apart (record { speed = 0; power = 2 } ∷ record { speed = 1; power = 5 } ∷ []) 1
+    (record { job = 0; from = 0; to = 1; work = 1 } ∷ record { job = 1; from = 3; to = 4; work = 1 } ∷ []) ≡ 2 * 5 + 2 * 2
+with_a_gap = refl
+
+-- # Where the top point is too slow
+
+-- the test whether the top point holds a stretch, and each
+abbrev holds : List Point → ℕ → List WholeSlot → Piece → Bool
+holds points scale slots stretch = nat_le (work_in scale stretch slots) (top_of points * ((stretch.to - stretch.from) * scale))
+
+holds_decided : (points : List Point) (scale : ℕ) (slots : List WholeSlot) (stretch : Piece) →
+    Decides (holds points scale slots stretch) (HoldsStretch points scale slots stretch)
+holds_decided points scale slots stretch = le_decided (work_in scale stretch slots) (top_of points * ((stretch.to - stretch.from) * scale))
+
+-- On the three points both policies spend.
+holds_all : (slots : List WrittenSlot) (spent : Spent) (scale : ℕ) → IsScale scale slots → IsSpent jobs points slots spent →
+    list_all (holds points scale (slots_at scale slots)) (stretches jobs) ≡ true → HoldsAll jobs points slots spent
+holds_all slots spent scale is spends passed = record {
+  holds = one_scale_of slots (λ scale whole. All (HoldsStretch points scale whole) (stretches jobs)) (all_hold_kept jobs points slots) scale is
+      ((all_decided (holds points scale (slots_at scale slots)) (HoldsStretch points scale (slots_at scale slots))
+      (holds_decided points scale (slots_at scale slots)) (stretches jobs)).0 passed);
+  is_spent = spends;
+}
+
+average_side : IsSide jobs points 6 average (Spends average_spent)
+average_side = holds_all average average_spent 30 average_scale average_spends refl
+
+available_side : IsSide jobs points 6 available (Spends available_spent)
+available_side = holds_all available available_spent 42 available_scale available_spends refl
+
+-- The points `0 0` and `1 1` are too slow for the policies, though not for the plan.
+abbrev slow : List Point
+slow = record { speed = 0; power = 0 } ∷ record { speed = 1; power = 1 } ∷ []
+
+-- the stretches are those between 0, 1, 2 and 3
+three_stretches : stretches jobs ≡ record { from = 0; to = 1 } ∷ record { from = 1; to = 2 } ∷ record { from = 2; to = 3 } ∷ []
+three_stretches = refl
+
+-- a stretch that is the first at one scale is the first
+too_slow_at_one : (slots : List WrittenSlot) (scale units place : ℕ) → IsScale scale slots → place < 3 →
+    all_below (λ i. holds slow scale (slots_at scale slots) (stretch_at jobs i)) place ≡ true →
+    holds slow scale (slots_at scale slots) (stretch_at jobs place) ≡ false →
+    units * scale ≡ 6 * work_in scale (stretch_at jobs place) (slots_at scale slots) →
+    IsTooSlowFor jobs slow 6 slots units (stretch_at jobs place).from (stretch_at jobs place).to
+too_slow_at_one slots scale units place is within before fails same = record {
+  place = place;
+  is_stretch = refl;
+  first = one_scale_of slots (λ scale whole. IsFirstFailure 3 (λ i. HoldsStretch slow scale whole (stretch_at jobs i)) place)
+      (first_failure_kept jobs slow slots 3 place) scale is (record {
+        within = within;
+        before = (each_decided (λ i. holds slow scale (slots_at scale slots) (stretch_at jobs i)) (λ i. HoldsStretch slow scale (slots_at scale slots) (stretch_at jobs i))
+            (λ i. holds_decided slow scale (slots_at scale slots) (stretch_at jobs i)) place).0 before;
+        fails = not_from_Decides (holds slow scale (slots_at scale slots) (stretch_at jobs place))
+            (holds_decided slow scale (slots_at scale slots) (stretch_at jobs place)) fails;
+      });
+  is_units = one_scale_of slots (λ scale whole. units * scale ≡ 6 * work_in scale (stretch_at jobs place) whole)
+      (units_kept jobs slow slots 6 units (stretch_at jobs place)) scale is same;
+}
+
+-- Average Rate serves 10 units from 1 to 2, where 6 can be served,
+average_too_slow : IsSide jobs slow 6 average (TooSlowFor 10 1 2)
+average_too_slow = too_slow_at_one average 30 10 1 average_scale (omega arith) refl refl refl
+
+-- and Optimal Available 7.
+available_too_slow : IsSide jobs slow 6 available (TooSlowFor 7 1 2)
+available_too_slow = too_slow_at_one available 42 7 1 available_scale (omega arith) refl refl refl
+
+-- a stretch that begins at 0 is the first, which is held
+first_of_stretches : (place : ℕ) → place < 3 → (stretch_at jobs place).from ≡ 0 → (HoldsStretch slow 30 (slots_at 30 average) (stretch_at jobs place) → ⊥) → ⊥
+first_of_stretches zero within begins fails = fails (omega arith)
+first_of_stretches (suc zero) within begins fails = absurd (omega (arith, begins))
+first_of_stretches (suc (suc zero)) within begins fails = absurd (omega (arith, begins))
+first_of_stretches (suc (suc (suc place))) within begins fails = absurd (omega arith)
+
+-- one that begins at 2 comes after the second
+after_second : (place : ℕ) → place < 3 → (stretch_at jobs place).from ≡ 2 → 1 < place
+after_second zero within begins = absurd (omega (arith, begins))
+after_second (suc zero) within begins = absurd (omega (arith, begins))
+after_second (suc (suc place)) within begins = omega arith
+
+-- The stretch before holds 6 units and serves 4, so it isn't told, whatever units are,
+not_before : (units : ℕ) → IsSide jobs slow 6 average (TooSlowFor units 0 1) → ⊥
+not_before units side =
+    let first = side.first.holds 30 average_scale in
+    first_of_stretches side.place first.within (ap (λ (stretch : Piece). stretch.from) side.is_stretch) first.fails
+
+-- nor is the one after, though it serves 7 units too: it isn't the first.
+not_after : IsSide jobs slow 6 available (TooSlowFor 7 2 3) → ⊥
+not_after side =
+    let first = side.first.holds 42 available_scale in
+    absurd (omega (arith, first.before 1 (after_second side.place first.within (ap (λ (stretch : Piece). stretch.from) side.is_stretch))))
+
+-- Where the top is too slow nothing is spent.
+not_spent : (spent : Spent) → IsSide jobs slow 6 average (Spends spent) → ⊥
+not_spent spent side = absurd (omega (arith, side.holds.holds 30 average_scale 1 (record { from = 0; to = 0 }) (omega arith)))
+
+-- # The answers
+
+-- With three points all three are told, and that the policies round nowhere.
+pub answer : Answers (codes "compare" ∷ codes "--grid" ∷ codes "6" ∷ []) (codes "job a 0 3 2\njob b 1 2 1\npoint 0 0\npoint 1 1\npoint 2 3\n")
+    (codes "plan energy 3\nplan time 0 0\nplan time 1 3\nplan time 2 0\navr energy 3+2/3\navr time 0 0+2/3\navr time 1 1+2/3\navr time 2 0+2/3\navr rounded 0\noa energy 3+1/3\noa time 0 0+1/3\noa time 1 2+1/3\noa time 2 0+1/3\noa rounded 0\n") Done
+unfolding digits
+answer = inr (record {
+  planned = planned;
+  levels = level ∷ [];
+  plan = plan;
+  fast_enough = All-from_recursion (λ one. IsTooFast points one → ⊥) (level ∷ []) ((λ fast. absurd (omega (arith, fast))), tt);
+  plan_spent = planned_spent;
+  plan_spends = plan_spends;
+  average_slots = average;
+  average_rounded = 0;
+  average_run = average_run;
+  average_side = Spends average_spent;
+  is_average = average_side;
+  optimal_slots = available;
+  optimal_rounded = 0;
+  optimal_run = available_run;
+  optimal_side = Spends available_spent;
+  is_optimal = available_side;
+  said = refl;
+  ended = refl;
+})
+
+-- Without the point of speed 2 the plan spends as much,
+abbrev slow_spent : Spent
+slow_spent = record { energy = of_whole 3; times = of_whole 0 ∷ of_whole 3 ∷ [] }
+
+slow_spends : IsSpent jobs slow planned slow_spent
+slow_spends = spends slow planned slow_spent 1 (omega arith) plan_scale (record { energy = refl; times = refl })
+
+-- and of the policies it is told where the top is too slow.
+too_slow : Answers (codes "compare" ∷ codes "--grid" ∷ codes "6" ∷ []) (codes "job a 0 3 2\njob b 1 2 1\npoint 0 0\npoint 1 1\n")
+    (codes "plan energy 3\nplan time 0 0\nplan time 1 3\navr too-slow units 10 from 1 to 2 top 1\navr rounded 0\noa too-slow units 7 from 1 to 2 top 1\noa rounded 0\n") Done
+unfolding digits
+too_slow = inr (record {
+  planned = planned;
+  levels = level ∷ [];
+  plan = plan;
+  fast_enough = All-from_recursion (λ one. IsTooFast slow one → ⊥) (level ∷ []) ((λ fast. absurd (omega (arith, fast))), tt);
+  plan_spent = slow_spent;
+  plan_spends = slow_spends;
+  average_slots = average;
+  average_rounded = 0;
+  average_run = average_run;
+  average_side = TooSlowFor 10 1 2;
+  is_average = average_too_slow;
+  optimal_slots = available;
+  optimal_rounded = 0;
+  optimal_run = available_run;
+  optimal_side = TooSlowFor 7 1 2;
+  is_optimal = available_too_slow;
+  said = refl;
+  ended = refl;
+})
+
+-- The point of speed 0 alone is too slow for the plan,
+plan_too_fast : Answers (codes "compare" ∷ codes "--grid" ∷ codes "6" ∷ []) (codes "job a 0 3 2\njob b 1 2 1\npoint 0 0\n")
+    (codes "too-slow work 3 length 3 top 0\n") No
+unfolding digits
+plan_too_fast = inl (record { slots = planned; level = level; others = []; plan = plan; too_fast = omega arith; said = refl; ended = refl })
+
+-- and without points there is nothing to compare.
+no_table : Answers (codes "compare" ∷ codes "--grid" ∷ codes "6" ∷ []) (codes "job a 0 3 2\njob b 1 2 1\n") (codes "refused no-table\n") Refused
+no_table = record { said = refl; ended = refl }

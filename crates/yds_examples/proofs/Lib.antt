@@ -1,0 +1,30 @@
+pub mod Decided
+pub mod DecidedSchedules
+pub mod DecidedPlans
+pub mod DecidedAdmission
+pub mod DecidedRounding
+pub mod DecidedVerdicts
+mod ReadingExamples
+pub mod ThreeJobs
+mod ThreeJobsChanged
+mod EqualSpeedsExamples
+mod EarliestFirstExamples
+mod HullExamples
+mod RoundNestedExamples
+mod RoundLawExamples
+mod RoundSwitchExamples
+pub mod Policies
+mod RunTextExamples
+mod RowsExamples
+pub mod PlanRowExamples
+mod JudgedExamples
+mod EnergyExamples
+mod WordsExamples
+mod TasksExamples
+mod JsonExamples
+pub mod CurveExamples
+pub mod AdmissionExamples
+pub mod ComparisonExamples
+mod WorthExamples
+mod ComparedExamples
+mod UnevenExamples

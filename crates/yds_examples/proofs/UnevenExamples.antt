@@ -1,0 +1,47 @@
+-- What `IsSpent` says of slots that don't fill their stretch at one speed: a job from 0 to 2 of work 3 that does all its work from 0 to 1. It
+-- isn't what they take on the points.
+use Rattle.std.proofs.Common.{◌≡◌, ℕ, List, [], ◌∷◌, refl, arith}
+use Rattle.yds_model.specs.Job.{Job}
+use Rattle.yds_model.specs.Scale.{of_whole}
+use Rattle.yds_model.specs.Slot.{WrittenSlot, IsScale}
+use Rattle.yds_model.specs.Feasible.{IsFeasible}
+use Rattle.yds_model.specs.Table.{Point}
+use Rattle.yds_model.specs.Rounding.{IsEnergyOf}
+use Rattle.yds_model.specs.Comparison.{Spent, IsSpentAt, IsSpent}
+use Rattle.yds_model.proofs.Scale.{one_scale_of}
+use Rattle.yds_energy.proofs.SpentScale.{spent_kept}
+use Rattle.yds_examples.proofs.Decided.{scale_decided}
+use Rattle.yds_examples.proofs.DecidedSchedules.{feasible_by_test}
+use Rattle.yds_examples.proofs.DecidedRounding.{energy_by_test}
+
+-- the job
+abbrev jobs : List Job
+jobs = record { release = 0; deadline = 2; work = 3 } ∷ []
+
+-- the points
+abbrev points : List Point
+points = record { speed = 0; power = 0 } ∷ record { speed = 1; power = 1 } ∷ record { speed = 2; power = 3 } ∷ record { speed = 3; power = 9 } ∷ []
+
+-- the speed 3 until 1, and nothing done from then on
+abbrev slots : List WrittenSlot
+slots =
+    record { job = 0; from = of_whole 0; to = of_whole 1; work = of_whole 3 } ∷ record { job = 0; from = of_whole 1; to = of_whole 2; work = of_whole 0 } ∷ []
+
+-- they are feasible,
+its_feasible : IsFeasible jobs slots
+its_feasible = feasible_by_test jobs slots 1 refl refl
+
+-- and take 9 on the points.
+its_energy : IsEnergyOf jobs points slots (of_whole 9)
+its_energy = energy_by_test jobs points (3 ∷ 0 ∷ []) slots (of_whole 9) 1 refl refl
+
+its_scale : IsScale 1 slots
+its_scale = (scale_decided 1 slots).0 refl
+
+-- Run at one speed, the stretch would take 4: one time unit each at the speeds 1 and 2.
+abbrev even : Spent
+even = record { energy = of_whole 4; times = of_whole 0 ∷ of_whole 1 ∷ of_whole 1 ∷ of_whole 0 ∷ [] }
+
+-- That is what `IsSpent` says.
+its_spent : IsSpent jobs points slots even
+its_spent = one_scale_of slots (IsSpentAt jobs points even) (spent_kept jobs points slots even (omega arith)) 1 its_scale (record { energy = refl; times = refl })

@@ -1,0 +1,109 @@
+-- A refused job is refused since with it the work of some jobs is more than the top speed does in an interval that all of them have to keep.
+use Rattle.std.proofs.Common.{◌≡◌, ℕ, ◌-◌, ◌*◌, ◌<◌, ◌≤◌, List, [], ◌∷◌, ◌++◌, length, get_or, cond, ◌==◌, sym, ap, subst, ◌∙◌, arith, append_assoc, inl, inr, Bool, ◌*◌, ◌⊎◌}
+use Rattle.std.specs.List.{All, Contains, filter}
+use Rattle.std.proofs.lemmas.List.{get_or_default, get_or-map, get_or_append_left, length-append, length-map}
+use Rattle.std.proofs.lemmas.List.Elements.{All-nil, All-cons, All-append, All-filter, filter_passes}
+use Rattle.std.proofs.lemmas.List.Sums.{sum_by-append}
+use Rattle.yds_model.specs.Job.{Job, no_job, job_at, work_of}
+use Rattle.yds_model.specs.Policy.{numbers_of}
+use Rattle.yds_model.proofs.Lists.{count-cons}
+use Rattle.yds_model.proofs.Sums.{sum_by_at_most}
+use Rattle.yds_laws.proofs.Bound.{served_at_speed}
+use Rattle.yds_laws.proofs.JobNumbers.{sum_by-map, sum_by_number}
+use Rattle.yds_laws.proofs.Served.{sum_by-filter, all_numbers, counted_once, cond_less, lies}
+use Rattle.yds_model.specs.Numbers.{AreDifferent}
+use Rattle.yds_model.specs.Admission.{CanServe, jobs_with, lies_within, Refusal, IsRefusal, AdmitsAfter}
+use Rattle.yds_laws.specs.AdmissionLaws.{IsForced, RefusalsAreForced}
+
+-- # Different numbers
+
+-- what a filter keeps of different numbers is different
+kept_apart : (p : ℕ → Bool) (numbers : List ℕ) → AreDifferent numbers → AreDifferent (filter p numbers)
+kept_apart p numbers different number = omega (
+  arith,
+  different number,
+  sum_by-filter p (λ other. cond (number == other) 1 0) numbers,
+  sum_by_at_most (λ other. cond (p other) (cond (number == other) 1 0) 0) (λ other. cond (number == other) 1 0) numbers
+      (λ k d within. cond_less (p (get_or numbers k d)) (number == get_or numbers k d)),
+)
+
+-- of the first numbers, one more and others: the first ones with the one, and the first ones with the others
+with_one : (before numbers : List ℕ) (number : ℕ) → AreDifferent (before ++ number ∷ numbers) → AreDifferent (before ++ number ∷ [])
+with_one before numbers number different other = omega (
+  arith,
+  different other,
+  sum_by-append (λ x. cond (other == x) 1 0) before (number ∷ numbers),
+  sum_by-append (λ x. cond (other == x) 1 0) before (number ∷ []),
+  count-cons other number numbers,
+  count-cons other number [],
+)
+
+without_one : (before numbers : List ℕ) (number : ℕ) → AreDifferent (before ++ number ∷ numbers) → AreDifferent (before ++ numbers)
+without_one before numbers number different other = omega (
+  arith,
+  different other,
+  sum_by-append (λ x. cond (other == x) 1 0) before (number ∷ numbers),
+  sum_by-append (λ x. cond (other == x) 1 0) before numbers,
+  count-cons other number numbers,
+)
+
+-- # The jobs that force it
+
+-- the work of jobs is at most what the top speed does in an interval that holds their windows, where they can be served
+work_fits : (jobs : List Job) (top from to : ℕ) (numbers : List ℕ) → from < to →
+    All (λ number. (from ≤ (job_at jobs number).release) × ((job_at jobs number).deadline ≤ to)) numbers →
+    CanServe top (jobs_with jobs numbers) → work_of jobs numbers ≤ top * (to - from)
+work_fits jobs top from to numbers forward inside serve =
+    let all = jobs_with jobs numbers in
+    let places = numbers_of all in
+    let fits : work_of all places ≤ top * (to - from) =
+    served_at_speed all serve.scale top from to serve.slots places serve.positive forward serve.feasible serve.within_top
+    (λ place. counted_once place 0 (length all))
+    (all_numbers (λ i. i < length all) all (λ i below. below))
+    (all_numbers (λ i. (from ≤ (job_at all i).release) × ((job_at all i).deadline ≤ to)) all (λ i below.
+    let there : i < length numbers = omega (arith, below, length-map numbers (job_at jobs)) in
+    subst (λ (job : Job). (from ≤ job.release) × (job.deadline ≤ to)) (sym (get_or-map (job_at jobs) numbers i 0 no_job there)) (inside i 0 there))) in
+    omega (arith, fits, sum_by_number (λ (job : Job). job.work) all, sum_by-map (job_at jobs) (λ (job : Job). job.work) numbers)
+
+-- those in the interval of the refusal do
+refusal_forced : (jobs : List Job) (top : ℕ) (before taken numbers : List ℕ) (number : ℕ) (refusal : Refusal) → AreDifferent (before ++ number ∷ numbers) →
+    IsRefusal jobs top (before ++ number ∷ []) number refusal → IsForced jobs top (before ++ taken) refusal
+refusal_forced jobs top before taken numbers number refusal different is =
+    let competing = before ++ number ∷ [] in
+    let passes = lies_within jobs refusal.from refusal.to in
+    let kept = filter passes competing in
+    let own : All (λ one. (one ≡ refusal.job) ⊎ Contains (before ++ taken) one) competing =
+    All-append (λ one. (one ≡ refusal.job) ⊎ Contains (before ++ taken) one) before (number ∷ [])
+    (λ k d within. inr (k, omega (arith, within, length-append before taken), get_or_append_left before taken (get_or before k d) k within ∙ get_or_default before k (get_or before k d) d within))
+    (All-cons (λ one. (one ≡ refusal.job) ⊎ Contains (before ++ taken) one) number [] (inl (sym is.is_job)) (All-nil _)) in
+    let inside : All (λ one. (refusal.from ≤ (job_at jobs one).release) × ((job_at jobs one).deadline ≤ refusal.to)) kept =
+    λ k d within. lies jobs refusal.from refusal.to _ (filter_passes passes competing k d within) in
+    let too_much : top * (refusal.to - refusal.from) < refusal.work = omega (arith, is.is_work, is.interval.overfull.too_much) in
+    record {
+      numbers = kept;
+      different = kept_apart passes competing (with_one before numbers number different);
+      own = All-filter passes (λ one. (one ≡ refusal.job) ⊎ Contains (before ++ taken) one) competing own;
+      inside = inside;
+      work = is.is_work;
+      too_much = too_much;
+      unserved = λ serve. omega (arith, too_much, is.is_work, work_fits jobs top refusal.from refusal.to kept is.interval.overfull.forward inside serve);
+    }
+
+-- and so on, job after job
+forced_after : (jobs : List Job) (top : ℕ) (before numbers taken : List ℕ) (refused : List Refusal) → AreDifferent (before ++ numbers) →
+    AdmitsAfter jobs top before numbers taken refused → All (IsForced jobs top (before ++ taken)) refused
+forced_after jobs top before [] taken refused different (none, done) = subst (All (IsForced jobs top (before ++ taken))) (sym done) (All-nil _)
+forced_after jobs top before (number ∷ numbers) taken refused different (inl (serves, later, is, rest)) =
+    let same : (before ++ number ∷ []) ++ later ≡ before ++ taken = append_assoc before (number ∷ []) later ∙ ap (λ (l : List ℕ). before ++ l) (sym is) in
+    subst (λ (all : List ℕ). All (IsForced jobs top all) refused) same
+    (forced_after jobs top (before ++ number ∷ []) numbers later refused (subst AreDifferent (sym (append_assoc before (number ∷ []) numbers)) different) rest)
+forced_after jobs top before (number ∷ numbers) taken refused different (inr (overfull, refusal, others, is, refuses, rest)) =
+    subst (All (IsForced jobs top (before ++ taken))) (sym is)
+    (All-cons (IsForced jobs top (before ++ taken)) refusal others
+    (refusal_forced jobs top before taken numbers number refusal different refuses)
+    (forced_after jobs top before numbers taken others (without_one before numbers number different) rest))
+
+-- the law of it
+pub refusals_are_forced : RefusalsAreForced
+refusals_are_forced jobs top taken refused admission =
+    forced_after jobs top [] (numbers_of jobs) taken refused (λ number. counted_once number 0 (length jobs)) admission

@@ -1,5 +1,0 @@
-use Rattle.yds_laws.proofs.AdmitText.{admissions_are_read as law}
-use Rattle.yds_laws.proofs.admission_laws.admissions_are_read.Goals as goal
-
-pub returns : goal.returns
-returns c = law

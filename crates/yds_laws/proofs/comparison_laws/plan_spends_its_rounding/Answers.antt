@@ -1,5 +1,0 @@
-use Rattle.yds_laws.proofs.Compared.{plan_spends_its_rounding as law}
-use Rattle.yds_laws.proofs.comparison_laws.plan_spends_its_rounding.Goals as goal
-
-pub returns : goal.returns
-returns c = law

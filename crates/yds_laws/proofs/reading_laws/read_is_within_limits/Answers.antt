@@ -1,5 +1,0 @@
-use Rattle.yds_laws.proofs.Within.{read_is_within_limits}
-use Rattle.yds_laws.proofs.reading_laws.read_is_within_limits.Goals as goal
-
-pub returns : goal.returns
-returns c = read_is_within_limits

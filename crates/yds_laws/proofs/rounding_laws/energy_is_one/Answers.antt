@@ -1,5 +1,0 @@
-use Rattle.yds_laws.proofs.OneEnergy.{energy_is_one as law}
-use Rattle.yds_laws.proofs.rounding_laws.energy_is_one.Goals as goal
-
-pub returns : goal.returns
-returns c = law

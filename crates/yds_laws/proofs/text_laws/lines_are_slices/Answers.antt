@@ -1,5 +1,0 @@
-use Rattle.yds_laws.proofs.TextLaws.{lines_are_slices}
-use Rattle.yds_laws.proofs.text_laws.lines_are_slices.Goals as goal
-
-pub returns : goal.returns
-returns c = lines_are_slices

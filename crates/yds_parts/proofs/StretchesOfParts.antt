@@ -1,0 +1,122 @@
+-- The slots in a stretch of one part are that part's, and in the stretch between the parts there are none.
+use Rattle.std.proofs.Common.{◌≡◌, ℕ, ◌*◌, ◌<◌, ◌≤◌, ◌⊎◌, Bool, true, false, List, [], ◌∷◌, ◌++◌, length, map, get_or, refl, ap, ◌∙◌, arith, inl, inr}
+use Rattle.std.specs.List.{All, filter}
+use Rattle.std.proofs.lemmas.Bool.{cases_Bool}
+use Rattle.std.proofs.lemmas.List.{append-nil}
+use Rattle.std.proofs.lemmas.List.Elements.{All-head, All-tail, All-append, filter-append, All-map}
+use Rattle.std.proofs.Math.Nat.{mul-le-mul_right}
+use Rattle.yds_model.specs.Job.{Job}
+use Rattle.yds_model.specs.Slot.{WholeSlot}
+use Rattle.yds_model.specs.Piece.{Piece}
+use Rattle.yds_model.specs.Feasible.{IsFeasibleAt}
+use Rattle.yds_model.specs.Event.{LiesIn}
+use Rattle.yds_model.specs.Policy.{slots_in}
+use Rattle.yds_model.proofs.Runs.{run_forward}
+use Rattle.yds_energy.proofs.StretchSlots.{lies, lies_told}
+use Rattle.yds_parts.specs.Parts.{ArePartedAt, moved, together_at}
+use Rattle.yds_parts.proofs.TwoParts.{ends_by, begins_from}
+use Rattle.yds_parts.proofs.EventsOfParts.{IsGap, EndsBy, BeginsFrom}
+
+-- # Tests of a list
+
+-- where no element passes, none is left
+pub filter_none : {X : Type 0} (test : X → Bool) (xs : List X) → All (λ x. test x ≡ false) xs → filter test xs ≡ []
+filter_none test [] fail = refl
+filter_none test (x ∷ xs) fail = rw (All-head (λ x. test x ≡ false) x xs fail, filter_none test xs (All-tail (λ x. test x ≡ false) x xs fail)) refl
+
+-- and where each does, all are
+pub filter_all : {X : Type 0} (test : X → Bool) (xs : List X) → All (λ x. test x ≡ true) xs → filter test xs ≡ xs
+filter_all test [] pass = refl
+filter_all test (x ∷ xs) pass = rw (All-head (λ x. test x ≡ true) x xs pass, filter_all test xs (All-tail (λ x. test x ≡ true) x xs pass)) refl
+
+-- what a function makes passes where what it is made of does
+pub filter_made : {X Y : Type 0} (f : X → Y) (made : Y → Bool) (test : X → Bool) (xs : List X) → All (λ x. made (f x) ≡ test x) xs →
+    filter made (map f xs) ≡ map f (filter test xs)
+filter_made f made test [] same = refl
+filter_made f made test (x ∷ xs) same =
+    let rest = filter_made f made test xs (All-tail (λ x. made (f x) ≡ test x) x xs same) in
+    let here = All-head (λ x. made (f x) ≡ test x) x xs same in
+    elim (cases_Bool (test x)) [
+      | inl passes ↦ rw (here, passes, rest) refl
+      | inr fails ↦ rw (here, fails, rest) refl
+    ]
+
+-- # Slots beside a stretch
+
+-- the slot ends before the stretch, or begins after it
+abbrev pub IsBeside : ℕ → Piece → WholeSlot → Type 0
+IsBeside scale stretch slot = (slot.from < slot.to) × ((slot.to ≤ stretch.from * scale) ⊎ (stretch.to * scale ≤ slot.from))
+
+-- such a slot doesn't lie in the stretch
+pub beside_apart : (scale : ℕ) (stretch : Piece) (slot : WholeSlot) → IsBeside scale stretch slot → LiesIn scale slot stretch → ⊥
+beside_apart scale stretch slot (takes, inl before) is = absurd (omega (arith, takes, before, is.from))
+beside_apart scale stretch slot (takes, inr after) is = absurd (omega (arith, takes, after, is.to))
+
+-- so slots beside a stretch leave it empty
+none_beside : (scale : ℕ) (stretch : Piece) (slots : List WholeSlot) → All (IsBeside scale stretch) slots → slots_in scale stretch slots ≡ []
+none_beside scale stretch slots beside = filter_none (lies scale stretch) slots (λ k d within. elim (cases_Bool (lies scale stretch (get_or slots k d))) [
+  | inl passes ↦ absurd (beside_apart scale stretch (get_or slots k d) (beside k d within) (lies_told scale stretch (get_or slots k d) passes))
+  | inr fails ↦ fails
+])
+
+-- # The two parts
+
+module _ (time scale : ℕ) (first second : List Job) (parted : ArePartedAt time first second) (slots others : List WholeSlot) (one : IsFeasibleAt first scale slots)
+    (other : IsFeasibleAt second scale others) where
+  abbrev all : List WholeSlot
+  all = together_at first slots others
+
+  -- the first jobs' slots lie beside the stretch between and those of the second jobs
+  pub first_before_gap : (stretch : Piece) → IsGap first second stretch → All (IsBeside scale stretch) slots
+  first_before_gap stretch gap k d within =
+      let window = one.in_windows k d within in
+      let due = window.due in
+      let ended = mul-le-mul_right scale (gap.ended (get_or slots k d).job window.known) in
+      (run_forward 0 slots one.one_at_a_time k d within, inl (omega (arith, due, ended)))
+
+  pub first_before_second : (stretch : Piece) → BeginsFrom time stretch → All (IsBeside scale stretch) slots
+  first_before_second stretch begins k d within =
+      let ends = ends_by time scale first second parted (get_or slots k d) (one.in_windows k d within) in
+      let later = mul-le-mul_right scale begins.begins in
+      (run_forward 0 slots one.one_at_a_time k d within, inl (omega (arith, ends, later)))
+
+  -- and those of the second beside the stretch between and those of the first
+  pub second_after_gap : (stretch : Piece) → IsGap first second stretch → All (IsBeside scale stretch) others
+  second_after_gap stretch gap k d within =
+      let window = other.in_windows k d within in
+      let released = window.released in
+      let ahead = mul-le-mul_right scale (gap.ahead (get_or others k d).job window.known) in
+      (run_forward 0 others other.one_at_a_time k d within, inr (omega (arith, released, ahead)))
+
+  pub second_after_first : (stretch : Piece) → EndsBy time stretch → All (IsBeside scale stretch) others
+  second_after_first stretch ends k d within =
+      let begins = begins_from time scale first second parted (get_or others k d) (other.in_windows k d within) in
+      let earlier = mul-le-mul_right scale ends.ends in
+      (run_forward 0 others other.one_at_a_time k d within, inr (omega (arith, begins, earlier)))
+
+  -- the second jobs' slots, with their numbers moved
+  abbrev later : List WholeSlot
+  later = map (moved (length first)) others
+
+  moved_beside : (stretch : Piece) → All (IsBeside scale stretch) others → All (IsBeside scale stretch) later
+  moved_beside stretch beside = All-map (IsBeside scale stretch) (moved (length first)) others beside
+
+  -- in a stretch of the first jobs are their slots
+  pub in_first : (stretch : Piece) → EndsBy time stretch → slots_in scale stretch all ≡ slots_in scale stretch slots
+  in_first stretch ends =
+      filter-append (lies scale stretch) slots later
+      ∙ ap (λ (rest : List WholeSlot). slots_in scale stretch slots ++ rest) (none_beside scale stretch later (moved_beside stretch (second_after_first stretch ends)))
+      ∙ append-nil (slots_in scale stretch slots)
+
+  -- in one of the second are theirs, with their numbers moved
+  pub in_second : (stretch : Piece) → BeginsFrom time stretch → slots_in scale stretch all ≡ map (moved (length first)) (slots_in scale stretch others)
+  in_second stretch begins =
+      filter-append (lies scale stretch) slots later
+      ∙ ap (λ (rest : List WholeSlot). rest ++ slots_in scale stretch later) (none_beside scale stretch slots (first_before_second stretch begins))
+      ∙ filter_made (moved (length first)) (lies scale stretch) (lies scale stretch) others (λ k d within. refl)
+
+  -- and between there are none
+  pub in_gap : (stretch : Piece) → IsGap first second stretch → slots_in scale stretch all ≡ []
+  in_gap stretch gap =
+      none_beside scale stretch all
+      (All-append (IsBeside scale stretch) slots later (first_before_gap stretch gap) (moved_beside stretch (second_after_gap stretch gap)))

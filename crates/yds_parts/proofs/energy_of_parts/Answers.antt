@@ -1,0 +1,5 @@
+use Rattle.yds_parts.proofs.Energies.{energy_of_parts}
+use Rattle.yds_parts.proofs.energy_of_parts.Goals as goal
+
+pub returns : goal.returns
+returns c = energy_of_parts

@@ -1,0 +1,25 @@
+-- What `report --json` writes is read as the report of a plan's levels.
+use Rattle.std.proofs.Common.{ℕ, List, Some}
+use Rattle.yds_model.specs.declared.status.Status.TheVariants.{Done}
+use Rattle.yds_model.specs.Request.{AskReportAsJson, OfDocument}
+use Rattle.yds_model.specs.Answer.{AnswersRequest}
+use Rattle.yds_texts.proofs.RoundText.{answered, done_not_refused}
+use Rattle.yds_texts.proofs.Within.{read_is_within_limits}
+use Rattle.yds_report.specs.JsonText.{HoldsReport}
+use Rattle.yds_report.proofs.JsonRead.{text_read}
+
+pub report_held : (input text : List ℕ) → AnswersRequest (Some (OfDocument AskReportAsJson)) input text Done → HoldsReport input text
+report_held input text answers =
+    let is = answered AskReportAsJson input text Done done_not_refused answers in
+    let answer = is.answers in
+    let jobs = is.document.jobs in
+    let fits = read_is_within_limits input is.document is.read in (
+      is.document,
+      answer.slots,
+      answer.levels,
+      record {
+        is_read = is.read;
+        plan = answer.plan;
+        value = text_read text jobs answer.levels answer.said fits.jobs.jobs_fit fits.jobs.few answer.fit;
+      },
+    )

@@ -1,0 +1,7 @@
+use Rattle.std.proofs.Common.{◌≡◌, ℕ, ◌<◌, get_or, false}
+use Rattle.yds_textbook.specs.declared.stage.Stage.{Stage}
+use Rattle.yds_textbook.specs.Together.{stands_among}
+use Rattle.yds_textbook.proofs.together.stage_of_job.Given as goal
+
+abbrev pub invariant-loop-place : goal.invariant-loop-place
+invariant-loop-place l = (k : ℕ) (d : Stage) → k < l.place → stands_among (get_or l.stages k d).members.items l.job ≡ false

@@ -1,0 +1,6 @@
+use Rattle.std.proofs.Common.{◌≡◌, take}
+use Rattle.yds_textbook.specs.Waiting.{contracted_stretches}
+use Rattle.yds_textbook.proofs.waiting.contracted_stretches.Given as goal
+
+abbrev pub invariant-loop-number : goal.invariant-loop-number
+invariant-loop-number l = l.left.items ≡ contracted_stretches l.timeline l.taken (take l.number-index l.numbers)

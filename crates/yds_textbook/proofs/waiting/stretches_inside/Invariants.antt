@@ -1,0 +1,8 @@
+use Rattle.std.proofs.Common.{◌≡◌}
+use Rattle.std.specs.Prelude.{filter}
+use Rattle.std.specs.List.{range_with_len}
+use Rattle.yds_textbook.specs.Waiting.{stretch_lies_in}
+use Rattle.yds_textbook.proofs.waiting.stretches_inside.Given as goal
+
+abbrev pub invariant-loop-number : goal.invariant-loop-number
+invariant-loop-number l = l.numbers.items ≡ filter (stretch_lies_in l.timeline l.taken l.interval) (range_with_len 0 l.number)

@@ -1,0 +1,212 @@
+-- Where the jobs of each task follow one another without a gap until the horizon, a plan has one level.
+use Rattle.std.proofs.Common.{◌≡◌, ℕ, zero, suc, ◌+◌, ◌-◌, ◌*◌, ◌<◌, ◌≤◌, ◌==◌, Bool, true, false, List, [], ◌∷◌, ◌++◌, length, get_or, refl, sym, ap, ◌∙◌, append_assoc, arith, inl, inr}
+use Rattle.std.specs.Prelude.{cond, max}
+use Rattle.std.specs.List.{All, sum_by, fold, list_all, range_with_len}
+use Rattle.std.proofs.Math.Nat.{le_of_mul-le-mul_left, eq_of_mul-eq-mul_left, mul-le-mul_left, mul-sub}
+use Rattle.std.proofs.Math.Seq.{get_or-append_seam}
+use Rattle.std.proofs.lemmas.Bool.{cases_lt, cases_eq, ne_eqb}
+use Rattle.std.proofs.lemmas.List.{length_push}
+use Rattle.std.proofs.lemmas.List.Elements.{All-head, All-tail}
+use Rattle.std.proofs.lemmas.List.FromFn.{get_or-range_with_len, length-range_with_len}
+use Rattle.std.proofs.lemmas.List.Sums.{sum_by-cons, get_or-le-sum_by}
+use Rattle.yds_model.specs.Numbers.{count, AreDifferent}
+use Rattle.yds_model.specs.Job.{Job, no_job, job_at, work_of}
+use Rattle.yds_model.specs.Slot.{WrittenSlot, WholeSlot, IsScale, slots_at}
+use Rattle.yds_model.specs.Feasible.{IsFeasibleAt}
+use Rattle.yds_model.specs.Excess.{excess}
+use Rattle.yds_model.specs.Energy.{horizon, busy}
+use Rattle.yds_model.specs.Piece.{Piece, IsConfined, total_length}
+use Rattle.yds_model.specs.Level.{Level}
+use Rattle.yds_model.specs.Plan.{IsPlan}
+use Rattle.yds_model.specs.Tasks.{Task, fills_horizon}
+use Rattle.yds_model.proofs.Horizon.{busy_and_idle}
+use Rattle.yds_model.proofs.Lists.{count-cons}
+use Rattle.yds_model.proofs.Scale.{scale_exists}
+use Rattle.yds_model.proofs.Sums.{sum_by-add, sum_by-mul, sum_by_at_most, sum_by_zero}
+use Rattle.yds_texts.specs.TaskLaws.{IsOneLevel}
+use Rattle.yds_laws.proofs.Bound.{confinement_bound}
+use Rattle.yds_laws.proofs.Curve.{curve, AreFalling, DoTheSame, same_levels}
+use Rattle.yds_laws.proofs.Explained.{proper_explains}
+use Rattle.yds_laws.proofs.Plans.{plan_falls, plan_excess}
+use Rattle.yds_laws.proofs.TaskWork.{jobs_until, confined_work}
+
+-- # All jobs, by their numbers
+
+-- a number below the first is in none of these
+count_below : (number a n : ℕ) → number < a → count number (range_with_len a n) ≡ 0
+count_below number a zero below = refl
+count_below number a (suc n) below =
+    omega (arith, count-cons number a (range_with_len (a + 1) n), ap {B = ℕ} (λ b. cond b 1 0) (ne_eqb number a (λ (same : number ≡ a). omega arith)), count_below number (a + 1) n (omega arith))
+
+-- and none is there twice
+all_different : (a n : ℕ) → AreDifferent (range_with_len a n)
+all_different a zero number = omega arith
+all_different a (suc n) number = elim (cases_eq number a) [
+  | inl same ↦ omega (arith, count-cons number a (range_with_len (a + 1) n), once (number == a), count_below number (a + 1) n (omega arith))
+  | inr other ↦ omega (arith, count-cons number a (range_with_len (a + 1) n), ap {B = ℕ} (λ b. cond b 1 0) (ne_eqb number a other), all_different (a + 1) n number)
+]
+  where
+    -- one test counts at most once
+    once : (b : Bool) → cond b 1 0 ≤ 1
+    once true = omega arith
+    once false = omega arith
+
+all_known : (n : ℕ) → All (λ number. number < n) (range_with_len 0 n)
+all_known n k d within = omega (arith, within, length-range_with_len 0 n, get_or-range_with_len 0 n k d (omega (arith, within, length-range_with_len 0 n)))
+
+-- their work together
+work_from : (before jobs : List Job) → work_of (before ++ jobs) (range_with_len (length before) (length jobs)) ≡ sum_by (λ job. job.work) jobs
+work_from before [] = refl
+work_from before (job ∷ jobs) =
+    let all : List Job = before ++ (job ∷ jobs) in
+    let here : job_at all (length before) ≡ job = get_or-append_seam before job jobs no_job in
+    let next : length (before ++ job ∷ []) ≡ length before + 1 = omega (arith, length_push before job) in
+    let rest : work_of all (range_with_len (length before + 1) (length jobs)) ≡ sum_by (λ job. job.work) jobs =
+    ap (λ n. work_of all (range_with_len n (length jobs))) (sym next) ∙ ap (λ some. work_of some (range_with_len (length (before ++ job ∷ [])) (length jobs))) (sym (append_assoc before (job ∷ []) jobs))
+    ∙ work_from (before ++ job ∷ []) jobs in
+    omega (
+      arith,
+      sum_by-cons (λ number. (job_at all number).work) (length before) (range_with_len (length before + 1) (length jobs)),
+      sum_by-cons (λ (job : Job). job.work) job jobs,
+      ap (λ (j : Job). j.work) here,
+      rest,
+    )
+
+all_work : (jobs : List Job) → work_of jobs (range_with_len 0 (length jobs)) ≡ sum_by (λ job. job.work) jobs
+all_work jobs = work_from [] jobs
+
+-- # The time until the horizon
+
+-- one piece, from the start to a time
+abbrev until : ℕ → List Piece
+until time = record { from = 0; to = time } ∷ []
+
+until_long : (time : ℕ) → total_length (until time) ≡ time
+until_long time = omega (arith, sum_by-cons (λ (piece : Piece). piece.to - piece.from) (record { from = 0; to = time }) [])
+
+-- a job that is due by then is confined to it
+confined_until : (time : ℕ) (job : Job) → job.deadline ≤ time → IsConfined job (until time)
+confined_until time job due now released before = (0, record { from = 0; to = time }, omega arith, refl, (omega arith, omega arith))
+
+-- the last deadline is no later
+last_until : (time from : ℕ) (jobs : List Job) → from ≤ time → All (λ job. job.deadline ≤ time) jobs → fold (λ now job. max now job.deadline) from jobs ≤ time
+last_until time from [] within due = within
+last_until time from (job ∷ jobs) within due =
+    last_until time (max from job.deadline) jobs (omega (arith, within, All-head (λ (job : Job). job.deadline ≤ time) job jobs due)) (All-tail (λ (job : Job). job.deadline ≤ time) job jobs due)
+
+-- so nothing runs longer
+busy_until : (time : ℕ) (jobs : List Job) (scale : ℕ) (slots : List WholeSlot) → All (λ job. job.deadline ≤ time) jobs → IsFeasibleAt jobs scale slots → busy slots ≤ scale * time
+busy_until time jobs scale slots due feasible =
+    let last : horizon jobs ≤ time = omega (arith, last_until time 0 jobs (omega arith) due) in
+    omega (arith, busy_and_idle jobs scale slots feasible, mul-le-mul_left scale last)
+
+-- # The excess of a plan of such tasks
+
+-- the work of one slot above p/q, where it isn't faster than work / time
+slot_above : (p q work time all long : ℕ) → long * work ≤ all * time → p * long ≤ q * all → long * (q * work - p * time) ≤ (q * all - p * long) * time
+slot_above p q work time all long slow less =
+    omega (arith, ap (λ n. n * time) (whole (q * all) (p * long) less), mul-le-mul_left q slow, mul-sub long (q * work) (p * time))
+  where
+    -- a difference with what was taken is the whole
+    whole : (a b : ℕ) → b ≤ a → (a - b) + b ≡ a
+    whole a b within = omega arith
+
+-- above a speed that isn't less a slot does nothing
+slot_below : (p q work time all long : ℕ) → 1 ≤ long → long * work ≤ all * time → q * all ≤ p * long → q * work - p * time ≡ 0
+slot_below p q work time all long some slow more =
+    let under : q * work ≤ p * time = le_of_mul-le-mul_left {k = long} (omega (arith, mul-le-mul_left q slow, mul-le-mul_left time more)) some in
+    omega arith
+
+-- a slot's work is what it does above p/q and what it does at p/q, at most
+slot_parts : (p q : ℕ) (slots : List WholeSlot) → q * sum_by (λ slot. slot.work) slots ≤ excess p q slots + p * busy slots
+slot_parts p q slots =
+    omega (
+      arith,
+      sum_by_at_most (λ (slot : WholeSlot). q * slot.work) (λ slot. (q * slot.work - p * (slot.to - slot.from)) + p * (slot.to - slot.from)) slots (λ k d within. omega arith),
+      sum_by-mul q (λ (slot : WholeSlot). slot.work) slots,
+      sum_by-add (λ (slot : WholeSlot). q * slot.work - p * (slot.to - slot.from)) (λ slot. p * (slot.to - slot.from)) slots,
+      sum_by-mul p (λ (slot : WholeSlot). slot.to - slot.from) slots,
+    )
+
+-- Slots that do `scale * all` of work in at most `scale * long` of time, none faster than all / long, do above each speed just what one level does.
+excess_of_one : (p q scale all long : ℕ) (slots : List WholeSlot) → 1 ≤ long → busy slots ≤ scale * long → All (λ slot. long * slot.work ≤ all * (slot.to - slot.from)) slots →
+    q * scale * all ≤ excess p q slots + p * scale * long → excess p q slots ≡ scale * (q * all - p * long)
+excess_of_one p q scale all long slots some within slow least = elim (cases_lt (p * long) (q * all)) [
+  | inr fast ↦
+      let none : excess p q slots ≡ 0 = sum_by_zero (λ slot. q * slot.work - p * (slot.to - slot.from)) slots
+      (λ k d inside. slot_below p q (get_or slots k d).work ((get_or slots k d).to - (get_or slots k d).from) all long some (slow k d inside) fast) in
+      let nothing : q * all - p * long ≡ 0 = omega arith in
+      omega (arith, none, ap (λ n. scale * n) nothing)
+  | inl less ↦
+      let rest : ℕ = q * all - p * long in
+      let split : rest + p * long ≡ q * all = omega arith in
+      let most : long * excess p q slots ≤ rest * busy slots =
+      omega (
+        arith,
+        sum_by-mul long (λ (slot : WholeSlot). q * slot.work - p * (slot.to - slot.from)) slots,
+        sum_by_at_most (λ (slot : WholeSlot). long * (q * slot.work - p * (slot.to - slot.from))) (λ slot. rest * (slot.to - slot.from)) slots
+            (λ k d inside. slot_above p q (get_or slots k d).work ((get_or slots k d).to - (get_or slots k d).from) all long (slow k d inside) (omega arith)),
+        sum_by-mul rest (λ (slot : WholeSlot). slot.to - slot.from) slots,
+      ) in
+      let above : excess p q slots ≤ scale * rest = le_of_mul-le-mul_left {k = long} (omega (arith, most, mul-le-mul_left rest within)) some in
+      omega (arith, above, least, ap (λ n. scale * n) split)
+]
+
+-- At one scale of a plan: the jobs are those of tasks that fill the horizon.
+module _ (time : ℕ) (tasks : List Task) (slots : List WrittenSlot) (levels : List Level) (filled : list_all (fills_horizon time) tasks ≡ true)
+    (some : All (λ task. 1 ≤ task.period) tasks) (positive : 1 ≤ time) (due : All (λ job. job.deadline ≤ time) (jobs_until time tasks))
+    (plan : IsPlan (jobs_until time tasks) slots levels) (scale : ℕ) (is : IsScale scale slots) where
+  abbrev jobs : List Job
+  jobs = jobs_until time tasks
+
+  abbrev all : ℕ
+  all = sum_by (λ job. job.work) jobs
+
+  abbrev whole : List WholeSlot
+  whole = slots_at scale slots
+
+  feasible : IsFeasibleAt jobs scale whole
+  feasible = plan.proper.feasible.holds scale is
+
+  -- nothing is done above the speed at which the jobs of all tasks run
+  none_above : excess all time whole ≡ 0
+  none_above =
+      let force = ((proper_explains jobs slots levels plan.proper).holds scale is).forced all time positive in
+      let bound = confined_work time tasks _ _ filled some positive force.different force.known force.confined in
+      omega (arith, force.exact, mul-le-mul_left scale bound)
+
+  -- so no slot is faster
+  slow : All (λ slot. time * slot.work ≤ all * (slot.to - slot.from)) whole
+  slow k d within = omega (arith, none_above, get_or-le-sum_by (λ (slot : WholeSlot). time * slot.work - all * (slot.to - slot.from)) whole k d within)
+
+  -- all jobs are confined to the time until the horizon
+  confined : All (λ number. IsConfined (job_at jobs number) (until time)) (range_with_len 0 (length jobs))
+  confined k d within =
+      confined_until time (job_at jobs (get_or (range_with_len 0 (length jobs)) k d)) (due (get_or (range_with_len 0 (length jobs)) k d) no_job (all_known (length jobs) k d within))
+
+  plan_like_one : (p q : ℕ) → 1 ≤ q → curve p q levels ≡ q * all - p * time
+  plan_like_one p q some_q =
+      let least = confinement_bound jobs scale p q whole (range_with_len 0 (length jobs)) (until time) is.positive (all_different 0 (length jobs)) (all_known (length jobs)) confined feasible in
+      let one = excess_of_one p q scale all time whole positive (busy_until time jobs scale whole due feasible) slow (omega (arith, least, ap (λ n. q * scale * n) (all_work jobs), ap (λ n. p * scale * n) (until_long time))) in
+      eq_of_mul-eq-mul_left scale is.positive (curve p q levels) (q * all - p * time) (omega (arith, one, plan_excess jobs slots levels scale p q plan is some_q))
+
+-- the one level
+abbrev one : ℕ → ℕ → Level
+one work long = record { work = work; length = long; pieces = []; members = [] }
+
+curve_one : (p q work long : ℕ) → curve p q (one work long ∷ []) ≡ q * work - p * long
+curve_one p q work long = omega (arith, sum_by-cons (λ (level : Level). q * level.work - p * level.length) (one work long) [])
+
+-- Every plan has just it.
+pub one_level_planned : (time : ℕ) (tasks : List Task) (slots : List WrittenSlot) (levels : List Level) → list_all (fills_horizon time) tasks ≡ true → All (λ task. 1 ≤ task.period) tasks → 1 ≤ time →
+    All (λ job. job.deadline ≤ time) (jobs_until time tasks) → 1 ≤ sum_by (λ job. job.work) (jobs_until time tasks) → IsPlan (jobs_until time tasks) slots levels →
+    IsOneLevel (sum_by (λ job. job.work) (jobs_until time tasks)) time levels
+one_level_planned time tasks slots levels filled some positive due works plan =
+    let jobs : List Job = jobs_until time tasks in
+    let all : ℕ = sum_by (λ (job : Job). job.work) jobs in
+    let scale = scale_exists slots plan.proper.feasible.solid in
+    let falls : AreFalling (one all time ∷ []) = (works, positive, tt, tt) in
+    let same : DoTheSame levels (one all time ∷ []) = λ p q some_q. plan_like_one time tasks slots levels filled some positive due plan scale.0 scale.1 p q some_q ∙ sym (curve_one p q all time) in
+    let alike = same_levels levels (one all time ∷ []) (plan_falls jobs slots levels plan) falls same in
+    let first = alike.1 0 (omega (arith, alike.0)) in
+    record { one = alike.0; same_work = first.0; same_length = first.1 }

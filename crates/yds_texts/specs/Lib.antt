@@ -1,0 +1,10 @@
+pub mod TextLaws
+pub mod RoundTrip
+pub mod PlanText
+pub mod JudgedText
+pub mod TaskLaws
+pub mod RoundText
+pub mod RunText
+pub mod CompareText
+pub mod AdmitText
+pub mod CurveText
