@@ -1,4 +1,4 @@
-# Completion of yds_cli for bash: the commands, their options, and files.
+# Completion for bash of yds_cli, and of the recipes' commands (yds-trace, yds-plot, ..): words, options, and files.
 _yds_cli() {
 	local word=${COMP_WORDS[COMP_CWORD]} words=
 	case $COMP_CWORD:${COMP_WORDS[1]} in
@@ -10,4 +10,21 @@ _yds_cli() {
 	esac
 	COMPREPLY=($(compgen -W "$words" -- "$word"))
 }
+# The recipe tells its words itself. A word that ends with = waits for its value, which may be a file.
+_yds_recipe() {
+	local word=${COMP_WORDS[COMP_CWORD]}
+	COMPREPLY=()
+	[[ $word == = || ${COMP_WORDS[COMP_CWORD - 1]} == = ]] && return
+	COMPREPLY=($(compgen -W "--help $("$1" --options 2>/dev/null)" -- "$word"))
+	[[ ${COMPREPLY[0]} != *= ]] || compopt -o nospace
+}
 complete -o default -F _yds_cli yds_cli
+# The recipes' commands are those links on the PATH that lead to the recipes.
+_yds_complete_recipes() {
+	local command
+	for command in $(compgen -c yds- | sort -u); do
+		[[ $(readlink -f "$(type -P "$command")") != */recipes/command.sh ]] || complete -o default -F _yds_recipe "$command"
+	done
+}
+_yds_complete_recipes
+unset -f _yds_complete_recipes

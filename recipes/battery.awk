@@ -1,14 +1,16 @@
 # battery.awk: how long a battery lasts with each side of a comparison.
 #
-#   yds_cli compare --grid 1000 < document.txt | awk -f battery.awk -v mah=220 -v volts=3.0 -v uw=10
+#   yds_cli compare --grid 1000 < document.txt | yds-battery mah=220 volts=3.0 uw=10
 #
 # Input: lines of `yds_cli compare`, with lines of energy.awk before or after them. The power is each side's
 # mean over its whole time, for ever. Output: a table parted by tabs: side, milliwatts, hours, and the hours
-# in hundredths of the plan's.
+# in hundredths of the plan's; a side that misses deadlines, as energy.awk tells, has no hours.
 #
-# Options, each with -v: mah=N milliampere-hours and volts=V of the battery; uw=N microwatts in the document's
-# unit of power (told by the points' comment, where the file of points stands before the lines); other=MW that is
-# drawn besides (0).
+# Options, each as NAME=VALUE (to awk itself as -v NAME=VALUE):
+#   mah=N      milliampere-hours of the battery
+#   volts=V    its voltage
+#   uw=N       microwatts in the document's unit of power, where no comment of the points before the lines tells it
+#   other=MW   what the rest of the device draws (0)
 #
 # Exit status: 0 done; 1 a fault in the input; 2 usage.
 
@@ -28,11 +30,12 @@ function value(text,    part) {
 BEGIN {
     if (has_decimal_comma()) complain("this awk has a decimal comma in this locale; say export LC_ALL=C first", 1)
     else if (!is_number(mah) || !is_number(volts) || (uw != "" && !is_number(uw)) || (other != "" && other !~ /^([0-9]+\.?[0-9]*|\.[0-9]+)$/))
-        complain("mah= and volts= of the battery are numbers above 0\nusage: awk -f battery.awk -v mah=N -v volts=V [-v uw=N] [-v other=MW]", 2)
+        complain("mah= and volts= of the battery are numbers above 0\nusage: yds-battery mah=N volts=V [uw=N] [other=MW]", 2)
     if (over) exit
 }
 $1 ~ /^(refused|too-slow|failed|usage:)$/ { complain("line " NR ": the input is an answer of no: " $0, 1) }
-/^#/ && match($0, /power unit [0-9]+ uW/) { told = substr($0, RSTART + 11) + 0 }
+/^#/ && match($0, /power unit [0-9.]+ uW/) { told = substr($0, RSTART + 11) + 0 }
+/^# [^ ]+ misses [0-9]+ deadlines?, / { misses[$2] = $3 " " $4 }
 $2 == "energy" || $2 == "too-slow" {
     if ($1 in known) { complain("line " FNR ": the side " $1 " stands twice; write its lines into a new file", 1); exit 1 }
     known[$1] = 1
@@ -54,6 +57,7 @@ END {
     print "side\tmilliwatts\thours\tof plan (%)"
     for (i = 1; i <= sides; i++) {
         if (!(side[i] in energy)) print side[i] "\ttoo slow\t-\t-"
+        else if (side[i] in misses) print side[i] "\t" misses[side[i]] "\t-\t-"
         else if (power[i] > 0) printf "%s\t%.3f\t%.1f\t%.1f\n", side[i], power[i], mah * volts / power[i], plan / power[i] * 100
         else print side[i] "\t0.000\t-\t-"
     }

@@ -1,11 +1,12 @@
 # collect.awk: one table of many answers of `yds_cli compare`.
 #
-#   awk -f collect.awk out/*.txt > energies.tsv
+#   yds-collect out/*.txt > energies.tsv
 #
 # Input: files, each with the answer to one document, and perhaps lines of energy.awk after it.
 # Output: a table parted by tabs, a row for each file in order: its name, the energy of plan, avr, oa and of what
 # other sides there are (with six decimals, - where there is none), the event points at which the policies were
-# rounded to the grid, and the answer: ok, or the line that says no. Energies are in the document's units.
+# rounded to the grid, and the answer: ok, or the line that says no. Energies are in the document's units. A side that misses
+# deadlines, as energy.awk tells, has no energy here, and a comment at the end of the table for each such row says so.
 #
 # Exit status: 0 done; 1 a file can't be read or has a line that is of no such answer; 2 usage.
 
@@ -31,13 +32,14 @@ function read_file(i,    line, field, status, n) {
     while ((status = (getline line < ARGV[i])) > 0) {
         sub(/\r$/, "", line)
         n = split(line, field, /[ \t]+/)
+        if (line ~ /^# [^ ]+ misses [0-9]+ deadlines?, /) late[i, field[2]] = substr(line, 3)
         if (n == 0 || field[1] ~ /^#/) continue
         if (field[1] ~ /^(refused|too-slow|usage:|failed)$/) { answer[i] = line; gsub(/\t/, " ", answer[i]) }
         else if (field[2] == "energy") {
             add_side(field[1])
             if ((i, field[1]) in energy) complain(ARGV[i] ": the side " field[1] " stands twice; write its lines into a new file", 1)
             energy[i, field[1]] = value(field[3])
-            if (answer[i] == "no answer") answer[i] = "ok"
+            if (field[1] == "plan") answer[i] = "ok"
         } else if (field[2] == "rounded") rounded[i] = rounded[i] + field[3]
         else if (field[2] == "too-slow") add_side(field[1])
         else if (field[2] != "time")
@@ -51,7 +53,7 @@ function read_file(i,    line, field, status, n) {
 }
 BEGIN {
     if (has_decimal_comma()) complain("this awk has a decimal comma in this locale; say export LC_ALL=C first", 1)
-    if (ARGC < 2) complain("no file\nusage: awk -f collect.awk FILE ..", 2)
+    if (ARGC < 2) complain("no file\nusage: yds-collect FILE ..", 2)
     add_side("plan")
     add_side("avr")
     add_side("oa")
@@ -65,8 +67,12 @@ BEGIN {
         sub(/\.[^.]*$/, "", name)
         gsub(/\t/, " ", name)
         line = name
-        for (s = 1; s <= sides; s++)
-            line = line "\t" ((i, side[s]) in energy ? sprintf("%.6f", energy[i, side[s]]) : "-")
+        for (s = 1; s <= sides; s++) {
+            is_late = (i, side[s]) in late
+            line = line "\t" ((i, side[s]) in energy && !is_late ? sprintf("%.6f", energy[i, side[s]]) : "-")
+            if (is_late) notes = notes "# " name ": " late[i, side[s]] "\n"
+        }
         print line "\t" rounded[i] "\t" answer[i]
     }
+    printf "%s", notes
 }

@@ -1,47 +1,138 @@
 #!/bin/sh
 # misses.sh: all missed deadlines of a document, where `yds_cli audit` tells the first.
 #
-#   sh misses.sh trace.txt
+#   yds-misses trace.txt
 #
-# Input: a document with jobs and slots or runs, as trace.awk writes it. Each verdict of `late` is written; then that
-# job's deadline is moved to the end of its last slot, and the audit goes on. The last line is the last verdict.
-# In the document's units. YDS is the program (yds_cli).
+# Input: a document with jobs and slots or runs, as trace.awk writes it. A job has missed its deadline where
+#   - a slot ends after it: `late slot ..`, the verdict of audit;
+#   - its work isn't done: `work NAME given .. wanted ..`, the verdict of audit; trace.awk writes jobs so that never ended;
+#   - a comment of trace.awk tells it: jobs that were left out and are known to be late, and jobs that were late by less
+#     than a unit of time.
+# Each job is told once, in one line. Where audit says so of one job, this recipe reckons which others there are; then it changes
+# the document so that all of them are in time, and audit judges the rest.
+# The last line is the number of missed deadlines, or `feasible`, or the verdict on another fault of the slots.
+# Numbers are in the document's units. Where its comments tell the trace's clock, `# due at` is the deadline on it.
+# YDS is the program (yds_cli).
 #
 # Exit status: 0 every deadline is met; 1 some aren't, the slots have another fault, or there is no job; 2 usage; 3 the document is refused.
 
-if [ $# != 1 ] || [ ! -r "$1" ]; then
+if [ $# != 1 ] || [ ! -r "$1" ] || [ -d "$1" ]; then
 	echo "misses.sh: no document that can be read
-usage: misses.sh DOCUMENT" >&2
+usage: yds-misses DOCUMENT" >&2
 	exit 2
 fi
-work=$(mktemp) && next=$(mktemp) || exit 1
-trap 'rm -f "$work" "$next"' EXIT
-cat "$1" >"$work"
-missed=0
-while verdict=$("${YDS:-yds_cli}" audit <"$work"); status=$?; [ $status = 1 ]; do
-	case $verdict in "late slot "*) ;; *) break ;; esac
-	echo "$verdict"
-	missed=1
-	LC_ALL=C VERDICT=$verdict ${AWK:-awk} '
-		function ceiling(text,    part, t) {
-			if ($1 != "run") return split(text, part, "+") > 1 ? part[1] + 1 : text + 0
-			t = int(text / ticks)
-			return t * ticks < text ? t + 1 : t
+folder=$(mktemp -d) || exit 1
+trap 'rm -rf "$folder"' EXIT
+LC_ALL=C
+export LC_ALL
+cat "$1" >"$folder/document"
+: >"$folder/missed"
+
+# An awk program: the seconds of the trace's clock at a time of the document, as a comment behind a line.
+clock='
+	/^# / && match($0, /time 0 is [0-9]+\.[0-9]+ s/) { split(substr($0, RSTART + 10, RLENGTH - 12), zero, ".") }
+	/^# / && match($0, /time unit [0-9]+ us/) { unit = substr($0, RSTART + 10) + 0 }
+	function due_at(time,    micro, second) {
+		if (!unit || !(1 in zero)) return ""
+		micro = ("1" substr(zero[2] "000000", 1, 6)) - 1000000 + time * unit
+		second = int(micro / 1000000)
+		if (second * 1000000 > micro) second--
+		return sprintf(" # due at %.0f.%06.0f s", zero[1] + second, micro - second * 1000000)
+	}'
+# meet: tells every job that ends late or gets less than its work, in audit's words, and changes the document so that it is in time.
+meet() {
+	${AWK:-awk} -v missed="$folder/missed" "$clock"'
+		# The ends and works of slots in whole numbers: whole part, numerator and denominator.
+		function take(text,    part) {
+			if ($1 == "run") { denominator = ticks; whole = int(text / ticks); numerator = text - whole * ticks; return }
+			whole = text + 0
+			numerator = denominator = 0
+			if (split(text, part, /[+\/]/) == 3) { numerator = part[2] + 0; denominator = part[3] }
 		}
-		BEGIN { split(ENVIRON["VERDICT"], word, " "); name = word[4] }
-		FNR == NR {
-			if ($1 == "ticks") ticks = $2
-			if (($1 == "slot" || $1 == "run") && $2 == name && ceiling($4) > last) last = ceiling($4)
-			next
+		function written(whole, numerator, denominator) {
+			return sprintf("%.0f", whole) (numerator ? sprintf("+%.0f/%.0f", numerator, denominator) : "")
 		}
-		$1 == "job" && $2 == name { $4 = sprintf("%.0f", last) }
-		{ print }' "$work" "$work" >"$next"
-	cat "$next" >"$work"
+		function take_work(    given) {
+			given = $1 == "run" ? sprintf("%.0f", $5 * ($4 - $3)) : $5
+			take(given)
+			work[$2] += whole
+			if (!numerator) return
+			parts[$2] += numerator
+			grain[$2] = denominator
+			if (parts[$2] >= grain[$2]) { parts[$2] -= grain[$2]; work[$2]++ }
+		}
+		FNR == NR && $1 == "ticks" { ticks = $2 }
+		FNR == NR && $1 == "job" { name[++jobs] = $2; deadline[$2] = $4; wanted[$2] = $5 }
+		FNR == NR && ($1 == "slot" || $1 == "run") {
+			slots++
+			take($4)
+			if (whole + (numerator > 0) > last[$2]) last[$2] = whole + (numerator > 0)
+			if (whole + (numerator > 0) > deadline[$2] && !($2 in late)) {
+				late[$2] = "late slot " slots " " $2 " " ($1 == "slot" && numerator ? $4 : written(whole, numerator, denominator)) " deadline " deadline[$2]
+				print late[$2] due_at(deadline[$2]) >> missed
+			}
+			take_work()
+		}
+		FNR == NR { next }
+		FNR == 1 {
+			for (j = 1; j <= jobs; j++) {
+				if (work[name[j]] >= wanted[name[j]]) continue
+				undone[name[j]] = 1
+				if (name[j] in late) continue
+				print "work " name[j] " given " written(work[name[j]] + 0, parts[name[j]] + 0, grain[name[j]] + 0) " wanted " wanted[name[j]] due_at(deadline[name[j]]) >> missed
+			}
+		}
+		$2 in undone && parts[$2] > 0 && ($1 == "job" || $1 == "slot" || $1 == "run") { next }
+		$1 == "job" && $2 in late { $4 = sprintf("%.0f", last[$2]) }
+		$1 == "job" && $2 in undone { $5 = sprintf("%.0f", work[$2]) }
+		{ print }' "$folder/document" "$folder/document" >"$folder/next" || exit 1
+	mv "$folder/next" "$folder/document"
+}
+# Whether the verdict says that a job got less than its work, as in `work a given 6+1/3 wanted 7`.
+is_unfinished() {
+	case $1 in "work "*) ;; *) return 1 ;; esac
+	given=${1##* given }
+	given=${given%% *}
+	[ "${given%%+*}" -lt "${1##* wanted }" ]
+}
+told=
+while verdict=$("${YDS:-yds_cli}" audit <"$folder/document"); status=$?; [ $status = 1 ]; do
+	case $verdict in "late slot "*) ;; *) is_unfinished "$verdict" || break ;; esac
+	[ "$verdict" != "$told" ] || break
+	told=$verdict
+	meet
 done
-if [ $status = 0 ] && ! grep -q '^[[:blank:]]*job[[:blank:]]' "$work"; then
+${AWK:-awk} "$clock"'
+	/^# (left out|late by less than a unit of time): / && /, (at least |not ended )?[0-9.]+ ms after its deadline(; window -?[0-9]+ -?[0-9]+)?$/ {
+		sub(/^# /, "")
+		told_here[++n] = $0
+		if (!/; window/) next
+		window[n] = $NF
+	}
+	$1 == "job" { deadline[$2] = $4 }
+	END {
+		for (i = 1; i <= n; i++) {
+			if (i in window) behind = due_at(window[i])
+			else {
+				split(told_here[i], word, /, |: /)
+				behind = word[2] in deadline ? due_at(deadline[word[2]]) : ""
+			}
+			print told_here[i] behind
+		}
+	}' "$1" >>"$folder/missed" || exit 1
+cat "$folder/missed"
+if [ $status = 0 ] && ! grep -q '^[[:blank:]]*job[[:blank:]]' "$folder/document"; then
 	echo "misses.sh: $1 has no job, so no deadline was met; look at what wrote it" >&2
 	exit 1
 fi
-[ -n "$verdict" ] && echo "$verdict"
-[ $status = 0 ] && exit $missed
-exit $status
+missed=$(($(wc -l <"$folder/missed")))
+if [ $status != 0 ]; then
+	[ -n "$verdict" ] && echo "$verdict"
+	exit $status
+fi
+if [ $missed = 0 ]; then
+	echo "$verdict"
+	exit
+fi
+echo "$missed missed deadline$([ $missed = 1 ] || echo s)"
+exit 1

@@ -1,14 +1,21 @@
 #!/bin/sh
-# plot.sh: pictures of documents and answers, through plot.awk (beside this file) and gnuplot.
+# plot.sh: pictures of documents and answers, through plot.awk, plot-time.awk and plot-amounts.awk (beside this file) and gnuplot.
 #
-#   (grep '^#' trace.txt; yds_cli plan < trace.txt) | sh plot.sh speed > plan.svg
+#   (grep '^#' trace.txt; yds_cli plan < trace.txt) | yds-plot speed > plan.svg
 #
 # Kinds:
 #   speed    speed over time: a document with slots or runs. Several files are drawn as lines, named after the files
 #   gantt    who runs when: a row for each job, or for each task where there are more than 12 jobs
+#   slack    how long before its deadline each job was done: the table of jobs.awk with form=csv
 #   curve    the lines of `yds_cli curve`: how much work has to be done above each speed
 #   energy   the lines of `yds_cli compare` and of energy.awk; with `point` lines before them parted by point
 #   ratios   the table of collect.awk: how many documents cost how much more than the plan
+#
+# A gantt goes by the table's points in its colours: with the points before the document a speed has one colour in each picture.
+# A triangle stands over each missed deadline, the row says so at its end, and the jobs are named below the title. What a
+# trace had and the document hasn't, by the comments of trace.awk, is a cross in a row of its own. An energy whose side missed
+# deadlines, by the comment of energy.awk, says so. Above 5,000 slots, runs or jobs each column of pixels is drawn as a whole:
+# the mean speed of its time, bars as high as the part of it in which a row ran, the least slack.
 #
 # Options:
 #   -t svg|png|pdf|dumb   the kind of picture (svg); dumb is text for a terminal
@@ -27,12 +34,12 @@ complain() {
 }
 usage() {
 	complain "$1
-usage: plot.sh speed|gantt|curve|energy|ratios [-t svg|png|pdf|dumb] [-s WIDTHxHEIGHT] [-T TITLE] [-u TIME,SPEED,POWER] [-g job|task] [-r FROM:TO] [FILE..]" 2
+usage: yds-plot speed|gantt|slack|curve|energy|ratios [-t svg|png|pdf|dumb] [-s WIDTHxHEIGHT] [-T TITLE] [-u TIME,SPEED,POWER] [-g job|task] [-r FROM:TO] [FILE..]" 2
 }
 here=$(cd "$(dirname "$0")" && pwd)
 picture=${1:-}
 case $picture in
-speed | gantt | curve | energy | ratios) shift ;;
+speed | gantt | slack | curve | energy | ratios) shift ;;
 *) usage "the first word is the kind of picture" ;;
 esac
 terminal=svg size= title= units= group= range=
@@ -69,7 +76,7 @@ done
 script=$(mktemp) && out=$(mktemp) && errors=$(mktemp) || exit 1
 trap 'rm -f "$script" "$out" "$errors"' EXIT
 LC_ALL=C PLOT_TITLE=$title ${AWK:-awk} -v picture="$picture" -v terminal="$terminal" -v size="$size" -v units="$units" \
-	-v group="$group" -v range="$range" -f "$here/plot.awk" ${1+"$@"} >"$script" || exit 1
+	-v group="$group" -v range="$range" -f "$here/plot.awk" -f "$here/plot-time.awk" -f "$here/plot-amounts.awk" ${1+"$@"} >"$script" || exit 1
 LC_ALL=C.UTF-8 gnuplot "$script" >"$out" 2>"$errors" || {
 	cat "$errors" >&2
 	complain "gnuplot failed" 1

@@ -1,7 +1,7 @@
 #!/bin/sh
 # rtapp.sh: an rt-app workload as `task` lines for `yds_cli expand`, or with -j as `job` lines.
 #
-#   sh rtapp.sh -m 1416 -c 0 workload.json > tasks.txt
+#   yds-rtapp -m 1416 -c 0 workload.json > tasks.txt
 #
 # Input: the JSON of rt-app, with its comments and commas before closing brackets. `run` is in microseconds at
 # the frequency to which rt-app was calibrated: give it as -m.
@@ -11,8 +11,13 @@
 # units of -u microseconds, work in units of u * k / 1000 cycles. With -j the phases, loops and ends are followed
 # and each period is a job; times are rounded down.
 #
-# Options: -m MHZ, wanted   -u US (10)   -k KHZ (10000)   -c CPU, the tasks whose `cpus` is just that one
-#          -H SECONDS in place of the workload's duration   -j for jobs
+# Options:
+#   -m MHZ       the frequency to which rt-app was calibrated; it has to be given
+#   -u US        the unit of time, in microseconds (10)
+#   -k KHZ       the unit of speed, in kilohertz (10000)
+#   -c CPU       only the tasks whose `cpus` is just this one
+#   -H SECONDS   in place of the workload's duration
+#   -j           jobs in place of tasks
 #
 # Exit status: 0 done; 1 a fault in the workload (then `failed` is written, which yds_cli refuses); 2 usage.
 # Needs jq.
@@ -24,7 +29,7 @@ complain() {
 }
 usage() {
 	complain "$1
-usage: rtapp.sh -m MHZ [-u US] [-k KHZ] [-c CPU] [-H SECONDS] [-j] [FILE]" 2
+usage: yds-rtapp -m MHZ [-u US] [-k KHZ] [-c CPU] [-H SECONDS] [-j] [FILE]" 2
 }
 mhz= us=10 khz=10000 cpu=null seconds=null jobs=false
 while getopts m:u:k:c:H:j option; do

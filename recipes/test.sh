@@ -1,9 +1,11 @@
 #!/bin/sh
 # test.sh: runs each recipe on its sample and compares what it writes, byte for byte, with what is stored.
 #
-#   sh recipes/test.sh [PART ..]      parts: trace points comma energy rtapp plot folder page manual; all without one
+#   sh recipes/test.sh [PART ..]      parts: trace points comma energy rtapp plot folder page manual readme,
+#                               and the files of tests/; all without one
 #
-# Environment: YDS (the program; build/yds_cli beside this folder), AWK (awk). The last line is
+# Environment: YDS (the program; build/yds_cli beside this folder), AWK (awk), HOUR (with any value the manual's trace of
+# an hour is tried too, which takes minutes; without it that section is left out and counted). The last line is
 # 'N passed, M failed', and the exit status is 1 where M isn't 0. What wants a missing package, or a command that
 # the program doesn't have, is left out and counted on a line of its own.
 
@@ -23,7 +25,7 @@ left_out=0
 
 pass() { passed=$((passed + 1)); }
 fail() { failed=$((failed + 1)); echo "FAILED: $1"; }
-has() { command -v "$1" >/dev/null 2>&1; }
+has() { command -v "$1" >/dev/null 2>&1 || [ -x "/usr/sbin/$1" ]; }
 # Whether the program has the command: an empty document isn't answered by the usage line.
 knows() {
 	case $known in *" $1 "*) return 0 ;; *" no-$1 "*) return 1 ;; esac
@@ -40,7 +42,7 @@ known=" "
 want() {
 	for word in "$@"; do
 		case $word in
-		jq | gnuplot | parallel | bash | mandoc) has "$word" || { left_out=$((left_out + 1)); return 1; } ;;
+		jq | gnuplot | parallel | bash | mandoc | sshd) has "$word" || { left_out=$((left_out + 1)); return 1; } ;;
 		*) knows "$word" || { left_out=$((left_out + 1)); return 1; } ;;
 		esac
 	done
@@ -97,7 +99,7 @@ test_trace() {
 	same "trace: exact speeds" 0 trace-exact-speeds.txt trace -v $t -v khz=24000 trace-report.txt
 	same "trace: a late job" 0 trace-late.txt trace -v $t trace-late.txt
 	same "trace: events lost" 0 trace-lost.txt trace -v $t -v lost=cut trace-lost.txt
-	same "trace: jobs of a file" 0 trace-frames.txt trace -v tasks=decode,audio -v jobs=frames.txt -v us=1000 -v khz=1000 -v ticks=1000 trace-report.txt
+	same "trace: jobs of a file" 0 trace-frames.txt trace -v from=5123.400623456 -v tasks=decode,audio -v jobs=frames.txt -v us=1000 -v khz=1000 -v ticks=1000 trace-report.txt
 	refuses "trace: events lost, refused" 1 failed "trace.awk: line 37: events were lost; record with a larger buffer (-b), or give lost=cut" \
 		trace -v $t trace-lost.txt
 	refuses "trace: no tasks" 2 failed "trace.awk: no tasks= given" trace trace-report.txt
@@ -108,10 +110,10 @@ test_trace() {
 		trace -v $t /dev/null
 	refuses "trace: no such file" 1 failed "trace.awk: it's nowhere can't be read" trace -v $t "it's nowhere"
 	refuses "trace: a folder" 1 failed "trace.awk: bad can't be read" trace -v $t bad
-	refuses "trace: no such task" 1 failed "trace.awk: no listed task runs or wakes up in this trace; names are as in the trace (at most 15 bytes), see tasks=" \
+	refuses "trace: no such task" 1 failed "trace.awk: no listed task runs or wakes up in this trace; those that do are audio, Web Content, decode, kworker/0:1; tasks=? lists them" \
 		trace -v tasks=encode:10 trace-report.txt
 	refuses "trace: one of two tasks isn't there" 1 failed \
-		"trace.awk: no task audoi runs or wakes up in this trace; names are as in the trace (at most 15 bytes), see tasks=" \
+		"trace.awk: no task audoi runs or wakes up in this trace; those that do are audio, Web Content, decode, kworker/0:1; tasks=? lists them" \
 		trace -v tasks=decode:16.667,audoi:10 trace-report.txt
 	same "trace: a space after the comma" 0 trace.txt trace -v "tasks=decode:16.667, audio:10" trace-report.txt
 	refuses "trace: no frequency" 1 failed "trace.awk: no whole job: decode.0 is left out (frequency not known); give start=KHZ" \
@@ -138,16 +140,6 @@ test_trace() {
 	cat "$expected/points.txt" "$expected/trace.txt" >"$work/both"
 	answers "trace: feasible on the points" 0 feasible from "$work/both" "$YDS" audit --points
 	answers "trace: late" 1 "late slot 19 decode.2 5319 deadline 5150" from "$expected/trace-late.txt" "$YDS" audit
-	seed=1
-	while [ $seed -le 30 ]; do
-		$AWK -v seed=$seed -v truth="$work/truth" -f simulate.awk >"$work/trace"
-		trace -v tasks=alpha:10,beta:25 "$work/trace" >"$work/document"
-		grep '^job' "$work/document" | sort >"$work/jobs"
-		sort "$work/truth" | cmp -s - "$work/jobs" || { fail "trace: the simulated trace $seed"; break; }
-		"$YDS" audit <"$work/document" | grep -qE '^(feasible$|late slot )' || { fail "trace: the audit of the simulated trace $seed"; break; }
-		seed=$((seed + 1))
-	done
-	[ $seed -le 30 ] || pass
 	same "misses: both of two" 1 misses.txt from /dev/null env YDS="$YDS" sh "$here/misses.sh" late-twice.txt
 	answers "misses: none" 0 feasible env YDS="$YDS" sh "$here/misses.sh" "$expected/trace.txt"
 	answers "misses: another fault" 1 "backward slot 1 a 3 3" env YDS="$YDS" sh "$here/misses.sh" bad/flat.txt
@@ -167,7 +159,7 @@ test_points() {
 	refuses "points: no such domain" 1 failed "points.awk: no domain cpu3; there are cpu4, cpu0" points -v domain=cpu3 energy-model.txt
 	refuses "points: no coefficient" 1 failed "points.awk: cluster0_opp has voltages and no powers; give coefficient=, the CPU's dynamic-power-coefficient" \
 		points -v domain=cluster0_opp opp.dtsi
-	refuses "points: frequencies without power" 1 failed "points.awk: line 1: 6 columns; give a table of two, MHz and mW, or top= with frequencies in kHz" \
+	refuses "points: frequencies without power" 1 failed "points.awk: line 1: 6 columns; give a table of two, MHz and mW, a heading with the units of more, or top= with frequencies in kHz" \
 		points scaling_available_frequencies
 	refuses "points: two states of one speed" 1 failed "points.awk: 600000 kHz and the state below it are both speed 1; give a finer khz=" \
 		points -v domain=cpu0 -v khz=450000 energy-model.txt
@@ -180,21 +172,21 @@ test_points() {
 	refuses "points: no such file" 1 failed "points.awk: nowhere can't be read" points nowhere
 	printf '\357\273\277"Clock (MHz)";"Current (mA)"\r\n0;0,04\r\n4;0,5\r\n16;1,6\r\n24;2,3\r\n48;4,6\r\n80;8,5\r\n' >"$work/sheet"
 	same "points: a spreadsheet's table" 0 points-microcontroller.txt points -v khz=1000 -v uw=10 -v volts=3.0 "$work/sheet"
-	refuses "points: milliamperes without volts" 1 failed "points.awk: line 1: the heading says mA; give volts=" points -v khz=1000 microcontroller.csv
-	for heading in 'MHz,mW@mW; leave volts= out' 'mA,MHz@that MHz is the second column; write it first' \
-		'kHz,mA@another unit than MHz; write the frequencies in MHz' 'MHz,uA@microamperes or microwatts; write milliamperes or milliwatts'; do
-		printf '%s\n4,0.5\n' "${heading%%@*}" >"$work/heading"
-		refuses "points: the heading ${heading%%@*}" 1 failed "points.awk: line 1: the heading says ${heading#*@}" points -v volts=3.0 "$work/heading"
-	done
+	refuses "points: milliamperes without volts" 1 failed "points.awk: line 1: the heading says MHz, mA; give volts=" points -v khz=1000 microcontroller.csv
+	printf 'MHz,mW\n4,0.5\n' >"$work/heading"
+	refuses "points: the heading of a power with volts=" 1 failed "points.awk: line 1: the heading says MHz, mW; leave volts= out" points -v volts=3.0 "$work/heading"
 	printf '4 MHz,0.5\n16,1.6\n' >"$work/heading"
-	refuses "points: a heading that isn't one" 1 failed "points.awk: line 1: MHz is no number; the columns are MHz and mW" points "$work/heading"
+	refuses "points: a heading that isn't one" 1 failed \
+		"points.awk: line 1: MHz is no number; a row has numbers alone, and their units stand in a heading, as MHz,mA" points "$work/heading"
 	printf '4\n16,1.6\n' >"$work/heading"
-	refuses "points: a column is missing" 1 failed "points.awk: line 1: 1 columns; give a table of two, MHz and mW, or top= with frequencies in kHz" points "$work/heading"
+	refuses "points: a column is missing" 1 failed \
+		"points.awk: line 1: 1 columns; give a table of two, MHz and mW, a heading with the units of more, or top= with frequencies in kHz" points "$work/heading"
 	printf '16,48\n48,138\n80,255\n' >"$work/coarse"
 	refuses "points: speeds in too coarse a unit" 1 failed \
 		"points.awk: 16000 kHz is speed 2 in units of 10000 kHz, more than a twentieth off; give a finer khz=" points "$work/coarse"
+	grep -v '^0,' microcontroller.csv >"$work/no-idle"
 	refuses "points: powers in too coarse a unit" 1 failed \
-		"points.awk: 4000 kHz has 1.5 mW, and 2 units of 1000 uW are more than a twentieth off; give a finer uw=" points -v khz=1000 -v volts=3.0 microcontroller.csv
+		"points.awk: 4000 kHz has 1.5 mW, and 2 units of 1000 uW are more than a twentieth off; give a finer uw=, as uw=500" points -v khz=1000 -v volts=3.0 "$work/no-idle"
 	sed 's/cpu0\/flags:0x1/cpu0\/flags:0x5/' energy-model.txt >"$work/artificial"
 	refuses "points: no watts" 1 failed "points.awk: the powers of cpu0 are no watts (flag 4); give a table of measured powers" points -v domain=cpu0 "$work/artificial"
 }
@@ -370,7 +362,7 @@ test_folder() {
 	refuses "collect: a side twice" 1 "" "collect.awk: twice.txt: the side governor stands twice; write its lines into a new file" from /dev/null recipe_in "$work" collect.awk twice.txt
 	refuses "collect: another file" 1 "" "collect.awk: points.txt: \"point 0 0\" is no line of compare or energy.awk" from /dev/null recipe_in "$expected" collect.awk points.txt
 	if want jq; then
-		(cd "$expected" && jq -rRn -f "$here/report.jq" report-a.json report-refused.json) >"$work/reports.tsv" 2>&1
+		(cd "$expected" && jq -rRn -f "$here/reports.jq" report-a.json report-refused.json) >"$work/reports.tsv" 2>&1
 		same "report: a table" 0 reports.tsv cat "$work/reports.tsv"
 	fi
 	want compare || return
@@ -399,9 +391,11 @@ test_page() {
 
 # The commands of the manual and of the README, with the output that stands below them. Each section is a session of its
 # own in a new folder; one that wants a missing package or command is left out.
-test_manual() {
+test_manual() { commands_of ../../docs/manual.md; }
+test_readme() { commands_of ../../README.md; }
+commands_of() {
 	want bash || return
-	for page in ../../docs/manual.md ../../README.md; do
+	for page in "$@"; do
 		rm -rf "$work/page"
 		mkdir "$work/page"
 		$AWK -v out="$work/page" '
@@ -427,7 +421,11 @@ test_manual() {
 		for title in "$work"/page/*.title; do
 			section=${title%.title}
 			[ -f "$section.001.command" ] || continue
-			words=$(cat "$section".*.command | grep -oE 'yds_cli [a-z]+( --json)?|plot\.sh|jq |rtapp\.sh|parallel ' | sed 's/.*--json/json/; s/yds_cli //; s/plot.sh/gnuplot/; s/rtapp.sh/jq/' | sort -u)
+			case $(cat "$title") in
+			"Long traces and many machines") [ -n "${HOUR:-}" ] || { left_out=$((left_out + 1)); echo "tried with HOUR=1 alone: ${page##*/}, $(cat "$title")"; continue; } ;;
+			esac
+			words=$(cat "$section".*.command | grep -oE 'yds_cli [a-z]+( --json)?|plot\.sh|yds-plot|jq |rtapp\.sh|yds-rtapp|yds-reports|parallel ' |
+				sed 's/.*--json/json/; s/yds_cli //; s/^plot.sh\|^yds-plot/gnuplot/; s/^rtapp.sh\|^yds-r.*/jq/' | sort -u)
 			# shellcheck disable=SC2086
 			want $words || continue
 			mkdir -p "$section.folder/bin" "$section.folder/build"
@@ -435,13 +433,14 @@ test_manual() {
 			ln -s "$YDS" "$section.folder/build/yds_cli"
 			ln -s "$here" "$section.folder/recipes"
 			ln -s "$here/../examples" "$section.folder/examples"
-			(cd "$section.folder" && PATH=$section.folder/bin:$PATH bash -c '
+			(cd "$section.folder" && PATH=$section.folder/bin:$here/bin:$PATH bash -c '
 				last=0
 				for command in "$1".*.command; do
 					(exit $last)
 					. "$command" >"${command%.command}.got" 2>&1
 					last=$?
 				done' bash "$section" </dev/null)
+			same_pictures "$section.folder"
 			for wanted in "$section".*.wanted; do
 				sed 's/^.*: line [0-9]*: /bash: /' "${wanted%.wanted}.got" >"$work/got"
 				if cmp -s "$wanted" "$work/got"; then pass; continue; fi
@@ -452,11 +451,33 @@ test_manual() {
 	done
 }
 
-parts=${*:-trace points comma energy rtapp plot folder page manual}
-for part in $parts; do test_$part; done
+# same_pictures FOLDER: a picture of docs/pictures has the texts of the one of this name that the commands have drawn.
+same_pictures() {
+	for picture in "$1"/*.svg; do
+		stored=$here/../docs/pictures/${picture##*/}
+		[ -f "$picture" ] && [ -f "$stored" ] || continue
+		if [ "$(grep '<text>' "$picture")" = "$(grep '<text>' "$stored")" ]; then pass; else fail "docs/pictures/${picture##*/} isn't what the commands draw; draw it anew with them"; fi
+	done
+}
+
+# Each file of tests/ has more, as a function test_NAME for the file NAME.sh. It is read just before it runs, so that each
+# has its own functions, whatever those of the others are called; and each part has the work folder for itself.
+more=
+for file in "$here"/tests/*.sh; do
+	name=${file##*/}
+	more="$more ${name%.sh}"
+done
+
+parts=${*:-trace points comma energy rtapp plot folder page manual readme$more}
+for part in $parts; do
+	rm -rf "$work"
+	mkdir "$work" || exit 1
+	[ ! -f "$here/tests/$part.sh" ] || . "$here/tests/$part.sh"
+	test_$part
+done
 missing=
-for word in jq gnuplot parallel mandoc; do
-	has $word || case $word in gnuplot) missing="$missing gnuplot-nox" ;; *) missing="$missing $word" ;; esac
+for word in jq gnuplot parallel mandoc sshd; do
+	has $word || case $word in gnuplot) missing="$missing gnuplot-nox" ;; sshd) missing="$missing openssh-server" ;; *) missing="$missing $word" ;; esac
 done
 [ -z "$missing" ] || echo "missing packages; on Debian: apt-get install$missing"
 [ $left_out = 0 ] || echo "$left_out left out"

@@ -76,7 +76,7 @@ for command in avr oa; do
 done
 compare 0 "compare --grid 1000000" nested-short-on-points slow-on-points "nested windows, levels at all of 64 points of fine gaps"
 compare 0 "compare --grid 1000000" leaning-on-points slow-on-points "windows of half the time, greatest works, 64 points"
-compare 0 "admit 100" drawn light "drawn jobs, of which some are refused"
+compare 0 "admit 100" drawn light "drawn jobs, some refused"
 compare 0 "admit 1" nested light "nested windows over 10^9"
 compare 0 "admit 1000" nested-short light "nested windows over 8,000"
 compare 0 "admit 1" pairs light "every second job refused"
@@ -104,7 +104,7 @@ awk 'BEGIN { for (j = 0; j < 4000; j++) print "job j" j, 0, 100000, 25; for (i =
 (cat served; awk 'BEGIN { for (i = 0; i < 100000; i++) { t = 30011 * i % 100000; print "level 1 1\npiece", t, t + 1 "\nmember j" i % 4000 } }') >everything
 compare 0 check windows one-level "4,000 windows over all of 100,000 pieces"
 compare 1 check levels windows "100,000 levels of one piece, in no order"
-compare 1 check overlap windows "the same, the last of which overlaps the first"
+compare 1 check overlap windows "the same, and the last overlaps the first"
 compare 1 check everything windows "100,000 slots, levels, pieces and members"
 compare 0 audit everything windows "the same"
 
@@ -145,19 +145,25 @@ awk 'BEGIN { for (i = 0; i < 59; i++) x = x "x"; print "horizon 1000000000"; pri
 compare 0 expand named-tasks tasks "4,000 tasks, names of 59 bytes"
 compare 0 expand one-task tasks "4,000 jobs of one task"
 
-# Names that were chosen to come to one place of the table, and plain names of the same length.
+# Names that were chosen to come to one place of the table if its keys were 0, names that weren't chosen, and plain names that end with
+# their numbers, all of the same length.
 "$work/names" >chosen
-awk '{ printf "aaaaaaaaaaaa%04d\n", NR }' chosen >usual
-for names in chosen usual; do
+"$work/names" any >unnumbered
+awk '{ printf "aaaaaaaaaaaa%04d\n", NR - 1 }' chosen >usual
+for names in chosen unnumbered usual; do
 	awk 'BEGIN { print "horizon 1000" } { print "task", $1, 0, 1000, 1000, 5 }' $names >tasks-$names
 	awk '{ print "job", $1, 10 * NR, 10 * NR + 1000, 5 }' $names >jobs-$names
 	awk '{ name = $1; print "job", name, 0, 100000, 25 }
 		END { for (i = 0; i < 100000; i++) print "slot", name, i, i + 1, 1
 			print "level 100000 100000\npiece 0 100000"; for (i = 0; i < 100000; i++) print "member", name }' $names >members-$names
 done
-compare 0 plan jobs-chosen jobs-usual "4,000 jobs, names that come to one place"
-compare 1 check members-chosen members-usual "100,000 slots and members of the last of them"
-compare 0 expand tasks-chosen tasks-usual "4,000 tasks, names that come to one place"
+for names in chosen unnumbered; do
+	what="names chosen for keys of 0"
+	[ $names = chosen ] || what="names without numbers"
+	compare 0 plan jobs-$names jobs-usual "4,000 jobs, $what"
+	compare 1 check members-$names members-usual "100,000 slots and members of the last job, $what"
+	compare 0 expand tasks-$names tasks-usual "4,000 tasks, $what"
+done
 
 echo "$passed passed, $failed failed"
 [ $failed = 0 ]

@@ -1,7 +1,8 @@
 #!/bin/sh
-# faults.sh: refuses the built program memory, reads and writes in turn, breaks its standard streams, and looks at how it ends.
+# faults.sh: refuses the built program memory, reads and writes in turn, and random bytes, breaks its standard streams, and looks at how
+# it ends.
 #
-#   sh robustness/faults.sh [PART ..]      parts: memory reads writes streams; all without one
+#   sh robustness/faults.sh [PART ..]      parts: memory reads writes random streams; all without one
 #
 # Environment: YDS (the program; build/yds_cli beside this folder), CC (cc). It wants a C compiler and glibc: preload.c stands between
 # the program and the C library. The last line is 'N passed, M failed', with a pass for each run; the exit status is 1 where M isn't 0.
@@ -154,6 +155,15 @@ test_memory() { with refuse_memory; }
 test_reads() { with refuse_reads; }
 test_writes() { with refuse_writes; }
 
+# Each error of getentropy: ENOSYS, EIO, EFAULT. The answer is that of keys that are drawn.
+refuse_random() {
+	for error in 38 5 14; do
+		faulty FAULT_RANDOM=1 FAULT_ERROR=$error
+		if whole; then pass; else fail "$name: no random bytes, error $error (status $got)"; fi
+	done
+}
+test_random() { with refuse_random; }
+
 # stream NAME STATUS OUTPUT COMMAND: what a shell says of the command's status, and what the command wrote into $out.
 stream() {
 	: >"$work/out"
@@ -204,7 +214,7 @@ test_streams() {
 [ -x "$YDS" ] || { echo "faults.sh: $YDS isn't there; make builds it" >&2; exit 1; }
 "$CC" -O2 -Wall -shared -fPIC -o "$work/preload.so" "$here/preload.c" || exit 1
 make_large
-for part in ${*:-memory reads writes streams}; do
+for part in ${*:-memory reads writes random streams}; do
 	before=$passed
 	test_$part
 	echo "$part: $((passed - before)) passed"

@@ -6,6 +6,7 @@
  *   FAULT_READ=N          the read of this number fails; FAULT_READ_MOST=K: each read gives at most K bytes
  *   FAULT_WRITE=N         the write of this number fails; FAULT_WRITE_MOST=K: each write takes at most K bytes
  *   FAULT_WRITES_FROM=N   so does each from this number on
+ *   FAULT_RANDOM=1        the machine gives no random bytes
  *   FAULT_ERROR=E         with this errno; 5 (EIO) without it
  *   FAULT_COUNTS=FILE     at the end the file has one line: the allocations, reads and writes of the run
  *
@@ -27,7 +28,7 @@ extern void *__libc_realloc(void *block, size_t size);
 extern void *__libc_memalign(size_t alignment, size_t size);
 
 static long allocations, reads, writes;
-static long refused, refused_from, failing_read, failing_write, failing_from, error;
+static long refused, refused_from, failing_read, failing_write, failing_from, no_random, error;
 static size_t read_most, write_most;
 
 /* What the loader takes before the program begins doesn't count. */
@@ -47,6 +48,7 @@ __attribute__((constructor)) static void begin(void) {
 	failing_from = setting("FAULT_WRITES_FROM");
 	read_most = (size_t)setting("FAULT_READ_MOST");
 	write_most = (size_t)setting("FAULT_WRITE_MOST");
+	no_random = setting("FAULT_RANDOM");
 	error = setting("FAULT_ERROR");
 	begun = 1;
 }
@@ -105,6 +107,12 @@ ssize_t writev(int file, const struct iovec *parts, int count) {
 		if (parts[i].iov_len > 0)
 			return write(file, parts[i].iov_base, parts[i].iov_len);
 	return 0;
+}
+
+int getentropy(void *bytes, size_t size) {
+	if (no_random)
+		return (int)failed();
+	return syscall(SYS_getrandom, bytes, size, 0) == (long)size ? 0 : -1;
 }
 
 /* One line of the three counts, without stdio, whose buffers would be an allocation. */

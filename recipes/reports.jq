@@ -1,6 +1,6 @@
-# report.jq: one table of many answers of `yds_cli report --json`.
+# reports.jq: one table of many answers of `yds_cli report --json`.
 #
-#   jq -rRn -f report.jq out/*.json > reports.tsv
+#   yds-reports out/*.json > reports.tsv
 #
 # Input: files, each with one answer. Output: a table parted by tabs: the file's name, jobs, work, first release,
 # last deadline, idle time, number of levels, the speed of the fastest level, the work by the levels' lengths

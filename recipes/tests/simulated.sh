@@ -1,0 +1,95 @@
+# simulated.sh: read by test.sh. Traces that samples/simulate.awk draws: what trace.awk makes of them, and the deadlines that
+# misses.sh and jobs.awk call missed, are what the simulator says. TRACES is their number (20):
+#
+#   TRACES=300 sh recipes/test.sh simulated
+
+# The jobs of a document and what its comments say of others, in the words of the simulator.
+said='
+	function task(name) { sub(/\.[^.]*$/, "", name); return name }
+	function how(text,    kind) {
+		if (!match(text, /(at least |not ended )?[0-9.]+ ms after its deadline/)) return ""
+		text = substr(text, RSTART, RLENGTH)
+		kind = text ~ /^not ended/ ? "open" : "late"
+		sub(/^(at least |not ended )/, "", text)
+		sub(/ .*/, "", text)
+		return " " kind " " text
+	}
+	$1 == "job" { print "written", task($2), $3, $4, $5; deadline[$2] = $4 }
+	/^# (not ended|late in a run within one tick|late by less than a unit of time): / {
+		kind = $2 == "not" ? "open" : $3 == "in" ? "tick" : "less"
+		name = $0
+		sub(/^[^:]*: /, "", name)
+		sub(/,.*/, "", name)
+		late = how($0)
+		sub(/^ [a-z]+ /, "", late)
+		print "note", kind, task(name), deadline[name], late
+	}
+	/^# left out: [^ ]+ \(/ {
+		if (match($0, /; window .*/)) print "out " task($4) " " substr($0, RSTART + 9) how($0)
+		else print "unseen " task($4) how($0)
+	}'
+# No claim on a job whose begin was lost says more than how late some job of the task was.
+true_claims='
+	FNR == NR { if ($1 == "real") { n++; task[n] = $2; ms[n] = $3 } next }
+	$1 == "unseen" && NF > 2 {
+		found = 0
+		for (i = 1; i <= n; i++) if (task[i] == $2 && ms[i] >= $4 - 0.0011) found = 1
+		if (!found) wrong = 1
+	}
+	END { exit wrong }'
+
+# simulated_trace SEED: whether all of it agrees; else what doesn't stands in $work/reason.
+simulated_trace() {
+	$AWK -v seed="$1" -v truth="$work/truth" -f simulate.awk >"$work/trace"
+	options=$(sed -n 's/^options //p' "$work/truth")
+	set --
+	for option in $options; do set -- "$@" -v "$option"; done
+	trace "$@" "$work/trace" >"$work/document" 2>"$work/err"
+	status=$?
+	if grep -qx fail "$work/truth"; then
+		echo "no job, but status $status" >"$work/reason"
+		[ $status = 1 ] && grep -q '^trace.awk: no whole job: ' "$work/err"
+		return
+	fi
+	if [ $status != 0 ]; then cp "$work/err" "$work/reason"; return 1; fi
+	$AWK "$said" "$work/document" | sort >"$work/said"
+	unseen='|unseen'
+	if grep -qx lossy "$work/truth"; then
+		$AWK "$true_claims" "$work/truth" "$work/said" || { echo "a claim that isn't true" >"$work/reason"; return 1; }
+		sed -n 's/^maybe /out /p' "$work/truth" >"$work/maybe"
+		echo '^unseen' >>"$work/maybe"
+		unseen=
+		grep -v -f "$work/maybe" "$work/said" >"$work/sure"
+		mv "$work/sure" "$work/said"
+	fi
+	grep -E "^(written|note|out$unseen) " "$work/truth" | sort | diff - "$work/said" >"$work/reason" || return 1
+	left_late=$(grep -c '^# left out: .* ms after its deadline' "$work/document")
+	missed=$(($(sed -n 's/^misses //p' "$work/truth") + left_late))
+	written=$(grep -c '^job' "$work/document")
+	left=$(grep -c '^# left out: [^ ]* (' "$work/document")
+	line="# $written job$([ "$written" = 1 ] || echo s) written, none left out"
+	[ "$left" = 0 ] || line="# $written job$([ "$written" = 1 ] || echo s) written, $left left out, $left_late of them late"
+	echo "not the last line $line" >"$work/reason"
+	[ "$(tail -n 1 "$work/document")" = "$line" ] || return 1
+	YDS=$YDS AWK=$AWK sh "$here/misses.sh" "$work/document" >"$work/missed"
+	status=$?
+	last="$missed missed deadline$([ $missed = 1 ] || echo s)"
+	[ $missed = 0 ] && last=feasible
+	echo "misses.sh ends with $(tail -n 1 "$work/missed") and status $status, and $missed are missed" >"$work/reason"
+	[ "$(tail -n 1 "$work/missed")" = "$last" ] && [ $status = $((missed > 0)) ] || return 1
+	late=$(recipe jobs.awk -v form=csv "$work/document" | $AWK -F , '$8 == "inf" || $8 + 0 > 0' | wc -l)
+	echo "jobs.awk has $((late)) late jobs, and $missed are missed" >"$work/reason"
+	[ $((late)) = $missed ]
+}
+test_simulated() {
+	seed=1
+	while [ $seed -le "${TRACES:-20}" ]; do
+		if ! simulated_trace $seed; then
+			fail "simulated: the trace of seed $seed"
+			cat "$work/reason"
+			return
+		fi
+		seed=$((seed + 1))
+	done
+	pass
+}

@@ -1,0 +1,205 @@
+# traces.sh: read by test.sh. What a trace says of missed deadlines, lost events and tasks, in small traces reckoned by hand.
+
+# says NAME STATUS TEXT COMMAND ..: the status, and each line of TEXT is a line of standard output.
+says() {
+	name=$1 status=$2 text=$3
+	shift 3
+	"$@" >"$work/out" 2>"$work/err"
+	got=$?
+	echo "$text" | while IFS= read -r line; do
+		grep -qxF -- "$line" "$work/out" || echo "wanted: $line"
+	done >"$work/wanted"
+	if [ $got = "$status" ] && [ ! -s "$work/wanted" ]; then pass; return; fi
+	fail "$name (status $got)"
+	cat "$work/wanted" "$work/err"
+}
+misses() { YDS=$YDS AWK=$AWK sh "$here/misses.sh" "$1"; }
+
+test_traces() {
+	starving_traces
+	traces_of_two_processors
+	traces_of_short_runs
+	misses_of_slots
+	traces_with_gaps
+	traces_of_unsure_ends
+	traces_cut_at_the_ends
+	other_traces
+}
+
+# A job that is preempted and never runs again, and one that never runs.
+starving_traces() {
+	t=tasks=audio:5,render:16
+	same "traces: starving" 0 trace-starving.txt trace -v $t starving.txt
+	answers "traces: starving jobs aren't feasible" 1 "work render.0 given 20000 wanted 20001" from "$expected/trace-starving.txt" "$YDS" audit
+	same "misses: starving" 1 misses-starving.txt misses "$expected/trace-starving.txt"
+	trace -v $t -v to=100.016 starving.txt >"$work/cut"
+	says "traces: starving at to=" 0 "job audio.1 1000 1500 1
+# not ended: audio.1, 1.000 ms after its deadline
+# left out: render.0 (after to); window 100 1700
+# 2 jobs written, 1 left out, 0 of them late" cat "$work/cut"
+	answers "traces: starving at to= isn't feasible" 1 "work audio.1 given 0 wanted 1" from "$work/cut" "$YDS" audit
+	trace -v $t -v to=100.0149 starving.txt >"$work/cut"
+	answers "traces: no deadline is over at to=" 0 feasible from "$work/cut" "$YDS" audit
+	# The trace ends with its last line, also where that is of another event.
+	head -n 8 starving.txt >"$work/short"
+	says "traces: the deadline isn't over" 0 "# left out: audio.1 (not ended); window 1000 1500" trace -v $t "$work/short"
+	echo '             hog-13    [000]   100.015000: hrtimer_expire_entry: hrtimer=0 now=1' >>"$work/short"
+	says "traces: the last line is of another event" 0 "# not ended: audio.1, 0.000 ms after its deadline" trace -v $t "$work/short"
+	# A job that slept, woke up within APART, and starves then.
+	sed '8s/100.010000/100.004000/' starving.txt >"$work/apart"
+	says "traces: starving after a sleep" 0 "job audio.0 0 500 10001
+# not ended: audio.0, 25.000 ms after its deadline" trace -v tasks=audio:5:5,render:16 "$work/apart"
+	# Jobs that began before the trace: at its first line at the latest. One that sleeps only once has no number of its own.
+	sed 1,3d starving.txt | sed '2s/audio:12 \[120\] S/audio:12 [120] R/' >"$work/before"
+	says "traces: preempted before, and starving" 0 "# left out: audio.0 (began before the trace), not ended 24.000 ms after its deadline" \
+		trace -v $t -v start=1000000 "$work/before"
+	sed -n '1p; 7,9p' starving.txt | sed '2s/render:11 \[120\] R/render:11 [120] S/; $s/$/\n          <idle>-0     [000]   100.040000: sched_waking:         comm=audio pid=12 prio=120 target_cpu=000/' >"$work/tail"
+	says "traces: only the end is seen" 0 "# left out: render.-1 (began before the trace), at least 1.000 ms after its deadline
+# 1 job written, 1 left out, 1 of them late" trace -v tasks=audio:5,render:2 "$work/tail"
+}
+
+# Jobs that ran on another CPU are left out; one of them is known to be late.
+traces_of_two_processors() {
+	t=tasks=render:16
+	same "traces: on another CPU" 0 trace-elsewhere.txt trace -v $t elsewhere.txt
+	same "misses: on another CPU" 1 misses-elsewhere.txt misses "$expected/trace-elsewhere.txt"
+	refuses "traces: strict" 1 failed "trace.awk: strict=1: 2 jobs are left out, the first is render.1 (ran on CPU 1), 25.000 ms after its deadline" \
+		trace -v $t -v strict=1 elsewhere.txt
+	says "traces: strict, where to= leaves out" 0 "# left out: render.1 (after to); window 5000 6600" trace -v $t -v strict=1 -v to=200.06 elsewhere.txt
+	sed 's/\[001\]\(.*render\)/[000]\1/; s/swapper\/1/swapper\/0/' elsewhere.txt >"$work/here"
+	refuses "traces: strict, and a late job begins before from=" 1 failed \
+		"trace.awk: strict=1: 1 job is left out, the first is render.1 (before from), 25.000 ms after its deadline" \
+		trace -v $t -v strict=1 -v from=200.06 -v to=200.1025 "$work/here"
+	says "traces: late at to=, and running" 0 "job render.1 5000 6000 150001
+run render.1 5000 6500 100
+# not ended: render.1, 5.000 ms after its deadline" trace -v tasks=render:10 -v to=200.065 "$work/here"
+	# It moves to the other CPU after to=.
+	sed '7s/.*/          <idle>-0     [000]   200.050000: sched_switch:         swapper\/0:0 [120] R ==> render:11 [120]\
+          render-11    [000]   200.055000: sched_switch:         render:11 [120] R ==> hog:13 [98]\
+          <idle>-0     [001]   200.070000: sched_switch:         swapper\/1:0 [120] R ==> render:11 [120]/' elsewhere.txt >"$work/moved"
+	says "traces: late at to=, and elsewhere afterwards" 0 "job render.1 5000 6000 50001
+# not ended: render.1, 5.000 ms after its deadline" trace -v tasks=render:10 -v to=200.065 "$work/moved"
+	says "traces: late, and elsewhere" 0 "# left out: render.1 (ran on CPU 1), 31.000 ms after its deadline; window 5000 6000" trace -v tasks=render:10 "$work/moved"
+	sed '1s/200.000000: \(.*\)cpu_id=0/200.000000: \1cpu_id=1/; 6s/$/\n          <idle>-0     [001]   200.050000: cpu_frequency:        state=1000000 cpu_id=0/' "$work/here" >"$work/unknown"
+	says "traces: late, and the frequency isn't known" 0 "# left out: render.0 (frequency not known), 2.000 ms after its deadline; window -5000 -4800
+late slot 1 render.1 4100 deadline 200" audited trace -v tasks=render:2 "$work/unknown"
+}
+audited() { "$@" >"$work/audited" && cat "$work/audited" && { "$YDS" audit <"$work/audited" || :; }; }
+
+# What ends late in less than a tick, and what is late by less.
+traces_of_short_runs() {
+	same "traces: late in a short run" 0 trace-short-late.txt trace -v tasks=audio:5 short-late.txt
+	answers "traces: late in a short run isn't feasible" 1 "work audio.0 given 10000 wanted 10001" from "$expected/trace-short-late.txt" "$YDS" audit
+	same "misses: late by little" 1 misses-short-late.txt misses "$expected/trace-short-late.txt"
+	sed '4s/300.001000000/300.005000000/' short-late.txt >"$work/until"
+	says "traces: late in a short run, after a run until the deadline" 0 "job audio.0 0 500 50001
+# late in a run within one tick: audio.0, 15.004 ms after its deadline" trace -v tasks=audio:5 "$work/until"
+	sed 's/state=1000000/state=14000/' short-late.txt >"$work/slow"
+	refuses "traces: a speed between units" 1 failed "trace.awk: 14000 kHz is speed 1 in units of 10000 kHz, more than a twentieth off; give a finer khz=" \
+		trace -v tasks=audio:5 "$work/slow"
+}
+
+# Events that were lost, in each form in which that is told.
+traces_with_gaps() {
+	t="-v tasks=decode:16.667,audio:10 -v cpu=3 -v start=2000000"
+	sed '12s/$/\n              sh 16122 [003]  1660.990170000: PERF_RECORD_LOST lost 12/' trace-perf.txt >"$work/lost"
+	# shellcheck disable=SC2086
+	refuses "traces: perf's lost events" 1 failed "trace.awk: line 13: events were lost; record with a larger buffer (-b), or give lost=cut" trace $t "$work/lost"
+	# shellcheck disable=SC2086
+	says "traces: perf's lost events, cut" 0 "# left out: audio.1 (events lost); window 1667 2667
+# left out: decode.1 (events lost); window 1668 3334
+# left out: audio.2 (began where events were lost)
+# places where events were lost: 1" trace $t -v lost=cut "$work/lost"
+	t=tasks=decode:16.667,audio:10
+	sed '20s/$/\n##### CPU 1 buffer started ####/' trace-file.txt >"$work/lost"
+	refuses "traces: a buffer that starts later" 1 failed "trace.awk: line 21: events were lost; record with a larger buffer (-b), or give lost=cut" trace -v $t "$work/lost"
+	# Lost on the other CPU, since its line at 23.123 ms and before that at 28.144 ms: audio.2 ended at 21.820, before; decode.1 is open.
+	grep -n . trace-report.txt | sed -n 's/^\([0-9]*\):.*\[001\].*cpu_frequency.*state=600000 cpu_id=0.*/\1/p' | tail -n 1 >"$work/place"
+	sed "$(cat "$work/place")s/^/CPU:1 [LOST 3 EVENTS]\n/" trace-report.txt >"$work/lost"
+	says "traces: lost on the other CPU" 0 "# left out: decode.1 (events lost); window 1816 3483" trace -v $t -v lost=cut "$work/lost"
+	trace -v $t -v lost=cut "$work/lost" >"$work/cut"
+	if grep -q '^job audio.2 2000 3000 12019$' "$work/cut"; then pass; else fail "traces: ended before events were lost on the other CPU"; fi
+}
+
+# All at once, in fractions, and where another fault remains.
+misses_of_slots() {
+	printf 'job a 0 9 4\njob b 0 5 5\nslot a 1 2+1/3 3\nslot b 3 5+1/2 3+1/2\nslot b 5+1/2 6 0+1/2\n' >"$work/slots"
+	says "misses: in fractions" 1 "late slot 2 b 5+1/2 deadline 5
+work a given 3 wanted 4
+2 missed deadlines" misses "$work/slots"
+	says "misses: too much work remains" 1 "late slot 2 audio 21 deadline 20
+work audio given 4800 wanted 3000" misses "$here/../examples/governor-misses-a-deadline.txt"
+	$AWK 'BEGIN { for (j = 0; j < 1000; j++) print "job a." j, j * 10, j * 10 + 5, 100; print "ticks 1"; for (j = 0; j < 1000; j++) print "run a." j, j * 10, j * 10 + 8, 10 }' >"$work/slots"
+	says "misses: a thousand" 1 "late slot 1000 a.999 9998 deadline 9995
+1000 missed deadlines" misses "$work/slots"
+}
+
+# What is seen after events were lost may be of another job: only what was open before is known.
+traces_of_unsure_ends() {
+	cat >"$work/unsure" <<-END
+	<idle>-0 [001] 1.000000: cpu_frequency: state=1000000 cpu_id=0
+	<idle>-0 [000] 1.000500: sched_waking: comm=a pid=5 prio=120 target_cpu=000
+	<idle>-0 [000] 1.000500: sched_switch: swapper/0:0 [120] R ==> a:5 [120]
+	a-5 [000] 1.010000: sched_switch: a:5 [120] S ==> swapper/0:0 [120]
+	CPU:1 [3 EVENTS DROPPED]
+	<idle>-0 [001] 1.020000: cpu_frequency: state=1000000 cpu_id=0
+	<idle>-0 [000] 1.030000: sched_waking: comm=a pid=5 prio=120 target_cpu=000
+	<idle>-0 [000] 1.030000: sched_switch: swapper/0:0 [120] R ==> a:5 [120]
+	a-5 [000] 1.031000: sched_switch: a:5 [120] S ==> swapper/0:0 [120]
+	END
+	says "traces: an end amid lost events" 0 "# left out: a.0 (events lost); window -2950 -2750
+job a.1 0 200 10000" trace -v tasks=a:2 -v lost=cut "$work/unsure"
+}
+
+traces_cut_at_the_ends() {
+	refuses "traces: jobs of a file want from=" 2 failed "trace.awk: jobs=FILE wants from=, the second of the trace's clock at which FILE's time 0 is" \
+		trace -v tasks=decode,audio -v jobs=frames.txt -v us=1000 -v khz=1000 -v ticks=1000 trace-report.txt
+	# FILE's time 0 is after the first job of each task: its jobs are those from there on.
+	says "traces: jobs of a file are counted from from=" 0 "run audio.0 29 2970 408
+run audio.3 30029 30877 1416
+# left out: audio.-1 (before from)
+# left out: decode.-1 (before from)" trace -v from=5123.4106 -v tasks=decode,audio -v jobs=frames.txt -v us=1000 -v khz=1000 -v ticks=1000 trace-report.txt
+	refuses "traces: from= after to=" 2 failed "trace.awk: from=5123.44 isn't before to=5123.43" trace -v tasks=decode:10 -v from=5123.44 -v to=5123.43 trace-report.txt
+	$AWK 'BEGIN {
+		print "  <idle>-0 [000] 1.000000: cpu_frequency: state=1000000 cpu_id=0"
+		for (i = 0; i < 4100; i++) {
+			t = 1 + i / 100
+			printf "  <idle>-0 [000] %.6f: sched_waking: comm=a pid=5 prio=120 target_cpu=000\n", t
+			printf "  <idle>-0 [000] %.6f: sched_switch: swapper/0:0 [120] R ==> a:5 [120]\n", t + 0.000001
+			printf "  a-5 [000] %.6f: sched_switch: a:5 [120] S ==> swapper/0:0 [120]\n", t + 0.002
+		}
+	}' >"$work/many"
+	refuses "traces: too many jobs" 1 failed "trace.awk: 4100 jobs are more than 4000; give from= and to=, or long=1 for parts.awk" trace -v tasks=a:10 "$work/many"
+	trace -v tasks=a:10 -v long=1 "$work/many" >"$work/long"
+	says "traces: long" 0 "job a.4099 4099000 4100000 20000
+# 4100 jobs written, none left out" tail -n 4110 "$work/long"
+	if [ "$(grep -c '^run' "$work/long")" = 4100 ]; then pass; else fail "traces: the runs of a long trace"; fi
+}
+
+other_traces() {
+	$AWK 'BEGIN {
+		print "  <idle>-0 [000] 1.000000: cpu_frequency: state=1000000 cpu_id=0"
+		for (i = 0; i < 6; i++) {
+			t = 1 + int(i / 2) / 100 + i % 2 * 0.003
+			printf "  <idle>-0 [000] %.6f: sched_waking: comm=a pid=5 prio=120 target_cpu=000\n", t
+			printf "  <idle>-0 [000] %.6f: sched_switch: swapper/0:0 [120] R ==> a:5 [120]\n", t
+			printf "  a-5 [000] %.6f: sched_switch: a:5 [120] S ==> swapper/0:0 [120]\n", t + 0.001
+		}
+	}' >"$work/uneven"
+	says "traces: a task that sleeps within a job" 0 \
+		"# a may sleep within a job: some of its wake-ups are less than two thirds of their mean distance apart; see APART" trace -v tasks=a:8 "$work/uneven"
+	says "traces: a task that sleeps within a period" 0 "a                      5 0              6        4.600        3.000  sleeps within a period" \
+		trace -v 'tasks=?' "$work/uneven"
+	says "traces: a window beyond the trace" 0 "# the trace begins at 1.000000000 s, after from=
+# the trace ends at 1.024000000 s, before to=" trace -v tasks=a:8:8 -v from=0.99 -v to=1.03 "$work/uneven"
+	t=tasks=decode:16.667,audio:10
+	same "traces: Perfetto's export" 0 trace-file.txt trace -v $t trace-perfetto.txt
+	same "traces: the tasks" 0 tasks-report.txt trace -v 'tasks=?' trace-report.txt
+	grep -v 'sched_wak' trace-report.txt >"$work/asleep"
+	says "traces: without wake-ups" 0 "# no wake-up of these tasks in the trace: each job begins at its first run, and what it waited before isn't seen" \
+		trace -v $t "$work/asleep"
+	sed '13s/ R / U /' trace-report.txt >"$work/state"
+	refuses "traces: a state that isn't known" 1 failed "trace.awk: line 13: a listed task leaves in the state U, which isn't known" trace -v $t "$work/state"
+	sed '13s/ R / D|K /' trace-report.txt >"$work/state"
+	same "traces: an old kernel's wait for a disk" 0 trace.txt trace -v $t "$work/state"
+}
