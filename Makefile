@@ -6,14 +6,21 @@
 #   make test       the gate: every proof, test, refused edit and stored run
 #   make check      the built program answers every example and stored row byte for byte, within seconds
 #   make recipes    every recipe on its sample, with the built program
-#   make faults     refuses the built program memory, reads and writes in turn, and breaks its streams
+#   make faults     refuses the built program memory, reads and writes in turn, and random bytes, and breaks its streams
 #   make fuzz       draws DOCUMENTS documents near the grammar from SEED, and holds the built program's answers against what they promise
 #   make costly     times the built program on the documents that cost most
 #   make bench      times it as documents grow, and beside a plain program of the textbook's method
-#   make install    copies build/yds_cli to PREFIX/bin, its manual page, completion and recipes to PREFIX/share
+#   make install    copies build/yds_cli to PREFIX/bin, its manual page, completion, recipes and examples to PREFIX/share,
+#                   and links the commands of the recipes (yds-trace, yds-plot, ..) into PREFIX/bin
 #   make uninstall  removes just these
+#   make map        draws docs/pictures/crates.svg from crates.txt
+#   make deb        Debian packages of what is built, in build/dist
+#   make dist       the sources and a static program as archives, with their sums, in build/dist
+#   make check-build    whether the program that was built here is the released one, by its sum
+#   make record-build   writes that sum into packaging/released, before a release
+#   make packages-test  tries the packages in Debian 12 and 13, and the static program in an empty root; wants root and debootstrap
 #
-# faults, fuzz and costly want a C compiler (Debian: gcc and libc6-dev), and bench one for C++ besides (g++).
+# faults, fuzz and costly want a C compiler (Debian: gcc and libc6-dev), and bench also one for C++ (g++).
 # JOBS crates are proved side by side, each in up to 2 GB of memory.
 
 SHELL := /bin/bash
@@ -28,14 +35,21 @@ SHARE = $(DESTDIR)$(PREFIX)/share
 MAN = $(SHARE)/man/man1
 COMPLETIONS = $(SHARE)/bash-completion/completions
 RECIPES = $(SHARE)/$(PROGRAM)/recipes
-RECIPE_FILES := trace.awk points.awk energy.awk battery.awk collect.awk report.jq rtapp.sh misses.sh plot.sh plot.awk
+EXAMPLES = $(SHARE)/$(PROGRAM)/examples
+VERSION := $(shell cat VERSION)
+INSTALLED ?= $(BINARY)
+# Every recipe in the folder, and a command for each file of recipes/bin: there is no other list.
+RECIPE_FILES := $(filter-out test.sh,$(notdir $(wildcard recipes/*.awk recipes/*.sh recipes/*.jq)))
+COMMANDS := $(notdir $(wildcard recipes/bin/*))
+EXAMPLE_FILES := $(notdir $(wildcard examples/*.txt))
+SAMPLE_FILES := $(shell cd recipes/samples && find . -path ./bad -prune -o -type f ! -name '*.awk' -print | sort)
 EXAMPLE ?= examples/three-jobs.txt
 DOCUMENT ?= examples/three-jobs.txt
 COMMAND ?= plan
 SEED ?= 1
 DOCUMENTS ?= 100000
 
-.PHONY: all run try test check recipes faults fuzz costly bench install uninstall clean tool
+.PHONY: all run try test check recipes faults fuzz costly bench install uninstall map deb dist check-build record-build packages-test clean tool
 
 all: $(BINARY)
 
@@ -56,6 +70,7 @@ $(BINARY): $(SOURCES)
 	&& (cd crates/$(PROGRAM) && rt run $(PROGRAM) -- plan </dev/null) >>build/log 2>&1 \
 	|| { tail -n 40 build/log >&2; exit 1; }; \
 	echo $$(($$(date +%s) - began)) >build/seconds
+	@cp crates/$(PROGRAM)/out/$(PROGRAM).o build/
 	@cp crates/$(PROGRAM)/out/$(PROGRAM) $@
 	@echo "Built $@ in $$(cat build/seconds) seconds."
 
@@ -92,15 +107,49 @@ bench: $(BINARY)
 	@CC=$(CC) CXX=$(CXX) sh bench/bench.sh
 
 install: $(BINARY)
-	install -d $(BIN) $(MAN) $(COMPLETIONS) $(RECIPES)
-	install -m 755 $(BINARY) $(BIN)/$(PROGRAM)
-	install -m 644 docs/$(PROGRAM).1 $(MAN)/$(PROGRAM).1
+	install -d $(BIN) $(MAN) $(COMPLETIONS) $(RECIPES) $(EXAMPLES)
+	install -m 755 $(INSTALLED) $(BIN)/$(PROGRAM)
+	sed 's/^\.Os$$/.Os $(PROGRAM) $(VERSION)/' docs/$(PROGRAM).1 >$(MAN)/$(PROGRAM).1
+	chmod 644 $(MAN)/$(PROGRAM).1
 	install -m 644 completions/$(PROGRAM).bash $(COMPLETIONS)/$(PROGRAM)
-	install -m 644 $(RECIPE_FILES:%=recipes/%) $(RECIPES)
+	install -m 644 $(filter-out %.sh,$(RECIPE_FILES:%=recipes/%)) $(RECIPES)
+	install -m 755 $(filter %.sh,$(RECIPE_FILES:%=recipes/%)) $(RECIPES)
+	chmod 755 $(RECIPES)/command.sh
+	for command in $(COMMANDS); do \
+		ln -sf ../share/$(PROGRAM)/recipes/command.sh $(BIN)/$$command || exit 1; \
+		ln -sf $(PROGRAM) $(COMPLETIONS)/$$command || exit 1; \
+		echo ".so man1/$(PROGRAM).1" >$(MAN)/$$command.1 || exit 1; \
+	done
+	chmod 644 $(COMMANDS:%=$(MAN)/%.1)
+	for file in $(SAMPLE_FILES); do install -D -m 644 recipes/samples/$$file $(RECIPES)/samples/$$file || exit 1; done
+	install -m 644 $(EXAMPLE_FILES:%=examples/%) $(EXAMPLES)
 
 uninstall:
 	rm -f $(BIN)/$(PROGRAM) $(MAN)/$(PROGRAM).1 $(COMPLETIONS)/$(PROGRAM) $(RECIPE_FILES:%=$(RECIPES)/%)
-	for folder in $(RECIPES) $(SHARE)/$(PROGRAM); do test ! -d $$folder || rmdir --ignore-fail-on-non-empty $$folder; done
+	rm -f $(COMMANDS:%=$(BIN)/%) $(COMMANDS:%=$(COMPLETIONS)/%) $(COMMANDS:%=$(MAN)/%.1)
+	rm -f $(SAMPLE_FILES:%=$(RECIPES)/samples/%) $(EXAMPLE_FILES:%=$(EXAMPLES)/%)
+	for folder in $(RECIPES)/samples/folder $(RECIPES)/samples $(RECIPES) $(EXAMPLES) $(SHARE)/$(PROGRAM); do test ! -d $$folder || rmdir --ignore-fail-on-non-empty $$folder; done
+
+map:
+	@awk -f docs/pictures/crates.awk crates.txt >docs/pictures/crates.svg
+
+deb: $(BINARY)
+	@sh packaging/deb.sh
+
+build/$(PROGRAM)-static: $(BINARY)
+	@sh packaging/static.sh
+
+dist: build/$(PROGRAM)-static
+	@sh packaging/dist.sh
+
+check-build: $(BINARY)
+	@sh packaging/check-build.sh
+
+record-build: $(BINARY)
+	@sh packaging/check-build.sh --record
+
+packages-test: $(BINARY)
+	@sh packaging/test.sh
 
 clean:
 	rm -rf build crates/*/out

@@ -1,0 +1,43 @@
+# common.sh: what the scripts of this folder share. Read by them with '.'; the working folder is the repository's root afterwards.
+
+cd "$(dirname "$0")/.." || exit 1
+umask 022
+LC_ALL=C
+export LC_ALL
+version=$(cat VERSION) || exit 1
+program=build/yds_cli
+out=build/dist
+
+die() {
+	echo "${0##*/}: $*" >&2
+	exit 1
+}
+
+# want COMMAND PACKAGE ..: ends where a command isn't there, and names Debian's package that has it.
+want() {
+	while [ $# -gt 1 ]; do
+		command -v "$1" >/dev/null 2>&1 || die "the command '$1' isn't here; on Debian: apt-get install $2"
+		shift 2
+	done
+}
+
+# The time of the commit stands in for the time of the build, so that two builds are the same bytes. In an archive of the
+# sources, which has no commits, git has written it into the file commit-time.
+set_epoch() {
+	if [ -z "$SOURCE_DATE_EPOCH" ]; then
+		SOURCE_DATE_EPOCH=$(cat packaging/commit-time)
+		case $SOURCE_DATE_EPOCH in
+		*[!0-9]*) SOURCE_DATE_EPOCH=$(git log -1 --format=%ct 2>/dev/null) ;;
+		esac
+	fi
+	[ -n "$SOURCE_DATE_EPOCH" ] || die "there is no commit to take the time from; set SOURCE_DATE_EPOCH"
+	export SOURCE_DATE_EPOCH
+}
+
+# same_times FOLDER: everything in it has the time of the commit.
+same_times() { find "$1" -exec touch -h -d "@$SOURCE_DATE_EPOCH" {} +; }
+
+# sums: the sum of each file of this version in $out, in the file SHA256SUMS.
+sums() {
+	(cd "$out" && rm -f SHA256SUMS && sha256sum -- *"$version"* >../SHA256SUMS.new && mv ../SHA256SUMS.new SHA256SUMS && cat SHA256SUMS)
+}

@@ -1,0 +1,96 @@
+#!/bin/sh
+# deb.sh: makes the Debian packages of what is built, in build/dist (`make deb`).
+#
+#   yds-cli        the program, its manual page, completion, recipes and examples
+#   libyds         the C library, where build/libyds.so is there (`make library`)
+#   python3-yds    the Python module over it
+#
+# Two builds of one commit are the same bytes: each file has the time of the commit, and gzip writes neither name nor time.
+
+. "$(dirname "$0")/common.sh"
+want dpkg-deb dpkg md5sum coreutils
+[ -x $program ] || die "$program isn't there; make builds it"
+set_epoch
+stage=build/stage
+rm -rf $stage
+mkdir -p $out
+
+maintainer="the yds_cli authors <maintainers@yds-cli.invalid>"
+
+# changelog NAME: what CHANGELOG.md says of this version, in Debian's form.
+changelog() {
+	echo "$1 ($version) unstable; urgency=medium"
+	echo
+	awk -v version="$version" '/^## / { told = $2 == version } told && /^- / {
+		line = "  *"
+		for (i = 2; i <= NF; i++) { if (length(line) + length($i) > 78) { print line; line = "   " } line = line " " $i }
+		print line
+	}' CHANGELOG.md
+	echo
+	echo " -- $maintainer  $(date -u -R -d "@$SOURCE_DATE_EPOCH")"
+}
+
+# close NAME ARCHITECTURE DEPENDS SUGGESTS SUMMARY: makes the package of the folder $stage/NAME; its description is standard input.
+close() {
+	name=$1 tree=$stage/$1
+	mkdir -p "$tree/DEBIAN" "$tree/usr/share/doc/$name"
+	{
+		echo "yds_cli, version $version"
+		echo
+		echo "You may use it under the MIT licence or under the Apache License, version 2.0, as you choose."
+		echo "The text of the second is /usr/share/common-licenses/Apache-2.0."
+		echo
+		cat LICENSE-MIT
+	} >"$tree/usr/share/doc/$name/copyright"
+	changelog "$name" | gzip -9n >"$tree/usr/share/doc/$name/changelog.gz"
+	chmod 644 "$tree/usr/share/doc/$name"/*
+	(cd "$tree" && find usr -type f | sort | xargs md5sum) >"$tree/DEBIAN/md5sums"
+	{
+		echo "Package: $name"
+		echo "Version: $version"
+		echo "Architecture: $2"
+		echo "Maintainer: $maintainer"
+		echo "Section: utils"
+		echo "Priority: optional"
+		echo "Installed-Size: $(find "$tree/usr" -type f -exec cat {} + | wc -c | awk '{ print int(($1 + 1023) / 1024) }')"
+		echo "Depends: $3"
+		[ -z "$4" ] || echo "Suggests: $4"
+		echo "Description: $5"
+		sed 's/^/ /; s/^ $/ ./'
+	} >"$tree/DEBIAN/control"
+	# Where a library comes or goes, the list of the dynamic linker is made anew.
+	if ls "$tree"/usr/lib/*.so* "$tree"/usr/lib/*/*.so* >/dev/null 2>&1; then echo "activate-noawait ldconfig" >"$tree/DEBIAN/triggers"; fi
+	same_times "$tree"
+	dpkg-deb --root-owner-group -Zgzip -z9 --build "$tree" "$out/${name}_${version}_$2.deb" >/dev/null || die "dpkg-deb failed"
+}
+
+# compress FOLDER: the manual pages, as Debian has them.
+compress() { find "$1/usr/share/man" -type f -exec gzip -9n {} +; }
+
+make --no-print-directory install DESTDIR="$PWD/$stage/yds-cli" PREFIX=/usr >/dev/null || die "make install failed"
+compress $stage/yds-cli
+close yds-cli amd64 "libc6 (>= 2.34)" "jq, gnuplot-nox, parallel, trace-cmd, bash-completion" \
+	"planner and auditor for jobs on a processor of variable speed" <<'TEXT'
+Plans jobs with releases, deadlines and works on one processor whose speed
+can be changed, so that every deadline is met and the least energy is spent,
+and audits plans and traces of others. What the program writes is proved.
+TEXT
+
+# The library and the module are packages of their own: a user of the program needs neither.
+if [ -f build/libyds.so ]; then
+	make --no-print-directory install-library DESTDIR="$PWD/$stage/libyds" PREFIX=/usr >/dev/null || die "make install-library failed"
+	if [ -d $stage/libyds/usr/lib/python3 ]; then
+		mkdir -p $stage/python3-yds/usr/lib
+		mv $stage/libyds/usr/lib/python3 $stage/python3-yds/usr/lib/python3
+		close python3-yds all "python3 (>= 3.8), libyds (= $version)" "python3-matplotlib, python3-pandas" \
+			"planner and auditor for jobs of variable speed, for Python" <<'TEXT'
+The Python module yds, over the shared library of the package libyds.
+TEXT
+	fi
+	close libyds amd64 "libc6 (>= 2.14)" "" "planner and auditor for jobs of variable speed, for C" <<'TEXT'
+The shared library, the static library, the header and the file for
+pkg-config. It answers what the program yds_cli answers, over bytes in memory.
+TEXT
+fi
+rm -rf $stage
+sums

@@ -1,0 +1,35 @@
+#!/bin/sh
+# dist.sh: makes the archives of a release, in build/dist (`make dist`).
+#
+#   yds_cli-VERSION.tar.gz                       the sources of the commit
+#   yds_cli-VERSION-linux-x86_64.tar.gz          the static program, with its manual page, completion, recipes and examples
+#   SHA256SUMS                                   the sums of these, and of the packages where they are there
+#
+# Two builds of one commit, with the same compiler and C library for the static program, are the same bytes.
+
+. "$(dirname "$0")/common.sh"
+want git git tar tar gzip gzip
+[ -x build/yds_cli-static ] || die "build/yds_cli-static isn't there; make dist links it"
+[ -z "$(git status --porcelain)" ] || die "there are changes that no commit has; a release is made of a commit"
+set_epoch
+mkdir -p $out
+name=yds_cli-$version
+git archive --prefix="$name/" HEAD | gzip -9n >"$out/$name.tar.gz"
+
+stage=build/stage
+folder=$stage/$name-linux-x86_64
+rm -rf $stage
+make --no-print-directory install INSTALLED=build/yds_cli-static DESTDIR="$PWD/$folder" PREFIX= >/dev/null || die "make install failed"
+cp README.md CHANGELOG.md LICENSE-MIT LICENSE-APACHE VERSION "$folder"
+{
+	echo "This program, bin/yds_cli, is one file that needs no library. It runs on any Linux, on a processor of x86-64-v2 or later."
+	echo "It has the object file that was proved and compiled by the toolchain. It is linked by gcc and Debian's"
+	echo "C library in place of the toolchain's linker:"
+	echo
+	"${CC:-gcc}" --version | head -n 1
+	echo "C library: $(printf '#include <gnu/libc-version.h>\n__GLIBC__.__GLIBC_MINOR__\n' | "${CC:-gcc}" -E -P - | tail -n 1 | tr -d ' ')"
+} >"$folder/STATIC"
+same_times "$folder"
+tar --sort=name --owner=0 --group=0 --numeric-owner --format=ustar -C $stage -cf - "$name-linux-x86_64" | gzip -9n >"$out/$name-linux-x86_64.tar.gz"
+rm -rf $stage
+sums

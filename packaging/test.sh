@@ -1,0 +1,141 @@
+#!/bin/sh
+# test.sh: tries what a release has, on systems that know nothing of it (`make packages-test`).
+#
+#   sh packaging/test.sh [SUITE ..]      Debian's bookworm (12) and trixie (13) without one
+#
+# For each suite debootstrap makes a root of the base system alone, once, in build/roots. There the package is installed
+# with apt, the commands of README.md and the rows of `make check` are answered by the installed program, and the package is
+# removed: then every file outside the package manager's own folders has to be as it was. The static program answers the
+# rows in a root that has nothing but itself. Two builds in two folders have to be the same bytes.
+#
+# It wants root, debootstrap, and the network for the roots (MIRROR names another one of Debian). The last line is
+# 'N passed, M failed'; the exit status is 1 where M isn't 0. What is missing is named, and counts as failed.
+
+. "$(dirname "$0")/common.sh"
+want debootstrap debootstrap chroot coreutils dpkg-deb dpkg git git
+[ "$(id -u)" = 0 ] || die "chroot and debootstrap want root"
+[ -x $program ] || die "$program isn't there; make builds it"
+MIRROR=${MIRROR:-http://deb.debian.org/debian}
+here=$(pwd)
+work=$(mktemp -d) || exit 1
+trap 'rm -rf "$work"' EXIT
+passed=0
+failed=0
+pass() { passed=$((passed + 1)); echo "passed: $1"; }
+fail() { failed=$((failed + 1)); echo "FAILED: $1"; }
+# try NAME COMMAND ..: its last line of output is told.
+try() {
+	name=$1
+	shift
+	if "$@" >"$work/log" 2>&1; then pass "$name: $(tail -n 1 "$work/log")"; else fail "$name"; tail -n 12 "$work/log"; fi
+}
+# inside COMMAND ..: in the root of the suite.
+inside() { env -i PATH=/usr/sbin:/usr/bin:/sbin:/bin LC_ALL=C HOME=/root DEBIAN_FRONTEND=noninteractive chroot "$root" "$@"; }
+
+# files: each file of the root with its kind, mode and, where it is a file, its sum.
+files() {
+	(cd "$root" && find . -xdev \( -path ./proc -o -path ./sys -o -path ./dev -o -path ./tmp -o -path ./run \
+		-o -path ./var/log -o -path ./var/cache -o -path ./var/lib/dpkg -o -path ./var/lib/apt \) -prune -o -printf '%p %y %m\n' | sort
+	find usr etc opt root -xdev -type f -exec sha256sum {} + | sort -k 2)
+}
+
+# rows ROOT PROGRAM: the rows of `make check`, answered by the program in that root.
+rows() {
+	printf '#!/bin/sh\nexec chroot "%s" "%s" "$@"\n' "$1" "$2" >"$work/program"
+	chmod 755 "$work/program"
+	sh examples/check.sh "$work/program"
+}
+
+# readme: the commands of README.md, by the installed program and recipes; only the test itself comes from here.
+readme() {
+	rm -rf "$root/tmp/yds_cli"
+	cp -r "$root/usr/share/yds_cli" "$root/tmp/yds_cli" &&
+		cp -r recipes/test.sh recipes/expected recipes/tests "$root/tmp/yds_cli/recipes" &&
+		cp README.md "$root/tmp/yds_cli" && mkdir "$root/tmp/yds_cli/docs" && cp docs/manual.md "$root/tmp/yds_cli/docs" &&
+		inside env YDS=/usr/bin/yds_cli sh /tmp/yds_cli/recipes/test.sh readme
+	got=$?
+	rm -rf "$root/tmp/yds_cli"
+	return $got
+}
+
+try_suite() {
+	suite=$1 root=$here/build/roots/$1
+	if [ ! -f "$root.done" ]; then
+		rm -rf "$root"
+		mkdir -p "$root"
+		debootstrap --variant=minbase "$suite" "$root" "$MIRROR" >"$work/log" 2>&1 || { fail "$suite: debootstrap"; tail -n 3 "$work/log"; return; }
+		: >"$root.done"
+	fi
+	files >"$work/before"
+	cp build/dist/yds-cli_"$version"_amd64.deb "$root/tmp/yds-cli.deb"
+	try "$suite: install" inside apt-get install -y --no-install-recommends /tmp/yds-cli.deb
+	try "$suite: rows" rows "$root" /usr/bin/yds_cli
+	try "$suite: README" readme
+	try "$suite: the manual page has the version" inside sh -c "zcat /usr/share/man/man1/yds_cli.1.gz | grep '^.Os yds_cli $version\$'"
+	if [ -f build/dist/libyds_"$version"_amd64.deb ]; then library; fi
+	try "$suite: remove" inside apt-get purge -y yds-cli
+	rm -f "$root/tmp/yds-cli.deb"
+	files >"$work/after"
+	try "$suite: nothing is left" sh -c 'diff "$1" "$2" && echo "$(wc -l <"$1") lines of files and sums are as before"' sh "$work/before" "$work/after"
+}
+
+# library: the C library and the Python module, with Python from Debian; they go before the root is compared.
+library() {
+	rm -rf "$root.library"
+	cp -a "$root" "$root.library"
+	plain=$root root=$root.library
+	cp build/dist/libyds_"$version"_amd64.deb build/dist/python3-yds_"$version"_all.deb "$root/tmp"
+	inside apt-get update >/dev/null 2>&1
+	try "$suite: install the library and the module" inside sh -c 'apt-get install -y --no-install-recommends /tmp/libyds_*.deb /tmp/python3-yds_*.deb'
+	printf 'job a 0 4 8\n' | $program plan >"$root/tmp/wanted"
+	try "$suite: the module answers" inside python3 -c 'import yds
+status, text = yds.answer(["plan"], b"job a 0 4 8\n")
+assert int(status) == 0 and bytes(text) == open("/tmp/wanted", "rb").read()
+print("as the program")'
+	rm -rf "$root"
+	root=$plain
+}
+
+# same_bytes: builds the packages a second time, in a copy of the repository in another folder.
+same_bytes() {
+	git clone -q . "$work/copy" && mkdir "$work/copy/build" && cp build/yds_cli "$work/copy/build" || return 1
+	for file in build/yds_cli.o build/libyds.*; do
+		[ ! -f $file ] || cp $file "$work/copy/build"
+	done
+	touch "$work/copy"/build/*
+	(cd "$work/copy" && make -s deb >/dev/null && if [ -f build/yds_cli.o ]; then rm -f build/yds_cli-static && make -s dist >/dev/null; fi) || return 1
+	cat "$work/copy/build/dist/SHA256SUMS"
+	diff build/dist/SHA256SUMS "$work/copy/build/dist/SHA256SUMS" && echo "$(wc -l <build/dist/SHA256SUMS) files are the same bytes"
+}
+
+# from_archive: the sources of the release, which have no commits, make the same packages.
+from_archive() {
+	tar -xzf build/dist/yds_cli-"$version".tar.gz -C "$work" || return 1
+	folder=$work/yds_cli-$version
+	mkdir "$folder/build" && cp build/yds_cli "$folder/build" && touch "$folder/build/yds_cli" || return 1
+	[ ! -f build/libyds.so ] || cp -p build/libyds.* "$folder/build"
+	(cd "$folder" && make -s deb) || return 1
+	for package in "$folder"/build/dist/*.deb; do cmp "$package" "build/dist/${package##*/}" || return 1; done
+	echo "the same packages"
+}
+
+rm -rf build/dist
+try "make deb" make -s deb
+if [ -f build/yds_cli.o ] && command -v rt >/dev/null 2>&1; then
+	rm -f build/yds_cli-static
+	try "make dist" make -s dist
+else
+	fail "make dist: build/yds_cli.o or the toolchain isn't here; make builds the one with the other"
+fi
+try "two builds in two folders" same_bytes
+if [ -f build/dist/yds_cli-"$version".tar.gz ]; then try "the sources' archive" from_archive; fi
+for suite in ${*:-bookworm trixie}; do try_suite "$suite"; done
+if [ -x build/yds_cli-static ]; then
+	mkdir "$work/empty"
+	cp build/yds_cli-static "$work/empty/yds_cli"
+	try "the static program in an empty root: rows" rows "$work/empty" /yds_cli
+else
+	fail "the static program isn't there"
+fi
+echo "$passed passed, $failed failed"
+[ $failed = 0 ]
