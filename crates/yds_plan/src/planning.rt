@@ -40,7 +40,7 @@ pub fn plan(alloc: Global, rows: &[JobRow]) -> Result<Planned, Memory>
 /// The levels of the offline plan, without its slots: none is laid for them.
 ///
 /// With the slots that `plan` lays they are a plan of the jobs. By a law two plans of the same jobs have the same levels.
-pub fn levels(alloc: Global, rows: &[JobRow]) -> Result<Certificate, Memory>
+pub fn plan_levels(alloc: Global, rows: &[JobRow]) -> Result<Certificate, Memory>
     requires { length rows.now ≤ MAX_JOBS }
     ensures { IfOk result (AreLevelsOfPlan rows.now) }
 {

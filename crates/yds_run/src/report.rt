@@ -9,7 +9,7 @@ use std::alloc::Global;
 use yds_certificate::Certificate;
 use yds_document::Document;
 use yds_model::{Memory, Status};
-use yds_plan::levels;
+use yds_plan::plan_levels;
 use yds_port::{Sink, WriteFault};
 use yds_report::report;
 
@@ -41,7 +41,7 @@ impl Answer for PlanTable<'_> {
 pub fn report_document<'a>(alloc: Global, document: Document<'a>) -> Result<PlanTable<'a>, Memory>
     ensures { IfOk result (λ table. ReportAnswer (document_view document.entry) (table_text table) Status.Done) }
 {
-    let certificate = levels(alloc, document.instance.rows())?;
+    let certificate = plan_levels(alloc, document.instance.rows())?;
     Ok(PlanTable {
         document,
         certificate,

@@ -4,7 +4,7 @@ use Rattle.yds_plan.specs.Laid.{laid_slots}
 use Rattle.yds_plan.proofs.Bounds.{groups_within}
 use Rattle.yds_plan.proofs.Fitting.{all_drafted, levels_fit, pieces_fit, members_fit}
 use Rattle.yds_plan.proofs.FoundPlan.{found_makes_plan}
-use Rattle.yds_plan.proofs.planning.levels.Goals as goal
+use Rattle.yds_plan.proofs.planning.plan_levels.Goals as goal
 
 pub levels_of_found-requires-clause-groups : goal.levels_of_found-requires-clause-groups
 levels_of_found-requires-clause-groups c =
