@@ -47,7 +47,10 @@ fn no_levels_are_reported_as_no_work(rt: HostRuntime) -> Result<(), Fail> {
     let document = read_document(alloc, RandomState::new(&rt)?, b"")?;
     let mut sink = MemorySink::with_room(alloc, 300, 300, Vec::new(alloc))?;
     report(&document, &Certificate::new(alloc), &mut sink)?;
-    assert_eq!(rt; sink.bytes(), b"jobs 0 work 0 from 0 to 0\nidle 0\n");
+    assert_eq!(rt;
+        sink.bytes(),
+        b"jobs 0 work 0 from 0 to 0\nidle 0\n".as_slice()
+    );
     Ok(())
 }
 
