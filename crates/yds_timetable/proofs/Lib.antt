@@ -1,3 +1,4 @@
+pub mod Lists
 pub mod Lowest
 pub mod Keeping
 pub mod Grains

@@ -115,6 +115,9 @@ module _ (pace : Pace) (stretch : Piece) (all : List JobShare) (fills : Fills pa
   some_time : 1 ≤ pace.time
   some_time = (factors pace.time fills.times (length_of stretch) fills.length_is (omega (arith, fills.is_stretch.has_length))).0
 
+  pub some_times : 1 ≤ fills.times
+  some_times = (factors pace.time fills.times (length_of stretch) fills.length_is (omega (arith, fills.is_stretch.has_length))).1
+
   to_is : stretch.to ≡ stretch.from + length_of stretch
   to_is = omega (arith, fills.is_stretch.has_length)
 

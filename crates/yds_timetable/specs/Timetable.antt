@@ -39,3 +39,8 @@ IsFilledAt (Some pace) stretch shares = Fills pace stretch shares
 
 abbrev pub IsRow : Row → Type 0
 IsRow row = IsFilledAt row.pace row.stretch row.shares
+
+-- a unit of work has so many units where the stretch runs
+abbrev pub HasGrain : ℕ → Option Pace → Type 0
+HasGrain grain None = Unit {0}
+HasGrain grain (Some pace) = pace.grain ≡ grain
