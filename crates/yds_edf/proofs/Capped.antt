@@ -15,7 +15,7 @@ use Rattle.yds_model.specs.Comparison.{stretch_at}
 use Rattle.yds_model.specs.Within.{IsSlot, AreSlotsOf}
 use Rattle.yds_events.specs.Stretch.{no_stretch, IsOutside}
 use Rattle.yds_events.proofs.Neighbours.{stretches_run, release_outside, deadline_outside}
-use Rattle.yds_edf.specs.Shares.{JobShare, units_given, total_units, shares_in}
+use Rattle.yds_timetable.specs.Shares.{JobShare, units_given, total_units, shares_in}
 use Rattle.yds_edf.specs.Pending.{sum_below, units_wanted}
 use Rattle.yds_edf.specs.Serving.{IsServing}
 use Rattle.yds_edf.specs.Demand.{capacity_at, IsWithinCapacity, AreUncut}

@@ -1,4 +1,3 @@
-pub mod Shares
 pub mod Pending
 pub mod Serving
 pub mod Demand
@@ -6,5 +5,4 @@ pub mod Filled
 pub mod Queue
 pub mod Entries
 pub mod Engine
-pub mod Laid
 pub mod Run

@@ -22,7 +22,7 @@ ghost use Rattle.yds_edf.specs.Queue.{new_queue, IsNoEarlier, all_pending, pendi
 
 use crate::entry::Entry;
 use crate::limits::MAX_GRAIN;
-use crate::share::Share;
+use yds_timetable::Share;
 use std::alloc::Global;
 use std::cmp::Reverse;
 use std::collections::BinaryHeap;

@@ -6,7 +6,7 @@ ghost use Rattle.yds_edf.specs.Filled.{IsFilled};
 
 use crate::engine::Engine;
 use crate::limits::{MAX_GRAIN, MAX_STRETCHES};
-use crate::share::Share;
+use yds_timetable::Share;
 use std::alloc::Global;
 use yds_events::Stretch;
 use yds_model::limits::{MAX_JOBS, MAX_WORK};

@@ -4,7 +4,7 @@ ghost use Rattle.yds_model.specs.Comparison.{stretch_at};
 ghost use Rattle.yds_edf.specs.Queue.{pending_in, IsTold};
 
 use crate::queue::Queue;
-use crate::share::Share;
+use yds_timetable::Share;
 use yds_events::Stretch;
 
 /// What a policy sets for a stretch.

@@ -5,7 +5,7 @@ ghost use Rattle.yds_edf.specs.Queue.{new_queue, IsNoEarlier, all_pending, pendi
 
 use crate::engine::Engine;
 use crate::limits::MAX_GRAIN;
-use crate::share::Share;
+use yds_timetable::Share;
 use std::alloc::{AllocError, Global};
 use std::marker::Model;
 use yds_model::limits::{MAX_JOBS, MAX_WORK};

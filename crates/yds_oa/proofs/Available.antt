@@ -20,7 +20,7 @@ use Rattle.yds_model.proofs.Sums.{sum_by-mul, sum_by_same}
 use Rattle.yds_events.specs.Stretch.{no_stretch}
 use Rattle.yds_events.proofs.Times.{not_later, release_at, deadline_at}
 use Rattle.yds_events.proofs.Neighbours.{count_stretches, stretch_begins, stretch_ends, stretch_forward, release_outside, deadline_outside}
-use Rattle.yds_edf.specs.Shares.{JobShare, units_given, total_units, shares_in, shares_before}
+use Rattle.yds_timetable.specs.Shares.{JobShare, units_given, total_units, shares_in, shares_before}
 use Rattle.yds_edf.specs.Pending.{sum_below, units_wanted}
 use Rattle.yds_edf.specs.Filled.{IsInTime}
 use Rattle.yds_edf.specs.Run.{pending_before, IsServed, IsLaidOut, IsPolicyRun}

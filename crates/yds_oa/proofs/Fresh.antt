@@ -7,7 +7,7 @@ use Rattle.std.proofs.lemmas.List.{get_or-set_same, get_or-set_other, length-set
 use Rattle.std.proofs.lemmas.List.Sums.{sum_by_push}
 use Rattle.yds_model.specs.Numbers.{Each}
 use Rattle.yds_model.specs.Job.{Job, job_at}
-use Rattle.yds_edf.specs.Shares.{JobShare, units_given}
+use Rattle.yds_timetable.specs.Shares.{JobShare, units_given}
 use Rattle.yds_edf.specs.Pending.{is_within}
 use Rattle.yds_edf.specs.Queue.{JobQueue, new_queue, IsNoEarlier, pending_in, IsTold}
 use Rattle.yds_oa.specs.declared.order.Due.{Due}

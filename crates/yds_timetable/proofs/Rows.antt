@@ -20,14 +20,14 @@ use Rattle.yds_events.proofs.InOrder.{later_start}
 use Rattle.yds_timetable.specs.declared.pace.Pace.{Pace}
 use Rattle.yds_timetable.specs.Shares.{JobShare, total_units}
 use Rattle.yds_timetable.specs.Pace.{time_after, slot_of, slots_from, Fills}
-use Rattle.yds_timetable.specs.Timetable.{Row, row_at, slots_at_pace, row_slots, shares_of, slots_of, IsFilledAt, IsRow, HasGrain}
+use Rattle.yds_timetable.specs.Timetable.{Row, row_at, stretches_of, slots_at_pace, row_slots, shares_of, slots_of, IsFilledAt, IsRow, HasGrain}
 use Rattle.yds_timetable.proofs.Filling.{time_begins}
 use Rattle.yds_timetable.proofs.Lists.{filter_all, filter_none, All-flat, all_of_part, AllZip-flat}
 use Rattle.yds_timetable.proofs.Paces.{IsFor, runs, solid, some_times, time_ends, each_slot, each_for, slots_run, slots_fill, slots_work}
 
 -- # One stretch
 
-abbrev no_row : Row
+abbrev pub no_row : Row
 no_row = record { stretch = no_stretch; pace = None; shares = [] }
 
 -- what holds of each slot that a pace gives
@@ -129,9 +129,6 @@ stretch_is None stretch shares is = is.0
 stretch_is (Some pace) stretch shares fills = fills.is_stretch
 
 -- # Stretch after stretch
-
-abbrev pub stretches_of : List Row → List Piece
-stretches_of rows = map (λ row. row.stretch) rows
 
 -- slots that run one after another, and others after them
 run_append : (start time : ℕ) (slots more : List WholeSlot) → RunFrom start slots → start ≤ time → All (λ slot. slot.to ≤ time) slots → RunFrom time more →

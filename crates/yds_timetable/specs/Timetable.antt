@@ -1,5 +1,5 @@
 -- A timetable: stretches, each with its pace and the shares that fill it, or idle. Its slots are those of the stretches in order.
-use Rattle.std.specs.Prelude.{◌≡◌, ℕ, List, [], ◌∷◌, Option, Some, None}
+use Rattle.std.specs.Prelude.{◌≡◌, ℕ, List, [], ◌∷◌, Option, Some, None, map}
 use Rattle.std.specs.List.{flat_map, slice_index_or}
 use Rattle.yds_model.specs.Slot.{WrittenSlot}
 use Rattle.yds_model.specs.Piece.{Piece}
@@ -16,6 +16,9 @@ pub record Row : Type 0 where
 -- the row at a place; an empty one stands where there is none
 abbrev pub row_at : List Row → ℕ → Row
 row_at rows number = slice_index_or rows number (record { stretch = no_stretch; pace = None; shares = [] })
+
+abbrev pub stretches_of : List Row → List Piece
+stretches_of rows = map (λ row. row.stretch) rows
 
 -- the slots of shares that begin at `start`; without a pace there are none
 abbrev pub slots_at_pace : Option Pace → ℕ → List JobShare → List WrittenSlot

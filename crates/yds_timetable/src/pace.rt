@@ -2,6 +2,7 @@ ghost use Rattle.std.specs.Prelude.{◌≡◌, ◌+◌, ◌*◌, ◌≤◌, Matc
 ghost use Rattle.yds_model.specs.declared.limits.TheConstants.{MAX_DENOMINATOR, MAX_SLOT_WORK, MAX_TIME};
 ghost use Rattle.yds_model.specs.Scale.{of_parts};
 ghost use Rattle.yds_model.specs.Within.{IsFraction};
+ghost use Rattle.yds_events.specs.Stretch.{IsStretch};
 ghost use Rattle.yds_timetable.specs.Pace.{lowest_pace, time_after};
 
 use yds_events::Stretch;
@@ -22,12 +23,13 @@ pub struct Pace {
 impl Pace {
     /// The pace at which so many units fill the stretch, with units and time in lowest terms, or None where there are no units.
     pub fn filling(units: u64, stretch: Stretch, grain: u64) -> Option<Pace>
-        ensures { MatchOption result (units ≡ 0) (λ pace. (1 ≤ units) × (pace ≡ lowest_pace units stretch grain)) }
+        ensures pace { MatchOption result (units ≡ 0) (λ pace. (1 ≤ units) × (pace ≡ lowest_pace units stretch grain)) }
+        ensures kept { IsStretch stretch }
     {
+        let length = u64::from(stretch.length());
         if units == 0 {
             return None;
         }
-        let length = u64::from(stretch.length());
         let divisor = gcd(units, length);
         Some(Pace {
             units: units / divisor,
