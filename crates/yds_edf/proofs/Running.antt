@@ -256,14 +256,18 @@ module _ (jobs : List Job) (grid : ℕ) (units : (ℕ → ℕ) → Piece → ℕ
     ap {B = ℕ} (λ (pending : ℕ → ℕ). cond (rounds pending (stretch_at jobs i)) 1 0) held_is,
   )
 
+-- it has so many stretches
+pub tabled_many : {jobs : List Job} {grid i : ℕ} {rows : List Row} → Tabled jobs grid i rows → i ≤ length (stretches jobs) → length rows ≡ i
+tabled_many {jobs = jobs} {i = i} {rows = rows} tabled most =
+    sym (length-map rows (λ (one : Row). one.stretch)) ∙ ap (λ (pieces : List Piece). length pieces) tabled.stretches_are ∙ length-take-le i (stretches jobs) most
+
 -- the timetable has the stretch then
 pub tabled_next : (jobs : List Job) (grid i : ℕ) (rows next : List Row) (stretch : Piece) (part : List JobShare) → Tabled jobs grid i rows →
     i < length (stretches jobs) → stretch ≡ stretch_at jobs i → All (λ share. share.stretch < i) (shares_of rows) → All (λ share. share.stretch ≡ i) part →
     PutsRow grid stretch part rows next → (shares_of next ≡ shares_of rows ++ part) × Tabled jobs grid (i + 1) next
 tabled_next jobs grid i rows next stretch part tabled here is earlier own puts =
     let row : Row = record { stretch = stretch; pace = puts.pace; shares = part } in
-    let as_many : length rows ≡ i = sym (length-map rows (λ (one : Row). one.stretch)) ∙ ap (λ (pieces : List Piece). length pieces) tabled.stretches_are
-    ∙ length-take-le i (stretches jobs) (let most : i ≤ length (stretches jobs) = omega (arith, here) in most) in
+    let as_many : length rows ≡ i = tabled_many tabled (let most : i ≤ length (stretches jobs) = omega (arith, here) in most) in
     let joined : shares_of (rows ++ row ∷ []) ≡ shares_of rows ++ part =
     flat_map-append (λ (one : Row). one.shares) rows (row ∷ []) ∙ ap (λ (xs : List JobShare). shares_of rows ++ xs) (append-nil part) in
     rw (puts.after) (
@@ -310,14 +314,15 @@ pub stepped : (jobs : List Job) (grid : ℕ) (units : List Job → ℕ → (ℕ 
     Running jobs grid (units jobs grid) i now (shares_of rows) → Tabled jobs grid i rows →
     (stretch : Piece) → stretch ≡ stretch_at jobs i → started ≡ record now { time = Some stretch.from } →
     (set : ℕ) → set ≡ units started.jobs started.grain (pending_in started) stretch → (rounded : Bool) →
-    rounded ≡ rounds started.jobs started.grain (pending_in started) stretch → (part : List JobShare) → Serves started new i set part →
+    rounded ≡ rounds started.jobs started.grain (pending_in started) stretch → (part : List JobShare) → Serves started new (length rows) set part →
     PutsRow started.grain stretch part rows next → (count : ℕ) → count ≡ count_rounded jobs grid (rounds jobs grid) (shares_of rows) i →
     Running jobs grid (units jobs grid) (i + 1) new (shares_of next) × Tabled jobs grid (i + 1) next
     × (count + cond rounded 1 0 ≡ count_rounded jobs grid (rounds jobs grid) (shares_of next) (i + 1))
 stepped jobs grid units rounds some i here now started new rows next running tabled stretch is starts set set_is rounded rounded_is part serves puts count counted =
     let told = told_of units jobs grid i now started stretch set running.same_jobs running.same_grain is starts set_is in
     let told_rounded = told_of rounds jobs grid i now started stretch rounded running.same_jobs running.same_grain is starts rounded_is in
-    let served = served_from jobs i set now started new stretch part is starts serves in
+    let as_many = tabled_many tabled (let most : i ≤ length (stretches jobs) = omega (arith, here) in most) in
+    let served = served_from jobs i set now started new stretch part is starts (subst (λ (n : ℕ). Serves started new n set part) as_many serves) in
     let grain_is : started.grain ≡ grid = ap (λ (queue : JobQueue). queue.grain) starts ∙ running.same_grain in
     let after = tabled_next jobs grid i rows next stretch part tabled here is running.known served.in_stretch
     (subst (λ (g : ℕ). PutsRow g stretch part rows next) grain_is puts) in
@@ -347,9 +352,9 @@ rows_written jobs grid rows are filled grains lowest = All-flat (HasRunDenominat
     record {
       stretch = row.stretch;
       is_stretch = among;
-      lies = lies_written pace row.stretch row.shares fills done share some enough;
+      lies = lies_written pace row.stretch (total_units row.shares) fills.own done share some enough;
       units = total_units row.shares;
-      speed = subst (λ (g : ℕ). HasSpeed (total_units row.shares) (g * length_of row.stretch) slot) grain_is (speed_written pace row.stretch row.shares fills done share some enough);
+      speed = subst (λ (g : ℕ). HasSpeed (total_units row.shares) (g * length_of row.stretch) slot) grain_is (speed_written pace row.stretch (total_units row.shares) fills.own done share some enough);
       work = subst (λ (g : ℕ). IsOver g slot.work) grain_is (of_parts_over share.units pace.grain);
       from = subst (λ (n : ℕ). IsOver n slot.from) lowest_is (of_parts_over (row.stretch.from * pace.units + done * pace.time) pace.units);
       to = subst (λ (n : ℕ). IsOver n slot.to) lowest_is (of_parts_over (row.stretch.from * pace.units + (done + share.units) * pace.time) pace.units);

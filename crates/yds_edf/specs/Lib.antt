@@ -5,4 +5,5 @@ pub mod Filled
 pub mod Queue
 pub mod Entries
 pub mod Engine
+pub mod Laid
 pub mod Run

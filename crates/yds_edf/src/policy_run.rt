@@ -6,6 +6,7 @@ ghost use Rattle.yds_timetable.specs.Room.{CanLay};
 ghost use Rattle.yds_edf.specs.Queue.{new_queue, Serves};
 ghost use Rattle.yds_edf.specs.Run.{AreRowsOf, IsPolicyRun, PutsRow};
 
+use crate::limits::MAX_STRETCHES;
 use crate::policy::Policy;
 use crate::queue::Queue;
 use std::alloc::Global;
@@ -104,7 +105,6 @@ pub fn serve_policy<P: Policy>(
         let setting = policy.set(number, &queue, *stretch, &shares);
         serve_stretch(
             &mut queue,
-            number,
             *stretch,
             setting.units,
             &mut shares,
@@ -116,22 +116,22 @@ pub fn serve_policy<P: Policy>(
     Ok(PolicyTimetable { timetable, rounded })
 }
 
-/// Serves a stretch, and puts it into the timetable with what it serves. The list has its shares then.
+/// Serves the next stretch, and puts it into the timetable with what it serves. The list has its shares then.
 fn serve_stretch(
     queue: &mut Queue,
-    number: u32,
     stretch: Stretch,
     units: u64,
     shares: &mut Vec<Share>,
     timetable: &mut Timetable,
 ) -> Result<(), Memory>
-    requires { queue.old.grain ≤ MAX_GRID }
-    ensures serves { OnOk result (Serves queue.old queue.new number units shares.new.items) }
+    requires grid_in_range { queue.old.grain ≤ MAX_GRID }
+    requires few { length timetable.old ≤ MAX_STRETCHES }
+    ensures serves { OnOk result (Serves queue.old queue.new (length timetable.old) units shares.new.items) }
     ensures puts { OnOk result (PutsRow queue.old.grain stretch shares.new.items timetable.old timetable.new) }
 {
     let grain = queue.grain();
     let served = units.min(queue.pending());
-    queue.serve_into(number, units, shares)?;
+    queue.serve_into(timetable.len() as u32, units, shares)?;
     let pace = Pace::filling(served, stretch, grain);
     timetable.push(stretch, pace, shares)
 }

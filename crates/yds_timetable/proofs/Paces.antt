@@ -18,7 +18,7 @@ use Rattle.yds_slots.proofs.Parts.{of_parts_at, of_parts_over, of_parts_value}
 use Rattle.yds_events.specs.Stretch.{length_of}
 use Rattle.yds_timetable.specs.declared.pace.Pace.{Pace}
 use Rattle.yds_timetable.specs.Shares.{JobShare, total_units}
-use Rattle.yds_timetable.specs.Pace.{time_after, slot_of, slots_from, Fills}
+use Rattle.yds_timetable.specs.Pace.{time_after, slot_of, slots_from, IsPaceOf}
 use Rattle.yds_timetable.proofs.Lowest.{factors}
 use Rattle.yds_timetable.proofs.Filling.{whole_parts, time_begins}
 
@@ -111,48 +111,48 @@ pub record IsFor (stretch : Piece) (grain : ℕ) (share : JobShare) (slot : Writ
   pub work : slot.work ≡ of_parts share.units grain
   pub lies_in : (scale : ℕ) → 1 ≤ scale → IsDivided scale slot → LiesIn scale (slot_at_scale scale slot) stretch
 
-module _ (pace : Pace) (stretch : Piece) (all : List JobShare) (fills : Fills pace stretch all) where
+module _ (pace : Pace) (stretch : Piece) (all : ℕ) (is : IsPaceOf pace stretch all) where
   some_time : 1 ≤ pace.time
-  some_time = (factors pace.time fills.times (length_of stretch) fills.length_is (omega (arith, fills.is_stretch.has_length))).0
+  some_time = (factors pace.time is.times (length_of stretch) is.length_is (omega (arith, is.is_stretch.has_length))).0
 
-  pub some_times : 1 ≤ fills.times
-  some_times = (factors pace.time fills.times (length_of stretch) fills.length_is (omega (arith, fills.is_stretch.has_length))).1
+  pub some_times : 1 ≤ is.times
+  some_times = (factors pace.time is.times (length_of stretch) is.length_is (omega (arith, is.is_stretch.has_length))).1
 
   to_is : stretch.to ≡ stretch.from + length_of stretch
-  to_is = omega (arith, fills.is_stretch.has_length)
+  to_is = omega (arith, is.is_stretch.has_length)
 
   -- the last share ends with the stretch
-  pub time_ends : time_after pace stretch.from (total_units all) ≡ of_whole stretch.to
+  pub time_ends : time_after pace stretch.from all ≡ of_whole stretch.to
   time_ends =
-      let last : stretch.from * pace.units + total_units all * pace.time ≡ stretch.to * pace.units = omega (
+      let last : stretch.from * pace.units + all * pace.time ≡ stretch.to * pace.units = omega (
         arith,
         ap (λ n. n * pace.units) to_is,
-        ap (λ n. n * pace.time) fills.units_is,
-        ap (λ n. pace.units * n) fills.length_is,
+        ap (λ n. n * pace.time) is.units_is,
+        ap (λ n. pace.units * n) is.length_is,
       ) in
-      ap (λ n. of_parts n pace.units) last ∙ whole_parts stretch.to pace.units fills.some_units
+      ap (λ n. of_parts n pace.units) last ∙ whole_parts stretch.to pace.units is.some_units
 
-  module _ (done : ℕ) (share : JobShare) (some : 1 ≤ share.units) (enough : done + share.units ≤ total_units all) where
+  module _ (done : ℕ) (share : JobShare) (some : 1 ≤ share.units) (enough : done + share.units ≤ all) where
     abbrev slot : WrittenSlot
     slot = slot_of pace stretch.from done share
 
-    pub runs : (scale : ℕ) → 1 ≤ scale → IsDivided scale slot → RunsIn scale stretch (total_units all) pace.grain (slot_at_scale scale slot)
+    pub runs : (scale : ℕ) → 1 ≤ scale → IsDivided scale slot → RunsIn scale stretch all pace.grain (slot_at_scale scale slot)
     runs scale positive divided =
         let begins = of_parts_at scale (stretch.from * pace.units + done * pace.time) pace.units divided.from in
         let ends = of_parts_at scale (stretch.from * pace.units + (done + share.units) * pace.time) pace.units divided.to in
         let work = of_parts_at scale share.units pace.grain divided.work in
         record {
           lies_in = record {
-            from = begins_within _ _ _ scale stretch.from done share.units pace.time pace.units fills.times (length_of stretch) pace.grain (total_units all)
-                begins ends work positive some_time fills.some_units some fills.length_is fills.units_is enough;
+            from = begins_within _ _ _ scale stretch.from done share.units pace.time pace.units is.times (length_of stretch) pace.grain all
+                begins ends work positive some_time is.some_units some is.length_is is.units_is enough;
             to = subst (λ n. at_scale scale slot.to ≤ n * scale) (sym to_is)
-                (ends_within _ _ _ scale stretch.from done share.units pace.time pace.units fills.times (length_of stretch) pace.grain (total_units all)
-                begins ends work positive some_time fills.some_units some fills.length_is fills.units_is enough);
+                (ends_within _ _ _ scale stretch.from done share.units pace.time pace.units is.times (length_of stretch) pace.grain all
+                begins ends work positive some_time is.some_units some is.length_is is.units_is enough);
           };
-          forward = runs_forward _ _ _ scale stretch.from done share.units pace.time pace.units fills.times (length_of stretch) pace.grain (total_units all)
-              begins ends work positive some_time fills.some_units some fills.length_is fills.units_is enough;
-          speed = runs_at_speed _ _ _ scale stretch.from done share.units pace.time pace.units fills.times (length_of stretch) pace.grain (total_units all)
-              begins ends work positive some_time fills.some_units some fills.length_is fills.units_is enough;
+          forward = runs_forward _ _ _ scale stretch.from done share.units pace.time pace.units is.times (length_of stretch) pace.grain all
+              begins ends work positive some_time is.some_units some is.length_is is.units_is enough;
+          speed = runs_at_speed _ _ _ scale stretch.from done share.units pace.time pace.units is.times (length_of stretch) pace.grain all
+              begins ends work positive some_time is.some_units some is.length_is is.units_is enough;
         }
 
     pub is_for : IsFor stretch pace.grain share slot
@@ -161,9 +161,9 @@ module _ (pace : Pace) (stretch : Piece) (all : List JobShare) (fills : Fills pa
     -- its denominators are at least 1
     pub solid : IsSolid slot
     solid = record {
-      from = some_den pace.units slot.from fills.some_units (of_parts_over (stretch.from * pace.units + done * pace.time) pace.units);
-      to = some_den pace.units slot.to fills.some_units (of_parts_over (stretch.from * pace.units + (done + share.units) * pace.time) pace.units);
-      work = some_den pace.grain slot.work fills.some_grain (of_parts_over share.units pace.grain);
+      from = some_den pace.units slot.from is.some_units (of_parts_over (stretch.from * pace.units + done * pace.time) pace.units);
+      to = some_den pace.units slot.to is.some_units (of_parts_over (stretch.from * pace.units + (done + share.units) * pace.time) pace.units);
+      work = some_den pace.grain slot.work is.some_grain (of_parts_over share.units pace.grain);
     } where
       some_den : (den : ℕ) (x : Fraction) → 1 ≤ den → IsOver den x → 1 ≤ x.den
       some_den den x some (inl whole) = omega (arith, ap (λ (one : Fraction). one.den) whole)
@@ -176,26 +176,26 @@ module _ (pace : Pace) (stretch : Piece) (all : List JobShare) (fills : Fills pa
         let ends = of_parts_value (stretch.from * pace.units + (done + share.units) * pace.time) pace.units in
         let work = of_parts_value share.units pace.grain in
         record {
-          from = written_from _ _ _ _ _ _ stretch.from done share.units pace.time pace.units fills.times (length_of stretch) pace.grain (total_units all)
-              begins ends work fills.some_units fills.length_is fills.units_is enough;
+          from = written_from _ _ _ _ _ _ stretch.from done share.units pace.time pace.units is.times (length_of stretch) pace.grain all
+              begins ends work is.some_units is.length_is is.units_is enough;
           to = subst (λ n. numerator slot.to ≤ n * slot.to.den) (sym to_is)
-              (written_to _ _ _ _ _ _ stretch.from done share.units pace.time pace.units fills.times (length_of stretch) pace.grain (total_units all)
-              begins ends work fills.some_units fills.length_is fills.units_is enough);
+              (written_to _ _ _ _ _ _ stretch.from done share.units pace.time pace.units is.times (length_of stretch) pace.grain all
+              begins ends work is.some_units is.length_is is.units_is enough);
         }
 
-    pub speed_written : HasSpeed (total_units all) (pace.grain * length_of stretch) slot
+    pub speed_written : HasSpeed all (pace.grain * length_of stretch) slot
     speed_written =
-        written_speed _ _ _ _ _ _ stretch.from done share.units pace.time pace.units fills.times (length_of stretch) pace.grain (total_units all)
+        written_speed _ _ _ _ _ _ stretch.from done share.units pace.time pace.units is.times (length_of stretch) pace.grain all
         (of_parts_value (stretch.from * pace.units + done * pace.time) pace.units)
         (of_parts_value (stretch.from * pace.units + (done + share.units) * pace.time) pace.units)
-        (of_parts_value share.units pace.grain) fills.some_units fills.length_is fills.units_is enough
+        (of_parts_value share.units pace.grain) is.some_units is.length_is is.units_is enough
 
   -- # All of them
 
   -- what holds of the slot of each share that fits
   pub each_slot : (P : WrittenSlot → Type 0) →
-      ((done : ℕ) (share : JobShare) → 1 ≤ share.units → done + share.units ≤ total_units all → P (slot_of pace stretch.from done share)) →
-      (done : ℕ) (shares : List JobShare) → All (λ share. 1 ≤ share.units) shares → done + total_units shares ≤ total_units all →
+      ((done : ℕ) (share : JobShare) → 1 ≤ share.units → done + share.units ≤ all → P (slot_of pace stretch.from done share)) →
+      (done : ℕ) (shares : List JobShare) → All (λ share. 1 ≤ share.units) shares → done + total_units shares ≤ all →
       All P (slots_from pace stretch.from done shares)
   each_slot P one done [] some enough = All-nil P
   each_slot P one done (share ∷ shares) some enough =
@@ -204,7 +204,7 @@ module _ (pace : Pace) (stretch : Piece) (all : List JobShare) (fills : Fills pa
       (one done share (some 0 share (omega arith)) (omega (arith, enough, more)))
       (each_slot P one (done + share.units) shares (All-tail (λ s. 1 ≤ s.units) share shares some) (omega (arith, enough, more)))
 
-  pub each_for : (done : ℕ) (shares : List JobShare) → All (λ share. 1 ≤ share.units) shares → done + total_units shares ≤ total_units all →
+  pub each_for : (done : ℕ) (shares : List JobShare) → All (λ share. 1 ≤ share.units) shares → done + total_units shares ≤ all →
       AllZip (IsFor stretch pace.grain) shares (slots_from pace stretch.from done shares)
   each_for done [] some enough = tt
   each_for done (share ∷ shares) some enough =
@@ -215,7 +215,7 @@ module _ (pace : Pace) (stretch : Piece) (all : List JobShare) (fills : Fills pa
 
   module _ (scale : ℕ) (positive : 1 ≤ scale) where
     -- they run one after another
-    pub slots_run : (done : ℕ) (shares : List JobShare) → All (λ share. 1 ≤ share.units) shares → done + total_units shares ≤ total_units all →
+    pub slots_run : (done : ℕ) (shares : List JobShare) → All (λ share. 1 ≤ share.units) shares → done + total_units shares ≤ all →
         All (IsDivided scale) (slots_from pace stretch.from done shares) →
         RunFrom (at_scale scale (time_after pace stretch.from done)) (slots_at scale (slots_from pace stretch.from done shares))
     slots_run done [] some enough divided = tt
@@ -230,9 +230,9 @@ module _ (pace : Pace) (stretch : Piece) (all : List JobShare) (fills : Fills pa
         )
 
     -- and fill the time until the last one ends, at the stretch's speed
-    pub slots_fill : (done : ℕ) (shares : List JobShare) → All (λ share. 1 ≤ share.units) shares → done + total_units shares ≤ total_units all →
+    pub slots_fill : (done : ℕ) (shares : List JobShare) → All (λ share. 1 ≤ share.units) shares → done + total_units shares ≤ all →
         All (IsDivided scale) (slots_from pace stretch.from done shares) →
-        FillsAtSpeed (scale * total_units all) (pace.grain * length_of stretch * scale) (at_scale scale (time_after pace stretch.from done))
+        FillsAtSpeed (scale * all) (pace.grain * length_of stretch * scale) (at_scale scale (time_after pace stretch.from done))
         (at_scale scale (time_after pace stretch.from (done + total_units shares))) (slots_at scale (slots_from pace stretch.from done shares))
     slots_fill done [] some enough divided =
         let same : done ≡ done + 0 = omega arith in ap (λ n. at_scale scale (time_after pace stretch.from n)) same
@@ -243,7 +243,7 @@ module _ (pace : Pace) (stretch : Piece) (all : List JobShare) (fills : Fills pa
           refl,
           (runs done share (some 0 share (omega arith)) (omega (arith, enough, more)) scale positive
               (All-head (IsDivided scale) (slot_of pace stretch.from done share) rest divided)).speed,
-          subst (λ (n : ℕ). FillsAtSpeed (scale * total_units all) (pace.grain * length_of stretch * scale) (at_scale scale (time_after pace stretch.from (done + share.units)))
+          subst (λ (n : ℕ). FillsAtSpeed (scale * all) (pace.grain * length_of stretch * scale) (at_scale scale (time_after pace stretch.from (done + share.units)))
               (at_scale scale (time_after pace stretch.from n)) (slots_at scale rest)) last
               (slots_fill (done + share.units) shares (All-tail (λ s. 1 ≤ s.units) share shares some) (omega (arith, enough, more))
               (All-tail (IsDivided scale) (slot_of pace stretch.from done share) rest divided)),

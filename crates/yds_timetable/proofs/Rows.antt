@@ -35,7 +35,7 @@ pub paced_all : (P : WrittenSlot → Type 0) (pace : Option Pace) (stretch : Pie
     ((p : Pace) → pace ≡ Some p → Fills p stretch shares → (done : ℕ) (share : JobShare) → 1 ≤ share.units → done + share.units ≤ total_units shares →
     P (slot_of p stretch.from done share)) → All P (slots_at_pace pace stretch.from shares)
 paced_all P None stretch shares is each = All-nil P
-paced_all P (Some pace) stretch shares fills each = each_slot pace stretch shares fills P (each pace refl fills) 0 shares fills.some (omega arith)
+paced_all P (Some pace) stretch shares fills each = each_slot pace stretch (total_units shares) fills.own P (each pace refl fills) 0 shares fills.some (omega arith)
 
 -- at each scale the slot lies in the stretch and takes time
 pub record Stays (scale : ℕ) (stretch : Piece) (slot : WholeSlot) : Type 0 where
@@ -48,7 +48,7 @@ StaysIn stretch slot = (scale : ℕ) → 1 ≤ scale → IsDivided scale slot �
 pub row_stays : (row : Row) → IsRow row → All (StaysIn row.stretch) (row_slots row)
 row_stays row is = paced_all (StaysIn row.stretch) row.pace row.stretch row.shares is
     (λ pace at fills done share some enough scale positive divided.
-    let here = runs pace row.stretch row.shares fills done share some enough scale positive divided in
+    let here = runs pace row.stretch (total_units row.shares) fills.own done share some enough scale positive divided in
     record { lies_in = here.lies_in; forward = here.forward })
 
 -- at a scale
@@ -58,7 +58,7 @@ stays_at row is scale positive divided = All-map (Stays scale row.stretch) (slot
 
 -- denominators are at least 1, and a work is over the pace's grain
 pub row_solid : (row : Row) → IsRow row → All IsSolid (row_slots row)
-row_solid row is = paced_all IsSolid row.pace row.stretch row.shares is (λ pace at fills done share some enough. solid pace row.stretch row.shares fills done share some enough)
+row_solid row is = paced_all IsSolid row.pace row.stretch row.shares is (λ pace at fills done share some enough. solid pace row.stretch (total_units row.shares) fills.own done share some enough)
 
 pub row_over : (grain : ℕ) (row : Row) → IsRow row → HasGrain grain row.pace → All (λ slot. IsOver grain slot.work) (row_slots row)
 row_over grain row is has = paced_all (λ slot. IsOver grain slot.work) row.pace row.stretch row.shares is
@@ -70,7 +70,7 @@ row_for : (grain : ℕ) (pace : Option Pace) (stretch : Piece) (shares : List Jo
     AllZip (IsFor stretch grain) shares (slots_at_pace pace stretch.from shares)
 row_for grain None stretch shares is has = rw (is.1) tt
 row_for grain (Some pace) stretch shares fills has =
-    subst (λ (g : ℕ). AllZip (IsFor stretch g) shares (slots_from pace stretch.from 0 shares)) has (each_for pace stretch shares fills 0 shares fills.some (omega arith))
+    subst (λ (g : ℕ). AllZip (IsFor stretch g) shares (slots_from pace stretch.from 0 shares)) has (each_for pace stretch (total_units shares) fills.own 0 shares fills.some (omega arith))
 
 module _ (scale : ℕ) (positive : 1 ≤ scale) where
   whole_at : (time : ℕ) → at_scale scale (of_whole time) ≡ time * scale
@@ -82,8 +82,8 @@ module _ (scale : ℕ) (positive : 1 ≤ scale) where
   paced_run None stretch shares is divided = tt
   paced_run (Some pace) stretch shares fills divided =
       subst (λ (time : ℕ). RunFrom time (slots_at scale (slots_from pace stretch.from 0 shares)))
-      (ap (at_scale scale) (time_begins pace stretch.from fills.some_units) ∙ whole_at stretch.from)
-      (slots_run pace stretch shares fills scale positive 0 shares fills.some (omega arith) divided)
+      (ap (at_scale scale) (time_begins pace stretch.from fills.own.some_units) ∙ whole_at stretch.from)
+      (slots_run pace stretch (total_units shares) fills.own scale positive 0 shares fills.some (omega arith) divided)
 
   -- and fill it at its speed, or there are none
   paced_serves : (grain : ℕ) (pace : Option Pace) (stretch : Piece) (shares : List JobShare) (slots : List WholeSlot) → IsFilledAt pace stretch shares →
@@ -101,14 +101,14 @@ module _ (scale : ℕ) (positive : 1 ≤ scale) where
       (slots_at scale (slots_from pace stretch.from 0 shares))) has
       (subst (λ (from : ℕ). FillsAtSpeed (scale * total_units shares) (pace.grain * length_of stretch * scale) from (stretch.to * scale)
       (slots_at scale (slots_from pace stretch.from 0 shares)))
-      (ap (at_scale scale) (time_begins pace stretch.from fills.some_units) ∙ whole_at stretch.from)
+      (ap (at_scale scale) (time_begins pace stretch.from fills.own.some_units) ∙ whole_at stretch.from)
       (subst (λ (to : ℕ). FillsAtSpeed (scale * total_units shares) (pace.grain * length_of stretch * scale) (at_scale scale (time_after pace stretch.from 0)) to
       (slots_at scale (slots_from pace stretch.from 0 shares)))
-      (ap (at_scale scale) (let all : 0 + total_units shares ≡ total_units shares = omega arith in ap (time_after pace stretch.from) all ∙ time_ends pace stretch shares fills) ∙ whole_at stretch.to)
-      (slots_fill pace stretch shares fills scale positive 0 shares fills.some (omega arith) divided)))))
+      (ap (at_scale scale) (let all : 0 + total_units shares ≡ total_units shares = omega arith in ap (time_after pace stretch.from) all ∙ time_ends pace stretch (total_units shares) fills.own) ∙ whole_at stretch.to)
+      (slots_fill pace stretch (total_units shares) fills.own scale positive 0 shares fills.some (omega arith) divided)))))
     where
       some_units : 1 ≤ total_units shares
-      some_units = omega (arith, mul-pos fills.some_units (some_times pace stretch shares fills), fills.units_is)
+      some_units = omega (arith, mul-pos fills.own.some_units (some_times pace stretch (total_units shares) fills.own), fills.own.units_is)
 
       serves_some : (capacity : ℕ) → 1 ≤ capacity →
           FillsAtSpeed capacity (grain * length_of stretch * scale) (stretch.from * scale) (stretch.to * scale) (slots_in scale stretch slots) →
@@ -126,7 +126,7 @@ paced_work grain scale (Some pace) stretch shares fills has divided =
 
 stretch_is : (pace : Option Pace) (stretch : Piece) (shares : List JobShare) → IsFilledAt pace stretch shares → IsStretch stretch
 stretch_is None stretch shares is = is.0
-stretch_is (Some pace) stretch shares fills = fills.is_stretch
+stretch_is (Some pace) stretch shares fills = fills.own.is_stretch
 
 -- # Stretch after stretch
 

@@ -37,16 +37,20 @@ lowest_pace units stretch grain = record {
   grain = grain;
 }
 
--- The shares fill the stretch at the pace: the stretch has the pace's time and its units equally often.
-pub record Fills (pace : Pace) (stretch : Piece) (shares : List JobShare) : Type 0 where
+-- So many units fill the stretch at the pace: the stretch has the pace's time as often as they have its units.
+pub record IsPaceOf (pace : Pace) (stretch : Piece) (units : ℕ) : Type 0 where
   pub is_stretch : IsStretch stretch
   pub times : ℕ
   pub length_is : pace.time * times ≡ length_of stretch
-  pub units_is : pace.units * times ≡ total_units shares
+  pub units_is : pace.units * times ≡ units
   pub some_units : 1 ≤ pace.units
   pub units_in_range : pace.units ≤ MAX_DENOMINATOR
   pub some_grain : 1 ≤ pace.grain
   pub grain_in_range : pace.grain ≤ MAX_DENOMINATOR
+
+-- the shares fill the stretch at the pace
+pub record Fills (pace : Pace) (stretch : Piece) (shares : List JobShare) : Type 0 where
+  pub own : IsPaceOf pace stretch (total_units shares)
   pub some : All (λ share. 1 ≤ share.units) shares
   pub works : All (λ share. share.units ≤ pace.grain * MAX_SLOT_WORK) shares
   pub few : total_units shares ≤ MAX_UNITS

@@ -26,8 +26,8 @@ pub record CanFill (jobs : ℕ) (slots : List WrittenSlot) (row : Row) : Type 0 
   pub known : All (λ share. share.job < jobs) row.shares
   pub grains : HaveGrains (slots ++ row_slots row)
 
--- the slots of shares that follow one another at a pace from `start` on can stand after these
-pub record CanFollow (jobs : ℕ) (slots : List WrittenSlot) (pace : Pace) (start : ℕ) (shares : List JobShare) : Type 0 where
+-- the slots of shares that follow one another at a pace from `start` on are within their limits
+pub record CanRun (pace : Pace) (start : ℕ) (shares : List JobShare) : Type 0 where
   pub some_units : 1 ≤ pace.units
   pub units_in_range : pace.units ≤ MAX_DENOMINATOR
   pub some_grain : 1 ≤ pace.grain
@@ -35,6 +35,20 @@ pub record CanFollow (jobs : ℕ) (slots : List WrittenSlot) (pace : Pace) (star
   pub ends : start * pace.units + total_units shares * pace.time ≤ MAX_TIME * pace.units
   pub few_units : total_units shares ≤ MAX_UNITS
   pub works : All (λ share. share.units ≤ pace.grain * MAX_SLOT_WORK) shares
+
+-- so is the slot of so many units more
+pub record CanReach (pace : Pace) (start done units : ℕ) : Type 0 where
+  pub some_units : 1 ≤ pace.units
+  pub units_in_range : pace.units ≤ MAX_DENOMINATOR
+  pub some_grain : 1 ≤ pace.grain
+  pub grain_in_range : pace.grain ≤ MAX_DENOMINATOR
+  pub ends : start * pace.units + (done + units) * pace.time ≤ MAX_TIME * pace.units
+  pub few_units : done + units ≤ MAX_UNITS
+  pub work : units ≤ pace.grain * MAX_SLOT_WORK
+
+-- and they can stand after these slots
+pub record CanFollow (jobs : ℕ) (slots : List WrittenSlot) (pace : Pace) (start : ℕ) (shares : List JobShare) : Type 0 where
+  pub run : CanRun pace start shares
   pub few : length slots + length shares ≤ MAX_SLOTS
   pub known : All (λ share. share.job < jobs) shares
   pub grains : HaveGrains (slots ++ slots_from pace start 0 shares)

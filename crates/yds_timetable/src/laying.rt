@@ -1,9 +1,10 @@
 ghost use Rattle.std.specs.Prelude.{◌≡◌, ◌<◌, ◌≤◌, ◌++◌, length, IfOk, OnOk};
 ghost use Rattle.std.specs.List.{All};
-ghost use Rattle.yds_model.specs.declared.limits.TheConstants.{MAX_SLOTS};
-ghost use Rattle.yds_timetable.specs.Pace.{slots_from};
-ghost use Rattle.yds_timetable.specs.Timetable.{row_at, row_slots, shares_of, slots_of};
-ghost use Rattle.yds_timetable.specs.Room.{CanFill, CanFollow, CanLay};
+ghost use Rattle.yds_model.specs.declared.limits.TheConstants.{MAX_TIME};
+ghost use Rattle.yds_model.specs.Within.{IsFraction};
+ghost use Rattle.yds_timetable.specs.Pace.{time_after, slot_of, slots_from};
+ghost use Rattle.yds_timetable.specs.Timetable.{row_at, row_slots, slots_of};
+ghost use Rattle.yds_timetable.specs.Room.{CanFill, CanFollow, CanLay, CanReach, CanRun};
 
 use crate::pace::Pace;
 use crate::share::Share;
@@ -64,16 +65,49 @@ fn fill(
     let mut done = 0;
     let mut from = Moment::from_whole(u64::from(start));
     for share in shares {
-        done += share.units;
-        let to = pace.time_after(start, done);
-        let slot = Slot {
-            job: share.job,
-            from,
-            to,
-            work: pace.work_of(share.units),
-        };
+        let slot = slot_at(pace, start, from, done, share);
         schedule.push(slot)?;
-        from = to;
+        from = slot.to;
+        done += share.units;
     }
     Ok(())
+}
+
+/// The slots of shares that follow one another at the pace from `start` on, in time units.
+pub fn slots_at(
+    alloc: Global,
+    pace: Pace,
+    start: u32,
+    shares: &[Share],
+) -> Result<Vec<Slot>, Memory>
+    requires { CanRun pace start shares.now }
+    ensures slots { IfOk result (λ slots. slots.items ≡ slots_from pace start 0 shares.now) }
+    ensures shares { OnOk result (All (λ share. 1 ≤ share.units) shares.now) }
+{
+    let mut slots = Vec::with_capacity(alloc, shares.len())?;
+    let mut done = 0;
+    let mut from = Moment::from_whole(u64::from(start));
+    for share in shares {
+        let slot = slot_at(pace, start, from, done, share);
+        slots.push(slot)?;
+        from = slot.to;
+        done += share.units;
+    }
+    Ok(slots)
+}
+
+/// The slot of a share, before which so many units are done by this time.
+fn slot_at(pace: Pace, start: u32, from: Moment, done: u64, share: &Share) -> Slot
+    requires begins { from ≡ time_after pace start done }
+    requires kept { IsFraction MAX_TIME from }
+    requires can { CanReach pace start done share.now.units }
+    ensures slot { result ≡ slot_of pace start done share.now }
+    ensures kept { IsFraction MAX_TIME result.to }
+{
+    Slot {
+        job: share.job,
+        from,
+        to: pace.time_after(start, done + share.units),
+        work: pace.work_of(share.units),
+    }
 }

@@ -11,7 +11,7 @@ mod pace;
 mod share;
 mod timetable;
 
-pub use laying::lay;
+pub use laying::{lay, slots_at};
 pub use pace::Pace;
 pub use share::Share;
 pub use timetable::Timetable;

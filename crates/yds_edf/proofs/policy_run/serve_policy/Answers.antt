@@ -1,11 +1,11 @@
-use Rattle.std.proofs.Common.{◌≡◌, ℕ, ◌+◌, ◌<◌, ◌++◌, List, [], length, ◌∙◌, sym, subst, ap, arith, refl, Bool}
+use Rattle.std.proofs.Common.{◌≡◌, ℕ, ◌+◌, ◌<◌, ◌≤◌, ◌++◌, List, [], length, ◌∙◌, sym, subst, ap, arith, refl, Bool}
 use Rattle.yds_model.specs.Job.{Job}
 use Rattle.yds_model.specs.Piece.{Piece}
 use Rattle.yds_model.specs.Event.{stretches}
 use Rattle.yds_events.proofs.Neighbours.{few_stretches, stretch_read}
 use Rattle.yds_timetable.specs.Timetable.{shares_of}
 use Rattle.yds_edf.specs.Queue.{JobQueue, new_queue, IsNoEarlier, pending_in}
-use Rattle.yds_edf.proofs.Running.{seen_none, seen_told, seen_next, begun, none_tabled, stepped, few_rounded, all_rows, all_run, can_lay, one_or_none, one_at_most}
+use Rattle.yds_edf.proofs.Running.{seen_none, seen_told, seen_next, begun, none_tabled, tabled_many, stepped, few_rounded, all_rows, all_run, can_lay, one_or_none, one_at_most}
 use Rattle.yds_edf.proofs.policy_run.serve_policy.Goals as goal
 
 pub loop-number-init : goal.loop-number-init
@@ -52,6 +52,13 @@ overflow_add-rounded g c =
       one_at_most c.set-setting.result.rounds,
     )
 
+pub serve_stretch-requires-clause-few : goal.serve_stretch-requires-clause-few
+serve_stretch-requires-clause-few g c =
+    let here : c.loop-number.number < length (stretches c.args.rows.now) =
+    omega (arith, c.loop-number-test.true, ap (λ (pieces : List Piece). length pieces) c.loop-number.invariant.timeline) in
+    omega (arith, tabled_many c.loop-number.invariant.tabled (let most : c.loop-number.number ≤ length (stretches c.args.rows.now) = omega (arith, here) in most), here,
+    few_stretches c.args.rows.now, c.requires.few)
+
 pub loop-number-preserved : goal.loop-number-preserved
 loop-number-preserved g c =
     let here : c.loop-number.number < length (stretches c.args.rows.now) =
@@ -67,7 +74,7 @@ loop-number-preserved g c =
       running = next.0;
       tabled = next.1;
       counted = omega (arith, next.2, c.from-rounded.ensures, one_or_none c.set-setting.result.rounds);
-      seen = seen_next (λ (before : JobQueue). g.P.Policy.keeps c.set-setting.new.self before (c.loop-number.number + 1)) c.arrive.new.self _ c.loop-number.number _ _
+      seen = seen_next (λ (before : JobQueue). g.P.Policy.keeps c.set-setting.new.self before (c.loop-number.number + 1)) c.arrive.new.self _ _ _ _
           c.set-setting.ensures.keeps c.in_ok-serve_stretch.ensures.serves;
       units_stay = c.set-setting.ensures.units_stay ∙ c.loop-number.invariant.units_stay;
       rounds_stay = c.set-setting.ensures.rounds_stay ∙ c.loop-number.invariant.rounds_stay;
