@@ -1,9 +1,9 @@
 -- The shares in a stretch and in the stretches before it, as shares are added.
-use Rattle.std.proofs.Common.{◌≡◌, ℕ, suc, ◌+◌, ◌<◌, List, [], ◌∷◌, ◌++◌, ◌∙◌, refl, sym, arith, inl, inr, ap, true, false, length, get_or, cond, ◌≤◌}
-use Rattle.std.specs.Prelude.{Bool, ◌==◌, nat_lt, filter, All}
+use Rattle.std.proofs.Common.{◌≡◌, ℕ, suc, ◌+◌, ◌<◌, List, [], ◌∷◌, ◌++◌, ◌∙◌, refl, sym, arith, inl, inr, ap, length, get_or, cond, ◌≤◌}
+use Rattle.std.specs.Prelude.{◌==◌, nat_lt, filter, All}
 use Rattle.std.proofs.lemmas.List.{append-nil}
 use Rattle.std.proofs.lemmas.List.Sums.{sum_by-cons, get_or-le-sum_by}
-use Rattle.std.proofs.lemmas.List.Elements.{All-tail, filter-append}
+use Rattle.std.proofs.lemmas.List.Elements.{filter-append}
 use Rattle.std.proofs.lemmas.Bool.{cases_order, lt-ltb, le-ltb, eq-eqb, ne_eqb}
 use Rattle.yds_timetable.proofs.Lists.{filter_all, filter_none}
 use Rattle.yds_timetable.specs.Shares.{JobShare, units_given, shares_in, shares_before}

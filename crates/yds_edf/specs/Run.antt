@@ -15,7 +15,6 @@ use Rattle.yds_timetable.specs.Shares.{JobShare, total_units, shares_in}
 use Rattle.yds_timetable.specs.Timetable.{Row, row_at, stretches_of, shares_of, slots_of, IsFilledAt, IsRow, HasGrain}
 use Rattle.yds_edf.specs.Pending.{sum_below}
 use Rattle.yds_edf.specs.Serving.{IsDueBefore, IsServing}
-use Rattle.yds_edf.specs.Queue.{JobQueue, Serves}
 use Rattle.yds_edf.specs.Filled.{pending_at_start}
 
 -- jobs in order of their numbers

@@ -4,7 +4,7 @@ use Rattle.std.specs.Prelude.{sum_by}
 use Rattle.std.specs.List.{All, AllZip, Contains}
 use Rattle.std.proofs.lemmas.List.Elements.{All-nil, All-cons, All-head, All-tail}
 use Rattle.std.proofs.lemmas.List.Sums.{sum_by-cons}
-use Rattle.std.proofs.Math.Nat.{le_of_mul-le-mul_right, lt_of_mul-lt-mul_right, mul-le-mul_right, mul-pos, mul-sub, le_refl}
+use Rattle.std.proofs.Math.Nat.{eq_of_mul-eq-mul_left, le_of_mul-le-mul_right, lt_of_mul-lt-mul_right, mul-le-mul_right, mul-pos, mul-sub, le_refl}
 use Rattle.yds_model.specs.Job.{Job}
 use Rattle.yds_model.specs.Scale.{Fraction, at_scale, numerator, of_whole, of_parts}
 use Rattle.yds_model.specs.Slot.{WrittenSlot, WholeSlot, IsDivided, IsSolid, slot_at_scale, slots_at}
@@ -24,55 +24,16 @@ use Rattle.yds_timetable.proofs.Filling.{whole_parts, time_begins}
 
 -- # In plain numbers
 
--- The numbers of one share: its slot runs from a to b at the scale and gets the work w, where K units were done before it and it
--- has u. The stretch begins at f and has the length len = L * g, its units are C = D * g.
-module _ (a b w scale f K u L D g len grain C : ℕ) (begins : a * D ≡ (f * D + K * L) * scale)
-    (ends : b * D ≡ (f * D + (K + u) * L) * scale) (work : w * grain ≡ u * scale)
-    (some_scale : 1 ≤ scale) (some_length : 1 ≤ L) (some_parts : 1 ≤ D) (some_units : 1 ≤ u)
-    (length_is : L * g ≡ len) (units_is : D * g ≡ C) (enough : K + u ≤ C) where
-  runs_forward : a < b
-  runs_forward = lt_of_mul-lt-mul_right D (omega (
-    arith,
-    begins,
-    ends,
-    mul-pos (mul-pos some_units some_length) some_scale,
-  ))
-
-  begins_within : f * scale ≤ a
-  begins_within = le_of_mul-le-mul_right (omega (arith, begins)) some_parts
-
-  ends_within : b ≤ (f + len) * scale
-  ends_within =
-      let most : (K + u) * L ≤ D * len = omega (
-        arith,
-        mul-le-mul_right L enough,
-        ap (λ n. n * L) units_is,
-        ap (λ n. D * n) length_is,
-      ) in
-      le_of_mul-le-mul_right (omega (arith, ends, mul-le-mul_right scale most)) some_parts
-
-  runs_at_speed : w * (grain * len * scale) ≡ scale * C * (b - a)
-  runs_at_speed =
-      let time = b - a in
-      let last : b ≡ a + time = omega (arith, runs_forward) in
-      let lasts : time * D ≡ u * L * scale = omega (arith, begins, ends, ap (λ n. n * D) last) in
-      omega (
-        arith,
-        ap (λ n. n * len * scale) work,
-        ap (λ n. u * scale * scale * n) length_is,
-        ap (λ n. n * g * scale) lasts,
-        ap (λ n. n * time * scale) units_is,
-      )
-
--- As they are written: from F/e to T/d, and the work W/v.
+-- The numbers of one share: its slot runs from F/e to T/d and gets the work W/v, where K units were done before it and it has u. The
+-- stretch begins at f and has the length len = L * g, its units are C = D * g.
 module _ (F e T d W v f K u L D g len grain C : ℕ) (begins : F * D ≡ (f * D + K * L) * e)
     (ends : T * D ≡ (f * D + (K + u) * L) * d) (work : W * grain ≡ u * v) (some_parts : 1 ≤ D)
     (length_is : L * g ≡ len) (units_is : D * g ≡ C) (enough : K + u ≤ C) where
-  written_from : f * e ≤ F
-  written_from = le_of_mul-le-mul_right (omega (arith, begins)) some_parts
+  begins_within : f * e ≤ F
+  begins_within = le_of_mul-le-mul_right (omega (arith, begins)) some_parts
 
-  written_to : T ≤ (f + len) * d
-  written_to =
+  ends_within : T ≤ (f + len) * d
+  ends_within =
       let most : (K + u) * L ≤ D * len = omega (
         arith,
         mul-le-mul_right L enough,
@@ -81,8 +42,8 @@ module _ (F e T d W v f K u L D g len grain C : ℕ) (begins : F * D ≡ (f * D 
       ) in
       le_of_mul-le-mul_right (omega (arith, ends, mul-le-mul_right d most)) some_parts
 
-  written_speed : W * (grain * len) * (e * d) ≡ C * (T * e - F * d) * v
-  written_speed =
+  at_speed : W * (grain * len) * (e * d) ≡ C * (T * e - F * d) * v
+  at_speed =
       let lasts : (T * e - F * d) * D ≡ u * L * e * d = omega (
         arith,
         mul-sub D (T * e) (F * d),
@@ -96,6 +57,20 @@ module _ (F e T d W v f K u L D g len grain C : ℕ) (begins : F * D ≡ (f * D 
         ap (λ n. n * g * v) lasts,
         ap (λ n. n * (T * e - F * d) * v) units_is,
       )
+
+-- at a scale it takes time
+forward : (a b scale f K u L D : ℕ) → a * D ≡ (f * D + K * L) * scale → b * D ≡ (f * D + (K + u) * L) * scale → 1 ≤ scale → 1 ≤ L → 1 ≤ u → a < b
+forward a b scale f K u L D begins ends some_scale some_length some_units =
+    lt_of_mul-lt-mul_right D (omega (arith, begins, ends, mul-pos (mul-pos some_units some_length) some_scale))
+
+-- and the speed is that in time units
+scaled_speed : (a b w scale per C : ℕ) → 1 ≤ scale → w * per * (scale * scale) ≡ C * (b * scale - a * scale) * scale → w * (per * scale) ≡ scale * C * (b - a)
+scaled_speed a b w scale per C some is =
+    let same : b * scale - a * scale ≡ scale * (b - a) = omega (arith, mul-sub scale b a) in
+    lesser (b - a) (is ∙ ap (λ n. C * n * scale) same)
+  where
+    lesser : (time : ℕ) → w * per * (scale * scale) ≡ C * (scale * time) * scale → w * (per * scale) ≡ scale * C * time
+    lesser time whole = eq_of_mul-eq-mul_left scale some _ _ (omega (arith, whole))
 
 -- # One share
 
@@ -143,16 +118,13 @@ module _ (pace : Pace) (stretch : Piece) (all : ℕ) (is : IsPaceOf pace stretch
         let work = of_parts_at scale share.units pace.grain divided.work in
         record {
           lies_in = record {
-            from = begins_within _ _ _ scale stretch.from done share.units pace.time pace.units is.times (length_of stretch) pace.grain all
-                begins ends work positive some_time is.some_units some is.length_is is.units_is enough;
+            from = begins_within _ scale _ scale _ scale _ _ _ _ _ is.times _ _ _ begins ends work is.some_units is.length_is is.units_is enough;
             to = subst (λ n. at_scale scale slot.to ≤ n * scale) (sym to_is)
-                (ends_within _ _ _ scale stretch.from done share.units pace.time pace.units is.times (length_of stretch) pace.grain all
-                begins ends work positive some_time is.some_units some is.length_is is.units_is enough);
+                (ends_within _ scale _ scale _ scale _ _ _ _ _ is.times _ _ _ begins ends work is.some_units is.length_is is.units_is enough);
           };
-          forward = runs_forward _ _ _ scale stretch.from done share.units pace.time pace.units is.times (length_of stretch) pace.grain all
-              begins ends work positive some_time is.some_units some is.length_is is.units_is enough;
-          speed = runs_at_speed _ _ _ scale stretch.from done share.units pace.time pace.units is.times (length_of stretch) pace.grain all
-              begins ends work positive some_time is.some_units some is.length_is is.units_is enough;
+          forward = forward _ _ scale _ _ _ _ _ begins ends positive some_time some;
+          speed = scaled_speed _ _ _ scale _ all positive
+              (at_speed _ scale _ scale _ scale _ _ _ _ _ is.times _ _ _ begins ends work is.some_units is.length_is is.units_is enough);
         }
 
     pub is_for : IsFor stretch pace.grain share slot
@@ -170,25 +142,24 @@ module _ (pace : Pace) (stretch : Piece) (all : ℕ) (is : IsPaceOf pace stretch
       some_den den x some (inr same) = omega (arith, same)
 
     -- as it is written, it lies in the stretch and has its speed
+    begins : numerator slot.from * pace.units ≡ (stretch.from * pace.units + done * pace.time) * slot.from.den
+    begins = of_parts_value (stretch.from * pace.units + done * pace.time) pace.units
+
+    ends : numerator slot.to * pace.units ≡ (stretch.from * pace.units + (done + share.units) * pace.time) * slot.to.den
+    ends = of_parts_value (stretch.from * pace.units + (done + share.units) * pace.time) pace.units
+
+    work : numerator slot.work * pace.grain ≡ share.units * slot.work.den
+    work = of_parts_value share.units pace.grain
+
     pub lies_written : LiesWritten slot stretch
-    lies_written =
-        let begins = of_parts_value (stretch.from * pace.units + done * pace.time) pace.units in
-        let ends = of_parts_value (stretch.from * pace.units + (done + share.units) * pace.time) pace.units in
-        let work = of_parts_value share.units pace.grain in
-        record {
-          from = written_from _ _ _ _ _ _ stretch.from done share.units pace.time pace.units is.times (length_of stretch) pace.grain all
-              begins ends work is.some_units is.length_is is.units_is enough;
-          to = subst (λ n. numerator slot.to ≤ n * slot.to.den) (sym to_is)
-              (written_to _ _ _ _ _ _ stretch.from done share.units pace.time pace.units is.times (length_of stretch) pace.grain all
-              begins ends work is.some_units is.length_is is.units_is enough);
-        }
+    lies_written = record {
+      from = begins_within _ _ _ _ _ _ _ _ _ _ _ is.times _ _ _ begins ends work is.some_units is.length_is is.units_is enough;
+      to = subst (λ n. numerator slot.to ≤ n * slot.to.den) (sym to_is)
+          (ends_within _ _ _ _ _ _ _ _ _ _ _ is.times _ _ _ begins ends work is.some_units is.length_is is.units_is enough);
+    }
 
     pub speed_written : HasSpeed all (pace.grain * length_of stretch) slot
-    speed_written =
-        written_speed _ _ _ _ _ _ stretch.from done share.units pace.time pace.units is.times (length_of stretch) pace.grain all
-        (of_parts_value (stretch.from * pace.units + done * pace.time) pace.units)
-        (of_parts_value (stretch.from * pace.units + (done + share.units) * pace.time) pace.units)
-        (of_parts_value share.units pace.grain) is.some_units is.length_is is.units_is enough
+    speed_written = at_speed _ _ _ _ _ _ _ _ _ _ _ is.times _ _ _ begins ends work is.some_units is.length_is is.units_is enough
 
   -- # All of them
 

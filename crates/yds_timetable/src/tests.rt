@@ -21,7 +21,13 @@ fn lays_a_stretch(rt: HostRuntime) -> Result<(), Fail> {
             units: 1,
         },
     ];
-    timetable.push(stretch, Pace::filling(7, stretch, 6), &shares)?;
+    let pace = Pace {
+        units: 7,
+        time: 1,
+        grain: 6,
+    };
+    assert!(rt; Pace::filling(7, stretch, 6) == Some(pace));
+    timetable.push(stretch, Some(pace), &shares)?;
     assert_eq!(rt; timetable.len(), 2);
     assert_eq!(rt; (timetable.units(0), timetable.units(1)), (0, 7));
     assert_eq!(rt; timetable.stretch(1), stretch);

@@ -1,14 +1,11 @@
-use Rattle.std.proofs.Common.{◌*◌, ◌≤◌, ◌∙◌, List, arith, ap, sym, subst}
-use Rattle.std.specs.List.{All}
+use Rattle.std.proofs.Common.{◌*◌, ◌≤◌, arith, ap}
 use Rattle.std.proofs.lemmas.List.Elements.{All-weaker}
 use Rattle.yds_model.specs.declared.limits.TheConstants.{MAX_SLOT_WORK, MAX_WORK}
-use Rattle.yds_model.specs.Slot.{WrittenSlot}
 use Rattle.yds_model.specs.Piece.{Piece}
 use Rattle.yds_timetable.specs.Shares.{JobShare}
-use Rattle.yds_timetable.specs.Pace.{lowest_pace, IsPaceOf}
+use Rattle.yds_timetable.specs.Pace.{lowest_pace}
 use Rattle.yds_timetable.proofs.Lowest.{lowest_is}
 use Rattle.yds_timetable.proofs.Filling.{can_run}
-use Rattle.yds_edf.specs.Laid.{IsLaidIn, FillStretch}
 use Rattle.yds_edf.proofs.Laid.{laid_runs, laid_full}
 use Rattle.yds_edf.proofs.laying.lay.Goals as goal
 

@@ -1,4 +1,4 @@
-use Rattle.std.proofs.Common.{◌≡◌, ℕ, ◌+◌, ◌<◌, ◌≤◌, ◌++◌, List, [], length, ◌∙◌, sym, subst, ap, arith, refl, Bool}
+use Rattle.std.proofs.Common.{◌≡◌, ℕ, ◌+◌, ◌<◌, ◌≤◌, List, length, ◌∙◌, sym, subst, ap, arith, refl, Bool}
 use Rattle.yds_model.specs.Job.{Job}
 use Rattle.yds_model.specs.Piece.{Piece}
 use Rattle.yds_model.specs.Event.{stretches}
@@ -56,8 +56,13 @@ pub serve_stretch-requires-clause-few : goal.serve_stretch-requires-clause-few
 serve_stretch-requires-clause-few g c =
     let here : c.loop-number.number < length (stretches c.args.rows.now) =
     omega (arith, c.loop-number-test.true, ap (λ (pieces : List Piece). length pieces) c.loop-number.invariant.timeline) in
-    omega (arith, tabled_many c.loop-number.invariant.tabled (let most : c.loop-number.number ≤ length (stretches c.args.rows.now) = omega (arith, here) in most), here,
-    few_stretches c.args.rows.now, c.requires.few)
+    omega (
+      arith,
+      tabled_many c.loop-number.invariant.tabled (let most : c.loop-number.number ≤ length (stretches c.args.rows.now) = omega (arith, here) in most),
+      here,
+      few_stretches c.args.rows.now,
+      c.requires.few,
+    )
 
 pub loop-number-preserved : goal.loop-number-preserved
 loop-number-preserved g c =
