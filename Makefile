@@ -124,8 +124,7 @@ library: $(LIBRARY)
 library-test: $(BINARY) $(LIBRARY)
 	@CC=$(CC) CXX=$(CXX) sh library/test/test.sh
 
-install: install-program
-	@if test -f $(LIBRARY); then $(MAKE) --no-print-directory install-library; fi
+install: install-program $(if $(wildcard $(LIBRARY)),install-library)
 
 install-program: $(BINARY)
 	install -d $(BIN) $(MAN) $(COMPLETIONS) $(RECIPES) $(EXAMPLES)
