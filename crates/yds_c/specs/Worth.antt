@@ -21,35 +21,29 @@ pub record IsWorth (words : List (List ℕ)) (input text : List ℕ) (status : S
   -- It is the answer of the definitions to the words and to all bytes of the input.
   pub answers : AnswersRequest (asked words) input text status
   pub whole : IsWhole status
-
   -- A plan is read again as the document with that plan, which gives every job its work in its window and, for every speed, does no more
   -- work above it than any feasible schedule. By every convex table of points it takes no more energy than any of them.
   pub headline : words ≡ codes "plan" ∷ [] → status ≡ statuses.Done → HoldsHeadline input text
-
   -- `check` says 'accepted' exactly where the document's levels are a proper certificate of its slots.
   pub accepted : words ≡ codes "check" ∷ [] → (status ≡ statuses.Done) ⊎ (status ≡ statuses.No) → HoldsJudgement input text status
   -- `audit` says 'feasible' exactly where the document's slots give every job its work inside its window, one job at a time. With
   -- `--points` it is so where each also runs at a point's speed.
   pub feasible : words ≡ codes "audit" ∷ [] → (status ≡ statuses.Done) ⊎ (status ≡ statuses.No) → HoldsVerdict input text status
   pub feasible_on_points : words ≡ codes "audit" ∷ codes "--points" ∷ [] → (status ≡ statuses.Done) ⊎ (status ≡ statuses.No)
-    → HoldsVerdictOnPoints input text status
-
+      → HoldsVerdictOnPoints input text status
   -- A rounded plan is read again as the document with slots at the speeds of its points, and no feasible schedule on the points takes less
   -- energy. Where it says no, no feasible schedule stays at or below the top one.
   pub least_energy : words ≡ codes "round" ∷ [] → status ≡ statuses.Done → HoldsLeastEnergy input text
   pub too_slow : words ≡ codes "round" ∷ [] → status ≡ statuses.No → HoldsTooSlow input text
-
   -- A policy's run is read again as the document with the run, which gives every job its work in its window. Where it says that it never
   -- rounded, it is the policy's own.
   pub average_rate : (grid : ℕ) → asked words ≡ Some (OfDocument (AskAverageRate grid)) → status ≡ statuses.Done → HoldsAverageRate grid input text
   pub optimal_available : (grid : ℕ) → asked words ≡ Some (OfDocument (AskOptimalAvailable grid)) → status ≡ statuses.Done
-    → HoldsOptimalAvailable grid input text
-
+      → HoldsOptimalAvailable grid input text
   -- A comparison tells neither policy less energy than the plan, and the plan the energy that `round` writes for the same input. Where it
   -- says no, the points are too slow, as for `round`.
   pub comparison : (grid : ℕ) → asked words ≡ Some (OfDocument (AskCompare grid)) → status ≡ statuses.Done → HoldsComparison grid input text
   pub compared_too_slow : (grid : ℕ) → asked words ≡ Some (OfDocument (AskCompare grid)) → status ≡ statuses.No → HoldsTooSlow input text
-
   -- A curve tells at rising speeds, from 0 on, the least work that any feasible schedule does above them.
   pub least_excess : words ≡ codes "curve" ∷ [] → status ≡ statuses.Done → HoldsCurve input text
   -- A report of JSON is read by `serde_json` as the numbers of the jobs and of a plan's levels.
