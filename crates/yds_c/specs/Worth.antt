@@ -1,9 +1,8 @@
--- What a text with its status is worth to whoever asked for it with these words, over this input. It is what `run` ensures of a
--- source that tells its bytes.
+-- What an answer with its status is worth to whoever asked for it with these words, over this input. It is what `run` ensures over
+-- a source and a sink that tell their bytes.
 use Rattle.std.specs.Prelude.{◌≡◌, ℕ, ◌⊎◌, List, [], ◌∷◌, codes, Some}
 use Rattle.yds_model.specs.declared.status.Status.{Status}
 use Rattle.yds_model.specs.declared.status.Status.TheVariants as statuses
-use Rattle.yds_model.specs.Answer.{AnswersRequest}
 use Rattle.yds_model.specs.Request.{OfDocument, AskAverageRate, AskOptimalAvailable, AskAdmit, AskCompare}
 use Rattle.yds_report.specs.JsonText.{HoldsReport}
 use Rattle.yds_texts.specs.AdmitText.{HoldsAdmission}
@@ -15,12 +14,8 @@ use Rattle.yds_texts.specs.RoundText.{HoldsLeastEnergy, HoldsTooSlow}
 use Rattle.yds_texts.specs.RunText.{HoldsAverageRate, HoldsOptimalAvailable}
 use Rattle.yds_texts.specs.TaskLaws.{HoldsExpansion}
 use Rattle.yds_run.specs.Words.{asked}
-use Rattle.yds_run.specs.Run.{IsWhole}
 
 pub record IsWorth (words : List (List ℕ)) (input text : List ℕ) (status : Status) : Type 0 where
-  -- It is the answer of the definitions to the words and to all bytes of the input.
-  pub answers : AnswersRequest (asked words) input text status
-  pub whole : IsWhole status
   -- A plan is read again as the document with that plan, which gives every job its work in its window and, for every speed, does no more
   -- work above it than any feasible schedule. By every convex table of points it takes no more energy than any of them.
   pub headline : words ≡ codes "plan" ∷ [] → status ≡ statuses.Done → HoldsHeadline input text

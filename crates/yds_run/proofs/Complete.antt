@@ -90,7 +90,8 @@ trial_answers named seed jobs result old new flushed is writes input = subst (λ
 
 -- # What a text that was written whole is worth
 
-whole_outcome : (ended : Status) (text : List ℕ) (status : Status) (old new : Option (List ℕ)) (flushed : Option ℕ) → IsWhole ended
+-- what a run that ended whole wrote is the whole text
+pub whole_outcome : (ended : Status) (text : List ℕ) (status : Status) (old new : Option (List ℕ)) (flushed : Option ℕ) → IsWhole ended
     → Outcome ended text status old new flushed → WritesWhole ended text status old new flushed
 whole_outcome statuses.Done text status old new flushed whole outcome = outcome
 whole_outcome statuses.No text status old new flushed whole outcome = outcome
