@@ -2,9 +2,9 @@
  * answers.c: whether the library answers as the program does.
  *
  *   answers rows ROWS       each worked row in rooms of several sizes, one byte too small among them
- *   answers threads ROWS    every row in four threads at once, each with a stack of 64 KiB
+ *   answers threads ROWS    every row, and documents of 4,000 jobs, in four threads at once, each with a stack of 64 KiB
  *   answers words           words that aren't UTF-8, no words, odd words
- *   answers memory ROWS     each allocation of each row refused in turn, alone and with all after it
+ *   answers memory ROWS     each allocation for these refused in turn, alone and with all after it
  *
  * ROWS is the folder of worked rows. `memory` wants REFUSING to be defined, and the static library linked with
  * -Wl,--wrap=malloc,--wrap=realloc,--wrap=free. The last line is 'N passed, M failed', and the exit status is 1 where M isn't 0.
@@ -17,7 +17,7 @@
 #include <stdlib.h>
 #include <string.h>
 
-enum { MOST_WORDS = 6, GUARD = 64, THREADS = 4, ROUNDS = 10, STACK = 65536, JOBS = 1000 };
+enum { MOST_WORDS = 6, GUARD = 64, THREADS = 4, ROUNDS = 10, STACK = 65536, LARGE_ROWS = 9, JOBS = 4000 };
 
 struct text {
 	char *bytes;
@@ -89,7 +89,7 @@ static void load_rows(const char *folder) {
 		fprintf(stderr, "answers: no worked rows in %s\n", folder);
 		exit(2);
 	}
-	rows = have(calloc(found.gl_pathc, sizeof *rows));
+	rows = have(calloc(found.gl_pathc + LARGE_ROWS, sizeof *rows));
 	for (size_t i = 0; i < found.gl_pathc; i++) {
 		struct row *row = &rows[row_count++];
 		char *path = have(strdup(found.gl_pathv[i])), example[4096];
@@ -152,6 +152,31 @@ static void try_rows(void) {
 	}
 }
 
+/* Rows of a document that takes more memory and more of the stack: many jobs on operating points. What answers them is what the call gives. */
+static void add_large_rows(void) {
+	static char input[JOBS * 64 + 100], lines[LARGE_ROWS][40] = {"plan", "round", "report", "report --json", "curve", "avr --grid 7", "oa --grid 7", "compare --grid 7", "admit 20"};
+	uint64_t state = 7;
+	size_t length = 0;
+	for (int i = 0; i < JOBS; i++) {
+		state = state * 6364136223846793005 + 1442695040888963407;
+		unsigned long release = state >> 44, window = 1 + (state >> 20) % 5000, work = (state >> 8) % 900;
+		length += (size_t)sprintf(input + length, "job j%d %lu %lu %lu\n", i, release, release + window, work);
+	}
+	length += (size_t)sprintf(input + length, "point 0 1\npoint 40 900\npoint 1000 90000\npoint 1000000 900000000\n");
+	for (size_t i = 0; i < LARGE_ROWS; i++) {
+		struct row *row = &rows[row_count++];
+		row->name = have(strdup(lines[i]));
+		row->input = (struct text){input, length};
+		for (char *rest = lines[i], *word; (word = strsep(&rest, " ")) != NULL;)
+			row->words[row->word_count++] = (struct yds_word){word, strlen(word)};
+		row->status = yds_answer(row->words, row->word_count, input, length, 1, 2, input, 0, &row->answer.length);
+		row->answer.bytes = have(malloc(row->answer.length + 1));
+		if (row->status == YDS_DONE)
+			row->status = yds_answer(row->words, row->word_count, input, length, 1, 2, row->answer.bytes, row->answer.length, &row->answer.length);
+		judge(row->name, row->status == YDS_DONE ? NULL : "a large document isn't answered");
+	}
+}
+
 /* Words */
 
 static void try_words(void) {
@@ -202,6 +227,7 @@ static void *in_a_thread(void *fault) {
 }
 
 static void try_threads(void) {
+	add_large_rows();
 	pthread_t threads[THREADS];
 	const char *faults[THREADS] = {NULL};
 	pthread_attr_t small;
@@ -285,36 +311,10 @@ static void refuse_each(const struct row *row) {
 	free(space);
 }
 
-/* A document that takes more memory: many jobs on points. Its answer is what the call gives with all memory. */
-static void refuse_large(const char *line) {
-	struct row row = {.name = (char *)line, .word_count = 0};
-	char *words = have(strdup(line)), *rest = words, *input = have(malloc(JOBS * 64));
-	unsigned long state = 7;
-	for (char *word; (word = strsep(&rest, " ")) != NULL;)
-		row.words[row.word_count++] = (struct yds_word){word, strlen(word)};
-	for (int i = 0; i < JOBS; i++) {
-		state = state * 6364136223846793005 + 1442695040888963407;
-		unsigned long release = state >> 44, length = 1 + (state >> 20) % 5000, work = (state >> 8) % 900;
-		row.input.length += (size_t)sprintf(input + row.input.length, "job j%d %lu %lu %lu\n", i, release, release + length, work);
-	}
-	row.input.length += (size_t)sprintf(input + row.input.length, "point 0 1\npoint 40 900\npoint 1000 90000\npoint 1000000000 900000000000\n");
-	row.input.bytes = input;
-	row.status = yds_answer(row.words, row.word_count, row.input.bytes, row.input.length, 1, 2, "", 0, &row.answer.length);
-	row.answer.bytes = have(malloc(row.answer.length + 1));
-	yds_answer(row.words, row.word_count, row.input.bytes, row.input.length, 1, 2, row.answer.bytes, row.answer.length, &row.answer.length);
-	judge(line, row.status == YDS_DONE ? NULL : "another status");
-	refuse_each(&row);
-	free(row.answer.bytes);
-	free(input);
-	free(words);
-}
-
 static void try_memory(void) {
-	static const char *const lines[] = {"plan", "round", "report", "report --json", "curve", "avr --grid 7", "oa --grid 7", "compare --grid 7", "admit 20"};
+	add_large_rows();
 	for (size_t i = 0; i < row_count; i++)
 		refuse_each(&rows[i]);
-	for (size_t i = 0; i < sizeof lines / sizeof lines[0]; i++)
-		refuse_large(lines[i]);
 	printf("%lu refusals\n", refusals);
 }
 
