@@ -19,6 +19,7 @@ mod compare;
 mod curve;
 mod deliver;
 mod expand;
+mod on_bytes;
 mod plan;
 mod policies;
 mod refusal;
@@ -32,7 +33,8 @@ mod verdict_line;
 mod with_points;
 
 pub use command::{Command, Question};
-pub use running::{run, run_on_bytes};
+pub use on_bytes::run_on_bytes;
+pub use running::run;
 
 #[cfg(test)]
 mod tests;

@@ -1,7 +1,7 @@
 ghost use Rattle.std.specs.Prelude.{◌≡◌, ◌≢◌, ◌⊎◌, ◌<◌, ◌≤◌, ◌∷◌, [], ℕ, List, length, codes, Some, None, IfSome, MatchResult};
 ghost use Rattle.yds_model.specs.declared.limits.TheConstants.{MAX_INPUT};
 ghost use Rattle.std.specs.Io.KnownBytes.{Appends, IsAtEnd};
-ghost use Rattle.yds_model.specs.Answer.{AnswersReading, AnswersQuestion, AnswersRequest};
+ghost use Rattle.yds_model.specs.Answer.{AnswersReading, AnswersQuestion};
 ghost use Rattle.yds_model.specs.Reading.{reading};
 ghost use Rattle.yds_model.specs.Request.{usage_line, OfDocument, AskAverageRate, AskOptimalAvailable, AskAdmit, AskCompare};
 ghost use Rattle.yds_texts.specs.AdmitText.{HoldsAdmission};
@@ -26,7 +26,7 @@ use crate::command::{Command, Question};
 use crate::compare::compare_document;
 use crate::curve::curve_document;
 use crate::deliver::deliver;
-use crate::expand::{expand_bytes, expand_input};
+use crate::expand::expand_input;
 use crate::plan::plan_document;
 use crate::policies::{average_rate_document, optimal_available_document};
 use crate::refusal::{RefusedAt, TooLong, Usage};
@@ -159,26 +159,6 @@ pub fn run<S: Source, K: Sink>(
     }
 }
 
-/// Runs the command that the words name over an input in memory, as `run` does over a source. So what was written is the answer to just
-/// this input, and there is no read that could fail.
-pub fn run_on_bytes<K: Sink>(
-    alloc: Global,
-    keys: RandomState,
-    words: &[String],
-    input: &[u8],
-    sink: &mut K,
-) -> Status
-    ensures { Replies K.written K.flushed K.flushes K.faults (AnswersRequest (asked (words_of words.now)) input.now) result sink.old sink.new }
-{
-    match Command::of(words) {
-        None => deliver(&Usage, sink),
-        Some(Command::Trial { seed, jobs }) => reply(try_plan(alloc, seed, jobs), sink),
-        Some(_) if input.len() > MAX_INPUT => deliver(&TooLong, sink),
-        Some(Command::Document(question)) => answer_bytes(alloc, keys, question, input, sink),
-        Some(Command::Expand) => expand_bytes(alloc, keys, input, sink),
-    }
-}
-
 /// Answers the question about the document in the input.
 fn answer_input<S: Source, K: Sink>(
     alloc: Global,
@@ -204,7 +184,7 @@ fn answer_input<S: Source, K: Sink>(
 }
 
 /// Answers the question about the document that the bytes are.
-fn answer_bytes<K: Sink>(
+pub fn answer_bytes<K: Sink>(
     alloc: Global,
     keys: RandomState,
     question: Question,
@@ -264,7 +244,7 @@ fn answer_document<K: Sink>(
 }
 
 /// Delivers an answer, where memory sufficed for it.
-fn reply<A: Answer + Drop, K: Sink>(made: Result<A, Memory>, sink: &mut K) -> Status
+pub fn reply<A: Answer + Drop, K: Sink>(made: Result<A, Memory>, sink: &mut K) -> Status
     ensures { MatchResult made (λ answer. IsDelivered K.written K.flushed K.flushes K.faults (A.text answer) (A.ends answer) result sink.old sink.new)
         (λ error. (result ≡ Status.Memory) × (sink.new ≡ sink.old)) }
 {
