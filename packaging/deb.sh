@@ -67,7 +67,7 @@ close() {
 # compress FOLDER: the manual pages, as Debian has them.
 compress() { find "$1/usr/share/man" -type f -exec gzip -9n {} +; }
 
-make --no-print-directory install DESTDIR="$PWD/$stage/yds-cli" PREFIX=/usr >/dev/null || die "make install failed"
+make --no-print-directory install-program DESTDIR="$PWD/$stage/yds-cli" PREFIX=/usr >/dev/null || die "make install failed"
 compress $stage/yds-cli
 close yds-cli amd64 "libc6 (>= 2.34)" "jq, gnuplot-nox, parallel, trace-cmd, bash-completion" \
 	"planner and auditor for jobs on a processor of variable speed" <<'TEXT'

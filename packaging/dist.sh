@@ -19,7 +19,7 @@ git archive --prefix="$name/" HEAD | gzip -9n >"$out/$name.tar.gz"
 stage=build/stage
 folder=$stage/$name-linux-x86_64
 rm -rf $stage
-make --no-print-directory install INSTALLED=build/yds_cli-static DESTDIR="$PWD/$folder" PREFIX= >/dev/null || die "make install failed"
+make --no-print-directory install-program INSTALLED=build/yds_cli-static DESTDIR="$PWD/$folder" PREFIX= >/dev/null || die "make install failed"
 cp README.md CHANGELOG.md LICENSE-MIT LICENSE-APACHE VERSION "$folder"
 {
 	echo "This program, bin/yds_cli, is one file that needs no library. It runs on any Linux, on a processor of x86-64-v2 or later."

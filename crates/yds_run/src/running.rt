@@ -184,7 +184,7 @@ fn answer_input<S: Source, K: Sink>(
 }
 
 /// Answers the question about the document that the bytes are.
-fn answer_bytes<K: Sink>(
+pub fn answer_bytes<K: Sink>(
     alloc: Global,
     keys: RandomState,
     question: Question,
@@ -244,7 +244,7 @@ fn answer_document<K: Sink>(
 }
 
 /// Delivers an answer, where memory sufficed for it.
-fn reply<A: Answer + Drop, K: Sink>(made: Result<A, Memory>, sink: &mut K) -> Status
+pub fn reply<A: Answer + Drop, K: Sink>(made: Result<A, Memory>, sink: &mut K) -> Status
     ensures { MatchResult made (λ answer. IsDelivered K.written K.flushed K.flushes K.faults (A.text answer) (A.ends answer) result sink.old sink.new)
         (λ error. (result ≡ Status.Memory) × (sink.new ≡ sink.old)) }
 {
