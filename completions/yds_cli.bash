@@ -19,11 +19,13 @@ _yds_recipe() {
 	[[ ${COMPREPLY[0]} != *= ]] || compopt -o nospace
 }
 complete -o default -F _yds_cli yds_cli
-# The recipes' commands are those links on the PATH that lead to the recipes.
+# The recipes' commands are those on the PATH that lead to the recipes: links to command.sh, or the files of recipes/bin.
 _yds_complete_recipes() {
 	local command
 	for command in $(compgen -c yds- | sort -u); do
-		[[ $(readlink -f "$(type -P "$command")") != */recipes/command.sh ]] || complete -o default -F _yds_recipe "$command"
+		case $(readlink -f "$(type -P "$command")") in
+		*/recipes/command.sh | */recipes/bin/"$command") complete -o default -F _yds_recipe "$command" ;;
+		esac
 	done
 }
 _yds_complete_recipes

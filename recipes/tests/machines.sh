@@ -13,21 +13,34 @@ test_machines() {
 	(cd "$work/spread" && parallel --will-cite -j4 --retries 3 --joblog ../one.log '"$YDS" compare --grid 12 < {} > {.}.one || test $? -lt 4' ::: part-*.txt) >"$work/out" 2>&1
 	same_whole "four processors" one
 	want sshd || return
+	# Answers one part, in the folder of the parts. Where a machine is to fail, the fourth and later ones wait until it has, so that some are left for it.
+	cat >"$work/part" <<'END'
+program=$1 ending=$2 part=$3
+if [ "$ending" != both ] && [ "$(ls part-*."$ending" 2>/dev/null | wc -l)" -ge 3 ]; then
+	for try in $(seq 400); do
+		[ ! -e "../failed.$ending" ] || break
+		sleep 0.05
+	done
+fi
+sleep 0.1
+"$program" compare --grid 12 <"$part" >"${part%.txt}.$ending" || test $? -lt 4
+END
 	cat >"$work/try" <<'END'
 # spread WORDS: answers the parts on both machines, two at a time on each. The parts stand in a folder that both see.
 spread() {
 	ending=$1
 	shift
 	timeout 120 parallel --will-cite --ssh "$MACHINES/ssh" -S 2/alpha,2/beta --workdir . --joblog "../$ending.log" "$@" \
-		"sleep 0.1; $YDS compare --grid 12 < {} > {.}.$ending || test \$? -lt 4" ::: part-*.txt
+		"sh ../part $YDS $ending {}" ::: part-*.txt
 }
-# Once five answers are there, beta fails. It waits for twenty seconds at most.
+# Once three answers are there, beta fails. It waits for twenty seconds at most.
 fail_soon() {
-	for try in $(seq 100); do
-		[ "$(ls part-*."$1" 2>/dev/null | wc -l)" -lt 5 ] || break
-		sleep 0.2
+	for try in $(seq 400); do
+		[ "$(ls part-*."$1" 2>/dev/null | wc -l)" -lt 3 ] || break
+		sleep 0.05
 	done
 	"$MACHINES/fail" beta
+	: >"../failed.$1"
 }
 spread both
 fail_soon retried &

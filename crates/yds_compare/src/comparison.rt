@@ -1,12 +1,14 @@
-ghost use Rattle.std.specs.Prelude.{◌≡◌, ◌≤◌, length, sum_by, All, IfOk, IfErr, Err};
+ghost use Rattle.std.specs.Prelude.{◌≡◌, ◌≤◌, List, length, sum_by, All, IfOk, IfErr, Err};
 ghost use Rattle.yds_model.specs.declared.limits.TheConstants.{MAX_GRID, MAX_JOBS, MAX_ROUNDED, MAX_TIME};
 ghost use Rattle.yds_model.specs.Job.{IsJob};
+ghost use Rattle.yds_model.specs.Slot.{WrittenSlot};
 ghost use Rattle.yds_model.specs.Plan.{IsPlan};
 ghost use Rattle.yds_model.specs.Event.{stretches as job_stretches};
 ghost use Rattle.yds_model.specs.Comparison.{IsSpent};
 ghost use Rattle.yds_model.specs.AverageRate.{IsAverageRateRun};
 ghost use Rattle.yds_model.specs.OptimalAvailable.{IsOptimalAvailableRun};
 ghost use Rattle.yds_events.specs.Stretch.{length_of};
+ghost use Rattle.yds_plan.specs.PlanLevels.{AreLevelsOfPlan};
 ghost use Rattle.yds_round.specs.Fault.{IsCauseOfRoundFault, HasFastLevel, too_slow};
 ghost use Rattle.yds_compare.specs.Side.{IsSideOfRun};
 
@@ -15,10 +17,10 @@ use crate::side::{Side, side_of};
 use crate::spent::{Spent, spend};
 use std::alloc::Global;
 use yds_avr::avr;
+use yds_certificate::{Certificate, Level};
 use yds_events::stretches;
 use yds_model::{JobRow, Memory};
 use yds_oa::oa;
-use yds_plan::Planned;
 use yds_round::{RoundFault, fault_of};
 use yds_table::Table;
 
@@ -46,59 +48,61 @@ fn read(rows: &[JobRow])
     }
 }
 
-/// What a plan spends, level by level.
+/// What a plan of these levels spends, level by level.
 ///
 /// The stretches of a level run at its speed and are together as long as it, so no finer parts are needed than those of the hull.
 fn plan_spent(
     alloc: Global,
     rows: &[JobRow],
     time: u64,
-    plan: &Planned,
+    levels: &[Level],
     table: &Table,
 ) -> Result<Spent, Memory>
     requires time { time ≡ sum_by length_of (job_stretches rows.now) }
     requires time_in_range { time ≤ MAX_TIME }
-    requires plan { IsPlan rows.now plan.now.schedule.slots plan.now.certificate }
-    requires fast_enough { HasFastLevel plan.now.certificate table.now → ⊥ }
-    ensures { IfOk result (λ spent. IsSpent rows.now table.now plan.now.schedule.slots spent) }
+    requires plan { AreLevelsOfPlan rows.now levels.now }
+    requires fast_enough { HasFastLevel levels.now table.now → ⊥ }
+    ensures { IfOk result (λ spent. (slots : List WrittenSlot) → IsPlan rows.now slots levels.now → IsSpent rows.now table.now slots spent) }
 {
     // Reading the hull shows that its speeds rise.
     let _hull = table.hull();
-    let loads = loads_of_levels(alloc, plan.certificate.levels(), time)?;
+    let loads = loads_of_levels(alloc, levels, time)?;
     let spent = spend(alloc, &loads, 1, table)?;
     Ok(spent)
 }
 
-/// Compares the plan of these jobs with the runs of Average Rate and of Optimal Available on the grid.
+/// Compares the plan of these jobs with the runs of Average Rate and of Optimal Available on the grid. Of the plan the levels are
+/// enough: all slots with which they are a plan spend the same.
 ///
 /// Each stretch between event points runs at the points of the table's lower hull around its speed, as long at each as gives that
 /// speed. Where the plan's first level is faster than the last point, that is told as by `round`, before any memory is taken.
 pub fn compare(
     alloc: Global,
     rows: &[JobRow],
-    plan: &Planned,
+    certificate: &Certificate,
     table: &Table,
     grid: u32,
 ) -> Result<Comparison, RoundFault>
     requires few { length rows.now ≤ MAX_JOBS }
-    requires plan { IsPlan rows.now plan.now.schedule.slots plan.now.certificate }
+    requires plan { AreLevelsOfPlan rows.now certificate.now }
     requires some_grid { 1 ≤ grid }
     requires grid_in_range { grid ≤ MAX_GRID }
-    ensures plan { IfOk result (λ compared. IsSpent rows.now table.now plan.now.schedule.slots compared.plan) }
+    ensures plan { IfOk result (λ compared. (slots : List WrittenSlot) → IsPlan rows.now slots certificate.now → IsSpent rows.now table.now slots compared.plan) }
     ensures average_rate { IfOk result (λ compared.
         IsSideOfRun (IsAverageRateRun rows.now grid compared.avr_rounded) rows.now table.now grid compared.avr) }
     ensures optimal_available { IfOk result (λ compared.
         IsSideOfRun (IsOptimalAvailableRun rows.now grid compared.oa_rounded) rows.now table.now grid compared.oa) }
     ensures counts_in_range { IfOk result (λ compared. (compared.avr_rounded ≤ MAX_ROUNDED) × (compared.oa_rounded ≤ MAX_ROUNDED)) }
-    ensures cause { IfErr result (IsCauseOfRoundFault plan.now.certificate table.now) }
-    ensures too_slow { HasFastLevel plan.now.certificate table.now → result ≡ Err (too_slow plan.now.certificate table.now) }
+    ensures cause { IfErr result (IsCauseOfRoundFault certificate.now table.now) }
+    ensures too_slow { HasFastLevel certificate.now table.now → result ≡ Err (too_slow certificate.now table.now) }
 {
-    if let Some(fault) = fault_of(table, plan.certificate.levels()) {
+    let levels = certificate.levels();
+    if let Some(fault) = fault_of(table, levels) {
         return Err(fault);
     }
     read(rows);
     let timeline = stretches(alloc, rows)?;
-    let spent = plan_spent(alloc, rows, total_length(&timeline), plan, table)?;
+    let spent = plan_spent(alloc, rows, total_length(&timeline), levels, table)?;
     let average = avr(alloc, rows, grid)?;
     let optimal = oa(alloc, rows, grid)?;
     Ok(Comparison {

@@ -58,8 +58,8 @@ fn read_each<'a>(
     ensures kept { OnOk result (IsDraft draft.new) }
     ensures reads { Reads SlotLine (field_read kind.entry ∷ fields.entry.fields) result draft.old draft.new }
 {
-    let (name, from, to, work) = four_fields(kind, fields)?;
-    let slot = slot_in(&draft.instance, &draft.schedule, name, from, to, work)?;
+    let fields = four_fields(kind, fields)?;
+    let slot = slot_in(&draft.instance, &draft.schedule, fields)?;
     add(draft, slot)?;
     Ok(())
 }
@@ -89,21 +89,19 @@ fn plain_slot(instance: &Instance<'_>, schedule: &Schedule, mut fields: Fields<'
     })
 }
 
-/// What the fields say: a slot whose work is alike with those that its job got before.
+/// What the fields say, a name, two ends and a work: a slot whose work is alike with those that its job got before.
 fn slot_in(
     instance: &Instance<'_>,
     schedule: &Schedule,
-    name: Field<'_>,
-    from: Field<'_>,
-    to: Field<'_>,
-    work: Field<'_>,
+    fields: (Field<'_>, Field<'_>, Field<'_>, Field<'_>),
 ) -> Result<Slot, LineFault>
     requires { schedule.now.jobs ≡ length instance.now.jobs }
     ensures gives { Gives (λ slot. SlotEntry slot) result
-        (slot_of instance.now.names schedule.now.slots (field_read name.entry) (field_read from.entry) (field_read to.entry) (field_read work.entry)) }
+        (slot_of instance.now.names schedule.now.slots (field_read fields.entry.0) (field_read fields.entry.1) (field_read fields.entry.2) (field_read fields.entry.3)) }
     ensures known { IfOk result (λ slot. slot.job < length instance.now.jobs) }
     ensures grain { IfOk result (λ slot. FitsGrain schedule.now.slots slot) }
 {
+    let (name, from, to, work) = fields;
     let job = known_job(instance, name)?;
     let begin = fraction_in(from, u64::from(MAX_TIME))?;
     let end = fraction_in(to, u64::from(MAX_TIME))?;

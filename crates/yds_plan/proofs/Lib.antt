@@ -8,3 +8,4 @@ pub mod DraftSteps
 pub mod Places
 pub mod Bounds
 pub mod Laying
+pub mod Fitting

@@ -1,4 +1,5 @@
 pub mod Laid
+pub mod PlanLevels
 pub mod Drafts
 pub mod Room
 pub mod Sorted

@@ -28,7 +28,11 @@ pub struct Planned {
 }
 
 /// The levels of what was found.
-fn levels_of_found(alloc: Global, timeline: &[Stretch], found: &Found) -> Result<Vec<Level>, Memory>
+pub(crate) fn levels_of_found(
+    alloc: Global,
+    timeline: &[Stretch],
+    found: &Found,
+) -> Result<Vec<Level>, Memory>
     requires groups { AreGroupsWithin (found_view found.now).groups }
     requires jobs { length found.now.group_of_job.items ≤ MAX_JOBS }
     requires stretches { length found.now.group_of_stretch.items ≡ length timeline.now }

@@ -2,7 +2,7 @@
 //! feasible schedule does.
 //!
 //! It stands on `yds_model`, `yds_fraction`, `yds_events`, `yds_search`, `yds_slots` and `yds_certificate`. Its one promise is
-//! that `plan` answers a plan by the model's definition; that it is least, for every speed and every convex power
+//! that `plan` answers a plan by the model's definition, and `plan_levels` the levels of one; that it is least, for every speed and every convex power
 //! function, are laws of that definition.
 #![tactic(auto)]
 
@@ -14,4 +14,4 @@ mod layout_slots;
 mod planning;
 
 pub use layout::{Planned, lay_out};
-pub use planning::{plan, read_rows};
+pub use planning::{plan, plan_levels, read_rows};

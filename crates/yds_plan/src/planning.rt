@@ -3,9 +3,11 @@ ghost use Rattle.std.specs.List.{All};
 ghost use Rattle.yds_model.specs.declared.limits.TheConstants.{MAX_JOBS};
 ghost use Rattle.yds_model.specs.Job.{IsJob};
 ghost use Rattle.yds_model.specs.Plan.{IsPlan};
+ghost use Rattle.yds_plan.specs.PlanLevels.{AreLevelsOfPlan};
 
-use crate::layout::{Planned, lay_out};
+use crate::layout::{Planned, lay_out, levels_of_found};
 use std::alloc::Global;
+use yds_certificate::Certificate;
 use yds_events::stretches;
 use yds_model::{JobRow, Memory};
 use yds_search::find;
@@ -33,4 +35,18 @@ pub fn plan(alloc: Global, rows: &[JobRow]) -> Result<Planned, Memory>
     let timeline = stretches(alloc, rows)?;
     let found = find(alloc, rows, &timeline)?;
     lay_out(alloc, rows, &timeline, &found)
+}
+
+/// The levels of the offline plan, without its slots: none is laid for them.
+///
+/// With the slots that `plan` lays they are a plan of the jobs. By a law two plans of the same jobs have the same levels.
+pub fn plan_levels(alloc: Global, rows: &[JobRow]) -> Result<Certificate, Memory>
+    requires { length rows.now ≤ MAX_JOBS }
+    ensures { IfOk result (AreLevelsOfPlan rows.now) }
+{
+    read_rows(rows);
+    let timeline = stretches(alloc, rows)?;
+    let found = find(alloc, rows, &timeline)?;
+    let levels = levels_of_found(alloc, &timeline, &found)?;
+    Ok(Certificate::from_levels(levels))
 }

@@ -13,19 +13,22 @@ ghost use Rattle.yds_report.specs.JsonValue.{level_value, report_value, ReportsA
 use crate::numbers::{first_release, idle_time, last_deadline, speed_of, total_work};
 use serde_json::Value;
 use std::alloc::Global;
-use yds_certificate::Level;
+use yds_certificate::{Certificate, Level};
 use yds_document::{Document, LineBuffer};
 use yds_model::{JobRow, Memory};
-use yds_plan::Planned;
 
-/// The report of a plan of the document's jobs as one line of JSON, compact and with rising keys: the numbers of
+/// The report of the levels of a plan of the document's jobs as one line of JSON, compact and with rising keys: the numbers of
 /// `report`, in units of work and of time, and a level's speed in lowest terms as a string.
-pub fn json(alloc: Global, document: &Document<'_>, plan: &Planned) -> Result<Vec<u8>, Memory>
-    ensures text { IfOk result (λ text. text.items ≡ report_json document.now.instance.jobs plan.now.certificate) }
-    ensures levels { All IsLevel plan.now.certificate }
-    ensures read { IfOk result (λ text. read text.items ≡ Some (report_value document.now.instance.jobs plan.now.certificate)) }
+pub fn json(
+    alloc: Global,
+    document: &Document<'_>,
+    certificate: &Certificate,
+) -> Result<Vec<u8>, Memory>
+    ensures text { IfOk result (λ text. text.items ≡ report_json document.now.instance.jobs certificate.now) }
+    ensures levels { All IsLevel certificate.now }
+    ensures read { IfOk result (λ text. read text.items ≡ Some (report_value document.now.instance.jobs certificate.now)) }
 {
-    let report = value_of_report(alloc, document.instance.rows(), plan.certificate.levels())?;
+    let report = value_of_report(alloc, document.instance.rows(), certificate.levels())?;
     let mut text = report.to_vec(alloc)?;
     text.push(b'\n')?;
     Ok(text)

@@ -4,26 +4,25 @@ ghost use Rattle.yds_model.specs.ReportAnswer.{level_row, report_text};
 ghost use Rattle.yds_port.specs.Sink.{Puts};
 
 use crate::report_lines::{idle_line, jobs_line, put_level};
-use yds_certificate::Level;
+use yds_certificate::{Certificate, Level};
 use yds_document::{Document, LineBuffer};
-use yds_plan::Planned;
 use yds_port::{Sink, WriteFault, write_all};
 
-/// Appends the report of a plan of the document's jobs, or after a fault a front of it: a line with the
+/// Appends the report of the levels of a plan of the document's jobs, or after a fault a front of it: a line with the
 /// number of the jobs, their work, the first release and the last deadline; for each level a line with its
 /// number from 1, its work, its length and its speed in lowest terms, in work per time unit; and a line with
 /// the time in which nothing runs, in time units. Takes no memory.
 pub fn report<K: Sink>(
     document: &Document<'_>,
-    plan: &Planned,
+    certificate: &Certificate,
     sink: &mut K,
 ) -> Result<(), WriteFault>
-    ensures puts { Puts K.written K.flushed K.flushes K.faults result (report_text document.now.instance.jobs plan.now.certificate) sink.old sink.new }
+    ensures puts { Puts K.written K.flushed K.flushes K.faults result (report_text document.now.instance.jobs certificate.now) sink.old sink.new }
     ensures later { K.faults sink.old ≤ K.faults sink.new }
     ensures counted { K.faults sink.old < K.faults sink.new → IsErr result }
 {
     let rows = document.instance.rows();
-    let levels = plan.certificate.levels();
+    let levels = certificate.levels();
     write_all(sink, jobs_line(rows).as_bytes())?;
     write_levels(levels, sink)?;
     write_all(sink, idle_line(rows, levels).as_bytes())

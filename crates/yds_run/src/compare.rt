@@ -23,7 +23,7 @@ use yds_document::{Document, LineBuffer};
 use yds_fraction::Amount;
 use yds_model::limits::MAX_GRID;
 use yds_model::{Memory, Status};
-use yds_plan::plan;
+use yds_plan::plan_levels;
 use yds_port::{Sink, WriteFault, write_all};
 use yds_round::RoundFault;
 use yds_table::Table;
@@ -215,8 +215,8 @@ pub fn compare_document(
     // A table has a point.
     let _points = table.points();
     let rows = instance.rows();
-    let planned = plan(alloc, rows)?;
-    match compare(alloc, rows, &planned, &table, grid) {
+    let certificate = plan_levels(alloc, rows)?;
+    match compare(alloc, rows, &certificate, &table, grid) {
         Ok(comparison) => {
             let sides = Sides { table, comparison };
             Ok(WithPoints::Answered(ComparedDocument::Sides(sides)))

@@ -11,7 +11,7 @@ use yds_curve::{Break, curve};
 use yds_document::{Document, LineBuffer};
 use yds_fraction::Amount;
 use yds_model::{Memory, Status};
-use yds_plan::plan;
+use yds_plan::plan_levels;
 use yds_port::{Sink, WriteFault, write_all};
 
 /// The breaks of the curve of a document's jobs.
@@ -62,7 +62,7 @@ fn break_line(bend: &Break) -> LineBuffer
 pub fn curve_document(alloc: Global, document: &Document<'_>) -> Result<Breaks, Memory>
     ensures { IfOk result (λ told. CurveAnswer (document_view document.now) (breaks_text told) Status.Done) }
 {
-    let planned = plan(alloc, document.instance.rows())?;
-    let breaks = curve(alloc, &planned.certificate)?;
+    let certificate = plan_levels(alloc, document.instance.rows())?;
+    let breaks = curve(alloc, &certificate)?;
     Ok(Breaks { breaks })
 }

@@ -6,17 +6,18 @@ ghost use Rattle.yds_run.specs.Report.{table_text};
 
 use crate::answer::Answer;
 use std::alloc::Global;
+use yds_certificate::Certificate;
 use yds_document::Document;
 use yds_model::{Memory, Status};
-use yds_plan::{Planned, plan};
+use yds_plan::plan_levels;
 use yds_port::{Sink, WriteFault};
 use yds_report::report;
 
-/// A plan of a document's jobs, to be told as a table.
+/// The levels of a plan of a document's jobs, to be told as a table.
 #[derive(Drop)]
 pub struct PlanTable<'a> {
     document: Document<'a>,
-    planned: Planned,
+    certificate: Certificate,
 }
 
 impl Answer for PlanTable<'_> {
@@ -32,7 +33,7 @@ impl Answer for PlanTable<'_> {
     }
 
     fn write<K: Sink>(&self, sink: &mut K) -> Result<(), WriteFault> {
-        report(&self.document, &self.planned, sink)
+        report(&self.document, &self.certificate, sink)
     }
 }
 
@@ -40,6 +41,9 @@ impl Answer for PlanTable<'_> {
 pub fn report_document<'a>(alloc: Global, document: Document<'a>) -> Result<PlanTable<'a>, Memory>
     ensures { IfOk result (λ table. ReportAnswer (document_view document.entry) (table_text table) Status.Done) }
 {
-    let planned = plan(alloc, document.instance.rows())?;
-    Ok(PlanTable { document, planned })
+    let certificate = plan_levels(alloc, document.instance.rows())?;
+    Ok(PlanTable {
+        document,
+        certificate,
+    })
 }

@@ -8,7 +8,7 @@ use crate::answer::Answer;
 use std::alloc::Global;
 use yds_document::Document;
 use yds_model::{Memory, Status};
-use yds_plan::plan;
+use yds_plan::plan_levels;
 use yds_port::{Sink, WriteFault, write_all};
 use yds_report::json;
 
@@ -39,7 +39,7 @@ impl Answer for JsonReport {
 pub fn json_document(alloc: Global, document: &Document<'_>) -> Result<JsonReport, Memory>
     ensures { IfOk result (λ report. JsonAnswer (document_view document.now) (json_text report) Status.Done) }
 {
-    let planned = plan(alloc, document.instance.rows())?;
-    let text = json(alloc, document, &planned)?;
+    let certificate = plan_levels(alloc, document.instance.rows())?;
+    let text = json(alloc, document, &certificate)?;
     Ok(JsonReport { text })
 }

@@ -1,13 +1,15 @@
 -- The jobs that wait and the stretches, in the time that is left.
 use Rattle.std.specs.Prelude.{◌≡◌, ℕ, ◌+◌, ◌-◌, ◌<◌, ◌≤◌, ◌⊎◌, Bool, nat_le, nat_lt, not, ◌&&◌, List, length, map, filter}
-use Rattle.std.specs.List.{range_with_len}
+use Rattle.std.specs.List.{All, range_with_len}
+use Rattle.yds_model.specs.declared.limits.TheConstants.{MAX_JOBS}
 use Rattle.yds_model.specs.Job.{Job, IsJob, job_at}
 use Rattle.yds_model.specs.Numbers.{Each}
 use Rattle.yds_model.specs.Piece.{Piece}
+use Rattle.yds_model.specs.Event.{stretches}
 use Rattle.yds_events.specs.Stretch.{nth_stretch}
 use Rattle.yds_intensity.specs.Work.{window_is_within}
 use Rattle.yds_critical.specs.declared.interval.Interval.{Interval}
-use Rattle.yds_contract.specs.Contracted.{place}
+use Rattle.yds_contract.specs.Contracted.{AreApartFrom, place}
 
 -- the job in the time that is left once so much is removed
 abbrev pub contracted : List Piece → Job → Job
@@ -65,3 +67,12 @@ AreWhole timeline removed =
     (place removed (nth_stretch timeline k).to ≡ place removed (nth_stretch timeline k).from)
     ⊎ (place removed (nth_stretch timeline k).to
     ≡ place removed (nth_stretch timeline k).from + ((nth_stretch timeline k).to - (nth_stretch timeline k).from)))
+
+-- In the time that is left these jobs wait. Each stretch of the timeline is taken whole or left whole.
+pub record AreLeft (jobs : List Job) (timeline removed : List Piece) (waiting : List ℕ) : Type 0 where
+  pub few_jobs : length jobs ≤ MAX_JOBS
+  pub few : length waiting ≤ MAX_JOBS
+  pub all_stretches : timeline ≡ stretches jobs
+  pub apart : AreApartFrom 0 removed
+  pub whole : AreWhole (stretches jobs) removed
+  pub can_wait : All (CanWait jobs removed) waiting

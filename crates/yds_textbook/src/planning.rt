@@ -8,7 +8,7 @@ ghost use Rattle.yds_textbook.specs.Stages.{AreStages};
 
 use crate::stage::{Stage, stage_of};
 use crate::together::found_of;
-use crate::waiting::{jobs_with_work, next_interval, parted};
+use crate::waiting::{Left, jobs_with_work, next_interval, parted};
 use std::alloc::Global;
 use yds_contract::Contraction;
 use yds_events::{Stretch, stretches};
@@ -29,7 +29,13 @@ pub fn stages(alloc: Global, rows: &[JobRow], timeline: &[Stretch]) -> Result<Ve
     let mut stages = Vec::new(alloc);
     while let Some(interval) = next_interval(alloc, rows, &taken, &waiting)? {
         let (members, others) = parted(alloc, rows, &taken, &waiting, &interval)?;
-        let stage = stage_of(alloc, rows, timeline, &taken, &waiting, members, &interval)?;
+        let left = Left {
+            rows,
+            timeline,
+            taken: &taken,
+            waiting: &waiting,
+        };
+        let stage = stage_of(alloc, &left, members, &interval)?;
         stages.push(stage)?;
         taken.remove(interval.start, interval.end)?;
         waiting = others;

@@ -1,22 +1,17 @@
-ghost use Rattle.std.specs.Prelude.{◌≡◌, ◌<◌, ◌≤◌, length, map, IfOk};
+ghost use Rattle.std.specs.Prelude.{◌≡◌, ◌<◌, length, map, IfOk};
 ghost use Rattle.std.specs.List.{All};
-ghost use Rattle.yds_model.specs.declared.limits.TheConstants.{MAX_JOBS};
-ghost use Rattle.yds_model.specs.Event.{stretches};
 ghost use Rattle.yds_critical.specs.Critical.{IsCritical};
-ghost use Rattle.yds_contract.specs.Contracted.{AreApartFrom};
 ghost use Rattle.yds_search.specs.Views.{shares_view};
-ghost use Rattle.yds_textbook.specs.Waiting.{CanWait, AreWhole, contracted_jobs, inside};
+ghost use Rattle.yds_textbook.specs.Waiting.{AreLeft, contracted_jobs, inside};
 ghost use Rattle.yds_textbook.specs.Stages.{IsStage, share_of_members};
 
 use crate::serving::serve;
-use crate::waiting::{contracted_rows, contracted_stretches, stretches_inside};
+use crate::waiting::{Left, contracted_rows, contracted_stretches, stretches_inside};
 use std::alloc::Global;
-use yds_contract::Contraction;
 use yds_critical::Interval;
 use yds_edf::Share as ShareByPlace;
-use yds_events::Stretch;
 use yds_fraction::Speed;
-use yds_model::{JobRow, Memory};
+use yds_model::Memory;
 use yds_search::{Group, Share};
 
 /// What a critical interval has: its jobs and stretches, and how they are served.
@@ -57,29 +52,21 @@ fn shares_by_number(
 /// The stage of the critical interval of the waiting jobs in the time that is left. `members` are the numbers of those inside it.
 pub(crate) fn stage_of(
     alloc: Global,
-    rows: &[JobRow],
-    timeline: &[Stretch],
-    taken: &Contraction,
-    waiting: &[u32],
+    left: &Left<'_>,
     members: Vec<u32>,
     interval: &Interval,
 ) -> Result<Stage, Memory>
-    requires few { length waiting.now ≤ MAX_JOBS }
-    requires few_rows { length rows.now ≤ MAX_JOBS }
-    requires timeline { timeline.now ≡ stretches rows.now }
-    requires apart { AreApartFrom 0 taken.now }
-    requires whole { AreWhole (stretches rows.now) taken.now }
-    requires can_wait { All (CanWait rows.now taken.now) waiting.now }
-    requires critical { IsCritical (contracted_jobs rows.now taken.now waiting.now) interval.now }
-    requires members { members.items ≡ inside rows.now taken.now interval.now waiting.now }
-    ensures { IfOk result (IsStage rows.now taken.now interval.now waiting.now) }
+    requires left { AreLeft left.now.rows.now left.now.timeline.now left.now.taken.now left.now.waiting.now }
+    requires critical { IsCritical (contracted_jobs left.now.rows.now left.now.taken.now left.now.waiting.now) interval.now }
+    requires members { members.items ≡ inside left.now.rows.now left.now.taken.now interval.now left.now.waiting.now }
+    ensures { IfOk result (IsStage left.now.rows.now left.now.taken.now interval.now left.now.waiting.now) }
 {
     let length = u64::from(interval.end - interval.start);
     let speed = Speed::new(interval.work, length).reduced();
-    let inside = contracted_rows(alloc, rows, taken, &members)?;
-    let stretches = stretches_inside(alloc, timeline, taken, interval)?;
-    let left = contracted_stretches(alloc, timeline, taken, &stretches)?;
-    let served = serve(alloc, &inside, &left, speed)?;
+    let inside = contracted_rows(alloc, left.rows, left.taken, &members)?;
+    let stretches = stretches_inside(alloc, left.timeline, left.taken, interval)?;
+    let pieces = contracted_stretches(alloc, left.timeline, left.taken, &stretches)?;
+    let served = serve(alloc, &inside, &pieces, speed)?;
     let shares = shares_by_number(alloc, &members, &stretches, &served)?;
     Ok(Stage {
         group: Group {

@@ -15,6 +15,19 @@ use yds_events::Stretch;
 use yds_intensity::order;
 use yds_model::{JobRow, Memory};
 
+/// The jobs that wait, and the time that is left for them.
+#[derive(Clone, Copy)]
+pub(crate) struct Left<'a> {
+    /// All jobs.
+    pub rows: &'a [JobRow],
+    /// The stretches between the jobs' event points.
+    pub timeline: &'a [Stretch],
+    /// The time that is taken.
+    pub taken: &'a Contraction,
+    /// The numbers of the jobs that wait, in order of deadline.
+    pub waiting: &'a [u32],
+}
+
 /// The numbers of the jobs with work, in order of deadline.
 pub(crate) fn jobs_with_work(alloc: Global, rows: &[JobRow]) -> Result<Vec<u32>, Memory>
     requires { length rows.now ≤ MAX_JOBS }

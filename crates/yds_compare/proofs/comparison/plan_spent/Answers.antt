@@ -1,7 +1,6 @@
 use Rattle.std.proofs.Common.{◌≡◌, ◌≤◌, ◌∙◌, List, length, ap, sym, subst, arith}
 use Rattle.std.specs.Prelude.{sum_by}
 use Rattle.std.specs.List.{All}
-use Rattle.yds_model.specs.Level.{Level}
 use Rattle.yds_model.specs.Slot.{slots_at}
 use Rattle.yds_model.specs.Table.{Point, AreRising, hull_of}
 use Rattle.yds_model.specs.Event.{stretches}
@@ -19,49 +18,48 @@ use Rattle.yds_compare.proofs.comparison.plan_spent.Goals as goal
 
 pub loads_of_levels-requires-clause-fits : goal.loads_of_levels-requires-clause-fits
 loads_of_levels-requires-clause-fits c =
-    let scale = scale_exists c.args.plan.now.schedule.slots c.requires.plan.proper.feasible.solid in
+    let scale = scale_exists c.requires.plan.0 c.requires.plan.1.proper.feasible.solid in
     let rising : AreRising (hull_of c.args.table.now) = subst (λ (h : List Point). AreRising h) c.hull-hull.ensures.value c.hull-hull.ensures.rising in
     let some : 1 ≤ length (hull_of c.args.table.now) = subst (λ (h : List Point). 1 ≤ length h) c.hull-hull.ensures.value c.hull-hull.ensures.some in
-    let fits = levels_fit c.args.rows.now c.args.plan.now.schedule.slots c.args.plan.now.certificate c.args.table.now c.requires.plan rising some scale.0 scale.1 0 in
-    omega (arith, fits, c.requires.time, ap (sum_by (λ (level : Level). level.length)) c.levels.ensures.value)
+    let fits = levels_fit c.args.rows.now c.requires.plan.0 c.args.levels.now c.args.table.now c.requires.plan.1 rising some scale.0 scale.1 0 in
+    omega (arith, fits, c.requires.time)
 
 pub spend-requires-clause-time_in_range : goal.spend-requires-clause-time_in_range
 spend-requires-clause-time_in_range c =
-    let scale = scale_exists c.args.plan.now.schedule.slots c.requires.plan.proper.feasible.solid in
+    let scale = scale_exists c.requires.plan.0 c.requires.plan.1.proper.feasible.solid in
     let rising : AreRising (hull_of c.args.table.now) = subst (λ (h : List Point). AreRising h) c.hull-hull.ensures.value c.hull-hull.ensures.rising in
     let some : 1 ≤ length (hull_of c.args.table.now) = subst (λ (h : List Point). 1 ≤ length h) c.hull-hull.ensures.value c.hull-hull.ensures.some in
-    let fits = levels_fit c.args.rows.now c.args.plan.now.schedule.slots c.args.plan.now.certificate c.args.table.now c.requires.plan rising some scale.0 scale.1 0 in
-    let is : c.deref.result.now ≡ level_loads c.args.plan.now.certificate c.args.time =
-    c.deref.ensures.value ∙ c.in_ok-loads.ensures ∙ ap (λ (levels : List Level). level_loads levels c.args.time) c.levels.ensures.value in
+    let fits = levels_fit c.args.rows.now c.requires.plan.0 c.args.levels.now c.args.table.now c.requires.plan.1 rising some scale.0 scale.1 0 in
+    let is : c.deref.result.now ≡ level_loads c.args.levels.now c.args.time =
+    c.deref.ensures.value ∙ c.in_ok-loads.ensures in
     omega (
       arith,
       ap (sum_by (λ (load : Load). load.time)) is,
-      level_times c.args.plan.now.certificate c.args.time (omega (arith, fits, c.requires.time)),
+      level_times c.args.levels.now c.args.time (omega (arith, fits, c.requires.time)),
       c.requires.time_in_range,
     )
 
 pub spend-requires-clause-fast_enough : goal.spend-requires-clause-fast_enough
 spend-requires-clause-fast_enough c =
-    let is : c.deref.result.now ≡ level_loads c.args.plan.now.certificate c.args.time =
-    c.deref.ensures.value ∙ c.in_ok-loads.ensures ∙ ap (λ (levels : List Level). level_loads levels c.args.time) c.levels.ensures.value in
-    let slow = all_slow c.args.rows.now c.args.plan.now.schedule.slots c.args.plan.now.certificate c.args.table.now c.requires.plan
-    (λ some fast. c.requires.fast_enough (fast_first c.args.plan.now.certificate c.args.table.now some fast)) in
+    let is : c.deref.result.now ≡ level_loads c.args.levels.now c.args.time =
+    c.deref.ensures.value ∙ c.in_ok-loads.ensures in
+    let slow = all_slow c.args.rows.now c.requires.plan.0 c.args.levels.now c.args.table.now c.requires.plan.1
+    (λ some fast. c.requires.fast_enough (fast_first c.args.levels.now c.args.table.now some fast)) in
     subst (λ (loads : List Load). All (IsHeldAt (top_of c.args.table.now)) loads) (sym is)
-    (levels_held c.args.table.now c.args.plan.now.certificate c.args.time slow)
+    (levels_held c.args.table.now c.args.levels.now c.args.time slow)
 
 pub returns : goal.returns
 returns c =
     let rising : AreRising (hull_of c.args.table.now) = subst (λ (h : List Point). AreRising h) c.hull-hull.ensures.value c.hull-hull.ensures.rising in
     let some : 1 ≤ length (hull_of c.args.table.now) = subst (λ (h : List Point). 1 ≤ length h) c.hull-hull.ensures.value c.hull-hull.ensures.some in
     let time = sum_by length_of (stretches c.args.rows.now) in
-    let is : c.deref.result.now ≡ level_loads c.args.plan.now.certificate time =
-    c.deref.ensures.value ∙ c.in_ok-loads.ensures ∙ ap (λ (levels : List Level). level_loads levels c.args.time) c.levels.ensures.value
-    ∙ ap (level_loads c.args.plan.now.certificate) c.requires.time in
-    let spent : IsSpentOn c.args.table.now 1 (level_loads c.args.plan.now.certificate time) c.in_ok-spent.spent =
+    let is : c.deref.result.now ≡ level_loads c.args.levels.now time =
+    c.deref.ensures.value ∙ c.in_ok-loads.ensures ∙ ap (level_loads c.args.levels.now) c.requires.time in
+    let spent : IsSpentOn c.args.table.now 1 (level_loads c.args.levels.now time) c.in_ok-spent.spent =
     subst (λ (loads : List Load). IsSpentOn c.args.table.now 1 loads c.in_ok-spent.spent) is c.in_ok-spent.ensures in
-    record {
-      solid = c.requires.plan.proper.feasible.solid;
-      holds = λ scale at. spent_at c.args.rows.now c.args.table.now 1 (level_loads c.args.plan.now.certificate time) scale (slots_at scale c.args.plan.now.schedule.slots)
+    λ slots plan. record {
+      solid = plan.proper.feasible.solid;
+      holds = λ scale at. spent_at c.args.rows.now c.args.table.now 1 (level_loads c.args.levels.now time) scale (slots_at scale slots)
           c.in_ok-spent.spent at.positive (omega arith)
-          (λ speed. plan_as_long c.args.rows.now c.args.plan.now.schedule.slots c.args.plan.now.certificate c.args.table.now c.requires.plan rising some scale at speed) spent;
+          (λ speed. plan_as_long c.args.rows.now slots c.args.levels.now c.args.table.now plan rising some scale at speed) spent;
     }

@@ -8,14 +8,14 @@ use Rattle.yds_document.proofs.slot.read_each.Goals as goal
 
 pub returns-in_err-slot-clause-reads : goal.returns-in_err-slot-clause-reads
 returns-in_err-slot-clause-reads c = λ earlier holds.
-    let f = c.in_ok-name in
+    let f = c.in_ok-fields in
     passed _ _ _ _ _ (err_from_is_err_and _ c.from_residual-in_err-slot.ensures.1)
     (fields_failed SlotLine earlier _ _ _ f.ensures
-    (subst (Fails c.in_err-slot.field-0.0) (slot_same c.args.draft.now earlier (field_read c.args.kind) (field_read f.name) (field_read f.from) (field_read f.to) (field_read f.work) holds) c.in_err-slot.ensures.gives))
+    (subst (Fails c.in_err-slot.field-0.0) (slot_same c.args.draft.now earlier (field_read c.args.kind) (field_read f.fields.0) (field_read f.fields.1) (field_read f.fields.2) (field_read f.fields.3) holds) c.in_err-slot.ensures.gives))
 
 pub returns-clause-reads : goal.returns-clause-reads
 returns-clause-reads c = λ earlier holds.
-    let f = c.in_ok-name in
+    let f = c.in_ok-fields in
     holds_more SlotLine earlier _ _ _ c.args.draft.now _ f.ensures
-    (sym (slot_same c.args.draft.now earlier (field_read c.args.kind) (field_read f.name) (field_read f.from) (field_read f.to) (field_read f.work) holds) ∙ c.in_ok-slot.ensures.gives)
+    (sym (slot_same c.args.draft.now earlier (field_read c.args.kind) (field_read f.fields.0) (field_read f.fields.1) (field_read f.fields.2) (field_read f.fields.3) holds) ∙ c.in_ok-slot.ensures.gives)
     holds c.in_ok-add.ensures.takes

@@ -10,7 +10,7 @@ use Rattle.yds_report.proofs.json_text.json.Goals as goal
 pub returns-clause-text : goal.returns-clause-text
 returns-clause-text c =
     let jobs = c.args.document.now.instance.jobs in
-    let levels = c.args.plan.now.certificate in
+    let levels = c.args.certificate.now in
     let is : view c.in_ok-report.report ≡ report_value jobs levels = c.in_ok-report.ensures ∙ ap₂ report_value c.rows.ensures.jobs c.levels.ensures.value in
     c.in_ok-push.ensures.items ∙ ap (λ l. l ++ 10 ∷ []) (c.in_ok-text.ensures.text (ap has_float is ∙ no_float jobs levels) ∙ ap compact_text is)
     ∙ report_text jobs levels c.levels.ensures.kept.each
@@ -19,4 +19,4 @@ pub returns-clause-read : goal.returns-clause-read
 returns-clause-read c =
     let instance = c.args.document.now.instance in
     ap read (returns-clause-text c)
-    ∙ reports_are_read instance.jobs c.args.plan.now.certificate c.rows.ensures.kept.jobs_fit c.rows.ensures.kept.few c.levels.ensures.kept.each
+    ∙ reports_are_read instance.jobs c.args.certificate.now c.rows.ensures.kept.jobs_fit c.rows.ensures.kept.few c.levels.ensures.kept.each

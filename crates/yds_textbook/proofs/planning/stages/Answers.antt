@@ -1,5 +1,6 @@
-use Rattle.std.proofs.Common.{◌≡◌, ℕ, List, [], length, ◌∙◌, sym, subst, ap, arith}
+use Rattle.std.proofs.Common.{◌≡◌, ◌≤◌, ℕ, List, [], length, ◌∙◌, sym, subst, ap, arith}
 use Rattle.std.specs.List.{All}
+use Rattle.yds_model.specs.declared.limits.TheConstants.{MAX_JOBS}
 use Rattle.yds_critical.specs.Critical.{IsCritical}
 use Rattle.yds_contract.specs.Contracted.{Removes}
 use Rattle.yds_textbook.specs.declared.stage.Stage.{Stage}
@@ -19,9 +20,17 @@ loop-stages-init c =
       lead = no_stage c.args.rows.now c.in_ok-waiting.waiting.items c.new-stages.result.items c.new-taken.result c.new-taken.ensures c.new-stages.ensures.items;
     }
 
-pub stage_of-requires-clause-can_wait : goal.stage_of-requires-clause-can_wait
-stage_of-requires-clause-can_wait c =
-    subst (All (CanWait c.args.rows.now c.loop-stages.taken)) (sym c.deref-in-Some-2.ensures.value) c.loop-stages.invariant.between.can_wait
+pub stage_of-requires-clause-left : goal.stage_of-requires-clause-left
+stage_of-requires-clause-left c =
+    let between = c.loop-stages.invariant.between in
+    record {
+      few_jobs = c.requires.few;
+      few = subst (λ (numbers : List ℕ). length numbers ≤ MAX_JOBS) (sym c.deref-in-Some-2.ensures.value) between.few;
+      all_stretches = c.requires.timeline;
+      apart = between.apart;
+      whole = between.whole;
+      can_wait = subst (All (CanWait c.args.rows.now c.loop-stages.taken)) (sym c.deref-in-Some-2.ensures.value) between.can_wait;
+    }
 
 pub stage_of-requires-clause-critical : goal.stage_of-requires-clause-critical
 stage_of-requires-clause-critical c =
