@@ -153,6 +153,7 @@ install-library: $(LIBRARY)
 	install -m 644 library/yds.h $(INCLUDE)
 	sed 's|@PREFIX@|$(PREFIX)|; s|@VERSION@|$(VERSION)|' library/yds.pc.in >$(LIB)/pkgconfig/yds.pc
 	chmod 644 $(LIB)/pkgconfig/yds.pc
+	@test -n "$(DESTDIR)" || ldconfig 2>/dev/null || echo "ldconfig, run by root, lets programs find $(LIB)/libyds.so.1"
 
 uninstall: uninstall-program uninstall-library
 

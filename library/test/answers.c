@@ -4,7 +4,7 @@
  *   answers rows ROWS       each worked row in rooms of several sizes, one byte too small among them
  *   answers threads ROWS    every row, and documents of 4,000 jobs, in four threads at once, each with a stack of 64 KiB
  *   answers words           words that aren't UTF-8, no words, odd words
- *   answers memory ROWS     each allocation for these refused in turn, alone and with all after it
+ *   answers memory ROWS     each allocation for every row, and for documents of 200 jobs, refused in turn, alone and with all after it
  *
  * ROWS is the folder of worked rows. `memory` wants REFUSING to be defined, and the static library linked with
  * -Wl,--wrap=malloc,--wrap=realloc,--wrap=free. The last line is 'N passed, M failed', and the exit status is 1 where M isn't 0.
@@ -17,7 +17,7 @@
 #include <stdlib.h>
 #include <string.h>
 
-enum { MOST_WORDS = 6, GUARD = 64, THREADS = 4, ROUNDS = 10, STACK = 65536, LARGE_ROWS = 9, JOBS = 4000 };
+enum { MOST_WORDS = 6, GUARD = 64, THREADS = 4, ROUNDS = 10, STACK = 65536, LARGE_ROWS = 9, MOST_JOBS = 4000, JOBS = 200 };
 
 struct text {
 	char *bytes;
@@ -153,17 +153,17 @@ static void try_rows(void) {
 }
 
 /* Rows of a document that takes more memory and more of the stack: many jobs on operating points. What answers them is what the call gives. */
-static void add_large_rows(void) {
-	static char input[JOBS * 64 + 100], lines[LARGE_ROWS][40] = {"plan", "round", "report", "report --json", "curve", "avr --grid 7", "oa --grid 7", "compare --grid 7", "admit 20"};
+static void add_large_rows(int jobs) {
+	static char input[MOST_JOBS * 64 + 100], lines[LARGE_ROWS][40] = {"plan", "round", "report", "report --json", "curve", "avr --grid 7", "oa --grid 7", "compare --grid 7", "admit 20"};
 	char none[1];
 	uint64_t state = 7;
 	size_t length = 0;
-	for (int i = 0; i < JOBS; i++) {
+	for (int i = 0; i < jobs; i++) {
 		state = state * 6364136223846793005 + 1442695040888963407;
 		unsigned long release = state >> 44, window = 1 + (state >> 20) % 5000, work = (state >> 8) % 900;
 		length += (size_t)sprintf(input + length, "job j%d %lu %lu %lu\n", i, release, release + window, work);
 	}
-	length += (size_t)sprintf(input + length, "point 0 1\npoint 40 900\npoint 1000 90000\npoint 1000000 900000000\n");
+	length += (size_t)sprintf(input + length, "point 0 1\npoint 40 900\npoint 1000 90000\npoint 4000 900000\n");
 	for (size_t i = 0; i < LARGE_ROWS; i++) {
 		struct row *row = &rows[row_count++];
 		row->name = have(strdup(lines[i]));
@@ -172,8 +172,10 @@ static void add_large_rows(void) {
 			row->words[row->word_count++] = (struct yds_word){word, strlen(word)};
 		row->status = yds_answer(row->words, row->word_count, input, length, 1, 2, none, 0, &row->answer.length);
 		row->answer.bytes = have(malloc(row->answer.length + 1));
-		if (row->status == YDS_DONE)
+		if (row->status != YDS_MEMORY)
 			row->status = yds_answer(row->words, row->word_count, input, length, 1, 2, row->answer.bytes, row->answer.length, &row->answer.length);
+		if (row->status != YDS_DONE)
+			fwrite(row->answer.bytes, 1, row->answer.length, stdout);
 		judge(row->name, row->status == YDS_DONE ? NULL : "a large document isn't answered");
 	}
 }
@@ -216,7 +218,7 @@ static void try_words(void) {
 
 static void *in_a_thread(void *fault) {
 	for (size_t round = 0; round < ROUNDS; round++)
-		for (size_t i = 0; i < row_count; i++) {
+		for (size_t i = 0; i < row_count - (round > 0 ? LARGE_ROWS : 0); i++) {
 			size_t size = rows[i].answer.length + round;
 			char *space = malloc(size + 2 * GUARD + 8);
 			const char *found = space ? call(&rows[i], rows[i].status, &rows[i].answer, size, space) : "out of memory";
@@ -228,7 +230,7 @@ static void *in_a_thread(void *fault) {
 }
 
 static void try_threads(void) {
-	add_large_rows();
+	add_large_rows(MOST_JOBS);
 	pthread_t threads[THREADS];
 	const char *faults[THREADS] = {NULL};
 	pthread_attr_t small;
@@ -285,14 +287,23 @@ void __wrap_free(void *block) {
 
 static const struct text nothing = {"", 0};
 
-/* Makes the call with one allocation refused, or all from one on. */
-static const char *call_without(const struct row *row, unsigned long one, unsigned long from, char *space) {
+static void count_anew(unsigned long one, unsigned long from) {
 	allocations = 0;
 	refused = one;
 	refused_from = from;
 	held = 0;
 	counting = 1;
-	const char *fault = call(row, one + from > 0 ? YDS_MEMORY : row->status, one + from > 0 ? &nothing : &row->answer, row->answer.length, space);
+}
+
+/* Makes the call with one allocation refused, or all from one on. Then there is no answer; or the whole answer, where there was another way, as for a
+ * sort. */
+static const char *call_without(const struct row *row, unsigned long one, unsigned long from, char *space) {
+	count_anew(one, from);
+	const char *fault = call(row, YDS_MEMORY, &nothing, row->answer.length, space);
+	if (fault) {
+		count_anew(one, from);
+		fault = call(row, row->status, &row->answer, row->answer.length, space);
+	}
 	counting = 0;
 	return fault ? fault : held != 0 ? "memory is held" : NULL;
 }
@@ -301,8 +312,10 @@ static unsigned long refusals;
 
 static void refuse_each(const struct row *row) {
 	char *space = have(malloc(row->answer.length + 2 * GUARD + 8));
-	const char *fault = call_without(row, 0, 0, space);
-	judge(row->name, fault);
+	count_anew(0, 0);
+	const char *fault = call(row, row->status, &row->answer, row->answer.length, space);
+	counting = 0;
+	judge(row->name, fault ? fault : held != 0 ? "memory is held" : NULL);
 	unsigned long wanted = allocations;
 	for (unsigned long number = 1; number <= wanted; number++) {
 		judge(row->name, call_without(row, number, 0, space));
@@ -313,7 +326,7 @@ static void refuse_each(const struct row *row) {
 }
 
 static void try_memory(void) {
-	add_large_rows();
+	add_large_rows(JOBS);
 	for (size_t i = 0; i < row_count; i++)
 		refuse_each(&rows[i]);
 	printf("%lu refusals\n", refusals);
