@@ -1,14 +1,13 @@
 -- What a run on a grid does in each stretch.
-use Rattle.std.proofs.Common.{◌≡◌, ℕ, ◌-◌, ◌*◌, ◌^◌, ◌<◌, ◌≤◌, ◌==◌, Bool, true, false, List, [], ◌∷◌, length, get_or, refl, sym, ap, ap₂, subst, ◌∙◌, arith, inl, inr, leb-true}
-use Rattle.std.specs.Prelude.{sum_by, nat_le, ◌&&◌, if◌then◌else◌}
-use Rattle.std.specs.List.{All, filter}
+use Rattle.std.proofs.Common.{◌≡◌, ℕ, ◌-◌, ◌*◌, ◌<◌, ◌≤◌, List, [], ◌∷◌, length, refl, sym, ap, ap₂, subst, ◌∙◌, arith, inl, inr}
+use Rattle.std.specs.Prelude.{sum_by}
+use Rattle.std.specs.List.{All}
 use Rattle.std.specs.Cmp.Derive.{both_true}
 use Rattle.std.proofs.lemmas.Bool.{cases_Bool, le-leb}
 use Rattle.std.proofs.lemmas.List.{length-map, get_or-map}
-use Rattle.std.proofs.lemmas.List.Elements.{All-tail, All-filter, All-from_get_or}
-use Rattle.std.proofs.lemmas.List.Sums.{sum_by-cons, sum_by-le, get_or-le-sum_by}
-use Rattle.std.proofs.Math.Bool.{true-and, false-and}
-use Rattle.std.proofs.Math.Nat.{mul-le-mul, mul-le-mul_right, mul-le-mul_left, le_of_mul-le-mul_right, le_of_mul-le-mul_left}
+use Rattle.std.proofs.lemmas.List.Elements.{All-tail, All-from_get_or}
+use Rattle.std.proofs.lemmas.List.Sums.{sum_by-cons}
+use Rattle.std.proofs.Math.Nat.{mul-le-mul_left, le_of_mul-le-mul_left}
 use Rattle.yds_model.specs.Numbers.{IsFirstFailure}
 use Rattle.yds_model.specs.Job.{Job}
 use Rattle.yds_model.specs.Slot.{WrittenSlot, WholeSlot, IsScale, IsDivided, IsSolid, slot_at_scale, slots_at}
@@ -23,7 +22,6 @@ use Rattle.yds_slots.specs.Between.{lies_between}
 use Rattle.yds_round.specs.Written.{slot_units, units_of_slots}
 use Rattle.yds_round.specs.Rounded.{planned_in}
 use Rattle.yds_round.proofs.Decomposed.{lies_at, lies_passes}
-use Rattle.yds_round.proofs.Held.{back_at}
 use Rattle.yds_round.proofs.Cuts.{WorksOver}
 use Rattle.yds_round.proofs.Shares.{work_at}
 use Rattle.yds_timetable.specs.Timetable.{Row, row_at, stretches_of, slots_of}

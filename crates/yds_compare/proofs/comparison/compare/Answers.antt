@@ -1,7 +1,5 @@
-use Rattle.std.proofs.Common.{◌∙◌, sym, subst, List, arith, ap}
-use Rattle.std.specs.Prelude.{sum_by}
+use Rattle.std.proofs.Common.{◌∙◌, sym, subst, List}
 use Rattle.yds_model.specs.Piece.{Piece, PiecesFrom}
-use Rattle.yds_events.specs.Stretch.{length_of}
 use Rattle.yds_events.proofs.Neighbours.{stretches_run}
 use Rattle.yds_compare.proofs.comparison.compare.Goals as goal
 

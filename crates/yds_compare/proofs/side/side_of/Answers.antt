@@ -1,6 +1,6 @@
-use Rattle.std.proofs.Common.{◌≡◌, ◌*◌, ◌<◌, List, length, ap, ap₂, sym, ◌∙◌, arith}
+use Rattle.std.proofs.Common.{◌≡◌, ◌*◌, ◌<◌, List, length, ap, sym, ◌∙◌, arith}
 use Rattle.std.specs.Prelude.{sum_by}
-use Rattle.std.proofs.lemmas.List.{get_or_read, length-map}
+use Rattle.std.proofs.lemmas.List.{get_or_read}
 use Rattle.std.proofs.Math.Nat.{mul-le-mul_right}
 use Rattle.yds_model.specs.Numbers.{IsFirstFailure}
 use Rattle.yds_model.specs.Piece.{Piece}
@@ -8,7 +8,7 @@ use Rattle.yds_model.specs.Rounding.{top_of}
 use Rattle.yds_events.specs.Stretch.{length_of}
 use Rattle.yds_timetable.specs.Timetable.{stretches_of}
 use Rattle.yds_compare.specs.declared.load.Load.{Load}
-use Rattle.yds_compare.specs.Load.{load_of, loads_of, load_at, IsHeldAt}
+use Rattle.yds_compare.specs.Load.{loads_of, load_at, IsHeldAt}
 use Rattle.yds_compare.proofs.Runs.{spends, too_slow_for, load_times}
 use Rattle.yds_compare.proofs.side.side_of.Goals as goal
 
