@@ -1,19 +1,19 @@
 -- One job more than jobs that leave no interval overfull: only an interval that begins before its deadline and ends then or later can be.
-use Rattle.std.proofs.Common.{◌≡◌, ℕ, ◌-◌, ◌*◌, ◌<◌, ◌≤◌, ◌⊎◌, List, [], ◌∷◌, ◌++◌, Option, Some, None, MatchOption, min, length, get_or, ◌∙◌, refl, sym, subst, arith, inl, inr, ap}
+use Rattle.std.proofs.Common.{◌≡◌, ℕ, ◌-◌, ◌*◌, ◌<◌, ◌≤◌, ◌⊎◌, List, [], ◌∷◌, ◌++◌, Option, Some, None, MatchOption, min, length, ◌∙◌, refl, sym, subst, arith, inl, inr, ap}
 use Rattle.std.specs.List.{All, Any, sum_by}
 use Rattle.std.specs.List.Sorted.{IsPermutation}
-use Rattle.std.proofs.lemmas.Bool.{cases_lt, cases_eq}
+use Rattle.std.proofs.lemmas.Bool.{cases_lt, cases_order}
 use Rattle.std.proofs.lemmas.List.{get_or_default, get_or_append_left, get_or_push, length_push}
 use Rattle.std.proofs.lemmas.List.Elements.{All-push}
 use Rattle.std.proofs.lemmas.List.Sums.{sum_by_push}
-use Rattle.std.proofs.lemmas.List.Sorted.{sum_by-IsPermutation, IsPermutation-append_left, Contains-permutation, IsPermutation-sym, All-permutation, length_permutation}
+use Rattle.std.proofs.lemmas.List.Sorted.{sum_by-IsPermutation, Contains-permutation, IsPermutation-sym, All-permutation, length_permutation}
 use Rattle.yds_model.specs.Job.{Job, IsJob, no_job, job_at}
 use Rattle.yds_model.specs.Policy.{numbers_of}
 use Rattle.yds_model.specs.Admission.{IsOverfull, IsFirstOverfull}
 use Rattle.yds_model.proofs.Lists.{All-front, All-last}
 use Rattle.yds_laws.specs.AdmissionLaws.{HasRoom}
 use Rattle.yds_laws.proofs.Served.{room_from, confined_sum, confined_term}
-use Rattle.yds_admit.specs.Interval.{enclosed_work, HasRoomFrom, IsFirstEnd, IsFirstFrom, IsFirstWith}
+use Rattle.yds_admit.specs.Interval.{enclosed_work, HasRoomFrom, IsFirstFrom, IsFirstWith}
 use Rattle.yds_admit.specs.Chain.{IsFalling, HasRoomOver, IsLeastFrom, NoFrom}
 use Rattle.yds_admit.proofs.Between.{term, before, after}
 use Rattle.yds_admit.proofs.Overfull.{any_of_all, number_of_any, jobs_work}
@@ -23,17 +23,6 @@ pub any_permuted : (P : Job → Type 0) (jobs others : List Job) → IsPermutati
 any_permuted P jobs others same (k, job, within, is, holds) =
     let there = Contains-permutation jobs others job same (k, within, is) in
     (there.0, job, there.1, there.2, holds)
-
--- the same work of jobs in another order
-pub permuted_work : (jobs others : List Job) → IsPermutation jobs others → (from to : ℕ) → enclosed_work others from to ≡ enclosed_work jobs from to
-permuted_work jobs others same from to = sum_by-IsPermutation (term from to) jobs others same
-
--- the same work with one job more
-pub work_more : (jobs others : List Job) (row : Job) → IsPermutation jobs others → (from to : ℕ) → enclosed_work (others ++ row ∷ []) from to ≡ enclosed_work (jobs ++ row ∷ []) from to
-work_more jobs others row same = permuted_work (jobs ++ row ∷ []) (others ++ row ∷ []) (IsPermutation-append_left (row ∷ []) jobs others same)
-
-apart : (x y : ℕ) → y ≤ x → (x ≡ y → ⊥) → y < x
-apart x y most other = elim (cases_lt y x) [ inl less ↦ less | inr more ↦ absurd (other (omega arith)) ]
 
 module _ (top : ℕ) (jobs : List Job) (row : Job) (are : All IsJob (jobs ++ row ∷ [])) (room : HasRoom top jobs) where
   -- an interval that ends before the job's deadline, or begins there or later, has room
@@ -72,130 +61,80 @@ module _ (top : ℕ) (jobs : List Job) (row : Job) (are : All IsJob (jobs ++ row
       apart_due due from to (inl soon) is forward = omega arith
       apart_due due from to (inr late) is forward = omega arith
 
-  module _ (by_release by_deadline : List Job) (releases : IsPermutation (jobs ++ row ∷ []) by_release) (deadlines : IsPermutation (jobs ++ row ∷ []) by_deadline) where
-    release_work : (from to : ℕ) → enclosed_work by_release from to ≡ enclosed_work (jobs ++ row ∷ []) from to
-    release_work from to = sum_by-IsPermutation (term from to) (jobs ++ row ∷ []) by_release releases
-
-    deadline_work : (from to : ℕ) → enclosed_work by_deadline from to ≡ enclosed_work (jobs ++ row ∷ []) from to
-    deadline_work from to = sum_by-IsPermutation (term from to) (jobs ++ row ∷ []) by_deadline deadlines
-
-    -- an overfull interval from a release that has room over the deadline
-    no_overfull : (from to : ℕ) → (from < row.deadline → Any (λ (job : Job). job.release ≡ from) by_release → HasRoomOver top row.deadline by_release from) →
-        IsOverfull (jobs ++ row ∷ []) top (numbers_of (jobs ++ row ∷ [])) from to → ⊥
-    no_overfull from to over full = elim (cases_lt to row.deadline) [
-      | inl soon ↦ elsewhere_fits from to (inl soon) full
-      | inr beyond ↦ elim (cases_lt from row.deadline) [
-        | inr late ↦ elsewhere_fits from to (inr late) full
-        | inl ahead ↦
-            let begins = any_permuted (λ job. job.release ≡ from) (jobs ++ row ∷ []) by_release releases (any_of_all (λ job. job.release ≡ from) (jobs ++ row ∷ []) full.is_release) in
-            let ends = any_permuted (λ job. job.deadline ≡ to) (jobs ++ row ∷ []) by_release releases (any_of_all (λ job. job.deadline ≡ to) (jobs ++ row ∷ []) full.is_deadline) in
-            absurd (omega (
-              arith,
-              full.too_much,
-              jobs_work (jobs ++ row ∷ []) from to,
-              release_work from to,
-              over ahead begins to beyond (λ later. ends),
-            ))
-      ]
+  -- an overfull interval from a release that has room over the deadline
+  no_overfull : (from to : ℕ) → (from < row.deadline → Any (λ (job : Job). job.release ≡ from) (jobs ++ row ∷ []) → HasRoomOver top row.deadline (jobs ++ row ∷ []) from) →
+      IsOverfull (jobs ++ row ∷ []) top (numbers_of (jobs ++ row ∷ [])) from to → ⊥
+  no_overfull from to over full = elim (cases_lt to row.deadline) [
+    | inl soon ↦ elsewhere_fits from to (inl soon) full
+    | inr beyond ↦ elim (cases_lt from row.deadline) [
+      | inr late ↦ elsewhere_fits from to (inr late) full
+      | inl ahead ↦ absurd (omega (
+        arith,
+        full.too_much,
+        jobs_work (jobs ++ row ∷ []) from to,
+        over ahead (any_of_all (λ job. job.release ≡ from) (jobs ++ row ∷ []) full.is_release) to beyond
+            (λ later. any_of_all (λ job. job.deadline ≡ to) (jobs ++ row ∷ []) full.is_deadline),
+      ))
     ]
+  ]
 
-    pub has_room : NoFrom top row.deadline by_release → HasRoom top (jobs ++ row ∷ [])
-    has_room none from to full = no_overfull from to (none from) full
+  pub has_room : NoFrom top row.deadline (jobs ++ row ∷ []) → HasRoom top (jobs ++ row ∷ [])
+  has_room none from to full = no_overfull from to (none from) full
 
-    -- the interval that was found
-    first_found : (from to : ℕ) → IsLeastFrom top row.deadline by_release from → IsFirstEnd top by_deadline from to →
-        IsFirstOverfull (jobs ++ row ∷ []) top (numbers_of (jobs ++ row ∷ [])) from to
-    first_found from to least ends = record {
+  -- no overfull interval begins before the least release of one
+  pub none_before : (from : ℕ) → IsLeastFrom top row.deadline (jobs ++ row ∷ []) from → (other_from other_to : ℕ) → other_from < from →
+      IsOverfull (jobs ++ row ∷ []) top (numbers_of (jobs ++ row ∷ [])) other_from other_to → ⊥
+  none_before from least other_from other_to less full = no_overfull other_from other_to (λ ahead begins. least.earlier other_from less begins) full
+
+-- # The first of all overfull intervals
+
+-- no interval before it is overfull, and of those that begin with it it ends first
+module _ (top : ℕ) (all by_deadline : List Job) (deadlines : IsPermutation all by_deadline) where
+  same_work : (from to : ℕ) → enclosed_work by_deadline from to ≡ enclosed_work all from to
+  same_work from to = sum_by-IsPermutation (term from to) all by_deadline deadlines
+
+  pub first_with : (start from to work : ℕ) → Any (λ (job : Job). job.release ≡ start) all →
+      ((other_from other_to : ℕ) → other_from < start → IsOverfull all top (numbers_of all) other_from other_to → ⊥) →
+      IsFirstFrom top by_deadline start from to work → IsFirstWith top all from to work
+  first_with start from to work begins none found = record {
+    first = subst (λ begin. IsFirstOverfull all top (numbers_of all) begin to) (sym found.begins) (record {
       overfull = record {
-        forward = ends.forward;
-        is_release = number_of_any (λ job. job.release ≡ from) (jobs ++ row ∷ [])
-            (any_permuted (λ job. job.release ≡ from) by_release (jobs ++ row ∷ []) (IsPermutation-sym (jobs ++ row ∷ []) by_release releases) least.is_release);
-        is_deadline = number_of_any (λ job. job.deadline ≡ to) (jobs ++ row ∷ [])
-            (any_permuted (λ job. job.deadline ≡ to) by_deadline (jobs ++ row ∷ []) (IsPermutation-sym (jobs ++ row ∷ []) by_deadline deadlines) ends.is_deadline);
-        too_much = omega (arith, ends.too_much, deadline_work from to, jobs_work (jobs ++ row ∷ []) from to);
+        forward = found.ends.forward;
+        is_release = number_of_any (λ job. job.release ≡ start) all begins;
+        is_deadline = number_of_any (λ job. job.deadline ≡ to) all
+            (any_permuted (λ job. job.deadline ≡ to) by_deadline all (IsPermutation-sym all by_deadline deadlines) found.ends.is_deadline);
+        too_much = omega (arith, found.ends.too_much, same_work start to, jobs_work all start to);
       };
-      first = λ other_from other_to full. elim (cases_lt from other_from) [
-        | inl less ↦ inl less
-        | inr most ↦ elim (cases_eq from other_from) [
-          | inr other ↦ absurd (no_overfull other_from other_to (λ ahead begins. least.earlier other_from (omega (arith, most, apart from other_from most other)) begins) full)
-          | inl equal ↦ inr (
-            equal,
-            elim (cases_lt other_to to) [
-              | inr late ↦ late
-              | inl early ↦ absurd (omega (
-                arith,
-                subst (λ (s : ℕ). top * (other_to - s) < enclosed_work by_deadline s other_to) (sym equal)
-                    (omega (arith, full.too_much, jobs_work (jobs ++ row ∷ []) other_from other_to, deadline_work other_from other_to)),
-                ends.first other_to (omega (arith, equal, full.forward)) early,
-              ))
-            ],
-          )
-        ]
+      first = λ other_from other_to full. elim (cases_order start other_from) [
+        | inr (inl less) ↦ inl less
+        | inr (inr more) ↦ absurd (none other_from other_to more full)
+        | inl equal ↦ inr (
+          equal,
+          elim (cases_lt other_to to) [
+            | inr late ↦ late
+            | inl early ↦ absurd (omega (
+              arith,
+              subst (λ (s : ℕ). top * (other_to - s) < enclosed_work by_deadline s other_to) (sym equal)
+                  (omega (arith, full.too_much, jobs_work all other_from other_to, same_work other_from other_to)),
+              found.ends.first other_to (omega (arith, equal, full.forward)) early,
+            ))
+          ],
+        )
       ];
-    }
-
-    -- with the work in it
-    pub first_with : (start from to work : ℕ) → IsLeastFrom top row.deadline by_release start → IsFirstFrom top by_deadline start from to work →
-        IsFirstWith top (jobs ++ row ∷ []) from to work
-    first_with start from to work least found = record {
-      first = subst (λ begin. IsFirstOverfull (jobs ++ row ∷ []) top (numbers_of (jobs ++ row ∷ [])) begin to) (sym found.begins) (first_found start to least found.ends);
-      all = found.all ∙ deadline_work start to ∙ ap (λ begin. enclosed_work (jobs ++ row ∷ []) begin to) (sym found.begins);
-    }
-
-    -- there is one
-    pub is_found : (from : ℕ) → IsLeastFrom top row.deadline by_release from → HasRoomFrom top by_deadline from → ⊥
-    is_found from least fits = omega (
-      arith,
-      least.too_much,
-      release_work from least.to,
-      deadline_work from least.to,
-      fits least.to (omega (arith, least.ahead, least.beyond)),
-    )
-
--- # The earliest release
-
-module _ (top : ℕ) (jobs : List Job) (row : Job) (by_deadline : List Job) (deadlines : IsPermutation (jobs ++ row ∷ []) by_deadline) (from : ℕ)
-    (earliest : All (λ (job : Job). from ≤ job.release) (jobs ++ row ∷ [])) (begins : Any (λ (job : Job). job.release ≡ from) (jobs ++ row ∷ [])) where
-  same_work : (start to : ℕ) → enclosed_work by_deadline start to ≡ enclosed_work (jobs ++ row ∷ []) start to
-  same_work start to = sum_by-IsPermutation (term start to) (jobs ++ row ∷ []) by_deadline deadlines
-
-  -- of all overfull intervals the first one from there is the first
-  first_from_start : (to : ℕ) → IsFirstEnd top by_deadline from to → IsFirstOverfull (jobs ++ row ∷ []) top (numbers_of (jobs ++ row ∷ [])) from to
-  first_from_start to ends = record {
-    overfull = record {
-      forward = ends.forward;
-      is_release = number_of_any (λ job. job.release ≡ from) (jobs ++ row ∷ []) begins;
-      is_deadline = number_of_any (λ job. job.deadline ≡ to) (jobs ++ row ∷ [])
-          (any_permuted (λ job. job.deadline ≡ to) by_deadline (jobs ++ row ∷ []) (IsPermutation-sym (jobs ++ row ∷ []) by_deadline deadlines) ends.is_deadline);
-      too_much = omega (arith, ends.too_much, same_work from to, jobs_work (jobs ++ row ∷ []) from to);
-    };
-    first = λ other_from other_to full. elim (cases_lt from other_from) [
-      | inl less ↦ inl less
-      | inr most ↦
-          let other = any_of_all (λ job. job.release ≡ other_from) (jobs ++ row ∷ []) full.is_release in
-          let release : (get_or (jobs ++ row ∷ []) other.0 other.1).release ≡ other_from = ap (λ (job : Job). job.release) other.3 ∙ other.4 in
-          let equal : from ≡ other_from = omega (arith, most, release, earliest other.0 other.1 other.2) in
-          inr (
-            equal,
-            elim (cases_lt other_to to) [
-              | inr late ↦ late
-              | inl early ↦ absurd (omega (
-                arith,
-                subst (λ (s : ℕ). top * (other_to - s) < enclosed_work by_deadline s other_to) (sym equal)
-                    (omega (arith, full.too_much, jobs_work (jobs ++ row ∷ []) other_from other_to, same_work other_from other_to)),
-                ends.first other_to (omega (arith, equal, full.forward)) early,
-              ))
-            ],
-          )
-    ];
+    });
+    all = found.all ∙ same_work start to ∙ ap (λ begin. enclosed_work all begin to) (sym found.begins);
   }
 
-  -- with the work in it
-  pub first_with_start : (begin to work : ℕ) → IsFirstFrom top by_deadline from begin to work → IsFirstWith top (jobs ++ row ∷ []) begin to work
-  first_with_start begin to work found = record {
-    first = subst (λ start. IsFirstOverfull (jobs ++ row ∷ []) top (numbers_of (jobs ++ row ∷ [])) start to) (sym found.begins) (first_from_start to found.ends);
-    all = found.all ∙ same_work from to ∙ ap (λ start. enclosed_work (jobs ++ row ∷ []) start to) (sym found.begins);
-  }
+  -- there is one from a release that has too much over a deadline
+  pub is_found : (due from : ℕ) → IsLeastFrom top due all from → HasRoomFrom top by_deadline from → ⊥
+  is_found due from least fits = omega (arith, least.too_much, same_work from least.to, fits least.to (omega (arith, least.ahead, least.beyond)))
+
+-- none begins before the earliest release
+pub none_earlier : (top : ℕ) (all : List Job) (from : ℕ) → All (λ (job : Job). from ≤ job.release) all → (other_from other_to : ℕ) → other_from < from →
+    IsOverfull all top (numbers_of all) other_from other_to → ⊥
+none_earlier top all from earliest other_from other_to less full =
+    let other = any_of_all (λ job. job.release ≡ other_from) all full.is_release in
+    omega (arith, less, ap (λ (job : Job). job.release) other.3, other.4, earliest other.0 other.1 other.2)
 
 -- the earliest release is that of the job that stands last in falling order of the releases, or of the one more
 pub starts_at_last : (jobs : List Job) (row : Job) (by_release : List Job) → IsPermutation jobs by_release → IsFalling by_release → (from : ℕ) → 0 < length by_release →

@@ -2,9 +2,10 @@
 use Rattle.std.specs.Prelude.{◌≡◌, ℕ, ◌+◌, ◌*◌, ◌<◌, ◌≤◌, Bool, false, if◌then◌else◌, List, length, map, slice_index, sum_by}
 use Rattle.std.specs.List.{All, Any, slice_index_or}
 use Rattle.std.specs.List.Sorted.{IsPermutation}
-use Rattle.yds_model.specs.declared.limits.TheConstants.{MAX_TIME}
-use Rattle.yds_model.specs.Job.{Job, job_at}
+use Rattle.yds_model.specs.declared.limits.TheConstants.{MAX_JOBS, MAX_TIME, MAX_TOP}
+use Rattle.yds_model.specs.Job.{Job, IsJob, job_at}
 use Rattle.yds_model.specs.Policy.{numbers_of}
+use Rattle.yds_admit.specs.declared.board.Board.{Board}
 use Rattle.yds_admit.specs.declared.board.Spot.{Spot}
 use Rattle.yds_admit.specs.Chain.{AreTimes}
 
@@ -37,11 +38,16 @@ pub record AreGaps (top : ℕ) (times gaps : List ℕ) : Type 0 where
   pub each : (q : ℕ) → q + 1 < length times →
       slice_index gaps q + top * slice_index times q ≡ top * slice_index times (q + 1)
 
-pub record IsBoard (jobs : List Job) (top : ℕ) (times gaps : List ℕ) (spots : List Spot) : Type 0 where
-  pub are_times : AreTimes 0 jobs times
-  pub are_gaps : AreGaps top times gaps
-  pub are_spots : AreSpots jobs times spots
-  pub falling : IsFallingSpots spots
+-- few jobs, a top speed in range, and what belongs to them
+pub record IsBoard (board : Board) : Type 0 where
+  pub few : length board.rows.now ≤ MAX_JOBS
+  pub some_top : 1 ≤ board.top
+  pub top_in_range : board.top ≤ MAX_TOP
+  pub are : All IsJob board.rows.now
+  pub are_times : AreTimes 0 board.rows.now board.times.items
+  pub are_gaps : AreGaps board.top board.times.items board.gaps.items
+  pub are_spots : AreSpots board.rows.now board.times.items board.spots.items
+  pub falling : IsFallingSpots board.spots.items
 
 -- what f is of a job, if it is marked
 abbrev pub if_marked : List Bool → (ℕ → ℕ) → ℕ → ℕ

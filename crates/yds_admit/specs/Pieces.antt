@@ -2,8 +2,10 @@
 use Rattle.std.specs.Prelude.{◌≡◌, ℕ, ◌+◌, ◌*◌, ◌<◌, ◌≤◌, ◌++◌, nat_le, if◌then◌else◌, List, length, take, slice_index, sum_by}
 use Rattle.std.specs.List.{All, Any, Contains}
 use Rattle.yds_model.specs.declared.limits.TheConstants.{MAX_JOBS, MAX_WORK}
-use Rattle.yds_model.specs.Job.{Job, job_at}
+use Rattle.yds_model.specs.Job.{Job, IsJob, job_at}
+use Rattle.yds_laws.specs.AdmissionLaws.{HasRoom}
 use Rattle.yds_edf.specs.Pending.{sum_below}
+use Rattle.yds_admit.specs.declared.pieces.Pieces.{Pieces}
 use Rattle.yds_admit.specs.Interval.{enclosed_work}
 use Rattle.yds_admit.specs.Chain.{IsFalling, IsChain, due_work}
 
@@ -59,6 +61,13 @@ pub record ArePieces (top : ℕ) (times : List ℕ) (all jobs : List Job) (place
   pub known : (from : ℕ) → Any (λ job. job.release ≡ from) jobs → Any (λ job. job.release ≡ from) all
   pub greatest : (m n : ℕ) → length times ≡ m + 1 → n ≤ length jobs → (q : ℕ) → q ≤ m → IsGreatest top times m n jobs places q
   pub used_is : (q : ℕ) → q < length times → slice_index used q ≡ went (length jobs) jobs places q
+
+-- the pieces of jobs that leave no interval overfull, with their deadlines among the times
+pub record ArePiecesOf (top : ℕ) (times : List ℕ) (all : List Job) (pieces : Pieces) : Type 0 where
+  pub cut : ArePieces top times all pieces.jobs.items pieces.places.items pieces.used.items
+  pub due : AreDue times all
+  pub are : All IsJob all
+  pub room : HasRoom top all
 
 -- From a place before a job's release up to its deadline, which has the place `end`, enough is idle for it: what the top speed does by a
 -- place, less the units before it, is idle before it.

@@ -1,6 +1,7 @@
 ghost use Rattle.std.specs.Prelude.{◌≡◌, ℕ, ◌<◌, ◌≤◌, IfOk, All, length, slice_index};
 ghost use Rattle.std.specs.List.Sorted.{IsPermutation, IsNonDecreasing};
 ghost use Rattle.yds_model.specs.declared.limits.TheConstants.{MAX_TIME};
+ghost use Rattle.yds_model.specs.Job.{IsJob};
 ghost use Rattle.yds_admit.specs.Board.{IsBoard, AreSpots, IsFallingSpots};
 ghost use Rattle.yds_admit.specs.Chain.{AreTimes};
 
@@ -23,9 +24,13 @@ pub(crate) struct Spot {
     pub(crate) end: usize,
 }
 
-/// What all tests of runs of jobs have in common.
+/// The jobs and the top speed, and what all tests of theirs have in common. It never changes.
 #[derive(Drop)]
-pub(crate) struct Board {
+pub(crate) struct Board<'a> {
+    /// All jobs, in their order.
+    pub(crate) rows: &'a [JobRow],
+    /// The top speed, in work per time unit.
+    pub(crate) top: u32,
     /// Time 0 and the deadlines, rising.
     pub(crate) times: Vec<u32>,
     /// The work that the top speed does between each time and the next.
@@ -34,26 +39,36 @@ pub(crate) struct Board {
     pub(crate) spots: Vec<Spot>,
 }
 
-impl Board {
+impl<'a> Board<'a> {
     /// The board of these jobs under this top speed.
-    pub(crate) fn new(alloc: Global, rows: &[JobRow], top: u32) -> Result<Board, Memory>
+    pub(crate) fn new(alloc: Global, rows: &'a [JobRow], top: u32) -> Result<Board<'a>, Memory>
         requires few { length rows.now ≤ MAX_JOBS }
+        requires some_top { 1 ≤ top }
         requires top_in_range { top ≤ MAX_TOP }
-        ensures { IfOk result (λ board. IsBoard rows.now top board.times.items board.gaps.items board.spots.items) }
+        ensures board { IfOk result (λ board. IsBoard board) }
+        ensures rows { IfOk result (λ board. board.rows.now ≡ rows.now) }
+        ensures top { IfOk result (λ board. board.top ≡ top) }
     {
         let mut by_deadline = Vec::from_slice(alloc, rows)?;
         sort_by_deadline(&mut by_deadline)?;
         let times = times(alloc, &by_deadline)?;
         let gaps = gaps(alloc, &times, top)?;
         let spots = falling(spots(alloc, rows, &times)?)?;
-        Ok(Board { times, gaps, spots })
+        Ok(Board {
+            rows,
+            top,
+            times,
+            gaps,
+            spots,
+        })
     }
 }
 
 /// Each job with its places among these times.
 fn spots(alloc: Global, rows: &[JobRow], times: &[u32]) -> Result<Vec<Spot>, Memory>
     requires { AreTimes 0 rows.now times.now }
-    ensures { IfOk result (λ spots. AreSpots rows.now times.now spots.items) }
+    ensures spots { IfOk result (λ spots. AreSpots rows.now times.now spots.items) }
+    ensures jobs { IfOk result (λ _. All IsJob rows.now) }
 {
     let mut spots = Vec::new(alloc);
     for (number, row) in rows.iter().enumerate() {

@@ -1,7 +1,7 @@
 ghost use Rattle.std.specs.Prelude.{◌≡◌, ℕ, ◌+◌, ◌-◌, ◌*◌, ◌<◌, ◌≤◌, ◌⊎◌, IfOk, IsTrue, List, length, slice_index};
 ghost use Rattle.std.specs.List.{range_with_len};
 ghost use Rattle.std.specs.List.Sorted.{IsNonDecreasing, IsNonDecreasingBy};
-ghost use Rattle.yds_admit.specs.Chain.{AreTimes, Takes, AreLinks, AreEmpty};
+ghost use Rattle.yds_admit.specs.Chain.{AreTimes, IsPlace, Takes, AreLinks, AreEmpty};
 
 use std::alloc::{AllocError, Global};
 use yds_model::{JobRow, Memory};
@@ -42,8 +42,7 @@ pub(crate) fn gaps(alloc: Global, times: &[u32], top: u32) -> Result<Vec<u64>, M
 pub(crate) fn place(times: &[u32], time: u32) -> usize
     requires { IsNonDecreasing times.now }
     ensures within { result ≤ length times.now }
-    ensures before { (q : ℕ) → q < result → slice_index times.now q < time }
-    ensures after { (q : ℕ) → result ≤ q → q < length times.now → time ≤ slice_index times.now q }
+    ensures is { IsPlace times.now time result }
 {
     if !times.is_empty() && time <= times[0] {
         return 0;
@@ -59,8 +58,7 @@ pub(crate) fn place_guessed(
     number: usize,
 ) -> Result<usize, Memory>
     requires { IsNonDecreasing times.now }
-    ensures before { IfOk result (λ place. (q : ℕ) → q < place → slice_index times.now q < time) }
-    ensures after { IfOk result (λ place. (q : ℕ) → place ≤ q → q < length times.now → time ≤ slice_index times.now q) }
+    ensures { IfOk result (λ place. IsPlace times.now time place) }
 {
     if number < guesses.len() {
         let guess = guesses[number];
@@ -79,8 +77,7 @@ pub(crate) fn place_guessed(
 /// Whether so many of the times, at least one, come before this one.
 fn is_place(times: &[u32], time: u32, guess: usize) -> bool
     requires { IsNonDecreasing times.now }
-    ensures before { IsTrue result → (q : ℕ) → q < guess → slice_index times.now q < time }
-    ensures after { IsTrue result → (q : ℕ) → guess ≤ q → q < length times.now → time ≤ slice_index times.now q }
+    ensures { IsTrue result → IsPlace times.now time guess }
 {
     0 < guess && guess < times.len() && times[guess - 1] < time && time <= times[guess]
 }

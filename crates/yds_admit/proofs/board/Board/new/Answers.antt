@@ -14,12 +14,16 @@ spots-requires c =
     (IsPermutation-sym c.args.rows.now c.sort_by_deadline.new.jobs.items (rw c.in_ok-by_deadline.ensures.items at c.in_ok-sort_by_deadline.ensures.same))
     (subst (λ (jobs : List Job). AreTimes 0 jobs c.in_ok-times.times.items) c.deref.ensures.value c.in_ok-times.ensures))
 
-pub returns : goal.returns
-returns c =
+pub returns-clause-board : goal.returns-clause-board
+returns-clause-board c =
     let rows = c.args.rows.now in
     let times = c.in_ok-times.times.items in
-    let spots = subst (λ (some : List ℕ). AreSpots rows some c.in_ok-spots.field-0.items) c.deref-3.ensures.value c.in_ok-spots.ensures in
+    let spots = subst (λ (some : List ℕ). AreSpots rows some c.in_ok-spots.field-0.items) c.deref-3.ensures.value c.in_ok-spots.ensures.spots in
     record {
+      few = c.requires.few;
+      some_top = c.requires.some_top;
+      top_in_range = c.requires.top_in_range;
+      are = c.in_ok-spots.ensures.jobs;
       are_times = same_times 0 rows c.sort_by_deadline.new.jobs.items times
           (IsPermutation-sym rows c.sort_by_deadline.new.jobs.items (rw c.in_ok-by_deadline.ensures.items at c.in_ok-sort_by_deadline.ensures.same))
           (subst (λ (jobs : List Job). AreTimes 0 jobs times) c.deref.ensures.value c.in_ok-times.ensures);
