@@ -1,17 +1,15 @@
 -- The next job of a state.
-use Rattle.std.proofs.Common.{◌≡◌, ℕ, ◌<◌, List, [], ◌∷◌, ◌++◌, length, get_or, refl}
-use Rattle.std.specs.List.{All, Any, Contains}
+use Rattle.std.proofs.Common.{◌≡◌, ◌<◌, List, [], ◌∷◌, ◌++◌, length, refl}
+use Rattle.std.specs.List.{All, Any}
 use Rattle.std.proofs.lemmas.List.{get_or_default}
 use Rattle.std.proofs.lemmas.List.Elements.{All-push}
 use Rattle.yds_model.specs.Job.{Job, IsJob, no_job}
-use Rattle.yds_model.proofs.Lists.{All-last}
 use Rattle.yds_admit.specs.declared.board.Board.{Board}
 use Rattle.yds_admit.specs.declared.pieces.Pieces.{Pieces}
 use Rattle.yds_admit.specs.declared.state.State.{State}
-use Rattle.yds_admit.specs.Chain.{IsPlace}
 use Rattle.yds_admit.specs.Pieces.{AreDue, ArePieces, ArePiecesOf}
 use Rattle.yds_admit.specs.State.{IsState, next_job}
-use Rattle.yds_admit.proofs.Times.{all_due, place_known, time_there}
+use Rattle.yds_admit.proofs.Times.{all_due}
 
 -- the deadlines of the admitted jobs are among the times
 pub jobs_due : (board : Board) (state : State) → IsState board state → AreDue board.times.items state.jobs.items
@@ -38,12 +36,3 @@ module _ (board : Board) (state : State) (is : IsState board state) (more : stat
   next_due = all_due board.rows.now with_next board.times.items is.on.are_times
       (All-push (λ (job : Job). Any (λ one. one ≡ job) board.rows.now) state.jobs.items (next_job board state) is.marked.marked.known
       (state.next, next_job board state, more, get_or_default board.rows.now state.next (next_job board state) no_job more, refl)) next_are
-
-  own_due : Contains board.times.items (next_job board state).deadline
-  own_due = All-last (λ (job : Job). Contains board.times.items job.deadline) state.jobs.items (next_job board state) next_due
-
-  pub end_known : (place : ℕ) → IsPlace board.times.items (next_job board state).deadline place → place < length board.times.items
-  end_known place at = place_known board.times.items (next_job board state).deadline place is.on.are_times.rising own_due at
-
-  pub end_there : (place : ℕ) → IsPlace board.times.items (next_job board state).deadline place → get_or board.times.items place 0 ≡ (next_job board state).deadline
-  end_there place at = time_there board.times.items (next_job board state).deadline place is.on.are_times.rising own_due at

@@ -7,7 +7,7 @@ use Rattle.yds_model.specs.Job.{Job, IsJob, job_at}
 use Rattle.yds_model.specs.Policy.{numbers_of}
 use Rattle.yds_admit.specs.declared.board.Board.{Board}
 use Rattle.yds_admit.specs.declared.board.Spot.{Spot}
-use Rattle.yds_admit.specs.Chain.{AreTimes}
+use Rattle.yds_admit.specs.Chain.{AreTimes, IsEnd}
 
 -- the place of the last time that isn't after a job's release, and the first of its deadline
 pub record IsSpot (jobs : List Job) (times : List ℕ) (spot : Spot) : Type 0 where
@@ -21,6 +21,11 @@ pub record IsSpot (jobs : List Job) (times : List ℕ) (spot : Spot) : Type 0 wh
   pub earlier : (q : ℕ) → q < spot.end → slice_index times q < slice_index times spot.end
   pub until : slice_index times spot.begin ≤ spot.release
   pub after : (q : ℕ) → spot.begin < q → q < length times → spot.release < slice_index times q
+
+-- the first place of each job's deadline among the times
+pub record AreEnds (jobs : List Job) (times ends : List ℕ) : Type 0 where
+  pub as_long : length ends ≡ length jobs
+  pub each : (k : ℕ) → k < length jobs → IsEnd times (job_at jobs k).deadline (slice_index ends k)
 
 -- a spot for each job, in some order
 pub record AreSpots (jobs : List Job) (times : List ℕ) (spots : List Spot) : Type 0 where
@@ -46,6 +51,7 @@ pub record IsBoard (board : Board) : Type 0 where
   pub are : All IsJob board.rows.now
   pub are_times : AreTimes 0 board.rows.now board.times.items
   pub are_gaps : AreGaps board.top board.times.items board.gaps.items
+  pub are_ends : AreEnds board.rows.now board.times.items board.ends.items
   pub are_spots : AreSpots board.rows.now board.times.items board.spots.items
   pub falling : IsFallingSpots board.spots.items
 

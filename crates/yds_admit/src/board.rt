@@ -2,7 +2,7 @@ ghost use Rattle.std.specs.Prelude.{◌≡◌, ℕ, ◌<◌, ◌≤◌, IfOk, Al
 ghost use Rattle.std.specs.List.Sorted.{IsPermutation, IsNonDecreasing};
 ghost use Rattle.yds_model.specs.declared.limits.TheConstants.{MAX_TIME};
 ghost use Rattle.yds_model.specs.Job.{IsJob};
-ghost use Rattle.yds_admit.specs.Board.{IsBoard, AreSpots, IsFallingSpots};
+ghost use Rattle.yds_admit.specs.Board.{IsBoard, AreEnds, AreSpots, IsFallingSpots};
 ghost use Rattle.yds_admit.specs.Chain.{AreTimes};
 
 use crate::chain::{gaps, place, times};
@@ -35,6 +35,8 @@ pub(crate) struct Board<'a> {
     pub(crate) times: Vec<u32>,
     /// The work that the top speed does between each time and the next.
     pub(crate) gaps: Vec<u64>,
+    /// The first place of each job's deadline among the times.
+    pub(crate) ends: Vec<usize>,
     /// All jobs by falling releases.
     pub(crate) spots: Vec<Spot>,
 }
@@ -53,33 +55,46 @@ impl<'a> Board<'a> {
         sort_by_deadline(&mut by_deadline)?;
         let times = times(alloc, &by_deadline)?;
         let gaps = gaps(alloc, &times, top)?;
-        let spots = falling(spots(alloc, rows, &times)?)?;
+        let ends = ends(alloc, rows, &times)?;
+        let spots = falling(spots(alloc, rows, &times, &ends)?)?;
         Ok(Board {
             rows,
             top,
             times,
             gaps,
+            ends,
             spots,
         })
     }
 }
 
-/// Each job with its places among these times.
-fn spots(alloc: Global, rows: &[JobRow], times: &[u32]) -> Result<Vec<Spot>, Memory>
+/// The first place of each job's deadline among these times.
+fn ends(alloc: Global, rows: &[JobRow], times: &[u32]) -> Result<Vec<usize>, Memory>
     requires { AreTimes 0 rows.now times.now }
-    ensures spots { IfOk result (λ spots. AreSpots rows.now times.now spots.items) }
+    ensures ends { IfOk result (λ ends. AreEnds rows.now times.now ends.items) }
     ensures jobs { IfOk result (λ _. All IsJob rows.now) }
+{
+    let mut ends = Vec::new(alloc);
+    for row in rows {
+        ends.push(place(times, row.deadline))?;
+    }
+    Ok(ends)
+}
+
+/// Each job with its places among these times.
+fn spots(alloc: Global, rows: &[JobRow], times: &[u32], ends: &[usize]) -> Result<Vec<Spot>, Memory>
+    requires times { AreTimes 0 rows.now times.now }
+    requires ends { AreEnds rows.now times.now ends.now }
+    ensures { IfOk result (λ spots. AreSpots rows.now times.now spots.items) }
 {
     let mut spots = Vec::new(alloc);
     for (number, row) in rows.iter().enumerate() {
-        let begin = last_until(times, row.release);
-        let end = place(times, row.deadline);
         spots.push(Spot {
             number,
             release: row.release,
             work: row.work,
-            begin,
-            end,
+            begin: last_until(times, row.release),
+            end: ends[number],
         })?;
     }
     Ok(spots)

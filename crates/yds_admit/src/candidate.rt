@@ -1,9 +1,10 @@
-ghost use Rattle.std.specs.Prelude.{◌≡◌, ◌+◌, ◌<◌, ◌++◌, ◌∷◌, [], true, false, IfOk, IfSome, MatchOption, None, length};
+ghost use Rattle.std.specs.Prelude.{◌≡◌, ◌+◌, ◌<◌, ◌++◌, ◌∷◌, [], true, false, IfOk, IfSome, MatchOption, length};
 ghost use Rattle.yds_laws.specs.AdmissionLaws.{HasRoom};
 ghost use Rattle.yds_admit.specs.Interval.{IsFirstWith};
+ghost use Rattle.yds_admit.specs.declared.pieces.Pieces.{Pieces};
 ghost use Rattle.yds_admit.specs.Pieces.{ArePieces};
 ghost use Rattle.yds_admit.specs.State.{IsState, next_job};
-ghost use Rattle.yds_admit.specs.Room.{IsRoom, HasIdleOn, IsCutOn};
+ghost use Rattle.yds_admit.specs.Room.{IsRoom, IsCutOn};
 
 use crate::board::Board;
 use crate::idle::{clear_idle, take_idle};
@@ -15,8 +16,6 @@ use std::alloc::Global;
 use yds_model::Memory;
 
 /// Admits the next job where it leaves no interval overfull beside the admitted ones, or refuses it. Answers whether it was admitted.
-///
-/// The pieces are taken out of the room, since they don't outlive an admission.
 pub(crate) fn decide_next(
     alloc: Global,
     board: &Board,
@@ -30,40 +29,43 @@ pub(crate) fn decide_next(
     ensures next { IfOk result (λ _. state.new.next ≡ state.old.next + 1) }
     ensures room { IfOk result (λ _. IsRoom board.now state.new.jobs.items room.new) }
 {
-    let pieces = room.pieces.take();
-    if take_idle_next(board, state, &mut room.idle)? {
+    if take_idle_next(board, state, room)? {
         return Ok(true);
     }
-    if let Some(pieces) = pieces {
-        return decide_by_pieces(board, state, room, pieces);
+    if let Some(pieces) = &room.pieces {
+        let overfull = overfull_by_pieces(board, state, pieces);
+        return settle_next(board, state, room, overfull);
     }
     if refuse_from_start(board, state)? {
         return Ok(false);
     }
     let (pieces, idle) = cut_admitted(alloc, board, state)?;
     room.idle = idle;
-    if take_idle_next(board, state, &mut room.idle)? {
+    if take_idle_next(board, state, room)? {
         return Ok(true);
     }
-    decide_by_pieces(board, state, room, pieces)
+    let overfull = overfull_by_pieces(board, state, &pieces);
+    room.pieces = Some(pieces);
+    settle_next(board, state, room, overfull)
 }
 
 /// Admits the next job if enough is idle in its window. Answers whether it did.
-fn take_idle_next(board: &Board, state: &mut State, idle: &mut Vec<u64>) -> Result<bool, Memory>
+fn take_idle_next(board: &Board, state: &mut State, room: &mut Room) -> Result<bool, Memory>
     requires state { IsState board.now state.old }
     requires more { state.old.next < length board.now.rows.now }
-    requires idle { HasIdleOn board.now state.old.jobs.items idle.old.items }
+    requires room { IsRoom board.now state.old.jobs.items room.old }
     ensures state { IfOk result (λ _. IsState board.now state.new) }
     ensures next { IfOk result (λ admitted. admitted ≡ true → state.new.next ≡ state.old.next + 1) }
-    ensures idle { IfOk result (λ _. HasIdleOn board.now state.new.jobs.items idle.new.items) }
+    ensures room { IfOk result (λ _. IsRoom board.now state.new.jobs.items room.new) }
     ensures kept { IfOk result (λ admitted. admitted ≡ false → state.new ≡ state.old) }
-    ensures same { IfOk result (λ admitted. admitted ≡ false → idle.new.items ≡ idle.old.items) }
+    ensures idle { IfOk result (λ admitted. admitted ≡ false → room.new.idle.items ≡ room.old.idle.items) }
 {
     let row = state.next_row(board);
     let end = state.next_end(board);
-    if !take_idle(idle, row, &board.times, end) {
+    if !take_idle(&mut room.idle, row, &board.times, end) {
         return Ok(false);
     }
+    room.pieces = None;
     state.admit_next(board)?;
     Ok(true)
 }
@@ -99,33 +101,35 @@ fn overfull_from_start(board: &Board, state: &State) -> Option<Overfull>
     overfull_from(&state.by_deadline, row, from, board.top)
 }
 
-/// Decides the next job over the pieces of the admitted ones. Answers whether it was admitted.
-fn decide_by_pieces(
+/// Refuses the next job for the first interval that is overfull with it, or admits it where there is none. Answers whether it was admitted.
+fn settle_next(
     board: &Board,
     state: &mut State,
     room: &mut Room,
-    pieces: Pieces,
+    overfull: Option<Overfull>,
 ) -> Result<bool, Memory>
     requires state { IsState board.now state.old }
     requires more { state.old.next < length board.now.rows.now }
-    requires idle { HasIdleOn board.now state.old.jobs.items room.old.idle.items }
-    requires cut { IsCutOn board.now state.old.jobs.items pieces room.old.idle.items }
-    requires taken { room.old.pieces ≡ None }
+    requires room { IsRoom board.now state.old.jobs.items room.old }
+    requires cut { (pieces : Pieces) × IsCutOn board.now state.old.jobs.items pieces room.old.idle.items }
+    requires overfull { MatchOption overfull
+        (HasRoom board.now.top (state.old.jobs.items ++ next_job board.now state.old ∷ []))
+        (λ first. IsFirstWith board.now.top (state.old.jobs.items ++ next_job board.now state.old ∷ []) first.from first.to first.work) }
     ensures state { IfOk result (λ _. IsState board.now state.new) }
     ensures next { IfOk result (λ _. state.new.next ≡ state.old.next + 1) }
     ensures room { IfOk result (λ _. IsRoom board.now state.new.jobs.items room.new) }
 {
-    match overfull_by_pieces(board, state, &pieces) {
+    match overfull {
         None => {
             // The job may take what is idle before its release too.
             let row = state.next_row(board);
             let end = state.next_end(board);
             clear_idle(&mut room.idle, end, u64::from(row.work));
+            room.pieces = None;
             state.admit_next(board)?;
             Ok(true)
         }
         Some(overfull) => {
-            room.pieces = Some(pieces);
             state.refuse_next(board, overfull)?;
             Ok(false)
         }

@@ -1,11 +1,11 @@
-ghost use Rattle.std.specs.Prelude.{◌≡◌, ◌+◌, ◌<◌, ◌≤◌, ◌++◌, ◌∷◌, [], IfOk, length, slice_index, take, drop};
+ghost use Rattle.std.specs.Prelude.{◌≡◌, ◌+◌, ◌<◌, ◌≤◌, ◌++◌, ◌∷◌, [], IfOk, length, take, drop};
 ghost use Rattle.yds_laws.specs.AdmissionLaws.{HasRoom};
 ghost use Rattle.yds_admit.specs.Board.{IsBoard, IsMarked};
+ghost use Rattle.yds_admit.specs.Chain.{IsEnd};
 ghost use Rattle.yds_admit.specs.State.{IsState, next_job};
 ghost use Rattle.yds_admit.specs.Interval.{IsFirstWith};
 
 use crate::board::Board;
-use crate::chain::place;
 use crate::interval::{Overfull, sort_by_deadline, sort_by_release};
 use crate::refusal::Refusal;
 use crate::standing::{deadline_place, release_place};
@@ -64,12 +64,11 @@ impl State {
     /// The place of the next job's deadline among the times.
     #[inline]
     pub(crate) fn next_end(&self, board: &Board) -> usize
-        requires state { IsState board.now self.now }
+        requires board { IsBoard board.now }
         requires more { self.now.next < length board.now.rows.now }
-        ensures within { result < length board.now.times.items }
-        ensures end { slice_index board.now.times.items result ≡ (next_job board.now self.now).deadline }
+        ensures { IsEnd board.now.times.items (next_job board.now self.now).deadline result }
     {
-        place(&board.times, self.next_row(board).deadline)
+        board.ends[self.next]
     }
 
     /// Admits the next jobs up to the last, which leave no interval overfull beside the admitted ones. They are marked.

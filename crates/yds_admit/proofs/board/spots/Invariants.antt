@@ -1,6 +1,5 @@
-use Rattle.std.proofs.Common.{◌≡◌, map, take}
+use Rattle.std.proofs.Common.{◌≡◌, map}
 use Rattle.std.specs.List.{All, range_with_len}
-use Rattle.yds_model.specs.Job.{IsJob}
 use Rattle.yds_admit.specs.Board.{IsSpot}
 use Rattle.yds_admit.specs.declared.board.Spot.{Spot}
 use Rattle.yds_admit.proofs.board.spots.Given as goal
@@ -9,5 +8,4 @@ abbrev pub invariant-loop-number : goal.invariant-loop-number
 invariant-loop-number l = record {
   numbers : map (λ (spot : Spot). spot.number) l.spots.items ≡ range_with_len 0 l.number;
   each : All (IsSpot l.rows l.times) l.spots.items;
-  jobs : All IsJob (take l.number l.rows);
 }

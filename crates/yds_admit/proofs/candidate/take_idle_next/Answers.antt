@@ -12,14 +12,18 @@ admit_next-requires-clause-room c =
     let state = c.args.state.now in
     let taken = rw (c.deref.ensures.value, c.deref_mut.ensures.value, c.next_row-row.ensures) at c.if-not-take_idle.ensures.taken in
     idle_room board.top board.times.items (state.jobs.items ++ next_job board state ∷ []) c.take_idle.new.idle (next_due board state c.requires.state c.requires.more)
-    (taken (search rules) board.top state.jobs.items c.requires.state.on.are_times.rising c.requires.idle)
+    (taken (search rules) board.top state.jobs.items c.requires.state.on.are_times.rising c.requires.room.has_idle)
 
-pub returns-clause-idle : goal.returns-clause-idle
-returns-clause-idle c =
+pub returns-clause-room : goal.returns-clause-room
+returns-clause-room c =
     let board = c.args.board.now in
     let state = c.args.state.now in
+    let room = c.args.room.now in
     let taken = rw (c.deref.ensures.value, c.deref_mut.ensures.value, c.next_row-row.ensures) at c.if-not-take_idle.ensures.taken in
-    let idle = taken (search rules) board.top state.jobs.items c.requires.state.on.are_times.rising c.requires.idle in
-    subst (HasIdle board.top board.times.items c.admit_next.new.self.jobs.items)
-    (sym (lent c.args.idle.now.len c.args.idle.now.items c.take_idle.new.idle c.args.idle.now.ok.0 (omega (arith, idle.as_long, c.requires.idle.as_long))))
-    (subst (λ (jobs : List Job). HasIdle board.top board.times.items jobs c.take_idle.new.idle) (sym c.in_ok-admit_next.ensures.jobs) idle)
+    let idle = taken (search rules) board.top state.jobs.items c.requires.state.on.are_times.rising c.requires.room.has_idle in
+    record {
+      has_idle = subst (HasIdle board.top board.times.items c.admit_next.new.self.jobs.items)
+          (sym (lent room.idle.len room.idle.items c.take_idle.new.idle room.idle.ok.0 (omega (arith, idle.as_long, c.requires.room.has_idle.as_long))))
+          (subst (λ (jobs : List Job). HasIdle board.top board.times.items jobs c.take_idle.new.idle) (sym c.in_ok-admit_next.ensures.jobs) idle);
+      cut = tt;
+    }
