@@ -1,11 +1,10 @@
 -- What is idle between the times, jobs that take it, and what a cut leaves of it.
 use Rattle.std.proofs.Common.{◌≡◌, ℕ, zero, suc, ◌+◌, ◌-◌, ◌*◌, ◌<◌, ◌≤◌, List, [], ◌∷◌, ◌++◌, length, get_or, take, drop, set, replicate, ◌∙◌, subst, arith, inl, inr, ap, cond, nat_le, get_or-set_same, get_or-set_other}
-use Rattle.std.specs.List.{All}
-use Rattle.std.specs.List.Sorted.{IsPermutation, IsNonDecreasing}
+use Rattle.std.specs.List.{All, sum_by}
+use Rattle.std.specs.List.Sorted.{IsNonDecreasing}
 use Rattle.std.proofs.lemmas.Bool.{cases_lt, cases_eq, le-leb, lt-leb}
 use Rattle.std.proofs.lemmas.List.{get_or_default, get_or-replicate, length-replicate, get_or_past, drop_all, append-nil, take_all}
 use Rattle.std.proofs.lemmas.List.Sums.{sum_by_push}
-use Rattle.std.proofs.lemmas.List.Sorted.{sum_by-IsPermutation}
 use Rattle.std.proofs.Math.Nat.{mul-sub, mul-le-mul_left}
 use Rattle.yds_model.specs.Job.{Job, IsJob, job_at}
 use Rattle.yds_edf.proofs.Sums.{sum_below_same, sum_below_zero}
@@ -277,15 +276,12 @@ none_idle top times jobs n long are room = record {
     | inr past ↦ get_or_past (replicate n 0) k 0 (omega (arith, past, length-replicate {A = ℕ} n 0))
   ]
 
--- the jobs in another order
-pub same_idle : (top : ℕ) (times : List ℕ) (jobs others : List Job) (idle : List ℕ) → IsPermutation jobs others → HasIdle top times others idle → HasIdle top times jobs idle
+-- jobs with the same sums
+pub same_idle : (top : ℕ) (times : List ℕ) (jobs others : List Job) (idle : List ℕ) → ((g : Job → ℕ) → sum_by g others ≡ sum_by g jobs) → HasIdle top times others idle →
+    HasIdle top times jobs idle
 same_idle top times jobs others idle same has = record {
   as_long = has.as_long;
-  room = λ from a b forward below ahead. omega (
-    arith,
-    has.room from a b forward below ahead,
-    sum_by-IsPermutation (term from (get_or times b 0)) jobs others same,
-  );
+  room = λ from a b forward below ahead. omega (arith, has.room from a b forward below ahead, same (term from (get_or times b 0)));
 }
 
 -- # What a cut leaves

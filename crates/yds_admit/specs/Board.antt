@@ -1,6 +1,6 @@
 -- Jobs with their places among the times of a chain, and marks of jobs.
 use Rattle.std.specs.Prelude.{◌≡◌, ℕ, ◌+◌, ◌*◌, ◌<◌, ◌≤◌, Bool, false, if◌then◌else◌, List, length, map, slice_index, sum_by}
-use Rattle.std.specs.List.{All, Any, slice_index_or}
+use Rattle.std.specs.List.{All, Any, filter, slice_index_or}
 use Rattle.std.specs.List.Sorted.{IsPermutation}
 use Rattle.yds_model.specs.declared.limits.TheConstants.{MAX_JOBS, MAX_TIME, MAX_TOP}
 use Rattle.yds_model.specs.Job.{Job, IsJob, job_at}
@@ -63,6 +63,10 @@ if_marked marks f number = if slice_index_or marks number false then f number el
 pub record AreMarked (all : List Job) (marks : List Bool) (jobs : List Job) : Type 0 where
   pub sums : (f : Job → ℕ) → sum_by (if_marked marks (λ number. f (job_at all number))) (numbers_of all) ≡ sum_by f jobs
   pub known : All (λ job. Any (λ one. one ≡ job) all) jobs
+
+-- the marked jobs, by falling releases
+abbrev pub falling_jobs : List Job → List Bool → List Spot → List Job
+falling_jobs all marks spots = map (λ spot. job_at all spot.number) (filter (λ spot. slice_index_or marks spot.number false) spots)
 
 -- none is marked from this number on
 abbrev pub NoneFrom : List Bool → ℕ → Type 0

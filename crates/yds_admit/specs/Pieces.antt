@@ -41,14 +41,13 @@ pub record IsCutInto (job : Job) (old new : List Job) : Type 0 where
   pub windows : All (λ piece. (piece.release ≡ job.release) × (piece.deadline ≡ job.deadline)) more
   pub work : sum_by (λ piece. piece.work) more ≡ job.work
 
--- the pieces of the first n of all jobs
-pub record AreCut (all : List Job) (n : ℕ) (jobs : List Job) : Type 0 where
+-- the pieces of all these jobs
+pub record AreCut (all jobs : List Job) : Type 0 where
   pub falling : IsFalling jobs
-  pub later : (k : ℕ) → n ≤ k → k < length all → (i : ℕ) → i < length jobs → (job_at all k).release ≤ (job_at jobs i).release
-  pub few : sum_by (λ job. job.work) jobs ≤ n * MAX_WORK
-  pub same : (from to : ℕ) → enclosed_work jobs from to ≡ enclosed_work (take n all) from to
-  pub kept : (k : ℕ) → k < n → (i : ℕ) × (i < length jobs) × ((job_at jobs i).release ≡ (job_at all k).release)
-  pub known : (i : ℕ) → i < length jobs → (k : ℕ) × (k < n) × ((job_at all k).release ≡ (job_at jobs i).release)
+  pub few : sum_by (λ job. job.work) jobs ≤ length all * MAX_WORK
+  pub same : (from to : ℕ) → enclosed_work jobs from to ≡ enclosed_work all from to
+  pub kept : (from : ℕ) → Any (λ job. job.release ≡ from) all → Any (λ job. job.release ≡ from) jobs
+  pub known : (from : ℕ) → Any (λ job. job.release ≡ from) jobs → Any (λ job. job.release ≡ from) all
 
 -- the pieces of jobs, and the units that take room before each of the times
 pub record ArePieces (top : ℕ) (times : List ℕ) (all jobs : List Job) (places used : List ℕ) : Type 0 where

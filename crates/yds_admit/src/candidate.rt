@@ -94,11 +94,12 @@ fn overfull_from_start(board: &Board, state: &State) -> Option<Overfull>
         overfull.from overfull.to overfull.work) }
 {
     let row = state.next_row(board);
-    let from = match state.by_release.last() {
-        Some(job) => job.release.min(row.release),
-        None => row.release,
-    };
-    overfull_from(&state.by_deadline, row, from, board.top)
+    overfull_from(
+        &state.by_deadline,
+        row,
+        state.earliest.min(row.release),
+        board.top,
+    )
 }
 
 /// Refuses the next job for the first interval that is overfull with it, or admits it where there is none. Answers whether it was admitted.

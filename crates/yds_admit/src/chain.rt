@@ -50,38 +50,6 @@ pub(crate) fn place(times: &[u32], time: u32) -> usize
     times.partition_point(|other| *other < time)
 }
 
-/// How many of the times come before this one. The guess of this number is right most of the time, and saves a search. It is set right.
-pub(crate) fn place_guessed(
-    times: &[u32],
-    time: u32,
-    guesses: &mut Vec<usize>,
-    number: usize,
-) -> Result<usize, Memory>
-    requires { IsNonDecreasing times.now }
-    ensures { IfOk result (λ place. IsPlace times.now time place) }
-{
-    if number < guesses.len() {
-        let guess = guesses[number];
-        if is_place(times, time, guess) {
-            return Ok(guess);
-        }
-        let found = place(times, time);
-        guesses[number] = found;
-        return Ok(found);
-    }
-    let found = place(times, time);
-    guesses.push(found)?;
-    Ok(found)
-}
-
-/// Whether so many of the times, at least one, come before this one.
-fn is_place(times: &[u32], time: u32, guess: usize) -> bool
-    requires { IsNonDecreasing times.now }
-    ensures { IsTrue result → IsPlace times.now time guess }
-{
-    0 < guess && guess < times.len() && times[guess - 1] < time && time <= times[guess]
-}
-
 /// Takes so many units from the gaps before this place, from the last one on, down to the lowest gap. Answers how many are left.
 /// Gaps of which nothing is left are jumped over by their links.
 pub(crate) fn take(

@@ -2,7 +2,6 @@ ghost use Rattle.std.specs.Prelude.{◌≡◌, ◌*◌, ◌≤◌, ◌++◌, ◌
 ghost use Rattle.std.specs.List.Sorted.{IsPermutation, IsNonDecreasingBy};
 ghost use Rattle.yds_model.specs.declared.limits.TheConstants.{MAX_WORK};
 ghost use Rattle.yds_model.specs.Job.{IsJob};
-ghost use Rattle.yds_admit.specs.Chain.{IsFalling};
 ghost use Rattle.yds_admit.specs.Interval.{released_work, HasRoomFrom, IsFirstFrom};
 
 use crate::standing::due_before;
@@ -26,16 +25,6 @@ pub(crate) fn sort_by_deadline(jobs: &mut Vec<JobRow>) -> Result<(), Memory>
     ensures rising { IfOk result (λ _. IsNonDecreasingBy (λ job. job.deadline) jobs.new.items) }
 {
     jobs.sort_by_key(|job| job.deadline)?;
-    Ok(())
-}
-
-/// Sorts the jobs by falling releases.
-pub(crate) fn sort_by_release(jobs: &mut Vec<JobRow>) -> Result<(), Memory>
-    requires { All IsJob jobs.old.items }
-    ensures same { IfOk result (λ _. IsPermutation jobs.old.items jobs.new.items) }
-    ensures falling { IfOk result (λ _. IsFalling jobs.new.items) }
-{
-    jobs.sort_by_key(|job| u32::MAX - job.release)?;
     Ok(())
 }
 

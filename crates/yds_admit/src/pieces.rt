@@ -1,15 +1,14 @@
-ghost use Rattle.std.specs.Prelude.{◌≡◌, ℕ, ◌+◌, ◌*◌, ◌<◌, ◌≤◌, ◌++◌, ◌∷◌, [], List, IfOk, MatchOption, All, length, slice_index};
+ghost use Rattle.std.specs.Prelude.{◌≡◌, ℕ, ◌+◌, ◌*◌, ◌<◌, ◌≤◌, ◌++◌, ◌∷◌, [], List, IfOk, MatchOption, length, slice_index};
 ghost use Rattle.std.specs.List.Sorted.{IsNonDecreasing};
-ghost use Rattle.yds_admit.specs.Board.{IsBoard, AreGaps};
+ghost use Rattle.yds_admit.specs.Board.{IsBoard, falling_jobs};
 ghost use Rattle.yds_model.specs.declared.limits.TheConstants.{MAX_WORK};
-ghost use Rattle.yds_model.specs.Job.{Job, IsJob};
-ghost use Rattle.yds_laws.specs.AdmissionLaws.{HasRoom};
-ghost use Rattle.yds_admit.specs.Chain.{IsFalling, IsPlace, AreLinks, NoFrom, IsLeastFrom};
-ghost use Rattle.yds_admit.specs.Idle.{HasIdle, IsRest, idle_before};
-ghost use Rattle.yds_admit.specs.Pieces.{IsCutting, IsCutInto, AreCut, ArePieces, ArePiecesOf, AreDue};
+ghost use Rattle.yds_model.specs.Job.{Job};
+ghost use Rattle.yds_admit.specs.Chain.{IsPlace, AreLinks, NoFrom, IsLeastFrom};
+ghost use Rattle.yds_admit.specs.Idle.{idle_before};
+ghost use Rattle.yds_admit.specs.Pieces.{IsCutting, IsCutInto, AreCut, ArePiecesOf};
 
 use crate::board::Board;
-use crate::chain::{last_open, own_links, place_guessed};
+use crate::chain::{last_open, own_links};
 use crate::nearby::{count_near, units_near};
 use std::alloc::Global;
 use yds_model::limits::{MAX_JOBS, MAX_TOP};
@@ -26,66 +25,41 @@ pub(crate) struct Pieces {
     pub(crate) used: Vec<u64>,
 }
 
-/// The pieces of these jobs, and what they leave of the gaps. The guesses tell where the deadlines stand among the times.
-pub(crate) fn cut_all(
+/// Cuts each marked job, by falling releases: its units take the room that is left in the gaps, from its own deadline backwards.
+/// Answers what is left of them too. What is used before the times isn't known yet.
+#[inline(never)]
+pub(crate) fn cut_each(
     alloc: Global,
     board: &Board,
-    by_release: &[JobRow],
-    guesses: &mut Vec<usize>,
+    marks: &[bool],
 ) -> Result<(Pieces, Vec<u64>), Memory>
     requires board { IsBoard board.now }
-    requires few { length by_release.now ≤ MAX_JOBS }
-    requires are { All IsJob by_release.now }
-    requires room { HasRoom board.now.top by_release.now }
-    requires falling { IsFalling by_release.now }
-    requires due { AreDue board.now.times.items by_release.now }
-    ensures pieces { IfOk result (λ cut. ArePieces board.now.top board.now.times.items by_release.now cut.0.jobs.items cut.0.places.items cut.0.used.items) }
-    ensures idle { IfOk result (λ cut. HasIdle board.now.top board.now.times.items by_release.now cut.1.items) }
-    ensures rest { IfOk result (λ cut. IsRest board.now.top board.now.times.items cut.1.items cut.0.used.items) }
+    requires marks { length marks.now ≡ length board.now.rows.now }
+    ensures cutting { IfOk result (λ cut. IsCutting board.now.top board.now.times.items cut.0.jobs.items cut.0.places.items cut.1.items) }
+    ensures cut { IfOk result (λ cut. AreCut (falling_jobs board.now.rows.now marks.now board.now.spots.items) cut.0.jobs.items) }
+    ensures as_long { IfOk result (λ cut. length cut.1.items ≡ length board.now.gaps.items) }
 {
-    let (mut pieces, left) = cut_each(alloc, by_release, &board.times, &board.gaps, guesses)?;
-    pieces.used = used_before(alloc, &board.gaps, &left)?;
-    Ok((pieces, left))
-}
-
-/// Cuts each job: its units take the room that is left in the gaps, from its own deadline backwards. Answers what is left of them too.
-#[inline(never)]
-fn cut_each(
-    alloc: Global,
-    by_release: &[JobRow],
-    times: &[u32],
-    gaps: &[u64],
-    guesses: &mut Vec<usize>,
-) -> Result<(Pieces, Vec<u64>), Memory>
-    requires as_long { length gaps.now + 1 ≡ length times.now }
-    requires falling { IsFalling by_release.now }
-    requires rising { IsNonDecreasing times.now }
-    requires due { AreDue times.now by_release.now }
-    ensures cutting { IfOk result (λ cut. (top : ℕ) → AreGaps top times.now gaps.now →
-        IsCutting top times.now cut.0.jobs.items cut.0.places.items cut.1.items) }
-    ensures cut { IfOk result (λ cut. AreCut by_release.now (length by_release.now) cut.0.jobs.items) }
-    ensures as_long { IfOk result (λ cut. length cut.1.items ≡ length gaps.now) }
-{
-    let mut left = Vec::from_slice(alloc, gaps)?;
+    let mut left = Vec::from_slice(alloc, &board.gaps)?;
     let rest = left.as_mut_slice();
-    let mut links = own_links(alloc, times.len())?;
+    let mut links = own_links(alloc, board.times.len())?;
     let links = links.as_mut_slice();
     let mut pieces = Pieces {
         jobs: Vec::new(alloc),
         places: Vec::new(alloc),
         used: Vec::new(alloc),
     };
-    for number in 0..by_release.len() {
-        let job = &by_release[number];
-        let end = place_guessed(times, job.deadline, guesses, number)?;
-        cut(rest, links, &mut pieces, job, end)?;
+    for spot in &board.spots {
+        if !marks[spot.number] {
+            continue;
+        }
+        cut(rest, links, &mut pieces, &board.rows[spot.number], spot.end)?;
     }
     Ok((pieces, left))
 }
 
 /// The units that were taken from the gaps before each of the times: the gaps less what is left of them.
 #[inline(never)]
-fn used_before(alloc: Global, gaps: &[u64], left: &[u64]) -> Result<Vec<u64>, Memory>
+pub(crate) fn used_before(alloc: Global, gaps: &[u64], left: &[u64]) -> Result<Vec<u64>, Memory>
     requires as_long { length left.now ≡ length gaps.now }
     requires less { (q : ℕ) → q < length gaps.now → slice_index left.now q ≤ slice_index gaps.now q }
     requires few { (q : ℕ) → q ≤ length gaps.now → idle_before gaps.now q ≤ idle_before left.now q + MAX_JOBS * MAX_WORK }

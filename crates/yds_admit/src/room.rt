@@ -1,4 +1,4 @@
-ghost use Rattle.std.specs.Prelude.{◌≡◌, None, IfOk, List, All};
+ghost use Rattle.std.specs.Prelude.{IfOk, List, All};
 ghost use Rattle.yds_model.specs.Job.{Job, IsJob};
 ghost use Rattle.yds_laws.specs.AdmissionLaws.{HasRoom};
 ghost use Rattle.yds_admit.specs.Board.{IsBoard};
@@ -6,7 +6,7 @@ ghost use Rattle.yds_admit.specs.State.{IsState};
 ghost use Rattle.yds_admit.specs.Room.{IsRoom, HasIdleOn, IsCutOn};
 
 use crate::board::Board;
-use crate::pieces::{Pieces, cut_all};
+use crate::pieces::{Pieces, cut_each, used_before};
 use crate::state::State;
 use std::alloc::Global;
 use yds_model::Memory;
@@ -37,15 +37,13 @@ impl Room {
 pub(crate) fn cut_admitted(
     alloc: Global,
     board: &Board,
-    state: &mut State,
+    state: &State,
 ) -> Result<(Pieces, Vec<u64>), Memory>
-    requires { IsState board.now state.old }
-    ensures state { IfOk result (λ _. IsState board.now state.new) }
-    ensures next { IfOk result (λ _. state.new.next ≡ state.old.next) }
-    ensures jobs { IfOk result (λ _. state.new.jobs.items ≡ state.old.jobs.items) }
-    ensures idle { IfOk result (λ cut. HasIdleOn board.now state.old.jobs.items cut.1.items) }
-    ensures cut { IfOk result (λ cut. IsCutOn board.now state.old.jobs.items cut.0 cut.1.items) }
+    requires { IsState board.now state.now }
+    ensures idle { IfOk result (λ cut. HasIdleOn board.now state.now.jobs.items cut.1.items) }
+    ensures cut { IfOk result (λ cut. IsCutOn board.now state.now.jobs.items cut.0 cut.1.items) }
 {
-    let cut = cut_all(alloc, board, &state.by_release, &mut state.ends)?;
-    Ok(cut)
+    let (mut pieces, idle) = cut_each(alloc, board, &state.marks)?;
+    pieces.used = used_before(alloc, &board.gaps, &idle)?;
+    Ok((pieces, idle))
 }

@@ -6,10 +6,11 @@ ghost use Rattle.yds_admit.specs.State.{IsState, next_job};
 ghost use Rattle.yds_admit.specs.Interval.{IsFirstWith};
 
 use crate::board::Board;
-use crate::interval::{Overfull, sort_by_deadline, sort_by_release};
+use crate::interval::{Overfull, sort_by_deadline};
 use crate::refusal::Refusal;
-use crate::standing::{deadline_place, release_place};
+use crate::standing::deadline_place;
 use std::alloc::Global;
+use yds_model::limits::MAX_TIME;
 use yds_model::{JobRow, Memory};
 
 /// What is decided of the first jobs of a board.
@@ -25,12 +26,10 @@ pub(crate) struct State {
     pub(crate) refused: Vec<Refusal>,
     /// Of each of all jobs, whether it is admitted.
     pub(crate) marks: Vec<bool>,
-    /// The admitted jobs by falling releases.
-    pub(crate) by_release: Vec<JobRow>,
     /// The admitted jobs by rising deadlines.
     pub(crate) by_deadline: Vec<JobRow>,
-    /// Where the deadlines of the admitted jobs by falling releases stand among the times, as far as it is known: guesses.
-    pub(crate) ends: Vec<usize>,
+    /// The earliest release of the admitted jobs, or the greatest time where there is none.
+    pub(crate) earliest: u32,
 }
 
 impl State {
@@ -46,9 +45,8 @@ impl State {
             jobs: Vec::new(alloc),
             refused: Vec::new(alloc),
             marks: vec![in alloc; false; board.rows.len()]?,
-            by_release: Vec::new(alloc),
             by_deadline: Vec::new(alloc),
-            ends: Vec::new(alloc),
+            earliest: MAX_TIME,
         })
     }
 
@@ -90,11 +88,10 @@ impl State {
             let row = &board.rows[number];
             self.taken.push(number as u32)?;
             self.jobs.push(*row)?;
-            self.by_release.push(*row)?;
             self.by_deadline.push(*row)?;
+            self.earliest = self.earliest.min(row.release);
         }
         // Sorting takes little where most are in order already.
-        sort_by_release(&mut self.by_release)?;
         sort_by_deadline(&mut self.by_deadline)?;
         self.marks = marks;
         self.next = last;
@@ -112,15 +109,11 @@ impl State {
     {
         let number = self.next;
         let row = self.next_row(board);
-        let among_releases = release_place(&self.by_release, row);
-        let among_deadlines = deadline_place(&self.by_deadline, row);
+        let place = deadline_place(&self.by_deadline, row);
         self.taken.push(number as u32)?;
         self.jobs.push(*row)?;
-        self.by_release.insert(among_releases, *row)?;
-        self.by_deadline.insert(among_deadlines, *row)?;
-        // The place of its own deadline isn't known yet, but those after it move.
-        let known = among_releases.min(self.ends.len());
-        self.ends.insert(known, 0)?;
+        self.by_deadline.insert(place, *row)?;
+        self.earliest = self.earliest.min(row.release);
         self.marks[number] = true;
         self.next = number + 1;
         Ok(())

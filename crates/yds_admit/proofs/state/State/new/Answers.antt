@@ -1,7 +1,8 @@
-use Rattle.std.proofs.Common.{ℕ, ◌≡◌, false, arith, [], length, inl, inr, replicate, get_or}
+use Rattle.std.proofs.Common.{ℕ, ◌≡◌, ◌≤◌, false, arith, [], length, inl, inr, replicate, get_or}
 use Rattle.std.proofs.lemmas.Bool.{cases_lt}
 use Rattle.std.proofs.lemmas.List.{get_or-replicate, length-replicate, get_or_past}
 use Rattle.std.proofs.lemmas.List.Sorted.{IsPermutation-refl}
+use Rattle.std.proofs.lemmas.List.Elements.{All-nil}
 use Rattle.yds_admit.proofs.Deciding.{begun}
 use Rattle.yds_admit.proofs.Marks.{none_marked}
 use Rattle.yds_admit.proofs.state.State.new.Goals as goal
@@ -22,10 +23,12 @@ returns-clause-state c =
       within = omega arith;
       decided = rw (c.new.ensures.items, c.new-2.ensures.items, c.new-3.ensures.items) (begun board.rows.now board.top);
       marked = rw (is, c.new-2.ensures.items) (none_marked board.rows.now (replicate n false) (length-replicate n false) (λ number from. none n number));
-      ordered = rw (c.new-2.ensures.items, c.new-4.ensures.items, c.new-5.ensures.items) (record {
-        releases = IsPermutation-refl [];
+      ordered = rw (c.new-2.ensures.items, c.new-4.ensures.items) (record {
         deadlines = IsPermutation-refl [];
-        falling = λ i j order below. absurd (omega arith);
         rising = λ i j d order below. absurd (omega arith);
+        releases = record {
+          least = All-nil (λ job. 1000000000 ≤ job.release);
+          known = λ before. absurd (omega arith);
+        };
       });
     }
