@@ -42,6 +42,7 @@ module _ (board : Board) (state : State) (is : IsState board state) where
       ∙ sum_by-IsPermutation f (numbers_of board.rows.now) (map (λ (spot : Spot). spot.number) spots) is.on.are_spots.same
       ∙ is.marked.marked.sums g
 
+  -- they are few jobs within the limits, and leave no interval overfull
   few : length all ≤ MAX_JOBS
   few = omega (
     arith,
@@ -73,13 +74,16 @@ module _ (board : Board) (state : State) (is : IsState board state) where
     long : length left + 1 ≡ length times
     long = omega (arith, as_long, is.on.are_gaps.as_long)
 
+    -- no gap gets more
     pub left_less : (q : ℕ) → q < length full → get_or left q 0 ≤ get_or full q 0
     left_less = less_left board.top times full all jobs places left cutting is.on.are_gaps cut.same cut.falling are room is.on.are_times.rising long
 
+    -- what is left is idle
     pub left_has_idle : HasIdle board.top times state.jobs.items left
     left_has_idle = same_idle board.top times state.jobs.items all left sums
         (left_idle board.top times full all jobs places left cutting is.on.are_gaps cut.same cut.falling are room is.on.are_times.rising long)
 
+    -- what is left before a place, with the units that went before it, is all that the gaps had
     left_is : (q : ℕ) → q ≤ length full → idle_before left q + went (length jobs) jobs places q ≡ idle_before full q
     left_is q within = omega (
       arith,
@@ -87,15 +91,18 @@ module _ (board : Board) (state : State) (is : IsState board state) where
       full_before board.top times full is.on.are_gaps is.on.are_times.first q within,
     )
 
+    -- that is little
     pub left_few : (q : ℕ) → q ≤ length full → idle_before full q ≤ idle_before left q + MAX_JOBS * MAX_WORK
     left_few q within = omega (arith, left_is q within, went_fits (length jobs) jobs places q (omega arith) (omega (arith, cut.few, few)))
 
     module _ (used : List ℕ) (used_long : length used ≡ length full + 1) (each : (q : ℕ) → q ≤ length full → idle_before left q + get_or used q 0 ≡ idle_before full q) where
+      -- with the units before each of the times these are the pieces of the admitted jobs
       pub left_pieces : ArePieces board.top times state.jobs.items jobs places used
       left_pieces = same_pieces board.top times state.jobs.items all jobs places used sums
           (all_made board.top times all jobs places left used few long cut cutting (omega (arith, used_long, is.on.are_gaps.as_long))
           (λ q below. let within : q ≤ length full = omega (arith, below, is.on.are_gaps.as_long) in omega (arith, each q within, left_is q within)))
 
+      -- and what is left is the rest
       pub left_rest : IsRest board.top times left used
       left_rest q below =
           let within : q ≤ length full = omega (arith, below, is.on.are_gaps.as_long) in

@@ -6,7 +6,7 @@ pub mod GoingOn
 pub mod Times
 pub mod Sweep
 pub mod Newly
-pub mod Inserted
+pub mod Ordered
 pub mod Links
 pub mod Fitting
 pub mod Marks

@@ -27,6 +27,7 @@ falling_more rows marks spots n below is =
     (filter_more test spots n no_spot below ∙ ap (λ (b : Bool). filter test (take n spots) ++ (if b then spot ∷ [] else [])) is)
     ∙ map-append (λ (one : Spot). job_at rows one.number) (filter test (take n spots)) (spot ∷ [])
 
+-- no job is cut yet
 pub none_made : AreCut [] []
 none_made = record {
   falling = λ i j order below. absurd (omega arith);
@@ -36,6 +37,7 @@ none_made = record {
   known = λ from some. absurd (omega (arith, some.2));
 }
 
+-- the pieces of one job more come after the others
 module _ (job : Job) (old new : List Job) (into : IsCutInto job old new) where
   long : length new ≡ length old + length into.more
   long = ap (λ (jobs : List Job). length jobs) into.is ∙ length-append old into.more
@@ -56,6 +58,7 @@ module _ (job : Job) (old new : List Job) (into : IsCutInto job old new) where
     | inr late ↦ omega (arith, back i late below, own)
   ]
 
+  -- one job more is cut, which isn't released after the pieces before
   pub one_made : (all : List Job) → job.work ≤ MAX_WORK → AreCut all old → ((i : ℕ) → i < length old → job.release ≤ (job_at old i).release) → AreCut (all ++ job ∷ []) new
   one_made all light made later = record {
     falling = λ i j order below. elim (cases_lt j (length old)) [
@@ -106,6 +109,7 @@ module _ (job : Job) (old new : List Job) (into : IsCutInto job old new) where
     read : (jobs : List Job) (from : ℕ) (some : Any (λ (one : Job). one.release ≡ from) jobs) → (job_at jobs some.0).release ≡ from
     read jobs from some = ap (λ (one : Job). one.release) (get_or_default jobs some.0 no_job some.1 some.2 ∙ some.3) ∙ some.4
 
+-- all are cut, and the units before each of the times are known
 pub all_made : (top : ℕ) (times : List ℕ) (all jobs : List Job) (places gaps used : List ℕ) → length all ≤ MAX_JOBS → length gaps + 1 ≡ length times → AreCut all jobs →
     IsCutting top times jobs places gaps → length used ≡ length times → ((q : ℕ) → q < length times → get_or used q 0 ≡ went (length jobs) jobs places q) →
     ArePieces top times all jobs places used

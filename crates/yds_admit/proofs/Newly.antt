@@ -19,7 +19,7 @@ use Rattle.yds_admit.proofs.Overfull.{any_of_all, number_of_any, jobs_work}
 
 -- # Jobs with the same sums
 
--- how many jobs have a value
+-- a value that some job has is counted, and one that is counted some job has
 any_counted : (f : Job → ℕ) (v : ℕ) (jobs : List Job) → Any (λ job. f job ≡ v) jobs → 1 ≤ sum_by (λ job. cond (f job == v) 1 0) jobs
 any_counted f v jobs (k, job, within, is, holds) = omega (
   arith,
@@ -112,6 +112,7 @@ module _ (top : ℕ) (jobs : List Job) (row : Job) (are : All IsJob (jobs ++ row
     ]
   ]
 
+  -- where there is no release from which one has too much
   pub has_room : NoFrom top row.deadline (jobs ++ row ∷ []) → HasRoom top (jobs ++ row ∷ [])
   has_room none from to full = no_overfull from to (none from) full
 

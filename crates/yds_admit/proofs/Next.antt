@@ -15,6 +15,7 @@ use Rattle.yds_admit.proofs.Times.{all_due}
 pub jobs_due : (board : Board) (state : State) → IsState board state → AreDue board.times.items state.jobs.items
 jobs_due board state is = all_due board.rows.now state.jobs.items board.times.items is.on.are_times is.marked.marked.known is.decided.are
 
+-- pieces of the admitted jobs
 pub jobs_pieces : (board : Board) (state : State) (pieces : Pieces) → IsState board state →
     ArePieces board.top board.times.items state.jobs.items pieces.jobs.items pieces.places.items pieces.used.items → ArePiecesOf board.top board.times.items state.jobs.items pieces
 jobs_pieces board state pieces is cut = record {
@@ -28,10 +29,11 @@ module _ (board : Board) (state : State) (is : IsState board state) (more : stat
   abbrev with_next : List Job
   with_next = state.jobs.items ++ next_job board state ∷ []
 
+  -- with the next one they are jobs within the limits
   pub next_are : All IsJob with_next
   next_are = All-push IsJob state.jobs.items (next_job board state) is.decided.are (is.on.are state.next no_job more)
 
-  -- so is the next one's
+  -- the next one's deadline is among the times too
   pub next_due : AreDue board.times.items with_next
   next_due = all_due board.rows.now with_next board.times.items is.on.are_times
       (All-push (λ (job : Job). Any (λ one. one ≡ job) board.rows.now) state.jobs.items (next_job board state) is.marked.marked.known

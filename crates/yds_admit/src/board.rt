@@ -74,7 +74,7 @@ fn ends(alloc: Global, rows: &[JobRow], times: &[u32]) -> Result<Vec<usize>, Mem
     ensures ends { IfOk result (λ ends. AreEnds rows.now times.now ends.items) }
     ensures jobs { IfOk result (λ _. All IsJob rows.now) }
 {
-    let mut ends = Vec::new(alloc);
+    let mut ends = Vec::with_capacity(alloc, rows.len())?;
     for row in rows {
         ends.push(place(times, row.deadline))?;
     }
@@ -87,7 +87,7 @@ fn spots(alloc: Global, rows: &[JobRow], times: &[u32], ends: &[usize]) -> Resul
     requires ends { AreEnds rows.now times.now ends.now }
     ensures { IfOk result (λ spots. AreSpots rows.now times.now spots.items) }
 {
-    let mut spots = Vec::new(alloc);
+    let mut spots = Vec::with_capacity(alloc, rows.len())?;
     for (number, row) in rows.iter().enumerate() {
         spots.push(Spot {
             number,

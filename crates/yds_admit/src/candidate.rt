@@ -82,7 +82,7 @@ fn refuse_from_start(board: &Board, state: &mut State) -> Result<bool, Memory>
     let Some(overfull) = overfull_from_start(board, state) else {
         return Ok(false);
     };
-    state.refuse_next(board, overfull)?;
+    state.refuse_next(overfull)?;
     Ok(true)
 }
 
@@ -131,7 +131,7 @@ fn settle_next(
             Ok(true)
         }
         Some(overfull) => {
-            state.refuse_next(board, overfull)?;
+            state.refuse_next(overfull)?;
             Ok(false)
         }
     }

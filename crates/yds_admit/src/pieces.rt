@@ -44,8 +44,8 @@ pub(crate) fn cut_each(
     let mut links = own_links(alloc, board.times.len())?;
     let links = links.as_mut_slice();
     let mut pieces = Pieces {
-        jobs: Vec::new(alloc),
-        places: Vec::new(alloc),
+        jobs: Vec::with_capacity(alloc, board.rows.len())?,
+        places: Vec::with_capacity(alloc, board.rows.len())?,
         used: Vec::new(alloc),
     };
     for spot in &board.spots {
@@ -66,7 +66,7 @@ pub(crate) fn used_before(alloc: Global, gaps: &[u64], left: &[u64]) -> Result<V
     ensures as_long { IfOk result (λ used. length used.items ≡ length gaps.now + 1) }
     ensures each { IfOk result (λ used. (q : ℕ) → q ≤ length gaps.now → idle_before left.now q + slice_index used.items q ≡ idle_before gaps.now q) }
 {
-    let mut used = Vec::new(alloc);
+    let mut used = Vec::with_capacity(alloc, gaps.len() + 1)?;
     let mut units = 0;
     used.push(units)?;
     for gap in 0..gaps.len() {

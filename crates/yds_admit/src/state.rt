@@ -1,5 +1,7 @@
 ghost use Rattle.std.specs.Prelude.{◌≡◌, ◌+◌, ◌<◌, ◌≤◌, ◌++◌, ◌∷◌, [], IfOk, length, take, drop};
 ghost use Rattle.yds_laws.specs.AdmissionLaws.{HasRoom};
+ghost use Rattle.yds_model.specs.declared.limits.TheConstants.{MAX_JOBS};
+ghost use Rattle.yds_admit.specs.declared.board.Board.{Board};
 ghost use Rattle.yds_admit.specs.Board.{IsBoard, IsMarked};
 ghost use Rattle.yds_admit.specs.Chain.{IsEnd};
 ghost use Rattle.yds_admit.specs.State.{IsState, next_job};
@@ -120,11 +122,10 @@ impl State {
     }
 
     /// Refuses the next job, which leaves an interval overfull beside the admitted ones: this is the first.
-    pub(crate) fn refuse_next(&mut self, board: &Board, overfull: Overfull) -> Result<(), Memory>
-        requires state { IsState board.now self.old }
-        requires more { self.old.next < length board.now.rows.now }
-        requires first { IsFirstWith board.now.top (self.old.jobs.items ++ next_job board.now self.old ∷ []) overfull.from overfull.to overfull.work }
-        ensures state { IfOk result (λ _. IsState board.now self.new) }
+    pub(crate) fn refuse_next(&mut self, overfull: Overfull) -> Result<(), Memory>
+        requires { self.old.next < MAX_JOBS }
+        ensures state { IfOk result (λ _. (board : Board) → IsState board self.old → self.old.next < length board.rows.now →
+            IsFirstWith board.top (self.old.jobs.items ++ next_job board self.old ∷ []) overfull.from overfull.to overfull.work → IsState board self.new) }
         ensures next { IfOk result (λ _. self.new.next ≡ self.old.next + 1) }
         ensures jobs { IfOk result (λ _. self.new.jobs.items ≡ self.old.jobs.items) }
     {

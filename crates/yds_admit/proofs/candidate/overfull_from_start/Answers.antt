@@ -2,7 +2,7 @@ use Rattle.std.proofs.Common.{ℕ, ◌∷◌, [], ◌++◌, subst, arith, ap, sy
 use Rattle.std.proofs.lemmas.List.Sorted.{IsPermutation-append_left, All-permutation, length_permutation}
 use Rattle.yds_model.specs.Job.{Job, IsJob, no_job}
 use Rattle.yds_admit.specs.Interval.{IsFirstWith}
-use Rattle.yds_admit.proofs.Inserted.{earliest_more}
+use Rattle.yds_admit.proofs.Ordered.{earliest_more}
 use Rattle.yds_admit.proofs.Least.{room_alone}
 use Rattle.yds_admit.proofs.Newly.{first_with, none_earlier, MatchOption-then}
 use Rattle.yds_admit.proofs.candidate.overfull_from_start.Goals as goal

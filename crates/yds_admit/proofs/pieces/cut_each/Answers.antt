@@ -15,12 +15,12 @@ loop-spot-init c =
     let board = c.args.board.now in
     let gaps = c.requires.board.are_gaps in
     record {
-      cutting = rw (c.new.ensures.items, c.new-2.ensures.items, c.as_mut_slice-rest.ensures.value, c.in_ok-left.ensures.items, c.deref.ensures.value)
+      cutting = rw (c.in_ok-with_capacity.ensures.items, c.in_ok-with_capacity-2.ensures.items, c.as_mut_slice-rest.ensures.value, c.in_ok-left.ensures.items, c.deref.ensures.value)
           (none_cut board.top board.times.items board.gaps.items gaps);
       links = rw (c.as_mut_slice-rest.ensures.value, c.in_ok-left.ensures.items, c.deref.ensures.value, c.as_mut_slice-links.ensures.value, c.in_ok-links.ensures)
           (own_are board.gaps.items c.len.result (omega (arith, gaps.as_long, c.len.ensures)));
-      made = rw c.new.ensures.items none_made;
-      later = rw c.new.ensures.items (λ k from below i less. absurd (omega (arith, less)));
+      made = rw c.in_ok-with_capacity.ensures.items none_made;
+      later = rw c.in_ok-with_capacity.ensures.items (λ k from below i less. absurd (omega (arith, less)));
     }
 
 pub loop-spot-preserved : goal.loop-spot-preserved

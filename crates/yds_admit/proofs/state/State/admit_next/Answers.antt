@@ -2,7 +2,7 @@ use Rattle.std.proofs.Common.{◌∷◌, [], ◌++◌, ◌∙◌, sym, arith, su
 use Rattle.yds_model.specs.Job.{Job}
 use Rattle.yds_laws.specs.AdmissionLaws.{HasRoom}
 use Rattle.yds_admit.proofs.Deciding.{takes}
-use Rattle.yds_admit.proofs.Inserted.{ordered_more}
+use Rattle.yds_admit.proofs.Ordered.{ordered_more}
 use Rattle.yds_admit.proofs.Marks.{one_more}
 use Rattle.yds_admit.proofs.state.State.admit_next.Goals as goal
 

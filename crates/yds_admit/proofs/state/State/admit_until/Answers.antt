@@ -4,7 +4,7 @@ use Rattle.yds_admit.specs.Board.{IsMarked}
 use Rattle.yds_admit.specs.State.{Decided}
 use Rattle.yds_model.specs.Job.{Job, no_job, job_at}
 use Rattle.std.proofs.lemmas.List.Sorted.{IsPermutation-append_left, IsPermutation-trans}
-use Rattle.yds_admit.proofs.Inserted.{earliest_more}
+use Rattle.yds_admit.proofs.Ordered.{earliest_more}
 use Rattle.yds_admit.proofs.Deciding.{takes_first}
 use Rattle.yds_admit.proofs.state.State.admit_until.Goals as goal
 
