@@ -233,13 +233,14 @@ fn answer_document<K: Sink>(
             reply(optimal_available_document(alloc, document, grid), sink)
         }
         Question::Check => reply(check_document(alloc, &document), sink),
-        Question::Audit { points: false } => deliver(&audit_document(&document), sink),
-        Question::Audit { points: true } => deliver(&audit_on_points(&document), sink),
         Question::Report { json: false } => reply(report_document(alloc, document), sink),
         Question::Report { json: true } => reply(json_document(alloc, &document), sink),
         Question::Curve => reply(curve_document(alloc, &document), sink),
         Question::Compare { grid } => reply(compare_document(alloc, document, grid), sink),
         Question::Admit { top } => reply(admit_document(alloc, document, top), sink),
+        // Last what takes no memory.
+        Question::Audit { points: false } => deliver(&audit_document(&document), sink),
+        Question::Audit { points: true } => deliver(&audit_on_points(&document), sink),
     }
 }
 
