@@ -1,4 +1,4 @@
-use Rattle.std.proofs.Common.{◌≡◌, ℕ, ◌*◌, ◌≤◌, ap, subst, ◌∙◌}
+use Rattle.std.proofs.Common.{◌≡◌, ℕ, ◌≤◌, ap, subst, ◌∙◌}
 use Rattle.yds_model.specs.declared.limits.TheConstants.{MAX_SLOT_WORK}
 use Rattle.yds_model.specs.Scale.{at_scale}
 use Rattle.yds_model.specs.Slot.{WrittenSlot}
