@@ -1,8 +1,8 @@
 -- Lists that are filtered, joined or made of parts, and pairs of two lists.
-use Rattle.std.proofs.Common.{◌≡◌, ℕ, zero, suc, ◌<◌, List, [], ◌∷◌, ◌++◌, ◌∙◌, length, get_or, refl, ap, arith, true, false}
+use Rattle.std.proofs.Common.{◌≡◌, ℕ, zero, suc, ◌<◌, List, [], ◌∷◌, ◌++◌, length, get_or, refl, ap, arith, true, false}
 use Rattle.std.specs.Prelude.{Bool, filter}
 use Rattle.std.specs.List.{All, AllZip, flat_map}
-use Rattle.std.proofs.lemmas.List.Elements.{All-nil, All-cons, All-head, All-tail, All-append}
+use Rattle.std.proofs.lemmas.List.Elements.{All-nil, All-head, All-tail, All-append}
 use Rattle.yds_model.proofs.Lists.{All-front, All-back}
 
 -- a filter that each element passes, and one that none does

@@ -1,17 +1,16 @@
 -- The slots of shares that fill a stretch at a pace, at a scale and as they are written.
-use Rattle.std.proofs.Common.{◌≡◌, ℕ, ◌+◌, ◌-◌, ◌*◌, ◌<◌, ◌≤◌, List, [], ◌∷◌, length, ◌∙◌, refl, sym, subst, arith, inl, inr, ap}
+use Rattle.std.proofs.Common.{◌≡◌, ℕ, ◌+◌, ◌-◌, ◌*◌, ◌<◌, ◌≤◌, List, [], ◌∷◌, ◌∙◌, refl, sym, subst, arith, inl, inr, ap}
 use Rattle.std.specs.Prelude.{sum_by}
-use Rattle.std.specs.List.{All, AllZip, Contains}
+use Rattle.std.specs.List.{All, AllZip}
 use Rattle.std.proofs.lemmas.List.Elements.{All-nil, All-cons, All-head, All-tail}
 use Rattle.std.proofs.lemmas.List.Sums.{sum_by-cons}
 use Rattle.std.proofs.Math.Nat.{eq_of_mul-eq-mul_left, le_of_mul-le-mul_right, lt_of_mul-lt-mul_right, mul-le-mul_right, mul-pos, mul-sub, le_refl}
-use Rattle.yds_model.specs.Job.{Job}
 use Rattle.yds_model.specs.Scale.{Fraction, at_scale, numerator, of_whole, of_parts}
 use Rattle.yds_model.specs.Slot.{WrittenSlot, WholeSlot, IsDivided, IsSolid, slot_at_scale, slots_at}
 use Rattle.yds_model.specs.Piece.{Piece}
 use Rattle.yds_model.specs.Feasible.{RunFrom}
-use Rattle.yds_model.specs.Event.{stretches, LiesIn, LiesWritten}
-use Rattle.yds_model.specs.Audit.{crossed_length, HasSpeed}
+use Rattle.yds_model.specs.Event.{LiesIn, LiesWritten}
+use Rattle.yds_model.specs.Audit.{HasSpeed}
 use Rattle.yds_model.specs.Plan.{IsOver}
 use Rattle.yds_model.specs.Policy.{FillsAtSpeed}
 use Rattle.yds_slots.proofs.Parts.{of_parts_at, of_parts_over, of_parts_value}
@@ -20,7 +19,7 @@ use Rattle.yds_timetable.specs.declared.pace.Pace.{Pace}
 use Rattle.yds_timetable.specs.Shares.{JobShare, total_units}
 use Rattle.yds_timetable.specs.Pace.{time_after, slot_of, slots_from, IsPaceOf}
 use Rattle.yds_timetable.proofs.Lowest.{factors}
-use Rattle.yds_timetable.proofs.Filling.{whole_parts, time_begins}
+use Rattle.yds_timetable.proofs.Filling.{whole_parts}
 
 -- # In plain numbers
 

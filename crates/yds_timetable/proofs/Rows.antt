@@ -1,8 +1,8 @@
 -- The slots of a timetable's stretches: they run one after another, and which of them lie in a stretch.
-use Rattle.std.proofs.Common.{◌≡◌, ◌≢◌, ℕ, zero, suc, ◌+◌, ◌*◌, ◌<◌, ◌≤◌, List, [], ◌∷◌, ◌++◌, ◌∙◌, length, map, get_or, refl, sym, subst, arith, inl, inr, ap, ap₂, true, false, Some, None}
+use Rattle.std.proofs.Common.{◌≡◌, ◌≢◌, ℕ, zero, suc, ◌+◌, ◌*◌, ◌<◌, ◌≤◌, List, [], ◌∷◌, ◌++◌, ◌∙◌, length, get_or, refl, sym, subst, arith, inl, inr, ap, ap₂, true, false, Some, None}
 use Rattle.std.specs.Prelude.{Bool, Option, ◌&&◌, nat_le, sum_by, filter}
-use Rattle.std.specs.List.{All, AllZip, flat_map}
-use Rattle.std.proofs.lemmas.Bool.{cases_lt, cases_Bool, le-leb, lt-leb}
+use Rattle.std.specs.List.{All, AllZip}
+use Rattle.std.proofs.lemmas.Bool.{cases_lt, le-leb, lt-leb}
 use Rattle.std.proofs.lemmas.List.{append-nil, map-append, get_or-map, length-map}
 use Rattle.std.proofs.lemmas.List.Elements.{All-nil, All-tail, All-map, All-weaker, filter-append}
 use Rattle.std.proofs.Math.Nat.{mul-le-mul_right, mul-pos}
@@ -15,7 +15,7 @@ use Rattle.yds_model.specs.Plan.{IsOver}
 use Rattle.yds_model.specs.Policy.{slots_in, FillsAtSpeed, ServesCapacity}
 use Rattle.yds_model.proofs.Lists.{All-front, All-back}
 use Rattle.yds_slots.proofs.Parts.{of_parts_over}
-use Rattle.yds_events.specs.Stretch.{IsStretch, no_stretch, length_of, nth_stretch}
+use Rattle.yds_events.specs.Stretch.{IsStretch, no_stretch, length_of}
 use Rattle.yds_events.proofs.InOrder.{later_start}
 use Rattle.yds_timetable.specs.declared.pace.Pace.{Pace}
 use Rattle.yds_timetable.specs.Shares.{JobShare, total_units}

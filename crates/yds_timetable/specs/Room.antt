@@ -1,5 +1,5 @@
 -- What slots need so that they can be put behind others in a schedule.
-use Rattle.std.specs.Prelude.{ℕ, ◌+◌, ◌*◌, ◌<◌, ◌≤◌, ◌++◌, List, length, Option, Some, None}
+use Rattle.std.specs.Prelude.{ℕ, ◌+◌, ◌*◌, ◌<◌, ◌≤◌, ◌++◌, List, length}
 use Rattle.std.specs.List.{All}
 use Rattle.yds_model.specs.declared.limits.TheConstants.{MAX_DENOMINATOR, MAX_SLOTS, MAX_SLOT_WORK, MAX_TIME}
 use Rattle.yds_model.specs.Slot.{WrittenSlot}

@@ -30,11 +30,7 @@ pub fn lay(alloc: Global, jobs: u32, timetable: &Timetable) -> Result<Schedule, 
 }
 
 /// Puts the slots of one stretch last.
-fn lay_stretch(
-    schedule: &mut Schedule,
-    timetable: &Timetable,
-    number: usize,
-) -> Result<(), Memory>
+fn lay_stretch(schedule: &mut Schedule, timetable: &Timetable, number: usize) -> Result<(), Memory>
     requires known { number < length timetable.now }
     requires can { CanFill schedule.old.jobs schedule.old.slots (row_at timetable.now number) }
     ensures { OnOk result (schedule.new ≡ record {
@@ -50,12 +46,7 @@ fn lay_stretch(
 }
 
 /// Puts the slots of these shares last, which follow one another at the pace from `start` on.
-fn fill(
-    schedule: &mut Schedule,
-    pace: Pace,
-    start: u32,
-    shares: &[Share],
-) -> Result<(), Memory>
+fn fill(schedule: &mut Schedule, pace: Pace, start: u32, shares: &[Share]) -> Result<(), Memory>
     requires { CanFollow schedule.old.jobs schedule.old.slots pace start shares.now }
     ensures { OnOk result (schedule.new ≡ record {
       jobs = schedule.old.jobs;

@@ -1,7 +1,7 @@
 use Rattle.std.proofs.Common.{◌≡◌, ◌∙◌, sym, refl, ap, subst, get_or}
 use Rattle.std.proofs.lemmas.List.{append-nil}
 use Rattle.yds_model.specs.declared.limits.TheConstants.{MAX_TIME}
-use Rattle.yds_model.specs.Scale.{Fraction, of_whole}
+use Rattle.yds_model.specs.Scale.{of_whole}
 use Rattle.yds_model.specs.Slot.{WrittenSlot}
 use Rattle.yds_model.specs.Within.{IsFraction}
 use Rattle.yds_timetable.specs.Shares.{JobShare}

@@ -1,6 +1,4 @@
-use Rattle.std.proofs.Common.{arith, subst, ◌∙◌, sym}
-use Rattle.std.specs.Int.{IsGcd}
-use Rattle.yds_events.specs.Stretch.{length_of}
+use Rattle.std.proofs.Common.{arith}
 use Rattle.yds_timetable.proofs.Lowest.{divisor_some}
 use Rattle.yds_timetable.proofs.pace.Pace.filling.Goals as goal
 

@@ -1,8 +1,7 @@
-use Rattle.std.proofs.Common.{◌≡◌, List, ◌++◌, ◌∷◌, [], ap, ap₂, sym, subst, ◌∙◌, arith, length, refl}
+use Rattle.std.proofs.Common.{◌≡◌, List, ◌++◌, ◌∷◌, [], ap, ap₂, ◌∙◌, arith, length}
 use Rattle.yds_timetable.specs.declared.timetable.KeptRow.{KeptRow}
 use Rattle.yds_timetable.specs.Shares.{JobShare}
-use Rattle.yds_timetable.specs.Timetable.{IsRow}
-use Rattle.yds_timetable.specs.Kept.{rows_kept, AreKept}
+use Rattle.yds_timetable.specs.Kept.{rows_kept}
 use Rattle.yds_timetable.proofs.Keeping.{rows_stay, kept_more, rows_more, on_err}
 use Rattle.yds_timetable.proofs.timetable.Timetable.push.Goals as goal
 

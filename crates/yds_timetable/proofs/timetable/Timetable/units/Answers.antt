@@ -1,5 +1,4 @@
 use Rattle.std.proofs.Common.{arith, ◌∙◌, ap, sym}
-use Rattle.yds_model.specs.Piece.{Piece}
 use Rattle.yds_events.specs.Stretch.{length_of}
 use Rattle.yds_timetable.specs.Timetable.{row_at}
 use Rattle.yds_timetable.proofs.Lowest.{units_read}
