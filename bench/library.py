@@ -2,8 +2,8 @@
 
     python3 library.py DOCUMENT
 
-Writes two numbers, each the most of nine rounds of a fifth of a second, by the clock: plans as bytes; and plans of a Document made
-of rows, with the rows of its slots.
+Writes two numbers, each the most of nine rounds of a fifth of a second, by the clock: plans as bytes; and plans of a
+Document made of rows, with the rows of its slots.
 """
 
 import sys

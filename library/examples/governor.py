@@ -2,7 +2,8 @@
 
     python3 governor.py [SEED]
 
-It tells whether the governor meets the deadlines of drawn jobs, and what it spends beside the least, with a power of speed * speed * speed.
+It tells whether the governor meets the deadlines of drawn jobs, and what it spends beside the least, with a power of
+speed * speed * speed.
 """
 
 import math
@@ -24,7 +25,7 @@ def drawn(seed: int, count: int = 20) -> List[yds.Job]:
 
 
 def govern(jobs: Iterable[yds.Job], period: int) -> List[yds.Slot]:
-    """What runs when, if the governor wakes up after each period and knows only the jobs that have been released by then."""
+    """What runs when, if the governor wakes up after each period and knows the jobs that are released by then."""
     waiting = sorted(jobs, key=lambda job: job.release)
     pending: Dict[str, yds.Job] = {}
     ran: List[yds.Slot] = []

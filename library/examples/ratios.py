@@ -1,4 +1,6 @@
-# 200 instances: how much more than the least does each policy spend? Lines with %% begin a cell, for editors that run scripts as notebooks.
+# 200 instances: how much more than the least does each policy spend?
+#
+# Lines with %% begin a cell, for editors that run a script as a notebook.
 #
 #   python3 ratios.py              the numbers
 #   python3 ratios.py PICTURE      and a picture, by matplotlib (on Debian: apt-get install python3-matplotlib)

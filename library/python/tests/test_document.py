@@ -1,4 +1,4 @@
-"""Documents: what they are made of, what is refused, and what each method answers. The values are those of docs/manual.md and worked by hand."""
+"""Documents: what they are made of, what is refused, and what each method answers. The values are worked by hand."""
 
 import pickle
 import unittest

@@ -28,9 +28,9 @@ class Finding(unittest.TestCase):
             _library._open()
 
     def test_keys_are_drawn(self) -> None:
-        place = _library.LIBRARY._call.__self__ if hasattr(_library.LIBRARY._call, "__self__") else None
-        self.assertIsNone(place)
-        self.assertEqual([0 <= key < 1 << 64 for key in _library.LIBRARY._keys], [True, True])
+        keys = {_library._open()._keys for _ in range(9)}
+        self.assertEqual(len(keys), 9)
+        self.assertTrue(all(0 <= key < 1 << 64 for pair in keys for key in pair))
 
 
 class Calling(unittest.TestCase):
@@ -66,9 +66,15 @@ class Calling(unittest.TestCase):
     def test_inputs(self) -> None:
         self.assertEqual(yds.answer(["plan"]), (yds.Status.DONE, b""))
         self.assertEqual(yds.answer(["plan"], b"\0"), (yds.Status.REFUSED, b"refused 1 1 UnknownKind\n"))
+        self.assertEqual(yds.answer(["plan"], bytearray(JOB)), (yds.Status.DONE, PLAN))
         for data in ("job a 0 4 8\n", None, 5):
             with self.assertRaises(TypeError):
                 yds.answer(["plan"], data)  # type: ignore[arg-type]
+            if data != "job a 0 4 8\n":
+                with self.assertRaises(TypeError):
+                    yds.Document.from_text(data)  # type: ignore[arg-type]
+        with self.assertRaises(TypeError):
+            yds.answer("plan", JOB)
 
     def test_status_is_a_number(self) -> None:
         status, text = yds.answer(["audit"], JOB)

@@ -59,7 +59,10 @@ class Library:
 
     def answer(self, words: Sequence[Union[str, bytes]], data: bytes = b"") -> Answer:
         """The answer to the words, from the data. Where the first room is too small, a second has the needed size."""
+        if isinstance(words, (str, bytes)):
+            raise TypeError("the words are a list, a string for each")
         spelled = [word if isinstance(word, bytes) else word.encode("utf-8", "surrogateescape") for word in words]
+        data = as_bytes(data)
         array = (_Word * max(len(spelled), 1))(*(_Word(word, len(word)) for word in spelled))
         needed = ctypes.c_size_t()
         size = _first_room(len(data))
@@ -69,6 +72,11 @@ class Library:
             if needed.value <= size:
                 return Answer(Status(status), ctypes.string_at(room, needed.value))
             size = needed.value
+
+
+def as_bytes(data: bytes) -> bytes:
+    """Bytes of a bytearray or the like, too; a str has to be encoded first."""
+    return data if isinstance(data, bytes) else bytes(memoryview(data))
 
 
 def _first_room(length: int) -> int:

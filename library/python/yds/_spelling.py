@@ -6,6 +6,7 @@ import math
 import re
 from decimal import Decimal
 from fractions import Fraction
+from numbers import Rational
 from typing import Any, Dict, Iterable, Iterator, List, NamedTuple, Sequence, Tuple, Union
 
 from yds.rows import Exact, Job, Level, Piece, Point, Slot
@@ -20,13 +21,12 @@ def exact(value: Any) -> Fraction:
     """The value of an int or a Fraction, also of numpy's ints. A float isn't taken."""
     if isinstance(value, Fraction):
         return value
-    try:
-        return Fraction(value.__index__())
-    except AttributeError:
-        raise TypeError(
-            f"{value!r} is neither an int nor a Fraction, and what is counted is exact. "
-            "Document.from_decimal(.., denominator=..) takes decimals, and counts in units of 1/denominator"
-        ) from None
+    if isinstance(value, Rational):
+        return Fraction(int(value.numerator), int(value.denominator))
+    raise TypeError(
+        f"{value!r} is neither an int nor a Fraction, and what is counted is exact. "
+        "Document.from_decimal(.., denominator=..) takes decimals, and counts in units of 1/denominator"
+    )
 
 
 def nearest(value: Decimalish, denominator: int) -> int:
@@ -39,6 +39,8 @@ def nearest(value: Decimalish, denominator: int) -> int:
 
 def whole(value: Any) -> str:
     """The spelling of a number that has to be whole."""
+    if type(value) is int:
+        return str(value)
     number = exact(value)
     if number.denominator != 1:
         raise ValueError(

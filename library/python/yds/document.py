@@ -9,7 +9,7 @@ from operator import index
 from typing import Any, Iterable, NamedTuple, Optional, Sequence, Tuple, Type, TypeVar, Union
 
 from yds import _spelling
-from yds._library import Answer, Status, answer
+from yds._library import Answer, Status, answer, as_bytes
 from yds._spelling import Decimalish, DecimalRow
 from yds.errors import OutOfMemory, Refused, UsageError
 from yds.results import Comparison, Curve, Judgement, Refusal, Report, TooSlow, Trial, Verdict
@@ -72,7 +72,7 @@ class Document:
         (Slot(job='a', start=Fraction(0, 1), end=Fraction(4, 1), work=Fraction(8, 1)),)
         """
         document = cls.__new__(cls)
-        document._text = text.encode("utf-8") if isinstance(text, str) else bytes(text)
+        document._text = text.encode("utf-8") if isinstance(text, str) else as_bytes(text)
         return document
 
     @classmethod
