@@ -15,11 +15,11 @@ import yds
 
 
 def drawn(seed: int, count: int = 20) -> List[yds.Job]:
-    """Jobs of any windows from 8 to 150 units of time."""
+    """Jobs with windows from 4 to 150 units of time."""
     draw = random.Random(seed)
     releases = [draw.randrange(200) for _ in range(count)]
     return [
-        yds.Job(f"j{place}", release, release + draw.randrange(8, 151), 100 * draw.randrange(1, 121))
+        yds.Job(f"j{place}", release, release + draw.randrange(4, 151), 100 * draw.randrange(1, 121))
         for place, release in enumerate(releases)
     ]
 

@@ -52,6 +52,7 @@ if len(sys.argv) > 1:
         shares = [100 * (place + 1) / len(rising) for place in range(len(rising))]
         label = policy + (f" ({late[policy]} of {COUNT} late)" if late[policy] else "")
         axes.step([1, *rising], [0, *shares], where="post", label=label)
+    axes.set_xlim(1, 4)
     axes.set_xlabel("energy, as a multiple of the least")
     axes.set_ylabel("feasible runs (%)")
     axes.set_title(f"{COUNT} instances of 20 jobs, power = speed³", loc="left")

@@ -44,10 +44,18 @@ installed() {
 }
 types() { MYPYPATH=library/python mypy --strict --no-incremental --python-version 3.8 library/python/yds library/examples/governor.py; }
 
+# The picture of docs/library.md has the texts of the one that is drawn here.
+texts() { grep -o '>[^<]*</text>' "$1"; }
+picture() {
+	YDS_LIBRARY=$PWD/build/libyds.so PYTHONPATH=library/python "$PYTHON" library/examples/ratios.py "$work/library-ratios.svg" || return 1
+	texts "$work/library-ratios.svg" >"$work/drawn" && texts docs/pictures/library-ratios.svg >"$work/stored" && diff "$work/stored" "$work/drawn" && echo "as in docs/pictures"
+}
+
 [ -f build/libyds.so ] || { echo "test.sh: build/libyds.so isn't there; make library builds it" >&2; exit 1; }
 try "tests of the module" from_here
 try "the wheel, made twice" twice
 try "tests of the wheel, installed into an empty environment" installed
 if command -v mypy >/dev/null 2>&1; then try "types" types; else echo "types are left out; on Debian: apt-get install mypy"; fi
+if "$PYTHON" -c 'import matplotlib' 2>/dev/null; then try "the picture" picture; else echo "the picture is left out; on Debian: apt-get install python3-matplotlib"; fi
 echo "$passed passed, $failed failed"
 [ $failed = 0 ]
