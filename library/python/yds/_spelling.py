@@ -120,7 +120,8 @@ def read_fraction(word: bytes) -> Fraction:
     if not plus:
         return Fraction(int(above))
     numerator, _, denominator = rest.partition(b"/")
-    return int(above) + Fraction(int(numerator), int(denominator))
+    parts = int(denominator)
+    return Fraction(int(above) * parts + int(numerator), parts)
 
 
 class Fields(NamedTuple):
