@@ -57,7 +57,7 @@ def followed(slots: Iterable[yds.Slot], until: int, pending: Dict[str, yds.Job])
             del pending[name]
         else:
             own = [part._replace(work=math.floor(part.work)) for part in own]
-            pending[name] = job._replace(work=job.work - sum(part.work for part in own))
+            pending[name] = job._replace(work=job.work - sum(int(part.work) for part in own))
         ran += [part for part in own if part.work > 0]
     return ran
 

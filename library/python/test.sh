@@ -22,7 +22,7 @@ try() {
 	name=$1
 	shift
 	if "$@" >"$work/log" 2>&1; then passed=$((passed + 1)); else failed=$((failed + 1)); name="FAILED: $name"; cat "$work/log"; fi
-	echo "$name: $(grep -v '^OK' "$work/log" | tail -n 1)"
+	echo "$name: $(grep -v '^OK' "$work/log" | grep . | tail -n 1)"
 }
 
 tests() { "$@" -m unittest discover -s library/python/tests; }
@@ -42,7 +42,7 @@ installed() {
 	tests env -i PATH="$work/venv/bin:/usr/bin:/bin" PYTHONDONTWRITEBYTECODE=1 YDS="$YDS" DOCUMENTS=200 python || return 1
 	env -i PATH="$work/venv/bin:/usr/bin:/bin" python -c 'import yds; print("from", yds.__path__[0].split("/venv/")[1])'
 }
-types() { MYPYPATH=library/python mypy --strict --no-incremental --python-version 3.8 library/python/yds library/examples/governor.py; }
+types() { MYPYPATH=library/python mypy --strict --no-incremental library/python/yds library/examples/governor.py; }
 
 # The picture of docs/library.md has the texts of the one that is drawn here.
 texts() { grep -o '>[^<]*</text>' "$1"; }
