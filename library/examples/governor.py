@@ -34,8 +34,7 @@ def govern(jobs: Iterable[yds.Job], period: int) -> List[yds.Slot]:
         while waiting and waiting[0].release <= now:
             job = waiting.pop(0)
             pending[job.name] = job
-        for slot in followed(plan_from(now, pending.values()), now + period, pending):
-            ran.append(slot)
+        ran += followed(plan_from(now, pending.values()), now + period, pending)
         now += period
     return ran
 
@@ -48,8 +47,7 @@ def plan_from(now: int, pending: Iterable[yds.Job]) -> List[yds.Slot]:
 
 def followed(slots: Iterable[yds.Slot], until: int, pending: Dict[str, yds.Job]) -> List[yds.Slot]:
     """The plan's slots up to this time. What they do is taken off the pending works, which stay whole numbers."""
-    cut = [slot._replace(end=min(slot.end, until)) for slot in slots if slot.start < until]
-    parts = [part._replace(work=slot.speed * (part.end - part.start)) for slot, part in zip(slots, cut)]
+    parts = [cut(slot, until) for slot in slots if slot.start < until]
     ran = []
     for name, job in list(pending.items()):
         own = [part for part in parts if part.job == name]
@@ -60,6 +58,12 @@ def followed(slots: Iterable[yds.Slot], until: int, pending: Dict[str, yds.Job])
             pending[name] = job._replace(work=job.work - sum(int(part.work) for part in own))
         ran += [part for part in own if part.work > 0]
     return ran
+
+
+def cut(slot: yds.Slot, until: int) -> yds.Slot:
+    """The part of the slot up to this time, at the same speed."""
+    end = min(slot.end, until)
+    return slot._replace(end=end, work=slot.speed * (end - slot.start))
 
 
 def energy(slots: Iterable[yds.Slot]) -> float:
