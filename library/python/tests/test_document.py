@@ -34,10 +34,10 @@ class Making(unittest.TestCase):
         self.assertEqual(text, b"slot a 0+3/6 1+2/6 0+3/6\nslot a 2 3 0+2/6\nslot b 3 4 0+1/7\n")
 
     def test_runs_are_slots(self) -> None:
-        document = yds.Document.from_text(b"# a trace\r\n\tjob a 0 4 8\nticks 3\nrun a 1 7 4\nrun a 7 7 2\n")
+        document = yds.Document.from_text(b"# a trace\r\n\tjob a 0 4 8\nticks 3\nrun a 1 7 4\nrun a 7 5 2\n")
         self.assertEqual(
             document.slots,
-            (yds.Slot("a", Fraction(1, 3), Fraction(7, 3), 8), yds.Slot("a", Fraction(7, 3), Fraction(7, 3), 0)),
+            (yds.Slot("a", Fraction(1, 3), Fraction(7, 3), 8), yds.Slot("a", Fraction(7, 3), Fraction(5, 3), 0)),
         )
 
     def test_a_float_is_refused(self) -> None:

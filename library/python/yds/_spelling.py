@@ -134,15 +134,15 @@ class Fields(NamedTuple):
 
 
 def fields_of(text: bytes) -> Iterator[List[bytes]]:
-    """The fields of each line that isn't skipped, of a text that the library has read or written."""
+    """The fields of each line that has some, of a text that the library has read or written."""
     for line in text.split(b"\n"):
         fields = line.split()
-        if fields and not fields[0].startswith(b"#"):
+        if fields:
             yield fields
 
 
 def read_fields(text: bytes) -> Fields:
-    """What the document says. The library has read it without a fault, or has written it."""
+    """What the document says. The library has read it without a fault, or has written it. Comments are no kind."""
     jobs: List[Job] = []
     points: List[Point] = []
     slots: List[Slot] = []
