@@ -42,11 +42,18 @@ class Calling(unittest.TestCase):
 
     def test_a_second_call_only_where_it_is_wanted(self) -> None:
         library = _library.LIBRARY
-        for size, calls in ((len(PLAN) - 1, 2), (len(PLAN), 1)):
+        for size, calls in ((1, 2), (len(PLAN) - 1, 2), (len(PLAN), 1)):
             with mock.patch.object(library, "_call", wraps=library._call) as call:
                 with mock.patch.object(_library, "_first_room", return_value=size):
                     yds.answer(["plan"], JOB)
                 self.assertEqual(call.call_count, calls)
+
+    def test_want_of_memory(self) -> None:
+        nothing = yds.Answer(yds.Status.MEMORY, b"")
+        with mock.patch("yds.document.answer", return_value=nothing), self.assertRaises(yds.OutOfMemory) as raised:
+            yds.Document().plan()
+        self.assertIsInstance(raised.exception, MemoryError)
+        self.assertRegex(str(raised.exception), "couldn't take the memory")
 
     def test_answers_longer_than_the_first_room(self) -> None:
         jobs = [(f"j{i}", i, 2000 - i, 1) for i in range(1000)]

@@ -212,7 +212,7 @@ class Curve(Result):
         for low, high in zip(self.breaks, self.breaks[1:]):
             if low.speed <= speed <= high.speed:
                 return low.excess + (high.excess - low.excess) * (speed - low.speed) / (high.speed - low.speed)
-        return self.breaks[0].excess if speed == 0 else Fraction(0)
+        return Fraction(0)
 
     @classmethod
     def read(cls, text: bytes) -> Curve:
