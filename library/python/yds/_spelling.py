@@ -6,8 +6,9 @@ import math
 import re
 from decimal import Decimal
 from fractions import Fraction
+from functools import lru_cache
 from numbers import Rational
-from typing import Any, Dict, Iterable, Iterator, List, NamedTuple, Sequence, Tuple, Union
+from typing import Any, Dict, Iterable, Iterator, List, Sequence, Tuple, Union
 
 from yds.rows import Exact, Job, Level, Piece, Point, Slot
 
@@ -124,50 +125,39 @@ def read_fraction(word: bytes) -> Fraction:
     return Fraction(int(above) * parts + int(numerator), parts)
 
 
-class Fields(NamedTuple):
-    """What a document says."""
-
-    jobs: Tuple[Job, ...]
-    points: Tuple[Point, ...]
-    slots: Tuple[Slot, ...]
-    levels: Tuple[Level, ...]
-
-
-def fields_of(text: bytes) -> Iterator[List[bytes]]:
-    """The fields of each line that has some, of a text that the library has read or written."""
+def lines_of(text: bytes, *kinds: bytes) -> Iterator[List[bytes]]:
+    """The fields of each line of these kinds, of a text that the library has read without a fault, or has written."""
     for line in text.split(b"\n"):
         fields = line.split()
-        if fields:
+        if fields and fields[0] in kinds:
             yield fields
 
 
-def read_fields(text: bytes) -> Fields:
-    """What the document says. The library has read it without a fault, or has written it. Comments are no kind."""
-    jobs: List[Job] = []
-    points: List[Point] = []
+def read_jobs(text: bytes) -> Tuple[Job, ...]:
+    """The jobs of a text."""
+    rows = lines_of(text, b"job")
+    return tuple(Job(job.decode("ascii"), int(start), int(end), int(work)) for _, job, start, end, work in rows)
+
+
+def read_points(text: bytes) -> Tuple[Point, ...]:
+    """The operating points of a text."""
+    return tuple(Point(int(speed), int(power)) for _, speed, power in lines_of(text, b"point"))
+
+
+def read_slots(text: bytes) -> Tuple[Slot, ...]:
+    """The slots and runs of a text. Most ends of slots stand there twice, and are read once."""
+    read = lru_cache(maxsize=None)(read_fraction)
     slots: List[Slot] = []
-    levels: List[Tuple[int, int, List[Piece], List[str]]] = []
     ticks = 1
-    for kind, *rest in fields_of(text):
-        if kind == b"job":
-            jobs.append(Job(rest[0].decode("ascii"), int(rest[1]), int(rest[2]), int(rest[3])))
-        elif kind == b"point":
-            points.append(Point(int(rest[0]), int(rest[1])))
-        elif kind == b"slot":
-            start, end, work = map(read_fraction, rest[1:])
-            slots.append(Slot(rest[0].decode("ascii"), start, end, work))
+    for kind, *rest in lines_of(text, b"slot", b"ticks", b"run"):
+        if kind == b"slot":
+            job, start, end, work = rest
+            slots.append(Slot(job.decode("ascii"), read(start), read(end), read(work)))
         elif kind == b"ticks":
             ticks = int(rest[0])
-        elif kind == b"run":
+        else:
             slots.append(_run(rest, ticks))
-        elif kind == b"level":
-            levels.append((int(rest[0]), int(rest[1]), [], []))
-        elif kind == b"piece":
-            levels[-1][2].append(Piece(int(rest[0]), int(rest[1])))
-        elif kind == b"member":
-            levels[-1][3].append(rest[0].decode("ascii"))
-    made = tuple(Level(work, length, tuple(pieces), tuple(members)) for work, length, pieces, members in levels)
-    return Fields(tuple(jobs), tuple(points), tuple(slots), made)
+    return tuple(slots)
 
 
 def _run(rest: Sequence[bytes], ticks: int) -> Slot:
@@ -175,3 +165,16 @@ def _run(rest: Sequence[bytes], ticks: int) -> Slot:
     start, end, speed = (int(word) for word in rest[1:])
     work = Fraction(speed * max(end - start, 0), ticks)
     return Slot(rest[0].decode("ascii"), Fraction(start, ticks), Fraction(end, ticks), work)
+
+
+def read_levels(text: bytes) -> Tuple[Level, ...]:
+    """The levels of a text, with their pieces and members."""
+    levels: List[Tuple[int, int, List[Piece], List[str]]] = []
+    for kind, *rest in lines_of(text, b"level", b"piece", b"member"):
+        if kind == b"level":
+            levels.append((int(rest[0]), int(rest[1]), [], []))
+        elif kind == b"piece":
+            levels[-1][2].append(Piece(int(rest[0]), int(rest[1])))
+        else:
+            levels[-1][3].append(rest[0].decode("ascii"))
+    return tuple(Level(work, length, tuple(pieces), tuple(members)) for work, length, pieces, members in levels)

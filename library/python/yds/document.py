@@ -120,31 +120,31 @@ class Document:
         return self._text
 
     @cached_property
-    def _fields(self) -> _spelling.Fields:
-        """What the text says, once the library has read it without a fault. What it wrote has none."""
+    def _readable(self) -> bytes:
+        """The text, once the library has read it without a fault. What it wrote has none."""
         if not self._written:
             _ask(["audit"], self.text)
-        return _spelling.read_fields(self.text)
+        return self.text
 
-    @property
+    @cached_property
     def jobs(self) -> Tuple[Job, ...]:
         """The jobs in the order of their lines."""
-        return self._fields.jobs
+        return _spelling.read_jobs(self._readable)
 
-    @property
+    @cached_property
     def points(self) -> Tuple[Point, ...]:
         """The operating points, at rising speeds."""
-        return self._fields.points
+        return _spelling.read_points(self._readable)
 
-    @property
+    @cached_property
     def slots(self) -> Tuple[Slot, ...]:
         """The slots and runs in the order of their lines."""
-        return self._fields.slots
+        return _spelling.read_slots(self._readable)
 
-    @property
+    @cached_property
     def levels(self) -> Tuple[Level, ...]:
         """The levels of a certificate, in the order of their lines."""
-        return self._fields.levels
+        return _spelling.read_levels(self._readable)
 
     def plan(self) -> Plan:
         """The schedule that does the least work above every speed, with the levels that show it."""
