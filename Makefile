@@ -26,8 +26,8 @@
 #   make record-build   writes that sum into packaging/released, before a release
 #   make packages-test  tries the packages in Debian 12 and 13, and the static program in an empty root; wants root and debootstrap
 #
-# faults, fuzz, costly and library want a C compiler (Debian: gcc and libc6-dev), bench and library-test also one for C++ (g++), and library-test
-# pkg-config.
+# faults, fuzz, costly, library and bench-library want a C compiler (Debian: gcc and libc6-dev), bench and library-test also one for C++ (g++), and
+# library-test pkg-config and python3-venv.
 # JOBS crates are proved side by side, each in up to 2 GB of memory.
 
 SHELL := /bin/bash
