@@ -131,7 +131,8 @@ library-test: $(BINARY) $(LIBRARY)
 	@sh library/python/test.sh
 	@sh recipes/test.sh library
 
-wheel: $(LIBRARY)
+# Packages have what is built: only where it isn't there, the library is built first.
+wheel: $(if $(wildcard $(LIBRARY)),,$(LIBRARY))
 	@sh packaging/wheel.sh
 
 bench-library: $(BINARY) $(LIBRARY)

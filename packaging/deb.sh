@@ -86,7 +86,7 @@ TEXT
 
 # The library and the module are packages of their own: a user of the program needs neither.
 if [ -f build/libyds.so ]; then
-	make --no-print-directory install-library DESTDIR="$PWD/$stage/libyds" PREFIX=/usr >/dev/null || die "make install-library failed"
+	make --no-print-directory -o build/libyds.so install-library DESTDIR="$PWD/$stage/libyds" PREFIX=/usr >/dev/null || die "make install-library failed"
 	if [ -d $stage/libyds/usr/lib/python3 ]; then
 		mkdir -p $stage/python3-yds/usr/lib
 		mv $stage/libyds/usr/lib/python3 $stage/python3-yds/usr/lib/python3
