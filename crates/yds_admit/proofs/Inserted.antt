@@ -1,13 +1,15 @@
--- One element more in a list whose elements stand in an order.
-use Rattle.std.proofs.Common.{◌≡◌, ℕ, ◌+◌, ◌-◌, ◌<◌, ◌≤◌, List, [], ◌∷◌, ◌++◌, length, get_or, insert, ◌∙◌, arith, inl, inr, ap}
-use Rattle.std.specs.List.{All}
+-- One job more among jobs that stand in an order.
+use Rattle.std.proofs.Common.{◌≡◌, ℕ, ◌+◌, ◌-◌, ◌<◌, ◌≤◌, List, [], ◌∷◌, ◌++◌, length, get_or, insert, min, ◌∙◌, refl, subst, arith, inl, inr, ap}
+use Rattle.std.specs.List.{Any}
 use Rattle.std.specs.List.Sorted.{IsPermutation, IsNonDecreasingBy}
-use Rattle.std.proofs.lemmas.Bool.{cases_order}
+use Rattle.std.proofs.lemmas.Bool.{cases_order, cases_lt}
+use Rattle.std.proofs.lemmas.List.{get_or_push, length_push}
+use Rattle.std.proofs.lemmas.List.Elements.{All-push}
 use Rattle.std.proofs.lemmas.List.Edits.{length-insert, get_or-insert_at, get_or-insert_below, get_or-insert_above}
-use Rattle.std.proofs.lemmas.List.Sorted.{IsPermutation-insert, IsPermutation-trans, IsPermutation-to_front, IsPermutation-append_left, length_permutation}
-use Rattle.yds_model.specs.Job.{Job, IsJob, no_job}
-use Rattle.yds_admit.specs.Chain.{IsFalling}
-use Rattle.yds_admit.specs.Orders.{AreOrdered}
+use Rattle.std.proofs.lemmas.List.Sorted.{IsPermutation-insert, IsPermutation-trans, IsPermutation-to_front, IsPermutation-append_left}
+use Rattle.yds_model.specs.Job.{Job, IsJob}
+use Rattle.yds_model.proofs.Lists.{Any-append_left}
+use Rattle.yds_admit.specs.Orders.{IsEarliest, AreOrdered}
 
 pub same_jobs : (jobs : List Job) (place : ℕ) (row : Job) → IsPermutation (jobs ++ row ∷ []) (insert jobs place row)
 same_jobs jobs place row =
@@ -53,34 +55,24 @@ pub joined : (jobs sorted more : List Job) (row : Job) → IsPermutation jobs so
 joined jobs sorted more row same added =
     IsPermutation-trans (jobs ++ row ∷ []) (sorted ++ row ∷ []) more (IsPermutation-append_left (row ∷ []) jobs sorted same) added
 
--- jobs by rising differences from a greatest number to their releases stand by falling releases
-pub falling_keys : (jobs : List Job) → All IsJob jobs → IsNonDecreasingBy (λ (job : Job). 4294967295 - job.release) jobs → IsFalling jobs
-falling_keys jobs are rising i j order below = omega (
-  arith,
-  rising i j no_job order below,
-  (are i no_job (omega (arith, order, below))).has_window,
-  (are i no_job (omega (arith, order, below))).time_in_range,
-)
-
--- the orders with one job more
-pub ordered_more : (jobs by_release by_deadline : List Job) (release_place deadline_place : ℕ) (row : Job) → AreOrdered jobs by_release by_deadline →
-    IsFalling (insert by_release release_place row) → IsNonDecreasingBy (λ (job : Job). job.deadline) (insert by_deadline deadline_place row) →
-    AreOrdered (jobs ++ row ∷ []) (insert by_release release_place row) (insert by_deadline deadline_place row)
-ordered_more jobs by_release by_deadline release_place deadline_place row ordered falling rising = record {
-  releases = joined jobs by_release (insert by_release release_place row) row ordered.releases (same_jobs by_release release_place row);
-  deadlines = joined jobs by_deadline (insert by_deadline deadline_place row) row ordered.deadlines (same_jobs by_deadline deadline_place row);
-  falling = falling;
-  rising = rising;
+-- the earliest release with one job more
+pub earliest_more : (jobs : List Job) (row : Job) (earliest from : ℕ) → IsEarliest jobs earliest → IsJob row → from ≡ min earliest row.release → IsEarliest (jobs ++ row ∷ []) from
+earliest_more jobs row earliest from is is_job from_is = record {
+  least = All-push (λ job. from ≤ job.release) jobs row (λ k d below. omega (arith, is.least k d below, from_is)) (omega (arith, from_is));
+  known = λ before. elim (cases_lt earliest row.release) [
+    | inl less ↦
+        let same : earliest ≡ from = omega (arith, less, from_is) in
+        subst (λ (time : ℕ). Any (λ job. job.release ≡ time) (jobs ++ row ∷ [])) same
+        (Any-append_left (λ job. job.release ≡ earliest) jobs (row ∷ []) (is.known (omega (arith, same, before))))
+    | inr most ↦ (length jobs, row, omega (arith, length_push jobs row), get_or_push jobs row row (length jobs) refl, omega (arith, most, from_is))
+  ];
 }
 
--- there are few
-pub few_known : (jobs sorted shown : List Job) (next all most : ℕ) → IsPermutation jobs sorted → shown ≡ sorted → length jobs ≤ next → next ≤ all → all ≤ most →
-    length shown ≤ most
-few_known jobs sorted shown next all most same is few within short = omega (
-  arith,
-  length_permutation _ _ same,
-  few,
-  within,
-  short,
-  ap (λ (some : List Job). length some) is,
-)
+-- the orders with one job more
+pub ordered_more : (jobs by_deadline : List Job) (earliest place from : ℕ) (row : Job) → AreOrdered jobs by_deadline earliest → IsJob row → from ≡ min earliest row.release →
+    IsNonDecreasingBy (λ (job : Job). job.deadline) (insert by_deadline place row) → AreOrdered (jobs ++ row ∷ []) (insert by_deadline place row) from
+ordered_more jobs by_deadline earliest place from row ordered is_job from_is rising = record {
+  deadlines = joined jobs by_deadline (insert by_deadline place row) row ordered.deadlines (same_jobs by_deadline place row);
+  rising = rising;
+  releases = earliest_more jobs row earliest from ordered.releases is_job from_is;
+}

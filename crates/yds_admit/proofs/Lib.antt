@@ -14,3 +14,5 @@ pub mod Cutting
 pub mod Made
 pub mod Least
 pub mod Idleness
+pub mod Next
+pub mod Left

@@ -7,7 +7,7 @@ use Rattle.yds_model.specs.Piece.{Piece, PiecesFrom}
 use Rattle.yds_model.specs.Event.{stretches}
 use Rattle.yds_events.specs.Stretch.{nth_stretch}
 use Rattle.yds_events.proofs.Neighbours.{few_stretches}
-use Rattle.yds_edf.specs.Shares.{JobShare}
+use Rattle.yds_timetable.specs.Shares.{JobShare}
 use Rattle.yds_edf.specs.Demand.{AreUncut, IsWithinCapacity}
 use Rattle.yds_textbook.specs.Waiting.{contracted_jobs, CanWait, lies_in, inside, contracted_stretch, contracted_stretches, stretches_inside}
 use Rattle.yds_textbook.specs.Stages.{IsDensest, speed_of, share_of_members}
