@@ -10,7 +10,7 @@ use Rattle.std.proofs.lemmas.List.Sorted.{IsPermutation-map, All-permutation, Co
 use Rattle.std.proofs.lemmas.Bool.{cases_lt}
 use Rattle.yds_model.specs.Job.{Job, job_at}
 use Rattle.yds_search.specs.Order.{IsOrder}
-use Rattle.yds_search.proofs.Balance.{over_alone}
+use Rattle.yds_search.proofs.Members.{over_alone}
 use Rattle.yds_model.proofs.Horizon.{part_own}
 
 -- a deadline and a number in one

@@ -1,5 +1,5 @@
 -- Sums over lists that are filtered, mapped and merged, over the numbers below n, and a sum that is split by a key.
-use Rattle.std.proofs.Common.{◌≡◌, ℕ, zero, suc, ◌+◌, ◌<◌, ◌≤◌, ◌==◌, List, [], ◌∷◌, ◌++◌, ◌∙◌, length, map, get_or, take, sym, refl, ap, arith, inl, inr, Bool, true, false, add-one, ◌*◌}
+use Rattle.std.proofs.Common.{◌≡◌, ℕ, zero, suc, ◌+◌, ◌<◌, ◌≤◌, ◌==◌, List, [], ◌∷◌, ◌++◌, ◌∙◌, length, map, get_or, take, sym, refl, ap, arith, inl, inr, Bool, true, false, add-one}
 use Rattle.std.specs.Prelude.{cond, nat_lt}
 use Rattle.std.specs.List.{All, sum_by, filter, flat_map, range_with_len}
 use Rattle.std.proofs.lemmas.Bool.{cases_eq, cases_lt, ne_eqb, eq-eqb, lt-ltb, le-ltb}
@@ -139,10 +139,6 @@ pub over_same : (f g : ℕ → ℕ) (n : ℕ) → ((k : ℕ) → k < n → f k �
 over_same f g zero same = refl
 over_same f g (suc n) same = omega (arith, over_more f n, over_more g n, same n (omega arith), over_same f g n (λ k below. same k (omega arith)))
 
-pub over_at_most : (f g : ℕ → ℕ) (n : ℕ) → ((k : ℕ) → k < n → f k ≤ g k) → over n f ≤ over n g
-over_at_most f g zero most = omega arith
-over_at_most f g (suc n) most = omega (arith, over_more f n, over_more g n, most n (omega arith), over_at_most f g n (λ k below. most k (omega arith)))
-
 pub over_zero : (f : ℕ → ℕ) (n : ℕ) → ((k : ℕ) → k < n → f k ≡ 0) → over n f ≡ 0
 over_zero f zero none = refl
 over_zero f (suc n) none = omega (arith, over_more f n, none n (omega arith), over_zero f n (λ k below. none k (omega arith)))
@@ -168,14 +164,6 @@ over_some f (suc n) some = elim (cases_lt 0 (f n)) [
 pub over_add : (f g : ℕ → ℕ) (n : ℕ) → over n (λ k. f k + g k) ≡ over n f + over n g
 over_add f g zero = refl
 over_add f g (suc n) = omega (arith, over_more (λ k. f k + g k) n, over_more f n, over_more g n, over_add f g n)
-
-pub over_mul : (factor : ℕ) (f : ℕ → ℕ) (n : ℕ) → over n (λ k. factor * f k) ≡ factor * over n f
-over_mul factor f zero = omega arith
-over_mul factor f (suc n) = omega (arith, over_more (λ k. factor * f k) n, over_more f n, over_mul factor f n, ap (λ x. factor * x) (over_more f n))
-
-pub over_ones : (n : ℕ) → over n (λ k. 1) ≡ n
-over_ones zero = refl
-over_ones (suc n) = omega (arith, over_more (λ k. 1) n, over_ones n)
 
 -- the places of a list read one by one
 list_place : {X : Type 0} (xs : List X) (d : X) (k : ℕ) → k < length (map (λ n. get_or xs n d) (range_with_len 0 (length xs))) → k < length xs

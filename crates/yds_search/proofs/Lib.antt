@@ -1,21 +1,17 @@
 pub mod KeySums
 mod Shares
-mod Spread
 pub mod Lowest
-mod Places
-mod Balance
+mod Members
+mod Filled
+mod Marked
+mod Splits
+mod Finish
+mod Beginnings
+mod Ends
+mod Laid
+mod Chosen
 mod Deadlines
 mod Fills
 mod Closures
-pub mod Numbers
-mod Ends
-mod Finish
-mod Splits
 pub mod Ranks
 pub mod Partings
-mod Stacks
-mod Beginnings
-mod Steps
-mod Kept
-mod Chosen
-mod Endings

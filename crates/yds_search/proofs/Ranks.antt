@@ -1,10 +1,10 @@
 -- How many of the marks before a place are 1.
-use Rattle.std.proofs.Common.{◌≡◌, ℕ, zero, suc, ◌+◌, ◌-◌, ◌<◌, ◌≤◌, ◌∙◌, ◌⊎◌, inl, inr, Bool, not, cond, List, length, take, drop, get_or, sum, refl, ap, sym, subst, zero-add, add-zero, add-one, arith}
+use Rattle.std.proofs.Common.{◌≡◌, ℕ, zero, suc, ◌+◌, ◌-◌, ◌<◌, ◌≤◌, ◌∙◌, ◌⊎◌, inl, inr, Bool, cond, List, length, take, drop, get_or, sum, refl, ap, sym, subst, zero-add, add-zero, add-one, arith}
 use Rattle.std.specs.List.{All, filter}
 use Rattle.std.proofs.lemmas.Bool.{cases_lt}
-use Rattle.std.proofs.lemmas.List.{length-take, length-take-le, length-drop, length-append, take-append-drop, get_or-take, get_or-drop, get_or_default, get_or_append_left, get_or-append_right}
+use Rattle.std.proofs.lemmas.List.{length-take, length-drop, length-append, take-append-drop, get_or-take, get_or-drop, get_or_default, get_or_append_left, get_or-append_right}
 use Rattle.std.proofs.lemmas.List.Elements.{All-filter, filter-append}
-use Rattle.std.proofs.lemmas.List.Filters.{length-filter_both, length-filter_more}
+use Rattle.std.proofs.lemmas.List.Filters.{length-filter_more}
 use Rattle.std.proofs.lemmas.List.Sums.{sum_by_more}
 use Rattle.yds_events.specs.Window.{IsPlace}
 use Rattle.yds_search.specs.declared.own.OwnJob.{OwnJob}
@@ -40,6 +40,7 @@ pub record IsRanked (ranks : List ℕ) (own : OwnJob) : Type 0 where
   pub first : get_or ranks own.first 0 ≤ own.first
   pub end : get_or ranks own.end 0 ≤ own.end
 
+-- ranks over a window rise by its length at most
 is_ranked : (marks ranks : List ℕ) (own : OwnJob) → All (λ mark. mark ≤ 1) marks → AreRanks marks ranks → (own.first < own.end) × (own.end ≤ length marks) → IsRanked ranks own
 is_ranked marks ranks own small are window =
     let gap : own.first + (own.end - own.first) ≡ own.end = omega arith in
@@ -54,6 +55,7 @@ is_ranked marks ranks own small are window =
       end = rank_upto marks ranks own.end small are window.1;
     }
 
+-- of each job
 pub are_ranked : (marks ranks : List ℕ) (jobs : List OwnJob) → All (λ mark. mark ≤ 1) marks → AreRanks marks ranks → HaveWindows (length marks) jobs → All (IsRanked ranks) jobs
 are_ranked marks ranks jobs small are windows i d within = is_ranked marks ranks (get_or jobs i d) small are (windows i d within)
 
@@ -92,20 +94,11 @@ rank_counts p numbers marks (suc place) count each within = omega (
   ap (λ n. length (filter p (take n numbers))) (add-one place),
 )
 
+-- so the rank is the place
 pub place_among : (p : ℕ → Bool) (numbers marks ranks : List ℕ) (number place : ℕ) → AreRanks marks ranks → length marks ≡ length numbers →
     ((i : ℕ) → i < length numbers → get_or marks i 0 ≡ cond (p (get_or numbers i 0)) 1 0) → IsPlace numbers number place → IsPlace (filter p numbers) number (get_or ranks place 0)
 place_among p numbers marks ranks number place are count each is =
     subst (IsPlace (filter p numbers) number) (sym (are.each place (omega (arith, is.within, count)) ∙ rank_counts p numbers marks place count each is.within))
-    (filtered_place p numbers number place is)
-
--- and where a mark says that it doesn't, its place among those that pass is how many before it have none
-pub place_among_others : (p : ℕ → Bool) (numbers marks ranks : List ℕ) (number place : ℕ) → AreRanks marks ranks → length marks ≡ length numbers →
-    ((i : ℕ) → i < length numbers → get_or marks i 0 ≡ cond (not (p (get_or numbers i 0))) 1 0) → IsPlace numbers number place →
-    IsPlace (filter p numbers) number (place - get_or ranks place 0)
-place_among_others p numbers marks ranks number place are count each is =
-    let rank = are.each place (omega (arith, is.within, count)) ∙ rank_counts (λ n. not (p n)) numbers marks place count each is.within in
-    subst (IsPlace (filter p numbers) number)
-    (omega (arith, rank, length-filter_both p (λ n. not (p n)) (λ n. refl) (take place numbers), length-take-le place numbers is.within))
     (filtered_place p numbers number place is)
 
 -- over some places either all are marked, and ranks rise by their number, or one is not, and ranks rise by less

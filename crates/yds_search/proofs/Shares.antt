@@ -1,30 +1,20 @@
 -- Shares and the units that they sum up to.
-use Rattle.std.proofs.Common.{◌≡◌, ℕ, suc, ◌<◌, ◌≤◌, ◌==◌, List, [], ◌∷◌, ◌∙◌, length, refl, inl, inr, arith}
+use Rattle.std.proofs.Common.{◌≡◌, ℕ, suc, ◌<◌, ◌≤◌, ◌==◌, List, [], ◌∷◌, ◌∙◌, length, get_or, inl, inr, arith}
 use Rattle.std.specs.Prelude.{if◌then◌else◌}
-use Rattle.std.specs.List.{sum_by}
-use Rattle.std.proofs.lemmas.List.Sums.{sum_by-cons, get_or-le-sum_by}
-use Rattle.std.proofs.lemmas.Bool.{cases_lt, cases_eq}
-use Rattle.yds_model.proofs.Horizon.{part_own, part_other}
-use Rattle.yds_search.specs.Found.{Share, share_at, no_share}
+use Rattle.std.specs.List.{All, filter, sum_by}
+use Rattle.std.proofs.lemmas.List.Elements.{All-filter, filter_passes}
+use Rattle.std.proofs.lemmas.List.Sums.{sum_by-cons}
+use Rattle.std.proofs.lemmas.Bool.{cases_lt, cases_eq, eqb-true}
+use Rattle.yds_model.proofs.Horizon.{part_other}
+use Rattle.yds_model.proofs.Sums.{sum_by_same}
+use Rattle.yds_search.specs.Found.{Share, share_at, no_share, units_of_job, units_in_stretch}
+use Rattle.yds_search.specs.Waiting.{HasOne}
+use Rattle.yds_search.proofs.KeySums.{sum_by-filter, sums_swap}
+use Rattle.yds_search.proofs.Members.{AreApart, once}
 
 -- the units of shares with this number, of a job or of a stretch
 abbrev pub units_at : (Share → ℕ) → List Share → ℕ → ℕ
 units_at key shares number = sum_by (λ share. if key share == number then share.units else 0) shares
-
--- what is more than nothing was chosen
-pub chosen_some : (number group value is : ℕ) → is ≡ (if number == group then value else 0) → 1 ≤ is → (number ≡ group) × (is ≡ value)
-chosen_some number group value is same some = elim (cases_eq number group) [
-  | inl here ↦ (here, same ∙ part_own number group value here)
-  | inr other ↦ absurd (omega (arith, same, part_other number group value other))
-]
-
--- a share's own units are among those of its number
-pub share_counts : (key : Share → ℕ) (shares : List Share) (x : ℕ) → x < length shares → (share_at shares x).units ≤ units_at key shares (key (share_at shares x))
-share_counts key shares x within = omega (
-  arith,
-  get_or-le-sum_by (λ share. if key share == key (share_at shares x) then share.units else 0) shares x no_share within,
-  part_own (key (share_at shares x)) (key (share_at shares x)) (share_at shares x).units refl,
-)
 
 -- where there are units there is a share
 pub some_share : (key : Share → ℕ) (shares : List Share) (number : ℕ) → 1 ≤ units_at key shares number →
@@ -49,3 +39,39 @@ no_units key shares number none = elim (cases_lt 0 (units_at key shares number))
   | inr nothing ↦ omega arith
   | inl some ↦ let found = some_share key shares number some in absurd (none found.0 found.1 found.2)
 ]
+
+-- so many units of a job in a stretch
+abbrev pub units_between : List Share → ℕ → ℕ → ℕ
+units_between shares j k = units_in_stretch (filter (λ share. share.job == j) shares) k
+
+-- they are a share's, which is as all shares are
+pub between_some : (P : Share → Type 0) (shares : List Share) (j k : ℕ) → All P shares → 1 ≤ units_between shares j k → (share : Share) × P share × (share.job ≡ j) × (share.stretch ≡ k)
+between_some P shares j k all some =
+    let among = filter (λ share. share.job == j) shares in
+    let found = some_share (λ share. share.stretch) among k some in (
+      share_at among found.0,
+      All-filter (λ share. share.job == j) P shares all found.0 no_share found.1,
+      eqb-true (share_at among found.0).job j (filter_passes (λ share. share.job == j) shares found.0 no_share found.1),
+      found.2,
+    )
+
+-- over stretches that have all shares, the units of a job are all that it has
+pub over_stretches : {X : Type 0} (number : X → ℕ) (xs : List X) (shares : List Share) (j : ℕ) → AreApart number xs → All (λ share. HasOne (λ x. number x ≡ share.stretch) xs) shares →
+    sum_by (λ x. units_between shares j (number x)) xs ≡ units_of_job shares j
+over_stretches number xs shares j apart there =
+    sums_swap (λ x share. if share.stretch == number x then share.units else 0) xs (filter (λ share. share.job == j) shares)
+    ∙ sum_by_same (λ share. sum_by (λ x. if share.stretch == number x then share.units else 0) xs) (λ share. share.units) (filter (λ share. share.job == j) shares)
+    (λ i d within. once number xs (get_or (filter (λ share. share.job == j) shares) i d).stretch (get_or (filter (λ share. share.job == j) shares) i d).units apart
+    (All-filter (λ share. share.job == j) (λ share. HasOne (λ x. number x ≡ share.stretch) xs) shares there i d within))
+    ∙ sum_by-filter (λ share. share.job == j) (λ share. share.units) shares
+
+-- over jobs that have all shares, the units in a stretch are all that are done in it
+pub over_jobs : {X : Type 0} (number : X → ℕ) (xs : List X) (shares : List Share) (k : ℕ) → AreApart number xs → All (λ share. HasOne (λ x. number x ≡ share.job) xs) shares →
+    sum_by (λ x. units_between shares (number x) k) xs ≡ units_in_stretch shares k
+over_jobs number xs shares k apart there =
+    let here = λ (share : Share). if share.stretch == k then share.units else 0 in
+    sum_by_same (λ x. units_between shares (number x) k) (λ x. sum_by (λ share. if share.job == number x then here share else 0) shares) xs
+    (λ i d within. sum_by-filter (λ share. share.job == number (get_or xs i d)) here shares)
+    ∙ sums_swap (λ x share. if share.job == number x then here share else 0) xs shares
+    ∙ sum_by_same (λ share. sum_by (λ x. if share.job == number x then here share else 0) xs) here shares
+    (λ i d within. once number xs (get_or shares i d).job (here (get_or shares i d)) apart (there i d within))

@@ -1,436 +1,557 @@
--- A group with late jobs is split in two.
-use Rattle.std.proofs.Common.{◌≡◌, ℕ, ◌+◌, ◌*◌, ◌<◌, ◌≤◌, ◌⊎◌, List, ◌∙◌, length, get_or, refl, sym, subst, inl, inr, arith}
-use Rattle.std.proofs.lemmas.Bool.{cases_lt, cases_eq}
-use Rattle.yds_model.specs.Job.{Job, job_at}
-use Rattle.yds_model.specs.Event.{stretches}
+-- A part with late jobs is split in two: the faster part has what they close upon.
+use Rattle.std.proofs.Common.{◌≡◌, ℕ, ◌+◌, ◌-◌, ◌*◌, ◌<◌, ◌≤◌, ◌⊎◌, Bool, true, false, not, List, [], ◌∷◌, ◌∙◌, length, get_or, refl, sym, ap, subst, inl, inr, eq-eqb, arith}
+use Rattle.std.specs.List.{All, filter, sum_by}
+use Rattle.std.proofs.lemmas.Bool.{cases_lt, ne_eqb, true≢false, not_from_false}
+use Rattle.std.proofs.lemmas.List.{get_or-map, length-map, length-append}
+use Rattle.std.proofs.lemmas.List.Elements.{All-cons, All-weaker, All-map, All-from_get_or}
+use Rattle.std.proofs.lemmas.List.Kept.{AllPairs-filter}
+use Rattle.yds_model.specs.Job.{Job}
+use Rattle.yds_model.proofs.Sums.{sum_by_zero}
 use Rattle.yds_events.specs.declared.window.Window.{Window}
-use Rattle.yds_search.specs.Found.{Found, Share, share_at, group_of}
-use Rattle.yds_events.specs.Window.{length_at, IsIn, AreWindows}
-use Rattle.yds_search.specs.Closure.{IsMarked, AreClosed}
-use Rattle.yds_search.specs.Search.{IsFast, IsSlow, LieInWindows, IsBoundary, MayTake, IsSearch, IsFilled, IsSplit}
-use Rattle.yds_model.proofs.Horizon.{part_own}
-use Rattle.yds_search.proofs.Shares.{some_share}
+use Rattle.yds_events.specs.Window.{window_at, no_window, IsIn, IsPlace}
+use Rattle.yds_search.specs.declared.own.OwnJob.{OwnJob}
+use Rattle.yds_search.specs.declared.own.OwnStretch.{OwnStretch}
+use Rattle.yds_search.specs.Found.{Found, Group, Share, share_at, no_share, per_time, per_work, units_of_job, units_in_stretch}
+use Rattle.yds_search.specs.Order.{Precedes}
+use Rattle.yds_search.specs.Own.{Part, stretch_numbers, window_of, own_windows, HaveWindows, wants_at, rooms_at, share_by_number}
+use Rattle.yds_search.specs.Fill.{IsNotAfter, IsFill}
+use Rattle.yds_search.specs.Closure.{IsMarked, AreClosing, AreClosed, AreRanks}
+use Rattle.yds_search.specs.Instance.{IsInstance}
+use Rattle.yds_search.specs.Stack.{moves, moving_part, staying_part, marked_with, jobs_of, own_stretches_of}
+use Rattle.yds_search.specs.Waiting.{HasOne, HasJob, HasStretch, IsOwnJob, IsOwnStretch, IsWaiting, IsBefore, IsFast, IsSlow, IsBoundary, IsFollowed}
+use Rattle.yds_search.specs.Search.{IsSearch}
 use Rattle.yds_search.proofs.KeySums.{over_some, over_one}
-use Rattle.yds_search.proofs.Balance.{balance, IsOwn}
-use Rattle.yds_search.proofs.Balance as filled
-use Rattle.yds_search.proofs.Ends.{moved, AreAlike, kept_finished, HasSame, same_fast, same_slow}
+use Rattle.yds_search.proofs.Lowest.{lowest}
+use Rattle.yds_search.proofs.Members.{one_at, at_one, same_place, all_pairs_map}
+use Rattle.yds_search.proofs.Shares.{units_between, between_some, some_share}
+use Rattle.yds_search.proofs.Closures.{fill_closes}
+use Rattle.yds_search.proofs.Ranks.{are_ranked, over_cases}
+use Rattle.yds_search.proofs.Filled.{no_own, no_own_stretch}
+use Rattle.yds_search.proofs.Filled as filled
+use Rattle.yds_search.proofs.Marked.{all_marked, one_marked, marked_from, pairs_marked, sum_marked, stretches_parted, place_moved, places_meet, placed, those, all_those, one_those, those_from, sum_jobs, jobs_parted}
 
--- all that is known of a split: group `below` + 1 becomes `below` and itself
-module _ (jobs : List Job) (windows : List Window) (found : Found) (below last top_p top_q : ℕ) (group_wants group_rooms : List ℕ) (own_shares : List Share)
-    (wants_left rooms_left marks new_jobs new_stretches : List ℕ) (windows_are : AreWindows jobs windows)
-    (lengths_some : (k : ℕ) → k < length (stretches jobs) → 1 ≤ length_at jobs k) (searched : IsSearch jobs windows found (below + 1) last)
-    (waits : below + 1 ≤ last) (groups_apart : length found.groups ≤ below)
-    (group_filled : IsFilled jobs windows found (below + 1) top_p top_q group_wants group_rooms own_shares wants_left rooms_left)
-    (closed : AreClosed (λ k. group_of found.group_of_stretch k ≡ below + 1) windows own_shares wants_left rooms_left marks)
-    (split : IsSplit windows marks (below + 1) found.group_of_job found.group_of_stretch new_jobs new_stretches)
-    (a_late : (j : ℕ) × (j < length jobs) × (1 ≤ get_or wants_left j 0)) where
-  product_some : (a b : ℕ) → 1 ≤ a → 1 ≤ b → 1 ≤ a * b
-  product_some a b one other = grind arith
+-- what is of a part stands before the same parts
+first_as : (windows : List Window) (part own slower : Part) → ((j : ℕ) → HasJob own j → HasJob part j) → ((k : ℕ) → HasStretch own k → HasStretch part k) →
+    IsBefore windows part slower → IsBefore windows own slower
+first_as windows part own slower jobs_of stretches_of before = record {
+  jobs = λ j one other. before.jobs j (jobs_of j one) other;
+  stretches = λ k one other. before.stretches k (stretches_of k one) other;
+  beyond = λ j k one other is_in. before.beyond j k (jobs_of j one) other is_in;
+}
 
-  below_is : (a b : ℕ) → a + 1 ≡ b + 1 → a ≡ b
-  below_is a b same = omega arith
+-- all that is known of a split
+module _ (jobs : List Job) (windows : List Window) (found : Found) (part : Part) (are : IsInstance jobs windows) (waits : IsWaiting jobs windows found part)
+    (group : Group) (work_is : group.work ≡ sum_by (λ own. own.work) part.jobs) (length_is : group.length ≡ sum_by (λ own. own.length) part.stretches)
+    (shares : List Share) (wants' rooms' : List ℕ)
+    (fill : IsFill IsNotAfter (own_windows part.jobs) (wants_at (per_work group) part.jobs) (rooms_at (per_time group) part.stretches) shares wants' rooms')
+    (marks ranks : List ℕ) (closing : AreClosing (own_windows part.jobs) wants' shares (length rooms') marks) (count : length marks ≡ length part.stretches)
+    (small : All (λ mark. mark ≤ 1) marks) (ranked : AreRanks marks ranks) (late : (i : ℕ) × (i < length wants') × (1 ≤ get_or wants' i 0)) where
+  -- what moves
+  abbrev pub moving : Part
+  moving = moving_part marks ranks part
 
-  -- what a job that wanted something is, and a stretch that had room, and a share
-  own_job : (j : ℕ) → j < length jobs → 1 ≤ get_or group_wants j 0 → (group_of found.group_of_job j ≡ below + 1) × (1 ≤ (job_at jobs j).work)
-  own_job = filled.own_job jobs windows found (below + 1) top_p top_q group_wants group_rooms own_shares wants_left rooms_left windows_are group_filled
+  -- and what stays
+  abbrev pub staying : Part
+  staying = staying_part marks ranks part
 
-  own_stretch : (k : ℕ) → k < length (stretches jobs) → 1 ≤ get_or group_rooms k 0 → group_of found.group_of_stretch k ≡ below + 1
-  own_stretch = filled.own_stretch jobs windows found (below + 1) top_p top_q group_wants group_rooms own_shares wants_left rooms_left windows_are group_filled
+  -- the job at a place
+  abbrev job_in : ℕ → OwnJob
+  job_in i = get_or part.jobs i no_own
 
-  own_share : (x : ℕ) → x < length own_shares → IsOwn jobs windows found (below + 1) (share_at own_shares x)
-  own_share = filled.own_share jobs windows found (below + 1) top_p top_q group_wants group_rooms own_shares wants_left rooms_left windows_are group_filled
+  -- the stretch at a place
+  abbrev stretch_in : ℕ → OwnStretch
+  stretch_in p = get_or part.stretches p no_own_stretch
 
-  -- a stretch of the upper part is marked
-  upper_stretch : (k : ℕ) → k < length (stretches jobs) → group_of new_stretches k ≡ below → (group_of found.group_of_stretch k ≡ below + 1) × IsMarked marks k
-  upper_stretch k known new = elim (split.stretch k (omega (arith, searched.all_stretches))) [
-    | inl upper ↦ (upper.0, upper.1)
-    | inr same ↦ elim (searched.stretch k known) [
-      | inl finished ↦ absurd (omega (arith, same.1, groups_apart, finished))
-      | inr later ↦ absurd (omega (arith, same.1, later))
-    ]
-  ]
+  -- the fill's own units of a job in a stretch
+  abbrev own_shares : List Share
+  own_shares = filled.own_shares jobs windows found part are waits group work_is length_is shares wants' rooms' fill
 
-  -- a marked stretch of the group is one of the upper part
-  marked_stretch : (k : ℕ) → k < length (stretches jobs) → group_of found.group_of_stretch k ≡ below + 1 → IsMarked marks k → group_of new_stretches k ≡ below
-  marked_stretch k known mine marked = elim (split.stretch k (omega (arith, searched.all_stretches))) [
-    | inl upper ↦ omega (arith, upper.2)
-    | inr same ↦ absurd (same.0 mine marked)
-  ]
+  -- so many units of a job in a stretch
+  abbrev own_units : ℕ → ℕ → ℕ
+  own_units = units_between own_shares
 
-  -- other stretches keep their groups
-  other_stretch : (k : ℕ) → k < length (stretches jobs) → (group_of new_stretches k ≡ below → ⊥) → group_of new_stretches k ≡ group_of found.group_of_stretch k
-  other_stretch k known other = elim (split.stretch k (omega (arith, searched.all_stretches))) [
-    | inl upper ↦ absurd (other (omega (arith, upper.2)))
-    | inr same ↦ same.1
-  ]
+  -- each job has a want
+  all_wants : length wants' ≡ length part.jobs
+  all_wants = fill.same_wants ∙ length-map part.jobs (λ own. per_work group * own.work)
 
-  -- a job of which all stretches in the group are marked is one of the upper part
-  confined_job : (j : ℕ) → j < length jobs → group_of found.group_of_job j ≡ below + 1 →
-      ((k : ℕ) → IsIn windows j k → group_of found.group_of_stretch k ≡ below + 1 → IsMarked marks k) → group_of new_jobs j ≡ below
-  confined_job j known mine marked = elim (split.job j (omega (arith, searched.all_jobs))) [
-    | inl upper ↦ omega (arith, upper.2)
-    | inr same ↦
-        let meets = same.0 mine in
-        let in_range : meets.0 < length (stretches jobs) = omega (arith, meets.1.upto, windows_are.inside j known) in
-        elim (split.stretch meets.0 (omega (arith, searched.all_stretches, in_range))) [
-          | inl upper ↦ absurd (omega (arith, upper.2, meets.2))
-          | inr kept ↦
-              let same_group : group_of found.group_of_stretch meets.0 ≡ below + 1 = omega (arith, kept.1, meets.2) in
-              absurd (kept.0 same_group (marked meets.0 meets.1 same_group))
-        ]
-  ]
+  -- each stretch has room
+  all_rooms : length (rooms_at (per_time group) part.stretches) ≡ length part.stretches
+  all_rooms = length-map part.stretches (λ own. per_time group * own.length)
 
-  -- who has a share in a marked stretch is one of the upper part
-  shared_job : (x : ℕ) → x < length own_shares → IsMarked marks (share_at own_shares x).stretch → group_of new_jobs (share_at own_shares x).job ≡ below
-  shared_job x within marked =
-      let own = own_share x within in
-      confined_job (share_at own_shares x).job own.runs.known own.job (λ k inside one. closed.shared x k within marked inside one)
+  -- what late jobs close upon is closed
+  closed : AreClosed (λ p. p < length part.stretches) (own_windows part.jobs) shares wants' rooms' marks
+  closed =
+      let own = filled.windows_have jobs windows found part are waits in
+      subst (λ (n : ℕ). AreClosed (λ p. p < n) (own_windows part.jobs) shares wants' rooms' marks) all_rooms
+      (fill_closes (own_windows part.jobs) (wants_at (per_work group) part.jobs) (rooms_at (per_time group) part.stretches) shares wants' rooms' marks fill
+      (λ j inside.
+      let below : j < length part.jobs = omega (arith, inside, length-map part.jobs window_of) in
+      subst (λ (w : Window). (w.first < w.end) × (w.end ≤ length (rooms_at (per_time group) part.stretches))) (sym (get_or-map window_of part.jobs j no_own no_window below))
+      (omega (arith, own j no_own below), omega (arith, own j no_own below, all_rooms)))
+      (λ i j before inside. filled.ends_rise jobs windows found part are waits i j before (omega (arith, inside, length-map part.jobs window_of)))
+      (subst (λ (n : ℕ). AreClosing (own_windows part.jobs) wants' shares n marks) fill.same_rooms closing))
 
-  -- who is late is one of the upper part
-  late_job : (j : ℕ) → j < length jobs → 1 ≤ get_or wants_left j 0 →
-      (group_of found.group_of_job j ≡ below + 1) × (1 ≤ (job_at jobs j).work) × (group_of new_jobs j ≡ below)
-  late_job j known some =
-      let mine = own_job j known (omega (arith, group_filled.fill.want j)) in
-      (mine.0, mine.1, confined_job j known mine.0 (λ k inside one. closed.late j k (omega (arith, windows_are.all)) some inside one))
-
-  -- a job of the upper part was one of the group, and has only marked stretches of it
-  record Upper (j : ℕ) : Type 0 where
-    mine : group_of found.group_of_job j ≡ below + 1
-    only : (k : ℕ) → IsIn windows j k → group_of new_stretches k ≡ below + 1 → ⊥
-
-  upper_job : (j : ℕ) → j < length jobs → 1 ≤ (job_at jobs j).work → group_of new_jobs j ≡ below → Upper j
-  upper_job j known some new = elim (split.job j (omega (arith, searched.all_jobs))) [
-    | inl upper ↦ record { mine = upper.0; only = upper.1 }
-    | inr same ↦ elim (searched.with_work j known some) [
-      | inl finished ↦ absurd (omega (arith, same.1, groups_apart, finished))
-      | inr later ↦ absurd (omega (arith, same.1, later.0))
-    ]
-  ]
-
-  -- a job of the upper part has a stretch of the group only in the upper part
-  upper_only : (j : ℕ) → j < length jobs → Upper j → (k : ℕ) → IsIn windows j k → group_of found.group_of_stretch k ≡ below + 1 → group_of new_stretches k ≡ below
-  upper_only j known upper k inside mine =
-      let in_range : k < length (stretches jobs) = omega (arith, inside.upto, windows_are.inside j known) in
-      elim (split.stretch k (omega (arith, searched.all_stretches, in_range))) [
-        | inl moves ↦ omega (arith, moves.2)
-        | inr same ↦ absurd (upper.only k inside (same.1 ∙ mine))
+  -- a job moves where all stretches of its window are marked, and otherwise has one that isn't
+  move_cases : (i : ℕ) → i < length part.jobs →
+      ((moves ranks (job_in i) ≡ true) × ((p : ℕ) → IsIn (own_windows part.jobs) i p → get_or marks p 0 ≡ 1))
+      ⊎ ((moves ranks (job_in i) ≡ false) × ((p : ℕ) × (p < length part.stretches) × IsIn (own_windows part.jobs) i p × (get_or marks p 0 ≡ 0)))
+  move_cases i inside =
+      let own = job_in i in
+      let window = get_or-map window_of part.jobs i no_own no_window inside in
+      let rank = are_ranked marks ranks part.jobs small ranked
+      (subst (λ (m : ℕ). HaveWindows m part.jobs) (sym count) (filled.windows_have jobs windows found part are waits)) i no_own inside in
+      let gap : own.first + (own.end - own.first) ≡ own.end = omega (arith, rank.some) in
+      let end : get_or ranks (own.first + (own.end - own.first)) 0 ≡ get_or ranks own.end 0 = ap (λ i. get_or ranks i 0) gap in
+      elim (over_cases marks ranks own.first (own.end - own.first) small ranked (omega (arith, gap, rank.within, ranked.count))) [
+        | inl (rise, each) ↦ inl (
+          eq-eqb (get_or ranks own.end 0 - get_or ranks own.first 0) (own.end - own.first) (omega (arith, rise, end)),
+          λ p is_in. each p (omega (arith, is_in.from, ap (λ (w : Window). w.first) window)) (omega (arith, is_in.upto, gap, ap (λ (w : Window). w.end) window)),
+        )
+        | inr (rise, (p, from, upto, bare)) ↦ inr (
+          ne_eqb (get_or ranks own.end 0 - get_or ranks own.first 0) (own.end - own.first) (λ same. omega (arith, same, rank.rise, rise, end)),
+          (
+            p,
+            omega (arith, upto, gap, rank.within, ranked.count, count),
+            record { from = omega (arith, from, ap (λ (w : Window). w.first) window); upto = omega (arith, upto, gap, ap (λ (w : Window). w.end) window) },
+            bare,
+          ),
+        )
       ]
 
-  -- other jobs keep their groups
-  other_job : (j : ℕ) → j < length jobs → (group_of new_jobs j ≡ below → ⊥) → group_of new_jobs j ≡ group_of found.group_of_job j
-  other_job j known other = elim (split.job j (omega (arith, searched.all_jobs))) [
-    | inl upper ↦ absurd (other (omega (arith, upper.2)))
-    | inr same ↦ same.1
+  -- all stretches of who moves are marked
+  moved_marks : (i p : ℕ) → i < length part.jobs → moves ranks (job_in i) ≡ true → IsIn (own_windows part.jobs) i p → get_or marks p 0 ≡ 1
+  moved_marks i p inside moving is_in = elim (move_cases i inside) [
+    | inl only ↦ only.1 p is_in
+    | inr free ↦ absurd (true≢false (sym moving ∙ free.0))
   ]
 
-  -- some stretch of the group keeps room
-  some_room : (k : ℕ) × (k < length (stretches jobs)) × (group_of found.group_of_stretch k ≡ below + 1)
-      × (IsMarked marks k → ⊥)
-  some_room =
-      let one = over_some (λ k. get_or rooms_left k 0) (length (stretches jobs)) (omega (
-        arith,
-        balance jobs windows found (below + 1) top_p top_q group_wants group_rooms own_shares wants_left rooms_left windows_are.all group_filled,
-        over_one (λ j. get_or wants_left j 0) (length jobs) a_late.0 a_late.1,
-        a_late.2,
-      )) in
-      let mine = own_stretch one.0 one.1 (omega (arith, group_filled.fill.room one.0, one.2)) in (
-        one.0,
-        one.1,
-        mine,
-        λ marked. omega (arith, closed.full one.0 mine marked, one.2),
-      )
-
-  -- another group's stretch stays, and so does another group's job
-  kept_stretch : (k c : ℕ) → k < length (stretches jobs) → (c ≡ below + 1 → ⊥) → group_of found.group_of_stretch k ≡ c → group_of new_stretches k ≡ c
-  kept_stretch k c known other is = elim (split.stretch k (omega (arith, searched.all_stretches))) [
-    | inl upper ↦ absurd (other (sym is ∙ upper.0))
-    | inr same ↦ same.1 ∙ is
+  -- who stays has one without a mark
+  stayed_bare : (i : ℕ) → i < length part.jobs → not (moves ranks (job_in i)) ≡ true → (p : ℕ) × (p < length part.stretches) × IsIn (own_windows part.jobs) i p × (get_or marks p 0 ≡ 0)
+  stayed_bare i inside staying = elim (move_cases i inside) [
+    | inl only ↦ absurd (true≢false (sym staying ∙ ap not only.0))
+    | inr free ↦ free.1
   ]
 
-  kept_job : (j c : ℕ) → j < length jobs → (c ≡ below + 1 → ⊥) → group_of found.group_of_job j ≡ c → group_of new_jobs j ≡ c
-  kept_job j c known other is = elim (split.job j (omega (arith, searched.all_jobs))) [
-    | inl upper ↦ absurd (other (sym is ∙ upper.0))
-    | inr same ↦ same.1 ∙ is
+  -- who has only marked stretches moves
+  confined : (i : ℕ) → i < length part.jobs → ((p : ℕ) → p < length part.stretches → IsIn (own_windows part.jobs) i p → IsMarked marks p) → moves ranks (job_in i) ≡ true
+  confined i inside marked = elim (move_cases i inside) [
+    | inl only ↦ only.0
+    | inr free ↦ let bare = free.1 in absurd (omega (arith, marked bare.0 bare.1 bare.2, bare.3))
   ]
 
-  -- later groups are as they were
-  later_same : (c : ℕ) → below + 1 < c → HasSame jobs found (moved found new_jobs new_stretches) c
-  later_same c above = record {
-    job = λ j known. (kept_job j c known (λ same. omega (arith, same)), λ is. sym (other_job j known (λ new. omega (arith, new, is))) ∙ is);
-    stretch = λ k known. (kept_stretch k c known (λ same. omega (arith, same)), λ is. sym (other_stretch k known (λ new. omega (arith, new, is))) ∙ is);
+  -- so does who is late
+  late_moves : (i : ℕ) → i < length part.jobs → 1 ≤ get_or wants' i 0 → moves ranks (job_in i) ≡ true
+  late_moves i inside some = confined i inside (λ p upto is_in. closed.late i p (omega (arith, inside, length-map part.jobs window_of)) some is_in upto)
+
+  -- and who has a share in a marked stretch
+  shared_moves : (x : ℕ) → x < length shares → get_or marks (share_at shares x).stretch 0 ≡ 1 → moves ranks (job_in (share_at shares x).job) ≡ true
+  shared_moves x below marked = confined (share_at shares x).job (omega (arith, (fill.taken.parts x no_share below).known, length-map part.jobs window_of))
+      (λ p upto is_in. closed.shared x p below (omega (arith, marked)) is_in upto)
+
+  -- a mark is 1 or 0
+  mark_cases : (p : ℕ) → p < length part.stretches → (get_or marks p 0 ≡ 1) ⊎ (get_or marks p 0 ≡ 0)
+  mark_cases p upto = elim (cases_lt 0 (get_or marks p 0)) [
+    | inl some ↦ inl (omega (arith, some, small p 0 (omega (arith, upto, count))))
+    | inr none ↦ inr (omega (arith, none))
+  ]
+
+  -- units within windows: none of who moves in a stretch without a mark
+  moved_none : (units : ℕ → ℕ → ℕ) → ((j k : ℕ) → 1 ≤ units j k → IsIn windows j k) → (i p : ℕ) → i < length part.jobs → p < length part.stretches →
+      moves ranks (job_in i) ≡ true → get_or marks p 0 ≡ 0 → units (job_in i).job (stretch_in p).stretch ≡ 0
+  moved_none units inside i p known upto moving bare = elim (cases_lt 0 (units (job_in i).job (stretch_in p).stretch)) [
+    | inr none ↦ omega (arith, none)
+    | inl some ↦ absurd (omega (
+      arith,
+      bare,
+      moved_marks i p known moving (filled.in_place jobs windows found part are waits i p known upto (inside (job_in i).job (stretch_in p).stretch some)),
+    ))
+  ]
+
+  -- the fill's own units: none of who stays in a stretch with a mark
+  stayed_none : (i p : ℕ) → i < length part.jobs → p < length part.stretches → not (moves ranks (job_in i)) ≡ true → get_or marks p 0 ≡ 1 →
+      own_units (job_in i).job (stretch_in p).stretch ≡ 0
+  stayed_none i p known upto staying marked = elim (cases_lt 0 (own_units (job_in i).job (stretch_in p).stretch)) [
+    | inr none ↦ omega (arith, none)
+    | inl some ↦
+        let one = between_some (λ share. (x : ℕ) × (x < length shares) × ((job_in (share_at shares x).job).job ≡ share.job) × ((stretch_in (share_at shares x).stretch).stretch ≡ share.stretch))
+        own_shares (job_in i).job (stretch_in p).stretch
+        (All-map (λ share. (x : ℕ) × (x < length shares) × ((job_in (share_at shares x).job).job ≡ share.job) × ((stretch_in (share_at shares x).stretch).stretch ≡ share.stretch))
+        (share_by_number part.jobs part.stretches) shares
+        (All-from_get_or (λ share. (x : ℕ) × (x < length shares) × ((job_in (share_at shares x).job).job ≡ (share_by_number part.jobs part.stretches share).job)
+        × ((stretch_in (share_at shares x).stretch).stretch ≡ (share_by_number part.jobs part.stretches share).stretch)) shares no_share (λ x below. (
+          x,
+          below,
+          sym (get_or-map (λ own. own.job) part.jobs (share_at shares x).job no_own 0 (omega (arith, (fill.taken.parts x no_share below).known, length-map part.jobs window_of))),
+          sym (get_or-map (λ own. own.stretch) part.stretches (share_at shares x).stretch no_own_stretch 0 (omega (arith, (fill.taken.parts x no_share below).known_stretch, all_rooms))),
+        )))) some in
+        let x = one.1.0 in
+        let part_of = fill.taken.parts x no_share one.1.1 in
+        let here : (share_at shares x).job ≡ i = same_place (λ own. own.job) part.jobs (share_at shares x).job i no_own (filled.jobs_apart jobs windows found part are waits)
+        (omega (arith, part_of.known, length-map part.jobs window_of)) known (one.1.2 ∙ one.2) in
+        let there : (share_at shares x).stretch ≡ p = same_place (λ own. own.stretch) part.stretches (share_at shares x).stretch p no_own_stretch
+        (filled.stretches_apart jobs windows found part are waits) (omega (arith, part_of.known_stretch, all_rooms)) upto (one.1.3 ∙ one.3) in
+        let moving = shared_moves x one.1.1 (ap (λ n. get_or marks n 0) there ∙ marked) in
+        absurd (true≢false (sym staying ∙ ap not (subst (λ (n : ℕ). moves ranks (job_in n) ≡ true) here moving)))
+  ]
+
+  -- sums over the two parts
+  row_split : (f : ℕ → ℕ) → sum_by (λ own. f own.stretch) staying.stretches + sum_by (λ own. f own.stretch) moving.stretches ≡ sum_by (λ own. f own.stretch) part.stretches
+  row_split f = sum_marked (λ own. f own.stretch) marks part.stretches small count
+
+  -- over the jobs as well
+  column_split : (f : ℕ → ℕ) → sum_by (λ own. f own.job) staying.jobs + sum_by (λ own. f own.job) moving.jobs ≡ sum_by (λ own. f own.job) part.jobs
+  column_split f = sum_jobs f ranks part.jobs
+
+  -- a sum over one part of what is nothing there
+  row_none : (f : ℕ → ℕ) (mark : ℕ) → ((p : ℕ) → p < length part.stretches → get_or marks p 0 ≡ mark → f (stretch_in p).stretch ≡ 0) →
+      sum_by (λ own. f own.stretch) (marked_with mark marks part.stretches) ≡ 0
+  row_none f mark none = sum_by_zero (λ own. f own.stretch) (marked_with mark marks part.stretches) (all_marked (λ own. f own.stretch ≡ 0) mark marks part.stretches count none)
+
+  -- a sum over one part's jobs of what is nothing there
+  column_none : (f : ℕ → ℕ) (q : OwnJob → Bool) (place : ℕ → ℕ) → ((i : ℕ) → i < length part.jobs → q (job_in i) ≡ true → f (job_in i).job ≡ 0) →
+      sum_by (λ own. f own.job) (those q place part.jobs) ≡ 0
+  column_none f q place none = sum_by_zero (λ own. f own.job) (those q place part.jobs) (all_those (λ own. f own.job ≡ 0) q place part.jobs none)
+
+  -- the faster part is as slow as the whole was
+  upper_slow : (p q : ℕ) (units : ℕ → ℕ → ℕ) → ((j k : ℕ) → 1 ≤ units j k → IsIn windows j k) → IsSlow part p q units → IsSlow moving p q units
+  upper_slow p q units inside slow = record {
+    served = all_those (λ own. q * own.work ≤ sum_by (λ one. units own.job one.stretch) moving.stretches) (moves ranks) (λ n. get_or ranks n 0) part.jobs (λ i known moving. omega (
+      arith,
+      slow.served i no_own known,
+      row_split (units (job_in i).job),
+      row_none (units (job_in i).job) 0 (λ p upto bare. moved_none units inside i p known upto moving bare),
+    ));
+    room = all_marked (λ own. sum_by (λ one. units one.job own.stretch) moving.jobs ≤ p * own.length) 1 marks part.stretches count
+        (λ k upto marked. omega (arith, slow.room k no_own_stretch upto, column_split (λ j. units j (stretch_in k).stretch)));
   }
 
-  -- a job of which the window has a stretch of the lower part is no job of the upper part
-  lower_job : (j k : ℕ) → j < length jobs → IsIn windows j k → group_of new_stretches k ≡ below + 1 → group_of new_jobs j ≡ group_of found.group_of_job j
-  lower_job j k known inside is = elim (split.job j (omega (arith, searched.all_jobs))) [
-    | inl upper ↦ absurd (upper.1 k inside is)
-    | inr same ↦ same.1
-  ]
-
-  -- the lower part is as fast as the whole group was
-  lower_fast : (p q : ℕ) (shares : List Share) → LieInWindows jobs windows shares →
-      IsFast jobs found (below + 1) p q shares → IsFast jobs (moved found new_jobs new_stretches) (below + 1) p q shares
-  lower_fast p q shares inside fast = record {
-    full = λ k known is. fast.full k known (sym (other_stretch k known (λ new. omega (arith, new, is))) ∙ is);
-    own = λ x within is.
-        let lies = inside x within in
-        lower_job (share_at shares x).job (share_at shares x).stretch lies.0 lies.2 is
-        ∙ fast.own x within (sym (other_stretch (share_at shares x).stretch lies.1 (λ new. omega (arith, new, is))) ∙ is);
-    most = λ j known is. fast.most j known (sym (other_job j known (λ new. omega (arith, new, is))) ∙ is);
+  -- the lower part is as fast as the whole was
+  lower_fast : (p q : ℕ) (units : ℕ → ℕ → ℕ) → ((j k : ℕ) → 1 ≤ units j k → IsIn windows j k) → IsFast part p q units → IsFast staying p q units
+  lower_fast p q units inside fast = record {
+    full = all_marked (λ own. p * own.length ≤ sum_by (λ one. units one.job own.stretch) staying.jobs) 0 marks part.stretches count (λ k upto bare. omega (
+      arith,
+      fast.full k no_own_stretch upto,
+      column_split (λ j. units j (stretch_in k).stretch),
+      column_none (λ j. units j (stretch_in k).stretch) (moves ranks) (λ n. get_or ranks n 0) (λ i known moving. moved_none units inside i k known upto moving bare),
+    ));
+    most = all_those (λ own. sum_by (λ one. units own.job one.stretch) staying.stretches ≤ q * own.work) (λ own. not (moves ranks own)) (λ n. n - get_or ranks n 0) part.jobs
+        (λ i known staying. omega (arith, fast.most i no_own known, row_split (units (job_in i).job)));
   }
 
-  -- a job of the upper part, with or without work
-  any_upper_job : (j : ℕ) → j < length jobs → group_of new_jobs j ≡ below → Upper j
-  any_upper_job j known new = elim (cases_lt 0 (job_at jobs j).work) [
-    | inl some ↦ upper_job j known some new
-    | inr none ↦ elim (split.job j (omega (arith, searched.all_jobs))) [
-      | inl upper ↦ record { mine = upper.0; only = upper.1 }
-      | inr same ↦ absurd (omega (arith, searched.idle j known (omega arith), same.1, waits, new))
-    ]
-  ]
+  -- the fill's units of a job and in a stretch
+  job_units : (i : ℕ) → i < length part.jobs → units_of_job own_shares (job_in i).job + get_or wants' i 0 ≡ per_work group * (job_in i).work
+  job_units = filled.job_units jobs windows found part are waits group work_is length_is shares wants' rooms' fill
 
-  -- the upper part is as slow as the whole group was
-  upper_slow : (p q : ℕ) (shares : List Share) → LieInWindows jobs windows shares →
-      IsSlow jobs found (below + 1) p q shares → IsSlow jobs (moved found new_jobs new_stretches) below p q shares
-  upper_slow p q shares inside slow = record {
-    served = λ j known is. slow.served j known (any_upper_job j known is).mine;
-    own = λ x within is.
-        let lies = inside x within in
-        let upper = any_upper_job (share_at shares x).job lies.0 is in
-        upper_only (share_at shares x).job lies.0 upper (share_at shares x).stretch lies.2 (slow.own x within upper.mine);
-    room = λ k known is. slow.room k known (upper_stretch k known is).0;
-  }
+  -- and in a stretch
+  stretch_units : (p : ℕ) → p < length part.stretches → units_in_stretch own_shares (stretch_in p).stretch + get_or rooms' p 0 ≡ per_time group * (stretch_in p).length
+  stretch_units = filled.stretch_units jobs windows found part are waits group work_is length_is shares wants' rooms' fill
 
-  -- the fill's own shares lie in windows
-  own_inside : LieInWindows jobs windows own_shares
-  own_inside = λ x within. let own = own_share x within in (own.runs.known, own.stretch_known, own.runs.inside)
+  -- the units of a job, over the part's stretches
+  row_units : (j : ℕ) → sum_by (λ one. own_units j one.stretch) part.stretches ≡ units_of_job own_shares j
+  row_units = filled.row_units jobs windows found part are waits group work_is length_is shares wants' rooms' fill
+
+  -- the units in a stretch, over the part's jobs
+  column_units : (k : ℕ) → sum_by (λ one. own_units one.job k) part.jobs ≡ units_in_stretch own_shares k
+  column_units = filled.column_units jobs windows found part are waits group work_is length_is shares wants' rooms' fill
 
   -- between the two parts stands the speed of the fill
-  new_boundary : IsBoundary jobs windows (moved found new_jobs new_stretches) below
+  new_boundary : IsBoundary windows moving staying
   new_boundary = record {
-    p = top_p;
-    q = top_q;
-    shares = own_shares;
-    some = group_filled.some_work;
-    inside = own_inside;
+    p = per_time group;
+    q = per_work group;
+    units = own_units;
+    some = (lowest group.work group.length (filled.group_some jobs windows found part are waits group work_is length_is).0
+        (filled.group_some jobs windows found part are waits group work_is length_is).1).some_second;
+    inside = λ j k some.
+        let one = between_some (λ share. IsIn windows share.job share.stretch) own_shares j k
+        (filled.shares_inside jobs windows found part are waits group work_is length_is shares wants' rooms' fill) some in
+        subst (λ (n : ℕ). IsIn windows n k) one.2 (subst (IsIn windows one.0.job) one.3 one.1);
     fast = record {
-      full = λ k known is.
-          let upper = upper_stretch k known is in
-          omega (
-            arith,
-            group_filled.room k known,
-            part_own (group_of found.group_of_stretch k) (below + 1) (top_p * length_at jobs k) upper.0,
-            group_filled.fill.room k,
-            closed.full k upper.0 upper.1,
-          );
-      own = λ x within is. shared_job x within (upper_stretch (share_at own_shares x).stretch (own_share x within).stretch_known is).1;
-      most = λ j known is.
-          omega (
-            arith,
-            group_filled.want j known,
-            part_own (group_of found.group_of_job j) (below + 1) (top_q * (job_at jobs j).work) (any_upper_job j known is).mine,
-            group_filled.fill.want j,
-          );
+      full = all_marked (λ own. per_time group * own.length ≤ sum_by (λ one. own_units one.job own.stretch) moving.jobs) 1 marks part.stretches count (λ p upto marked. omega (
+        arith,
+        stretch_units p upto,
+        closed.full p upto (omega (arith, marked)),
+        column_units (stretch_in p).stretch,
+        column_split (λ j. own_units j (stretch_in p).stretch),
+        column_none (λ j. own_units j (stretch_in p).stretch) (λ own. not (moves ranks own)) (λ n. n - get_or ranks n 0) (λ i known staying. stayed_none i p known upto staying marked),
+      ));
+      most = all_those (λ own. sum_by (λ one. own_units own.job one.stretch) moving.stretches ≤ per_work group * own.work) (moves ranks) (λ n. get_or ranks n 0) part.jobs
+          (λ i known moving. omega (arith, job_units i known, row_units (job_in i).job, row_split (own_units (job_in i).job)));
     };
     slow = record {
-      served = λ j known is. elim (cases_lt 0 (get_or wants_left j 0)) [
-        | inl late ↦ absurd (omega (arith, (late_job j known late).2, is))
-        | inr served ↦
-            let mine = sym (other_job j known (λ new. omega (arith, new, is))) ∙ is in
-            omega (arith, group_filled.want j known, part_own (group_of found.group_of_job j) (below + 1) (top_q * (job_at jobs j).work) mine, group_filled.fill.want j)
-      ];
-      own = λ x within is.
-          let own = own_share x within in
-          elim (split.stretch (share_at own_shares x).stretch (omega (arith, searched.all_stretches, own.stretch_known))) [
-            | inl upper ↦ absurd (omega (arith, shared_job x within upper.1, is))
-            | inr same ↦ same.1 ∙ own.stretch
-          ];
-      room = λ k known is.
-          let mine = sym (other_stretch k known (λ new. omega (arith, new, is))) ∙ is in
-          omega (arith, group_filled.room k known, part_own (group_of found.group_of_stretch k) (below + 1) (top_p * length_at jobs k) mine, group_filled.fill.room k);
+      served = all_those (λ own. per_work group * own.work ≤ sum_by (λ one. own_units own.job one.stretch) staying.stretches) (λ own. not (moves ranks own)) (λ n. n - get_or ranks n 0) part.jobs
+          (λ i known staying. elim (cases_lt 0 (get_or wants' i 0)) [
+            | inl late ↦ absurd (true≢false (sym staying ∙ ap not (late_moves i known late)))
+            | inr none ↦ omega (
+              arith,
+              none,
+              job_units i known,
+              row_units (job_in i).job,
+              row_split (own_units (job_in i).job),
+              row_none (own_units (job_in i).job) 1 (λ p upto marked. stayed_none i p known upto staying marked),
+            )
+          ]);
+      room = all_marked (λ own. sum_by (λ one. own_units one.job own.stretch) staying.jobs ≤ per_time group * own.length) 0 marks part.stretches count
+          (λ p upto bare. omega (arith, stretch_units p upto, column_units (stretch_in p).stretch, column_split (λ j. own_units j (stretch_in p).stretch)));
     };
   }
 
-  alike_job : (j : ℕ) → j < length jobs → AreAlike (length found.groups) (group_of found.group_of_job j) (group_of new_jobs j)
-  alike_job j known = elim (split.job j (omega (arith, searched.all_jobs))) [
-    | inl upper ↦ inr (omega (arith, upper.0, groups_apart), omega (arith, upper.2, groups_apart))
-    | inr same ↦ inl (sym same.1)
-  ]
+  -- either part waits: its jobs keep their windows, as places among its own stretches
+  part_waits : (mark : ℕ) (q : OwnJob → Bool) (place : ℕ → ℕ) →
+      ((number n : ℕ) → IsPlace (stretch_numbers part.stretches) number n → IsPlace (stretch_numbers (marked_with mark marks part.stretches)) number (place n)) →
+      ((i : ℕ) → i < length part.jobs → q (job_in i) ≡ true → (p : ℕ) × (p < length part.stretches) × IsIn (own_windows part.jobs) i p × (get_or marks p 0 ≡ mark)) →
+      ((p : ℕ) → p < length part.stretches → get_or marks p 0 ≡ mark → (i : ℕ) × (i < length part.jobs) × IsIn (own_windows part.jobs) i p × (q (job_in i) ≡ true)) →
+      (p : ℕ) × (p < length part.stretches) × (get_or marks p 0 ≡ mark) →
+      IsWaiting jobs windows found (record { jobs = those q place part.jobs; stretches = marked_with mark marks part.stretches })
+  part_waits mark q place places meets covered some = record {
+    own_jobs = all_those (IsOwnJob jobs windows found.group_of_job (stretch_numbers (marked_with mark marks part.stretches))) q place part.jobs (λ i known passes.
+        let own = waits.own_jobs i no_own known in
+        let first = places (window_at windows (job_in i).job).first (job_in i).first own.first in
+        let end = places (window_at windows (job_in i).job).end (job_in i).end own.end in
+        let meet = meets i known passes in
+        let is_in = filled.in_number jobs windows found part are waits i meet.0 known meet.1 meet.2 in
+        record {
+          known = own.known;
+          some = own.some;
+          work_is = own.work_is;
+          free = own.free;
+          first = first;
+          end = end;
+          meets = places_meet (marked_with mark marks part.stretches) (window_at windows (job_in i).job).first (window_at windows (job_in i).job).end (stretch_in meet.0).stretch
+              (place (job_in i).first) (place (job_in i).end) first end
+              (one_marked (λ own. own.stretch ≡ (stretch_in meet.0).stretch) mark marks part.stretches meet.0 count meet.1 meet.3 refl) is_in.from is_in.upto;
+        });
+    own_stretches = all_marked (IsOwnStretch jobs windows found.group_of_stretch (those q place part.jobs)) mark marks part.stretches count (λ p upto marked.
+        let own = waits.own_stretches p no_own_stretch upto in
+        let one = covered p upto marked in
+        record {
+          known = own.known;
+          length_is = own.length_is;
+          free = own.free;
+          covered = one_those q place (λ one. IsIn windows one.job (stretch_in p).stretch) part.jobs one.0 one.1 one.3 (filled.in_number jobs windows found part are waits one.0 p one.1 upto one.2);
+        });
+    precede = all_pairs_map (λ one next. Precedes jobs one.job next.job) (placed place) (filter q part.jobs) (AllPairs-filter (λ one next. Precedes jobs one.job next.job) q part.jobs waits.precede);
+    rise = pairs_marked (λ one next. one.stretch < next.stretch) mark marks part.stretches count waits.rise;
+    some =
+        let one = one_at (λ own. own.stretch ≡ (stretch_in some.0).stretch) (marked_with mark marks part.stretches)
+        (one_marked (λ own. own.stretch ≡ (stretch_in some.0).stretch) mark marks part.stretches some.0 count some.1 some.2 refl) in
+        omega (arith, one.1);
+  }
 
-  alike_stretch : (k : ℕ) → k < length (stretches jobs) → AreAlike (length found.groups) (group_of found.group_of_stretch k) (group_of new_stretches k)
-  alike_stretch k known = elim (split.stretch k (omega (arith, searched.all_stretches))) [
-    | inl upper ↦ inr (omega (arith, upper.0, groups_apart), omega (arith, upper.2, groups_apart))
-    | inr same ↦ inl (sym same.1)
-  ]
-
-  -- where a job with work is after the split
-  job_after : (j : ℕ) → j < length jobs → 1 ≤ (job_at jobs j).work →
-      (group_of new_jobs j < length found.groups) ⊎ ((below ≤ group_of new_jobs j) × (group_of new_jobs j ≤ last))
-  job_after j known some = elim (split.job j (omega (arith, searched.all_jobs))) [
-    | inl upper ↦ inr (omega (arith, upper.2), omega (arith, upper.2, waits))
-    | inr same ↦ elim (searched.with_work j known some) [
-      | inl finished ↦ inl (omega (arith, same.1, finished))
-      | inr later ↦ inr (omega (arith, same.1, later.0), omega (arith, same.1, later.1))
-    ]
-  ]
-
-  stretch_after : (k : ℕ) → k < length (stretches jobs) → (group_of new_stretches k < length found.groups) ⊎ (below ≤ group_of new_stretches k)
-  stretch_after k known = elim (split.stretch k (omega (arith, searched.all_stretches))) [
-    | inl upper ↦ inr (omega (arith, upper.2))
-    | inr same ↦ elim (searched.stretch k known) [
-      | inl finished ↦ inl (omega (arith, same.1, finished))
-      | inr later ↦ inr (omega (arith, same.1, later))
-    ]
-  ]
-
-  -- a marked stretch of the group has a share of a job of the upper part
-  covered_above : (k : ℕ) → k < length (stretches jobs) → group_of new_stretches k ≡ below →
-      (j : ℕ) × MayTake jobs windows j k × (group_of new_jobs j ≡ group_of new_stretches k)
-  covered_above k known new =
-      let upper = upper_stretch k known new in
-      let one = some_share (λ share. share.stretch) own_shares k (omega (
-        arith,
-        group_filled.fill.room k,
-        closed.full k upper.0 upper.1,
-        group_filled.room k known,
-        part_own (group_of found.group_of_stretch k) (below + 1) (top_p * length_at jobs k) upper.0,
-        product_some top_p (length_at jobs k) group_filled.some_time (lengths_some k known),
-      )) in
-      let own = own_share one.0 one.1 in (
-        (share_at own_shares one.0).job,
-        subst (λ (n : ℕ). MayTake jobs windows (share_at own_shares one.0).job n) one.2 own.runs,
-        shared_job one.0 one.1 (subst (λ (n : ℕ). IsMarked marks n) (sym one.2) upper.1) ∙ sym new,
+  -- a job's first place is one of its window
+  first_place : (i : ℕ) → i < length part.jobs → IsIn (own_windows part.jobs) i (job_in i).first × ((job_in i).first < length part.stretches)
+  first_place i known =
+      let own = filled.windows_have jobs windows found part are waits i no_own known in
+      let window = get_or-map window_of part.jobs i no_own no_window known in (
+        record { from = omega (arith, ap (λ (w : Window). w.first) window); upto = omega (arith, own, ap (λ (w : Window). w.end) window) },
+        omega (arith, own),
       )
 
-  covered_below : (k : ℕ) → k < length (stretches jobs) → (group_of new_stretches k ≡ below → ⊥) → below ≤ group_of new_stretches k → group_of new_stretches k ≤ last →
-      (j : ℕ) × MayTake jobs windows j k × (group_of new_jobs j ≡ group_of new_stretches k)
-  covered_below k known other from upto =
-      let same = other_stretch k known other in
-      let one = searched.covered k known (omega (arith, same)) (omega (arith, same)) in (
+  -- the faster part waits: who moves has only marked stretches, and a full stretch has a share
+  moving_waits : IsWaiting jobs windows found moving
+  moving_waits = part_waits 1 (moves ranks) (λ n. get_or ranks n 0)
+      (λ number n is. (place_moved marks ranks part.stretches small ranked count number n is).0)
+      (λ i known moving. let first = first_place i known in ((job_in i).first, first.1, first.0, moved_marks i (job_in i).first known moving first.0))
+      (λ p upto marked.
+      let units = stretch_units p upto in
+      let some = (lowest group.work group.length (filled.group_some jobs windows found part are waits group work_is length_is).0
+      (filled.group_some jobs windows found part are waits group work_is length_is).1).some_first in
+      let long : 1 ≤ per_time group * (stretch_in p).length = product_some (per_time group) (stretch_in p).length some
+      (let own = waits.own_stretches p no_own_stretch upto in omega (arith, own.length_is, are.length_some (stretch_in p).stretch own.known)) in
+      let x = some_share (λ share. share.stretch) shares p (omega (
+        arith,
+        fill.room p,
+        get_or-map (λ own. per_time group * own.length) part.stretches p no_own_stretch 0 upto,
+        closed.full p upto (omega (arith, marked)),
+        long,
+      )) in
+      let taken = fill.taken.parts x.0 no_share x.1 in (
+        (share_at shares x.0).job,
+        omega (arith, taken.known, length-map part.jobs window_of),
+        subst (IsIn (own_windows part.jobs) (share_at shares x.0).job) x.2 taken.inside,
+        shared_moves x.0 x.1 (ap (λ n. get_or marks n 0) x.2 ∙ marked),
+      ))
+      (let known : late.0 < length part.jobs = omega (arith, late.1, all_wants) in
+      let first = first_place late.0 known in ((job_in late.0).first, first.1, moved_marks late.0 (job_in late.0).first known (late_moves late.0 known late.2) first.0)) where
+        -- a product of numbers that are some
+        product_some : (a b : ℕ) → 1 ≤ a → 1 ≤ b → 1 ≤ a * b
+        product_some a b one other = grind arith
+
+  -- the slower part waits: who covers a stretch without a mark stays, and some room is left
+  staying_waits : IsWaiting jobs windows found staying
+  staying_waits = part_waits 0 (λ own. not (moves ranks own)) (λ n. n - get_or ranks n 0)
+      (λ number n is. (place_moved marks ranks part.stretches small ranked count number n is).1)
+      (λ i known staying. stayed_bare i known staying)
+      (λ p upto bare.
+      let one = one_at (λ one. IsIn windows one.job (stretch_in p).stretch) part.jobs (waits.own_stretches p no_own_stretch upto).covered in
+      let is_in = filled.in_place jobs windows found part are waits one.0 p one.1 upto (one.2 no_own) in (
         one.0,
         one.1,
-        elim (cases_eq (group_of found.group_of_job one.0) (below + 1)) [
-          | inl mine ↦ lower_job one.0 k one.1.known one.1.inside (same ∙ sym one.2 ∙ mine) ∙ one.2 ∙ sym same
-          | inr apart ↦ kept_job one.0 (group_of found.group_of_job one.0) one.1.known apart refl ∙ one.2 ∙ sym same
+        is_in,
+        elim (move_cases one.0 one.1) [
+          | inl only ↦ absurd (omega (arith, bare, only.1 p is_in))
+          | inr free ↦ not_from_false (moves ranks (job_in one.0)) free.0
         ],
-      )
+      ))
+      (let one = over_some (λ p. get_or rooms' p 0) (length part.stretches) (omega (
+        arith,
+        filled.balance jobs windows found part are waits group work_is length_is shares wants' rooms' fill,
+        over_one (λ i. get_or wants' i 0) (length part.jobs) late.0 (omega (arith, late.1, all_wants)),
+        late.2,
+      )) in (
+        one.0,
+        one.1,
+        elim (mark_cases one.0 one.1) [
+          | inl marked ↦ absurd (omega (arith, closed.full one.0 one.1 (omega (arith, marked)), one.2))
+          | inr bare ↦ bare
+        ],
+      ))
 
-  meets_after : (j : ℕ) → j < length jobs → 1 ≤ (job_at jobs j).work → below ≤ group_of new_jobs j →
-      (k : ℕ) × IsIn windows j k × (group_of new_stretches k ≡ group_of new_jobs j)
-  meets_after j known some from = elim (split.job j (omega (arith, searched.all_jobs))) [
-    | inl upper ↦
-        let one = searched.meets j known some (omega (arith, upper.0)) in
-        (one.0, one.1, upper_only j known (record { mine = upper.0; only = upper.1 }) one.0 one.1 (one.2 ∙ upper.0) ∙ sym (below_is (group_of new_jobs j) below upper.2))
-    | inr same ↦ elim (cases_eq (group_of found.group_of_job j) (below + 1)) [
-      | inl mine ↦
-          let one = same.0 mine in
-          (one.0, one.1, one.2 ∙ sym mine ∙ sym same.1)
-      | inr apart ↦ elim (searched.with_work j known some) [
-        | inl finished ↦ absurd (omega (arith, same.1, finished, groups_apart))
-        | inr later ↦
-            let one = searched.meets j known some later.0 in (
-              one.0,
-              one.1,
-              kept_stretch one.0 (group_of found.group_of_job j) (omega (arith, one.1.upto, windows_are.inside j known)) apart one.2 ∙ sym same.1,
-            )
+  -- who is of either part was of the whole
+  moving_job : (j : ℕ) → HasJob moving j → (i : ℕ) × (i < length part.jobs) × ((job_in i).job ≡ j) × (moves ranks (job_in i) ≡ true)
+  moving_job j one = those_from (moves ranks) (λ n. get_or ranks n 0) part.jobs j one
+
+  -- so was who is of the slower part
+  staying_job : (j : ℕ) → HasJob staying j → (i : ℕ) × (i < length part.jobs) × ((job_in i).job ≡ j) × (not (moves ranks (job_in i)) ≡ true)
+  staying_job j one = those_from (λ own. not (moves ranks own)) (λ n. n - get_or ranks n 0) part.jobs j one
+
+  -- a job at a place is one of the whole
+  was_job : (j i : ℕ) → i < length part.jobs → (job_in i).job ≡ j → HasJob part j
+  was_job j i known is = at_one (λ own. own.job ≡ j) part.jobs i no_own known is
+
+  -- so is a stretch of either part
+  was_stretch : (mark k : ℕ) → HasOne (λ own. own.stretch ≡ k) (marked_with mark marks part.stretches) → HasStretch part k
+  was_stretch mark k one =
+      let from = marked_from (λ own. own.stretch ≡ k) mark marks part.stretches count one in
+      at_one (λ own. own.stretch ≡ k) part.stretches from.0 no_own_stretch from.1 from.2
+
+  -- and is of one of the two
+  job_parts : (j : ℕ) → HasJob part j → HasJob moving j ⊎ HasJob staying j
+  job_parts j one =
+      let own = one_at (λ own. own.job ≡ j) part.jobs one in
+      elim (move_cases own.0 own.1) [
+        | inl only ↦ inl (one_those (moves ranks) (λ n. get_or ranks n 0) (λ own. own.job ≡ j) part.jobs own.0 own.1 only.0 (own.2 no_own))
+        | inr free ↦ inr (one_those (λ own. not (moves ranks own)) (λ n. n - get_or ranks n 0) (λ own. own.job ≡ j) part.jobs own.0 own.1
+            (not_from_false (moves ranks (job_in own.0)) free.0) (own.2 no_own))
       ]
-    ]
-  ]
 
-  not_after_split : (j k : ℕ) → MayTake jobs windows j k → group_of new_stretches k ≤ group_of new_jobs j
-  not_after_split j k runs =
-      let known : k < length (stretches jobs) = omega (arith, runs.inside.upto, windows_are.inside j runs.known) in
-      let before = searched.not_after j k runs in
-      elim (split.job j (omega (arith, searched.all_jobs, runs.known))) [
-        | inl upper ↦ elim (cases_eq (group_of found.group_of_stretch k) (below + 1)) [
-          | inl mine ↦ omega (arith, upper.2, upper_only j runs.known (record { mine = upper.0; only = upper.1 }) k runs.inside mine)
-          | inr apart ↦ omega (arith, upper.0, upper.2, before, kept_stretch k (group_of found.group_of_stretch k) known apart refl)
-        ]
-        | inr same ↦ elim (split.stretch k (omega (arith, searched.all_stretches))) [
-          | inl moves ↦ omega (arith, moves.0, moves.2, same.1, before)
-          | inr stays ↦ omega (arith, stays.1, same.1, before)
-        ]
+  -- so is a stretch
+  stretch_parts : (k : ℕ) → HasStretch part k → HasStretch moving k ⊎ HasStretch staying k
+  stretch_parts k one =
+      let own = one_at (λ own. own.stretch ≡ k) part.stretches one in
+      elim (mark_cases own.0 own.1) [
+        | inl marked ↦ inl (one_marked (λ own. own.stretch ≡ k) 1 marks part.stretches own.0 count own.1 marked (own.2 no_own_stretch))
+        | inr bare ↦ inr (one_marked (λ own. own.stretch ≡ k) 0 marks part.stretches own.0 count own.1 bare (own.2 no_own_stretch))
       ]
 
-  peopled_after : (c : ℕ) → below ≤ c → c ≤ last → (k : ℕ) × (k < length (stretches jobs)) × (group_of new_stretches k ≡ c)
-  peopled_after c from upto = elim (cases_eq c below) [
-    | inl upper ↦
-        let late = late_job a_late.0 a_late.1 a_late.2 in
-        let one = searched.meets a_late.0 a_late.1 late.1 (omega (arith, late.0)) in
-        let known : one.0 < length (stretches jobs) = omega (arith, one.1.upto, windows_are.inside a_late.0 a_late.1) in (
-          one.0,
-          known,
-          marked_stretch one.0 known (one.2 ∙ late.0)
-              (closed.late a_late.0 one.0 (omega (arith, windows_are.all, a_late.1)) a_late.2 one.1 (one.2 ∙ late.0)) ∙ sym upper,
-        )
-    | inr other ↦ elim (cases_eq c (below + 1)) [
-      | inl lower ↦
-          let one = some_room in (
-            one.0,
-            one.1,
-            elim (split.stretch one.0 (omega (arith, searched.all_stretches, one.1))) [
-              | inl moves ↦ absurd (one.3 moves.1)
-              | inr same ↦ same.1 ∙ one.2 ∙ sym lower
-            ],
-          )
-      | inr above ↦
-          let one = searched.peopled c (omega arith) upto in
-          (one.0, one.1, kept_stretch one.0 c one.1 above one.2)
-    ]
-  ]
-
-  between_after : (c : ℕ) → below ≤ c → c < last → IsBoundary jobs windows (moved found new_jobs new_stretches) c
-  between_after c from upto = elim (cases_eq c below) [
-    | inl upper ↦ subst (λ (n : ℕ). IsBoundary jobs windows (moved found new_jobs new_stretches) n) (sym upper) (new_boundary)
-    | inr other ↦
-        let old = searched.between c (omega arith) upto in
-        record {
-          p = old.p;
-          q = old.q;
-          shares = old.shares;
-          some = old.some;
-          inside = old.inside;
-          fast = elim (cases_eq c (below + 1)) [
-            | inl lower ↦
-                subst (λ (n : ℕ). IsFast jobs (moved found new_jobs new_stretches) n old.p old.q old.shares) (sym lower)
-                (lower_fast old.p old.q old.shares old.inside (subst (λ (n : ℕ). IsFast jobs found n old.p old.q old.shares) lower old.fast))
-            | inr above ↦ same_fast jobs windows found (moved found new_jobs new_stretches) c old.p old.q old.shares (later_same c (omega arith)) old.inside old.fast
-          ];
-          slow = same_slow jobs windows found (moved found new_jobs new_stretches) (c + 1) old.p old.q old.shares (later_same (c + 1) (omega arith)) old.inside old.slow;
-        }
-  ]
-
-  -- after a split the search goes on with the upper part
-  pub split_search : IsSearch jobs windows (moved found new_jobs new_stretches) below last
-  split_search = record {
-    all_jobs = split.all_jobs ∙ searched.all_jobs;
-    all_stretches = split.all_stretches ∙ searched.all_stretches;
-    apart = groups_apart;
-    range = omega (arith, waits);
-    with_work = job_after;
-    idle = λ j known none. elim (split.job j (omega (arith, searched.all_jobs))) [
-      | inl upper ↦ absurd (omega (arith, searched.idle j known none, upper.0, waits))
-      | inr same ↦ omega (arith, searched.idle j known none, same.1)
-    ];
-    stretch = stretch_after;
-    covered = λ k known from upto. elim (cases_eq (group_of new_stretches k) below) [
-      | inl upper ↦ covered_above k known upper
-      | inr other ↦ covered_below k known other from upto
-    ];
-    meets = meets_after;
-    not_after = not_after_split;
-    peopled = peopled_after;
-    between = between_after;
-    lead = λ i last within.
-        let old = searched.lead i last waits in
-        record {
-          p = old.p;
-          q = old.q;
-          shares = old.shares;
-          some = old.some;
-          inside = old.inside;
-          fast = old.fast;
-          slow = upper_slow old.p old.q old.shares old.inside old.slow;
-        };
-    finished = kept_finished jobs windows found new_jobs new_stretches (alike_job) (alike_stretch) searched.finished;
+  -- but not of both
+  moving_before : IsBefore windows moving staying
+  moving_before = record {
+    jobs = λ j one other.
+        let moves' = moving_job j one in
+        let stays = staying_job j other in
+        let same : moves'.0 ≡ stays.0 = same_place (λ own. own.job) part.jobs moves'.0 stays.0 no_own (filled.jobs_apart jobs windows found part are waits) moves'.1 stays.1 (moves'.2 ∙ sym stays.2) in
+        true≢false (sym stays.3 ∙ ap not (subst (λ (n : ℕ). moves ranks (job_in n) ≡ true) same moves'.3));
+    stretches = λ k one other.
+        let marked = marked_from (λ own. own.stretch ≡ k) 1 marks part.stretches count one in
+        let bare = marked_from (λ own. own.stretch ≡ k) 0 marks part.stretches count other in
+        let same : marked.0 ≡ bare.0 = same_place (λ own. own.stretch) part.stretches marked.0 bare.0 no_own_stretch (filled.stretches_apart jobs windows found part are waits) marked.1 bare.1
+        (marked.2 ∙ sym bare.2) in
+        omega (arith, marked.3, bare.3, ap (λ n. get_or marks n 0) same);
+    beyond = λ j k one other is_in.
+        let moves' = moving_job j one in
+        let bare = marked_from (λ own. own.stretch ≡ k) 0 marks part.stretches count other in
+        omega (
+          arith,
+          bare.3,
+          moved_marks moves'.0 bare.0 moves'.1 moves'.3 (filled.in_place jobs windows found part are waits moves'.0 bare.0 moves'.1 bare.1
+              (subst (λ (n : ℕ). IsIn windows n (stretch_in bare.0).stretch) (sym moves'.2) (subst (IsIn windows j) (sym bare.2) is_in))),
+        );
   }
+
+  -- the lower part is followed as the whole was
+  staying_followed : (parts : List Part) → IsFollowed windows part parts → IsFollowed windows staying parts
+  staying_followed [] followed = tt
+  staying_followed (next ∷ parts) followed = record {
+    p = followed.p;
+    q = followed.q;
+    units = followed.units;
+    some = followed.some;
+    inside = followed.inside;
+    fast = lower_fast followed.p followed.q followed.units followed.inside followed.fast;
+    slow = followed.slow;
+  }
+
+  -- after a split the search goes on with the faster part
+  pub split_search : (parts : List Part) → IsSearch jobs windows found (part ∷ parts) → IsSearch jobs windows found (moving ∷ staying ∷ parts)
+  split_search parts search = record {
+    all_jobs = search.all_jobs;
+    all_stretches = search.all_stretches;
+    idle = search.idle;
+    with_work = λ j known some. elim (search.with_work j known some) [
+      | inl finished ↦ inl finished
+      | inr later ↦ elim later [
+        | inl mine ↦ elim (job_parts j mine) [ inl upper ↦ inr (inl upper) | inr lower ↦ inr (inr (inl lower)) ]
+        | inr rest ↦ inr (inr (inr rest))
+      ]
+    ];
+    job = search.job;
+    stretch = search.stretch;
+    covered = λ j k runs. elim (search.covered j k runs) [
+      | inl finished ↦ inl finished
+      | inr later ↦ elim later [
+        | inl mine ↦ elim (stretch_parts k mine) [ inl upper ↦ inr (inl upper) | inr lower ↦ inr (inr (inl lower)) ]
+        | inr rest ↦ inr (inr (inr rest))
+      ]
+    ];
+    waiting = (
+      moving_waits,
+      All-cons (IsBefore windows moving) staying parts moving_before (first moving (λ j one. let own = moving_job j one in was_job j own.0 own.1 own.2) (was_stretch 1)),
+      new_boundary,
+      (
+        staying_waits,
+        first staying (λ j one. let own = staying_job j one in was_job j own.0 own.1 own.2) (was_stretch 0),
+        staying_followed parts search.waiting.2,
+        search.waiting.3,
+      ),
+    );
+    led = λ i last.
+        let lead = search.led i last in
+        record {
+          p = lead.p;
+          q = lead.q;
+          units = lead.units;
+          some = lead.some;
+          inside = lead.inside;
+          fast = lead.fast;
+          slow = upper_slow lead.p lead.q lead.units lead.inside lead.slow;
+        };
+    finished = search.finished;
+    few = omega (arith, search.few, jobs_more, stretches_more);
+    few_jobs = omega (arith, search.few_jobs, jobs_more);
+    few_groups = omega (arith, search.few_groups, stretches_more);
+  } where
+    -- either part stands before the slower ones
+    first : (own : Part) → ((j : ℕ) → HasJob own j → HasJob part j) → ((k : ℕ) → HasStretch own k → HasStretch part k) → All (IsBefore windows own) parts
+    first own jobs_of stretches_of =
+        All-weaker (IsBefore windows part) (IsBefore windows own) (λ slower before. first_as windows part own slower jobs_of stretches_of before) parts search.waiting.1
+
+    -- all jobs still wait
+    jobs_more : length (jobs_of (moving ∷ staying ∷ parts)) ≡ length (jobs_of (part ∷ parts))
+    jobs_more = omega (
+      arith,
+      length-append (jobs_of (staying ∷ parts)) moving.jobs,
+      length-append (jobs_of parts) staying.jobs,
+      length-append (jobs_of parts) part.jobs,
+      jobs_parted ranks part.jobs,
+    )
+
+    -- and all stretches
+    stretches_more : length (own_stretches_of (moving ∷ staying ∷ parts)) ≡ length (own_stretches_of (part ∷ parts))
+    stretches_more = omega (
+      arith,
+      length-append (own_stretches_of (staying ∷ parts)) moving.stretches,
+      length-append (own_stretches_of parts) staying.stretches,
+      length-append (own_stretches_of parts) part.stretches,
+      stretches_parted marks part.stretches small count,
+    )

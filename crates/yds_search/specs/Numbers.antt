@@ -1,15 +1,5 @@
--- Lists of numbers, as of a group's jobs or stretches, and what is written at their places.
-use Rattle.std.specs.Prelude.{◌≡◌, ℕ, ◌<◌, ◌==◌, List, length, slice_index}
-use Rattle.std.specs.List.{filter}
-use Rattle.yds_search.specs.Found.{group_of}
-
--- the number is one of the list
-abbrev pub IsOneOf : List ℕ → ℕ → Type 0
-IsOneOf numbers k = (p : ℕ) × (p < length numbers) × (slice_index numbers p ≡ k)
-
--- those of the list that are in a group
-abbrev pub numbers_in : List ℕ → ℕ → List ℕ → List ℕ
-numbers_in groups group numbers = filter (λ i. group_of groups i == group) numbers
+-- What is written at the numbers of a list.
+use Rattle.std.specs.Prelude.{◌≡◌, ℕ, ◌<◌, List, length, slice_index}
 
 -- At the first n numbers of the list stand values with a property, elsewhere what stood there before.
 pub record AreWritten (P : ℕ → ℕ → Type 0) (numbers : List ℕ) (n : ℕ) (old new : List ℕ) : Type 0 where

@@ -1,9 +1,7 @@
 -- A group's own jobs and stretches, by place in the group, and what stands for them by number.
-use Rattle.std.specs.Prelude.{◌≡◌, ℕ, ◌*◌, ◌<◌, ◌≤◌, List, [], ◌∷◌, map, replicate, slice_index, slice_set}
+use Rattle.std.specs.Prelude.{ℕ, ◌*◌, ◌<◌, ◌≤◌, List, map, slice_index}
 use Rattle.std.specs.List.{All}
-use Rattle.yds_model.specs.Job.{Job, job_at}
 use Rattle.yds_events.specs.declared.window.Window.{Window}
-use Rattle.yds_events.specs.Window.{window_at, length_at, IsPlace}
 use Rattle.yds_search.specs.declared.own.OwnJob.{OwnJob}
 use Rattle.yds_search.specs.declared.own.OwnStretch.{OwnStretch}
 use Rattle.yds_search.specs.Found.{Share}
@@ -33,12 +31,6 @@ wants_at per_work jobs = map (λ own. per_work * own.work) jobs
 abbrev pub rooms_at : ℕ → List OwnStretch → List ℕ
 rooms_at per_time stretches = map (λ own. per_time * own.length) stretches
 
--- values by place, as values by number among m: 0 where no place has the number
-abbrev pub spread : List ℕ → List ℕ → ℕ → List ℕ
-spread [] values m = replicate m 0
-spread (k ∷ numbers) [] m = replicate m 0
-spread (k ∷ numbers) (value ∷ values) m = slice_set (spread numbers values m) k value
-
 -- a share by place, as a share by number
 abbrev pub share_by_number : List OwnJob → List OwnStretch → Share → Share
 share_by_number jobs stretches share = record {
@@ -54,10 +46,3 @@ shares_by_number jobs stretches shares = map (share_by_number jobs stretches) sh
 pub record Part : Type 0 where
   pub jobs : List OwnJob
   pub stretches : List OwnStretch
-
--- each with its work, its length, and the places of its window
-pub record AreOwn (jobs : List Job) (windows : List Window) (part : Part) : Type 0 where
-  pub work : All (λ own. own.work ≡ (job_at jobs own.job).work) part.jobs
-  pub length_is : All (λ own. own.length ≡ length_at jobs own.stretch) part.stretches
-  pub first : All (λ own. IsPlace (stretch_numbers part.stretches) (window_at windows own.job).first own.first) part.jobs
-  pub end : All (λ own. IsPlace (stretch_numbers part.stretches) (window_at windows own.job).end own.end) part.jobs

@@ -1,6 +1,6 @@
 -- How the groups that wait are kept, one after another, and how one is parted.
 use Rattle.std.specs.Prelude.{◌≡◌, ℕ, ◌-◌, ◌==◌, ◌++◌, Bool, not, if◌then◌else◌, List, [], ◌∷◌, length, map, slice_index}
-use Rattle.std.specs.List.{flat_map, filter}
+use Rattle.std.specs.List.{filter}
 use Rattle.yds_search.specs.declared.own.OwnJob.{OwnJob}
 use Rattle.yds_search.specs.declared.own.OwnStretch.{OwnStretch}
 use Rattle.yds_search.specs.declared.stack.Size.{Size}
@@ -10,25 +10,31 @@ use Rattle.yds_search.specs.Own.{Part}
 abbrev pub size_of : Part → Size
 size_of part = record { jobs = length part.jobs; stretches = length part.stretches }
 
--- the parts' jobs and stretches, one part after another
+-- the parts' jobs, stretches and sizes, the last part's first
 abbrev pub jobs_of : List Part → List OwnJob
-jobs_of parts = flat_map (λ part. part.jobs) parts
+jobs_of [] = []
+jobs_of (part ∷ parts) = jobs_of parts ++ part.jobs
 
 abbrev pub own_stretches_of : List Part → List OwnStretch
-own_stretches_of parts = flat_map (λ part. part.stretches) parts
+own_stretches_of [] = []
+own_stretches_of (part ∷ parts) = own_stretches_of parts ++ part.stretches
 
--- the stack has these parts, in order
+abbrev pub sizes_of : List Part → List Size
+sizes_of [] = []
+sizes_of (part ∷ parts) = sizes_of parts ++ size_of part ∷ []
+
+-- the stack has these parts, the first one on top
 pub record AreLaid (parts : List Part) (stack : Stack) : Type 0 where
-  pub sizes : stack.sizes.items ≡ map size_of parts
+  pub sizes : stack.sizes.items ≡ sizes_of parts
   pub jobs : stack.jobs.items ≡ jobs_of parts
   pub stretches : stack.stretches.items ≡ own_stretches_of parts
 
--- and one more, whose size is taken off
+-- and one more on top of them, whose size is taken off
 pub record AreLast (parts : List Part) (part : Part) (size : Size) (stack : Stack) : Type 0 where
-  pub sizes : stack.sizes.items ≡ map size_of parts
+  pub sizes : stack.sizes.items ≡ sizes_of parts
   pub size_is : size ≡ size_of part
-  pub jobs : stack.jobs.items ≡ jobs_of parts ++ part.jobs
-  pub stretches : stack.stretches.items ≡ own_stretches_of parts ++ part.stretches
+  pub jobs : stack.jobs.items ≡ jobs_of (part ∷ parts)
+  pub stretches : stack.stretches.items ≡ own_stretches_of (part ∷ parts)
 
 -- whether all stretches of the job's window are closed upon
 abbrev pub moves : List ℕ → OwnJob → Bool

@@ -142,7 +142,7 @@ impl Stack {
         requires ranks { AreRanks closing.now.marks.items closing.now.ranks.items }
         requires last { (parts : List Part) × (part : Part) × AreLast parts part size self.old × (length closing.now.marks.items ≡ length part.stretches) × HaveWindows (length part.stretches) part.jobs }
         ensures { OnOk result ((parts : List Part) (part : Part) → AreLast parts part size self.old → length closing.now.marks.items ≡ length part.stretches →
-            AreLaid ((parts ++ staying_part closing.now.marks.items closing.now.ranks.items part ∷ []) ++ moving_part closing.now.marks.items closing.now.ranks.items part ∷ []) self.new) }
+            AreLaid (moving_part closing.now.marks.items closing.now.ranks.items part ∷ staying_part closing.now.marks.items closing.now.ranks.items part ∷ parts) self.new) }
     {
         let jobs = self.jobs.len() - size.jobs;
         let jobs = part_jobs(&mut self.jobs, jobs, &closing.ranks, &mut self.moving_jobs)?;

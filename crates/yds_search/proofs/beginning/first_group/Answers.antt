@@ -1,4 +1,4 @@
-use Rattle.std.proofs.Common.{ℕ, ◌≡◌, ◌∙◌, List, [], ◌∷◌, ◌++◌, ap, refl, sym, subst, arith, length}
+use Rattle.std.proofs.Common.{ℕ, ◌≡◌, ◌∙◌, List, [], ◌∷◌, ◌++◌, ap, sym, subst, arith, length}
 use Rattle.yds_model.specs.Job.{Job}
 use Rattle.yds_model.specs.Piece.{Piece}
 use Rattle.yds_events.specs.declared.window.Window.{Window}
@@ -10,9 +10,9 @@ use Rattle.yds_search.specs.declared.stack.Size.{Size}
 use Rattle.yds_search.specs.Own.{Part}
 use Rattle.yds_search.specs.Closure.{AreRanks}
 use Rattle.yds_search.specs.Beginning.{AreFarthest, AreCovered}
-use Rattle.yds_search.specs.Searching.{last_group}
-use Rattle.yds_search.proofs.Beginnings.{begun, begun_number, begun_part, begun_waits, begun_all, begun_start, instance_is, marks_small, known_all, size_is, AreBegun, one_begun, none_begun}
-use Rattle.yds_search.proofs.Ends.{search_begins}
+use Rattle.yds_search.specs.Searching.{IsBegun}
+use Rattle.yds_search.proofs.Beginnings.{begun_part, instance_is, marks_small, known_all, one_begun, none_begun}
+use Rattle.yds_search.proofs.Laid.{size_is}
 use Rattle.yds_search.proofs.beginning.first_group.Goals as goal
 use Rattle.yds_search.proofs.beginning.first_group.Goals.{then-jobs-gt0+in_ok-push, else-jobs-gt0}
 
@@ -46,7 +46,6 @@ returns c =
     let ends : List ℕ = c.in_ok-ends.ends.items in
     let ranks : List ℕ = c.rank.new.ranks.items in
     let part : Part = begun_part jobs windows order marks ranks in
-    let top : ℕ = begun_number last_group (length part.jobs) in
     let timeline : length c.args.timeline.now ≡ length (stretches jobs) = ap (λ (pieces : List Piece). length pieces) c.requires.timeline in
     let farthest : AreFarthest jobs windows (length jobs) (length (stretches jobs)) ends =
     rw (c.deref.ensures.value, timeline) at c.in_ok-ends.ensures in
@@ -59,30 +58,12 @@ returns c =
     let count : c.len-jobs.result ≡ length part.jobs = omega (arith, c.len-jobs.ensures, c.add_jobs.new.jobs.ok, ap (λ (xs : List OwnJob). length xs) own) in
     let count_stretches : c.len-stretches.result ≡ length part.stretches =
     omega (arith, c.len-stretches.ensures, c.add_stretches.new.stretches.ok, ap (λ (xs : List OwnStretch). length xs) own_stretches) in
-    let beginning = begun_all jobs windows ends marks last_group farthest covered in
-    let instance = instance_is jobs windows order c.requires.few c.requires.jobs c.in_ok-windows.ensures c.in_ok-order.ensures in
-    let waiting = begun_waits jobs windows order ends marks ranks last_group (omega arith) instance.windows_are instance.order_is
-    (subst (λ (n : ℕ). AreCovered ends n marks) (sym covered.count) covered) (covered.count ∙ farthest.all) ranked in
-    let begins : AreBegun jobs windows order (begun last_group jobs marks) last_group top c.if-jobs-gt0.stack = elim c.if-jobs-gt0.branch [
-      | then-jobs-gt0+in_ok-push w ↦
-          subst (AreBegun jobs windows order (begun last_group jobs marks) last_group top) (sym w.stack-is)
-          (one_begun jobs windows order (begun last_group jobs marks) last_group top _ part refl (omega (arith, w.if-jobs-gt0.true, count)) waiting own own_stretches
+    let instance = instance_is jobs windows c.requires.few c.requires.jobs c.in_ok-windows.ensures in
+    elim c.if-jobs-gt0.branch [
+      | then-jobs-gt0+in_ok-push w ↦ subst (IsBegun jobs) (sym w.stack-is) (one_begun jobs windows order ends marks ranks instance c.in_ok-order.ensures farthest covered ranked _
+          (omega (arith, w.if-jobs-gt0.true, count)) own own_stretches
           (w.in_ok-push.ensures.items ∙ ap (λ (sizes : List Size). sizes ++ record { jobs = c.len-jobs.result; stretches = c.len-stretches.result } ∷ []) c.in_ok-stack.ensures.sizes
           ∙ ap (λ (size : Size). size ∷ []) (size_is c.len-jobs.result c.len-stretches.result part count count_stretches)))
-      | else-jobs-gt0 w ↦ subst (AreBegun jobs windows order (begun last_group jobs marks) last_group top) (sym w.stack-is)
-          (none_begun jobs windows order marks last_group top _ part instance.order_is beginning waiting refl (omega (arith, w.if-jobs-gt0.false, count)) own own_stretches c.in_ok-stack.ensures.sizes)
-    ] in
-    record {
-      windows = windows;
-      order = order;
-      numbers = begun last_group jobs marks;
-      top = top;
-      parts = begins.parts;
-      instance = instance;
-      groups = search_begins jobs windows (begun last_group jobs marks) last_group top instance.windows_are beginning
-          (begun_start jobs windows order marks last_group top part instance.order_is beginning waiting refl);
-      stack_is = begins.waits;
-      laid = begins.laid;
-      no_groups = refl;
-      no_shares = refl;
-    }
+      | else-jobs-gt0 w ↦ subst (IsBegun jobs) (sym w.stack-is) (none_begun jobs windows order ends marks ranks instance c.in_ok-order.ensures farthest covered ranked _
+          (omega (arith, w.if-jobs-gt0.false, count)) own own_stretches c.in_ok-stack.ensures.sizes)
+    ]

@@ -1,6 +1,6 @@
 use Rattle.std.proofs.Common.{◌*◌, ◌∙◌, arith, refl, length}
-use Rattle.yds_search.proofs.Chosen.{chosen_as, chosen_few, chosen_windows, chosen_known, chosen_some, chosen_units, chosen_finished, chosen_split, chosen_rooms, chosen_parts, chosen_room, shares_known}
-use Rattle.yds_search.proofs.Kept.{finish_nearer, split_nearer}
+use Rattle.yds_search.proofs.Chosen.{chosen_as, chosen_waits, chosen_few, chosen_windows, chosen_known, chosen_some, chosen_units, chosen_finished, chosen_split, chosen_rooms, chosen_parts, chosen_room, shares_known}
+use Rattle.yds_search.proofs.Laid.{finish_nearer, split_nearer}
 use Rattle.yds_search.specs.Found.{per_work}
 use Rattle.yds_search.specs.Views.{group_view}
 use Rattle.std.proofs.lemmas.List.{length-map}
@@ -83,7 +83,7 @@ pub returns-in_ok-add-clause-nearer : goal.returns-in_ok-add-clause-nearer
 returns-in_ok-add-clause-nearer c =
     let x = chosen_as c.requires.chosen.0 c.args.size c.args.self.now c.requires.chosen.1 c.last-own.result c.last-own.ensures.jobs c.last-own.ensures.stretches in
     finish_nearer x.parts x.part c.args.size c.args.self.now.stack c.drop_last.new.self x.last (c.drop_last.ensures x.parts x.part x.last)
-    (chosen_few c.requires.chosen.0 c.args.size c.args.self.now x).3
+    (chosen_waits c.requires.chosen.0 c.args.size c.args.self.now x).some
 
 pub returns-in_ok-close-clause-search : goal.returns-in_ok-close-clause-search
 returns-in_ok-close-clause-search c = on_ok_weaker c.split_last.result (λ laid jobs chosen.

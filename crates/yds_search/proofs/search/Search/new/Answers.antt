@@ -1,8 +1,9 @@
-use Rattle.std.proofs.Common.{List, length, ap, arith}
+use Rattle.std.proofs.Common.{◌∙◌, ℕ, [], List, length, replicate, ap, sym, subst, arith}
 use Rattle.yds_model.specs.Piece.{Piece}
 use Rattle.yds_events.proofs.Neighbours.{few_stretches}
-use Rattle.yds_search.specs.Views.{found_view}
-use Rattle.yds_search.proofs.Kept.{kept_begun}
+use Rattle.yds_search.specs.declared.found.TheConstants.{NO_GROUP}
+use Rattle.yds_search.specs.Found.{Found}
+use Rattle.yds_search.specs.Search.{IsSearch}
 use Rattle.yds_search.proofs.search.Search.new.Goals as goal
 
 pub new-requires-clause-few_stretches : goal.new-requires-clause-few_stretches
@@ -11,16 +12,13 @@ new-requires-clause-few_stretches c = omega (arith, ap (λ (pieces : List Piece)
 pub returns : goal.returns
 returns c =
     let begun = c.in_ok-first_group.ensures in
+    let none = λ (n : ℕ). let found : Found =
+    record { groups = []; group_of_job = replicate (length c.args.rows.now) NO_GROUP; group_of_stretch = replicate n NO_GROUP; shares = [] } in found in
     record {
       windows = begun.windows;
-      order = begun.order;
-      numbers = begun.numbers;
-      top = begun.top;
       parts = begun.parts;
       instance = begun.instance;
-      groups = begun.groups;
-      stack = begun.stack_is;
+      groups = subst (λ (found : Found). IsSearch c.args.rows.now begun.windows found begun.parts)
+          (sym (c.in_ok-new.ensures ∙ ap none (ap (λ (pieces : List Piece). length pieces) c.requires.timeline))) begun.groups;
       laid = begun.laid;
-      kept = kept_begun begun.numbers (found_view c.in_ok-new.field-0) (length c.args.rows.now) (length c.args.timeline.now) begun.no_groups begun.no_shares begun.groups.all_jobs
-          (omega (arith, begun.groups.all_stretches, ap (λ (pieces : List Piece). length pieces) c.requires.timeline)) c.in_ok-new.ensures;
     }

@@ -1,8 +1,9 @@
-use Rattle.std.proofs.Common.{◌≡◌, ℕ, ◌-◌, ◌++◌, ◌∙◌, List, length, ap, arith}
+use Rattle.std.proofs.Common.{◌≡◌, ℕ, ◌-◌, ◌++◌, List, length, ap, arith}
 use Rattle.std.proofs.lemmas.List.{length-append}
 use Rattle.yds_search.specs.declared.stack.Size.{Size}
 use Rattle.yds_search.specs.Stack.{jobs_of, own_stretches_of}
-use Rattle.yds_search.proofs.Stacks.{jobs_split, stretches_split, sizes_split, jobs_parted, stretches_parted}
+use Rattle.yds_search.proofs.Marked.{jobs_parted, stretches_parted}
+use Rattle.yds_search.proofs.Laid.{sizes_split}
 use Rattle.yds_search.proofs.stack.Stack.split_last.Goals as goal
 
 -- where the last ones of a list begin
@@ -39,6 +40,6 @@ returns c parts part last all =
     record {
       sizes = sizes_split parts part marks ranks c.args.size c.in_ok-jobs.jobs c.in_ok-stretches.stretches c.args.self.now.sizes.items c.push.new.self.items c.push-2.new.self.items
           c.requires.marks all last.size_is last.sizes staying (staying' all) c.in_ok-push.ensures.items c.in_ok-push-2.ensures.items;
-      jobs = jobs ∙ jobs_split parts part marks ranks;
-      stretches = stretches all ∙ stretches_split parts part marks ranks;
+      jobs = jobs;
+      stretches = stretches all;
     }
