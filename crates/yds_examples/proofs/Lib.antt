@@ -1,3 +1,6 @@
+pub mod Tests
+pub mod TestedSchedules
+pub mod TestedPlans
 pub mod Decided
 pub mod DecidedSchedules
 pub mod DecidedPlans

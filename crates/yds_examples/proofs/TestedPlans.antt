@@ -1,0 +1,162 @@
+-- Tests of what is said of levels: the conditions of a proper certificate, and those of a plan.
+use Rattle.std.proofs.Common.{◌≡◌, ℕ, ◌+◌, ◌*◌, ◌<◌, ◌≤◌, List, [], ◌∷◌, length, take, true}
+use Rattle.std.specs.Int.{◌∣◌}
+use Rattle.std.specs.List.{All, Contains}
+use Rattle.yds_model.specs.Numbers.{Each}
+use Rattle.yds_model.specs.Job.{Job, job_at}
+use Rattle.yds_model.specs.Slot.{WrittenSlot, IsScale, slots_at, written_slot_at}
+use Rattle.yds_model.specs.Feasible.{IsFeasible}
+use Rattle.yds_model.specs.Piece.{Piece, AreApart, PiecesFrom, Covers, IsConfined}
+use Rattle.yds_model.specs.Level.{Level, level_at, all_members, all_pieces}
+use Rattle.yds_model.specs.Proper.{PiecesStand, StandsOnce, SumsAgree, IsNotFaster, IsWindowCovered, AreLevels, IsProper}
+use Rattle.yds_model.specs.Plan.{IsServedInStretches, IsPlan, IsSlower, DontTouch, Rise, HasLevelDenominators}
+use Rattle.yds_model.specs.Judgement.{HasWrittenSpeed}
+use Rattle.yds_model.proofs.Scale.{least_scale_of}
+use Rattle.yds_energy.proofs.RunScale.{served_in_stretches_scaled}
+use Rattle.yds_laws.proofs.Judgements.{speeds_at_scale}
+use Rattle.yds_examples.proofs.Tests.{Test, tests, proved, test_le, test_each, test_before, test_between, test_grid, test_implied, test_contains, test_any}
+use Rattle.yds_examples.proofs.TestedSchedules.{is_scale, served_in_stretches}
+
+-- # The conditions of a proper certificate
+
+-- work and length
+abbrev pub is_positive : (level : Level) → Test ((1 ≤ level.work) × (1 ≤ level.length))
+is_positive level = hlevel tests
+
+-- members that are numbers of jobs
+abbrev pub is_known : (jobs : List Job) (level : Level) → Test (All (λ number. number < length jobs) level.members)
+is_known jobs level = hlevel tests
+
+-- the levels have work and length, and their members are jobs
+abbrev pub are_levels : (jobs : List Job) (levels : List Level) → Test (AreLevels jobs levels)
+are_levels jobs levels = hlevel (tests, is_positive, is_known)
+
+-- the pieces lie one after another
+abbrev pub pieces_from : (start : ℕ) (pieces : List Piece) → Test (PiecesFrom start pieces)
+pieces_from start [] = hlevel tests
+pieces_from start (piece ∷ pieces) = hlevel (tests, pieces_from piece.to pieces)
+
+-- two pieces apart
+abbrev pub are_apart : (one other : Piece) → Test (AreApart one other)
+are_apart one other = hlevel tests
+
+-- one apart from others
+abbrev pub is_apart : (others : List Piece) (piece : Piece) → Test (All (AreApart piece) others)
+is_apart others piece = hlevel (tests, are_apart)
+
+-- the level's pieces
+abbrev pub pieces_stand : (levels : List Level) (i : ℕ) → Test (PiecesStand levels i)
+pieces_stand levels i = hlevel (tests, pieces_from, is_apart)
+
+-- each job is a member once
+abbrev pub stands_once : (jobs : List Job) (levels : List Level) (number : ℕ) → Test (StandsOnce jobs levels number)
+stands_once jobs levels number = hlevel tests
+
+-- the sums agree
+abbrev pub sums_agree : (jobs : List Job) (levels : List Level) (i : ℕ) → Test (SumsAgree jobs levels i)
+sums_agree jobs levels i = hlevel tests
+
+-- no level is faster than the one before it,
+abbrev pub not_faster : (levels : List Level) (i : ℕ) → Test (IsNotFaster levels i)
+not_faster levels i =
+    test_before (λ before. test_le ((level_at levels i).work * (level_at levels before).length) ((level_at levels before).work * (level_at levels i).length)) i
+
+-- and in a plan each is slower
+abbrev pub slower : (levels : List Level) (i : ℕ) → Test (IsSlower levels i)
+slower levels i = test_before (λ before. hlevel tests) i
+
+-- a unit of time in a piece
+abbrev pub in_piece : (time : ℕ) (piece : Piece) → Test ((piece.from ≤ time) × (time < piece.to))
+in_piece time piece = hlevel tests
+
+-- a job confined to pieces
+abbrev pub confined : (job : Job) (pieces : List Piece) → Test (IsConfined job pieces)
+confined job pieces = test_between (λ time. test_any (in_piece time) pieces) job.release job.deadline
+
+-- by the pieces of the job's own level and of earlier ones
+abbrev pub window_covered : (jobs : List Job) (levels : List Level) (number : ℕ) → Test (IsWindowCovered jobs levels number)
+window_covered jobs levels number =
+    test_each (λ i. test_implied (test_contains (level_at levels i).members number) (confined (job_at jobs number) (all_pieces (take (i + 1) levels)))) (length levels)
+
+-- a slot has the speed of its job's level
+abbrev pub written_speed : (levels : List Level) (slots : List WrittenSlot) (s : ℕ) → Test (HasWrittenSpeed levels slots s)
+written_speed levels slots s = test_each (λ i. hlevel tests) (length levels)
+
+-- # The conditions of a plan
+
+-- neighbours that don't touch
+abbrev pub dont_touch : (pieces : List Piece) → Test (DontTouch pieces)
+dont_touch [] = hlevel tests
+dont_touch (piece ∷ []) = hlevel tests
+dont_touch (piece ∷ next ∷ pieces) = hlevel (tests, dont_touch (next ∷ pieces))
+
+-- rising numbers
+abbrev pub rise : (numbers : List ℕ) → Test (Rise numbers)
+rise [] = hlevel tests
+rise (number ∷ []) = hlevel tests
+rise (number ∷ next ∷ numbers) = hlevel (tests, rise (next ∷ numbers))
+
+-- the slot at a place has its level's denominators
+abbrev pub has_denominators : (levels : List Level) (slots : List WrittenSlot) (i s : ℕ) →
+    Test (Contains (level_at levels i).members (written_slot_at slots s).job → HasLevelDenominators (level_at levels i) (written_slot_at slots s))
+has_denominators levels slots i s = hlevel tests
+
+-- # Certificates and plans as a whole
+
+-- all that makes a certificate proper, besides that the slots are feasible
+abbrev pub is_certificate : (jobs : List Job) (slots : List WrittenSlot) (levels : List Level) → Test (
+    AreLevels jobs levels × Each (length levels) (PiecesStand levels) × Each (length jobs) (StandsOnce jobs levels) × Each (length levels) (SumsAgree jobs levels)
+    × Each (length levels) (IsNotFaster levels) × Each (length jobs) (IsWindowCovered jobs levels) × Each (length slots) (HasWrittenSpeed levels slots))
+is_certificate jobs slots levels =
+    hlevel (tests, are_levels, pieces_stand, stands_once, sums_agree, not_faster, window_covered, written_speed)
+
+-- a certificate of feasible slots is proper where it passes the test
+pub proper_by_test : (jobs : List Job) (slots : List WrittenSlot) (levels : List Level) → IsFeasible jobs slots → (is_certificate jobs slots levels).passes ≡ true →
+    IsProper jobs slots levels
+proper_by_test jobs slots levels feasible passed =
+    let holds = proved (is_certificate jobs slots levels) passed in
+    record {
+      well_formed = holds.0;
+      feasible = feasible;
+      pieces = holds.1;
+      members = holds.2;
+      sums = holds.3;
+      order = holds.4;
+      windows = holds.5;
+      speeds = λ scale is s within. speeds_at_scale levels slots scale is s within (holds.6 s within);
+    }
+
+-- written slots that are served in stretches at a scale which divides all others are so at each
+pub served_by_test : (jobs : List Job) (slots : List WrittenSlot) (least : ℕ) → (is_scale least slots).passes ≡ true →
+    ((scale : ℕ) → IsScale scale slots → least ∣ scale) → (served_in_stretches jobs least (slots_at least slots)).passes ≡ true →
+    (scale : ℕ) → IsScale scale slots → IsServedInStretches jobs scale (slots_at scale slots)
+served_by_test jobs slots least is divides passed =
+    let is_least = proved (is_scale least slots) is in
+    (least_scale_of slots (IsServedInStretches jobs) least is_least divides
+    (λ k some. served_in_stretches_scaled jobs k least slots some is_least (proved (served_in_stretches jobs least (slots_at least slots)) passed))).holds
+
+-- all that makes a plan, besides that the certificate is proper and the slots are served in stretches
+abbrev pub is_plan_form : (jobs : List Job) (slots : List WrittenSlot) (levels : List Level) → Test (
+    Each (length levels) (IsSlower levels) × All (λ level. DontTouch level.pieces) levels × All (λ level. Rise level.members) levels
+    × All (λ number. 1 ≤ (job_at jobs number).work) (all_members levels) × (length slots ≤ 3 * length jobs) × (length (all_pieces levels) ≤ 3 * length jobs)
+    × ((i s : ℕ) → i < length levels → s < length slots →
+    Contains (level_at levels i).members (written_slot_at slots s).job → HasLevelDenominators (level_at levels i) (written_slot_at slots s)))
+is_plan_form jobs slots levels =
+    hlevel (tests, slower, λ (level : Level). dont_touch level.pieces, λ (level : Level). rise level.members, test_grid (has_denominators levels slots))
+
+-- a proper certificate of slots that are served in stretches is a plan where it passes the test
+pub plan_by_test : (jobs : List Job) (slots : List WrittenSlot) (levels : List Level) → IsProper jobs slots levels →
+    ((scale : ℕ) → IsScale scale slots → IsServedInStretches jobs scale (slots_at scale slots)) → (is_plan_form jobs slots levels).passes ≡ true → IsPlan jobs slots levels
+plan_by_test jobs slots levels proper served passed =
+    let form = proved (is_plan_form jobs slots levels) passed in
+    record {
+      proper = proper;
+      falling = form.0;
+      pieces_apart = form.1;
+      members_rise = form.2;
+      members_work = form.3;
+      served = served;
+      few_slots = form.4;
+      few_pieces = form.5;
+      denominators = form.6;
+    }
