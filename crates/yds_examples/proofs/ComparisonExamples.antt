@@ -26,9 +26,9 @@ use Rattle.yds_model.specs.Answer.{Answers}
 use Rattle.yds_model.proofs.Scale.{one_scale_of, least_scale_of}
 use Rattle.yds_model.proofs.Divisor.{multiple_is_least}
 use Rattle.yds_texts.specs.CompareText.{CostsNoLess}
-use Rattle.yds_examples.proofs.Decided.{le_decided, all_below, each_decided, all_decided, scale_decided}
-use Rattle.yds_examples.proofs.DecidedSchedules.{feasible_by_test, stretches_decided, run_decided}
-use Rattle.yds_examples.proofs.DecidedPlans.{proper_by_test, plan_by_test}
+use Rattle.yds_examples.proofs.Tests.{Test, tests, proved, refuted, test_all, test_each}
+use Rattle.yds_examples.proofs.TestedSchedules.{is_scale, feasible_by_test, served_in_stretches, run_at}
+use Rattle.yds_examples.proofs.TestedPlans.{proper_by_test, plan_by_test}
 use Rattle.yds_energy.proofs.RunScale.{served_in_stretches_scaled, average_rate_run_scaled}
 use Rattle.yds_examples.proofs.Policies.{available_jobs as jobs, fine_slots as available, fine_scale as available_scale, fine_accepted as available_run}
 use Rattle.yds_energy.proofs.SpentScale.{spent_kept, all_hold_kept, first_failure_kept, units_kept}
@@ -47,7 +47,7 @@ abbrev planned : List WrittenSlot
 planned = slot 0 (of_whole 0) (of_whole 1) (of_whole 1) ∷ slot 1 (of_whole 1) (of_whole 2) (of_whole 1) ∷ slot 0 (of_whole 2) (of_whole 3) (of_whole 1) ∷ []
 
 plan_scale : IsScale 1 planned
-plan_scale = (scale_decided 1 planned).0 refl
+plan_scale = proved (is_scale 1 planned) refl
 
 abbrev level : Level
 level = record { work = 3; length = 3; pieces = record { from = 0; to = 3 } ∷ []; members = 0 ∷ 1 ∷ [] }
@@ -55,7 +55,7 @@ level = record { work = 3; length = 3; pieces = record { from = 0; to = 3 } ∷ 
 plan_served : (scale : ℕ) → IsScale scale planned → IsServedInStretches jobs scale (slots_at scale planned)
 plan_served =
     (least_scale_of planned (IsServedInStretches jobs) 1 plan_scale (λ scale is. one-dvd scale)
-    (λ k some. served_in_stretches_scaled jobs k 1 planned some plan_scale ((stretches_decided jobs 1 (slots_at 1 planned)).0 refl))).holds
+    (λ k some. served_in_stretches_scaled jobs k 1 planned some plan_scale (proved (served_in_stretches jobs 1 (slots_at 1 planned)) refl))).holds
 
 plan : IsPlan jobs planned (level ∷ [])
 plan = plan_by_test jobs planned (level ∷ []) (proper_by_test jobs planned (level ∷ []) (feasible_by_test jobs planned 1 refl refl) refl) plan_served refl
@@ -69,10 +69,10 @@ average =
     ∷ slot 0 (of_whole 2) (of_whole 3) (of_parts 4 6) ∷ []
 
 average_scale : IsScale 30 average
-average_scale = (scale_decided 30 average).0 refl
+average_scale = proved (is_scale 30 average) refl
 
 average_run_at : IsRunAt jobs 6 30 (average_rate jobs 6 30 (slots_at 30 average)) (slots_at 30 average)
-average_run_at = (run_decided jobs 6 30 (average_rate jobs 6 30 (slots_at 30 average)) (slots_at 30 average)).0 refl
+average_run_at = proved (run_at jobs 6 30 (average_rate jobs 6 30 (slots_at 30 average)) (slots_at 30 average)) refl
 
 -- Each of its scales is a multiple of 5 and of 6, so it is a run, and rounds nowhere.
 average_run : IsAverageRateRun jobs 6 0 average
@@ -183,20 +183,15 @@ with_a_gap = refl
 -- # Where the top point is too slow
 
 -- the test whether the top point holds a stretch, and each
-abbrev holds : List Point → ℕ → List WholeSlot → Piece → Bool
-holds points scale slots stretch = nat_le (work_in scale stretch slots) (top_of points * ((stretch.to - stretch.from) * scale))
-
-holds_decided : (points : List Point) (scale : ℕ) (slots : List WholeSlot) (stretch : Piece) →
-    Decides (holds points scale slots stretch) (HoldsStretch points scale slots stretch)
-holds_decided points scale slots stretch = le_decided (work_in scale stretch slots) (top_of points * ((stretch.to - stretch.from) * scale))
+abbrev holds : (points : List Point) (scale : ℕ) (slots : List WholeSlot) (stretch : Piece) → Test (HoldsStretch points scale slots stretch)
+holds points scale slots stretch = hlevel tests
 
 -- On the three points both policies spend.
 holds_all : (slots : List WrittenSlot) (spent : Spent) (scale : ℕ) → IsScale scale slots → IsSpent jobs points slots spent →
-    list_all (holds points scale (slots_at scale slots)) (stretches jobs) ≡ true → HoldsAll jobs points slots spent
+    (test_all (holds points scale (slots_at scale slots)) (stretches jobs)).passes ≡ true → HoldsAll jobs points slots spent
 holds_all slots spent scale is spends passed = record {
   holds = one_scale_of slots (λ scale whole. All (HoldsStretch points scale whole) (stretches jobs)) (all_hold_kept jobs points slots) scale is
-      ((all_decided (holds points scale (slots_at scale slots)) (HoldsStretch points scale (slots_at scale slots))
-      (holds_decided points scale (slots_at scale slots)) (stretches jobs)).0 passed);
+      (proved (test_all (holds points scale (slots_at scale slots)) (stretches jobs)) passed);
   is_spent = spends;
 }
 
@@ -216,8 +211,8 @@ three_stretches = refl
 
 -- a stretch that is the first at one scale is the first
 too_slow_at_one : (slots : List WrittenSlot) (scale units place : ℕ) → IsScale scale slots → place < 3 →
-    all_below (λ i. holds slow scale (slots_at scale slots) (stretch_at jobs i)) place ≡ true →
-    holds slow scale (slots_at scale slots) (stretch_at jobs place) ≡ false →
+    (test_each (λ i. holds slow scale (slots_at scale slots) (stretch_at jobs i)) place).passes ≡ true →
+    (holds slow scale (slots_at scale slots) (stretch_at jobs place)).passes ≡ false →
     units * scale ≡ 6 * work_in scale (stretch_at jobs place) (slots_at scale slots) →
     IsTooSlowFor jobs slow 6 slots units (stretch_at jobs place).from (stretch_at jobs place).to
 too_slow_at_one slots scale units place is within before fails same = record {
@@ -226,10 +221,8 @@ too_slow_at_one slots scale units place is within before fails same = record {
   first = one_scale_of slots (λ scale whole. IsFirstFailure 3 (λ i. HoldsStretch slow scale whole (stretch_at jobs i)) place)
       (first_failure_kept jobs slow slots 3 place) scale is (record {
         within = within;
-        before = (each_decided (λ i. holds slow scale (slots_at scale slots) (stretch_at jobs i)) (λ i. HoldsStretch slow scale (slots_at scale slots) (stretch_at jobs i))
-            (λ i. holds_decided slow scale (slots_at scale slots) (stretch_at jobs i)) place).0 before;
-        fails = not_from_Decides (holds slow scale (slots_at scale slots) (stretch_at jobs place))
-            (holds_decided slow scale (slots_at scale slots) (stretch_at jobs place)) fails;
+        before = proved (test_each (λ i. holds slow scale (slots_at scale slots) (stretch_at jobs i)) place) before;
+        fails = refuted (holds slow scale (slots_at scale slots) (stretch_at jobs place)) fails;
       });
   is_units = one_scale_of slots (λ scale whole. units * scale ≡ 6 * work_in scale (stretch_at jobs place) whole)
       (units_kept jobs slow slots 6 units (stretch_at jobs place)) scale is same;

@@ -9,8 +9,9 @@ use Rattle.yds_model.specs.Feasible.{IsFeasible}
 use Rattle.yds_model.specs.Level.{Level, no_level}
 use Rattle.yds_model.specs.Proper.{IsProper}
 use Rattle.yds_model.specs.Plan.{IsPlan}
-use Rattle.yds_examples.proofs.DecidedSchedules.{feasible_by_test}
-use Rattle.yds_examples.proofs.DecidedPlans.{is_slower, falling_decided, proper_by_test, served_by_test, plan_by_test}
+use Rattle.yds_examples.proofs.Tests.{refuted}
+use Rattle.yds_examples.proofs.TestedSchedules.{feasible_by_test}
+use Rattle.yds_examples.proofs.TestedPlans.{slower, proper_by_test, served_by_test, plan_by_test}
 
 -- x and y
 abbrev jobs : List Job
@@ -47,7 +48,7 @@ apart_proper = proper_by_test jobs slots apart feasible refl
 
 -- but no plan, since the second level isn't slower.
 apart_no_plan : IsPlan jobs slots apart → ⊥
-apart_no_plan plan = not_from_Decides (is_slower apart 1) (falling_decided apart 1) refl (plan.falling 1 (omega arith))
+apart_no_plan plan = refuted (slower apart 1) refl (plan.falling 1 (omega arith))
 
 -- One level of two pieces that touch: this is proper,
 abbrev touching : List Level

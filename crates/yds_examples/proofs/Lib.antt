@@ -1,12 +1,8 @@
 pub mod Tests
 pub mod TestedSchedules
 pub mod TestedPlans
-pub mod Decided
-pub mod DecidedSchedules
-pub mod DecidedPlans
-pub mod DecidedAdmission
-pub mod DecidedRounding
-pub mod DecidedVerdicts
+pub mod TestedVerdicts
+pub mod TestedRounding
 mod ReadingExamples
 pub mod ThreeJobs
 mod ThreeJobsChanged

@@ -24,9 +24,10 @@ use Rattle.yds_texts.specs.RoundText.{with_energy, HoldsLeastEnergy, too_slow_li
 use Rattle.yds_laws.proofs.Plans.{plans_have_the_same_levels}
 use Rattle.yds_energy.proofs.OneEnergy.{energy_is_one}
 use Rattle.yds_texts.proofs.Within.{read_is_within_limits}
-use Rattle.yds_examples.proofs.DecidedSchedules.{feasible_decided}
-use Rattle.yds_examples.proofs.DecidedPlans.{served_by_test, plan_by_test}
-use Rattle.yds_examples.proofs.DecidedRounding.{slow_enough_by_test}
+use Rattle.yds_examples.proofs.Tests.{proved}
+use Rattle.yds_examples.proofs.TestedSchedules.{feasible_at}
+use Rattle.yds_examples.proofs.TestedPlans.{served_by_test, plan_by_test}
+use Rattle.yds_examples.proofs.TestedRounding.{slow_enough, can_serve}
 use Rattle.yds_energy.proofs.LevelCosts.{cost_between}
 use Rattle.yds_energy.proofs.RoundedOnPoints.{rounded_is_feasible}
 use Rattle.yds_energy.proofs.RoundedCheapest.{rounded_is_cheapest}
@@ -100,7 +101,7 @@ unserved = (too_slow_is_exact.first jobs slow planned level_b (level_a ∷ []) p
 
 -- and at or below 3 one does.
 served : CanServe 3 jobs
-served = (too_slow_is_exact.none jobs enough planned levels plan).0 (slow_enough_by_test enough levels refl)
+served = (too_slow_is_exact.none jobs enough planned levels plan).0 (proved (slow_enough enough levels) refl)
 
 -- # The answer of `round`
 
@@ -212,13 +213,7 @@ light_slots = record { job = 0; from = 0; to = 1; work = 1 } ∷ record { job = 
 
 -- a processor that is nowhere faster than 2 serves them,
 light_served : CanServe 2 light_jobs
-light_served = record {
-  scale = 1;
-  positive = omega arith;
-  slots = light_slots;
-  feasible = (feasible_decided light_jobs 1 light_slots).0 refl;
-  within_top = All-from_recursion (IsWithinTop 2) light_slots (omega arith, (omega arith, (omega arith, tt)));
-}
+light_served = can_serve 2 light_jobs light_slots refl refl
 
 -- with the same points
 abbrev light_input : List ℕ

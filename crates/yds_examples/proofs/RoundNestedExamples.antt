@@ -13,10 +13,10 @@ use Rattle.yds_model.specs.Table.{Point, AreRising, hull_of}
 use Rattle.yds_model.specs.Event.{stretches, LiesWritten}
 use Rattle.yds_model.specs.Rounding.{SplitsStretch, RoundsStretches, IsEnergyOf, IsRounding}
 use Rattle.yds_energy.proofs.OneEnergy.{energy_is_one}
-use Rattle.yds_examples.proofs.Decided.{scale_decided}
-use Rattle.yds_examples.proofs.DecidedSchedules.{feasible_by_test}
-use Rattle.yds_examples.proofs.DecidedPlans.{proper_by_test}
-use Rattle.yds_examples.proofs.DecidedRounding.{energy_by_test, slow_enough_by_test, splits_by_test}
+use Rattle.yds_examples.proofs.Tests.{proved, refuted, test_eq, test_any}
+use Rattle.yds_examples.proofs.TestedSchedules.{is_scale, feasible_by_test}
+use Rattle.yds_examples.proofs.TestedPlans.{proper_by_test}
+use Rattle.yds_examples.proofs.TestedRounding.{energy_by_test, slow_enough, splits_by_test}
 
 -- a and b
 abbrev pub jobs : List Job
@@ -114,12 +114,12 @@ rounds = (
 
 -- the energy is 25: 3 + 3 for a in each of its stretches, 10 + 3 for b
 pub energy : IsEnergyOf jobs points written (of_whole 25)
-energy = energy_by_test jobs points (2 ∷ 1 ∷ 3 ∷ 2 ∷ 2 ∷ 1 ∷ []) written (of_whole 25) 1 refl refl
+energy = energy_by_test jobs points (2 ∷ 1 ∷ 3 ∷ 2 ∷ 2 ∷ 1 ∷ []) written (of_whole 25) 1 refl (omega arith) refl refl
 
 -- So this is the rounding of the plan.
 pub rounding : IsRounding jobs points planned levels written (of_whole 25)
 rounding = record {
-  fast_enough = slow_enough_by_test points levels refl;
+  fast_enough = proved (slow_enough points levels) refl;
   rounds = rounds;
   few_slots = omega arith;
   energy_of = energy;
@@ -144,14 +144,10 @@ too_fast is = is.fast_enough 0 level_b (omega arith) (omega arith)
 
 -- The plan's slots can't stay: no point does 5 units of work in 4 of time,
 at_no_point : (point : Point) → Contains points point → 5 ≡ point.speed * (4 - 0) → ⊥
-at_no_point point (zero, within, is) at = absurd (omega (arith, at, ap (λ (x : Point). x.speed) is))
-at_no_point point (suc zero, within, is) at = absurd (omega (arith, at, ap (λ (x : Point). x.speed) is))
-at_no_point point (suc (suc zero), within, is) at = absurd (omega (arith, at, ap (λ (x : Point). x.speed) is))
-at_no_point point (suc (suc (suc zero)), within, is) at = absurd (omega (arith, at, ap (λ (x : Point). x.speed) is))
-at_no_point point (suc (suc (suc (suc place))), within, is) at = absurd (omega (arith, within))
+at_no_point point has at = refuted (test_any (λ (point : Point). test_eq 5 (point.speed * (4 - 0))) points) refl (has.0, point, has.1, has.2, at)
 
 -- so they have no energy on the points
 no_energy : (amount : Fraction) → IsEnergyOf jobs points planned amount → ⊥
 no_energy amount is =
-    let spends = (is.at_scales.holds 1 ((scale_decided 1 planned).0 refl)).1.1 in
+    let spends = (is.at_scales.holds 1 (proved (is_scale 1 planned) refl)).1.1 in
     at_no_point spends.0 spends.2 spends.3

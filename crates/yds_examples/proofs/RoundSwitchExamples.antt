@@ -18,10 +18,10 @@ use Rattle.yds_model.specs.Table.{Point, point_at, hull_of}
 use Rattle.yds_model.specs.Event.{stretches, LiesWritten}
 use Rattle.yds_model.specs.Rounding.{HasPointSpeed, AreNeighbours, RunsAtPoint, HasSplitDenominators, IsSplitAt, SplitsStretch, RoundsStretches, IsEnergyOf, IsRounding}
 use Rattle.yds_model.proofs.Lists.{count-cons}
-use Rattle.yds_examples.proofs.Decided.{eq_decided, any_decided, is_scale, scale_decided}
-use Rattle.yds_examples.proofs.DecidedSchedules.{feasible_by_test}
-use Rattle.yds_examples.proofs.DecidedPlans.{proper_by_test}
-use Rattle.yds_examples.proofs.DecidedRounding.{energy_by_test, slow_enough_by_test, has_split_denominators, split_denominators_decided, splits_by_test}
+use Rattle.yds_examples.proofs.Tests.{proved, refuted, test_eq, test_any}
+use Rattle.yds_examples.proofs.TestedSchedules.{is_scale, feasible_by_test}
+use Rattle.yds_examples.proofs.TestedPlans.{proper_by_test}
+use Rattle.yds_examples.proofs.TestedRounding.{energy_by_test, slow_enough, split_denominators, splits_by_test}
 
 -- a and b
 abbrev jobs : List Job
@@ -99,12 +99,12 @@ rounds = (
 
 -- 3/2 for a and 5/2 for b
 energy : IsEnergyOf jobs points written (of_whole 4)
-energy = energy_by_test jobs points (2 ∷ 1 ∷ []) written (of_whole 4) 12 refl refl
+energy = energy_by_test jobs points (2 ∷ 1 ∷ []) written (of_whole 4) 12 refl (omega arith) refl refl
 
 -- So this is the rounding of the plan.
 rounding : IsRounding jobs points planned (level ∷ []) written (of_whole 4)
 rounding = record {
-  fast_enough = slow_enough_by_test points (level ∷ []) refl;
+  fast_enough = proved (slow_enough points (level ∷ [])) refl;
   rounds = rounds;
   few_slots = omega arith;
   energy_of = energy;
@@ -115,14 +115,11 @@ rounding = record {
 
 -- the switch written as 1/2 has no denominator of the split
 half_refused : HasSplitDenominators level 2 4 (slot 0 (of_whole 0) (part 0 1 2) 2) → ⊥
-half_refused =
-    not_from_Decides (has_split_denominators level 2 4 (slot 0 (of_whole 0) (part 0 1 2) 2)) (split_denominators_decided level 2 4 (slot 0 (of_whole 0) (part 0 1 2) 2)) refl
+half_refused = refuted (split_denominators level 2 4 (slot 0 (of_whole 0) (part 0 1 2) 2)) refl
 
 -- the level has no point's speed
 at_no_point : Any (HasPointSpeed level) (hull_of points) → ⊥
-at_no_point =
-    not_from_Decides (list_any (λ point. level.work == point.speed * level.length) (hull_of points))
-    (any_decided (λ (point : Point). level.work == point.speed * level.length) (HasPointSpeed level) (λ point. eq_decided level.work (point.speed * level.length)) (hull_of points)) refl
+at_no_point = refuted (test_any (λ (point : Point). test_eq level.work (point.speed * level.length)) (hull_of points)) refl
 
 -- so in the one stretch a rounding is a split
 is_split : (slots : List WrittenSlot) → RoundsStretches (hull_of points) (level ∷ []) (stretches jobs) planned slots → SplitsStretch (hull_of points) level stretch planned slots
@@ -138,9 +135,9 @@ is_split slots (here, slot ∷ later, made, made_later, is_here, is_made, lies, 
 is_split slots (here, [], made, slot ∷ made_later, is_here, is_made, lies, kind, rest) = absurd (let none = rest.1 in cc)
 
 -- 84 is a scale of the slots of a split, where it is one of the plan's and the written ones
-scale_of_split : (slots fast slow : List WrittenSlot) → is_scale 84 (planned ++ slots) ≡ true → slots ≡ fast ++ slow → IsScale 84 (planned ++ fast ++ slow)
+scale_of_split : (slots fast slow : List WrittenSlot) → (is_scale 84 (planned ++ slots)).passes ≡ true → slots ≡ fast ++ slow → IsScale 84 (planned ++ fast ++ slow)
 scale_of_split slots fast slow is parts =
-    subst (IsScale 84) (ap (λ written. planned ++ written) parts ∙ sym (append_assoc planned fast slow)) ((scale_decided 84 (planned ++ slots)).0 is)
+    subst (IsScale 84) (ap (λ written. planned ++ written) parts ∙ sym (append_assoc planned fast slow)) (proved (is_scale 84 (planned ++ slots)) is)
 
 -- some time passes at the faster point, since the level is faster than the slower one
 some_time : (time slower gap : ℕ) → slower * 3 < 7 → time * (3 * gap) ≡ (7 - slower * 3) * ((3 - 0) * 84) → 0 ≡ 0 + time → ⊥
@@ -158,7 +155,7 @@ slower_first = slot 1 (of_whole 0) (part 2 3 6) 5 ∷ slot 0 (part 2 6 12) (of_w
 
 -- this serves both jobs too, at the same energy,
 slower_feasible : IsFeasible jobs slower_first × IsEnergyOf jobs points slower_first (of_whole 4)
-slower_feasible = (feasible_by_test jobs slower_first 12 refl refl, energy_by_test jobs points (1 ∷ 2 ∷ []) slower_first (of_whole 4) 12 refl refl)
+slower_feasible = (feasible_by_test jobs slower_first 12 refl refl, energy_by_test jobs points (1 ∷ 2 ∷ []) slower_first (of_whole 4) 12 refl (omega arith) refl refl)
 
 -- but what comes first has the speed 2, which isn't that of the faster point
 faster_comes_first : (fast slow : List WrittenSlot) (low high : Point) → low.speed * 3 < 7 → 7 < high.speed * 3 → slower_first ≡ fast ++ slow →
@@ -181,7 +178,7 @@ twice = slot 0 (of_whole 0) (part 0 3 12) 1 ∷ slot 0 (part 0 3 12) (part 0 6 1
 
 -- this too serves both jobs at the same energy,
 twice_feasible : IsFeasible jobs twice × IsEnergyOf jobs points twice (of_whole 4)
-twice_feasible = (feasible_by_test jobs twice 12 refl refl, energy_by_test jobs points (2 ∷ 2 ∷ 1 ∷ []) twice (of_whole 4) 12 refl refl)
+twice_feasible = (feasible_by_test jobs twice 12 refl refl, energy_by_test jobs points (2 ∷ 2 ∷ 1 ∷ []) twice (of_whole 4) 12 refl (omega arith) refl refl)
 
 -- between the points 2 and 4 a quarter of a unit of time at the faster one is too little
 too_short : (low high : Point) (around : AreNeighbours (hull_of points) level low high) (time : ℕ) → 84 ≡ high.speed * 21 → 21 ≡ time →

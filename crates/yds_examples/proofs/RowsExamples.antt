@@ -13,13 +13,14 @@ use Rattle.yds_model.specs.Text.{line}
 use Rattle.yds_model.specs.Document.{Document, no_document}
 use Rattle.yds_model.specs.Fields.{Fault}
 use Rattle.yds_model.specs.Reading.{reading}
-use Rattle.yds_model.specs.Audit.{Verdict, Feasible, Backward, Overlap, Early, Late, WrongWork}
-use Rattle.yds_model.specs.Judgement.{Judgement, Accepted, Slots, Pieces, Members, Sums, Order, Window, Speed}
+use Rattle.yds_model.specs.Audit.{Verdict, Feasible, Backward, Overlap, Early, Late, WrongWork, IsVerdict}
+use Rattle.yds_model.specs.Judgement.{Judgement, Accepted, Slots, Pieces, Members, Sums, Order, Window, Speed, IsJudgement}
 use Rattle.yds_model.specs.AuditAnswer.{verdict_words, verdict_status, judgement_words, judgement_status}
 use Rattle.yds_model.specs.Request.{Question, AskAudit, AskCheck, usage_line}
 use Rattle.yds_model.specs.Answer.{AnswersReading, AnswersQuestion, UnlessTooLong, is_too_long, Answers}
 use Rattle.yds_laws.proofs.AnsweredOnce.{audit_and_check_answer_once}
-use Rattle.yds_examples.proofs.DecidedVerdicts.{is_verdict, verdict_by_test, is_judgement, judgement_by_test}
+use Rattle.yds_examples.proofs.Tests.{Test, tests, proved, test_numbers}
+use Rattle.yds_examples.proofs.TestedVerdicts.{is_verdict, is_judgement}
 
 -- a row: words, an input, and the text and the status that answer them
 record Row (words : List (List ℕ)) (input text : List ℕ) (status : Status) : Type 0 where
@@ -61,45 +62,29 @@ answers_input question input text status passed answers =
     answers_short question (is_too_long input) input text status parts.0 (answers_read question (reading input) text status parts.1 answers)
 
 -- the verdict is so, and the text is its line
-abbrev is_audit : List ℕ → Document → List ℕ → Verdict → Bool
-is_audit input document text verdict =
-    is_short_and_read input && (is_verdict document.jobs None document.slots verdict && bytes_eq text (line (verdict_words document verdict)))
+abbrev is_audit : (document : Document) (text : List ℕ) (verdict : Verdict) →
+    Test (IsVerdict document.jobs None document.slots verdict × (text ≡ line (verdict_words document verdict)))
+is_audit document text verdict = hlevel (tests, is_verdict)
 
 -- then `audit` answers so
-audited : (input text : List ℕ) (verdict : Verdict) → is_audit input (read_of (reading input)) text verdict ≡ true →
+audited : (input text : List ℕ) (verdict : Verdict) → is_short_and_read input ≡ true → (is_audit (read_of (reading input)) text verdict).passes ≡ true →
     Row (codes "audit" ∷ []) input text (verdict_status verdict)
-audited input text verdict passed =
-    let document : Document = read_of (reading input) in
-    let parts = and_parts _ _ passed in
-    let told = and_parts _ _ parts.1 in
-    record {
-      answers = answers_input AskAudit input text (verdict_status verdict) parts.0 record {
-        verdict = verdict;
-        is_verdict = verdict_by_test document.jobs None document.slots verdict told.0;
-        said = (bytes_eq-Decides text (line (verdict_words document verdict))).0 told.1;
-        ended = refl;
-      };
-    }
+audited input text verdict read passed =
+    let told = proved (is_audit (read_of (reading input)) text verdict) passed in
+    record { answers = answers_input AskAudit input text (verdict_status verdict) read record { verdict = verdict; is_verdict = told.0; said = told.1; ended = refl } }
 
 -- the judgement is so, and the text is its line
-abbrev is_check : List ℕ → Document → List ℕ → Judgement → Bool
-is_check input document text judgement =
-    is_short_and_read input && (is_judgement document.jobs document.slots document.levels judgement && bytes_eq text (line (judgement_words document judgement)))
+abbrev is_check : (document : Document) (text : List ℕ) (judgement : Judgement) →
+    Test (IsJudgement document.jobs document.slots document.levels judgement × (text ≡ line (judgement_words document judgement)))
+is_check document text judgement = hlevel (tests, is_judgement)
 
 -- then `check` answers so
-checked : (input text : List ℕ) (judgement : Judgement) → is_check input (read_of (reading input)) text judgement ≡ true →
+checked : (input text : List ℕ) (judgement : Judgement) → is_short_and_read input ≡ true → (is_check (read_of (reading input)) text judgement).passes ≡ true →
     Row (codes "check" ∷ []) input text (judgement_status judgement)
-checked input text judgement passed =
-    let document : Document = read_of (reading input) in
-    let parts = and_parts _ _ passed in
-    let told = and_parts _ _ parts.1 in
+checked input text judgement read passed =
+    let told = proved (is_check (read_of (reading input)) text judgement) passed in
     record {
-      answers = answers_input AskCheck input text (judgement_status judgement) parts.0 record {
-        judgement = judgement;
-        is_judgement = judgement_by_test document.jobs document.slots document.levels judgement told.0;
-        said = (bytes_eq-Decides text (line (judgement_words document judgement))).0 told.1;
-        ended = refl;
-      };
+      answers = answers_input AskCheck input text (judgement_status judgement) read record { judgement = judgement; is_judgement = told.0; said = told.1; ended = refl };
     }
 
 -- the two statuses differ
@@ -110,12 +95,12 @@ done_not_no same = absurd cc
 
 -- slots that give each job its work
 is_feasible : Row (codes "audit" ∷ []) (codes "job a 0 4 2\nslot a 1 3 2\n") (codes "feasible\n") statuses.Done
-is_feasible = audited _ _ Feasible refl
+is_feasible = audited _ _ Feasible refl refl
 
 -- a slot that takes no time
 backward : Row (codes "audit" ∷ []) (codes "job a 0 4 2\nslot a 2 2 2\n") (codes "backward slot 1 a 2 2\n") statuses.No
 unfolding digits
-backward = audited _ _ (Backward 0) refl
+backward = audited _ _ (Backward 0) refl refl
 
 -- and no other answer
 backward_only : Row (codes "audit" ∷ []) (codes "job a 0 4 2\nslot a 2 2 2\n") (codes "feasible\n") statuses.Done → ⊥
@@ -126,22 +111,22 @@ backward_only row =
 -- a slot that begins before the one before it has ended
 overlap : Row (codes "audit" ∷ []) (codes "job a 0 4 2\njob b 0 4 2\nslot a 0 2 2\nslot b 1 3 2\n") (codes "overlap slot 2 b 1 previous 2\n") statuses.No
 unfolding digits
-overlap = audited _ _ (Overlap 1) refl
+overlap = audited _ _ (Overlap 1) refl refl
 
 -- before its job's release
 early : Row (codes "audit" ∷ []) (codes "job a 1 4 2\nslot a 0 2 2\n") (codes "early slot 1 a 0 release 1\n") statuses.No
 unfolding digits
-early = audited _ _ (Early 0) refl
+early = audited _ _ (Early 0) refl refl
 
 -- after its deadline
 late : Row (codes "audit" ∷ []) (codes "job a 0 4 2\nslot a 3 5 2\n") (codes "late slot 1 a 5 deadline 4\n") statuses.No
 unfolding digits
-late = audited _ _ (Late 0) refl
+late = audited _ _ (Late 0) refl refl
 
 -- too little work for one of two jobs
 one_short : Row (codes "audit" ∷ []) (codes "job a 0 10 10\njob b 4 6 6\nslot a 0 4 5\nslot b 4 6 5\nslot a 6 10 5\n") (codes "work b given 5 wanted 6\n") statuses.No
 unfolding digits
-one_short = audited _ _ (WrongWork 1 (of_whole 5) 6) refl
+one_short = audited _ _ (WrongWork 1 (of_whole 5) 6) refl refl
 
 -- the same told of the other job is no answer
 other_short : Row (codes "audit" ∷ []) (codes "job a 0 10 10\njob b 4 6 6\nslot a 0 4 5\nslot b 4 6 5\nslot a 6 10 5\n") (codes "work a given 5 wanted 6\n") statuses.No → ⊥
@@ -153,11 +138,11 @@ other_short row =
 -- a third of a unit of work too little
 too_little : Row (codes "audit" ∷ []) (codes "job a 0 4 4\nslot a 0 4 3+2/3\n") (codes "work a given 3+2/3 wanted 4\n") statuses.No
 unfolding digits
-too_little = audited _ _ (WrongWork 0 (record { whole = 3; num = 2; den = 3 }) 4) refl
+too_little = audited _ _ (WrongWork 0 (record { whole = 3; num = 2; den = 3 }) 4) refl refl
 
 -- no jobs and no slots
 nothing : Row (codes "audit" ∷ []) (codes "") (codes "feasible\n") statuses.Done
-nothing = audited _ _ Feasible refl
+nothing = audited _ _ Feasible refl refl
 
 -- # Judgements
 
@@ -165,44 +150,44 @@ nothing = audited _ _ Feasible refl
 three_levels : Row (codes "check" ∷ [])
     (codes "job a 0 12 4\njob b 2 10 8\njob c 4 6 6\nslot a 0 2 2\nslot b 2 4 2+2/3\nslot c 4 6 6\nslot b 6 10 5+1/3\nslot a 10 12 2\nlevel 6 2\npiece 4 6\nmember c\nlevel 8 6\npiece 2 4\npiece 6 10\nmember b\nlevel 4 4\npiece 0 2\npiece 10 12\nmember a\n")
     (codes "accepted\n") statuses.Done
-three_levels = checked _ _ Accepted refl
+three_levels = checked _ _ Accepted refl refl
 
 -- slots that aren't feasible
 slots_fail : Row (codes "check" ∷ []) (codes "job a 1 4 2\nslot a 0 2 2\nlevel 2 3\npiece 1 4\nmember a\n") (codes "K1 early slot 1 a 0 release 1\n") statuses.No
 unfolding digits
-slots_fail = checked _ _ (Slots (Early 0)) refl
+slots_fail = checked _ _ (Slots (Early 0)) refl refl
 
 -- a level without a piece
 no_piece : Row (codes "check" ∷ []) (codes "job a 0 4 4\nslot a 0 4 4\nlevel 4 4\nmember a\n") (codes "K2 level 1\n") statuses.No
 unfolding digits
-no_piece = checked _ _ (Pieces 0) refl
+no_piece = checked _ _ (Pieces 0) refl refl
 
 -- a job that is a member twice
 member_twice : Row (codes "check" ∷ []) (codes "job a 0 4 4\nslot a 0 4 4\nlevel 4 4\npiece 0 4\nmember a\nmember a\n") (codes "K3 job a\n") statuses.No
-member_twice = checked _ _ (Members 0) refl
+member_twice = checked _ _ (Members 0) refl refl
 
 -- each job a member of the other's level
 members_exchanged : Row (codes "check" ∷ [])
     (codes "job a 0 10 10\njob b 4 6 6\nslot a 0 4 5\nslot b 4 6 6\nslot a 6 10 5\nlevel 6 2\npiece 4 6\nmember a\nlevel 10 8\npiece 0 4\npiece 6 10\nmember b\n")
     (codes "K4 level 1\n") statuses.No
 unfolding digits
-members_exchanged = checked _ _ (Sums 0) refl
+members_exchanged = checked _ _ (Sums 0) refl refl
 
 -- the slower level first
 slower_first : Row (codes "check" ∷ [])
     (codes "job a 0 10 10\njob b 4 6 6\nslot a 0 4 5\nslot b 4 6 6\nslot a 6 10 5\nlevel 10 8\npiece 0 4\npiece 6 10\nmember a\nlevel 6 2\npiece 4 6\nmember b\n")
     (codes "K5 level 2\n") statuses.No
 unfolding digits
-slower_first = checked _ _ (Order 1) refl
+slower_first = checked _ _ (Order 1) refl refl
 
 -- a window that isn't covered
 not_covered : Row (codes "check" ∷ []) (codes "job a 0 4 4\nslot a 0 2 4\nlevel 4 2\npiece 0 2\nmember a\n") (codes "K6 job a\n") statuses.No
-not_covered = checked _ _ (Window 0) refl
+not_covered = checked _ _ (Window 0) refl refl
 
 -- a slot at another speed than its level
 other_speed : Row (codes "check" ∷ []) (codes "job a 0 4 4\nslot a 0 2 3\nslot a 2 4 1\nlevel 4 4\npiece 0 4\nmember a\n") (codes "K7 slot 1\n") statuses.No
 unfolding digits
-other_speed = checked _ _ (Speed 0) refl
+other_speed = checked _ _ (Speed 0) refl refl
 
 -- and no other judgement
 speed_only : Row (codes "check" ∷ []) (codes "job a 0 4 4\nslot a 0 2 3\nslot a 2 4 1\nlevel 4 4\npiece 0 4\nmember a\n") (codes "accepted\n") statuses.Done → ⊥
@@ -213,7 +198,7 @@ speed_only row =
 
 -- a job without work that is a member of no level
 no_work : Row (codes "check" ∷ []) (codes "job a 0 4 4\njob b 2 6 0\nslot a 0 4 4\nlevel 4 4\npiece 0 4\nmember a\n") (codes "accepted\n") statuses.Done
-no_work = checked _ _ Accepted refl
+no_work = checked _ _ Accepted refl refl
 
 -- # Refusals
 

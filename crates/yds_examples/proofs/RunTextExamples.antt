@@ -12,7 +12,7 @@ use Rattle.yds_model.specs.OptimalAvailable.{due_units, IsOptimalAvailableRun}
 use Rattle.yds_laws.specs.RunLaws.{IsExactAverageRate, IsExactOptimalAvailable}
 use Rattle.yds_laws.proofs.ExactRuns.{optimal_available_is_exact}
 use Rattle.yds_texts.specs.RunText.{with_run, HoldsAverageRate, HoldsOptimalAvailable}
-use Rattle.yds_examples.proofs.DecidedSchedules.{feasible_by_test}
+use Rattle.yds_examples.proofs.TestedSchedules.{feasible_by_test}
 use Rattle.yds_examples.proofs.Policies.{rate_jobs, rate_slots, rate_thirds, rate_accepted, rate_refused, capped, whole_slots, whole_accepted, whole_terms, available_jobs, available_slots, available_whole, available_refused, fine_slots, fine_accepted}
 
 -- # Average Rate

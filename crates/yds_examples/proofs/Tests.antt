@@ -4,6 +4,8 @@ use Rattle.std.specs.Prelude.{not}
 use Rattle.std.specs.Bool.{Decides}
 use Rattle.std.specs.Int.{◌∣◌}
 use Rattle.std.specs.List.{All, Any, Contains, list_all, list_any}
+use Rattle.std.specs.Str.{bytes_eq}
+use Rattle.std.proofs.lemmas.Slice.Eq.{bytes_eq-Decides}
 use Rattle.std.proofs.lemmas.Bool.{leb-true, le-leb, true≢false}
 use Rattle.std.proofs.lemmas.Bool.Decides.{not_from_Decides, Decides-like, Decides-and, Decides-or, Decides-by_and, Decides-below_and}
 use Rattle.std.proofs.lemmas.Nat.Gcd.{dvd_of_mod-eq-zero, mod-eq-zero_of_dvd}
@@ -149,6 +151,10 @@ test_contains numbers number =
     test_like (λ some. (some.0, some.2, subst (λ (n : ℕ). get_or numbers some.0 n ≡ n) some.4 some.3)) (λ found. (found.0, number, found.1, found.2, refl))
     (test_any (λ other. test_eq other number) numbers)
 
+-- the same numbers in the same order
+abbrev pub test_numbers : (xs ys : List ℕ) → Test (xs ≡ ys)
+test_numbers xs ys = record { passes = bytes_eq xs ys; decides = bytes_eq-Decides xs ys }
+
 -- fractions of the same parts are one
 pub one_fraction : (x y : Fraction) → (x.whole ≡ y.whole) × (x.num ≡ y.num) × (x.den ≡ y.den) → x ≡ y
 one_fraction x y same = λ i. record { whole = same.0 i; num = same.1 i; den = same.2 i }
@@ -161,6 +167,6 @@ test_fraction x y =
 
 -- the tests of which `hlevel` makes others
 pub ruleset tests = (
-  test_always, test_never, test_le, test_eq, test_divides, test_empty, test_fraction, test_contains, test_record, test_both, test_either, test_implied,
+  test_always, test_never, test_le, test_eq, test_divides, test_empty, test_numbers, test_fraction, test_contains, test_record, test_both, test_either, test_implied,
   test_each, test_before, test_between, test_grid, test_ordered, test_all, test_any,
 )
