@@ -2,10 +2,7 @@
 -- are worth is tried on the plan of three jobs.
 use Rattle.std.proofs.Common.{◌≡◌, ℕ, List, Some, [], ◌∷◌, None, Ok, refl, sym, subst}
 use Rattle.std.specs.Prelude.{codes}
-use Rattle.std.specs.Bool.{Decides}
-use Rattle.std.specs.List.{All, list_all}
 use Rattle.std.proofs.lemmas.Bool.{true≢false}
-use Rattle.std.proofs.lemmas.Bool.Decides.{not_from_Decides}
 use Rattle.std.proofs.lemmas.Slice.Eq.{bytes_eq-Decides}
 use Rattle.yds_model.specs.declared.status.Status.{Status}
 use Rattle.yds_model.specs.declared.status.Status.TheVariants.{Done, No}
@@ -17,7 +14,6 @@ use Rattle.yds_model.specs.Document.{Document}
 use Rattle.yds_model.specs.Reading.{reading}
 use Rattle.yds_texts.specs.JudgedText.{TellsWhether, IsServed, IsServedOnPoints, HoldsVerdict, HoldsVerdictOnPoints}
 use Rattle.yds_texts.proofs.JudgedText.{tells_yes, tells_no}
-use Rattle.yds_model.specs.Audit.{IsOnTable}
 use Rattle.yds_examples.proofs.Tests.{proved, refuted, test_all}
 use Rattle.yds_examples.proofs.TestedVerdicts.{on_table}
 use Rattle.yds_examples.proofs.TestedSchedules.{feasible_by_test, not_feasible_by_test}

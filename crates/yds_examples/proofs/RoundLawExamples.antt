@@ -4,7 +4,6 @@ use Rattle.std.specs.Prelude.{codes, MatchOption}
 use Rattle.std.specs.Fmt.{digits}
 use Rattle.std.proofs.lemmas.Bool.{true≢false}
 use Rattle.std.proofs.lemmas.Slice.Eq.{bytes_eq-Decides}
-use Rattle.std.proofs.lemmas.List.Elements.{All-from_recursion}
 use Rattle.std.proofs.Math.Nat.{one-dvd}
 use Rattle.yds_model.specs.declared.status.Status.TheVariants.{Done, No}
 use Rattle.yds_model.specs.Job.{Job}
@@ -13,7 +12,7 @@ use Rattle.yds_model.specs.Slot.{WholeSlot}
 use Rattle.yds_model.specs.Plan.{IsPlan}
 use Rattle.yds_model.specs.Table.{Point, IsTable, hull_of}
 use Rattle.yds_model.specs.Rounding.{top_of, IsEnergyOf}
-use Rattle.yds_model.specs.Admission.{IsWithinTop, CanServe}
+use Rattle.yds_model.specs.Admission.{CanServe}
 use Rattle.yds_model.specs.Document.{Document}
 use Rattle.yds_model.specs.Text.{canonical_text}
 use Rattle.yds_model.specs.Reading.{reading}
@@ -25,7 +24,6 @@ use Rattle.yds_laws.proofs.Plans.{plans_have_the_same_levels}
 use Rattle.yds_energy.proofs.OneEnergy.{energy_is_one}
 use Rattle.yds_texts.proofs.Within.{read_is_within_limits}
 use Rattle.yds_examples.proofs.Tests.{proved}
-use Rattle.yds_examples.proofs.TestedSchedules.{feasible_at}
 use Rattle.yds_examples.proofs.TestedPlans.{served_by_test, plan_by_test}
 use Rattle.yds_examples.proofs.TestedRounding.{slow_enough, can_serve}
 use Rattle.yds_energy.proofs.LevelCosts.{cost_between}

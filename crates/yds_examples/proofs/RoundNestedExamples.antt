@@ -1,6 +1,6 @@
 -- Rounding, tried on the plan of two nested jobs: a from 0 to 10 with work 10, b from 4 to 6 with work 6, on the points of the speeds
 -- 0, 1, 2 and 4, whose powers are 0, 1, 3 and 10. Each level's speed lies between two points, and all numbers are whole.
-use Rattle.std.proofs.Common.{◌≡◌, ℕ, zero, suc, ◌-◌, ◌*◌, List, [], ◌∷◌, refl, ap, arith, inr}
+use Rattle.std.proofs.Common.{◌≡◌, ℕ, ◌-◌, ◌*◌, List, [], ◌∷◌, refl, arith, inr}
 use Rattle.std.specs.List.{Contains}
 use Rattle.std.proofs.lemmas.List.Elements.{All-from_recursion}
 use Rattle.yds_model.specs.Job.{Job}

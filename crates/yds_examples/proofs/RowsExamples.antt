@@ -1,7 +1,6 @@
 -- Whole answers by the one relation of words, input, text and status: the worked rows of `audit` and `check`, and refusals.
 use Rattle.std.proofs.Common.{◌≡◌, ℕ, List, [], ◌∷◌, None, Result, Ok, Err, Bool, true, false, ◌&&◌, refl, sym}
 use Rattle.std.specs.Prelude.{codes, not}
-use Rattle.std.specs.Str.{bytes_eq}
 use Rattle.std.specs.Fmt.{digits}
 use Rattle.std.proofs.lemmas.Bool.{and_parts, true≢false}
 use Rattle.std.proofs.lemmas.Slice.Eq.{bytes_eq-Decides}
@@ -19,7 +18,7 @@ use Rattle.yds_model.specs.AuditAnswer.{verdict_words, verdict_status, judgement
 use Rattle.yds_model.specs.Request.{Question, AskAudit, AskCheck, usage_line}
 use Rattle.yds_model.specs.Answer.{AnswersReading, AnswersQuestion, UnlessTooLong, is_too_long, Answers}
 use Rattle.yds_laws.proofs.AnsweredOnce.{audit_and_check_answer_once}
-use Rattle.yds_examples.proofs.Tests.{Test, tests, proved, test_numbers}
+use Rattle.yds_examples.proofs.Tests.{Test, tests, proved}
 use Rattle.yds_examples.proofs.TestedVerdicts.{is_verdict, is_judgement}
 
 -- a row: words, an input, and the text and the status that answer them

@@ -14,11 +14,11 @@ use Rattle.yds_model.specs.Level.{Level}
 use Rattle.yds_model.specs.Table.{Point, no_point, point_at}
 use Rattle.yds_model.specs.Energy.{idle, SpendsAtPoints}
 use Rattle.yds_model.specs.Rounding.{IsTooFast, jobs_in_turn, RunsAtPoint, RunsOn, HasSplitDenominators, SplitsStretch, IsEnergyOf}
-use Rattle.yds_model.specs.Admission.{IsWithinTop, CanServe, lies_within, confined_work, IsOverfull, IsFirstOverfull}
+use Rattle.yds_model.specs.Admission.{IsWithinTop, CanServe, IsOverfull, IsFirstOverfull}
 use Rattle.yds_model.proofs.Lists.{counted_contains}
 use Rattle.yds_laws.proofs.Bound.{served_at_speed}
 use Rattle.yds_energy.proofs.RoundingScale.{one_scale_decides_energy, one_scale_decides_split}
-use Rattle.yds_examples.proofs.Tests.{Test, tests, proved, test_le, test_eq, test_like, test_each, test_all, test_any, test_implied}
+use Rattle.yds_examples.proofs.Tests.{Test, tests, proved, test_le, test_like, test_all}
 use Rattle.yds_examples.proofs.TestedSchedules.{is_scale, feasible_at}
 
 -- # Energy

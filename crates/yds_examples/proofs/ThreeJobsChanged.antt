@@ -2,7 +2,6 @@
 use Rattle.std.proofs.Common.{◌≡◌, ℕ, ◌*◌, List, [], ◌∷◌, ◌++◌, refl, arith}
 use Rattle.std.specs.Prelude.{pos, ◌≤ℤ◌}
 use Rattle.std.proofs.lemmas.Int.{ints}
-use Rattle.std.proofs.lemmas.Bool.Decides.{not_from_Decides}
 use Rattle.std.proofs.Math.Nat.{eq-zero_of_zero-dvd}
 use Rattle.yds_model.specs.Job.{job_at}
 use Rattle.yds_model.specs.Scale.{of_whole}
@@ -12,7 +11,7 @@ use Rattle.yds_model.specs.Excess.{excess, IsLeast}
 use Rattle.yds_model.specs.Piece.{IsConfined}
 use Rattle.yds_model.specs.Level.{Level}
 use Rattle.yds_model.specs.Explains.{Forces, Explains}
-use Rattle.yds_model.specs.Proper.{PiecesStand, StandsOnce, SumsAgree, IsNotFaster, IsProper}
+use Rattle.yds_model.specs.Proper.{IsNotFaster, IsProper}
 use Rattle.yds_model.specs.Plan.{IsPlan}
 use Rattle.yds_model.specs.Table.{Point, IsTable, IsConvex}
 use Rattle.yds_model.specs.Energy.{interpolated_energy}
@@ -22,7 +21,7 @@ use Rattle.yds_examples.proofs.Tests.{proved, refuted}
 use Rattle.yds_examples.proofs.TestedSchedules.{is_scale, feasible_by_test, not_feasible_by_test, served_in_stretches}
 use Rattle.yds_examples.proofs.TestedPlans.{pieces_stand, not_faster, window_covered, confined, written_speed, proper_by_test}
 use Rattle.yds_examples.proofs.TestedVerdicts.{is_judgement}
-use Rattle.yds_examples.proofs.ThreeJobs.{jobs, slot, third, slots, thirds, feasible_at_each, piece, level_a, level_b, level_c, levels, accepted}
+use Rattle.yds_examples.proofs.ThreeJobs.{jobs, slot, third, slots, thirds, feasible_at_each, piece, level_a, level_b, level_c, levels}
 
 -- # Slots
 

@@ -1,6 +1,6 @@
 -- What `IsSpent` says of slots that don't fill their stretch at one speed: a job from 0 to 2 of work 3 that does all its work from 0 to 1. It
 -- isn't what they take on the points.
-use Rattle.std.proofs.Common.{◌≡◌, ℕ, List, [], ◌∷◌, refl, arith}
+use Rattle.std.proofs.Common.{List, [], ◌∷◌, refl, arith}
 use Rattle.yds_model.specs.Job.{Job}
 use Rattle.yds_model.specs.Scale.{of_whole}
 use Rattle.yds_model.specs.Slot.{WrittenSlot, IsScale}
