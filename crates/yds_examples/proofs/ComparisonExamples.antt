@@ -24,9 +24,10 @@ use Rattle.yds_model.specs.Answer.{Answers}
 use Rattle.yds_model.proofs.Scale.{one_scale_of, least_scale_of}
 use Rattle.yds_model.proofs.Divisor.{multiple_is_least}
 use Rattle.yds_texts.specs.CompareText.{CostsNoLess}
-use Rattle.yds_examples.proofs.Tests.{Test, tests, proved, refuted, test_all, test_each}
+use Rattle.yds_examples.proofs.Tests.{Test, tests, proved, refuted, test_never, test_le, test_eq, test_implied, test_all, test_each}
 use Rattle.yds_examples.proofs.TestedSchedules.{is_scale, feasible_by_test, served_in_stretches, run_at}
-use Rattle.yds_examples.proofs.TestedPlans.{proper_by_test, plan_by_test}
+use Rattle.yds_examples.proofs.TestedPlans.{proper_by_test, served_by_test, plan_by_test}
+use Rattle.yds_examples.proofs.TestedRounding.{slow_enough}
 use Rattle.yds_energy.proofs.RunScale.{served_in_stretches_scaled, average_rate_run_scaled}
 use Rattle.yds_examples.proofs.Policies.{available_jobs as jobs, fine_slots as available, fine_scale as available_scale, fine_accepted as available_run}
 use Rattle.yds_energy.proofs.SpentScale.{spent_kept, all_hold_kept, first_failure_kept, units_kept}
@@ -51,12 +52,10 @@ abbrev level : Level
 level = record { work = 3; length = 3; pieces = record { from = 0; to = 3 } ∷ []; members = 0 ∷ 1 ∷ [] }
 
 plan_served : (scale : ℕ) → IsScale scale planned → IsServedInStretches jobs scale (slots_at scale planned)
-plan_served =
-    (least_scale_of planned (IsServedInStretches jobs) 1 plan_scale (λ scale is. one-dvd scale)
-    (λ k some. served_in_stretches_scaled jobs k 1 planned some plan_scale (proved (served_in_stretches jobs 1 (slots_at 1 planned)) refl))).holds
+plan_served = served_by_test jobs planned 1 refl (λ scale is. one-dvd scale) refl
 
 plan : IsPlan jobs planned (level ∷ [])
-plan = plan_by_test jobs planned (level ∷ []) (proper_by_test jobs planned (level ∷ []) (feasible_by_test jobs planned 1 refl refl) refl) plan_served refl
+plan = plan_by_test jobs planned (level ∷ []) (proper_by_test jobs planned (level ∷ []) refl refl refl) plan_served refl
 
 -- Average Rate serves 4, 10 and 4 sixths. (Optimal Available serves 4, 7 and 7, and is a run too.)
 abbrev average : List WrittenSlot
@@ -236,16 +235,12 @@ available_too_slow = too_slow_at_one available 42 7 1 available_scale (omega ari
 
 -- a stretch that begins at 0 is the first, which is held
 first_of_stretches : (place : ℕ) → place < 3 → (stretch_at jobs place).from ≡ 0 → (HoldsStretch slow 30 (slots_at 30 average) (stretch_at jobs place) → ⊥) → ⊥
-first_of_stretches zero within begins fails = fails (omega arith)
-first_of_stretches (suc zero) within begins fails = absurd (omega (arith, begins))
-first_of_stretches (suc (suc zero)) within begins fails = absurd (omega (arith, begins))
-first_of_stretches (suc (suc (suc place))) within begins fails = absurd (omega arith)
+first_of_stretches = proved (test_each (λ place. test_implied (test_eq (stretch_at jobs place).from 0)
+    (test_implied (test_implied (holds slow 30 (slots_at 30 average) (stretch_at jobs place)) test_never) test_never)) 3) refl
 
 -- one that begins at 2 comes after the second
 after_second : (place : ℕ) → place < 3 → (stretch_at jobs place).from ≡ 2 → 1 < place
-after_second zero within begins = absurd (omega (arith, begins))
-after_second (suc zero) within begins = absurd (omega (arith, begins))
-after_second (suc (suc place)) within begins = omega arith
+after_second = proved (test_each (λ place. test_implied (test_eq (stretch_at jobs place).from 2) (test_le 2 place)) 3) refl
 
 -- The stretch before holds 6 units and serves 4, so it isn't told, whatever units are,
 not_before : (units : ℕ) → IsSide jobs slow 6 average (TooSlowFor units 0 1) → ⊥
@@ -273,7 +268,7 @@ answer = inr (record {
   planned = planned;
   levels = level ∷ [];
   plan = plan;
-  fast_enough = All-from_recursion (λ one. IsTooFast points one → ⊥) (level ∷ []) ((λ fast. absurd (omega (arith, fast))), tt);
+  fast_enough = proved (slow_enough points (level ∷ [])) refl;
   plan_spent = planned_spent;
   plan_spends = plan_spends;
   average_slots = average;
@@ -305,7 +300,7 @@ too_slow = inr (record {
   planned = planned;
   levels = level ∷ [];
   plan = plan;
-  fast_enough = All-from_recursion (λ one. IsTooFast slow one → ⊥) (level ∷ []) ((λ fast. absurd (omega (arith, fast))), tt);
+  fast_enough = proved (slow_enough slow (level ∷ [])) refl;
   plan_spent = slow_spent;
   plan_spends = slow_spends;
   average_slots = average;

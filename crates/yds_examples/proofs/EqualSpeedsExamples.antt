@@ -33,7 +33,7 @@ together = record { work = 4; length = 4; pieces = record { from = 0; to = 4 } �
 -- by the laws of scale and of tests
 plan : IsPlan jobs slots together
 plan =
-    plan_by_test jobs slots together (proper_by_test jobs slots together feasible refl) (served_by_test jobs slots 1 refl (λ scale is. one-dvd scale) refl) refl
+    plan_by_test jobs slots together (proper_by_test jobs slots together refl refl refl) (served_by_test jobs slots 1 refl (λ scale is. one-dvd scale) refl) refl
 
 -- Each in a level of its own: this is proper,
 abbrev apart : List Level
@@ -43,7 +43,7 @@ apart =
 
 -- since its level may have the same speed
 apart_proper : IsProper jobs slots apart
-apart_proper = proper_by_test jobs slots apart feasible refl
+apart_proper = proper_by_test jobs slots apart refl refl refl
 
 -- but no plan, since the second level isn't slower.
 apart_no_plan : IsPlan jobs slots apart → ⊥
@@ -55,7 +55,7 @@ touching = record { work = 4; length = 4; pieces = record { from = 0; to = 2 } �
 
 -- since pieces may touch
 touching_proper : IsProper jobs slots touching
-touching_proper = proper_by_test jobs slots touching feasible refl
+touching_proper = proper_by_test jobs slots touching refl refl refl
 
 -- but no plan.
 touching_no_plan : IsPlan jobs slots touching → ⊥
@@ -67,7 +67,7 @@ turned = record { work = 4; length = 4; pieces = record { from = 0; to = 4 } ∷
 
 -- since members may come in any order
 turned_proper : IsProper jobs slots turned
-turned_proper = proper_by_test jobs slots turned feasible refl
+turned_proper = proper_by_test jobs slots turned refl refl refl
 
 -- but no plan.
 turned_no_plan : IsPlan jobs slots turned → ⊥

@@ -15,7 +15,7 @@ use Rattle.yds_model.specs.Reading.{reading}
 use Rattle.yds_texts.specs.JudgedText.{TellsWhether, IsServed, IsServedOnPoints, HoldsVerdict, HoldsVerdictOnPoints}
 use Rattle.yds_texts.proofs.JudgedText.{tells_yes, tells_no}
 use Rattle.yds_examples.proofs.Tests.{proved, refuted, test_all}
-use Rattle.yds_examples.proofs.TestedVerdicts.{on_table}
+use Rattle.yds_examples.proofs.TestedPlans.{on_table}
 use Rattle.yds_examples.proofs.TestedSchedules.{feasible_by_test, not_feasible_by_test}
 
 -- # What no answer may tell

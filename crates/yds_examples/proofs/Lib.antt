@@ -1,7 +1,6 @@
 pub mod Tests
 pub mod TestedSchedules
 pub mod TestedPlans
-pub mod TestedVerdicts
 pub mod TestedRounding
 mod ReadingExamples
 pub mod ThreeJobs

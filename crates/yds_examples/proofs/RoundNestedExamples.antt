@@ -16,7 +16,7 @@ use Rattle.yds_energy.proofs.OneEnergy.{energy_is_one}
 use Rattle.yds_examples.proofs.Tests.{proved, refuted, test_eq, test_any}
 use Rattle.yds_examples.proofs.TestedSchedules.{is_scale, feasible_by_test}
 use Rattle.yds_examples.proofs.TestedPlans.{proper_by_test}
-use Rattle.yds_examples.proofs.TestedRounding.{energy_by_test, slow_enough, splits_by_test}
+use Rattle.yds_examples.proofs.TestedRounding.{energy_by_test, slow_enough, splits_by_test, rounds_next}
 
 -- a and b
 abbrev pub jobs : List Job
@@ -56,7 +56,7 @@ levels = level_b ∷ level_a ∷ []
 
 -- the levels are proper for the plan's slots
 pub planned_proper : IsProper jobs planned levels
-planned_proper = proper_by_test jobs planned levels (feasible_by_test jobs planned 1 refl refl) refl
+planned_proper = proper_by_test jobs planned levels refl refl refl
 
 -- Rounded: a first at the speed 2 and then at 1, in both its stretches, and b first at 4 and then at 2
 abbrev pub written : List WrittenSlot
@@ -80,37 +80,11 @@ third_split = splits_by_test 2 1 1 1 (hull_of points) level_a (record { from = 6
 
 -- stretch by stretch
 rounds : RoundsStretches (hull_of points) levels (stretches jobs) planned written
-rounds = (
-  slot 0 0 4 5 ∷ [],
-  slot 1 4 6 6 ∷ slot 0 6 10 5 ∷ [],
-  slot 0 0 1 2 ∷ slot 0 1 4 3 ∷ [],
-  slot 1 4 5 4 ∷ slot 1 5 6 2 ∷ slot 0 6 7 2 ∷ slot 0 7 10 3 ∷ [],
-  refl,
-  refl,
-  All-from_recursion (λ slot. LiesWritten slot (record { from = 0; to = 4 })) (slot 0 0 4 5 ∷ []) (record { from = omega arith; to = omega arith }, tt),
-  inr (level_a, (1, omega arith, refl), All-from_recursion (λ (slot : WrittenSlot). Contains level_a.members slot.job) (slot 0 0 4 5 ∷ []) ((0, omega arith, refl), tt), inr first_split),
-  (
-    slot 1 4 6 6 ∷ [],
-    slot 0 6 10 5 ∷ [],
-    slot 1 4 5 4 ∷ slot 1 5 6 2 ∷ [],
-    slot 0 6 7 2 ∷ slot 0 7 10 3 ∷ [],
-    refl,
-    refl,
-    All-from_recursion (λ slot. LiesWritten slot (record { from = 4; to = 6 })) (slot 1 4 6 6 ∷ []) (record { from = omega arith; to = omega arith }, tt),
-    inr (level_b, (0, omega arith, refl), All-from_recursion (λ (slot : WrittenSlot). Contains level_b.members slot.job) (slot 1 4 6 6 ∷ []) ((0, omega arith, refl), tt), inr second_split),
-    (
-      slot 0 6 10 5 ∷ [],
-      [],
-      slot 0 6 7 2 ∷ slot 0 7 10 3 ∷ [],
-      [],
-      refl,
-      refl,
-      All-from_recursion (λ slot. LiesWritten slot (record { from = 6; to = 10 })) (slot 0 6 10 5 ∷ []) (record { from = omega arith; to = omega arith }, tt),
-      inr (level_a, (1, omega arith, refl), All-from_recursion (λ (slot : WrittenSlot). Contains level_a.members slot.job) (slot 0 6 10 5 ∷ []) ((0, omega arith, refl), tt), inr third_split),
-      (refl, refl),
-    ),
-  ),
-)
+rounds =
+    rounds_next levels (record { from = 4; to = 6 } ∷ record { from = 6; to = 10 } ∷ []) (slot 1 4 6 6 ∷ slot 0 6 10 5 ∷ [])
+    (slot 1 4 5 4 ∷ slot 1 5 6 2 ∷ slot 0 6 7 2 ∷ slot 0 7 10 3 ∷ []) (1, omega arith, refl) refl first_split
+    (rounds_next levels (record { from = 6; to = 10 } ∷ []) (slot 0 6 10 5 ∷ []) (slot 0 6 7 2 ∷ slot 0 7 10 3 ∷ []) (0, omega arith, refl) refl second_split
+    (rounds_next levels [] [] [] (1, omega arith, refl) refl third_split (refl, refl)))
 
 -- the energy is 25: 3 + 3 for a in each of its stretches, 10 + 3 for b
 pub energy : IsEnergyOf jobs points written (of_whole 25)

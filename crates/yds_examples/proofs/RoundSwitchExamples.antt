@@ -20,7 +20,7 @@ use Rattle.yds_model.proofs.Lists.{count-cons}
 use Rattle.yds_examples.proofs.Tests.{proved, refuted, test_eq, test_any}
 use Rattle.yds_examples.proofs.TestedSchedules.{is_scale, feasible_by_test}
 use Rattle.yds_examples.proofs.TestedPlans.{proper_by_test}
-use Rattle.yds_examples.proofs.TestedRounding.{energy_by_test, slow_enough, split_denominators, splits_by_test}
+use Rattle.yds_examples.proofs.TestedRounding.{energy_by_test, slow_enough, split_denominators, splits_by_test, rounds_next}
 
 -- a and b
 abbrev jobs : List Job
@@ -52,7 +52,7 @@ level = record { work = 7; length = 3; pieces = record { from = 0; to = 3 } ∷ 
 
 -- the level is proper for the plan's slots
 planned_proper : IsProper jobs planned (level ∷ [])
-planned_proper = proper_by_test jobs planned (level ∷ []) (feasible_by_test jobs planned 7 refl refl) refl
+planned_proper = proper_by_test jobs planned (level ∷ []) refl refl refl
 
 -- the whole time is one stretch
 abbrev stretch : Piece
@@ -78,23 +78,7 @@ split =
 
 -- so the one stretch is rounded
 rounds : RoundsStretches (hull_of points) (level ∷ []) (stretches jobs) planned written
-rounds = (
-  planned,
-  [],
-  written,
-  [],
-  refl,
-  refl,
-  All-from_recursion (λ slot. LiesWritten slot (record { from = 0; to = 3 })) planned
-      (record { from = omega arith; to = omega arith }, (record { from = omega arith; to = omega arith }, tt)),
-  inr (
-    level,
-    (0, omega arith, refl),
-    All-from_recursion (λ (slot : WrittenSlot). Contains level.members slot.job) planned ((0, omega arith, refl), ((1, omega arith, refl), tt)),
-    inr split,
-  ),
-  (refl, refl),
-)
+rounds = rounds_next (level ∷ []) [] [] [] (0, omega arith, refl) refl split (refl, refl)
 
 -- 3/2 for a and 5/2 for b
 energy : IsEnergyOf jobs points written (of_whole 4)

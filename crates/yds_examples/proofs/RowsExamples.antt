@@ -14,12 +14,12 @@ use Rattle.yds_model.specs.Fields.{Fault}
 use Rattle.yds_model.specs.Reading.{reading}
 use Rattle.yds_model.specs.Audit.{Verdict, Feasible, Backward, Overlap, Early, Late, WrongWork, IsVerdict}
 use Rattle.yds_model.specs.Judgement.{Judgement, Accepted, Slots, Pieces, Members, Sums, Order, Window, Speed, IsJudgement}
-use Rattle.yds_model.specs.AuditAnswer.{verdict_words, verdict_status, judgement_words, judgement_status}
-use Rattle.yds_model.specs.Request.{Question, AskAudit, AskCheck, usage_line}
-use Rattle.yds_model.specs.Answer.{AnswersReading, AnswersQuestion, UnlessTooLong, is_too_long, Answers}
+use Rattle.yds_model.specs.AuditAnswer.{verdict_words, verdict_status, AuditAnswer, judgement_words, judgement_status, CheckAnswer}
+use Rattle.yds_model.specs.Request.{usage_line}
+use Rattle.yds_model.specs.Answer.{Answers}
 use Rattle.yds_laws.proofs.AnsweredOnce.{audit_and_check_answer_once}
 use Rattle.yds_examples.proofs.Tests.{Test, tests, proved}
-use Rattle.yds_examples.proofs.TestedVerdicts.{is_verdict, is_judgement}
+use Rattle.yds_examples.proofs.TestedPlans.{is_verdict, is_judgement}
 
 -- a row: words, an input, and the text and the status that answer them
 record Row (words : List (List ℕ)) (input text : List ℕ) (status : Status) : Type 0 where
@@ -27,50 +27,16 @@ record Row (words : List (List ℕ)) (input text : List ℕ) (status : Status) :
 
 -- # Tests of an answer
 
--- the document that is read, or an empty one
-abbrev read_of : Result Document (Fault Reason) → Document
-read_of (Ok document) = document
-read_of (Err fault) = no_document
-
--- whether it is read
-abbrev is_read : Result Document (Fault Reason) → Bool
-is_read (Ok document) = true
-is_read (Err fault) = false
-
--- the input is short, and read
-abbrev is_short_and_read : List ℕ → Bool
-is_short_and_read input = not (is_too_long input) && is_read (reading input)
-
--- a document that is read is answered
-answers_read : (question : Question) (read : Result Document (Fault Reason)) (text : List ℕ) (status : Status) → is_read read ≡ true →
-    AnswersQuestion question (read_of read) text status → AnswersReading question read text status
-answers_read question (Ok document) text status passed answers = answers
-answers_read question (Err fault) text status passed answers = absurd (true≢false (sym passed))
-
--- and so is an input that isn't too long
-answers_short : (question : Question) (long : Bool) (input text : List ℕ) (status : Status) → not long ≡ true →
-    AnswersReading question (reading input) text status → UnlessTooLong long (AnswersReading question (reading input)) text status
-answers_short question true input text status passed answers = absurd (true≢false (sym passed))
-answers_short question false input text status passed answers = answers
-
--- so the question about an input is answered as that about its document
-answers_input : (question : Question) (input text : List ℕ) (status : Status) → is_short_and_read input ≡ true →
-    AnswersQuestion question (read_of (reading input)) text status → UnlessTooLong (is_too_long input) (AnswersReading question (reading input)) text status
-answers_input question input text status passed answers =
-    let parts = and_parts (not (is_too_long input)) (is_read (reading input)) passed in
-    answers_short question (is_too_long input) input text status parts.0 (answers_read question (reading input) text status parts.1 answers)
-
 -- the verdict is so, and the text is its line
 abbrev is_audit : (document : Document) (text : List ℕ) (verdict : Verdict) →
     Test (IsVerdict document.jobs None document.slots verdict × (text ≡ line (verdict_words document verdict)))
 is_audit document text verdict = hlevel (tests, is_verdict)
 
 -- then `audit` answers so
-audited : (input text : List ℕ) (verdict : Verdict) → is_short_and_read input ≡ true → (is_audit (read_of (reading input)) text verdict).passes ≡ true →
-    Row (codes "audit" ∷ []) input text (verdict_status verdict)
-audited input text verdict read passed =
-    let told = proved (is_audit (read_of (reading input)) text verdict) passed in
-    record { answers = answers_input AskAudit input text (verdict_status verdict) read record { verdict = verdict; is_verdict = told.0; said = told.1; ended = refl } }
+audited : {document : Document} {text : List ℕ} {status : Status} (verdict : Verdict) → (is_audit document text verdict).passes ≡ true → status ≡ verdict_status verdict →
+    AuditAnswer document None text status
+audited {document} {text} verdict passed ended =
+    let told = proved (is_audit document text verdict) passed in record { verdict = verdict; is_verdict = told.0; said = told.1; ended = ended }
 
 -- the judgement is so, and the text is its line
 abbrev is_check : (document : Document) (text : List ℕ) (judgement : Judgement) →
@@ -78,13 +44,10 @@ abbrev is_check : (document : Document) (text : List ℕ) (judgement : Judgement
 is_check document text judgement = hlevel (tests, is_judgement)
 
 -- then `check` answers so
-checked : (input text : List ℕ) (judgement : Judgement) → is_short_and_read input ≡ true → (is_check (read_of (reading input)) text judgement).passes ≡ true →
-    Row (codes "check" ∷ []) input text (judgement_status judgement)
-checked input text judgement read passed =
-    let told = proved (is_check (read_of (reading input)) text judgement) passed in
-    record {
-      answers = answers_input AskCheck input text (judgement_status judgement) read record { judgement = judgement; is_judgement = told.0; said = told.1; ended = refl };
-    }
+checked : {document : Document} {text : List ℕ} {status : Status} (judgement : Judgement) → (is_check document text judgement).passes ≡ true →
+    status ≡ judgement_status judgement → CheckAnswer document text status
+checked {document} {text} judgement passed ended =
+    let told = proved (is_check document text judgement) passed in record { judgement = judgement; is_judgement = told.0; said = told.1; ended = ended }
 
 -- the two statuses differ
 done_not_no : statuses.Done ≡ statuses.No → ⊥
@@ -94,12 +57,12 @@ done_not_no same = absurd cc
 
 -- slots that give each job its work
 is_feasible : Row (codes "audit" ∷ []) (codes "job a 0 4 2\nslot a 1 3 2\n") (codes "feasible\n") statuses.Done
-is_feasible = audited _ _ Feasible refl refl
+is_feasible = record { answers = audited Feasible refl refl }
 
 -- a slot that takes no time
 backward : Row (codes "audit" ∷ []) (codes "job a 0 4 2\nslot a 2 2 2\n") (codes "backward slot 1 a 2 2\n") statuses.No
 unfolding digits
-backward = audited _ _ (Backward 0) refl refl
+backward = record { answers = audited (Backward 0) refl refl }
 
 -- and no other answer
 backward_only : Row (codes "audit" ∷ []) (codes "job a 0 4 2\nslot a 2 2 2\n") (codes "feasible\n") statuses.Done → ⊥
@@ -110,22 +73,22 @@ backward_only row =
 -- a slot that begins before the one before it has ended
 overlap : Row (codes "audit" ∷ []) (codes "job a 0 4 2\njob b 0 4 2\nslot a 0 2 2\nslot b 1 3 2\n") (codes "overlap slot 2 b 1 previous 2\n") statuses.No
 unfolding digits
-overlap = audited _ _ (Overlap 1) refl refl
+overlap = record { answers = audited (Overlap 1) refl refl }
 
 -- before its job's release
 early : Row (codes "audit" ∷ []) (codes "job a 1 4 2\nslot a 0 2 2\n") (codes "early slot 1 a 0 release 1\n") statuses.No
 unfolding digits
-early = audited _ _ (Early 0) refl refl
+early = record { answers = audited (Early 0) refl refl }
 
 -- after its deadline
 late : Row (codes "audit" ∷ []) (codes "job a 0 4 2\nslot a 3 5 2\n") (codes "late slot 1 a 5 deadline 4\n") statuses.No
 unfolding digits
-late = audited _ _ (Late 0) refl refl
+late = record { answers = audited (Late 0) refl refl }
 
 -- too little work for one of two jobs
 one_short : Row (codes "audit" ∷ []) (codes "job a 0 10 10\njob b 4 6 6\nslot a 0 4 5\nslot b 4 6 5\nslot a 6 10 5\n") (codes "work b given 5 wanted 6\n") statuses.No
 unfolding digits
-one_short = audited _ _ (WrongWork 1 (of_whole 5) 6) refl refl
+one_short = record { answers = audited (WrongWork 1 (of_whole 5) 6) refl refl }
 
 -- the same told of the other job is no answer
 other_short : Row (codes "audit" ∷ []) (codes "job a 0 10 10\njob b 4 6 6\nslot a 0 4 5\nslot b 4 6 5\nslot a 6 10 5\n") (codes "work a given 5 wanted 6\n") statuses.No → ⊥
@@ -137,11 +100,11 @@ other_short row =
 -- a third of a unit of work too little
 too_little : Row (codes "audit" ∷ []) (codes "job a 0 4 4\nslot a 0 4 3+2/3\n") (codes "work a given 3+2/3 wanted 4\n") statuses.No
 unfolding digits
-too_little = audited _ _ (WrongWork 0 (record { whole = 3; num = 2; den = 3 }) 4) refl refl
+too_little = record { answers = audited (WrongWork 0 (record { whole = 3; num = 2; den = 3 }) 4) refl refl }
 
 -- no jobs and no slots
 nothing : Row (codes "audit" ∷ []) (codes "") (codes "feasible\n") statuses.Done
-nothing = audited _ _ Feasible refl refl
+nothing = record { answers = audited Feasible refl refl }
 
 -- # Judgements
 
@@ -149,44 +112,44 @@ nothing = audited _ _ Feasible refl refl
 three_levels : Row (codes "check" ∷ [])
     (codes "job a 0 12 4\njob b 2 10 8\njob c 4 6 6\nslot a 0 2 2\nslot b 2 4 2+2/3\nslot c 4 6 6\nslot b 6 10 5+1/3\nslot a 10 12 2\nlevel 6 2\npiece 4 6\nmember c\nlevel 8 6\npiece 2 4\npiece 6 10\nmember b\nlevel 4 4\npiece 0 2\npiece 10 12\nmember a\n")
     (codes "accepted\n") statuses.Done
-three_levels = checked _ _ Accepted refl refl
+three_levels = record { answers = checked Accepted refl refl }
 
 -- slots that aren't feasible
 slots_fail : Row (codes "check" ∷ []) (codes "job a 1 4 2\nslot a 0 2 2\nlevel 2 3\npiece 1 4\nmember a\n") (codes "K1 early slot 1 a 0 release 1\n") statuses.No
 unfolding digits
-slots_fail = checked _ _ (Slots (Early 0)) refl refl
+slots_fail = record { answers = checked (Slots (Early 0)) refl refl }
 
 -- a level without a piece
 no_piece : Row (codes "check" ∷ []) (codes "job a 0 4 4\nslot a 0 4 4\nlevel 4 4\nmember a\n") (codes "K2 level 1\n") statuses.No
 unfolding digits
-no_piece = checked _ _ (Pieces 0) refl refl
+no_piece = record { answers = checked (Pieces 0) refl refl }
 
 -- a job that is a member twice
 member_twice : Row (codes "check" ∷ []) (codes "job a 0 4 4\nslot a 0 4 4\nlevel 4 4\npiece 0 4\nmember a\nmember a\n") (codes "K3 job a\n") statuses.No
-member_twice = checked _ _ (Members 0) refl refl
+member_twice = record { answers = checked (Members 0) refl refl }
 
 -- each job a member of the other's level
 members_exchanged : Row (codes "check" ∷ [])
     (codes "job a 0 10 10\njob b 4 6 6\nslot a 0 4 5\nslot b 4 6 6\nslot a 6 10 5\nlevel 6 2\npiece 4 6\nmember a\nlevel 10 8\npiece 0 4\npiece 6 10\nmember b\n")
     (codes "K4 level 1\n") statuses.No
 unfolding digits
-members_exchanged = checked _ _ (Sums 0) refl refl
+members_exchanged = record { answers = checked (Sums 0) refl refl }
 
 -- the slower level first
 slower_first : Row (codes "check" ∷ [])
     (codes "job a 0 10 10\njob b 4 6 6\nslot a 0 4 5\nslot b 4 6 6\nslot a 6 10 5\nlevel 10 8\npiece 0 4\npiece 6 10\nmember a\nlevel 6 2\npiece 4 6\nmember b\n")
     (codes "K5 level 2\n") statuses.No
 unfolding digits
-slower_first = checked _ _ (Order 1) refl refl
+slower_first = record { answers = checked (Order 1) refl refl }
 
 -- a window that isn't covered
 not_covered : Row (codes "check" ∷ []) (codes "job a 0 4 4\nslot a 0 2 4\nlevel 4 2\npiece 0 2\nmember a\n") (codes "K6 job a\n") statuses.No
-not_covered = checked _ _ (Window 0) refl refl
+not_covered = record { answers = checked (Window 0) refl refl }
 
 -- a slot at another speed than its level
 other_speed : Row (codes "check" ∷ []) (codes "job a 0 4 4\nslot a 0 2 3\nslot a 2 4 1\nlevel 4 4\npiece 0 4\nmember a\n") (codes "K7 slot 1\n") statuses.No
 unfolding digits
-other_speed = checked _ _ (Speed 0) refl refl
+other_speed = record { answers = checked (Speed 0) refl refl }
 
 -- and no other judgement
 speed_only : Row (codes "check" ∷ []) (codes "job a 0 4 4\nslot a 0 2 3\nslot a 2 4 1\nlevel 4 4\npiece 0 4\nmember a\n") (codes "accepted\n") statuses.Done → ⊥
@@ -197,7 +160,7 @@ speed_only row =
 
 -- a job without work that is a member of no level
 no_work : Row (codes "check" ∷ []) (codes "job a 0 4 4\njob b 2 6 0\nslot a 0 4 4\nlevel 4 4\npiece 0 4\nmember a\n") (codes "accepted\n") statuses.Done
-no_work = checked _ _ Accepted refl refl
+no_work = record { answers = checked Accepted refl refl }
 
 -- # Refusals
 

@@ -1,5 +1,5 @@
--- Tests of what is said of levels: the conditions of a proper certificate, and those of a plan.
-use Rattle.std.proofs.Common.{◌≡◌, ℕ, ◌+◌, ◌*◌, ◌<◌, ◌≤◌, List, [], ◌∷◌, length, take, true}
+-- Tests of what is said of levels: the conditions of a proper certificate, verdicts and judgements, and the conditions of a plan.
+use Rattle.std.proofs.Common.{◌≡◌, ℕ, ◌+◌, ◌*◌, ◌<◌, ◌≤◌, List, [], ◌∷◌, length, take, true, zero, suc, Option, Some, None, Bool, false, refl, subst, arith}
 use Rattle.std.specs.Int.{◌∣◌}
 use Rattle.std.specs.List.{All, Contains}
 use Rattle.yds_model.specs.Numbers.{Each}
@@ -10,12 +10,17 @@ use Rattle.yds_model.specs.Piece.{Piece, AreApart, PiecesFrom, IsConfined}
 use Rattle.yds_model.specs.Level.{Level, level_at, all_members, all_pieces}
 use Rattle.yds_model.specs.Proper.{PiecesStand, StandsOnce, SumsAgree, IsNotFaster, IsWindowCovered, AreLevels, IsProper}
 use Rattle.yds_model.specs.Plan.{IsServedInStretches, IsPlan, IsSlower, DontTouch, Rise, HasLevelDenominators}
-use Rattle.yds_model.specs.Judgement.{HasWrittenSpeed}
+use Rattle.yds_model.specs.Judgement.{HasWrittenSpeed, Judgement, Accepted, Slots, Pieces, Members, Sums, Order, Window, Speed, IsJudgement}
 use Rattle.yds_model.proofs.Scale.{least_scale_of}
 use Rattle.yds_energy.proofs.RunScale.{served_in_stretches_scaled}
-use Rattle.yds_laws.proofs.Judgements.{speeds_at_scale}
-use Rattle.yds_examples.proofs.Tests.{Test, tests, proved, test_le, test_each, test_before, test_between, test_grid, test_implied, test_contains, test_any}
-use Rattle.yds_examples.proofs.TestedSchedules.{is_scale, served_in_stretches}
+use Rattle.yds_laws.proofs.Judgements.{judgement_is_exact}
+use Rattle.yds_examples.proofs.Tests.{Test, tests, proved, test_le, test_each, test_before, test_between, test_grid, test_implied, test_contains, test_any, test_like, test_never}
+use Rattle.yds_examples.proofs.TestedSchedules.{is_scale, are_slots, served_in_stretches}
+use Rattle.std.specs.Prelude.{◌≢◌}
+use Rattle.std.specs.Bool.{Decides}
+use Rattle.yds_model.specs.Scale.{IsLess}
+use Rattle.yds_model.specs.Table.{Point}
+use Rattle.yds_model.specs.Audit.{Verdict, Feasible, Backward, Overlap, Early, Late, OffPoint, WrongWork, RunsAt, IsOnTable, IsAfterOthers, Stands, ComesTo, AllStand, IsVerdict}
 
 -- # The conditions of a proper certificate
 
@@ -101,30 +106,85 @@ abbrev pub has_denominators : (levels : List Level) (slots : List WrittenSlot) (
     Test (Contains (level_at levels i).members (written_slot_at slots s).job → HasLevelDenominators (level_at levels i) (written_slot_at slots s))
 has_denominators levels slots i s = hlevel tests
 
+-- # Verdicts and judgements
+
+-- a point has the slot's speed
+abbrev pub runs_at : (slot : WrittenSlot) (point : Point) → Test (RunsAt point.speed slot)
+runs_at slot point = hlevel tests
+
+-- where a table is given
+abbrev pub on_table : (table : Option (List Point)) (slot : WrittenSlot) → Test (IsOnTable table slot)
+on_table None slot = hlevel tests
+on_table (Some points) slot = hlevel (tests, runs_at)
+
+-- the slot before it has ended
+abbrev pub after_others : (slots : List WrittenSlot) (i : ℕ) → Test (IsAfterOthers slots i)
+after_others slots i = test_before (λ before. hlevel tests) i
+
+-- a verdict other than 'feasible'
+abbrev pub fault : Verdict → Bool
+fault Feasible = false
+fault _ = true
+
+pub fault_decided : (verdict : Verdict) → Decides (fault verdict) (verdict ≢ Feasible)
+fault_decided Feasible = (λ e. absurd cc, λ other. absurd (other refl))
+fault_decided _ = (λ e same. absurd cc, λ other. refl)
+
+abbrev pub is_fault : (verdict : Verdict) → Test (verdict ≢ Feasible)
+is_fault verdict = record { passes = fault verdict; decides = fault_decided verdict }
+
+module _ (jobs : List Job) (table : Option (List Point)) (slots : List WrittenSlot) where
+  -- the slot at a place stands
+  abbrev pub stands : (i : ℕ) → Test (Stands jobs table slots i)
+  stands i = hlevel (tests, on_table, after_others)
+
+  -- all before it stand
+  abbrev pub comes_to : (i : ℕ) → Test (ComesTo jobs table slots i)
+  comes_to i = hlevel (tests, stands)
+
+  -- all stand, and each job gets its work
+  abbrev pub all_stand : Test (AllStand jobs table slots)
+  all_stand = hlevel (tests, stands)
+
+  -- the slot after one comes too early
+  abbrev pub overlaps : (i : ℕ) → Test (ComesTo jobs table slots (suc i) × IsLess (written_slot_at slots (suc i)).from (written_slot_at slots (suc i)).to
+      × IsLess (written_slot_at slots (suc i)).from (written_slot_at slots i).to)
+  overlaps i = hlevel (tests, comes_to)
+
+  -- a verdict
+  abbrev pub is_verdict : (verdict : Verdict) → Test (IsVerdict jobs table slots verdict)
+  is_verdict Feasible = all_stand
+  is_verdict (Backward i) = hlevel (tests, comes_to)
+  is_verdict (Overlap zero) = test_like (λ none. absurd none) (λ is. let next = is.is_before in absurd (omega arith)) test_never
+  is_verdict (Overlap (suc i)) = 
+      test_like (λ h. record { comes = h.0; forward = h.1; before = i; is_before = omega arith; overlaps = h.2 })
+      (λ is. let next = is.is_before in
+      (is.comes, is.forward, subst (λ before. IsLess (written_slot_at slots (suc i)).from (written_slot_at slots before).to) (omega arith) is.overlaps)) (overlaps i)
+  is_verdict (Early i) = hlevel (tests, comes_to, after_others)
+  is_verdict (Late i) = hlevel (tests, comes_to, after_others)
+  is_verdict (OffPoint i) = hlevel (tests, comes_to, after_others, on_table)
+  is_verdict (WrongWork job given wanted) = hlevel (tests, stands)
+
+module _ (jobs : List Job) (slots : List WrittenSlot) (levels : List Level) where
+  -- a judgement
+  abbrev pub is_judgement : (judgement : Judgement) → Test (IsJudgement jobs slots levels judgement)
+  is_judgement Accepted = hlevel (tests, all_stand, pieces_stand, stands_once, sums_agree, not_faster, window_covered, written_speed)
+  is_judgement (Slots verdict) = hlevel (tests, is_verdict, is_fault)
+  is_judgement (Pieces i) = hlevel (tests, all_stand, pieces_stand)
+  is_judgement (Members job) = hlevel (tests, all_stand, pieces_stand, stands_once)
+  is_judgement (Sums i) = hlevel (tests, all_stand, pieces_stand, stands_once, sums_agree)
+  is_judgement (Order i) = hlevel (tests, all_stand, pieces_stand, stands_once, sums_agree, not_faster)
+  is_judgement (Window job) = hlevel (tests, all_stand, pieces_stand, stands_once, sums_agree, not_faster, window_covered)
+  is_judgement (Speed s) = hlevel (tests, all_stand, pieces_stand, stands_once, sums_agree, not_faster, window_covered, written_speed)
+
 -- # Certificates and plans as a whole
 
--- all that makes a certificate proper, besides that the slots are feasible
-abbrev pub is_certificate : (jobs : List Job) (slots : List WrittenSlot) (levels : List Level) → Test (
-    AreLevels jobs levels × Each (length levels) (PiecesStand levels) × Each (length jobs) (StandsOnce jobs levels) × Each (length levels) (SumsAgree jobs levels)
-    × Each (length levels) (IsNotFaster levels) × Each (length jobs) (IsWindowCovered jobs levels) × Each (length slots) (HasWrittenSpeed levels slots))
-is_certificate jobs slots levels =
-    hlevel (tests, are_levels, pieces_stand, stands_once, sums_agree, not_faster, window_covered, written_speed)
-
--- a certificate of feasible slots is proper where it passes the test
-pub proper_by_test : (jobs : List Job) (slots : List WrittenSlot) (levels : List Level) → IsFeasible jobs slots → (is_certificate jobs slots levels).passes ≡ true →
-    IsProper jobs slots levels
-proper_by_test jobs slots levels feasible passed =
-    let holds = proved (is_certificate jobs slots levels) passed in
-    record {
-      well_formed = holds.0;
-      feasible = feasible;
-      pieces = holds.1;
-      members = holds.2;
-      sums = holds.3;
-      order = holds.4;
-      windows = holds.5;
-      speeds = λ scale is s within. speeds_at_scale levels slots scale is s within (holds.6 s within);
-    }
+-- a certificate is proper where it is accepted
+pub proper_by_test : (jobs : List Job) (slots : List WrittenSlot) (levels : List Level) → (are_slots (length jobs) slots).passes ≡ true →
+    (are_levels jobs levels).passes ≡ true → (is_judgement jobs slots levels Accepted).passes ≡ true → IsProper jobs slots levels
+proper_by_test jobs slots levels are well_formed accepted =
+    (judgement_is_exact jobs slots levels (proved (are_slots (length jobs) slots) are) (proved (are_levels jobs levels) well_formed)).0
+    (proved (is_judgement jobs slots levels Accepted) accepted)
 
 -- written slots that are served in stretches at a scale which divides all others are so at each
 pub served_by_test : (jobs : List Job) (slots : List WrittenSlot) (least : ℕ) → (is_scale least slots).passes ≡ true →
@@ -150,13 +210,6 @@ pub plan_by_test : (jobs : List Job) (slots : List WrittenSlot) (levels : List L
 plan_by_test jobs slots levels proper served passed =
     let form = proved (is_plan_form jobs slots levels) passed in
     record {
-      proper = proper;
-      falling = form.0;
-      pieces_apart = form.1;
-      members_rise = form.2;
-      members_work = form.3;
-      served = served;
-      few_slots = form.4;
-      few_pieces = form.5;
+      proper = proper; falling = form.0; pieces_apart = form.1; members_rise = form.2; members_work = form.3; served = served; few_slots = form.4; few_pieces = form.5;
       denominators = form.6;
     }

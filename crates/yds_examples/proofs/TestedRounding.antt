@@ -1,7 +1,7 @@
 -- Tests of rounding and admission: energy on points, the parts of a split, which jobs can be served, and which interval is the first to be overfull.
 use Rattle.std.proofs.Common.{◌≡◌, ℕ, zero, suc, ◌+◌, ◌-◌, ◌*◌, ◌<◌, ◌≤◌, ◌⊎◌, List, [], ◌∷◌, ◌++◌, length, map, Bool, true, false, ◌&&◌, ◌==◌, nat_lt, refl, ap, sym, subst, ◌∙◌, arith, inl, inr, eqb-true}
 use Rattle.std.specs.Prelude.{cond}
-use Rattle.std.specs.List.{All}
+use Rattle.std.specs.List.{All, Contains}
 use Rattle.std.proofs.lemmas.Bool.{cases_lt, and_parts, ltb-true, ne_eqb}
 use Rattle.std.proofs.lemmas.List.Elements.{All-head, All-tail, All-contains, Contains-get_or}
 use Rattle.std.proofs.lemmas.List.Sums.{sum_by-cons}
@@ -13,7 +13,8 @@ use Rattle.yds_model.specs.Piece.{Piece}
 use Rattle.yds_model.specs.Level.{Level}
 use Rattle.yds_model.specs.Table.{Point, no_point, point_at}
 use Rattle.yds_model.specs.Energy.{idle, SpendsAtPoints}
-use Rattle.yds_model.specs.Rounding.{IsTooFast, jobs_in_turn, RunsAtPoint, RunsOn, HasSplitDenominators, SplitsStretch, IsEnergyOf}
+use Rattle.yds_model.specs.Event.{LiesWritten}
+use Rattle.yds_model.specs.Rounding.{IsTooFast, jobs_in_turn, RunsAtPoint, RunsOn, HasSplitDenominators, SplitsStretch, RoundsStretches, IsEnergyOf}
 use Rattle.yds_model.specs.Admission.{IsWithinTop, CanServe, IsOverfull, IsFirstOverfull}
 use Rattle.yds_model.proofs.Lists.{counted_contains}
 use Rattle.yds_laws.proofs.Bound.{served_at_speed}
@@ -108,6 +109,10 @@ abbrev pub runs_on : (speed from to : ℕ) (slots : List WholeSlot) → Test (Ru
 runs_on zero from to slots = hlevel tests
 runs_on (suc speed) from to slots = runs_at_point (suc speed) from to slots
 
+-- a written slot in a stretch
+abbrev pub lies_written : (stretch : Piece) (slot : WrittenSlot) → Test (LiesWritten slot stretch)
+lies_written stretch slot = hlevel tests
+
 -- a slot of a job below a number
 abbrev pub is_below : (n : ℕ) (slot : WholeSlot) → Test (slot.job < n)
 is_below n slot = hlevel tests
@@ -173,6 +178,18 @@ module _ (n scale time place : ℕ) (hull : List Point) (level : Level) (stretch
         slow_denominators = written.3;
       }
 
+-- the slots of a stretch lie in it, and their jobs are members of a level
+abbrev pub are_served : (stretch : Piece) (level : Level) (slots : List WrittenSlot) →
+    Test (All (λ slot. LiesWritten slot stretch) slots × All (λ slot. Contains level.members slot.job) slots)
+are_served stretch level slots = hlevel (tests, lies_written stretch)
+
+-- so where they are split, and the stretches after this one are rounded, the stretches from this one on are
+pub rounds_next : {hull : List Point} {level : Level} {stretch : Piece} {here made : List WrittenSlot} (levels : List Level) (others : List Piece)
+    (later made_later : List WrittenSlot) → Contains levels level → (are_served stretch level here).passes ≡ true → SplitsStretch hull level stretch here made →
+    RoundsStretches hull levels others later made_later → RoundsStretches hull levels (stretch ∷ others) (here ++ later) (made ++ made_later)
+rounds_next {level = level} {stretch = stretch} {here = here} {made = made} levels others later made_later is passed splits rest =
+    let served = proved (are_served stretch level here) passed in (here, later, made, made_later, refl, refl, served.0, inr (level, is, served.1, inr splits), rest)
+
 -- # Admission
 
 -- a slot that isn't faster than the top speed
@@ -182,13 +199,9 @@ within_top top slot = hlevel tests
 -- Slots of whole numbers, none faster than the top speed, that are feasible serve the jobs.
 pub can_serve : (top : ℕ) (jobs : List Job) (slots : List WholeSlot) → (feasible_at jobs 1 slots).passes ≡ true →
     (test_all (within_top top) slots).passes ≡ true → CanServe top jobs
-can_serve top jobs slots feasible within = record {
-  scale = 1;
-  positive = omega arith;
-  slots = slots;
-  feasible = proved (feasible_at jobs 1 slots) feasible;
-  within_top = proved (test_all (within_top top) slots) within;
-}
+can_serve top jobs slots feasible within =
+    let at_most = proved (test_all (within_top top) slots) within in
+    record { scale = 1; positive = omega arith; slots = slots; feasible = proved (feasible_at jobs 1 slots) feasible; within_top = at_most }
 
 module _ (top from to : ℕ) (jobs : List Job) (numbers : List ℕ) where
   -- a job known and in the interval

@@ -112,7 +112,7 @@ above_four_thirds = refl
 
 -- The certificate is proper.
 pub proper : IsProper jobs slots levels
-proper = proper_by_test jobs slots levels feasible_at_each refl
+proper = proper_by_test jobs slots levels refl refl refl
 
 -- So they are a plan: each scale is a multiple of 3, at which they are served in stretches.
 pub plan : IsPlan jobs slots levels

@@ -19,8 +19,7 @@ use Rattle.yds_energy.specs.EnergyLaws.{IsCheapest}
 use Rattle.yds_model.specs.Judgement.{Order, IsJudgement, HasWrittenSpeed}
 use Rattle.yds_examples.proofs.Tests.{proved, refuted}
 use Rattle.yds_examples.proofs.TestedSchedules.{is_scale, feasible_by_test, not_feasible_by_test, served_in_stretches}
-use Rattle.yds_examples.proofs.TestedPlans.{pieces_stand, not_faster, window_covered, confined, written_speed, proper_by_test}
-use Rattle.yds_examples.proofs.TestedVerdicts.{is_judgement}
+use Rattle.yds_examples.proofs.TestedPlans.{pieces_stand, not_faster, window_covered, confined, written_speed, proper_by_test, is_judgement}
 use Rattle.yds_examples.proofs.ThreeJobs.{jobs, slot, third, slots, thirds, feasible_at_each, piece, level_a, level_b, level_c, levels}
 
 -- # Slots
@@ -160,7 +159,7 @@ cut = slot 0 0 2 (of_whole 2) ∷ slot 1 2 4 (third 2 2) ∷ slot 2 4 6 (of_whol
 
 -- since they are feasible and have the levels' speeds,
 cut_proper : IsProper jobs cut levels
-cut_proper = proper_by_test jobs cut levels (feasible_by_test jobs cut 3 refl refl) refl
+cut_proper = proper_by_test jobs cut levels refl refl refl
 
 -- but b has two slots in the stretch from 6 to 10, so it isn't a plan
 not_once : IsPlan jobs cut levels → ⊥
