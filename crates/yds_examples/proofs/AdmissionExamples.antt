@@ -188,16 +188,8 @@ whole = proved (is_scale 1 slots) refl
 has_denominators : (slot : WrittenSlot) (stretch : Piece) (units : ℕ) → Contains (stretches admitted) stretch → LiesWritten slot stretch →
     HasSpeed units (1 * (stretch.to - stretch.from)) slot → slot.work ≡ of_whole slot.work.whole → slot.from ≡ of_whole slot.from.whole →
     slot.to ≡ of_whole slot.to.whole → HasRunDenominators admitted 1 slot
-has_denominators slot stretch units is lies speed work from to = record {
-  stretch = stretch;
-  is_stretch = is;
-  lies = lies;
-  units = units;
-  speed = speed;
-  work = inl work;
-  from = inl from;
-  to = inl to;
-}
+has_denominators slot stretch units is lies speed work from to =
+    record { stretch = stretch; is_stretch = is; lies = lies; units = units; speed = speed; work = inl work; from = inl from; to = inl to }
 
 -- So they are a run at each scale, with whole ends and works.
 admitted_run : IsAdmittedRun admitted 2 slots

@@ -2,8 +2,6 @@
 -- are worth is tried on the plan of three jobs.
 use Rattle.std.proofs.Common.{◌≡◌, ℕ, List, Some, [], ◌∷◌, None, Ok, refl, sym, subst}
 use Rattle.std.specs.Prelude.{codes}
-use Rattle.std.proofs.lemmas.Bool.{true≢false}
-use Rattle.std.proofs.lemmas.Slice.Eq.{bytes_eq-Decides}
 use Rattle.yds_model.specs.declared.status.Status.{Status}
 use Rattle.yds_model.specs.declared.status.Status.TheVariants.{Done, No}
 use Rattle.yds_model.specs.Job.{Job}
@@ -14,7 +12,7 @@ use Rattle.yds_model.specs.Document.{Document}
 use Rattle.yds_model.specs.Reading.{reading}
 use Rattle.yds_texts.specs.JudgedText.{TellsWhether, IsServed, IsServedOnPoints, HoldsVerdict, HoldsVerdictOnPoints}
 use Rattle.yds_texts.proofs.JudgedText.{tells_yes, tells_no}
-use Rattle.yds_examples.proofs.Tests.{proved, refuted, test_all}
+use Rattle.yds_examples.proofs.Tests.{proved, refuted, test_numbers, test_all}
 use Rattle.yds_examples.proofs.TestedPlans.{on_table}
 use Rattle.yds_examples.proofs.TestedSchedules.{feasible_by_test, not_feasible_by_test}
 
@@ -75,7 +73,7 @@ is_late = not_feasible_by_test job (slot 3 5 2 ∷ []) 1 refl refl
 -- which a line other than 'feasible' tells, with the status 'no',
 late : HoldsVerdict late_input (codes "late slot 1 a 5 deadline 4\n") No
 late = tells_no IsServed (codes "feasible\n") late_input (codes "late slot 1 a 5 deadline 4\n") No (document [] (slot 3 5 2)) refl is_late refl
-    (λ same. absurd (true≢false (sym ((bytes_eq-Decides (codes "late slot 1 a 5 deadline 4\n") (codes "feasible\n")).1 same))))
+    (λ same. refuted (test_numbers (codes "late slot 1 a 5 deadline 4\n") (codes "feasible\n")) refl same)
 
 -- and no line with the status 'done',
 late_done : (text : List ℕ) → HoldsVerdict late_input text Done → ⊥

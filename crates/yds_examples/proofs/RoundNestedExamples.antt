@@ -2,7 +2,7 @@
 -- 0, 1, 2 and 4, whose powers are 0, 1, 3 and 10. Each level's speed lies between two points, and all numbers are whole.
 use Rattle.std.proofs.Common.{◌≡◌, ℕ, ◌-◌, ◌*◌, List, [], ◌∷◌, refl, arith, inr}
 use Rattle.std.specs.List.{Contains}
-use Rattle.std.proofs.lemmas.List.Elements.{All-from_recursion}
+use Rattle.std.proofs.lemmas.Bool.Decides.{nat_tests}
 use Rattle.yds_model.specs.Job.{Job}
 use Rattle.yds_model.specs.Scale.{Fraction, of_whole}
 use Rattle.yds_model.specs.Slot.{WrittenSlot}
@@ -68,15 +68,15 @@ written_feasible = feasible_by_test jobs written 1 refl refl
 
 -- a runs for one of the four time units at 2, since 5/4 lies a quarter of the way from 1 to 2,
 first_split : SplitsStretch (hull_of points) level_a (record { from = 0; to = 4 }) (slot 0 0 4 5 ∷ []) (slot 0 0 1 2 ∷ slot 0 1 4 3 ∷ [])
-first_split = splits_by_test 2 1 1 1 (hull_of points) level_a (record { from = 0; to = 4 }) (slot 0 0 4 5 ∷ []) (slot 0 0 1 2 ∷ []) (slot 0 1 4 3 ∷ []) refl refl refl refl
+first_split = splits_by_test 1 1 1 (hull_of points) level_a (record { from = 0; to = 4 }) (slot 0 0 4 5 ∷ []) (slot 0 0 1 2 ∷ []) (slot 0 1 4 3 ∷ []) refl refl refl (λ job. grind (arith, nat_tests))
 
 -- b for one of its two at 4, since 3 lies half way from 2 to 4,
 second_split : SplitsStretch (hull_of points) level_b (record { from = 4; to = 6 }) (slot 1 4 6 6 ∷ []) (slot 1 4 5 4 ∷ slot 1 5 6 2 ∷ [])
-second_split = splits_by_test 2 1 1 2 (hull_of points) level_b (record { from = 4; to = 6 }) (slot 1 4 6 6 ∷ []) (slot 1 4 5 4 ∷ []) (slot 1 5 6 2 ∷ []) refl refl refl refl
+second_split = splits_by_test 1 1 2 (hull_of points) level_b (record { from = 4; to = 6 }) (slot 1 4 6 6 ∷ []) (slot 1 4 5 4 ∷ []) (slot 1 5 6 2 ∷ []) refl refl refl (λ job. grind (arith, nat_tests))
 
 -- and a again as before
 third_split : SplitsStretch (hull_of points) level_a (record { from = 6; to = 10 }) (slot 0 6 10 5 ∷ []) (slot 0 6 7 2 ∷ slot 0 7 10 3 ∷ [])
-third_split = splits_by_test 2 1 1 1 (hull_of points) level_a (record { from = 6; to = 10 }) (slot 0 6 10 5 ∷ []) (slot 0 6 7 2 ∷ []) (slot 0 7 10 3 ∷ []) refl refl refl refl
+third_split = splits_by_test 1 1 1 (hull_of points) level_a (record { from = 6; to = 10 }) (slot 0 6 10 5 ∷ []) (slot 0 6 7 2 ∷ []) (slot 0 7 10 3 ∷ []) refl refl refl (λ job. grind (arith, nat_tests))
 
 -- stretch by stretch
 rounds : RoundsStretches (hull_of points) levels (stretches jobs) planned written

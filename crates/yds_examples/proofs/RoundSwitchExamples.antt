@@ -6,6 +6,7 @@ use Rattle.std.specs.List.{Any, Contains}
 use Rattle.std.proofs.lemmas.List.{append-nil}
 use Rattle.std.proofs.lemmas.List.Elements.{All-from_recursion}
 use Rattle.yds_model.specs.Numbers.{AreDifferent}
+use Rattle.std.proofs.lemmas.Bool.Decides.{nat_tests}
 use Rattle.yds_model.specs.Job.{Job}
 use Rattle.yds_model.specs.Scale.{Fraction, of_whole}
 use Rattle.yds_model.specs.Slot.{WrittenSlot, IsScale, slot_at_scale, slots_at}
@@ -73,8 +74,8 @@ written_feasible = feasible_by_test jobs written 12 refl refl
 -- the slots are a split, at the scale 84 of all of them
 split : SplitsStretch (hull_of points) level stretch planned written
 split =
-    splits_by_test 2 84 42 1 (hull_of points) level stretch planned (slot 0 (of_whole 0) (part 0 6 12) 2 ∷ []) (slot 1 (part 0 3 6) (of_whole 3) 5 ∷ [])
-    refl refl refl refl
+    splits_by_test 84 42 1 (hull_of points) level stretch planned (slot 0 (of_whole 0) (part 0 6 12) 2 ∷ []) (slot 1 (part 0 3 6) (of_whole 3) 5 ∷ [])
+    refl refl refl (λ job. grind (arith, nat_tests))
 
 -- so the one stretch is rounded
 rounds : RoundsStretches (hull_of points) (level ∷ []) (stretches jobs) planned written

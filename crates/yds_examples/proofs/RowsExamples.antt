@@ -2,8 +2,6 @@
 use Rattle.std.proofs.Common.{◌≡◌, ℕ, List, [], ◌∷◌, None, Result, Ok, Err, Bool, true, false, ◌&&◌, refl, sym}
 use Rattle.std.specs.Prelude.{codes, not}
 use Rattle.std.specs.Fmt.{digits}
-use Rattle.std.proofs.lemmas.Bool.{and_parts, true≢false}
-use Rattle.std.proofs.lemmas.Slice.Eq.{bytes_eq-Decides}
 use Rattle.yds_model.specs.declared.reason.Reason.{Reason}
 use Rattle.yds_model.specs.declared.status.Status.{Status}
 use Rattle.yds_model.specs.declared.status.Status.TheVariants as statuses
@@ -18,7 +16,7 @@ use Rattle.yds_model.specs.AuditAnswer.{verdict_words, verdict_status, AuditAnsw
 use Rattle.yds_model.specs.Request.{usage_line}
 use Rattle.yds_model.specs.Answer.{Answers}
 use Rattle.yds_laws.proofs.AnsweredOnce.{audit_and_check_answer_once}
-use Rattle.yds_examples.proofs.Tests.{Test, tests, proved}
+use Rattle.yds_examples.proofs.Tests.{Test, tests, proved, refuted, test_numbers}
 use Rattle.yds_examples.proofs.TestedPlans.{is_verdict, is_judgement}
 
 -- a row: words, an input, and the text and the status that answer them
@@ -49,10 +47,6 @@ checked : {document : Document} {text : List ℕ} {status : Status} (judgement :
 checked {document} {text} judgement passed ended =
     let told = proved (is_check document text judgement) passed in record { judgement = judgement; is_judgement = told.0; said = told.1; ended = ended }
 
--- the two statuses differ
-done_not_no : statuses.Done ≡ statuses.No → ⊥
-done_not_no same = absurd cc
-
 -- # Verdicts
 
 -- slots that give each job its work
@@ -68,7 +62,7 @@ backward = record { answers = audited (Backward 0) refl refl }
 backward_only : Row (codes "audit" ∷ []) (codes "job a 0 4 2\nslot a 2 2 2\n") (codes "feasible\n") statuses.Done → ⊥
 unfolding digits
 backward_only row =
-    absurd (done_not_no (audit_and_check_answer_once.audit (codes "job a 0 4 2\nslot a 2 2 2\n") _ _ _ _ row.answers backward.answers).1)
+    absurd (cc ((audit_and_check_answer_once.audit (codes "job a 0 4 2\nslot a 2 2 2\n") _ _ _ _ row.answers backward.answers).1))
 
 -- a slot that begins before the one before it has ended
 overlap : Row (codes "audit" ∷ []) (codes "job a 0 4 2\njob b 0 4 2\nslot a 0 2 2\nslot b 1 3 2\n") (codes "overlap slot 2 b 1 previous 2\n") statuses.No
@@ -95,7 +89,7 @@ other_short : Row (codes "audit" ∷ []) (codes "job a 0 10 10\njob b 4 6 6\nslo
 unfolding digits
 other_short row =
     let same = (audit_and_check_answer_once.audit (codes "job a 0 10 10\njob b 4 6 6\nslot a 0 4 5\nslot b 4 6 5\nslot a 6 10 5\n") _ _ _ _ row.answers one_short.answers).0 in
-    absurd (true≢false (sym ((bytes_eq-Decides (codes "work a given 5 wanted 6\n") (codes "work b given 5 wanted 6\n")).1 same)))
+    refuted (test_numbers (codes "work a given 5 wanted 6\n") (codes "work b given 5 wanted 6\n")) refl same
 
 -- a third of a unit of work too little
 too_little : Row (codes "audit" ∷ []) (codes "job a 0 4 4\nslot a 0 4 3+2/3\n") (codes "work a given 3+2/3 wanted 4\n") statuses.No
@@ -155,8 +149,8 @@ other_speed = record { answers = checked (Speed 0) refl refl }
 speed_only : Row (codes "check" ∷ []) (codes "job a 0 4 4\nslot a 0 2 3\nslot a 2 4 1\nlevel 4 4\npiece 0 4\nmember a\n") (codes "accepted\n") statuses.Done → ⊥
 unfolding digits
 speed_only row =
-    absurd (done_not_no (audit_and_check_answer_once.check (codes "job a 0 4 4\nslot a 0 2 3\nslot a 2 4 1\nlevel 4 4\npiece 0 4\nmember a\n") _ _ _ _
-    row.answers other_speed.answers).1)
+    absurd (cc ((audit_and_check_answer_once.check (codes "job a 0 4 4\nslot a 0 2 3\nslot a 2 4 1\nlevel 4 4\npiece 0 4\nmember a\n") _ _ _ _
+    row.answers other_speed.answers).1))
 
 -- a job without work that is a member of no level
 no_work : Row (codes "check" ∷ []) (codes "job a 0 4 4\njob b 2 6 0\nslot a 0 4 4\nlevel 4 4\npiece 0 4\nmember a\n") (codes "accepted\n") statuses.Done

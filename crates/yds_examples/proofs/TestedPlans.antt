@@ -14,7 +14,7 @@ use Rattle.yds_model.specs.Judgement.{HasWrittenSpeed, Judgement, Accepted, Slot
 use Rattle.yds_model.proofs.Scale.{least_scale_of}
 use Rattle.yds_energy.proofs.RunScale.{served_in_stretches_scaled}
 use Rattle.yds_laws.proofs.Judgements.{judgement_is_exact}
-use Rattle.yds_examples.proofs.Tests.{Test, tests, proved, test_le, test_each, test_before, test_between, test_grid, test_implied, test_contains, test_any, test_like, test_never}
+use Rattle.yds_examples.proofs.Tests.{Test, tests, proved, test_le, test_each, test_before, test_between, test_grid, test_implied, test_contains, test_both, test_all, test_any, test_like, test_never}
 use Rattle.yds_examples.proofs.TestedSchedules.{is_scale, are_slots, served_in_stretches}
 use Rattle.std.specs.Prelude.{◌≢◌}
 use Rattle.std.specs.Bool.{Decides}
@@ -24,17 +24,13 @@ use Rattle.yds_model.specs.Audit.{Verdict, Feasible, Backward, Overlap, Early, L
 
 -- # The conditions of a proper certificate
 
--- work and length
-abbrev pub is_positive : (level : Level) → Test ((1 ≤ level.work) × (1 ≤ level.length))
-is_positive level = hlevel tests
-
--- members that are numbers of jobs
-abbrev pub is_known : (jobs : List Job) (level : Level) → Test (All (λ number. number < length jobs) level.members)
-is_known jobs level = hlevel tests
-
 -- the levels have work and length, and their members are jobs
 abbrev pub are_levels : (jobs : List Job) (levels : List Level) → Test (AreLevels jobs levels)
-are_levels jobs levels = hlevel (tests, is_positive, is_known)
+are_levels jobs levels = hlevel (
+  tests,
+  test_all (λ (level : Level). test_both (test_le 1 level.work) (test_le 1 level.length)) levels,
+  test_all (λ (level : Level). test_all (λ number. test_le (suc number) (length jobs)) level.members) levels,
+)
 
 -- the pieces lie one after another
 abbrev pub pieces_from : (start : ℕ) (pieces : List Piece) → Test (PiecesFrom start pieces)
@@ -45,13 +41,10 @@ pieces_from start (piece ∷ pieces) = hlevel (tests, pieces_from piece.to piece
 abbrev pub are_apart : (one other : Piece) → Test (AreApart one other)
 are_apart one other = hlevel tests
 
--- one apart from others
-abbrev pub is_apart : (others : List Piece) (piece : Piece) → Test (All (AreApart piece) others)
-is_apart others piece = hlevel (tests, are_apart)
-
 -- the level's pieces
 abbrev pub pieces_stand : (levels : List Level) (i : ℕ) → Test (PiecesStand levels i)
-pieces_stand levels i = hlevel (tests, pieces_from, is_apart)
+pieces_stand levels i =
+    hlevel (tests, pieces_from, test_all (λ piece. test_all (are_apart piece) (all_pieces (take i levels))) (level_at levels i).pieces)
 
 -- each job is a member once
 abbrev pub stands_once : (jobs : List Job) (levels : List Level) (number : ℕ) → Test (StandsOnce jobs levels number)
@@ -70,13 +63,10 @@ not_faster levels i =
 abbrev pub slower : (levels : List Level) (i : ℕ) → Test (IsSlower levels i)
 slower levels i = test_before (λ before. hlevel tests) i
 
--- a unit of time in a piece
-abbrev pub in_piece : (time : ℕ) (piece : Piece) → Test ((piece.from ≤ time) × (time < piece.to))
-in_piece time piece = hlevel tests
-
 -- a job confined to pieces
 abbrev pub confined : (job : Job) (pieces : List Piece) → Test (IsConfined job pieces)
-confined job pieces = test_between (λ time. test_any (in_piece time) pieces) job.release job.deadline
+confined job pieces =
+    test_between (λ time. test_any (λ (piece : Piece). test_both (test_le piece.from time) (test_le (suc time) piece.to)) pieces) job.release job.deadline
 
 -- by the pieces of the job's own level and of earlier ones
 abbrev pub window_covered : (jobs : List Job) (levels : List Level) (number : ℕ) → Test (IsWindowCovered jobs levels number)
@@ -156,7 +146,7 @@ module _ (jobs : List Job) (table : Option (List Point)) (slots : List WrittenSl
   is_verdict Feasible = all_stand
   is_verdict (Backward i) = hlevel (tests, comes_to)
   is_verdict (Overlap zero) = test_like (λ none. absurd none) (λ is. let next = is.is_before in absurd (omega arith)) test_never
-  is_verdict (Overlap (suc i)) = 
+  is_verdict (Overlap (suc i)) =
       test_like (λ h. record { comes = h.0; forward = h.1; before = i; is_before = omega arith; overlaps = h.2 })
       (λ is. let next = is.is_before in
       (is.comes, is.forward, subst (λ before. IsLess (written_slot_at slots (suc i)).from (written_slot_at slots before).to) (omega arith) is.overlaps)) (overlaps i)
@@ -209,7 +199,4 @@ pub plan_by_test : (jobs : List Job) (slots : List WrittenSlot) (levels : List L
     ((scale : ℕ) → IsScale scale slots → IsServedInStretches jobs scale (slots_at scale slots)) → (is_plan_form jobs slots levels).passes ≡ true → IsPlan jobs slots levels
 plan_by_test jobs slots levels proper served passed =
     let form = proved (is_plan_form jobs slots levels) passed in
-    record {
-      proper = proper; falling = form.0; pieces_apart = form.1; members_rise = form.2; members_work = form.3; served = served; few_slots = form.4; few_pieces = form.5;
-      denominators = form.6;
-    }
+    record { proper = proper; falling = form.0; pieces_apart = form.1; members_rise = form.2; members_work = form.3; served = served; few_slots = form.4; few_pieces = form.5; denominators = form.6 }

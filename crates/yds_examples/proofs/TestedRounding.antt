@@ -14,12 +14,12 @@ use Rattle.yds_model.specs.Level.{Level}
 use Rattle.yds_model.specs.Table.{Point, no_point, point_at}
 use Rattle.yds_model.specs.Energy.{idle, SpendsAtPoints}
 use Rattle.yds_model.specs.Event.{LiesWritten}
-use Rattle.yds_model.specs.Rounding.{IsTooFast, jobs_in_turn, RunsAtPoint, RunsOn, HasSplitDenominators, SplitsStretch, RoundsStretches, IsEnergyOf}
+use Rattle.yds_model.specs.Rounding.{top_of, IsTooFast, jobs_in_turn, RunsAtPoint, RunsOn, HasSplitDenominators, AreNeighbours, SplitsStretch, RoundsStretches, IsEnergyOf}
 use Rattle.yds_model.specs.Admission.{IsWithinTop, CanServe, IsOverfull, IsFirstOverfull}
 use Rattle.yds_model.proofs.Lists.{counted_contains}
 use Rattle.yds_laws.proofs.Bound.{served_at_speed}
 use Rattle.yds_energy.proofs.RoundingScale.{one_scale_decides_energy, one_scale_decides_split}
-use Rattle.yds_examples.proofs.Tests.{Test, tests, proved, test_le, test_like, test_all}
+use Rattle.yds_examples.proofs.Tests.{Test, tests, proved, test_never, test_le, test_like, test_both, test_implied, test_all}
 use Rattle.yds_examples.proofs.TestedSchedules.{is_scale, feasible_at}
 
 -- # Energy
@@ -75,29 +75,13 @@ different numbers =
       | inr some ↦ All-contains (λ number. count number numbers ≤ 1) numbers number h (counted_contains number numbers some)
     ]) (λ different i number within. different _) (test_all (λ number. test_le (count number numbers) 1) numbers)
 
--- slots of jobs below a number give a later job nothing
-given_none : (slots : List WholeSlot) (n job : ℕ) → All (λ slot. slot.job < n) slots → n ≤ job → work_given slots job ≡ 0
-given_none [] n job below later = refl
-given_none (slot ∷ slots) n job below later =
-    let here = All-head (λ slot. slot.job < n) slot slots below in
-    omega (
-      arith,
-      sum_by-cons (λ (slot : WholeSlot). cond (job == slot.job) slot.work 0) slot slots,
-      ap (λ b. cond b slot.work 0) (ne_eqb job slot.job (λ same. absurd (omega (arith, same, here, later)))),
-      given_none slots n job (All-tail (λ slot. slot.job < n) slot slots below) later,
-    )
-
 -- the denominators of a split
 abbrev pub split_denominators : (level : Level) (gap speed : ℕ) (slot : WrittenSlot) → Test (HasSplitDenominators level gap speed slot)
 split_denominators level gap speed slot = hlevel tests
 
--- a level that isn't too fast
-abbrev pub not_too_fast : (points : List Point) (level : Level) → Test (IsTooFast points level → ⊥)
-not_too_fast points level = hlevel tests
-
--- levels that aren't
+-- levels that aren't too fast
 abbrev pub slow_enough : (points : List Point) (levels : List Level) → Test (All (λ level. IsTooFast points level → ⊥) levels)
-slow_enough points levels = test_all (not_too_fast points) levels
+slow_enough points levels = test_all (λ level. test_implied (test_le (suc (top_of points * level.length)) level.work) test_never) levels
 
 -- slots that run at a speed without a gap
 abbrev pub runs_at_point : (speed from to : ℕ) (slots : List WholeSlot) → Test (RunsAtPoint speed from to slots)
@@ -113,69 +97,61 @@ runs_on (suc speed) from to slots = runs_at_point (suc speed) from to slots
 abbrev pub lies_written : (stretch : Piece) (slot : WrittenSlot) → Test (LiesWritten slot stretch)
 lies_written stretch slot = hlevel tests
 
--- a slot of a job below a number
-abbrev pub is_below : (n : ℕ) (slot : WholeSlot) → Test (slot.job < n)
-is_below n slot = hlevel tests
-
--- The slots at the two points of a place of the hull and the next one, with so much time at the faster one, for jobs below n.
-module _ (n scale time place : ℕ) (hull : List Point) (level : Level) (stretch : Piece) (planned fast slow : List WrittenSlot) where
+-- The points at a place of the hull and the next one stand around a level's speed.
+module _ (place : ℕ) (hull : List Point) (level : Level) where
   abbrev pub low : Point
   low = point_at hull place
 
   abbrev pub high : Point
   high = point_at hull (place + 1)
 
+  abbrev pub are_around : Test ((place + 1 < length hull) × (low.speed * level.length < level.work) × (level.work < high.speed * level.length))
+  are_around = hlevel tests
+
+  pub neighbours_by_test : are_around.passes ≡ true → AreNeighbours hull level low high
+  neighbours_by_test passed =
+      let beside = proved are_around passed in record { place = place; within = beside.0; is_low = refl; is_high = refl; above_low = beside.1; below_high = beside.2 }
+
+-- The slots at the two points of a place of the hull and the next one, with so much time at the faster one.
+module _ (scale time place : ℕ) (hull : List Point) (level : Level) (stretch : Piece) (planned fast slow : List WrittenSlot) where
+  abbrev pub faster : Point
+  faster = high place hull level
+
+  abbrev pub slower : Point
+  slower = low place hull level
+
   -- all slots of the split at the scale, and the plan's
   abbrev pub whole : List WholeSlot
   whole = slots_at scale fast ++ slots_at scale slow
 
-  -- they stand around the level's speed
-  abbrev pub are_around : Test ((place + 1 < length hull) × (low.speed * level.length < level.work) × (level.work < high.speed * level.length))
-  are_around = hlevel tests
-
-  -- they do the same work in the same order
+  -- they run in the plan's order; each job has one slot at each of the two points, with the denominators of a split
   abbrev pub is_split : Test (
-      (time * (level.length * (high.speed - low.speed)) ≡ (level.work - low.speed * level.length) * ((stretch.to - stretch.from) * scale))
-      × RunsAtPoint high.speed (stretch.from * scale) (stretch.from * scale + time) (slots_at scale fast)
-      × RunsOn low.speed (stretch.from * scale + time) (stretch.to * scale) (slots_at scale slow)
-      × (jobs_in_turn whole ≡ jobs_in_turn (slots_at scale planned)) × All (λ slot. slot.job < n) whole × All (λ slot. slot.job < n) (slots_at scale planned)
-      × Each n (λ job. work_given whole job ≡ work_given (slots_at scale planned) job))
-  is_split = hlevel (tests, runs_at_point, runs_on, is_below n)
+      (time * (level.length * (faster.speed - slower.speed)) ≡ (level.work - slower.speed * level.length) * ((stretch.to - stretch.from) * scale))
+      × RunsAtPoint faster.speed (stretch.from * scale) (stretch.from * scale + time) (slots_at scale fast)
+      × RunsOn slower.speed (stretch.from * scale + time) (stretch.to * scale) (slots_at scale slow)
+      × (jobs_in_turn whole ≡ jobs_in_turn (slots_at scale planned)) × AreDifferent (map (λ slot. slot.job) fast) × AreDifferent (map (λ slot. slot.job) slow)
+      × All (HasSplitDenominators level (faster.speed - slower.speed) faster.speed) fast × All (HasSplitDenominators level (faster.speed - slower.speed) slower.speed) slow)
+  is_split = hlevel (tests, runs_at_point, runs_on, different, split_denominators)
 
-  -- each job has one slot at each of the two points, with the denominators of a split
-  abbrev pub has_split_form : Test (AreDifferent (map (λ slot. slot.job) fast) × AreDifferent (map (λ slot. slot.job) slow)
-      × All (HasSplitDenominators level (high.speed - low.speed) high.speed) fast × All (HasSplitDenominators level (high.speed - low.speed) low.speed) slow)
-  has_split_form = hlevel (tests, different, split_denominators)
-
-  -- written slots are a split where they pass the tests at one scale
-  pub splits_by_test : are_around.passes ≡ true → (is_scale scale (planned ++ fast ++ slow)).passes ≡ true → is_split.passes ≡ true →
-      has_split_form.passes ≡ true → SplitsStretch hull level stretch planned (fast ++ slow)
-  splits_by_test around is split form =
-      let beside = proved are_around around in
+  -- written slots are a split where they pass the tests at one scale and do the same work
+  pub splits_by_test : (are_around place hull level).passes ≡ true → (is_scale scale (planned ++ fast ++ slow)).passes ≡ true → is_split.passes ≡ true →
+      ((job : ℕ) → work_given whole job ≡ work_given (slots_at scale planned) job) →
+      SplitsStretch hull level stretch planned (fast ++ slow)
+  splits_by_test around is split same =
       let at = proved is_split split in
-      let written = proved has_split_form form in
       record {
-        low = low;
-        high = high;
-        around = record { place = place; within = beside.0; is_low = refl; is_high = refl; above_low = beside.1; below_high = beside.2 };
+        low = slower;
+        high = faster;
+        around = neighbours_by_test place hull level around;
         fast = fast;
         slow = slow;
         parts = refl;
-        split = one_scale_decides_split level low high stretch planned fast slow scale (proved (is_scale scale (planned ++ fast ++ slow)) is) (record {
-          time = time;
-          is_time = at.0;
-          first = at.1;
-          then_slow = at.2;
-          same_order = at.3;
-          same_work = λ job. elim (cases_lt job n) [
-            | inl less ↦ at.6 job less
-            | inr more ↦ given_none whole n job at.4 more ∙ sym (given_none (slots_at scale planned) n job at.5 more)
-          ];
-        });
-        fast_once = written.0;
-        slow_once = written.1;
-        fast_denominators = written.2;
-        slow_denominators = written.3;
+        split = one_scale_decides_split level slower faster stretch planned fast slow scale (proved (is_scale scale (planned ++ fast ++ slow)) is)
+            (record { time = time; is_time = at.0; first = at.1; then_slow = at.2; same_order = at.3; same_work = same });
+        fast_once = at.4;
+        slow_once = at.5;
+        fast_denominators = at.6;
+        slow_denominators = at.7;
       }
 
 -- the slots of a stretch lie in it, and their jobs are members of a level
@@ -204,14 +180,11 @@ can_serve top jobs slots feasible within =
     record { scale = 1; positive = omega arith; slots = slots; feasible = proved (feasible_at jobs 1 slots) feasible; within_top = at_most }
 
 module _ (top from to : ℕ) (jobs : List Job) (numbers : List ℕ) where
-  -- a job known and in the interval
-  abbrev pub lies_inside : (number : ℕ) → Test ((from ≤ (job_at jobs number).release) × ((job_at jobs number).deadline ≤ to))
-  lies_inside number = hlevel tests
-
   -- Different jobs that lie in an interval and want more than the top speed can serve there can't be served.
   abbrev pub is_crowd : Test (AreDifferent numbers × All (λ number. number < length jobs) numbers
       × All (λ number. (from ≤ (job_at jobs number).release) × ((job_at jobs number).deadline ≤ to)) numbers)
-  is_crowd = hlevel (tests, different, lies_inside)
+  is_crowd =
+      hlevel (tests, different, test_all (λ number. test_both (test_le from (job_at jobs number).release) (test_le (job_at jobs number).deadline to)) numbers)
 
   pub cant_serve : from < to → is_crowd.passes ≡ true → top * (to - from) < work_of jobs numbers → CanServe top jobs → ⊥
   cant_serve forward passed much serve =

@@ -12,7 +12,7 @@ use Rattle.yds_model.specs.Plan.{IsServedInStretches}
 use Rattle.yds_model.specs.Policy.{slots_in, FillsAtSpeed, ServesCapacity, IsRunAt}
 use Rattle.yds_model.specs.Audit.{AreSlots}
 use Rattle.yds_model.proofs.Scale.{one_scale_decides}
-use Rattle.yds_examples.proofs.Tests.{Test, tests, proved, refuted, test_eq, test_each, test_grid, test_ordered}
+use Rattle.yds_examples.proofs.Tests.{Test, tests, proved, refuted, test_never, test_eq, test_implied, test_each, test_grid, test_ordered}
 
 -- # Written slots
 
@@ -91,14 +91,11 @@ lies_in scale slot stretch = hlevel tests
 abbrev pub uncut : (jobs : List Job) (scale : ℕ) (slot : WholeSlot) → Test (IsUncut jobs scale slot)
 uncut jobs scale slot = hlevel (tests, lies_in)
 
--- two slots don't both lie in a stretch
-abbrev pub lie_apart : (scale : ℕ) (one other : WholeSlot) (stretch : Piece) → Test (LiesIn scale one stretch → LiesIn scale other stretch → ⊥)
-lie_apart scale one other stretch = hlevel (tests, lies_in)
-
 -- two slots of one job lie in different stretches
 abbrev pub is_once : (jobs : List Job) (scale : ℕ) (slots : List WholeSlot) (i j : ℕ) → Test ((slot_at slots i).job ≡ (slot_at slots j).job →
     All (λ stretch. LiesIn scale (slot_at slots i) stretch → LiesIn scale (slot_at slots j) stretch → ⊥) (stretches jobs))
-is_once jobs scale slots i j = hlevel (tests, lie_apart)
+is_once jobs scale slots i j =
+    hlevel (tests, λ (stretch : Piece). test_implied (lies_in scale (slot_at slots i) stretch) (test_implied (lies_in scale (slot_at slots j) stretch) test_never))
 
 -- slots in order, uncut, and one for a job and stretch
 abbrev pub served_in_stretches : (jobs : List Job) (scale : ℕ) (slots : List WholeSlot) → Test (IsServedInStretches jobs scale slots)

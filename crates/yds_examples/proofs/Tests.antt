@@ -1,5 +1,5 @@
 -- Tests: a truth value that decides a statement. `hlevel` puts the test of a record together from those of its fields.
-use Rattle.std.proofs.Common.{◌≡◌, ℕ, zero, suc, ◌+◌, ◌%◌, ◌<◌, ◌≤◌, ◌⊎◌, List, [], ◌∷◌, get_or, Bool, true, false, ◌&&◌, ◌||◌, ◌==◌, nat_le, refl, sym, subst, inl, inr, arith, eqb-true, eq-eqb, ap}
+use Rattle.std.proofs.Common.{◌≡◌, ℕ, zero, suc, ◌+◌, ◌%◌, ◌<◌, ◌≤◌, ◌⊎◌, List, [], ◌∷◌, length, get_or, Bool, true, false, ◌&&◌, ◌||◌, ◌==◌, nat_le, refl, sym, subst, inl, inr, arith, eqb-true, eq-eqb, ap}
 use Rattle.std.specs.Prelude.{not}
 use Rattle.std.specs.Bool.{Decides}
 use Rattle.std.specs.Int.{◌∣◌}
@@ -50,17 +50,12 @@ test_divides a b = record {
 }
 
 -- no elements
-abbrev pub is_empty : {X : Type 0} → List X → Bool
-is_empty [] = true
-is_empty (x ∷ xs) = false
-
--- it decides that
-pub empty_decided : {X : Type 0} (xs : List X) → Decides (is_empty xs) (xs ≡ [])
+pub empty_decided : {X : Type 0} (xs : List X) → Decides (length xs == 0) (xs ≡ [])
 empty_decided [] = (λ e. refl, λ h. refl)
-empty_decided (x ∷ xs) = (λ e. absurd cc, λ h. absurd cc)
+empty_decided (x ∷ xs) = (λ e. absurd (omega (arith, eqb-true (length (x ∷ xs)) 0 e)), λ h. absurd cc)
 
 abbrev pub test_empty : {X : Type 0} (xs : List X) → Test (xs ≡ [])
-test_empty xs = record { passes = is_empty xs; decides = empty_decided xs }
+test_empty xs = record { passes = length xs == 0; decides = empty_decided xs }
 
 -- a fact under a premise
 pub implied_decided : {P Q : Type 0} (x y : Bool) → Decides x P → Decides y Q → Decides (not x || y) (P → Q)
@@ -166,7 +161,4 @@ test_fraction x y =
     (hlevel (test_eq, test_both, test_record))
 
 -- the tests of which `hlevel` makes others
-pub ruleset tests = (
-  test_always, test_never, test_le, test_eq, test_divides, test_empty, test_numbers, test_fraction, test_contains, test_record, test_both, test_either, test_implied,
-  test_each, test_before, test_between, test_grid, test_ordered, test_all, test_any,
-)
+pub ruleset tests = (test_always, test_never, test_le, test_eq, test_divides, test_empty, test_numbers, test_fraction, test_contains, test_record, test_both, test_either, test_implied, test_each, test_before, test_between, test_grid, test_ordered, test_all, test_any)
