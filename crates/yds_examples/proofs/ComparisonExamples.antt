@@ -1,11 +1,10 @@
 -- What schedules spend on the operating points, and the answer of `compare`, tried on its worked rows: a from 0 to 3 with work 2 and b from
 -- 1 to 2 with work 1, on the grid 6.
-use Rattle.std.proofs.Common.{◌≡◌, ℕ, zero, suc, ◌+◌, ◌*◌, ◌<◌, ◌≤◌, List, [], ◌∷◌, length, map, refl, ap, arith, inl, inr, true, false}
+use Rattle.std.proofs.Common.{◌≡◌, ℕ, ◌+◌, ◌*◌, ◌<◌, ◌≤◌, List, [], ◌∷◌, length, map, refl, ap, arith, inl, inr, true, false}
 use Rattle.std.specs.Prelude.{codes}
 use Rattle.std.specs.Fmt.{digits}
 use Rattle.std.specs.List.{All}
 use Rattle.std.proofs.Math.Nat.{one-dvd}
-use Rattle.std.proofs.lemmas.List.Elements.{All-from_recursion}
 use Rattle.yds_model.specs.declared.status.Status.TheVariants.{Done, No, Refused}
 use Rattle.yds_model.specs.Numbers.{IsFirstFailure}
 use Rattle.yds_model.specs.Job.{Job}
@@ -18,17 +17,16 @@ use Rattle.yds_model.specs.Event.{stretches}
 use Rattle.yds_model.specs.Plan.{IsServedInStretches, IsPlan}
 use Rattle.yds_model.specs.Policy.{IsRunAt}
 use Rattle.yds_model.specs.AverageRate.{average_rate, IsAverageRateRun}
-use Rattle.yds_model.specs.Rounding.{IsTooFast}
 use Rattle.yds_model.specs.Comparison.{work_in, all_time_at, all_energy, Spent, IsSpentAt, IsSpent, HoldsStretch, stretch_at, IsTooSlowFor, Spends, TooSlowFor, HoldsAll, IsSide}
 use Rattle.yds_model.specs.Answer.{Answers}
 use Rattle.yds_model.proofs.Scale.{one_scale_of, least_scale_of}
 use Rattle.yds_model.proofs.Divisor.{multiple_is_least}
 use Rattle.yds_texts.specs.CompareText.{CostsNoLess}
 use Rattle.yds_examples.proofs.Tests.{Test, tests, proved, refuted, test_never, test_le, test_eq, test_implied, test_all, test_each}
-use Rattle.yds_examples.proofs.TestedSchedules.{is_scale, feasible_by_test, served_in_stretches, run_at}
+use Rattle.yds_examples.proofs.TestedSchedules.{is_scale, run_at}
 use Rattle.yds_examples.proofs.TestedPlans.{proper_by_test, served_by_test, plan_by_test}
 use Rattle.yds_examples.proofs.TestedRounding.{slow_enough}
-use Rattle.yds_energy.proofs.RunScale.{served_in_stretches_scaled, average_rate_run_scaled}
+use Rattle.yds_energy.proofs.RunScale.{average_rate_run_scaled}
 use Rattle.yds_examples.proofs.Policies.{available_jobs as jobs, fine_slots as available, fine_scale as available_scale, fine_accepted as available_run}
 use Rattle.yds_energy.proofs.SpentScale.{spent_kept, all_hold_kept, first_failure_kept, units_kept}
 

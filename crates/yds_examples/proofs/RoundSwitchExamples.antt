@@ -2,9 +2,8 @@
 -- to 3, on the points of the speeds 0, 2 and 4, whose powers are 0, 1 and 3. And changes of it that are refused.
 use Rattle.std.proofs.Common.{◌≡◌, ◌==◌, ℕ, zero, suc, ◌+◌, ◌-◌, ◌*◌, ◌<◌, List, [], ◌∷◌, ◌++◌, map, refl, sym, ap, subst, ◌∙◌, arith, inl, inr, append_assoc, true}
 use Rattle.std.specs.Prelude.{cond}
-use Rattle.std.specs.List.{Any, Contains}
+use Rattle.std.specs.List.{Any}
 use Rattle.std.proofs.lemmas.List.{append-nil}
-use Rattle.std.proofs.lemmas.List.Elements.{All-from_recursion}
 use Rattle.yds_model.specs.Numbers.{AreDifferent}
 use Rattle.std.proofs.lemmas.Bool.Decides.{nat_tests}
 use Rattle.yds_model.specs.Job.{Job}
@@ -15,7 +14,7 @@ use Rattle.yds_model.specs.Piece.{Piece}
 use Rattle.yds_model.specs.Level.{Level}
 use Rattle.yds_model.specs.Proper.{IsProper}
 use Rattle.yds_model.specs.Table.{Point, point_at, hull_of}
-use Rattle.yds_model.specs.Event.{stretches, LiesWritten}
+use Rattle.yds_model.specs.Event.{stretches}
 use Rattle.yds_model.specs.Rounding.{HasPointSpeed, AreNeighbours, RunsAtPoint, HasSplitDenominators, IsSplitAt, SplitsStretch, RoundsStretches, IsEnergyOf, IsRounding}
 use Rattle.yds_model.proofs.Lists.{count-cons}
 use Rattle.yds_examples.proofs.Tests.{proved, refuted, test_eq, test_any}

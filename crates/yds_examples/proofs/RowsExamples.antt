@@ -1,15 +1,12 @@
 -- Whole answers by the one relation of words, input, text and status: the worked rows of `audit` and `check`, and refusals.
-use Rattle.std.proofs.Common.{◌≡◌, ℕ, List, [], ◌∷◌, None, Result, Ok, Err, Bool, true, false, ◌&&◌, refl, sym}
-use Rattle.std.specs.Prelude.{codes, not}
+use Rattle.std.proofs.Common.{◌≡◌, ℕ, List, [], ◌∷◌, None, true, refl}
+use Rattle.std.specs.Prelude.{codes}
 use Rattle.std.specs.Fmt.{digits}
-use Rattle.yds_model.specs.declared.reason.Reason.{Reason}
 use Rattle.yds_model.specs.declared.status.Status.{Status}
 use Rattle.yds_model.specs.declared.status.Status.TheVariants as statuses
 use Rattle.yds_model.specs.Scale.{of_whole}
 use Rattle.yds_model.specs.Text.{line}
-use Rattle.yds_model.specs.Document.{Document, no_document}
-use Rattle.yds_model.specs.Fields.{Fault}
-use Rattle.yds_model.specs.Reading.{reading}
+use Rattle.yds_model.specs.Document.{Document}
 use Rattle.yds_model.specs.Audit.{Verdict, Feasible, Backward, Overlap, Early, Late, WrongWork, IsVerdict}
 use Rattle.yds_model.specs.Judgement.{Judgement, Accepted, Slots, Pieces, Members, Sums, Order, Window, Speed, IsJudgement}
 use Rattle.yds_model.specs.AuditAnswer.{verdict_words, verdict_status, AuditAnswer, judgement_words, judgement_status, CheckAnswer}

@@ -5,7 +5,6 @@ use Rattle.std.specs.List.{All, Contains}
 use Rattle.yds_model.specs.Numbers.{Each}
 use Rattle.yds_model.specs.Job.{Job, job_at}
 use Rattle.yds_model.specs.Slot.{WrittenSlot, IsScale, slots_at, written_slot_at}
-use Rattle.yds_model.specs.Feasible.{IsFeasible}
 use Rattle.yds_model.specs.Piece.{Piece, AreApart, PiecesFrom, IsConfined}
 use Rattle.yds_model.specs.Level.{Level, level_at, all_members, all_pieces}
 use Rattle.yds_model.specs.Proper.{PiecesStand, StandsOnce, SumsAgree, IsNotFaster, IsWindowCovered, AreLevels, IsProper}
