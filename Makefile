@@ -10,9 +10,15 @@
 #   make fuzz       draws DOCUMENTS documents near the grammar from SEED, and holds the built program's answers against what they promise
 #   make costly     times the built program on the documents that cost most
 #   make bench      times it as documents grow, and beside a plain program of the textbook's method
+#   make bench-library  how often a second the library answers from C and from Python, beside processes of the program
+#   make library    builds the C library, build/libyds.a and build/libyds.so
+#   make library-test   the library answers every stored row, and DOCUMENTS drawn documents (20,000), as the program does; refused memory, threads, examples;
+#                       the Python package does so too, and as a wheel; and the commands of docs/library.md write what stands there
+#   make wheel      the Python package with the shared object as a wheel, in build/dist
 #   make install    copies build/yds_cli to PREFIX/bin, its manual page, completion, recipes and examples to PREFIX/share,
-#                   and links the commands of the recipes (yds-trace, yds-plot, ..) into PREFIX/bin
-#   make uninstall  removes just these
+#                   and links the commands of the recipes (yds-trace, yds-plot, ..) into PREFIX/bin; and the library, where it was built
+#   make install-program, make install-library   the one or the other alone
+#   make uninstall  removes just these; so do uninstall-program and uninstall-library
 #   make map        draws docs/pictures/crates.svg from crates.txt
 #   make deb        Debian packages of what is built, in build/dist
 #   make dist       the sources and a static program as archives, with their sums, in build/dist
@@ -20,7 +26,8 @@
 #   make record-build   writes that sum into packaging/released, before a release
 #   make packages-test  tries the packages in Debian 12 and 13, and the static program in an empty root; wants root and debootstrap
 #
-# faults, fuzz and costly want a C compiler (Debian: gcc and libc6-dev), and bench also one for C++ (g++).
+# faults, fuzz, costly, library and bench-library want a C compiler (Debian: gcc and libc6-dev), bench and library-test also one for C++ (g++), and
+# library-test pkg-config and python3-venv.
 # JOBS crates are proved side by side, each in up to 2 GB of memory.
 
 SHELL := /bin/bash
@@ -34,6 +41,9 @@ BIN = $(DESTDIR)$(PREFIX)/bin
 SHARE = $(DESTDIR)$(PREFIX)/share
 MAN = $(SHARE)/man/man1
 COMPLETIONS = $(SHARE)/bash-completion/completions
+LIB = $(DESTDIR)$(PREFIX)/lib
+INCLUDE = $(DESTDIR)$(PREFIX)/include
+PACKAGE = $(LIB)/python3/dist-packages/yds
 RECIPES = $(SHARE)/$(PROGRAM)/recipes
 EXAMPLES = $(SHARE)/$(PROGRAM)/examples
 VERSION := $(shell cat VERSION)
@@ -49,7 +59,11 @@ COMMAND ?= plan
 SEED ?= 1
 DOCUMENTS ?= 100000
 
-.PHONY: all run try test check recipes faults fuzz costly bench install uninstall map deb dist check-build record-build packages-test clean tool
+LIBRARY := build/libyds.so
+PACKAGE_FILES := $(notdir $(wildcard library/python/yds/*.py)) py.typed
+LIBRARY_FILES := libyds.so libyds.so.$(firstword $(subst ., ,$(VERSION))) libyds.so.$(VERSION) libyds.a
+
+.PHONY: all run try test check recipes faults fuzz costly bench bench-library library library-test wheel install install-program install-library uninstall uninstall-program uninstall-library map deb dist check-build record-build packages-test clean tool
 
 all: $(BINARY)
 
@@ -106,7 +120,27 @@ costly: $(BINARY)
 bench: $(BINARY)
 	@CC=$(CC) CXX=$(CXX) sh bench/bench.sh
 
-install: $(BINARY)
+# The archive is made with the shared object. The crates are proved side by side, with the program, before either.
+$(LIBRARY): $(SOURCES) library/build.sh library/yds.map | $(BINARY)
+	@CC=$(CC) sh library/build.sh
+
+library: $(LIBRARY)
+
+library-test: $(BINARY) $(LIBRARY)
+	@CC=$(CC) CXX=$(CXX) sh library/test/test.sh
+	@sh library/python/test.sh
+	@sh recipes/test.sh library
+
+# Packages have what is built: only where it isn't there, the library is built first.
+wheel: $(if $(wildcard $(LIBRARY)),,$(LIBRARY))
+	@sh packaging/wheel.sh
+
+bench-library: $(BINARY) $(LIBRARY)
+	@CC=$(CC) sh bench/library.sh
+
+install: install-program $(if $(wildcard $(LIBRARY)),install-library)
+
+install-program: $(BINARY)
 	install -d $(BIN) $(MAN) $(COMPLETIONS) $(RECIPES) $(EXAMPLES)
 	install -m 755 $(INSTALLED) $(BIN)/$(PROGRAM)
 	sed 's/^\.Os$$/.Os $(PROGRAM) $(VERSION)/' docs/$(PROGRAM).1 >$(MAN)/$(PROGRAM).1
@@ -124,7 +158,27 @@ install: $(BINARY)
 	for file in $(SAMPLE_FILES); do install -D -m 644 recipes/samples/$$file $(RECIPES)/samples/$$file || exit 1; done
 	install -m 644 $(EXAMPLE_FILES:%=examples/%) $(EXAMPLES)
 
-uninstall:
+install-library: $(LIBRARY)
+	install -d $(LIB)/pkgconfig $(INCLUDE)
+	install -m 755 $(LIBRARY) $(LIB)/libyds.so.$(VERSION)
+	ln -sf libyds.so.$(VERSION) $(LIB)/libyds.so.1
+	ln -sf libyds.so.1 $(LIB)/libyds.so
+	install -m 644 build/libyds.a $(LIB)
+	install -m 644 library/yds.h $(INCLUDE)
+	sed 's|@PREFIX@|$(PREFIX)|; s|@VERSION@|$(VERSION)|' library/yds.pc.in >$(LIB)/pkgconfig/yds.pc
+	chmod 644 $(LIB)/pkgconfig/yds.pc
+	install -d $(PACKAGE)
+	install -m 644 $(PACKAGE_FILES:%=library/python/yds/%) $(PACKAGE)
+	@test -n "$(DESTDIR)" || ldconfig 2>/dev/null || echo "ldconfig, run by root, lets programs find $(LIB)/libyds.so.1"
+
+uninstall: uninstall-program uninstall-library
+
+uninstall-library:
+	rm -f $(LIBRARY_FILES:%=$(LIB)/%) $(LIB)/pkgconfig/yds.pc $(INCLUDE)/yds.h $(PACKAGE_FILES:%=$(PACKAGE)/%)
+	rm -rf $(PACKAGE)/__pycache__
+	test ! -d $(PACKAGE) || rmdir --ignore-fail-on-non-empty $(PACKAGE)
+
+uninstall-program:
 	rm -f $(BIN)/$(PROGRAM) $(MAN)/$(PROGRAM).1 $(COMPLETIONS)/$(PROGRAM) $(RECIPE_FILES:%=$(RECIPES)/%)
 	rm -f $(COMMANDS:%=$(BIN)/%) $(COMMANDS:%=$(COMPLETIONS)/%) $(COMMANDS:%=$(MAN)/%.1)
 	rm -f $(SAMPLE_FILES:%=$(RECIPES)/samples/%) $(EXAMPLE_FILES:%=$(EXAMPLES)/%)

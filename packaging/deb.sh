@@ -67,7 +67,15 @@ close() {
 # compress FOLDER: the manual pages, as Debian has them.
 compress() { find "$1/usr/share/man" -type f -exec gzip -9n {} +; }
 
-make --no-print-directory install DESTDIR="$PWD/$stage/yds-cli" PREFIX=/usr >/dev/null || die "make install failed"
+# compiled NAME: Python's compiled files come with the package and go with it, as Debian's own packages have it.
+compiled() {
+	mkdir -p "$stage/$1/DEBIAN"
+	printf '#!/bin/sh\nset -e\nif command -v py3compile >/dev/null; then py3compile -p %s; fi\n' "$1" >"$stage/$1/DEBIAN/postinst"
+	printf '#!/bin/sh\nset -e\nif command -v py3clean >/dev/null; then py3clean -p %s; fi\n' "$1" >"$stage/$1/DEBIAN/prerm"
+	chmod 755 "$stage/$1/DEBIAN/postinst" "$stage/$1/DEBIAN/prerm"
+}
+
+make --no-print-directory install-program DESTDIR="$PWD/$stage/yds-cli" PREFIX=/usr >/dev/null || die "make install failed"
 compress $stage/yds-cli
 close yds-cli amd64 "libc6 (>= 2.34)" "jq, gnuplot-nox, parallel, trace-cmd, bash-completion" \
 	"planner and auditor for jobs on a processor of variable speed" <<'TEXT'
@@ -78,10 +86,11 @@ TEXT
 
 # The library and the module are packages of their own: a user of the program needs neither.
 if [ -f build/libyds.so ]; then
-	make --no-print-directory install-library DESTDIR="$PWD/$stage/libyds" PREFIX=/usr >/dev/null || die "make install-library failed"
+	make --no-print-directory -o build/libyds.so install-library DESTDIR="$PWD/$stage/libyds" PREFIX=/usr >/dev/null || die "make install-library failed"
 	if [ -d $stage/libyds/usr/lib/python3 ]; then
 		mkdir -p $stage/python3-yds/usr/lib
 		mv $stage/libyds/usr/lib/python3 $stage/python3-yds/usr/lib/python3
+		compiled python3-yds
 		close python3-yds all "python3 (>= 3.8), libyds (= $version)" "python3-matplotlib, python3-pandas" \
 			"planner and auditor for jobs of variable speed, for Python" <<'TEXT'
 The Python module yds, over the shared library of the package libyds.

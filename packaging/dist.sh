@@ -3,6 +3,7 @@
 #
 #   yds_cli-VERSION.tar.gz                       the sources of the commit
 #   yds_cli-VERSION-linux-x86_64.tar.gz          the static program, with its manual page, completion, recipes and examples
+#   yds-VERSION-py3-none-manylinux2014_x86_64.whl    the Python package, where build/libyds.so is there (`make library`)
 #   SHA256SUMS                                   the sums of these, and of the packages where they are there
 #
 # Two builds of one commit, with the same compiler and C library for the static program, are the same bytes.
@@ -19,7 +20,7 @@ git archive --prefix="$name/" HEAD | gzip -9n >"$out/$name.tar.gz"
 stage=build/stage
 folder=$stage/$name-linux-x86_64
 rm -rf $stage
-make --no-print-directory install INSTALLED=build/yds_cli-static DESTDIR="$PWD/$folder" PREFIX= >/dev/null || die "make install failed"
+make --no-print-directory install-program INSTALLED=build/yds_cli-static DESTDIR="$PWD/$folder" PREFIX= >/dev/null || die "make install failed"
 cp README.md CHANGELOG.md LICENSE-MIT LICENSE-APACHE VERSION "$folder"
 {
 	echo "This program, bin/yds_cli, is one file that needs no library. It runs on any Linux, on a processor of x86-64-v2 or later."
@@ -32,4 +33,5 @@ cp README.md CHANGELOG.md LICENSE-MIT LICENSE-APACHE VERSION "$folder"
 same_times "$folder"
 tar --sort=name --owner=0 --group=0 --numeric-owner --format=ustar -C $stage -cf - "$name-linux-x86_64" | gzip -9n >"$out/$name-linux-x86_64.tar.gz"
 rm -rf $stage
+[ ! -f build/libyds.so ] || sh packaging/wheel.sh >/dev/null || die "the wheel failed"
 sums

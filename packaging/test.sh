@@ -92,6 +92,8 @@ library() {
 status, text = yds.answer(["plan"], b"job a 0 4 8\n")
 assert int(status) == 0 and bytes(text) == open("/tmp/wanted", "rb").read()
 print("as the program")'
+	try "$suite: the module and the library leave nothing" inside sh -c 'apt-get purge -y python3-yds libyds &&
+		[ -z "$(ls -d /usr/lib/python3/dist-packages/yds /usr/lib/libyds* /usr/include/yds.h 2>/dev/null)" ] && echo "nothing of them"'
 	rm -rf "$root"
 	root=$plain
 }

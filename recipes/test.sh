@@ -433,6 +433,7 @@ commands_of() {
 			ln -s "$YDS" "$section.folder/build/yds_cli"
 			ln -s "$here" "$section.folder/recipes"
 			ln -s "$here/../examples" "$section.folder/examples"
+			ln -s "$here/../library" "$section.folder/library"
 			(cd "$section.folder" && PATH=$section.folder/bin:$here/bin:$PATH bash -c '
 				last=0
 				for command in "$1".*.command; do

@@ -7,6 +7,8 @@
  * a finding is repeated by `fuzz PROGRAM ROWS SEED 1 I`. It is also written into the file finding-SEED-I.txt. The last line
  * is 'N passed, M failed', and the exit status is 1 where M isn't 0.
  *
+ * With -DLIBRARY, and linked with the C library, each answer of the program is also compared with the library's.
+ *
  * What is held: a run ends with a status of the table and without a word on standard error. A refusal's line and column are
  * in the input, and every command refuses a document alike. `check` accepts and `audit` finds feasible what `plan` wrote; so does
  * `audit` what `avr`, `oa`, `admit` and `round` wrote, the last with `--points` too; `plan` reads what `expand` wrote. An answer that is
@@ -27,6 +29,9 @@
 #include <sys/mman.h>
 #include <sys/wait.h>
 #include <unistd.h>
+#ifdef LIBRARY
+#include "yds.h"
+#endif
 
 enum { MOST_ROWS = 400, MOST_BYTES = 1 << 20, SECONDS = 60 };
 
@@ -338,6 +343,22 @@ static void empty(int file) {
 		exit(2);
 }
 
+#ifdef LIBRARY
+enum { OTHERWISE = 1000 };
+
+/* Asks the library what the program was asked. Where it answers otherwise, the status tells it. */
+static void compare_with_library(struct answer *answer, char *const *words, size_t count, const struct text *input) {
+	static char room[MOST_BYTES];
+	struct yds_word given[6];
+	size_t needed;
+	for (size_t i = 0; i < count; i++)
+		given[i] = (struct yds_word){words[i], strlen(words[i])};
+	int status = yds_answer(given, count, input->bytes, input->length, input->length, 17, room, sizeof room, &needed);
+	if (status != answer->status || needed != answer->written.length || memcmp(room, answer->written.bytes, needed) != 0)
+		answer->status = OTHERWISE;
+}
+#endif
+
 /* Runs the program with the words of a line over the input. The answer's text is the caller's. */
 static void run(struct answer *answer, const char *line, const struct text *input) {
 	char words[100], *arguments[6] = {(char *)program}, *rest = words;
@@ -370,6 +391,9 @@ static void run(struct answer *answer, const char *line, const struct text *inpu
 	ssize_t length = pread(output_file, answer->written.bytes, MOST_BYTES, 0);
 	answer->written.length = length > 0 ? (size_t)length : 0;
 	answer->written.bytes[answer->written.length] = 0;
+#ifdef LIBRARY
+	compare_with_library(answer, arguments + 1, (size_t)count - 1, input);
+#endif
 }
 
 /* What is promised. Each function gives NULL, or says what doesn't hold. */
@@ -425,6 +449,10 @@ static int is_no_table(const struct answer *answer) { return strcmp(answer->writ
 
 /* What holds of every run over a document or tasks. */
 static const char *holds_ending(const struct answer *answer, const char *line, const struct text *input) {
+#ifdef LIBRARY
+	if (answer->status == OTHERWISE)
+		return "the library answers otherwise";
+#endif
 	if (answer->status != 0 && answer->status != 1 && answer->status != 3)
 		return "a status that no document gives";
 	if (lseek(error_file, 0, SEEK_END) != 0)

@@ -2,7 +2,7 @@
 test_install() {
 	has make || return
 	version=$(cat "$here/../VERSION")
-	in_root() { make -s -C "$here/.." -o build/yds_cli "$1" INSTALLED="$YDS" DESTDIR="$work/root" PREFIX=/usr >"$work/log" 2>&1; }
+	in_root() { make -s -C "$here/.." -o build/yds_cli -o build/libyds.so "$1" INSTALLED="$YDS" DESTDIR="$work/root" PREFIX=/usr >"$work/log" 2>&1; }
 	in_root install
 	if grep -q "^.Os yds_cli $version\$" "$work/root/usr/share/man/man1/yds_cli.1" 2>/dev/null; then pass; else fail "install: the manual page has no version $version"; head -n 3 "$work/log"; fi
 	if grep -q "^## $version\$" "$here/../CHANGELOG.md"; then pass; else fail "install: CHANGELOG.md has nothing of version $version"; fi

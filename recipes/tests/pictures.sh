@@ -211,7 +211,7 @@ test_commands() {
 test_installed_commands() {
 	has make || { left_out=$((left_out + 1)); return; }
 	touch "$work/program"
-	make -s -C "$here/.." install BINARY="$work/program" DESTDIR="$work/root" PREFIX=/opt/yds >"$work/log" 2>&1 || { fail "install: $(tail -n 1 "$work/log")"; return; }
+	make -s -C "$here/.." install BINARY="$work/program" -o build/libyds.so DESTDIR="$work/root" PREFIX=/opt/yds >"$work/log" 2>&1 || { fail "install: $(tail -n 1 "$work/log")"; return; }
 	(cd "$here/bin" && ls) >"$work/wanted"
 	(cd "$work/root/opt/yds/bin" && ls yds-*) >"$work/got"
 	same "install: the commands" 0 - cmp "$work/wanted" "$work/got"
@@ -222,7 +222,7 @@ test_installed_commands() {
 	mv "$work/root/opt/yds" "$work/root/opt/elsewhere"
 	same "install: a command, also where the folder was moved" 0 trace.txt "$work/root/opt/elsewhere/bin/yds-trace" tasks=decode:16.667,audio:10 trace-report.txt
 	mv "$work/root/opt/elsewhere" "$work/root/opt/yds"
-	make -s -C "$here/.." uninstall BINARY="$work/program" DESTDIR="$work/root" PREFIX=/opt/yds >"$work/log" 2>&1
+	make -s -C "$here/.." uninstall BINARY="$work/program" -o build/libyds.so DESTDIR="$work/root" PREFIX=/opt/yds >"$work/log" 2>&1
 	find "$work/root" ! -type d >"$work/left"
 	find "$work/root" -name 'yds*' ! -path "$work/root/opt/yds" >>"$work/left"
 	same "uninstall: nothing is left" 0 - cat "$work/left"

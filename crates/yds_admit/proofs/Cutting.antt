@@ -231,21 +231,6 @@ cut_more job old new left units piece so_far some release deadline work = record
   work = omega (arith, so_far.work, sum_by_push (λ (one : Job). one.work) so_far.more piece, work, some);
 }
 
-pub all_cut : (job : Job) (old new : List Job) → IsCutSoFar job old new 0 → 1 ≤ job.work → IsCutInto job old new
-all_cut job old new so_far some = record {
-  more = so_far.more;
-  is = so_far.is;
-  some = elim (cases_lt 0 (length so_far.more)) [
-    | inl more ↦ omega (arith, more)
-    | inr none ↦ absurd (omega (arith, some, so_far.work, sum_of_none so_far.more none))
-  ];
-  windows = so_far.windows;
-  work = omega (arith, so_far.work);
-} where
-  sum_of_none : (xs : List Job) → length xs ≤ 0 → sum_by (λ (one : Job). one.work) xs ≡ 0
-  sum_of_none [] none = refl
-  sum_of_none (x ∷ xs) none = absurd (omega arith)
-
 -- with the last piece
 pub cut_last : (job : Job) (old new : List Job) (left : ℕ) (piece : Job) → IsCutSoFar job old new left → piece.release ≡ job.release → piece.deadline ≡ job.deadline →
     piece.work ≡ left → IsCutInto job old (new ++ piece ∷ [])

@@ -10,7 +10,7 @@ use Rattle.yds_model.specs.Admission.{CanServe, jobs_with, IsFirstOverfull, Refu
 use Rattle.yds_laws.specs.AdmissionLaws.{HasRoom}
 use Rattle.yds_laws.proofs.Served.{served_where_room}
 use Rattle.yds_admit.specs.Interval.{enclosed_work}
-use Rattle.yds_admit.specs.Decision.{IsDecision, Decided}
+use Rattle.yds_admit.specs.State.{IsDecision, Decided}
 use Rattle.yds_admit.proofs.Overfull.{numbers_work, first_numbers, room_front}
 
 pub begun : (rows : List Job) (top : ℕ) → Decided rows top 0 [] [] []

@@ -10,6 +10,7 @@ use Rattle.yds_model.specs.Job.{Job, no_job, job_at}
 use Rattle.yds_model.specs.Policy.{numbers_of}
 use Rattle.yds_model.proofs.Sums.{sum_by_same}
 use Rattle.yds_laws.specs.AdmissionLaws.{HasRoom}
+use Rattle.yds_admit.specs.declared.board.Board.{Board}
 use Rattle.yds_admit.specs.declared.board.Spot.{Spot}
 use Rattle.yds_admit.specs.Interval.{enclosed_work}
 use Rattle.yds_admit.specs.Chain.{IsFalling, AreTimes, due_work, IsChain, Takes}
@@ -51,8 +52,22 @@ module _ (top : ℕ) (times full : List ℕ) (spots : List Spot) (marks : List B
     pub kept : (k : ℕ) → n ≤ k → k < length spots → (q : ℕ) → q < (spot_at spots k).begin → get_or gaps q 0 ≡ get_or full q 0
     pub holds : (k : ℕ) → k < n → HoldsAt k
 
-module _ (rows : List Job) (top : ℕ) (times full : List ℕ) (spots : List Spot) (board : IsBoard rows top times full spots) (marks : List Bool)
-    (m : ℕ) (long : length times ≡ m + 1) where
+module _ (board : Board) (valid : IsBoard board) (marks : List Bool) (m : ℕ) (long : length board.times.items ≡ m + 1) where
+  abbrev rows : List Job
+  rows = board.rows.now
+
+  abbrev top : ℕ
+  top = board.top
+
+  abbrev times : List ℕ
+  times = board.times.items
+
+  abbrev full : List ℕ
+  full = board.gaps.items
+
+  abbrev spots : List Spot
+  spots = board.spots.items
+
   abbrev all : List Job
   all = masked_jobs top times full spots marks m
 
@@ -66,22 +81,22 @@ module _ (rows : List Job) (top : ℕ) (times full : List ℕ) (spots : List Spo
   masked_at k d below = get_or-map (masked times marks) spots k no_spot d below
 
   pub is_spot : (k : ℕ) → k < length spots → IsSpot rows times (spot_at spots k)
-  is_spot k below = board.are_spots.each k no_spot below
+  is_spot k below = valid.are_spots.each k no_spot below
 
   pub falls : IsFalling all
   falls i j order below = omega (
     arith,
     as_many,
-    board.falling i j no_spot order (omega (arith, below, as_many)),
+    valid.falling i j no_spot order (omega (arith, below, as_many)),
     ap (λ (job : Job). job.release) (masked_at i no_job (omega (arith, order, below, as_many))),
     ap (λ (job : Job). job.release) (masked_at j no_job (omega (arith, below, as_many))),
   )
 
   pub are_times : AreTimes 0 all times
   are_times = record {
-    some = board.are_times.some;
-    first = board.are_times.first;
-    rising = board.are_times.rising;
+    some = valid.are_times.some;
+    first = valid.are_times.first;
+    rising = valid.are_times.rising;
     all = λ k d below later.
         let there : k < length spots = omega (arith, below, as_many) in
         let end : ℕ = (spot_at spots k).end in (
@@ -98,13 +113,13 @@ module _ (rows : List Job) (top : ℕ) (times full : List ℕ) (spots : List Spo
   due = due_units top 0 all times m
 
   full_each : (q : ℕ) → q < m → get_or full q 0 + goes q ≡ goes (q + 1)
-  full_each q below = board.are_gaps.each q (omega (arith, long, below))
+  full_each q below = valid.are_gaps.each q (omega (arith, long, below))
 
   pub begun : Walking top times full spots marks m 0 full
   begun = record {
     done = λ q. 0;
     chain = record {
-      as_long = omega (arith, board.are_gaps.as_long, long);
+      as_long = omega (arith, valid.are_gaps.as_long, long);
       steps = λ q below. omega (arith, full_each q below, no_carried q);
       most = λ q below. omega arith;
       exact = λ q below some. refl;
@@ -126,7 +141,7 @@ module _ (rows : List Job) (top : ℕ) (times full : List ℕ) (spots : List Spo
         absurd (omega (
           arith,
           (is_spot n (omega (arith, order, below))).after (spot_at spots k).begin more (omega (arith, here.in_order, here.within)),
-          board.falling n k no_spot order below,
+          valid.falling n k no_spot order below,
           here.until,
         ))
   ]
@@ -147,7 +162,7 @@ module _ (rows : List Job) (top : ℕ) (times full : List ℕ) (spots : List Spo
     pub walks : Walking top times full spots marks m (n + 1) new
     walks =
         let went = goes_through top 0 all times m long n (omega (arith, within, as_many)) (masked times marks spot) (sym (masked_at n no_job within)) spot.end
-        (omega (arith, here.within, long)) here.earlier (λ q after below. board.are_times.rising spot.end q 0 after below)
+        (omega (arith, here.within, long)) here.earlier (λ q after below. valid.are_times.rising spot.end q 0 after below)
         walking.done gaps new 0 0 walking.chain (sym walking.none) takes in
         let begins : spot.begin < m = omega (arith, here.in_order, here.within, long) in
         let before = none_before m goes (due (n + 1)) went.done new went.chain full spot.begin (omega (arith, begins)) full_each still in
@@ -185,7 +200,7 @@ module _ (rows : List Job) (top : ℕ) (times full : List ℕ) (spots : List Spo
   -- the spot of a job
   spot_of : (number : ℕ) → number < length rows → (k : ℕ) × (k < length spots) × ((spot_at spots k).number ≡ number)
   spot_of number below =
-      let there = Contains-permutation (numbers_of rows) (map (λ (spot : Spot). spot.number) spots) number board.are_spots.same (
+      let there = Contains-permutation (numbers_of rows) (map (λ (spot : Spot). spot.number) spots) number valid.are_spots.same (
         number,
         omega (arith, length-range_with_len 0 (length rows), below),
         omega (arith, get_or-range_with_len 0 (length rows) number number below),
@@ -206,10 +221,10 @@ module _ (rows : List Job) (top : ℕ) (times full : List ℕ) (spots : List Spo
     same_work from to =
         let g : ℕ → ℕ = if_marked marks (λ n. term from to (job_at rows n)) in
         sym (marked.sums (term from to))
-        ∙ sym (sum_by-IsPermutation g (numbers_of rows) (map (λ (spot : Spot). spot.number) spots) board.are_spots.same)
+        ∙ sym (sum_by-IsPermutation g (numbers_of rows) (map (λ (spot : Spot). spot.number) spots) valid.are_spots.same)
         ∙ sum_by-map (λ (spot : Spot). spot.number) g spots
         ∙ sum_by_same (λ (spot : Spot). g spot.number) (λ (spot : Spot). term from to (masked times marks spot)) spots
-        (λ k d below. same_term from to (get_or spots k d) (board.are_spots.each k d below))
+        (λ k d below. same_term from to (get_or spots k d) (valid.are_spots.each k d below))
         ∙ sym (sum_by-map (masked times marks) (term from to) spots)
 
     -- a job has a spot with its window
@@ -250,7 +265,7 @@ module _ (rows : List Job) (top : ℕ) (times full : List ℕ) (spots : List Spo
             last.2,
             at,
             (is_spot k short).until,
-            board.are_times.rising q (spot_at spots k).begin 0 most (omega (arith, (is_spot k short).in_order, (is_spot k short).within)),
+            valid.are_times.rising q (spot_at spots k).begin 0 most (omega (arith, (is_spot k short).in_order, (is_spot k short).within)),
           ))
         ] in
         omega (

@@ -1,11 +1,10 @@
 -- What is idle between the times, jobs that take it, and what a cut leaves of it.
 use Rattle.std.proofs.Common.{◌≡◌, ℕ, zero, suc, ◌+◌, ◌-◌, ◌*◌, ◌<◌, ◌≤◌, List, [], ◌∷◌, ◌++◌, length, get_or, take, drop, set, replicate, ◌∙◌, subst, arith, inl, inr, ap, cond, nat_le, get_or-set_same, get_or-set_other}
-use Rattle.std.specs.List.{All}
-use Rattle.std.specs.List.Sorted.{IsPermutation, IsNonDecreasing}
+use Rattle.std.specs.List.{All, sum_by}
+use Rattle.std.specs.List.Sorted.{IsNonDecreasing}
 use Rattle.std.proofs.lemmas.Bool.{cases_lt, cases_eq, le-leb, lt-leb}
 use Rattle.std.proofs.lemmas.List.{get_or_default, get_or-replicate, length-replicate, get_or_past, drop_all, append-nil, take_all}
 use Rattle.std.proofs.lemmas.List.Sums.{sum_by_push}
-use Rattle.std.proofs.lemmas.List.Sorted.{sum_by-IsPermutation}
 use Rattle.std.proofs.Math.Nat.{mul-sub, mul-le-mul_left}
 use Rattle.yds_model.specs.Job.{Job, IsJob, job_at}
 use Rattle.yds_edf.proofs.Sums.{sum_below_same, sum_below_zero}
@@ -14,7 +13,7 @@ use Rattle.yds_admit.specs.Interval.{enclosed_work}
 use Rattle.yds_admit.specs.Chain.{IsFalling, due_work}
 use Rattle.yds_admit.specs.Board.{AreGaps}
 use Rattle.yds_admit.specs.Pieces.{went, IsCutting, ArePieces, AreDue}
-use Rattle.yds_admit.specs.Idle.{HasIdle, IsTaken, IsCleared, IsRest, idle_before, taken_before}
+use Rattle.yds_admit.specs.Idle.{HasIdle, IsTaken, IsCleared, IsRest, idle_before}
 use Rattle.yds_admit.proofs.Between.{term, inside, before, after}
 use Rattle.yds_admit.proofs.Overfull.{jobs_work, any_of_all}
 use Rattle.yds_admit.proofs.Sweep.{step_is}
@@ -277,18 +276,29 @@ none_idle top times jobs n long are room = record {
     | inr past ↦ get_or_past (replicate n 0) k 0 (omega (arith, past, length-replicate {A = ℕ} n 0))
   ]
 
--- the jobs in another order
-pub same_idle : (top : ℕ) (times : List ℕ) (jobs others : List Job) (idle : List ℕ) → IsPermutation jobs others → HasIdle top times others idle → HasIdle top times jobs idle
+-- jobs with the same sums
+pub same_idle : (top : ℕ) (times : List ℕ) (jobs others : List Job) (idle : List ℕ) → ((g : Job → ℕ) → sum_by g others ≡ sum_by g jobs) → HasIdle top times others idle →
+    HasIdle top times jobs idle
 same_idle top times jobs others idle same has = record {
   as_long = has.as_long;
-  room = λ from a b forward below ahead. omega (
-    arith,
-    has.room from a b forward below ahead,
-    sum_by-IsPermutation (term from (get_or times b 0)) jobs others same,
-  );
+  room = λ from a b forward below ahead. omega (arith, has.room from a b forward below ahead, same (term from (get_or times b 0)));
 }
 
 -- # What a cut leaves
+
+-- the gaps before a place are all that the top speed does by then
+pub full_before : (top : ℕ) (times full : List ℕ) → AreGaps top times full → get_or times 0 0 ≡ 0 → (q : ℕ) → q ≤ length full → idle_before full q ≡ top * get_or times q 0
+full_before top times full are first zero within = omega (arith, ap (λ t. top * t) first)
+full_before top times full are first (suc q) within =
+    let e : q + 1 ≡ suc q = omega arith in
+    omega (
+      arith,
+      full_before top times full are first q (omega (arith, within)),
+      next_idle full q,
+      are.each q (omega (arith, within, are.as_long)),
+      ap (λ k. idle_before full k) e,
+      ap (λ k. top * get_or times k 0) e,
+    )
 
 -- the first n pieces take no more of a gap than all do
 more_units : (jobs : List Job) (places : List ℕ) (n more q : ℕ) → went n jobs places (q + 1) + went (n + more) jobs places q ≤ went n jobs places q + went (n + more) jobs places (q + 1)
@@ -433,21 +443,6 @@ module _ (top : ℕ) (times full : List ℕ) (all jobs : List Job) (places gaps 
     are_gaps.each q (omega (arith, below, are_gaps.as_long)),
     more_done 0 q (omega arith),
   )
-
-  pub used_is : get_or times 0 0 ≡ 0 → (q : ℕ) → q ≤ length full → taken_before full gaps q ≡ done q
-  used_is first zero within =
-      let none = units_before (length jobs) 0 0 (omega arith) (λ i below. omega arith) (λ i behind below. absurd (omega (arith, behind, below))) (omega arith) (omega arith) in
-      omega (arith, none, ap (λ t. top * t) first)
-  used_is first (suc q) within =
-      let e : q + 1 ≡ suc q = omega arith in
-      omega (
-        arith,
-        used_is first q (omega (arith, within)),
-        less_left q (omega (arith, within)),
-        step q (omega (arith, within, are_gaps.as_long, long)),
-        are_gaps.each q (omega (arith, within, are_gaps.as_long)),
-        ap done e,
-      )
 
   pub is_rest : get_or times 0 0 ≡ 0 → (q : ℕ) → q ≤ m → idle_before gaps q + done q ≡ reach q
   is_rest first zero within =

@@ -67,7 +67,7 @@ first_at_most jobs n from to within early = omega (
       ))),
 )
 
-module _ (top : ℕ) (times : List ℕ) (all jobs : List Job) (places : List ℕ) (row : Job) (end : ℕ) where
+module _ (top : ℕ) (jobs : List Job) (places : List ℕ) (row : Job) (end : ℕ) where
   -- the first n pieces and the job leave room from this release on
   abbrev pub LeavesRoom : ℕ → ℕ → Type 0
   LeavesRoom n from = row.work + went n jobs places end + top * from ≤ top * row.deadline
@@ -181,7 +181,7 @@ module _ (top : ℕ) (times : List ℕ) (all jobs : List Job) (places used : Lis
 
     -- a piece behind enough idle time leaves room
     pub behind_leaves : (k : ℕ) → k < length jobs → IsBehindIdle top times used row end (job_at jobs k).release →
-        LeavesRoom top times all jobs places row end (k + 1) (job_at jobs k).release
+        LeavesRoom top jobs places row end (k + 1) (job_at jobs k).release
     behind_leaves k below behind =
         let p : ℕ = behind.place in
         let e : k + 1 + (length jobs - (k + 1)) ≡ length jobs = omega (arith, below) in
@@ -243,7 +243,7 @@ module _ (top : ℕ) (times : List ℕ) (all jobs : List Job) (places used : Lis
 
   -- where the first n pieces, released at a time or later, and the job leave room
   has_room_over : (n from : ℕ) → n ≤ length jobs → ((i : ℕ) → i < n → from ≤ (job_at jobs i).release) → ((i : ℕ) → n ≤ i → i < length jobs → (job_at jobs i).release < from) →
-      LeavesRoom top times all jobs places row end n from → HasRoomOver top row.deadline (all ++ row ∷ []) from
+      LeavesRoom top jobs places row end n from → HasRoomOver top row.deadline (all ++ row ∷ []) from
   has_room_over n from within early late leaves to beyond deadline =
       let at = time_of to beyond deadline in
       let greatest = pieces.greatest m n long within end short in
@@ -282,24 +282,24 @@ module _ (top : ℕ) (times : List ℕ) (all jobs : List Job) (places used : Lis
   ]
 
   earlier_fits : (from : ℕ) → from < row.release → Any (λ (job : Job). job.release ≡ from) (all ++ row ∷ []) →
-      ((k : ℕ) → k < length jobs → (job_at jobs k).release ≡ from → LeavesRoom top times all jobs places row end (k + 1) (job_at jobs k).release) →
+      ((k : ℕ) → k < length jobs → (job_at jobs k).release ≡ from → LeavesRoom top jobs places row end (k + 1) (job_at jobs k).release) →
       HasRoomOver top row.deadline (all ++ row ∷ []) from
   earlier_fits from less some leaves =
       let last = last_piece from less some in
       let k : ℕ = last.0 in
       has_room_over (k + 1) from (omega (arith, last.1)) (λ i below. omega (arith, last.2, pieces.falling i k (omega (arith, below)) last.1))
       (λ i behind below. last.3 i (omega (arith, behind)) below)
-      (subst (LeavesRoom top times all jobs places row end (k + 1)) last.2 (leaves k last.1 last.2))
+      (subst (LeavesRoom top jobs places row end (k + 1)) last.2 (leaves k last.1 last.2))
 
   -- The first n pieces are released with the job or later.
   pub none_found : All IsJob all → HasRoom top all → (n : ℕ) → n ≤ length jobs → ((i : ℕ) → i < n → row.release ≤ (job_at jobs i).release) →
-      ((i : ℕ) → n ≤ i → i < length jobs → (job_at jobs i).release < row.release) → LeavesRoom top times all jobs places row end n row.release →
-      AllLeaveRoom top times all jobs places row end n → NoFrom top row.deadline (all ++ row ∷ [])
+      ((i : ℕ) → n ≤ i → i < length jobs → (job_at jobs i).release < row.release) → LeavesRoom top jobs places row end n row.release →
+      AllLeaveRoom top jobs places row end n → NoFrom top row.deadline (all ++ row ∷ [])
   none_found are room n known early late leaves others from ahead some = elim (cases_lt row.release from) [
     | inl later ↦ λ to beyond deadline. omega (arith, with_row from to, before from to row later, pieces.same from to, room_to top all are room from to)
     | inr most ↦ elim (cases_eq from row.release) [
       | inl same ↦ has_room_over n from known (λ i below. omega (arith, early i below, same)) (λ i behind below. omega (arith, late i behind below, same))
-          (subst (LeavesRoom top times all jobs places row end n) (sym same) leaves)
+          (subst (LeavesRoom top jobs places row end n) (sym same) leaves)
       | inr other ↦
           let less : from < row.release = less_than from row.release most other in
           earlier_fits from less some (λ k below is. others k (elim (cases_lt k n) [
@@ -312,7 +312,7 @@ module _ (top : ℕ) (times : List ℕ) (all jobs : List Job) (places used : Lis
     less_than x y most other = elim (cases_lt x y) [ inl less ↦ less | inr more ↦ absurd (other (omega (arith, most, more))) ]
 
   -- The first n pieces are released at this time or later.
-  pub some_found : (n from : ℕ) → HasTooMuch top times all jobs places row end n from → AllLeaveRoom top times all jobs places row end n →
+  pub some_found : (n from : ℕ) → HasTooMuch top jobs places row end n from → AllLeaveRoom top jobs places row end n →
       IsLeastFrom top row.deadline (all ++ row ∷ []) from
   some_found n from much others =
       let greatest = pieces.greatest m n long much.within end short in

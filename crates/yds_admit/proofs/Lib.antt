@@ -6,7 +6,7 @@ pub mod GoingOn
 pub mod Times
 pub mod Sweep
 pub mod Newly
-pub mod Inserted
+pub mod Ordered
 pub mod Links
 pub mod Fitting
 pub mod Marks
@@ -14,3 +14,5 @@ pub mod Cutting
 pub mod Made
 pub mod Least
 pub mod Idleness
+pub mod Next
+pub mod Left

@@ -1,37 +1,49 @@
 -- The pieces of jobs, job by job.
-use Rattle.std.proofs.Common.{◌≡◌, ℕ, ◌+◌, ◌-◌, ◌<◌, ◌≤◌, List, [], length, get_or, ◌∙◌, refl, sym, subst, arith, inl, inr, ap}
-use Rattle.std.specs.List.{sum_by}
-use Rattle.std.proofs.lemmas.Bool.{cases_lt, cases_eq}
-use Rattle.std.proofs.lemmas.List.{get_or_append_left, get_or-append_right, get_or_default, length-append, take_all}
-use Rattle.std.specs.List.Sorted.{IsPermutation}
-use Rattle.std.proofs.lemmas.List.Sorted.{sum_by-IsPermutation, IsPermutation-sym}
-use Rattle.std.proofs.lemmas.List.Sums.{sum_by-append, sum_by_more}
+use Rattle.std.proofs.Common.{◌≡◌, ℕ, ◌+◌, ◌-◌, ◌<◌, ◌≤◌, List, [], ◌∷◌, ◌++◌, Bool, true, false, if◌then◌else◌, map, take, length, get_or, ◌∙◌, refl, sym, subst, arith, inl, inr, ap}
+use Rattle.std.specs.List.{Any, filter, sum_by}
+use Rattle.std.proofs.lemmas.Bool.{cases_lt}
+use Rattle.std.proofs.lemmas.List.{get_or_append_left, get_or-append_right, get_or_default, get_or_push, length-append, length_push, map-append}
+use Rattle.std.proofs.lemmas.List.Elements.{filter_more}
+use Rattle.std.proofs.lemmas.List.Sums.{sum_by-append, sum_by_push}
 use Rattle.yds_model.specs.declared.limits.TheConstants.{MAX_JOBS, MAX_WORK}
 use Rattle.yds_model.specs.Job.{Job, no_job, job_at}
+use Rattle.yds_model.proofs.Lists.{Any-append_left}
+use Rattle.yds_admit.specs.declared.board.Spot.{Spot}
+use Rattle.yds_admit.specs.Board.{falling_jobs}
 use Rattle.yds_admit.specs.Interval.{enclosed_work}
-use Rattle.yds_admit.specs.Chain.{IsFalling}
 use Rattle.yds_admit.specs.Pieces.{IsGreatest, IsCutting, IsCutInto, AreCut, ArePieces, went}
 use Rattle.yds_admit.proofs.Between.{term}
-use Rattle.yds_admit.proofs.Newly.{any_permuted}
+use Rattle.yds_admit.proofs.Fitting.{no_spot, spot_at}
+use Rattle.yds_admit.proofs.Newly.{any_same}
 use Rattle.yds_admit.proofs.Cutting.{added}
 
-pub none_made : (all : List Job) → AreCut all 0 []
-none_made all = record {
+-- the marked jobs of one spot more
+pub falling_more : (rows : List Job) (marks : List Bool) (spots : List Spot) (n : ℕ) → n < length spots → get_or marks (spot_at spots n).number false ≡ true →
+    falling_jobs rows marks (take (n + 1) spots) ≡ falling_jobs rows marks (take n spots) ++ job_at rows (spot_at spots n).number ∷ []
+falling_more rows marks spots n below is =
+    let test : Spot → Bool = λ spot. get_or marks spot.number false in
+    let spot : Spot = spot_at spots n in
+    ap (map (λ (one : Spot). job_at rows one.number))
+    (filter_more test spots n no_spot below ∙ ap (λ (b : Bool). filter test (take n spots) ++ (if b then spot ∷ [] else [])) is)
+    ∙ map-append (λ (one : Spot). job_at rows one.number) (filter test (take n spots)) (spot ∷ [])
+
+-- no job is cut yet
+pub none_made : AreCut [] []
+none_made = record {
   falling = λ i j order below. absurd (omega arith);
-  later = λ k from below i within. absurd (omega arith);
   few = omega arith;
   same = λ from to. refl;
-  kept = λ k below. absurd (omega arith);
-  known = λ i below. absurd (omega arith);
+  kept = λ from some. absurd (omega (arith, some.2));
+  known = λ from some. absurd (omega (arith, some.2));
 }
 
-module _ (all : List Job) (n : ℕ) (falls : IsFalling all) (within : n < length all) (job : Job) (is : job ≡ job_at all n) (light : job.work ≤ MAX_WORK)
-    (old new : List Job) (made : AreCut all n old) (into : IsCutInto job old new) where
+-- the pieces of one job more come after the others
+module _ (job : Job) (old new : List Job) (into : IsCutInto job old new) where
   long : length new ≡ length old + length into.more
   long = ap (λ (jobs : List Job). length jobs) into.is ∙ length-append old into.more
 
-  front : (i : ℕ) → i < length old → job_at new i ≡ job_at old i
-  front i below = ap (λ (jobs : List Job). job_at jobs i) into.is ∙ get_or_append_left old into.more no_job i below
+  front : (i : ℕ) → i < length old → (job_at new i).release ≡ (job_at old i).release
+  front i below = ap (λ (jobs : List Job). (job_at jobs i).release) into.is ∙ ap (λ (one : Job). one.release) (get_or_append_left old into.more no_job i below)
 
   back : (i : ℕ) → length old ≤ i → i < length new → (job_at new i).release ≡ job.release
   back i from below =
@@ -39,26 +51,19 @@ module _ (all : List Job) (n : ℕ) (falls : IsFalling all) (within : n < length
       ∙ ap (λ (one : Job). one.release) (get_or-append_right old into.more (length old) i no_job refl from)
       ∙ (into.windows (i - length old) no_job (omega (arith, from, below, long))).0
 
-  release : job.release ≡ (job_at all n).release
-  release = ap (λ (one : Job). one.release) is
+  -- none of the pieces is released before a time
+  pub none_before : (time : ℕ) → time ≤ job.release → ((i : ℕ) → i < length old → time ≤ (job_at old i).release) → (i : ℕ) → i < length new → time ≤ (job_at new i).release
+  none_before time own others i below = elim (cases_lt i (length old)) [
+    | inl early ↦ omega (arith, front i early, others i early)
+    | inr late ↦ omega (arith, back i late below, own)
+  ]
 
-  pub one_made : AreCut all (n + 1) new
-  one_made = record {
+  -- one job more is cut, which isn't released after the pieces before
+  pub one_made : (all : List Job) → job.work ≤ MAX_WORK → AreCut all old → ((i : ℕ) → i < length old → job.release ≤ (job_at old i).release) → AreCut (all ++ job ∷ []) new
+  one_made all light made later = record {
     falling = λ i j order below. elim (cases_lt j (length old)) [
-      | inl early ↦ omega (
-        arith,
-        made.falling i j order early,
-        ap (λ (one : Job). one.release) (front i (omega (arith, order, early))),
-        ap (λ (one : Job). one.release) (front j early),
-      )
-      | inr late ↦ elim (cases_lt i (length old)) [
-        | inl before ↦ omega (arith, back j late below, release, made.later n (omega arith) within i before, ap (λ (one : Job). one.release) (front i before))
-        | inr after ↦ omega (arith, back j late below, back i after (omega (arith, order, below)))
-      ]
-    ];
-    later = λ k from below i short. elim (cases_lt i (length old)) [
-      | inl early ↦ omega (arith, made.later k (omega (arith, from)) below i early, ap (λ (one : Job). one.release) (front i early))
-      | inr late ↦ omega (arith, back i late short, release, falls n k (omega (arith, from)) below)
+      | inl early ↦ omega (arith, made.falling i j order early, front i (omega (arith, order, early)), front j early)
+      | inr late ↦ omega (arith, back j late below, none_before job.release (omega arith) later i (omega (arith, order, below)))
     ];
     few = omega (
       arith,
@@ -67,6 +72,7 @@ module _ (all : List Job) (n : ℕ) (falls : IsFalling all) (within : n < length
       into.work,
       made.few,
       light,
+      length_push all job,
     );
     same = λ from to. omega (
       arith,
@@ -74,69 +80,64 @@ module _ (all : List Job) (n : ℕ) (falls : IsFalling all) (within : n < length
       sum_by-append (term from to) old into.more,
       added from to job into.more into.windows into.work,
       made.same from to,
-      sum_by_more (term from to) all n no_job within,
-      ap (term from to) is,
+      sum_by_push (term from to) all job,
     );
-    kept = λ k below. elim (cases_eq k n) [
-      | inl same ↦ (
-        length old,
-        omega (arith, long, into.some),
-        back (length old) (omega arith) (omega (arith, long, into.some)) ∙ release ∙ ap (λ i. (job_at all i).release) (sym same),
-      )
-      | inr other ↦
-          let there = made.kept k (omega (arith, below, other)) in
-          (there.0, omega (arith, there.1, long), ap (λ (one : Job). one.release) (front there.0 there.1) ∙ there.2)
-    ];
-    known = λ i below. elim (cases_lt i (length old)) [
+    kept = λ from some. elim (cases_lt some.0 (length all)) [
       | inl early ↦
-          let there = made.known i early in
-          (there.0, omega (arith, there.1), there.2 ∙ sym (ap (λ (one : Job). one.release) (front i early)))
-      | inr late ↦ (n, omega arith, sym release ∙ sym (back i late below))
+          let there = made.kept from (some.0, some.1, early, sym (get_or_append_left all (job ∷ []) some.1 some.0 early) ∙ some.3, some.4) in
+          subst (Any (λ (one : Job). one.release ≡ from)) (sym into.is) (Any-append_left (λ (one : Job). one.release ≡ from) old into.more there)
+      | inr late ↦
+          let here : length all ≡ some.0 = omega (arith, late, some.2, length_push all job) in (
+            length old,
+            job_at new (length old),
+            omega (arith, long, into.some),
+            get_or_default new (length old) (job_at new (length old)) no_job (omega (arith, long, into.some)),
+            back (length old) (omega arith) (omega (arith, long, into.some)) ∙ ap (λ (one : Job). one.release) (sym (get_or_push all job some.1 some.0 here) ∙ some.3) ∙ some.4,
+          )
     ];
-  }
+    known = λ from some. elim (cases_lt some.0 (length old)) [
+      | inl early ↦ Any-append_left (λ (one : Job). one.release ≡ from) all (job ∷ []) (made.known from (
+        some.0,
+        job_at old some.0,
+        early,
+        get_or_default old some.0 (job_at old some.0) no_job early,
+        sym (front some.0 early) ∙ read new from some,
+      ))
+      | inr late ↦ (length all, job, omega (arith, length_push all job), get_or_push all job job (length all) refl, sym (back some.0 late some.2) ∙ read new from some)
+    ];
+  } where
+    read : (jobs : List Job) (from : ℕ) (some : Any (λ (one : Job). one.release ≡ from) jobs) → (job_at jobs some.0).release ≡ from
+    read jobs from some = ap (λ (one : Job). one.release) (get_or_default jobs some.0 no_job some.1 some.2 ∙ some.3) ∙ some.4
 
-pub all_made : (top : ℕ) (times : List ℕ) (all jobs : List Job) (places gaps used : List ℕ) (n : ℕ) → length all ≤ n → n ≤ length all → length all ≤ MAX_JOBS →
-    length gaps + 1 ≡ length times → AreCut all n jobs → IsCutting top times jobs places gaps → length used ≡ length times →
-    ((q : ℕ) → q < length times → get_or used q 0 ≡ went (length jobs) jobs places q) → ArePieces top times all jobs places used
-all_made top times all jobs places gaps used n whole within few long made cutting used_long used_is = record {
+-- all are cut, and the units before each of the times are known
+pub all_made : (top : ℕ) (times : List ℕ) (all jobs : List Job) (places gaps used : List ℕ) → length all ≤ MAX_JOBS → length gaps + 1 ≡ length times → AreCut all jobs →
+    IsCutting top times jobs places gaps → length used ≡ length times → ((q : ℕ) → q < length times → get_or used q 0 ≡ went (length jobs) jobs places q) →
+    ArePieces top times all jobs places used
+all_made top times all jobs places gaps used few long made cutting used_long used_is = record {
   as_long = cutting.as_long;
   used_as_long = used_long;
   used_is = used_is;
   falling = made.falling;
-  few = omega (arith, made.few, few, within);
-  same = λ from to. made.same from to ∙ ap (λ (some : List Job). enclosed_work some from to) (take_all n all whole);
-  kept = λ from some.
-      let there = made.kept some.0 (omega (arith, some.2, whole)) in (
-        there.0,
-        job_at jobs there.0,
-        there.1,
-        get_or_default jobs there.0 (job_at jobs there.0) no_job there.1,
-        there.2 ∙ ap (λ (one : Job). one.release) (get_or_default all some.0 no_job some.1 some.2 ∙ some.3) ∙ some.4,
-      );
-  known = λ from some.
-      let there = made.known some.0 some.2 in (
-        there.0,
-        job_at all there.0,
-        omega (arith, there.1, within),
-        get_or_default all there.0 (job_at all there.0) no_job (omega (arith, there.1, within)),
-        there.2 ∙ ap (λ (one : Job). one.release) (get_or_default jobs some.0 no_job some.1 some.2 ∙ some.3) ∙ some.4,
-      );
+  few = omega (arith, made.few, few);
+  same = made.same;
+  kept = made.kept;
+  known = made.known;
   greatest = λ m k is few_pieces q below.
       let e : length gaps ≡ m = omega (arith, long, is) in
       subst (λ (count : ℕ). IsGreatest top times count k jobs places q) e (cutting.greatest k few_pieces q (omega (arith, below, e)));
 }
 
--- the pieces of the jobs in another order
-pub same_pieces : (top : ℕ) (times : List ℕ) (all others jobs : List Job) (places used : List ℕ) → IsPermutation all others → ArePieces top times others jobs places used →
-    ArePieces top times all jobs places used
+-- the pieces of jobs with the same sums
+pub same_pieces : (top : ℕ) (times : List ℕ) (all others jobs : List Job) (places used : List ℕ) → ((g : Job → ℕ) → sum_by g others ≡ sum_by g all) →
+    ArePieces top times others jobs places used → ArePieces top times all jobs places used
 same_pieces top times all others jobs places used same pieces = record {
   as_long = pieces.as_long;
   used_as_long = pieces.used_as_long;
   used_is = pieces.used_is;
   falling = pieces.falling;
   few = pieces.few;
-  same = λ from to. pieces.same from to ∙ sum_by-IsPermutation (term from to) all others same;
-  kept = λ from some. pieces.kept from (any_permuted (λ job. job.release ≡ from) all others same some);
-  known = λ from some. any_permuted (λ job. job.release ≡ from) others all (IsPermutation-sym all others same) (pieces.known from some);
+  same = λ from to. pieces.same from to ∙ same (term from to);
+  kept = λ from some. pieces.kept from (any_same (λ job. job.release) from all others same some);
+  known = λ from some. any_same (λ job. job.release) from others all (λ g. sym (same g)) (pieces.known from some);
   greatest = pieces.greatest;
 }

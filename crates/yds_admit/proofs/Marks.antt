@@ -1,11 +1,10 @@
 -- Marks of jobs, one job more.
-use Rattle.std.proofs.Common.{◌≡◌, ℕ, ◌+◌, ◌<◌, ◌≤◌, Bool, true, false, List, [], ◌∷◌, ◌++◌, length, get_or, set, take, drop, ◌∙◌, sym, arith, inl, inr, ap, cond, get_or-set_same, get_or-set_other, length-set}
+use Rattle.std.proofs.Common.{◌≡◌, ℕ, ◌+◌, ◌<◌, ◌≤◌, Bool, true, false, List, [], ◌∷◌, ◌++◌, length, get_or, set, take, drop, ◌∙◌, sym, arith, ap, cond, get_or-set_same, get_or-set_other, length-set}
 use Rattle.std.specs.List.{Any, sum_by, range_with_len}
-use Rattle.std.proofs.lemmas.Bool.{cases_eq}
-use Rattle.std.proofs.lemmas.List.{get_or_default, take_more, drop-append-le, length-take-le, same_lists, length_push, get_or_push, get_or_append_left}
+use Rattle.std.proofs.lemmas.List.{get_or_default, take_more, drop-append-le, length-take-le, map-id}
 use Rattle.std.proofs.lemmas.List.Elements.{All-push, All-nil}
 use Rattle.std.proofs.lemmas.List.Sums.{sum_by_push}
-use Rattle.std.proofs.lemmas.List.FromFn.{get_or-range_with_len, length-range_with_len}
+use Rattle.std.proofs.lemmas.List.FromFn.{get_or-range_with_len, length-range_with_len, map-range_with_len_more}
 use Rattle.yds_model.specs.Job.{Job, no_job, job_at}
 use Rattle.yds_model.specs.Policy.{numbers_of}
 use Rattle.yds_edf.specs.Pending.{sum_below}
@@ -83,25 +82,11 @@ one_more rows marks jobs i row within is marked = record {
 -- the numbers below n, and n
 pub numbers_more : (n : ℕ) → range_with_len 0 n ++ n ∷ [] ≡ range_with_len 0 (n + 1)
 numbers_more n =
-    same_lists (range_with_len 0 n ++ n ∷ []) (range_with_len 0 (n + 1))
-    (omega (arith, length_push (range_with_len 0 n) n, length-range_with_len 0 n, length-range_with_len 0 (n + 1)))
-    (λ k d below. elim (cases_eq k n) [
-      | inl same ↦ omega (
-        arith,
-        same,
-        get_or_push (range_with_len 0 n) n d k (omega (arith, same, length-range_with_len 0 n)),
-        get_or-range_with_len 0 (n + 1) k d (omega arith),
-      )
-      | inr other ↦
-          let less : k < n = omega (arith, other, below, length_push (range_with_len 0 n) n, length-range_with_len 0 n) in
-          omega (
-            arith,
-            get_or_append_left (range_with_len 0 n) (n ∷ []) d k (omega (arith, less, length-range_with_len 0 n)),
-            get_or-range_with_len 0 n k d less,
-            get_or-range_with_len 0 (n + 1) k d (omega (arith, less)),
-          )
-    ])
+    ap (λ (some : List ℕ). some ++ n ∷ []) (sym (map-id (range_with_len 0 n)))
+    ∙ sym (map-range_with_len_more (λ (k : ℕ). k) 0 n n (omega arith))
+    ∙ map-id (range_with_len 0 (n + 1))
 
+-- a refused job is not marked
 pub later_none : (rows : List Job) (marks : List Bool) (jobs : List Job) (i : ℕ) → IsMarked rows i marks jobs → IsMarked rows (i + 1) marks jobs
 later_none rows marks jobs i marked = record {
   as_long = marked.as_long;

@@ -1,39 +1,62 @@
 -- One job more than jobs that leave no interval overfull: only an interval that begins before its deadline and ends then or later can be.
-use Rattle.std.proofs.Common.{◌≡◌, ℕ, ◌-◌, ◌*◌, ◌<◌, ◌≤◌, ◌⊎◌, List, [], ◌∷◌, ◌++◌, Option, Some, None, MatchOption, min, length, get_or, ◌∙◌, refl, sym, subst, arith, inl, inr, ap}
+use Rattle.std.proofs.Common.{◌≡◌, ℕ, suc, ◌-◌, ◌*◌, ◌<◌, ◌≤◌, ◌⊎◌, List, [], ◌∷◌, ◌++◌, Option, Some, None, MatchOption, length, ◌∙◌, refl, sym, subst, arith, inl, inr, ap, cond, ◌==◌, get_or}
 use Rattle.std.specs.List.{All, Any, sum_by}
 use Rattle.std.specs.List.Sorted.{IsPermutation}
-use Rattle.std.proofs.lemmas.Bool.{cases_lt, cases_eq}
+use Rattle.std.proofs.lemmas.Bool.{cases_lt, cases_eq, cases_order, eq-eqb, ne_eqb}
 use Rattle.std.proofs.lemmas.List.{get_or_default, get_or_append_left, get_or_push, length_push}
-use Rattle.std.proofs.lemmas.List.Elements.{All-push}
-use Rattle.std.proofs.lemmas.List.Sums.{sum_by_push}
-use Rattle.std.proofs.lemmas.List.Sorted.{sum_by-IsPermutation, IsPermutation-append_left, Contains-permutation, IsPermutation-sym, All-permutation, length_permutation}
+use Rattle.std.proofs.lemmas.List.Sums.{sum_by_push, sum_by-cons, get_or-le-sum_by}
+use Rattle.std.proofs.lemmas.List.Sorted.{sum_by-IsPermutation}
 use Rattle.yds_model.specs.Job.{Job, IsJob, no_job, job_at}
 use Rattle.yds_model.specs.Policy.{numbers_of}
 use Rattle.yds_model.specs.Admission.{IsOverfull, IsFirstOverfull}
 use Rattle.yds_model.proofs.Lists.{All-front, All-last}
 use Rattle.yds_laws.specs.AdmissionLaws.{HasRoom}
 use Rattle.yds_laws.proofs.Served.{room_from, confined_sum, confined_term}
-use Rattle.yds_admit.specs.Interval.{enclosed_work, HasRoomFrom, IsFirstEnd, IsFirstFrom, IsFirstWith}
-use Rattle.yds_admit.specs.Chain.{IsFalling, HasRoomOver, IsLeastFrom, NoFrom}
+use Rattle.yds_admit.specs.Interval.{enclosed_work, HasRoomFrom, IsFirstFrom, IsFirstWith}
+use Rattle.yds_admit.specs.Chain.{HasRoomOver, IsLeastFrom, NoFrom}
 use Rattle.yds_admit.proofs.Between.{term, before, after}
 use Rattle.yds_admit.proofs.Overfull.{any_of_all, number_of_any, jobs_work}
 
--- some element of a list is one of the list in another order
-pub any_permuted : (P : Job → Type 0) (jobs others : List Job) → IsPermutation jobs others → Any P jobs → Any P others
-any_permuted P jobs others same (k, job, within, is, holds) =
-    let there = Contains-permutation jobs others job same (k, within, is) in
-    (there.0, job, there.1, there.2, holds)
+-- # Jobs with the same sums
 
--- the same work of jobs in another order
-pub permuted_work : (jobs others : List Job) → IsPermutation jobs others → (from to : ℕ) → enclosed_work others from to ≡ enclosed_work jobs from to
-permuted_work jobs others same from to = sum_by-IsPermutation (term from to) jobs others same
+-- a value that some job has is counted, and one that is counted some job has
+any_counted : (f : Job → ℕ) (v : ℕ) (jobs : List Job) → Any (λ job. f job ≡ v) jobs → 1 ≤ sum_by (λ job. cond (f job == v) 1 0) jobs
+any_counted f v jobs (k, job, within, is, holds) = omega (
+  arith,
+  get_or-le-sum_by (λ one. cond (f one == v) 1 0) jobs k job within,
+  ap {B = ℕ} (λ b. cond b 1 0) (eq-eqb (f (get_or jobs k job)) v (ap f is ∙ holds)),
+)
 
--- the same work with one job more
-pub work_more : (jobs others : List Job) (row : Job) → IsPermutation jobs others → (from to : ℕ) → enclosed_work (others ++ row ∷ []) from to ≡ enclosed_work (jobs ++ row ∷ []) from to
-work_more jobs others row same = permuted_work (jobs ++ row ∷ []) (others ++ row ∷ []) (IsPermutation-append_left (row ∷ []) jobs others same)
+counted_any : (f : Job → ℕ) (v : ℕ) (jobs : List Job) → 1 ≤ sum_by (λ job. cond (f job == v) 1 0) jobs → Any (λ job. f job ≡ v) jobs
+counted_any f v [] some = absurd (omega (arith, some))
+counted_any f v (x ∷ xs) some = elim (cases_eq (f x) v) [
+  | inl same ↦ (0, x, omega arith, refl, same)
+  | inr other ↦
+      let there = counted_any f v xs (omega (
+        arith,
+        some,
+        sum_by-cons (λ job. cond (f job == v) 1 0) x xs,
+        ap {B = ℕ} (λ b. cond b 1 0) (ne_eqb (f x) v other),
+      )) in
+      (suc there.0, there.1, omega (arith, there.2), there.3, there.4)
+]
 
-apart : (x y : ℕ) → y ≤ x → (x ≡ y → ⊥) → y < x
-apart x y most other = elim (cases_lt y x) [ inl less ↦ less | inr more ↦ absurd (other (omega arith)) ]
+-- each value that one list has the other has too
+pub any_same : (f : Job → ℕ) (v : ℕ) (jobs others : List Job) → ((g : Job → ℕ) → sum_by g others ≡ sum_by g jobs) → Any (λ job. f job ≡ v) jobs → Any (λ job. f job ≡ v) others
+any_same f v jobs others same some = counted_any f v others (omega (arith, any_counted f v jobs some, same (λ job. cond (f job == v) 1 0)))
+
+-- where the one list leaves no interval overfull, the other doesn't either
+pub room_same : (top : ℕ) (jobs others : List Job) → ((g : Job → ℕ) → sum_by g others ≡ sum_by g jobs) → HasRoom top jobs → HasRoom top others
+room_same top jobs others same room from to full = room from to (record {
+  forward = full.forward;
+  is_release = number_of_any (λ job. job.release ≡ from) jobs
+      (any_same (λ job. job.release) from others jobs (λ g. sym (same g)) (any_of_all (λ job. job.release ≡ from) others full.is_release));
+  is_deadline = number_of_any (λ job. job.deadline ≡ to) jobs
+      (any_same (λ job. job.deadline) to others jobs (λ g. sym (same g)) (any_of_all (λ job. job.deadline ≡ to) others full.is_deadline));
+  too_much = omega (arith, full.too_much, jobs_work jobs from to, jobs_work others from to, same (term from to));
+})
+
+-- # One job more
 
 module _ (top : ℕ) (jobs : List Job) (row : Job) (are : All IsJob (jobs ++ row ∷ [])) (room : HasRoom top jobs) where
   -- an interval that ends before the job's deadline, or begins there or later, has room
@@ -72,173 +95,81 @@ module _ (top : ℕ) (jobs : List Job) (row : Job) (are : All IsJob (jobs ++ row
       apart_due due from to (inl soon) is forward = omega arith
       apart_due due from to (inr late) is forward = omega arith
 
-  module _ (by_release by_deadline : List Job) (releases : IsPermutation (jobs ++ row ∷ []) by_release) (deadlines : IsPermutation (jobs ++ row ∷ []) by_deadline) where
-    release_work : (from to : ℕ) → enclosed_work by_release from to ≡ enclosed_work (jobs ++ row ∷ []) from to
-    release_work from to = sum_by-IsPermutation (term from to) (jobs ++ row ∷ []) by_release releases
-
-    deadline_work : (from to : ℕ) → enclosed_work by_deadline from to ≡ enclosed_work (jobs ++ row ∷ []) from to
-    deadline_work from to = sum_by-IsPermutation (term from to) (jobs ++ row ∷ []) by_deadline deadlines
-
-    -- an overfull interval from a release that has room over the deadline
-    no_overfull : (from to : ℕ) → (from < row.deadline → Any (λ (job : Job). job.release ≡ from) by_release → HasRoomOver top row.deadline by_release from) →
-        IsOverfull (jobs ++ row ∷ []) top (numbers_of (jobs ++ row ∷ [])) from to → ⊥
-    no_overfull from to over full = elim (cases_lt to row.deadline) [
-      | inl soon ↦ elsewhere_fits from to (inl soon) full
-      | inr beyond ↦ elim (cases_lt from row.deadline) [
-        | inr late ↦ elsewhere_fits from to (inr late) full
-        | inl ahead ↦
-            let begins = any_permuted (λ job. job.release ≡ from) (jobs ++ row ∷ []) by_release releases (any_of_all (λ job. job.release ≡ from) (jobs ++ row ∷ []) full.is_release) in
-            let ends = any_permuted (λ job. job.deadline ≡ to) (jobs ++ row ∷ []) by_release releases (any_of_all (λ job. job.deadline ≡ to) (jobs ++ row ∷ []) full.is_deadline) in
-            absurd (omega (
-              arith,
-              full.too_much,
-              jobs_work (jobs ++ row ∷ []) from to,
-              release_work from to,
-              over ahead begins to beyond (λ later. ends),
-            ))
-      ]
+  -- an overfull interval from a release that has room over the deadline
+  no_overfull : (from to : ℕ) → (from < row.deadline → Any (λ (job : Job). job.release ≡ from) (jobs ++ row ∷ []) → HasRoomOver top row.deadline (jobs ++ row ∷ []) from) →
+      IsOverfull (jobs ++ row ∷ []) top (numbers_of (jobs ++ row ∷ [])) from to → ⊥
+  no_overfull from to over full = elim (cases_lt to row.deadline) [
+    | inl soon ↦ elsewhere_fits from to (inl soon) full
+    | inr beyond ↦ elim (cases_lt from row.deadline) [
+      | inr late ↦ elsewhere_fits from to (inr late) full
+      | inl ahead ↦ absurd (omega (
+        arith,
+        full.too_much,
+        jobs_work (jobs ++ row ∷ []) from to,
+        over ahead (any_of_all (λ job. job.release ≡ from) (jobs ++ row ∷ []) full.is_release) to beyond
+            (λ later. any_of_all (λ job. job.deadline ≡ to) (jobs ++ row ∷ []) full.is_deadline),
+      ))
     ]
+  ]
 
-    pub has_room : NoFrom top row.deadline by_release → HasRoom top (jobs ++ row ∷ [])
-    has_room none from to full = no_overfull from to (none from) full
+  -- where there is no release from which one has too much
+  pub has_room : NoFrom top row.deadline (jobs ++ row ∷ []) → HasRoom top (jobs ++ row ∷ [])
+  has_room none from to full = no_overfull from to (none from) full
 
-    -- the interval that was found
-    first_found : (from to : ℕ) → IsLeastFrom top row.deadline by_release from → IsFirstEnd top by_deadline from to →
-        IsFirstOverfull (jobs ++ row ∷ []) top (numbers_of (jobs ++ row ∷ [])) from to
-    first_found from to least ends = record {
+  -- no overfull interval begins before the least release of one
+  pub none_before : (from : ℕ) → IsLeastFrom top row.deadline (jobs ++ row ∷ []) from → (other_from other_to : ℕ) → other_from < from →
+      IsOverfull (jobs ++ row ∷ []) top (numbers_of (jobs ++ row ∷ [])) other_from other_to → ⊥
+  none_before from least other_from other_to less full = no_overfull other_from other_to (λ ahead begins. least.earlier other_from less begins) full
+
+-- # The first of all overfull intervals
+
+-- no interval before it is overfull, and of those that begin with it it ends first
+module _ (top : ℕ) (all by_deadline : List Job) (deadlines : IsPermutation all by_deadline) where
+  same_work : (from to : ℕ) → enclosed_work by_deadline from to ≡ enclosed_work all from to
+  same_work from to = sum_by-IsPermutation (term from to) all by_deadline deadlines
+
+  pub first_with : (start from to work : ℕ) → Any (λ (job : Job). job.release ≡ start) all →
+      ((other_from other_to : ℕ) → other_from < start → IsOverfull all top (numbers_of all) other_from other_to → ⊥) →
+      IsFirstFrom top by_deadline start from to work → IsFirstWith top all from to work
+  first_with start from to work begins none found = record {
+    first = subst (λ begin. IsFirstOverfull all top (numbers_of all) begin to) (sym found.begins) (record {
       overfull = record {
-        forward = ends.forward;
-        is_release = number_of_any (λ job. job.release ≡ from) (jobs ++ row ∷ [])
-            (any_permuted (λ job. job.release ≡ from) by_release (jobs ++ row ∷ []) (IsPermutation-sym (jobs ++ row ∷ []) by_release releases) least.is_release);
-        is_deadline = number_of_any (λ job. job.deadline ≡ to) (jobs ++ row ∷ [])
-            (any_permuted (λ job. job.deadline ≡ to) by_deadline (jobs ++ row ∷ []) (IsPermutation-sym (jobs ++ row ∷ []) by_deadline deadlines) ends.is_deadline);
-        too_much = omega (arith, ends.too_much, deadline_work from to, jobs_work (jobs ++ row ∷ []) from to);
+        forward = found.ends.forward;
+        is_release = number_of_any (λ job. job.release ≡ start) all begins;
+        is_deadline = number_of_any (λ job. job.deadline ≡ to) all
+            (any_same (λ job. job.deadline) to by_deadline all (λ g. sym (sum_by-IsPermutation g all by_deadline deadlines)) found.ends.is_deadline);
+        too_much = omega (arith, found.ends.too_much, same_work start to, jobs_work all start to);
       };
-      first = λ other_from other_to full. elim (cases_lt from other_from) [
-        | inl less ↦ inl less
-        | inr most ↦ elim (cases_eq from other_from) [
-          | inr other ↦ absurd (no_overfull other_from other_to (λ ahead begins. least.earlier other_from (omega (arith, most, apart from other_from most other)) begins) full)
-          | inl equal ↦ inr (
-            equal,
-            elim (cases_lt other_to to) [
-              | inr late ↦ late
-              | inl early ↦ absurd (omega (
-                arith,
-                subst (λ (s : ℕ). top * (other_to - s) < enclosed_work by_deadline s other_to) (sym equal)
-                    (omega (arith, full.too_much, jobs_work (jobs ++ row ∷ []) other_from other_to, deadline_work other_from other_to)),
-                ends.first other_to (omega (arith, equal, full.forward)) early,
-              ))
-            ],
-          )
-        ]
+      first = λ other_from other_to full. elim (cases_order start other_from) [
+        | inr (inl less) ↦ inl less
+        | inr (inr more) ↦ absurd (none other_from other_to more full)
+        | inl equal ↦ inr (
+          equal,
+          elim (cases_lt other_to to) [
+            | inr late ↦ late
+            | inl early ↦ absurd (omega (
+              arith,
+              subst (λ (s : ℕ). top * (other_to - s) < enclosed_work by_deadline s other_to) (sym equal)
+                  (omega (arith, full.too_much, jobs_work all other_from other_to, same_work other_from other_to)),
+              found.ends.first other_to (omega (arith, equal, full.forward)) early,
+            ))
+          ],
+        )
       ];
-    }
-
-    -- with the work in it
-    pub first_with : (start from to work : ℕ) → IsLeastFrom top row.deadline by_release start → IsFirstFrom top by_deadline start from to work →
-        IsFirstWith top (jobs ++ row ∷ []) from to work
-    first_with start from to work least found = record {
-      first = subst (λ begin. IsFirstOverfull (jobs ++ row ∷ []) top (numbers_of (jobs ++ row ∷ [])) begin to) (sym found.begins) (first_found start to least found.ends);
-      all = found.all ∙ deadline_work start to ∙ ap (λ begin. enclosed_work (jobs ++ row ∷ []) begin to) (sym found.begins);
-    }
-
-    -- there is one
-    pub is_found : (from : ℕ) → IsLeastFrom top row.deadline by_release from → HasRoomFrom top by_deadline from → ⊥
-    is_found from least fits = omega (
-      arith,
-      least.too_much,
-      release_work from least.to,
-      deadline_work from least.to,
-      fits least.to (omega (arith, least.ahead, least.beyond)),
-    )
-
--- # The earliest release
-
-module _ (top : ℕ) (jobs : List Job) (row : Job) (by_deadline : List Job) (deadlines : IsPermutation (jobs ++ row ∷ []) by_deadline) (from : ℕ)
-    (earliest : All (λ (job : Job). from ≤ job.release) (jobs ++ row ∷ [])) (begins : Any (λ (job : Job). job.release ≡ from) (jobs ++ row ∷ [])) where
-  same_work : (start to : ℕ) → enclosed_work by_deadline start to ≡ enclosed_work (jobs ++ row ∷ []) start to
-  same_work start to = sum_by-IsPermutation (term start to) (jobs ++ row ∷ []) by_deadline deadlines
-
-  -- of all overfull intervals the first one from there is the first
-  first_from_start : (to : ℕ) → IsFirstEnd top by_deadline from to → IsFirstOverfull (jobs ++ row ∷ []) top (numbers_of (jobs ++ row ∷ [])) from to
-  first_from_start to ends = record {
-    overfull = record {
-      forward = ends.forward;
-      is_release = number_of_any (λ job. job.release ≡ from) (jobs ++ row ∷ []) begins;
-      is_deadline = number_of_any (λ job. job.deadline ≡ to) (jobs ++ row ∷ [])
-          (any_permuted (λ job. job.deadline ≡ to) by_deadline (jobs ++ row ∷ []) (IsPermutation-sym (jobs ++ row ∷ []) by_deadline deadlines) ends.is_deadline);
-      too_much = omega (arith, ends.too_much, same_work from to, jobs_work (jobs ++ row ∷ []) from to);
-    };
-    first = λ other_from other_to full. elim (cases_lt from other_from) [
-      | inl less ↦ inl less
-      | inr most ↦
-          let other = any_of_all (λ job. job.release ≡ other_from) (jobs ++ row ∷ []) full.is_release in
-          let release : (get_or (jobs ++ row ∷ []) other.0 other.1).release ≡ other_from = ap (λ (job : Job). job.release) other.3 ∙ other.4 in
-          let equal : from ≡ other_from = omega (arith, most, release, earliest other.0 other.1 other.2) in
-          inr (
-            equal,
-            elim (cases_lt other_to to) [
-              | inr late ↦ late
-              | inl early ↦ absurd (omega (
-                arith,
-                subst (λ (s : ℕ). top * (other_to - s) < enclosed_work by_deadline s other_to) (sym equal)
-                    (omega (arith, full.too_much, jobs_work (jobs ++ row ∷ []) other_from other_to, same_work other_from other_to)),
-                ends.first other_to (omega (arith, equal, full.forward)) early,
-              ))
-            ],
-          )
-    ];
+    });
+    all = found.all ∙ same_work start to ∙ ap (λ begin. enclosed_work all begin to) (sym found.begins);
   }
 
-  -- with the work in it
-  pub first_with_start : (begin to work : ℕ) → IsFirstFrom top by_deadline from begin to work → IsFirstWith top (jobs ++ row ∷ []) begin to work
-  first_with_start begin to work found = record {
-    first = subst (λ start. IsFirstOverfull (jobs ++ row ∷ []) top (numbers_of (jobs ++ row ∷ [])) start to) (sym found.begins) (first_from_start to found.ends);
-    all = found.all ∙ same_work from to ∙ ap (λ start. enclosed_work (jobs ++ row ∷ []) start to) (sym found.begins);
-  }
+  -- there is one from a release that has too much over a deadline
+  pub is_found : (due from : ℕ) → IsLeastFrom top due all from → HasRoomFrom top by_deadline from → ⊥
+  is_found due from least fits = omega (arith, least.too_much, same_work from least.to, fits least.to (omega (arith, least.ahead, least.beyond)))
 
--- the earliest release is that of the job that stands last in falling order of the releases, or of the one more
-pub starts_at_last : (jobs : List Job) (row : Job) (by_release : List Job) → IsPermutation jobs by_release → IsFalling by_release → (from : ℕ) → 0 < length by_release →
-    from ≡ min (job_at by_release (length by_release - 1)).release row.release →
-    All (λ (job : Job). from ≤ job.release) (jobs ++ row ∷ []) × Any (λ (job : Job). job.release ≡ from) (jobs ++ row ∷ [])
-starts_at_last jobs row by_release same falling from some is =
-    let last : ℕ = length by_release - 1 in
-    let sorted : All (λ (job : Job). from ≤ job.release) by_release = λ k d below. omega (
-      arith,
-      is,
-      falling k last (omega (arith, below)) (omega (arith, some)),
-      ap (λ (job : Job). job.release) (get_or_default by_release k d no_job below),
-    ) in
-    let earliest : All (λ (job : Job). from ≤ job.release) jobs =
-    All-permutation (λ (job : Job). from ≤ job.release) by_release jobs (IsPermutation-sym jobs by_release same) sorted in (
-      All-push (λ (job : Job). from ≤ job.release) jobs row earliest (omega (arith, is)),
-      elim (cases_lt (job_at by_release last).release row.release) [
-        | inl less ↦
-            let there : Any (λ (job : Job). job.release ≡ from) jobs = any_permuted (λ job. job.release ≡ from) by_release jobs (IsPermutation-sym jobs by_release same)
-            (last, job_at by_release last, omega (arith, some), get_or_default by_release last (job_at by_release last) no_job (omega (arith, some)), omega (arith, is, less)) in
-            (there.0, there.1, omega (arith, there.2, length_push jobs row), get_or_append_left jobs (row ∷ []) there.1 there.0 there.2 ∙ there.3, there.4)
-        | inr most ↦ (length jobs, row, omega (arith, length_push jobs row), get_or_push jobs row row (length jobs) refl, omega (arith, is, most))
-      ],
-    )
-
--- no job beside the one more
-pub starts_alone : (jobs : List Job) (row : Job) (by_release : List Job) → IsPermutation jobs by_release → (from : ℕ) → length by_release ≤ 0 → from ≡ row.release →
-    All (λ (job : Job). from ≤ job.release) (jobs ++ row ∷ []) × Any (λ (job : Job). job.release ≡ from) (jobs ++ row ∷ [])
-starts_alone jobs row by_release same from none is = (
-  All-push (λ (job : Job). from ≤ job.release) jobs row (λ k d below. absurd (omega (arith, below, none, length_permutation jobs by_release same))) (omega (arith, is)),
-  (length jobs, row, omega (arith, length_push jobs row), get_or_push jobs row row (length jobs) refl, sym is),
-)
-
--- jobs in another order leave no interval overfull either
-pub room_permuted : (top : ℕ) (jobs others : List Job) → IsPermutation jobs others → HasRoom top jobs → HasRoom top others
-room_permuted top jobs others same room from to full = room from to (record {
-  forward = full.forward;
-  is_release = number_of_any (λ job. job.release ≡ from) jobs
-      (any_permuted (λ job. job.release ≡ from) others jobs (IsPermutation-sym jobs others same) (any_of_all (λ job. job.release ≡ from) others full.is_release));
-  is_deadline = number_of_any (λ job. job.deadline ≡ to) jobs
-      (any_permuted (λ job. job.deadline ≡ to) others jobs (IsPermutation-sym jobs others same) (any_of_all (λ job. job.deadline ≡ to) others full.is_deadline));
-  too_much = omega (arith, full.too_much, jobs_work jobs from to, jobs_work others from to, sum_by-IsPermutation (term from to) jobs others same);
-})
+-- none begins before the earliest release
+pub none_earlier : (top : ℕ) (all : List Job) (from : ℕ) → All (λ (job : Job). from ≤ job.release) all → (other_from other_to : ℕ) → other_from < from →
+    IsOverfull all top (numbers_of all) other_from other_to → ⊥
+none_earlier top all from earliest other_from other_to less full =
+    let other = any_of_all (λ job. job.release ≡ other_from) all full.is_release in
+    omega (arith, less, ap (λ (job : Job). job.release) other.3, other.4, earliest other.0 other.1 other.2)
 
 -- what an option holds, told otherwise
 pub MatchOption-then : {T : Type 0} (some : Option T) {A B : Type 0} {P Q : T → Type 0} → MatchOption some A P → (A → B) → ((x : T) → P x → Q x) → MatchOption some B Q

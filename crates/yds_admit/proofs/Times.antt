@@ -8,7 +8,7 @@ use Rattle.std.proofs.lemmas.List.{length_push, get_or_push, get_or_append_left,
 use Rattle.std.proofs.lemmas.List.Elements.{All-nil, All-cons, All-push, All-more, Contains-append_left, Contains-push}
 use Rattle.std.proofs.Math.Nat.{mul-sub, mul-le-mul_left}
 use Rattle.yds_model.specs.Job.{Job, IsJob, no_job, job_at}
-use Rattle.yds_admit.specs.Chain.{AreTimes}
+use Rattle.yds_admit.specs.Chain.{AreTimes, IsPlace}
 use Rattle.yds_admit.specs.Pieces.{AreDue}
 
 -- the deadlines of the first jobs are among the times, of which none is later than the last one, and that not later than the next deadline
@@ -129,12 +129,11 @@ same_times due jobs others times same are = record {
 }
 
 -- the first place of one of the times
-module _ (times : List ℕ) (time place : ℕ) (rising : IsNonDecreasing times) (known : Contains times time)
-    (early : (q : ℕ) → q < place → get_or times q 0 < time) (late : (q : ℕ) → place ≤ q → q < length times → time ≤ get_or times q 0) where
+module _ (times : List ℕ) (time place : ℕ) (rising : IsNonDecreasing times) (known : Contains times time) (is : IsPlace times time place) where
   not_after : place ≤ known.0
   not_after = elim (cases_lt known.0 place) [
     | inr most ↦ most
-    | inl less ↦ absurd (omega (arith, early known.0 less, get_or_default times known.0 0 time known.1, known.2))
+    | inl less ↦ absurd (omega (arith, is.before known.0 less, get_or_default times known.0 0 time known.1, known.2))
   ]
 
   pub place_known : place < length times
@@ -143,7 +142,7 @@ module _ (times : List ℕ) (time place : ℕ) (rising : IsNonDecreasing times) 
   pub time_there : get_or times place 0 ≡ time
   time_there = omega (
     arith,
-    late place (omega arith) place_known,
+    is.after place (omega arith) place_known,
     rising place known.0 0 not_after known.1,
     get_or_default times known.0 0 time known.1,
     known.2,

@@ -1,12 +1,13 @@
 -- Jobs with their places among the times of a chain, and marks of jobs.
 use Rattle.std.specs.Prelude.{◌≡◌, ℕ, ◌+◌, ◌*◌, ◌<◌, ◌≤◌, Bool, false, if◌then◌else◌, List, length, map, slice_index, sum_by}
-use Rattle.std.specs.List.{All, Any, slice_index_or}
+use Rattle.std.specs.List.{All, Any, filter, slice_index_or}
 use Rattle.std.specs.List.Sorted.{IsPermutation}
-use Rattle.yds_model.specs.declared.limits.TheConstants.{MAX_TIME}
-use Rattle.yds_model.specs.Job.{Job, job_at}
+use Rattle.yds_model.specs.declared.limits.TheConstants.{MAX_JOBS, MAX_TIME, MAX_TOP}
+use Rattle.yds_model.specs.Job.{Job, IsJob, job_at}
 use Rattle.yds_model.specs.Policy.{numbers_of}
+use Rattle.yds_admit.specs.declared.board.Board.{Board}
 use Rattle.yds_admit.specs.declared.board.Spot.{Spot}
-use Rattle.yds_admit.specs.Chain.{AreTimes}
+use Rattle.yds_admit.specs.Chain.{AreTimes, IsEnd}
 
 -- the place of the last time that isn't after a job's release, and the first of its deadline
 pub record IsSpot (jobs : List Job) (times : List ℕ) (spot : Spot) : Type 0 where
@@ -20,6 +21,11 @@ pub record IsSpot (jobs : List Job) (times : List ℕ) (spot : Spot) : Type 0 wh
   pub earlier : (q : ℕ) → q < spot.end → slice_index times q < slice_index times spot.end
   pub until : slice_index times spot.begin ≤ spot.release
   pub after : (q : ℕ) → spot.begin < q → q < length times → spot.release < slice_index times q
+
+-- the first place of each job's deadline among the times
+pub record AreEnds (jobs : List Job) (times ends : List ℕ) : Type 0 where
+  pub as_long : length ends ≡ length jobs
+  pub each : (k : ℕ) → k < length jobs → IsEnd times (job_at jobs k).deadline (slice_index ends k)
 
 -- a spot for each job, in some order
 pub record AreSpots (jobs : List Job) (times : List ℕ) (spots : List Spot) : Type 0 where
@@ -37,11 +43,17 @@ pub record AreGaps (top : ℕ) (times gaps : List ℕ) : Type 0 where
   pub each : (q : ℕ) → q + 1 < length times →
       slice_index gaps q + top * slice_index times q ≡ top * slice_index times (q + 1)
 
-pub record IsBoard (jobs : List Job) (top : ℕ) (times gaps : List ℕ) (spots : List Spot) : Type 0 where
-  pub are_times : AreTimes 0 jobs times
-  pub are_gaps : AreGaps top times gaps
-  pub are_spots : AreSpots jobs times spots
-  pub falling : IsFallingSpots spots
+-- few jobs, a top speed in range, and what belongs to them
+pub record IsBoard (board : Board) : Type 0 where
+  pub few : length board.rows.now ≤ MAX_JOBS
+  pub some_top : 1 ≤ board.top
+  pub top_in_range : board.top ≤ MAX_TOP
+  pub are : All IsJob board.rows.now
+  pub are_times : AreTimes 0 board.rows.now board.times.items
+  pub are_gaps : AreGaps board.top board.times.items board.gaps.items
+  pub are_ends : AreEnds board.rows.now board.times.items board.ends.items
+  pub are_spots : AreSpots board.rows.now board.times.items board.spots.items
+  pub falling : IsFallingSpots board.spots.items
 
 -- what f is of a job, if it is marked
 abbrev pub if_marked : List Bool → (ℕ → ℕ) → ℕ → ℕ
@@ -51,6 +63,10 @@ if_marked marks f number = if slice_index_or marks number false then f number el
 pub record AreMarked (all : List Job) (marks : List Bool) (jobs : List Job) : Type 0 where
   pub sums : (f : Job → ℕ) → sum_by (if_marked marks (λ number. f (job_at all number))) (numbers_of all) ≡ sum_by f jobs
   pub known : All (λ job. Any (λ one. one ≡ job) all) jobs
+
+-- the marked jobs, by falling releases
+abbrev pub falling_jobs : List Job → List Bool → List Spot → List Job
+falling_jobs all marks spots = map (λ spot. job_at all spot.number) (filter (λ spot. slice_index_or marks spot.number false) spots)
 
 -- none is marked from this number on
 abbrev pub NoneFrom : List Bool → ℕ → Type 0

@@ -16,6 +16,17 @@ pub record AreTimes (due : ℕ) (jobs : List Job) (times : List ℕ) : Type 0 wh
   pub rising : IsNonDecreasing times
   pub all : All (λ job. due < job.deadline → Contains times job.deadline) jobs
 
+-- so many of the times come before this one
+pub record IsPlace (times : List ℕ) (time place : ℕ) : Type 0 where
+  pub before : (q : ℕ) → q < place → slice_index times q < time
+  pub after : (q : ℕ) → place ≤ q → q < length times → time ≤ slice_index times q
+
+-- the first place of one of the times
+pub record IsEnd (times : List ℕ) (time place : ℕ) : Type 0 where
+  pub within : place < length times
+  pub there : slice_index times place ≡ time
+  pub is : IsPlace times time place
+
 -- the work of the jobs that are due by a time
 abbrev pub due_work : List Job → ℕ → ℕ
 due_work jobs time = sum_by (λ job. if nat_le job.deadline time then job.work else 0) jobs

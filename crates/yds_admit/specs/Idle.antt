@@ -8,10 +8,6 @@ use Rattle.yds_admit.specs.Interval.{enclosed_work}
 abbrev pub idle_before : List ℕ → ℕ → ℕ
 idle_before idle q = sum_below q (λ k. slice_index idle k)
 
--- what was taken from the gaps before a place
-abbrev pub taken_before : List ℕ → List ℕ → ℕ → ℕ
-taken_before gaps left q = sum_below q (λ k. slice_index gaps k - slice_index left k)
-
 -- The jobs whose windows lie in an interval that ends at one of the times leave this much to others, in the gaps between any two of the
 -- times that lie in it.
 pub record HasIdle (top : ℕ) (times : List ℕ) (jobs : List Job) (idle : List ℕ) : Type 0 where

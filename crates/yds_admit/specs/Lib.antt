@@ -5,4 +5,5 @@ pub mod Board
 pub mod Orders
 pub mod Pieces
 pub mod Idle
-pub mod Decision
+pub mod State
+pub mod Room

@@ -2,8 +2,10 @@
 use Rattle.std.specs.Prelude.{◌≡◌, ℕ, ◌+◌, ◌*◌, ◌<◌, ◌≤◌, ◌++◌, nat_le, if◌then◌else◌, List, length, take, slice_index, sum_by}
 use Rattle.std.specs.List.{All, Any, Contains}
 use Rattle.yds_model.specs.declared.limits.TheConstants.{MAX_JOBS, MAX_WORK}
-use Rattle.yds_model.specs.Job.{Job, job_at}
+use Rattle.yds_model.specs.Job.{Job, IsJob, job_at}
+use Rattle.yds_laws.specs.AdmissionLaws.{HasRoom}
 use Rattle.yds_edf.specs.Pending.{sum_below}
+use Rattle.yds_admit.specs.declared.pieces.Pieces.{Pieces}
 use Rattle.yds_admit.specs.Interval.{enclosed_work}
 use Rattle.yds_admit.specs.Chain.{IsFalling, IsChain, due_work}
 
@@ -39,14 +41,13 @@ pub record IsCutInto (job : Job) (old new : List Job) : Type 0 where
   pub windows : All (λ piece. (piece.release ≡ job.release) × (piece.deadline ≡ job.deadline)) more
   pub work : sum_by (λ piece. piece.work) more ≡ job.work
 
--- the pieces of the first n of all jobs
-pub record AreCut (all : List Job) (n : ℕ) (jobs : List Job) : Type 0 where
+-- the pieces of all these jobs
+pub record AreCut (all jobs : List Job) : Type 0 where
   pub falling : IsFalling jobs
-  pub later : (k : ℕ) → n ≤ k → k < length all → (i : ℕ) → i < length jobs → (job_at all k).release ≤ (job_at jobs i).release
-  pub few : sum_by (λ job. job.work) jobs ≤ n * MAX_WORK
-  pub same : (from to : ℕ) → enclosed_work jobs from to ≡ enclosed_work (take n all) from to
-  pub kept : (k : ℕ) → k < n → (i : ℕ) × (i < length jobs) × ((job_at jobs i).release ≡ (job_at all k).release)
-  pub known : (i : ℕ) → i < length jobs → (k : ℕ) × (k < n) × ((job_at all k).release ≡ (job_at jobs i).release)
+  pub few : sum_by (λ job. job.work) jobs ≤ length all * MAX_WORK
+  pub same : (from to : ℕ) → enclosed_work jobs from to ≡ enclosed_work all from to
+  pub kept : (from : ℕ) → Any (λ job. job.release ≡ from) all → Any (λ job. job.release ≡ from) jobs
+  pub known : (from : ℕ) → Any (λ job. job.release ≡ from) jobs → Any (λ job. job.release ≡ from) all
 
 -- the pieces of jobs, and the units that take room before each of the times
 pub record ArePieces (top : ℕ) (times : List ℕ) (all jobs : List Job) (places used : List ℕ) : Type 0 where
@@ -59,6 +60,13 @@ pub record ArePieces (top : ℕ) (times : List ℕ) (all jobs : List Job) (place
   pub known : (from : ℕ) → Any (λ job. job.release ≡ from) jobs → Any (λ job. job.release ≡ from) all
   pub greatest : (m n : ℕ) → length times ≡ m + 1 → n ≤ length jobs → (q : ℕ) → q ≤ m → IsGreatest top times m n jobs places q
   pub used_is : (q : ℕ) → q < length times → slice_index used q ≡ went (length jobs) jobs places q
+
+-- the pieces of jobs that leave no interval overfull, with their deadlines among the times
+pub record ArePiecesOf (top : ℕ) (times : List ℕ) (all : List Job) (pieces : Pieces) : Type 0 where
+  pub cut : ArePieces top times all pieces.jobs.items pieces.places.items pieces.used.items
+  pub due : AreDue times all
+  pub are : All IsJob all
+  pub room : HasRoom top all
 
 -- From a place before a job's release up to its deadline, which has the place `end`, enough is idle for it: what the top speed does by a
 -- place, less the units before it, is idle before it.

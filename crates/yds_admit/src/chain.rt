@@ -1,7 +1,7 @@
 ghost use Rattle.std.specs.Prelude.{◌≡◌, ℕ, ◌+◌, ◌-◌, ◌*◌, ◌<◌, ◌≤◌, ◌⊎◌, IfOk, IsTrue, List, length, slice_index};
 ghost use Rattle.std.specs.List.{range_with_len};
 ghost use Rattle.std.specs.List.Sorted.{IsNonDecreasing, IsNonDecreasingBy};
-ghost use Rattle.yds_admit.specs.Chain.{AreTimes, Takes, AreLinks, AreEmpty};
+ghost use Rattle.yds_admit.specs.Chain.{AreTimes, IsPlace, Takes, AreLinks, AreEmpty};
 
 use std::alloc::{AllocError, Global};
 use yds_model::{JobRow, Memory};
@@ -42,47 +42,12 @@ pub(crate) fn gaps(alloc: Global, times: &[u32], top: u32) -> Result<Vec<u64>, M
 pub(crate) fn place(times: &[u32], time: u32) -> usize
     requires { IsNonDecreasing times.now }
     ensures within { result ≤ length times.now }
-    ensures before { (q : ℕ) → q < result → slice_index times.now q < time }
-    ensures after { (q : ℕ) → result ≤ q → q < length times.now → time ≤ slice_index times.now q }
+    ensures is { IsPlace times.now time result }
 {
     if !times.is_empty() && time <= times[0] {
         return 0;
     }
     times.partition_point(|other| *other < time)
-}
-
-/// How many of the times come before this one. The guess of this number is right most of the time, and saves a search. It is set right.
-pub(crate) fn place_guessed(
-    times: &[u32],
-    time: u32,
-    guesses: &mut Vec<usize>,
-    number: usize,
-) -> Result<usize, Memory>
-    requires { IsNonDecreasing times.now }
-    ensures before { IfOk result (λ place. (q : ℕ) → q < place → slice_index times.now q < time) }
-    ensures after { IfOk result (λ place. (q : ℕ) → place ≤ q → q < length times.now → time ≤ slice_index times.now q) }
-{
-    if number < guesses.len() {
-        let guess = guesses[number];
-        if is_place(times, time, guess) {
-            return Ok(guess);
-        }
-        let found = place(times, time);
-        guesses[number] = found;
-        return Ok(found);
-    }
-    let found = place(times, time);
-    guesses.push(found)?;
-    Ok(found)
-}
-
-/// Whether so many of the times, at least one, come before this one.
-fn is_place(times: &[u32], time: u32, guess: usize) -> bool
-    requires { IsNonDecreasing times.now }
-    ensures before { IsTrue result → (q : ℕ) → q < guess → slice_index times.now q < time }
-    ensures after { IsTrue result → (q : ℕ) → guess ≤ q → q < length times.now → time ≤ slice_index times.now q }
-{
-    0 < guess && guess < times.len() && times[guess - 1] < time && time <= times[guess]
 }
 
 /// Takes so many units from the gaps before this place, from the last one on, down to the lowest gap. Answers how many are left.

@@ -1,24 +1,18 @@
-ghost use Rattle.std.specs.Prelude.{◌≡◌, ℕ, ◌+◌, ◌<◌, ◌≤◌, ◌++◌, ◌∷◌, [], true, false, length, slice_index, IfSome};
+ghost use Rattle.std.specs.Prelude.{◌≡◌, ℕ, ◌+◌, ◌<◌, ◌≤◌, ◌++◌, ◌∷◌, [], true, false, List, length, slice_index, IfSome};
 ghost use Rattle.std.specs.List.Sorted.{IsNonDecreasing};
+ghost use Rattle.yds_model.specs.Job.{Job};
 ghost use Rattle.yds_admit.specs.Idle.{HasIdle, IsTaken, IsCleared, idle_before};
 
 use yds_model::JobRow;
 
 /// Takes the units of one more job from what is idle in its window, if that is enough, and answers whether it is. The job's deadline has
 /// the place `end` among the times.
-pub(crate) fn take_idle(
-    idle: &mut [u64],
-    _jobs: &[JobRow],
-    row: &JobRow,
-    times: &[u32],
-    end: usize,
-    _top: u32,
-) -> bool
-    requires idle { HasIdle _top times.now _jobs.now idle.old }
-    requires rising { IsNonDecreasing times.now }
+pub(crate) fn take_idle(idle: &mut [u64], row: &JobRow, times: &[u32], end: usize) -> bool
+    requires as_long { length idle.old + 1 ≡ length times.now }
     requires within { end < length times.now }
     requires end { slice_index times.now end ≡ row.now.deadline }
-    ensures taken { result ≡ true → HasIdle _top times.now (_jobs.now ++ row.now ∷ []) idle.new }
+    ensures taken { result ≡ true → (top : ℕ) (jobs : List Job) → IsNonDecreasing times.now → HasIdle top times.now jobs idle.old →
+        HasIdle top times.now (jobs ++ row.now ∷ []) idle.new }
     ensures kept { result ≡ false → idle.new ≡ idle.old }
 {
     let units = u64::from(row.work);

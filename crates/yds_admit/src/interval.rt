@@ -1,14 +1,9 @@
-ghost use Rattle.std.specs.Prelude.{◌≡◌, ◌*◌, ◌≤◌, ◌++◌, ◌∷◌, [], IfOk, IfSome, MatchOption, length, take, All};
-ghost use Rattle.std.specs.List.Sorted.{IsPermutation, IsNonDecreasing, IsNonDecreasingBy};
+ghost use Rattle.std.specs.Prelude.{◌≡◌, ◌*◌, ◌≤◌, ◌++◌, ◌∷◌, [], IfOk, MatchOption, length, take, All};
+ghost use Rattle.std.specs.List.Sorted.{IsPermutation, IsNonDecreasingBy};
 ghost use Rattle.yds_model.specs.declared.limits.TheConstants.{MAX_WORK};
 ghost use Rattle.yds_model.specs.Job.{IsJob};
-ghost use Rattle.yds_laws.specs.AdmissionLaws.{HasRoom};
-ghost use Rattle.yds_admit.specs.Chain.{IsFalling};
-ghost use Rattle.yds_admit.specs.Interval.{released_work, HasRoomFrom, IsFirstFrom, IsFirstWith};
-ghost use Rattle.yds_admit.specs.Pieces.{ArePieces, AreDue};
+ghost use Rattle.yds_admit.specs.Interval.{released_work, HasRoomFrom, IsFirstFrom};
 
-use crate::chain::place;
-use crate::pieces::{Pieces, least_from_pieces};
 use crate::standing::due_before;
 use yds_model::limits::{MAX_JOBS, MAX_TOP};
 use yds_model::{JobRow, Memory};
@@ -33,19 +28,14 @@ pub(crate) fn sort_by_deadline(jobs: &mut Vec<JobRow>) -> Result<(), Memory>
     Ok(())
 }
 
-/// Sorts the jobs by falling releases.
-pub(crate) fn sort_by_release(jobs: &mut Vec<JobRow>) -> Result<(), Memory>
-    requires { All IsJob jobs.old.items }
-    ensures same { IfOk result (λ _. IsPermutation jobs.old.items jobs.new.items) }
-    ensures falling { IfOk result (λ _. IsFalling jobs.new.items) }
-{
-    jobs.sort_by_key(|job| u32::MAX - job.release)?;
-    Ok(())
-}
-
 /// The first interval from `from` that is overfull with one job more, if there is one. Without the job there is none: so it ends at
 /// the job's deadline or later.
-fn overfull_from(by_deadline: &[JobRow], row: &JobRow, from: u32, top: u32) -> Option<Overfull>
+pub(crate) fn overfull_from(
+    by_deadline: &[JobRow],
+    row: &JobRow,
+    from: u32,
+    top: u32,
+) -> Option<Overfull>
     requires few { length by_deadline.now ≤ MAX_JOBS }
     requires are { All IsJob by_deadline.now }
     requires top_in_range { top ≤ MAX_TOP }
@@ -95,59 +85,4 @@ fn released_before(by_deadline: &[JobRow], place: usize, from: u32) -> u64
         }
     }
     work
-}
-
-/// The first overfull interval of these jobs and one more, if one begins at the earliest release of all. Alone the jobs leave none overfull.
-pub(crate) fn overfull_from_start(
-    _jobs: &[JobRow],
-    row: &JobRow,
-    by_release: &[JobRow],
-    by_deadline: &[JobRow],
-    top: u32,
-) -> Option<Overfull>
-    requires few { length by_deadline.now ≤ MAX_JOBS }
-    requires top_in_range { top ≤ MAX_TOP }
-    requires are { All IsJob _jobs.now }
-    requires room { HasRoom top _jobs.now }
-    requires releases { IsPermutation _jobs.now by_release.now }
-    requires falling { IsFalling by_release.now }
-    requires deadlines { IsPermutation _jobs.now by_deadline.now }
-    requires rising { IsNonDecreasingBy (λ job. job.deadline) by_deadline.now }
-    ensures { IfSome result (λ overfull. IsFirstWith top (_jobs.now ++ row.now ∷ []) overfull.from overfull.to overfull.work) }
-{
-    let from = match by_release.last() {
-        Some(job) => job.release.min(row.release),
-        None => row.release,
-    };
-    overfull_from(by_deadline, row, from, top)
-}
-
-/// The first overfull interval of these jobs and one more, where there is one. Alone they leave none overfull: so it begins before
-/// the one more's deadline, and ends then or later. It is found over the pieces of the jobs.
-pub(crate) fn overfull_by_pieces(
-    _jobs: &[JobRow],
-    row: &JobRow,
-    by_deadline: &[JobRow],
-    pieces: &Pieces,
-    times: &[u32],
-    top: u32,
-) -> Option<Overfull>
-    requires few { length by_deadline.now ≤ MAX_JOBS }
-    requires top_in_range { top ≤ MAX_TOP }
-    requires are { All IsJob (_jobs.now ++ row.now ∷ []) }
-    requires room { HasRoom top _jobs.now }
-    requires deadlines { IsPermutation _jobs.now by_deadline.now }
-    requires rising { IsNonDecreasingBy (λ job. job.deadline) by_deadline.now }
-    requires pieces { ArePieces top times.now _jobs.now pieces.now.jobs.items pieces.now.places.items pieces.now.used.items }
-    requires in_order { IsNonDecreasing times.now }
-    requires due { AreDue times.now (_jobs.now ++ row.now ∷ []) }
-    ensures { MatchOption result
-        (HasRoom top (_jobs.now ++ row.now ∷ []))
-        (λ overfull. IsFirstWith top (_jobs.now ++ row.now ∷ []) overfull.from overfull.to overfull.work) }
-{
-    let end = place(times, row.deadline);
-    let Some(from) = least_from_pieces(pieces, _jobs, times, row, end, top) else {
-        return None;
-    };
-    overfull_from(by_deadline, row, from, top)
 }

@@ -8,7 +8,9 @@
 #![tactic(auto)]
 
 mod admission;
+mod batch;
 mod board;
+mod candidate;
 mod chain;
 mod decision;
 mod idle;
@@ -16,9 +18,10 @@ mod interval;
 mod nearby;
 mod pieces;
 mod refusal;
-mod run;
+mod room;
 mod serving;
 mod standing;
+mod state;
 
 pub use admission::{Admission, admit};
 pub use refusal::Refusal;

@@ -5,16 +5,6 @@ ghost use Rattle.yds_admit.specs.Chain.{IsFalling};
 
 use yds_model::JobRow;
 
-/// The place of one more among these jobs, which stand in falling order of their releases.
-pub(crate) fn release_place(by_release: &[JobRow], row: &JobRow) -> usize
-    requires { IsFalling by_release.now }
-    ensures within { result ≤ length by_release.now }
-    ensures falling { IsFalling (insert by_release.now result row.now) }
-{
-    let release = row.release;
-    by_release.partition_point(|job| release < job.release)
-}
-
 /// How many of these jobs, which stand in falling order of their releases, are released at a time or later.
 pub(crate) fn released_from(by_release: &[JobRow], time: u32) -> usize
     requires { IsFalling by_release.now }

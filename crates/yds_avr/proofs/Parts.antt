@@ -22,7 +22,7 @@ use Rattle.yds_events.specs.Stretch.{IsOutside}
 use Rattle.yds_events.proofs.Neighbours.{stretch_begins, stretch_next}
 use Rattle.yds_events.proofs.Times.{not_later}
 use Rattle.yds_edf.proofs.Numbers.{sum_filter}
-use Rattle.yds_edf.proofs.Parts.{filter_none, filter_all}
+use Rattle.yds_timetable.proofs.Lists.{filter_none, filter_all}
 use Rattle.yds_avr.specs.declared.rate.Rate.{Rate}
 use Rattle.yds_avr.specs.Rate.{rate_of, rate_units, rate_term, rate_rounds, IsRate, IsLive}
 use Rattle.yds_avr.specs.Live.{no_rate, rate_at, rates_of, AreCome, AreOver, AreNotOver, HaveRisingReleases, ArePartsBefore}

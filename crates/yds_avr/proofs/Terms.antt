@@ -11,7 +11,6 @@ use Rattle.yds_model.specs.Piece.{Piece}
 use Rattle.yds_model.specs.Event.{event_points, stretches}
 use Rattle.yds_model.specs.AverageRate.{is_live, term_numerator, term_of, terms_of, average_rate_rounds, IsAverageRateRun}
 use Rattle.yds_model.specs.Slot.{WrittenSlot}
-use Rattle.yds_model.specs.Within.{AreSlotsOf}
 use Rattle.yds_model.specs.Comparison.{stretch_at}
 use Rattle.yds_events.specs.Stretch.{no_stretch, length_of, IsOutside}
 use Rattle.yds_events.proofs.Times.{not_later, deadline_at, release_at}
@@ -19,7 +18,7 @@ use Rattle.yds_events.proofs.Neighbours.{count_stretches, stretch_begins, stretc
 use Rattle.yds_edf.specs.Pending.{sum_below, units_wanted}
 use Rattle.yds_edf.specs.Demand.{capacity_at, confined_units, capacity_between, IsWithinCapacity}
 use Rattle.yds_edf.specs.Run.{IsPolicyRun}
-use Rattle.yds_edf.proofs.Capped.{capped_run}
+use Rattle.yds_edf.proofs.Capped.{set_run}
 use Rattle.yds_edf.proofs.Quotients.{up_enough}
 use Rattle.yds_edf.proofs.Sums.{sum_below_same, sum_below_at_most, sum_below_zero}
 use Rattle.yds_edf.proofs.Numbers.{sum_places, sum_filter, sum_below_swap, sum_below-mul}
@@ -206,18 +205,17 @@ deadlines_outside jobs k within =
     All-from_get_or (λ job. IsOutside (stretch_at jobs k) job.deadline) jobs no_job (λ j known. deadline_outside jobs j k known within)
 
 -- a run of the policy is a run of Average Rate
-average_rate_run : (jobs : List Job) (grid rounded : ℕ) (slots : List WrittenSlot) → 1 ≤ grid → All IsJob jobs → AreSlotsOf (length jobs) slots →
+average_rate_run : (jobs : List Job) (grid rounded : ℕ) (slots : List WrittenSlot) → 1 ≤ grid → All IsJob jobs →
     IsPolicyRun jobs grid (λ pending stretch. terms_of jobs grid stretch) (λ pending stretch. average_rate_rounds jobs grid stretch) rounded slots →
     IsAverageRateRun jobs grid rounded slots
-average_rate_run jobs grid rounded slots some are limits run = record {
-  run = capped_run jobs grid (λ pending stretch. terms_of jobs grid stretch) (λ pending stretch. average_rate_rounds jobs grid stretch) rounded slots
-      (terms_of jobs grid) are some limits (λ pending stretch. refl) (parts_serve jobs grid are) run;
+average_rate_run jobs grid rounded slots some are run = record {
+  run = set_run jobs grid (λ pending stretch. terms_of jobs grid stretch) (λ pending stretch. average_rate_rounds jobs grid stretch) rounded slots
+      (terms_of jobs grid) are some (λ pending stretch. refl) (parts_serve jobs grid are) run;
   rounds = run.count ∙ sym (sum_places (λ stretch. cond (average_rate_rounds jobs grid stretch) 1 0) (stretches jobs) no_stretch);
 }
 
 pub ok_run : {T E : Type 0} (jobs : List Job) (grid : ℕ) (rounded : T → ℕ) (slots : T → List WrittenSlot) (r : Result T E) → 1 ≤ grid → OnOk r (All IsJob jobs) →
-    IfOk r (λ run. AreSlotsOf (length jobs) (slots run)) →
     IfOk r (λ run. IsPolicyRun jobs grid (λ pending stretch. terms_of jobs grid stretch) (λ pending stretch. average_rate_rounds jobs grid stretch) (rounded run) (slots run)) →
     IfOk r (λ run. IsAverageRateRun jobs grid (rounded run) (slots run))
-ok_run jobs grid rounded slots (Ok run) some are limits is = average_rate_run jobs grid (rounded run) (slots run) some are limits is
-ok_run jobs grid rounded slots (Err e) some are limits is = tt
+ok_run jobs grid rounded slots (Ok run) some are is = average_rate_run jobs grid (rounded run) (slots run) some are is
+ok_run jobs grid rounded slots (Err e) some are is = tt

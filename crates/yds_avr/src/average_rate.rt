@@ -3,13 +3,16 @@ ghost use Rattle.std.specs.List.{list_any};
 ghost use Rattle.yds_model.specs.Policy.{HasRunDenominators};
 ghost use Rattle.yds_model.specs.AverageRate.{IsAverageRateRun, terms_of, average_rate_rounds};
 ghost use Rattle.yds_model.specs.Within.{AreSlotsOf};
+ghost use Rattle.yds_timetable.specs.Timetable.{slots_of};
+ghost use Rattle.yds_timetable.specs.Room.{CanLay};
+ghost use Rattle.yds_edf.specs.Run.{AreRowsOf};
 ghost use Rattle.yds_avr.specs.Rate.{IsLive, rate_term, rate_rounds};
 ghost use Rattle.yds_avr.specs.Live.{ArePartsBefore};
 
 use crate::live::{arrived_by, by_release, over_by};
 use crate::rate::{Rate, rest_of, rounds};
 use std::alloc::Global;
-use yds_edf::{Policy, PolicyRun, Queue, Setting, Share, run_policy};
+use yds_edf::{Policy, PolicyRun, PolicyTimetable, Queue, Setting, Share, serve_policy};
 use yds_events::Stretch;
 use yds_model::limits::{MAX_GRID, MAX_JOBS, MAX_ROUNDED};
 use yds_model::{JobRow, Memory};
@@ -28,6 +31,21 @@ pub fn avr(alloc: Global, rows: &[JobRow], grid: u32) -> Result<PolicyRun, Memor
     ensures limits { IfOk result (λ run. AreSlotsOf (length rows.now) run.schedule.slots) }
     ensures count_in_range { IfOk result (λ run. run.rounded ≤ MAX_ROUNDED) }
 {
+    let served = avr_timetable(alloc, rows, grid)?;
+    served.laid(alloc, rows.len() as u32)
+}
+
+/// The same before its slots are laid: what each stretch serves.
+pub fn avr_timetable(alloc: Global, rows: &[JobRow], grid: u32) -> Result<PolicyTimetable, Memory>
+    requires few { length rows.now ≤ MAX_JOBS }
+    requires some_grid { 1 ≤ grid }
+    requires grid_in_range { grid ≤ MAX_GRID }
+    ensures run { IfOk result (λ run. IsAverageRateRun rows.now grid run.rounded (slots_of run.timetable)) }
+    ensures denominators { IfOk result (λ run. All (HasRunDenominators rows.now grid) (slots_of run.timetable)) }
+    ensures stretches { IfOk result (λ run. AreRowsOf rows.now grid run.timetable) }
+    ensures room { IfOk result (λ run. CanLay (length rows.now) run.timetable) }
+    ensures count_in_range { IfOk result (λ run. run.rounded ≤ MAX_ROUNDED) }
+{
     let order = by_release(alloc, rows, grid)?;
     let mut policy = AverageRate {
         grid,
@@ -35,7 +53,7 @@ pub fn avr(alloc: Global, rows: &[JobRow], grid: u32) -> Result<PolicyRun, Memor
         over: 0,
         arrived: 0,
     };
-    run_policy(alloc, rows, grid, &mut policy)
+    serve_policy(alloc, rows, grid, &mut policy)
 }
 
 /// Average Rate, which looks at the windows of the jobs alone that have arrived and aren't over.

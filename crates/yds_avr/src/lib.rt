@@ -9,7 +9,7 @@ mod average_rate;
 mod live;
 mod rate;
 
-pub use average_rate::avr;
+pub use average_rate::{avr, avr_timetable};
 
 #[cfg(test)]
 mod tests;

@@ -1,19 +1,14 @@
 -- Where jobs stand when one more member is met.
-use Rattle.std.proofs.Common.{◌≡◌, ◌≢◌, ℕ, ◌+◌, ◌<◌, ◌==◌, List, [], ◌∷◌, ◌++◌, length, get_or, set, take, refl, ap, sym, ◌∙◌, arith, inl, inr, cond, append_assoc, add-zero, add-one, length-set, get_or-set_same, get_or-set_other}
+use Rattle.std.proofs.Common.{◌≡◌, ◌≢◌, ℕ, ◌+◌, ◌<◌, ◌==◌, List, [], ◌∷◌, ◌++◌, length, get_or, set, take, ap, sym, ◌∙◌, arith, inl, inr, cond, append_assoc, add-zero, add-one, length-set, get_or-set_same, get_or-set_other}
 use Rattle.std.proofs.lemmas.List.{take_more}
 use Rattle.std.proofs.lemmas.List.Sums.{sum_by_push}
-use Rattle.std.proofs.lemmas.Bool.{cases_eq, eq-eqb, ne_eqb}
+use Rattle.std.proofs.lemmas.Bool.{cases_eq, ne_eqb}
 use Rattle.yds_model.specs.Numbers.{count}
 use Rattle.yds_model.specs.Level.{Level, no_level, level_at, all_members}
 use Rattle.yds_model.proofs.Lists.{flat_map-take}
 use Rattle.yds_checker.specs.declared.home.Home.{Home}
 use Rattle.yds_checker.specs.declared.home.Home.TheVariants.{Nowhere, In, Often}
 use Rattle.yds_checker.specs.Home.{IsHome, home_at, AreHomes}
-
--- a number that is put last is counted once more
-pub count-same : (job : ℕ) (members : List ℕ) → count job (members ++ job ∷ []) ≡ count job members + 1
-count-same job members =
-    sum_by_push (λ other. cond (job == other) 1 0) members job ∙ ap {B = ℕ} (λ b. count job members + cond b 1 0) (eq-eqb job job refl)
 
 -- and another isn't
 pub count-other : (job x : ℕ) (members : List ℕ) → job ≢ x → count job (members ++ x ∷ []) ≡ count job members

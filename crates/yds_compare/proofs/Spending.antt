@@ -9,7 +9,7 @@ use Rattle.yds_model.specs.declared.limits.TheConstants.{MAX_GRID, MAX_TIME, MAX
 use Rattle.yds_model.specs.Table.{Point, hull_of, hull_multiple}
 use Rattle.yds_model.specs.Within.{ArePoints}
 use Rattle.yds_model.specs.Comparison.{time_at}
-use Rattle.yds_edf.proofs.Laid.{all_zip_push}
+use Rattle.yds_timetable.proofs.Lists.{all_zip_push}
 use Rattle.yds_compare.specs.declared.load.Load.{Load}
 use Rattle.yds_compare.specs.declared.share.Share.{Share}
 use Rattle.yds_compare.specs.Share.{time_share_at, IsShareOf}

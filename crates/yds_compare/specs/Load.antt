@@ -1,20 +1,18 @@
--- What runs at one speed: the stretches of a schedule, or the levels of a plan and the time outside them.
+-- What runs at one speed: the stretches of a timetable, or the levels of a plan and the time outside them.
 use Rattle.std.specs.Prelude.{ℕ, ◌-◌, ◌*◌, ◌≤◌, List, [], ◌∷◌, ◌++◌, map, sum_by}
 use Rattle.std.specs.List.{slice_index_or}
-use Rattle.yds_model.specs.Slot.{WrittenSlot}
-use Rattle.yds_model.specs.Piece.{Piece}
 use Rattle.yds_model.specs.Level.{Level}
 use Rattle.yds_events.specs.Stretch.{length_of}
-use Rattle.yds_round.specs.Written.{units_of_slots}
-use Rattle.yds_round.specs.Rounded.{planned_in}
+use Rattle.yds_timetable.specs.Shares.{total_units}
+use Rattle.yds_timetable.specs.Timetable.{Row}
 use Rattle.yds_compare.specs.declared.load.Load.{Load}
 
--- what the slots do in the stretch, in parts of which `grid` make a unit
-abbrev pub load_of : ℕ → List WrittenSlot → Piece → Load
-load_of grid slots stretch = record { time = length_of stretch * grid; work = units_of_slots grid (planned_in slots stretch) }
+-- what the stretch serves, in parts of which `grid` make a unit
+abbrev pub load_of : ℕ → Row → Load
+load_of grid row = record { time = length_of row.stretch * grid; work = total_units row.shares }
 
-abbrev pub loads_of : ℕ → List WrittenSlot → List Piece → List Load
-loads_of grid slots stretches = map (load_of grid slots) stretches
+abbrev pub loads_of : ℕ → List Row → List Load
+loads_of grid rows = map (load_of grid) rows
 
 abbrev pub level_load : Level → Load
 level_load level = record { time = level.length; work = level.work }

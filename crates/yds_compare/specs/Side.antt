@@ -1,10 +1,8 @@
 -- The side of a policy.
-use Rattle.std.specs.Prelude.{ℕ, ◌*◌, ◌≤◌, List, length, All}
+use Rattle.std.specs.Prelude.{ℕ, List}
 use Rattle.yds_model.specs.Job.{Job}
 use Rattle.yds_model.specs.Slot.{WrittenSlot}
-use Rattle.yds_model.specs.Feasible.{IsFeasible}
 use Rattle.yds_model.specs.Table.{Point}
-use Rattle.yds_model.specs.Plan.{IsOver}
 use Rattle.yds_model.specs.Comparison.{Side as ModelSide, Spends, TooSlowFor, IsSide}
 use Rattle.yds_compare.specs.declared.side.Side.{Side}
 use Rattle.yds_compare.specs.declared.side.Side.TheVariants as sides
@@ -16,9 +14,3 @@ side_view (sides.TooSlow units from to) = TooSlowFor units from to
 -- it is that of a run of the policy
 abbrev pub IsSideOfRun : (List WrittenSlot → Type 0) → List Job → List Point → ℕ → Side → Type 0
 IsSideOfRun IsRun jobs points grid side = (slots : List WrittenSlot) × IsRun slots × IsSide jobs points grid slots (side_view side)
-
--- a feasible schedule whose works are over the grid, as that of a policy is
-pub record IsRunOnGrid (jobs : List Job) (grid : ℕ) (slots : List WrittenSlot) : Type 0 where
-  pub feasible : IsFeasible jobs slots
-  pub works : All (λ slot. IsOver grid slot.work) slots
-  pub few : length slots ≤ 3 * length jobs

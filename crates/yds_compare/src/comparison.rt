@@ -1,6 +1,5 @@
-ghost use Rattle.std.specs.Prelude.{◌≡◌, ◌≤◌, List, length, sum_by, All, IfOk, IfErr, Err};
+ghost use Rattle.std.specs.Prelude.{◌≡◌, ◌≤◌, List, length, sum_by, IfOk, IfErr, Err};
 ghost use Rattle.yds_model.specs.declared.limits.TheConstants.{MAX_GRID, MAX_JOBS, MAX_ROUNDED, MAX_TIME};
-ghost use Rattle.yds_model.specs.Job.{IsJob};
 ghost use Rattle.yds_model.specs.Slot.{WrittenSlot};
 ghost use Rattle.yds_model.specs.Plan.{IsPlan};
 ghost use Rattle.yds_model.specs.Event.{stretches as job_stretches};
@@ -16,11 +15,11 @@ use crate::load::{loads_of_levels, total_length};
 use crate::side::{Side, side_of};
 use crate::spent::{Spent, spend};
 use std::alloc::Global;
-use yds_avr::avr;
+use yds_avr::avr_timetable;
 use yds_certificate::{Certificate, Level};
 use yds_events::stretches;
 use yds_model::{JobRow, Memory};
-use yds_oa::oa;
+use yds_oa::oa_timetable;
 use yds_round::{RoundFault, fault_of};
 use yds_table::Table;
 
@@ -37,15 +36,6 @@ pub struct Comparison {
     pub oa: Side,
     /// The number of event points at which Optimal Available rounded.
     pub oa_rounded: u32,
-}
-
-/// Reads each row. That shows that each is a job within the limits.
-fn read(rows: &[JobRow])
-    ensures { All IsJob rows.now }
-{
-    for row in rows {
-        let _work = row.work;
-    }
 }
 
 /// What a plan of these levels spends, level by level.
@@ -100,16 +90,15 @@ pub fn compare(
     if let Some(fault) = fault_of(table, levels) {
         return Err(fault);
     }
-    read(rows);
     let timeline = stretches(alloc, rows)?;
     let spent = plan_spent(alloc, rows, total_length(&timeline), levels, table)?;
-    let average = avr(alloc, rows, grid)?;
-    let optimal = oa(alloc, rows, grid)?;
+    let average = avr_timetable(alloc, rows, grid)?;
+    let optimal = oa_timetable(alloc, rows, grid)?;
     Ok(Comparison {
         plan: spent,
-        avr: side_of(alloc, rows, &timeline, &average.schedule, table, grid)?,
+        avr: side_of(alloc, rows, &average.timetable, table, grid)?,
         avr_rounded: average.rounded,
-        oa: side_of(alloc, rows, &timeline, &optimal.schedule, table, grid)?,
+        oa: side_of(alloc, rows, &optimal.timetable, table, grid)?,
         oa_rounded: optimal.rounded,
     })
 }

@@ -1,7 +1,7 @@
 //! A comparison on operating points: what a plan spends there, and what the runs of Average Rate and of Optimal Available on a
 //! grid do.
 //!
-//! It stands on `yds_model`, `yds_fraction`, `yds_hull`, `yds_table`, `yds_events`, `yds_slots`, `yds_certificate`, `yds_plan`,
+//! It stands on `yds_model`, `yds_fraction`, `yds_hull`, `yds_table`, `yds_events`, `yds_timetable`, `yds_certificate`, `yds_plan`,
 //! `yds_edf`, `yds_avr`, `yds_oa`, `yds_round` and `yds_curve`, and its proofs on lemmas of `yds_laws`. Its promise is that the
 //! times and the energies are those of the model's definition, and that a side is too slow just where a stretch of its run is
 //! faster than the top point.

@@ -1,19 +1,16 @@
-ghost use Rattle.std.specs.Prelude.{◌≡◌, ◌^◌, ◌<◌, ◌≤◌, length, sum_by, IfOk, MatchOption};
+ghost use Rattle.std.specs.Prelude.{◌≡◌, ◌≤◌, length, sum_by, IfOk, MatchOption};
 ghost use Rattle.std.specs.List.{All};
 ghost use Rattle.yds_model.specs.declared.limits.TheConstants.{MAX_GRID, MAX_TIME};
 ghost use Rattle.yds_model.specs.Numbers.{IsFirstFailure};
 ghost use Rattle.yds_model.specs.Piece.{PiecesFrom};
 ghost use Rattle.yds_events.specs.Stretch.{length_of};
-ghost use Rattle.yds_slots.specs.Between.{RunInOrder};
-ghost use Rattle.yds_round.specs.Written.{units_of_slots};
-ghost use Rattle.yds_round.specs.Rounded.{planned_in};
 ghost use Rattle.yds_compare.specs.Load.{loads_of, level_loads, load_at, IsHeldAt};
 
 use std::alloc::Global;
 use yds_certificate::Level;
 use yds_events::Stretch;
 use yds_model::Memory;
-use yds_slots::{Schedule, Slot};
+use yds_timetable::Timetable;
 
 /// Time in which work is done at one speed, both in parts of one in so many.
 #[derive(Clone, Copy, Debug)]
@@ -24,37 +21,16 @@ pub(crate) struct Load {
     pub work: u64,
 }
 
-/// What the slots do together, in parts of which `grid` make a unit of work.
-fn units_of(slots: &[Slot], grid: u64) -> u64
-    requires { units_of_slots grid slots.now < 2 ^ 64 }
-    ensures { result ≡ units_of_slots grid slots.now }
-{
-    let mut units = 0;
-    for slot in slots {
-        units += slot.work.whole() * grid + slot.work.num();
-    }
-    units
-}
-
-/// What a schedule does in each of these stretches, in parts of which `grid` make a unit.
-pub(crate) fn loads_of(
-    alloc: Global,
-    timeline: &[Stretch],
-    schedule: &Schedule,
-    grid: u64,
-) -> Result<Vec<Load>, Memory>
-    requires some_grid { 1 ≤ grid }
+/// What a timetable does in each of its stretches, in parts of which `grid` make a unit.
+pub(crate) fn loads_of(alloc: Global, run: &Timetable, grid: u64) -> Result<Vec<Load>, Memory>
     requires grid_in_range { grid ≤ MAX_GRID }
-    requires in_order { RunInOrder schedule.now.slots }
-    requires fits { All (λ stretch. units_of_slots grid (planned_in schedule.now.slots stretch) < 2 ^ 64) timeline.now }
-    ensures { IfOk result (λ loads. loads.items ≡ loads_of grid schedule.now.slots timeline.now) }
+    ensures { IfOk result (λ loads. loads.items ≡ loads_of grid run.now) }
 {
-    let mut loads = Vec::with_capacity(alloc, timeline.len())?;
-    for stretch in timeline {
-        let slots = schedule.between(stretch.from, stretch.to);
+    let mut loads = Vec::with_capacity(alloc, run.len())?;
+    for number in 0..run.len() {
         loads.push(Load {
-            time: u64::from(stretch.length()) * grid,
-            work: units_of(slots, grid),
+            time: u64::from(run.stretch(number).length()) * grid,
+            work: run.units(number),
         })?;
     }
     Ok(loads)

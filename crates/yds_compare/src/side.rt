@@ -1,18 +1,18 @@
-ghost use Rattle.std.specs.Prelude.{◌≡◌, ◌≤◌, length, All, IfOk, sum_by};
-ghost use Rattle.yds_model.specs.declared.limits.TheConstants.{MAX_GRID, MAX_JOBS, MAX_TIME};
-ghost use Rattle.yds_model.specs.Job.{IsJob};
+ghost use Rattle.std.specs.Prelude.{◌≡◌, ◌≤◌, IfOk, sum_by};
+ghost use Rattle.yds_model.specs.declared.limits.TheConstants.{MAX_GRID, MAX_TIME};
 ghost use Rattle.yds_model.specs.Event.{stretches as job_stretches};
 ghost use Rattle.yds_model.specs.Comparison.{IsSide};
 ghost use Rattle.yds_events.specs.Stretch.{length_of};
-ghost use Rattle.yds_compare.specs.Side.{side_view, IsRunOnGrid};
+ghost use Rattle.yds_timetable.specs.Timetable.{slots_of};
+ghost use Rattle.yds_edf.specs.Run.{AreRowsOf};
+ghost use Rattle.yds_compare.specs.Side.{side_view};
 
 use crate::load::{first_above, loads_of};
 use crate::spent::{Spent, spend};
 use std::alloc::Global;
-use yds_events::Stretch;
 use yds_model::{JobRow, Memory};
-use yds_slots::Schedule;
 use yds_table::Table;
+use yds_timetable::Timetable;
 
 /// What the run of a policy spends, or the first stretch for which the table's last point is too slow.
 #[derive(Debug, Drop)]
@@ -30,30 +30,26 @@ pub enum Side {
     },
 }
 
-/// The side of a run on the grid, whose stretches are these.
+/// The side of a run on the grid, which has this timetable.
 pub(crate) fn side_of(
     alloc: Global,
     rows: &[JobRow],
-    timeline: &[Stretch],
-    run: &Schedule,
+    run: &Timetable,
     table: &Table,
     grid: u32,
 ) -> Result<Side, Memory>
-    requires few { length rows.now ≤ MAX_JOBS }
-    requires jobs { All IsJob rows.now }
     requires some_grid { 1 ≤ grid }
     requires grid_in_range { grid ≤ MAX_GRID }
-    requires timeline { timeline.now ≡ job_stretches rows.now }
-    requires time_in_range { sum_by length_of timeline.now ≤ MAX_TIME }
-    requires run { IsRunOnGrid rows.now grid run.now.slots }
-    ensures { IfOk result (λ side. IsSide rows.now table.now grid run.now.slots (side_view side)) }
+    requires time_in_range { sum_by length_of (job_stretches rows.now) ≤ MAX_TIME }
+    requires run { AreRowsOf rows.now grid run.now }
+    ensures { IfOk result (λ side. IsSide rows.now table.now grid (slots_of run.now) (side_view side)) }
 {
-    let loads = loads_of(alloc, timeline, run, u64::from(grid))?;
+    let loads = loads_of(alloc, run, u64::from(grid))?;
     let Some(place) = first_above(&loads, table.top()) else {
         let spent = spend(alloc, &loads, u64::from(grid), table)?;
         return Ok(Side::Spent(spent));
     };
-    let stretch = timeline[place];
+    let stretch = run.stretch(place);
     Ok(Side::TooSlow {
         units: loads[place].work,
         from: stretch.from,

@@ -12,7 +12,7 @@ use Rattle.yds_model.specs.Piece.{Piece, PiecesFrom, Covers}
 use Rattle.yds_certificate.proofs.Cover.{Covers-cons, Covers-append}
 use Rattle.yds_contract.specs.Contracted.{AreApartFrom}
 use Rattle.yds_contract.specs.Spread.{MeetsOnlyAt, MeetOnlyAt, IsUncutAt}
-use Rattle.yds_contract.specs.Cut.{AreUpto, lies_between, cut_between, cut_all}
+use Rattle.yds_contract.specs.Cut.{AreUpto, comes_between, cut_between, cut_all}
 use Rattle.yds_contract.proofs.Cells.{none_covered, apart_weaker}
 
 pub cut_here : (from to time : ℕ) (times : List ℕ) → from < time → time < to →
@@ -228,16 +228,16 @@ counts_rise times after upto first last forward one other = elim (cases_lt last 
 
 -- the times between them are those that lie between
 pub between_counts : (times : List ℕ) (after upto first last : ℕ) → after ≤ upto → AreUpto times after first → AreUpto times upto last →
-    take (last - first) (drop first times) ≡ filter (lies_between after upto) times
+    take (last - first) (drop first times) ≡ filter (comes_between after upto) times
 between_counts times after upto first last forward one other =
-    kept_range (lies_between after upto) times first last (counts_rise times after upto first last forward one other) other.within
+    kept_range (comes_between after upto) times first last (counts_rise times after upto first last forward one other) other.within
     (λ k below. and_left (nat_lt after (get_or times k 0)) (nat_le (get_or times k 0) upto) (le-ltb after (get_or times k 0) (one.before k below)))
     (λ k from below. and_from (nat_lt after (get_or times k 0)) (nat_le (get_or times k 0) upto)
     (lt-ltb after (get_or times k 0) (one.after k from (omega (arith, below, other.within)))) (le-leb (get_or times k 0) upto (other.before k below)))
     (λ k from below. and_right (nat_lt after (get_or times k 0)) (nat_le (get_or times k 0) upto) (lt-leb (get_or times k 0) upto (other.after k from below)))
 
 -- a time that isn't after the span's begin, in whole time units, or is after its last part, isn't strictly inside it
-pub not_inside : (parts from to time : ℕ) → 1 ≤ parts → from < to → lies_between (from / parts) ((to - 1) / parts) time ≡ false →
+pub not_inside : (parts from to time : ℕ) → 1 ≤ parts → from < to → comes_between (from / parts) ((to - 1) / parts) time ≡ false →
     (time * parts ≤ from) ⊎ (to ≤ time * parts)
 not_inside parts from to time some forward off = elim (cases_lt (from / parts) time) [
   | inr early ↦ inl (omega (arith, mul-le-mul_right parts early, some))
@@ -245,7 +245,7 @@ not_inside parts from to time some forward off = elim (cases_lt (from / parts) t
     | inl past ↦
         let next : (to - 1) / parts + 1 ≤ time = omega (arith, past) in
         inr (omega (arith, mul-le-mul_right parts next, some, forward))
-    | inr within ↦ absurd (both_ways (lies_between (from / parts) ((to - 1) / parts) time) off
+    | inr within ↦ absurd (both_ways (comes_between (from / parts) ((to - 1) / parts) time) off
         (and_from (nat_lt (from / parts) time) (nat_le time ((to - 1) / parts)) (lt-ltb (from / parts) time later) (le-leb time ((to - 1) / parts) within)))
   ]
 ]

@@ -1,14 +1,9 @@
 -- A place in contracted time once an interval of it is removed besides.
-use Rattle.std.proofs.Common.{◌≡◌, ℕ, zero, suc, ◌+◌, ◌-◌, ◌<◌, ◌≤◌, ◌⊎◌, min, List, [], ◌∷◌, get_or, inl, inr, arith, refl, subst, le_refl}
+use Rattle.std.proofs.Common.{◌≡◌, ℕ, zero, suc, ◌+◌, ◌-◌, ◌<◌, ◌≤◌, ◌⊎◌, min, List, [], ◌∷◌, inl, inr, arith, refl, subst, le_refl}
 use Rattle.std.proofs.lemmas.Bool.{cases_lt}
-use Rattle.std.specs.List.{All}
-use Rattle.std.proofs.lemmas.List.{get_or_default}
-use Rattle.std.proofs.lemmas.List.Elements.{All-nil, All-cons}
-use Rattle.yds_model.specs.declared.limits.TheConstants.{MAX_TIME}
-use Rattle.yds_model.specs.Within.{IsPiece}
 use Rattle.yds_model.specs.Piece.{Piece, Covers}
 use Rattle.yds_certificate.proofs.Cover.{Covers-cons}
-use Rattle.yds_contract.specs.Contracted.{AreApartFrom, removed_before, place, ArePieces, Removes}
+use Rattle.yds_contract.specs.Contracted.{AreApartFrom, removed_before, place, Removes}
 use Rattle.yds_contract.proofs.Cells.{none_covered, covered_later, first_before, rest_before, few_before}
 
 -- a unit of time is removed, or one more is left before the next
@@ -112,19 +107,3 @@ window_left start end from to forward window outside = elim (cases_lt from start
     | inr inside ↦ absurd (outside within inside)
   ]
 ]
-
-each_forward : (start : ℕ) (pieces : List Piece) → AreApartFrom start pieces → All (λ piece. piece.from < piece.to) pieces
-each_forward start [] apart = All-nil (λ piece. piece.from < piece.to)
-each_forward start (piece ∷ pieces) apart = All-cons (λ one. one.from < one.to) piece pieces apart.1 (each_forward (suc piece.to) pieces apart.2)
-
--- the pieces of real time before the place of the latest time end by it
-pub pieces_in_range : (start end : ℕ) (removed pieces : List Piece) → AreApartFrom 0 removed → end ≤ place removed MAX_TIME →
-    ArePieces removed start end pieces → All IsPiece pieces
-pieces_in_range start end removed pieces apart within are k d here =
-    let piece : Piece = get_or pieces k d in
-    let forward : piece.from < piece.to = each_forward 0 pieces are.apart k d here in
-    let last = (are.time (piece.to - 1)).0 (k, piece, here, get_or_default pieces k piece d here, (omega arith, omega arith)) in
-    elim (cases_lt MAX_TIME piece.to) [
-      | inl late ↦ absurd (omega (arith, last.to, within, place_rises MAX_TIME (piece.to - 1) removed apart (omega arith)))
-      | inr early ↦ record { from_in_range = omega (arith, forward, early); to_in_range = early }
-    ]

@@ -3,12 +3,13 @@ use Rattle.std.proofs.Common.{◌≡◌, ℕ, suc, ◌+◌, ◌-◌, ◌*◌, �
 use Rattle.std.specs.List.{All}
 use Rattle.std.specs.Int.{◌∣◌}
 use Rattle.std.specs.List.Sorted.{IsStrictlyIncreasing}
-use Rattle.std.proofs.lemmas.List.{append_assoc, at_drop_more, at_drop_all, get_or-map, length-map, map-append}
-use Rattle.std.proofs.lemmas.List.Elements.{All-map, All-cons, All-nil, All-append}
+use Rattle.std.proofs.lemmas.List.{append_assoc, at_drop_more, get_or-map, length-map, map-append}
+use Rattle.std.proofs.lemmas.List.Elements.{All-map, All-cons, All-nil, All-append, All-from_get_or}
 use Rattle.std.proofs.lemmas.List.Sums.{get_or-le-sum_by, sum_by-cons}
 use Rattle.std.proofs.lemmas.Bool.{cases_eq, eq-eqb, ne_eqb}
 use Rattle.std.proofs.lemmas.Nat.Gcd.{dvd_refl}
 use Rattle.std.proofs.Math.Nat.{mul-le-mul_right, one-dvd, eq_of_mul-eq-mul_right, le-div_iff_mul-le, div-mul-le_self}
+use Rattle.yds_model.specs.declared.limits.TheConstants.{MAX_TIME, MAX_SLOT_WORK}
 use Rattle.yds_model.specs.Scale.{Fraction, Quotient, at_scale, of_parts}
 use Rattle.yds_model.specs.Slot.{WrittenSlot}
 use Rattle.yds_model.specs.Piece.{Piece, PiecesFrom, Covers, total_length}
@@ -18,7 +19,7 @@ use Rattle.yds_slots.proofs.Parts.{of_parts_at}
 use Rattle.yds_contract.specs.Contracted.{AreApartFrom, ArePieces}
 use Rattle.yds_contract.specs.Clipped.{clipped, pieces_after}
 use Rattle.yds_contract.specs.Cut.{cut_between, cut_all}
-use Rattle.yds_contract.specs.Spread.{piece_in_parts, span_of, spans_of, slot_over, IsUncutAt, MeetOnlyAt, IsSpread}
+use Rattle.yds_contract.specs.Spread.{piece_in_parts, span_of, spans_of, slot_over, CanRunOver, IsUncutAt, MeetOnlyAt, IsSpread}
 use Rattle.yds_contract.proofs.Cells.{piece_at, no_piece, forward_at, apart_weaker}
 use Rattle.yds_contract.proofs.Cutting.{RiseFrom, cut_here, cut_later, cut_all_run, cut_all_covers, cut_all_outside, cut_all_meet}
 use Rattle.yds_contract.proofs.Pieces.{clipped_cases, pieces_found}
@@ -109,24 +110,6 @@ cut_kept speed job before start to times i from time slots within is outside so_
   forward = so_far.forward;
 }
 
-pub cut_end : (speed : Quotient) (job : ℕ) (before : List WrittenSlot) (start to : ℕ) (times : List ℕ) (i from : ℕ) (slots all : List WrittenSlot) → length times ≤ i →
-    all ≡ slots ++ slot_over job speed (record { from = from; to = to }) ∷ [] → CutSoFar speed job before start to times i from slots →
-    all ≡ before ++ map (slot_over job speed) (cut_between start to times)
-cut_end speed job before start to times i from slots all ended adds so_far =
-    adds ∙ ap (λ (ps : List Piece). slots ++ map (slot_over job speed) ps) (sym (at_drop_all (cut_between from to) times i ended)) ∙ so_far.are
-
--- one span more
-pub spans_more : (speed : Quotient) (job : ℕ) (times : List ℕ) (spans : List Piece) (i : ℕ) (slots more : List WrittenSlot) → i < length spans →
-    slots ≡ map (slot_over job speed) (cut_all times (take i spans)) →
-    more ≡ slots ++ map (slot_over job speed) (cut_between (piece_at spans i).from (piece_at spans i).to times) →
-    more ≡ map (slot_over job speed) (cut_all times (take (i + 1) spans))
-spans_more speed job times spans i slots more within is adds =
-    adds
-    ∙ ap (λ (ss : List WrittenSlot). ss ++ map (slot_over job speed) (cut_between (piece_at spans i).from (piece_at spans i).to times)) is
-    ∙ sym (map-append (slot_over job speed) (cut_all times (take i spans)) (cut_between (piece_at spans i).from (piece_at spans i).to times))
-    ∙ ap (map (slot_over job speed)) (sym (subst (λ (n : ℕ). cut_all times (take n spans) ≡ cut_all times (take i spans) ++ cut_between (piece_at spans i).from (piece_at spans i).to times) (sym (add-one i))
-    (flat_map-take (λ (span : Piece). cut_between span.from span.to times) spans i no_piece within)))
-
 clipped_limit : (most from to : ℕ) → to ≤ most → All (λ piece. piece.to ≤ most) (clipped from to)
 clipped_limit most from to fits = elim (clipped_cases from to) [
   | inl (some, is) ↦ subst (All (λ (p : Piece). p.to ≤ most)) (sym is) (All-cons (λ (p : Piece). p.to ≤ most) (record { from = from; to = to }) [] fits (All-nil (λ (p : Piece). p.to ≤ most)))
@@ -142,11 +125,8 @@ pieces_limit most start end from before (stretch ∷ removed) fits =
     (clipped_limit most (max from (start + before)) (min stretch.from (end + before)) (omega (arith, fits)))
     (pieces_limit most start end stretch.to (before + (stretch.to - stretch.from)) removed (omega (arith, fits, sum)))
 
--- each piece takes time, and no more than all together
-pub piece_forward : (start : ℕ) (pieces : List Piece) (i : ℕ) → AreApartFrom start pieces → i < length pieces → (piece_at pieces i).from < (piece_at pieces i).to
-piece_forward start pieces i apart within = forward_at start pieces i apart within
-
-pub piece_short : (pieces : List Piece) (i : ℕ) → i < length pieces → (piece_at pieces i).to - (piece_at pieces i).from ≤ total_length pieces
+-- each piece takes no more time than all together
+piece_short : (pieces : List Piece) (i : ℕ) → i < length pieces → (piece_at pieces i).to - (piece_at pieces i).from ≤ total_length pieces
 piece_short pieces i within = get_or-le-sum_by (λ (p : Piece). p.to - p.from) pieces i no_piece within
 
 -- a shorter span has no more work
@@ -161,7 +141,7 @@ of_parts_whole p den = elim (cases_eq (p % den) 0) [
 ]
 
 -- a part of a slot's time has no more work than the slot
-pub work_within : (long short den most : ℕ) (work : Fraction) → 1 ≤ den → work ≡ of_parts long den → work.whole ≤ most → short ≤ long → short / den ≤ most
+work_within : (long short den most : ℕ) (work : Fraction) → 1 ≤ den → work ≡ of_parts long den → work.whole ≤ most → short ≤ long → short / den ≤ most
 work_within long short den most work some is fits less =
     omega (arith, less_work short long den some less, of_parts_whole long den, ap (λ (x : Fraction). x.whole) is)
 
@@ -180,10 +160,28 @@ spans_found removed parts start end spans apart some is =
     subst (ArePieces (map (piece_in_parts parts) removed) start end) (sym is)
     (pieces_found start end (map (piece_in_parts parts) removed) (apart_weaker 0 (0 * parts) (map (piece_in_parts parts) removed) (omega arith) (parts_apart parts 0 removed some apart)))
 
-pub spans_end : (removed : List Piece) (most parts start end : ℕ) (spans : List Piece) (i : ℕ) → end + total_length (map (piece_in_parts parts) removed) ≤ most →
+spans_end : (removed : List Piece) (most parts start end : ℕ) (spans : List Piece) (i : ℕ) → end + total_length (map (piece_in_parts parts) removed) ≤ most →
     spans ≡ pieces_after start end 0 0 (map (piece_in_parts parts) removed) → i < length spans → (piece_at spans i).to ≤ most
 spans_end removed most parts start end spans i fits is within =
     (subst (All (λ (p : Piece). p.to ≤ most)) (sym is) (pieces_limit most start end 0 0 (map (piece_in_parts parts) removed) (omega (arith, fits)))) i no_piece within
+
+-- so a slot may run over each of them
+pub spans_can : (removed : List Piece) (speed : Quotient) (start end : ℕ) (work : Fraction) (spans : List Piece) → AreApartFrom 0 removed → 1 ≤ speed.num → 1 ≤ speed.den →
+    end + total_length (map (piece_in_parts speed.num) removed) ≤ MAX_TIME * speed.num → work ≡ of_parts (end - start) speed.den → work.whole ≤ MAX_SLOT_WORK →
+    spans ≡ pieces_after start end 0 0 (map (piece_in_parts speed.num) removed) → All (CanRunOver speed) spans
+spans_can removed speed start end work spans apart some some_den fits at_speed work_fits is =
+    let are = spans_found removed speed.num start end spans apart some is in
+    All-from_get_or (CanRunOver speed) spans no_piece (λ i within. record {
+      forward = forward_at 0 spans i are.apart within;
+      within = spans_end removed (MAX_TIME * speed.num) speed.num start end spans i fits is within;
+      work_fits = work_within (end - start) ((piece_at spans i).to - (piece_at spans i).from) speed.den MAX_SLOT_WORK work some_den at_speed work_fits
+          (omega (arith, piece_short spans i within, are.total));
+    })
+
+-- what a slot can run over at each place
+pub can_here : (speed : Quotient) (spans all : List Piece) (i : ℕ) (span : Piece) → all ≡ spans → All (CanRunOver speed) spans → i < length all → span ≡ get_or all i span →
+    CanRunOver speed span
+can_here speed spans all i span same can within is = subst (CanRunOver speed) (sym is) (subst (All (CanRunOver speed)) (sym same) can i span within)
 
 -- the cuts of one span more, at the events inside it
 pub cuts_next : (speed : Quotient) (job num : ℕ) (events inside : List ℕ) (spans : List Piece) (i : ℕ) (span : Piece) (old new : List WrittenSlot) → num ≡ speed.num →

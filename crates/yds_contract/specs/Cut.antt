@@ -4,8 +4,8 @@ use Rattle.std.specs.List.{flat_map}
 use Rattle.yds_model.specs.Piece.{Piece}
 
 -- after the one time, up to the other
-abbrev pub lies_between : ℕ → ℕ → ℕ → Bool
-lies_between after upto time = nat_lt after time && nat_le time upto
+abbrev pub comes_between : ℕ → ℕ → ℕ → Bool
+comes_between after upto time = nat_lt after time && nat_le time upto
 
 -- so many of the times are at this one or before it, and the others aren't
 pub record AreUpto (times : List ℕ) (time count : ℕ) : Type 0 where

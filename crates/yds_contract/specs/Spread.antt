@@ -1,7 +1,8 @@
 -- A slot of contracted time, spread over real time. Times are in parts, of which a time unit has as many as the speed's numerator:
 -- each end of a slot at that speed is a whole number of them.
-use Rattle.std.specs.Prelude.{◌≡◌, ℕ, ◌-◌, ◌*◌, ◌≤◌, ◌↔◌, ◌⊎◌, List, [], ◌∷◌, map}
+use Rattle.std.specs.Prelude.{◌≡◌, ℕ, ◌-◌, ◌*◌, ◌/◌, ◌<◌, ◌≤◌, ◌↔◌, ◌⊎◌, List, [], ◌∷◌, map}
 use Rattle.std.specs.List.{All, Contains}
+use Rattle.yds_model.specs.declared.limits.TheConstants.{MAX_TIME, MAX_SLOT_WORK}
 use Rattle.yds_model.specs.Scale.{Quotient, at_scale, of_parts}
 use Rattle.yds_model.specs.Slot.{WrittenSlot}
 use Rattle.yds_model.specs.Piece.{Piece, PiecesFrom, Covers}
@@ -26,6 +27,12 @@ slot_over job speed span = record {
   to = of_parts span.to speed.num;
   work = of_parts (span.to - span.from) speed.den;
 }
+
+-- a slot at this speed may run over the span: it takes time, ends in time, and gives no more work than a slot may
+pub record CanRunOver (speed : Quotient) (span : Piece) : Type 0 where
+  pub forward : span.from < span.to
+  pub within : span.to ≤ MAX_TIME * speed.num
+  pub work_fits : (span.to - span.from) / speed.den ≤ MAX_SLOT_WORK
 
 -- after a piece that ends at `end`, each piece that begins where the one before it ends does so at one of the times
 abbrev pub MeetsOnlyAt : List ℕ → ℕ → List Piece → Type 0

@@ -1,12 +1,13 @@
 ghost use Rattle.std.specs.Prelude.{◌≡◌, ◌<◌, ◌≤◌, ◌+◌, ◌-◌, ◌*◌, ◌/◌, [], ◌∷◌, ◌++◌, length, map, filter, IfOk, OnOk};
+ghost use Rattle.std.specs.List.{All};
 ghost use Rattle.std.specs.List.Sorted.{IsStrictlyIncreasing};
 ghost use Rattle.yds_model.specs.declared.limits.TheConstants.{MAX_TIME, MAX_SLOT_WORK, MAX_LEVEL_WORK, MAX_LEVEL_LENGTH};
 ghost use Rattle.yds_model.specs.Scale.{at_scale, of_parts};
-ghost use Rattle.yds_contract.specs.Contracted.{place};
+ghost use Rattle.yds_contract.specs.Contracted.{place, ArePieces};
 ghost use Rattle.yds_contract.specs.Removed.{removed_stretches, IsContraction};
 ghost use Rattle.yds_contract.specs.Clipped.{clipped, pieces_after};
-ghost use Rattle.yds_contract.specs.Spread.{piece_in_parts, slot_over, IsSpread};
-ghost use Rattle.yds_contract.specs.Cut.{AreUpto, lies_between, cut_between};
+ghost use Rattle.yds_contract.specs.Spread.{piece_in_parts, slot_over, CanRunOver, IsSpread};
+ghost use Rattle.yds_contract.specs.Cut.{AreUpto, comes_between, cut_between};
 
 use crate::removed::Removed;
 use crate::span::Span;
@@ -95,7 +96,7 @@ fn count_upto(events: &[u32], time: u32) -> usize
 fn events_between(events: &[u32], after: u32, upto: u32) -> &[u32]
     requires forward { after ≤ upto }
     requires events { IsStrictlyIncreasing events.now }
-    ensures { result.now ≡ filter (lies_between after upto) events.now }
+    ensures { result.now ≡ filter (comes_between after upto) events.now }
 {
     let first = count_upto(events, after);
     let last = count_upto(events, upto);
@@ -125,9 +126,7 @@ fn cut(
     events: &[u32],
 ) -> Result<(), Memory>
     requires some { 1 ≤ speed.num }
-    requires forward { span.from < span.to }
-    requires within { span.to ≤ MAX_TIME * speed.num }
-    requires work_fits { (span.to - span.from) / speed.den ≤ MAX_SLOT_WORK }
+    requires can { CanRunOver speed span }
     ensures { OnOk result (slots.new.items ≡ slots.old.items
         ++ map (slot_over job speed) (cut_between span.from span.to (map (λ event. event * speed.num) events.now))) }
 {
@@ -141,6 +140,29 @@ fn cut(
     }
     slots.push(slot_between(job, speed, from, span.to))?;
     Ok(())
+}
+
+/// The spans of real time over which the slot of contracted time runs, in parts of which a time unit has as many as the
+/// speed's numerator.
+fn spans_of(
+    alloc: Global,
+    removed: &[Removed],
+    slot: Slot,
+    speed: Speed,
+) -> Result<Vec<Span>, Memory>
+    requires removed { IsContraction removed.now }
+    requires some { 1 ≤ speed.num }
+    requires forward { at_scale speed.num slot.from < at_scale speed.num slot.to }
+    requires within { at_scale speed.num slot.to ≤ place (removed_stretches removed.now) MAX_TIME * speed.num }
+    requires at_speed { slot.work ≡ of_parts (at_scale speed.num slot.to - at_scale speed.num slot.from) speed.den }
+    ensures found { IfOk result (λ spans.
+        ArePieces (map (piece_in_parts speed.num) (removed_stretches removed.now)) (at_scale speed.num slot.from) (at_scale speed.num slot.to) spans.items) }
+    ensures can { IfOk result (λ spans. All (CanRunOver speed) spans.items) }
+{
+    let start = parts_of(slot.from, speed.num());
+    let end = parts_of(slot.to, speed.num());
+    let spans = spans_between(alloc, removed, speed.num(), start, end)?;
+    Ok(spans)
 }
 
 /// The real slots that make up a slot of contracted time at this speed, cut at the events.
@@ -159,9 +181,7 @@ pub(crate) fn spread_over(
     requires events { IsStrictlyIncreasing events.now }
     ensures { IfOk result (λ slots. IsSpread (removed_stretches removed.now) slot speed events.now slots.items) }
 {
-    let start = parts_of(slot.from, speed.num());
-    let end = parts_of(slot.to, speed.num());
-    let spans = spans_between(alloc, removed, speed.num(), start, end)?;
+    let spans = spans_of(alloc, removed, slot, speed)?;
     let mut slots = Vec::new(alloc);
     for span in &spans {
         let inside = events_inside(events, *span, speed.num());

@@ -15,7 +15,7 @@ use Rattle.yds_intensity.proofs.Work.{share, share_inside}
 use Rattle.yds_critical.specs.declared.interval.Interval.{Interval}
 use Rattle.yds_critical.specs.Leading.{Leads}
 use Rattle.yds_critical.specs.Critical.{IsCandidate, IsCriticalOf}
-use Rattle.yds_critical.specs.Choice.{TakesTime, IsLedBy, interval_of, AreLater, IsPreferred, IsFoundAmong, IsFoundAmongAll}
+use Rattle.yds_critical.specs.Choice.{TakesTime, IsLedBy, interval_of, AreLater, IsPreferred, IsFoundAmongAll}
 use Rattle.yds_critical.proofs.Leading.{leads_total, leads_trans, leads_itself}
 use Rattle.yds_critical.proofs.Shrinking.{IsShrunk, shrinks}
 
@@ -25,29 +25,6 @@ prefers_other first other f g not = record {
   chosen = inr refl;
   leads_other = leads_itself other;
   leads = λ third h led. elim (leads_total first other) [ inl leads ↦ absurd (not leads) | inr leads ↦ leads_trans other first third g f h leads led ];
-}
-
--- what a preferred interval is forward by
-pub preferred_forward : (best : Option Interval) (other preferred : Interval) → IfSome best TakesTime → TakesTime other → IsPreferred best other preferred → TakesTime preferred
-preferred_forward best other preferred f g chose = elim chose.chosen [
-  | inl same ↦ let some : IfSome (Some preferred) TakesTime = subst (λ (o : Option Interval). IfSome o TakesTime) same f in some
-  | inr same ↦ subst TakesTime (sym same) g
-]
-
--- one sum more
-pub found_more : (n : ℕ) (best : Option Interval) (start : ℕ) (sums : List Sum) (found : Option Interval) (preferred : Interval) → n < length sums →
-    AreLater start sums → IsFoundAmong n best start sums found → IsPreferred found (interval_of start (sum_at sums n)) preferred →
-    IsFoundAmong (n + 1) best start sums (Some preferred)
-found_more n best start sums found preferred within later so_far chose = record {
-  chosen = elim chose.chosen [
-    | inl same ↦ elim so_far.chosen [ inl was ↦ inl (sym same ∙ was) | inr (k, inside, is) ↦ inr (k, inside, sym same ∙ is) ]
-    | inr same ↦ inr (n, within, ap Some same)
-  ];
-  leads_each = λ k before. elim (place_cases k n before) [
-    | inl less ↦ chose.leads (interval_of start (sum_at sums k)) (later k no_sum (omega arith)) (so_far.leads_each k less)
-    | inr here ↦ subst (λ (i : ℕ). Leads preferred (interval_of start (sum_at sums i))) (sym here) chose.leads_other
-  ];
-  leads = λ other forward led. chose.leads other forward (so_far.leads other forward led);
 }
 
 -- what the search knows after the first n releases

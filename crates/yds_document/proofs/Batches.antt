@@ -5,7 +5,6 @@ use Rattle.std.specs.List.{All}
 use Rattle.std.proofs.lemmas.Grind.{flat_map-append}
 use Rattle.std.proofs.lemmas.List.{append-nil}
 use Rattle.std.proofs.lemmas.List.Elements.{All-drop}
-use Rattle.std.proofs.KnownBytes.{Appends-nil}
 use Rattle.yds_port.specs.Sink.{Puts}
 use Rattle.yds_port.proofs.Putting.{PutsWhole, puts_whole, puts_done, puts_text, puts_failed, puts_front, puts_after, whole_after}
 
@@ -14,15 +13,6 @@ pub record PutsUpTo {K : Type 0} (written : K → Option (List ℕ)) (flushed : 
   pub front : List ℕ
   pub put : PutsWhole written flushed flushes faults front old new
   pub parts : front ++ rest ≡ text
-
--- nothing was put yet
-pub none_put : {K : Type 0} {written : K → Option (List ℕ)} {flushed : K → Option ℕ} {flushes faults : K → ℕ} {text rest : List ℕ} {a : K}
-    → rest ≡ text → PutsUpTo written flushed flushes faults rest text a a
-none_put {written = written} {a = a} is = record {
-  front = [];
-  put = record { appended = Appends-nil (written a); no_fault = refl; flushed_stays = refl; flushes_stay = refl };
-  parts = is;
-}
 
 -- one more part was put
 pub part_put : {K T E : Type 0} {written : K → Option (List ℕ)} {flushed : K → Option ℕ} {flushes faults : K → ℕ} {part rest text : List ℕ} {y : T} {a b c : K}

@@ -5,6 +5,6 @@ use Rattle.yds_model.specs.Level.{Level}
 abbrev pub line_count : Level → ℕ
 line_count level = 1 + length level.pieces + length level.members
 
-abbrev pub lines_of : List Level → ℕ
-lines_of [] = 0
-lines_of (level ∷ levels) = line_count level + lines_of levels
+abbrev pub line_total : List Level → ℕ
+line_total [] = 0
+line_total (level ∷ levels) = line_count level + line_total levels

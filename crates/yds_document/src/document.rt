@@ -38,8 +38,7 @@ pub struct Document<'a> {
 }
 
 impl<'a> Document<'a> {
-    ghost use Rattle.std.specs.Prelude.{[], None};
-    ghost use Rattle.yds_model.specs.Document.{with_answer};
+    ghost use Rattle.yds_model.specs.Document.{no_document, with_answer};
     ghost use Rattle.yds_model.specs.Within.{IsDocument};
     ghost use Rattle.yds_document.specs.Draft.{points_of};
     ghost use Rattle.yds_document.specs.Documents.{document_view};
@@ -64,14 +63,11 @@ impl<'a> Document<'a> {
         schedule: Schedule,
     ) -> Document<'a>
         requires scheduled { schedule.jobs ≡ length instance.jobs }
-        ensures shown { document_view result ≡ record {
+        ensures shown { document_view result ≡ record no_document {
           names = instance.entry.names;
           jobs = instance.entry.jobs;
           points = points_of table;
           slots = schedule.slots;
-          levels = [];
-          grid = None;
-          energy = None;
         } }
         ensures possible { IsDocument (document_view result) }
     {

@@ -11,7 +11,7 @@ ghost use Rattle.yds_port.specs.Sink.{Puts};
 ghost use Rattle.yds_text.specs.Read.{field_read};
 ghost use Rattle.yds_document.specs.Draft.{IsDraft, Reads, Takes};
 ghost use Rattle.yds_document.specs.Fields.{Gives};
-ghost use Rattle.yds_document.specs.Level.{line_count, lines_of};
+ghost use Rattle.yds_document.specs.Level.{line_count, line_total};
 ghost use Rattle.yds_document.specs.Plain.{SaysTwo, read_level_fields};
 
 use crate::draft::Draft;
@@ -144,7 +144,7 @@ fn put(text: &mut Lines, instance: &Instance<'_>, level: &Level)
 /// Makes the lines of these levels, from the last to the first.
 fn put_all(text: &mut Lines, instance: &Instance<'_>, levels: &[Level])
     requires known { All (λ level. All (λ job. job < length instance.now.jobs) level.members) levels.now }
-    requires few { lines_of levels.now ≤ BATCH_LINES }
+    requires few { line_total levels.now ≤ BATCH_LINES }
     ensures { text.new ≡ flat_map (level_lines instance.now.names) levels.now }
 {
     text.clear();
@@ -156,7 +156,7 @@ fn put_all(text: &mut Lines, instance: &Instance<'_>, levels: &[Level])
 /// How many of the first levels have their lines made together.
 fn batch_len(levels: &[Level]) -> usize
     ensures within { result ≤ length levels.now }
-    ensures few { lines_of (take result levels.now) ≤ BATCH_LINES }
+    ensures few { line_total (take result levels.now) ≤ BATCH_LINES }
 {
     let mut room = BATCH_LINES;
     for (place, level) in levels.iter().enumerate() {

@@ -93,17 +93,6 @@ impl LineBuffer {
 
     /// One more field with a number at the right of so many places, after a space. A number of more digits
     /// is written whole.
-    pub fn column(mut self, places: usize, number: u64) -> LineBuffer
-        requires few { places ≤ NUMBER_BYTES }
-        requires room { length self + 1 + NUMBER_BYTES ≤ LINE_BYTES }
-        ensures bytes { result ≡ self ++ 32 ∷ right places number }
-        ensures short { length result ≤ length self + 1 + NUMBER_BYTES }
-    {
-        self.push_column(places, number);
-        self
-    }
-
-    /// The same in place.
     pub fn push_column(&mut self, places: usize, number: u64)
         requires few { places ≤ NUMBER_BYTES }
         requires room { length self.old + 1 + NUMBER_BYTES ≤ LINE_BYTES }
@@ -115,17 +104,6 @@ impl LineBuffer {
     }
 
     /// The same with no space before it.
-    pub fn right(mut self, places: usize, number: u64) -> LineBuffer
-        requires few { places ≤ NUMBER_BYTES }
-        requires room { length self + NUMBER_BYTES ≤ LINE_BYTES }
-        ensures bytes { result ≡ self ++ right places number }
-        ensures short { length result ≤ length self + NUMBER_BYTES }
-    {
-        self.push_right(places, number);
-        self
-    }
-
-    /// The same in place.
     pub fn push_right(&mut self, places: usize, number: u64)
         requires few { places ≤ NUMBER_BYTES }
         requires room { length self.old + NUMBER_BYTES ≤ LINE_BYTES }

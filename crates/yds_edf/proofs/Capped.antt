@@ -3,19 +3,19 @@ use Rattle.std.proofs.Common.{◌≡◌, ℕ, ◌*◌, ◌<◌, ◌≤◌, min, 
 use Rattle.std.specs.Prelude.{Bool, nat_le, All}
 use Rattle.std.proofs.lemmas.Bool.{cases_lt, cases_Bool}
 use Rattle.std.proofs.lemmas.List.{get_or-map}
-use Rattle.std.proofs.lemmas.List.Elements.{All-from_get_or, All-weaker, All-contains, Contains-get_or}
+use Rattle.std.proofs.lemmas.List.Elements.{All-from_get_or, All-contains, Contains-get_or}
 use Rattle.std.proofs.Math.Nat.{mul-le-mul_left, min-eq_left, min-eq_right}
 use Rattle.yds_model.specs.Numbers.{Each}
 use Rattle.yds_model.specs.Job.{Job, IsJob, no_job, job_at}
-use Rattle.yds_model.specs.Slot.{WrittenSlot, IsSolid, IsScale, AtEachScale, slots_at}
+use Rattle.yds_model.specs.Slot.{WrittenSlot, IsScale, AtEachScale, slots_at}
 use Rattle.yds_model.specs.Piece.{Piece}
 use Rattle.yds_model.specs.Event.{stretches}
 use Rattle.yds_model.specs.Policy.{pending_at, pending_units, IsRunAt}
 use Rattle.yds_model.specs.Comparison.{stretch_at}
-use Rattle.yds_model.specs.Within.{IsSlot, AreSlotsOf}
+use Rattle.yds_model.specs.Within.{AreSlotsOf}
 use Rattle.yds_events.specs.Stretch.{no_stretch, IsOutside}
 use Rattle.yds_events.proofs.Neighbours.{stretches_run, release_outside, deadline_outside}
-use Rattle.yds_edf.specs.Shares.{JobShare, units_given, total_units, shares_in}
+use Rattle.yds_timetable.specs.Shares.{JobShare, units_given, total_units, shares_in}
 use Rattle.yds_edf.specs.Pending.{sum_below, units_wanted}
 use Rattle.yds_edf.specs.Serving.{IsServing}
 use Rattle.yds_edf.specs.Demand.{capacity_at, IsWithinCapacity, AreUncut}
@@ -25,6 +25,7 @@ use Rattle.yds_edf.proofs.Sums.{sum_below_same}
 use Rattle.yds_edf.proofs.Numbers.{sum_numbers, sum_below-mul}
 use Rattle.yds_edf.proofs.Demand.{in_window, in_full}
 use Rattle.yds_edf.proofs.Filled.{stands_in}
+use Rattle.yds_edf.proofs.Standing.{laid_solid}
 use Rattle.yds_edf.proofs.RunAt.{pending_scaled, run_at}
 
 -- no job is released or due inside a stretch
@@ -32,14 +33,6 @@ pub stretches_uncut : (jobs : List Job) → AreUncut jobs (stretches jobs)
 stretches_uncut jobs = All-from_get_or (λ stretch. All (λ job. IsOutside stretch job.release × IsOutside stretch job.deadline) jobs) (stretches jobs) no_stretch
     (λ k within. All-from_get_or (λ job. IsOutside (stretch_at jobs k) job.release × IsOutside (stretch_at jobs k) job.deadline) jobs no_job
     (λ j known. (release_outside jobs j k known within, deadline_outside jobs j k known within)))
-
--- slots within the limits have denominators
-pub solid_within : (count : ℕ) (slots : List WrittenSlot) → AreSlotsOf count slots → All IsSolid slots
-solid_within count slots are = All-weaker IsSlot IsSolid (λ slot is. record {
-  from = omega (arith, is.from.below_one);
-  to = omega (arith, is.to.below_one);
-  work = omega (arith, is.work.below_one);
-}) slots are.fit
 
 -- the lesser of two multiples
 min_times : (k a b : ℕ) → min (k * a) (k * b) ≡ k * min b a
@@ -109,17 +102,24 @@ module _ (jobs : List Job) (grid : ℕ) (units : (ℕ → ℕ) → Piece → ℕ
     all_units = in_full jobs by_number grid (stretches jobs) (map set (stretches jobs)) shares are (stretches_run jobs) (stretches_uncut jobs) enough serving served.known
 
 -- A run of a policy that sets such units, where the demand of the jobs is within them.
-pub capped_run : (jobs : List Job) (grid : ℕ) (units : (ℕ → ℕ) → Piece → ℕ) (rounds : (ℕ → ℕ) → Piece → Bool) (rounded : ℕ) (slots : List WrittenSlot)
-    (set : Piece → ℕ) → All IsJob jobs → 1 ≤ grid → AreSlotsOf (length jobs) slots → ((pending : ℕ → ℕ) (stretch : Piece) → units pending stretch ≡ set stretch) →
+pub set_run : (jobs : List Job) (grid : ℕ) (units : (ℕ → ℕ) → Piece → ℕ) (rounds : (ℕ → ℕ) → Piece → Bool) (rounded : ℕ) (slots : List WrittenSlot)
+    (set : Piece → ℕ) → All IsJob jobs → 1 ≤ grid → ((pending : ℕ → ℕ) (stretch : Piece) → units pending stretch ≡ set stretch) →
     IsWithinCapacity jobs grid (stretches jobs) (map set (stretches jobs)) → IsPolicyRun jobs grid units rounds rounded slots →
     AtEachScale slots (λ scale whole. IsRunAt jobs grid scale (λ stretch. min (pending_units jobs grid scale whole stretch) (scale * set stretch)) whole)
-capped_run jobs grid units rounds rounded slots set are some_grid limits sets enough run =
+set_run jobs grid units rounds rounded slots set are some_grid sets enough run =
     let here = λ (k : ℕ) (within : k < length (stretches jobs)). sets (pending_before jobs grid run.shares k) (stretch_at jobs k) in
     record {
-      solid = solid_within (length jobs) slots limits;
+      solid = laid_solid jobs grid run.shares slots run.laid;
       holds = λ scale is. run_at jobs grid units run.shares slots some_grid run.served run.laid
           (in_time jobs grid units run.shares slots some_grid run.served run.laid are set here enough)
           (all_units jobs grid units run.shares slots some_grid run.served run.laid are set here enough) scale is
           (λ stretch. min (pending_units jobs grid scale (slots_at scale slots) stretch) (scale * set stretch))
           (capped_serves jobs grid units run.shares slots some_grid run.served run.laid set here scale is);
     }
+
+-- the same of slots within the limits
+pub capped_run : (jobs : List Job) (grid : ℕ) (units : (ℕ → ℕ) → Piece → ℕ) (rounds : (ℕ → ℕ) → Piece → Bool) (rounded : ℕ) (slots : List WrittenSlot)
+    (set : Piece → ℕ) → All IsJob jobs → 1 ≤ grid → AreSlotsOf (length jobs) slots → ((pending : ℕ → ℕ) (stretch : Piece) → units pending stretch ≡ set stretch) →
+    IsWithinCapacity jobs grid (stretches jobs) (map set (stretches jobs)) → IsPolicyRun jobs grid units rounds rounded slots →
+    AtEachScale slots (λ scale whole. IsRunAt jobs grid scale (λ stretch. min (pending_units jobs grid scale whole stretch) (scale * set stretch)) whole)
+capped_run jobs grid units rounds rounded slots set are some_grid limits sets enough run = set_run jobs grid units rounds rounded slots set are some_grid sets enough run

@@ -9,7 +9,7 @@ use Rattle.std.proofs.lemmas.Bool.{cases_lt, cases_eq, cases_order, cases_Bool, 
 use Rattle.yds_model.specs.Numbers.{Each}
 use Rattle.yds_model.specs.Job.{Job, IsJob, no_job, job_at}
 use Rattle.yds_model.specs.Piece.{Piece, PiecesFrom}
-use Rattle.yds_edf.specs.Shares.{JobShare, units_given, shares_in, shares_before}
+use Rattle.yds_timetable.specs.Shares.{JobShare, units_given, shares_in, shares_before}
 use Rattle.yds_edf.specs.Pending.{sum_below, units_wanted}
 use Rattle.yds_edf.specs.Serving.{IsServing}
 use Rattle.yds_events.specs.Stretch.{no_stretch, nth_stretch}

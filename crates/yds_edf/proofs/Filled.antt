@@ -9,7 +9,7 @@ use Rattle.yds_model.specs.Numbers.{Each}
 use Rattle.yds_model.specs.Job.{Job, IsJob, job_at}
 use Rattle.yds_model.specs.Piece.{Piece, PiecesFrom}
 use Rattle.yds_model.proofs.Lists.{AllPairs-append}
-use Rattle.yds_edf.specs.Shares.{JobShare, units_given, shares_in}
+use Rattle.yds_timetable.specs.Shares.{JobShare, units_given, shares_in}
 use Rattle.yds_edf.specs.Pending.{units_wanted, pending_of_job}
 use Rattle.yds_edf.specs.Serving.{IsServing}
 use Rattle.yds_events.specs.Stretch.{nth_stretch}

@@ -1,20 +1,12 @@
 -- The shares in a stretch and in the stretches before it, as shares are added.
-use Rattle.std.proofs.Common.{◌≡◌, ℕ, suc, ◌+◌, ◌<◌, List, [], ◌∷◌, ◌++◌, ◌∙◌, refl, sym, arith, inl, inr, ap, true, false, length, get_or, cond, ◌≤◌}
-use Rattle.std.specs.Prelude.{Bool, ◌==◌, nat_lt, filter, All}
+use Rattle.std.proofs.Common.{◌≡◌, ℕ, suc, ◌+◌, ◌<◌, List, [], ◌∷◌, ◌++◌, ◌∙◌, refl, sym, arith, inl, inr, ap, length, get_or, cond, ◌≤◌}
+use Rattle.std.specs.Prelude.{◌==◌, nat_lt, filter, All}
 use Rattle.std.proofs.lemmas.List.{append-nil}
 use Rattle.std.proofs.lemmas.List.Sums.{sum_by-cons, get_or-le-sum_by}
-use Rattle.std.proofs.lemmas.List.Elements.{All-tail, filter-append}
+use Rattle.std.proofs.lemmas.List.Elements.{filter-append}
 use Rattle.std.proofs.lemmas.Bool.{cases_order, lt-ltb, le-ltb, eq-eqb, ne_eqb}
-use Rattle.yds_edf.specs.Shares.{JobShare, units_given, shares_in, shares_before}
-
--- a filter that each element passes, and one that none does
-pub filter_all : {X : Type 0} (p : X → Bool) (xs : List X) → All (λ x. p x ≡ true) xs → filter p xs ≡ xs
-filter_all p [] h = refl
-filter_all p (x ∷ xs) h = rw (h 0 x (omega arith)) (ap (λ ys. x ∷ ys) (filter_all p xs (All-tail (λ y. p y ≡ true) x xs h)))
-
-pub filter_none : {X : Type 0} (p : X → Bool) (xs : List X) → All (λ x. p x ≡ false) xs → filter p xs ≡ []
-filter_none p [] h = refl
-filter_none p (x ∷ xs) h = rw (h 0 x (omega arith)) (filter_none p xs (All-tail (λ y. p y ≡ false) x xs h))
+use Rattle.yds_timetable.proofs.Lists.{filter_all, filter_none}
+use Rattle.yds_timetable.specs.Shares.{JobShare, units_given, shares_in, shares_before}
 
 module _ (shares part : List JobShare) (i : ℕ) (earlier : All (λ share. share.stretch < i) shares)
     (here : All (λ share. share.stretch ≡ i) part) where

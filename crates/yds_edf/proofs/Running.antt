@@ -1,42 +1,49 @@
 -- The loop over the stretches: what a run has come to, and that in the end it is a run of the policy.
-use Rattle.std.proofs.Common.{◌≡◌, ℕ, suc, ◌+◌, ◌-◌, ◌*◌, ◌<◌, ◌≤◌, ◌⊎◌, min, List, [], ◌∷◌, ◌++◌, length, slice_index, ◌∙◌, refl, sym, subst, arith, inl, inr, ap, cond, true, false, add-one}
-use Rattle.std.specs.Prelude.{Bool, ◌==◌, All, AllPairs, Some, Option}
-use Rattle.std.specs.List.{AllZip, Contains}
+use Rattle.std.proofs.Common.{◌≡◌, ℕ, suc, take, get_or, ap₂, None, ◌/◌, ◌+◌, ◌-◌, ◌*◌, ◌<◌, ◌≤◌, min, List, [], ◌∷◌, ◌++◌, length, slice_index, ◌∙◌, refl, sym, subst, arith, inl, inr, ap, cond, true, false, add-one}
+use Rattle.std.specs.Prelude.{Bool, ◌==◌, All, AllPairs, Some, Option, MatchOption}
+use Rattle.std.specs.List.{Contains}
 use Rattle.std.specs.Int.{from_bool}
 use Rattle.std.proofs.lemmas.Bool.{cases_lt, cases_eq}
-use Rattle.std.proofs.lemmas.List.{get_or-replicate, length-append, append-nil, map-append}
+use Rattle.std.proofs.lemmas.List.{get_or-replicate, get_or-map, get_or_append_left, get_or_at, length-append, length-map, length-take-le, append-nil, map-append, take_all, take_more}
+use Rattle.std.proofs.lemmas.List.Concat.{flat_map-append}
 use Rattle.std.proofs.Math.ListN.{get_or-eq_default}
-use Rattle.std.proofs.lemmas.List.Elements.{All-nil, All-cons, All-append, All-head, All-tail, All-weaker, Contains-get_or}
-use Rattle.std.proofs.Math.Nat.{mul-le-mul_right}
+use Rattle.std.proofs.lemmas.List.Elements.{All-nil, All-cons, All-append, All-weaker, All-contains, Contains-get_or}
+use Rattle.std.proofs.Math.Nat.{le_refl}
 use Rattle.std.proofs.lemmas.List.Sums.{sum_by-append, sum_by-cons}
+use Rattle.yds_model.specs.declared.limits.TheConstants.{MAX_GRID, MAX_JOBS, MAX_SLOT_WORK, MAX_WORK}
 use Rattle.yds_model.specs.Numbers.{Each}
+use Rattle.yds_model.specs.Divisor.{common_divisor}
 use Rattle.yds_model.specs.Job.{Job, no_job, job_at}
-use Rattle.yds_model.specs.Slot.{WrittenSlot, WholeSlot, IsScale, IsDivided, slot_at_scale, slots_at}
 use Rattle.yds_model.specs.Piece.{Piece}
-use Rattle.yds_model.specs.Feasible.{RunFrom}
-use Rattle.yds_model.specs.Event.{stretches, LiesIn}
-use Rattle.yds_model.specs.Scale.{Fraction, at_scale, of_whole}
+use Rattle.yds_model.specs.Event.{stretches}
+use Rattle.yds_model.specs.Audit.{HasSpeed}
 use Rattle.yds_model.specs.Plan.{IsOver}
 use Rattle.yds_model.specs.Policy.{HasRunDenominators}
 use Rattle.yds_model.specs.Comparison.{stretch_at}
-use Rattle.yds_model.proofs.Lists.{All-front, All-back, AllPairs-append}
-use Rattle.yds_events.specs.Stretch.{no_stretch}
-use Rattle.yds_events.proofs.Neighbours.{stretches_run, stretch_order, stretch_forward}
+use Rattle.yds_model.proofs.Lists.{AllPairs-append}
+use Rattle.yds_slots.proofs.Parts.{of_parts_over}
+use Rattle.yds_events.specs.Stretch.{IsStretch, no_stretch, length_of}
+use Rattle.yds_events.proofs.Neighbours.{stretches_run, few_stretches}
 use Rattle.yds_events.proofs.InOrder.{starts_rise}
-use Rattle.yds_edf.specs.Shares.{JobShare, units_given, total_units, shares_in}
+use Rattle.yds_timetable.specs.Shares.{JobShare, units_given, total_units, shares_in}
 use Rattle.yds_edf.specs.Pending.{sum_below, units_wanted, pending_of_job, is_within}
 use Rattle.yds_edf.specs.Serving.{IsServing}
 use Rattle.yds_edf.specs.Queue.{JobQueue, new_queue, IsNoEarlier, pending_in, units_left, unfinished, Adds, IsTold, Serves}
-use Rattle.yds_edf.specs.Laid.{IsLaid, IsLaidSlot, FollowFrom}
-use Rattle.yds_edf.specs.Run.{by_number, IsServedBefore, pending_before, IsBeside, slots_beside, IsPolicyRun, ServesStretch}
+use Rattle.yds_timetable.specs.declared.pace.Pace.{Pace}
+use Rattle.yds_timetable.specs.Pace.{slot_of, lowest_pace}
+use Rattle.yds_timetable.specs.Timetable.{Row, row_at, stretches_of, row_slots, shares_of, slots_of, IsFilledAt, IsRow, HasGrain}
+use Rattle.yds_timetable.proofs.Lists.{All-flat}
+use Rattle.yds_timetable.proofs.Lowest.{lowest_fills}
+use Rattle.yds_timetable.proofs.Paces.{lies_written, speed_written}
+use Rattle.yds_timetable.specs.Room.{CanLay}
+use Rattle.yds_timetable.proofs.Rows.{no_row, paced_all, rows_over}
+use Rattle.yds_edf.specs.Run.{by_number, IsServedBefore, pending_before, IsLowest, AreRowsOf, IsPolicyRun, PutsRow}
 use Rattle.yds_edf.proofs.Sums.{sum_below_same, sum_below_bound}
+use Rattle.yds_edf.proofs.Filled.{stands_in}
 use Rattle.yds_edf.proofs.Parts.{in_added, before_added, in_kept, before_kept}
-use Rattle.yds_edf.proofs.Written.{run_slot}
-use Rattle.yds_edf.proofs.Beside.{length_zipped, AllZip-append, AllZip-weaker, all_second, beside_append, beside_all, beside_none}
 
--- the first stretches have been served and laid
-pub record Running (jobs : List Job) (grid : ℕ) (units : (ℕ → ℕ) → Piece → ℕ) (i : ℕ) (now : JobQueue) (shares : List JobShare)
-    (slots : List WrittenSlot) : Type 0 where
+-- the first stretches have been served
+pub record Running (jobs : List Job) (grid : ℕ) (units : (ℕ → ℕ) → Piece → ℕ) (i : ℕ) (now : JobQueue) (shares : List JobShare) : Type 0 where
   pub same_jobs : now.jobs ≡ jobs
   pub same_grain : now.grain ≡ grid
   pub time : i < length (stretches jobs) → IsNoEarlier now.time (stretch_at jobs i).from
@@ -46,11 +53,14 @@ pub record Running (jobs : List Job) (grid : ℕ) (units : (ℕ → ℕ) → Pie
   pub serving : Each i (λ k.
       IsServing jobs by_number (pending_before jobs grid shares k) (units (pending_before jobs grid shares k) (stretch_at jobs k)) (shares_in shares k))
   pub few : length shares + unfinished now ≤ length jobs + i
-  pub beside : AllZip (IsBeside jobs grid) shares slots
-  pub one_at_a_time : (scale : ℕ) → IsScale scale slots → RunFrom 0 (slots_at scale slots)
-  pub full : Each i (λ k. 1 ≤ total_units (shares_in shares k) →
-      IsLaid (stretch_at jobs k) (total_units (shares_in shares k)) grid (shares_in shares k) (slots_beside k shares slots))
-  pub denominators : All (HasRunDenominators jobs grid) slots
+
+-- and stand in the timetable
+pub record Tabled (jobs : List Job) (grid i : ℕ) (rows : List Row) : Type 0 where
+  pub stretches_are : stretches_of rows ≡ take i (stretches jobs)
+  pub filled : All IsRow rows
+  pub grains : All (λ row. HasGrain grid row.pace) rows
+  pub lowest : All (λ row. IsLowest row.pace row.stretch row.shares) rows
+  pub numbered : Each (length rows) (λ k. shares_in (shares_of rows) k ≡ (row_at rows k).shares)
 
 -- what the policy saw last of the queue, and what was served since
 pub record Seen (keeps : JobQueue → Type 0) (queue : JobQueue) (shares : List JobShare) : Type 0 where
@@ -63,7 +73,7 @@ pub record Seen (keeps : JobQueue → Type 0) (queue : JobQueue) (shares : List 
 abbrev pub count_rounded : List Job → ℕ → ((ℕ → ℕ) → Piece → Bool) → List JobShare → ℕ → ℕ
 count_rounded jobs grid rounds shares i = sum_below i (λ k. cond (rounds (pending_before jobs grid shares k) (stretch_at jobs k)) 1 0)
 
-pub begun : (jobs : List Job) (grid : ℕ) (units : (ℕ → ℕ) → Piece → ℕ) → Running jobs grid units 0 (new_queue jobs grid) [] []
+pub begun : (jobs : List Job) (grid : ℕ) (units : (ℕ → ℕ) → Piece → ℕ) → Running jobs grid units 0 (new_queue jobs grid) []
 begun jobs grid units = record {
   same_jobs = refl;
   same_grain = refl;
@@ -76,10 +86,15 @@ begun jobs grid units = record {
     arith,
     sum_below_bound (length jobs) 1 (λ number. min 1 (units_left (new_queue jobs grid) number)) (λ k within. omega arith),
   );
-  beside = tt;
-  one_at_a_time = λ scale is. tt;
-  full = λ k within. absurd (omega arith);
-  denominators = All-nil (HasRunDenominators jobs grid);
+}
+
+pub none_tabled : (jobs : List Job) (grid : ℕ) → Tabled jobs grid 0 []
+none_tabled jobs grid = record {
+  stretches_are = refl;
+  filled = All-nil IsRow;
+  grains = All-nil (λ row. HasGrain grid row.pace);
+  lowest = All-nil (λ row. IsLowest row.pace row.stretch row.shares);
+  numbered = λ k within. absurd (omega arith);
 }
 
 -- # What a policy is told
@@ -153,12 +168,11 @@ told_of tells jobs grid i now started stretch x same_jobs same_grain is starts t
     ∙ ap (λ (g : ℕ). tells jobs g (pending_of_job jobs g (Some (stretch_at jobs i).from) (slice_index now.served)) (stretch_at jobs i)) same_grain
 
 -- and it is served from there
-pub served_from : (jobs : List Job) (i set : ℕ) (now started new : JobQueue) (stretch : Piece) (more : List WrittenSlot) → stretch ≡ stretch_at jobs i →
-    started ≡ record now { time = Some stretch.from } → ServesStretch started new i stretch set more →
-    ServesStretch (record now { time = Some (stretch_at jobs i).from }) new i (stretch_at jobs i) set more
-served_from jobs i set now started new stretch more is starts serves =
-    subst (λ (piece : Piece). ServesStretch (record now { time = Some piece.from }) new i piece set more) is
-    (subst (λ (queue : JobQueue). ServesStretch queue new i stretch set more) starts serves)
+pub served_from : (jobs : List Job) (i set : ℕ) (now started new : JobQueue) (stretch : Piece) (part : List JobShare) → stretch ≡ stretch_at jobs i →
+    started ≡ record now { time = Some stretch.from } → Serves started new i set part → Serves (record now { time = Some (stretch_at jobs i).from }) new i set part
+served_from jobs i set now started new stretch part is starts serves =
+    subst (λ (piece : Piece). Serves (record now { time = Some piece.from }) new i set part) is
+    (subst (λ (queue : JobQueue). Serves queue new i set part) starts serves)
 
 -- # One stretch more
 
@@ -167,111 +181,13 @@ pub total_none : (shares : List JobShare) → All (λ share. 1 ≤ share.units) 
 total_none [] some none = refl
 total_none (share ∷ shares) some none = absurd (omega (arith, sum_by-cons (λ (s : JobShare). s.units) share shares, none, some 0 share (omega arith)))
 
--- slots that run one after another, and others after them
-run_append : (start time : ℕ) (slots more : List WholeSlot) → RunFrom start slots → start ≤ time → All (λ slot. slot.to ≤ time) slots → RunFrom time more →
-    RunFrom start (slots ++ more)
-run_append start time [] [] run before ends after = tt
-run_append start time [] (slot ∷ more) run before ends after = (omega (arith, before, after.0), after.1, after.2)
-run_append start time (slot ∷ slots) more run before ends after =
-    (run.0, run.1, run_append slot.to time slots more run.2 (ends 0 slot (omega arith)) (All-tail (λ s. s.to ≤ time) slot slots ends) after)
-
--- laid slots run one after another from the time at which the first begins
-laid_run : (stretch : Piece) (capacity grain scale : ℕ) (shares : List JobShare) (slots : List WrittenSlot) (time : Fraction) → 1 ≤ scale →
-    AllZip (IsLaidSlot stretch capacity grain) shares slots → All (IsDivided scale) slots → FollowFrom time slots →
-    RunFrom (at_scale scale time) (slots_at scale slots)
-laid_run stretch capacity grain scale [] [] time some laid divided follows = tt
-laid_run stretch capacity grain scale [] (slot ∷ slots) time some laid divided follows = absurd laid
-laid_run stretch capacity grain scale (share ∷ shares) [] time some laid divided follows = tt
-laid_run stretch capacity grain scale (share ∷ shares) (slot ∷ slots) time some laid divided follows = (
-  omega (arith, ap (at_scale scale) follows.0),
-  (laid.0.runs scale some (All-head (IsDivided scale) slot slots divided)).forward,
-  laid_run stretch capacity grain scale shares slots slot.to some laid.1 (All-tail (IsDivided scale) slot slots divided) follows.1,
-)
-
-pub whole_at : (scale time : ℕ) → at_scale scale (of_whole time) ≡ time * scale
-whole_at scale time = omega arith
-
--- a slot beside a share of an earlier stretch has ended when this one begins
-module _ (jobs : List Job) (grid i : ℕ) (here : i < length (stretches jobs)) where
-  ended : (scale : ℕ) → 1 ≤ scale → (share : JobShare) (slot : WrittenSlot) → share.stretch < i → IsBeside jobs grid share slot → IsDivided scale slot →
-      (slot_at_scale scale slot).to ≤ (stretch_at jobs i).from * scale
-  ended scale some share slot before beside divided = omega (
-    arith,
-    (beside.lies_in scale some divided).to,
-    mul-le-mul_right scale (stretch_order jobs share.stretch i before here),
-  )
-
-  all_ended : (scale : ℕ) → 1 ≤ scale → (shares : List JobShare) (slots : List WrittenSlot) → All (λ share. share.stretch < i) shares →
-      AllZip (IsBeside jobs grid) shares slots → All (IsDivided scale) slots → All (λ slot. slot.to ≤ (stretch_at jobs i).from * scale) (slots_at scale slots)
-  all_ended scale some [] [] known beside divided = All-nil (λ slot. slot.to ≤ (stretch_at jobs i).from * scale)
-  all_ended scale some [] (slot ∷ slots) known beside divided = absurd beside
-  all_ended scale some (share ∷ shares) [] known beside divided = absurd beside
-  all_ended scale some (share ∷ shares) (slot ∷ slots) known beside divided =
-      All-cons (λ (s : WholeSlot). s.to ≤ (stretch_at jobs i).from * scale) (slot_at_scale scale slot) (slots_at scale slots)
-      (ended scale some share slot (All-head (λ s. s.stretch < i) share shares known) beside.0 (All-head (IsDivided scale) slot slots divided))
-      (all_ended scale some shares slots (All-tail (λ s. s.stretch < i) share shares known) beside.1 (All-tail (IsDivided scale) slot slots divided))
-
-  -- the slots of the stretch itself stand beside its shares
-  laid_beside : (capacity : ℕ) (share : JobShare) (slot : WrittenSlot) → share.stretch ≡ i → IsLaidSlot (stretch_at jobs i) capacity grid share slot →
-      IsBeside jobs grid share slot
-  laid_beside capacity share slot at laid = record {
-    job = laid.job;
-    work = laid.work;
-    lies_in = λ scale some divided.
-        subst (λ k. LiesIn scale (slot_at_scale scale slot) (stretch_at jobs k)) (sym at) (laid.runs scale some divided).lies_in;
-  }
-
--- the shares of a stretch, and the slots that are laid for them
-module _ (jobs : List Job) (grid : ℕ) (some_grid : 1 ≤ grid) (i : ℕ) (here : i < length (stretches jobs)) (part : List JobShare) (more : List WrittenSlot)
-    (some : All (λ share. 1 ≤ share.units) part) (at : All (λ share. share.stretch ≡ i) part) (nothing : total_units part ≡ 0 → more ≡ [])
-    (laid : 1 ≤ total_units part → IsLaid (stretch_at jobs i) (total_units part) grid part more) where
-  forward : (stretch_at jobs i).from < (stretch_at jobs i).to
-  forward = stretch_forward jobs i here
-
-  among : Contains (stretches jobs) (stretch_at jobs i)
-  among = Contains-get_or (stretches jobs) i no_stretch here
-
-  -- either there are none, or they are laid
-  none_or_laid : ((part ≡ []) × (more ≡ [])) ⊎ ((1 ≤ total_units part) × IsLaid (stretch_at jobs i) (total_units part) grid part more)
-  none_or_laid = elim (cases_lt 0 (total_units part)) [
-    | inl served ↦ inr (served, laid served)
-    | inr none ↦ let zero_units : total_units part ≡ 0 = omega arith in inl (total_none part some zero_units, nothing zero_units)
-  ]
-
-  part_beside : AllZip (IsBeside jobs grid) part more
-  part_beside = elim none_or_laid [
-    | inl none ↦ rw (none.0, none.1) tt
-    | inr is ↦ AllZip-weaker (IsLaidSlot (stretch_at jobs i) (total_units part) grid) (IsBeside jobs grid) (λ share. share.stretch ≡ i)
-        (λ share slot. laid_beside jobs grid i here (total_units part) share slot) part more at is.1.each
-  ]
-
-  part_runs : (scale : ℕ) → 1 ≤ scale → All (IsDivided scale) more → RunFrom ((stretch_at jobs i).from * scale) (slots_at scale more)
-  part_runs scale positive divided = elim none_or_laid [
-    | inl none ↦ rw (none.1) tt
-    | inr is ↦ subst (λ (time : ℕ). RunFrom time (slots_at scale more)) (whole_at scale (stretch_at jobs i).from)
-        (laid_run (stretch_at jobs i) (total_units part) grid scale part more (of_whole (stretch_at jobs i).from) positive is.1.each divided is.1.gapless)
-  ]
-
-  part_written : All (HasRunDenominators jobs grid) more
-  part_written = elim none_or_laid [
-    | inl none ↦ rw (none.1) (All-nil (HasRunDenominators jobs grid))
-    | inr is ↦ all_second (IsLaidSlot (stretch_at jobs i) (total_units part) grid) (HasRunDenominators jobs grid)
-        (λ share slot slot_laid. run_slot (stretch_at jobs i) (total_units part) grid forward is.0 some_grid share slot slot_laid jobs among) part more is.1.each
-  ]
-
--- the next stretch is served and laid, once the jobs that are released by its start have arrived
+-- the next stretch is served, once the jobs that are released by its start have arrived
 module _ (jobs : List Job) (grid : ℕ) (units : (ℕ → ℕ) → Piece → ℕ) (some_grid : 1 ≤ grid) (i : ℕ) (here : i < length (stretches jobs)) (now new : JobQueue)
-    (shares : List JobShare) (slots : List WrittenSlot) (running : Running jobs grid units i now shares slots) (set : ℕ)
-    (set_is : set ≡ units (pending_of_job jobs grid (Some (stretch_at jobs i).from) (slice_index now.served)) (stretch_at jobs i)) (more : List WrittenSlot)
-    (serves : ServesStretch (record now { time = Some (stretch_at jobs i).from }) new i (stretch_at jobs i) set more) where
-  start : ℕ
-  start = (stretch_at jobs i).from
-
-  abbrev part : List JobShare
-  part = serves.shares
-
+    (shares : List JobShare) (running : Running jobs grid units i now shares) (set : ℕ)
+    (set_is : set ≡ units (pending_of_job jobs grid (Some (stretch_at jobs i).from) (slice_index now.served)) (stretch_at jobs i)) (part : List JobShare)
+    (serves : Serves (record now { time = Some (stretch_at jobs i).from }) new i set part) where
   at : All (λ share. share.stretch ≡ i) part
-  at = serves.serves.in_stretch
+  at = serves.in_stretch
 
   abbrev held : ℕ → ℕ
   held = pending_of_job jobs grid (Some (stretch_at jobs i).from) (slice_index now.served)
@@ -283,15 +199,12 @@ module _ (jobs : List Job) (grid : ℕ) (units : (ℕ → ℕ) → Piece → ℕ
   serving_here =
       let queue : List Job → ℕ → JobQueue = λ js g. record { jobs = js; grain = g; time = Some (stretch_at jobs i).from; served = now.served } in
       subst (λ (js : List Job). IsServing js by_number (pending_in (queue js grid)) set part) running.same_jobs
-      (subst (λ (g : ℕ). IsServing now.jobs by_number (pending_in (queue now.jobs g)) set part) running.same_grain serves.serves.serving)
+      (subst (λ (g : ℕ). IsServing now.jobs by_number (pending_in (queue now.jobs g)) set part) running.same_grain serves.serving)
 
   serving_set : IsServing jobs by_number (pending_before jobs grid (shares ++ part) i) (units (pending_before jobs grid (shares ++ part) i) (stretch_at jobs i)) part
   serving_set =
       subst (λ (pending : ℕ → ℕ). IsServing jobs by_number pending (units pending (stretch_at jobs i)) part) held_is
       (subst (λ (n : ℕ). IsServing jobs by_number held n part) set_is serving_here)
-
-  part_laid : 1 ≤ total_units part → IsLaid (stretch_at jobs i) (total_units part) grid part more
-  part_laid served = subst (λ (g : ℕ). IsLaid (stretch_at jobs i) (total_units part) g part more) running.same_grain (serves.laid served)
 
   -- what is pending before an earlier stretch stays as it was
   pub pending_kept : (k : ℕ) → k < i → pending_before jobs grid shares k ≡ pending_before jobs grid (shares ++ part) k
@@ -309,46 +222,14 @@ module _ (jobs : List Job) (grid : ℕ) (units : (ℕ → ℕ) → Piece → ℕ
         (running.serving k less))
   ]
 
-  beside_here : slots_beside i (shares ++ part) (slots ++ more) ≡ more
-  beside_here = beside_append (IsBeside jobs grid) i shares slots part more running.beside
-      ∙ ap (λ (xs : List WrittenSlot). xs ++ slots_beside i part more)
-      (beside_none i shares slots (λ k d within same. omega (arith, same, running.known k d within)))
-      ∙ beside_all (IsBeside jobs grid) i part more
-      (part_beside jobs grid some_grid i here part more serves.serves.serving.some at serves.nothing part_laid) at
-
-  beside_earlier : (k : ℕ) → k < i → slots_beside k (shares ++ part) (slots ++ more) ≡ slots_beside k shares slots
-  beside_earlier k less = beside_append (IsBeside jobs grid) k shares slots part more running.beside
-      ∙ ap (λ (xs : List WrittenSlot). slots_beside k shares slots ++ xs)
-      (beside_none k part more (λ j d within same. omega (arith, same, at j d within, less)))
-      ∙ append-nil (slots_beside k shares slots)
-
-  full_next : Each (suc i) (λ k. 1 ≤ total_units (shares_in (shares ++ part) k) →
-      IsLaid (stretch_at jobs k) (total_units (shares_in (shares ++ part) k)) grid (shares_in (shares ++ part) k) (slots_beside k (shares ++ part) (slots ++ more)))
-  full_next k below = elim (cases_eq k i) [
-    | inl same ↦ rw (same, in_added shares part i running.known at, beside_here) part_laid
-    | inr other ↦
-        let less : k < i = omega (arith, below, other) in
-        rw (in_kept shares part i running.known at k less, beside_earlier k less) (running.full k less)
-  ]
-
-  runs_next : (scale : ℕ) → IsScale scale (slots ++ more) → RunFrom 0 (slots_at scale (slots ++ more))
-  runs_next scale is =
-      let first = All-front (IsDivided scale) slots more is.divided in
-      rw (map-append (slot_at_scale scale) slots more)
-      (run_append 0 ((stretch_at jobs i).from * scale) (slots_at scale slots) (slots_at scale more)
-      (running.one_at_a_time scale (record { positive = is.positive; divided = first })) (omega arith)
-      (all_ended jobs grid i here scale is.positive shares slots running.known running.beside first)
-      (part_runs jobs grid some_grid i here part more serves.serves.serving.some at serves.nothing part_laid scale is.positive
-      (All-back (IsDivided scale) slots more is.divided)))
-
-  pub running_next : Running jobs grid units (suc i) new (shares ++ part) (slots ++ more)
+  pub running_next : Running jobs grid units (suc i) new (shares ++ part)
   running_next = record {
-    same_jobs = serves.serves.adds.jobs ∙ running.same_jobs;
-    same_grain = serves.serves.adds.grain ∙ running.same_grain;
-    time = λ there. rw serves.serves.adds.time (starts_rise i (suc i) (stretches jobs) (stretches_run jobs) (omega arith) there);
+    same_jobs = serves.adds.jobs ∙ running.same_jobs;
+    same_grain = serves.adds.grain ∙ running.same_grain;
+    time = λ there. rw serves.adds.time (starts_rise i (suc i) (stretches jobs) (stretches_run jobs) (omega arith) there);
     given = λ number there. omega (
       arith,
-      serves.serves.adds.served number (omega (arith, there, ap (λ (js : List Job). length js) running.same_jobs)),
+      serves.adds.served number (omega (arith, there, ap (λ (js : List Job). length js) running.same_jobs)),
       running.given number there,
       sum_by-append (λ (share : JobShare). cond (number == share.job) share.units 0) shares part,
     );
@@ -358,34 +239,8 @@ module _ (jobs : List Job) (grid : ℕ) (units : (ℕ → ℕ) → Piece → ℕ
     known = All-append (λ share. share.stretch < suc i) shares part (λ k d within. omega (arith, running.known k d within))
         (λ k d within. omega (arith, at k d within));
     serving = serving_next;
-    few = omega (arith, running.few, serves.serves.finishing, length-append shares part);
-    beside = AllZip-append (IsBeside jobs grid) shares slots part more running.beside
-        (part_beside jobs grid some_grid i here part more serves.serves.serving.some at serves.nothing part_laid);
-    one_at_a_time = runs_next;
-    full = full_next;
-    denominators = All-append (HasRunDenominators jobs grid) slots more running.denominators
-        (part_written jobs grid some_grid i here part more serves.serves.serving.some at serves.nothing part_laid);
+    few = omega (arith, running.few, serves.finishing, length-append shares part);
   }
-
-  -- the slots are of jobs that there are, their works are over the grid, and they are few
-  pub next_known : All (λ slot. slot.job < length jobs) more
-  next_known = elim (none_or_laid jobs grid some_grid i here part more serves.serves.serving.some at serves.nothing part_laid) [
-    | inl none ↦ rw (none.1) (All-nil (λ (slot : WrittenSlot). slot.job < length jobs))
-    | inr is ↦ all_second (λ (share : JobShare) (slot : WrittenSlot). slot.job < length jobs) (λ (slot : WrittenSlot). slot.job < length jobs) (λ share slot known. known) part more
-        (AllZip-weaker (IsLaidSlot (stretch_at jobs i) (total_units part) grid) (λ (share : JobShare) (slot : WrittenSlot). slot.job < length jobs)
-        (λ share. share.job < length jobs) (λ share slot known laid. omega (arith, known, laid.job)) part more serving_here.known is.1.each)
-  ]
-
-  pub next_over : All (λ slot. IsOver grid slot.work) (slots ++ more)
-  next_over = All-weaker (HasRunDenominators jobs grid) (λ slot. IsOver grid slot.work) (λ slot has. has.work) (slots ++ more) running_next.denominators
-
-  pub next_few : length slots + length more ≤ length jobs + suc i
-  next_few = omega (
-    arith,
-    running_next.few,
-    length_zipped (IsBeside jobs grid) (shares ++ part) (slots ++ more) running_next.beside,
-    length-append slots more,
-  )
 
   -- and it is counted where it was rounded
   pub count_next : (rounds : (ℕ → ℕ) → Piece → Bool) → count_rounded jobs grid rounds (shares ++ part) (suc i)
@@ -398,64 +253,148 @@ module _ (jobs : List Job) (grid : ℕ) (units : (ℕ → ℕ) → Piece → ℕ
     ap {B = ℕ} (λ (pending : ℕ → ℕ). cond (rounds pending (stretch_at jobs i)) 1 0) held_is,
   )
 
--- what puts the slots last asks of them
-pub record CanFollow (jobs : List Job) (grid i : ℕ) (slots more : List WrittenSlot) : Type 0 where
-  pub known : All (λ slot. slot.job < length jobs) more
-  pub over : All (λ slot. IsOver grid slot.work) (slots ++ more)
-  pub few : length slots + length more ≤ length jobs + suc i
+-- it has so many stretches
+pub tabled_many : {jobs : List Job} {grid i : ℕ} {rows : List Row} → Tabled jobs grid i rows → i ≤ length (stretches jobs) → length rows ≡ i
+tabled_many {jobs = jobs} {i = i} {rows = rows} tabled most =
+    sym (length-map rows (λ (one : Row). one.stretch)) ∙ ap (λ (pieces : List Piece). length pieces) tabled.stretches_are ∙ length-take-le i (stretches jobs) most
 
-pub can_follow : (jobs : List Job) (grid : ℕ) (units : List Job → ℕ → (ℕ → ℕ) → Piece → ℕ) → 1 ≤ grid → (i : ℕ) → i < length (stretches jobs) →
-    (now started new : JobQueue) (shares : List JobShare) (slots : List WrittenSlot) → Running jobs grid (units jobs grid) i now shares slots →
-    (stretch : Piece) → stretch ≡ stretch_at jobs i → started ≡ record now { time = Some stretch.from } → (set : ℕ) →
-    set ≡ units started.jobs started.grain (pending_in started) stretch → (more : List WrittenSlot) → ServesStretch started new i stretch set more →
-    CanFollow jobs grid i slots more
-can_follow jobs grid units some i here now started new shares slots running stretch is starts set set_is more serves =
-    let told = told_of units jobs grid i now started stretch set running.same_jobs running.same_grain is starts set_is in
-    let served = served_from jobs i set now started new stretch more is starts serves in
-    record {
-      known = next_known jobs grid (units jobs grid) some i here now new shares slots running set told more served;
-      over = next_over jobs grid (units jobs grid) some i here now new shares slots running set told more served;
-      few = next_few jobs grid (units jobs grid) some i here now new shares slots running set told more served;
-    }
+-- the timetable has the stretch then
+pub tabled_next : (jobs : List Job) (grid i : ℕ) (rows next : List Row) (stretch : Piece) (part : List JobShare) → Tabled jobs grid i rows →
+    i < length (stretches jobs) → stretch ≡ stretch_at jobs i → All (λ share. share.stretch < i) (shares_of rows) → All (λ share. share.stretch ≡ i) part →
+    PutsRow grid stretch part rows next → (shares_of next ≡ shares_of rows ++ part) × Tabled jobs grid (i + 1) next
+tabled_next jobs grid i rows next stretch part tabled here is earlier own puts =
+    let row : Row = record { stretch = stretch; pace = puts.pace; shares = part } in
+    let as_many : length rows ≡ i = tabled_many tabled (let most : i ≤ length (stretches jobs) = omega (arith, here) in most) in
+    let joined : shares_of (rows ++ row ∷ []) ≡ shares_of rows ++ part =
+    flat_map-append (λ (one : Row). one.shares) rows (row ∷ []) ∙ ap (λ (xs : List JobShare). shares_of rows ++ xs) (append-nil part) in
+    rw (puts.after) (
+      joined,
+      record {
+        stretches_are =
+            map-append (λ (one : Row). one.stretch) rows (row ∷ [])
+            ∙ ap₂ (λ (pieces : List Piece) (piece : Piece). pieces ++ piece ∷ []) tabled.stretches_are is
+            ∙ sym (take_more (stretches jobs) i no_stretch here);
+        filled = All-append IsRow rows (row ∷ []) tabled.filled (All-cons IsRow row [] puts.filled (All-nil IsRow));
+        grains = All-append (λ one. HasGrain grid one.pace) rows (row ∷ []) tabled.grains
+            (All-cons (λ (one : Row). HasGrain grid one.pace) row [] puts.grain_is (All-nil (λ (one : Row). HasGrain grid one.pace)));
+        lowest = All-append (λ one. IsLowest one.pace one.stretch one.shares) rows (row ∷ []) tabled.lowest
+            (All-cons (λ (one : Row). IsLowest one.pace one.stretch one.shares) row [] puts.lowest (All-nil (λ (one : Row). IsLowest one.pace one.stretch one.shares)));
+        numbered = λ k within. elim (cases_eq k i) [
+          | inl same ↦ rw (joined, same) (in_added (shares_of rows) part i earlier own ∙ ap (λ (one : Row). one.shares) (sym (get_or_at rows row [] no_row i as_many)))
+          | inr other ↦
+              let less : k < i = omega (arith, within, other, as_many, length-append rows (row ∷ [])) in
+              rw (joined) (in_kept (shares_of rows) part i earlier own k less ∙ tabled.numbered k (omega (arith, less, as_many))
+              ∙ ap (λ (one : Row). one.shares) (sym (get_or_append_left rows (row ∷ []) no_row k (omega (arith, less, as_many)))))
+        ];
+      },
+    )
+
+-- what is served of a stretch fills it at the pace that it makes
+pub row_put : (pace : Option Pace) (grain served : ℕ) (stretch : Piece) (shares : List JobShare) →
+    MatchOption pace (served ≡ 0) (λ p. (1 ≤ served) × (p ≡ lowest_pace served stretch grain)) → IsStretch stretch → served ≡ total_units shares →
+    1 ≤ grain → grain ≤ MAX_GRID → served ≤ MAX_JOBS * (MAX_WORK * grain) → All (λ share. 1 ≤ share.units) shares →
+    All (λ share. share.units ≤ MAX_WORK * grain) shares → IsFilledAt pace stretch shares × HasGrain grain pace × IsLowest pace stretch shares
+row_put None grain served stretch shares made is total some_grain grid few some works =
+    ((is, total_none shares some (sym total ∙ made)), tt, tt)
+row_put (Some pace) grain served stretch shares made is total some_grain grid few some works =
+    let most : MAX_JOBS * (MAX_WORK * grain) ≤ MAX_JOBS * (MAX_WORK * MAX_GRID) = omega (arith, grid) in
+    rw (made.1) (
+      lowest_fills served stretch grain shares is made.0 total some_grain (omega (arith, grid)) (omega (arith, few, most)) some
+          (All-weaker (λ share. share.units ≤ MAX_WORK * grain) (λ share. share.units ≤ grain * MAX_SLOT_WORK) (λ share small. omega (arith, small)) shares works),
+      refl,
+      ap (λ n. n / common_divisor n (length_of stretch)) total,
+    )
 
 -- what the loop keeps once the stretch is served
 pub stepped : (jobs : List Job) (grid : ℕ) (units : List Job → ℕ → (ℕ → ℕ) → Piece → ℕ) (rounds : List Job → ℕ → (ℕ → ℕ) → Piece → Bool) → 1 ≤ grid →
-    (i : ℕ) → i < length (stretches jobs) → (now started new : JobQueue) (shares : List JobShare) (slots joined : List WrittenSlot) →
-    Running jobs grid (units jobs grid) i now shares slots → (stretch : Piece) → stretch ≡ stretch_at jobs i → started ≡ record now { time = Some stretch.from } →
+    (i : ℕ) → i < length (stretches jobs) → (now started new : JobQueue) (rows next : List Row) →
+    Running jobs grid (units jobs grid) i now (shares_of rows) → Tabled jobs grid i rows →
+    (stretch : Piece) → stretch ≡ stretch_at jobs i → started ≡ record now { time = Some stretch.from } →
     (set : ℕ) → set ≡ units started.jobs started.grain (pending_in started) stretch → (rounded : Bool) →
-    rounded ≡ rounds started.jobs started.grain (pending_in started) stretch → (more : List WrittenSlot) →
-    ServesStretch started new i stretch set more → joined ≡ slots ++ more → (count : ℕ) → count ≡ count_rounded jobs grid (rounds jobs grid) shares i →
-    (after : List JobShare) × Running jobs grid (units jobs grid) (i + 1) new after joined
-    × (count + cond rounded 1 0 ≡ count_rounded jobs grid (rounds jobs grid) after (i + 1))
-stepped jobs grid units rounds some i here now started new shares slots joined running stretch is starts set set_is rounded rounded_is more serves joins count counted =
+    rounded ≡ rounds started.jobs started.grain (pending_in started) stretch → (part : List JobShare) → Serves started new (length rows) set part →
+    PutsRow started.grain stretch part rows next → (count : ℕ) → count ≡ count_rounded jobs grid (rounds jobs grid) (shares_of rows) i →
+    Running jobs grid (units jobs grid) (i + 1) new (shares_of next) × Tabled jobs grid (i + 1) next
+    × (count + cond rounded 1 0 ≡ count_rounded jobs grid (rounds jobs grid) (shares_of next) (i + 1))
+stepped jobs grid units rounds some i here now started new rows next running tabled stretch is starts set set_is rounded rounded_is part serves puts count counted =
     let told = told_of units jobs grid i now started stretch set running.same_jobs running.same_grain is starts set_is in
     let told_rounded = told_of rounds jobs grid i now started stretch rounded running.same_jobs running.same_grain is starts rounded_is in
-    let served = served_from jobs i set now started new stretch more is starts serves in
-    rw (add-one, joins) (
-      shares ++ served.shares,
-      running_next jobs grid (units jobs grid) some i here now new shares slots running set told more served,
+    let as_many = tabled_many tabled (let most : i ≤ length (stretches jobs) = omega (arith, here) in most) in
+    let served = served_from jobs i set now started new stretch part is starts (subst (λ (n : ℕ). Serves started new n set part) as_many serves) in
+    let grain_is : started.grain ≡ grid = ap (λ (queue : JobQueue). queue.grain) starts ∙ running.same_grain in
+    let after = tabled_next jobs grid i rows next stretch part tabled here is running.known served.in_stretch
+    (subst (λ (g : ℕ). PutsRow g stretch part rows next) grain_is puts) in
+    rw (after.0, add-one) (
+      running_next jobs grid (units jobs grid) some i here now new (shares_of rows) running set told part served,
+      rw add-one at after.1,
       omega (
         arith,
         counted,
         ap {B = ℕ} (λ b. cond b 1 0) told_rounded,
-        count_next jobs grid (units jobs grid) some i here now new shares slots running set told more served (rounds jobs grid),
+        count_next jobs grid (units jobs grid) some i here now new (shares_of rows) running set told part served (rounds jobs grid),
       ),
     )
 
--- once all stretches are served, it is a run of the policy
-pub all_run : {jobs : List Job} {grid : ℕ} {units : (ℕ → ℕ) → Piece → ℕ} {rounds : (ℕ → ℕ) → Piece → Bool} {now : JobQueue} {shares : List JobShare}
-    {slots : List WrittenSlot} {rounded : ℕ} → Running jobs grid units (length (stretches jobs)) now shares slots →
-    rounded ≡ count_rounded jobs grid rounds shares (length (stretches jobs)) → IsPolicyRun jobs grid units rounds rounded slots
-all_run {shares = shares} running counted = record {
-  shares = shares;
-  served = record { in_order = running.in_order; known = running.known; serving = running.serving; few = omega (arith, running.few) };
-  laid = record {
-    beside = running.beside;
-    one_at_a_time = running.one_at_a_time;
-    full = running.full;
-    denominators = running.denominators;
-  };
-  count = counted;
+-- the slots of a timetable are written as those of a run
+rows_written : (jobs : List Job) (grid : ℕ) (rows : List Row) → stretches_of rows ≡ stretches jobs → All IsRow rows → All (λ row. HasGrain grid row.pace) rows →
+    All (λ row. IsLowest row.pace row.stretch row.shares) rows → All (HasRunDenominators jobs grid) (slots_of rows)
+rows_written jobs grid rows are filled grains lowest = All-flat (HasRunDenominators jobs grid) row_slots rows (λ k d within.
+    let row = get_or rows k d in
+    let among : Contains (stretches jobs) row.stretch = subst (λ (pieces : List Piece). Contains pieces row.stretch) are
+    (subst (Contains (stretches_of rows)) (get_or-map (λ (one : Row). one.stretch) rows k d no_stretch within)
+    (Contains-get_or (stretches_of rows) k no_stretch (omega (arith, within, length-map rows (λ (one : Row). one.stretch))))) in
+    paced_all (HasRunDenominators jobs grid) row.pace row.stretch row.shares (filled k d within) (λ pace at fills done share some enough.
+    let grain_is : pace.grain ≡ grid = subst (λ (p : Option Pace). HasGrain grid p) at (grains k d within) in
+    let slot = slot_of pace row.stretch.from done share in
+    let lowest_is = subst (λ (p : Option Pace). IsLowest p row.stretch row.shares) at (lowest k d within) in
+    record {
+      stretch = row.stretch;
+      is_stretch = among;
+      lies = lies_written pace row.stretch (total_units row.shares) fills.own done share some enough;
+      units = total_units row.shares;
+      speed = subst (λ (g : ℕ). HasSpeed (total_units row.shares) (g * length_of row.stretch) slot) grain_is (speed_written pace row.stretch (total_units row.shares) fills.own done share some enough);
+      work = subst (λ (g : ℕ). IsOver g slot.work) grain_is (of_parts_over share.units pace.grain);
+      from = subst (λ (n : ℕ). IsOver n slot.from) lowest_is (of_parts_over (row.stretch.from * pace.units + done * pace.time) pace.units);
+      to = subst (λ (n : ℕ). IsOver n slot.to) lowest_is (of_parts_over (row.stretch.from * pace.units + (done + share.units) * pace.time) pace.units);
+    }))
+
+-- once all stretches are served, the timetable is of them all, and it is a run of the policy
+pub all_rows : {jobs : List Job} {grid : ℕ} {rows : List Row} → Tabled jobs grid (length (stretches jobs)) rows → AreRowsOf jobs grid rows
+all_rows {jobs = jobs} tabled = record {
+  stretches_are = tabled.stretches_are ∙ take_all (length (stretches jobs)) (stretches jobs) (le_refl (length (stretches jobs)));
+  filled = tabled.filled;
+  grains = tabled.grains;
+  lowest = tabled.lowest;
+  numbered = tabled.numbered;
+}
+
+pub all_run : {jobs : List Job} {grid : ℕ} {units : (ℕ → ℕ) → Piece → ℕ} {rounds : (ℕ → ℕ) → Piece → Bool} {now : JobQueue} {rows : List Row} {rounded : ℕ} →
+    Running jobs grid units (length (stretches jobs)) now (shares_of rows) → Tabled jobs grid (length (stretches jobs)) rows →
+    rounded ≡ count_rounded jobs grid rounds (shares_of rows) (length (stretches jobs)) → IsPolicyRun jobs grid units rounds rounded (slots_of rows)
+all_run {jobs = jobs} {grid = grid} {rows = rows} running tabled counted =
+    let are = all_rows tabled in
+    record {
+      shares = shares_of rows;
+      served = record { in_order = running.in_order; known = running.known; serving = running.serving; few = omega (arith, running.few) };
+      laid = record {
+        rows = rows;
+        are = are;
+        shares_are = refl;
+        slots_are = refl;
+        denominators = rows_written jobs grid rows are.stretches_are are.filled are.grains are.lowest;
+      };
+      count = counted;
+    }
+
+-- its slots are within the limits
+pub can_lay : {jobs : List Job} {grid : ℕ} {units : (ℕ → ℕ) → Piece → ℕ} {now : JobQueue} {rows : List Row} → length jobs ≤ MAX_JOBS →
+    Running jobs grid units (length (stretches jobs)) now (shares_of rows) → Tabled jobs grid (length (stretches jobs)) rows → CanLay (length jobs) rows
+can_lay {jobs = jobs} {grid = grid} {rows = rows} few running tabled = record {
+  few = omega (arith, few, running.few, few_stretches jobs);
+  known = λ k d within.
+      let share = get_or (shares_of rows) k d in
+      All-contains (λ (s : JobShare). s.job < length jobs) (shares_in (shares_of rows) share.stretch) share
+      (running.serving share.stretch (running.known k d within)).known (stands_in (shares_of rows) share (Contains-get_or (shares_of rows) k d within));
+  grains = (λ job. grid, rows_over grid rows tabled.filled tabled.grains);
 }
 
 -- a flag as a number: 1 or 0

@@ -9,7 +9,7 @@ use Rattle.std.proofs.Math.Nat.{mul-le-mul_right}
 use Rattle.yds_model.specs.declared.limits.TheConstants.{MAX_WORK}
 use Rattle.yds_model.specs.Job.{Job, no_job, job_at}
 use Rattle.yds_model.proofs.Lists.{AllPairs-append}
-use Rattle.yds_edf.specs.Shares.{JobShare, units_given, total_units}
+use Rattle.yds_timetable.specs.Shares.{JobShare, units_given, total_units}
 use Rattle.yds_edf.specs.Pending.{sum_below, has_arrived, units_wanted}
 use Rattle.yds_edf.specs.Serving.{IsDueBefore}
 use Rattle.yds_edf.specs.Queue.{JobQueue, pending_in, all_pending, units_left, unfinished, Adds, Serves}

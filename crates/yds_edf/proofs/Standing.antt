@@ -1,28 +1,31 @@
 -- The slots of a run at a scale, each beside its share.
 use Rattle.std.proofs.Common.{◌≡◌, ℕ, zero, suc, ◌*◌, ◌<◌, ◌≤◌, List, [], ◌∷◌, length, get_or, ◌∙◌, refl, sym, subst, arith, inl, inr, ap, cond, true, false}
-use Rattle.std.specs.Prelude.{Bool, ◌==◌, ◌&&◌, nat_le, nat_lt, All, filter}
+use Rattle.std.specs.Prelude.{Bool, ◌==◌, nat_le, nat_lt, All, filter}
 use Rattle.std.specs.List.{AllZip}
 use Rattle.std.specs.Int.{◌∣◌}
-use Rattle.std.proofs.lemmas.Bool.{cases_lt, cases_eq, cases_order, cases_Bool, le-leb, lt-leb, lt-ltb, le-ltb, eq-eqb, ne_eqb}
-use Rattle.std.proofs.lemmas.List.Elements.{All-head, All-tail, All-contains, Contains-get_or}
+use Rattle.std.proofs.lemmas.Bool.{cases_lt, cases_eq, le-leb, lt-leb, lt-ltb, le-ltb, eq-eqb, ne_eqb, eqb-true}
+use Rattle.std.proofs.lemmas.List.{length-map, get_or-map}
+use Rattle.std.proofs.lemmas.List.Elements.{All-head, All-tail, All-contains, Contains-get_or, filter_passes}
 use Rattle.std.proofs.lemmas.List.Sums.{sum_by-cons}
 use Rattle.std.proofs.Math.Nat.{mul-le-mul_right, mul-add}
 use Rattle.yds_model.specs.Job.{Job}
 use Rattle.yds_model.specs.Scale.{Fraction, at_scale}
-use Rattle.yds_model.specs.Slot.{WrittenSlot, WholeSlot, IsDivided, IsScale, slot_at_scale, slots_at, slot_at, work_given}
-use Rattle.yds_model.specs.Piece.{Piece}
+use Rattle.yds_model.specs.Slot.{WrittenSlot, WholeSlot, IsDivided, IsScale, IsSolid, slot_at_scale, slots_at, slot_at, work_given}
+use Rattle.yds_model.specs.Piece.{Piece, PiecesFrom}
 use Rattle.yds_model.specs.Feasible.{RunFrom}
 use Rattle.yds_model.specs.Event.{stretches}
-use Rattle.yds_model.specs.Policy.{slots_in}
 use Rattle.yds_model.specs.Comparison.{stretch_at}
 use Rattle.yds_model.proofs.Runs.{run_forward}
 use Rattle.yds_slots.proofs.Parts.{of_parts_at}
-use Rattle.yds_events.proofs.Neighbours.{stretch_order, stretch_forward}
-use Rattle.yds_edf.specs.Shares.{JobShare, units_given, shares_in, shares_before}
-use Rattle.yds_edf.specs.Run.{IsServed, IsBeside, slots_beside, IsLaidOut}
-use Rattle.yds_edf.proofs.Parts.{filter_all}
+use Rattle.yds_events.specs.Stretch.{no_stretch}
+use Rattle.yds_events.proofs.Neighbours.{stretch_order, stretch_forward, stretches_run}
+use Rattle.yds_timetable.specs.Shares.{JobShare, units_given, shares_before}
+use Rattle.yds_timetable.specs.Timetable.{Row, row_at, stretches_of, row_slots, shares_of, slots_of}
+use Rattle.yds_timetable.proofs.Lists.{filter_all, AllZip-weaker, length_zipped}
+use Rattle.yds_timetable.proofs.Paces.{IsFor}
+use Rattle.yds_timetable.proofs.Rows.{no_row, rows_run, rows_solid, rows_for}
+use Rattle.yds_edf.specs.Run.{IsServed, AreRowsOf, IsLaidOut}
 use Rattle.yds_edf.proofs.Filled.{stands_in}
-use Rattle.yds_edf.proofs.Beside.{length_zipped}
 
 abbrev pub no_share : JobShare
 no_share = record { stretch = 0; job = 0; units = 0 }
@@ -57,7 +60,11 @@ run_pairs start (slot ∷ slots) i zero run order within = absurd (omega arith)
 run_pairs start (slot ∷ slots) zero (suc j) run order within = run_from slot.to slots j run.2 (omega arith)
 run_pairs start (slot ∷ slots) (suc i) (suc j) run order within = run_pairs slot.to slots i j run.2 (omega arith) (omega arith)
 
-zip_stands : (jobs : List Job) (grid scale : ℕ) → 1 ≤ scale → (shares : List JobShare) (slots : List WrittenSlot) → AllZip (IsBeside jobs grid) shares slots →
+-- the slot gives the share's units to its job, within the share's stretch
+abbrev IsForOwn : List Job → ℕ → JobShare → WrittenSlot → Type 0
+IsForOwn jobs grid share slot = IsFor (stretch_at jobs share.stretch) grid share slot
+
+zip_stands : (jobs : List Job) (grid scale : ℕ) → 1 ≤ scale → (shares : List JobShare) (slots : List WrittenSlot) → AllZip (IsForOwn jobs grid) shares slots →
     All (IsShare jobs) shares → All (IsDivided scale) slots → All (λ slot. slot.from < slot.to) (slots_at scale slots) →
     AllZip (Stands jobs grid scale) shares (slots_at scale slots)
 zip_stands jobs grid scale some [] [] beside are divided forward = tt
@@ -79,6 +86,46 @@ zip_stands jobs grid scale some (share ∷ shares) (slot ∷ slots) beside are d
           (All-tail (λ (s : WholeSlot). s.from < s.to) (slot_at_scale scale slot) (slots_at scale slots) forward),
     )
 
+-- # The timetable of a run
+
+module _ (jobs : List Job) (grid : ℕ) (rows : List Row) (are : AreRowsOf jobs grid rows) where
+  pub as_many_rows : length rows ≡ length (stretches jobs)
+  as_many_rows = sym (length-map rows (λ (row : Row). row.stretch)) ∙ ap (λ (pieces : List Piece). length pieces) are.stretches_are
+
+  pub row_stretch : (k : ℕ) → k < length rows → (row_at rows k).stretch ≡ stretch_at jobs k
+  row_stretch k within =
+      sym (get_or-map (λ (row : Row). row.stretch) rows k no_row no_stretch within) ∙ ap (λ (pieces : List Piece). get_or pieces k no_stretch) are.stretches_are
+
+  pub rows_order : PiecesFrom 0 (stretches_of rows)
+  rows_order = rw (are.stretches_are) (stretches_run jobs)
+
+  -- the shares of a row are those of its stretch
+  row_own : (k : ℕ) → k < length rows → All (λ share. share.stretch ≡ k) (row_at rows k).shares
+  row_own k within = subst (λ (own : List JobShare). All (λ share. share.stretch ≡ k) own) (are.numbered k within)
+      (λ i d there. sym (eqb-true k _ (filter_passes (λ (share : JobShare). k == share.stretch) (shares_of rows) i d there)))
+
+  rows_beside : AllZip (IsForOwn jobs grid) (shares_of rows) (slots_of rows)
+  rows_beside = rows_for (IsForOwn jobs grid) grid rows are.filled are.grains (λ k within zipped.
+      AllZip-weaker (IsFor (row_at rows k).stretch grid) (IsForOwn jobs grid) (λ share. share.stretch ≡ k)
+      (λ share slot at is. subst (λ (piece : Piece). IsFor piece grid share slot) (row_stretch k within ∙ ap (stretch_at jobs) (sym at)) is)
+      (row_at rows k).shares (row_slots (row_at rows k)) (row_own k within) zipped)
+
+module _ (jobs : List Job) (grid : ℕ) (shares : List JobShare) (slots : List WrittenSlot) (laid : IsLaidOut jobs grid shares slots) where
+  beside : AllZip (IsForOwn jobs grid) shares slots
+  beside = rw (laid.shares_are, laid.slots_are) (rows_beside jobs grid laid.rows laid.are)
+
+  -- the slots run one after another
+  pub one_at_a_time : (scale : ℕ) → IsScale scale slots → RunFrom 0 (slots_at scale slots)
+  one_at_a_time scale is =
+      let start : 0 * scale ≡ 0 = omega arith in
+      let there : IsScale scale (slots_of laid.rows) = subst (IsScale scale) laid.slots_are is in
+      rw (laid.slots_are) (subst (λ (n : ℕ). RunFrom n (slots_at scale (slots_of laid.rows))) start
+      (rows_run scale is.positive 0 laid.rows (rows_order jobs grid laid.rows laid.are) laid.are.filled there.divided))
+
+  -- denominators are at least 1
+  pub laid_solid : All IsSolid slots
+  laid_solid = rw (laid.slots_are) (rows_solid laid.rows laid.are.filled)
+
 module _ (jobs : List Job) (grid : ℕ) (units : (ℕ → ℕ) → Piece → ℕ) (shares : List JobShare) (slots : List WrittenSlot)
     (served : IsServed jobs grid units shares) (laid : IsLaidOut jobs grid shares slots) where
   pub all_shares : All (IsShare jobs) shares
@@ -95,8 +142,8 @@ module _ (jobs : List Job) (grid : ℕ) (units : (ℕ → ℕ) → Piece → ℕ
 
   module _ (scale : ℕ) (is : IsScale scale slots) where
     pub all_stand : AllZip (Stands jobs grid scale) shares (slots_at scale slots)
-    all_stand = zip_stands jobs grid scale is.positive shares slots laid.beside all_shares is.divided
-        (run_forward 0 (slots_at scale slots) (laid.one_at_a_time scale is))
+    all_stand = zip_stands jobs grid scale is.positive shares slots (beside jobs grid shares slots laid) all_shares is.divided
+        (run_forward 0 (slots_at scale slots) (one_at_a_time jobs grid shares slots laid scale is))
 
     pub length_whole : length (slots_at scale slots) ≡ length shares
     length_whole = length_zipped (Stands jobs grid scale) shares (slots_at scale slots) all_stand
@@ -165,57 +212,6 @@ ended_by jobs grid scale k within share slot stands = elim (cases_lt share.stret
       ∙ sym (le-ltb share.stretch k later)
 ]
 
--- which slots lie in a stretch
-lies_within : (jobs : List Job) (grid scale k : ℕ) → k < length (stretches jobs) → (share : JobShare) (slot : WholeSlot) → Stands jobs grid scale share slot →
-    (nat_le ((stretch_at jobs k).from * scale) slot.from && nat_le slot.to ((stretch_at jobs k).to * scale)) ≡ (k == share.stretch)
-lies_within jobs grid scale k within share slot stands = elim (cases_order k share.stretch) [
-  | inl same ↦
-      let at = ap (λ i. (stretch_at jobs i).from * scale) same in
-      let upto = ap (λ i. (stretch_at jobs i).to * scale) same in
-      rw (
-        le-leb ((stretch_at jobs k).from * scale) slot.from (omega (arith, stands.from, at)),
-        le-leb slot.to ((stretch_at jobs k).to * scale) (omega (arith, stands.to, upto)),
-        eq-eqb k share.stretch same,
-      ) refl
-  | inr (inl later) ↦
-      let before = mul-le-mul_right scale (stretch_order jobs k share.stretch later stands.share_is.within) in
-      rw (
-        lt-leb slot.to ((stretch_at jobs k).to * scale) (omega (arith, before, stands.from, stands.forward)),
-        ne_eqb k share.stretch (omega arith),
-      ) (elim (cases_Bool (nat_le ((stretch_at jobs k).from * scale) slot.from)) [ inl begins ↦ rw begins refl | inr early ↦ rw early refl ])
-  | inr (inr earlier) ↦
-      let before = mul-le-mul_right scale (stretch_order jobs share.stretch k earlier within) in
-      rw (
-        lt-leb ((stretch_at jobs k).from * scale) slot.from (omega (arith, before, stands.to, stands.forward)),
-        ne_eqb k share.stretch (omega arith),
-      ) refl
-]
-
--- the slots that lie in a stretch are those beside its shares
-lies_beside : (jobs : List Job) (grid scale k : ℕ) → k < length (stretches jobs) → (shares : List JobShare) (slots : List WrittenSlot) →
-    AllZip (Stands jobs grid scale) shares (slots_at scale slots) →
-    slots_in scale (stretch_at jobs k) (slots_at scale slots) ≡ slots_at scale (slots_beside k shares slots)
-lies_beside jobs grid scale k within [] [] stand = refl
-lies_beside jobs grid scale k within [] (slot ∷ slots) stand = absurd stand
-lies_beside jobs grid scale k within (share ∷ shares) [] stand = absurd stand
-lies_beside jobs grid scale k within (share ∷ shares) (slot ∷ slots) stand =
-    let rest = lies_beside jobs grid scale k within shares slots stand.1 in
-    rw (lies_within jobs grid scale k within share (slot_at_scale scale slot) stand.0) (elim (cases_eq k share.stretch) [
-      | inl same ↦ rw (eq-eqb k share.stretch same) (ap (λ xs. slot_at_scale scale slot ∷ xs) rest)
-      | inr other ↦ rw (ne_eqb k share.stretch other) rest
-    ])
-
--- no slots stand beside the shares of a stretch that has none
-pub none_beside : (k : ℕ) (shares : List JobShare) (slots : List WrittenSlot) → shares_in shares k ≡ [] → slots_beside k shares slots ≡ []
-none_beside k [] slots none = refl
-none_beside k (share ∷ shares) [] none = refl
-none_beside k (share ∷ shares) (slot ∷ slots) none = elim (cases_eq k share.stretch) [
-  | inl same ↦ absurd (cons_is_none share (shares_in shares k) (rw (eq-eqb k share.stretch same) at none))
-  | inr other ↦ rw (ne_eqb k share.stretch other) (none_beside k shares slots (rw (ne_eqb k share.stretch other) at none))
-] where
-  cons_is_none : (one : JobShare) (rest : List JobShare) → one ∷ rest ≡ [] → ⊥
-  cons_is_none one rest h = let no : length (one ∷ rest) ≡ 0 = ap (λ (xs : List JobShare). length xs) h in omega (arith, no)
-
 module _ (jobs : List Job) (grid : ℕ) (units : (ℕ → ℕ) → Piece → ℕ) (shares : List JobShare) (slots : List WrittenSlot)
     (served : IsServed jobs grid units shares) (laid : IsLaidOut jobs grid shares slots) (scale : ℕ) (is : IsScale scale slots) where
   -- the work that the slots that have ended by the start of a stretch have given a job, in units
@@ -225,10 +221,6 @@ module _ (jobs : List Job) (grid : ℕ) (units : (ℕ → ℕ) → Piece → ℕ
   work_before k job within =
       filtered_work jobs grid scale (λ slot. nat_le slot.to ((stretch_at jobs k).from * scale)) (λ share. nat_lt share.stretch k)
       (ended_by jobs grid scale k within) shares (slots_at scale slots) (all_stand jobs grid units shares slots served laid scale is) job
-
-  pub slots_there : (k : ℕ) → k < length (stretches jobs) →
-      slots_in scale (stretch_at jobs k) (slots_at scale slots) ≡ slots_at scale (slots_beside k shares slots)
-  slots_there k within = lies_beside jobs grid scale k within shares slots (all_stand jobs grid units shares slots served laid scale is)
 
   -- and that of all the slots
   pub all_work : (job : ℕ) → grid * work_given (slots_at scale slots) job ≡ scale * units_given shares job

@@ -9,7 +9,7 @@ use Rattle.yds_edf.specs.declared.entry.Entry.{Entry}
 use Rattle.yds_edf.specs.declared.limits.TheConstants.{MAX_GRAIN}
 use Rattle.yds_edf.specs.Entries.{comes_first, entries_of}
 use Rattle.yds_edf.specs.Pending.{sum_below, units_wanted, has_arrived}
-use Rattle.yds_edf.specs.Shares.{JobShare}
+use Rattle.yds_timetable.specs.Shares.{JobShare}
 use Rattle.yds_edf.specs.Serving.{IsDueBefore, IsServing}
 use Rattle.yds_edf.specs.Queue.{JobQueue, pending_in, units_left, unfinished, Adds}
 

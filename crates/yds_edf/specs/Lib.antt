@@ -1,4 +1,3 @@
-pub mod Shares
 pub mod Pending
 pub mod Serving
 pub mod Demand

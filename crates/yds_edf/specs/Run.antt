@@ -1,22 +1,21 @@
 -- What a run of a policy on a grid is, of which only that is left open how many units a stretch serves and where it is
--- rounded: stretch by stretch shares are served earliest deadline first, and laid as slots that fill the stretch at one speed.
-use Rattle.std.specs.Prelude.{◌≡◌, ℕ, ◌+◌, ◌<◌, ◌≤◌, ◌⊎◌, Bool, ◌==◌, if◌then◌else◌, List, [], ◌∷◌, length, All, AllPairs}
-use Rattle.std.specs.List.{AllZip}
+-- rounded: stretch by stretch shares are served earliest deadline first, and fill the stretch at one pace.
+use Rattle.std.specs.Prelude.{◌≡◌, ℕ, ◌+◌, ◌/◌, ◌<◌, ◌≤◌, ◌⊎◌, Bool, Option, Some, None, if◌then◌else◌, List, [], ◌∷◌, ◌++◌, length, All, AllPairs}
 use Rattle.yds_model.specs.Numbers.{Each}
 use Rattle.yds_model.specs.Job.{Job}
-use Rattle.yds_model.specs.Scale.{of_parts}
-use Rattle.yds_model.specs.Slot.{WrittenSlot, IsDivided, IsScale, slot_at_scale, slots_at}
+use Rattle.yds_model.specs.Slot.{WrittenSlot}
 use Rattle.yds_model.specs.Piece.{Piece}
-use Rattle.yds_model.specs.Feasible.{RunFrom}
-use Rattle.yds_model.specs.Event.{stretches, LiesIn}
+use Rattle.yds_model.specs.Divisor.{common_divisor}
+use Rattle.yds_model.specs.Event.{stretches}
 use Rattle.yds_model.specs.Policy.{HasRunDenominators}
 use Rattle.yds_model.specs.Comparison.{stretch_at}
-use Rattle.yds_edf.specs.Shares.{JobShare, total_units, shares_in}
+use Rattle.yds_events.specs.Stretch.{length_of}
+use Rattle.yds_timetable.specs.declared.pace.Pace.{Pace}
+use Rattle.yds_timetable.specs.Shares.{JobShare, total_units, shares_in}
+use Rattle.yds_timetable.specs.Timetable.{Row, row_at, stretches_of, shares_of, slots_of, IsFilledAt, IsRow, HasGrain}
 use Rattle.yds_edf.specs.Pending.{sum_below}
 use Rattle.yds_edf.specs.Serving.{IsDueBefore, IsServing}
-use Rattle.yds_edf.specs.Queue.{JobQueue, Serves}
 use Rattle.yds_edf.specs.Filled.{pending_at_start}
-use Rattle.yds_edf.specs.Laid.{IsLaid}
 
 -- jobs in order of their numbers
 abbrev pub by_number : ℕ → ℕ
@@ -39,25 +38,25 @@ pub record IsServed (jobs : List Job) (grid : ℕ) (units : (ℕ → ℕ) → Pi
       IsServing jobs by_number (pending_before jobs grid shares i) (units (pending_before jobs grid shares i) (stretch_at jobs i)) (shares_in shares i))
   pub few : length shares ≤ length jobs + length (stretches jobs)
 
--- the slot gives the share's units to its job, within the share's stretch
-pub record IsBeside (jobs : List Job) (grid : ℕ) (share : JobShare) (slot : WrittenSlot) : Type 0 where
-  pub job : slot.job ≡ share.job
-  pub work : slot.work ≡ of_parts share.units grid
-  pub lies_in : (scale : ℕ) → 1 ≤ scale → IsDivided scale slot → LiesIn scale (slot_at_scale scale slot) (stretch_at jobs share.stretch)
+-- units and time of a pace are in lowest terms
+abbrev pub IsLowest : Option Pace → Piece → List JobShare → Type 0
+IsLowest None stretch shares = Unit {0}
+IsLowest (Some pace) stretch shares = pace.units ≡ total_units shares / common_divisor (total_units shares) (length_of stretch)
 
--- the slots beside the shares of a stretch
-abbrev pub slots_beside : ℕ → List JobShare → List WrittenSlot → List WrittenSlot
-slots_beside i [] slots = []
-slots_beside i (share ∷ shares) [] = []
-slots_beside i (share ∷ shares) (slot ∷ slots) =
-    if i == share.stretch then slot ∷ slots_beside i shares slots else slots_beside i shares slots
+-- The timetable has the jobs' stretches, each filled by its shares at a pace on the grid in lowest terms, or idle.
+pub record AreRowsOf (jobs : List Job) (grid : ℕ) (rows : List Row) : Type 0 where
+  pub stretches_are : stretches_of rows ≡ stretches jobs
+  pub filled : All IsRow rows
+  pub grains : All (λ row. HasGrain grid row.pace) rows
+  pub lowest : All (λ row. IsLowest row.pace row.stretch row.shares) rows
+  pub numbered : Each (length rows) (λ k. shares_in (shares_of rows) k ≡ (row_at rows k).shares)
 
--- One slot stands beside each share. They run one after another, and those of a stretch fill it at one speed.
+-- The shares are those of a timetable of the jobs' stretches, and the slots are its slots.
 pub record IsLaidOut (jobs : List Job) (grid : ℕ) (shares : List JobShare) (slots : List WrittenSlot) : Type 0 where
-  pub beside : AllZip (IsBeside jobs grid) shares slots
-  pub one_at_a_time : (scale : ℕ) → IsScale scale slots → RunFrom 0 (slots_at scale slots)
-  pub full : Each (length (stretches jobs)) (λ i. 1 ≤ total_units (shares_in shares i) →
-      IsLaid (stretch_at jobs i) (total_units (shares_in shares i)) grid (shares_in shares i) (slots_beside i shares slots))
+  pub rows : List Row
+  pub are : AreRowsOf jobs grid rows
+  pub shares_are : shares ≡ shares_of rows
+  pub slots_are : slots ≡ slots_of rows
   pub denominators : All (HasRunDenominators jobs grid) slots
 
 -- A run of the policy that sets these units and rounds at these stretches, with its count of the stretches that are rounded.
@@ -69,9 +68,10 @@ pub record IsPolicyRun (jobs : List Job) (grid : ℕ) (units : (ℕ → ℕ) →
   pub count : rounded ≡ sum_below (length (stretches jobs)) (λ i.
       if rounds (pending_before jobs grid shares i) (stretch_at jobs i) then 1 else 0)
 
--- a stretch is served, and what it serves is laid as slots that fill it
-pub record ServesStretch (old new : JobQueue) (number : ℕ) (stretch : Piece) (units : ℕ) (slots : List WrittenSlot) : Type 0 where
-  pub shares : List JobShare
-  pub serves : Serves old new number units shares
-  pub nothing : total_units shares ≡ 0 → slots ≡ []
-  pub laid : 1 ≤ total_units shares → IsLaid stretch (total_units shares) old.grain shares slots
+-- the stretch is put last, with these shares
+pub record PutsRow (grain : ℕ) (stretch : Piece) (shares : List JobShare) (old new : List Row) : Type 0 where
+  pub pace : Option Pace
+  pub filled : IsFilledAt pace stretch shares
+  pub grain_is : HasGrain grain pace
+  pub lowest : IsLowest pace stretch shares
+  pub after : new ≡ old ++ record { stretch = stretch; pace = pace; shares = shares } ∷ []

@@ -1,7 +1,7 @@
 -- What it means that a stretch's capacity is served earliest deadline first, where jobs have so many units pending.
 use Rattle.std.specs.Prelude.{◌≡◌, ℕ, ◌<◌, ◌≤◌, ◌⊎◌, min, List, length, slice_index, All, AllPairs}
 use Rattle.yds_model.specs.Job.{Job, job_at}
-use Rattle.yds_edf.specs.Shares.{JobShare, units_given, total_units}
+use Rattle.yds_timetable.specs.Shares.{JobShare, units_given, total_units}
 use Rattle.yds_edf.specs.Pending.{sum_below}
 
 -- the first job has the earlier deadline, or they have the same and it has the lesser tie

@@ -22,13 +22,13 @@ ghost use Rattle.yds_edf.specs.Queue.{new_queue, IsNoEarlier, all_pending, pendi
 
 use crate::entry::Entry;
 use crate::limits::MAX_GRAIN;
-use crate::share::Share;
 use std::alloc::Global;
 use std::cmp::Reverse;
 use std::collections::BinaryHeap;
 use std::marker::Model;
 use yds_model::limits::{MAX_JOBS, MAX_WORK};
 use yds_model::{JobRow, Memory};
+use yds_timetable::Share;
 
 /// Serves jobs earliest deadline first, jobs of the same deadline in order of their ties.
 ///

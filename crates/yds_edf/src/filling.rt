@@ -6,11 +6,11 @@ ghost use Rattle.yds_edf.specs.Filled.{IsFilled};
 
 use crate::engine::Engine;
 use crate::limits::{MAX_GRAIN, MAX_STRETCHES};
-use crate::share::Share;
 use std::alloc::Global;
 use yds_events::Stretch;
 use yds_model::limits::{MAX_JOBS, MAX_WORK};
 use yds_model::{JobRow, Memory};
+use yds_timetable::Share;
 
 /// Fills stretches of given capacities earliest deadline first, jobs of the same deadline in order of
 /// their ties. Each job has `work * grain` units.

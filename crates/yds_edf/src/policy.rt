@@ -4,8 +4,8 @@ ghost use Rattle.yds_model.specs.Comparison.{stretch_at};
 ghost use Rattle.yds_edf.specs.Queue.{pending_in, IsTold};
 
 use crate::queue::Queue;
-use crate::share::Share;
 use yds_events::Stretch;
+use yds_timetable::Share;
 
 /// What a policy sets for a stretch.
 #[derive(Clone, Copy, Debug, PartialEq, Eq)]

@@ -5,11 +5,11 @@ ghost use Rattle.yds_edf.specs.Queue.{new_queue, IsNoEarlier, all_pending, pendi
 
 use crate::engine::Engine;
 use crate::limits::MAX_GRAIN;
-use crate::share::Share;
 use std::alloc::{AllocError, Global};
 use std::marker::Model;
 use yds_model::limits::{MAX_JOBS, MAX_WORK};
 use yds_model::{JobRow, Memory};
+use yds_timetable::Share;
 
 /// Jobs that arrive in the course of time and are served earliest deadline first, those of the same
 /// deadline in order of their numbers.

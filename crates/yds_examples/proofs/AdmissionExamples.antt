@@ -1,7 +1,7 @@
 -- The definitions of admission, tried on the worked rows of `admit`, on intervals that are and aren't the first to be overfull, and on
 -- answers that take or refuse the wrong job.
 use Rattle.std.proofs.Common.{◌≡◌, ℕ, ◌*◌, ◌-◌, List, [], ◌∷◌, map, refl, arith, inl, inr}
-use Rattle.std.specs.Prelude.{codes, None}
+use Rattle.std.specs.Prelude.{codes}
 use Rattle.std.specs.Fmt.{digits}
 use Rattle.std.specs.List.{Contains}
 use Rattle.std.proofs.Math.Nat.{one-dvd}
@@ -13,7 +13,7 @@ use Rattle.yds_model.specs.Slot.{WrittenSlot, WholeSlot, IsScale, slots_at}
 use Rattle.yds_model.specs.Piece.{Piece}
 use Rattle.yds_model.specs.Event.{stretches, LiesWritten}
 use Rattle.yds_model.specs.Audit.{HasSpeed}
-use Rattle.yds_model.specs.Document.{Document}
+use Rattle.yds_model.specs.Document.{Document, no_document}
 use Rattle.yds_model.specs.Within.{IsTextOf}
 use Rattle.yds_model.specs.Policy.{IsRunAt, HasRunDenominators}
 use Rattle.yds_model.specs.Admission.{CanServe, jobs_with, IsOverfull, IsFirstOverfull, Refusal, IsRefusal, AdmitsAfter, IsAdmission, top_capacity, IsAdmittedRun}
@@ -212,7 +212,7 @@ other_top is =
 
 -- the document of the three jobs
 abbrev document : Document
-document = record { names = codes "a" ∷ codes "b" ∷ codes "c" ∷ []; jobs = jobs; points = []; slots = []; levels = []; grid = None; energy = None }
+document = record no_document { names = codes "a" ∷ codes "b" ∷ codes "c" ∷ []; jobs = jobs }
 
 -- The text of the admitted jobs and their slots: it is read as that document.
 abbrev written : List ℕ

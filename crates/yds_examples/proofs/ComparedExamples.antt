@@ -1,5 +1,5 @@
 -- What the answer of `compare` is worth, tried on its worked row, and on a text that tells Average Rate less energy than the plan.
-use Rattle.std.proofs.Common.{◌≡◌, ◌≢◌, ℕ, zero, suc, ◌+◌, ◌*◌, ◌/◌, ◌%◌, ◌≤◌, ◌==◌, Bool, true, false, List, [], ◌∷◌, ◌++◌, length, get_or, drop, decimal, refl, sym, ap, subst, ◌∙◌, arith, append_assoc, inl, inr, Ok, None, eqb-true}
+use Rattle.std.proofs.Common.{◌≡◌, ◌≢◌, ℕ, zero, suc, ◌+◌, ◌*◌, ◌/◌, ◌%◌, ◌≤◌, ◌==◌, Bool, true, false, List, [], ◌∷◌, ◌++◌, length, get_or, drop, decimal, refl, sym, ap, subst, ◌∙◌, arith, append_assoc, inl, inr, Ok, eqb-true}
 use Rattle.std.specs.Prelude.{codes, if◌then◌else◌}
 use Rattle.std.specs.Fmt.{digits, digits_onto, digit_glyph}
 use Rattle.std.specs.List.{All, zip, flat_map}
@@ -12,7 +12,7 @@ use Rattle.yds_model.specs.Scale.{Fraction, numerator}
 use Rattle.yds_model.specs.Table.{Point}
 use Rattle.yds_model.specs.CompareAnswer.{spent_lines, side_lines, rounded_line}
 use Rattle.yds_model.specs.Text.{line, fraction_text}
-use Rattle.yds_model.specs.Document.{Document}
+use Rattle.yds_model.specs.Document.{Document, no_document}
 use Rattle.yds_model.specs.Reading.{reading}
 use Rattle.yds_model.specs.Comparison.{Spent, Side, Spends, TooSlowFor}
 use Rattle.yds_texts.specs.CompareText.{CostsNoLess, IsToldSide, HoldsComparison}
@@ -156,14 +156,10 @@ in_turn a b c d e = simp append_assoc
 
 -- the document of the worked row
 abbrev document : Document
-document = record {
+document = record no_document {
   names = codes "a" ∷ codes "b" ∷ [];
   jobs = record { release = 0; deadline = 3; work = 2 } ∷ record { release = 1; deadline = 2; work = 1 } ∷ [];
   points = record { speed = 0; power = 0 } ∷ record { speed = 1; power = 1 } ∷ record { speed = 2; power = 3 } ∷ [];
-  slots = [];
-  levels = [];
-  grid = None;
-  energy = None;
 }
 
 its_document : reading input ≡ Ok document

@@ -1,6 +1,6 @@
 -- What the answers of `audit` are worth, tried on a job from 0 to 4 of work 2 and a slot, with points and without. What those of `check`
 -- are worth is tried on the plan of three jobs.
-use Rattle.std.proofs.Common.{◌≡◌, ℕ, List, Some, [], ◌∷◌, None, Ok, refl, subst}
+use Rattle.std.proofs.Common.{◌≡◌, ℕ, List, Some, [], ◌∷◌, Ok, refl, subst}
 use Rattle.std.specs.Prelude.{codes}
 use Rattle.yds_model.specs.declared.status.Status.{Status}
 use Rattle.yds_model.specs.declared.status.Status.TheVariants.{Done, No}
@@ -8,7 +8,7 @@ use Rattle.yds_model.specs.Job.{Job}
 use Rattle.yds_model.specs.Scale.{of_whole}
 use Rattle.yds_model.specs.Slot.{WrittenSlot}
 use Rattle.yds_model.specs.Table.{Point}
-use Rattle.yds_model.specs.Document.{Document}
+use Rattle.yds_model.specs.Document.{Document, no_document}
 use Rattle.yds_model.specs.Reading.{reading}
 use Rattle.yds_texts.specs.JudgedText.{TellsWhether, IsServed, IsServedOnPoints, HoldsVerdict, HoldsVerdictOnPoints}
 use Rattle.yds_texts.proofs.JudgedText.{tells_yes, tells_no}
@@ -46,7 +46,7 @@ slot from to work = record { job = 0; from = of_whole from; to = of_whole to; wo
 
 -- the job with points and a slot
 abbrev document : List Point → WrittenSlot → Document
-document points one = record { names = codes "a" ∷ []; jobs = job; points = points; slots = one ∷ []; levels = []; grid = None; energy = None }
+document points one = record no_document { names = codes "a" ∷ []; jobs = job; points = points; slots = one ∷ [] }
 
 -- from 1 to 3 it gets its work,
 abbrev served_input : List ℕ

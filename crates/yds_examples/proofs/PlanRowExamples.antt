@@ -1,10 +1,10 @@
 -- The answer of `plan` to the document of three nested jobs, as a fact of the one relation; what follows of it; and a text that is none.
 use Rattle.std.proofs.Common.{◌≡◌, ℕ, List, [], ◌∷◌, length, Ok, refl, sym, ap, subst, arith, inl}
-use Rattle.std.specs.Prelude.{codes, None}
+use Rattle.std.specs.Prelude.{codes}
 use Rattle.std.specs.Fmt.{digits}
 use Rattle.yds_model.specs.declared.status.Status.{Status}
 use Rattle.yds_model.specs.declared.status.Status.TheVariants.{Done, No}
-use Rattle.yds_model.specs.Document.{Document}
+use Rattle.yds_model.specs.Document.{Document, no_document}
 use Rattle.yds_model.specs.Job.{Job}
 use Rattle.yds_model.specs.Proper.{IsProper}
 use Rattle.yds_model.specs.Plan.{IsPlan}
@@ -27,7 +27,7 @@ input = codes "job a 0 12 4\njob b 2 10 8\njob c 4 6 6\n"
 
 -- the document without slots
 abbrev document : Document
-document = record { names = codes "a" ∷ codes "b" ∷ codes "c" ∷ []; jobs = jobs; points = []; slots = []; levels = []; grid = None; energy = None }
+document = record no_document { names = codes "a" ∷ codes "b" ∷ codes "c" ∷ []; jobs = jobs }
 
 -- the text is read as it
 its_document : reading input ≡ Ok document

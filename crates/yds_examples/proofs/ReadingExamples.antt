@@ -1,10 +1,11 @@
 -- The definitions of reading and printing, tried on documents whose answer is known.
 use Rattle.std.proofs.Common.{◌≡◌, [], ◌∷◌, refl}
-use Rattle.std.specs.Prelude.{codes, Ok, Err, None}
+use Rattle.std.specs.Prelude.{codes, Ok, Err}
 use Rattle.yds_model.specs.declared.reason.Reason.TheVariants.{FieldCount, BadNumber, MixedEnds, DuplicateName, MixedGrain, GapsTooFine, OutOfRange}
 use Rattle.yds_model.specs.Reading.{reading}
 use Rattle.yds_model.specs.Text.{canonical_text}
 use Rattle.std.specs.Fmt.{digits}
+use Rattle.yds_model.specs.Document.{no_document}
 
 -- a field is missing: the fault stands one past the last byte of the last field
 field_missing : reading (codes "job a 0 4") ≡ Err (record { line = 1; column = 10; reason = FieldCount })
@@ -35,26 +36,18 @@ run_out : reading (codes "job a 0 1000000000 1\nticks 1\nrun a 0 1000001 1000000
 run_out = refl
 
 -- comments, blanks and the order of lines don't matter
-again : reading (codes "# x\n job a\t0 4 8\nlevel 8 4\nmember a\npiece 0 4") ≡ Ok (record {
+again : reading (codes "# x\n job a\t0 4 8\nlevel 8 4\nmember a\npiece 0 4") ≡ Ok (record no_document {
   names = codes "a" ∷ [];
   jobs = record { release = 0; deadline = 4; work = 8 } ∷ [];
-  points = [];
-  slots = [];
   levels = record { work = 8; length = 4; pieces = record { from = 0; to = 4 } ∷ []; members = 0 ∷ [] } ∷ [];
-  grid = None;
-  energy = None;
 })
 again = refl
 
 -- the canonical text of what was read
-printed : canonical_text (record {
+printed : canonical_text (record no_document {
   names = codes "a" ∷ [];
   jobs = record { release = 0; deadline = 4; work = 8 } ∷ [];
-  points = [];
-  slots = [];
   levels = record { work = 8; length = 4; pieces = record { from = 0; to = 4 } ∷ []; members = 0 ∷ [] } ∷ [];
-  grid = None;
-  energy = None;
 }) ≡ codes "job a 0 4 8\nlevel 8 4\npiece 0 4\nmember a\n"
 unfolding digits
 printed = refl

@@ -1,5 +1,5 @@
 -- The laws of rounding at the two nested jobs: what they say of the rounded plan and of the answer of `round`, and what they rule out.
-use Rattle.std.proofs.Common.{◌≡◌, ℕ, List, [], ◌∷◌, None, Ok, refl, ap, subst, ◌∙◌, arith, inl, inr}
+use Rattle.std.proofs.Common.{◌≡◌, ℕ, List, [], ◌∷◌, Ok, refl, ap, subst, ◌∙◌, arith, inl, inr}
 use Rattle.std.specs.Prelude.{codes, MatchOption}
 use Rattle.std.specs.Fmt.{digits}
 use Rattle.std.proofs.Math.Nat.{one-dvd}
@@ -11,7 +11,7 @@ use Rattle.yds_model.specs.Plan.{IsPlan}
 use Rattle.yds_model.specs.Table.{Point, IsTable, hull_of}
 use Rattle.yds_model.specs.Rounding.{top_of, IsEnergyOf}
 use Rattle.yds_model.specs.Admission.{CanServe}
-use Rattle.yds_model.specs.Document.{Document}
+use Rattle.yds_model.specs.Document.{Document, no_document}
 use Rattle.yds_model.specs.Text.{canonical_text}
 use Rattle.yds_model.specs.Reading.{reading}
 use Rattle.yds_model.specs.Within.{IsDocument}
@@ -94,7 +94,7 @@ input = codes "job a 0 10 10\njob b 4 6 6\npoint 0 0\npoint 1 1\npoint 2 3\npoin
 
 -- the document without slots
 abbrev document : Document
-document = record { names = codes "a" ∷ codes "b" ∷ []; jobs = jobs; points = points; slots = []; levels = []; grid = None; energy = None }
+document = record no_document { names = codes "a" ∷ codes "b" ∷ []; jobs = jobs; points = points }
 
 -- the same with the rounded slots
 abbrev text : List ℕ
@@ -157,7 +157,7 @@ abbrev slow_input : List ℕ
 slow_input = codes "job a 0 10 10\njob b 4 6 6\npoint 0 0\npoint 1 1\npoint 2 3\n"
 
 abbrev slow_document : Document
-slow_document = record { names = codes "a" ∷ codes "b" ∷ []; jobs = jobs; points = slow; slots = []; levels = []; grid = None; energy = None }
+slow_document = record no_document { names = codes "a" ∷ codes "b" ∷ []; jobs = jobs; points = slow }
 
 slow_read : reading slow_input ≡ Ok slow_document
 slow_read = refl
@@ -203,7 +203,7 @@ abbrev light_input : List ℕ
 light_input = codes "job a 0 3 2\njob b 1 2 1\npoint 0 0\npoint 1 1\npoint 2 3\n"
 
 abbrev light_document : Document
-light_document = record { names = codes "a" ∷ codes "b" ∷ []; jobs = light_jobs; points = slow; slots = []; levels = []; grid = None; energy = None }
+light_document = record no_document { names = codes "a" ∷ codes "b" ∷ []; jobs = light_jobs; points = slow }
 
 light_read : reading light_input ≡ Ok light_document
 light_read = refl

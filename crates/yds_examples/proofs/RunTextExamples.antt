@@ -1,5 +1,5 @@
 -- What the texts of `avr` and `oa` are worth, tried on runs that never round, and on one that does and says that it doesn't.
-use Rattle.std.proofs.Common.{◌≡◌, ℕ, zero, suc, ◌-◌, ◌*◌, ◌≤◌, List, [], ◌∷◌, length, None, Ok, refl, sym, subst, arith, inl, inr}
+use Rattle.std.proofs.Common.{◌≡◌, ℕ, zero, suc, ◌-◌, ◌*◌, ◌≤◌, List, [], ◌∷◌, length, Ok, refl, sym, subst, arith, inl, inr}
 use Rattle.std.specs.Prelude.{codes, MatchOption}
 use Rattle.std.specs.List.{Any}
 use Rattle.std.specs.Fmt.{digits}
@@ -9,7 +9,7 @@ use Rattle.yds_model.specs.Slot.{WrittenSlot, slots_at}
 use Rattle.yds_model.specs.Feasible.{IsFeasible}
 use Rattle.yds_model.specs.Text.{canonical_text}
 use Rattle.yds_model.specs.Piece.{Piece}
-use Rattle.yds_model.specs.Document.{Document}
+use Rattle.yds_model.specs.Document.{Document, no_document}
 use Rattle.yds_model.specs.Reading.{reading}
 use Rattle.yds_model.specs.AverageRate.{IsAverageRateRun}
 use Rattle.yds_model.specs.OptimalAvailable.{due_units, IsOptimalAvailableRun}
@@ -34,7 +34,7 @@ abbrev rate_input : List ℕ
 rate_input = codes "job a 0 3 2\njob b 1 3 2\n"
 
 abbrev rate_document : Document
-rate_document = record { names = codes "a" ∷ codes "b" ∷ []; jobs = rate_jobs; points = []; slots = []; levels = []; grid = None; energy = None }
+rate_document = record no_document { names = codes "a" ∷ codes "b" ∷ []; jobs = rate_jobs }
 
 -- their run on the grid 3 rounds nowhere
 abbrev whole_text : List ℕ
@@ -82,7 +82,7 @@ abbrev available_input : List ℕ
 available_input = codes "job a 0 3 2\njob b 1 2 1\n"
 
 abbrev available_document : Document
-available_document = record { names = codes "a" ∷ codes "b" ∷ []; jobs = available_jobs; points = []; slots = []; levels = []; grid = None; energy = None }
+available_document = record no_document { names = codes "a" ∷ codes "b" ∷ []; jobs = available_jobs }
 
 -- their run on the grid 6 rounds nowhere
 abbrev fine_text : List ℕ

@@ -44,17 +44,6 @@ part_few [] (low ∷ hull) part = absurd part
 part_few (point ∷ points) [] part = absurd part
 part_few (point ∷ points) (low ∷ hull) part = omega (arith, goes_few low points hull part.1)
 
-pub part_some : (points hull : List Point) → 1 ≤ length points → IsPartOf points hull → 1 ≤ length hull
-part_some [] hull some part = absurd (omega arith)
-part_some (point ∷ points) [] some part = absurd part
-part_some (point ∷ points) (low ∷ hull) some part = omega arith
-
-pub part_first : (points hull : List Point) → IsPartOf points hull → point_at hull 0 ≡ point_at points 0
-part_first [] [] part = refl
-part_first [] (low ∷ hull) part = absurd part
-part_first (point ∷ points) [] part = absurd part
-part_first (point ∷ points) (low ∷ hull) part = sym part.0
-
 goes_last : (low : Point) (points hull : List Point) → GoesOn low points hull →
     point_at (low ∷ hull) (length hull) ≡ point_at (low ∷ points) (length points)
 goes_last low [] [] goes = refl

@@ -206,6 +206,8 @@ mod tests {
     #[test]
     fn names_are_numbered_in_order(rt: HostRuntime) -> Result<(), Fail> {
         let [first, second] = [JobRow::new(0, 10, 10), JobRow::new(4, 6, 0)];
+        assert!(rt; JobRow::fits(4, 6, 0));
+        assert!(rt; !JobRow::fits(6, 6, 0));
         let mut instance = Instance::new(rt.alloc(), RandomState::new(&rt)?);
         assert_eq!(rt; instance.add("a", first)?, 0);
         assert_eq!(rt; instance.add("b", second)?, 1);

@@ -1,22 +1,18 @@
 -- What the lines of tasks said together, as one more line says something.
-use Rattle.std.proofs.Common.{◌≡◌, ℕ, List, [], ◌∷◌, ◌++◌, Some, None, refl, ap, ◌∙◌}
+use Rattle.std.proofs.Common.{◌≡◌, ℕ, List, [], ◌∷◌, ◌++◌, Some, None, ap, ◌∙◌}
 use Rattle.std.specs.List.{filter_map}
 use Rattle.std.proofs.lemmas.List.{append-nil}
 use Rattle.std.proofs.lemmas.List.Elements.{filter_map-append}
 use Rattle.yds_model.specs.Entry.{first_of_them}
 use Rattle.yds_model.specs.Tasks.{Task, TaskSet}
+use Rattle.yds_model.proofs.Said.{none_first}
 use Rattle.yds_model.specs.TaskReading.{TaskEntry, HorizonEntry, TaskEntryOf, horizon_said, task_said, tasks_said}
-
--- where none is said first, none is said
-none_said : {A : Type 0} (xs : List A) → first_of_them xs ≡ None → xs ≡ []
-none_said [] none = refl
-none_said (x ∷ xs) none = cc
 
 -- the first line of a horizon
 pub horizon_more : (earlier : List TaskEntry) (set : TaskSet) (horizon : ℕ) → tasks_said earlier ≡ set → set.horizon ≡ None →
     tasks_said (earlier ++ HorizonEntry horizon ∷ []) ≡ record { horizon = Some horizon; tasks = set.tasks }
 horizon_more earlier set horizon holds none =
-    let no_horizon : filter_map horizon_said earlier ≡ [] = none_said (filter_map horizon_said earlier) (ap (λ (s : TaskSet). s.horizon) holds ∙ none) in
+    let no_horizon : filter_map horizon_said earlier ≡ [] = none_first (filter_map horizon_said earlier) (ap (λ (s : TaskSet). s.horizon) holds ∙ none) in
     ap (λ hs. record { horizon = first_of_them hs; tasks = filter_map task_said (earlier ++ HorizonEntry horizon ∷ []) })
     (filter_map-append horizon_said earlier (HorizonEntry horizon ∷ []) ∙ ap (λ hs. hs ++ horizon ∷ []) no_horizon)
     ∙ ap (λ ts. record { horizon = Some horizon; tasks = ts })

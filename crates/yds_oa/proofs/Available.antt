@@ -15,12 +15,11 @@ use Rattle.yds_model.specs.Event.{event_points, stretches}
 use Rattle.yds_model.specs.Policy.{div_up, pending_at, numbers_of}
 use Rattle.yds_model.specs.OptimalAvailable.{pending_jobs, due_units, pending_deadlines, asked, units_asked, optimal_available, optimal_available_rounds, IsOptimalAvailableRun}
 use Rattle.yds_model.specs.Comparison.{stretch_at}
-use Rattle.yds_model.specs.Within.{AreSlotsOf}
 use Rattle.yds_model.proofs.Sums.{sum_by-mul, sum_by_same}
 use Rattle.yds_events.specs.Stretch.{no_stretch}
 use Rattle.yds_events.proofs.Times.{not_later, release_at, deadline_at}
 use Rattle.yds_events.proofs.Neighbours.{count_stretches, stretch_begins, stretch_ends, stretch_forward, release_outside, deadline_outside}
-use Rattle.yds_edf.specs.Shares.{JobShare, units_given, total_units, shares_in, shares_before}
+use Rattle.yds_timetable.specs.Shares.{JobShare, units_given, total_units, shares_in, shares_before}
 use Rattle.yds_edf.specs.Pending.{sum_below, units_wanted}
 use Rattle.yds_edf.specs.Filled.{IsInTime}
 use Rattle.yds_edf.specs.Run.{pending_before, IsServed, IsLaidOut, IsPolicyRun}
@@ -30,8 +29,8 @@ use Rattle.yds_edf.proofs.Parts.{all_before, none_before, given_next, share_give
 use Rattle.yds_edf.proofs.Demand.{none_given}
 use Rattle.yds_edf.proofs.Filled.{stands_in}
 use Rattle.yds_edf.proofs.RunAt.{run_at}
-use Rattle.yds_edf.proofs.Standing.{all_shares}
-use Rattle.yds_edf.proofs.Capped.{solid_within, pending_term}
+use Rattle.yds_edf.proofs.Standing.{all_shares, laid_solid}
+use Rattle.yds_edf.proofs.Capped.{pending_term}
 use Rattle.yds_edf.proofs.Quotients.{up_enough, up_most, up_scaled}
 use Rattle.yds_oa.specs.Asked.{is_waiting, waiting, due_by, deadlines, asked_by, most_asked, most_rounds}
 use Rattle.yds_oa.proofs.Waiting.{waits_is, waits_for, each_waits}
@@ -380,10 +379,10 @@ module _ (jobs : List Job) (grid : ℕ) (some_grid : 1 ≤ grid) (are : All IsJo
         ∙ ap (λ xs. nat_lt 0 (most_asked jobs (held k) st) && list_all (short (most_asked jobs (held k) st)) xs) same_deadlines
 
 -- a run of the policy is a run of Optimal Available
-available_run : (jobs : List Job) (grid rounded : ℕ) (slots : List WrittenSlot) → 1 ≤ grid → All IsJob jobs → AreSlotsOf (length jobs) slots →
+available_run : (jobs : List Job) (grid rounded : ℕ) (slots : List WrittenSlot) → 1 ≤ grid → All IsJob jobs →
     IsPolicyRun jobs grid (most_asked jobs) (most_rounds jobs) rounded slots → IsOptimalAvailableRun jobs grid rounded slots
-available_run jobs grid rounded slots some are limits run =
-    let solid = solid_within (length jobs) slots limits in
+available_run jobs grid rounded slots some are run =
+    let solid = laid_solid jobs grid run.shares slots run.laid in
     record {
       run = record {
         solid = solid;
@@ -403,7 +402,7 @@ available_run jobs grid rounded slots some are limits run =
     }
 
 pub ok_run : {T E : Type 0} (jobs : List Job) (grid : ℕ) (rounded : T → ℕ) (slots : T → List WrittenSlot) (r : Result T E) → 1 ≤ grid → OnOk r (All IsJob jobs) →
-    IfOk r (λ run. AreSlotsOf (length jobs) (slots run)) → IfOk r (λ run. IsPolicyRun jobs grid (most_asked jobs) (most_rounds jobs) (rounded run) (slots run)) →
+    IfOk r (λ run. IsPolicyRun jobs grid (most_asked jobs) (most_rounds jobs) (rounded run) (slots run)) →
     IfOk r (λ run. IsOptimalAvailableRun jobs grid (rounded run) (slots run))
-ok_run jobs grid rounded slots (Ok run) some are limits is = available_run jobs grid (rounded run) (slots run) some are limits is
-ok_run jobs grid rounded slots (Err e) some are limits is = tt
+ok_run jobs grid rounded slots (Ok run) some are is = available_run jobs grid (rounded run) (slots run) some are is
+ok_run jobs grid rounded slots (Err e) some are is = tt

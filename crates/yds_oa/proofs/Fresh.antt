@@ -1,20 +1,19 @@
 -- Pending units by places: those of jobs that were served and of jobs that have arrived are looked at anew, and then all are as in the queue.
-use Rattle.std.proofs.Common.{◌≡◌, ◌≢◌, ℕ, ◌+◌, ◌-◌, ◌<◌, ◌≤◌, ◌⊎◌, Vec, Global, List, length, get_or, set, take, slice_index, Some, None, Option, ◌∙◌, refl, sym, subst, ap, arith, inl, inr, cond, true, false}
-use Rattle.std.specs.Prelude.{Bool, nat_le, All, ◌==◌, sum_by}
-use Rattle.std.specs.List.Sorted.{IsPermutation, IsPartitionPoint}
-use Rattle.std.proofs.lemmas.Bool.{cases_lt, cases_eq, cases_Bool, le-leb, lt-leb, leb-true, leb-false, eq-eqb, ne_eqb, true≢false}
+use Rattle.std.proofs.Common.{◌≡◌, ◌≢◌, ℕ, ◌+◌, ◌<◌, ◌≤◌, Vec, Global, List, length, get_or, set, take, slice_index, Some, None, Option, ◌∙◌, refl, sym, subst, ap, arith, inl, inr, cond, true, false}
+use Rattle.std.specs.Prelude.{nat_le, ◌==◌, sum_by}
+use Rattle.std.specs.List.Sorted.{IsPartitionPoint}
+use Rattle.std.proofs.lemmas.Bool.{cases_lt, cases_eq, le-leb, lt-leb, leb-true, leb-false, ne_eqb, true≢false}
 use Rattle.std.proofs.lemmas.List.{get_or-set_same, get_or-set_other, length-set, take_more, get_or_default}
 use Rattle.std.proofs.lemmas.List.Sums.{sum_by_push}
-use Rattle.yds_model.specs.Numbers.{Each}
 use Rattle.yds_model.specs.Job.{Job, job_at}
-use Rattle.yds_edf.specs.Shares.{JobShare, units_given}
+use Rattle.yds_timetable.specs.Shares.{JobShare}
 use Rattle.yds_edf.specs.Pending.{is_within}
-use Rattle.yds_edf.specs.Queue.{JobQueue, new_queue, IsNoEarlier, pending_in, IsTold}
+use Rattle.yds_edf.specs.Queue.{JobQueue, IsNoEarlier, pending_in, IsTold}
 use Rattle.yds_oa.specs.declared.order.Due.{Due}
 use Rattle.yds_oa.specs.declared.pending.PendingJobs.{PendingJobs}
-use Rattle.yds_oa.specs.Order.{no_due, due_at, IsDueJob}
-use Rattle.yds_oa.specs.Pending.{ArePlaced, IsFresh, AreKept, AreRefreshed, IsNotServed, IsNotAmong, HaveArrived}
-use Rattle.yds_oa.proofs.Places.{all_placed, entry_at, stands_at}
+use Rattle.yds_oa.specs.Order.{no_due, due_at}
+use Rattle.yds_oa.specs.Pending.{ArePlaced, AreKept, AreRefreshed, IsNotServed, IsNotAmong, HaveArrived}
+use Rattle.yds_oa.proofs.Places.{entry_at, stands_at}
 
 -- a job's place is told
 pub placed_at : (jobs : List Job) (pending : PendingJobs) → ArePlaced jobs pending → (job : ℕ) → job < length jobs →

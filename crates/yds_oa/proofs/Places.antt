@@ -1,5 +1,5 @@
 -- The place of each job in an order of all jobs.
-use Rattle.std.proofs.Common.{◌≡◌, ◌≢◌, ℕ, suc, ◌+◌, ◌<◌, ◌≤◌, List, length, get_or, set, map, slice_index, ◌∙◌, refl, sym, subst, ap, arith, inl, inr, cond}
+use Rattle.std.proofs.Common.{◌≡◌, ℕ, suc, ◌+◌, ◌<◌, ◌≤◌, List, length, set, slice_index, ◌∙◌, refl, sym, ap, arith, inl, inr, cond}
 use Rattle.std.specs.Prelude.{◌==◌, sum_by, Contains}
 use Rattle.std.specs.List.Sorted.{IsPermutation}
 use Rattle.std.proofs.lemmas.Bool.{cases_lt, cases_eq, eq-eqb, ne_eqb}

@@ -1,13 +1,12 @@
 -- Units at places, summed before a place and in blocks.
-use Rattle.std.proofs.Common.{◌≡◌, ◌≢◌, ℕ, zero, suc, ◌+◌, ◌-◌, ◌*◌, ◌/◌, ◌%◌, ◌<◌, ◌≤◌, List, length, get_or, set, replicate, slice_index, ◌∙◌, refl, sym, ap, arith, inl, inr, add-one}
+use Rattle.std.proofs.Common.{◌≡◌, ℕ, zero, suc, ◌+◌, ◌-◌, ◌*◌, ◌/◌, ◌%◌, ◌<◌, ◌≤◌, List, length, set, replicate, slice_index, ap, arith, inl, inr, add-one}
 use Rattle.std.specs.Prelude.{All}
 use Rattle.std.proofs.lemmas.Bool.{cases_lt, cases_eq}
 use Rattle.std.proofs.lemmas.List.{get_or-replicate, length-replicate, get_or-set_same, get_or-set_other, length-set}
 use Rattle.std.proofs.lemmas.List.Elements.{All-set}
 use Rattle.std.proofs.Math.ListN.{get_or-eq_default}
-use Rattle.std.proofs.Math.Nat.{mul-le-mul_right, div-add-mod, mod-lt}
-use Rattle.yds_edf.specs.Pending.{sum_below}
-use Rattle.yds_edf.proofs.Sums.{sum_below_same, sum_below_zero, sum_below_term, sum_below_change, sum_below_front}
+use Rattle.std.proofs.Math.Nat.{div-add-mod, mod-lt}
+use Rattle.yds_edf.proofs.Sums.{sum_below_same, sum_below_zero, sum_below_change, sum_below_front}
 use Rattle.yds_oa.specs.Blocks.{units_before, HaveFewUnits, AreBlocks}
 
 -- # The units before a place

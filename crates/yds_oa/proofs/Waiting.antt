@@ -1,14 +1,14 @@
 -- The waiting jobs, and the units that are due, in order of numbers and in order of deadlines.
-use Rattle.std.proofs.Common.{◌≡◌, ℕ, ◌-◌, ◌*◌, ◌<◌, ◌≤◌, List, [], ◌∷◌, length, get_or, map, take, drop, slice_index, Vec, Global, ◌∙◌, refl, sym, subst, ap, arith, inl, inr, cond, true, false}
-use Rattle.std.specs.Prelude.{Bool, nat_le, nat_lt, ◌&&◌, All, Contains, sum_by, not, Some}
+use Rattle.std.proofs.Common.{◌≡◌, ℕ, ◌<◌, ◌≤◌, List, [], ◌∷◌, length, get_or, map, ◌∙◌, refl, sym, subst, ap, arith, inl, inr, cond, true, false}
+use Rattle.std.specs.Prelude.{Bool, nat_le, nat_lt, ◌&&◌, All, Contains, sum_by}
 use Rattle.std.specs.List.{range_with_len}
-use Rattle.std.specs.List.Sorted.{IsPermutation, IsNonDecreasingBy, IsPartitionPoint}
-use Rattle.std.proofs.lemmas.Bool.{cases_lt, cases_Bool, lt-leb, lt-ltb, le-ltb, ltb-true, leb-true, leb-false, true≢false}
+use Rattle.std.specs.List.Sorted.{IsPermutation}
+use Rattle.std.proofs.lemmas.Bool.{cases_lt, lt-ltb, le-ltb, true≢false}
 use Rattle.std.proofs.lemmas.List.{get_or-map, length-map}
 use Rattle.std.proofs.lemmas.List.FromFn.{length-range_with_len, get_or-range_with_len, length-map-range_with_len, get_or-map-range_with_len}
 use Rattle.std.proofs.lemmas.List.Sums.{sum_by-cons}
 use Rattle.std.proofs.lemmas.List.Sorted.{sum_by-IsPermutation, All-permutation}
-use Rattle.std.proofs.lemmas.List.Elements.{All-filter, All-weaker, filter_passes}
+use Rattle.std.proofs.lemmas.List.Elements.{All-filter, filter_passes}
 use Rattle.yds_model.specs.Job.{Job, job_at}
 use Rattle.yds_model.specs.Piece.{Piece}
 use Rattle.yds_model.specs.Policy.{numbers_of}

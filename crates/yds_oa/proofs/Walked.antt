@@ -1,17 +1,16 @@
 -- A walk over places in order of deadlines, which keeps the greatest quotient, and passes over some places together.
-use Rattle.std.proofs.Common.{◌≡◌, ℕ, ◌+◌, ◌-◌, ◌*◌, ◌<◌, ◌≤◌, ◌⊎◌, List, length, get_or, ◌∙◌, sym, subst, ap, arith, inl, inr, true, false}
+use Rattle.std.proofs.Common.{◌≡◌, ℕ, ◌+◌, ◌-◌, ◌*◌, ◌<◌, ◌≤◌, ◌⊎◌, List, length, ◌∙◌, sym, subst, ap, arith, inl, inr, true, false}
 use Rattle.std.specs.Prelude.{nat_le}
-use Rattle.std.specs.List.Sorted.{IsNonDecreasingBy, IsPartitionPoint}
+use Rattle.std.specs.List.Sorted.{IsPartitionPoint}
 use Rattle.std.proofs.lemmas.Bool.{cases_lt, cases_eq, leb-true, leb-false}
 use Rattle.std.proofs.Math.Nat.{mul-le-mul_right, mul-le-mul_left, le_of_mul-le-mul_right}
 use Rattle.yds_oa.specs.declared.order.Due.{Due}
 use Rattle.yds_oa.specs.declared.pending.PendingJobs.{PendingJobs}
 use Rattle.yds_oa.specs.declared.quotient.Quotient.{Quotient}
-use Rattle.yds_oa.specs.declared.walk.Walk.{Walk}
 use Rattle.yds_oa.specs.Blocks.{units_before}
 use Rattle.yds_oa.specs.Order.{no_due, due_at}
 use Rattle.yds_oa.specs.Pending.{AreInOrder}
-use Rattle.yds_oa.specs.Greatest.{AreDueAfter, IsQuotientAt, IsQuotientAmong, IsNotGreater, IsGreatestWithin, IsWalk}
+use Rattle.yds_oa.specs.Greatest.{AreDueAfter, IsQuotientAmong, IsNotGreater, IsGreatestWithin}
 use Rattle.yds_oa.proofs.Sums.{before_rises}
 
 -- what is at most a quotient is at most a greater one

@@ -4,7 +4,7 @@ use Rattle.std.specs.List.Sorted.{IsPermutation, IsNonDecreasingBy}
 use Rattle.yds_model.specs.declared.limits.TheConstants.{MAX_JOBS}
 use Rattle.yds_model.specs.Numbers.{Each}
 use Rattle.yds_model.specs.Job.{Job}
-use Rattle.yds_edf.specs.Shares.{JobShare, units_given}
+use Rattle.yds_timetable.specs.Shares.{JobShare, units_given}
 use Rattle.yds_edf.specs.Pending.{is_within}
 use Rattle.yds_edf.specs.Queue.{JobQueue, pending_in}
 use Rattle.yds_oa.specs.declared.order.Due.{Due}

@@ -13,7 +13,7 @@ mod pending;
 mod quotient;
 mod walk;
 
-pub use optimal_available::oa;
+pub use optimal_available::{oa, oa_timetable};
 
 #[cfg(test)]
 mod tests;

@@ -2,12 +2,15 @@ ghost use Rattle.std.specs.Prelude.{◌≡◌, ◌≤◌, IfOk, length, All};
 ghost use Rattle.yds_model.specs.Policy.{HasRunDenominators};
 ghost use Rattle.yds_model.specs.OptimalAvailable.{IsOptimalAvailableRun};
 ghost use Rattle.yds_model.specs.Within.{AreSlotsOf};
+ghost use Rattle.yds_timetable.specs.Timetable.{slots_of};
+ghost use Rattle.yds_timetable.specs.Room.{CanLay};
+ghost use Rattle.yds_edf.specs.Run.{AreRowsOf};
 ghost use Rattle.yds_oa.specs.Asked.{most_asked, most_rounds};
 ghost use Rattle.yds_oa.specs.Pending.{AreKept};
 
 use crate::pending::PendingJobs;
 use std::alloc::Global;
-use yds_edf::{Policy, PolicyRun, Queue, Setting, Share, run_policy};
+use yds_edf::{Policy, PolicyRun, PolicyTimetable, Queue, Setting, Share, serve_policy};
 use yds_events::Stretch;
 use yds_model::limits::{MAX_GRID, MAX_JOBS, MAX_ROUNDED};
 use yds_model::{JobRow, Memory};
@@ -27,9 +30,24 @@ pub fn oa(alloc: Global, rows: &[JobRow], grid: u32) -> Result<PolicyRun, Memory
     ensures limits { IfOk result (λ run. AreSlotsOf (length rows.now) run.schedule.slots) }
     ensures count_in_range { IfOk result (λ run. run.rounded ≤ MAX_ROUNDED) }
 {
+    let served = oa_timetable(alloc, rows, grid)?;
+    served.laid(alloc, rows.len() as u32)
+}
+
+/// The same before its slots are laid: what each stretch serves.
+pub fn oa_timetable(alloc: Global, rows: &[JobRow], grid: u32) -> Result<PolicyTimetable, Memory>
+    requires few { length rows.now ≤ MAX_JOBS }
+    requires some_grid { 1 ≤ grid }
+    requires grid_in_range { grid ≤ MAX_GRID }
+    ensures run { IfOk result (λ run. IsOptimalAvailableRun rows.now grid run.rounded (slots_of run.timetable)) }
+    ensures denominators { IfOk result (λ run. All (HasRunDenominators rows.now grid) (slots_of run.timetable)) }
+    ensures stretches { IfOk result (λ run. AreRowsOf rows.now grid run.timetable) }
+    ensures room { IfOk result (λ run. CanLay (length rows.now) run.timetable) }
+    ensures count_in_range { IfOk result (λ run. run.rounded ≤ MAX_ROUNDED) }
+{
     let jobs = PendingJobs::new(alloc, rows)?;
     let mut policy = OptimalAvailable { jobs, last: 0 };
-    run_policy(alloc, rows, grid, &mut policy)
+    serve_policy(alloc, rows, grid, &mut policy)
 }
 
 /// Optimal Available, which looks anew at those jobs alone of which other units are pending than in the last stretch.

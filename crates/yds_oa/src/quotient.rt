@@ -3,7 +3,7 @@ ghost use Rattle.std.specs.Prelude.{◌≡◌, ◌*◌, ◌≤◌, ◌⊎◌, �
 /// Units by time units.
 #[derive(Clone, Copy, Debug)]
 pub(crate) struct Quotient {
-    /// The units, at most `MAX_CAPACITY` of `yds_edf`.
+    /// The units, at most `MAX_UNITS` of `yds_timetable`.
     pub(crate) units: u64,
     /// The time units, at least 1.
     pub(crate) time: u32,

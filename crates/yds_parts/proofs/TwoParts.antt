@@ -12,6 +12,7 @@ use Rattle.yds_model.specs.Job.{Job, no_job, job_at}
 use Rattle.yds_model.specs.Slot.{WholeSlot, work_given}
 use Rattle.yds_model.specs.Feasible.{RunFrom, IsInWindow, IsFeasibleAt}
 use Rattle.yds_model.specs.Excess.{excess, IsLeastAt}
+use Rattle.yds_model.proofs.Horizon.{part_other}
 use Rattle.yds_model.proofs.Lists.{All-front, All-back}
 use Rattle.yds_energy.proofs.PlanParts.{run_later, run_front, run_back, run_joined, given_joined}
 use Rattle.yds_parts.specs.Parts.{ArePartedAt, moved, together_at}
@@ -32,9 +33,6 @@ All-made P f xs each k d within = subst P (get_or-map f xs k d (f d) within) (ea
 
 part_same : (n k j work : ℕ) → (if n + k == n + j then work else 0) ≡ (if k == j then work else 0)
 part_same n k j work = grind (arith, nat_tests)
-
-part_other : (number job work : ℕ) → (number ≡ job → ⊥) → (if number == job then work else 0) ≡ 0
-part_other number job work other = grind (arith, nat_tests)
 
 given_moved : (n k : ℕ) (slots : List WholeSlot) → work_given (map (moved n) slots) (n + k) ≡ work_given slots k
 given_moved n k [] = refl

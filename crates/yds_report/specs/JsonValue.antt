@@ -21,14 +21,19 @@ abbrev pub level_value : Level → Data
 level_value level =
     object (member (codes "length") (whole level.length) (member (codes "speed") (string (speed_text level)) (member (codes "work") (whole level.work) no_members)))
 
+-- these numbers and these levels
+abbrev pub numbers_value : (from idle count : ℕ) → List Level → (to work : ℕ) → Data
+numbers_value from idle count levels to work =
+    object (member (codes "from") (whole from)
+    (member (codes "idle") (whole idle)
+    (member (codes "jobs") (whole count)
+    (member (codes "levels") (array (items_of (map level_value levels)))
+    (member (codes "to") (whole to)
+    (member (codes "work") (whole work) no_members))))))
+
 abbrev pub report_value : List Job → List Level → Data
 report_value jobs levels =
-    object (member (codes "from") (whole (first_release jobs))
-    (member (codes "idle") (whole (horizon jobs - sum_by (λ level. level.length) levels))
-    (member (codes "jobs") (whole (length jobs))
-    (member (codes "levels") (array (items_of (map level_value levels)))
-    (member (codes "to") (whole (last_deadline jobs))
-    (member (codes "work") (whole (sum_by (λ job. job.work) jobs)) no_members))))))
+    numbers_value (first_release jobs) (horizon jobs - sum_by (λ level. level.length) levels) (length jobs) levels (last_deadline jobs) (sum_by (λ job. job.work) jobs)
 
 -- The text of a report of levels within the limits is read by `serde_json` as the value of the report.
 abbrev pub ReportsAreRead : Type 0

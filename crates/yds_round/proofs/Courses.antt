@@ -140,7 +140,7 @@ module _ (course : Course) (stretch : Piece) (speed most held scale : ℕ) (at :
 -- # The work of each job
 
 -- a job's part of one slot
-own_work : (job other work grain parts scale : ℕ) → work * grain ≡ parts * scale →
+pub own_work : (job other work grain parts scale : ℕ) → work * grain ≡ parts * scale →
     (if job == other then work else 0) * grain ≡ (if job == other then parts else 0) * scale
 own_work job other work grain parts scale is = grind (arith, nat_tests)
 

@@ -8,7 +8,3 @@ use Rattle.yds_round.specs.Fault.{HasFastLevel}
 pub fast_first : (levels : List Level) (points : List Point) → 1 ≤ length levels → IsTooFast points (level_at levels 0) → HasFastLevel levels points
 fast_first [] points some fast = absurd (omega (arith, some))
 fast_first (first ∷ levels) points some fast = fast
-
-pub first_fast : (levels : List Level) (points : List Point) → HasFastLevel levels points → (1 ≤ length levels) × IsTooFast points (level_at levels 0)
-first_fast [] points fast = absurd fast
-first_fast (first ∷ levels) points fast = (omega arith, fast)

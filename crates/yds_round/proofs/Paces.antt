@@ -1,5 +1,5 @@
 -- How a level runs on the points of a table.
-use Rattle.std.proofs.Common.{◌≡◌, ℕ, zero, suc, ◌+◌, ◌-◌, ◌*◌, ◌/◌, ◌^◌, ◌<◌, ◌≤◌, List, [], ◌∷◌, ◌++◌, length, sym, ap, ◌∙◌, subst, arith, inl, inr}
+use Rattle.std.proofs.Common.{◌≡◌, ℕ, ◌+◌, ◌-◌, ◌*◌, ◌/◌, ◌^◌, ◌<◌, ◌≤◌, List, [], ◌∷◌, ◌++◌, length, sym, ap, ◌∙◌, subst, arith, inl, inr}
 use Rattle.std.specs.List.{AllZip}
 use Rattle.std.specs.Int.{◌∣◌}
 use Rattle.std.proofs.lemmas.List.Sums.{sum_by-cons}
@@ -19,9 +19,6 @@ use Rattle.std.specs.Prelude.{Option, Some, None, sum_by}
 
 -- in plain numbers: `above` is the work above the slower point's speed, `below` what is missing to that of the faster
 module _ (slow fast work long multiple low_power high_power : ℕ) (above : slow * long < work) (under : work < fast * long) (divides : fast - slow ∣ multiple) where
-  chord : ℕ
-  chord = high_power * (work - slow * long) + low_power * (fast * long - work)
-
   whole : multiple / (fast - slow) * (fast - slow) ≡ multiple
   whole = div-mul_cancel (fast - slow) divides
 

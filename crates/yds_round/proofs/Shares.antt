@@ -15,7 +15,7 @@ use Rattle.yds_model.proofs.Fractions.{value-den}
 use Rattle.yds_round.specs.declared.split.Split.{Split}
 use Rattle.yds_round.specs.Written.{slot_units, turn, fast_course, slow_course, slots_after}
 use Rattle.yds_round.proofs.Cuts.{WorksOver}
-use Rattle.yds_round.proofs.Courses.{parts_for, given_after}
+use Rattle.yds_round.proofs.Courses.{own_work, parts_for, given_after}
 
 -- the units that slots give a job
 abbrev pub units_for : ℕ → List WrittenSlot → ℕ → ℕ
@@ -29,11 +29,7 @@ work_at unit scale x (inl plain) divides =
 work_at unit scale x (inr parts) divides =
     omega (arith, value-den scale x divides, ap (λ n. at_scale scale x * n) parts, ap (λ n. x.whole * n * scale) parts)
 
--- a job's part of one slot
-own_units : (job other work unit parts scale : ℕ) → work * unit ≡ parts * scale →
-    (if job == other then work else 0) * unit ≡ (if job == other then parts else 0) * scale
-own_units job other work unit parts scale is = grind (arith, nat_tests)
-
+-- the work that a plan's slots give a job
 pub given_planned : (unit scale : ℕ) (planned : List WrittenSlot) (job : ℕ) → All (WorksOver unit) planned → All (IsDivided scale) planned →
     work_given (slots_at scale planned) job * unit ≡ units_for unit planned job * scale
 given_planned unit scale [] job over divided = omega arith
@@ -41,7 +37,7 @@ given_planned unit scale (slot ∷ planned) job over divided = omega (
   arith,
   ap (λ n. n * unit) (sum_by-cons (λ (s : WholeSlot). if job == s.job then s.work else 0) (slot_at_scale scale slot) (slots_at scale planned)),
   ap (λ n. n * scale) (sum_by-cons (λ (s : WrittenSlot). if job == s.job then slot_units unit s else 0) slot planned),
-  own_units job slot.job (at_scale scale slot.work) unit (slot_units unit slot) scale
+  own_work job slot.job (at_scale scale slot.work) unit (slot_units unit slot) scale
       (work_at unit scale slot.work (over 0 slot (omega arith)) (divided 0 slot (omega arith)).work),
   given_planned unit scale planned job (All-tail (WorksOver unit) slot planned over) (All-tail (IsDivided scale) slot planned divided),
 )

@@ -1,8 +1,14 @@
 -- What words ask for.
-use Rattle.std.proofs.Common.{◌≡◌, ◌≤◌, length, arith, List, [], ◌∷◌, None, refl}
+use Rattle.std.proofs.Common.{◌≡◌, ◌≤◌, length, arith, List, [], ◌∷◌, Option, Some, None, refl, ap, sym, ◌∙◌}
 use Rattle.std.specs.Prelude.{String}
 use Rattle.std.specs.declared.alloc.Global.{Global}
-use Rattle.yds_run.specs.Words.{words_of, asked}
+use Rattle.yds_model.specs.Request.{Request}
+use Rattle.yds_run.specs.declared.command.Command.{Command}
+use Rattle.yds_run.specs.Words.{words_of, asked, request_view}
+
+-- what a command that was named asks for
+pub named : (command found : Command) (request : Option Request) → found ≡ command → Some (request_view found) ≡ request → Some (request_view command) ≡ request
+named command found request is asks = ap (λ other. Some (request_view other)) (sym is) ∙ asks
 
 -- no command has more than three words
 pub four_or_more : (words : List (String Global)) → 4 ≤ length words → None ≡ asked (words_of words)

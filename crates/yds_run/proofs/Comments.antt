@@ -3,7 +3,7 @@ use Rattle.std.proofs.Common.{◌≡◌, ℕ, List, [], ◌∷◌, ◌++◌, ◌
 use Rattle.std.proofs.lemmas.List.{append-nil}
 use Rattle.yds_model.specs.Text.{line}
 use Rattle.yds_run.specs.VerdictLine.{spaced}
-use Rattle.yds_run.proofs.ToldLines.{spaced_line}
+use Rattle.yds_run.proofs.SpacedLine.{spaced_line}
 
 spaced_more : (words : List (List ℕ)) (word : List ℕ) → spaced words ++ 32 ∷ word ≡ spaced (words ++ word ∷ [])
 spaced_more [] word = ap (λ l. 32 ∷ l) (sym (append-nil word))

@@ -1,6 +1,6 @@
 -- A comparison is answered by what the plan and the runs spend.
 use Rattle.std.proofs.Common.{◌≡◌, ℕ, ◌<◌, ◌≤◌, ◌⊎◌, List, [], ◌∷◌, ◌++◌, length, get_or, refl, sym, ap, ap₂, subst, ◌∙◌, append_assoc, arith, inl, inr}
-use Rattle.std.specs.Prelude.{codes, decimal}
+use Rattle.std.specs.Prelude.{codes}
 use Rattle.yds_model.specs.declared.status.Status.TheVariants as statuses
 use Rattle.yds_model.specs.Job.{Job}
 use Rattle.yds_model.specs.Document.{Document}
@@ -20,9 +20,9 @@ use Rattle.yds_round.proofs.RoundedEnergies.{all_slow}
 use Rattle.yds_compare.specs.declared.comparison.Comparison.{Comparison}
 use Rattle.yds_compare.specs.Side.{side_view, IsSideOfRun}
 use Rattle.yds_run.specs.Compare.{sides_text}
-use Rattle.yds_run.proofs.TooSlow.{on_points}
+use Rattle.yds_texts.proofs.RoundText.{points_answer}
 use Rattle.yds_run.proofs.Comments.{next_field}
-use Rattle.yds_run.proofs.ToldLines.{spaced_line}
+use Rattle.yds_run.proofs.SpacedLine.{spaced_line}
 use Rattle.std.specs.List.{zip}
 use Rattle.std.proofs.lemmas.List.{append-nil}
 use Rattle.std.proofs.lemmas.Slice.Zip.{length-zip, get_or-zip}
@@ -45,7 +45,7 @@ answers_itself document grid planned levels comparison some plan slow spent aver
     let average_count = rounded_line (codes "avr") comparison.avr_rounded in
     let optimal_text = side_lines (codes "oa") points (side_view comparison.oa) in
     let optimal_count = rounded_line (codes "oa") comparison.oa_rounded in
-    on_points (CompareAnswer document grid) points (sides_text (record { table = points; comparison = comparison })) statuses.Done some (inr (record {
+    points_answer (CompareAnswer document grid) points (sides_text (record { table = points; comparison = comparison })) statuses.Done some (inr (record {
       planned = planned;
       levels = levels;
       plan = plan;

@@ -24,12 +24,17 @@ writes_of One Other result old new flushed weaker writes = record {
   outcome = writes.outcome;
 }
 
--- the answer to an input that isn't too long
+-- an answer to an input that isn't too long
+pub short_answer : (Answered : List ℕ → List ℕ → Status → Type 0) (input text : List ℕ) (status : Status) → length input ≤ MAX_INPUT
+    → Answered input text status → UnlessTooLong (is_too_long input) (Answered input) text status
+short_answer Answered input text status short answers =
+    subst (λ long. UnlessTooLong long (Answered input) text status) (sym (le-ltb MAX_INPUT (length input) short)) answers
+
+-- what was written is such an answer
 pub short_answers : (Answered : List ℕ → List ℕ → Status → Type 0) (input : List ℕ) (result : Status) (old new : Option (List ℕ)) (flushed : Option ℕ) → length input ≤ MAX_INPUT
     → Writes (Answered input) result old new flushed → Writes (UnlessTooLong (is_too_long input) (Answered input)) result old new flushed
 short_answers Answered input result old new flushed short =
-    writes_of (Answered input) (UnlessTooLong (is_too_long input) (Answered input)) result old new flushed
-    (λ text status answers. subst (λ long. UnlessTooLong long (Answered input) text status) (sym (le-ltb MAX_INPUT (length input) short)) answers)
+    writes_of (Answered input) (UnlessTooLong (is_too_long input) (Answered input)) result old new flushed (λ text status. short_answer Answered input text status short)
 
 -- more bytes than an input may have, and any bytes after them, are refused alike
 long_answers : (Answered : List ℕ → List ℕ → Status → Type 0) (taken more text : List ℕ) (status : Status) → MAX_INPUT < length taken
@@ -90,7 +95,8 @@ trial_answers named seed jobs result old new flushed is writes input = subst (λ
 
 -- # What a text that was written whole is worth
 
-whole_outcome : (ended : Status) (text : List ℕ) (status : Status) (old new : Option (List ℕ)) (flushed : Option ℕ) → IsWhole ended
+-- what a run that ended whole wrote is the whole text
+pub whole_outcome : (ended : Status) (text : List ℕ) (status : Status) (old new : Option (List ℕ)) (flushed : Option ℕ) → IsWhole ended
     → Outcome ended text status old new flushed → WritesWhole ended text status old new flushed
 whole_outcome statuses.Done text status old new flushed whole outcome = outcome
 whole_outcome statuses.No text status old new flushed whole outcome = outcome

@@ -1,5 +1,5 @@
 pub mod AskedWords
-pub mod ToldLines
+pub mod SpacedLine
 pub mod Drawn
 pub mod Replied
 pub mod Complete

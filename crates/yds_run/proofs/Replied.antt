@@ -4,6 +4,7 @@ use Rattle.std.specs.Prelude.{IfOk, MatchResult}
 use Rattle.yds_model.specs.declared.status.Status.{Status}
 use Rattle.yds_model.specs.declared.status.Status.TheVariants as statuses
 use Rattle.yds_run.specs.Run.{IsWhole, IsDelivered, Replies}
+use Rattle.yds_run.proofs.Complete.{writes_of}
 
 -- a run that delivered an answer ended as the answer does, or by a fault of the sink
 ends_whole : (status result other : Status) → IsWhole status → (result ≡ status) ⊎ (result ≡ statuses.WriteFault)
@@ -44,4 +45,15 @@ made_replies written flushed flushes faults Answered text_of status_of (Err erro
   nothing_written = λ memory. wanting.1;
   answer = λ memory. absurd (memory wanting.0);
   flushed_once = λ whole. absurd (subst IsWhole wanting.0 whole);
+}
+
+-- what replies to one thing and so to another
+pub replies_of : {K : Type 0} (written : K → Option (List ℕ)) (flushed : K → Option ℕ) (flushes faults : K → ℕ) (One Other : List ℕ → Status → Type 0) (result : Status) (old new : K)
+    → ((text : List ℕ) (status : Status) → One text status → Other text status) → Replies written flushed flushes faults One result old new → Replies written flushed flushes faults Other result old new
+replies_of written flushed flushes faults One Other result old new weaker replies = record {
+  no_read_fault = replies.no_read_fault;
+  counts = replies.counts;
+  nothing_written = replies.nothing_written;
+  answer = λ memory. writes_of One Other result (written old) (written new) (flushed new) weaker (replies.answer memory);
+  flushed_once = replies.flushed_once;
 }

@@ -1,18 +1,17 @@
 -- A plan that is too fast for the points is answered by its first level.
-use Rattle.std.proofs.Common.{◌≡◌, ℕ, ◌≤◌, List, [], ◌∷◌, length, refl, ap, ◌∙◌, subst, sym, arith, inl}
-use Rattle.std.specs.Prelude.{codes, decimal, Option, Some}
-use Rattle.yds_model.specs.declared.status.Status.{Status}
+use Rattle.std.proofs.Common.{◌≡◌, ℕ, ◌≤◌, List, [], ◌∷◌, length, refl, ap, ◌∙◌, inl}
+use Rattle.std.specs.Prelude.{codes, decimal}
 use Rattle.yds_model.specs.declared.status.Status.TheVariants as statuses
 use Rattle.yds_model.specs.Document.{Document}
 use Rattle.yds_model.specs.Slot.{WrittenSlot}
 use Rattle.yds_model.specs.Level.{Level}
-use Rattle.yds_model.specs.Table.{Point}
 use Rattle.yds_model.specs.Text.{line}
 use Rattle.yds_model.specs.Plan.{IsPlan}
 use Rattle.yds_model.specs.Rounding.{top_of}
 use Rattle.yds_model.specs.RoundAnswer.{TooSlowAnswer, RoundAnswer}
 use Rattle.yds_model.specs.CompareAnswer.{CompareAnswer}
 use Rattle.yds_model.specs.Answer.{OnPoints}
+use Rattle.yds_texts.proofs.RoundText.{points_answer}
 use Rattle.yds_round.specs.declared.fault.RoundFault.TheVariants as faults
 use Rattle.yds_round.specs.Fault.{IsCauseOfRoundFault}
 
@@ -41,17 +40,12 @@ too_slow_answers document slots (level ∷ others) work long top text plan cause
     }
 
 -- a document that has points is answered on them
-pub on_points : (Answered : List ℕ → Status → Type 0) (points : List Point) (text : List ℕ) (status : Status) → 1 ≤ length points → Answered text status →
-    OnPoints Answered points text status
-on_points Answered [] text status some answered = absurd (omega (arith, some))
-on_points Answered (point ∷ points) text status some answered = answered
-
 pub too_slow_on_points : (document : Document) (slots : List WrittenSlot) (levels : List Level) (work long top : ℕ) (text : List ℕ) → 1 ≤ length document.points →
     IsPlan document.jobs slots levels → IsCauseOfRoundFault levels document.points (faults.TooSlow work long top) →
     text ≡ line (codes "too-slow" ∷ codes "work" ∷ decimal work ∷ codes "length" ∷ decimal long ∷ codes "top" ∷ decimal top ∷ []) →
     OnPoints (RoundAnswer document) document.points text statuses.No
 too_slow_on_points document slots levels work long top text some plan cause said =
-    on_points (RoundAnswer document) document.points text statuses.No some (inl (too_slow_answers document slots levels work long top text plan cause said))
+    points_answer (RoundAnswer document) document.points text statuses.No some (inl (too_slow_answers document slots levels work long top text plan cause said))
 
 -- the same of a comparison
 pub too_slow_compared : (document : Document) (grid : ℕ) (slots : List WrittenSlot) (levels : List Level) (work long top : ℕ) (text : List ℕ) → 1 ≤ length document.points →
@@ -59,4 +53,4 @@ pub too_slow_compared : (document : Document) (grid : ℕ) (slots : List Written
     text ≡ line (codes "too-slow" ∷ codes "work" ∷ decimal work ∷ codes "length" ∷ decimal long ∷ codes "top" ∷ decimal top ∷ []) →
     OnPoints (CompareAnswer document grid) document.points text statuses.No
 too_slow_compared document grid slots levels work long top text some plan cause said =
-    on_points (CompareAnswer document grid) document.points text statuses.No some (inl (too_slow_answers document slots levels work long top text plan cause said))
+    points_answer (CompareAnswer document grid) document.points text statuses.No some (inl (too_slow_answers document slots levels work long top text plan cause said))

@@ -41,21 +41,23 @@ impl Answer for Breaks {
 fn write_breaks<K: Sink>(breaks: &[Break], sink: &mut K) -> Result<(), WriteFault>
     ensures { Puts K.written K.flushed K.flushes K.faults result (flat_map break_line breaks.now) sink.old sink.new }
 {
+    let mut line = LineBuffer::new("");
     for bend in breaks {
-        write_all(sink, break_line(bend).as_bytes())?;
+        put_break(&mut line, bend);
+        write_all(sink, line.as_bytes())?;
     }
     Ok(())
 }
 
-/// A break's speed, in work per time unit, and the least excess above it, both in lowest terms.
-fn break_line(bend: &Break) -> LineBuffer
-    ensures { result ≡ break_line bend.now }
+/// Makes the line of a break: its speed, in work per time unit, and the least excess above it, both in lowest terms.
+fn put_break(line: &mut LineBuffer, bend: &Break)
+    ensures { line.new ≡ break_line bend.now }
 {
     let parts = u128::from(bend.speed.num());
-    LineBuffer::new("break")
-        .fraction(Amount::of_parts(parts, bend.speed.den()))
-        .fraction(bend.excess)
-        .end()
+    line.restart("break");
+    line.push_fraction(Amount::of_parts(parts, bend.speed.den()));
+    line.push_fraction(bend.excess);
+    line.push_end();
 }
 
 /// Plans the document's jobs, for the curve of the plan's levels.

@@ -58,7 +58,7 @@ pub fn expand_input<S: Source, K: Sink>(
 }
 
 /// Answers with the jobs of the tasks that the bytes are.
-fn expand_bytes<K: Sink>(alloc: Global, keys: RandomState, bytes: &[u8], sink: &mut K) -> Status
+pub fn expand_bytes<K: Sink>(alloc: Global, keys: RandomState, bytes: &[u8], sink: &mut K) -> Status
     requires { length bytes.now ≤ MAX_INPUT }
     ensures { Replies K.written K.flushed K.flushes K.faults (AnswersTasks (task_reading bytes.now)) result sink.old sink.new }
 {

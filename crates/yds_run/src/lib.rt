@@ -6,7 +6,7 @@
 //! are worth. It carries the promise that what was written is
 //! the answer of the definitions to the words and to all bytes of the input, whole and flushed, or that
 //! the status tells what came between: a fault that the source or the sink counted, or want of memory
-//! before the first byte was written.
+//! before the first byte was written. `run_on_bytes` does the same over an input in memory.
 #![tactic(auto)]
 
 mod admit;
@@ -19,6 +19,7 @@ mod compare;
 mod curve;
 mod deliver;
 mod expand;
+mod on_bytes;
 mod plan;
 mod policies;
 mod refusal;
@@ -32,6 +33,7 @@ mod verdict_line;
 mod with_points;
 
 pub use command::{Command, Question};
+pub use on_bytes::run_on_bytes;
 pub use running::run;
 
 #[cfg(test)]

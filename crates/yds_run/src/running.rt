@@ -184,7 +184,7 @@ fn answer_input<S: Source, K: Sink>(
 }
 
 /// Answers the question about the document that the bytes are.
-fn answer_bytes<K: Sink>(
+pub fn answer_bytes<K: Sink>(
     alloc: Global,
     keys: RandomState,
     question: Question,
@@ -233,18 +233,19 @@ fn answer_document<K: Sink>(
             reply(optimal_available_document(alloc, document, grid), sink)
         }
         Question::Check => reply(check_document(alloc, &document), sink),
-        Question::Audit { points: false } => deliver(&audit_document(&document), sink),
-        Question::Audit { points: true } => deliver(&audit_on_points(&document), sink),
         Question::Report { json: false } => reply(report_document(alloc, document), sink),
         Question::Report { json: true } => reply(json_document(alloc, &document), sink),
         Question::Curve => reply(curve_document(alloc, &document), sink),
         Question::Compare { grid } => reply(compare_document(alloc, document, grid), sink),
         Question::Admit { top } => reply(admit_document(alloc, document, top), sink),
+        // Last what takes no memory.
+        Question::Audit { points: false } => deliver(&audit_document(&document), sink),
+        Question::Audit { points: true } => deliver(&audit_on_points(&document), sink),
     }
 }
 
 /// Delivers an answer, where memory sufficed for it.
-fn reply<A: Answer + Drop, K: Sink>(made: Result<A, Memory>, sink: &mut K) -> Status
+pub fn reply<A: Answer + Drop, K: Sink>(made: Result<A, Memory>, sink: &mut K) -> Status
     ensures { MatchResult made (λ answer. IsDelivered K.written K.flushed K.flushes K.faults (A.text answer) (A.ends answer) result sink.old sink.new)
         (λ error. (result ≡ Status.Memory) × (sink.new ≡ sink.old)) }
 {

@@ -56,7 +56,21 @@ fn answer(
     Ok((status, sink))
 }
 
-/// The words of each row, over its input, end with its status and write its text, with one set of keys as with another.
+/// The same over the input's bytes, with no source.
+fn answer_on_bytes(
+    alloc: Global,
+    keys: RandomState,
+    text: &str,
+    input: &str,
+) -> Result<(Status, MemorySink), Memory> {
+    let words = words(alloc, text)?;
+    let mut sink = MemorySink::with_room(alloc, 500, 4, Vec::new(alloc))?;
+    let status = run_on_bytes(alloc, keys, &words, input.as_bytes(), &mut sink);
+    Ok((status, sink))
+}
+
+/// The words of each row, over its input, end with its status and write its text, with one set of keys as with another, and with no source
+/// as with one.
 fn answers_are(
     rt: &impl Abort,
     alloc: Global,
@@ -71,6 +85,13 @@ fn answers_are(
             let (ended, sink) = answer(alloc, keys, text, input)?;
             assert_eq!(rt; ended, *status, "{text}: {input}");
             assert_eq!(rt; sink.bytes(), want.as_bytes(), "{text}: {input}");
+            let (ended, sink) = answer_on_bytes(alloc, keys, text, input)?;
+            assert_eq!(rt; ended, *status, "{text}: {input}, with no source");
+            assert_eq!(rt;
+                sink.bytes(),
+                want.as_bytes(),
+                "{text}: {input}, with no source"
+            );
         }
     }
     Ok(())

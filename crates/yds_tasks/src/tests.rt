@@ -2,6 +2,7 @@
 use crate::{TaskFault, TaskReason, print_jobs, read_tasks};
 use std::hash::RandomState;
 use std::test::Fail;
+use yds_model::JobRow;
 use yds_port::MemorySink;
 
 #[test]
@@ -15,6 +16,9 @@ fn the_jobs_of_two_tasks_with_one_level(rt: HostRuntime) -> Result<(), Fail> {
     assert_eq!(rt; tasks.horizon(), 12);
     assert_eq!(rt; tasks.jobs(), 5);
     assert_eq!(rt; tasks.one_level(), Some((12, 12)));
+    let second = tasks.tasks()[1];
+    assert!(rt; second.jobs_until(tasks.horizon()) == 2);
+    assert_eq!(rt; tasks.row(1, 1), JobRow::new(6, 12, 3));
     print_jobs(&tasks, &mut sink)?;
     assert_eq!(rt; sink.bytes(), printed.as_slice());
     Ok(())

@@ -1,15 +1,13 @@
 -- The first field of a plain spelling: one space, the field, and a blank or the end after it.
-use Rattle.std.proofs.Common.{◌≡◌, ℕ, ◌+◌, ◌-◌, ◌<◌, ◌≤◌, true, false, List, [], ◌∷◌, ◌++◌, length, inl, inr, get_or, take, drop, All, Result, Ok, Err, Some, refl, sym, ap, ap₂, ◌∙◌, subst, arith, ne_eqb, take-append-drop, length-append, append_assoc}
+use Rattle.std.proofs.Common.{◌≡◌, ℕ, ◌+◌, ◌-◌, ◌<◌, ◌≤◌, true, false, List, [], ◌∷◌, ◌++◌, length, inl, inr, get_or, drop, All, Ok, refl, sym, ap, ap₂, ◌∙◌, subst, arith, ne_eqb, length-append, append_assoc}
 use Rattle.std.specs.Prelude.{◌==◌}
 use Rattle.std.specs.List.{prefix_len}
-use Rattle.std.specs.Result.{result_ok}
 use Rattle.std.proofs.Math.Seq.{take-append_seam, drop-append-add}
 use Rattle.std.proofs.lemmas.Bool.{false≢true, cases_Bool, le-leb, lt-ltb, eqb-true}
 use Rattle.std.proofs.lemmas.Grind.{common_steps}
 use Rattle.std.proofs.lemmas.List.Elements.{All-head, All-tail, All-cons, All-append, All-weaker}
 use Rattle.yds_fraction.specs.Mixed.{fraction_of}
 use Rattle.yds_model.specs.declared.limits.TheConstants.{MAX_DENOMINATOR}
-use Rattle.yds_model.specs.declared.number_fault.NumberFault.{NumberFault}
 use Rattle.yds_model.specs.Lines.{is_blank, fields_from}
 use Rattle.yds_model.specs.Scale.{Fraction}
 use Rattle.yds_model.specs.Spelling.{is_digit, is_number, number_at, fraction_at, kept}
@@ -46,19 +44,6 @@ some_bytes (byte ∷ text) number = omega arith
 
 pub number_full : (text : List ℕ) → is_number text ≡ true → All (λ byte. is_blank byte ≡ false) text
 number_full text number = All-weaker (λ byte. is_digit byte ≡ true) (λ byte. is_blank byte ≡ false) digit_full text (number_digits text number)
-
-ok_is : (read : Result ℕ NumberFault) (value : ℕ) → result_ok read ≡ Some value → read ≡ Ok value
-ok_is (Ok number) value is = cc
-ok_is (Err fault) value is = cc
-
--- digits at the front
-pub number_begins : (most : ℕ) (bytes rest : List ℕ) (read : Result ℕ NumberFault) (len value : ℕ) → rest ≡ drop len bytes →
-    read ≡ number_at 0 most (take len bytes) → result_ok read ≡ Some value → BeginsNumber most value bytes rest
-number_begins most bytes rest read len value left says some = record {
-  digits = take len bytes;
-  says = sym says ∙ ok_is read value some;
-  first = sym (take-append-drop len bytes) ∙ ap (λ part. take len bytes ++ part) (sym left);
-}
 
 digits_of : (most value : ℕ) (bytes rest : List ℕ) (begins : BeginsNumber most value bytes rest) → Told most begins.digits value
 digits_of most value bytes rest begins = is_told most begins.digits value begins.says

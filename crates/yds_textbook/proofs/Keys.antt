@@ -9,7 +9,7 @@ use Rattle.std.proofs.lemmas.List.FromFn.{length-range_with_len, get_or-range_wi
 use Rattle.yds_model.proofs.Sums.{sum_by-add, sum_by_at_most}
 use Rattle.yds_edf.specs.Serving.{AreTies}
 use Rattle.yds_edf.specs.Pending.{sum_below}
-use Rattle.yds_edf.specs.Shares.{JobShare, units_given, shares_in, shares_before}
+use Rattle.yds_timetable.specs.Shares.{JobShare, units_given, shares_in, shares_before}
 use Rattle.yds_edf.proofs.Sums.{sum_below_less}
 use Rattle.yds_edf.proofs.Numbers.{sum_filter}
 use Rattle.yds_edf.proofs.Filled.{contains_filter}

@@ -20,7 +20,7 @@ use Rattle.yds_search.specs.Found.{Group, Share, Found}
 use Rattle.yds_search.specs.Views.{group_view, share_view, shares_view}
 use Rattle.yds_textbook.specs.declared.stage.Stage.{Stage}
 use Rattle.yds_search.proofs.KeySums.{range_more}
-use Rattle.yds_edf.specs.Shares.{JobShare, shares_in}
+use Rattle.yds_timetable.specs.Shares.{JobShare, shares_in}
 use Rattle.yds_edf.specs.Filled.{IsFilled}
 use Rattle.yds_edf.proofs.Filled.{stands_in}
 use Rattle.yds_critical.specs.declared.interval.Interval.{Interval}

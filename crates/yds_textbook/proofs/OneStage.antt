@@ -22,7 +22,7 @@ use Rattle.yds_search.specs.Views.{shares_view, group_view}
 use Rattle.yds_search.proofs.KeySums.{sum_by-map}
 use Rattle.yds_search.proofs.Lowest.{lowest}
 use Rattle.yds_edf.specs.Pending.{sum_below, units_wanted}
-use Rattle.yds_edf.specs.Shares.{JobShare, units_given, total_units, shares_in, shares_before}
+use Rattle.yds_timetable.specs.Shares.{JobShare, units_given, total_units, shares_in, shares_before}
 use Rattle.yds_edf.specs.Serving.{IsDueBefore}
 use Rattle.yds_edf.specs.Filled.{pending_at_start}
 use Rattle.yds_edf.specs.Demand.{capacity_at}

@@ -1,7 +1,6 @@
 -- The intensity of an interval as a speed in lowest terms.
-use Rattle.std.proofs.Common.{◌≡◌, ℕ, ◌-◌, ◌*◌, ◌≤◌, List, arith, inl, inr, ap, subst}
-use Rattle.std.proofs.lemmas.Bool.{cases_lt}
-use Rattle.std.proofs.Math.Nat.{mul-pos, mul-le-mul_right, le_of_mul-le-mul_left}
+use Rattle.std.proofs.Common.{◌≡◌, ℕ, ◌-◌, ◌*◌, ◌≤◌, List, arith, ap, subst}
+use Rattle.std.proofs.Math.Nat.{mul-le-mul_right, le_of_mul-le-mul_left}
 use Rattle.yds_model.specs.Job.{Job}
 use Rattle.yds_model.specs.Scale.{Quotient}
 use Rattle.yds_critical.specs.declared.interval.Interval.{Interval}
@@ -14,15 +13,7 @@ times confined length work long num den some within same =
     le_of_mul-le-mul_left both some
 
 module _ (jobs : List Job) (interval : Interval) (long : ℕ) (speed : Quotient) (densest : IsDensest jobs interval) (is : long ≡ interval.end - interval.start)
-    (some_den : 1 ≤ speed.den) (same : interval.work * speed.den ≡ speed.num * long) where
-  pub some_speed : 1 ≤ speed.num
-  some_speed = elim (cases_lt 0 speed.num) [
-    | inl some ↦ omega arith
-    | inr none ↦
-        let nothing : speed.num ≡ 0 = omega arith in
-        absurd (omega (arith, same, mul-pos densest.has_work some_den, ap (λ n. n * long) nothing))
-  ]
-
+    (same : interval.work * speed.den ≡ speed.num * long) where
   pub fast_enough : IsFastEnough jobs speed
   fast_enough from to forward =
       times _ (interval.end - interval.start) interval.work (to - from) speed.num speed.den (omega (arith, densest.forward)) (densest.densest from to forward)

@@ -1,15 +1,15 @@
 -- Where the jobs of each task follow one another without a gap until the horizon, a plan has one level.
-use Rattle.std.proofs.Common.{◌≡◌, ℕ, zero, suc, ◌+◌, ◌-◌, ◌*◌, ◌<◌, ◌≤◌, ◌==◌, Bool, true, false, List, [], ◌∷◌, ◌++◌, length, get_or, refl, sym, ap, ◌∙◌, append_assoc, arith, inl, inr}
-use Rattle.std.specs.Prelude.{cond, max}
+use Rattle.std.proofs.Common.{◌≡◌, ℕ, ◌+◌, ◌-◌, ◌*◌, ◌<◌, ◌≤◌, true, List, [], ◌∷◌, ◌++◌, length, get_or, refl, sym, ap, ◌∙◌, append_assoc, arith, inl, inr}
+use Rattle.std.specs.Prelude.{max}
 use Rattle.std.specs.List.{All, sum_by, fold, list_all, range_with_len}
 use Rattle.std.proofs.Math.Nat.{le_of_mul-le-mul_left, eq_of_mul-eq-mul_left, mul-le-mul_left, mul-sub}
 use Rattle.std.proofs.Math.Seq.{get_or-append_seam}
-use Rattle.std.proofs.lemmas.Bool.{cases_lt, cases_eq, ne_eqb}
+use Rattle.std.proofs.lemmas.Bool.{cases_lt}
 use Rattle.std.proofs.lemmas.List.{length_push}
 use Rattle.std.proofs.lemmas.List.Elements.{All-head, All-tail}
 use Rattle.std.proofs.lemmas.List.FromFn.{get_or-range_with_len, length-range_with_len}
 use Rattle.std.proofs.lemmas.List.Sums.{sum_by-cons, get_or-le-sum_by}
-use Rattle.yds_model.specs.Numbers.{count, AreDifferent}
+use Rattle.yds_model.specs.Numbers.{AreDifferent}
 use Rattle.yds_model.specs.Job.{Job, no_job, job_at, work_of}
 use Rattle.yds_model.specs.Slot.{WrittenSlot, WholeSlot, IsScale, slots_at}
 use Rattle.yds_model.specs.Feasible.{IsFeasibleAt}
@@ -20,37 +20,23 @@ use Rattle.yds_model.specs.Level.{Level}
 use Rattle.yds_model.specs.Plan.{IsPlan}
 use Rattle.yds_model.specs.Tasks.{Task, fills_horizon}
 use Rattle.yds_model.proofs.Horizon.{busy_and_idle}
-use Rattle.yds_model.proofs.Lists.{count-cons}
 use Rattle.yds_model.proofs.Scale.{scale_exists}
-use Rattle.yds_model.proofs.Sums.{sum_by-add, sum_by-mul, sum_by_at_most, sum_by_zero}
+use Rattle.yds_model.proofs.Sums.{sum_by-mul, sum_by_at_most, sum_by_zero}
 use Rattle.yds_texts.specs.TaskLaws.{IsOneLevel}
 use Rattle.yds_laws.proofs.Bound.{confinement_bound}
 use Rattle.yds_laws.proofs.Curve.{curve, AreFalling, DoTheSame, same_levels}
 use Rattle.yds_laws.proofs.Explained.{proper_explains}
 use Rattle.yds_laws.proofs.Plans.{plan_falls, plan_excess}
+use Rattle.yds_laws.proofs.Served.{counted_once}
 use Rattle.yds_laws.proofs.TaskWork.{jobs_until, confined_work}
 
 -- # All jobs, by their numbers
 
--- a number below the first is in none of these
-count_below : (number a n : ℕ) → number < a → count number (range_with_len a n) ≡ 0
-count_below number a zero below = refl
-count_below number a (suc n) below =
-    omega (arith, count-cons number a (range_with_len (a + 1) n), ap {B = ℕ} (λ b. cond b 1 0) (ne_eqb number a (λ (same : number ≡ a). omega arith)), count_below number (a + 1) n (omega arith))
-
--- and none is there twice
+-- no number is there twice
 all_different : (a n : ℕ) → AreDifferent (range_with_len a n)
-all_different a zero number = omega arith
-all_different a (suc n) number = elim (cases_eq number a) [
-  | inl same ↦ omega (arith, count-cons number a (range_with_len (a + 1) n), once (number == a), count_below number (a + 1) n (omega arith))
-  | inr other ↦ omega (arith, count-cons number a (range_with_len (a + 1) n), ap {B = ℕ} (λ b. cond b 1 0) (ne_eqb number a other), all_different (a + 1) n number)
-]
-  where
-    -- one test counts at most once
-    once : (b : Bool) → cond b 1 0 ≤ 1
-    once true = omega arith
-    once false = omega arith
+all_different a n number = counted_once number a n
 
+-- and each is below the end
 all_known : (n : ℕ) → All (λ number. number < n) (range_with_len 0 n)
 all_known n k d within = omega (arith, within, length-range_with_len 0 n, get_or-range_with_len 0 n k d (omega (arith, within, length-range_with_len 0 n)))
 
@@ -116,17 +102,6 @@ slot_below : (p q work time all long : ℕ) → 1 ≤ long → long * work ≤ a
 slot_below p q work time all long some slow more =
     let under : q * work ≤ p * time = le_of_mul-le-mul_left {k = long} (omega (arith, mul-le-mul_left q slow, mul-le-mul_left time more)) some in
     omega arith
-
--- a slot's work is what it does above p/q and what it does at p/q, at most
-slot_parts : (p q : ℕ) (slots : List WholeSlot) → q * sum_by (λ slot. slot.work) slots ≤ excess p q slots + p * busy slots
-slot_parts p q slots =
-    omega (
-      arith,
-      sum_by_at_most (λ (slot : WholeSlot). q * slot.work) (λ slot. (q * slot.work - p * (slot.to - slot.from)) + p * (slot.to - slot.from)) slots (λ k d within. omega arith),
-      sum_by-mul q (λ (slot : WholeSlot). slot.work) slots,
-      sum_by-add (λ (slot : WholeSlot). q * slot.work - p * (slot.to - slot.from)) (λ slot. p * (slot.to - slot.from)) slots,
-      sum_by-mul p (λ (slot : WholeSlot). slot.to - slot.from) slots,
-    )
 
 -- Slots that do `scale * all` of work in at most `scale * long` of time, none faster than all / long, do above each speed just what one level does.
 excess_of_one : (p q scale all long : ℕ) (slots : List WholeSlot) → 1 ≤ long → busy slots ≤ scale * long → All (λ slot. long * slot.work ≤ all * (slot.to - slot.from)) slots →

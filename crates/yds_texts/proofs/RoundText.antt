@@ -63,7 +63,7 @@ on_points Answered [] text status other answers = absurd (other answers.ended)
 on_points Answered (point ∷ points) text status other answers = (omega arith, answers)
 
 -- a question that asks for points is answered where there are some
-points_answer : (Answered : List ℕ → Status → Type 0) (points : List Point) (text : List ℕ) (status : Status) → 1 ≤ length points → Answered text status →
+pub points_answer : (Answered : List ℕ → Status → Type 0) (points : List Point) (text : List ℕ) (status : Status) → 1 ≤ length points → Answered text status →
     OnPoints Answered points text status
 points_answer Answered [] text status some answers = absurd (omega (arith, some))
 points_answer Answered (point ∷ points) text status some answers = answers

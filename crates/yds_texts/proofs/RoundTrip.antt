@@ -47,28 +47,23 @@ All-middle P all before x after is holds =
 
 -- after the jobs: they and their names
 abbrev pub after_jobs : Document → Document
-after_jobs d = record { names = d.names; jobs = d.jobs; points = []; slots = []; levels = []; grid = None; energy = None }
+after_jobs d = record no_document { names = d.names; jobs = d.jobs }
 
 -- after the points: besides them the points
 abbrev after_points : Document → Document
-after_points d = record { names = d.names; jobs = d.jobs; points = d.points; slots = []; levels = []; grid = None; energy = None }
+after_points d = record (after_jobs d) { points = d.points }
 
 -- after the slots: besides them the slots
 abbrev after_slots : Document → Document
-after_slots d = record { names = d.names; jobs = d.jobs; points = d.points; slots = d.slots; levels = []; grid = None; energy = None }
+after_slots d = record (after_points d) { slots = d.slots }
 
 -- ---- jobs
 
 -- the first jobs with their names
 abbrev some_jobs : List (List ℕ × Job) → Document
-some_jobs named = record {
+some_jobs named = record no_document {
   names = map (λ (one : List ℕ × Job). one.0) named;
   jobs = map (λ (one : List ℕ × Job). one.1) named;
-  points = [];
-  slots = [];
-  levels = [];
-  grid = None;
-  energy = None;
 }
 
 -- the lines of the jobs bring nothing to all of them
@@ -111,7 +106,7 @@ jobs_brought d fits =
 
 -- the document after the points, with the first slots
 abbrev some_slots : Document → List WrittenSlot → Document
-some_slots d slots = record { names = d.names; jobs = d.jobs; points = d.points; slots = slots; levels = []; grid = None; energy = None }
+some_slots d slots = record (after_points d) { slots = slots }
 
 -- the works that its job has before are alike with it
 alike_before : (slots before : List WrittenSlot) (slot : WrittenSlot) (after : List WrittenSlot) → AreInGrain slots → before ++ slot ∷ after ≡ slots →
@@ -155,7 +150,7 @@ slots_brought d fits = Brings-each (some_slots d) (slot_line d.names) d.slots ea
 
 -- the document after the jobs, with the first points
 abbrev some_points : Document → List Point → Document
-some_points d points = record { names = d.names; jobs = d.jobs; points = points; slots = []; levels = []; grid = None; energy = None }
+some_points d points = record (after_jobs d) { points = points }
 
 -- there is a point, so the points are a table
 table_of : (points before : List Point) (point : Point) (after : List Point) → before ++ point ∷ after ≡ points → (points ≡ []) ⊎ IsTable points →
@@ -195,7 +190,7 @@ points_brought d fits = Brings-each (some_points d) point_line d.points each
 
 -- the document after the slots, with the first levels
 abbrev some_levels : Document → List Level → Document
-some_levels d levels = record { names = d.names; jobs = d.jobs; points = d.points; slots = d.slots; levels = levels; grid = None; energy = None }
+some_levels d levels = record (after_slots d) { levels = levels }
 
 -- up to these pieces and members of a level
 abbrev within_level : Document → List Level → Level → List Piece → List ℕ → Document
@@ -294,7 +289,7 @@ levels_brought d fits = Brings-each (some_levels d) (level_lines d.names) d.leve
 
 -- the document after the levels, with a grid and an energy
 abbrev with_both : Document → Option Grid → Option Fraction → Document
-with_both d grid energy = record { names = d.names; jobs = d.jobs; points = d.points; slots = d.slots; levels = d.levels; grid = grid; energy = energy }
+with_both d grid energy = record (some_levels d d.levels) { grid = grid; energy = energy }
 
 -- the grid's line, where there is one, brings the grid
 grid_brought : (d : Document) (grid : Option Grid) → MatchOption grid (Unit {0}) IsGrid → Brings (some_levels d d.levels) (grid_lines grid) (with_both d grid None)

@@ -1,11 +1,11 @@
 -- The laws of periodic tasks. Each is the contract of a public function of this crate.
-use Rattle.std.specs.Prelude.{◌≡◌, ℕ, ◌+◌, ◌*◌, ◌<◌, ◌≤◌, ◌↔◌, List, [], ◌∷◌, length, codes, Some, None, Ok}
+use Rattle.std.specs.Prelude.{◌≡◌, ℕ, ◌+◌, ◌*◌, ◌<◌, ◌≤◌, ◌↔◌, List, [], ◌∷◌, length, codes, Some, Ok}
 use Rattle.yds_model.specs.declared.limits.TheConstants.{MAX_INPUT}
 use Rattle.yds_model.specs.declared.status.Status.TheVariants.{Done}
 use Rattle.yds_model.specs.Slot.{WrittenSlot}
 use Rattle.yds_model.specs.Level.{Level, level_at}
 use Rattle.yds_model.specs.Plan.{IsPlan}
-use Rattle.yds_model.specs.Document.{Document}
+use Rattle.yds_model.specs.Document.{Document, no_document}
 use Rattle.yds_model.specs.Within.{IsDocument}
 use Rattle.yds_model.specs.Reading.{reading}
 use Rattle.yds_model.specs.Tasks.{Task, TaskSet, count_of_jobs, jobs_of_tasks, names_of_tasks, one_level}
@@ -19,14 +19,9 @@ TaskJobsEndInTime = (horizon : ℕ) (task : Task) (k : ℕ) → 1 ≤ task.perio
 
 -- the jobs of the tasks with their names, and nothing else
 abbrev pub jobs_document : TaskSet → Document
-jobs_document set = record {
+jobs_document set = record no_document {
   names = names_of_tasks set;
   jobs = jobs_of_tasks set;
-  points = [];
-  slots = [];
-  levels = [];
-  grid = None;
-  energy = None;
 }
 
 -- The text is read as a document with just the jobs of the tasks, in their order. That the document is possible says that no two

@@ -1,12 +1,9 @@
 use Rattle.std.proofs.Common.{ℕ, ◌-◌, ◌<◌, ◌≤◌, List, length, get_or, arith, rules, inl, inr}
 use Rattle.std.specs.Prelude.{nat_le}
-use Rattle.std.specs.List.Sorted.{IsPartitionedBy, IsNonDecreasing}
+use Rattle.std.proofs.lemmas.List.Sorted.{IsPartitionedBy-leb}
 use Rattle.std.proofs.lemmas.Fn.{always_returns_same}
-use Rattle.std.proofs.lemmas.Bool.{leb-true, leb-false, le-leb, cases_lt}
+use Rattle.std.proofs.lemmas.Bool.{leb-true, leb-false, cases_lt}
 use Rattle.yds_admit.proofs.board.last_until.Goals as goal
-
-parted : (times : List ℕ) (time : ℕ) → IsNonDecreasing times → IsPartitionedBy (λ other. nat_le other time) times
-parted times time rising i j d order below early = le-leb (get_or times i d) time (omega (arith, rising i j d order below, leb-true (get_or times j d) time early))
 
 one : (times : List ℕ) (time bound : ℕ) → 1 ≤ length times → get_or times 0 0 ≤ time →
     ((k : ℕ) → bound ≤ k → k < length times → time < get_or times k 0) → 1 ≤ bound
@@ -19,7 +16,7 @@ pub overflow_sub-result : goal.overflow_sub-result
 overflow_sub-result c =
     let found = c.partition_point.ensures.partitioned (λ other. nat_le other c.args.time)
     (always_returns_same _ _ _ (λ a r f' k. (search rules, search rules)))
-    (parted c.args.times.now c.args.time c.requires.rising) in
+    (IsPartitionedBy-leb (λ (other : ℕ). other) c.args.times.now c.args.time c.requires.rising) in
     omega (
       arith,
       one c.args.times.now c.args.time c.partition_point.result c.requires.some c.requires.begun
@@ -30,7 +27,7 @@ pub returns : goal.returns
 returns c =
     let found = c.partition_point.ensures.partitioned (λ other. nat_le other c.args.time)
     (always_returns_same _ _ _ (λ a r f' k. (search rules, search rules)))
-    (parted c.args.times.now c.args.time c.requires.rising) in
+    (IsPartitionedBy-leb (λ (other : ℕ). other) c.args.times.now c.args.time c.requires.rising) in
     let late = λ (k : ℕ) (behind : c.partition_point.result ≤ k) (within : k < length c.args.times.now).
     leb-false (get_or c.args.times.now k 0) c.args.time (found.1 k 0 behind within) in
     let some = one c.args.times.now c.args.time c.partition_point.result c.requires.some c.requires.begun late in

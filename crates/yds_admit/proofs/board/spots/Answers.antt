@@ -1,38 +1,18 @@
 use Rattle.std.proofs.Common.{◌≡◌, ℕ, ◌<◌, ◌≤◌, ◌∷◌, [], List, length, get_or, ◌∙◌, sym, subst, arith, inl, inr, ap}
-use Rattle.std.specs.List.{Contains}
 use Rattle.std.proofs.lemmas.Bool.{cases_lt}
-use Rattle.std.proofs.lemmas.List.{get_or_read, get_or_default, map-append}
+use Rattle.std.proofs.lemmas.List.{get_or_read, map-append}
 use Rattle.std.proofs.lemmas.List.Elements.{All-push}
 use Rattle.yds_model.specs.Job.{Job, IsJob, no_job, job_at}
 use Rattle.yds_admit.specs.declared.board.Spot.{Spot}
 use Rattle.yds_admit.specs.Board.{IsSpot}
-use Rattle.yds_admit.specs.Chain.{AreTimes}
+use Rattle.yds_admit.specs.Chain.{AreTimes, IsEnd}
 use Rattle.yds_admit.proofs.Marks.{numbers_more}
 use Rattle.yds_admit.proofs.board.spots.Goals as goal
 
 -- a job at its places
 module _ (rows : List Job) (times : List ℕ) (number : ℕ) (row : Job) (are : AreTimes 0 rows times) (below : number < length rows) (is : row ≡ job_at rows number) (is_job : IsJob row)
     (begin end : ℕ) (within : begin < length times) (until : get_or times begin 0 ≤ row.release)
-    (after : (q : ℕ) → begin < q → q < length times → row.release < get_or times q 0) (most : end ≤ length times)
-    (early : (q : ℕ) → q < end → get_or times q 0 < row.deadline) (late : (q : ℕ) → end ≤ q → q < length times → row.deadline ≤ get_or times q 0) where
-  found : Contains times row.deadline
-  found = subst (λ (job : Job). Contains times job.deadline) (sym is) (are.all number no_job below (omega (arith, is_job.has_window, ap (λ (job : Job). job.deadline) is)))
-
-  not_before : end ≤ found.0
-  not_before = elim (cases_lt found.0 end) [
-    | inr after ↦ after
-    | inl less ↦ absurd (omega (arith, early found.0 less, get_or_default times found.0 0 row.deadline found.1, found.2))
-  ]
-
-  there : get_or times end 0 ≡ row.deadline
-  there = omega (
-    arith,
-    late end (omega arith) (omega (arith, not_before, found.1)),
-    are.rising end found.0 0 not_before found.1,
-    get_or_default times found.0 0 row.deadline found.1,
-    found.2,
-  )
-
+    (after : (q : ℕ) → begin < q → q < length times → row.release < get_or times q 0) (at : IsEnd times row.deadline end) where
   is_spot : IsSpot rows times (record { number = number; release = row.release; work = row.work; begin = begin; end = end })
   is_spot = record {
     known = below;
@@ -41,11 +21,11 @@ module _ (rows : List Job) (times : List ℕ) (number : ℕ) (row : Job) (are : 
     work = ap (λ (job : Job). job.work) is;
     in_order = elim (cases_lt begin end) [
       | inl less ↦ less
-      | inr most ↦ absurd (omega (arith, are.rising end begin 0 most within, there, until, is_job.has_window))
+      | inr most ↦ absurd (omega (arith, are.rising end begin 0 most within, at.there, until, is_job.has_window))
     ];
-    within = omega (arith, not_before, found.1);
-    deadline = there ∙ ap (λ (job : Job). job.deadline) is;
-    earlier = λ q less. omega (arith, early q less, there);
+    within = at.within;
+    deadline = at.there ∙ ap (λ (job : Job). job.deadline) is;
+    earlier = λ q less. omega (arith, at.is.before q less, at.there);
     until = until;
     after = after;
   }
@@ -55,10 +35,12 @@ loop-number-preserved c =
     let row : Job = record { release = c.row.inside.release; deadline = c.row.inside.deadline; work = c.row.inside.work } in
     let is : row ≡ job_at c.args.rows.now c.loop-number.number =
     c.row.view_is ∙ get_or_read c.args.rows.now c.loop-number.number c.index-rows-number.result c.loop-number-test.true c.index-rows-number.is no_job in
-    let spot : Spot = record { number = c.loop-number.number; release = row.release; work = row.work; begin = c.last_until-begin.result; end = c.place-end.result } in
+    let end : ℕ = get_or c.args.ends.now c.loop-number.number 0 in
+    let spot : Spot = record { number = c.loop-number.number; release = row.release; work = row.work; begin = c.last_until.result; end = end } in
     record {
       numbers = rw (c.in_ok-push.ensures.items, map-append (λ (spot : Spot). spot.number) c.loop-number.spots.items (spot ∷ []), c.loop-number.invariant.numbers) (numbers_more c.loop-number.number);
       each = rw c.in_ok-push.ensures.items (All-push (IsSpot c.args.rows.now c.args.times.now) c.loop-number.spots.items spot c.loop-number.invariant.each
-          (is_spot c.args.rows.now c.args.times.now c.loop-number.number row c.requires c.loop-number-test.true is c.row.invariant c.last_until-begin.result c.place-end.result
-          c.last_until-begin.ensures.within c.last_until-begin.ensures.until c.last_until-begin.ensures.after c.place-end.ensures.within c.place-end.ensures.before c.place-end.ensures.after));
+          (is_spot c.args.rows.now c.args.times.now c.loop-number.number row c.requires.times c.loop-number-test.true is c.row.invariant c.last_until.result end
+          c.last_until.ensures.within c.last_until.ensures.until c.last_until.ensures.after
+          (subst (λ (time : ℕ). IsEnd c.args.times.now time end) (sym (ap (λ (job : Job). job.deadline) is)) (c.requires.ends.each c.loop-number.number c.loop-number-test.true))));
     }

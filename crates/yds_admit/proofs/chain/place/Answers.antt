@@ -12,6 +12,8 @@ returns c =
     (IsPartitionedBy-ltb (λ (other : ℕ). other) c.args.times.now c.args.time c.requires) in
     record {
       within = c.partition_point.ensures.bound;
-      before = λ q less. ltb-true _ _ (found.0 q 0 (omega (arith, c.partition_point.ensures.bound)) less);
-      after = λ q behind within. ltb-false _ _ (found.1 q 0 behind within);
+      is = record {
+        before = λ q less. ltb-true _ _ (found.0 q 0 (omega (arith, c.partition_point.ensures.bound)) less);
+        after = λ q behind within. ltb-false _ _ (found.1 q 0 behind within);
+      };
     }

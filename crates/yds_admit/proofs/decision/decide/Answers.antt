@@ -3,5 +3,7 @@ use Rattle.yds_admit.proofs.decision.decide.Goals as goal
 
 pub returns : goal.returns
 returns c =
-    is_decision c.args.rows.now c.args.top c.loop-state.state.next c.loop-state.state.taken.items c.loop-state.state.jobs.items c.loop-state.state.refused.items
-    c.loop-state-test.false c.loop-state.invariant.within c.loop-state.invariant.decided
+    let state = c.loop-state.state in
+    let held = rw (c.in_ok-board.ensures.rows, c.in_ok-board.ensures.top) at c.loop-state.invariant.decided in
+    is_decision c.args.rows.now c.args.top state.next state.taken.items state.jobs.items state.refused.items
+    c.loop-state-test.false (rw c.in_ok-board.ensures.rows at c.loop-state.invariant.within) held

@@ -1,9 +1,9 @@
 use Rattle.std.proofs.Common.{◌-◌, length}
-use Rattle.yds_admit.specs.Decision.{IsState}
+use Rattle.yds_admit.specs.State.{IsState}
 use Rattle.yds_admit.proofs.decision.decide.Given as goal
 
 abbrev pub invariant-loop-state : goal.invariant-loop-state
-invariant-loop-state l = IsState l.rows l.top l.state
+invariant-loop-state l = IsState l.board l.state
 
 abbrev pub decreases-loop-state : goal.decreases-loop-state
 decreases-loop-state l = length l.rows - l.state.next

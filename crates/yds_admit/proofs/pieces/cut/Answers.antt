@@ -11,7 +11,7 @@ pub loop-left-init : goal.loop-left-init
 loop-left-init c =
     let kept = c.last_open-place.ensures.kept c.args.gaps.now c.requires.links in
     record {
-      cutting = c.requires.cutting;
+      cutting = λ top times long at cutting. cutting;
       links = kept.0;
       within = c.last_open-place.ensures.within;
       empty = λ some. kept.1;
@@ -47,11 +47,11 @@ loop-left-preserved c =
     ] in
     let kept = c.last_open-place-in-loop-left.ensures.kept new (subst (λ (n : ℕ). AreLinks new (set c.loop-left.links n link)) next led) in
     record {
-      cutting = rw (c.in_ok-push.ensures.items, c.in_ok-push-2.ensures.items, c.new.ensures)
-          (one_piece_more c.args._top c.args._times.now c.loop-left.pieces.jobs.items c.loop-left.pieces.places.items before new held.cutting piece c.args.end place
+      cutting = λ top times long at cutting. rw (c.in_ok-push.ensures.items, c.in_ok-push-2.ensures.items, c.new.ensures)
+          (one_piece_more top times c.loop-left.pieces.jobs.items c.loop-left.pieces.places.items before new (held.cutting top times long at cutting) piece c.args.end place
           (omega (arith, c.requires.within, as_many))
-          (λ q early. omega (arith, c.requires.early q early, deadline))
-          (λ q late most. omega (arith, c.requires.late q late (omega (arith, most, as_many, c.requires.as_long)), deadline))
+          (λ q early. omega (arith, at.before q early, deadline))
+          (λ q late most. omega (arith, at.after q late (omega (arith, most, as_many, long)), deadline))
           held.within empty (length-set before gap (get_or before gap 0 - taken))
           (λ q same. let here : q ≡ gap = omega (arith, same, next) in omega (
             arith,
@@ -88,7 +88,7 @@ loop-left-preserved c =
     }
 
 pub returns-in_ok-push-4-clause-cutting : goal.returns-in_ok-push-4-clause-cutting
-returns-in_ok-push-4-clause-cutting c =
+returns-in_ok-push-4-clause-cutting c top times long at cutting =
     let held = c.loop-left.invariant in
     let gaps = c.loop-left.gaps in
     let piece : Job = record { release = c.job.inside.release; deadline = c.job.inside.deadline; work = c.loop-left.left } in
@@ -105,10 +105,10 @@ returns-in_ok-push-4-clause-cutting c =
       | else-loop-left-test w ↦ omega (arith, w.loop-left-test.false)
     ] in
     rw (c.in_ok-push-3.ensures.items, c.in_ok-push-4.ensures.items, c.new-then-left-gt0-2.ensures)
-    (one_piece_more c.args._top c.args._times.now c.loop-left.pieces.jobs.items c.loop-left.pieces.places.items gaps gaps held.cutting piece c.args.end c.loop-left.place
+    (one_piece_more top times c.loop-left.pieces.jobs.items c.loop-left.pieces.places.items gaps gaps (held.cutting top times long at cutting) piece c.args.end c.loop-left.place
     (omega (arith, c.requires.within, as_many))
-    (λ q early. omega (arith, c.requires.early q early, deadline))
-    (λ q late most. omega (arith, c.requires.late q late (omega (arith, most, as_many, c.requires.as_long)), deadline))
+    (λ q early. omega (arith, at.before q early, deadline))
+    (λ q late most. omega (arith, at.after q late (omega (arith, most, as_many, long)), deadline))
     held.within (held.empty idle) refl (λ q same. omega (arith, none q same)) (λ q other. refl))
 
 pub returns-in_ok-push-4-clause-into : goal.returns-in_ok-push-4-clause-into

@@ -1,49 +1,64 @@
-use Rattle.std.proofs.Common.{◌≡◌, ℕ, ◌≤◌, ◌∙◌, length, subst, arith, ap, inl, inr}
-use Rattle.std.proofs.lemmas.Bool.{cases_lt}
-use Rattle.std.proofs.lemmas.List.{get_or_read, get_or_default}
+use Rattle.std.proofs.Common.{◌≡◌, ℕ, ◌<◌, List, length, get_or, take, ◌∙◌, sym, subst, arith, ap}
 use Rattle.yds_model.specs.Job.{Job, no_job, job_at}
-use Rattle.yds_admit.specs.Pieces.{AreCut}
+use Rattle.std.proofs.lemmas.List.{get_or_default}
+use Rattle.yds_admit.specs.declared.board.Spot.{Spot}
+use Rattle.yds_admit.specs.Board.{IsSpot, falling_jobs}
+use Rattle.yds_admit.specs.Pieces.{IsCutInto, AreCut}
 use Rattle.yds_admit.proofs.Links.{own_are}
 use Rattle.yds_admit.proofs.Cutting.{none_cut}
-use Rattle.yds_admit.proofs.Made.{none_made, one_made}
+use Rattle.yds_admit.proofs.Fitting.{no_spot, spot_at}
+use Rattle.yds_admit.proofs.Made.{falling_more, none_made, one_made, none_before}
 use Rattle.yds_admit.proofs.pieces.cut_each.Goals as goal
 
-pub loop-number-init : goal.loop-number-init
-loop-number-init c = record {
-  cutting = rw (c.new.ensures.items, c.new-2.ensures.items) (none_cut c.args.top c.args.times.now c.args.gaps.now c.requires.gaps);
-  links = rw (c.as_mut_slice-links.ensures.value, c.in_ok-links.ensures) (own_are c.args.gaps.now (length c.args.times.now) c.requires.gaps.as_long);
-  made = rw c.new.ensures.items (none_made c.args.by_release.now);
-}
+pub loop-spot-init : goal.loop-spot-init
+loop-spot-init c =
+    let board = c.args.board.now in
+    let gaps = c.requires.board.are_gaps in
+    record {
+      cutting = rw (c.in_ok-with_capacity.ensures.items, c.in_ok-with_capacity-2.ensures.items, c.as_mut_slice-rest.ensures.value, c.in_ok-left.ensures.items, c.deref.ensures.value)
+          (none_cut board.top board.times.items board.gaps.items gaps);
+      links = rw (c.as_mut_slice-rest.ensures.value, c.in_ok-left.ensures.items, c.deref.ensures.value, c.as_mut_slice-links.ensures.value, c.in_ok-links.ensures)
+          (own_are board.gaps.items c.len.result (omega (arith, gaps.as_long, c.len.ensures)));
+      made = rw c.in_ok-with_capacity.ensures.items none_made;
+      later = rw c.in_ok-with_capacity.ensures.items (λ k from below i less. absurd (omega (arith, less)));
+    }
 
-pub cut-requires-clause-within : goal.cut-requires-clause-within
-cut-requires-clause-within c =
-    let is = c.job.view_is ∙ get_or_read c.args.by_release.now c.loop-number.number c.index-by_release-number.result c.loop-number-test.true c.index-by_release-number.is no_job in
-    let there = c.requires.due c.loop-number.number no_job c.loop-number-test.true in
-    let deadline = ap (λ (job : Job). job.deadline) is in
-    let short : c.in_ok-end.end ≤ there.0 = elim (cases_lt there.0 c.in_ok-end.end) [
-      | inr most ↦ most
-      | inl less ↦ absurd (omega (
-        arith,
-        c.in_ok-end.ensures.before there.0 less,
-        deadline,
-        get_or_default c.args.times.now there.0 0 (job_at c.args.by_release.now c.loop-number.number).deadline there.1,
-        there.2,
-      ))
-    ] in
-    omega (arith, short, there.1, c.requires.gaps.as_long, c.loop-number.auto.gaps)
-
-pub loop-number-preserved : goal.loop-number-preserved
-loop-number-preserved c = record {
-  cutting = c.in_ok-cut.ensures.cutting;
-  links = c.in_ok-cut.ensures.links;
-  made = one_made c.args.by_release.now c.loop-number.number c.requires.falling c.loop-number-test.true c.index-by_release-number.result
-      (get_or_read c.args.by_release.now c.loop-number.number c.index-by_release-number.result c.loop-number-test.true c.index-by_release-number.is no_job)
-      (omega (arith, c.job.invariant.work_in_range, ap (λ (job : Job). job.work) c.job.view_is))
-      c.loop-number.pieces.jobs.items c.cut.new.pieces.jobs.items c.loop-number.invariant.made c.in_ok-cut.ensures.into;
-}
-
-pub returns-clause-cut : goal.returns-clause-cut
-returns-clause-cut c =
-    subst (λ (n : ℕ). AreCut c.args.by_release.now n c.loop-number.pieces.jobs.items)
-    (let e : c.loop-number.number ≡ length c.args.by_release.now = omega (arith, c.loop-number-test.false, c.loop-number.auto.number-end) in e)
-    c.loop-number.invariant.made
+pub loop-spot-preserved : goal.loop-spot-preserved
+loop-spot-preserved c =
+    let board = c.args.board.now in
+    let valid = c.requires.board in
+    let rows = board.rows.now in
+    let times = board.times.items in
+    let spots = board.spots.items in
+    let n : ℕ = c.loop-spot.spot-index in
+    let held = c.loop-spot.invariant in
+    let old = c.loop-spot.pieces.jobs.items in
+    let new = c.cut.new.pieces.jobs.items in
+    let below : n < length spots = omega (arith, c.loop-spot-test.true, c.deref-spot-items.ensures.len) in
+    let spot : Spot = spot_at spots n in
+    let here : IsSpot rows times spot = valid.are_spots.each n no_spot below in
+    let job : Job = job_at rows spot.number in
+    let is : get_or rows spot.number c.index-board-spot.result ≡ job = get_or_default rows spot.number c.index-board-spot.result no_job here.known in
+    let into = subst (λ (one : Job). IsCutInto one old new) is (rw c.deref-spot-items.ensures.value at c.in_ok-cut.ensures.into) in
+    let cutting = rw c.deref-spot-items.ensures.value at c.in_ok-cut.ensures.cutting in
+    let deadline = here.deadline ∙ sym (ap (λ (one : Job). one.deadline) is) in
+    record {
+      cutting = cutting board.top times
+          (omega (
+            arith,
+            valid.are_gaps.as_long,
+            c.loop-spot.auto.rest,
+            ap (λ (some : List ℕ). length some) (c.as_mut_slice-rest.ensures.value ∙ c.in_ok-left.ensures.items ∙ c.deref.ensures.value),
+          ))
+          (record {
+            before = λ q less. omega (arith, here.earlier q less, deadline);
+            after = λ q from within. omega (arith, valid.are_times.rising spot.end q 0 from within, deadline);
+          })
+          held.cutting;
+      links = c.in_ok-cut.ensures.links;
+      made = subst (λ (some : List Job). AreCut some new) (sym (falling_more rows c.args.marks.now spots n below (rw c.deref-spot-items.ensures.value at c.if-not-marks-spot.false)))
+          (one_made job old new into (falling_jobs rows c.args.marks.now (take n spots)) (valid.are spot.number no_job here.known).work_in_range held.made
+          (λ i less. omega (arith, held.later n (omega arith) below i less, here.release)));
+      later = λ k from within. none_before job old new into (spot_at spots k).release (omega (arith, valid.falling n k no_spot (omega (arith, from)) within, here.release))
+          (held.later k (omega (arith, from)) within);
+    }

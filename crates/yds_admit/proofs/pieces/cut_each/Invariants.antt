@@ -1,10 +1,16 @@
+use Rattle.std.proofs.Common.{ℕ, ◌<◌, ◌≤◌, length, take}
+use Rattle.yds_model.specs.Job.{job_at}
+use Rattle.yds_admit.specs.Board.{falling_jobs}
 use Rattle.yds_admit.specs.Chain.{AreLinks}
 use Rattle.yds_admit.specs.Pieces.{IsCutting, AreCut}
+use Rattle.yds_admit.proofs.Fitting.{spot_at}
 use Rattle.yds_admit.proofs.pieces.cut_each.Given as goal
 
-abbrev pub invariant-loop-number : goal.invariant-loop-number
-invariant-loop-number l = record {
-  cutting : IsCutting l.top l.times l.pieces.jobs.items l.pieces.places.items l.gaps;
-  links : AreLinks l.gaps l.links;
-  made : AreCut l.by_release l.number l.pieces.jobs.items;
+abbrev pub invariant-loop-spot : goal.invariant-loop-spot
+invariant-loop-spot l = record {
+  cutting : IsCutting l.board.top l.board.times.items l.pieces.jobs.items l.pieces.places.items l.rest;
+  links : AreLinks l.rest l.links;
+  made : AreCut (falling_jobs l.board.rows.now l.marks (take l.spot-index l.board.spots.items)) l.pieces.jobs.items;
+  later : (k : ℕ) → l.spot-index ≤ k → k < length l.board.spots.items → (i : ℕ) → i < length l.pieces.jobs.items →
+      (spot_at l.board.spots.items k).release ≤ (job_at l.pieces.jobs.items i).release;
 }

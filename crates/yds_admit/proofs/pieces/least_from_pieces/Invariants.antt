@@ -9,7 +9,7 @@ invariant-loop-count l = record {
   within : l.count ≤ length l.pieces.jobs.items;
   wanted : l.wanted ≡ l.row.work + went l.count l.pieces.jobs.items l.pieces.places.items l.end;
   late : (i : ℕ) → l.count ≤ i → i < length l.pieces.jobs.items → (job_at l.pieces.jobs.items i).release < l.row.release;
-  leaves : AllLeaveRoom l.top l.times l._all l.pieces.jobs.items l.pieces.places.items l.row l.end l.count;
+  leaves : AllLeaveRoom l.top l.pieces.jobs.items l.pieces.places.items l.row l.end l.count;
 }
 
 abbrev pub decreases-loop-count : goal.decreases-loop-count

@@ -1,12 +1,11 @@
-use Rattle.std.proofs.Common.{◌≤◌, arith, ap}
+use Rattle.std.proofs.Common.{arith, ap}
+use Rattle.std.proofs.lemmas.List.Sorted.{IsNonDecreasingBy-insert}
 use Rattle.yds_model.specs.Job.{Job}
-use Rattle.yds_admit.proofs.Inserted.{still}
 use Rattle.yds_admit.proofs.standing.deadline_place.Goals as goal
 
 pub returns-clause-rising : goal.returns-clause-rising
 returns-clause-rising c =
     let deadline = ap (λ (job : Job). job.deadline) c.row.view_is in
-    still c.args.by_deadline.now c.due_before.result c.args.row.now c.due_before.ensures.within (λ one other. one.deadline ≤ other.deadline) c.requires
+    IsNonDecreasingBy-insert (λ (job : Job). job.deadline) c.args.by_deadline.now c.due_before.result c.args.row.now c.requires c.due_before.ensures.within
     (λ k d less. omega (arith, deadline, c.due_before.ensures.before k d less))
     (λ k d after within. omega (arith, deadline, c.due_before.ensures.after k d after within))
-    (omega arith)

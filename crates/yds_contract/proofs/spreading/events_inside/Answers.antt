@@ -1,7 +1,7 @@
 use Rattle.std.proofs.Common.{ℕ, ◌-◌, ◌*◌, ◌/◌, ◌≤◌, List, ◌∙◌, map, ap, sym, subst, arith}
 use Rattle.std.specs.Prelude.{filter}
 use Rattle.yds_model.specs.Piece.{Piece}
-use Rattle.yds_contract.specs.Cut.{lies_between, cut_between}
+use Rattle.yds_contract.specs.Cut.{comes_between, cut_between}
 use Rattle.yds_contract.proofs.Cutting.{same_cuts, not_inside, units_forward}
 use Rattle.yds_contract.proofs.spreading.events_inside.Goals as goal
 
@@ -17,6 +17,6 @@ returns c =
     let parts = c.args.parts in
     let events = c.args.events.now in
     ap (λ (inside : List ℕ). cut_between from to (map (λ event. event * parts) inside))
-    (c.events_between.ensures ∙ ap (λ (span : Piece). filter (lies_between (span.from / parts) ((span.to - 1) / parts)) events) c.span.view_is)
-    ∙ same_cuts parts from from to (lies_between (from / parts) ((to - 1) / parts)) events (omega arith)
+    (c.events_between.ensures ∙ ap (λ (span : Piece). filter (comes_between (span.from / parts) ((span.to - 1) / parts)) events) c.span.view_is)
+    ∙ same_cuts parts from from to (comes_between (from / parts) ((to - 1) / parts)) events (omega arith)
     (λ time off. not_inside parts from to time c.requires.some c.requires.forward off)

@@ -1,7 +1,7 @@
 use Rattle.std.proofs.Common.{arith}
-use Rattle.yds_document.proofs.LevelLines.{lines_of-more}
+use Rattle.yds_document.proofs.LevelLines.{line_total-more}
 use Rattle.yds_document.proofs.level.batch_len.Goals as goal
 
 pub loop-place-preserved : goal.loop-place-preserved
 loop-place-preserved c =
-    omega (arith, c.loop-place.invariant, lines_of-more c.args.levels.now c.loop-place.place c.index-levels-place.result c.loop-place-test.true c.index-levels-place.is)
+    omega (arith, c.loop-place.invariant, line_total-more c.args.levels.now c.loop-place.place c.index-levels-place.result c.loop-place-test.true c.index-levels-place.is)

@@ -1,8 +1,8 @@
 use Rattle.std.proofs.Common.{◌≡◌, ◌+◌, take}
 use Rattle.yds_document.specs.declared.tail_buffer.TheConstants.{BATCH_LINES}
-use Rattle.yds_document.specs.Level.{lines_of}
+use Rattle.yds_document.specs.Level.{line_total}
 use Rattle.yds_document.proofs.level.batch_len.Given as goal
 
 -- the room that the levels before this one leave
 abbrev pub invariant-loop-place : goal.invariant-loop-place
-invariant-loop-place l = l.room + lines_of (take l.place l.levels) ≡ BATCH_LINES
+invariant-loop-place l = l.room + line_total (take l.place l.levels) ≡ BATCH_LINES

@@ -2,9 +2,9 @@ use Rattle.std.proofs.Common.{◌≡◌, ◌*◌, ◌≤◌, drop, length}
 use Rattle.std.specs.Prelude.{flat_map}
 use Rattle.yds_model.specs.Text.{level_lines}
 use Rattle.yds_document.specs.declared.line_buffer.TheConstants.{LINE_BYTES}
-use Rattle.yds_document.specs.Level.{lines_of}
+use Rattle.yds_document.specs.Level.{line_total}
 use Rattle.yds_document.proofs.level.put_all.Given as goal
 
 -- the lines of the levels from this place on
 abbrev pub invariant-loop-place : goal.invariant-loop-place
-invariant-loop-place l = (l.text ≡ flat_map (level_lines l.instance.names) (drop l.place l.levels)) × (length l.text ≤ LINE_BYTES * lines_of (drop l.place l.levels))
+invariant-loop-place l = (l.text ≡ flat_map (level_lines l.instance.names) (drop l.place l.levels)) × (length l.text ≤ LINE_BYTES * line_total (drop l.place l.levels))

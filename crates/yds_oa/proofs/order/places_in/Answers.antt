@@ -1,7 +1,7 @@
-use Rattle.std.proofs.Common.{◌≡◌, ◌<◌, length, ◌∙◌, sym, subst, ap, arith, refl}
+use Rattle.std.proofs.Common.{◌∙◌, sym, arith, refl}
 use Rattle.std.proofs.lemmas.List.{length-set}
-use Rattle.yds_oa.specs.Order.{no_due, due_at}
-use Rattle.yds_oa.proofs.Places.{all_placed, entry_at, ArePlacesTo, one_place_more}
+use Rattle.yds_oa.specs.Order.{due_at}
+use Rattle.yds_oa.proofs.Places.{all_placed, entry_at, one_place_more}
 use Rattle.yds_oa.proofs.order.places_in.Goals as goal
 
 pub overflow_cast-place : goal.overflow_cast-place

@@ -1,22 +1,20 @@
-use Rattle.std.proofs.Common.{◌≡◌, ◌++◌, ◌∷◌, [], ap, ap₂, ◌∙◌}
+use Rattle.std.proofs.Common.{ap, ap₂, length, ◌∙◌}
 use Rattle.serde_json.specs.Read.{read}
-use Rattle.serde_json.specs.View.{view}
-use Rattle.serde_json.specs.Written.{compact_text, has_float}
 use Rattle.yds_report.specs.JsonValue.{report_value}
-use Rattle.yds_report.proofs.JsonText.{no_float, report_text}
 use Rattle.yds_report.proofs.JsonRead.{reports_are_read}
+use Rattle.yds_report.proofs.Sent.{same_numbers, sent_text}
 use Rattle.yds_report.proofs.json_text.json.Goals as goal
 
-pub returns-clause-text : goal.returns-clause-text
-returns-clause-text c =
-    let jobs = c.args.document.now.instance.jobs in
-    let levels = c.args.certificate.now in
-    let is : view c.in_ok-report.report ≡ report_value jobs levels = c.in_ok-report.ensures ∙ ap₂ report_value c.rows.ensures.jobs c.levels.ensures.value in
-    c.in_ok-push.ensures.items ∙ ap (λ l. l ++ 10 ∷ []) (c.in_ok-text.ensures.text (ap has_float is ∙ no_float jobs levels) ∙ ap compact_text is)
-    ∙ report_text jobs levels c.levels.ensures.kept.each
+pub returns-in_ok-push-in-Ok-clause-text : goal.returns-in_ok-push-in-Ok-clause-text
+returns-in_ok-push-in-Ok-clause-text c =
+    let sent = c.in-Ok.ensures.events in
+    let is = same_numbers _ _ _ _ (length c.rows-rows.result.now) c.levels-levels.result.now _ _ _ _ (c.from.ensures ∙ c.first_release.ensures) c.idle_time.ensures
+    (c.from-2.ensures ∙ c.last_deadline.ensures) c.total_work.ensures ∙ ap₂ report_value c.rows-rows.ensures.jobs c.levels-levels.ensures.value in
+    c.in_ok-push-in-Ok.ensures.items
+    ∙ sent_text c.args.document.now.instance.jobs c.args.certificate.now _ sent.0 c.in-Ok.text.items c.levels-levels.ensures.kept.each is sent.1 sent.2
 
-pub returns-clause-read : goal.returns-clause-read
-returns-clause-read c =
-    let instance = c.args.document.now.instance in
-    ap read (returns-clause-text c)
-    ∙ reports_are_read instance.jobs c.args.certificate.now c.rows.ensures.kept.jobs_fit c.rows.ensures.kept.few c.levels.ensures.kept.each
+pub returns-in_ok-push-in-Ok-clause-read : goal.returns-in_ok-push-in-Ok-clause-read
+returns-in_ok-push-in-Ok-clause-read c =
+    let kept = c.rows-rows.ensures.kept in
+    ap read (returns-in_ok-push-in-Ok-clause-text c)
+    ∙ reports_are_read c.args.document.now.instance.jobs c.args.certificate.now kept.jobs_fit kept.few c.levels-levels.ensures.kept.each

@@ -1,7 +1,7 @@
-use Rattle.std.proofs.Common.{◌≡◌, ℕ, List, [], ◌∙◌, None, ap, subst, sym}
+use Rattle.std.proofs.Common.{ℕ, List, ◌∙◌, ap, subst, sym}
 use Rattle.yds_run.specs.Admit.{RiseFrom}
 use Rattle.yds_model.specs.Job.{Job}
-use Rattle.yds_model.specs.Document.{Document}
+use Rattle.yds_model.specs.Document.{Document, no_document}
 use Rattle.yds_model.specs.Admission.{jobs_with, IsAdmission, IsAdmittedRun}
 use Rattle.yds_model.specs.AdmitAnswer.{with_taken}
 use Rattle.yds_instance.specs.Named.{Named}
@@ -13,14 +13,11 @@ use Rattle.yds_run.proofs.admit.admit_document.Goals as goal
 pub returns : goal.returns
 returns c =
     let admission = c.in_ok-admission.admission in
-    let of_named : Named → Document = λ named. record {
+    let of_named : Named → Document = λ named. record no_document {
       names = named.names;
       jobs = named.jobs;
       points = points_of c.args.document.table;
       slots = admission.schedule.slots;
-      levels = [];
-      grid = None;
-      energy = None;
     } in
     let of_taken : List ℕ → Document = λ taken. with_taken (document_view c.args.document) taken admission.schedule.slots in
     admit_answered (document_view c.args.document) c.args.top admission.taken.items admission.refused.items admission.schedule.slots (document_view c.of_slots.result)

@@ -55,8 +55,8 @@ returns-in-Compare g c =
     c.args.sink.now c.reply-in-Compare.new.sink) (sym c.in-Compare.is)
     (made_replies _ _ _ _ _ _ _ _ _ _ _ c.compare_document.ensures c.reply-in-Compare.ensures)
 
-pub returns : goal.returns
-returns g c =
+pub returns-in-Admit : goal.returns-in-Admit
+returns-in-Admit g c =
     subst (λ question. Replies g.K.Sink.written g.K.Sink.flushed g.K.Sink.flushes g.K.Sink.faults (AnswersQuestion (question_view question) (document_view c.args.document)) c.reply-in-Admit.result
     c.args.sink.now c.reply-in-Admit.new.sink) (sym c.in-Admit.is)
     (made_replies _ _ _ _ _ _ _ _ _ _ _ c.admit_document.ensures c.reply-in-Admit.ensures)

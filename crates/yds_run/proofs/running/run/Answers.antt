@@ -1,5 +1,4 @@
-use Rattle.std.proofs.Common.{ap, sym, ◌∙◌, ◌≡◌, Some, Option}
-use Rattle.yds_model.specs.Request.{Request}
+use Rattle.std.proofs.Common.{ap}
 use Rattle.yds_texts.specs.AdmitText.{HoldsAdmission}
 use Rattle.yds_texts.specs.CompareText.{HoldsComparison}
 use Rattle.yds_texts.specs.JudgedText.{HoldsJudgement, HoldsVerdict, HoldsVerdictOnPoints}
@@ -18,15 +17,11 @@ use Rattle.yds_texts.proofs.PlanText.{plans_hold_the_headline}
 use Rattle.yds_texts.proofs.RoundText.{rounded_holds_least_energy, refused_is_too_slow}
 use Rattle.yds_texts.proofs.RunText.{runs_are_read}
 use Rattle.yds_texts.proofs.TaskTexts.{expansions_are_read}
-use Rattle.yds_run.specs.declared.command.Command.{Command}
-use Rattle.yds_run.specs.Words.{words_of, asked, request_view}
+use Rattle.yds_run.specs.Words.{words_of, asked}
+use Rattle.yds_run.proofs.AskedWords.{named}
 use Rattle.yds_run.proofs.Replied.{made_replies}
 use Rattle.yds_run.proofs.Complete.{question_completes, tasks_complete, trial_answers, answer_holds, judged_keeps, judged_reads, judged_holds}
 use Rattle.yds_run.proofs.running.run.Goals as goal
-
--- what a command that was named asks for
-named : (command found : Command) (request : Option Request) → found ≡ command → Some (request_view found) ≡ request → Some (request_view command) ≡ request
-named command found request is asks = ap (λ other. Some (request_view other)) (sym is) ∙ asks
 
 pub returns-in-Some-Document-clause-complete : goal.returns-in-Some-Document-clause-complete
 returns-in-Some-Document-clause-complete g c =

@@ -7,7 +7,7 @@ use Rattle.yds_model.specs.Piece.{Piece, PiecesFrom}
 use Rattle.yds_model.specs.Event.{stretches}
 use Rattle.yds_events.specs.Stretch.{nth_stretch}
 use Rattle.yds_events.proofs.Neighbours.{few_stretches}
-use Rattle.yds_edf.specs.Shares.{JobShare}
+use Rattle.yds_timetable.specs.Shares.{JobShare}
 use Rattle.yds_edf.specs.Demand.{AreUncut, IsWithinCapacity}
 use Rattle.yds_textbook.specs.Waiting.{contracted_jobs, CanWait, lies_in, inside, contracted_stretch, contracted_stretches, stretches_inside}
 use Rattle.yds_textbook.specs.Stages.{IsDensest, speed_of, share_of_members}
@@ -109,7 +109,7 @@ serve-requires-clause-demand c =
     let speed = c.reduced-speed.result in
     let members = inside rows removed interval c.args.left.now.waiting.now in
     let densest = is_densest rows removed c.args.left.now.waiting.now interval c.requires.left.can_wait c.requires.critical c.requires.left.few in
-    let fast = fast_enough (contracted_jobs rows removed members) interval c.from-length.result speed densest c.from-length.ensures c.reduced-speed.ensures.kept.has_parts
+    let fast = fast_enough (contracted_jobs rows removed members) interval c.from-length.result speed densest c.from-length.ensures
     (rw c.new.ensures.value at c.reduced-speed.ensures.same) in
     subst (λ (jobs : List Job). IsWithinCapacity jobs speed.den c.deref-4.result.now (map (capacity_of speed) c.deref-4.result.now)) (sym (own_jobs c))
     (subst (λ (pieces : List Piece). IsWithinCapacity (contracted_jobs rows removed members) speed.den pieces (map (capacity_of speed) pieces)) (sym (own_stretches c))

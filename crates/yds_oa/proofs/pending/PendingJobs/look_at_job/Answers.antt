@@ -1,7 +1,5 @@
 use Rattle.std.proofs.Common.{◌≡◌, ◌<◌, ℕ, List, length, set, slice_index, ◌∙◌, ap, arith}
 use Rattle.std.proofs.lemmas.Grind.{get_or_default_zero}
-use Rattle.yds_edf.specs.Queue.{pending_in}
-use Rattle.yds_oa.specs.declared.pending.PendingJobs.{PendingJobs}
 use Rattle.yds_oa.proofs.Fresh.{placed_at}
 use Rattle.yds_oa.proofs.Places.{all_placed}
 use Rattle.yds_oa.proofs.pending.PendingJobs.look_at_job.Goals as goal

@@ -1,6 +1,6 @@
 use Rattle.std.proofs.Common.{◌≡◌, ◌+◌, ◌<◌, List, length, take, ◌∙◌, sym, subst, ap, arith}
 use Rattle.std.proofs.lemmas.List.{take_all, get_or_default}
-use Rattle.yds_edf.specs.Shares.{JobShare}
+use Rattle.yds_timetable.specs.Shares.{JobShare}
 use Rattle.yds_oa.specs.Pending.{AreRefreshed, IsNotServed}
 use Rattle.yds_oa.proofs.Fresh.{one_step, still_not_served}
 use Rattle.yds_oa.proofs.pending.PendingJobs.look_at_served.Goals as goal

@@ -1,0 +1,28 @@
+use Rattle.std.proofs.Common.{◌∷◌, [], ◌++◌, ◌∙◌, sym, arith, subst}
+use Rattle.yds_model.specs.Job.{Job}
+use Rattle.yds_laws.specs.AdmissionLaws.{HasRoom}
+use Rattle.yds_admit.proofs.Deciding.{takes}
+use Rattle.yds_admit.proofs.Ordered.{ordered_more}
+use Rattle.yds_admit.proofs.Marks.{one_more}
+use Rattle.yds_admit.proofs.state.State.admit_next.Goals as goal
+
+pub returns-clause-state : goal.returns-clause-state
+returns-clause-state c =
+    let board = c.args.board.now in
+    let rows = board.rows.now in
+    let old = c.args.self.now in
+    let row : Job = record { release = c.row.inside.release; deadline = c.row.inside.deadline; work = c.row.inside.work } in
+    let is = c.row.view_is ∙ c.next_row-row.ensures in
+    let is_job = c.row.invariant in
+    record {
+      on = c.requires.state.on;
+      within = omega (arith, c.requires.more);
+      decided = rw (c.in_ok-push.ensures.items, c.in_ok-push-2.ensures.items)
+          (takes rows board.top old.next old.taken.items old.jobs.items old.refused.items c.requires.state.on.some_top c.requires.more c.requires.state.decided row is
+          is_job (subst (λ (one : Job). HasRoom board.top (old.jobs.items ++ one ∷ [])) (sym is) c.requires.room));
+      marked = rw c.in_ok-push-2.ensures.items (one_more rows old.marks.items old.jobs.items old.next row c.requires.more is c.requires.state.marked);
+      ordered = rw (c.in_ok-push-2.ensures.items, c.in_ok-insert.ensures.items)
+          (ordered_more old.jobs.items old.by_deadline.items old.earliest c.deadline_place-place.result c.min-self.result row c.requires.state.ordered is_job
+          c.min-self.ensures
+          (rw (c.deref.ensures.value, ← c.row.view_is) at c.deadline_place-place.ensures.rising));
+    }

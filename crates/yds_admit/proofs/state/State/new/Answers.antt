@@ -1,0 +1,34 @@
+use Rattle.std.proofs.Common.{ℕ, ◌≡◌, ◌≤◌, false, arith, [], length, inl, inr, replicate, get_or}
+use Rattle.std.proofs.lemmas.Bool.{cases_lt}
+use Rattle.std.proofs.lemmas.List.{get_or-replicate, length-replicate, get_or_past}
+use Rattle.std.proofs.lemmas.List.Sorted.{IsPermutation-refl}
+use Rattle.std.proofs.lemmas.List.Elements.{All-nil}
+use Rattle.yds_admit.proofs.Deciding.{begun}
+use Rattle.yds_admit.proofs.Marks.{none_marked}
+use Rattle.yds_admit.proofs.state.State.new.Goals as goal
+
+none : (n number : ℕ) → get_or (replicate n false) number false ≡ false
+none n number = elim (cases_lt number n) [
+  | inl below ↦ get_or-replicate n number false false below
+  | inr past ↦ get_or_past (replicate n false) number false (omega (arith, past, length-replicate n false))
+]
+
+pub returns-clause-state : goal.returns-clause-state
+returns-clause-state c =
+    let is = c.in_ok-vec.ensures.items_if_clones_equal (λ y e. e) in
+    let board = c.args.board.now in
+    let n : ℕ = length board.rows.now in
+    record {
+      on = c.requires;
+      within = omega arith;
+      decided = rw (c.new.ensures.items, c.new-2.ensures.items, c.new-3.ensures.items) (begun board.rows.now board.top);
+      marked = rw (is, c.new-2.ensures.items) (none_marked board.rows.now (replicate n false) (length-replicate n false) (λ number from. none n number));
+      ordered = rw (c.new-2.ensures.items, c.new-4.ensures.items) (record {
+        deadlines = IsPermutation-refl [];
+        rising = λ i j d order below. absurd (omega arith);
+        releases = record {
+          least = All-nil (λ job. 1000000000 ≤ job.release);
+          known = λ before. absurd (omega arith);
+        };
+      });
+    }

@@ -1,0 +1,81 @@
+-- Each answer of the definitions is worth what is said of it.
+use Rattle.std.proofs.Common.{◌≡◌, ◌≢◌, ◌++◌, ℕ, List, [], Some, None, ap, refl, subst, sym, ◌∙◌}
+use Rattle.yds_model.specs.declared.status.Status.{Status}
+use Rattle.yds_model.specs.declared.status.Status.TheVariants as statuses
+use Rattle.yds_model.specs.Answer.{AnswersRequest}
+use Rattle.yds_model.specs.Request.{Request}
+use Rattle.yds_report.specs.JsonText.{HoldsReport}
+use Rattle.yds_texts.specs.AdmitText.{HoldsAdmission}
+use Rattle.yds_texts.specs.CompareText.{HoldsComparison}
+use Rattle.yds_texts.specs.CurveText.{HoldsCurve}
+use Rattle.yds_texts.specs.JudgedText.{IsJudged, HoldsJudgement, HoldsVerdict, HoldsVerdictOnPoints}
+use Rattle.yds_texts.specs.PlanText.{HoldsHeadline}
+use Rattle.yds_texts.specs.RoundText.{HoldsLeastEnergy, HoldsTooSlow}
+use Rattle.yds_texts.specs.RunText.{HoldsAverageRate, HoldsOptimalAvailable}
+use Rattle.yds_texts.specs.TaskLaws.{HoldsExpansion}
+use Rattle.yds_texts.proofs.AdmitText.{admission_held}
+use Rattle.yds_texts.proofs.CompareText.{comparison_holds, compared_is_too_slow}
+use Rattle.yds_texts.proofs.CurveText.{curves_are_least}
+use Rattle.yds_texts.proofs.JudgedText.{judgements_tell_proper, verdicts_tell_feasible}
+use Rattle.yds_texts.proofs.PlanText.{plans_hold_the_headline}
+use Rattle.yds_texts.proofs.RoundText.{rounded_holds_least_energy, refused_is_too_slow}
+use Rattle.yds_texts.proofs.RunText.{runs_are_read}
+use Rattle.yds_texts.proofs.TaskTexts.{expansions_are_read}
+use Rattle.yds_run.specs.Words.{asked}
+use Rattle.yds_run.specs.Run.{IsWhole, Writes, WritesWhole}
+use Rattle.yds_run.proofs.Complete.{whole_outcome}
+use Rattle.yds_run.proofs.Reported.{report_held}
+use Rattle.yds_c.specs.Worth.{IsWorth}
+use Rattle.yds_c.specs.Answered.{IsAnswer}
+
+module _ (words : List (List ℕ)) (input text : List ℕ) (status : Status) (answers : AnswersRequest (asked words) input text status) where
+  -- an answer of this status holds what each such answer holds, where the words ask for it
+  holds : (request : Request) (ended : Status) (Holds : List ℕ → List ℕ → Type 0)
+      → ((input text : List ℕ) → AnswersRequest (Some request) input text ended → Holds input text) → asked words ≡ Some request → status ≡ ended → Holds input text
+  holds request ended Holds law asks is =
+      law input text (subst (AnswersRequest (Some request) input text) is (subst (λ asked. AnswersRequest asked input text status) asks answers))
+
+  -- so does a yes or a no
+  holds_judged : (request : Request) (Holds : List ℕ → List ℕ → Status → Type 0)
+      → ((input text : List ℕ) (status : Status) → IsJudged status → AnswersRequest (Some request) input text status → Holds input text status)
+      → asked words ≡ Some request → IsJudged status → Holds input text status
+  holds_judged request Holds law asks judged = law input text status judged (subst (λ asked. AnswersRequest asked input text status) asks answers)
+
+  pub answers_are_worth : IsWorth words input text status
+  answers_are_worth = record {
+    headline = λ plan done. holds _ _ HoldsHeadline plans_hold_the_headline (ap asked plan) done;
+    accepted = λ check judged. holds_judged _ HoldsJudgement judgements_tell_proper (ap asked check) judged;
+    feasible = λ audit judged. holds_judged _ HoldsVerdict verdicts_tell_feasible.audit (ap asked audit) judged;
+    feasible_on_points = λ audit judged. holds_judged _ HoldsVerdictOnPoints verdicts_tell_feasible.on_points (ap asked audit) judged;
+    least_energy = λ round done. holds _ _ HoldsLeastEnergy rounded_holds_least_energy (ap asked round) done;
+    too_slow = λ round no. holds _ _ HoldsTooSlow refused_is_too_slow (ap asked round) no;
+    average_rate = λ grid avr done. holds _ _ (HoldsAverageRate grid) (runs_are_read.average_rate grid) avr done;
+    optimal_available = λ grid oa done. holds _ _ (HoldsOptimalAvailable grid) (runs_are_read.optimal_available grid) oa done;
+    comparison = λ grid compare done. holds _ _ (HoldsComparison grid) (comparison_holds grid) compare done;
+    compared_too_slow = λ grid compare no. holds _ _ HoldsTooSlow (compared_is_too_slow grid) compare no;
+    least_excess = λ curve done. holds _ _ HoldsCurve curves_are_least (ap asked curve) done;
+    json = λ report done. holds _ _ HoldsReport report_held (ap asked report) done;
+    expansion = λ expand done. holds _ _ HoldsExpansion expansions_are_read (ap asked expand) done;
+    admission = λ top admit done. holds _ _ (HoldsAdmission top) (admission_held words top admit) admit done;
+  }
+
+-- a text that was written whole into a sink that was empty
+pub whole_is_answer : (words : List (List ℕ)) (input old written : List ℕ) (result : Status) → old ≡ [] → IsWhole result
+    → Writes (AnswersRequest (asked words) input) result (Some old) (Some written) None → IsAnswer words input written result
+whole_is_answer words input old written result empty whole writes =
+    let outcome : WritesWhole result writes.text writes.status (Some old) (Some written) None =
+    whole_outcome result writes.text writes.status (Some old) (Some written) None whole writes.outcome in
+    let same : written ≡ writes.text = outcome.whole ∙ ap (λ front. front ++ writes.text) empty in
+    let answers : AnswersRequest (asked words) input written result =
+    subst (AnswersRequest (asked words) input written) outcome.said (subst (λ told. AnswersRequest (asked words) input told writes.status) (sym same) writes.answers) in
+    record { answers = answers; whole = whole; worth = answers_are_worth words input written result answers }
+
+-- a run that ended by no fault and had its memory wrote its text whole
+pub ended_whole : (result : Status) → result ≢ statuses.ReadFault → result ≢ statuses.WriteFault → result ≢ statuses.Memory → IsWhole result
+ended_whole statuses.Done read write memory = tt
+ended_whole statuses.No read write memory = tt
+ended_whole statuses.Usage read write memory = tt
+ended_whole statuses.Refused read write memory = tt
+ended_whole statuses.ReadFault read write memory = absurd (read refl)
+ended_whole statuses.WriteFault read write memory = absurd (write refl)
+ended_whole statuses.Memory read write memory = absurd (memory refl)

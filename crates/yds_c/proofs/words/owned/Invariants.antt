@@ -1,0 +1,7 @@
+use Rattle.std.proofs.Common.{◌≡◌, take}
+use Rattle.yds_run.specs.Words.{words_of}
+use Rattle.yds_c.specs.Given.{bytes_of}
+use Rattle.yds_c.proofs.words.owned.Given as goal
+
+abbrev pub invariant-loop-word : goal.invariant-loop-word
+invariant-loop-word l = words_of l.owned.items ≡ bytes_of (take l.word-index l.words)

@@ -1,0 +1,5 @@
+pub mod Given
+pub mod Text
+pub mod Put
+pub mod Worth
+pub mod Answered

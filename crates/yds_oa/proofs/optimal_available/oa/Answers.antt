@@ -1,6 +1,0 @@
-use Rattle.yds_oa.proofs.Available.{ok_run}
-use Rattle.yds_oa.proofs.optimal_available.oa.Goals as goal
-
-pub returns-clause-run : goal.returns-clause-run
-returns-clause-run c =
-    ok_run c.args.rows.now c.args.grid _ _ c.run_policy.result c.requires.some_grid c.run_policy.ensures.rows c.run_policy.ensures.limits c.run_policy.ensures.run

@@ -1,0 +1,13 @@
+-- The lines of verdicts and judgements: their first word, and the other words each after a space.
+use Rattle.std.proofs.Common.{◌≡◌, ℕ, List, [], ◌∷◌, ◌++◌, sym, ap}
+use Rattle.std.specs.List.{join_with_byte}
+use Rattle.std.proofs.lemmas.List.{append-nil}
+use Rattle.yds_model.specs.Text.{line}
+use Rattle.yds_run.specs.VerdictLine.{spaced}
+
+joined : (word : List ℕ) (words : List (List ℕ)) → join_with_byte 32 (word ∷ words) ≡ word ++ spaced words
+joined word [] = sym (append-nil word)
+joined word (next ∷ words) = ap (λ l. word ++ 32 ∷ l) (joined next words)
+
+pub spaced_line : (word : List ℕ) (words : List (List ℕ)) → (word ++ spaced words) ++ 10 ∷ [] ≡ line (word ∷ words)
+spaced_line word words = ap (λ l. l ++ 10 ∷ []) (sym (joined word words))

@@ -1,0 +1,66 @@
+-- Units and a length in lowest terms, and units that are read off a pace.
+use Rattle.std.proofs.Common.{◌≡◌, ℕ, zero, suc, ◌*◌, ◌/◌, ◌≤◌, List, Some, ap, subst, sym, ◌∙◌, arith}
+use Rattle.std.specs.Prelude.{Option}
+use Rattle.std.specs.List.{All}
+use Rattle.std.specs.Int.{IsGcd}
+use Rattle.std.proofs.Math.Nat.{div-mul_cancel, div-le_self, mul-div_cancel}
+use Rattle.yds_model.specs.declared.limits.TheConstants.{MAX_DENOMINATOR, MAX_SLOT_WORK}
+use Rattle.yds_model.specs.Divisor.{common_divisor}
+use Rattle.yds_model.specs.Piece.{Piece}
+use Rattle.yds_model.proofs.Divisor.{divisor_is_greatest}
+use Rattle.yds_events.specs.Stretch.{IsStretch, length_of}
+use Rattle.yds_timetable.specs.declared.limits.TheConstants.{MAX_UNITS}
+use Rattle.yds_timetable.specs.declared.pace.Pace.{Pace}
+use Rattle.yds_timetable.specs.Shares.{JobShare, total_units}
+use Rattle.yds_timetable.specs.Pace.{lowest_pace, IsPaceOf, Fills}
+use Rattle.yds_timetable.specs.Timetable.{Row, IsFilledAt, IsRow}
+
+-- both factors of a product of at least 1 are at least 1
+pub factors : (one other product : ℕ) → one * other ≡ product → 1 ≤ product → (1 ≤ one) × (1 ≤ other)
+factors zero other product is some = absurd (omega arith)
+factors (suc one) zero product is some = absurd (omega arith)
+factors (suc one) (suc other) product is some = (omega arith, omega arith)
+
+-- so the greatest common divisor of a number of at least 1 with another is
+pub divisor_some : (a b divisor : ℕ) → 1 ≤ b → IsGcd a b divisor → 1 ≤ divisor
+divisor_some a b divisor some greatest = (factors (b / divisor) divisor b (div-mul_cancel divisor greatest.1) some).1
+
+-- units fill a stretch at the pace in lowest terms
+pub lowest_is : (units : ℕ) (stretch : Piece) (grain : ℕ) → IsStretch stretch → 1 ≤ units → 1 ≤ grain → grain ≤ MAX_DENOMINATOR →
+    units / common_divisor units (length_of stretch) ≤ MAX_DENOMINATOR → IsPaceOf (lowest_pace units stretch grain) stretch units
+lowest_is units stretch grain is some some_grain grain_in_range in_range =
+    let greatest = divisor_is_greatest units (length_of stretch) in
+    let divisor = common_divisor units (length_of stretch) in
+    let units_is : units / divisor * divisor ≡ units = div-mul_cancel divisor greatest.0 in
+    record {
+      is_stretch = is;
+      times = divisor;
+      length_is = div-mul_cancel divisor greatest.1;
+      units_is = units_is;
+      some_units = (factors (units / divisor) divisor units units_is some).0;
+      units_in_range = in_range;
+      some_grain = some_grain;
+      grain_in_range = grain_in_range;
+    }
+
+-- and so do shares of so many units
+pub lowest_fills : (units : ℕ) (stretch : Piece) (grain : ℕ) (shares : List JobShare) → IsStretch stretch → 1 ≤ units → units ≡ total_units shares →
+    1 ≤ grain → grain ≤ MAX_DENOMINATOR → units ≤ MAX_DENOMINATOR → All (λ share. 1 ≤ share.units) shares →
+    All (λ share. share.units ≤ grain * MAX_SLOT_WORK) shares → Fills (lowest_pace units stretch grain) stretch shares
+lowest_fills units stretch grain shares is some total some_grain grain_in_range in_range each works = record {
+  own = subst (IsPaceOf (lowest_pace units stretch grain) stretch) total
+      (lowest_is units stretch grain is some some_grain grain_in_range (omega (arith, in_range, div-le_self units (common_divisor units (length_of stretch)))));
+  some = each;
+  works = works;
+  few = omega (arith, total, in_range);
+}
+
+-- a stretch serves its pace's units as often as it has the pace's time
+pub units_read : (row : Row) (pace : Pace) (length : ℕ) → row.pace ≡ Some pace → IsRow row → length ≡ length_of row.stretch →
+    (pace.units * (length / pace.time) ≡ total_units row.shares) × (total_units row.shares ≤ MAX_UNITS)
+units_read row pace length at is long =
+    let fills : Fills pace row.stretch row.shares = subst (λ (p : Option Pace). IsFilledAt p row.stretch row.shares) at is in
+    let some_time : 1 ≤ pace.time = (factors pace.time fills.own.times (length_of row.stretch) fills.own.length_is (omega (arith, fills.own.is_stretch.has_length))).0 in
+    let often : length / pace.time ≡ fills.own.times =
+    ap (λ n. n / pace.time) (long ∙ sym fills.own.length_is ∙ (omega arith)) ∙ mul-div_cancel fills.own.times some_time in
+    (ap (λ n. pace.units * n) often ∙ fills.own.units_is, fills.few)

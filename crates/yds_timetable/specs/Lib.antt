@@ -1,0 +1,5 @@
+pub mod Shares
+pub mod Pace
+pub mod Timetable
+pub mod Kept
+pub mod Room

@@ -1,0 +1,33 @@
+#!/bin/sh
+# build.sh: makes the C library, in build (`make library`).
+#
+#   build/libyds.a     one object file, of which one name can be seen: yds_answer
+#   build/libyds.so    the same as a shared object, with the soname libyds.so.1
+#
+# `rt lib` proves and compiles the crate yds_c, or takes what an earlier check has kept. Its archive wants the toolchain's small one for
+# malloc, realloc and free, so both are joined: who links the library needs no toolchain. Two builds of one object are the same bytes.
+# CC names another compiler.
+
+cd "$(dirname "$0")/.." || exit 1
+umask 022
+CC=${CC:-gcc}
+die() {
+	echo "build.sh: $*" >&2
+	exit 1
+}
+command -v rt >/dev/null 2>&1 || die "the command 'rt' of the Rattle toolchain isn't on the PATH; install the kit that README.md names"
+for tool in "$CC" ld ar objcopy; do
+	command -v "$tool" >/dev/null 2>&1 || die "the command '$tool' isn't here; on Debian: apt-get install gcc libc6-dev"
+done
+kit=$(dirname "$(dirname "$(readlink -f "$(command -v rt)")")")
+mkdir -p build
+(cd crates/yds_c && rt lib) >build/library.log 2>&1 || { tail -n 40 build/library.log >&2; exit 1; }
+
+ld -r -o build/yds.o --whole-archive crates/yds_c/out/libyds_c.a --no-whole-archive "$kit/c/liblibc_c.a" &&
+	objcopy --keep-global-symbol=yds_answer build/yds.o || die "the archives couldn't be joined"
+rm -f build/libyds.a
+ar rcD build/libyds.a build/yds.o && ar sD build/libyds.a || die "the archive couldn't be made"
+"$CC" -shared -o build/libyds.so build/yds.o -Wl,-soname,libyds.so.1 -Wl,--version-script,library/yds.map \
+	-Wl,-z,defs -Wl,-z,now -Wl,-z,noexecstack -Wl,--build-id=none -Wl,-s || die "the link failed"
+rm -f build/yds.o
+echo "Built build/libyds.a and build/libyds.so."

@@ -1,0 +1,279 @@
+"""Documents: what they are made of, what is refused, and what each method answers. The values are worked by hand."""
+
+import pickle
+import unittest
+from decimal import Decimal
+from fractions import Fraction
+
+import yds
+
+THREE = [("a", 0, 12, 4), ("b", 2, 10, 8), ("c", 4, 6, 6)]
+POLICIES = [("a", 0, 3, 2), ("b", 1, 2, 1)]
+
+
+class Making(unittest.TestCase):
+    def test_rows_are_lines(self) -> None:
+        level = yds.Level(6, 2, (yds.Piece(4, 6),), ("c",))
+        document = yds.Document([("c", 4, 6, 6)], [(0, 5), (3, 9)], [("c", Fraction(9, 2), 6, 6)], [level])
+        text = b"job c 4 6 6\npoint 0 5\npoint 3 9\nslot c 4+1/2 6 6\nlevel 6 2\npiece 4 6\nmember c\n"
+        self.assertEqual(document.text, text)
+        self.assertEqual(document.slots, (yds.Slot("c", Fraction(9, 2), 6, 6),))
+        self.assertEqual(document.levels, (level,))
+        self.assertEqual(document.points, (yds.Point(0, 5), yds.Point(3, 9)))
+        self.assertEqual(document, yds.Document.from_text(text.decode()))
+        self.assertEqual(hash(document), hash(yds.Document.from_text(text)))
+        self.assertNotEqual(document, text)
+
+    def test_denominators_are_made_common(self) -> None:
+        slots = [
+            ("a", Fraction(1, 2), Fraction(4, 3), Fraction(1, 2)),
+            ("a", 2, 3, Fraction(1, 3)),
+            ("b", 3, 4, Fraction(1, 7)),
+        ]
+        text = yds.Document(slots=slots).text
+        self.assertEqual(text, b"slot a 0+3/6 1+2/6 0+3/6\nslot a 2 3 0+2/6\nslot b 3 4 0+1/7\n")
+
+    def test_runs_are_slots(self) -> None:
+        document = yds.Document.from_text(b"# a trace\r\n\tjob a 0 4 8\nticks 3\nrun a 1 7 4\nrun a 7 5 2\n")
+        self.assertEqual(
+            document.slots,
+            (yds.Slot("a", Fraction(1, 3), Fraction(7, 3), 8), yds.Slot("a", Fraction(7, 3), Fraction(5, 3), 0)),
+        )
+
+    def test_a_float_is_refused(self) -> None:
+        for jobs in ([("a", 0, 4.0, 8)], [("a", 0, 4, Decimal(8))], [("a", "0", 4, 8)]):
+            with self.assertRaisesRegex(TypeError, r"from_decimal\(.., denominator=..\)"):
+                yds.Document(jobs)
+        with self.assertRaisesRegex(TypeError, "neither an int nor a Fraction"):
+            yds.Document(slots=[("a", 0.5, 4, 8)])
+
+    def test_a_fraction_of_a_unit_is_refused(self) -> None:
+        self.assertEqual(yds.Document([("a", Fraction(0), Fraction(8, 2), 8)]).text, b"job a 0 4 8\n")
+        with self.assertRaisesRegex(ValueError, r"isn't whole.*from_decimal"):
+            yds.Document([("a", Fraction(1, 2), 4, 8)])
+
+    def test_decimals(self) -> None:
+        rows = [("a", 0.1, "16.667", Decimal("3.2505")), ("b", 1, Fraction(7, 3), 0.3)]
+        document = yds.Document.from_decimal(rows, [(0, 1)], [("a", 0.25, 1.5, 3.25)], denominator=1000)
+        self.assertEqual(document.text, b"job a 100 16667 3250\njob b 1000 2333 300\npoint 0 1\nslot a 250 1500 3250\n")
+        for value in (float("nan"), float("inf"), "1/0", "x"):
+            with self.assertRaises((ValueError, ZeroDivisionError)):
+                yds.Document.from_decimal([("a", 0, 1, value)], denominator=10)
+
+    def test_a_name_is_one_field(self) -> None:
+        for name in ("", "a b", "a\nb", "a\r", "a\t", "é", "a" * 65):
+            with self.assertRaisesRegex(ValueError, "is no name"):
+                yds.Document([(name, 0, 4, 8)])
+            with self.assertRaisesRegex(ValueError, "is no name"):
+                yds.Document(slots=[(name, 0, 4, 8)])
+            with self.assertRaisesRegex(ValueError, "is no name"):
+                yds.Document(levels=[yds.Level(1, 1, (), (name,))])
+            with self.assertRaisesRegex(ValueError, "is no name"):
+                yds.expand([(name, 0, 4, 4, 1)], horizon=8)
+        self.assertEqual(yds.Document([("#!~", 0, 4, 8)]).jobs[0].name, "#!~")
+
+    def test_frames(self) -> None:
+        try:
+            import pandas
+        except ImportError:
+            self.skipTest("pandas isn't here")
+        jobs = pandas.DataFrame(THREE, columns=["name", "release", "deadline", "work"])
+        points = pandas.DataFrame({"speed": [0, 3], "power": [1, 9]})
+        document = yds.Document.from_pandas(jobs, points)
+        self.assertEqual(document, yds.Document(THREE, [(0, 1), (3, 9)]))
+        table = pandas.DataFrame(document.plan().slots)
+        self.assertEqual(list(table.columns), ["job", "start", "end", "work"])
+        self.assertEqual(table["work"].sum(), 18)
+        with self.assertRaises(TypeError):
+            yds.Document.from_pandas(jobs.assign(work=0.5))
+
+    def test_what_crosses_a_process(self) -> None:
+        plan = yds.Document(THREE).plan()
+        again = pickle.loads(pickle.dumps(plan))
+        self.assertIsInstance(again, yds.Plan)
+        self.assertEqual(again.slots, plan.slots)
+        self.assertEqual(pickle.loads(pickle.dumps(plan.report())), plan.report())
+
+    def test_how_they_look(self) -> None:
+        plan = yds.Document([("a", 0, 4, 8)]).plan()
+        self.assertEqual(str(plan), plan.text.decode())
+        self.assertEqual(
+            repr(plan), "Plan.from_text(b'job a 0 4 8\\nslot a 0 4 8\\nlevel 8 4\\npiece 0 4\\nmember a\\n')"
+        )
+        self.assertTrue(repr(yds.Document(THREE * 9)).endswith("..')"))
+
+
+class Answers(unittest.TestCase):
+    def test_plan(self) -> None:
+        plan = yds.Document(THREE).plan()
+        self.assertEqual([slot.speed for slot in plan.slots], [1, Fraction(4, 3), 3, Fraction(4, 3), 1])
+        self.assertEqual([level.speed for level in plan.levels], [3, Fraction(4, 3), 1])
+        self.assertEqual(plan.levels[1], yds.Level(8, 6, (yds.Piece(2, 4), yds.Piece(6, 10)), ("b",)))
+        self.assertEqual(plan.peak, 3)
+        self.assertTrue(plan.check())
+        self.assertTrue(plan.audit())
+        self.assertEqual(yds.Document().plan().peak, 0)
+
+    def test_round(self) -> None:
+        document = yds.Document(
+            [("frame", 0, 20, 4000), ("audio", 5, 10, 1500)], [(0, 4), (200, 60), (400, 150), (800, 500)]
+        )
+        rounded = document.round()
+        assert isinstance(rounded, yds.Rounded)
+        self.assertEqual(rounded.energy, 1875)
+        self.assertEqual({slot.speed for slot in rounded.slots}, {200, 400})
+        self.assertTrue(rounded.audit(points=True))
+        slow = yds.Document([("a", 0, 2, 5)], [(0, 1), (2, 9)]).round()
+        assert isinstance(slow, yds.TooSlow)
+        self.assertEqual((slow.work, slow.length, slow.top, slow.needed), (5, 2, 2, Fraction(5, 2)))
+        self.assertFalse(slow)
+
+    def test_policies(self) -> None:
+        run = yds.Document(POLICIES).oa(6)
+        self.assertEqual(
+            [slot.speed for slot in run.slots], [Fraction(2, 3), Fraction(7, 6), Fraction(7, 6), Fraction(7, 6)]
+        )
+        self.assertEqual((run.grid, run.rounded), (6, 0))
+        self.assertEqual(yds.Document(POLICIES).avr(1).rounded, 3)
+        self.assertEqual(yds.Document(POLICIES).avr(6).slots[1], yds.Slot("b", 1, Fraction(8, 5), 1))
+
+    def test_compare(self) -> None:
+        compared = yds.Document(POLICIES, [(0, 0), (1, 1), (2, 3)]).compare(6)
+        assert isinstance(compared, yds.Comparison)
+        self.assertEqual(compared.plan, yds.Side(Fraction(3), {0: Fraction(0), 1: Fraction(3), 2: Fraction(0)}))
+        self.assertEqual(compared.avr.energy, Fraction(11, 3))
+        self.assertEqual(
+            compared.oa, yds.Side(Fraction(10, 3), {0: Fraction(1, 3), 1: Fraction(7, 3), 2: Fraction(1, 3)}, rounded=0)
+        )
+        slower = yds.Document(POLICIES, [(0, 0), (1, 1)]).compare(6)
+        assert isinstance(slower, yds.Comparison)
+        self.assertEqual(slower.avr, yds.Side(overload=yds.Overload(10, 1, 2, 1), rounded=0))
+        self.assertEqual(slower.oa.overload, yds.Overload(7, 1, 2, 1))
+        self.assertFalse(yds.Document(POLICIES, [(0, 0)]).compare(6))
+
+    def test_report(self) -> None:
+        report = yds.Document(THREE).report()
+        self.assertEqual((report.jobs, report.work, report.start, report.end, report.idle), (3, 18, 0, 12, 0))
+        self.assertEqual(report.levels[1], yds.ReportLevel(8, 6, Fraction(4, 3)))
+        self.assertEqual((report.peak, yds.Document().report().peak), (3, 0))
+
+    def test_curve(self) -> None:
+        curve = yds.Document(THREE).curve()
+        self.assertEqual(curve.breaks[2], yds.Break(Fraction(4, 3), Fraction(10, 3)))
+        self.assertEqual(
+            [curve.above(speed) for speed in (0, 1, 2, Fraction(4, 3), 3, 4)], [18, 6, 2, Fraction(10, 3), 0, 0]
+        )
+        self.assertEqual(yds.Document().curve().above(0), 0)
+        with self.assertRaises(ValueError):
+            curve.above(-1)
+
+    def test_admit(self) -> None:
+        admission = yds.Document([("a", 0, 2, 3), ("b", 0, 2, 0), ("c", 0, 2, 1)]).admit(1)
+        self.assertEqual([job.name for job in admission.jobs], ["b", "c"])
+        self.assertEqual(admission.refused, (yds.Refusal("a", 0, 2, 3, 1),))
+        self.assertEqual(admission.slots, (yds.Slot("c", 0, 2, 1),))
+
+    def test_expand(self) -> None:
+        expansion = yds.expand([("control", 0, 4, 4, 2), ("sensor", 0, 6, 6, 3)], horizon=12)
+        self.assertEqual(
+            [job.name for job in expansion.jobs], ["control.0", "control.1", "control.2", "sensor.0", "sensor.1"]
+        )
+        self.assertEqual(expansion.one_level, yds.OneLevel(12, 12))
+        self.assertEqual(expansion.plan().peak, expansion.one_level.speed)
+        self.assertIsNone(yds.expand("horizon 10\ntask s 1 5 2 1\n").one_level)
+        self.assertIsNone(yds.expand(b"").one_level)
+        with self.assertRaisesRegex(TypeError, "horizon"):
+            yds.expand([("control", 0, 4, 4, 2)])
+
+    def test_trial(self) -> None:
+        trial = yds.trial(0, 2)
+        self.assertEqual((trial.jobs, trial.levels, trial.slots, trial.peak), (2, 2, 2, (53709, 18257)))
+        self.assertIsNone(yds.trial(0, 0).peak)
+
+    def test_audit(self) -> None:
+        def verdict(*slots: tuple, points: bool = False) -> yds.Verdict:
+            return yds.Document([("a", 2, 6, 4), ("b", 2, 6, 2)], [(0, 0), (2, 9)], slots).audit(points)
+
+        self.assertTrue(verdict(("a", 2, 4, 4), ("b", 4, 5, 2), points=True).feasible)
+        self.assertEqual(verdict(("a", 2, 2, 4)).cause, "backward")
+        overlap = verdict(("a", 2, 4, 4), ("b", Fraction(7, 2), 5, 2))
+        self.assertEqual((overlap.cause, overlap.job, overlap.index, overlap.previous_end), ("overlap", "b", 1, 4))
+        self.assertEqual(overlap.slot, yds.Slot("b", Fraction(7, 2), 5, 2))
+        early = verdict(("a", 1, 4, 4))
+        self.assertEqual((early.cause, early.index, early.release), ("early", 0, 2))
+        late = verdict(("a", 2, Fraction(13, 2), 4))
+        self.assertEqual((late.cause, late.deadline, late.slot.end), ("late", 6, Fraction(13, 2)))
+        off = verdict(("a", 2, 5, 4), ("b", 5, 6, 2), points=True)
+        self.assertEqual((off.cause, off.slot.speed), ("off-point", Fraction(4, 3)))
+        work = verdict(("a", 2, 3, Fraction(1, 2)), ("a", 3, 4, 3), ("b", 4, 5, 2))
+        self.assertEqual(
+            (work.cause, work.job, work.given, work.wanted, work.index), ("work", "a", Fraction(7, 2), 4, None)
+        )
+
+    def test_check(self) -> None:
+        jobs, slots, levels = [("a", 0, 4, 4)], [("a", 0, 4, 4)], [yds.Level(4, 4, (yds.Piece(0, 4),), ("a",))]
+        self.assertTrue(yds.Document(jobs, (), slots, levels).check().accepted)
+
+        def judged(slots: list, levels: list) -> yds.Judgement:
+            return yds.Document(jobs, (), slots, levels).check()
+
+        first = judged([("a", 0, 5, 4)], levels)
+        self.assertEqual((first.condition, first.verdict.cause, first.verdict.deadline), ("K1", "late", 4))
+        self.assertEqual(
+            (
+                judged(slots, [yds.Level(4, 4, (), ("a",))]).condition,
+                judged(slots, [yds.Level(4, 4, (), ("a",))]).level,
+            ),
+            ("K2", 0),
+        )
+        self.assertEqual((judged(slots, []).condition, judged(slots, []).job), ("K3", "a"))
+        self.assertEqual(judged(slots, [yds.Level(4, 3, (yds.Piece(0, 4),), ("a",))]).condition, "K4")
+        seventh = judged([("a", 0, 1, 1), ("a", 1, 2, 2), ("a", 2, 4, 1)], levels)
+        self.assertEqual((seventh.condition, seventh.index, seventh.slot.speed), ("K7", 1, 2))
+
+
+class Refusals(unittest.TestCase):
+    def test_a_fault_has_its_place(self) -> None:
+        with self.assertRaises(yds.Refused) as raised:
+            yds.Document([("a", 0, 4, 8), ("b", 4, 4, 1)]).plan()
+        fault = raised.exception
+        self.assertEqual(
+            (fault.line, fault.column, fault.reason, fault.text), (2, 9, "EmptyWindow", b"refused 2 9 EmptyWindow\n")
+        )
+        self.assertEqual(str(fault), "line 2, column 9: EmptyWindow, in 'job b 4 4 1'")
+        self.assertIsInstance(fault, ValueError)
+        again = pickle.loads(pickle.dumps(fault))
+        self.assertEqual((str(again), again.line), (str(fault), 2))
+
+    def test_fields_of_a_faulty_text(self) -> None:
+        document = yds.Document.from_text(b"jobs a 0 4 8\n")
+        with self.assertRaisesRegex(yds.Refused, "line 1, column 1: UnknownKind, in 'jobs a 0 4 8'"):
+            document.jobs
+
+    def test_the_whole_input(self) -> None:
+        with self.assertRaises(yds.Refused) as raised:
+            yds.Document([("a", 0, 4, 8)]).round()
+        self.assertEqual((raised.exception.line, raised.exception.reason), (None, "no-table"))
+        with self.assertRaisesRegex(yds.Refused, "more than 8,388,608 bytes"):
+            yds.Document.from_text(b"#" * 8388609).plan()
+        self.assertEqual(yds.Document.from_text(b"#" * 8388608).plan().text, b"")
+
+    def test_a_negative_number_is_the_librarys_to_refuse(self) -> None:
+        with self.assertRaisesRegex(yds.Refused, "BadNumber"):
+            yds.Document([("a", -1, 4, 8)]).plan()
+        with self.assertRaisesRegex(yds.Refused, "BadNumber"):
+            yds.Document([("a", 0, 4, 8)], slots=[("a", Fraction(-1, 2), 4, 8)]).audit()
+
+    def test_usage(self) -> None:
+        with self.assertRaisesRegex(yds.UsageError, "'avr --grid 0' isn't a command"):
+            yds.Document().avr(0)
+        for call in (lambda: yds.Document().admit(1000001), lambda: yds.trial(-1, 2), lambda: yds.trial(0, 1001)):
+            with self.assertRaises(yds.UsageError) as raised:
+                call()
+            self.assertEqual(str(pickle.loads(pickle.dumps(raised.exception))), str(raised.exception))
+        with self.assertRaises(TypeError):
+            yds.Document().avr(1.5)  # type: ignore[arg-type]
+
+
+if __name__ == "__main__":
+    unittest.main()

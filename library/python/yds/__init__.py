@@ -1,0 +1,80 @@
+"""yds: a planner and auditor for jobs on one processor whose speed can be changed.
+
+It says when each job runs and how fast, so that every deadline is met with the least energy. It is the program yds_cli
+as a library: each answer has the program's bytes as `text`, and its numbers as ints and Fractions.
+
+>>> import yds
+>>> document = yds.Document(jobs=[("a", 0, 12, 4), ("b", 2, 10, 8), ("c", 4, 6, 6)])
+>>> plan = document.plan()
+>>> for slot in plan.slots:
+...     print(slot.job, slot.start, slot.end, slot.speed)
+a 0 2 1
+b 2 4 4/3
+c 4 6 3
+b 6 10 4/3
+a 10 12 1
+
+A yes and a no are values; Refused is raised where the document has a fault.
+
+What is proved is the library under this package: yds.answer hands words and bytes to it, and gives back what it wrote.
+This package spells documents and reads answers, and is only tested.
+"""
+
+from yds import schedule
+from yds._library import Answer, Status, answer
+from yds.document import Admission, Document, Expansion, OneLevel, Plan, Rounded, Run, expand, trial
+from yds.errors import OutOfMemory, Refused, UsageError, YdsError
+from yds.results import (
+    Break,
+    Comparison,
+    Curve,
+    Judgement,
+    Overload,
+    Refusal,
+    Report,
+    ReportLevel,
+    Side,
+    TooSlow,
+    Trial,
+    Verdict,
+)
+from yds.rows import Exact, Job, Level, Piece, Point, Slot, Task
+
+__all__ = [
+    "Admission",
+    "Answer",
+    "Break",
+    "Comparison",
+    "Curve",
+    "Document",
+    "Exact",
+    "Expansion",
+    "Job",
+    "Judgement",
+    "Level",
+    "OneLevel",
+    "OutOfMemory",
+    "Overload",
+    "Piece",
+    "Plan",
+    "Point",
+    "Refusal",
+    "Refused",
+    "Report",
+    "ReportLevel",
+    "Rounded",
+    "Run",
+    "Side",
+    "Slot",
+    "Status",
+    "Task",
+    "TooSlow",
+    "Trial",
+    "UsageError",
+    "Verdict",
+    "YdsError",
+    "answer",
+    "expand",
+    "schedule",
+    "trial",
+]

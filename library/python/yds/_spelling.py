@@ -1,0 +1,180 @@
+"""How the lines of a document are spelled, and how those that the library wrote or has read are read here."""
+
+from __future__ import annotations
+
+import math
+import re
+from decimal import Decimal
+from fractions import Fraction
+from functools import lru_cache
+from numbers import Rational
+from typing import Any, Dict, Iterable, Iterator, List, Sequence, Tuple, Union
+
+from yds.rows import Exact, Job, Level, Piece, Point, Slot
+
+Decimalish = Union[int, float, str, Decimal, Fraction]
+DecimalRow = Tuple[str, Decimalish, Decimalish, Decimalish]
+
+_NAME = re.compile(r"[!-~]{1,64}")
+
+
+def exact(value: Any) -> Fraction:
+    """The value of an int or a Fraction, also of numpy's ints. A float isn't taken."""
+    if isinstance(value, Fraction):
+        return value
+    if isinstance(value, Rational):
+        return Fraction(int(value.numerator), int(value.denominator))
+    raise TypeError(
+        f"{value!r} is neither an int nor a Fraction, and what is counted is exact. "
+        "Document.from_decimal(.., denominator=..) takes decimals, and counts in units of 1/denominator"
+    )
+
+
+def nearest(value: Decimalish, denominator: int) -> int:
+    """How many parts of 1/denominator the value is, to the nearest; half a part goes to the even number."""
+    try:
+        return round(Fraction(value) * denominator)
+    except OverflowError:
+        raise ValueError(f"{value!r} is no number") from None
+
+
+def whole(value: Any) -> str:
+    """The spelling of a number that has to be whole."""
+    if type(value) is int:
+        return str(value)
+    number = exact(value)
+    if number.denominator != 1:
+        raise ValueError(
+            f"{value!r} isn't whole, as it has to be here: count in finer units. "
+            "Document.from_decimal(.., denominator=..) does so, in units of 1/denominator"
+        )
+    return str(number.numerator)
+
+
+def fraction(value: Fraction, denominator: int) -> str:
+    """The spelling of a fraction, over a denominator that its own divides: W, or W+N/D."""
+    parts = value.numerator * (denominator // value.denominator)
+    above, rest = divmod(parts, denominator)
+    return f"{above}+{rest}/{denominator}" if rest else str(above)
+
+
+def name(value: str) -> str:
+    """The name, if it is one: otherwise it would be several fields, or lines, of the document."""
+    if not _NAME.fullmatch(value):
+        raise ValueError(f"{value!r} is no name: one has 1 to 64 visible ASCII characters, and no space")
+    return value
+
+
+def common(denominators: Iterable[int]) -> int:
+    """The least common multiple."""
+    least = 1
+    for denominator in denominators:
+        least = least // math.gcd(least, denominator) * denominator
+    return least
+
+
+def slot_lines(slots: Iterable[Sequence[Any]]) -> Iterator[str]:
+    """The slots, each with its ends over one denominator, and the works of each job over one denominator."""
+    given = [(name(job), exact(start), exact(end), exact(work)) for job, start, end, work in slots]
+    grains: Dict[str, int] = {}
+    for job, _, _, work in given:
+        grains[job] = common([grains.get(job, 1), work.denominator])
+    for job, start, end, work in given:
+        ends = common([start.denominator, end.denominator])
+        yield f"slot {job} {fraction(start, ends)} {fraction(end, ends)} {fraction(work, grains[job])}"
+
+
+def level_lines(levels: Iterable[Level]) -> Iterator[str]:
+    """The levels, each followed by its pieces and its members."""
+    for work, length, pieces, members in levels:
+        yield f"level {whole(work)} {whole(length)}"
+        for start, end in pieces:
+            yield f"piece {whole(start)} {whole(end)}"
+        for member in members:
+            yield f"member {name(member)}"
+
+
+def row_lines(kind: str, rows: Iterable[Sequence[Any]]) -> Iterator[str]:
+    """A line for each row of a name and whole numbers."""
+    for named, *numbers in rows:
+        yield " ".join([kind, name(named), *map(whole, numbers)])
+
+
+def point_lines(points: Iterable[Sequence[Any]]) -> Iterator[str]:
+    """A line for each operating point."""
+    for speed, power in points:
+        yield f"point {whole(speed)} {whole(power)}"
+
+
+def joined(lines: Iterable[str]) -> bytes:
+    """The lines as a text, each with its line feed."""
+    return "".join(line + "\n" for line in lines).encode("ascii")
+
+
+def read_fraction(word: bytes) -> Fraction:
+    """The value of W or W+N/D.
+
+    >>> read_fraction(b"2+2/3")
+    Fraction(8, 3)
+    """
+    above, plus, rest = word.partition(b"+")
+    if not plus:
+        return Fraction(int(above))
+    numerator, _, denominator = rest.partition(b"/")
+    parts = int(denominator)
+    return Fraction(int(above) * parts + int(numerator), parts)
+
+
+def lines_of(text: bytes, *kinds: bytes) -> Iterator[List[bytes]]:
+    """The fields of each line of these kinds, of a text that the library has read without a fault, or has written."""
+    for line in text.split(b"\n"):
+        fields = line.split()
+        if fields and fields[0] in kinds:
+            yield fields
+
+
+def read_jobs(text: bytes) -> Tuple[Job, ...]:
+    """The jobs of a text."""
+    rows = lines_of(text, b"job")
+    return tuple(Job(job.decode("ascii"), int(start), int(end), int(work)) for _, job, start, end, work in rows)
+
+
+def read_points(text: bytes) -> Tuple[Point, ...]:
+    """The operating points of a text."""
+    return tuple(Point(int(speed), int(power)) for _, speed, power in lines_of(text, b"point"))
+
+
+def read_slots(text: bytes) -> Tuple[Slot, ...]:
+    """The slots and runs of a text. Most ends of slots stand there twice, and are read once."""
+    read = lru_cache(maxsize=None)(read_fraction)
+    slots: List[Slot] = []
+    ticks = 1
+    for kind, *rest in lines_of(text, b"slot", b"ticks", b"run"):
+        if kind == b"slot":
+            job, start, end, work = rest
+            slots.append(Slot(job.decode("ascii"), read(start), read(end), read(work)))
+        elif kind == b"ticks":
+            ticks = int(rest[0])
+        else:
+            slots.append(_run(rest, ticks))
+    return tuple(slots)
+
+
+def _run(rest: Sequence[bytes], ticks: int) -> Slot:
+    """The slot of a run: its ticks as times, and its speed times its time as work."""
+    start, end, speed = (int(word) for word in rest[1:])
+    work = Fraction(speed * max(end - start, 0), ticks)
+    return Slot(rest[0].decode("ascii"), Fraction(start, ticks), Fraction(end, ticks), work)
+
+
+def read_levels(text: bytes) -> Tuple[Level, ...]:
+    """The levels of a text, with their pieces and members."""
+    levels: List[Tuple[int, int, List[Piece], List[str]]] = []
+    for kind, *rest in lines_of(text, b"level", b"piece", b"member"):
+        if kind == b"level":
+            levels.append((int(rest[0]), int(rest[1]), [], []))
+        elif kind == b"piece":
+            levels[-1][2].append(Piece(int(rest[0]), int(rest[1])))
+        else:
+            levels[-1][3].append(rest[0].decode("ascii"))
+    return tuple(Level(work, length, tuple(pieces), tuple(members)) for work, length, pieces, members in levels)

@@ -1,0 +1,354 @@
+"""Documents, and the answers that are documents themselves."""
+
+from __future__ import annotations
+
+from fractions import Fraction
+from functools import cached_property
+from itertools import chain
+from operator import index
+from typing import Any, Iterable, NamedTuple, Optional, Sequence, Tuple, Type, TypeVar, Union
+
+from yds import _spelling
+from yds._library import Answer, Status, answer, as_bytes
+from yds._spelling import Decimalish, DecimalRow
+from yds.errors import OutOfMemory, Refused, UsageError
+from yds.results import Comparison, Curve, Judgement, Refusal, Report, TooSlow, Trial, Verdict
+from yds.rows import Job, JobLike, Level, Point, PointLike, Slot, SlotLike, TaskLike
+
+D = TypeVar("D", bound="Document")
+
+
+def _ask(words: Sequence[str], text: bytes) -> Answer:
+    """The library's answer, which is a yes or a no; what is neither is raised."""
+    answered = answer(words, text)
+    if answered.status is Status.REFUSED:
+        raise Refused(answered.text, text)
+    if answered.status is Status.MEMORY:
+        raise OutOfMemory
+    if answered.status not in (Status.DONE, Status.NO):
+        raise UsageError(words)
+    return answered
+
+
+class Document:
+    """Jobs for one processor of variable speed, and perhaps its operating points, slots of a schedule, and levels.
+
+    Times, works and speeds are in units of your choice, with work = speed * time. Rows are tuples of these fields:
+
+      jobs    name, release, deadline, work: whole numbers
+      points  speed, power: whole numbers, the first of speed 0, at rising speeds
+      slots   job, start, end, work: ints or Fractions of any denominators
+      levels  Level rows, as those of a plan
+
+    The library reads the document when a command is called. Then a fault raises Refused, with its line in `text`.
+
+    >>> document = Document(jobs=[("a", 0, 12, 4), ("b", 2, 10, 8), ("c", 4, 6, 6)])
+    >>> print(document.report(), end="")
+    jobs 3 work 18 from 0 to 12
+        1          6          2 3
+        2          8          6 1+1/3
+        3          4          4 1
+    idle 0
+    """
+
+    _text: bytes
+    _written = False
+
+    def __init__(
+        self,
+        jobs: Iterable[JobLike] = (),
+        points: Iterable[PointLike] = (),
+        slots: Iterable[SlotLike] = (),
+        levels: Iterable[Level] = (),
+    ) -> None:
+        head = chain(_spelling.row_lines("job", jobs), _spelling.point_lines(points))
+        self._text = _spelling.joined(chain(head, _spelling.slot_lines(slots), _spelling.level_lines(levels)))
+
+    @classmethod
+    def from_text(cls: Type[D], text: Union[bytes, str]) -> D:
+        """A document in the form of docs/format.md, as the program reads it. The text is kept as it is.
+
+        >>> Document.from_text("job a 0 4 8\\n").plan().slots
+        (Slot(job='a', start=Fraction(0, 1), end=Fraction(4, 1), work=Fraction(8, 1)),)
+        """
+        document = cls.__new__(cls)
+        document._text = text.encode("utf-8") if isinstance(text, str) else as_bytes(text)
+        return document
+
+    @classmethod
+    def from_decimal(
+        cls: Type[D],
+        jobs: Iterable[DecimalRow],
+        points: Iterable[PointLike] = (),
+        slots: Iterable[DecimalRow] = (),
+        *,
+        denominator: int,
+    ) -> D:
+        """A document of times and works that may be decimals: floats, Decimals, or texts.
+
+        They are counted in units of 1/denominator, each rounded to the nearest; half a unit goes to the even number.
+        So speeds stay what they are, and the points with them, and energies come in units of 1/denominator too.
+
+        >>> Document.from_decimal([("frame", 0, 16.667, 3.25)], denominator=1000).jobs
+        (Job(name='frame', release=0, deadline=16667, work=3250),)
+        """
+
+        def counted(value: Decimalish) -> int:
+            return _spelling.nearest(value, denominator)
+
+        return cls(
+            ((name, counted(release), counted(deadline), counted(work)) for name, release, deadline, work in jobs),
+            points,
+            ((job, counted(start), counted(end), counted(work)) for job, start, end, work in slots),
+        )
+
+    @classmethod
+    def from_pandas(cls: Type[D], jobs: Any, points: Any = None) -> D:
+        """The rows of a DataFrame with the columns name, release, deadline and work.
+
+        The points are those of another, with the columns speed and power. Anything with such columns does, as a dict.
+
+        >>> Document.from_pandas({"name": ["a"], "release": [0], "deadline": [4], "work": [8]}).jobs
+        (Job(name='a', release=0, deadline=4, work=8),)
+        """
+        rows = zip(*(jobs[column] for column in Job._fields))
+        return cls(rows, () if points is None else zip(*(points[column] for column in Point._fields)))
+
+    @property
+    def text(self) -> bytes:
+        """The document as the library reads it, or as it wrote it."""
+        return self._text
+
+    @cached_property
+    def _readable(self) -> bytes:
+        """The text, once the library has read it without a fault. What it wrote has none."""
+        if not self._written:
+            _ask(["audit"], self.text)
+        return self.text
+
+    @cached_property
+    def jobs(self) -> Tuple[Job, ...]:
+        """The jobs in the order of their lines."""
+        return _spelling.read_jobs(self._readable)
+
+    @cached_property
+    def points(self) -> Tuple[Point, ...]:
+        """The operating points, at rising speeds."""
+        return _spelling.read_points(self._readable)
+
+    @cached_property
+    def slots(self) -> Tuple[Slot, ...]:
+        """The slots and runs in the order of their lines."""
+        return _spelling.read_slots(self._readable)
+
+    @cached_property
+    def levels(self) -> Tuple[Level, ...]:
+        """The levels of a certificate, in the order of their lines."""
+        return _spelling.read_levels(self._readable)
+
+    def plan(self) -> Plan:
+        """The schedule that does the least work above every speed, with the levels that show it."""
+        return Plan._of(_ask(["plan"], self.text))
+
+    def round(self) -> Union[Rounded, TooSlow]:
+        """The plan on the document's points, with its energy, the least on these points.
+
+        TooSlow where no schedule stays at or below the top point.
+
+        >>> Document(jobs=[("a", 0, 2, 5)], points=[(0, 1), (2, 9)]).round()
+        TooSlow(text=b'too-slow work 5 length 2 top 2\\n', work=5, length=2, top=2)
+        """
+        answered = _ask(["round"], self.text)
+        return Rounded._of(answered) if answered.status is Status.DONE else TooSlow.read(answered.text)
+
+    def avr(self, grid: int) -> Run:
+        """The run of the online policy Average Rate, on works of one part in grid (1 to 1,000,000)."""
+        return Run._of(_ask(["avr", "--grid", str(index(grid))], self.text))
+
+    def oa(self, grid: int) -> Run:
+        """The run of the online policy Optimal Available, on works of one part in grid (1 to 1,000,000).
+
+        >>> run = Document(jobs=[("a", 0, 3, 2), ("b", 1, 2, 1)]).oa(grid=6)
+        >>> run.slots[1].speed, run.rounded
+        (Fraction(7, 6), 0)
+        """
+        return Run._of(_ask(["oa", "--grid", str(index(grid))], self.text))
+
+    def compare(self, grid: int) -> Union[Comparison, TooSlow]:
+        """What the plan and the runs of both policies spend on the points; TooSlow as for round.
+
+        >>> document = Document([("a", 0, 3, 2), ("b", 1, 2, 1)], [(0, 0), (1, 1), (2, 3)])
+        >>> compared = document.compare(grid=6)
+        >>> compared.plan.energy, compared.avr.energy, compared.oa.energy
+        (Fraction(3, 1), Fraction(11, 3), Fraction(10, 3))
+        """
+        answered = _ask(["compare", "--grid", str(index(grid))], self.text)
+        return Comparison.read(answered.text) if answered.status is Status.DONE else TooSlow.read(answered.text)
+
+    def audit(self, points: bool = False) -> Verdict:
+        """Whether the slots give every job its work in its window, one job at a time.
+
+        With points, each slot has to run at the speed of one of the document's points, too.
+
+        >>> verdict = Document(jobs=[("a", 0, 4, 8)], slots=[("a", 0, 5, 8)]).audit()
+        >>> verdict.feasible, verdict.cause, verdict.job, verdict.index, verdict.deadline
+        (False, 'late', 'a', 0, 4)
+        """
+        answered = _ask(["audit", "--points"] if points else ["audit"], self.text)
+        return Verdict.read(answered.text, self._slots_if(answered))
+
+    def check(self) -> Judgement:
+        """Whether the levels show that the slots are least above every speed."""
+        answered = _ask(["check"], self.text)
+        return Judgement.read(answered.text, self._slots_if(answered))
+
+    def _slots_if(self, answered: Answer) -> Sequence[Slot]:
+        """The slots where the answer is no, and may name one."""
+        return self.slots if answered.status is Status.NO else ()
+
+    def report(self) -> Report:
+        """The plan as a table: each level's work, length and speed."""
+        return Report.read(_ask(["report"], self.text).text)
+
+    def curve(self) -> Curve:
+        """The least work that any feasible schedule does above each speed."""
+        return Curve.read(_ask(["curve"], self.text).text)
+
+    def admit(self, top: int) -> Admission:
+        """The jobs that a processor of this top speed (1 to 1,000,000) can serve.
+
+        Each is admitted, in the document's order, where it can be served beside those admitted before it.
+        """
+        return Admission._of(_ask(["admit", str(index(top))], self.text))
+
+    @classmethod
+    def _of(cls: Type[D], answered: Answer) -> D:
+        """The document that the library wrote."""
+        document = cls.from_text(answered.text)
+        document._written = True
+        return document
+
+    def __str__(self) -> str:
+        return self.text.decode("utf-8", "replace")
+
+    def __repr__(self) -> str:
+        shown = self.text if len(self.text) <= 60 else self.text[:60] + b".."
+        return f"{type(self).__name__}.from_text({shown!r})"
+
+    def __eq__(self, other: object) -> bool:
+        if not isinstance(other, Document):
+            return NotImplemented
+        return self.text == other.text
+
+    def __hash__(self) -> int:
+        return hash(self.text)
+
+
+class Plan(Document):
+    """A document with the slots and levels of its jobs' plan.
+
+    >>> plan = Document(jobs=[("a", 0, 4, 8)]).plan()
+    >>> plan.peak, plan.check().accepted
+    (Fraction(2, 1), True)
+    """
+
+    @property
+    def peak(self) -> Fraction:
+        """The least constant speed that meets every deadline: that of the first level, or 0."""
+        return self.levels[0].speed if self.levels else Fraction(0)
+
+
+class Rounded(Document):
+    """A document with slots that run at its points, and the energy that they take."""
+
+    @cached_property
+    def energy(self) -> Fraction:
+        """The energy from the first release to the last deadline: power times time.
+
+        >>> Document(jobs=[("a", 0, 4, 6)], points=[(0, 0), (1, 1), (2, 3)]).round().energy
+        Fraction(8, 1)
+        """
+        return _spelling.read_fraction(self.text.rsplit(None, 1)[-1])
+
+
+class Run(Document):
+    """A document with the slots of a policy's run."""
+
+    @property
+    def grid(self) -> int:
+        """So many parts of a unit of work the policy counts in."""
+        return int(self.text.rsplit(None, 2)[-2])
+
+    @property
+    def rounded(self) -> int:
+        """At how many event points the run rounded up. Where it is 0, the run is the policy itself."""
+        return int(self.text.rsplit(None, 1)[-1])
+
+
+class Admission(Document):
+    """A document of the admitted jobs, with slots at or below the top speed.
+
+    >>> admission = Document(jobs=[("a", 0, 4, 4), ("b", 0, 2, 4), ("c", 1, 3, 1)]).admit(top=2)
+    >>> [job.name for job in admission.jobs], admission.refused
+    (['a', 'b'], (Refusal(job='c', start=0, end=4, work=9, top=2),))
+    """
+
+    @cached_property
+    def refused(self) -> Tuple[Refusal, ...]:
+        """The other jobs, in their order, each with an interval that can't hold it."""
+        lines = (line.split() for line in self.text.decode("ascii").splitlines() if line.startswith("# refuse "))
+        return tuple(Refusal(line[2], int(line[4]), int(line[6]), int(line[8]), int(line[10])) for line in lines)
+
+
+class OneLevel(NamedTuple):
+    """The one level that every plan of a set of tasks has: so much work in so much time."""
+
+    work: int
+    length: int
+
+    @property
+    def speed(self) -> Fraction:
+        """Work per unit of time."""
+        return Fraction(self.work, self.length)
+
+
+class Expansion(Document):
+    """A document of the jobs of periodic tasks."""
+
+    @cached_property
+    def one_level(self) -> Optional[OneLevel]:
+        """The level that every plan of these jobs has, where every task fills the horizon; else None."""
+        last = self.text.rsplit(b"\n", 2)[-2:-1]
+        words = last[0].split() if last else []
+        return OneLevel(int(words[3]), int(words[4])) if words[:3] == [b"#", b"one", b"level"] else None
+
+
+def expand(tasks: Union[bytes, str, Iterable[TaskLike]], horizon: Optional[int] = None) -> Expansion:
+    """The jobs of periodic tasks that are due by the horizon.
+
+    tasks are rows of name, offset, period, deadline and work, with a horizon (units of time); or a text in the form
+    of docs/format.md, which has its own.
+
+    >>> expansion = expand([("control", 0, 4, 4, 2), ("sensor", 0, 6, 6, 3)], horizon=12)
+    >>> len(expansion.jobs), expansion.one_level.speed
+    (5, Fraction(1, 1))
+    """
+    if isinstance(tasks, str):
+        text = tasks.encode("utf-8")
+    elif isinstance(tasks, bytes):
+        text = tasks
+    else:
+        if horizon is None:
+            raise TypeError("rows of tasks want a horizon")
+        head = [f"horizon {_spelling.whole(horizon)}"]
+        text = _spelling.joined(chain(head, _spelling.row_lines("task", tasks)))
+    return Expansion._of(_ask(["expand"], text))
+
+
+def trial(seed: int, jobs: int) -> Trial:
+    """Draws so many jobs (at most 1,000) from the seed (at most 4,294,967,295), plans them and checks the plan.
+
+    >>> trial(seed=0, jobs=2).peak
+    (53709, 18257)
+    """
+    return Trial.read(_ask(["trial", str(index(seed)), str(index(jobs))], b"").text)

@@ -1,0 +1,68 @@
+"""What is raised where there is no answer. A 'no' isn't one of these: it is an answer."""
+
+from __future__ import annotations
+
+from typing import Optional, Sequence
+
+
+class YdsError(Exception):
+    """The base of everything that this package raises on its own account."""
+
+
+class Refused(YdsError, ValueError):
+    """The library refused the document: it has a fault, is too long, or has no points where they are needed.
+
+    >>> import yds
+    >>> yds.Document(jobs=[("a", 4, 4, 1)]).plan()
+    Traceback (most recent call last):
+        ...
+    yds.errors.Refused: line 1, column 9: EmptyWindow, in 'job a 4 4 1'
+    """
+
+    line: Optional[int]
+    """The line of the first fault, counted from 1; None where the whole input is meant."""
+    column: Optional[int]
+    """The column of the fault, counted from 1 in bytes; None where the whole input is meant."""
+    reason: str
+    """One word: those of docs/format.md, as EmptyWindow, or 'too-long' or 'no-table'."""
+    text: bytes
+    """What the library wrote: the program's line."""
+
+    def __init__(self, text: bytes, document: bytes) -> None:
+        super().__init__(text, document)
+        self.text = text
+        words = text.decode("ascii").split()
+        self.reason = words[-1]
+        self.line = self.column = None
+        if len(words) == 4:
+            self.line, self.column = int(words[1]), int(words[2])
+        self._shown = b"" if self.line is None else document.split(b"\n", self.line)[self.line - 1][:200]
+
+    def __str__(self) -> str:
+        if self.line is None:
+            return _OF_THE_WHOLE.get(self.reason, self.reason)
+        return f"line {self.line}, column {self.column}: {self.reason}, in {self._shown.decode('utf-8', 'replace')!r}"
+
+
+_OF_THE_WHOLE = {
+    "too-long": "the input has more than 8,388,608 bytes",
+    "no-table": "the document has no points, and this command needs them",
+}
+
+
+class UsageError(YdsError, ValueError):
+    """The words name no command, as where a grid or a top speed is out of its range."""
+
+    def __init__(self, words: Sequence[str]) -> None:
+        super().__init__(words)
+        self.words = words
+
+    def __str__(self) -> str:
+        return f"{' '.join(self.words)!r} isn't a command; is a number out of its range?"
+
+
+class OutOfMemory(YdsError, MemoryError):
+    """The library couldn't take the memory that the answer wants."""
+
+    def __str__(self) -> str:
+        return "the library couldn't take the memory that the answer wants"

@@ -1,0 +1,80 @@
+"""The rows of a document. Each is a named tuple: a plain tuple does as well, and pandas makes a table of a list."""
+
+from __future__ import annotations
+
+from fractions import Fraction
+from typing import NamedTuple, Tuple, Union
+
+Exact = Union[int, Fraction]
+"""A number that is exact: a float isn't."""
+
+
+class Job(NamedTuple):
+    """A job may run from its release to its deadline (units of time) and wants its work (units of work): whole."""
+
+    name: str
+    release: int
+    deadline: int
+    work: int
+
+
+class Point(NamedTuple):
+    """An operating point: a speed (work per unit of time), and the power there (energy per unit of time): whole."""
+
+    speed: int
+    power: int
+
+
+class Slot(NamedTuple):
+    """The job runs from start to end (units of time) and gets so much work (units of work)."""
+
+    job: str
+    start: Exact
+    end: Exact
+    work: Exact
+
+    @property
+    def speed(self) -> Fraction:
+        """Work per unit of time.
+
+        >>> Slot("b", 2, 4, Fraction(8, 3)).speed
+        Fraction(4, 3)
+        """
+        return Fraction(self.work) / (self.end - self.start)
+
+
+class Piece(NamedTuple):
+    """A piece of a level's time, from start to end (units of time)."""
+
+    start: int
+    end: int
+
+
+class Level(NamedTuple):
+    """A level of a certificate: its members have so much work together, and its pieces so much length."""
+
+    work: int
+    length: int
+    pieces: Tuple[Piece, ...] = ()
+    members: Tuple[str, ...] = ()
+
+    @property
+    def speed(self) -> Fraction:
+        """Work per unit of time."""
+        return Fraction(self.work, self.length)
+
+
+class Task(NamedTuple):
+    """A periodic task: a job at the offset and after each period, due so long after its release. All is whole."""
+
+    name: str
+    offset: int
+    period: int
+    deadline: int
+    work: int
+
+
+JobLike = Tuple[str, Exact, Exact, Exact]
+PointLike = Tuple[Exact, Exact]
+SlotLike = Tuple[str, Exact, Exact, Exact]
+TaskLike = Tuple[str, Exact, Exact, Exact, Exact]

@@ -1,0 +1,70 @@
+"""Schedules of other programs, judged.
+
+A schedule is a list of slots in any order. Their ends and works may be ints or Fractions of any denominators: the ends
+of each slot are brought to one denominator, and the works of each job to one, as the library wants them. No number is
+moved by that.
+"""
+
+from __future__ import annotations
+
+from dataclasses import replace
+from fractions import Fraction
+from typing import Any, Iterable, List, Optional, Sequence, Tuple, TypeVar
+
+from yds._spelling import exact
+from yds.document import Document
+from yds.results import Judgement, Verdict
+from yds.rows import Level, Slot, SlotLike
+
+Told = TypeVar("Told", Verdict, Judgement)
+
+
+def judge(document: Document, slots: Iterable[SlotLike], points: bool = False) -> Verdict:
+    """Whether these slots give each of the document's jobs its work in its window, one job at a time.
+
+    With points, each slot has to run at the speed of one of the document's points, too. The document's own slots don't
+    count. The verdict's index is the slot's place in the given list. Its text numbers the slots in the order of their
+    times.
+
+    >>> from fractions import Fraction
+    >>> document = Document(jobs=[("a", 0, 4, 2), ("b", 0, 4, 2)])
+    >>> thirds = [("b", Fraction(4, 3), 4, 2), ("a", 0, Fraction(4, 3), 2)]
+    >>> judge(document, thirds).feasible
+    True
+    >>> verdict = judge(document, [("b", Fraction(4, 3), Fraction(13, 3), 2), ("a", 0, Fraction(4, 3), 2)])
+    >>> verdict.cause, verdict.job, verdict.index, verdict.slot.end - verdict.deadline
+    ('late', 'b', 0, Fraction(1, 3))
+    """
+    order, sorted_slots = _in_time(slots)
+    return _placed(Document(document.jobs, document.points, sorted_slots).audit(points), order)
+
+
+def check(document: Document, slots: Iterable[SlotLike], levels: Optional[Sequence[Level]] = None) -> Judgement:
+    """Whether these slots are least above every speed, by these levels, or by those of the document's plan.
+
+    The judgement's index is the slot's place in the given list.
+
+    >>> document = Document(jobs=[("a", 0, 4, 4)])
+    >>> check(document, [("a", 0, 4, 4)]).accepted
+    True
+    >>> check(document, [("a", 0, 1, 2), ("a", 1, 4, 2)]).condition
+    'K7'
+    """
+    order, sorted_slots = _in_time(slots)
+    chosen = document.plan().levels if levels is None else levels
+    judgement = _placed(Document(document.jobs, document.points, sorted_slots, chosen).check(), order)
+    if judgement.verdict is None:
+        return judgement
+    return replace(judgement, verdict=_placed(judgement.verdict, order))
+
+
+def _in_time(slots: Iterable[SlotLike]) -> Tuple[List[int], List[Slot]]:
+    """The slots in the order of their times, and the place of each in the given list."""
+    given = [Slot(job, exact(start), exact(end), exact(work)) for job, start, end, work in slots]
+    order = sorted(range(len(given)), key=lambda place: (given[place].start, given[place].end))
+    return order, [given[place] for place in order]
+
+
+def _placed(told: Told, order: Sequence[int]) -> Told:
+    """The same with the index of the given list."""
+    return told if told.index is None else replace(told, index=order[told.index])

@@ -1,0 +1,154 @@
+#!/bin/sh
+# test.sh: whether the C library answers as the program does (`make library-test`).
+#
+#   sh library/test/test.sh [PART ..]      parts: names rows words threads memory examples install fuzz; all without one
+#
+# It wants build/yds_cli, build/libyds.a and build/libyds.so, compilers for C and C++, nm, readelf and pkg-config. DOCUMENTS drawn documents
+# (20,000 without it) of SEED (1) are answered by the library and by the program. CC and CXX name other compilers.
+# The last line is 'N passed, M failed'; the exit status is 1 where M isn't 0.
+
+cd "$(dirname "$0")/../.." || exit 1
+here=$(pwd)
+CC=${CC:-gcc} CXX=${CXX:-g++}
+SEED=${SEED:-1} DOCUMENTS=${DOCUMENTS:-20000}
+LC_ALL=C
+export LC_ALL
+rows=examples/rows
+work=$(mktemp -d) || exit 1
+trap 'rm -rf "$work"' EXIT
+passed=0
+failed=0
+
+pass() { passed=$((passed + 1)); }
+fail() {
+	failed=$((failed + 1))
+	echo "FAILED: $1"
+}
+
+# try NAME COMMAND ..: it has to end with 0.
+try() {
+	name=$1
+	shift
+	if "$@" >"$work/log" 2>&1; then pass; else fail "$name"; tail -n 12 "$work/log"; fi
+}
+
+# counted NAME COMMAND ..: its last line tells how many passed and failed.
+counted() {
+	name=$1
+	shift
+	"$@" >"$work/log" 2>&1
+	last=$(tail -n 1 "$work/log")
+	case $last in
+	*" passed, "*" failed") passed=$((passed + ${last%% *})) last=${last#* passed, } failed=$((failed + ${last%% *})) ;;
+	*) fail "$name: it didn't end" ;;
+	esac
+	grep -v ' passed, ' "$work/log"
+	return 0
+}
+
+# A shared object is found by the name that the loader knows.
+ln -s "$here/build/libyds.so" "$work/libyds.so.1"
+LD_LIBRARY_PATH=$work
+export LD_LIBRARY_PATH
+
+c() { "$CC" -std=c11 -Wall -Wextra -Werror -O2 -Ilibrary "$@"; }
+cxx() { "$CXX" -std=c++11 -Wall -Wextra -Werror -O2 -Ilibrary "$@"; }
+
+answers() {
+	[ -x "$work/shared" ] || try "answers.c with the shared object" c -o "$work/shared" library/test/answers.c build/libyds.so -pthread
+	[ -x "$work/static" ] || try "answers.c with the archive" c -DREFUSING -o "$work/static" library/test/answers.c build/libyds.a -pthread \
+		-Wl,--wrap=malloc,--wrap=realloc,--wrap=free
+}
+
+part_names() {
+	try "the archive shows one name" sh -c '[ "$(nm -g --defined-only build/libyds.a | awk "NF == 3 { print \$3 }")" = yds_answer ]'
+	try "the shared object shows one name" sh -c '[ "$(nm -D --defined-only build/libyds.so | awk "\$2 == \"T\" { print \$3 }")" = yds_answer@@YDS_1 ]'
+	try "the soname" sh -c 'readelf -d build/libyds.so | grep -q "SONAME.*\[libyds.so.1\]"'
+	try "the shared object wants the C library alone" sh -c '[ "$(readelf -d build/libyds.so | grep -c NEEDED)" = 1 ] && readelf -d build/libyds.so | grep -q "NEEDED.*\[libc.so.6\]"'
+	try "no relocation of code" sh -c '! readelf -d build/libyds.so | grep -q TEXTREL'
+	for standard in c99 c11 c17; do
+		try "the header in $standard" "$CC" -std=$standard -Wall -Wextra -pedantic-errors -Werror -fsyntax-only -x c library/yds.h
+	done
+	for standard in c++98 c++11 c++20; do
+		try "the header in $standard" "$CXX" -std=$standard -Wall -Wextra -pedantic-errors -Werror -Wno-long-long -fsyntax-only -x c++ library/yds.h
+	done
+}
+
+part_rows() {
+	answers
+	counted "rows of the shared object" "$work/shared" rows $rows
+	counted "rows of the archive" "$work/static" rows $rows
+}
+
+part_words() {
+	answers
+	counted "words" "$work/shared" words
+}
+
+part_threads() {
+	answers
+	counted "threads" "$work/shared" threads $rows
+}
+
+part_memory() {
+	answers
+	counted "memory" "$work/static" memory $rows
+}
+
+# example NAME WANTED COMMAND ..: what it writes is compared with a file.
+example() {
+	name=$1 wanted=$2
+	shift 2
+	"$@" >"$work/out" 2>&1
+	if cmp -s "$wanted" "$work/out"; then pass; else fail "$name"; diff "$wanted" "$work/out" | head -n 6; fi
+}
+
+part_examples() {
+	try "slack.c" c -o "$work/slack" library/examples/slack.c build/libyds.so
+	try "answer.cpp" cxx -o "$work/answer" library/examples/answer.cpp build/libyds.so
+	example "the example in C" library/examples/slack.txt "$work/slack"
+	# The example in C++ is the program again: it answers every row.
+	counted "the example in C++" sh examples/check.sh "$work/answer"
+	"$work/answer" "$(printf '\377')" </dev/null >"$work/out" 2>/dev/null
+	if [ $? -gt 7 ]; then pass; else fail "the example in C++ throws where a word isn't UTF-8"; fi
+}
+
+# What `make install-library` puts somewhere serves a compiler through pkg-config, and `make uninstall` takes all of it away.
+part_install() {
+	try "make install-library" make -s install-library DESTDIR="$work/root" PREFIX=/usr
+	PKG_CONFIG_PATH=$work/root/usr/lib/pkgconfig PKG_CONFIG_SYSROOT_DIR=$work/root
+	export PKG_CONFIG_PATH PKG_CONFIG_SYSROOT_DIR
+	# shellcheck disable=SC2046
+	try "pkg-config" "$CC" -o "$work/installed" library/examples/slack.c $(PKG_CONFIG_ALLOW_SYSTEM_CFLAGS=1 PKG_CONFIG_ALLOW_SYSTEM_LIBS=1 pkg-config --cflags --libs yds)
+	try "the version" sh -c '[ "$(pkg-config --modversion yds)" = "$(cat VERSION)" ]'
+	example "the installed shared object" library/examples/slack.txt env LD_LIBRARY_PATH="$work/root/usr/lib" "$work/installed"
+	try "make uninstall-library" make -s uninstall-library DESTDIR="$work/root" PREFIX=/usr
+	if [ -z "$(find "$work/root" ! -type d)" ]; then pass; else fail "uninstall leaves something"; find "$work/root" ! -type d; fi
+}
+
+# Each processor draws a range of the documents.
+part_fuzz() {
+	try "fuzz.c" "$CC" -std=gnu11 -O2 -Wall -Ilibrary -DLIBRARY -o "$work/fuzz" robustness/fuzz.c build/libyds.so
+	jobs=$(nproc) each=$(((DOCUMENTS + jobs - 1) / jobs)) number=0
+	while [ $number -lt "$jobs" ]; do
+		(cd "$work" && ./fuzz "$here/build/yds_cli" "$here/$rows" "$SEED" $each $((number * each + 1)) >fuzz.$number 2>&1) &
+		number=$((number + 1))
+	done
+	wait
+	number=0
+	while [ $number -lt "$jobs" ]; do
+		counted "drawn documents" cat "$work/fuzz.$number"
+		number=$((number + 1))
+	done
+}
+
+for file in build/yds_cli build/libyds.a build/libyds.so; do
+	[ -f $file ] || { echo "test.sh: $file isn't there; make library builds it" >&2; exit 1; }
+done
+for part in ${*:-names rows words threads memory examples install fuzz}; do
+	before=$passed
+	"part_$part" || fail "the part $part"
+	echo "$part: $((passed - before)) passed"
+done
+echo "$passed passed, $failed failed"
+[ $failed = 0 ]

@@ -1,0 +1,92 @@
+"""Writes the wheel: wheel.py VERSION EPOCH FOLDER, at the top of the repository. Each file has the time EPOCH."""
+
+import base64
+import hashlib
+import re
+import sys
+import time
+import zipfile
+from pathlib import Path
+from typing import Dict, Tuple
+
+# The platform's name promises a C library of 2.17 or later, and no other library.
+PLATFORM, MOST_GLIBC = "manylinux2014_x86_64", (2, 17)
+
+METADATA = """\
+Metadata-Version: 2.1
+Name: yds
+Version: {version}
+Summary: Planner and auditor for jobs on one processor of variable speed
+License: MIT OR Apache-2.0
+License-File: LICENSE-MIT
+License-File: LICENSE-APACHE
+Requires-Python: >=3.8
+Classifier: Operating System :: POSIX :: Linux
+Classifier: Programming Language :: Python :: 3
+Classifier: Typing :: Typed
+Description-Content-Type: text/markdown
+
+{description}"""
+
+WHEEL = """\
+Wheel-Version: 1.0
+Generator: yds_cli packaging/wheel.py
+Root-Is-Purelib: false
+Tag: py3-none-{platform}
+"""
+
+
+def shared_object(path: Path) -> bytes:
+    """The bytes of the shared object, which has to run where the platform's name says."""
+    data = path.read_bytes()
+    wanted = max((int(a), int(b)) for a, b in re.findall(rb"GLIBC_(\d+)\.(\d+)", data))
+    if wanted > MOST_GLIBC:
+        sys.exit(
+            f"wheel.py: {path} wants glibc {wanted[0]}.{wanted[1]}, and {PLATFORM} has {MOST_GLIBC[0]}.{MOST_GLIBC[1]}"
+        )
+    return data
+
+
+def contents(version: str) -> Dict[str, bytes]:
+    """The files of the wheel by their names, all but its record."""
+    package = Path("library/python/yds")
+    info = f"yds-{version}.dist-info"
+    files = {f"yds/{path.name}": path.read_bytes() for path in package.iterdir() if path.suffix in (".py", ".typed")}
+    files["yds/libyds.so.1"] = shared_object(Path("build/libyds.so"))
+    description = Path("library/python/README.md").read_text(encoding="utf-8")
+    files[f"{info}/METADATA"] = METADATA.format(version=version, description=description).encode()
+    files[f"{info}/WHEEL"] = WHEEL.format(platform=PLATFORM).encode()
+    for licence in ("LICENSE-MIT", "LICENSE-APACHE"):
+        files[f"{info}/{licence}"] = Path(licence).read_bytes()
+    return dict(sorted(files.items()))
+
+
+def record(files: Dict[str, bytes], name: str) -> bytes:
+    """The sum and the size of each file."""
+    lines = []
+    for path, data in files.items():
+        digest = base64.urlsafe_b64encode(hashlib.sha256(data).digest()).rstrip(b"=").decode()
+        lines.append(f"{path},sha256={digest},{len(data)}\n")
+    return "".join([*lines, f"{name},,\n"]).encode()
+
+
+def write(path: Path, files: Dict[str, bytes], epoch: int) -> None:
+    """A zip of the files, in their order."""
+    moment: Tuple[int, ...] = time.gmtime(epoch)[:6]
+    with zipfile.ZipFile(path, "w", zipfile.ZIP_DEFLATED, compresslevel=9) as archive:
+        for name, data in files.items():
+            entry = zipfile.ZipInfo(name, moment)  # type: ignore[arg-type]
+            entry.compress_type = zipfile.ZIP_DEFLATED
+            entry.external_attr = (0o100755 if ".so" in name else 0o100644) << 16
+            archive.writestr(entry, data)
+
+
+def main(version: str, epoch: str, folder: str) -> None:
+    files = contents(version)
+    name = f"yds-{version}.dist-info/RECORD"
+    files[name] = record(files, name)
+    write(Path(folder) / f"yds-{version}-py3-none-{PLATFORM}.whl", files, int(epoch))
+
+
+if __name__ == "__main__":
+    main(*sys.argv[1:])

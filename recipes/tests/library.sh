@@ -1,0 +1,13 @@
+# The commands of docs/library.md. They want the library, which `make library` builds, and a C compiler.
+
+test_library() {
+	build=$(cd "$here/../build" && pwd)
+	if [ ! -f "$build/libyds.so" ] || ! has cc || ! has c++ || ! has python3; then left_out=$((left_out + 1)); return; fi
+	mkdir "$work/lib"
+	ln -s "$build/libyds.so" "$work/lib/libyds.so.1"
+	ln -s "$build/libyds.so" "$work/lib/libyds.so"
+	CPATH=$here/../library LIBRARY_PATH=$work/lib LD_LIBRARY_PATH=$work/lib PYTHONPATH=$here/../library/python PYTHONDONTWRITEBYTECODE=1
+	export CPATH LIBRARY_PATH LD_LIBRARY_PATH PYTHONPATH PYTHONDONTWRITEBYTECODE
+	commands_of ../../docs/library.md
+	unset CPATH LIBRARY_PATH LD_LIBRARY_PATH PYTHONPATH PYTHONDONTWRITEBYTECODE
+}
