@@ -1,11 +1,10 @@
 -- The definitions of admission, tried on the worked rows of `admit`, on intervals that are and aren't the first to be overfull, and on
 -- answers that take or refuse the wrong job.
-use Rattle.std.proofs.Common.{◌≡◌, ℕ, ◌*◌, ◌-◌, List, [], ◌∷◌, map, refl, arith, inl, inr, ◌==◌}
+use Rattle.std.proofs.Common.{◌≡◌, ℕ, ◌*◌, ◌-◌, List, [], ◌∷◌, map, refl, arith, inl, inr}
 use Rattle.std.specs.Prelude.{codes}
 use Rattle.std.specs.Fmt.{digits}
-use Rattle.std.specs.List.{Contains, list_any}
+use Rattle.std.specs.List.{Contains}
 use Rattle.std.proofs.Math.Nat.{one-dvd}
-use Rattle.std.proofs.lemmas.Bool.Decides.{nat_tests, not_from_Decides}
 use Rattle.std.proofs.lemmas.List.Elements.{All-from_recursion}
 use Rattle.yds_model.specs.declared.status.Status.TheVariants.{Done, Refused}
 use Rattle.yds_model.specs.Job.{Job, job_at}
@@ -21,9 +20,9 @@ use Rattle.yds_model.specs.Admission.{CanServe, jobs_with, IsOverfull, IsFirstOv
 use Rattle.yds_model.specs.AdmitAnswer.{with_taken}
 use Rattle.yds_model.specs.Answer.{Answers}
 use Rattle.yds_model.proofs.Scale.{least_scale_of}
-use Rattle.yds_examples.proofs.Decided.{eq_decided, any_decided, scale_decided}
-use Rattle.yds_examples.proofs.DecidedSchedules.{is_run_at, run_decided}
-use Rattle.yds_examples.proofs.DecidedAdmission.{can_serve, cant_serve, overfull_by_test, first_of_all}
+use Rattle.yds_examples.proofs.Tests.{proved, refuted, test_eq, test_any}
+use Rattle.yds_examples.proofs.TestedSchedules.{is_scale, run_at}
+use Rattle.yds_examples.proofs.TestedRounding.{can_serve, cant_serve, overfull, first_overfull}
 use Rattle.yds_energy.proofs.RunScale.{admitted_run_scaled}
 use Rattle.yds_texts.proofs.Within.{read_is_within_limits}
 use Rattle.yds_texts.proofs.AdmitText.{admission_texts_are_feasible}
@@ -50,14 +49,11 @@ serves_b = can_serve 2 (jobs_with jobs (0 ∷ 1 ∷ [])) (slot 1 0 2 4 ∷ slot 
 
 -- With c the interval from 0 to 4 has 9 units of work and room for 8, so the three can't be served.
 no_room_for_c : CanServe 2 (jobs_with jobs (0 ∷ 1 ∷ 2 ∷ [])) → ⊥
-no_room_for_c = cant_serve 2 0 4 (jobs_with jobs (0 ∷ 1 ∷ 2 ∷ [])) (0 ∷ 1 ∷ 2 ∷ []) (omega arith) (λ number. grind (arith, nat_tests)) refl refl (omega arith)
+no_room_for_c = cant_serve 2 0 4 (jobs_with jobs (0 ∷ 1 ∷ 2 ∷ [])) (0 ∷ 1 ∷ 2 ∷ []) (omega arith) refl (omega arith)
 
 -- No other interval is overfull.
 interval_of_c : IsFirstOverfull jobs 2 (0 ∷ 1 ∷ 2 ∷ []) 0 4
-interval_of_c = record {
-  overfull = overfull_by_test jobs 2 (0 ∷ 1 ∷ 2 ∷ []) 0 4 (omega arith) refl refl (omega arith);
-  first = first_of_all jobs 2 (0 ∷ 1 ∷ 2 ∷ []) 0 4 refl;
-}
+interval_of_c = proved (first_overfull jobs 2 (0 ∷ 1 ∷ 2 ∷ []) 0 4) refl
 
 -- The refusal of c tells that interval and its work.
 abbrev pub refusal_of_c : Refusal
@@ -99,18 +95,14 @@ with_idle = job 0 2 3 ∷ job 0 2 0 ∷ job 0 2 1 ∷ []
 
 -- a wants more than 2 units of time can give,
 no_room_for_a : CanServe 1 (jobs_with with_idle (0 ∷ [])) → ⊥
-no_room_for_a = cant_serve 1 0 2 (jobs_with with_idle (0 ∷ [])) (0 ∷ []) (omega arith) (λ number. grind (arith, nat_tests)) refl refl (omega arith)
+no_room_for_a = cant_serve 1 0 2 (jobs_with with_idle (0 ∷ [])) (0 ∷ []) (omega arith) refl (omega arith)
 
 -- so it is refused, for its own interval.
 abbrev refusal_of_a : Refusal
 refusal_of_a = record { job = 0; from = 0; to = 2; work = 3 }
 
 is_refusal_of_a : IsRefusal with_idle 1 (0 ∷ []) 0 refusal_of_a
-is_refusal_of_a = record {
-  is_job = refl;
-  interval = record { overfull = overfull_by_test with_idle 1 (0 ∷ []) 0 2 (omega arith) refl refl (omega arith); first = first_of_all with_idle 1 (0 ∷ []) 0 2 refl };
-  is_work = refl;
-}
+is_refusal_of_a = record { is_job = refl; interval = proved (first_overfull with_idle 1 (0 ∷ []) 0 2) refl; is_work = refl }
 
 -- b wants nothing, and needs no slot.
 serves_nothing : CanServe 1 (jobs_with with_idle (1 ∷ []))
@@ -136,13 +128,13 @@ abbrev nested : List Job
 nested = job 0 4 4 ∷ job 1 3 5 ∷ []
 
 outer_is_overfull : IsOverfull nested 2 (0 ∷ 1 ∷ []) 0 4
-outer_is_overfull = overfull_by_test nested 2 (0 ∷ 1 ∷ []) 0 4 (omega arith) refl refl (omega arith)
+outer_is_overfull = proved (overfull nested 2 (0 ∷ 1 ∷ []) 0 4) refl
 
 inner_is_overfull : IsOverfull nested 2 (0 ∷ 1 ∷ []) 1 3
-inner_is_overfull = overfull_by_test nested 2 (0 ∷ 1 ∷ []) 1 3 (omega arith) refl refl (omega arith)
+inner_is_overfull = proved (overfull nested 2 (0 ∷ 1 ∷ []) 1 3) refl
 
 outer_is_first : IsFirstOverfull nested 2 (0 ∷ 1 ∷ []) 0 4
-outer_is_first = record { overfull = outer_is_overfull; first = first_of_all nested 2 (0 ∷ 1 ∷ []) 0 4 refl }
+outer_is_first = proved (first_overfull nested 2 (0 ∷ 1 ∷ []) 0 4) refl
 
 inner_is_not_first : IsFirstOverfull nested 2 (0 ∷ 1 ∷ []) 1 3 → ⊥
 inner_is_not_first first = elim (first.first 0 4 outer_is_overfull) [ inl after ↦ absurd (omega arith) | inr here ↦ absurd (omega arith) ]
@@ -152,10 +144,10 @@ abbrev together : List Job
 together = job 0 4 9 ∷ job 0 2 5 ∷ []
 
 short_is_overfull : IsOverfull together 2 (0 ∷ 1 ∷ []) 0 2
-short_is_overfull = overfull_by_test together 2 (0 ∷ 1 ∷ []) 0 2 (omega arith) refl refl (omega arith)
+short_is_overfull = proved (overfull together 2 (0 ∷ 1 ∷ []) 0 2) refl
 
 short_is_first : IsFirstOverfull together 2 (0 ∷ 1 ∷ []) 0 2
-short_is_first = record { overfull = short_is_overfull; first = first_of_all together 2 (0 ∷ 1 ∷ []) 0 2 refl }
+short_is_first = proved (first_overfull together 2 (0 ∷ 1 ∷ []) 0 2) refl
 
 long_is_not_first : IsFirstOverfull together 2 (0 ∷ 1 ∷ []) 0 4 → ⊥
 long_is_not_first first = elim (first.first 0 2 short_is_overfull) [ inl after ↦ absurd (omega arith) | inr here ↦ absurd (omega arith) ]
@@ -167,9 +159,7 @@ just_fits full = absurd (omega (arith, full.too_much))
 -- nor is one that ends at no deadline.
 at_no_deadline : IsOverfull together 2 (0 ∷ 1 ∷ []) 0 3 → ⊥
 at_no_deadline full =
-    not_from_Decides (list_any (λ number. (job_at together number).deadline == 3) (0 ∷ 1 ∷ []))
-    (any_decided (λ number. (job_at together number).deadline == 3) (λ number. (job_at together number).deadline ≡ 3)
-    (λ number. eq_decided (job_at together number).deadline 3) (0 ∷ 1 ∷ [])) refl full.is_deadline
+    refuted (test_any (λ number. test_eq (job_at together number).deadline 3) (0 ∷ 1 ∷ [])) refl full.is_deadline
 
 -- # The schedule of the admitted jobs
 
@@ -188,26 +178,18 @@ capacities = refl
 
 -- The slots are a run that serves that,
 run : IsRunAt admitted 1 1 (top_capacity admitted 2 1 (slots_at 1 slots)) (slots_at 1 slots)
-run = (run_decided admitted 1 1 (top_capacity admitted 2 1 (slots_at 1 slots)) (slots_at 1 slots)).0 refl
+run = proved (run_at admitted 1 1 (top_capacity admitted 2 1 (slots_at 1 slots)) (slots_at 1 slots)) refl
 
 -- at scale 1.
 whole : IsScale 1 slots
-whole = (scale_decided 1 slots).0 refl
+whole = proved (is_scale 1 slots) refl
 
 -- A slot of whole ends and work that serves so many units of its stretch has a run's denominators.
 has_denominators : (slot : WrittenSlot) (stretch : Piece) (units : ℕ) → Contains (stretches admitted) stretch → LiesWritten slot stretch →
     HasSpeed units (1 * (stretch.to - stretch.from)) slot → slot.work ≡ of_whole slot.work.whole → slot.from ≡ of_whole slot.from.whole →
     slot.to ≡ of_whole slot.to.whole → HasRunDenominators admitted 1 slot
-has_denominators slot stretch units is lies speed work from to = record {
-  stretch = stretch;
-  is_stretch = is;
-  lies = lies;
-  units = units;
-  speed = speed;
-  work = inl work;
-  from = inl from;
-  to = inl to;
-}
+has_denominators slot stretch units is lies speed work from to =
+    record { stretch = stretch; is_stretch = is; lies = lies; units = units; speed = speed; work = inl work; from = inl from; to = inl to }
 
 -- So they are a run at each scale, with whole ends and works.
 admitted_run : IsAdmittedRun admitted 2 slots
@@ -224,7 +206,7 @@ admitted_run = record {
 other_top : IsAdmittedRun admitted 3 slots → ⊥
 other_top is =
     let capacity = top_capacity admitted 3 1 (slots_at 1 slots) in
-    not_from_Decides (is_run_at admitted 1 1 capacity (slots_at 1 slots)) (run_decided admitted 1 1 capacity (slots_at 1 slots)) refl (is.run.holds 1 whole)
+    refuted (run_at admitted 1 1 capacity (slots_at 1 slots)) refl (is.run.holds 1 whole)
 
 -- # The answer
 

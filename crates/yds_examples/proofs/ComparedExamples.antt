@@ -2,11 +2,11 @@
 use Rattle.std.proofs.Common.{◌≡◌, ◌≢◌, ℕ, zero, suc, ◌+◌, ◌*◌, ◌/◌, ◌%◌, ◌≤◌, ◌==◌, Bool, true, false, List, [], ◌∷◌, ◌++◌, length, get_or, drop, decimal, refl, sym, ap, subst, ◌∙◌, arith, append_assoc, inl, inr, Ok, eqb-true}
 use Rattle.std.specs.Prelude.{codes, if◌then◌else◌}
 use Rattle.std.specs.Fmt.{digits, digits_onto, digit_glyph}
-use Rattle.std.specs.List.{All, AllByRecursion, zip, flat_map, join_with_byte}
+use Rattle.std.specs.List.{All, zip, flat_map}
 use Rattle.std.proofs.lemmas.Bool.{cases_lt, ne_eqb}
 use Rattle.std.proofs.lemmas.Fmt.{decimal_digit}
-use Rattle.std.proofs.lemmas.List.{length-append}
-use Rattle.std.proofs.lemmas.List.Elements.{All-nil, All-cons, All-head, All-tail, All-append, All-from_recursion}
+use Rattle.std.proofs.lemmas.List.{get_or_append_left}
+use Rattle.std.proofs.lemmas.List.Elements.{All-nil, All-cons}
 use Rattle.std.proofs.Math.Nat.{mul-pos}
 use Rattle.yds_model.specs.Scale.{Fraction, numerator}
 use Rattle.yds_model.specs.Table.{Point}
@@ -26,179 +26,116 @@ held = comparison_holds 6 _ _ answer
 
 -- # A number of one digit
 
--- digits before others make more of them
-more_digits : (k n : ℕ) (others : List ℕ) → length others ≤ length (digits_onto k 10 false n others)
-more_digits zero n others = omega arith
-more_digits (suc k) n others =
-    either (n / 10 == 0) (digit_glyph false (n % 10) ∷ others) (digits_onto k 10 false (n / 10) (digit_glyph false (n % 10) ∷ others)) (omega arith)
-    (omega (arith, more_digits k (n / 10) (digit_glyph false (n % 10) ∷ others))) where
-      either : (b : Bool) (one other : List ℕ) → length others ≤ length one → length others ≤ length other → length others ≤ length (if b then one else other)
-      either true one other first second = first
-      either false one other first second = second
+-- what both lists have the chosen one has
+chosen : (P : List ℕ → Type 0) (b : Bool) (one other : List ℕ) → P one → P other → P (if b then one else other)
+chosen P true one other first second = first
+chosen P false one other first second = second
 
-one_more : (k n : ℕ) (others : List ℕ) → length others + 1 ≤ length (digits_onto (suc k) 10 false n others)
-one_more k n others =
-    either (n / 10 == 0) (digit_glyph false (n % 10) ∷ others) (digits_onto k 10 false (n / 10) (digit_glyph false (n % 10) ∷ others)) (omega arith)
-    (omega (arith, more_digits k (n / 10) (digit_glyph false (n % 10) ∷ others))) where
-      either : (b : Bool) (one other : List ℕ) → length others + 1 ≤ length one → length others + 1 ≤ length other → length others + 1 ≤ length (if b then one else other)
-      either true one other first second = first
-      either false one other first second = second
+-- what a digit before others keeps a number before others keeps
+number_keeps : (P : List ℕ → Type 0) → ((n : ℕ) (others : List ℕ) → P others → P (digit_glyph false (n % 10) ∷ others)) → (k n : ℕ) (others : List ℕ) → P others →
+    P (digits_onto k 10 false n others)
+number_keeps P more zero n others known = known
+number_keeps P more (suc k) n others known =
+    chosen P (n / 10 == 0) _ _ (more n others known) (number_keeps P more k (n / 10) (digit_glyph false (n % 10) ∷ others) (more n others known))
 
--- a number from 10 on has more than one
+-- a number from 10 on has more than one digit
 two_digits : (n : ℕ) → 10 ≤ n → 2 ≤ length (decimal n)
 unfolding digits
 two_digits n great =
     let some : (n / 10 == 0) ≡ false = ne_eqb (n / 10) 0 (λ none. omega (arith, great, none)) in
     subst (λ (b : Bool). 2 ≤ length (if b then digit_glyph false (n % 10) ∷ [] else digits_onto 63 10 false (n / 10) (digit_glyph false (n % 10) ∷ []))) (sym some)
-    (one_more 62 (n / 10) (digit_glyph false (n % 10) ∷ []))
+    (chosen (λ text. 2 ≤ length text) (n / 10 / 10 == 0) (digit_glyph false (n / 10 % 10) ∷ digit_glyph false (n % 10) ∷ [])
+    (digits_onto 62 10 false (n / 10 / 10) (digit_glyph false (n / 10 % 10) ∷ digit_glyph false (n % 10) ∷ [])) (omega arith)
+    (number_keeps (λ text. 2 ≤ length text) (λ n others known. omega (arith, known)) 62 (n / 10 / 10) (digit_glyph false (n / 10 % 10) ∷ digit_glyph false (n % 10) ∷ []) (omega arith)))
 
-one_digit : (n digit : ℕ) → decimal n ≡ (48 + digit) ∷ [] → n ≡ digit
-one_digit n digit is = elim (cases_lt n 10) [
-  | inl small ↦ omega (arith, ap (λ text. get_or text 0 0) (sym (decimal_digit n small) ∙ is))
-  | inr great ↦ absurd (omega (arith, two_digits n great, ap length is))
+digit_large : (n : ℕ) → 48 ≤ digit_glyph false (n % 10)
+digit_large n = grind arith
+
+digits_large : (n : ℕ) → All (λ byte. 48 ≤ byte) (decimal n)
+unfolding digits
+digits_large n =
+    number_keeps (All (λ byte. 48 ≤ byte)) (λ n others known. All-cons (λ byte. 48 ≤ byte) (digit_glyph false (n % 10)) others (digit_large n) known) 64 n []
+    (All-nil (λ byte. 48 ≤ byte))
+
+-- so where a digit and a line feed begin a number and what comes after it, that digit is the number
+first_digit : (n digit byte : ℕ) (rest later : List ℕ) → (48 + digit) ∷ 10 ∷ later ≡ decimal n ++ (byte ∷ rest) → (n ≡ digit) × (byte ≡ 10)
+first_digit n digit byte rest later same = elim (cases_lt n 10) [
+  | inl small ↦
+      let told = same ∙ ap (λ text. text ++ (byte ∷ rest)) (decimal_digit n small) in
+      (omega (arith, ap (λ text. get_or text 0 0) told), omega (arith, ap (λ text. get_or text 1 0) told))
+  | inr great ↦
+      absurd (omega (
+        arith,
+        digits_large n 1 0 (two_digits n great),
+        ap (λ text. get_or text 1 0) same,
+        get_or_append_left (decimal n) (byte ∷ rest) 0 1 (two_digits n great),
+      ))
 ]
 
--- so a fraction whose text is a digit is that number
-fraction_digit : (none : Bool) (x : Fraction) (digit : ℕ) → (x.num == 0) ≡ none →
-    (if none then decimal x.whole else decimal x.whole ++ codes "+" ++ decimal x.num ++ codes "/" ++ decimal x.den) ≡ (48 + digit) ∷ [] → numerator x ≡ digit * x.den
-fraction_digit true x digit whole is =
+-- and so it is with a fraction at the end of a line
+fraction_digit : (none : Bool) (x : Fraction) (digit : ℕ) (rest later : List ℕ) → (x.num == 0) ≡ none →
+    (48 + digit) ∷ 10 ∷ later ≡ (if none then decimal x.whole else decimal x.whole ++ codes "+" ++ decimal x.num ++ codes "/" ++ decimal x.den) ++ (10 ∷ rest) →
+    numerator x ≡ digit * x.den
+fraction_digit true x digit rest later whole same =
     let none : x.num ≡ 0 = eqb-true x.num 0 whole in
-    omega (arith, none, ap (λ n. n * x.den) (one_digit x.whole digit is))
-fraction_digit false x digit whole is =
-    absurd (omega (
-      arith,
-      sym (length-append (decimal x.whole ++ codes "+" ++ decimal x.num ++ codes "/") (decimal x.den)) ∙ ap length is,
-      length-append (decimal x.whole ++ codes "+" ++ decimal x.num) (codes "/"),
-      length-append (decimal x.whole ++ codes "+") (decimal x.num),
-      length-append (decimal x.whole) (codes "+"),
-    ))
+    omega (arith, none, ap (λ n. n * x.den) (first_digit x.whole digit 10 rest later same).0)
+fraction_digit false x digit rest later whole same =
+    absurd (omega (arith, (first_digit x.whole digit 43 (decimal x.num ++ (codes "/" ++ (decimal x.den ++ (10 ∷ rest)))) later (same ∙ simp append_assoc)).1))
 
--- # Lines
+-- where it is the energy of a side whose lines begin so
+energy_digit : (x : Fraction) (digit : ℕ) (times rest later : List ℕ) → (48 + digit) ∷ 10 ∷ later ≡ ((fraction_text x ++ 10 ∷ []) ++ times) ++ rest → numerator x ≡ digit * x.den
+energy_digit x digit times rest later same = fraction_digit (x.num == 0) x digit (times ++ rest) later refl (same ∙ simp append_assoc)
 
--- the first line of a text, and what is after it
-abbrev first_line : List ℕ → List ℕ
-first_line [] = []
-first_line (byte ∷ text) = if byte == 10 then [] else byte ∷ first_line text
+-- # The lines of a plan
 
-abbrev later_lines : List ℕ → List ℕ
-later_lines [] = []
-later_lines (byte ∷ text) = if byte == 10 then text else later_lines text
+-- what comes after the first v
+abbrev after_v : List ℕ → List ℕ
+after_v [] = []
+after_v (byte ∷ text) = if byte == 118 then text else after_v text
 
--- no line feed is in these bytes
-abbrev IsLine : List ℕ → Type 0
-IsLine bytes = All (λ byte. byte ≢ 10) bytes
+-- these bytes have none
+record HasNone (bytes : List ℕ) : Type 0 where
+  passed : (text : List ℕ) → after_v (bytes ++ text) ≡ after_v text
 
--- so the first line ends there
-first_is : (bytes text : List ℕ) → IsLine bytes → first_line ((bytes ++ 10 ∷ []) ++ text) ≡ bytes
-first_is [] text plain = refl
-first_is (byte ∷ bytes) text plain =
-    let other : (byte == 10) ≡ false = ne_eqb byte 10 (All-head (λ byte. byte ≢ 10) byte bytes plain) in
-    ap (λ (b : Bool). if b then [] else byte ∷ first_line ((bytes ++ 10 ∷ []) ++ text)) other
-    ∙ ap (λ (l : List ℕ). byte ∷ l) (first_is bytes text (All-tail (λ byte. byte ≢ 10) byte bytes plain))
+both_none : {one other : List ℕ} → HasNone one → HasNone other → HasNone (one ++ other)
+both_none {one} {other} first second = record { passed = λ text. ap after_v (append_assoc one other text) ∙ first.passed (other ++ text) ∙ second.passed text }
 
-later_is : (bytes text : List ℕ) → IsLine bytes → later_lines ((bytes ++ 10 ∷ []) ++ text) ≡ text
-later_is [] text plain = refl
-later_is (byte ∷ bytes) text plain =
-    let other : (byte == 10) ≡ false = ne_eqb byte 10 (All-head (λ byte. byte ≢ 10) byte bytes plain) in
-    ap (λ (b : Bool). if b then (bytes ++ 10 ∷ []) ++ text else later_lines ((bytes ++ 10 ∷ []) ++ text)) other
-    ∙ later_is bytes text (All-tail (λ byte. byte ≢ 10) byte bytes plain)
+digit_apart : (n : ℕ) → digit_glyph false (n % 10) ≢ 118
+digit_apart n same = grind (arith, same)
 
--- numbers and fractions have no line feed
-glyph_plain : (n : ℕ) → digit_glyph false (n % 10) ≢ 10
-glyph_plain n same = grind (arith, same)
-
-digits_plain : (k n : ℕ) (others : List ℕ) → IsLine others → IsLine (digits_onto k 10 false n others)
-digits_plain zero n others plain = plain
-digits_plain (suc k) n others plain =
-    let more : IsLine (digit_glyph false (n % 10) ∷ others) = All-cons (λ byte. byte ≢ 10) (digit_glyph false (n % 10)) others (glyph_plain n) plain in
-    either (n / 10 == 0) (digit_glyph false (n % 10) ∷ others) (digits_onto k 10 false (n / 10) (digit_glyph false (n % 10) ∷ others)) more
-    (digits_plain k (n / 10) (digit_glyph false (n % 10) ∷ others) more) where
-      either : (b : Bool) (one other : List ℕ) → IsLine one → IsLine other → IsLine (if b then one else other)
-      either true one other first second = first
-      either false one other first second = second
-
-number_plain : (n : ℕ) → IsLine (decimal n)
+number_none : (n : ℕ) → HasNone (decimal n)
 unfolding digits
-number_plain n = digits_plain 64 n [] (All-nil (λ byte. byte ≢ 10))
+number_none n =
+    number_keeps HasNone (λ n others known. record {
+      passed = λ text.
+          ap (λ (b : Bool). if b then others ++ text else after_v (others ++ text)) (ne_eqb (digit_glyph false (n % 10)) 118 (digit_apart n)) ∙ known.passed text;
+    }) 64 n [] (record { passed = λ text. refl })
 
-both_plain : (one other : List ℕ) → IsLine one → IsLine other → IsLine (one ++ other)
-both_plain one other first second = All-append (λ byte. byte ≢ 10) one other first second
+fraction_none : (none : Bool) (x : Fraction) → HasNone (if none then decimal x.whole else decimal x.whole ++ codes "+" ++ decimal x.num ++ codes "/" ++ decimal x.den)
+fraction_none true x = number_none x.whole
+fraction_none false x =
+    let plus : HasNone (codes "+") = record { passed = λ text. refl } in
+    let slash : HasNone (codes "/") = record { passed = λ text. refl } in
+    both_none (both_none (both_none (both_none (number_none x.whole) plus) (number_none x.num)) slash) (number_none x.den)
 
-fraction_plain : (none : Bool) (x : Fraction) → IsLine (if none then decimal x.whole else decimal x.whole ++ codes "+" ++ decimal x.num ++ codes "/" ++ decimal x.den)
-fraction_plain true x = number_plain x.whole
-fraction_plain false x =
-    both_plain (decimal x.whole ++ codes "+" ++ decimal x.num ++ codes "/") (decimal x.den)
-    (both_plain (decimal x.whole ++ codes "+" ++ decimal x.num) (codes "/")
-    (both_plain (decimal x.whole ++ codes "+") (decimal x.num) (both_plain (decimal x.whole) (codes "+") (number_plain x.whole) plus_plain) (number_plain x.num)) slash_plain)
-    (number_plain x.den) where
-      plus_plain : IsLine (codes "+")
-      plus_plain = All-from_recursion (λ byte. byte ≢ 10) (codes "+") ((λ same. absurd (omega (arith, same))), tt)
+-- a line feed
+feed_none : HasNone (10 ∷ [])
+feed_none = record { passed = λ text. refl }
 
-      slash_plain : IsLine (codes "/")
-      slash_plain = All-from_recursion (λ byte. byte ≢ 10) (codes "/") ((λ same. absurd (omega (arith, same))), tt)
+times_none : (times : List (Point × Fraction)) →
+    HasNone (flat_map (λ timed. line (codes "plan" ∷ codes "time" ∷ decimal timed.0.speed ∷ fraction_text timed.1 ∷ [])) times)
+times_none [] = record { passed = λ text. refl }
+times_none (timed ∷ times) =
+    let time : HasNone (32 ∷ fraction_text timed.1) = record { passed = (fraction_none (timed.1.num == 0) timed.1).passed } in
+    let first : HasNone (line (codes "plan" ∷ codes "time" ∷ decimal timed.0.speed ∷ fraction_text timed.1 ∷ [])) =
+    record { passed = (both_none (both_none (number_none timed.0.speed) time) feed_none).passed } in
+    both_none first (times_none times)
 
-text_plain : (x : Fraction) → IsLine (fraction_text x)
-text_plain x = fraction_plain (x.num == 0) x
-
--- fields without a line feed make a line without one
-join_plain : (fields : List (List ℕ)) → AllByRecursion IsLine fields → IsLine (join_with_byte 32 fields)
-join_plain [] plain = All-nil (λ byte. byte ≢ 10)
-join_plain (field ∷ []) plain = plain.0
-join_plain (field ∷ next ∷ fields) plain =
-    both_plain field (32 ∷ join_with_byte 32 (next ∷ fields)) plain.0
-    (All-cons (λ byte. byte ≢ 10) 32 (join_with_byte 32 (next ∷ fields)) (λ same. absurd (omega (arith, same))) (join_plain (next ∷ fields) plain.1))
-
--- # The lines of a comparison
-
--- what comes after a line
-after_line : (fields : List (List ℕ)) (rest text : List ℕ) → AllByRecursion IsLine fields → later_lines ((line fields ++ rest) ++ text) ≡ rest ++ text
-after_line fields rest text plain =
-    ap later_lines (append_assoc (line fields) rest text) ∙ later_is (join_with_byte 32 fields) (rest ++ text) (join_plain fields plain)
-
-abbrev energy_fields : List ℕ → Fraction → List (List ℕ)
-energy_fields side energy = side ∷ codes "energy" ∷ fraction_text energy ∷ []
-
-abbrev time_fields : List ℕ → Point → Fraction → List (List ℕ)
-time_fields side point time = side ∷ codes "time" ∷ decimal point.speed ∷ fraction_text time ∷ []
-
-module _ (side : List ℕ) (plain : IsLine side) where
-  energy_plain : (energy : Fraction) → AllByRecursion IsLine (energy_fields side energy)
-  energy_plain energy = (plain, (All-from_recursion (λ byte. byte ≢ 10) (codes "energy") ((λ same. absurd (omega (arith, same))), ((λ same. absurd (omega (arith, same))), ((λ same. absurd (omega (arith, same))), ((λ same. absurd (omega (arith, same))), ((λ same. absurd (omega (arith, same))), ((λ same. absurd (omega (arith, same))), tt)))))), (text_plain energy, tt)))
-
-  time_plain : (point : Point) (time : Fraction) → AllByRecursion IsLine (time_fields side point time)
-  time_plain point time = (plain, (All-from_recursion (λ byte. byte ≢ 10) (codes "time") ((λ same. absurd (omega (arith, same))), ((λ same. absurd (omega (arith, same))), ((λ same. absurd (omega (arith, same))), ((λ same. absurd (omega (arith, same))), tt)))), (number_plain point.speed, (text_plain time, tt))))
-
-  -- the first line of what is spent is that of the energy
-  first_spent : (points : List Point) (spent : Spent) (text : List ℕ) → first_line (spent_lines side points spent ++ text) ≡ join_with_byte 32 (energy_fields side spent.energy)
-  first_spent points spent text =
-      ap first_line (append_assoc (line (energy_fields side spent.energy)) (flat_map (λ timed. line (time_fields side timed.0 timed.1)) (zip points spent.times)) text)
-      ∙ first_is (join_with_byte 32 (energy_fields side spent.energy)) (flat_map (λ timed. line (time_fields side timed.0 timed.1)) (zip points spent.times) ++ text)
-      (join_plain (energy_fields side spent.energy) (energy_plain spent.energy))
-
-  -- and on three points three lines of times follow it
-  after_times : (points : List Point) (times : List Fraction) (text : List ℕ) → length points ≡ 3 → length times ≡ 3 →
-      later_lines (later_lines (later_lines (flat_map (λ timed. line (time_fields side timed.0 timed.1)) (zip points times) ++ text))) ≡ text
-  after_times (p ∷ q ∷ r ∷ []) (x ∷ y ∷ z ∷ []) text three times =
-      let last = line (time_fields side r z) ++ [] in
-      let rest = line (time_fields side q y) ++ last in
-      ap (λ (l : List ℕ). later_lines (later_lines l)) (after_line (time_fields side p x) rest text (time_plain p x))
-      ∙ ap later_lines (after_line (time_fields side q y) last text (time_plain q y))
-      ∙ after_line (time_fields side r z) [] text (time_plain r z)
-  after_times (p ∷ q ∷ r ∷ s ∷ points) times text three same = absurd (omega (arith, three))
-  after_times [] times text three same = absurd (omega (arith, three))
-  after_times (p ∷ []) times text three same = absurd (omega (arith, three))
-  after_times (p ∷ q ∷ []) times text three same = absurd (omega (arith, three))
-  after_times (p ∷ q ∷ r ∷ []) [] text three same = absurd (omega (arith, same))
-  after_times (p ∷ q ∷ r ∷ []) (x ∷ []) text three same = absurd (omega (arith, same))
-  after_times (p ∷ q ∷ r ∷ []) (x ∷ y ∷ []) text three same = absurd (omega (arith, same))
-  after_times (p ∷ q ∷ r ∷ []) (x ∷ y ∷ z ∷ u ∷ times) text three same = absurd (omega (arith, same))
-
-  after_spent : (points : List Point) (spent : Spent) (text : List ℕ) → length points ≡ 3 → length spent.times ≡ 3 →
-      later_lines (later_lines (later_lines (later_lines (spent_lines side points spent ++ text)))) ≡ text
-  after_spent points spent text three same =
-      let times = flat_map (λ timed. line (time_fields side timed.0 timed.1)) (zip points spent.times) in
-      ap (λ (l : List ℕ). later_lines (later_lines (later_lines l))) (after_line (energy_fields side spent.energy) times text (energy_plain spent.energy))
-      ∙ after_times points spent.times text three same
+plan_none : (points : List Point) (spent : Spent) → HasNone (spent_lines (codes "plan") points spent)
+plan_none points spent =
+    let first : HasNone (line (codes "plan" ∷ codes "energy" ∷ fraction_text spent.energy ∷ [])) =
+    record { passed = (both_none (fraction_none (spent.energy.num == 0) spent.energy) feed_none).passed } in
+    both_none first (times_none (zip points spent.times))
 
 -- # A policy that spends less
 
@@ -206,13 +143,12 @@ abbrev input : List ℕ
 input = codes "job a 0 3 2\njob b 1 2 1\npoint 0 0\npoint 1 1\npoint 2 3\n"
 
 -- what follows the plan's lines tells 2 for Average Rate: its energy is told, and is 2
-two_told : (points : List Point) (side : Side) (rest later : List ℕ) → codes "avr energy 2\n" ++ later ≡ side_lines (codes "avr") points side ++ rest →
+two_told : (points : List Point) (side : Side) (rest later : List ℕ) → codes "r energy 2\n" ++ later ≡ after_v (side_lines (codes "avr") points side ++ rest) →
     (spent : Spent) × (side ≡ Spends spent) × (numerator spent.energy ≡ 2 * spent.energy.den)
-two_told points (TooSlowFor units from to) rest later same = absurd (omega (arith, ap (λ text. get_or text 4 0) same))
+two_told points (TooSlowFor units from to) rest later same = absurd (omega (arith, ap (λ text. get_or text 2 0) same))
 two_told points (Spends spent) rest later same =
-    let first : codes "avr energy 2" ≡ codes "avr" ++ (32 ∷ (codes "energy" ++ (32 ∷ fraction_text spent.energy))) =
-    ap first_line same ∙ first_spent (codes "avr") (All-from_recursion (λ byte. byte ≢ 10) (codes "avr") ((λ same. absurd (omega (arith, same))), ((λ same. absurd (omega (arith, same))), ((λ same. absurd (omega (arith, same))), tt)))) points spent rest in
-    (spent, refl, fraction_digit (spent.energy.num == 0) spent.energy 2 refl (sym (ap (drop 11) first)))
+    let times = flat_map (λ timed. line (codes "avr" ∷ codes "time" ∷ decimal timed.0.speed ∷ fraction_text timed.1 ∷ [])) (zip points spent.times) in
+    (spent, refl, energy_digit spent.energy 2 times rest later (ap (drop 9) same))
 
 -- the lines of the plan and all others
 in_turn : (a b c d e : List ℕ) → a ++ b ++ c ++ d ++ e ≡ a ++ (b ++ (c ++ (d ++ e)))
@@ -236,24 +172,17 @@ less later holds =
     let answer = is.answer in
     let points = is.document.points in
     let same : document ≡ is.document = let own = its_document in let read = is.read in cc in
-    let three : length points ≡ 3 = ap (λ (d : Document). length d.points) (sym same) in
     let average = side_lines (codes "avr") points answer.average_side in
     let average_line = rounded_line (codes "avr") answer.average_rounded in
     let optimal = side_lines (codes "oa") points answer.optimal_side in
     let optimal_line = rounded_line (codes "oa") answer.optimal_rounded in
     let rest = average_line ++ (optimal ++ optimal_line) in
     let plan = spent_lines (codes "plan") points answer.plan_spent in
-    let plain : IsLine (codes "plan") = All-from_recursion (λ byte. byte ≢ 10) (codes "plan") ((λ same. absurd (omega (arith, same))), ((λ same. absurd (omega (arith, same))), ((λ same. absurd (omega (arith, same))), ((λ same. absurd (omega (arith, same))), tt)))) in
     let told : codes "plan energy 3\nplan time 0 0\nplan time 1 3\nplan time 2 0\navr energy 2\n" ++ later ≡ plan ++ (average ++ rest) =
     answer.said ∙ in_turn plan average average_line optimal optimal_line in
-    let first : codes "plan energy 3" ≡ codes "plan" ++ (32 ∷ (codes "energy" ++ (32 ∷ fraction_text answer.plan_spent.energy))) =
-    ap first_line told ∙ first_spent (codes "plan") plain points answer.plan_spent (average ++ rest) in
-    let costs : numerator answer.plan_spent.energy ≡ 3 * answer.plan_spent.energy.den =
-    fraction_digit (answer.plan_spent.energy.num == 0) answer.plan_spent.energy 3 refl (sym (ap (drop 12) first)) in
-    let follows : codes "avr energy 2\n" ++ later ≡ average ++ rest =
-    ap (λ (l : List ℕ). later_lines (later_lines (later_lines (later_lines l)))) told
-    ∙ after_spent (codes "plan") plain points answer.plan_spent (average ++ rest) three (is.plan_told.a_time_each ∙ three) in
-    let two = two_told points answer.average_side rest later follows in
+    let times = flat_map (λ timed. line (codes "plan" ∷ codes "time" ∷ decimal timed.0.speed ∷ fraction_text timed.1 ∷ [])) (zip points answer.plan_spent.times) in
+    let costs = energy_digit answer.plan_spent.energy 3 times (average ++ rest) (codes "plan time 0 0\nplan time 1 3\nplan time 2 0\navr energy 2\n" ++ later) (ap (drop 12) told) in
+    let two = two_told points answer.average_side rest later (ap after_v told ∙ (plan_none points answer.plan_spent).passed (average ++ rest)) in
     let no_less = subst (CostsNoLess answer.plan_spent.energy) two.1 is.average_rate in
     let lowest = subst (IsToldSide points) two.1 is.average_told in
     let some : 1 ≤ answer.plan_spent.energy.den * two.0.energy.den =

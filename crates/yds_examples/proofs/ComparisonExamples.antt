@@ -1,13 +1,10 @@
 -- What schedules spend on the operating points, and the answer of `compare`, tried on its worked rows: a from 0 to 3 with work 2 and b from
 -- 1 to 2 with work 1, on the grid 6.
-use Rattle.std.proofs.Common.{◌≡◌, ℕ, zero, suc, ◌+◌, ◌-◌, ◌*◌, ◌<◌, ◌≤◌, List, [], ◌∷◌, length, map, refl, ap, arith, inl, inr, Bool, true, false, nat_le}
+use Rattle.std.proofs.Common.{◌≡◌, ℕ, ◌+◌, ◌*◌, ◌<◌, ◌≤◌, List, [], ◌∷◌, length, map, refl, ap, arith, inl, inr, true, false}
 use Rattle.std.specs.Prelude.{codes}
 use Rattle.std.specs.Fmt.{digits}
-use Rattle.std.specs.Bool.{Decides}
-use Rattle.std.specs.List.{All, list_all}
-use Rattle.std.proofs.lemmas.Bool.Decides.{not_from_Decides}
+use Rattle.std.specs.List.{All}
 use Rattle.std.proofs.Math.Nat.{one-dvd}
-use Rattle.std.proofs.lemmas.List.Elements.{All-from_recursion}
 use Rattle.yds_model.specs.declared.status.Status.TheVariants.{Done, No, Refused}
 use Rattle.yds_model.specs.Numbers.{IsFirstFailure}
 use Rattle.yds_model.specs.Job.{Job}
@@ -20,16 +17,16 @@ use Rattle.yds_model.specs.Event.{stretches}
 use Rattle.yds_model.specs.Plan.{IsServedInStretches, IsPlan}
 use Rattle.yds_model.specs.Policy.{IsRunAt}
 use Rattle.yds_model.specs.AverageRate.{average_rate, IsAverageRateRun}
-use Rattle.yds_model.specs.Rounding.{top_of, IsTooFast}
 use Rattle.yds_model.specs.Comparison.{work_in, all_time_at, all_energy, Spent, IsSpentAt, IsSpent, HoldsStretch, stretch_at, IsTooSlowFor, Spends, TooSlowFor, HoldsAll, IsSide}
 use Rattle.yds_model.specs.Answer.{Answers}
 use Rattle.yds_model.proofs.Scale.{one_scale_of, least_scale_of}
 use Rattle.yds_model.proofs.Divisor.{multiple_is_least}
 use Rattle.yds_texts.specs.CompareText.{CostsNoLess}
-use Rattle.yds_examples.proofs.Decided.{le_decided, all_below, each_decided, all_decided, scale_decided}
-use Rattle.yds_examples.proofs.DecidedSchedules.{feasible_by_test, stretches_decided, run_decided}
-use Rattle.yds_examples.proofs.DecidedPlans.{proper_by_test, plan_by_test}
-use Rattle.yds_energy.proofs.RunScale.{served_in_stretches_scaled, average_rate_run_scaled}
+use Rattle.yds_examples.proofs.Tests.{Test, tests, proved, refuted, test_never, test_le, test_eq, test_implied, test_all, test_each}
+use Rattle.yds_examples.proofs.TestedSchedules.{is_scale, run_at}
+use Rattle.yds_examples.proofs.TestedPlans.{proper_by_test, served_by_test, plan_by_test}
+use Rattle.yds_examples.proofs.TestedRounding.{slow_enough}
+use Rattle.yds_energy.proofs.RunScale.{average_rate_run_scaled}
 use Rattle.yds_examples.proofs.Policies.{available_jobs as jobs, fine_slots as available, fine_scale as available_scale, fine_accepted as available_run}
 use Rattle.yds_energy.proofs.SpentScale.{spent_kept, all_hold_kept, first_failure_kept, units_kept}
 
@@ -47,18 +44,16 @@ abbrev planned : List WrittenSlot
 planned = slot 0 (of_whole 0) (of_whole 1) (of_whole 1) ∷ slot 1 (of_whole 1) (of_whole 2) (of_whole 1) ∷ slot 0 (of_whole 2) (of_whole 3) (of_whole 1) ∷ []
 
 plan_scale : IsScale 1 planned
-plan_scale = (scale_decided 1 planned).0 refl
+plan_scale = proved (is_scale 1 planned) refl
 
 abbrev level : Level
 level = record { work = 3; length = 3; pieces = record { from = 0; to = 3 } ∷ []; members = 0 ∷ 1 ∷ [] }
 
 plan_served : (scale : ℕ) → IsScale scale planned → IsServedInStretches jobs scale (slots_at scale planned)
-plan_served =
-    (least_scale_of planned (IsServedInStretches jobs) 1 plan_scale (λ scale is. one-dvd scale)
-    (λ k some. served_in_stretches_scaled jobs k 1 planned some plan_scale ((stretches_decided jobs 1 (slots_at 1 planned)).0 refl))).holds
+plan_served = served_by_test jobs planned 1 refl (λ scale is. one-dvd scale) refl
 
 plan : IsPlan jobs planned (level ∷ [])
-plan = plan_by_test jobs planned (level ∷ []) (proper_by_test jobs planned (level ∷ []) (feasible_by_test jobs planned 1 refl refl) refl) plan_served refl
+plan = plan_by_test jobs planned (level ∷ []) (proper_by_test jobs planned (level ∷ []) refl refl refl) plan_served refl
 
 -- Average Rate serves 4, 10 and 4 sixths. (Optimal Available serves 4, 7 and 7, and is a run too.)
 abbrev average : List WrittenSlot
@@ -69,10 +64,10 @@ average =
     ∷ slot 0 (of_whole 2) (of_whole 3) (of_parts 4 6) ∷ []
 
 average_scale : IsScale 30 average
-average_scale = (scale_decided 30 average).0 refl
+average_scale = proved (is_scale 30 average) refl
 
 average_run_at : IsRunAt jobs 6 30 (average_rate jobs 6 30 (slots_at 30 average)) (slots_at 30 average)
-average_run_at = (run_decided jobs 6 30 (average_rate jobs 6 30 (slots_at 30 average)) (slots_at 30 average)).0 refl
+average_run_at = proved (run_at jobs 6 30 (average_rate jobs 6 30 (slots_at 30 average)) (slots_at 30 average)) refl
 
 -- Each of its scales is a multiple of 5 and of 6, so it is a run, and rounds nowhere.
 average_run : IsAverageRateRun jobs 6 0 average
@@ -183,20 +178,15 @@ with_a_gap = refl
 -- # Where the top point is too slow
 
 -- the test whether the top point holds a stretch, and each
-abbrev holds : List Point → ℕ → List WholeSlot → Piece → Bool
-holds points scale slots stretch = nat_le (work_in scale stretch slots) (top_of points * ((stretch.to - stretch.from) * scale))
-
-holds_decided : (points : List Point) (scale : ℕ) (slots : List WholeSlot) (stretch : Piece) →
-    Decides (holds points scale slots stretch) (HoldsStretch points scale slots stretch)
-holds_decided points scale slots stretch = le_decided (work_in scale stretch slots) (top_of points * ((stretch.to - stretch.from) * scale))
+abbrev holds : (points : List Point) (scale : ℕ) (slots : List WholeSlot) (stretch : Piece) → Test (HoldsStretch points scale slots stretch)
+holds points scale slots stretch = hlevel tests
 
 -- On the three points both policies spend.
 holds_all : (slots : List WrittenSlot) (spent : Spent) (scale : ℕ) → IsScale scale slots → IsSpent jobs points slots spent →
-    list_all (holds points scale (slots_at scale slots)) (stretches jobs) ≡ true → HoldsAll jobs points slots spent
+    (test_all (holds points scale (slots_at scale slots)) (stretches jobs)).passes ≡ true → HoldsAll jobs points slots spent
 holds_all slots spent scale is spends passed = record {
   holds = one_scale_of slots (λ scale whole. All (HoldsStretch points scale whole) (stretches jobs)) (all_hold_kept jobs points slots) scale is
-      ((all_decided (holds points scale (slots_at scale slots)) (HoldsStretch points scale (slots_at scale slots))
-      (holds_decided points scale (slots_at scale slots)) (stretches jobs)).0 passed);
+      (proved (test_all (holds points scale (slots_at scale slots)) (stretches jobs)) passed);
   is_spent = spends;
 }
 
@@ -216,8 +206,8 @@ three_stretches = refl
 
 -- a stretch that is the first at one scale is the first
 too_slow_at_one : (slots : List WrittenSlot) (scale units place : ℕ) → IsScale scale slots → place < 3 →
-    all_below (λ i. holds slow scale (slots_at scale slots) (stretch_at jobs i)) place ≡ true →
-    holds slow scale (slots_at scale slots) (stretch_at jobs place) ≡ false →
+    (test_each (λ i. holds slow scale (slots_at scale slots) (stretch_at jobs i)) place).passes ≡ true →
+    (holds slow scale (slots_at scale slots) (stretch_at jobs place)).passes ≡ false →
     units * scale ≡ 6 * work_in scale (stretch_at jobs place) (slots_at scale slots) →
     IsTooSlowFor jobs slow 6 slots units (stretch_at jobs place).from (stretch_at jobs place).to
 too_slow_at_one slots scale units place is within before fails same = record {
@@ -226,10 +216,8 @@ too_slow_at_one slots scale units place is within before fails same = record {
   first = one_scale_of slots (λ scale whole. IsFirstFailure 3 (λ i. HoldsStretch slow scale whole (stretch_at jobs i)) place)
       (first_failure_kept jobs slow slots 3 place) scale is (record {
         within = within;
-        before = (each_decided (λ i. holds slow scale (slots_at scale slots) (stretch_at jobs i)) (λ i. HoldsStretch slow scale (slots_at scale slots) (stretch_at jobs i))
-            (λ i. holds_decided slow scale (slots_at scale slots) (stretch_at jobs i)) place).0 before;
-        fails = not_from_Decides (holds slow scale (slots_at scale slots) (stretch_at jobs place))
-            (holds_decided slow scale (slots_at scale slots) (stretch_at jobs place)) fails;
+        before = proved (test_each (λ i. holds slow scale (slots_at scale slots) (stretch_at jobs i)) place) before;
+        fails = refuted (holds slow scale (slots_at scale slots) (stretch_at jobs place)) fails;
       });
   is_units = one_scale_of slots (λ scale whole. units * scale ≡ 6 * work_in scale (stretch_at jobs place) whole)
       (units_kept jobs slow slots 6 units (stretch_at jobs place)) scale is same;
@@ -245,16 +233,12 @@ available_too_slow = too_slow_at_one available 42 7 1 available_scale (omega ari
 
 -- a stretch that begins at 0 is the first, which is held
 first_of_stretches : (place : ℕ) → place < 3 → (stretch_at jobs place).from ≡ 0 → (HoldsStretch slow 30 (slots_at 30 average) (stretch_at jobs place) → ⊥) → ⊥
-first_of_stretches zero within begins fails = fails (omega arith)
-first_of_stretches (suc zero) within begins fails = absurd (omega (arith, begins))
-first_of_stretches (suc (suc zero)) within begins fails = absurd (omega (arith, begins))
-first_of_stretches (suc (suc (suc place))) within begins fails = absurd (omega arith)
+first_of_stretches = proved (test_each (λ place. test_implied (test_eq (stretch_at jobs place).from 0)
+    (test_implied (test_implied (holds slow 30 (slots_at 30 average) (stretch_at jobs place)) test_never) test_never)) 3) refl
 
 -- one that begins at 2 comes after the second
 after_second : (place : ℕ) → place < 3 → (stretch_at jobs place).from ≡ 2 → 1 < place
-after_second zero within begins = absurd (omega (arith, begins))
-after_second (suc zero) within begins = absurd (omega (arith, begins))
-after_second (suc (suc place)) within begins = omega arith
+after_second = proved (test_each (λ place. test_implied (test_eq (stretch_at jobs place).from 2) (test_le 2 place)) 3) refl
 
 -- The stretch before holds 6 units and serves 4, so it isn't told, whatever units are,
 not_before : (units : ℕ) → IsSide jobs slow 6 average (TooSlowFor units 0 1) → ⊥
@@ -282,7 +266,7 @@ answer = inr (record {
   planned = planned;
   levels = level ∷ [];
   plan = plan;
-  fast_enough = All-from_recursion (λ one. IsTooFast points one → ⊥) (level ∷ []) ((λ fast. absurd (omega (arith, fast))), tt);
+  fast_enough = proved (slow_enough points (level ∷ [])) refl;
   plan_spent = planned_spent;
   plan_spends = plan_spends;
   average_slots = average;
@@ -314,7 +298,7 @@ too_slow = inr (record {
   planned = planned;
   levels = level ∷ [];
   plan = plan;
-  fast_enough = All-from_recursion (λ one. IsTooFast slow one → ⊥) (level ∷ []) ((λ fast. absurd (omega (arith, fast))), tt);
+  fast_enough = proved (slow_enough slow (level ∷ [])) refl;
   plan_spent = slow_spent;
   plan_spends = slow_spends;
   average_slots = average;

@@ -1,10 +1,9 @@
 -- The least excess above a speed and the curve of it, tried on the plan of three nested jobs: a from 0 to 12 with work 4, b from 2 to 10
 -- with work 8, c from 4 to 6 with work 6.
 use Rattle.std.proofs.Common.{◌≡◌, ℕ, ◌+◌, ◌*◌, ◌<◌, ◌≤◌, List, [], ◌∷◌, refl, arith}
-use Rattle.std.specs.Prelude.{codes, nat_lt, true}
-use Rattle.std.specs.List.{list_all}
+use Rattle.std.specs.Prelude.{codes, true}
+use Rattle.std.specs.List.{All}
 use Rattle.std.specs.Fmt.{digits}
-use Rattle.std.proofs.lemmas.Bool.Decides.{nat_tests, Decides-ltb}
 use Rattle.yds_model.specs.declared.status.Status.TheVariants.{Done}
 use Rattle.yds_model.specs.Numbers.{AreDifferent}
 use Rattle.yds_model.specs.Job.{job_at, work_of}
@@ -16,8 +15,9 @@ use Rattle.yds_model.specs.Piece.{Piece, IsConfined, total_length}
 use Rattle.yds_model.specs.Curve.{IsLeastExcess, least_above, breaks_of, Break}
 use Rattle.yds_model.specs.CurveAnswer.{curve_text}
 use Rattle.yds_model.specs.Answer.{Answers}
-use Rattle.yds_examples.proofs.Decided.{all_decided}
-use Rattle.yds_examples.proofs.DecidedPlans.{is_confined, confined_decided}
+use Rattle.yds_examples.proofs.Tests.{Test, tests, proved}
+use Rattle.yds_examples.proofs.TestedPlans.{confined}
+use Rattle.yds_examples.proofs.TestedRounding.{different}
 use Rattle.yds_laws.proofs.Bound.{confinement_bound}
 use Rattle.yds_examples.proofs.ThreeJobs.{jobs, slots, levels, third, piece, thirds, feasible_at_each, plan}
 
@@ -55,20 +55,23 @@ above_four = refl
 pub feasible : IsFeasibleAt jobs 3 (slots_at 3 slots)
 feasible = feasible_at_each.holds 3 thirds
 
+-- different jobs that are confined to pieces
+abbrev are_confined : (members : List ℕ) (pieces : List Piece) →
+    Test (AreDifferent members × All (λ number. number < 3) members × All (λ number. IsConfined (job_at jobs number) pieces) members)
+are_confined members pieces = hlevel (tests, different, λ (number : ℕ). confined (job_at jobs number) pieces)
+
 -- Different jobs confined to pieces force an excess in each feasible schedule, by trying what the confinement bound wants.
 forced : (p q scale : ℕ) (others : List WholeSlot) (members : List ℕ) (pieces : List Piece) → 1 ≤ scale → IsFeasibleAt jobs scale others →
-    AreDifferent members → list_all (λ number. nat_lt number 3) members ≡ true → list_all (λ number. is_confined (job_at jobs number) pieces) members ≡ true →
+    (are_confined members pieces).passes ≡ true →
     q * scale * work_of jobs members ≤ excess p q others + p * scale * total_length pieces
-forced p q scale others members pieces positive feasible different known confined =
-    confinement_bound jobs scale p q others members pieces positive different
-    ((all_decided (λ number. nat_lt number 3) (λ number. number < 3) (λ number. Decides-ltb number 3) members).0 known)
-    ((all_decided (λ number. is_confined (job_at jobs number) pieces) (λ number. IsConfined (job_at jobs number) pieces)
-    (λ number. confined_decided (job_at jobs number) pieces) members).0 confined) feasible
+forced p q scale others members pieces positive feasible passed =
+    let confined = proved (are_confined members pieces) passed in
+    confinement_bound jobs scale p q others members pieces positive confined.0 confined.1 confined.2 feasible
 
 -- Above the speed 1 each feasible schedule does at least the 14 units of b and c less the 8 that their pieces take at that speed.
 pub six_at_least : (scale : ℕ) (others : List WholeSlot) → 1 ≤ scale → IsFeasibleAt jobs scale others → 6 * scale ≤ excess 1 1 others
 six_at_least scale others positive feasible =
-    omega (arith, forced 1 1 scale others (1 ∷ 2 ∷ []) (piece 2 4 ∷ piece 4 6 ∷ piece 6 10 ∷ []) positive feasible (λ number. grind (arith, nat_tests)) refl refl)
+    omega (arith, forced 1 1 scale others (1 ∷ 2 ∷ []) (piece 2 4 ∷ piece 4 6 ∷ piece 6 10 ∷ []) positive feasible refl)
 
 -- The plan does just that much, so 6 is the least excess above 1.
 six : IsLeastExcess jobs 1 1 (of_whole 6)
@@ -89,7 +92,7 @@ above_four_thirds = record {
   is_speed = omega arith;
   has_parts = omega arith;
   least = λ scale others positive feasible.
-      omega (arith, forced 4 3 scale others (2 ∷ []) (piece 4 6 ∷ []) positive feasible (λ number. grind (arith, nat_tests)) refl refl);
+      omega (arith, forced 4 3 scale others (2 ∷ []) (piece 4 6 ∷ []) positive feasible refl);
   scale = 3;
   positive = omega arith;
   slots = slots_at 3 slots;

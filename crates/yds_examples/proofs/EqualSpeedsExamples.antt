@@ -1,7 +1,6 @@
 -- The one form of a plan where two jobs have the same speed: x from 0 to 2 and y from 2 to 4, each with work 2.
 use Rattle.std.proofs.Common.{List, [], ◌∷◌, refl, arith}
 use Rattle.std.proofs.Math.Nat.{one-dvd}
-use Rattle.std.proofs.lemmas.Bool.Decides.{not_from_Decides}
 use Rattle.yds_model.specs.Job.{Job}
 use Rattle.yds_model.specs.Scale.{of_whole}
 use Rattle.yds_model.specs.Slot.{WrittenSlot}
@@ -9,8 +8,9 @@ use Rattle.yds_model.specs.Feasible.{IsFeasible}
 use Rattle.yds_model.specs.Level.{Level, no_level}
 use Rattle.yds_model.specs.Proper.{IsProper}
 use Rattle.yds_model.specs.Plan.{IsPlan}
-use Rattle.yds_examples.proofs.DecidedSchedules.{feasible_by_test}
-use Rattle.yds_examples.proofs.DecidedPlans.{is_slower, falling_decided, proper_by_test, served_by_test, plan_by_test}
+use Rattle.yds_examples.proofs.Tests.{refuted}
+use Rattle.yds_examples.proofs.TestedSchedules.{feasible_by_test}
+use Rattle.yds_examples.proofs.TestedPlans.{slower, proper_by_test, served_by_test, plan_by_test}
 
 -- x and y
 abbrev jobs : List Job
@@ -33,7 +33,7 @@ together = record { work = 4; length = 4; pieces = record { from = 0; to = 4 } �
 -- by the laws of scale and of tests
 plan : IsPlan jobs slots together
 plan =
-    plan_by_test jobs slots together (proper_by_test jobs slots together feasible refl) (served_by_test jobs slots 1 refl (λ scale is. one-dvd scale) refl) refl
+    plan_by_test jobs slots together (proper_by_test jobs slots together refl refl refl) (served_by_test jobs slots 1 refl (λ scale is. one-dvd scale) refl) refl
 
 -- Each in a level of its own: this is proper,
 abbrev apart : List Level
@@ -43,11 +43,11 @@ apart =
 
 -- since its level may have the same speed
 apart_proper : IsProper jobs slots apart
-apart_proper = proper_by_test jobs slots apart feasible refl
+apart_proper = proper_by_test jobs slots apart refl refl refl
 
 -- but no plan, since the second level isn't slower.
 apart_no_plan : IsPlan jobs slots apart → ⊥
-apart_no_plan plan = not_from_Decides (is_slower apart 1) (falling_decided apart 1) refl (plan.falling 1 (omega arith))
+apart_no_plan plan = refuted (slower apart 1) refl (plan.falling 1 (omega arith))
 
 -- One level of two pieces that touch: this is proper,
 abbrev touching : List Level
@@ -55,7 +55,7 @@ touching = record { work = 4; length = 4; pieces = record { from = 0; to = 2 } �
 
 -- since pieces may touch
 touching_proper : IsProper jobs slots touching
-touching_proper = proper_by_test jobs slots touching feasible refl
+touching_proper = proper_by_test jobs slots touching refl refl refl
 
 -- but no plan.
 touching_no_plan : IsPlan jobs slots touching → ⊥
@@ -67,7 +67,7 @@ turned = record { work = 4; length = 4; pieces = record { from = 0; to = 4 } ∷
 
 -- since members may come in any order
 turned_proper : IsProper jobs slots turned
-turned_proper = proper_by_test jobs slots turned feasible refl
+turned_proper = proper_by_test jobs slots turned refl refl refl
 
 -- but no plan.
 turned_no_plan : IsPlan jobs slots turned → ⊥

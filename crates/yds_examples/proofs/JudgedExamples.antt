@@ -1,12 +1,7 @@
 -- What the answers of `audit` are worth, tried on a job from 0 to 4 of work 2 and a slot, with points and without. What those of `check`
 -- are worth is tried on the plan of three jobs.
-use Rattle.std.proofs.Common.{◌≡◌, ℕ, List, Some, [], ◌∷◌, Ok, refl, sym, subst}
+use Rattle.std.proofs.Common.{◌≡◌, ℕ, List, Some, [], ◌∷◌, Ok, refl, subst}
 use Rattle.std.specs.Prelude.{codes}
-use Rattle.std.specs.Bool.{Decides}
-use Rattle.std.specs.List.{All, list_all}
-use Rattle.std.proofs.lemmas.Bool.{true≢false}
-use Rattle.std.proofs.lemmas.Bool.Decides.{not_from_Decides}
-use Rattle.std.proofs.lemmas.Slice.Eq.{bytes_eq-Decides}
 use Rattle.yds_model.specs.declared.status.Status.{Status}
 use Rattle.yds_model.specs.declared.status.Status.TheVariants.{Done, No}
 use Rattle.yds_model.specs.Job.{Job}
@@ -17,10 +12,9 @@ use Rattle.yds_model.specs.Document.{Document, no_document}
 use Rattle.yds_model.specs.Reading.{reading}
 use Rattle.yds_texts.specs.JudgedText.{TellsWhether, IsServed, IsServedOnPoints, HoldsVerdict, HoldsVerdictOnPoints}
 use Rattle.yds_texts.proofs.JudgedText.{tells_yes, tells_no}
-use Rattle.yds_model.specs.Audit.{IsOnTable}
-use Rattle.yds_examples.proofs.Decided.{all_decided}
-use Rattle.yds_examples.proofs.DecidedVerdicts.{is_on_table, table_decided}
-use Rattle.yds_examples.proofs.DecidedSchedules.{feasible_by_test, not_feasible_by_test}
+use Rattle.yds_examples.proofs.Tests.{proved, refuted, test_numbers, test_all}
+use Rattle.yds_examples.proofs.TestedPlans.{on_table}
+use Rattle.yds_examples.proofs.TestedSchedules.{feasible_by_test, not_feasible_by_test}
 
 -- # What no answer may tell
 
@@ -79,7 +73,7 @@ is_late = not_feasible_by_test job (slot 3 5 2 ∷ []) 1 refl refl
 -- which a line other than 'feasible' tells, with the status 'no',
 late : HoldsVerdict late_input (codes "late slot 1 a 5 deadline 4\n") No
 late = tells_no IsServed (codes "feasible\n") late_input (codes "late slot 1 a 5 deadline 4\n") No (document [] (slot 3 5 2)) refl is_late refl
-    (λ same. absurd (true≢false (sym ((bytes_eq-Decides (codes "late slot 1 a 5 deadline 4\n") (codes "feasible\n")).1 same))))
+    (λ same. refuted (test_numbers (codes "late slot 1 a 5 deadline 4\n") (codes "feasible\n")) refl same)
 
 -- and no line with the status 'done',
 late_done : (text : List ℕ) → HoldsVerdict late_input text Done → ⊥
@@ -94,16 +88,12 @@ late_feasible status = line_refused IsServed (codes "feasible\n") late_input sta
 abbrev point : ℕ → ℕ → Point
 point speed power = record { speed = speed; power = power }
 
--- whether the slots have speeds of the points
-slots_on_table : (points : List Point) (slots : List WrittenSlot) → Decides (list_all (is_on_table (Some points)) slots) (All (IsOnTable (Some points)) slots)
-slots_on_table points slots = all_decided (is_on_table (Some points)) (IsOnTable (Some points)) (table_decided (Some points)) slots
-
 -- on the points of the speeds 0 and 1 the slot from 1 to 3 has a point's speed,
 abbrev on_input : List ℕ
 on_input = codes "job a 0 4 2\npoint 0 0\npoint 1 1\nslot a 1 3 2\n"
 
 on_document : IsServedOnPoints (document (point 0 0 ∷ point 1 1 ∷ []) (slot 1 3 2))
-on_document = (is_served, (slots_on_table (point 0 0 ∷ point 1 1 ∷ []) (slot 1 3 2 ∷ [])).0 refl)
+on_document = (is_served, proved (test_all (on_table (Some (point 0 0 ∷ point 1 1 ∷ []))) (slot 1 3 2 ∷ [])) refl)
 
 on_points : HoldsVerdictOnPoints on_input (codes "feasible\n") Done
 on_points = tells_yes IsServedOnPoints (codes "feasible\n") on_input (codes "feasible\n") Done (document (point 0 0 ∷ point 1 1 ∷ []) (slot 1 3 2)) refl on_document refl refl
@@ -113,8 +103,7 @@ abbrev off_input : List ℕ
 off_input = codes "job a 0 4 2\npoint 0 0\npoint 2 3\nslot a 1 3 2\n"
 
 off_document : IsServedOnPoints (document (point 0 0 ∷ point 2 3 ∷ []) (slot 1 3 2)) → ⊥
-off_document is =
-    not_from_Decides (list_all (is_on_table (Some (point 0 0 ∷ point 2 3 ∷ []))) (slot 1 3 2 ∷ [])) (slots_on_table (point 0 0 ∷ point 2 3 ∷ []) (slot 1 3 2 ∷ [])) refl is.1
+off_document is = refuted (test_all (on_table (Some (point 0 0 ∷ point 2 3 ∷ []))) (slot 1 3 2 ∷ [])) refl is.1
 
 -- So 'feasible' is refused there, though the slot is feasible.
 off_feasible : (status : Status) → HoldsVerdictOnPoints off_input (codes "feasible\n") status → ⊥

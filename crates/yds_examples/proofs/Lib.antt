@@ -1,9 +1,7 @@
-pub mod Decided
-pub mod DecidedSchedules
-pub mod DecidedPlans
-pub mod DecidedAdmission
-pub mod DecidedRounding
-pub mod DecidedVerdicts
+pub mod Tests
+pub mod TestedSchedules
+pub mod TestedPlans
+pub mod TestedRounding
 mod ReadingExamples
 pub mod ThreeJobs
 mod ThreeJobsChanged

@@ -3,7 +3,6 @@ use Rattle.std.proofs.Common.{◌≡◌, ℕ, zero, suc, ◌-◌, ◌*◌, ◌/�
 use Rattle.std.specs.Prelude.{count_by}
 use Rattle.std.specs.Int.{◌∣◌}
 use Rattle.std.specs.List.{All, Contains}
-use Rattle.std.proofs.lemmas.Bool.Decides.{not_from_Decides}
 use Rattle.std.proofs.Math.Nat.{one-dvd}
 use Rattle.yds_model.specs.Job.{Job}
 use Rattle.yds_model.specs.Scale.{Fraction, of_whole, of_parts}
@@ -23,9 +22,8 @@ use Rattle.yds_events.specs.Stretch.{no_stretch}
 use Rattle.yds_laws.specs.RunLaws.{DoesItsTerms}
 use Rattle.yds_laws.proofs.ExactRates.{average_rate_is_exact}
 use Rattle.yds_energy.proofs.RunScale.{average_rate_run_scaled, optimal_available_run_scaled, optimal_available_rounds_scaled}
-use Rattle.yds_examples.proofs.Decided.{scale_decided}
-use Rattle.yds_examples.proofs.DecidedSchedules.{feasible_by_test, is_run_at, run_decided}
-use Rattle.yds_examples.proofs.DecidedPlans.{is_over, over_decided}
+use Rattle.yds_examples.proofs.Tests.{tests, proved, refuted}
+use Rattle.yds_examples.proofs.TestedSchedules.{is_scale, feasible_by_test, run_at}
 
 -- Average Rate: a from 0 to 3 with work 2, b from 1 to 3 with work 2
 abbrev pub rate_jobs : List Job
@@ -56,11 +54,11 @@ rate_rounds = refl
 
 -- At scale 3 the slots are a run: feasible, in order of the earliest deadline, and they serve that much.
 rate_run : IsRunAt rate_jobs 1 3 (average_rate rate_jobs 1 3 (slots_at 3 rate_slots)) (slots_at 3 rate_slots)
-rate_run = (run_decided rate_jobs 1 3 (average_rate rate_jobs 1 3 (slots_at 3 rate_slots)) (slots_at 3 rate_slots)).0 refl
+rate_run = proved (run_at rate_jobs 1 3 (average_rate rate_jobs 1 3 (slots_at 3 rate_slots)) (slots_at 3 rate_slots)) refl
 
 -- 3 is a scale of them
 pub rate_thirds : IsScale 3 rate_slots
-rate_thirds = (scale_decided 3 rate_slots).0 refl
+rate_thirds = proved (is_scale 3 rate_slots) refl
 
 -- each scale of the slots is a multiple of 3, so they are a run at each
 rate_at_each : AtEachScale rate_slots (λ scale whole. IsRunAt rate_jobs 1 scale (average_rate rate_jobs 1 scale whole) whole)
@@ -90,8 +88,8 @@ not_rounded_feasible = feasible_by_test rate_jobs not_rounded 3 refl refl
 not_rounded_refused : IsAverageRateRun rate_jobs 1 2 not_rounded → ⊥
 not_rounded_refused is =
     let capacity = average_rate rate_jobs 1 3 (slots_at 3 not_rounded) in
-    not_from_Decides (is_run_at rate_jobs 1 3 capacity (slots_at 3 not_rounded)) (run_decided rate_jobs 1 3 capacity (slots_at 3 not_rounded)) refl
-    (is.run.holds 3 ((scale_decided 3 not_rounded).0 refl))
+    refuted (run_at rate_jobs 1 3 capacity (slots_at 3 not_rounded)) refl
+    (is.run.holds 3 (proved (is_scale 3 not_rounded) refl))
 
 -- The second stretch serves those 3, and so less than the sum of the terms: rounding up was more than the jobs had.
 pub capped : DoesItsTerms rate_jobs 1 3 (slots_at 3 rate_slots) (record { from = 1; to = 3 }) → ⊥
@@ -110,11 +108,11 @@ whole_units = refl
 
 -- the slots are a run at this scale
 whole_run : IsRunAt rate_jobs 3 15 (average_rate rate_jobs 3 15 (slots_at 15 whole_slots)) (slots_at 15 whole_slots)
-whole_run = (run_decided rate_jobs 3 15 (average_rate rate_jobs 3 15 (slots_at 15 whole_slots)) (slots_at 15 whole_slots)).0 refl
+whole_run = proved (run_at rate_jobs 3 15 (average_rate rate_jobs 3 15 (slots_at 15 whole_slots)) (slots_at 15 whole_slots)) refl
 
 -- 15 is a scale of them, and each is a multiple of it, being one of 5 and of 3
 whole_scale : IsScale 15 whole_slots
-whole_scale = (scale_decided 15 whole_slots).0 refl
+whole_scale = proved (is_scale 15 whole_slots) refl
 
 whole_divides : (scale : ℕ) → IsScale scale whole_slots → 15 ∣ scale
 whole_divides scale is = (multiple_is_least 5 3).2 scale (is.divided 1 no_written_slot (omega arith)).to (is.divided 0 no_written_slot (omega arith)).work
@@ -164,11 +162,11 @@ available_rounds = refl
 
 -- At scale 1 the slots are a run.
 available_run : IsRunAt available_jobs 1 1 (optimal_available available_jobs 1 1 (slots_at 1 available_slots)) (slots_at 1 available_slots)
-available_run = (run_decided available_jobs 1 1 (optimal_available available_jobs 1 1 (slots_at 1 available_slots)) (slots_at 1 available_slots)).0 refl
+available_run = proved (run_at available_jobs 1 1 (optimal_available available_jobs 1 1 (slots_at 1 available_slots)) (slots_at 1 available_slots)) refl
 
 -- 1 is a scale of them
 pub available_whole : IsScale 1 available_slots
-available_whole = (scale_decided 1 available_slots).0 refl
+available_whole = proved (is_scale 1 available_slots) refl
 
 -- each scale is a multiple of 1, so they are a run at each
 available_at_each : AtEachScale available_slots (λ scale whole. IsRunAt available_jobs 1 scale (optimal_available available_jobs 1 scale whole) whole)
@@ -204,8 +202,8 @@ eager_feasible = feasible_by_test available_jobs eager_slots 1 refl refl
 eager_refused : IsOptimalAvailableRun available_jobs 1 1 eager_slots → ⊥
 eager_refused is =
     let capacity = optimal_available available_jobs 1 1 (slots_at 1 eager_slots) in
-    not_from_Decides (is_run_at available_jobs 1 1 capacity (slots_at 1 eager_slots)) (run_decided available_jobs 1 1 capacity (slots_at 1 eager_slots)) refl
-    (is.run.holds 1 ((scale_decided 1 eager_slots).0 refl))
+    refuted (run_at available_jobs 1 1 capacity (slots_at 1 eager_slots)) refl
+    (is.run.holds 1 (proved (is_scale 1 eager_slots) refl))
 
 -- On the grid 6 it asks for just what is due: 4 units until 1, and 7 until 2 and until 3. Slots are whole at scale 42.
 abbrev pub fine_slots : List WrittenSlot
@@ -221,11 +219,11 @@ fine_units = refl
 
 -- the slots are a run at this scale
 fine_run : IsRunAt available_jobs 6 42 (optimal_available available_jobs 6 42 (slots_at 42 fine_slots)) (slots_at 42 fine_slots)
-fine_run = (run_decided available_jobs 6 42 (optimal_available available_jobs 6 42 (slots_at 42 fine_slots)) (slots_at 42 fine_slots)).0 refl
+fine_run = proved (run_at available_jobs 6 42 (optimal_available available_jobs 6 42 (slots_at 42 fine_slots)) (slots_at 42 fine_slots)) refl
 
 -- 42 is a scale of them, and each is a multiple of it, being one of 7 and of 6
 pub fine_scale : IsScale 42 fine_slots
-fine_scale = (scale_decided 42 fine_slots).0 refl
+fine_scale = proved (is_scale 42 fine_slots) refl
 
 fine_divides : (scale : ℕ) → IsScale scale fine_slots → 42 ∣ scale
 fine_divides scale is = (multiple_is_least 7 6).2 scale (is.divided 1 no_written_slot (omega arith)).to (is.divided 0 no_written_slot (omega arith)).work
@@ -278,6 +276,6 @@ other_denominators : HasRunDenominators available_jobs 6 (record { job = 1; from
 other_denominators has =
     let long : ℕ = has.stretch.to - has.stretch.from in
     let both = seven_units has.stretch has.units has.is_stretch has.lies.from has.lies.to has.speed in
-    not_from_Decides (is_over 7 over_14) (over_decided 7 over_14) refl
+    refuted {P = IsOver 7 over_14} (hlevel tests) refl
     (subst (λ (n : ℕ). IsOver (7 / common_divisor 7 n) over_14) both.1
     (subst (λ (n : ℕ). IsOver (n / common_divisor n long) over_14) both.0 has.to))

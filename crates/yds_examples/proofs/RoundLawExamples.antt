@@ -1,10 +1,7 @@
 -- The laws of rounding at the two nested jobs: what they say of the rounded plan and of the answer of `round`, and what they rule out.
-use Rattle.std.proofs.Common.{◌≡◌, ℕ, List, [], ◌∷◌, Ok, refl, sym, ap, subst, ◌∙◌, arith, inl, inr}
+use Rattle.std.proofs.Common.{◌≡◌, ℕ, List, [], ◌∷◌, Ok, refl, ap, subst, ◌∙◌, arith, inl, inr}
 use Rattle.std.specs.Prelude.{codes, MatchOption}
 use Rattle.std.specs.Fmt.{digits}
-use Rattle.std.proofs.lemmas.Bool.{true≢false}
-use Rattle.std.proofs.lemmas.Slice.Eq.{bytes_eq-Decides}
-use Rattle.std.proofs.lemmas.List.Elements.{All-from_recursion}
 use Rattle.std.proofs.Math.Nat.{one-dvd}
 use Rattle.yds_model.specs.declared.status.Status.TheVariants.{Done, No}
 use Rattle.yds_model.specs.Job.{Job}
@@ -13,7 +10,7 @@ use Rattle.yds_model.specs.Slot.{WholeSlot}
 use Rattle.yds_model.specs.Plan.{IsPlan}
 use Rattle.yds_model.specs.Table.{Point, IsTable, hull_of}
 use Rattle.yds_model.specs.Rounding.{top_of, IsEnergyOf}
-use Rattle.yds_model.specs.Admission.{IsWithinTop, CanServe}
+use Rattle.yds_model.specs.Admission.{CanServe}
 use Rattle.yds_model.specs.Document.{Document, no_document}
 use Rattle.yds_model.specs.Text.{canonical_text}
 use Rattle.yds_model.specs.Reading.{reading}
@@ -24,9 +21,9 @@ use Rattle.yds_texts.specs.RoundText.{with_energy, HoldsLeastEnergy, too_slow_li
 use Rattle.yds_laws.proofs.Plans.{plans_have_the_same_levels}
 use Rattle.yds_energy.proofs.OneEnergy.{energy_is_one}
 use Rattle.yds_texts.proofs.Within.{read_is_within_limits}
-use Rattle.yds_examples.proofs.DecidedSchedules.{feasible_decided}
-use Rattle.yds_examples.proofs.DecidedPlans.{served_by_test, plan_by_test}
-use Rattle.yds_examples.proofs.DecidedRounding.{slow_enough_by_test}
+use Rattle.yds_examples.proofs.Tests.{proved, refuted, test_numbers}
+use Rattle.yds_examples.proofs.TestedPlans.{served_by_test, plan_by_test}
+use Rattle.yds_examples.proofs.TestedRounding.{slow_enough, neighbours_by_test, can_serve}
 use Rattle.yds_energy.proofs.LevelCosts.{cost_between}
 use Rattle.yds_energy.proofs.RoundedOnPoints.{rounded_is_feasible}
 use Rattle.yds_energy.proofs.RoundedCheapest.{rounded_is_cheapest}
@@ -60,29 +57,16 @@ not_least is = absurd (omega (arith, is.of_written written (of_whole 25) written
 
 -- b's level costs 13: in its two time units at the speed 3, half way from the point (2, 3) to (4, 10)
 cost_of_b : IsLevelCost (hull_of points) 1 level_b 13
-cost_of_b = inr (
-  point 2 3,
-  point 4 10,
-  record { place = 2; within = omega arith; is_low = refl; is_high = refl; above_low = omega arith; below_high = omega arith },
-  refl,
-)
+cost_of_b = inr (point 2 3, point 4 10, neighbours_by_test 2 (hull_of points) level_b refl, refl)
 
 -- and a's level 12: in eight time units at 5/4, a quarter of the way from (1, 1) to (2, 3)
 cost_of_a : IsLevelCost (hull_of points) 1 level_a 12
-cost_of_a = inr (
-  point 1 1,
-  point 2 3,
-  record { place = 1; within = omega arith; is_low = refl; is_high = refl; above_low = omega arith; below_high = omega arith },
-  refl,
-)
+cost_of_a = inr (point 1 1, point 2 3, neighbours_by_test 1 (hull_of points) level_a refl, refl)
 
 -- The next point above alone would cost b's level 15 (6 units of work at the point 4, so 3/2 time units at 10): that isn't its cost.
 not_above_alone : IsLevelCost (hull_of points) 1 level_b 15 → ⊥
-not_above_alone is = absurd (omega (
-  arith,
-  cost_between (hull_of points) 1 15 level_b (point 2 3) (point 4 10) rising is
-      (record { place = 2; within = omega arith; is_low = refl; is_high = refl; above_low = omega arith; below_high = omega arith }),
-))
+not_above_alone is =
+    absurd (omega (arith, cost_between (hull_of points) 1 15 level_b (point 2 3) (point 4 10) rising is (neighbours_by_test 2 (hull_of points) level_b refl)))
 
 -- # Too slow
 
@@ -100,7 +84,7 @@ unserved = (too_slow_is_exact.first jobs slow planned level_b (level_a ∷ []) p
 
 -- and at or below 3 one does.
 served : CanServe 3 jobs
-served = (too_slow_is_exact.none jobs enough planned levels plan).0 (slow_enough_by_test enough levels refl)
+served = (too_slow_is_exact.none jobs enough planned levels plan).0 (proved (slow_enough enough levels) refl)
 
 -- # The answer of `round`
 
@@ -201,7 +185,7 @@ no_such_level : HoldsTooSlow slow_input (codes "too-slow work 1 length 0 top 2\n
 unfolding digits
 no_such_level holds =
     let same = its_level (codes "too-slow work 1 length 0 top 2\n") holds in
-    absurd (true≢false (sym ((bytes_eq-Decides (codes "too-slow work 1 length 0 top 2\n") (codes "too-slow work 6 length 2 top 2\n")).1 same)))
+    refuted (test_numbers (codes "too-slow work 1 length 0 top 2\n") (codes "too-slow work 6 length 2 top 2\n")) refl same
 
 -- Other jobs: a from 0 to 3 of work 2, and b from 1 to 2 of work 1
 abbrev light_jobs : List Job
@@ -212,13 +196,7 @@ light_slots = record { job = 0; from = 0; to = 1; work = 1 } ∷ record { job = 
 
 -- a processor that is nowhere faster than 2 serves them,
 light_served : CanServe 2 light_jobs
-light_served = record {
-  scale = 1;
-  positive = omega arith;
-  slots = light_slots;
-  feasible = (feasible_decided light_jobs 1 light_slots).0 refl;
-  within_top = All-from_recursion (IsWithinTop 2) light_slots (omega arith, (omega arith, (omega arith, tt)));
-}
+light_served = can_serve 2 light_jobs light_slots refl refl
 
 -- with the same points
 abbrev light_input : List ℕ

@@ -1,8 +1,8 @@
 -- Rounding, tried on the plan of two nested jobs: a from 0 to 10 with work 10, b from 4 to 6 with work 6, on the points of the speeds
 -- 0, 1, 2 and 4, whose powers are 0, 1, 3 and 10. Each level's speed lies between two points, and all numbers are whole.
-use Rattle.std.proofs.Common.{◌≡◌, ℕ, zero, suc, ◌-◌, ◌*◌, List, [], ◌∷◌, refl, ap, arith, inr}
+use Rattle.std.proofs.Common.{◌≡◌, ℕ, ◌-◌, ◌*◌, List, [], ◌∷◌, refl, arith}
 use Rattle.std.specs.List.{Contains}
-use Rattle.std.proofs.lemmas.List.Elements.{All-from_recursion}
+use Rattle.std.proofs.lemmas.Bool.Decides.{nat_tests}
 use Rattle.yds_model.specs.Job.{Job}
 use Rattle.yds_model.specs.Scale.{Fraction, of_whole}
 use Rattle.yds_model.specs.Slot.{WrittenSlot}
@@ -10,13 +10,13 @@ use Rattle.yds_model.specs.Feasible.{IsFeasible}
 use Rattle.yds_model.specs.Level.{Level}
 use Rattle.yds_model.specs.Proper.{IsProper}
 use Rattle.yds_model.specs.Table.{Point, AreRising, hull_of}
-use Rattle.yds_model.specs.Event.{stretches, LiesWritten}
+use Rattle.yds_model.specs.Event.{stretches}
 use Rattle.yds_model.specs.Rounding.{SplitsStretch, RoundsStretches, IsEnergyOf, IsRounding}
 use Rattle.yds_energy.proofs.OneEnergy.{energy_is_one}
-use Rattle.yds_examples.proofs.Decided.{scale_decided}
-use Rattle.yds_examples.proofs.DecidedSchedules.{feasible_by_test}
-use Rattle.yds_examples.proofs.DecidedPlans.{proper_by_test}
-use Rattle.yds_examples.proofs.DecidedRounding.{energy_by_test, slow_enough_by_test, splits_by_test}
+use Rattle.yds_examples.proofs.Tests.{proved, refuted, test_eq, test_any}
+use Rattle.yds_examples.proofs.TestedSchedules.{is_scale, feasible_by_test}
+use Rattle.yds_examples.proofs.TestedPlans.{proper_by_test}
+use Rattle.yds_examples.proofs.TestedRounding.{energy_by_test, slow_enough, splits_by_test, rounds_next}
 
 -- a and b
 abbrev pub jobs : List Job
@@ -56,7 +56,7 @@ levels = level_b ∷ level_a ∷ []
 
 -- the levels are proper for the plan's slots
 pub planned_proper : IsProper jobs planned levels
-planned_proper = proper_by_test jobs planned levels (feasible_by_test jobs planned 1 refl refl) refl
+planned_proper = proper_by_test jobs planned levels refl refl refl
 
 -- Rounded: a first at the speed 2 and then at 1, in both its stretches, and b first at 4 and then at 2
 abbrev pub written : List WrittenSlot
@@ -68,58 +68,32 @@ written_feasible = feasible_by_test jobs written 1 refl refl
 
 -- a runs for one of the four time units at 2, since 5/4 lies a quarter of the way from 1 to 2,
 first_split : SplitsStretch (hull_of points) level_a (record { from = 0; to = 4 }) (slot 0 0 4 5 ∷ []) (slot 0 0 1 2 ∷ slot 0 1 4 3 ∷ [])
-first_split = splits_by_test 2 1 1 1 (hull_of points) level_a (record { from = 0; to = 4 }) (slot 0 0 4 5 ∷ []) (slot 0 0 1 2 ∷ []) (slot 0 1 4 3 ∷ []) refl refl refl refl
+first_split = splits_by_test 1 1 1 (hull_of points) level_a (record { from = 0; to = 4 }) (slot 0 0 4 5 ∷ []) (slot 0 0 1 2 ∷ []) (slot 0 1 4 3 ∷ []) refl refl refl (λ job. grind (arith, nat_tests))
 
 -- b for one of its two at 4, since 3 lies half way from 2 to 4,
 second_split : SplitsStretch (hull_of points) level_b (record { from = 4; to = 6 }) (slot 1 4 6 6 ∷ []) (slot 1 4 5 4 ∷ slot 1 5 6 2 ∷ [])
-second_split = splits_by_test 2 1 1 2 (hull_of points) level_b (record { from = 4; to = 6 }) (slot 1 4 6 6 ∷ []) (slot 1 4 5 4 ∷ []) (slot 1 5 6 2 ∷ []) refl refl refl refl
+second_split = splits_by_test 1 1 2 (hull_of points) level_b (record { from = 4; to = 6 }) (slot 1 4 6 6 ∷ []) (slot 1 4 5 4 ∷ []) (slot 1 5 6 2 ∷ []) refl refl refl (λ job. grind (arith, nat_tests))
 
 -- and a again as before
 third_split : SplitsStretch (hull_of points) level_a (record { from = 6; to = 10 }) (slot 0 6 10 5 ∷ []) (slot 0 6 7 2 ∷ slot 0 7 10 3 ∷ [])
-third_split = splits_by_test 2 1 1 1 (hull_of points) level_a (record { from = 6; to = 10 }) (slot 0 6 10 5 ∷ []) (slot 0 6 7 2 ∷ []) (slot 0 7 10 3 ∷ []) refl refl refl refl
+third_split = splits_by_test 1 1 1 (hull_of points) level_a (record { from = 6; to = 10 }) (slot 0 6 10 5 ∷ []) (slot 0 6 7 2 ∷ []) (slot 0 7 10 3 ∷ []) refl refl refl (λ job. grind (arith, nat_tests))
 
 -- stretch by stretch
 rounds : RoundsStretches (hull_of points) levels (stretches jobs) planned written
-rounds = (
-  slot 0 0 4 5 ∷ [],
-  slot 1 4 6 6 ∷ slot 0 6 10 5 ∷ [],
-  slot 0 0 1 2 ∷ slot 0 1 4 3 ∷ [],
-  slot 1 4 5 4 ∷ slot 1 5 6 2 ∷ slot 0 6 7 2 ∷ slot 0 7 10 3 ∷ [],
-  refl,
-  refl,
-  All-from_recursion (λ slot. LiesWritten slot (record { from = 0; to = 4 })) (slot 0 0 4 5 ∷ []) (record { from = omega arith; to = omega arith }, tt),
-  inr (level_a, (1, omega arith, refl), All-from_recursion (λ (slot : WrittenSlot). Contains level_a.members slot.job) (slot 0 0 4 5 ∷ []) ((0, omega arith, refl), tt), inr first_split),
-  (
-    slot 1 4 6 6 ∷ [],
-    slot 0 6 10 5 ∷ [],
-    slot 1 4 5 4 ∷ slot 1 5 6 2 ∷ [],
-    slot 0 6 7 2 ∷ slot 0 7 10 3 ∷ [],
-    refl,
-    refl,
-    All-from_recursion (λ slot. LiesWritten slot (record { from = 4; to = 6 })) (slot 1 4 6 6 ∷ []) (record { from = omega arith; to = omega arith }, tt),
-    inr (level_b, (0, omega arith, refl), All-from_recursion (λ (slot : WrittenSlot). Contains level_b.members slot.job) (slot 1 4 6 6 ∷ []) ((0, omega arith, refl), tt), inr second_split),
-    (
-      slot 0 6 10 5 ∷ [],
-      [],
-      slot 0 6 7 2 ∷ slot 0 7 10 3 ∷ [],
-      [],
-      refl,
-      refl,
-      All-from_recursion (λ slot. LiesWritten slot (record { from = 6; to = 10 })) (slot 0 6 10 5 ∷ []) (record { from = omega arith; to = omega arith }, tt),
-      inr (level_a, (1, omega arith, refl), All-from_recursion (λ (slot : WrittenSlot). Contains level_a.members slot.job) (slot 0 6 10 5 ∷ []) ((0, omega arith, refl), tt), inr third_split),
-      (refl, refl),
-    ),
-  ),
-)
+rounds =
+    rounds_next levels (record { from = 4; to = 6 } ∷ record { from = 6; to = 10 } ∷ []) (slot 1 4 6 6 ∷ slot 0 6 10 5 ∷ [])
+    (slot 1 4 5 4 ∷ slot 1 5 6 2 ∷ slot 0 6 7 2 ∷ slot 0 7 10 3 ∷ []) (1, omega arith, refl) refl first_split
+    (rounds_next levels (record { from = 6; to = 10 } ∷ []) (slot 0 6 10 5 ∷ []) (slot 0 6 7 2 ∷ slot 0 7 10 3 ∷ []) (0, omega arith, refl) refl second_split
+    (rounds_next levels [] [] [] (1, omega arith, refl) refl third_split (refl, refl)))
 
 -- the energy is 25: 3 + 3 for a in each of its stretches, 10 + 3 for b
 pub energy : IsEnergyOf jobs points written (of_whole 25)
-energy = energy_by_test jobs points (2 ∷ 1 ∷ 3 ∷ 2 ∷ 2 ∷ 1 ∷ []) written (of_whole 25) 1 refl refl
+energy = energy_by_test jobs points (2 ∷ 1 ∷ 3 ∷ 2 ∷ 2 ∷ 1 ∷ []) written (of_whole 25) 1 refl (omega arith) refl refl
 
 -- So this is the rounding of the plan.
 pub rounding : IsRounding jobs points planned levels written (of_whole 25)
 rounding = record {
-  fast_enough = slow_enough_by_test points levels refl;
+  fast_enough = proved (slow_enough points levels) refl;
   rounds = rounds;
   few_slots = omega arith;
   energy_of = energy;
@@ -144,14 +118,10 @@ too_fast is = is.fast_enough 0 level_b (omega arith) (omega arith)
 
 -- The plan's slots can't stay: no point does 5 units of work in 4 of time,
 at_no_point : (point : Point) → Contains points point → 5 ≡ point.speed * (4 - 0) → ⊥
-at_no_point point (zero, within, is) at = absurd (omega (arith, at, ap (λ (x : Point). x.speed) is))
-at_no_point point (suc zero, within, is) at = absurd (omega (arith, at, ap (λ (x : Point). x.speed) is))
-at_no_point point (suc (suc zero), within, is) at = absurd (omega (arith, at, ap (λ (x : Point). x.speed) is))
-at_no_point point (suc (suc (suc zero)), within, is) at = absurd (omega (arith, at, ap (λ (x : Point). x.speed) is))
-at_no_point point (suc (suc (suc (suc place))), within, is) at = absurd (omega (arith, within))
+at_no_point point has at = refuted (test_any (λ (point : Point). test_eq 5 (point.speed * (4 - 0))) points) refl (has.0, point, has.1, has.2, at)
 
 -- so they have no energy on the points
 no_energy : (amount : Fraction) → IsEnergyOf jobs points planned amount → ⊥
 no_energy amount is =
-    let spends = (is.at_scales.holds 1 ((scale_decided 1 planned).0 refl)).1.1 in
+    let spends = (is.at_scales.holds 1 (proved (is_scale 1 planned) refl)).1.1 in
     at_no_point spends.0 spends.2 spends.3

@@ -2,11 +2,10 @@
 -- to 3, on the points of the speeds 0, 2 and 4, whose powers are 0, 1 and 3. And changes of it that are refused.
 use Rattle.std.proofs.Common.{◌≡◌, ◌==◌, ℕ, zero, suc, ◌+◌, ◌-◌, ◌*◌, ◌<◌, List, [], ◌∷◌, ◌++◌, map, refl, sym, ap, subst, ◌∙◌, arith, inl, inr, append_assoc, true}
 use Rattle.std.specs.Prelude.{cond}
-use Rattle.std.specs.List.{Any, Contains, list_any}
-use Rattle.std.proofs.lemmas.Bool.Decides.{not_from_Decides}
+use Rattle.std.specs.List.{Any}
 use Rattle.std.proofs.lemmas.List.{append-nil}
-use Rattle.std.proofs.lemmas.List.Elements.{All-from_recursion}
 use Rattle.yds_model.specs.Numbers.{AreDifferent}
+use Rattle.std.proofs.lemmas.Bool.Decides.{nat_tests}
 use Rattle.yds_model.specs.Job.{Job}
 use Rattle.yds_model.specs.Scale.{Fraction, of_whole}
 use Rattle.yds_model.specs.Slot.{WrittenSlot, IsScale, slot_at_scale, slots_at}
@@ -15,13 +14,13 @@ use Rattle.yds_model.specs.Piece.{Piece}
 use Rattle.yds_model.specs.Level.{Level}
 use Rattle.yds_model.specs.Proper.{IsProper}
 use Rattle.yds_model.specs.Table.{Point, point_at, hull_of}
-use Rattle.yds_model.specs.Event.{stretches, LiesWritten}
+use Rattle.yds_model.specs.Event.{stretches}
 use Rattle.yds_model.specs.Rounding.{HasPointSpeed, AreNeighbours, RunsAtPoint, HasSplitDenominators, IsSplitAt, SplitsStretch, RoundsStretches, IsEnergyOf, IsRounding}
 use Rattle.yds_model.proofs.Lists.{count-cons}
-use Rattle.yds_examples.proofs.Decided.{eq_decided, any_decided, is_scale, scale_decided}
-use Rattle.yds_examples.proofs.DecidedSchedules.{feasible_by_test}
-use Rattle.yds_examples.proofs.DecidedPlans.{proper_by_test}
-use Rattle.yds_examples.proofs.DecidedRounding.{energy_by_test, slow_enough_by_test, has_split_denominators, split_denominators_decided, splits_by_test}
+use Rattle.yds_examples.proofs.Tests.{proved, refuted, test_eq, test_any}
+use Rattle.yds_examples.proofs.TestedSchedules.{is_scale, feasible_by_test}
+use Rattle.yds_examples.proofs.TestedPlans.{proper_by_test}
+use Rattle.yds_examples.proofs.TestedRounding.{energy_by_test, slow_enough, split_denominators, splits_by_test, rounds_next}
 
 -- a and b
 abbrev jobs : List Job
@@ -53,7 +52,7 @@ level = record { work = 7; length = 3; pieces = record { from = 0; to = 3 } ∷ 
 
 -- the level is proper for the plan's slots
 planned_proper : IsProper jobs planned (level ∷ [])
-planned_proper = proper_by_test jobs planned (level ∷ []) (feasible_by_test jobs planned 7 refl refl) refl
+planned_proper = proper_by_test jobs planned (level ∷ []) refl refl refl
 
 -- the whole time is one stretch
 abbrev stretch : Piece
@@ -74,37 +73,21 @@ written_feasible = feasible_by_test jobs written 12 refl refl
 -- the slots are a split, at the scale 84 of all of them
 split : SplitsStretch (hull_of points) level stretch planned written
 split =
-    splits_by_test 2 84 42 1 (hull_of points) level stretch planned (slot 0 (of_whole 0) (part 0 6 12) 2 ∷ []) (slot 1 (part 0 3 6) (of_whole 3) 5 ∷ [])
-    refl refl refl refl
+    splits_by_test 84 42 1 (hull_of points) level stretch planned (slot 0 (of_whole 0) (part 0 6 12) 2 ∷ []) (slot 1 (part 0 3 6) (of_whole 3) 5 ∷ [])
+    refl refl refl (λ job. grind (arith, nat_tests))
 
 -- so the one stretch is rounded
 rounds : RoundsStretches (hull_of points) (level ∷ []) (stretches jobs) planned written
-rounds = (
-  planned,
-  [],
-  written,
-  [],
-  refl,
-  refl,
-  All-from_recursion (λ slot. LiesWritten slot (record { from = 0; to = 3 })) planned
-      (record { from = omega arith; to = omega arith }, (record { from = omega arith; to = omega arith }, tt)),
-  inr (
-    level,
-    (0, omega arith, refl),
-    All-from_recursion (λ (slot : WrittenSlot). Contains level.members slot.job) planned ((0, omega arith, refl), ((1, omega arith, refl), tt)),
-    inr split,
-  ),
-  (refl, refl),
-)
+rounds = rounds_next (level ∷ []) [] [] [] (0, omega arith, refl) refl split (refl, refl)
 
 -- 3/2 for a and 5/2 for b
 energy : IsEnergyOf jobs points written (of_whole 4)
-energy = energy_by_test jobs points (2 ∷ 1 ∷ []) written (of_whole 4) 12 refl refl
+energy = energy_by_test jobs points (2 ∷ 1 ∷ []) written (of_whole 4) 12 refl (omega arith) refl refl
 
 -- So this is the rounding of the plan.
 rounding : IsRounding jobs points planned (level ∷ []) written (of_whole 4)
 rounding = record {
-  fast_enough = slow_enough_by_test points (level ∷ []) refl;
+  fast_enough = proved (slow_enough points (level ∷ [])) refl;
   rounds = rounds;
   few_slots = omega arith;
   energy_of = energy;
@@ -115,14 +98,11 @@ rounding = record {
 
 -- the switch written as 1/2 has no denominator of the split
 half_refused : HasSplitDenominators level 2 4 (slot 0 (of_whole 0) (part 0 1 2) 2) → ⊥
-half_refused =
-    not_from_Decides (has_split_denominators level 2 4 (slot 0 (of_whole 0) (part 0 1 2) 2)) (split_denominators_decided level 2 4 (slot 0 (of_whole 0) (part 0 1 2) 2)) refl
+half_refused = refuted (split_denominators level 2 4 (slot 0 (of_whole 0) (part 0 1 2) 2)) refl
 
 -- the level has no point's speed
 at_no_point : Any (HasPointSpeed level) (hull_of points) → ⊥
-at_no_point =
-    not_from_Decides (list_any (λ point. level.work == point.speed * level.length) (hull_of points))
-    (any_decided (λ (point : Point). level.work == point.speed * level.length) (HasPointSpeed level) (λ point. eq_decided level.work (point.speed * level.length)) (hull_of points)) refl
+at_no_point = refuted (test_any (λ (point : Point). test_eq level.work (point.speed * level.length)) (hull_of points)) refl
 
 -- so in the one stretch a rounding is a split
 is_split : (slots : List WrittenSlot) → RoundsStretches (hull_of points) (level ∷ []) (stretches jobs) planned slots → SplitsStretch (hull_of points) level stretch planned slots
@@ -138,9 +118,9 @@ is_split slots (here, slot ∷ later, made, made_later, is_here, is_made, lies, 
 is_split slots (here, [], made, slot ∷ made_later, is_here, is_made, lies, kind, rest) = absurd (let none = rest.1 in cc)
 
 -- 84 is a scale of the slots of a split, where it is one of the plan's and the written ones
-scale_of_split : (slots fast slow : List WrittenSlot) → is_scale 84 (planned ++ slots) ≡ true → slots ≡ fast ++ slow → IsScale 84 (planned ++ fast ++ slow)
+scale_of_split : (slots fast slow : List WrittenSlot) → (is_scale 84 (planned ++ slots)).passes ≡ true → slots ≡ fast ++ slow → IsScale 84 (planned ++ fast ++ slow)
 scale_of_split slots fast slow is parts =
-    subst (IsScale 84) (ap (λ written. planned ++ written) parts ∙ sym (append_assoc planned fast slow)) ((scale_decided 84 (planned ++ slots)).0 is)
+    subst (IsScale 84) (ap (λ written. planned ++ written) parts ∙ sym (append_assoc planned fast slow)) (proved (is_scale 84 (planned ++ slots)) is)
 
 -- some time passes at the faster point, since the level is faster than the slower one
 some_time : (time slower gap : ℕ) → slower * 3 < 7 → time * (3 * gap) ≡ (7 - slower * 3) * ((3 - 0) * 84) → 0 ≡ 0 + time → ⊥
@@ -158,7 +138,7 @@ slower_first = slot 1 (of_whole 0) (part 2 3 6) 5 ∷ slot 0 (part 2 6 12) (of_w
 
 -- this serves both jobs too, at the same energy,
 slower_feasible : IsFeasible jobs slower_first × IsEnergyOf jobs points slower_first (of_whole 4)
-slower_feasible = (feasible_by_test jobs slower_first 12 refl refl, energy_by_test jobs points (1 ∷ 2 ∷ []) slower_first (of_whole 4) 12 refl refl)
+slower_feasible = (feasible_by_test jobs slower_first 12 refl refl, energy_by_test jobs points (1 ∷ 2 ∷ []) slower_first (of_whole 4) 12 refl (omega arith) refl refl)
 
 -- but what comes first has the speed 2, which isn't that of the faster point
 faster_comes_first : (fast slow : List WrittenSlot) (low high : Point) → low.speed * 3 < 7 → 7 < high.speed * 3 → slower_first ≡ fast ++ slow →
@@ -181,7 +161,7 @@ twice = slot 0 (of_whole 0) (part 0 3 12) 1 ∷ slot 0 (part 0 3 12) (part 0 6 1
 
 -- this too serves both jobs at the same energy,
 twice_feasible : IsFeasible jobs twice × IsEnergyOf jobs points twice (of_whole 4)
-twice_feasible = (feasible_by_test jobs twice 12 refl refl, energy_by_test jobs points (2 ∷ 2 ∷ 1 ∷ []) twice (of_whole 4) 12 refl refl)
+twice_feasible = (feasible_by_test jobs twice 12 refl refl, energy_by_test jobs points (2 ∷ 2 ∷ 1 ∷ []) twice (of_whole 4) 12 refl (omega arith) refl refl)
 
 -- between the points 2 and 4 a quarter of a unit of time at the faster one is too little
 too_short : (low high : Point) (around : AreNeighbours (hull_of points) level low high) (time : ℕ) → 84 ≡ high.speed * 21 → 21 ≡ time →

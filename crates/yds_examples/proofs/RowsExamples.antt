@@ -1,25 +1,20 @@
 -- Whole answers by the one relation of words, input, text and status: the worked rows of `audit` and `check`, and refusals.
-use Rattle.std.proofs.Common.{◌≡◌, ℕ, List, [], ◌∷◌, None, Result, Ok, Err, Bool, true, false, ◌&&◌, refl, sym}
-use Rattle.std.specs.Prelude.{codes, not}
-use Rattle.std.specs.Str.{bytes_eq}
+use Rattle.std.proofs.Common.{◌≡◌, ℕ, List, [], ◌∷◌, None, true, refl}
+use Rattle.std.specs.Prelude.{codes}
 use Rattle.std.specs.Fmt.{digits}
-use Rattle.std.proofs.lemmas.Bool.{and_parts, true≢false}
-use Rattle.std.proofs.lemmas.Slice.Eq.{bytes_eq-Decides}
-use Rattle.yds_model.specs.declared.reason.Reason.{Reason}
 use Rattle.yds_model.specs.declared.status.Status.{Status}
 use Rattle.yds_model.specs.declared.status.Status.TheVariants as statuses
 use Rattle.yds_model.specs.Scale.{of_whole}
 use Rattle.yds_model.specs.Text.{line}
-use Rattle.yds_model.specs.Document.{Document, no_document}
-use Rattle.yds_model.specs.Fields.{Fault}
-use Rattle.yds_model.specs.Reading.{reading}
-use Rattle.yds_model.specs.Audit.{Verdict, Feasible, Backward, Overlap, Early, Late, WrongWork}
-use Rattle.yds_model.specs.Judgement.{Judgement, Accepted, Slots, Pieces, Members, Sums, Order, Window, Speed}
-use Rattle.yds_model.specs.AuditAnswer.{verdict_words, verdict_status, judgement_words, judgement_status}
-use Rattle.yds_model.specs.Request.{Question, AskAudit, AskCheck, usage_line}
-use Rattle.yds_model.specs.Answer.{AnswersReading, AnswersQuestion, UnlessTooLong, is_too_long, Answers}
+use Rattle.yds_model.specs.Document.{Document}
+use Rattle.yds_model.specs.Audit.{Verdict, Feasible, Backward, Overlap, Early, Late, WrongWork, IsVerdict}
+use Rattle.yds_model.specs.Judgement.{Judgement, Accepted, Slots, Pieces, Members, Sums, Order, Window, Speed, IsJudgement}
+use Rattle.yds_model.specs.AuditAnswer.{verdict_words, verdict_status, AuditAnswer, judgement_words, judgement_status, CheckAnswer}
+use Rattle.yds_model.specs.Request.{usage_line}
+use Rattle.yds_model.specs.Answer.{Answers}
 use Rattle.yds_laws.proofs.AnsweredOnce.{audit_and_check_answer_once}
-use Rattle.yds_examples.proofs.DecidedVerdicts.{is_verdict, verdict_by_test, is_judgement, judgement_by_test}
+use Rattle.yds_examples.proofs.Tests.{Test, tests, proved, refuted, test_numbers}
+use Rattle.yds_examples.proofs.TestedPlans.{is_verdict, is_judgement}
 
 -- a row: words, an input, and the text and the status that answer them
 record Row (words : List (List ℕ)) (input text : List ℕ) (status : Status) : Type 0 where
@@ -27,137 +22,80 @@ record Row (words : List (List ℕ)) (input text : List ℕ) (status : Status) :
 
 -- # Tests of an answer
 
--- the document that is read, or an empty one
-abbrev read_of : Result Document (Fault Reason) → Document
-read_of (Ok document) = document
-read_of (Err fault) = no_document
-
--- whether it is read
-abbrev is_read : Result Document (Fault Reason) → Bool
-is_read (Ok document) = true
-is_read (Err fault) = false
-
--- the input is short, and read
-abbrev is_short_and_read : List ℕ → Bool
-is_short_and_read input = not (is_too_long input) && is_read (reading input)
-
--- a document that is read is answered
-answers_read : (question : Question) (read : Result Document (Fault Reason)) (text : List ℕ) (status : Status) → is_read read ≡ true →
-    AnswersQuestion question (read_of read) text status → AnswersReading question read text status
-answers_read question (Ok document) text status passed answers = answers
-answers_read question (Err fault) text status passed answers = absurd (true≢false (sym passed))
-
--- and so is an input that isn't too long
-answers_short : (question : Question) (long : Bool) (input text : List ℕ) (status : Status) → not long ≡ true →
-    AnswersReading question (reading input) text status → UnlessTooLong long (AnswersReading question (reading input)) text status
-answers_short question true input text status passed answers = absurd (true≢false (sym passed))
-answers_short question false input text status passed answers = answers
-
--- so the question about an input is answered as that about its document
-answers_input : (question : Question) (input text : List ℕ) (status : Status) → is_short_and_read input ≡ true →
-    AnswersQuestion question (read_of (reading input)) text status → UnlessTooLong (is_too_long input) (AnswersReading question (reading input)) text status
-answers_input question input text status passed answers =
-    let parts = and_parts (not (is_too_long input)) (is_read (reading input)) passed in
-    answers_short question (is_too_long input) input text status parts.0 (answers_read question (reading input) text status parts.1 answers)
-
 -- the verdict is so, and the text is its line
-abbrev is_audit : List ℕ → Document → List ℕ → Verdict → Bool
-is_audit input document text verdict =
-    is_short_and_read input && (is_verdict document.jobs None document.slots verdict && bytes_eq text (line (verdict_words document verdict)))
+abbrev is_audit : (document : Document) (text : List ℕ) (verdict : Verdict) →
+    Test (IsVerdict document.jobs None document.slots verdict × (text ≡ line (verdict_words document verdict)))
+is_audit document text verdict = hlevel (tests, is_verdict)
 
 -- then `audit` answers so
-audited : (input text : List ℕ) (verdict : Verdict) → is_audit input (read_of (reading input)) text verdict ≡ true →
-    Row (codes "audit" ∷ []) input text (verdict_status verdict)
-audited input text verdict passed =
-    let document : Document = read_of (reading input) in
-    let parts = and_parts _ _ passed in
-    let told = and_parts _ _ parts.1 in
-    record {
-      answers = answers_input AskAudit input text (verdict_status verdict) parts.0 record {
-        verdict = verdict;
-        is_verdict = verdict_by_test document.jobs None document.slots verdict told.0;
-        said = (bytes_eq-Decides text (line (verdict_words document verdict))).0 told.1;
-        ended = refl;
-      };
-    }
+audited : {document : Document} {text : List ℕ} {status : Status} (verdict : Verdict) → (is_audit document text verdict).passes ≡ true → status ≡ verdict_status verdict →
+    AuditAnswer document None text status
+audited {document} {text} verdict passed ended =
+    let told = proved (is_audit document text verdict) passed in record { verdict = verdict; is_verdict = told.0; said = told.1; ended = ended }
 
 -- the judgement is so, and the text is its line
-abbrev is_check : List ℕ → Document → List ℕ → Judgement → Bool
-is_check input document text judgement =
-    is_short_and_read input && (is_judgement document.jobs document.slots document.levels judgement && bytes_eq text (line (judgement_words document judgement)))
+abbrev is_check : (document : Document) (text : List ℕ) (judgement : Judgement) →
+    Test (IsJudgement document.jobs document.slots document.levels judgement × (text ≡ line (judgement_words document judgement)))
+is_check document text judgement = hlevel (tests, is_judgement)
 
 -- then `check` answers so
-checked : (input text : List ℕ) (judgement : Judgement) → is_check input (read_of (reading input)) text judgement ≡ true →
-    Row (codes "check" ∷ []) input text (judgement_status judgement)
-checked input text judgement passed =
-    let document : Document = read_of (reading input) in
-    let parts = and_parts _ _ passed in
-    let told = and_parts _ _ parts.1 in
-    record {
-      answers = answers_input AskCheck input text (judgement_status judgement) parts.0 record {
-        judgement = judgement;
-        is_judgement = judgement_by_test document.jobs document.slots document.levels judgement told.0;
-        said = (bytes_eq-Decides text (line (judgement_words document judgement))).0 told.1;
-        ended = refl;
-      };
-    }
-
--- the two statuses differ
-done_not_no : statuses.Done ≡ statuses.No → ⊥
-done_not_no same = absurd cc
+checked : {document : Document} {text : List ℕ} {status : Status} (judgement : Judgement) → (is_check document text judgement).passes ≡ true →
+    status ≡ judgement_status judgement → CheckAnswer document text status
+checked {document} {text} judgement passed ended =
+    let told = proved (is_check document text judgement) passed in record { judgement = judgement; is_judgement = told.0; said = told.1; ended = ended }
 
 -- # Verdicts
 
 -- slots that give each job its work
 is_feasible : Row (codes "audit" ∷ []) (codes "job a 0 4 2\nslot a 1 3 2\n") (codes "feasible\n") statuses.Done
-is_feasible = audited _ _ Feasible refl
+is_feasible = record { answers = audited Feasible refl refl }
 
 -- a slot that takes no time
 backward : Row (codes "audit" ∷ []) (codes "job a 0 4 2\nslot a 2 2 2\n") (codes "backward slot 1 a 2 2\n") statuses.No
 unfolding digits
-backward = audited _ _ (Backward 0) refl
+backward = record { answers = audited (Backward 0) refl refl }
 
 -- and no other answer
 backward_only : Row (codes "audit" ∷ []) (codes "job a 0 4 2\nslot a 2 2 2\n") (codes "feasible\n") statuses.Done → ⊥
 unfolding digits
 backward_only row =
-    absurd (done_not_no (audit_and_check_answer_once.audit (codes "job a 0 4 2\nslot a 2 2 2\n") _ _ _ _ row.answers backward.answers).1)
+    absurd (cc ((audit_and_check_answer_once.audit (codes "job a 0 4 2\nslot a 2 2 2\n") _ _ _ _ row.answers backward.answers).1))
 
 -- a slot that begins before the one before it has ended
 overlap : Row (codes "audit" ∷ []) (codes "job a 0 4 2\njob b 0 4 2\nslot a 0 2 2\nslot b 1 3 2\n") (codes "overlap slot 2 b 1 previous 2\n") statuses.No
 unfolding digits
-overlap = audited _ _ (Overlap 1) refl
+overlap = record { answers = audited (Overlap 1) refl refl }
 
 -- before its job's release
 early : Row (codes "audit" ∷ []) (codes "job a 1 4 2\nslot a 0 2 2\n") (codes "early slot 1 a 0 release 1\n") statuses.No
 unfolding digits
-early = audited _ _ (Early 0) refl
+early = record { answers = audited (Early 0) refl refl }
 
 -- after its deadline
 late : Row (codes "audit" ∷ []) (codes "job a 0 4 2\nslot a 3 5 2\n") (codes "late slot 1 a 5 deadline 4\n") statuses.No
 unfolding digits
-late = audited _ _ (Late 0) refl
+late = record { answers = audited (Late 0) refl refl }
 
 -- too little work for one of two jobs
 one_short : Row (codes "audit" ∷ []) (codes "job a 0 10 10\njob b 4 6 6\nslot a 0 4 5\nslot b 4 6 5\nslot a 6 10 5\n") (codes "work b given 5 wanted 6\n") statuses.No
 unfolding digits
-one_short = audited _ _ (WrongWork 1 (of_whole 5) 6) refl
+one_short = record { answers = audited (WrongWork 1 (of_whole 5) 6) refl refl }
 
 -- the same told of the other job is no answer
 other_short : Row (codes "audit" ∷ []) (codes "job a 0 10 10\njob b 4 6 6\nslot a 0 4 5\nslot b 4 6 5\nslot a 6 10 5\n") (codes "work a given 5 wanted 6\n") statuses.No → ⊥
 unfolding digits
 other_short row =
     let same = (audit_and_check_answer_once.audit (codes "job a 0 10 10\njob b 4 6 6\nslot a 0 4 5\nslot b 4 6 5\nslot a 6 10 5\n") _ _ _ _ row.answers one_short.answers).0 in
-    absurd (true≢false (sym ((bytes_eq-Decides (codes "work a given 5 wanted 6\n") (codes "work b given 5 wanted 6\n")).1 same)))
+    refuted (test_numbers (codes "work a given 5 wanted 6\n") (codes "work b given 5 wanted 6\n")) refl same
 
 -- a third of a unit of work too little
 too_little : Row (codes "audit" ∷ []) (codes "job a 0 4 4\nslot a 0 4 3+2/3\n") (codes "work a given 3+2/3 wanted 4\n") statuses.No
 unfolding digits
-too_little = audited _ _ (WrongWork 0 (record { whole = 3; num = 2; den = 3 }) 4) refl
+too_little = record { answers = audited (WrongWork 0 (record { whole = 3; num = 2; den = 3 }) 4) refl refl }
 
 -- no jobs and no slots
 nothing : Row (codes "audit" ∷ []) (codes "") (codes "feasible\n") statuses.Done
-nothing = audited _ _ Feasible refl
+nothing = record { answers = audited Feasible refl refl }
 
 -- # Judgements
 
@@ -165,55 +103,55 @@ nothing = audited _ _ Feasible refl
 three_levels : Row (codes "check" ∷ [])
     (codes "job a 0 12 4\njob b 2 10 8\njob c 4 6 6\nslot a 0 2 2\nslot b 2 4 2+2/3\nslot c 4 6 6\nslot b 6 10 5+1/3\nslot a 10 12 2\nlevel 6 2\npiece 4 6\nmember c\nlevel 8 6\npiece 2 4\npiece 6 10\nmember b\nlevel 4 4\npiece 0 2\npiece 10 12\nmember a\n")
     (codes "accepted\n") statuses.Done
-three_levels = checked _ _ Accepted refl
+three_levels = record { answers = checked Accepted refl refl }
 
 -- slots that aren't feasible
 slots_fail : Row (codes "check" ∷ []) (codes "job a 1 4 2\nslot a 0 2 2\nlevel 2 3\npiece 1 4\nmember a\n") (codes "K1 early slot 1 a 0 release 1\n") statuses.No
 unfolding digits
-slots_fail = checked _ _ (Slots (Early 0)) refl
+slots_fail = record { answers = checked (Slots (Early 0)) refl refl }
 
 -- a level without a piece
 no_piece : Row (codes "check" ∷ []) (codes "job a 0 4 4\nslot a 0 4 4\nlevel 4 4\nmember a\n") (codes "K2 level 1\n") statuses.No
 unfolding digits
-no_piece = checked _ _ (Pieces 0) refl
+no_piece = record { answers = checked (Pieces 0) refl refl }
 
 -- a job that is a member twice
 member_twice : Row (codes "check" ∷ []) (codes "job a 0 4 4\nslot a 0 4 4\nlevel 4 4\npiece 0 4\nmember a\nmember a\n") (codes "K3 job a\n") statuses.No
-member_twice = checked _ _ (Members 0) refl
+member_twice = record { answers = checked (Members 0) refl refl }
 
 -- each job a member of the other's level
 members_exchanged : Row (codes "check" ∷ [])
     (codes "job a 0 10 10\njob b 4 6 6\nslot a 0 4 5\nslot b 4 6 6\nslot a 6 10 5\nlevel 6 2\npiece 4 6\nmember a\nlevel 10 8\npiece 0 4\npiece 6 10\nmember b\n")
     (codes "K4 level 1\n") statuses.No
 unfolding digits
-members_exchanged = checked _ _ (Sums 0) refl
+members_exchanged = record { answers = checked (Sums 0) refl refl }
 
 -- the slower level first
 slower_first : Row (codes "check" ∷ [])
     (codes "job a 0 10 10\njob b 4 6 6\nslot a 0 4 5\nslot b 4 6 6\nslot a 6 10 5\nlevel 10 8\npiece 0 4\npiece 6 10\nmember a\nlevel 6 2\npiece 4 6\nmember b\n")
     (codes "K5 level 2\n") statuses.No
 unfolding digits
-slower_first = checked _ _ (Order 1) refl
+slower_first = record { answers = checked (Order 1) refl refl }
 
 -- a window that isn't covered
 not_covered : Row (codes "check" ∷ []) (codes "job a 0 4 4\nslot a 0 2 4\nlevel 4 2\npiece 0 2\nmember a\n") (codes "K6 job a\n") statuses.No
-not_covered = checked _ _ (Window 0) refl
+not_covered = record { answers = checked (Window 0) refl refl }
 
 -- a slot at another speed than its level
 other_speed : Row (codes "check" ∷ []) (codes "job a 0 4 4\nslot a 0 2 3\nslot a 2 4 1\nlevel 4 4\npiece 0 4\nmember a\n") (codes "K7 slot 1\n") statuses.No
 unfolding digits
-other_speed = checked _ _ (Speed 0) refl
+other_speed = record { answers = checked (Speed 0) refl refl }
 
 -- and no other judgement
 speed_only : Row (codes "check" ∷ []) (codes "job a 0 4 4\nslot a 0 2 3\nslot a 2 4 1\nlevel 4 4\npiece 0 4\nmember a\n") (codes "accepted\n") statuses.Done → ⊥
 unfolding digits
 speed_only row =
-    absurd (done_not_no (audit_and_check_answer_once.check (codes "job a 0 4 4\nslot a 0 2 3\nslot a 2 4 1\nlevel 4 4\npiece 0 4\nmember a\n") _ _ _ _
-    row.answers other_speed.answers).1)
+    absurd (cc ((audit_and_check_answer_once.check (codes "job a 0 4 4\nslot a 0 2 3\nslot a 2 4 1\nlevel 4 4\npiece 0 4\nmember a\n") _ _ _ _
+    row.answers other_speed.answers).1))
 
 -- a job without work that is a member of no level
 no_work : Row (codes "check" ∷ []) (codes "job a 0 4 4\njob b 2 6 0\nslot a 0 4 4\nlevel 4 4\npiece 0 4\nmember a\n") (codes "accepted\n") statuses.Done
-no_work = checked _ _ Accepted refl
+no_work = record { answers = checked Accepted refl refl }
 
 -- # Refusals
 

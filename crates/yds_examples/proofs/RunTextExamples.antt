@@ -1,9 +1,13 @@
 -- What the texts of `avr` and `oa` are worth, tried on runs that never round, and on one that does and says that it doesn't.
-use Rattle.std.proofs.Common.{◌≡◌, ℕ, zero, suc, ◌-◌, ◌*◌, List, [], ◌∷◌, Ok, refl, sym, subst, arith, inl, inr}
+use Rattle.std.proofs.Common.{◌≡◌, ℕ, zero, suc, ◌-◌, ◌*◌, ◌≤◌, List, [], ◌∷◌, length, Ok, refl, sym, subst, arith, inl, inr}
 use Rattle.std.specs.Prelude.{codes, MatchOption}
 use Rattle.std.specs.List.{Any}
 use Rattle.std.specs.Fmt.{digits}
-use Rattle.yds_model.specs.Slot.{slots_at}
+use Rattle.yds_model.specs.declared.limits.TheConstants.{MAX_INPUT}
+use Rattle.yds_model.specs.Job.{Job}
+use Rattle.yds_model.specs.Slot.{WrittenSlot, slots_at}
+use Rattle.yds_model.specs.Feasible.{IsFeasible}
+use Rattle.yds_model.specs.Text.{canonical_text}
 use Rattle.yds_model.specs.Piece.{Piece}
 use Rattle.yds_model.specs.Document.{Document, no_document}
 use Rattle.yds_model.specs.Reading.{reading}
@@ -11,9 +15,17 @@ use Rattle.yds_model.specs.AverageRate.{IsAverageRateRun}
 use Rattle.yds_model.specs.OptimalAvailable.{due_units, IsOptimalAvailableRun}
 use Rattle.yds_laws.specs.RunLaws.{IsExactAverageRate, IsExactOptimalAvailable}
 use Rattle.yds_laws.proofs.ExactRuns.{optimal_available_is_exact}
-use Rattle.yds_texts.specs.RunText.{with_run, HoldsAverageRate, HoldsOptimalAvailable}
-use Rattle.yds_examples.proofs.DecidedSchedules.{feasible_by_test}
+use Rattle.yds_texts.specs.RunText.{with_run, ReadRun, HoldsAverageRate, HoldsOptimalAvailable}
+use Rattle.yds_examples.proofs.TestedSchedules.{feasible_by_test}
 use Rattle.yds_examples.proofs.Policies.{rate_jobs, rate_slots, rate_thirds, rate_accepted, rate_refused, capped, whole_slots, whole_accepted, whole_terms, available_jobs, available_slots, available_whole, available_refused, fine_slots, fine_accepted}
+
+-- what a text holds of a run
+held : {IsRun : List Job → ℕ → ℕ → List WrittenSlot → Type 0} {IsExact : List Job → ℕ → List WrittenSlot → Type 0} {grid : ℕ} {input text : List ℕ} (document : Document)
+    (slots : List WrittenSlot) (rounded : ℕ) → reading input ≡ Ok document → text ≡ canonical_text (with_run document slots grid rounded) → length text ≤ MAX_INPUT →
+    reading text ≡ Ok (with_run document slots grid rounded) → IsRun document.jobs grid rounded slots → IsFeasible document.jobs slots →
+    (rounded ≡ 0 → IsExact document.jobs grid slots) → ReadRun IsRun IsExact grid input text
+held document slots rounded read written short again run feasible exact =
+    record { document = document; slots = slots; rounded = rounded; read = read; written = written; short = short; read_again = again; run = run; feasible = feasible; exact = exact }
 
 -- # Average Rate
 
@@ -31,18 +43,7 @@ whole_text = codes "job a 0 3 2\njob b 1 3 2\nslot a 0 1 0+2/3\nslot a 1 1+4/5 1
 -- so its text holds the run, and that it is Average Rate's own.
 whole_holds : HoldsAverageRate 3 rate_input whole_text
 unfolding digits
-whole_holds = record {
-  document = rate_document;
-  slots = whole_slots;
-  rounded = 0;
-  read = refl;
-  written = refl;
-  short = omega arith;
-  read_again = refl;
-  run = whole_accepted;
-  feasible = feasible_by_test rate_jobs whole_slots 15 refl refl;
-  exact = λ none. whole_terms;
-}
+whole_holds = held rate_document whole_slots 0 refl refl (omega arith) refl whole_accepted (feasible_by_test rate_jobs whole_slots 15 refl refl) (λ none. whole_terms)
 
 -- On the grid 1 it rounds at both event points. The text says so,
 abbrev rate_text : List ℕ
@@ -51,18 +52,7 @@ rate_text = codes "job a 0 3 2\njob b 1 3 2\nslot a 0 1 1\nslot a 1 1+2/3 1\nslo
 -- and so it isn't said that it is exact,
 rate_holds : HoldsAverageRate 1 rate_input rate_text
 unfolding digits
-rate_holds = record {
-  document = rate_document;
-  slots = rate_slots;
-  rounded = 2;
-  read = refl;
-  written = refl;
-  short = omega arith;
-  read_again = refl;
-  run = rate_accepted;
-  feasible = feasible_by_test rate_jobs rate_slots 3 refl refl;
-  exact = λ none. absurd (omega (arith, none));
-}
+rate_holds = held rate_document rate_slots 2 refl refl (omega arith) refl rate_accepted (feasible_by_test rate_jobs rate_slots 3 refl refl) (λ none. absurd (omega (arith, none)))
 
 -- which it isn't.
 rate_not_exact : IsExactAverageRate rate_jobs 1 rate_slots → ⊥
@@ -105,18 +95,7 @@ fine_exact = optimal_available_is_exact available_jobs 6 fine_slots (omega arith
 -- and its text holds the run, and that it is Optimal Available's own.
 fine_holds : HoldsOptimalAvailable 6 available_input fine_text
 unfolding digits
-fine_holds = record {
-  document = available_document;
-  slots = fine_slots;
-  rounded = 0;
-  read = refl;
-  written = refl;
-  short = omega arith;
-  read_again = refl;
-  run = fine_accepted;
-  feasible = feasible_by_test available_jobs fine_slots 42 refl refl;
-  exact = λ none. fine_exact;
-}
+fine_holds = held available_document fine_slots 0 refl refl (omega arith) refl fine_accepted (feasible_by_test available_jobs fine_slots 42 refl refl) (λ none. fine_exact)
 
 -- On the grid 1 it rounds at 0, where 2 units are due by 3, so two thirds of one until 1. It serves 1,
 abbrev first_stretch : Piece

@@ -18,9 +18,9 @@ use Rattle.yds_laws.proofs.Judgements.{judgement_is_exact}
 use Rattle.yds_laws.proofs.Plans.{plans_are_least}
 use Rattle.yds_energy.specs.EnergyLaws.{IsCheapest}
 use Rattle.yds_energy.proofs.PlansEnergy.{least_is_cheapest_among_written}
-use Rattle.yds_examples.proofs.Decided.{scale_decided, slots_decided}
-use Rattle.yds_examples.proofs.DecidedSchedules.{feasible_decided, feasible_by_test, earliest_decided}
-use Rattle.yds_examples.proofs.DecidedPlans.{proper_by_test, served_by_test, plan_by_test}
+use Rattle.yds_examples.proofs.Tests.{proved}
+use Rattle.yds_examples.proofs.TestedSchedules.{is_scale, are_slots as has_slots, feasible_at, feasible_by_test, earliest_first}
+use Rattle.yds_examples.proofs.TestedPlans.{proper_by_test, served_by_test, plan_by_test}
 
 -- the jobs a, b and c
 abbrev pub jobs : List Job
@@ -40,7 +40,7 @@ slots = slot 0 0 2 (of_whole 2) ∷ slot 1 2 4 (third 2 2) ∷ slot 2 4 6 (of_wh
 
 -- all ends and works are whole or thirds
 pub thirds : IsScale 3 slots
-thirds = (scale_decided 3 slots).0 refl
+thirds = proved (is_scale 3 slots) refl
 
 -- b gets 8, in thirds
 served_b : work_given (slots_at 3 slots) 1 ≡ 24
@@ -52,7 +52,7 @@ given_b = refl
 
 -- at scale 3 they run one after another, in their jobs' windows, and each job gets three times its work
 feasible : IsFeasibleAt jobs 3 (slots_at 3 slots)
-feasible = (feasible_decided jobs 3 (slots_at 3 slots)).0 refl
+feasible = proved (feasible_at jobs 3 (slots_at 3 slots)) refl
 
 -- so they are feasible, at each scale
 pub feasible_at_each : IsFeasible jobs slots
@@ -60,7 +60,7 @@ feasible_at_each = feasible_by_test jobs slots 3 refl refl
 
 -- what runs is what is due first: from 4 to 6 all three jobs are pending, and c's deadline is the earliest
 earliest : IsEarliestFirst jobs 3 (slots_at 3 slots)
-earliest = (earliest_decided jobs 3 (slots_at 3 slots)).0 refl
+earliest = proved (earliest_first jobs 3 (slots_at 3 slots)) refl
 
 -- The excess above five speeds, times the speed's denominator and the scale: above 0 all work.
 above_0 : excess 0 1 (slots_at 3 slots) ≡ 54
@@ -112,7 +112,7 @@ above_four_thirds = refl
 
 -- The certificate is proper.
 pub proper : IsProper jobs slots levels
-proper = proper_by_test jobs slots levels feasible_at_each refl
+proper = proper_by_test jobs slots levels refl refl refl
 
 -- So they are a plan: each scale is a multiple of 3, at which they are served in stretches.
 pub plan : IsPlan jobs slots levels
@@ -132,7 +132,7 @@ forced = (least_and_explained.1.holds 3 thirds).forced 2 1 (omega arith)
 
 -- The slots are such as the program's types keep,
 pub are_slots : AreSlots 3 slots
-are_slots = (slots_decided 3 slots).0 refl
+are_slots = proved (has_slots 3 slots) refl
 
 -- so the judgement of them is 'accepted'.
 pub accepted : IsJudgement jobs slots levels Accepted

@@ -2,7 +2,6 @@
 use Rattle.std.proofs.Common.{◌≡◌, ℕ, ◌*◌, List, [], ◌∷◌, ◌++◌, refl, arith}
 use Rattle.std.specs.Prelude.{pos, ◌≤ℤ◌}
 use Rattle.std.proofs.lemmas.Int.{ints}
-use Rattle.std.proofs.lemmas.Bool.Decides.{not_from_Decides}
 use Rattle.std.proofs.Math.Nat.{eq-zero_of_zero-dvd}
 use Rattle.yds_model.specs.Job.{job_at}
 use Rattle.yds_model.specs.Scale.{of_whole}
@@ -12,16 +11,16 @@ use Rattle.yds_model.specs.Excess.{excess, IsLeast}
 use Rattle.yds_model.specs.Piece.{IsConfined}
 use Rattle.yds_model.specs.Level.{Level}
 use Rattle.yds_model.specs.Explains.{Forces, Explains}
-use Rattle.yds_model.specs.Proper.{PiecesStand, StandsOnce, SumsAgree, IsNotFaster, IsProper}
+use Rattle.yds_model.specs.Proper.{IsNotFaster, IsProper}
 use Rattle.yds_model.specs.Plan.{IsPlan}
 use Rattle.yds_model.specs.Table.{Point, IsTable, IsConvex}
 use Rattle.yds_model.specs.Energy.{interpolated_energy}
 use Rattle.yds_energy.specs.EnergyLaws.{IsCheapest}
 use Rattle.yds_model.specs.Judgement.{Order, IsJudgement, HasWrittenSpeed}
-use Rattle.yds_examples.proofs.Decided.{scale_decided, each_decided}
-use Rattle.yds_examples.proofs.DecidedSchedules.{feasible_by_test, not_feasible_by_test, is_served_in_stretches, stretches_decided}
-use Rattle.yds_examples.proofs.DecidedPlans.{pieces_stand, stand_decided, stands_once, once_decided, sums_agree, sums_decided, is_not_faster, order_decided, is_window_covered, covered_decided, is_confined, confined_decided, has_written_speed, speed_decided, proper_by_test}
-use Rattle.yds_examples.proofs.ThreeJobs.{jobs, slot, third, slots, thirds, feasible_at_each, piece, level_a, level_b, level_c, levels, accepted}
+use Rattle.yds_examples.proofs.Tests.{proved, refuted}
+use Rattle.yds_examples.proofs.TestedSchedules.{is_scale, feasible_by_test, not_feasible_by_test, served_in_stretches}
+use Rattle.yds_examples.proofs.TestedPlans.{pieces_stand, not_faster, window_covered, confined, written_speed, proper_by_test, is_judgement}
+use Rattle.yds_examples.proofs.ThreeJobs.{jobs, slot, third, slots, thirds, feasible_at_each, piece, level_a, level_b, level_c, levels}
 
 -- # Slots
 
@@ -51,7 +50,7 @@ hasty_excess = refl
 
 -- so it isn't least.
 not_least : IsLeast jobs hasty → ⊥
-not_least is = absurd (omega (arith, (is.holds 3 ((scale_decided 3 hasty).0 refl)).least 1 1 (omega arith) (slots_at 3 slots) (feasible_at_each.holds 3 thirds)))
+not_least is = absurd (omega (arith, (is.holds 3 (proved (is_scale 3 hasty) refl)).least 1 1 (omega arith) (slots_at 3 slots) (feasible_at_each.holds 3 thirds)))
 
 -- # What they cost
 
@@ -77,7 +76,7 @@ hasty_energy = refl
 -- so these aren't cheapest.
 not_cheapest : IsCheapest jobs hasty → ⊥
 not_cheapest is =
-    let more : pos (38 * 3) ≤ℤ pos (34 * 3) = is.at_most squares slots 3 its_table its_slopes feasible_at_each ((scale_decided 3 (hasty ++ slots)).0 refl) in
+    let more : pos (38 * 3) ≤ℤ pos (34 * 3) = is.at_most squares slots 3 its_table its_slopes feasible_at_each (proved (is_scale 3 (hasty ++ slots)) refl) in
     absurd (omega (arith, ints, more))
 
 -- # What forces the excess
@@ -92,7 +91,7 @@ not_forced_twice forces = absurd (omega (arith, forces.different 2))
 
 -- and b isn't confined to c's piece
 not_confined : IsConfined (job_at jobs 1) (piece 4 6 ∷ []) → ⊥
-not_confined = not_from_Decides (is_confined (job_at jobs 1) (piece 4 6 ∷ [])) (confined_decided (job_at jobs 1) (piece 4 6 ∷ [])) refl
+not_confined = refuted (confined (job_at jobs 1) (piece 4 6 ∷ [])) refl
 
 -- # Levels
 
@@ -102,7 +101,7 @@ exchanged = level_c ∷ level_a ∷ level_b ∷ []
 
 -- b has 8 in 6 time units, and a before it 4 in 4
 slower_first : IsNotFaster exchanged 2 → ⊥
-slower_first = not_from_Decides (is_not_faster exchanged 2) (order_decided exchanged 2) refl
+slower_first = refuted (not_faster exchanged 2) refl
 
 -- so the levels aren't proper,
 not_in_order : IsProper jobs slots exchanged → ⊥
@@ -110,20 +109,7 @@ not_in_order proper = slower_first (proper.order 2 (omega arith))
 
 -- and since all else is as it was, the judgement is that the third level is out of order
 order_broken : IsJudgement jobs slots exchanged (Order 2)
-order_broken = (
-  (
-    (
-      (accepted.0.0.0.0.0.0, (each_decided (pieces_stand exchanged) (PiecesStand exchanged) (stand_decided exchanged) 3).0 refl),
-      (each_decided (stands_once jobs exchanged) (StandsOnce jobs exchanged) (once_decided jobs exchanged) 3).0 refl,
-    ),
-    (each_decided (sums_agree jobs exchanged) (SumsAgree jobs exchanged) (sums_decided jobs exchanged) 3).0 refl,
-  ),
-  record {
-    within = omega arith;
-    before = (each_decided (is_not_faster exchanged) (IsNotFaster exchanged) (order_decided exchanged) 2).0 refl;
-    fails = slower_first;
-  },
-)
+order_broken = proved (is_judgement jobs slots exchanged (Order 2)) refl
 
 -- b made a member of the first level besides: the work isn't its members'
 not_its_members : IsProper jobs slots (record { work = 6; length = 2; pieces = piece 4 6 ∷ []; members = 2 ∷ 1 ∷ [] } ∷ level_b ∷ level_a ∷ []) → ⊥
@@ -143,7 +129,7 @@ overlapping = level_c ∷ record { work = 8; length = 7; pieces = piece 2 5 ∷ 
 
 -- so the pieces don't stand
 overlaps : IsProper jobs slots overlapping → ⊥
-overlaps proper = not_from_Decides (pieces_stand overlapping 1) (stand_decided overlapping 1) refl (proper.pieces 1 (omega arith))
+overlaps proper = refuted (pieces_stand overlapping 1) refl (proper.pieces 1 (omega arith))
 
 -- b's level left out: b is a member of none
 in_no_level : IsProper jobs slots (level_c ∷ level_a ∷ []) → ⊥
@@ -155,7 +141,7 @@ cut_off = level_c ∷ level_b ∷ record { work = 4; length = 2; pieces = piece 
 
 -- so a's window isn't covered
 not_covered : IsProper jobs slots cut_off → ⊥
-not_covered proper = not_from_Decides (is_window_covered jobs cut_off 0) (covered_decided jobs cut_off 0) refl (proper.windows 0 (omega arith))
+not_covered proper = refuted (window_covered jobs cut_off 0) refl (proper.windows 0 (omega arith))
 
 -- a's second slot does more of its work, and its first less: neither has the level's speed
 abbrev uneven : List WrittenSlot
@@ -163,7 +149,7 @@ uneven = slot 0 0 2 (of_whole 1) ∷ slot 1 2 4 (third 2 2) ∷ slot 2 4 6 (of_w
 
 -- the first has half of it
 not_its_speed : HasWrittenSpeed levels uneven 0 → ⊥
-not_its_speed = not_from_Decides (has_written_speed levels uneven 0) (speed_decided levels uneven 0) refl
+not_its_speed = refuted (written_speed levels uneven 0) refl
 
 -- # A plan has one form
 
@@ -173,13 +159,13 @@ cut = slot 0 0 2 (of_whole 2) ∷ slot 1 2 4 (third 2 2) ∷ slot 2 4 6 (of_whol
 
 -- since they are feasible and have the levels' speeds,
 cut_proper : IsProper jobs cut levels
-cut_proper = proper_by_test jobs cut levels (feasible_by_test jobs cut 3 refl refl) refl
+cut_proper = proper_by_test jobs cut levels refl refl refl
 
 -- but b has two slots in the stretch from 6 to 10, so it isn't a plan
 not_once : IsPlan jobs cut levels → ⊥
 not_once plan =
-    not_from_Decides (is_served_in_stretches jobs 3 (slots_at 3 cut)) (stretches_decided jobs 3 (slots_at 3 cut)) refl
-    (plan.served 3 ((scale_decided 3 cut).0 refl))
+    refuted (served_in_stretches jobs 3 (slots_at 3 cut)) refl
+    (plan.served 3 (proved (is_scale 3 cut) refl))
 
 -- # A denominator of 0 has no scale
 

@@ -1,6 +1,6 @@
 -- What `IsSpent` says of slots that don't fill their stretch at one speed: a job from 0 to 2 of work 3 that does all its work from 0 to 1. It
 -- isn't what they take on the points.
-use Rattle.std.proofs.Common.{◌≡◌, ℕ, List, [], ◌∷◌, refl, arith}
+use Rattle.std.proofs.Common.{List, [], ◌∷◌, refl, arith}
 use Rattle.yds_model.specs.Job.{Job}
 use Rattle.yds_model.specs.Scale.{of_whole}
 use Rattle.yds_model.specs.Slot.{WrittenSlot, IsScale}
@@ -10,9 +10,9 @@ use Rattle.yds_model.specs.Rounding.{IsEnergyOf}
 use Rattle.yds_model.specs.Comparison.{Spent, IsSpentAt, IsSpent}
 use Rattle.yds_model.proofs.Scale.{one_scale_of}
 use Rattle.yds_energy.proofs.SpentScale.{spent_kept}
-use Rattle.yds_examples.proofs.Decided.{scale_decided}
-use Rattle.yds_examples.proofs.DecidedSchedules.{feasible_by_test}
-use Rattle.yds_examples.proofs.DecidedRounding.{energy_by_test}
+use Rattle.yds_examples.proofs.Tests.{proved}
+use Rattle.yds_examples.proofs.TestedSchedules.{is_scale, feasible_by_test}
+use Rattle.yds_examples.proofs.TestedRounding.{energy_by_test}
 
 -- the job
 abbrev jobs : List Job
@@ -33,10 +33,10 @@ its_feasible = feasible_by_test jobs slots 1 refl refl
 
 -- and take 9 on the points.
 its_energy : IsEnergyOf jobs points slots (of_whole 9)
-its_energy = energy_by_test jobs points (3 ∷ 0 ∷ []) slots (of_whole 9) 1 refl refl
+its_energy = energy_by_test jobs points (3 ∷ 0 ∷ []) slots (of_whole 9) 1 refl (omega arith) refl refl
 
 its_scale : IsScale 1 slots
-its_scale = (scale_decided 1 slots).0 refl
+its_scale = proved (is_scale 1 slots) refl
 
 -- Run at one speed, the stretch would take 4: one time unit each at the speeds 1 and 2.
 abbrev even : Spent
