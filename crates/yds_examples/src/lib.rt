@@ -1,5 +1,6 @@
 //! Worked examples of the definitions: for each that has a premise, an existence or 'at each scale', something that meets it
 //! and a near miss that doesn't. They are proved in `proofs/`, and nothing stands on this crate.
+//! What computes is tried by a test, which `hlevel` puts together from the parts of the statement (`proofs/Tests.antt`).
 //!
 //! It stands on `yds_model`, whose definitions it tries, and on the crates of laws for those that the laws alone have.
 #![tactic(auto)]

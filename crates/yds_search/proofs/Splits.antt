@@ -62,7 +62,7 @@ module _ (jobs : List Job) (windows : List Window) (found : Found) (part : Part)
   abbrev stretch_in : ℕ → OwnStretch
   stretch_in p = get_or part.stretches p no_own_stretch
 
-  -- the fill's own units of a job in a stretch
+  -- the fill's own shares, by number
   abbrev own_shares : List Share
   own_shares = filled.own_shares jobs windows found part are waits group work_is length_is shares wants' rooms' fill
 
