@@ -88,3 +88,45 @@ pub const MAX_TASKS: usize = 4_000;
 
 /// The greatest length of a task's name, in bytes: a job's name is the task's, a dot and the job's number.
 pub const MAX_TASK_NAME: usize = 59;
+
+// What the limits are to each other: each line is proved, and the crates above count on it.
+
+// The slots of a plan, of a policy's run and of a rounded plan fit in a schedule; levels, pieces and members in a certificate.
+const _: () = prove!(5 * MAX_JOBS <= MAX_SLOTS);
+
+const _: () = prove!(MAX_JOBS <= MAX_LEVELS);
+
+const _: () = prove!(3 * MAX_JOBS <= MAX_PIECES);
+
+const _: () = prove!(MAX_JOBS <= MAX_MEMBERS);
+
+// The work of all jobs fits in one level, the longest time in its length, and a job's work in a slot.
+const _: () = prove!(MAX_JOBS as u64 * MAX_WORK as u64 <= MAX_LEVEL_WORK);
+
+const _: () = prove!(MAX_TIME as u64 <= MAX_LEVEL_LENGTH);
+
+const _: () = prove!(MAX_WORK as u64 <= MAX_SLOT_WORK);
+
+// The energy at the greatest power for the longest time, and the rounded event points of a policy's run.
+const _: () = prove!(MAX_TIME as u64 * MAX_POINT_POWER as u64 <= MAX_ENERGY);
+
+const _: () = prove!(2 * MAX_JOBS <= MAX_ROUNDED as usize);
+
+// A level's work, the ticks of a trace and the grid of a run beside the gaps are denominators, and works and energies are whole parts.
+const _: () = prove!(MAX_LEVEL_WORK <= MAX_DENOMINATOR);
+
+const _: () = prove!(MAX_TICKS as u64 <= MAX_DENOMINATOR);
+
+const _: () = prove!(MAX_GRID as u64 * MAX_GAPS <= MAX_DENOMINATOR);
+
+const _: () = prove!(MAX_SLOT_WORK <= MAX_WHOLE && MAX_ENERGY <= MAX_WHOLE);
+
+// A task's name, a dot and the number of one of its jobs are a job's name; a trial's jobs are a document's.
+const _: () = prove!(MAX_JOBS < 10_000 && MAX_TASK_NAME + 5 <= MAX_NAME);
+
+const _: () = prove!(MAX_TRIAL_JOBS as usize <= MAX_JOBS);
+
+// Two times are added in 32 bits, and an input is a text that a call takes.
+const _: () = prove!(MAX_TIME <= u32::MAX - MAX_TIME);
+
+const _: () = prove!(MAX_INPUT < MAX_BYTES);
