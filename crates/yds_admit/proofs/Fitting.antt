@@ -8,7 +8,7 @@ use Rattle.std.proofs.lemmas.List.FromFn.{get_or-range_with_len, length-range_wi
 use Rattle.std.proofs.Math.Nat.{mul-sub, mul-le-mul_left}
 use Rattle.yds_model.specs.Job.{Job, no_job, job_at}
 use Rattle.yds_model.specs.Policy.{numbers_of}
-use Rattle.yds_model.proofs.Sums.{sum_by_same}
+use Rattle.yds_model.proofs.Sums.{sum_by_same, sum_by-map}
 use Rattle.yds_laws.specs.AdmissionLaws.{HasRoom}
 use Rattle.yds_admit.specs.declared.board.Board.{Board}
 use Rattle.yds_admit.specs.declared.board.Spot.{Spot}
@@ -16,7 +16,6 @@ use Rattle.yds_admit.specs.Interval.{enclosed_work}
 use Rattle.yds_admit.specs.Chain.{IsFalling, AreTimes, due_work, IsChain, Takes}
 use Rattle.yds_admit.specs.Board.{IsSpot, IsBoard, AreMarked, if_marked}
 use Rattle.yds_admit.proofs.Between.{term}
-use Rattle.yds_laws.proofs.JobNumbers.{sum_by-map}
 use Rattle.yds_admit.proofs.Overfull.{jobs_work, any_of_all}
 use Rattle.yds_admit.proofs.Sweep.{reach, due_units, no_more, none_before, step_is, goes_through, last_with, work_of_front}
 

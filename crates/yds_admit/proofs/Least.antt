@@ -3,7 +3,6 @@ use Rattle.std.proofs.Common.{◌≡◌, ℕ, zero, suc, ◌+◌, ◌-◌, ◌*�
 use Rattle.std.specs.List.{All, Any, sum_by}
 use Rattle.std.specs.List.Sorted.{IsPermutation, IsNonDecreasing}
 use Rattle.std.proofs.lemmas.Bool.{cases_lt, cases_eq, le-leb, lt-leb, leb-true, leb-false, true≢false, eqb-true, eqb-false}
-use Rattle.yds_edf.proofs.Demand.{found_or_none}
 use Rattle.std.proofs.lemmas.List.{get_or_default, get_or-take, get_or-drop, get_or_append_left, get_or_push, length-take-le, length-drop, length_push}
 use Rattle.std.proofs.lemmas.List.Sums.{sum_by-take-drop, sum_by_push}
 use Rattle.std.proofs.lemmas.List.Sorted.{sum_by-IsPermutation}
@@ -11,6 +10,7 @@ use Rattle.std.proofs.Math.Nat.{mul-sub, mul-le-mul_left}
 use Rattle.yds_model.specs.Job.{Job, IsJob, no_job, job_at}
 use Rattle.yds_model.specs.Policy.{numbers_of}
 use Rattle.yds_model.proofs.Sums.{sum_by_same, sum_by_zero}
+use Rattle.yds_model.proofs.Filters.{found_or_none}
 use Rattle.yds_admit.specs.Interval.{enclosed_work, HasRoomFrom}
 use Rattle.yds_admit.specs.Chain.{due_work, HasRoomOver, IsLeastFrom, NoFrom}
 use Rattle.yds_admit.specs.Pieces.{went, ArePieces, AreDue, IsBehindIdle}

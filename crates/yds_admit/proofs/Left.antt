@@ -9,9 +9,9 @@ use Rattle.std.proofs.lemmas.List.Sorted.{sum_by-IsPermutation, length_permutati
 use Rattle.yds_model.specs.declared.limits.TheConstants.{MAX_JOBS, MAX_WORK}
 use Rattle.yds_model.specs.Job.{Job, IsJob, no_job, job_at}
 use Rattle.yds_model.specs.Policy.{numbers_of}
+use Rattle.yds_model.proofs.Sums.{sum_by-map}
+use Rattle.yds_model.proofs.Filters.{sum_by-filter}
 use Rattle.yds_laws.specs.AdmissionLaws.{HasRoom}
-use Rattle.yds_laws.proofs.JobNumbers.{sum_by-map}
-use Rattle.yds_laws.proofs.Served.{sum_by-filter}
 use Rattle.yds_admit.specs.declared.board.Board.{Board}
 use Rattle.yds_admit.specs.declared.board.Spot.{Spot}
 use Rattle.yds_admit.specs.declared.state.State.{State}

@@ -7,8 +7,9 @@ use Rattle.yds_model.specs.Job.{Job, job_at}
 use Rattle.yds_model.specs.Policy.{numbers_of}
 use Rattle.yds_model.specs.Admission.{jobs_with, confined_work, IsOverfull, IsFirstOverfull}
 use Rattle.yds_model.proofs.Lists.{Any-append_left}
+use Rattle.yds_model.proofs.Sums.{sum_by-map}
 use Rattle.yds_laws.specs.AdmissionLaws.{HasRoom}
-use Rattle.yds_laws.proofs.JobNumbers.{sum_by-map, all_jobs}
+use Rattle.yds_laws.proofs.JobNumbers.{all_jobs}
 use Rattle.yds_laws.proofs.Served.{confined_sum}
 use Rattle.yds_admit.specs.Interval.{enclosed_work}
 use Rattle.yds_admit.proofs.Between.{term}

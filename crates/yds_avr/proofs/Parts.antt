@@ -18,11 +18,10 @@ use Rattle.yds_model.specs.Event.{stretches}
 use Rattle.yds_model.specs.Policy.{div_up}
 use Rattle.yds_model.specs.AverageRate.{is_live, term_of, terms_of, rounds_term, average_rate_rounds}
 use Rattle.yds_model.specs.Comparison.{stretch_at}
+use Rattle.yds_model.proofs.Filters.{sum_by-filter, filter_none, filter_all}
 use Rattle.yds_events.specs.Stretch.{IsOutside}
 use Rattle.yds_events.proofs.Neighbours.{stretch_begins, stretch_next}
 use Rattle.yds_events.proofs.Times.{not_later}
-use Rattle.yds_edf.proofs.Numbers.{sum_filter}
-use Rattle.yds_timetable.proofs.Lists.{filter_none, filter_all}
 use Rattle.yds_avr.specs.declared.rate.Rate.{Rate}
 use Rattle.yds_avr.specs.Rate.{rate_of, rate_units, rate_term, rate_rounds, IsRate, IsLive}
 use Rattle.yds_avr.specs.Live.{no_rate, rate_at, rates_of, AreCome, AreOver, AreNotOver, HaveRisingReleases, ArePartsBefore}
@@ -155,9 +154,9 @@ any_filter p f (x ∷ xs) = elim (cases_Bool (p x)) [
 
 together_permuted : (rates order : List Rate) (stretch : Piece) → IsPermutation rates order → rates_together rates stretch ≡ rates_together order stretch
 together_permuted rates order stretch same =
-    sum_filter (rate_live stretch) (rate_term stretch) rates
+    sum_by-filter (rate_live stretch) (rate_term stretch) rates
     ∙ sym (sum_by-IsPermutation (λ rate. cond (rate_live stretch rate) (rate_term stretch rate) 0) rates order same)
-    ∙ sym (sum_filter (rate_live stretch) (rate_term stretch) order)
+    ∙ sym (sum_by-filter (rate_live stretch) (rate_term stretch) order)
 
 rounds_permuted : (rates order : List Rate) (stretch : Piece) → IsPermutation rates order → some_rounds rates stretch ≡ some_rounds order stretch
 rounds_permuted rates order stretch same =
@@ -189,9 +188,9 @@ live_terms grid stretch (job ∷ jobs) = omega (
 
 terms_same : (grid : ℕ) (stretch : Piece) (jobs : List Job) → rates_together (rates_of grid jobs) stretch ≡ terms_of jobs grid stretch
 terms_same grid stretch jobs =
-    sum_filter (rate_live stretch) (rate_term stretch) (rates_of grid jobs)
+    sum_by-filter (rate_live stretch) (rate_term stretch) (rates_of grid jobs)
     ∙ live_terms grid stretch jobs
-    ∙ sym (sum_filter (is_live stretch) (term_of grid stretch) jobs)
+    ∙ sym (sum_by-filter (is_live stretch) (term_of grid stretch) jobs)
 
 live_rounds : (grid : ℕ) (stretch : Piece) (jobs : List Job) →
     list_any (λ rate. rate_live stretch rate && rate_rounds stretch rate) (rates_of grid jobs) ≡ list_any (λ job. is_live stretch job && rounds_term grid stretch job) jobs
@@ -228,15 +227,6 @@ coming_later order arrived stretch rising next place most within =
     omega (arith, next (omega arith), rising arrived place (omega arith) most within)
 
 -- # A stretch's step
-
--- those that had arrived before, and those that arrive now
-pub come_now : (jobs : List Job) (grid : ℕ) (order : List Rate) (over before arrived number : ℕ) (stretch : Piece) → ArePartsBefore jobs grid order over before number →
-    number < length (stretches jobs) → stretch ≡ stretch_at jobs number → ((place : ℕ) → before ≤ place → place < arrived → (rate_at order place).release ≤ stretch.from) →
-    AreCome order arrived stretch.from
-come_now jobs grid order over before arrived number stretch kept known nth more place less = elim (cases_lt place before) [
-  | inl earlier ↦ omega (arith, kept.come number (omega arith) known place earlier, ap (λ (piece : Piece). piece.from) nth)
-  | inr later ↦ more place later less
-]
 
 -- what the policy holds once those that have come have arrived, and those that are due have gone to the front
 pub record IsStep (jobs : List Job) (grid : ℕ) (old order : List Rate) (over_before arrived_before over arrived number : ℕ) (stretch : Piece) : Type 0 where

@@ -8,7 +8,7 @@ use Rattle.yds_model.specs.Policy.{div_up}
 use Rattle.yds_model.specs.Piece.{Piece}
 use Rattle.yds_avr.specs.declared.rate.Rate.{Rate}
 use Rattle.yds_events.specs.Stretch.{length_of}
-use Rattle.yds_avr.specs.Rate.{window_of, rate_units, rate_term, rate_rounds, IsRate, IsLive}
+use Rattle.yds_avr.specs.Rate.{window_length, rate_units, rate_term, rate_rounds, IsRate, IsLive}
 use Rattle.yds_edf.proofs.Quotients.{up_enough, up_most}
 
 module _ (rest length window fraction : ℕ) (some : 1 ≤ window) (in_range : window ≤ 1000000000) (short : length ≤ window)
@@ -79,48 +79,48 @@ rest_none x y some = elim (cases_eq (x % y) 0) [
 
 -- # What the code computes
 
-module _ (rate : Rate) (is : IsRate rate) (length : ℕ) (within : length ≤ window_of rate) where
-  some_window : 1 ≤ window_of rate
+module _ (rate : Rate) (is : IsRate rate) (length : ℕ) (within : length ≤ window_length rate) where
+  some_window : 1 ≤ window_length rate
   some_window = omega (arith, is.has_window)
 
   -- a rest of the job's units
   pub rest_told : (fraction other : ℕ) → fraction ≡ rate.fraction → other ≡ length →
-      (fraction * other + 18446744073709551615) / 18446744073709551616 ≡ div_up (rate.rest * length) (window_of rate)
+      (fraction * other + 18446744073709551615) / 18446744073709551616 ≡ div_up (rate.rest * length) (window_length rate)
   rest_told fraction other fraction_is other_is =
       ap (λ n. (n * other + 18446744073709551615) / 18446744073709551616) fraction_is
       ∙ ap (λ n. (rate.fraction * n + 18446744073709551615) / 18446744073709551616) other_is
-      ∙ product_up rate.rest length (window_of rate) rate.fraction some_window (omega (arith, is.time_in_range)) within is.fraction_is
+      ∙ product_up rate.rest length (window_length rate) rate.fraction some_window (omega (arith, is.time_in_range)) within is.fraction_is
 
-  pub rest_few : div_up (rate.rest * length) (window_of rate) ≤ rate.rest
-  rest_few = up_most (rate.rest * length) (window_of rate) rate.rest some_window (mul-le-mul_left rate.rest within)
+  pub rest_few : div_up (rate.rest * length) (window_length rate) ≤ rate.rest
+  rest_few = up_most (rate.rest * length) (window_length rate) rate.rest some_window (mul-le-mul_left rate.rest within)
 
-  pub rest_rounds : (rest window : ℕ) → rest ≡ div_up (rate.rest * length) (window_of rate) → window ≡ window_of rate →
-      not (rest * window == rate.rest * length) ≡ not (rate.rest * length % window_of rate == 0)
+  pub rest_rounds : (rest window : ℕ) → rest ≡ div_up (rate.rest * length) (window_length rate) → window ≡ window_length rate →
+      not (rest * window == rate.rest * length) ≡ not (rate.rest * length % window_length rate == 0)
   rest_rounds rest window rest_is window_is =
       ap (λ n. not (n * window == rate.rest * length)) rest_is
-      ∙ ap (λ n. not (div_up (rate.rest * length) (window_of rate) * n == rate.rest * length)) window_is
-      ∙ ap not (rest_none (rate.rest * length) (window_of rate) some_window)
+      ∙ ap (λ n. not (div_up (rate.rest * length) (window_length rate) * n == rate.rest * length)) window_is
+      ∙ ap not (rest_none (rate.rest * length) (window_length rate) some_window)
 
 -- # A live job's part
 
 module _ (stretch : Piece) (rate : Rate) (live : IsLive stretch rate) where
-  pub part_long : length_of stretch ≤ window_of rate
+  pub part_long : length_of stretch ≤ window_length rate
   part_long = omega (arith, live.released, live.due)
 
-  pub part_apart : rate_term stretch rate ≡ rate.whole * length_of stretch + div_up (rate.rest * length_of stretch) (window_of rate)
-  part_apart = whole_apart rate.whole rate.rest (length_of stretch) (window_of rate) (omega (arith, live.is_rate.has_window))
+  pub part_apart : rate_term stretch rate ≡ rate.whole * length_of stretch + div_up (rate.rest * length_of stretch) (window_length rate)
+  part_apart = whole_apart rate.whole rate.rest (length_of stretch) (window_length rate) (omega (arith, live.is_rate.has_window))
 
   pub part_few : rate_term stretch rate ≤ 1000000000000
   part_few = omega (
     arith,
-    up_most (rate_units rate * length_of stretch) (window_of rate) (rate_units rate) (omega (arith, live.is_rate.has_window)) (mul-le-mul_left (rate_units rate) part_long),
+    up_most (rate_units rate * length_of stretch) (window_length rate) (rate_units rate) (omega (arith, live.is_rate.has_window)) (mul-le-mul_left (rate_units rate) part_long),
     live.is_rate.few,
   )
 
   pub whole_few : rate.whole ≤ 1000000000000
-  whole_few = omega (arith, mul-le-mul_left rate.whole (let some : 1 ≤ window_of rate = omega (arith, live.is_rate.has_window) in some), live.is_rate.few)
+  whole_few = omega (arith, mul-le-mul_left rate.whole (let some : 1 ≤ window_length rate = omega (arith, live.is_rate.has_window) in some), live.is_rate.few)
 
-  pub part_rounds : rate_rounds stretch rate ≡ not (rate.rest * length_of stretch % window_of rate == 0)
+  pub part_rounds : rate_rounds stretch rate ≡ not (rate.rest * length_of stretch % window_length rate == 0)
   part_rounds =
-      let apart : (rate.whole * window_of rate + rate.rest) * length_of stretch ≡ (rate.whole * length_of stretch) * window_of rate + rate.rest * length_of stretch = omega arith in
-      ap (λ n. not (n == 0)) (ap (λ n. n % window_of rate) apart ∙ mul-add-mod_self_right (rate.whole * length_of stretch) (window_of rate) (rate.rest * length_of stretch))
+      let apart : (rate.whole * window_length rate + rate.rest) * length_of stretch ≡ (rate.whole * length_of stretch) * window_length rate + rate.rest * length_of stretch = omega arith in
+      ap (λ n. not (n == 0)) (ap (λ n. n % window_length rate) apart ∙ mul-add-mod_self_right (rate.whole * length_of stretch) (window_length rate) (rate.rest * length_of stretch))

@@ -12,6 +12,7 @@ use Rattle.yds_model.specs.Event.{event_points, stretches}
 use Rattle.yds_model.specs.AverageRate.{is_live, term_numerator, term_of, terms_of, average_rate_rounds, IsAverageRateRun}
 use Rattle.yds_model.specs.Slot.{WrittenSlot}
 use Rattle.yds_model.specs.Comparison.{stretch_at}
+use Rattle.yds_model.proofs.Filters.{sum_by-filter}
 use Rattle.yds_events.specs.Stretch.{no_stretch, length_of, IsOutside}
 use Rattle.yds_events.proofs.Times.{not_later, deadline_at, release_at}
 use Rattle.yds_events.proofs.Neighbours.{count_stretches, stretch_begins, stretch_ends, stretch_forward, release_outside, deadline_outside}
@@ -21,7 +22,7 @@ use Rattle.yds_edf.specs.Run.{IsPolicyRun}
 use Rattle.yds_edf.proofs.Capped.{set_run}
 use Rattle.yds_edf.proofs.Quotients.{up_enough}
 use Rattle.yds_edf.proofs.Sums.{sum_below_same, sum_below_at_most, sum_below_zero}
-use Rattle.yds_edf.proofs.Numbers.{sum_places, sum_filter, sum_below_swap, sum_below-mul}
+use Rattle.yds_edf.proofs.Numbers.{sum_places, sum_below_swap, sum_below-mul}
 
 -- # The lengths of the stretches in a window
 
@@ -106,7 +107,7 @@ module _ (jobs : List Job) (j : ℕ) (known : j < length jobs) (is : IsJob (job_
 terms_numbered : (jobs : List Job) (grid : ℕ) (stretch : Piece) →
     terms_of jobs grid stretch ≡ sum_below (length jobs) (λ j. cond (is_live stretch (job_at jobs j)) (term_of grid stretch (job_at jobs j)) 0)
 terms_numbered jobs grid stretch =
-    sum_filter (is_live stretch) (term_of grid stretch) jobs
+    sum_by-filter (is_live stretch) (term_of grid stretch) jobs
     ∙ sum_places (λ job. cond (is_live stretch job) (term_of grid stretch job) 0) jobs no_job
 
 -- what is live at its start begins no earlier and is due later

@@ -8,9 +8,9 @@ use Rattle.yds_model.specs.Piece.{Piece}
 use Rattle.yds_model.specs.Policy.{div_up}
 use Rattle.yds_events.specs.Stretch.{length_of}
 use Rattle.yds_avr.specs.declared.rate.Rate.{Rate}
-use Rattle.yds_avr.specs.Rate.{window_of, rate_term, rate_rounds, IsLive}
+use Rattle.yds_avr.specs.Rate.{window_length, rate_term, rate_rounds, IsLive}
 use Rattle.yds_avr.specs.Live.{no_rate}
-use Rattle.yds_avr.proofs.Rounded.{part_apart, part_few, part_long, part_rounds, whole_few}
+use Rattle.yds_avr.proofs.Rounded.{part_apart, part_few, part_rounds, whole_few}
 
 module _ (stretch : Piece) (live : List Rate) (are : All (IsLive stretch) live) (i : ℕ) (within : i < length live) where
   abbrev this : Rate
@@ -19,15 +19,12 @@ module _ (stretch : Piece) (live : List Rate) (are : All (IsLive stretch) live) 
   pub this_one : IsLive stretch this
   this_one = are i no_rate within
 
-  pub this_long : length_of stretch ≤ window_of this
-  this_long = part_long stretch this this_one
-
   pub this_few : this.whole ≤ 1000000000000
   this_few = whole_few stretch this this_one
 
   -- one part more
   pub sum_next : (length whole more rest : ℕ) → length ≡ length_of stretch → whole * length + more ≡ sum_by (rate_term stretch) (take i live) →
-      rest ≡ div_up (this.rest * length) (window_of this) →
+      rest ≡ div_up (this.rest * length) (window_length this) →
       (whole + this.whole) * length + (more + rest) ≡ sum_by (rate_term stretch) (take (i + 1) live)
   sum_next length whole more rest long sum rest_is = omega (
     arith,
@@ -35,7 +32,7 @@ module _ (stretch : Piece) (live : List Rate) (are : All (IsLive stretch) live) 
     part_apart stretch this this_one,
     sum,
     rest_is,
-    ap (λ n. div_up (this.rest * n) (window_of this)) long,
+    ap (λ n. div_up (this.rest * n) (window_length this)) long,
     ap (λ n. this.whole * n) long,
   )
 
@@ -43,16 +40,16 @@ module _ (stretch : Piece) (live : List Rate) (are : All (IsLive stretch) live) 
   few_next few = omega (arith, sum_by_more (rate_term stretch) live i no_rate within, part_few stretch this this_one, few)
 
   -- whether it is whole
-  rounds_this : (length : ℕ) → length ≡ length_of stretch → not (this.rest * length % window_of this == 0) ≡ rate_rounds stretch this
-  rounds_this length long = ap (λ n. not (this.rest * n % window_of this == 0)) long ∙ sym (part_rounds stretch this this_one)
+  rounds_this : (length : ℕ) → length ≡ length_of stretch → not (this.rest * length % window_length this == 0) ≡ rate_rounds stretch this
+  rounds_this length long = ap (λ n. not (this.rest * n % window_length this == 0)) long ∙ sym (part_rounds stretch this this_one)
 
   pub whole_next : (length : ℕ) → length ≡ length_of stretch → list_any (rate_rounds stretch) (take i live) ≡ false →
-      not (this.rest * length % window_of this == 0) ≡ false → list_any (rate_rounds stretch) (take (i + 1) live) ≡ false
+      not (this.rest * length % window_length this == 0) ≡ false → list_any (rate_rounds stretch) (take (i + 1) live) ≡ false
   whole_next length long none whole =
       list_any_more (rate_rounds stretch) live i no_rate within
       ∙ ap (λ b. b || rate_rounds stretch this) none
       ∙ sym (rounds_this length long)
       ∙ whole
 
-  pub rounds_here : (length : ℕ) → length ≡ length_of stretch → not (this.rest * length % window_of this == 0) ≡ true → list_any (rate_rounds stretch) live ≡ true
+  pub rounds_here : (length : ℕ) → length ≡ length_of stretch → not (this.rest * length % window_length this == 0) ≡ true → list_any (rate_rounds stretch) live ≡ true
   rounds_here length long rounds = list_any_at (rate_rounds stretch) live i no_rate within (sym (rounds_this length long) ∙ rounds)

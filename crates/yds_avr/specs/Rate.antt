@@ -6,12 +6,13 @@ use Rattle.yds_model.specs.Piece.{Piece}
 use Rattle.yds_model.specs.Policy.{div_up}
 use Rattle.yds_avr.specs.declared.rate.Rate.{Rate}
 
-abbrev pub window_of : Rate → ℕ
-window_of rate = rate.deadline - rate.release
+-- how long the window is, in time units
+abbrev pub window_length : Rate → ℕ
+window_length rate = rate.deadline - rate.release
 
 -- the job's units
 abbrev pub rate_units : Rate → ℕ
-rate_units rate = rate.whole * window_of rate + rate.rest
+rate_units rate = rate.whole * window_length rate + rate.rest
 
 -- a rest by the window's length, in parts of a unit of which there are 2^64
 abbrev pub rest_by_window : ℕ → ℕ → ℕ
@@ -29,8 +30,8 @@ rate_of grid job = record {
 pub record IsRate (rate : Rate) : Type 0 where
   pub has_window : rate.release < rate.deadline
   pub time_in_range : rate.deadline ≤ MAX_TIME
-  pub less : rate.rest < window_of rate
-  pub fraction_is : rate.fraction ≡ rest_by_window rate.rest (window_of rate)
+  pub less : rate.rest < window_length rate
+  pub fraction_is : rate.fraction ≡ rest_by_window rate.rest (window_length rate)
   pub few : rate_units rate ≤ 1000000000000
 
 -- the stretch lies in the job's window
@@ -41,7 +42,7 @@ pub record IsLive (stretch : Piece) (rate : Rate) : Type 0 where
 
 -- the job's units in the stretch, rounded up, and whether they weren't whole
 abbrev pub rate_term : Piece → Rate → ℕ
-rate_term stretch rate = div_up (rate_units rate * (stretch.to - stretch.from)) (window_of rate)
+rate_term stretch rate = div_up (rate_units rate * (stretch.to - stretch.from)) (window_length rate)
 
 abbrev pub rate_rounds : Piece → Rate → Bool
-rate_rounds stretch rate = not (rate_units rate * (stretch.to - stretch.from) % window_of rate == 0)
+rate_rounds stretch rate = not (rate_units rate * (stretch.to - stretch.from) % window_length rate == 0)

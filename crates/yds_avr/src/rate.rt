@@ -1,6 +1,6 @@
 ghost use Rattle.std.specs.Prelude.{◌≡◌, ◌≤◌, ◌*◌, ◌%◌, ◌==◌, not};
 ghost use Rattle.yds_model.specs.Policy.{div_up};
-ghost use Rattle.yds_avr.specs.Rate.{rate_of, window_of, IsRate};
+ghost use Rattle.yds_avr.specs.Rate.{rate_of, window_length, IsRate};
 
 use yds_model::JobRow;
 use yds_model::limits::MAX_GRID;
@@ -42,8 +42,8 @@ pub(crate) fn rate_of(row: &JobRow, grid: u32) -> Rate
 /// place of a quotient.
 pub(crate) fn rest_of(rate: &Rate, length: u64) -> u64
     requires rate { IsRate rate.now }
-    requires within { length ≤ window_of rate.now }
-    ensures rounded_up { result ≡ div_up (rate.now.rest * length) (window_of rate.now) }
+    requires within { length ≤ window_length rate.now }
+    ensures rounded_up { result ≡ div_up (rate.now.rest * length) (window_length rate.now) }
     ensures few { result ≤ rate.now.rest }
 {
     let parts = u128::from(rate.fraction) * u128::from(length);
@@ -53,8 +53,8 @@ pub(crate) fn rest_of(rate: &Rate, length: u64) -> u64
 /// Whether that wasn't whole before it was rounded up.
 pub(crate) fn rounds(rate: &Rate, length: u64) -> bool
     requires rate { IsRate rate.now }
-    requires within { length ≤ window_of rate.now }
-    ensures { result ≡ not (rate.now.rest * length % window_of rate.now == 0) }
+    requires within { length ≤ window_length rate.now }
+    ensures { result ≡ not (rate.now.rest * length % window_length rate.now == 0) }
 {
     let window = u64::from(rate.deadline - rate.release);
     rest_of(rate, length) * window != rate.rest * length

@@ -9,9 +9,8 @@ use Rattle.yds_model.specs.Piece.{Piece, IsForward, AreApart}
 use Rattle.yds_model.specs.Level.{Level, no_level, level_at, all_pieces}
 use Rattle.yds_model.specs.Proper.{PiecesStand}
 use Rattle.yds_model.specs.Numbers.{IsFirstFailure}
-use Rattle.yds_model.proofs.Lists.{flat_map-take}
+use Rattle.yds_model.proofs.Lists.{flat_map-take, All-flat}
 use Rattle.yds_model.proofs.Front.{pieces_forward}
-use Rattle.yds_laws.proofs.Lists.{All-flat}
 use Rattle.yds_checker.specs.declared.placed.Placed.{Placed}
 use Rattle.yds_checker.specs.Placed.{has_unit, covering, ArePlaced, AreByStart, AreApartBelow}
 use Rattle.yds_checker.specs.Standing.{IsOrdered, AreInRun}

@@ -1,15 +1,15 @@
 -- What loads spend is what slots spend at a scale, where they take as long at each point.
-use Rattle.std.proofs.Common.{◌≡◌, ℕ, ◌*◌, ◌≤◌, List, get_or, sym, ap, ◌∙◌}
+use Rattle.std.proofs.Common.{◌≡◌, ℕ, ◌*◌, ◌≤◌, List, map, get_or, sym, ap, ◌∙◌}
+use Rattle.std.proofs.Math.Path.{fun_ext}
 use Rattle.yds_model.specs.Job.{Job}
 use Rattle.yds_model.specs.Slot.{WholeSlot}
 use Rattle.yds_model.specs.Table.{Point}
-use Rattle.yds_model.specs.Comparison.{Spent, IsSpentAt, all_time_at, all_energy, in_parts}
+use Rattle.yds_model.specs.Comparison.{Spent, IsSpentAt, all_time_at, all_energy}
 use Rattle.yds_model.proofs.Scale.{shifted}
 use Rattle.yds_model.proofs.Sums.{sum_by-mul, sum_by_same}
-use Rattle.yds_energy.proofs.RunScale.{map_agree}
+use Rattle.yds_energy.proofs.SpentScale.{parts_same}
 use Rattle.yds_compare.specs.declared.load.Load.{Load}
 use Rattle.yds_compare.specs.Spent.{time_of_loads, energy_of_loads, IsSpentOn}
-use Rattle.yds_compare.proofs.Proportion.{parts_same}
 
 -- loads of which `unit` parts make a unit take as long at each point as the slots at the scale
 abbrev pub TakeAsLong : List Job → List Point → ℕ → List Load → ℕ → List WholeSlot → Type 0
@@ -30,6 +30,6 @@ spent_at jobs points unit loads scale slots spent some some_unit long is =
     ∙ sum_by-mul scale there points in
     record {
       energy = is.energy ∙ sym (parts_same points scale unit (all_energy jobs points scale slots) (energy_of_loads points loads) some some_unit wide energy);
-      times = is.times ∙ map_agree (λ point. in_parts points unit (time_of_loads points loads point.speed)) (λ point. in_parts points scale (all_time_at jobs points scale slots point.speed))
-          (λ point. sym (parts_same points scale unit (all_time_at jobs points scale slots point.speed) (time_of_loads points loads point.speed) some some_unit wide (long point.speed))) points;
+      times = is.times ∙ ap (λ f. map f points) (fun_ext (λ point.
+          sym (parts_same points scale unit (all_time_at jobs points scale slots point.speed) (time_of_loads points loads point.speed) some some_unit wide (long point.speed))));
     }

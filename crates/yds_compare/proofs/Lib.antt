@@ -1,7 +1,6 @@
 pub mod Points
 pub mod Loads
 pub mod Spending
-pub mod Proportion
 pub mod Agreeing
 pub mod Runs
 pub mod Planned

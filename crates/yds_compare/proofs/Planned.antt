@@ -1,41 +1,37 @@
 -- What a plan's slots take at each point, stretch by stretch, is what its levels take, and the time outside them.
-use Rattle.std.proofs.Common.{◌≡◌, ℕ, ◌+◌, ◌-◌, ◌*◌, ◌<◌, ◌≤◌, ◌==◌, Bool, true, false, List, [], ◌∷◌, length, map, get_or, refl, sym, ap, ap₂, ◌∙◌, arith, inl, inr}
+use Rattle.std.proofs.Common.{◌≡◌, ℕ, ◌+◌, ◌-◌, ◌*◌, ◌<◌, ◌≤◌, ◌==◌, Bool, true, false, List, [], ◌∷◌, length, map, get_or, refl, sym, ap, ap₂, subst, ◌∙◌, arith, inl, inr}
 use Rattle.std.specs.Prelude.{sum_by, if◌then◌else◌}
-use Rattle.std.specs.List.{All, flat_map}
+use Rattle.std.specs.List.{All, Contains}
 use Rattle.std.proofs.lemmas.List.{length-map, get_or-map}
-use Rattle.std.proofs.lemmas.List.Elements.{All-nil, All-cons, All-append, All-tail, All-filter, All-map, All-from_get_or, Contains-get_or}
+use Rattle.std.proofs.lemmas.List.Elements.{All-nil, All-cons, All-append, All-tail, All-filter, All-map, All-from_get_or}
 use Rattle.std.proofs.lemmas.List.Sums.{sum_by-cons, sum_by-append, sum-map}
 use Rattle.std.proofs.lemmas.Bool.{cases_lt}
-use Rattle.std.proofs.Math.Nat.{mul-pos, div-mul_cancel, eq_of_mul-eq-mul_left, eq_of_mul-eq-mul_right, le_of_mul-le-mul_left}
+use Rattle.std.proofs.Math.Nat.{mul-pos, eq_of_mul-eq-mul_left, eq_of_mul-eq-mul_right, le_of_mul-le-mul_left}
 use Rattle.yds_model.specs.Job.{Job}
-use Rattle.yds_model.specs.Slot.{WrittenSlot, WholeSlot, IsScale, IsDivided, slot_at_scale, slots_at}
+use Rattle.yds_model.specs.Slot.{WrittenSlot, WholeSlot, IsScale, slots_at}
 use Rattle.yds_model.specs.Piece.{Piece}
 use Rattle.yds_model.specs.Level.{Level, no_level, level_at}
-use Rattle.yds_model.specs.Divisor.{common_divisor}
-use Rattle.yds_model.specs.Plan.{IsPlan, speed_num, speed_den}
+use Rattle.yds_model.specs.Plan.{IsPlan}
 use Rattle.yds_model.specs.Table.{Point, point_at, AreRising, hull_of, hull_multiple}
 use Rattle.yds_model.specs.Rounding.{top_of, IsTooFast}
 use Rattle.yds_model.specs.Energy.{busy}
 use Rattle.yds_model.specs.Event.{stretches}
-use Rattle.yds_model.specs.Comparison.{work_in, time_at, all_time_at, stretch_at}
-use Rattle.yds_model.proofs.Divisor.{divisor_is_greatest}
-use Rattle.yds_model.proofs.Sums.{sum_by_same}
+use Rattle.yds_model.specs.Policy.{slots_in}
+use Rattle.yds_model.specs.Comparison.{time_at, all_time_at, stretch_at}
+use Rattle.yds_model.proofs.Runs.{run_forward}
+use Rattle.yds_model.proofs.Sums.{sum_by-map}
 use Rattle.yds_events.specs.Stretch.{length_of}
-use Rattle.yds_slots.specs.Between.{lies_between}
-use Rattle.yds_search.proofs.KeySums.{sum_by-map, sum_by-flat_map}
+use Rattle.yds_events.proofs.Neighbours.{stretches_run, stretch_forward}
 use Rattle.yds_energy.proofs.LevelTimes.{levels_long, plan_busy}
-use Rattle.yds_energy.proofs.PlanParts.{HasSpeeds, plan_part}
-use Rattle.yds_round.specs.Written.{units_of_slots}
-use Rattle.yds_round.specs.Rounded.{planned_in}
-use Rattle.yds_round.proofs.Held.{back_at, whole, known, forward, held}
+use Rattle.yds_energy.proofs.PlanParts.{level_found}
 use Rattle.yds_compare.specs.declared.load.Load.{Load}
 use Rattle.yds_compare.specs.Load.{level_load, level_loads, IsHeldAt}
 use Rattle.yds_compare.specs.Spent.{time_of_loads}
 use Rattle.yds_energy.proofs.SpentScale.{time_scaled}
-use Rattle.yds_compare.proofs.Runs.{slots_in_stretch, units_sum}
-use Rattle.yds_energy.proofs.EvenStretches.{some_or_none}
+use Rattle.yds_energy.proofs.EvenStretches.{some_or_none, of_level}
+use Rattle.yds_energy.proofs.StretchSlots.{lies, sum_in_stretches}
 use Rattle.yds_energy.proofs.PointTimes.{idle_time}
-use Rattle.yds_energy.proofs.RoundedRuns.{rate_together}
+use Rattle.yds_energy.proofs.RoundedRuns.{HasRate, rate_together}
 use Rattle.yds_energy.proofs.LevelsEnergy.{all_lengths, lengths_positive, rate, rate_member, rates_together, level_rates}
 
 -- the time in which nothing is done is proportional to all of it
@@ -69,7 +65,7 @@ module _ (jobs : List Job) (planned : List WrittenSlot) (levels : List Level) (p
   slot_cost slot = rate levels costs slot.job * (slot.to - slot.from)
 
   abbrev here : Piece → List WholeSlot
-  here stretch = slots_at scale (planned_in planned stretch)
+  here stretch = slots_in scale stretch (slots_at scale planned)
 
   abbrev long : Piece → ℕ
   long stretch = (stretch.to - stretch.from) * scale
@@ -88,10 +84,9 @@ module _ (jobs : List Job) (planned : List WrittenSlot) (levels : List Level) (p
       omega (arith, same, ap (λ n. all * idle * n) full)
 
   taken_at : (k : ℕ) → k < length (stretches jobs) → IsTaken (stretch_at jobs k)
-  taken_at k within = elim (some_or_none (planned_in planned (stretch_at jobs k))) [
-    | inl none ↦
+  taken_at k within = elim (some_or_none (here (stretch_at jobs k))) [
+    | inl empty ↦
         let stretch = stretch_at jobs k in
-        let empty : here stretch ≡ [] = ap (slots_at scale) none in
         let no_work : sum_by (λ slot. slot.work) (here stretch) ≡ 0 = ap (λ (xs : List WholeSlot). sum_by (λ slot. slot.work) xs) empty in
         let no_time : busy (here stretch) ≡ 0 = ap (λ (xs : List WholeSlot). busy xs) empty in
         let no_cost : sum_by slot_cost (here stretch) ≡ 0 = ap (λ (xs : List WholeSlot). sum_by slot_cost xs) empty in
@@ -107,45 +102,32 @@ module _ (jobs : List Job) (planned : List WrittenSlot) (levels : List Level) (p
         }
     | inr some ↦
         let stretch = stretch_at jobs k in
-        let h = held jobs planned levels plan scale is k within some in
-        let level = level_at levels h.place in
-        let positive = plan.proper.well_formed.positive h.place no_level h.within in
-        let test = lies_between stretch.from stretch.to in
+        let of = of_level jobs planned levels scale k plan is within some in
+        let place : ℕ = of.has.0 in
+        let level = level_at levels place in
+        let found = level_found levels of.level of.has in
+        let positive = plan.proper.well_formed.positive place no_level of.has.1 in
         let time = long stretch in
-        let some_time : 1 ≤ time = mul-pos (let ahead = forward jobs planned levels plan scale is k within in omega (arith, ahead)) is.positive in
-        let written_speeds = All-filter test (λ slot. HasSpeeds levels (slot_at_scale scale slot)) planned
-        (back_at (HasSpeeds levels) scale planned (plan_part jobs planned levels scale plan is).speeds) in
-        let speeds : All (λ slot. slot.work * level.length ≡ level.work * (slot.to - slot.from)) (here stretch) =
-        All-map (λ slot. slot.work * level.length ≡ level.work * (slot.to - slot.from)) (slot_at_scale scale) (planned_in planned stretch)
-        (λ i d inside. written_speeds i d inside level (Contains-get_or levels h.place no_level h.within) (h.members i d inside)) in
+        let some_time : 1 ≤ time = mul-pos (let ahead = stretch_forward jobs k within in omega (arith, ahead)) is.positive in
+        let speeds : All (HasRate level.work level.length) (here stretch) =
+        subst (λ (l : Level). All (HasRate l.work l.length) (here stretch)) (sym found) of.rates in
+        let members : All (λ slot. Contains level.members slot.job) (here stretch) =
+        subst (λ (l : Level). All (λ (slot : WholeSlot). Contains l.members slot.job) (here stretch)) (sym found) of.members in
+        let full : busy (here stretch) ≡ time = of.full.full in
         let work : ℕ = sum_by (λ slot. slot.work) (here stretch) in
-        let by_speed : work * level.length ≡ level.work * busy (here stretch) = rate_together level.work level.length (here stretch) speeds in
-        let by_units : work * speed_den level ≡ units_of_slots (speed_den level) (planned_in planned stretch) * scale =
-        units_sum (speed_den level) scale (planned_in planned stretch) (λ i d inside. (h.denominators i d inside).work) (All-filter test (IsDivided scale) planned is.divided) in
-        let divisor = common_divisor level.work level.length in
-        let gcd = divisor_is_greatest level.work level.length in
-        let of_work : speed_num level * divisor ≡ level.work = div-mul_cancel divisor gcd.0 in
-        let of_length : speed_den level * divisor ≡ level.length = div-mul_cancel divisor gcd.1 in
-        let all_work : work * level.length ≡ level.work * time = omega (
-          arith,
-          ap (λ n. n * divisor) by_units,
-          ap (λ n. n * scale * divisor) h.units,
-          ap (λ n. work * n) of_length,
-          ap (λ n. n * time) of_work,
-        ) in
-        let full : busy (here stretch) ≡ time = eq_of_mul-eq-mul_left level.work positive.0 (busy (here stretch)) time (omega (arith, by_speed, all_work)) in
+        let all_work : work * level.length ≡ level.work * time =
+        rate_together level.work level.length (here stretch) speeds ∙ ap (λ n. level.work * n) full in
         let is_time : level.length * at time work ≡ time * cost level =
         sym (time_scaled level.length positive.1 (hull_multiple points) time work (hull_of points) speed)
         ∙ ap₂ at (let same : level.length * time ≡ time * level.length = omega arith in same) (let same : level.length * work ≡ time * level.work = omega (arith, all_work) in same)
         ∙ time_scaled time some_time (hull_multiple points) level.length level.work (hull_of points) speed in
-        let known_here = All-filter test (λ slot. slot.job < length jobs) planned (known jobs planned levels plan scale is) in
-        let rates : All (λ slot. rate levels costs slot.job * level.length ≡ all_lengths levels * cost level) (here stretch) =
-        All-map (λ slot. rate levels costs slot.job * level.length ≡ all_lengths levels * cost level) (slot_at_scale scale) (planned_in planned stretch)
-        (λ i d inside.
-        let slot = get_or (planned_in planned stretch) i d in
-        rate_member levels costs h.place slot.job (sym (length-map levels cost)) h.within (h.members i d inside)
-        (plan.proper.members slot.job (known_here i d inside)).at_most_once
-        ∙ ap (λ n. all_lengths levels * n) (get_or-map cost levels h.place no_level 0 h.within)) in
+        let known : All (λ slot. slot.job < length jobs) (here stretch) = All-filter (lies scale stretch) (λ slot. slot.job < length jobs) (slots_at scale planned)
+        (λ i d inside. ((plan.proper.feasible.holds scale is).in_windows i d inside).known) in
+        let rates : All (λ slot. rate levels costs slot.job * level.length ≡ all_lengths levels * cost level) (here stretch) = λ i d inside.
+        let slot = get_or (here stretch) i d in
+        rate_member levels costs place slot.job (sym (length-map levels cost)) of.has.1 (members i d inside)
+        (plan.proper.members slot.job (known i d inside)).at_most_once
+        ∙ ap (λ n. all_lengths levels * n) (get_or-map cost levels place no_level 0 of.has.1) in
         record {
           taken = full_taken (all_lengths levels) (at time work) level.length time (busy (here stretch)) (cost level) (sum_by slot_cost (here stretch)) idle_part positive.1 is_time full
               (omega (arith, level_rates levels costs level.length (all_lengths levels * cost level) (here stretch) rates));
@@ -156,11 +138,8 @@ module _ (jobs : List Job) (planned : List WrittenSlot) (levels : List Level) (p
   -- the slots of all stretches
   by_stretches : (f : WholeSlot → ℕ) → sum_by f (slots_at scale planned) ≡ sum_by (λ stretch. sum_by f (here stretch)) (stretches jobs)
   by_stretches f =
-      ap (λ (slots : List WrittenSlot). sum_by f (slots_at scale slots)) (whole jobs planned levels plan scale is)
-      ∙ sum_by-map (slot_at_scale scale) f (flat_map (planned_in planned) (stretches jobs))
-      ∙ sum_by-flat_map (planned_in planned) (λ slot. f (slot_at_scale scale slot)) (stretches jobs)
-      ∙ sum_by_same (λ stretch. sum_by (λ slot. f (slot_at_scale scale slot)) (planned_in planned stretch)) (λ stretch. sum_by f (here stretch)) (stretches jobs)
-      (λ i d within. sym (sum_by-map (slot_at_scale scale) f (planned_in planned (get_or (stretches jobs) i d))))
+      let slots = slots_at scale planned in
+      sym (sum_in_stretches f scale 0 (stretches jobs) slots (stretches_run jobs) (run_forward 0 slots (plan.proper.feasible.holds scale is).one_at_a_time) (plan.served scale is).uncut)
 
   all_taken : All IsTaken (stretches jobs)
   all_taken = All-from_get_or IsTaken (stretches jobs) (record { from = 0; to = 0 }) taken_at
@@ -210,18 +189,11 @@ module _ (jobs : List Job) (planned : List WrittenSlot) (levels : List Level) (p
       eq_of_mul-eq-mul_left all some (times + idle * busy_time) (scale * level_costs + idle * (time * scale)) (omega (arith, is_all, is_total)) in
       omega (arith, same, ap (λ n. idle * n) is_busy, ap (λ n. idle * n * scale) rest)
 
-  times_here : all_time_at jobs points scale (slots_at scale planned) speed ≡ sum_by (λ stretch. at (long stretch) (sum_by (λ slot. slot.work) (here stretch))) (stretches jobs)
-  times_here = sum_by_same (λ stretch. at (long stretch) (work_in scale stretch (slots_at scale planned))) (λ stretch. at (long stretch) (sum_by (λ slot. slot.work) (here stretch))) (stretches jobs)
-      (λ i d within.
-      let stretch = get_or (stretches jobs) i d in
-      ap (λ (slots : List WholeSlot). at (long stretch) (sum_by (λ slot. slot.work) slots)) (slots_in_stretch scale stretch planned is.positive is.divided))
-
   pub plan_long : all_time_at jobs points scale (slots_at scale planned) speed
       ≡ scale * (sum_by cost levels + (sum_by length_of (stretches jobs) - sum_by (λ level. level.length) levels) * idle_part)
   plan_long =
       let sums = sums_taken (stretches jobs) all_taken in
-      times_here
-      ∙ without (all_lengths levels) (sum_by (λ stretch. at (long stretch) (sum_by (λ slot. slot.work) (here stretch))) (stretches jobs)) idle_part
+      without (all_lengths levels) (sum_by (λ stretch. at (long stretch) (sum_by (λ slot. slot.work) (here stretch))) (stretches jobs)) idle_part
       (sum_by (λ stretch. busy (here stretch)) (stretches jobs)) (sum_by (λ stretch. sum_by slot_cost (here stretch)) (stretches jobs)) (sum_by cost levels)
       (sum_by (λ level. level.length) levels) (sum_by length_of (stretches jobs)) (lengths_positive levels plan.proper.well_formed.positive) sums.0
       (sym (by_stretches slot_cost) ∙ rates_together scale (slots_at scale planned) levels costs (sym (length-map levels cost)) (levels_long jobs planned levels scale plan is)

@@ -1,21 +1,18 @@
 -- How long a load runs at the points of a hull.
 use Rattle.std.proofs.Common.{◌≡◌, ℕ, zero, suc, ◌+◌, ◌-◌, ◌*◌, ◌/◌, ◌<◌, ◌≤◌, ◌==◌, Bool, true, false, List, [], ◌∷◌, length, refl, sym, ap, subst, ◌∙◌, arith}
 use Rattle.std.specs.Prelude.{nat_le, if◌then◌else◌}
-use Rattle.std.specs.List.{All, slice_index_or}
+use Rattle.std.specs.List.{slice_index_or}
 use Rattle.std.specs.Int.{◌∣◌}
 use Rattle.std.proofs.lemmas.Bool.{lt-leb, le-leb}
 use Rattle.std.proofs.lemmas.List.{get_or_read}
 use Rattle.std.proofs.Math.Nat.{div-mul_cancel, mul-le-mul_right}
 use Rattle.yds_model.specs.Table.{Point, no_point, point_at, AreRising, hull_of, hull_multiple}
 use Rattle.yds_model.specs.Comparison.{time_at}
-use Rattle.yds_model.specs.Rounding.{top_of}
-use Rattle.yds_table.specs.Table.{last_of}
 use Rattle.yds_energy.proofs.OneEnergy.{places_rise}
 use Rattle.yds_energy.proofs.PointTimes.{gap_divides, pair_time, idle_time}
 use Rattle.yds_compare.specs.declared.load.Load.{Load}
 use Rattle.yds_compare.specs.declared.share.Share.{Share}
-use Rattle.yds_compare.specs.Load.{IsHeldAt}
-use Rattle.yds_compare.specs.Share.{time_share_at, IsShareOf, IsShareBetween, IsBelow, IsFirstHolding}
+use Rattle.yds_compare.specs.Share.{time_share_at, IsShareOf, IsShareBetween, IsFirstHolding}
 
 -- # In plain numbers
 
@@ -121,9 +118,3 @@ found_share points hull load low high share is at between =
       in_range = λ speed. chosen_within (speed == share.high) (speed == share.low) share.fast share.slow (load.time * hull_multiple points) between.fast_in_range
           (omega (arith, between.slow));
     }
-
--- some point is fast enough where the last one is
-pub some_holds : (points hull : List Point) (load : Load) → last_of hull ≡ last_of points → 1 ≤ length hull → IsHeldAt (top_of points) load → ¬ (All (IsBelow load) hull)
-some_holds points hull load last some holds below =
-    let less : (last_of hull).speed * load.time < load.work = below (length hull - 1) no_point (omega (arith, some)) in
-    omega (arith, less, holds, ap (λ (p : Point). p.speed * load.time) last)

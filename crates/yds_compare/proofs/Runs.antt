@@ -1,29 +1,20 @@
 -- What a run on a grid does in each stretch.
-use Rattle.std.proofs.Common.{◌≡◌, ℕ, ◌-◌, ◌*◌, ◌<◌, ◌≤◌, List, [], ◌∷◌, length, refl, sym, ap, ap₂, subst, ◌∙◌, arith, inl, inr}
+use Rattle.std.proofs.Common.{◌≡◌, ℕ, ◌-◌, ◌*◌, ◌<◌, ◌≤◌, List, [], ◌∷◌, length, sym, ap, ap₂, subst, ◌∙◌, arith}
 use Rattle.std.specs.Prelude.{sum_by}
 use Rattle.std.specs.List.{All}
-use Rattle.std.specs.Cmp.Derive.{both_true}
-use Rattle.std.proofs.lemmas.Bool.{cases_Bool, le-leb}
 use Rattle.std.proofs.lemmas.List.{length-map, get_or-map}
 use Rattle.std.proofs.lemmas.List.Elements.{All-tail, All-from_get_or}
 use Rattle.std.proofs.lemmas.List.Sums.{sum_by-cons}
 use Rattle.std.proofs.Math.Nat.{mul-le-mul_left, le_of_mul-le-mul_left}
 use Rattle.yds_model.specs.Numbers.{IsFirstFailure}
 use Rattle.yds_model.specs.Job.{Job}
-use Rattle.yds_model.specs.Slot.{WrittenSlot, WholeSlot, IsScale, IsDivided, IsSolid, slot_at_scale, slots_at}
+use Rattle.yds_model.specs.Slot.{WholeSlot, IsScale, IsSolid, slots_at}
 use Rattle.yds_model.specs.Piece.{Piece}
 use Rattle.yds_model.specs.Table.{Point, hull_of, hull_multiple}
 use Rattle.yds_model.specs.Event.{stretches}
-use Rattle.yds_model.specs.Policy.{slots_in}
 use Rattle.yds_model.specs.Rounding.{top_of}
 use Rattle.yds_model.specs.Comparison.{work_in, time_at, HoldsStretch, stretch_at, Spent, HoldsAll, IsTooSlowFor}
 use Rattle.yds_events.specs.Stretch.{length_of}
-use Rattle.yds_slots.specs.Between.{lies_between}
-use Rattle.yds_round.specs.Written.{slot_units, units_of_slots}
-use Rattle.yds_round.specs.Rounded.{planned_in}
-use Rattle.yds_round.proofs.Decomposed.{lies_at, lies_passes}
-use Rattle.yds_round.proofs.Cuts.{WorksOver}
-use Rattle.yds_round.proofs.Shares.{work_at}
 use Rattle.yds_timetable.specs.Timetable.{Row, row_at, stretches_of, slots_of}
 use Rattle.yds_timetable.proofs.Rows.{no_row, rows_solid, row_work}
 use Rattle.yds_edf.specs.Run.{AreRowsOf}
@@ -32,46 +23,7 @@ use Rattle.yds_compare.specs.declared.load.Load.{Load}
 use Rattle.yds_compare.specs.Load.{load_of, loads_of, load_at, IsHeldAt}
 use Rattle.yds_compare.specs.Spent.{time_of_loads, IsSpentOn}
 use Rattle.yds_energy.proofs.SpentScale.{time_scaled}
-use Rattle.yds_energy.proofs.StretchSlots.{lies, lies_told}
 use Rattle.yds_compare.proofs.Agreeing.{TakeAsLong, spent_at}
-
--- # The slots in a stretch
-
--- both tests say the same
-same_test : (scale : ℕ) (stretch : Piece) (slot : WrittenSlot) → 1 ≤ scale → IsDivided scale slot →
-    lies scale stretch (slot_at_scale scale slot) ≡ lies_between stretch.from stretch.to slot
-same_test scale stretch slot positive divided = elim (cases_Bool (lies scale stretch (slot_at_scale scale slot))) [
-  | inl passes ↦ passes ∙ sym (lies_passes scale stretch slot positive divided (lies_told scale stretch (slot_at_scale scale slot) passes))
-  | inr fails ↦ elim (cases_Bool (lies_between stretch.from stretch.to slot)) [
-    | inl written ↦
-        let there = lies_at scale stretch slot positive divided written in
-        both_true (le-leb _ _ there.from) (le-leb _ _ there.to) ∙ sym written
-    | inr not_written ↦ fails ∙ sym not_written
-  ]
-]
-
-pub slots_in_stretch : (scale : ℕ) (stretch : Piece) (slots : List WrittenSlot) → 1 ≤ scale → All (IsDivided scale) slots →
-    slots_in scale stretch (slots_at scale slots) ≡ slots_at scale (planned_in slots stretch)
-slots_in_stretch scale stretch [] positive divided = refl
-slots_in_stretch scale stretch (slot ∷ slots) positive divided =
-    let rest = slots_in_stretch scale stretch slots positive (All-tail (IsDivided scale) slot slots divided) in
-    let whole : WholeSlot = slot_at_scale scale slot in
-    elim (cases_Bool (lies_between stretch.from stretch.to slot)) [
-      | inl passes ↦ rw (same_test scale stretch slot positive (divided 0 slot (omega arith)), passes) (ap (λ (xs : List WholeSlot). whole ∷ xs) rest)
-      | inr fails ↦ rw (same_test scale stretch slot positive (divided 0 slot (omega arith)), fails) rest
-    ]
-
--- the work of slots at a scale, by their units
-pub units_sum : (unit scale : ℕ) (slots : List WrittenSlot) → All (WorksOver unit) slots → All (IsDivided scale) slots →
-    sum_by (λ slot. slot.work) (slots_at scale slots) * unit ≡ units_of_slots unit slots * scale
-units_sum unit scale [] over divided = omega arith
-units_sum unit scale (slot ∷ slots) over divided = omega (
-  arith,
-  ap (λ n. n * unit) (sum_by-cons (λ (s : WholeSlot). s.work) (slot_at_scale scale slot) (slots_at scale slots)),
-  ap (λ n. n * scale) (sum_by-cons (λ (s : WrittenSlot). slot_units unit s) slot slots),
-  work_at unit scale slot.work (over 0 slot (omega arith)) (divided 0 slot (omega arith)).work,
-  units_sum unit scale slots (All-tail (WorksOver unit) slot slots over) (All-tail (IsDivided scale) slot slots divided),
-)
 
 -- # A run on a grid
 

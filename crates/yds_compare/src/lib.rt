@@ -2,7 +2,7 @@
 //! grid do.
 //!
 //! It stands on `yds_model`, `yds_fraction`, `yds_hull`, `yds_table`, `yds_events`, `yds_timetable`, `yds_certificate`, `yds_plan`,
-//! `yds_edf`, `yds_avr`, `yds_oa`, `yds_round` and `yds_curve`, and its proofs on lemmas of `yds_laws`. Its promise is that the
+//! `yds_edf`, `yds_avr`, `yds_oa` and `yds_round`, and its proofs on lemmas of `yds_energy`. Its promise is that the
 //! times and the energies are those of the model's definition, and that a side is too slow just where a stretch of its run is
 //! faster than the top point.
 #![tactic(auto)]

@@ -11,8 +11,7 @@ use crate::load::Load;
 use crate::share::Share;
 use std::alloc::Global;
 use std::marker::Model;
-use yds_curve::in_lowest_terms;
-use yds_fraction::Amount;
+use yds_fraction::{Amount, in_lowest_terms};
 use yds_model::Memory;
 use yds_table::Table;
 

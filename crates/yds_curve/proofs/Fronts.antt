@@ -4,13 +4,13 @@ use Rattle.std.specs.Prelude.{sum_by, nat_lt}
 use Rattle.std.proofs.lemmas.List.{map-append, reverse-append, get_or_read, take_more, take_all, length-take-le}
 use Rattle.std.proofs.lemmas.List.Sums.{prefix_len-le-length}
 use Rattle.std.proofs.lemmas.Grind.{reverse_onto}
-use Rattle.std.proofs.Math.Nat.{div-le_of_le-mul, mul-le-mul_left}
+use Rattle.std.proofs.Math.Nat.{div-le_of_le-mul}
 use Rattle.yds_model.specs.Numbers.{Each}
 use Rattle.yds_model.specs.Scale.{Fraction}
 use Rattle.yds_model.specs.Level.{Level, no_level, level_at, levels_above}
 use Rattle.yds_model.specs.Divisor.{in_lowest_terms}
 use Rattle.yds_model.specs.Plan.{IsSlower}
-use Rattle.yds_model.specs.Curve.{Break, break_at, breaks_of, least_above}
+use Rattle.yds_model.specs.Curve.{Break, break_at, breaks_of}
 use Rattle.yds_certificate.specs.Certificate.{IsCertificate}
 use Rattle.yds_laws.proofs.Curve.{AreFalling, are_falling}
 use Rattle.yds_laws.proofs.LeastAbove.{level_excess, zero_excess}
@@ -32,12 +32,6 @@ pub work_in_range : (parts den count : ℕ) → parts ≤ den * (count * MAX_LEV
 work_in_range parts den count few enough =
     let most : parts / den ≤ count * MAX_LEVEL_WORK = div-le_of_le-mul den few in
     omega (arith, most, enough)
-
--- and so is a level's part of it, from the work and the length of all faster ones
-pub part_in_range : (work length own den : ℕ) → work ≤ MAX_WHOLE → (den * work - own * length) / den ≤ MAX_WHOLE
-part_in_range work length own den fits =
-    let most : (den * work - own * length) / den ≤ work = div-le_of_le-mul den (omega arith) in
-    omega (arith, most, fits)
 
 -- the levels of a certificate have work and length; here they fall in speed
 pub falls : (certificate levels : List Level) → levels ≡ certificate → IsCertificate certificate → Each (length certificate) (IsSlower certificate) → AreFalling levels

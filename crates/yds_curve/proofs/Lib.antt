@@ -1,2 +1,1 @@
-pub mod Reduced
 pub mod Fronts

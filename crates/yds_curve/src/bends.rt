@@ -5,11 +5,10 @@ ghost use Rattle.yds_model.specs.Divisor.{in_lowest_terms};
 ghost use Rattle.yds_model.specs.Plan.{IsSlower};
 ghost use Rattle.yds_model.specs.Curve.{breaks_of};
 
-use crate::lowest::in_lowest_terms;
 use std::alloc::Global;
 use std::marker::Model;
 use yds_certificate::{Certificate, Level};
-use yds_fraction::{Amount, Speed};
+use yds_fraction::{Amount, Speed, in_lowest_terms};
 use yds_model::Memory;
 
 /// A speed at which the curve of least excess bends.

@@ -2,9 +2,8 @@ ghost use Rattle.std.specs.Prelude.{◌≡◌, ◌-◌, ◌*◌, ◌≤◌};
 ghost use Rattle.yds_model.specs.declared.limits.TheConstants.{MAX_LEVEL_WORK};
 ghost use Rattle.yds_model.specs.Curve.{least_above};
 
-use crate::lowest::in_lowest_terms;
 use yds_certificate::{Certificate, Level};
-use yds_fraction::{Amount, Speed};
+use yds_fraction::{Amount, Speed, in_lowest_terms};
 
 /// What the levels do above a speed, in units of work: of each faster level its work less what its length takes at that
 /// speed, in lowest terms.

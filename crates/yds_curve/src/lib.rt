@@ -9,11 +9,9 @@
 
 mod bends;
 mod excess;
-mod lowest;
 
 pub use bends::{Break, curve};
 pub use excess::least_above;
-pub use lowest::in_lowest_terms;
 
 #[cfg(test)]
 mod tests;

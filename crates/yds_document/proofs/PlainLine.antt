@@ -1,6 +1,6 @@
 -- What the fields of a line say where they were read in one pass.
-use Rattle.std.proofs.Common.{◌≡◌, ℕ, ◌<◌, ◌⊎◌, inl, inr, Bool, true, false, eq-eqb, List, [], ◌∷◌, None, Result, Ok, refl, sym, ap, ◌∙◌}
-use Rattle.std.specs.Prelude.{nat_lt, ◌==◌, ◌||◌}
+use Rattle.std.proofs.Common.{◌≡◌, ℕ, ◌<◌, true, List, [], ◌∷◌, None, Result, Ok, refl, sym, ap, ◌∙◌}
+use Rattle.std.specs.Prelude.{nat_lt}
 use Rattle.std.proofs.lemmas.Bool.{lt-ltb}
 use Rattle.yds_model.specs.declared.limits.TheConstants.{MAX_TIME, MAX_WORK, MAX_SLOT_WORK}
 use Rattle.yds_model.specs.Lines.{Field}
@@ -9,7 +9,7 @@ use Rattle.yds_model.specs.declared.reason.Reason.{Reason}
 use Rattle.yds_model.specs.declared.reason.Reason.TheVariants as reasons
 use Rattle.yds_model.specs.Fields.{Spot, ◌>>=◌, demand, count_fields}
 use Rattle.yds_model.specs.Reading.{SlotLine, are_alike, fraction_in}
-use Rattle.yds_model.specs.Scale.{Fraction, AreAlike}
+use Rattle.yds_model.specs.Scale.{Fraction}
 use Rattle.yds_model.specs.Slot.{WrittenSlot}
 use Rattle.yds_model.specs.Spelling.{is_name, number_at, fraction_at}
 use Rattle.yds_instance.specs.Named.{number_of}
@@ -40,21 +40,6 @@ says_job names fields rest two one none a name from to work first b c d last tex
       let less : nat_lt from to ≡ true = lt-ltb from to before in
       rw (named, unknown, b.says, c.says, d.says, less) (ap (λ said. Ok (JobEntry said (record { release = from; deadline = to; work = work }))) (sym text));
 }
-
--- two fractions that are alike pass the test
-tested : (a b c : Bool) → (a ≡ true) ⊎ ((b ≡ true) ⊎ (c ≡ true)) → (a || b || c) ≡ true
-tested true true c one = refl
-tested true false c one = refl
-tested false true c one = refl
-tested false false true one = refl
-tested false false false (inl one) = cc
-tested false false false (inr (inl one)) = cc
-tested false false false (inr (inr one)) = cc
-
-pub test_alike : (x y : Fraction) → AreAlike x y → are_alike x y ≡ true
-test_alike x y (inl same) = tested (x.den == y.den) (x.den == 1) (y.den == 1) (inl (eq-eqb x.den y.den same))
-test_alike x y (inr (inl one)) = tested (x.den == y.den) (x.den == 1) (y.den == 1) (inr (inl (eq-eqb x.den 1 one)))
-test_alike x y (inr (inr one)) = tested (x.den == y.den) (x.den == 1) (y.den == 1) (inr (inr (eq-eqb y.den 1 one)))
 
 -- what the line of a slot says, once its job is known
 abbrev slot_after : List WrittenSlot → ℕ → Field → Field → Field → Result Entry (Spot Reason)

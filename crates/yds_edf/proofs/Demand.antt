@@ -3,9 +3,9 @@
 --
 -- The argument: the units that are left of the jobs due by a deadline are at most the capacity of the stretches that are left
 -- before it. A stretch either serves its whole capacity to them, or leaves none of them pending.
-use Rattle.std.proofs.Common.{◌≡◌, ◌≢◌, ℕ, zero, suc, ◌+◌, ◌-◌, ◌<◌, ◌≤◌, ◌⊎◌, List, length, get_or, ◌∙◌, refl, sym, subst, arith, inl, inr, ap, cond, true, false}
-use Rattle.std.specs.Prelude.{Bool, ◌==◌, ◌&&◌, nat_le, nat_lt, All}
-use Rattle.std.proofs.lemmas.Bool.{cases_lt, cases_eq, cases_order, cases_Bool, ltb-true, ltb-false, lt-leb, le-leb, eq-eqb, ne_eqb, eqb-true, true≢false}
+use Rattle.std.proofs.Common.{◌≡◌, ◌≢◌, ℕ, zero, suc, ◌+◌, ◌-◌, ◌<◌, ◌≤◌, List, length, get_or, ◌∙◌, refl, sym, subst, arith, inl, inr, ap, cond}
+use Rattle.std.specs.Prelude.{◌==◌, ◌&&◌, nat_le, nat_lt, All}
+use Rattle.std.proofs.lemmas.Bool.{cases_lt, cases_order, cases_Bool, ltb-true, ltb-false, lt-leb, le-leb, eq-eqb, ne_eqb, eqb-true, true≢false}
 use Rattle.yds_model.specs.Numbers.{Each}
 use Rattle.yds_model.specs.Job.{Job, IsJob, no_job, job_at}
 use Rattle.yds_model.specs.Piece.{Piece, PiecesFrom}
@@ -18,7 +18,9 @@ use Rattle.yds_edf.specs.Demand.{capacity_at, confined_units, capacity_between, 
 use Rattle.yds_edf.specs.Filled.{pending_at_start}
 use Rattle.yds_edf.proofs.Sums.{sum_below_same, sum_below_at_most, sum_below_zero, sum_below-add, sum_below_term, sum_below_change, sum_below_less, sum_by_grouped}
 use Rattle.yds_model.proofs.Sums.{sum_by_zero}
-use Rattle.yds_edf.proofs.Parts.{all_before, none_before, given_next, share_given}
+use Rattle.yds_model.proofs.Filters.{found_or_none}
+use Rattle.yds_timetable.proofs.Places.{all_before, none_before}
+use Rattle.yds_edf.proofs.Parts.{given_next, share_given}
 
 -- a term that counts where two orders hold
 both : (a b c d x : ℕ) → a ≤ b → c ≤ d → cond (nat_le a b && nat_le c d) x 0 ≡ x
@@ -33,36 +35,12 @@ not_second a b c d x less = elim (cases_lt b a) [
   | inr first ↦ rw (le-leb a b first, lt-leb c d less) refl
 ]
 
-at_most_both : (a b c d x : ℕ) → cond (nat_le a b && nat_le c d) x 0 ≤ x
-at_most_both a b c d x = elim (cases_lt b a) [
-  | inl less ↦ omega (arith, not_first a b c d x less)
-  | inr first ↦ elim (cases_lt d c) [
-    | inl less ↦ omega (arith, not_second a b c d x less)
-    | inr second ↦ omega (arith, both a b c d x first second)
-  ]
-]
-
 -- and where one does
 one : (c d x : ℕ) → c ≤ d → cond (nat_le c d) x 0 ≡ x
 one c d x first = rw (le-leb c d first) refl
 
 not_one : (c d x : ℕ) → d < c → cond (nat_le c d) x 0 ≡ 0
 not_one c d x less = rw (lt-leb c d less) refl
-
--- some of the first n numbers passes a test, or none does
-pub found_or_none : (n : ℕ) (test : ℕ → Bool) →
-    ((k : ℕ) × (k < n) × (test k ≡ true)) ⊎ ((k : ℕ) → k < n → test k ≡ false)
-found_or_none zero test = inr (λ k within. absurd (omega arith))
-found_or_none (suc n) test = elim (found_or_none n test) [
-  | inl found ↦ inl (found.0, omega (arith, found.1), found.2)
-  | inr none ↦ elim (cases_Bool (test n)) [
-    | inl passes ↦ inl (n, omega arith, passes)
-    | inr fails ↦ inr (λ k within. elim (cases_eq k n) [
-      | inl same ↦ rw same fails
-      | inr other ↦ none k (omega arith)
-    ])
-  ]
-]
 
 -- what a job adds to the demand between two times, and a stretch to the capacity
 abbrev pub confined_term : List Job → ℕ → ℕ → ℕ → ℕ → ℕ

@@ -1,14 +1,15 @@
 -- Filling stretches one by one: what has been filled so far, and that in the end all is.
-use Rattle.std.proofs.Common.{◌≡◌, ℕ, zero, suc, ◌+◌, ◌-◌, ◌<◌, ◌≤◌, min, List, [], ◌∷◌, ◌++◌, length, get_or, slice_index, ◌∙◌, refl, sym, subst, arith, inl, inr, ap, cond, true, add-one}
-use Rattle.std.specs.Prelude.{Bool, ◌==◌, nat_le, filter, All, AllPairs, Contains, Some}
+use Rattle.std.proofs.Common.{◌≡◌, ℕ, suc, ◌+◌, ◌-◌, ◌<◌, ◌≤◌, min, List, [], ◌++◌, length, get_or, slice_index, ◌∙◌, refl, sym, subst, arith, inl, inr, ap, cond, add-one}
+use Rattle.std.specs.Prelude.{◌==◌, nat_le, All, AllPairs, Contains, Some}
 use Rattle.std.proofs.lemmas.List.Elements.{All-nil, All-append, All-contains, Contains-get_or}
 use Rattle.std.proofs.lemmas.List.Sums.{sum_by-append}
 use Rattle.std.proofs.lemmas.List.{get_or-replicate, length-append}
-use Rattle.std.proofs.lemmas.Bool.{cases_eq, cases_Bool, eq-eqb}
+use Rattle.std.proofs.lemmas.Bool.{cases_eq, eq-eqb}
 use Rattle.yds_model.specs.Numbers.{Each}
 use Rattle.yds_model.specs.Job.{Job, IsJob, job_at}
 use Rattle.yds_model.specs.Piece.{Piece, PiecesFrom}
 use Rattle.yds_model.proofs.Lists.{AllPairs-append}
+use Rattle.yds_model.proofs.Filters.{contains_filter}
 use Rattle.yds_timetable.specs.Shares.{JobShare, units_given, shares_in}
 use Rattle.yds_edf.specs.Pending.{units_wanted, pending_of_job}
 use Rattle.yds_edf.specs.Serving.{IsServing}
@@ -134,17 +135,6 @@ filled_after {stretches = stretches} {capacities = capacities} {i = i} {now = no
     rw (add-one, joins) (filled_next order within filling
     (subst (λ (start : TiedQueue). ServesTied start new i (capacity_at capacities i) part)
     (is ∙ ap (λ (t : ℕ). record { queue = record now.queue { time = Some t }; ties = now.ties }) at) serves))
-
--- an element that passes a filter stands in what it keeps
-pub contains_filter : {X : Type 0} (p : X → Bool) (xs : List X) (x : X) → p x ≡ true → Contains xs x → Contains (filter p xs) x
-contains_filter p [] x passes (k, within, is) = absurd (omega arith)
-contains_filter p (y ∷ ys) x passes (zero, within, is) = rw (ap p is ∙ passes) (0, omega arith, is)
-contains_filter p (y ∷ ys) x passes (suc k, within, is) =
-    let found = contains_filter p ys x passes (k, omega arith, is) in
-    elim (cases_Bool (p y)) [
-      | inl kept ↦ rw kept (suc found.0, omega (arith, found.1), found.2)
-      | inr fails ↦ rw fails found
-    ]
 
 -- a share stands among those of its stretch
 pub stands_in : (shares : List JobShare) (share : JobShare) → Contains shares share → Contains (shares_in shares share.stretch) share

@@ -29,16 +29,6 @@ pub record Entered (jobs : List Job) (grain n : ℕ) (entries : List (Reverse En
   pub above : (number : ℕ) → n ≤ number → entries_of entries number ≡ 0
   pub heap : IsHeap comes_first entries
 
-pub none_entered : (jobs : List Job) (grain : ℕ) (entries : List (Reverse Entry)) → entries ≡ [] → IsHeap comes_first entries →
-    Entered jobs grain 0 entries
-none_entered jobs grain entries none heap = record {
-  known = rw none (All-nil (IsComing jobs));
-  are_jobs = λ number within. absurd (omega arith);
-  below = λ number within. absurd (omega arith);
-  above = λ number within. rw none refl;
-  heap = heap;
-}
-
 -- the next job wants no units
 pub entered_none : {jobs : List Job} {grain n : ℕ} {entries : List (Reverse Entry)} → Entered jobs grain n entries →
     IsJob (job_at jobs n) → (job_at jobs n).work ≤ 0 → Entered jobs grain (n + 1) entries

@@ -1,8 +1,9 @@
 -- Sums over the numbers of jobs, as the definitions write them and as sums below a number.
-use Rattle.std.proofs.Common.{◌≡◌, ℕ, zero, suc, ◌+◌, ◌*◌, List, [], ◌∷◌, length, get_or, ◌∙◌, refl, sym, ap, arith, cond, true, false}
+use Rattle.std.proofs.Common.{◌≡◌, ℕ, zero, suc, ◌+◌, ◌*◌, List, [], ◌∷◌, length, get_or, ◌∙◌, refl, sym, ap, arith, cond}
 use Rattle.std.specs.Prelude.{Bool, sum_by, filter}
 use Rattle.std.specs.List.{range_with_len}
 use Rattle.std.proofs.lemmas.List.Sums.{sum_by-cons}
+use Rattle.yds_model.proofs.Filters.{filter_step}
 use Rattle.yds_edf.specs.Pending.{sum_below}
 use Rattle.yds_edf.proofs.Sums.{sum_below_same, sum_below_zero, sum_below-add}
 
@@ -10,11 +11,6 @@ use Rattle.yds_edf.proofs.Sums.{sum_below_same, sum_below_zero, sum_below-add}
 sum_below_first : (n : ℕ) (f : ℕ → ℕ) → sum_below (suc n) f ≡ f 0 + sum_below n (λ k. f (suc k))
 sum_below_first zero f = omega arith
 sum_below_first (suc n) f = omega (arith, sum_below_first n f)
-
--- a number and its term more, or not
-one_more : (b : Bool) (f : ℕ → ℕ) (n : ℕ) (rest : List ℕ) → sum_by f (cond b (n ∷ rest) rest) ≡ cond b (f n) 0 + sum_by f rest
-one_more true f n rest = sum_by-cons f n rest
-one_more false f n rest = omega arith
 
 sum_range : (p : ℕ → Bool) (f : ℕ → ℕ) (a n : ℕ) → sum_by f (filter p (range_with_len a n)) ≡ sum_below n (λ k. cond (p (a + k)) (f (a + k)) 0)
 sum_range p f a zero = refl
@@ -24,7 +20,7 @@ sum_range p f a (suc n) =
     (λ k below. let next : a + suc k ≡ a + 1 + k = omega arith in ap {B = ℕ} (λ i. cond (p i) (f i) 0) next) in
     omega (
       arith,
-      one_more (p a) f a (filter p (range_with_len (a + 1) n)),
+      filter_step (p a) a f (filter p (range_with_len (a + 1) n)),
       sum_range p f (a + 1) n,
       sum_below_first n (λ k. cond (p (a + k)) (f (a + k)) 0),
       ap {B = ℕ} (λ i. cond (p i) (f i) 0) first,
@@ -52,14 +48,6 @@ sum_places f (x ∷ xs) d = omega (
   sum_places f xs d,
   sum_below_first (length xs) (λ i. f (get_or (x ∷ xs) i d)),
 )
-
--- a sum over what passes a test
-pub sum_filter : {X : Type 0} (p : X → Bool) (f : X → ℕ) (xs : List X) → sum_by f (filter p xs) ≡ sum_by (λ x. cond (p x) (f x) 0) xs
-sum_filter p f [] = refl
-sum_filter p f (x ∷ xs) = filtered (p x) ∙ ap (λ n. cond (p x) (f x) 0 + n) (sum_filter p f xs) ∙ sym (sum_by-cons (λ y. cond (p y) (f y) 0) x xs) where
-  filtered : (b : Bool) → sum_by f (cond b (x ∷ filter p xs) (filter p xs)) ≡ cond b (f x) 0 + sum_by f (filter p xs)
-  filtered true = sum_by-cons f x (filter p xs)
-  filtered false = omega arith
 
 -- two sums, one in the other, in either order
 pub sum_below_swap : (m n : ℕ) (f : ℕ → ℕ → ℕ) → sum_below m (λ k. sum_below n (λ j. f k j)) ≡ sum_below n (λ j. sum_below m (λ k. f k j))

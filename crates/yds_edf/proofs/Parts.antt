@@ -5,7 +5,7 @@ use Rattle.std.proofs.lemmas.List.{append-nil}
 use Rattle.std.proofs.lemmas.List.Sums.{sum_by-cons, get_or-le-sum_by}
 use Rattle.std.proofs.lemmas.List.Elements.{filter-append}
 use Rattle.std.proofs.lemmas.Bool.{cases_order, lt-ltb, le-ltb, eq-eqb, ne_eqb}
-use Rattle.yds_timetable.proofs.Lists.{filter_all, filter_none}
+use Rattle.yds_model.proofs.Filters.{filter_all, filter_none}
 use Rattle.yds_timetable.specs.Shares.{JobShare, units_given, shares_in, shares_before}
 
 module _ (shares part : List JobShare) (i : ℕ) (earlier : All (λ share. share.stretch < i) shares)
@@ -40,10 +40,6 @@ module _ (shares part : List JobShare) (i : ℕ) (earlier : All (λ share. share
       (filter_none (λ share. nat_lt share.stretch k) part (λ j d within. le-ltb _ k (omega (arith, here j d within, less))))
       ∙ append-nil (shares_before shares k)
 
--- all shares are before a stretch that comes after them
-pub all_before : (shares : List JobShare) (i : ℕ) → All (λ share. share.stretch < i) shares → shares_before shares i ≡ shares
-all_before shares i earlier = filter_all (λ share. nat_lt share.stretch i) shares (λ k d within. lt-ltb _ i (earlier k d within))
-
 -- before the next stretch stand the shares before this one and those in it
 pub given_next : (shares : List JobShare) (i job : ℕ) →
     units_given (shares_before shares (suc i)) job ≡ units_given (shares_before shares i) job + units_given (shares_in shares i) job
@@ -56,10 +52,6 @@ given_next (share ∷ shares) i job = elim (cases_order share.stretch i) [
   | inr (inr more) ↦ rw (le-ltb share.stretch (suc i) (omega (arith, more)), le-ltb share.stretch i (omega (arith, more)), ne_eqb i share.stretch (omega arith))
       (given_next shares i job)
 ]
-
--- no share is before the first stretch
-pub none_before : (shares : List JobShare) → shares_before shares 0 ≡ []
-none_before shares = filter_none (λ share. nat_lt share.stretch 0) shares (λ k d within. le-ltb _ 0 (omega arith))
 
 -- a job gets at least what one of its shares has
 pub share_given : (shares : List JobShare) (k : ℕ) (share : JobShare) → k < length shares →

@@ -20,7 +20,7 @@ use Rattle.yds_model.specs.Comparison.{stretch_at}
 use Rattle.yds_events.specs.Stretch.{no_stretch}
 use Rattle.yds_events.proofs.Neighbours.{stretch_order, release_outside, few_stretches}
 use Rattle.yds_events.proofs.Following.{Follows, Works, earliest_after}
-use Rattle.yds_timetable.specs.Shares.{JobShare, units_given, total_units, shares_in, shares_before}
+use Rattle.yds_timetable.specs.Shares.{JobShare, no_share, share_at, units_given, total_units, shares_in, shares_before}
 use Rattle.yds_timetable.specs.Timetable.{row_at, slots_of}
 use Rattle.yds_timetable.proofs.Lists.{zipped_at}
 use Rattle.yds_timetable.proofs.Rows.{row_serves}
@@ -30,7 +30,8 @@ use Rattle.yds_edf.specs.Filled.{IsInTime}
 use Rattle.yds_edf.specs.Run.{by_number, pending_before, IsServed, IsLaidOut}
 use Rattle.yds_edf.proofs.Parts.{given_next, share_given}
 use Rattle.yds_edf.proofs.Filled.{stands_in}
-use Rattle.yds_edf.proofs.Standing.{no_share, share_at, IsShare, Stands, run_pairs, as_many_rows, row_stretch, rows_order, one_at_a_time, all_shares, all_stand, length_whole, work_before, all_work}
+use Rattle.yds_timetable.proofs.Rows.{run_pairs}
+use Rattle.yds_edf.proofs.Standing.{IsShare, Stands, as_many_rows, row_stretch, rows_order, one_at_a_time, all_shares, all_stand, length_whole, work_before, all_work}
 
 module _ (jobs : List Job) (grid : ℕ) (units : (ℕ → ℕ) → Piece → ℕ) (shares : List JobShare) (slots : List WrittenSlot) (some_grid : 1 ≤ grid)
     (served : IsServed jobs grid units shares) (laid : IsLaidOut jobs grid shares slots) (scale : ℕ) (is : IsScale scale slots) where

@@ -20,7 +20,7 @@ use Rattle.yds_model.specs.Audit.{HasSpeed}
 use Rattle.yds_model.specs.Plan.{IsOver}
 use Rattle.yds_model.specs.Policy.{HasRunDenominators}
 use Rattle.yds_model.specs.Comparison.{stretch_at}
-use Rattle.yds_model.proofs.Lists.{AllPairs-append}
+use Rattle.yds_model.proofs.Lists.{AllPairs-append, All-flat}
 use Rattle.yds_slots.proofs.Parts.{of_parts_over}
 use Rattle.yds_events.specs.Stretch.{IsStretch, no_stretch, length_of}
 use Rattle.yds_events.proofs.Neighbours.{stretches_run, few_stretches}
@@ -32,7 +32,6 @@ use Rattle.yds_edf.specs.Queue.{JobQueue, new_queue, IsNoEarlier, pending_in, un
 use Rattle.yds_timetable.specs.declared.pace.Pace.{Pace}
 use Rattle.yds_timetable.specs.Pace.{slot_of, lowest_pace}
 use Rattle.yds_timetable.specs.Timetable.{Row, row_at, stretches_of, row_slots, shares_of, slots_of, IsFilledAt, IsRow, HasGrain}
-use Rattle.yds_timetable.proofs.Lists.{All-flat}
 use Rattle.yds_timetable.proofs.Lowest.{lowest_fills}
 use Rattle.yds_timetable.proofs.Paces.{lies_written, speed_written}
 use Rattle.yds_timetable.specs.Room.{CanLay}

@@ -1,5 +1,5 @@
 -- The slots of a run at a scale, each beside its share.
-use Rattle.std.proofs.Common.{◌≡◌, ℕ, zero, suc, ◌*◌, ◌<◌, ◌≤◌, List, [], ◌∷◌, length, get_or, ◌∙◌, refl, sym, subst, arith, inl, inr, ap, cond, true, false}
+use Rattle.std.proofs.Common.{◌≡◌, ℕ, ◌*◌, ◌<◌, ◌≤◌, List, [], ◌∷◌, length, get_or, ◌∙◌, sym, subst, arith, inl, inr, ap, cond, true, false}
 use Rattle.std.specs.Prelude.{Bool, ◌==◌, nat_le, nat_lt, All, filter}
 use Rattle.std.specs.List.{AllZip}
 use Rattle.std.specs.Int.{◌∣◌}
@@ -10,7 +10,7 @@ use Rattle.std.proofs.lemmas.List.Sums.{sum_by-cons}
 use Rattle.std.proofs.Math.Nat.{mul-le-mul_right, mul-add}
 use Rattle.yds_model.specs.Job.{Job}
 use Rattle.yds_model.specs.Scale.{Fraction, at_scale}
-use Rattle.yds_model.specs.Slot.{WrittenSlot, WholeSlot, IsDivided, IsScale, IsSolid, slot_at_scale, slots_at, slot_at, work_given}
+use Rattle.yds_model.specs.Slot.{WrittenSlot, WholeSlot, IsDivided, IsScale, IsSolid, slot_at_scale, slots_at, work_given}
 use Rattle.yds_model.specs.Piece.{Piece, PiecesFrom}
 use Rattle.yds_model.specs.Feasible.{RunFrom}
 use Rattle.yds_model.specs.Event.{stretches}
@@ -21,17 +21,11 @@ use Rattle.yds_events.specs.Stretch.{no_stretch}
 use Rattle.yds_events.proofs.Neighbours.{stretch_order, stretch_forward, stretches_run}
 use Rattle.yds_timetable.specs.Shares.{JobShare, units_given, shares_before}
 use Rattle.yds_timetable.specs.Timetable.{Row, row_at, stretches_of, row_slots, shares_of, slots_of}
-use Rattle.yds_timetable.proofs.Lists.{filter_all, AllZip-weaker, length_zipped}
+use Rattle.yds_timetable.proofs.Lists.{AllZip-weaker, length_zipped}
 use Rattle.yds_timetable.proofs.Paces.{IsFor}
-use Rattle.yds_timetable.proofs.Rows.{no_row, rows_run, rows_solid, rows_for}
+use Rattle.yds_timetable.proofs.Rows.{no_row, rows_run, rows_solid, rows_for, zipped_work}
 use Rattle.yds_edf.specs.Run.{IsServed, AreRowsOf, IsLaidOut}
 use Rattle.yds_edf.proofs.Filled.{stands_in}
-
-abbrev pub no_share : JobShare
-no_share = record { stretch = 0; job = 0; units = 0 }
-
-abbrev pub share_at : List JobShare → ℕ → JobShare
-share_at shares i = get_or shares i no_share
 
 -- a share of a job that there is, in a stretch that there is
 pub record IsShare (jobs : List Job) (share : JobShare) : Type 0 where
@@ -47,18 +41,6 @@ pub record Stands (jobs : List Job) (grid scale : ℕ) (share : JobShare) (slot 
   pub from : (stretch_at jobs share.stretch).from * scale ≤ slot.from
   pub forward : slot.from < slot.to
   pub to : slot.to ≤ (stretch_at jobs share.stretch).to * scale
-
--- what runs one after another, by two places
-run_from : (start : ℕ) (slots : List WholeSlot) (j : ℕ) → RunFrom start slots → j < length slots → start ≤ (slot_at slots j).from
-run_from start [] j run within = absurd (omega arith)
-run_from start (slot ∷ slots) zero run within = run.0
-run_from start (slot ∷ slots) (suc j) run within = omega (arith, run.0, run.1, run_from slot.to slots j run.2 (omega arith))
-
-pub run_pairs : (start : ℕ) (slots : List WholeSlot) (i j : ℕ) → RunFrom start slots → i < j → j < length slots → (slot_at slots i).to ≤ (slot_at slots j).from
-run_pairs start [] i j run order within = absurd (omega arith)
-run_pairs start (slot ∷ slots) i zero run order within = absurd (omega arith)
-run_pairs start (slot ∷ slots) zero (suc j) run order within = run_from slot.to slots j run.2 (omega arith)
-run_pairs start (slot ∷ slots) (suc i) (suc j) run order within = run_pairs slot.to slots i j run.2 (omega arith) (omega arith)
 
 -- the slot gives the share's units to its job, within the share's stretch
 abbrev IsForOwn : List Job → ℕ → JobShare → WrittenSlot → Type 0
@@ -184,14 +166,6 @@ filtered_work jobs grid scale test among agree (share ∷ shares) (slot ∷ slot
     rw (agree share slot stand.0)
     (one_more grid scale job (among share) share slot (filter among shares) (filter test slots) mine rest)
 
--- the same of all of them
-all_given : (jobs : List Job) (grid scale : ℕ) (shares : List JobShare) (slots : List WholeSlot) → AllZip (Stands jobs grid scale) shares slots → (job : ℕ) →
-    grid * work_given slots job ≡ scale * units_given shares job
-all_given jobs grid scale shares slots stand job =
-    ap (λ some. grid * work_given some job) (sym (filter_all (λ slot. true) slots (λ k d within. refl)))
-    ∙ filtered_work jobs grid scale (λ slot. true) (λ share. true) (λ share slot stands. refl) shares slots stand job
-    ∙ ap (λ some. scale * units_given some job) (filter_all (λ share. true) shares (λ k d within. refl))
-
 -- which slots have ended when a stretch begins
 ended_by : (jobs : List Job) (grid scale k : ℕ) → k < length (stretches jobs) → (share : JobShare) (slot : WholeSlot) → Stands jobs grid scale share slot →
     nat_le slot.to ((stretch_at jobs k).from * scale) ≡ nat_lt share.stretch k
@@ -224,4 +198,4 @@ module _ (jobs : List Job) (grid : ℕ) (units : (ℕ → ℕ) → Piece → ℕ
 
   -- and that of all the slots
   pub all_work : (job : ℕ) → grid * work_given (slots_at scale slots) job ≡ scale * units_given shares job
-  all_work job = all_given jobs grid scale shares (slots_at scale slots) (all_stand jobs grid units shares slots served laid scale is) job
+  all_work job = zipped_work (Stands jobs grid scale) grid scale job (λ share slot here. (here.job, λ same. here.work)) shares (slots_at scale slots) (all_stand jobs grid units shares slots served laid scale is)

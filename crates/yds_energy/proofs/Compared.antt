@@ -22,13 +22,14 @@ use Rattle.yds_model.proofs.Divisor.{divisor_is_greatest, lowest_terms_are_one}
 use Rattle.yds_model.proofs.Front.{pieces_forward}
 use Rattle.yds_model.proofs.HullExists.{hull_exists}
 use Rattle.yds_model.proofs.Runs.{run_forward}
-use Rattle.yds_model.proofs.Scale.{scale_exists, first_factor}
+use Rattle.yds_model.proofs.Scale.{scale_exists}
 use Rattle.yds_model.proofs.Sums.{sum_by_zero}
 use Rattle.yds_events.proofs.Neighbours.{stretches_run}
 use Rattle.yds_energy.specs.ComparisonLaws.{PlanSpendsItsRounding, PlanSpendsLeast}
 use Rattle.yds_laws.proofs.Bound.{scale_left, scale_right}
 use Rattle.yds_energy.proofs.EvenStretches.{run_even, plan_even, plan_holds}
-use Rattle.yds_laws.proofs.LowestTerms.{lowest_value, lowest_is}
+use Rattle.yds_model.proofs.LowestTerms.{lowest_value, lowest_is}
+use Rattle.yds_model.proofs.Fractions.{factors}
 use Rattle.yds_energy.proofs.PlansEnergy.{plans_cost_least, hull_table}
 use Rattle.yds_energy.proofs.RoundedEnergy.{rounded_attains_the_hull}
 use Rattle.yds_energy.proofs.RoundedRuns.{all_work}
@@ -42,7 +43,7 @@ use Rattle.yds_energy.proofs.TooSlow.{none_within, too_slow_is_exact}
 -- of numbers that aren't 0 it isn't
 multiple_some : (a b : ℕ) → 1 ≤ a → 1 ≤ b → 1 ≤ a / common_divisor a b * b
 multiple_some a b some other =
-    mul-pos (first_factor (a / common_divisor a b) (common_divisor a b) a (div-mul_cancel (common_divisor a b) (divisor_is_greatest a b).0) some) other
+    mul-pos (factors (a / common_divisor a b) (common_divisor a b) a (div-mul_cancel (common_divisor a b) (divisor_is_greatest a b).0) some).0 other
 
 -- so that of the gaps between rising points isn't 0
 gaps_some : (points : List Point) → AreRising points → 1 ≤ multiple_of_all (gaps_of points)

@@ -1,5 +1,5 @@
 -- Signed numbers as differences of two naturals, and the greatest and the sum of a list of them.
-use Rattle.std.proofs.Common.{◌≡◌, ℕ, ◌+◌, ◌*◌, ◌≤◌, List, [], ◌∷◌, refl, sym, ap, ◌∙◌, arith}
+use Rattle.std.proofs.Common.{◌≡◌, ℕ, ◌+◌, ◌*◌, ◌≤◌, List, [], ◌∷◌, refl, ap, ◌∙◌, arith}
 use Rattle.std.specs.Prelude.{ℤ, pos, ◌+ℤ◌, ◌-ℤ◌, ◌*ℤ◌, ◌≤ℤ◌, map}
 use Rattle.std.specs.Int.{int_max}
 use Rattle.std.specs.List.{fold, sum_by}
@@ -40,32 +40,21 @@ difference_first a b c d x y first second order = omega (arith, ints, clamps, fi
 pub difference_second : (a b c d : ℕ) (x y : ℤ) → IsDifference a b x → IsDifference c d y → a + d ≤ c + b → IsDifference c d (int_max x y)
 difference_second a b c d x y first second order = omega (arith, ints, clamps, first, second, order)
 
--- of three numbers the greatest is the same from either side
-max_assoc : (x y z : ℤ) → int_max (int_max x y) z ≡ int_max x (int_max y z)
-max_assoc x y z = omega (arith, ints, clamps)
+-- what is put together from a first element is put together from the others and then with it, where brackets don't matter
+pub fold_from : {X : Type 0} (both : X → X → X) → ((x y z : X) → both (both x y) z ≡ both x (both y z)) → (x y : X) (zs : List X) →
+    fold both (both x y) zs ≡ both x (fold both y zs)
+fold_from both same x y [] = refl
+fold_from both same x y (z ∷ zs) = ap (λ first. fold both first zs) (same x y z) ∙ fold_from both same x (both y z) zs
 
 -- the greatest of a number and a list is the greater of the number and the list's greatest
 pub greatest-cons : (x y : ℤ) (zs : List ℤ) → greatest x (y ∷ zs) ≡ int_max x (greatest y zs)
-greatest-cons x y [] = refl
-greatest-cons x y (z ∷ zs) = greatest-cons (int_max x y) z zs ∙ max_assoc x y (greatest z zs) ∙ ap (int_max x) (sym (greatest-cons y z zs))
-
--- a sum that begins with one more is more by it
-total_from : (a b : ℤ) (zs : List ℤ) → fold (λ a n. a +ℤ n) (a +ℤ b) zs ≡ a +ℤ fold (λ a n. a +ℤ n) b zs
-total_from a b [] = refl
-total_from a b (z ∷ zs) =
-    ap (λ x. fold (λ a n. a +ℤ n) x zs) (the_sum a b z) ∙ total_from a (b +ℤ z) zs
-  where
-    -- of three numbers the sum is the same from either side
-    the_sum : (x y z : ℤ) → (x +ℤ y) +ℤ z ≡ x +ℤ (y +ℤ z)
-    the_sum x y z = omega (arith, ints)
+greatest-cons x y zs = fold_from int_max (λ x y z. omega (arith, ints, clamps)) x y zs
 
 -- the sum of a list with one number more is more by it
 pub total-cons : (z : ℤ) (zs : List ℤ) → total (z ∷ zs) ≡ z +ℤ total zs
-total-cons z zs = ap (λ x. fold (λ a n. a +ℤ n) x zs) (swapped z) ∙ total_from z (pos 0) zs
-  where
-    -- 0 may be added on either side
-    swapped : (z : ℤ) → pos 0 +ℤ z ≡ z +ℤ pos 0
-    swapped z = omega (arith, ints)
+total-cons z zs =
+    let same : pos 0 +ℤ z ≡ z +ℤ pos 0 = omega (arith, ints) in
+    ap (λ x. fold (λ a n. a +ℤ n) x zs) same ∙ fold_from (λ a n. a +ℤ n) (λ x y z. omega (arith, ints)) z (pos 0) zs
 
 -- a total of differences is the difference of the sums
 pub total_is : {X : Type 0} (a b : X → ℕ) (f : X → ℤ) (xs : List X) → ((x : X) → IsDifference (a x) (b x) (f x)) →

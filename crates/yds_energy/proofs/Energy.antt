@@ -1,6 +1,5 @@
 -- The energy of feasible schedules by a convex table: what they share, and excesses above the points' speeds.
-use Rattle.std.proofs.Common.{◌≡◌, ℕ, ◌+◌, ◌-◌, ◌*◌, ◌≤◌, List, [], ◌∷◌, refl, arith, ap, ◌∙◌}
-use Rattle.std.specs.Prelude.{map}
+use Rattle.std.proofs.Common.{◌≡◌, ℕ, ◌+◌, ◌-◌, ◌*◌, ◌≤◌, List, [], ◌∷◌, refl, arith, ap}
 use Rattle.std.specs.List.{sum_by}
 use Rattle.std.proofs.lemmas.Int.{ints}
 use Rattle.std.proofs.Math.Nat.{mul-le-mul_left}
@@ -9,11 +8,12 @@ use Rattle.yds_model.specs.Slot.{WholeSlot}
 use Rattle.yds_model.specs.Feasible.{IsFeasibleAt}
 use Rattle.yds_model.specs.Excess.{excess, IsLeastAt}
 use Rattle.yds_model.specs.Table.{Point, AreRising, IsConvex, gaps_of}
-use Rattle.yds_model.specs.Energy.{horizon, busy, idle, product, interpolated_power, interpolated_energy, total}
+use Rattle.yds_model.specs.Energy.{horizon, busy, idle, product, interpolated_power, interpolated_energy}
 use Rattle.yds_energy.specs.EnergyLaws.{LeastIsCheapest}
 use Rattle.yds_model.proofs.Sums.{sum_by-add, sum_by-mul, sum_by_zero}
 use Rattle.yds_energy.proofs.Differences.{IsDifference, difference_at_most, total_is}
 use Rattle.yds_energy.proofs.Hinges.{gains, losses, turn, hinges, lines_are, product-cons}
+use Rattle.yds_energy.proofs.RoundedRuns.{all_work}
 use Rattle.yds_model.proofs.Horizon.{same_work, busy_and_idle}
 
 -- how long the slot takes
@@ -24,49 +24,18 @@ time_of slot = slot.to - slot.from
 abbrev all_hinges : ℕ → List Point → List WholeSlot → ℕ
 all_hinges before points slots = sum_by (λ slot. hinges before points (time_of slot) slot.work) slots
 
--- the work of all slots together
-abbrev all_work : List WholeSlot → ℕ
-all_work slots = sum_by (λ slot. slot.work) slots
-
 -- the hinges of all slots are excesses, with weights
 hinges_at_most : (jobs : List Job) (scale before : ℕ) (low high : Point) (points : List Point) (slots others : List WholeSlot) →
     IsLeastAt jobs scale slots → IsFeasibleAt jobs scale others → all_hinges before (low ∷ high ∷ points) slots ≤ all_hinges before (low ∷ high ∷ points) others
 hinges_at_most jobs scale before low high [] slots others least feasible =
     omega (arith, sum_by_zero (λ slot. hinges before (low ∷ high ∷ []) (time_of slot) slot.work) slots (λ k d within. refl))
 hinges_at_most jobs scale before low high (next ∷ points) slots others least feasible =
-    let weight : ℕ = before * product (gaps_of (next ∷ points)) * turn low high next in
-    let edge = λ (slot : WholeSlot). 1 * slot.work - high.speed * time_of slot in
-    let rest = λ (slot : WholeSlot). hinges (before * (high.speed - low.speed)) (high ∷ next ∷ points) (time_of slot) slot.work in
     let more : excess high.speed 1 slots ≤ excess high.speed 1 others = least.least high.speed 1 (omega arith) others feasible in
-    omega (
+    simp (sum_by-add, sum_by-mul) (omega (
       arith,
-      sum_by-add (λ slot. weight * edge slot) rest slots,
-      sum_by-add (λ slot. weight * edge slot) rest others,
-      sum_by-mul weight edge slots,
-      sum_by-mul weight edge others,
-      mul-le-mul_left weight more,
+      mul-le-mul_left (before * product (gaps_of (next ∷ points)) * turn low high next) more,
       hinges_at_most jobs scale (before * (high.speed - low.speed)) high next points slots others least feasible,
-    )
-
--- a sum of two terms with weights is the sums with these weights
-sum_of_two : (a b : ℕ) (f g : WholeSlot → ℕ) (slots : List WholeSlot) →
-    sum_by (λ slot. a * f slot + b * g slot) slots ≡ a * sum_by f slots + b * sum_by g slots
-sum_of_two a b f g slots =
-    omega (arith, sum_by-add (λ slot. a * f slot) (λ slot. b * g slot) slots, sum_by-mul a f slots, sum_by-mul b g slots)
-
--- the first line's number is linear in time and work
-gains_together : (low high : Point) (slots : List WholeSlot) →
-    sum_by (λ slot. gains low high (time_of slot) slot.work) slots ≡ gains low high (busy slots) (all_work slots)
-gains_together low high slots =
-    sum_of_two low.power high.power (λ slot. high.speed * time_of slot) (λ slot. slot.work) slots
-    ∙ ap (λ n. low.power * n + high.power * all_work slots) (sum_by-mul high.speed time_of slots)
-
--- and so is what is taken off it
-losses_together : (low high : Point) (slots : List WholeSlot) →
-    sum_by (λ slot. losses low high (time_of slot) slot.work) slots ≡ losses low high (busy slots) (all_work slots)
-losses_together low high slots =
-    sum_of_two low.power high.power (λ slot. slot.work) (λ slot. low.speed * time_of slot) slots
-    ∙ ap (λ n. low.power * all_work slots + high.power * n) (sum_by-mul low.speed time_of slots)
+    ))
 
 -- the energy by a table of two points or more
 energy_is : (jobs : List Job) (low high : Point) (points : List Point) (scale : ℕ) (slots : List WholeSlot) →
@@ -77,23 +46,13 @@ energy_is : (jobs : List Job) (low high : Point) (points : List Point) (scale : 
     (1 * product (gaps_of (high ∷ points)) * losses low high (busy slots) (all_work slots))
     (interpolated_energy jobs (low ∷ high ∷ points) scale slots)
 energy_is jobs low high points scale slots rising convex =
-    let others : ℕ = 1 * product (gaps_of (high ∷ points)) in
-    let gain = λ (slot : WholeSlot). gains low high (time_of slot) slot.work in
-    let loss = λ (slot : WholeSlot). losses low high (time_of slot) slot.work in
-    let hinge = λ (slot : WholeSlot). hinges 1 (low ∷ high ∷ points) (time_of slot) slot.work in
-    let power = λ (slot : WholeSlot). interpolated_power (low ∷ high ∷ points) (time_of slot) slot.work in
-    let running : IsDifference (sum_by (λ slot. others * gain slot + hinge slot) slots) (sum_by (λ slot. others * loss slot) slots) (total (map power slots)) =
-    total_is (λ slot. others * gain slot + hinge slot) (λ slot. others * loss slot) power slots
-    (λ slot. lines_are 1 low high points (time_of slot) slot.work rising convex) in
     omega (
       arith,
       ints,
-      running,
-      sum_by-add (λ slot. others * gain slot) hinge slots,
-      sum_by-mul others gain slots,
-      sum_by-mul others loss slots,
-      ap (λ n. others * n) (gains_together low high slots),
-      ap (λ n. others * n) (losses_together low high slots),
+      simp (sum_by-add, sum_by-mul) at (total_is
+          (λ slot. 1 * product (gaps_of (high ∷ points)) * gains low high (time_of slot) slot.work + hinges 1 (low ∷ high ∷ points) (time_of slot) slot.work)
+          (λ slot. 1 * product (gaps_of (high ∷ points)) * losses low high (time_of slot) slot.work)
+          (λ slot. interpolated_power (low ∷ high ∷ points) (time_of slot) slot.work) slots (λ slot. lines_are 1 low high points (time_of slot) slot.work rising convex)),
     )
 
 -- the first line's number is the same for all feasible schedules, with the idle time

@@ -54,13 +54,8 @@ rate_full rate per scale stretch slots some full each =
 fills_busy : (capacity per from to : ℕ) (slots : List WholeSlot) → All (λ slot. slot.from < slot.to) slots → FillsAtSpeed capacity per from to slots → from + busy slots ≡ to
 fills_busy capacity per from to [] takes fills = omega (arith, fills)
 fills_busy capacity per from to (slot ∷ slots) takes fills =
-    omega (
-      arith,
-      takes 0 slot (omega arith),
-      fills.0,
-      fills_busy capacity per slot.to to slots (All-tail (λ one. one.from < one.to) slot slots takes) fills.2,
-      sum_by-cons (λ (one : WholeSlot). one.to - one.from) slot slots,
-    )
+    let later = fills_busy capacity per slot.to to slots (All-tail (λ one. one.from < one.to) slot slots takes) fills.2 in
+    simp sum_by-cons (omega (arith, takes 0 slot (omega arith), fills.0, later))
 
 -- and have it
 fills_rate : (capacity per from to : ℕ) (slots : List WholeSlot) → FillsAtSpeed capacity per from to slots → All (HasRate capacity per) slots
@@ -117,16 +112,17 @@ uncut_beside jobs scale k slot within (j, other, inside, is, there) =
     ]
 
 -- What a plan has in a stretch where it has a slot: slots of one level that fill it.
-record IsOfLevel (points : List Point) (levels : List Level) (scale : ℕ) (stretch : Piece) (here : List WholeSlot) : Type 0 where
-  full : IsFull scale stretch here
-  level : Level
-  has : Contains levels level
-  rates : All (HasRate level.work level.length) here
+pub record IsOfLevel (levels : List Level) (scale : ℕ) (stretch : Piece) (here : List WholeSlot) : Type 0 where
+  pub full : IsFull scale stretch here
+  pub level : Level
+  pub has : Contains levels level
+  pub members : All (λ slot. Contains level.members slot.job) here
+  pub rates : All (HasRate level.work level.length) here
 
-of_level : (jobs : List Job) (planned : List WrittenSlot) (levels : List Level) (points : List Point) (scale k : ℕ) → IsPlan jobs planned levels → IsScale scale planned →
+pub of_level : (jobs : List Job) (planned : List WrittenSlot) (levels : List Level) (scale k : ℕ) → IsPlan jobs planned levels → IsScale scale planned →
     k < length (stretches jobs) → 1 ≤ length (slots_in scale (stretch_at jobs k) (slots_at scale planned)) →
-    IsOfLevel points levels scale (stretch_at jobs k) (slots_in scale (stretch_at jobs k) (slots_at scale planned))
-of_level jobs planned levels points scale k plan is within some =
+    IsOfLevel levels scale (stretch_at jobs k) (slots_in scale (stretch_at jobs k) (slots_at scale planned))
+of_level jobs planned levels scale k plan is within some =
     let stretch = stretch_at jobs k in
     let slots : List WholeSlot = slots_at scale planned in
     let here : List WholeSlot = slots_in scale stretch slots in
@@ -147,6 +143,7 @@ of_level jobs planned levels points scale k plan is within some =
       full = rate_full fills.level.work fills.level.length scale stretch here positive.1 fills.full rates;
       level = fills.level;
       has = fills.has;
+      members = fills.members;
       rates = rates;
     }
 
@@ -156,7 +153,7 @@ pub plan_even : (jobs : List Job) (planned : List WrittenSlot) (levels : List Le
 plan_even jobs planned levels scale plan is = All-from_get_or (IsEven scale (slots_at scale planned)) (stretches jobs) no_stretch (λ k within.
     elim (some_or_none (slots_in scale (stretch_at jobs k) (slots_at scale planned))) [
       | inl none ↦ inl none
-      | inr some ↦ inr (of_level jobs planned levels [] scale k plan is within some).full
+      | inr some ↦ inr (of_level jobs planned levels scale k plan is within some).full
     ])
 
 -- work that is done at a speed below another is at most what the other does
@@ -173,7 +170,7 @@ plan_holds jobs planned levels points scale plan is slow = All-from_get_or (Hold
     elim (some_or_none here) [
       | inl none ↦ omega (arith, ap all_work none)
       | inr some ↦
-          let of = of_level jobs planned levels points scale k plan is within some in
+          let of = of_level jobs planned levels scale k plan is within some in
           let level = of.level in
           let positive = All-contains (λ level. (1 ≤ level.work) × (1 ≤ level.length)) levels level plan.proper.well_formed.positive of.has in
           let within_top : level.work ≤ top_of points * level.length = elim (cases_lt (top_of points * level.length) level.work) [

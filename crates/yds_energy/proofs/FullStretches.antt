@@ -1,8 +1,9 @@
 -- A stretch in which a plan has a slot is full, of slots of one level: the level's members have no time to spare.
-use Rattle.std.proofs.Common.{◌≡◌, ℕ, zero, suc, ◌+◌, ◌-◌, ◌*◌, ◌<◌, ◌≤◌, ◌==◌, Bool, true, false, List, [], ◌∷◌, ◌++◌, length, get_or, take, refl, sym, ap, subst, ◌∙◌, arith, inl, inr, add-one, eq-eqb}
+use Rattle.std.proofs.Common.{◌≡◌, ℕ, zero, suc, ◌+◌, ◌-◌, ◌*◌, ◌<◌, ◌≤◌, List, [], ◌∷◌, ◌++◌, length, get_or, take, refl, sym, ap, subst, ◌∙◌, arith, inl, inr, add-one, eq-eqb}
 use Rattle.std.specs.Prelude.{cond}
 use Rattle.std.specs.List.{All, Contains}
-use Rattle.std.proofs.lemmas.Bool.{cases_lt, cases_eq, ne_eqb}
+use Rattle.std.proofs.lemmas.Bool.{cases_lt}
+use Rattle.std.proofs.lemmas.Bool.Decides.{nat_tests}
 use Rattle.std.proofs.lemmas.List.{get_or_append_left, get_or_push, length-append, length-map, take_all}
 use Rattle.std.proofs.lemmas.List.Elements.{All-cons, All-tail, All-append, All-map, All-contains, All-weaker, Contains-get_or}
 use Rattle.std.proofs.lemmas.List.Sums.{sum_by-cons, sum_by-append, get_or-le-sum_by}
@@ -16,40 +17,31 @@ use Rattle.yds_model.specs.Level.{Level, no_level, level_at, all_members, all_pi
 use Rattle.yds_model.specs.Energy.{busy}
 use Rattle.yds_model.specs.Event.{LiesIn}
 use Rattle.yds_model.specs.Plan.{IsPlan}
-use Rattle.yds_model.proofs.Sums.{sum_by-add, sum_by_same, sum_by_at_most}
+use Rattle.yds_model.proofs.Sums.{sum_by-add, sum_by_same}
 use Rattle.yds_model.proofs.Lists.{All-front, All-back, count-cons, counted_contains, flat_map-take}
 use Rattle.yds_model.proofs.Time.{time_within}
 use Rattle.yds_model.proofs.Front.{front_at}
 use Rattle.yds_model.proofs.Runs.{run_forward}
-use Rattle.yds_laws.proofs.Group.{group, group-nil, group-cons, group-append}
+use Rattle.yds_laws.proofs.Group.{group, group-nil, group-cons, group-append, group_at_most}
 use Rattle.yds_laws.proofs.Exact.{Fits, level_time}
 use Rattle.yds_laws.proofs.Plans.{plans_serve_work}
 use Rattle.yds_laws.proofs.Explained.{levels_fit, front_different}
 use Rattle.yds_energy.proofs.RoundedFeasible.{IsBetweenEvents, slot_open}
+use Rattle.yds_energy.proofs.Members.{contained_counted, count_joined}
 use Rattle.yds_energy.proofs.PlanParts.{run_front, run_back, run_later, run_joined}
 
 -- # Members
 
--- a number that stands in a list is counted
-pub contained_counted : (numbers : List ℕ) (number : ℕ) → Contains numbers number → 1 ≤ count number numbers
-contained_counted numbers number (place, within, is) =
-    omega (
-      arith,
-      get_or-le-sum_by (λ other. cond (number == other) 1 0) numbers place number within,
-      ap {B = ℕ} (λ b. cond b 1 0) (eq-eqb number (get_or numbers place number) (sym is)),
-    )
+-- a number stands in a level's members at most as often as in all
+pub level_count : (levels : List Level) (i number : ℕ) → i < length levels → count number (level_at levels i).members ≤ count number (all_members levels)
+level_count [] i number within = absurd (omega (arith, within))
+level_count (level ∷ levels) zero number within = omega (arith, count_joined number level.members (all_members levels))
+level_count (level ∷ levels) (suc i) number within =
+    omega (arith, level_count levels i number (omega (arith, within)), count_joined number level.members (all_members levels))
 
--- how often it stands in two lists together
-pub count_joined : (number : ℕ) (numbers others : List ℕ) → count number (numbers ++ others) ≡ count number numbers + count number others
-count_joined number numbers others = sum_by-append (λ other. cond (number == other) 1 0) numbers others
-
--- a member of a level is counted among all members
+-- so a member of a level is counted among all members
 pub member_counted : (levels : List Level) (i number : ℕ) → i < length levels → Contains (level_at levels i).members number → 1 ≤ count number (all_members levels)
-member_counted [] i number within has = absurd (omega (arith, within))
-member_counted (level ∷ levels) zero number within has =
-    omega (arith, contained_counted level.members number has, count_joined number level.members (all_members levels))
-member_counted (level ∷ levels) (suc i) number within has =
-    omega (arith, member_counted levels i number (omega (arith, within)) has, count_joined number level.members (all_members levels))
+member_counted levels i number within has = omega (arith, contained_counted (level_at levels i).members number has, level_count levels i number within)
 
 -- and where it is counted once, that level is the only one
 pub one_level : (levels : List Level) (i j number : ℕ) → count number (all_members levels) ≤ 1 → i < length levels → j < length levels →
@@ -100,13 +92,8 @@ front_time jobs scale slots levels served fit (suc n) within =
 busy_between : (start end : ℕ) (slots : List WholeSlot) → start ≤ end → RunFrom start slots → All (λ slot. slot.to ≤ end) slots → busy slots + start ≤ end
 busy_between start end [] order run ends = omega (arith, order)
 busy_between start end (slot ∷ slots) order run ends =
-    omega (
-      arith,
-      sum_by-cons (λ (one : WholeSlot). one.to - one.from) slot slots,
-      run.0,
-      run.1,
-      busy_between slot.to end slots (ends 0 slot (omega arith)) run.2 (All-tail (λ one. one.to ≤ end) slot slots ends),
-    )
+    let later = busy_between slot.to end slots (ends 0 slot (omega arith)) run.2 (All-tail (λ one. one.to ≤ end) slot slots ends) in
+    simp sum_by-cons (omega (arith, run.0, run.1, later))
 
 -- how long a slot takes
 abbrev time_of : WholeSlot → ℕ
@@ -118,17 +105,9 @@ group_more job members slots = omega (arith, group-cons time_of job members slot
 
 -- a new number and different ones that are less are different
 new_different : (job : ℕ) (members : List ℕ) → AreDifferent members → All (λ number. number < job) members → AreDifferent (job ∷ members)
-new_different job members different below number = elim (cases_eq number job) [
-  | inl same ↦ elim (cases_lt (count number members) 1) [
-    | inl none ↦ omega (arith, none, count-cons number job members, at_most_one (number == job))
-    | inr some ↦ absurd (omega (arith, same, All-contains (λ number. number < job) members number below (counted_contains number members some)))
-  ]
-  | inr other ↦ omega (arith, different number, count-cons number job members, ap {B = ℕ} (λ b. cond b 1 0) (ne_eqb number job other))
-] where
-  -- a test counts at most once
-  at_most_one : (test : Bool) → cond test 1 0 ≤ 1
-  at_most_one true = omega arith
-  at_most_one false = omega arith
+new_different job members different below number =
+    let less : 1 ≤ count number members → number < job = λ some. All-contains (λ n. n < job) members number below (counted_contains number members some) in
+    grind (arith, nat_tests, count-cons number job members, different number, less)
 
 -- Beside the stretch, with one more job that takes all of it, the members of confined jobs have no more time than the pieces; so where
 -- their time is all the pieces', they fill the stretch.
@@ -194,12 +173,6 @@ part_taken often time once =
 part_left : (often time : ℕ) → (1 - often) * time ≡ 0 → 0 < time → 1 ≤ often
 part_left zero time none takes = absurd (omega (arith, none, takes))
 part_left (suc often) time none takes = omega arith
-
--- members of different jobs take no more time than all slots
-group_within : (members : List ℕ) (slots : List WholeSlot) → AreDifferent members → group time_of members slots ≤ busy slots
-group_within members slots different =
-    sum_by_at_most (λ slot. count slot.job members * time_of slot) time_of slots
-    (λ k d inside. omega (arith, part_taken (count (get_or slots k d).job members) (time_of (get_or slots k d)) (different (get_or slots k d).job)))
 
 -- so slots that don't take longer than their members' time are all the members'
 all_members_of : (members : List ℕ) (slots : List WholeSlot) → AreDifferent members → All (λ slot. slot.from < slot.to) slots →
@@ -324,6 +297,6 @@ module _ (jobs : List Job) (planned : List WrittenSlot) (levels : List Level) (s
           arith,
           here_short,
           front_fills 0 i no_slot some found.1 found.2,
-          group_within (all_members (take (suc i) levels)) here (front_once i found.1),
+          group_at_most time_of (all_members (take (suc i) levels)) here (front_once i found.1),
         );
       }

@@ -7,24 +7,13 @@ use Rattle.std.proofs.lemmas.Bool.{cases_lt}
 use Rattle.std.proofs.Math.Nat.{mul-le-mul_left, mul-le-mul_right}
 use Rattle.yds_model.specs.Table.{Point, AreRising, IsConvex, IsOnOrBelow, gaps_of}
 use Rattle.yds_model.specs.Energy.{product, on_line, on_lines, greatest}
-use Rattle.yds_energy.proofs.Differences.{IsDifference, difference_of, difference_times, difference_plus, difference_first, difference_second, greatest-cons}
-
--- a product that begins with a factor is that factor times the rest
-product_from : (a n : ℕ) (ns : List ℕ) → fold (λ a n. a * n) (a * n) ns ≡ a * fold (λ a n. a * n) n ns
-product_from a n [] = refl
-product_from a n (m ∷ ns) = ap (λ x. fold (λ a n. a * n) x ns) (regrouped a n m) ∙ product_from a (n * m) ns
-  where
-    -- of three factors the product is the same from either side
-    regrouped : (x y z : ℕ) → (x * y) * z ≡ x * (y * z)
-    regrouped x y z = omega arith
+use Rattle.yds_energy.proofs.Differences.{fold_from, IsDifference, difference_of, difference_times, difference_plus, difference_first, difference_second, greatest-cons}
 
 -- the product of a list with one factor more is that factor times it
 pub product-cons : (n : ℕ) (ns : List ℕ) → product (n ∷ ns) ≡ n * product ns
-product-cons n ns = ap (λ x. fold (λ a n. a * n) x ns) (swapped n) ∙ product_from n 1 ns
-  where
-    -- 1 may be a factor on either side
-    swapped : (x : ℕ) → 1 * x ≡ x * 1
-    swapped x = omega arith
+product-cons n ns =
+    let same : 1 * n ≡ n * 1 = omega arith in
+    ap (λ x. fold (λ a n. a * n) x ns) same ∙ fold_from (λ a n. a * n) (λ x y z. omega arith) n 1 ns
 
 -- # One line
 

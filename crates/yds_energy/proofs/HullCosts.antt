@@ -80,22 +80,12 @@ power_of points slot = interpolated_power points (slot.to - slot.from) slot.work
 -- the line's number is linear in time and work
 pub gains_more : (low high : Point) (slot : WholeSlot) (slots : List WholeSlot) →
     gains low high (busy (slot ∷ slots)) (all_work (slot ∷ slots)) ≡ gains low high (slot.to - slot.from) slot.work + gains low high (busy slots) (all_work slots)
-gains_more low high slot slots =
-    omega (
-      arith,
-      ap (λ n. low.power * (high.speed * n)) (sum_by-cons (λ (one : WholeSlot). one.to - one.from) slot slots),
-      ap (λ n. high.power * n) (sum_by-cons (λ (one : WholeSlot). one.work) slot slots),
-    )
+gains_more low high slot slots = simp sum_by-cons (omega arith)
 
 -- and so is what is taken off
 pub losses_more : (low high : Point) (slot : WholeSlot) (slots : List WholeSlot) →
     losses low high (busy (slot ∷ slots)) (all_work (slot ∷ slots)) ≡ losses low high (slot.to - slot.from) slot.work + losses low high (busy slots) (all_work slots)
-losses_more low high slot slots =
-    omega (
-      arith,
-      ap (λ n. high.power * (low.speed * n)) (sum_by-cons (λ (one : WholeSlot). one.to - one.from) slot slots),
-      ap (λ n. low.power * n) (sum_by-cons (λ (one : WholeSlot). one.work) slot slots),
-    )
+losses_more low high slot slots = simp sum_by-cons (omega arith)
 
 -- so all slots together are bounded by a line
 pub lines_at_least : (points : List Point) (k : ℕ) (slots : List WholeSlot) → k + 1 < length points →
@@ -139,29 +129,15 @@ high_end all p r low high time rises =
     let gap : low + (high - low) ≡ high = omega (arith, rises) in
     omega (arith, ap (λ n. all * r * time * n) gap)
 
--- a point that isn't the last is the lower end of a line
-point_before : (points : List Point) (k time : ℕ) → AreRising points → k + 1 < length points →
-    IsAtLeast (product (gaps_of points) * ((point_at points k).power * time)) 0 1 (interpolated_power points time ((point_at points k).speed * time))
-point_before points k time rising within =
-    let low = point_at points k in
-    let high = point_at points (k + 1) in
-    let all = product (gaps_of points) in
-    let work : ℕ = low.speed * time in
-    let rises : low.speed < high.speed = places_rise points k (k + 1) rising (omega arith) within in
-    cancel_gap (high.speed - low.speed) (all * gains low high time work) (all * losses low high time work) (all * (low.power * time)) (interpolated_power points time work)
-    (omega (arith, rises)) (line_at_least points k time work within) (low_end all low.power high.power low.speed high.speed time rises)
-
--- one that isn't the first is the upper end
-point_after : (points : List Point) (k time : ℕ) → AreRising points → k + 1 < length points →
-    IsAtLeast (product (gaps_of points) * ((point_at points (k + 1)).power * time)) 0 1 (interpolated_power points time ((point_at points (k + 1)).speed * time))
-point_after points k time rising within =
-    let low = point_at points k in
-    let high = point_at points (k + 1) in
-    let all = product (gaps_of points) in
-    let work : ℕ = high.speed * time in
-    let rises : low.speed < high.speed = places_rise points k (k + 1) rising (omega arith) within in
-    cancel_gap (high.speed - low.speed) (all * gains low high time work) (all * losses low high time work) (all * (high.power * time)) (interpolated_power points time work)
-    (omega (arith, rises)) (line_at_least points k time work within) (high_end all low.power high.power low.speed high.speed time rises)
+-- so a line gives an end of it the end's power
+end_at_least : (points : List Point) (k time : ℕ) (end : Point) → AreRising points → k + 1 < length points →
+    product (gaps_of points) * gains (point_at points k) (point_at points (k + 1)) time (end.speed * time)
+    ≡ product (gaps_of points) * losses (point_at points k) (point_at points (k + 1)) time (end.speed * time)
+    + ((point_at points (k + 1)).speed - (point_at points k).speed) * (product (gaps_of points) * (end.power * time)) →
+    IsAtLeast (product (gaps_of points) * (end.power * time)) 0 1 (interpolated_power points time (end.speed * time))
+end_at_least points k time end rising within is =
+    cancel_gap _ _ _ (product (gaps_of points) * (end.power * time)) (interpolated_power points time (end.speed * time))
+    (omega (arith, places_rise points k (k + 1) rising (omega arith) within)) (line_at_least points k time (end.speed * time) within) is
 
 -- so at each point's speed the energy is at least the point's
 pub point_at_least : (points : List Point) (k time : ℕ) → AreRising points → k < length points →
@@ -170,10 +146,18 @@ point_at_least [] k time rising within = absurd (omega (arith, within))
 point_at_least (point ∷ []) zero time rising within = omega (arith, ints)
 point_at_least (point ∷ []) (suc k) time rising within = absurd (omega (arith, within))
 point_at_least (point ∷ next ∷ points) k time rising within = elim (cases_lt (k + 1) (length (point ∷ next ∷ points))) [
-  | inl before ↦ point_before (point ∷ next ∷ points) k time rising before
+  | inl before ↦
+      let low = point_at (point ∷ next ∷ points) k in
+      let high = point_at (point ∷ next ∷ points) (k + 1) in
+      end_at_least (point ∷ next ∷ points) k time low rising before
+      (low_end _ low.power high.power low.speed high.speed time (places_rise (point ∷ next ∷ points) k (k + 1) rising (omega arith) before))
   | inr last ↦
       let all : List Point = point ∷ next ∷ points in
       let place : (k - 1) + 1 ≡ k = omega (arith, last) in
+      let before : (k - 1) + 1 < length all = omega (arith, place, within) in
+      let low = point_at all (k - 1) in
+      let high = point_at all ((k - 1) + 1) in
       subst (λ (n : ℕ). IsAtLeast (product (gaps_of all) * ((point_at all n).power * time)) 0 1 (interpolated_power all time ((point_at all n).speed * time))) place
-      (point_after all (k - 1) time rising (omega (arith, place, within)))
+      (end_at_least all (k - 1) time high rising before
+      (high_end _ low.power high.power low.speed high.speed time (places_rise all (k - 1) ((k - 1) + 1) rising (omega arith) before)))
 ]

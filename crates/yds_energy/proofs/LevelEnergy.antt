@@ -1,5 +1,5 @@
 -- What the rounded slots of one level spend: what the level costs.
-use Rattle.std.proofs.Common.{◌≡◌, ◌⊎◌, ℕ, zero, suc, ◌+◌, ◌-◌, ◌*◌, ◌<◌, ◌≤◌, List, [], ◌∷◌, ◌++◌, length, get_or, refl, sym, ap, subst, ◌∙◌, arith, inl, inr, le-leb}
+use Rattle.std.proofs.Common.{◌≡◌, ◌⊎◌, ℕ, ◌+◌, ◌-◌, ◌*◌, ◌<◌, ◌≤◌, List, [], ◌∷◌, ◌++◌, length, get_or, refl, sym, ap, subst, ◌∙◌, arith, inl, inr, le-leb}
 use Rattle.std.specs.Prelude.{nat_le}
 use Rattle.std.specs.List.{All, Any, Contains}
 use Rattle.std.proofs.lemmas.Bool.{cases_eq, cases_lt}
@@ -16,20 +16,19 @@ use Rattle.yds_model.specs.Table.{Point, point_at, AreRising, IsTable, IsHullOf,
 use Rattle.yds_model.specs.Energy.{busy, SpendsAtPoints}
 use Rattle.yds_model.specs.Event.{stretches}
 use Rattle.yds_model.specs.Rounding.{HasPointSpeed, RoundsStretches}
-use Rattle.yds_model.proofs.Sums.{sum_by_same, sum_by_zero}
 use Rattle.yds_model.proofs.Lists.{counted_contains}
 use Rattle.yds_model.proofs.HullExists.{hull_exists}
-use Rattle.yds_events.proofs.Neighbours.{stretches_run}
 use Rattle.yds_energy.specs.RoundingLaws.{IsLevelCost, member_slots, RoundedCostsItsLevel}
 use Rattle.yds_laws.proofs.Group.{group}
 use Rattle.yds_laws.proofs.Bound.{scale_left, scale_right}
 use Rattle.yds_energy.proofs.HullEnergy.{hull_rising}
 use Rattle.yds_energy.proofs.LevelTimes.{TakesLong, levels_long}
 use Rattle.yds_energy.proofs.LevelShares.{stretch_share}
-use Rattle.yds_energy.proofs.PlanParts.{IsPartOfPlan, level_found, plan_part}
+use Rattle.yds_energy.proofs.PlanParts.{IsPartOfPlan, level_found}
 use Rattle.yds_energy.proofs.RoundedFeasible.{SplitsAt, RoundsAt, rounds_fold, same_jobs}
 use Rattle.yds_energy.proofs.RoundedEnergy.{spends_joined}
-use Rattle.yds_energy.proofs.FullStretches.{contained_counted, one_level, count_joined}
+use Rattle.yds_energy.proofs.FullStretches.{level_count, one_level}
+use Rattle.yds_energy.proofs.Members.{contained_counted, group_once, group_none}
 
 -- # The slots of a level
 
@@ -47,13 +46,6 @@ none_of level [] others = refl
 none_of level (slot ∷ slots) others =
     let none = All-head (λ one. count one.job level.members ≡ 0) slot slots others in
     rw (none) (none_of level slots (All-tail (λ one. count one.job level.members ≡ 0) slot slots others))
-
--- a number stands in a level's members at most as often as in all
-level_count : (levels : List Level) (i number : ℕ) → i < length levels → count number (level_at levels i).members ≤ count number (all_members levels)
-level_count [] i number within = absurd (omega (arith, within))
-level_count (level ∷ levels) zero number within = omega (arith, count_joined number level.members (all_members levels))
-level_count (level ∷ levels) (suc i) number within =
-    omega (arith, level_count levels i number (omega (arith, within)), count_joined number level.members (all_members levels))
 
 -- what holds of the jobs of the planned slots of a stretch holds of those of the written ones
 written_jobs : (hull : List Point) (levels : List Level) (scale : ℕ) (level : Level) (stretch : Piece) (planned written : List WholeSlot) (P : ℕ → Type 0) →
@@ -73,18 +65,6 @@ pub record SpendsOfLevel (points : List Point) (parts power cost : ℕ) (level :
   shorter : busy (member_slots level written) ≤ group (λ slot. slot.to - slot.from) level.members planned
   is_spent : parts * level.length * (spent + power * group (λ slot. slot.to - slot.from) level.members planned)
       ≡ cost * group (λ slot. slot.to - slot.from) level.members planned + parts * level.length * (power * busy (member_slots level written))
-
--- members counted once take all the slots' time
-group_all : (members : List ℕ) (slots : List WholeSlot) → All (λ slot. count slot.job members ≡ 1) slots → group (λ slot. slot.to - slot.from) members slots ≡ busy slots
-group_all members slots one =
-    sum_by_same (λ slot. count slot.job members * (slot.to - slot.from)) (λ slot. slot.to - slot.from) slots
-    (λ k d inside. omega (arith, ap (λ n. n * ((get_or slots k d).to - (get_or slots k d).from)) (one k d inside)))
-
--- and those counted nowhere take none
-group_none : (members : List ℕ) (slots : List WholeSlot) → All (λ slot. count slot.job members ≡ 0) slots → group (λ slot. slot.to - slot.from) members slots ≡ 0
-group_none members slots none =
-    sum_by_zero (λ slot. count slot.job members * (slot.to - slot.from)) slots
-    (λ k d inside. omega (arith, ap (λ n. n * ((get_or slots k d).to - (get_or slots k d).from)) (none k d inside)))
 
 -- a stretch's share, over the level's length
 share_spent : (parts long power cost spent stretch_cost planned written : ℕ) → spent + power * planned ≡ stretch_cost + power * written →
@@ -110,7 +90,7 @@ module _ (jobs : List Job) (points hull : List Point) (levels : List Level) (par
     spent = 0;
     spends = refl;
     shorter = omega arith;
-    is_spent = omega (arith, (group_none level.members [] (λ k d inside. absurd (omega (arith, inside)))));
+    is_spent = omega (arith, (group_none (λ slot. slot.to - slot.from) level.members [] (λ k d inside. absurd (omega (arith, inside)))));
   }
 
   -- a stretch of the level itself
@@ -128,7 +108,7 @@ module _ (jobs : List Job) (points hull : List Point) (levels : List Level) (par
         subst (λ (one : Level). count slot.job one.members ≤ count slot.job (all_members levels)) found (level_count levels mine.0 slot.job mine.1),
         once slot.job (part.windows k d inside).known,
       ) in
-      let all = group_all level.members planned one in
+      let all = group_once (λ slot. slot.to - slot.from) level.members planned one in
       let written_all = all_of level written (written_jobs hull levels scale level stretch planned written (Contains level.members) how members) in
       record {
         spent = is.spent;
@@ -154,7 +134,7 @@ module _ (jobs : List Job) (points hull : List Point) (levels : List Level) (par
         spent = 0;
         spends = rw nothing refl;
         shorter = omega (arith, ap busy nothing);
-        is_spent = rw (group_none level.members planned none, nothing) (omega arith);
+        is_spent = rw (group_none (λ slot. slot.to - slot.from) level.members planned none, nothing) (omega arith);
       }
 
   -- so each stretch
@@ -201,8 +181,7 @@ module _ (jobs : List Job) (points hull : List Point) (levels : List Level) (par
       RoundsStretches hull levels (stretches jobs) planned written →
       SpendsOfLevel points parts (point_at points 0).power cost level (slots_at scale planned) (slots_at scale written)
   all_of_level planned written plan is is_written rounds =
-      rounds_fold jobs hull levels scale (SpendsOfLevel points parts (point_at points 0).power cost level) of_nothing of_stretch of_both 0 (stretches jobs)
-      planned written (stretches_run jobs) (plan_part jobs planned levels scale plan is) is is_written rounds
+      rounds_fold jobs hull levels scale (SpendsOfLevel points parts (point_at points 0).power cost level) of_nothing of_stretch of_both planned written plan is is_written rounds
 
 -- the law: the level's slots take the time of its length, and spend its cost
 pub rounded_costs_its_level : RoundedCostsItsLevel

@@ -14,7 +14,8 @@ use Rattle.yds_energy.proofs.HullCosts.{hull_in}
 use Rattle.yds_energy.proofs.LevelCosts.{cost_at_point, cost_between}
 use Rattle.yds_energy.proofs.PlanParts.{IsPartOfPlan}
 use Rattle.yds_energy.proofs.RoundedFeasible.{SplitsAt}
-use Rattle.yds_energy.proofs.RoundedEnergy.{RunAt, kept_spends, level_at_point, SplitSpends, split_spends}
+use Rattle.yds_energy.proofs.RoundedRuns.{RunAt, at_spend}
+use Rattle.yds_energy.proofs.RoundedEnergy.{level_at_point, SplitSpends, split_spends}
 
 -- a level's cost, by the time at two points, times its length
 split_cost : (parts cost p r low high long work time rest : ℕ) → low < high → low * long ≤ work → work ≤ high * long →
@@ -48,7 +49,7 @@ kept_share points hull parts power cost level point slots is_hull rising some co
     level_at_point slot.work (slot.to - slot.from) level.work level.length point.speed some (speeds i d inside) at in
     record {
       spent = point.power * busy slots;
-      spends = kept_spends points point slots (hull_in points hull point is_hull has) run;
+      spends = at_spend points point slots (hull_in points hull point is_hull has) run;
       shorter = omega arith;
       stretch_cost = point.power * busy slots;
       is_spent = refl;

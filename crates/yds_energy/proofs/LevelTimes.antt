@@ -2,21 +2,20 @@
 use Rattle.std.proofs.Common.{◌≡◌, ℕ, ◌-◌, ◌*◌, ◌≤◌, List, [], ◌∷◌, get_or, sym, ap, ◌∙◌, arith}
 use Rattle.std.specs.Prelude.{sum_by}
 use Rattle.std.specs.List.{All}
-use Rattle.std.proofs.lemmas.List.Elements.{All-head, All-tail}
+use Rattle.std.proofs.lemmas.List.Elements.{All-tail}
 use Rattle.std.proofs.lemmas.List.Sums.{sum_by-cons}
 use Rattle.std.proofs.Math.Nat.{le_of_mul-le-mul_left}
-use Rattle.yds_model.specs.Numbers.{count}
 use Rattle.yds_model.specs.Job.{Job}
 use Rattle.yds_model.specs.Slot.{WrittenSlot, WholeSlot, IsScale, slots_at}
 use Rattle.yds_model.specs.Level.{Level, all_members}
 use Rattle.yds_model.specs.Plan.{IsPlan}
 use Rattle.yds_model.specs.Energy.{busy, horizon}
-use Rattle.yds_model.proofs.Sums.{sum_by_same}
 use Rattle.yds_model.proofs.Horizon.{busy_and_idle}
 use Rattle.yds_model.proofs.Scale.{scale_exists}
 use Rattle.yds_energy.specs.RoundingLaws.{LevelsFitTheHorizon}
 use Rattle.yds_laws.proofs.Group.{group, group-nil, group-append}
 use Rattle.yds_laws.proofs.Exact.{level_time}
+use Rattle.yds_energy.proofs.Members.{group_once}
 use Rattle.yds_energy.proofs.FullStretches.{planned_once, plan_fits}
 
 -- the slots of a level take as long as the level, at a scale
@@ -36,21 +35,19 @@ all_long : (scale : ℕ) (slots : List WholeSlot) (levels : List Level) → All 
     group (λ slot. slot.to - slot.from) (all_members levels) slots ≡ scale * sum_by (λ level. level.length) levels
 all_long scale slots [] long = omega (arith, group-nil (λ slot. slot.to - slot.from) slots)
 all_long scale slots (level ∷ levels) long =
-    omega (
+    simp sum_by-cons (omega (
       arith,
       group-append (λ slot. slot.to - slot.from) level.members (all_members levels) slots,
-      All-head (TakesLong slots scale) level levels long,
+      long 0 level (omega arith),
       all_long scale slots levels (All-tail (TakesLong slots scale) level levels long),
-      ap (λ n. scale * n) (sum_by-cons (λ (one : Level). one.length) level levels),
-    )
+    ))
 
 -- so a plan's slots take as long as its levels
 pub plan_busy : (jobs : List Job) (planned : List WrittenSlot) (levels : List Level) (scale : ℕ) → IsPlan jobs planned levels → IsScale scale planned →
     busy (slots_at scale planned) ≡ scale * sum_by (λ level. level.length) levels
 plan_busy jobs planned levels scale plan is =
     let slots = slots_at scale planned in
-    sum_by_same (λ slot. slot.to - slot.from) (λ slot. count slot.job (all_members levels) * (slot.to - slot.from)) slots
-    (λ k d within. omega (arith, ap (λ n. n * ((get_or slots k d).to - (get_or slots k d).from)) (planned_once jobs planned levels scale plan is k d within)))
+    sym (group_once (λ slot. slot.to - slot.from) (all_members levels) slots (planned_once jobs planned levels scale plan is))
     ∙ all_long scale slots levels (levels_long jobs planned levels scale plan is)
 
 -- the law: and that is at most the horizon

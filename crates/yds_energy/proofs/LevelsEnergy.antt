@@ -15,19 +15,19 @@ use Rattle.yds_model.specs.Table.{Point, point_at, AreRising, IsTable, IsHullOf,
 use Rattle.yds_model.specs.Energy.{busy, idle, horizon, SpendsAtPoints}
 use Rattle.yds_model.specs.Event.{stretches}
 use Rattle.yds_model.specs.Rounding.{RoundsStretches}
-use Rattle.yds_model.proofs.Sums.{sum_by-add, sum_by-mul, sum_by_same, sum_by_zero}
+use Rattle.yds_model.proofs.Sums.{sum_by-add, sum_by-mul, sum_by_zero}
 use Rattle.yds_model.proofs.Horizon.{busy_and_idle}
 use Rattle.yds_model.proofs.HullExists.{hull_exists}
-use Rattle.yds_events.proofs.Neighbours.{stretches_run}
 use Rattle.yds_energy.specs.RoundingLaws.{IsLevelCost, RoundedCostsItsLevels}
 use Rattle.yds_laws.proofs.Bound.{scale_left, scale_right}
 use Rattle.yds_energy.proofs.HullEnergy.{hull_rising}
 use Rattle.yds_energy.proofs.LevelTimes.{TakesLong, levels_long, plan_busy, levels_fit_the_horizon}
 use Rattle.yds_energy.proofs.LevelShares.{stretch_share}
-use Rattle.yds_energy.proofs.PlanParts.{IsPartOfPlan, level_found, plan_part}
+use Rattle.yds_energy.proofs.PlanParts.{IsPartOfPlan, level_found}
 use Rattle.yds_energy.proofs.RoundedFeasible.{RoundsAt, rounds_fold, written_feasible}
 use Rattle.yds_energy.proofs.RoundedEnergy.{spends_joined}
-use Rattle.yds_energy.proofs.FullStretches.{count_joined, contained_counted, member_counted}
+use Rattle.yds_energy.proofs.FullStretches.{member_counted}
+use Rattle.yds_energy.proofs.Members.{count_joined, contained_counted}
 
 -- # Rates
 
@@ -84,21 +84,12 @@ rates_together scale slots [] [] same long = omega (arith, sum_by_zero (λ slot.
 rates_together scale slots [] (cost ∷ costs) same long = absurd (omega (arith, same))
 rates_together scale slots (level ∷ levels) [] same long = absurd (omega (arith, same))
 rates_together scale slots (level ∷ levels) (cost ∷ costs) same long =
-    let time = λ (slot : WholeSlot). slot.to - slot.from in
-    let mine = λ (slot : WholeSlot). count slot.job level.members * time slot in
-    let rest = λ (slot : WholeSlot). rate levels costs slot.job * time slot in
-    let share : ℕ = cost * all_lengths levels in
-    omega (
+    simp (each, sum_by-add, sum_by-mul) (omega (
       arith,
-      sum_by_same (λ slot. rate (level ∷ levels) (cost ∷ costs) slot.job * time slot) (λ slot. share * mine slot + level.length * rest slot) slots
-          (λ k d within. each (count (get_or slots k d).job level.members) share level.length (rate levels costs (get_or slots k d).job) (time (get_or slots k d))),
-      sum_by-add (λ slot. share * mine slot) (λ slot. level.length * rest slot) slots,
-      sum_by-mul share mine slots,
-      sum_by-mul level.length rest slots,
-      ap (λ n. share * n) (All-head (TakesLong slots scale) level levels long),
+      ap (λ n. cost * all_lengths levels * n) (long 0 level (omega arith)),
       ap (λ n. level.length * n) (rates_together scale slots levels costs (omega (arith, same)) (All-tail (TakesLong slots scale) level levels long)),
       ap (λ n. level.length * all_lengths levels * (scale * n)) (sum_by-cons (λ (n : ℕ). n) cost costs),
-    )
+    ))
   where
     -- a slot's cost in two parts
     each : (often share long rest time : ℕ) → (often * share + long * rest) * time ≡ share * (often * time) + long * (rest * time)
@@ -118,14 +109,11 @@ pub level_rates : (levels : List Level) (costs : List ℕ) (long share : ℕ) (s
     sum_by (λ slot. rate levels costs slot.job * (slot.to - slot.from)) slots * long ≡ share * busy slots
 level_rates levels costs long share [] each = omega arith
 level_rates levels costs long share (slot ∷ slots) each =
-    let time : ℕ = slot.to - slot.from in
-    omega (
+    simp sum_by-cons (omega (
       arith,
-      ap (λ n. n * long) (sum_by-cons (λ (one : WholeSlot). rate levels costs one.job * (one.to - one.from)) slot slots),
-      ap (λ n. share * n) (sum_by-cons (λ (one : WholeSlot). one.to - one.from) slot slots),
-      ap (λ n. n * time) (All-head (λ one. rate levels costs one.job * long ≡ share) slot slots each),
+      ap (λ n. n * (slot.to - slot.from)) (each 0 slot (omega arith)),
       level_rates levels costs long share slots (All-tail (λ one. rate levels costs one.job * long ≡ share) slot slots each),
-    )
+    ))
 
 -- so a stretch costs what its slots do
 stretch_rates : (all parts cost long stretch_cost time total : ℕ) → 1 ≤ long → parts * stretch_cost * long ≡ cost * time → total * long ≡ all * cost * time →
@@ -216,8 +204,7 @@ module _ (jobs : List Job) (points hull : List Point) (levels : List Level) (cos
       SpendsByRate points parts (point_at points 0).power levels costs (slots_at scale planned) (slots_at scale written)
   all_spend planned written plan is is_written rounds =
       rounds_fold jobs hull levels scale (SpendsByRate points parts (point_at points 0).power levels costs)
-      (record { spent = 0; spends = refl; is_spent = omega arith }) stretch_spends spends_both 0 (stretches jobs) planned written
-      (stretches_run jobs) (plan_part jobs planned levels scale plan is) is is_written rounds
+      (record { spent = 0; spends = refl; is_spent = omega arith }) stretch_spends spends_both planned written plan is is_written rounds
 
 -- # The law
 

@@ -17,6 +17,7 @@ pub mod LineEnergy
 pub mod PlansEnergy
 pub mod HullCosts
 pub mod LevelCosts
+pub mod Members
 pub mod LevelTimes
 pub mod LevelShares
 pub mod LevelsEnergy
@@ -29,3 +30,4 @@ pub mod RoundedFeasible
 pub mod FullStretches
 pub mod RoundedOnPoints
 pub mod TooSlow
+pub mod Finer

@@ -12,13 +12,9 @@ use Rattle.yds_model.specs.Feasible.{RunFrom, IsInWindow}
 use Rattle.yds_model.specs.Level.{Level, level_at, no_level}
 use Rattle.yds_model.specs.Plan.{IsPlan}
 use Rattle.yds_model.proofs.Lists.{All-front, All-back}
+use Rattle.yds_model.proofs.Runs.{run_earlier}
 
 -- # Slots in order
-
--- slots that run from a time on run from each earlier one
-pub run_lower : (low start : ℕ) (slots : List WholeSlot) → low ≤ start → RunFrom start slots → RunFrom low slots
-run_lower low start [] lower run = tt
-run_lower low start (slot ∷ slots) lower run = (omega (arith, lower, run.0), run.1, run.2)
 
 -- and from each time up to their start
 pub run_later : (low start : ℕ) (slots : List WholeSlot) → RunFrom low slots → All (λ slot. start ≤ slot.from) slots → RunFrom start slots
@@ -32,13 +28,13 @@ run_front start (slot ∷ slots) others run = (run.0, run.1, run_front slot.to s
 
 -- and the second
 pub run_back : (start : ℕ) (slots others : List WholeSlot) → RunFrom start (slots ++ others) → RunFrom 0 others
-run_back start [] others run = run_lower 0 start others (omega arith) run
+run_back start [] others run = run_earlier 0 start others (omega arith) run
 run_back start (slot ∷ slots) others run = run_back slot.to slots others run.2
 
 -- two parts, of which the second begins where the first has ended
 pub run_joined : (start middle : ℕ) (slots others : List WholeSlot) → start ≤ middle → RunFrom start slots → All (λ slot. slot.to ≤ middle) slots →
     RunFrom middle others → RunFrom start (slots ++ others)
-run_joined start middle [] others order run ends later = run_lower start middle others order later
+run_joined start middle [] others order run ends later = run_earlier start middle others order later
 run_joined start middle (slot ∷ slots) others order run ends later = (
   run.0,
   run.1,
@@ -99,28 +95,26 @@ plan_part jobs slots levels scale plan is =
           (subst (λ (one : Level). Contains one.members slot.job) (sym found) member)));
     }
 
--- and so is the first of two parts
+-- a part of two parts, at a scale
+whole_part : (jobs : List Job) (levels : List Level) (slots others : List WrittenSlot) (scale : ℕ) → IsPartOfPlan jobs levels (slots_at scale (slots ++ others)) scale →
+    RunFrom 0 (slots_at scale slots ++ slots_at scale others) × All (IsInWindow jobs scale) (slots_at scale slots ++ slots_at scale others)
+    × All (HasSpeeds levels) (slots_at scale slots ++ slots_at scale others)
+whole_part jobs levels slots others scale part = rw (← map-append (slot_at_scale scale) slots others) (part.order, part.windows, part.speeds)
+
+-- the first of two parts is one
 pub part_front : (jobs : List Job) (levels : List Level) (slots others : List WrittenSlot) (scale : ℕ) →
     IsPartOfPlan jobs levels (slots_at scale (slots ++ others)) scale → IsPartOfPlan jobs levels (slots_at scale slots) scale
 part_front jobs levels slots others scale part =
-    let both = map-append (slot_at_scale scale) slots others in
+    let (order, windows, speeds) = whole_part jobs levels slots others scale part in
     let here = slots_at scale slots in
     let later = slots_at scale others in
-    record {
-      order = run_front 0 here later (subst (RunFrom 0) both part.order);
-      windows = All-front (IsInWindow jobs scale) here later (subst (All (IsInWindow jobs scale)) both part.windows);
-      speeds = All-front (HasSpeeds levels) here later (subst (All (HasSpeeds levels)) both part.speeds);
-    }
+    record { order = run_front 0 here later order; windows = All-front (IsInWindow jobs scale) here later windows; speeds = All-front (HasSpeeds levels) here later speeds }
 
 -- and the second
 pub part_back : (jobs : List Job) (levels : List Level) (slots others : List WrittenSlot) (scale : ℕ) →
     IsPartOfPlan jobs levels (slots_at scale (slots ++ others)) scale → IsPartOfPlan jobs levels (slots_at scale others) scale
 part_back jobs levels slots others scale part =
-    let both = map-append (slot_at_scale scale) slots others in
+    let (order, windows, speeds) = whole_part jobs levels slots others scale part in
     let here = slots_at scale slots in
     let later = slots_at scale others in
-    record {
-      order = run_back 0 here later (subst (RunFrom 0) both part.order);
-      windows = All-back (IsInWindow jobs scale) here later (subst (All (IsInWindow jobs scale)) both part.windows);
-      speeds = All-back (HasSpeeds levels) here later (subst (All (HasSpeeds levels)) both part.speeds);
-    }
+    record { order = run_back 0 here later order; windows = All-back (IsInWindow jobs scale) here later windows; speeds = All-back (HasSpeeds levels) here later speeds }

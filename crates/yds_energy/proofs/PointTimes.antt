@@ -1,19 +1,20 @@
 -- How long a stretch runs at each point of a hull, and what it costs: the time is spent at the two points around its speed.
-use Rattle.std.proofs.Common.{◌≡◌, ℕ, zero, suc, ◌+◌, ◌-◌, ◌*◌, ◌/◌, ◌<◌, ◌≤◌, ◌==◌, Bool, true, false, List, [], ◌∷◌, length, get_or, refl, sym, ap, subst, ◌∙◌, arith, inl, inr, add-one}
+use Rattle.std.proofs.Common.{◌≡◌, ℕ, zero, suc, ◌+◌, ◌-◌, ◌*◌, ◌/◌, ◌<◌, ◌≤◌, ◌==◌, true, false, List, [], ◌∷◌, length, refl, sym, ap, subst, ◌∙◌, arith, inl, inr, add-one}
 use Rattle.std.specs.Prelude.{sum_by, nat_le, if◌then◌else◌}
 use Rattle.std.specs.List.{Contains}
 use Rattle.std.specs.Int.{◌∣◌}
 use Rattle.std.proofs.lemmas.Bool.{cases_eq, cases_lt, eq-eqb, ne_eqb, le-leb, lt-leb}
+use Rattle.std.proofs.lemmas.Bool.Decides.{nat_tests}
 use Rattle.std.proofs.lemmas.List.Sums.{sum_by-cons}
 use Rattle.std.proofs.lemmas.Nat.Gcd.{dvd_trans}
-use Rattle.std.proofs.Math.Nat.{div-mul_cancel, mul-le-mul_right}
+use Rattle.std.proofs.Math.Nat.{mul-add, div-mul_cancel, mul-le-mul_right}
 use Rattle.yds_model.specs.Divisor.{multiple_of_all}
 use Rattle.yds_model.specs.Table.{Point, point_at, AreRising, IsHullOf, GoesOn, gaps_of}
 use Rattle.yds_model.specs.Rounding.{top_of}
 use Rattle.yds_model.specs.Comparison.{time_at}
 use Rattle.yds_model.proofs.Divisor.{multiple_is_least}
 use Rattle.yds_model.proofs.Hull.{RisesFrom, rises_from}
-use Rattle.yds_model.proofs.Sums.{sum_by-add, sum_by_same}
+use Rattle.yds_model.proofs.Sums.{sum_by-add}
 use Rattle.yds_energy.proofs.Hinges.{gains, losses}
 use Rattle.yds_energy.proofs.OneEnergy.{rising_tail, places_rise, one_point}
 
@@ -55,12 +56,7 @@ chosen_none : (speed x from : ℕ) (points : List Point) → RisesFrom from poin
 chosen_none speed x from [] rises slow = refl
 chosen_none speed x from (point ∷ points) rises slow =
     let other : (point.speed == speed) ≡ false = ne_eqb point.speed speed (λ same. omega (arith, same, rises.0, slow)) in
-    omega (
-      arith,
-      sum_by-cons (λ (one : Point). one.power * chosen speed x one) point points,
-      ap (λ (b : Bool). point.power * (if b then x else 0)) other,
-      chosen_none speed x point.speed points rises.1 (omega (arith, rises.0, slow)),
-    )
+    simp sum_by-cons (rw other (omega (arith, chosen_none speed x point.speed points rises.1 (omega (arith, rises.0, slow)))))
 
 -- what holds of a number in a list holds later where it isn't the first
 contains_later : (point first : Point) (points : List Point) → (first ≡ point → ⊥) → Contains (first ∷ points) point → Contains points point
@@ -74,19 +70,15 @@ chosen_once [] q x rising has = absurd (omega (arith, has.1))
 chosen_once (point ∷ points) q x rising has = elim (cases_eq point.speed q.speed) [
   | inl same ↦
       let power : point.power ≡ q.power = ap (λ (p : Point). p.power) (one_point (point ∷ points) point q rising (0, omega arith, refl) has same) in
-      omega (
+      let here = eq-eqb point.speed q.speed same in
+      simp sum_by-cons (rw here (omega (arith, ap (λ n. n * x) power, chosen_none q.speed x point.speed points (rises_from point points rising) (omega (arith, same)))))
+  | inr other ↦
+      let there = ne_eqb point.speed q.speed other in
+      simp sum_by-cons (rw there (omega (
         arith,
-        sum_by-cons (λ (one : Point). one.power * chosen q.speed x one) point points,
-        ap (λ (b : Bool). point.power * (if b then x else 0)) (eq-eqb point.speed q.speed same),
-        ap (λ n. n * x) power,
-        chosen_none q.speed x point.speed points (rises_from point points rising) (omega (arith, same)),
-      )
-  | inr other ↦ omega (
-    arith,
-    sum_by-cons (λ (one : Point). one.power * chosen q.speed x one) point points,
-    ap (λ (b : Bool). point.power * (if b then x else 0)) (ne_eqb point.speed q.speed other),
-    chosen_once points q x (rising_tail point points rising) (contains_later q point points (λ is. other (ap (λ (p : Point). p.speed) is)) has),
-  )
+        chosen_once points q x (rising_tail point points rising)
+            (contains_later q point points (λ is. other (ap (λ (p : Point). p.speed) is)) has),
+      )))
 ]
 
 -- # What a stretch costs
@@ -108,25 +100,13 @@ pair_time multiple time work low high speed =
 -- it is a choice of the one and of the other
 two_chosen : (low high point : Point) (fast slow : ℕ) → low.speed < high.speed →
     pair_at low high fast slow point.speed ≡ chosen high.speed fast point + chosen low.speed slow point
-two_chosen low high point fast slow rises = elim (cases_eq point.speed high.speed) [
-  | inl at_high ↦ rw (eq-eqb point.speed high.speed at_high, ne_eqb point.speed low.speed (λ at_low. omega (arith, at_low, at_high, rises))) (omega arith)
-  | inr other ↦ rw (ne_eqb point.speed high.speed other) (omega arith)
-]
+two_chosen low high point fast slow rises = grind (arith, nat_tests)
 
 -- so its energy is that of the two points
 pair_energy : (points : List Point) (low high : Point) (fast slow : ℕ) → AreRising points → Contains points low → Contains points high → low.speed < high.speed →
     sum_by (λ point. point.power * pair_at low high fast slow point.speed) points ≡ high.power * fast + low.power * slow
 pair_energy points low high fast slow rising has_low has_high rises =
-    let one = λ (point : Point). point.power * chosen high.speed fast point in
-    let other = λ (point : Point). point.power * chosen low.speed slow point in
-    omega (
-      arith,
-      sum_by_same (λ point. point.power * pair_at low high fast slow point.speed) (λ point. one point + other point) points
-          (λ k d within. let point = get_or points k d in omega (arith, ap (λ n. point.power * n) (two_chosen low high point fast slow rises))),
-      sum_by-add one other points,
-      chosen_once points high fast rising has_high,
-      chosen_once points low slow rising has_low,
-    )
+    simp (λ (point : Point). two_chosen low high point fast slow rises, mul-add, sum_by-add, chosen_once points high fast rising has_high, chosen_once points low slow rising has_low)
 
 -- the place of the two points of a hull around a stretch's speed
 pub record IsAtPlace (multiple time work : ℕ) (hull : List Point) : Type 0 where
@@ -224,9 +204,7 @@ place_energy points hull time work rising hull_rising has at =
     let whole : part * gap ≡ multiple = div-mul_cancel gap (rw add-one at (gap_divides hull at.place (omega (arith, at.within)))) in
     let fits = fast_fits low.speed gap high.speed time work above part multiple is_high is_work at.below_high whole in
     let cost : point_energy points multiple time work hull ≡ high.power * fast + low.power * slow =
-    sum_by_same (λ point. point.power * time_at multiple time work hull point.speed) (λ point. point.power * pair_at low high fast slow point.speed) points
-    (λ k d within. let point = get_or points k d in ap (λ n. point.power * n) (at.times point.speed))
-    ∙ pair_energy points low high fast slow rising (has at.place (omega (arith, at.within))) (has (suc at.place) at.within) rises in
+    simp at.times (pair_energy points low high fast slow rising (has at.place (omega (arith, at.within))) (has (suc at.place) at.within) rises) in
     cost_on_line low.power high.power low.speed gap high.speed time work above part multiple fast slow (point_energy points multiple time work hull) is_high is_work whole
     refl (omega (arith, fits)) cost
 
@@ -257,6 +235,4 @@ idle_time multiple time (low ∷ high ∷ points) rising some speed =
 pub idle_energy : (points : List Point) (low : Point) (hull : List Point) (multiple time : ℕ) → AreRising points → AreRising (low ∷ hull) → Contains points low →
     point_energy points multiple time 0 (low ∷ hull) ≡ low.power * (time * multiple)
 idle_energy points low hull multiple time rising hull_rising has =
-    sum_by_same (λ point. point.power * time_at multiple time 0 (low ∷ hull) point.speed) (λ point. point.power * chosen low.speed (time * multiple) point) points
-    (λ k d within. let point = get_or points k d in ap (λ n. point.power * n) (sym (idle_time multiple time (low ∷ hull) hull_rising (omega arith) point.speed)))
-    ∙ chosen_once points low (time * multiple) rising has
+    simp (← idle_time multiple time (low ∷ hull) hull_rising (omega arith)) (chosen_once points low (time * multiple) rising has)

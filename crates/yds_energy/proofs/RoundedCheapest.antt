@@ -1,5 +1,5 @@
 -- The energy of the rounded slots of a plan is the least of all feasible schedules on the table's points.
-use Rattle.std.proofs.Common.{◌≡◌, ℕ, zero, suc, ◌-◌, ◌*◌, ◌<◌, ◌≤◌, List, [], ◌∷◌, ◌++◌, map, ap, arith}
+use Rattle.std.proofs.Common.{◌≡◌, ℕ, zero, suc, ◌-◌, ◌*◌, ◌<◌, ◌≤◌, List, [], ◌∷◌, ◌++◌, map, ap, arith, refl}
 use Rattle.std.specs.Prelude.{ℤ, pos, ◌≤ℤ◌}
 use Rattle.std.proofs.lemmas.Int.{ints}
 use Rattle.std.proofs.lemmas.List.Elements.{All-append}
@@ -19,7 +19,7 @@ use Rattle.yds_energy.specs.RoundingLaws.{RoundedIsCheapest}
 use Rattle.yds_laws.proofs.Bound.{scale_left, scale_right}
 use Rattle.yds_energy.proofs.Hinges.{product-cons}
 use Rattle.yds_energy.proofs.HullEnergy.{hull_rising}
-use Rattle.yds_energy.proofs.RoundingScale.{energy_finer}
+use Rattle.yds_energy.proofs.RoundingScale.{energy_both}
 use Rattle.yds_energy.proofs.PlansEnergy.{plans_cost_least_on_points}
 use Rattle.yds_energy.proofs.PlanParts.{scale_times}
 use Rattle.yds_energy.proofs.RoundedEnergy.{rounded_attains_the_hull}
@@ -64,7 +64,7 @@ cheapest_at jobs points planned levels written energy (suc n) spent others plan 
     let mine = rounding.energy_of.at_scales.holds (some.0 * scale) (scale_right (some.0 * scale) planned written common) in
     let most = plans_cost_least_on_points jobs planned levels points hull (some.0 * scale) (some.0 * spent) (map (finer some.0) others) plan table is_hull
     (scale_left (some.0 * scale) planned written common) (feasible_finer jobs some.0 scale others some.1.positive feasible)
-    (energy_finer some.0 some.1.positive jobs points scale spent others spends) in
+    ((energy_both some.0 some.1.positive jobs points scale (some.0 * spent) others).1 (spent, refl, spends)) in
     from_common (numerator energy) energy.den mine.0 spent some.0 scale some.1.positive mine.2
     (without_gaps (product (gaps_of hull)) mine.0 (some.0 * spent) _ (gaps_positive hull (hull_rising points hull table.rising is_hull))
     (rounded_attains_the_hull jobs points planned levels written energy (some.0 * scale) mine.0 plan table rounding common mine.1) most)

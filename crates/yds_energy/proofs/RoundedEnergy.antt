@@ -17,7 +17,6 @@ use Rattle.yds_model.specs.Event.{stretches}
 use Rattle.yds_model.specs.Rounding.{AreNeighbours, IsSplitAt, RoundsStretches}
 use Rattle.yds_model.proofs.Horizon.{busy_and_idle}
 use Rattle.yds_model.proofs.HullExists.{hull_exists}
-use Rattle.yds_events.proofs.Neighbours.{stretches_run}
 use Rattle.yds_energy.specs.RoundingLaws.{RoundedAttainsTheHull}
 use Rattle.yds_laws.proofs.Bound.{scale_left, scale_right}
 use Rattle.yds_energy.proofs.Differences.{total-cons}
@@ -25,8 +24,9 @@ use Rattle.yds_energy.proofs.Hinges.{gains, losses}
 use Rattle.yds_energy.proofs.HullEnergy.{hull_first, hull_rising}
 use Rattle.yds_energy.proofs.OneEnergy.{read_point, one_point, spends_once}
 use Rattle.yds_energy.proofs.PlansEnergy.{plans_cost_least_on_points}
-use Rattle.yds_energy.proofs.PlanParts.{IsPartOfPlan, plan_part}
-use Rattle.yds_energy.proofs.RoundedRuns.{all_work, rate_together, same_work, runs_busy, runs_work, runs_spend, runs_on_work, SpendsOn, runs_on_spend}
+use Rattle.yds_energy.proofs.Members.{same_work}
+use Rattle.yds_energy.proofs.PlanParts.{IsPartOfPlan}
+use Rattle.yds_energy.proofs.RoundedRuns.{all_work, rate_together, RunAt, runs_at, at_spend, runs_busy, runs_work, runs_on_work, SpendsOn, runs_on_spend}
 use Rattle.yds_energy.proofs.RoundedFeasible.{RoundsAt, rounds_fold, time_within, written_feasible}
 use Rattle.yds_energy.proofs.HullCosts.{IsAtLeast, at_least_plus, cancel_gap, power_of, lines_at_least, point_at_least, hull_in}
 
@@ -55,11 +55,7 @@ pub record CostsAtMost (points hull : List Point) (power : ℕ) (planned written
   pub bound : IsAtLeast (product (gaps_of hull) * (spent + power * busy planned)) (product (gaps_of hull) * (power * busy written)) 1
       (total (map (power_of hull) planned))
 
--- slots at a point's speed
-abbrev pub RunAt : ℕ → WholeSlot → Type 0
-RunAt speed slot = slot.work ≡ speed * (slot.to - slot.from)
-
--- cost at least the point's power
+-- slots at a point's speed cost at least the point's power
 kept_costs : (hull : List Point) (k : ℕ) (slots : List WholeSlot) → AreRising hull → k < length hull → All (RunAt (point_at hull k).speed) slots →
     IsAtLeast (product (gaps_of hull) * ((point_at hull k).power * busy slots)) 0 1 (total (map (power_of hull) slots))
 kept_costs hull k [] rising within at = omega (arith, ints)
@@ -78,19 +74,6 @@ kept_costs hull k (slot ∷ slots) rising within at =
       ap (λ n. all * (point.power * n)) (sum_by-cons (λ (one : WholeSlot). one.to - one.from) slot slots),
     ))
 
--- and spend it
-pub kept_spends : (points : List Point) (point : Point) (slots : List WholeSlot) → Contains points point → All (RunAt point.speed) slots →
-    SpendsAtPoints points slots (point.power * busy slots)
-kept_spends points point [] has at = omega arith
-kept_spends points point (slot ∷ slots) has at = (
-  point,
-  point.power * busy slots,
-  has,
-  All-head (RunAt point.speed) slot slots at,
-  kept_spends points point slots has (All-tail (RunAt point.speed) slot slots at),
-  omega (arith, ap (λ n. point.power * n) (sum_by-cons (λ (one : WholeSlot). one.to - one.from) slot slots)),
-)
-
 -- a slot at the speed of a level that has a point's is at the point's
 pub level_at_point : (work time level long speed : ℕ) → 1 ≤ long → work * long ≡ level * time → level ≡ speed * long → work ≡ speed * time
 level_at_point work time level long speed some at is =
@@ -106,7 +89,7 @@ stretch_kept points hull power point planned rising is_hull has at =
     (kept_costs hull has.0 planned rising has.1 (subst (λ (one : Point). All (RunAt one.speed) planned) (sym found) at)) in
     record {
       spent = point.power * busy planned;
-      spends = kept_spends points point planned (hull_in points hull point is_hull has) at;
+      spends = at_spend points point planned (hull_in points hull point is_hull has) at;
       bound = omega (arith, costs);
     }
 
@@ -209,7 +192,7 @@ split_spends points hull scale level low high stretch planned fast slow table is
       is_time = is_time;
       spent = high.power * busy fast + low.power * busy slow;
       spends = spends_joined points fast slow (high.power * busy fast) (low.power * busy slow)
-          (runs_spend points high start switch fast (hull_in points hull high is_hull has_high) is.first) slower.spends;
+          (at_spend points high fast (hull_in points hull high is_hull has_high) (runs_at high.speed start switch fast is.first)) slower.spends;
       shorter = omega (arith, sum_by-append (λ (slot : WholeSlot). slot.to - slot.from) fast slow, fast_busy, fills, slower.shorter);
       is_spent = split_sum low.power high.power idle_power is.time rest (busy fast) (busy slow) (busy planned) (busy (fast ++ slow)) fast_busy fills slower.rest
           (sum_by-append (λ (slot : WholeSlot). slot.to - slot.from) fast slow);
@@ -222,14 +205,10 @@ stretch_split points hull level low high planned written around is =
     let all : ℕ = product (gaps_of hull) in
     let gap : ℕ = high.speed - low.speed in
     let energy = total (map (power_of hull) planned) in
-    let on_line = lines_at_least hull around.place planned around.within in
-    let at_low = subst (λ (one : Point). IsAtLeast (all * gains one (point_at hull (around.place + 1)) (busy planned) (all_work planned))
-    (all * losses one (point_at hull (around.place + 1)) (busy planned) (all_work planned)) ((point_at hull (around.place + 1)).speed - one.speed) energy) around.is_low on_line in
-    let at_both = subst (λ (one : Point). IsAtLeast (all * gains low one (busy planned) (all_work planned)) (all * losses low one (busy planned) (all_work planned))
-    (one.speed - low.speed) energy) around.is_high at_low in
+    let on_line = rw (around.is_low, around.is_high) at (lines_at_least hull around.place planned around.within) in
     let rises : low.speed + gap ≡ high.speed = omega (arith, is.faster) in
     let costs = cancel_gap gap (all * gains low high (busy planned) (all_work planned)) (all * losses low high (busy planned) (all_work planned))
-    (all * (low.power * is.rest + high.power * is.time)) energy (omega (arith, is.faster)) at_both
+    (all * (low.power * is.rest + high.power * is.time)) energy (omega (arith, is.faster)) on_line
     (line_of_split all low.power high.power low.speed high.speed gap is.time is.rest (busy planned) (all_work planned) rises is.fills is.does) in
     record {
       spent = is.spent;
@@ -284,8 +263,7 @@ written_costs jobs points hull levels scale planned written plan table is_hull i
     rounds_fold jobs hull levels scale (CostsAtMost points hull power) (record { spent = 0; spends = refl; bound = omega (arith, ints) })
     (λ stretch here made forward part at.
     stretch_costs jobs points hull levels scale stretch here made table is_hull (hull_rising points hull table.rising is_hull) plan.proper.well_formed.positive forward part at)
-    (λ here later made made_later one other. costs_joined points hull power here later made made_later one other)
-    0 (stretches jobs) planned written (stretches_run jobs) (plan_part jobs planned levels scale plan is) is is_written rounds
+    (λ here later made made_later one other. costs_joined points hull power here later made made_later one other) planned written plan is is_written rounds
 
 -- # The law
 

@@ -1,5 +1,6 @@
 -- The slots of a plan, rounded to a table's points, are a feasible schedule on them: stretch by stretch.
 use Rattle.std.proofs.Common.{◌≡◌, ◌⊎◌, ℕ, ◌+◌, ◌-◌, ◌*◌, ◌<◌, ◌≤◌, ◌==◌, List, [], ◌∷◌, ◌++◌, length, get_or, refl, sym, ap, subst, ◌∙◌, arith, inl, inr, eqb-true}
+use Rattle.std.specs.Prelude.{◌↔◌}
 use Rattle.std.specs.List.{All, AllByRecursion, Any, Contains}
 use Rattle.std.proofs.lemmas.Bool.{cases_Bool}
 use Rattle.std.proofs.lemmas.List.{map-append}
@@ -17,50 +18,30 @@ use Rattle.yds_model.specs.Event.{stretches, LiesIn, LiesWritten}
 use Rattle.yds_model.specs.Rounding.{HasPointSpeed, AreNeighbours, jobs_in_turn, IsSplitAt, RoundsStretch, RoundsStretches}
 use Rattle.yds_events.specs.Stretch.{no_stretch, IsOutside}
 use Rattle.yds_model.proofs.Fractions.{at_most_of_values}
-use Rattle.yds_model.proofs.Runs.{run_forward}
+use Rattle.yds_model.proofs.Runs.{run_forward, run_earlier}
 use Rattle.yds_events.proofs.Neighbours.{stretches_run, release_outside, deadline_outside}
 use Rattle.yds_laws.proofs.Bound.{scale_left, scale_right}
 use Rattle.yds_energy.proofs.RoundedRuns.{runs_order, runs_within, runs_on_order}
-use Rattle.yds_energy.proofs.PlanParts.{run_lower, run_later, run_joined, given_joined, scale_joined, IsPartOfPlan, plan_part, part_front, part_back}
+use Rattle.yds_energy.proofs.PlanParts.{run_later, run_joined, given_joined, scale_joined, IsPartOfPlan, plan_part, part_front, part_back}
 
 -- # Jobs in turn
 
--- what holds of each slot's job holds of the jobs in turn
-turn_down : (P : ℕ → Type 0) (slots : List WholeSlot) → AllByRecursion (λ slot. P slot.job) slots → AllByRecursion P (jobs_in_turn slots)
-turn_down P [] each = tt
-turn_down P (slot ∷ []) each = each
-turn_down P (slot ∷ next ∷ slots) each = elim (cases_Bool (slot.job == next.job)) [
-  | inl same ↦ rw same (turn_down P (next ∷ slots) each.1)
-  | inr other ↦ rw other (each.0, turn_down P (next ∷ slots) each.1)
-]
-
--- the first slot's job is the first in turn
-turn_first : (P : ℕ → Type 0) (slot : WholeSlot) (slots : List WholeSlot) → AllByRecursion P (jobs_in_turn (slot ∷ slots)) → P slot.job
-turn_first P slot [] each = each.0
-turn_first P slot (next ∷ slots) each = elim (cases_Bool (slot.job == next.job)) [
-  | inl same ↦
-      let job : slot.job ≡ next.job = eqb-true slot.job next.job same in
-      subst P (sym job) (turn_first P next slots (rw same at each))
-  | inr other ↦ (rw other at each).0
-]
-
--- and what holds of those holds of each slot's job
-turn_up : (P : ℕ → Type 0) (slots : List WholeSlot) → AllByRecursion P (jobs_in_turn slots) → AllByRecursion (λ slot. P slot.job) slots
-turn_up P [] each = tt
-turn_up P (slot ∷ []) each = each
-turn_up P (slot ∷ next ∷ slots) each = (
-  turn_first P slot (next ∷ slots) each,
-  elim (cases_Bool (slot.job == next.job)) [
-    | inl same ↦ turn_up P (next ∷ slots) (rw same at each)
-    | inr other ↦ turn_up P (next ∷ slots) (rw other at each).1
-  ],
-)
+-- what holds of each of the jobs in turn holds of each slot's job, and the other way round
+turn_both : (P : ℕ → Type 0) (slots : List WholeSlot) → AllByRecursion P (jobs_in_turn slots) ↔ AllByRecursion (λ slot. P slot.job) slots
+turn_both P [] = (λ each. tt, λ each. tt)
+turn_both P (slot ∷ []) = (λ each. each, λ each. each)
+turn_both P (slot ∷ next ∷ slots) =
+    let rest = turn_both P (next ∷ slots) in
+    elim (cases_Bool (slot.job == next.job)) [
+      | inl same ↦ rw same (λ each. let all = rest.0 each in (subst P (sym (eqb-true slot.job next.job same)) all.0, all), λ each. rest.1 each.1)
+      | inr other ↦ rw other (λ each. (each.0, rest.0 each.1), λ each. (each.0, rest.1 each.1))
+    ]
 
 -- so slots with the same jobs in turn are of the same jobs
 pub same_jobs : (P : ℕ → Type 0) (slots others : List WholeSlot) → jobs_in_turn others ≡ jobs_in_turn slots → All (λ slot. P slot.job) slots → All (λ slot. P slot.job) others
 same_jobs P slots others same each =
     All-from_recursion (λ slot. P slot.job) others
-    (turn_up P others (subst (λ jobs. AllByRecursion P jobs) (sym same) (turn_down P slots (recursion_from_All (λ slot. P slot.job) slots each))))
+    ((turn_both P others).0 (rw same ((turn_both P slots).1 (recursion_from_All (λ slot. P slot.job) slots each))))
 
 -- # A stretch
 
@@ -255,54 +236,53 @@ record RunsFromTime (jobs : List Job) (scale start : ℕ) (planned written : Lis
 pub parts_at : (scale : ℕ) (slots one other : List WrittenSlot) → slots ≡ one ++ other → slots_at scale slots ≡ slots_at scale one ++ slots_at scale other
 parts_at scale slots one other is = ap (slots_at scale) is ∙ map-append (slot_at_scale scale) one other
 
--- What holds of nothing, of each stretch, and of two parts together where it holds of each, holds of all that a plan has and of what is
--- written for it.
+-- What holds of nothing, and of a stretch and all that comes after it where it holds of the latter, holds of all that a plan has and of what
+-- is written for it.
+rounds_from : (jobs : List Job) (hull : List Point) (levels : List Level) (scale : ℕ) (R : ℕ → List WholeSlot → List WholeSlot → Type 0) →
+    ((start : ℕ) → R start [] []) →
+    ((start : ℕ) (stretch : Piece) (planned others written made : List WholeSlot) → IsBetweenEvents jobs stretch → start ≤ stretch.from → stretch.from < stretch.to →
+    IsPartOfPlan jobs levels planned scale → All (λ slot. LiesIn scale slot stretch) planned → RoundsAt hull levels scale stretch planned written →
+    R stretch.to others made → R start (planned ++ others) (written ++ made)) →
+    (start : ℕ) (pieces : List Piece) (planned written : List WrittenSlot) → PiecesFrom start pieces → All (IsBetweenEvents jobs) pieces →
+    IsPartOfPlan jobs levels (slots_at scale planned) scale → IsScale scale planned → IsScale scale written → RoundsStretches hull levels pieces planned written →
+    R start (slots_at scale planned) (slots_at scale written)
+rounds_from jobs hull levels scale R none each start [] planned written order between part is is_written (empty, nothing) = rw (empty, nothing) (none start)
+rounds_from jobs hull levels scale R none each start (stretch ∷ pieces) planned written order between part is is_written (here, later, made, made_later, parts, made_parts, lies, rounds, rest) =
+    let all : IsPartOfPlan jobs levels (slots_at scale (here ++ later)) scale = rw parts at part in
+    let whole : IsScale scale (here ++ later) = rw parts at is in
+    let whole_made : IsScale scale (made ++ made_later) = rw made_parts at is_written in
+    let is_here = scale_left scale here later whole in
+    rw (parts_at scale planned here later parts, parts_at scale written made made_later made_parts)
+    (each start stretch (slots_at scale here) (slots_at scale later) (slots_at scale made) (slots_at scale made_later) (All-head (IsBetweenEvents jobs) stretch pieces between)
+    order.0 order.1 (part_front jobs levels here later scale all) (all_lie scale here stretch is_here lies)
+    (rounds_at hull levels scale stretch here made is_here (scale_left scale made made_later whole_made) rounds)
+    (rounds_from jobs hull levels scale R none each stretch.to pieces later made_later order.2 (All-tail (IsBetweenEvents jobs) stretch pieces between)
+    (part_back jobs levels here later scale all) (scale_right scale here later whole) (scale_right scale made made_later whole_made) rest))
+
+-- So does what holds of each stretch, and of two parts together where it holds of each, for a plan.
 pub rounds_fold : (jobs : List Job) (hull : List Point) (levels : List Level) (scale : ℕ) (R : List WholeSlot → List WholeSlot → Type 0) → R [] [] →
     ((stretch : Piece) (planned written : List WholeSlot) → stretch.from < stretch.to → IsPartOfPlan jobs levels planned scale →
     RoundsAt hull levels scale stretch planned written → R planned written) →
     ((planned others written made : List WholeSlot) → R planned written → R others made → R (planned ++ others) (written ++ made)) →
-    (start : ℕ) (pieces : List Piece) (planned written : List WrittenSlot) → PiecesFrom start pieces → IsPartOfPlan jobs levels (slots_at scale planned) scale →
-    IsScale scale planned → IsScale scale written → RoundsStretches hull levels pieces planned written → R (slots_at scale planned) (slots_at scale written)
-rounds_fold jobs hull levels scale R none each both start [] planned written order part is is_written (empty, nothing) = rw (empty, nothing) none
-rounds_fold jobs hull levels scale R none each both start (stretch ∷ pieces) planned written order part is is_written (here, later, made, made_later, parts, made_parts, lies, rounds, rest) =
-    let all : IsPartOfPlan jobs levels (slots_at scale (here ++ later)) scale = subst (λ slots. IsPartOfPlan jobs levels (slots_at scale slots) scale) parts part in
-    let whole : IsScale scale (here ++ later) = subst (IsScale scale) parts is in
-    let whole_made : IsScale scale (made ++ made_later) = subst (IsScale scale) made_parts is_written in
-    rw (parts_at scale planned here later parts, parts_at scale written made made_later made_parts)
-    (both (slots_at scale here) (slots_at scale later) (slots_at scale made) (slots_at scale made_later)
-    (each stretch (slots_at scale here) (slots_at scale made) order.1 (part_front jobs levels here later scale all)
-    (rounds_at hull levels scale stretch here made (scale_left scale here later whole) (scale_left scale made made_later whole_made) rounds))
-    (rounds_fold jobs hull levels scale R none each both stretch.to pieces later made_later order.2 (part_back jobs levels here later scale all)
-    (scale_right scale here later whole) (scale_right scale made made_later whole_made) rest))
+    (planned written : List WrittenSlot) → IsPlan jobs planned levels → IsScale scale planned → IsScale scale written →
+    RoundsStretches hull levels (stretches jobs) planned written → R (slots_at scale planned) (slots_at scale written)
+rounds_fold jobs hull levels scale R none each both planned written plan is is_written rounds =
+    rounds_from jobs hull levels scale (λ start. R) (λ start. none)
+    (λ start stretch here others mine made between after forward part lies at rest. both here others mine made (each stretch here mine forward part at) rest)
+    0 (stretches jobs) planned written (stretches_run jobs) (stretches_between jobs) (plan_part jobs planned levels scale plan is) is is_written rounds
 
 -- stretch by stretch
-written_runs : (jobs : List Job) (hull : List Point) (levels : List Level) (scale start : ℕ) (pieces : List Piece) (planned written : List WrittenSlot) →
-    PiecesFrom start pieces → All (IsBetweenEvents jobs) pieces → IsPartOfPlan jobs levels (slots_at scale planned) scale → IsScale scale planned →
-    IsScale scale written → RoundsStretches hull levels pieces planned written → RunsFromTime jobs scale start (slots_at scale planned) (slots_at scale written)
-written_runs jobs hull levels scale start [] planned written order between part is is_written (none, empty) =
-    rw (none, empty) record { order = tt; windows = All-nil (IsInWindow jobs scale); same_work = λ job. refl }
-written_runs jobs hull levels scale start (stretch ∷ pieces) planned written order between part is is_written (here, later, made, made_later, parts, made_parts, lies, rounds, rest) =
-    let all : IsPartOfPlan jobs levels (slots_at scale (here ++ later)) scale = subst (λ slots. IsPartOfPlan jobs levels (slots_at scale slots) scale) parts part in
-    let both : IsScale scale (here ++ later) = subst (IsScale scale) parts is in
-    let both_made : IsScale scale (made ++ made_later) = subst (IsScale scale) made_parts is_written in
-    let is_here = scale_left scale here later both in
-    let first = stretch_runs jobs hull levels scale stretch (slots_at scale here) (slots_at scale made) (All-head (IsBetweenEvents jobs) stretch pieces between) order.1
-    (part_front jobs levels here later scale all) (all_lie scale here stretch is_here lies)
-    (rounds_at hull levels scale stretch here made is_here (scale_left scale made made_later both_made) rounds) in
-    let second = written_runs jobs hull levels scale stretch.to pieces later made_later order.2 (All-tail (IsBetweenEvents jobs) stretch pieces between)
-    (part_back jobs levels here later scale all) (scale_right scale here later both) (scale_right scale made made_later both_made) rest in
-    rw (parts_at scale planned here later parts, parts_at scale written made made_later made_parts) record {
-      order = run_joined (start * scale) (stretch.to * scale) (slots_at scale made) (slots_at scale made_later)
-          (omega (arith, mul-le-mul_right scale order.0, mul-le-mul_right scale order.1))
-          (run_lower (start * scale) (stretch.from * scale) (slots_at scale made) (mul-le-mul_right scale order.0) first.order) first.ends second.order;
-      windows = All-append (IsInWindow jobs scale) (slots_at scale made) (slots_at scale made_later) first.windows second.windows;
-      same_work = λ job. omega (
-        arith,
-        given_joined (slots_at scale made) (slots_at scale made_later) job,
-        given_joined (slots_at scale here) (slots_at scale later) job,
-        first.same_work job,
-        second.same_work job,
-      );
+stretch_after : (jobs : List Job) (hull : List Point) (levels : List Level) (scale start : ℕ) (stretch : Piece) (planned others written made : List WholeSlot) →
+    IsBetweenEvents jobs stretch → start ≤ stretch.from → stretch.from < stretch.to → IsPartOfPlan jobs levels planned scale →
+    All (λ slot. LiesIn scale slot stretch) planned → RoundsAt hull levels scale stretch planned written → RunsFromTime jobs scale stretch.to others made →
+    RunsFromTime jobs scale start (planned ++ others) (written ++ made)
+stretch_after jobs hull levels scale start stretch planned others written made between after forward part lies rounds rest =
+    let first = stretch_runs jobs hull levels scale stretch planned written between forward part lies rounds in
+    record {
+      order = run_joined (start * scale) (stretch.to * scale) written made (omega (arith, mul-le-mul_right scale after, mul-le-mul_right scale forward))
+          (run_earlier (start * scale) (stretch.from * scale) written (mul-le-mul_right scale after) first.order) first.ends rest.order;
+      windows = All-append (IsInWindow jobs scale) written made first.windows rest.windows;
+      same_work = λ job. omega (arith, given_joined written made job, given_joined planned others job, first.same_work job, rest.same_work job);
     }
 
 -- so at a scale of both the written slots are feasible
@@ -310,10 +290,11 @@ pub written_feasible : (jobs : List Job) (hull : List Point) (levels : List Leve
     RoundsStretches hull levels (stretches jobs) planned written → IsScale scale (planned ++ written) → IsFeasibleAt jobs scale (slots_at scale written)
 written_feasible jobs hull levels planned written scale plan rounds is =
     let left = scale_left scale planned written is in
-    let runs = written_runs jobs hull levels scale 0 (stretches jobs) planned written (stretches_run jobs) (stretches_between jobs)
-    (plan_part jobs planned levels scale plan left) left (scale_right scale planned written is) rounds in
+    let runs = rounds_from jobs hull levels scale (RunsFromTime jobs scale)
+    (λ start. record { order = tt; windows = All-nil (IsInWindow jobs scale); same_work = λ job. refl }) (stretch_after jobs hull levels scale) 0 (stretches jobs) planned written
+    (stretches_run jobs) (stretches_between jobs) (plan_part jobs planned levels scale plan left) left (scale_right scale planned written is) rounds in
     record {
-      one_at_a_time = run_lower 0 (0 * scale) (slots_at scale written) (omega arith) runs.order;
+      one_at_a_time = run_earlier 0 (0 * scale) (slots_at scale written) (omega arith) runs.order;
       in_windows = runs.windows;
       served = λ number known. runs.same_work number ∙ (plan.proper.feasible.holds scale left).served number known;
     }

@@ -6,7 +6,7 @@ use Rattle.std.specs.List.{All, Contains}
 use Rattle.std.proofs.lemmas.Int.{ints}
 use Rattle.std.proofs.lemmas.List.Elements.{All-tail, Contains-get_or}
 use Rattle.std.proofs.lemmas.List.Sums.{sum_by-cons}
-use Rattle.std.proofs.Math.Nat.{mul-pos, mul-le-mul_left, le_of_mul-le-mul_left, le_of_mul-le-mul_right, eq_of_mul-eq-mul_left}
+use Rattle.std.proofs.Math.Nat.{mul-add, mul-pos, mul-le-mul_left, le_of_mul-le-mul_left, le_of_mul-le-mul_right, eq_of_mul-eq-mul_left}
 use borrow.Author.Differences.{up, down}
 use Rattle.yds_model.specs.Job.{Job}
 use Rattle.yds_model.specs.Slot.{WholeSlot}
@@ -23,13 +23,13 @@ use Rattle.yds_model.proofs.Front.{pieces_forward}
 use Rattle.yds_model.proofs.Horizon.{busy_and_idle}
 use Rattle.yds_model.proofs.HullExists.{hull_exists}
 use Rattle.yds_model.proofs.Runs.{run_forward}
-use Rattle.yds_model.proofs.Sums.{sum_by-add, sum_by_same, sum_by_zero}
+use Rattle.yds_model.proofs.Sums.{sum_by-add, sum_by-mul, sum_by_zero}
 use Rattle.yds_events.specs.Stretch.{length_of}
 use Rattle.yds_events.proofs.Neighbours.{stretches_run}
 use Rattle.yds_energy.proofs.Differences.{total_is}
 use Rattle.yds_energy.proofs.Hinges.{gains, losses}
 use Rattle.yds_energy.proofs.OneEnergy.{places_rise}
-use Rattle.yds_energy.proofs.HullCosts.{IsAtLeast, power_of, gains_more, losses_more, lines_at_least, hull_in}
+use Rattle.yds_energy.proofs.HullCosts.{IsAtLeast, power_of, lines_at_least, hull_in}
 use Rattle.yds_energy.proofs.HullMixed.{between_under}
 use Rattle.yds_energy.proofs.PlansEnergy.{hull_table}
 use Rattle.yds_energy.proofs.PointTimes.{hull_top, point_energy, find_place, place_energy, only_energy, idle_energy}
@@ -79,15 +79,11 @@ slots_between points hull low high (slot ∷ slots) rising is_hull some has_low 
     let all : ℕ = product (gaps_of hull) in
     let gap : ℕ = high.speed - low.speed in
     let here = between 0 slot (omega arith) in
-    omega (
+    simp sum_by-cons (omega (
       arith,
       between_under points hull low high (slot.to - slot.from) slot.work rising is_hull some has_low has_high rises here.above here.below,
       slots_between points hull low high slots rising is_hull some has_low has_high rises (All-tail (IsBetween low high) slot slots between),
-      ap (λ n. gap * n) (sum_by-cons (λ (one : WholeSlot). up (power_of hull one)) slot slots),
-      ap (λ n. gap * n) (sum_by-cons (λ (one : WholeSlot). down (power_of hull one)) slot slots),
-      ap (λ n. all * n) (gains_more low high slot slots),
-      ap (λ n. all * n) (losses_more low high slot slots),
-    )
+    ))
 
 -- and at least that
 slots_above : (hull : List Point) (k : ℕ) (slots : List WholeSlot) → suc k < length hull →
@@ -150,13 +146,7 @@ empty_cost points low hull scale stretch rising rises has =
 
 -- the energies of slots by a table of one point
 only_ups : (only : Point) (slots : List WholeSlot) → ups (only ∷ []) slots ≡ only.power * busy slots
-only_ups only [] = omega arith
-only_ups only (slot ∷ slots) = omega (
-  arith,
-  only_ups only slots,
-  sum_by-cons (λ (one : WholeSlot). up (power_of (only ∷ []) one)) slot slots,
-  ap (λ n. only.power * n) (sum_by-cons (λ (one : WholeSlot). one.to - one.from) slot slots),
-)
+only_ups only slots = sum_by-mul only.power (λ slot. slot.to - slot.from) slots
 
 only_downs : (only : Point) (slots : List WholeSlot) → downs (only ∷ []) slots ≡ 0
 only_downs only slots = sum_by_zero (λ slot. down (power_of (only ∷ []) slot)) slots (λ k d within. refl)
@@ -202,10 +192,7 @@ full_cost points (first ∷ second ∷ others) scale stretch here table is_hull 
         arith,
         both_bounds (high.speed - low.speed) (product (gaps_of hull)) multiple (point_energy points multiple time (all_work here) hull) (gains low high time (all_work here))
             (losses low high time (all_work here)) (ups hull here) (downs hull here) (omega (arith, rises)) cost
-            (subst (λ (n : ℕ). product (gaps_of hull) * gains low high n (all_work here) + (high.speed - low.speed) * downs hull here
-            ≤ (high.speed - low.speed) * ups hull here + product (gaps_of hull) * losses low high n (all_work here)) is.full least)
-            (subst (λ (n : ℕ). (high.speed - low.speed) * ups hull here + product (gaps_of hull) * losses low high n (all_work here)
-            ≤ (high.speed - low.speed) * downs hull here + product (gaps_of hull) * gains low high n (all_work here)) is.full most),
+            (rw is.full at least) (rw is.full at most),
         ap (λ n. multiple * (product (gaps_of hull) * (first.power * n))) none,
       );
     }
@@ -228,16 +215,7 @@ by_stretches : (points : List Point) (time : ℕ → Piece → ℕ) (all : List 
     sum_by (λ point. point.power * sum_by (time point.speed) all) points ≡ sum_by (λ stretch. sum_by (λ point. point.power * time point.speed stretch) points) all
 by_stretches points time [] = sum_by_zero (λ point. point.power * 0) points (λ k d within. omega arith)
 by_stretches points time (stretch ∷ all) =
-    let here = λ (point : Point). point.power * time point.speed stretch in
-    let rest = λ (point : Point). point.power * sum_by (time point.speed) all in
-    omega (
-      arith,
-      sum_by_same (λ point. point.power * sum_by (time point.speed) (stretch ∷ all)) (λ point. here point + rest point) points
-          (λ k d within. let point = get_or points k d in omega (arith, ap (λ n. point.power * n) (sum_by-cons (time point.speed) stretch all))),
-      sum_by-add here rest points,
-      by_stretches points time all,
-      sum_by-cons (λ (one : Piece). sum_by (λ (point : Point). point.power * time point.speed one) points) stretch all,
-    )
+    simp (sum_by-cons, mul-add, sum_by-add) (omega (arith, by_stretches points time all))
 
 -- What stretches cost together, as each does; `left` is the time without a slot.
 record AreCosts (points hull : List Point) (scale : ℕ) (slots : List WholeSlot) (all : List Piece) : Type 0 where
@@ -255,27 +233,10 @@ all_costs points hull scale slots [] each = record { left = 0; is_left = omega a
 all_costs points hull scale slots (stretch ∷ all) each =
     let here = each 0 stretch (omega arith) in
     let rest = all_costs points hull scale slots all (All-tail (λ one. IsCost points hull scale one (slots_in scale one slots)) stretch all each) in
-    let time : ℕ = (stretch.to - stretch.from) * scale in
-    let multiple : ℕ = multiple_of_all (gaps_of hull) in
-    let gaps : ℕ = product (gaps_of hull) in
     record {
-      left = (time - busy (slots_in scale stretch slots)) + rest.left;
-      is_left = omega (
-        arith,
-        here.short,
-        rest.is_left,
-        sum_by-cons (λ (one : Piece). busy (slots_in scale one slots)) stretch all,
-        ap (λ n. scale * n) (sum_by-cons length_of stretch all),
-      );
-      costs = omega (
-        arith,
-        here.cost,
-        rest.costs,
-        ap (λ n. gaps * n)
-            (sum_by-cons (λ (one : Piece). point_energy points multiple ((one.to - one.from) * scale) (all_work (slots_in scale one slots)) hull) stretch all),
-        ap (λ n. multiple * n) (sum_by-cons (λ (one : Piece). downs hull (slots_in scale one slots)) stretch all),
-        ap (λ n. multiple * n) (sum_by-cons (λ (one : Piece). ups hull (slots_in scale one slots)) stretch all),
-      );
+      left = ((stretch.to - stretch.from) * scale - busy (slots_in scale stretch slots)) + rest.left;
+      is_left = simp sum_by-cons (omega (arith, here.short, rest.is_left));
+      costs = simp sum_by-cons (omega (arith, here.cost, rest.costs));
     }
 
 -- # The schedule

@@ -1,12 +1,11 @@
 -- The slots of a schedule by the stretches that they lie in: each is in one, and those in a stretch stand between those before it and
 -- those after it.
-use Rattle.std.proofs.Common.{◌≡◌, ℕ, ◌+◌, ◌*◌, ◌<◌, ◌≤◌, ◌⊎◌, Bool, true, false, List, [], ◌∷◌, ◌++◌, get_or, zero, suc, refl, sym, ap, ◌∙◌, arith, inl, inr, leb-true}
+use Rattle.std.proofs.Common.{◌≡◌, ℕ, ◌+◌, ◌*◌, ◌<◌, ◌≤◌, ◌⊎◌, Bool, true, false, List, [], ◌∷◌, ◌++◌, zero, suc, refl, sym, ap, ◌∙◌, arith, inl, inr, leb-true}
 use Rattle.std.specs.Prelude.{sum_by, nat_le, ◌&&◌, if◌then◌else◌}
 use Rattle.std.specs.List.{All, Any}
 use Rattle.std.specs.Cmp.Derive.{both_true}
-use Rattle.std.proofs.Math.Bool.{true-and, false-and}
 use Rattle.std.proofs.Math.Nat.{mul-le-mul_right}
-use Rattle.std.proofs.lemmas.Bool.{cases_Bool, le-leb, lt-leb}
+use Rattle.std.proofs.lemmas.Bool.{cases_Bool, and_parts, and_left, and_right, le-leb, lt-leb}
 use Rattle.std.proofs.lemmas.List.Elements.{All-nil, All-cons, All-tail}
 use Rattle.std.proofs.lemmas.List.Sums.{sum_by-cons}
 use Rattle.yds_model.specs.Slot.{WholeSlot}
@@ -14,7 +13,7 @@ use Rattle.yds_model.specs.Piece.{Piece, PiecesFrom}
 use Rattle.yds_model.specs.Feasible.{RunFrom}
 use Rattle.yds_model.specs.Event.{LiesIn}
 use Rattle.yds_model.specs.Policy.{slots_in}
-use Rattle.yds_model.proofs.Sums.{sum_by-add, sum_by_same, sum_by_zero}
+use Rattle.yds_model.proofs.Sums.{sum_by-add, sum_by_zero}
 
 -- # Whether a slot lies in a stretch
 
@@ -22,15 +21,10 @@ use Rattle.yds_model.proofs.Sums.{sum_by-add, sum_by_same, sum_by_zero}
 abbrev pub lies : ℕ → Piece → WholeSlot → Bool
 lies scale stretch slot = nat_le (stretch.from * scale) slot.from && nat_le slot.to (stretch.to * scale)
 
--- two tests that pass together pass each
-both_pass : (a b : Bool) → (a && b) ≡ true → (a ≡ true) × (b ≡ true)
-both_pass true b passes = (refl, sym (true-and b) ∙ passes)
-both_pass false b passes = absurd (let no : false ≡ true = sym (false-and b) ∙ passes in cc)
-
 -- a slot that passes lies there
 pub lies_told : (scale : ℕ) (stretch : Piece) (slot : WholeSlot) → lies scale stretch slot ≡ true → LiesIn scale slot stretch
 lies_told scale stretch slot passes =
-    let both = both_pass (nat_le (stretch.from * scale) slot.from) (nat_le slot.to (stretch.to * scale)) passes in
+    let both = and_parts _ _ passes in
     record { from = leb-true _ _ both.0; to = leb-true _ _ both.1 }
 
 -- and one that lies there passes
@@ -39,15 +33,11 @@ lies_passes scale stretch slot is = both_true (le-leb _ _ is.from) (le-leb _ _ i
 
 -- one that doesn't begin there or later doesn't lie there
 early_fails : (scale : ℕ) (stretch : Piece) (slot : WholeSlot) → slot.from < stretch.from * scale → lies scale stretch slot ≡ false
-early_fails scale stretch slot early =
-    ap (λ b. b && nat_le slot.to (stretch.to * scale)) (lt-leb (stretch.from * scale) slot.from early) ∙ false-and (nat_le slot.to (stretch.to * scale))
+early_fails scale stretch slot early = and_left _ _ (lt-leb _ _ early)
 
 -- and so it is of one that ends later
 late_fails : (scale : ℕ) (stretch : Piece) (slot : WholeSlot) → stretch.to * scale < slot.to → lies scale stretch slot ≡ false
-late_fails scale stretch slot late = elim (cases_Bool (lies scale stretch slot)) [
-  | inl passes ↦ absurd (omega (arith, late, (lies_told scale stretch slot passes).to))
-  | inr fails ↦ fails
-]
+late_fails scale stretch slot late = and_right _ _ (lt-leb _ _ late)
 
 -- # Sums over the stretches
 
@@ -63,12 +53,7 @@ part_none scale n start slot (stretch ∷ stretches) run takes before =
     let from : start ≤ stretch.from = run.0 in
     let to : start ≤ stretch.to = omega (arith, run.0, run.1) in
     let fails = early_fails scale stretch slot (omega (arith, takes, before, mul-le-mul_right scale from)) in
-    omega (
-      arith,
-      sum_by-cons (part scale slot n) stretch stretches,
-      ap {B = ℕ} (λ b. if b then n else 0) fails,
-      part_none scale n stretch.to slot stretches run.2 takes (omega (arith, before, mul-le-mul_right scale to)),
-    )
+    simp sum_by-cons (rw fails (omega (arith, part_none scale n stretch.to slot stretches run.2 takes (omega (arith, before, mul-le-mul_right scale to)))))
 
 -- what holds of some stretch, and not of the first, holds of some other
 any_later : (P : Piece → Type 0) (stretch : Piece) (stretches : List Piece) → (P stretch → ⊥) → Any P (stretch ∷ stretches) → Any P stretches
@@ -80,19 +65,10 @@ part_once : (scale n start : ℕ) (slot : WholeSlot) (stretches : List Piece) �
     Any (LiesIn scale slot) stretches → sum_by (part scale slot n) stretches ≡ n
 part_once scale n start slot [] run takes there = absurd (omega (arith, there.2))
 part_once scale n start slot (stretch ∷ stretches) run takes there = elim (cases_Bool (lies scale stretch slot)) [
-  | inl passes ↦ omega (
-    arith,
-    sum_by-cons (part scale slot n) stretch stretches,
-    ap {B = ℕ} (λ b. if b then n else 0) passes,
-    part_none scale n stretch.to slot stretches run.2 takes (lies_told scale stretch slot passes).to,
-  )
-  | inr fails ↦ omega (
-    arith,
-    sum_by-cons (part scale slot n) stretch stretches,
-    ap {B = ℕ} (λ b. if b then n else 0) fails,
-    part_once scale n stretch.to slot stretches run.2 takes
-        (any_later (LiesIn scale slot) stretch stretches (λ is. let no : true ≡ false = sym (lies_passes scale stretch slot is) ∙ fails in cc) there),
-  )
+  | inl passes ↦ simp sum_by-cons (rw passes (omega (arith, part_none scale n stretch.to slot stretches run.2 takes (lies_told scale stretch slot passes).to)))
+  | inr fails ↦
+      let later = any_later (LiesIn scale slot) stretch stretches (λ is. let no : true ≡ false = sym (lies_passes scale stretch slot is) ∙ fails in cc) there in
+      simp sum_by-cons (rw fails (omega (arith, part_once scale n stretch.to slot stretches run.2 takes later)))
 ]
 
 -- one slot more in a stretch
@@ -110,17 +86,12 @@ pub sum_in_stretches : (f : WholeSlot → ℕ) (scale start : ℕ) (stretches : 
 sum_in_stretches f scale start stretches [] run takes there =
     sum_by_zero (λ stretch. sum_by f (slots_in scale stretch [])) stretches (λ k d within. refl)
 sum_in_stretches f scale start stretches (slot ∷ slots) run takes there =
-    let rest = λ (stretch : Piece). sum_by f (slots_in scale stretch slots) in
-    omega (
+    simp (in_more f scale slot slots, sum_by-add, sum_by-cons) (omega (
       arith,
-      sum_by_same (λ stretch. sum_by f (slots_in scale stretch (slot ∷ slots))) (λ stretch. part scale slot (f slot) stretch + rest stretch) stretches
-          (λ k d within. in_more f scale slot slots (get_or stretches k d)),
-      sum_by-add (part scale slot (f slot)) rest stretches,
       part_once scale (f slot) start slot stretches run (takes 0 slot (omega arith)) (there 0 slot (omega arith)),
       sum_in_stretches f scale start stretches slots run (All-tail (λ one. one.from < one.to) slot slots takes)
           (All-tail (λ one. Any (LiesIn scale one) stretches) slot slots there),
-      sum_by-cons f slot slots,
-    )
+    ))
 
 -- # Before and after a stretch
 

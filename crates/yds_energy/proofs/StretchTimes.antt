@@ -1,13 +1,13 @@
 -- The stretches of jobs are together as long as the horizon.
-use Rattle.std.proofs.Common.{◌≡◌, ℕ, zero, suc, ◌+◌, ◌-◌, ◌<◌, ◌≤◌, ◌⊎◌, min, max, List, [], ◌∷◌, length, get_or, refl, ap, arith, inl, inr}
+use Rattle.std.proofs.Common.{◌≡◌, ℕ, zero, suc, ◌+◌, ◌-◌, ◌<◌, ◌≤◌, ◌⊎◌, min, max, List, [], ◌∷◌, length, get_or, refl, sym, ap, ◌∙◌, arith, inl, inr}
 use Rattle.std.specs.Prelude.{sum_by}
 use Rattle.std.specs.List.{All, flat_map, fold}
-use Rattle.std.proofs.lemmas.Bool.{cases_lt}
 use Rattle.std.proofs.lemmas.List.Elements.{All-nil, All-cons, All-head, All-tail, All-from_get_or}
 use Rattle.std.proofs.lemmas.List.Sums.{sum_by-cons}
 use Rattle.yds_model.specs.Job.{Job, no_job, job_at}
 use Rattle.yds_model.specs.Energy.{first_release, last_deadline, horizon}
 use Rattle.yds_model.specs.Event.{event_points, neighbours, stretches}
+use Rattle.yds_model.proofs.Horizon.{releases_from}
 use Rattle.yds_events.specs.Stretch.{length_of}
 use Rattle.yds_events.proofs.Rising.{Rises, rises_times, rising_all}
 use Rattle.yds_events.proofs.Times.{not_later, release_at, deadline_at}
@@ -27,61 +27,44 @@ neighbours_long low time (next ∷ times) rises =
 
 -- # The last deadline and the first release
 
--- the greatest of a number and the deadlines: none is greater, and it is the number or one of them
-record IsLast (from : ℕ) (jobs : List Job) (last : ℕ) : Type 0 where
-  start : from ≤ last
-  none : (number : ℕ) → number < length jobs → (job_at jobs number).deadline ≤ last
-  one : (last ≡ from) ⊎ ((number : ℕ) × (number < length jobs) × ((job_at jobs number).deadline ≡ last))
+-- what picks the greater or the lesser of two again and again comes to the first number, or to one of the jobs'
+picked : (pick : ℕ → ℕ → ℕ) (of : Job → ℕ) → ((x y : ℕ) → (pick x y ≡ x) ⊎ (pick x y ≡ y)) → (from : ℕ) (jobs : List Job) →
+    (fold (λ time job. pick time (of job)) from jobs ≡ from)
+    ⊎ ((number : ℕ) × (number < length jobs) × (of (job_at jobs number) ≡ fold (λ time job. pick time (of job)) from jobs))
+picked pick of either from [] = inl refl
+picked pick of either from (job ∷ jobs) = elim (picked pick of either (pick from (of job)) jobs) [
+  | inr (number, within, is) ↦ inr (suc number, omega (arith, within), is)
+  | inl is ↦ elim (either from (of job)) [
+    | inl first ↦ inl (is ∙ first)
+    | inr second ↦ inr (0, omega arith, sym (is ∙ second))
+  ]
+]
 
-last_is : (from : ℕ) (jobs : List Job) → IsLast from jobs (fold (λ time job. max time job.deadline) from jobs)
-last_is from [] = record { start = omega arith; none = λ number within. absurd (omega (arith, within)); one = inl refl }
-last_is from (job ∷ jobs) =
-    let rest = last_is (max from job.deadline) jobs in
-    record {
-      start = omega (arith, rest.start);
-      none = λ number within. none number within rest;
-      one = elim rest.one [
-        | inl is ↦ elim (cases_lt from job.deadline) [
-          | inl less ↦ inr (0, omega arith, omega (arith, is, less))
-          | inr more ↦ inl (omega (arith, is, more))
-        ]
-        | inr (number, within, is) ↦ inr (suc number, omega (arith, within), is)
-      ];
-    }
-  where
-    -- the first job's, or a later one's
-    none : (number : ℕ) → number < length (job ∷ jobs) → IsLast (max from job.deadline) jobs (fold (λ time job. max time job.deadline) (max from job.deadline) jobs) →
-        (job_at (job ∷ jobs) number).deadline ≤ fold (λ time job. max time job.deadline) (max from job.deadline) jobs
-    none zero within rest = omega (arith, rest.start)
-    none (suc number) within rest = rest.none number (omega (arith, within))
+-- the greatest is no less than the first number
+last_from : (from : ℕ) (jobs : List Job) → from ≤ fold (λ time job. max time job.deadline) from jobs
+last_from from [] = omega arith
+last_from from (job ∷ jobs) = omega (arith, last_from (max from job.deadline) jobs)
 
--- the least of a number and the releases
-record IsFirst (from : ℕ) (jobs : List Job) (first : ℕ) : Type 0 where
-  start : first ≤ from
-  none : (number : ℕ) → number < length jobs → first ≤ (job_at jobs number).release
-  one : (first ≡ from) ⊎ ((number : ℕ) × (number < length jobs) × ((job_at jobs number).release ≡ first))
+-- and no less than a deadline
+last_none : (from : ℕ) (jobs : List Job) (number : ℕ) → number < length jobs → (job_at jobs number).deadline ≤ fold (λ time job. max time job.deadline) from jobs
+last_none from [] number within = absurd (omega (arith, within))
+last_none from (job ∷ jobs) zero within = omega (arith, last_from (max from job.deadline) jobs)
+last_none from (job ∷ jobs) (suc number) within = last_none (max from job.deadline) jobs number (omega (arith, within))
 
-first_is : (from : ℕ) (jobs : List Job) → IsFirst from jobs (fold (λ time job. min time job.release) from jobs)
-first_is from [] = record { start = omega arith; none = λ number within. absurd (omega (arith, within)); one = inl refl }
-first_is from (job ∷ jobs) =
-    let rest = first_is (min from job.release) jobs in
-    record {
-      start = omega (arith, rest.start);
-      none = λ number within. none number within rest;
-      one = elim rest.one [
-        | inl is ↦ elim (cases_lt job.release from) [
-          | inl less ↦ inr (0, omega arith, omega (arith, is, less))
-          | inr more ↦ inl (omega (arith, is, more))
-        ]
-        | inr (number, within, is) ↦ inr (suc number, omega (arith, within), is)
-      ];
-    }
-  where
-    -- the first job's, or a later one's
-    none : (number : ℕ) → number < length (job ∷ jobs) → IsFirst (min from job.release) jobs (fold (λ time job. min time job.release) (min from job.release) jobs) →
-        fold (λ time job. min time job.release) (min from job.release) jobs ≤ (job_at (job ∷ jobs) number).release
-    none zero within rest = omega (arith, rest.start)
-    none (suc number) within rest = rest.none number (omega (arith, within))
+-- the least is no greater than a release
+first_none : (from : ℕ) (jobs : List Job) (number : ℕ) → number < length jobs → fold (λ time job. min time job.release) from jobs ≤ (job_at jobs number).release
+first_none from [] number within = absurd (omega (arith, within))
+first_none from (job ∷ jobs) zero within = omega (arith, releases_from jobs (min from job.release))
+first_none from (job ∷ jobs) (suc number) within = first_none (min from job.release) jobs number (omega (arith, within))
+
+-- so the last deadline is one of the jobs', or 0
+last_one : (jobs : List Job) → (last_deadline jobs ≡ 0) ⊎ ((number : ℕ) × (number < length jobs) × ((job_at jobs number).deadline ≡ last_deadline jobs))
+last_one jobs = picked max (λ job. job.deadline) (λ x y. grind arith) 0 jobs
+
+-- and the first release is one of them, or the last deadline
+first_one : (jobs : List Job) →
+    (first_release jobs ≡ last_deadline jobs) ⊎ ((number : ℕ) × (number < length jobs) × ((job_at jobs number).release ≡ first_release jobs))
+first_one jobs = picked min (λ job. job.release) (λ x y. grind arith) (last_deadline jobs) jobs
 
 -- # The horizon
 
@@ -112,10 +95,8 @@ long_between first last (time ∷ times) some rises between begins ends =
 first_event : (jobs : List Job) → 1 ≤ length jobs → ((number : ℕ) → number < length jobs → (job_at jobs number).release < (job_at jobs number).deadline) →
     get_or (event_points jobs) 0 0 ≤ first_release jobs
 first_event jobs some window =
-    let last = last_is 0 jobs in
-    let first = first_is (last_deadline jobs) jobs in
-    elim first.one [
-      | inl is ↦ absurd (omega (arith, is, first.none 0 some, window 0 some, last.none 0 some))
+    elim (first_one jobs) [
+      | inl is ↦ absurd (omega (arith, is, first_none (last_deadline jobs) jobs 0 some, window 0 some, last_none 0 jobs 0 some))
       | inr (number, within, is) ↦
           let event = release_at jobs number within in
           omega (arith, is, event.2, not_later jobs 0 event.0 (omega arith) event.1)
@@ -124,9 +105,8 @@ first_event jobs some window =
 last_event : (jobs : List Job) → 1 ≤ length jobs → ((number : ℕ) → number < length jobs → (job_at jobs number).release < (job_at jobs number).deadline) →
     last_deadline jobs ≤ get_or (event_points jobs) (length (event_points jobs) - 1) 0
 last_event jobs some window =
-    let last = last_is 0 jobs in
-    elim last.one [
-      | inl is ↦ absurd (omega (arith, is, window 0 some, last.none 0 some))
+    elim (last_one jobs) [
+      | inl is ↦ absurd (omega (arith, is, window 0 some, last_none 0 jobs 0 some))
       | inr (number, within, is) ↦
           let event = deadline_at jobs number within in
           omega (arith, is, event.2, not_later jobs event.0 (length (event_points jobs) - 1) (omega (arith, event.1)) (omega (arith, event.1)))
@@ -137,12 +117,10 @@ pub stretches_long : (jobs : List Job) → All (λ job. job.release < job.deadli
 stretches_long [] windows = refl
 stretches_long (job ∷ others) windows =
     let jobs : List Job = job ∷ others in
-    let last = last_is 0 jobs in
-    let first = first_is (last_deadline jobs) jobs in
     let window : (number : ℕ) → number < length jobs → (job_at jobs number).release < (job_at jobs number).deadline = λ number within. windows number no_job within in
     let each : All (λ job. (first_release jobs ≤ job.release) × (job.release < job.deadline) × (job.deadline ≤ last_deadline jobs)) jobs =
     All-from_get_or (λ job. (first_release jobs ≤ job.release) × (job.release < job.deadline) × (job.deadline ≤ last_deadline jobs)) jobs no_job
-    (λ number within. (first.none number within, window number within, last.none number within)) in
+    (λ number within. (first_none (last_deadline jobs) jobs number within, window number within, last_none 0 jobs number within)) in
     long_between (first_release jobs) (last_deadline jobs) (event_points jobs) (let event = release_at jobs 0 (omega arith) in omega (arith, event.1))
     (rises_times (flat_map (λ job. job.release ∷ job.deadline ∷ []) jobs))
     (rising_all (λ time. (first_release jobs ≤ time) × (time ≤ last_deadline jobs)) (flat_map (λ job. job.release ∷ job.deadline ∷ []) jobs)

@@ -2,9 +2,8 @@
 use Rattle.std.proofs.Common.{◌≡◌, ℕ, ◌-◌, ◌*◌, ◌<◌, List, [], ◌∷◌, length, get_or, map, ap, arith, inl, inr}
 use Rattle.std.specs.List.{All}
 use Rattle.std.proofs.lemmas.Bool.{cases_lt}
-use Rattle.std.proofs.lemmas.List.Elements.{All-map}
 use Rattle.std.proofs.lemmas.List.Sums.{get_or-le-sum_by}
-use Rattle.std.proofs.Math.Nat.{mul-pos, mul-sub, mul-le-mul_left}
+use Rattle.std.proofs.Math.Nat.{mul-pos}
 use Rattle.yds_model.specs.Job.{Job}
 use Rattle.yds_model.specs.Slot.{WrittenSlot, WholeSlot, slots_at}
 use Rattle.yds_model.specs.Excess.{excess}
@@ -14,7 +13,7 @@ use Rattle.yds_model.specs.Table.{Point}
 use Rattle.yds_model.specs.Rounding.{top_of, IsTooFast}
 use Rattle.yds_model.specs.Admission.{IsWithinTop, CanServe}
 use Rattle.yds_model.proofs.Sums.{sum_by_zero}
-use Rattle.yds_model.proofs.Scale.{scale_exists, finer, feasible_finer}
+use Rattle.yds_model.proofs.Scale.{scale_exists, finer, finer_excess, feasible_finer}
 use Rattle.yds_energy.specs.RoundingLaws.{TooSlowIsExact}
 use Rattle.yds_energy.proofs.PlanParts.{scale_times}
 use Rattle.yds_laws.proofs.Curve.{curve, IsSlowFirst, curve_slow}
@@ -24,13 +23,6 @@ use Rattle.yds_laws.proofs.Plans.{plans_are_least, plan_falls, plan_excess}
 within_none : (top : ℕ) (slots : List WholeSlot) → All (IsWithinTop top) slots → excess top 1 slots ≡ 0
 within_none top slots within =
     sum_by_zero (λ slot. 1 * slot.work - top * (slot.to - slot.from)) slots (λ k d inside. omega (arith, within k d inside))
-
--- in finer parts they still stay there
-finer_within : (top k : ℕ) (slots : List WholeSlot) → All (IsWithinTop top) slots → All (IsWithinTop top) (map (finer k) slots)
-finer_within top k slots within =
-    All-map (IsWithinTop top) (finer k) slots
-    (λ i d inside. let slot = get_or slots i d in
-    rw (← mul-sub k slot.to slot.from) (omega (arith, mul-le-mul_left k (within i d inside))))
 
 -- and slots that do nothing above a speed stay at or below it
 pub none_within : (top : ℕ) (slots : List WholeSlot) → excess top 1 slots ≡ 0 → All (IsWithinTop top) slots
@@ -45,7 +37,8 @@ unserved top jobs slots levels k level plan within fast served =
     let scale = scale_exists slots plan.proper.feasible.solid in
     let common = scale_times scale.0 served.scale slots served.positive scale.1 in
     let least = (plans_are_least jobs slots levels plan).0.holds (scale.0 * served.scale) common in
-    let none = within_none top (map (finer scale.0) served.slots) (finer_within top scale.0 served.slots served.within_top) in
+    let none : excess top 1 (map (finer scale.0) served.slots) ≡ 0 =
+    omega (arith, finer_excess scale.0 top 1 served.slots, ap (λ n. scale.0 * n) (within_none top served.slots served.within_top)) in
     let most = least.least top 1 (omega arith) (map (finer scale.0) served.slots) (feasible_finer jobs scale.0 served.scale served.slots scale.1.positive served.feasible) in
     let part = get_or-le-sum_by (λ (one : Level). 1 * one.work - top * one.length) levels k level within in
     let some : 0 < curve top 1 levels = omega (arith, part, fast) in

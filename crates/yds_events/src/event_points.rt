@@ -18,7 +18,7 @@ pub(crate) fn rising_times(alloc: Global, rows: &[JobRow]) -> Result<Vec<u32>, M
     ensures times { IfOk result (λ times. times.items ≡ event_points rows.now) }
     ensures jobs { OnOk result (All IsJob rows.now) }
 {
-    let mut times = Vec::new(alloc);
+    let mut times = Vec::with_capacity(alloc, 2 * rows.len())?;
     for row in rows {
         times.push(row.release)?;
         times.push(row.deadline)?;

@@ -65,7 +65,7 @@ fn between(alloc: Global, times: &[u32]) -> Result<Vec<Stretch>, Memory>
     requires in_range { All (λ time. time ≤ MAX_TIME) times.now }
     ensures { IfOk result (λ stretches. stretches.items ≡ neighbours times.now) }
 {
-    let mut stretches = Vec::new(alloc);
+    let mut stretches = Vec::with_capacity(alloc, times.len())?;
     for next in 1..times.len() {
         stretches.push(Stretch::new(times[next - 1], times[next]))?;
     }

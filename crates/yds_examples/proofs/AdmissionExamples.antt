@@ -4,7 +4,6 @@ use Rattle.std.proofs.Common.{◌≡◌, ℕ, ◌*◌, ◌-◌, List, [], ◌∷
 use Rattle.std.specs.Prelude.{codes}
 use Rattle.std.specs.Fmt.{digits}
 use Rattle.std.specs.List.{Contains}
-use Rattle.std.proofs.Math.Nat.{one-dvd}
 use Rattle.std.proofs.lemmas.List.Elements.{All-from_recursion}
 use Rattle.yds_model.specs.declared.status.Status.TheVariants.{Done, Refused}
 use Rattle.yds_model.specs.Job.{Job, job_at}
@@ -19,11 +18,11 @@ use Rattle.yds_model.specs.Policy.{IsRunAt, HasRunDenominators}
 use Rattle.yds_model.specs.Admission.{CanServe, jobs_with, IsOverfull, IsFirstOverfull, Refusal, IsRefusal, AdmitsAfter, IsAdmission, top_capacity, IsAdmittedRun}
 use Rattle.yds_model.specs.AdmitAnswer.{with_taken}
 use Rattle.yds_model.specs.Answer.{Answers}
-use Rattle.yds_model.proofs.Scale.{least_scale_of}
 use Rattle.yds_examples.proofs.Tests.{proved, refuted, test_eq, test_any}
 use Rattle.yds_examples.proofs.TestedSchedules.{is_scale, run_at}
 use Rattle.yds_examples.proofs.TestedRounding.{can_serve, cant_serve, overfull, first_overfull}
-use Rattle.yds_energy.proofs.RunScale.{admitted_run_scaled}
+use Rattle.yds_energy.proofs.Finer.{each_scale_of}
+use Rattle.yds_energy.proofs.RunScale.{admitted_run_free}
 use Rattle.yds_texts.proofs.Within.{read_is_within_limits}
 use Rattle.yds_texts.proofs.AdmitText.{admission_texts_are_feasible}
 
@@ -194,8 +193,7 @@ has_denominators slot stretch units is lies speed work from to =
 -- So they are a run at each scale, with whole ends and works.
 admitted_run : IsAdmittedRun admitted 2 slots
 admitted_run = record {
-  run = least_scale_of slots (λ scale whole. IsRunAt admitted 1 scale (top_capacity admitted 2 scale whole) whole) 1 whole
-      (λ scale is. one-dvd scale) (λ k some. admitted_run_scaled admitted 2 k 1 slots some whole run);
+  run = each_scale_of _ (admitted_run_free admitted 2) slots 1 whole run;
   denominators = All-from_recursion (HasRunDenominators admitted 1) slots (
     has_denominators _ (record { from = 0; to = 2 }) 4 (0, omega arith, refl) (record { from = omega arith; to = omega arith }) refl refl refl refl,
     (has_denominators _ (record { from = 2; to = 4 }) 4 (1, omega arith, refl) (record { from = omega arith; to = omega arith }) refl refl refl refl, tt),

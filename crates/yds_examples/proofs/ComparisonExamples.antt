@@ -3,13 +3,10 @@
 use Rattle.std.proofs.Common.{◌≡◌, ℕ, ◌+◌, ◌*◌, ◌<◌, ◌≤◌, List, [], ◌∷◌, length, map, refl, ap, arith, inl, inr, true, false}
 use Rattle.std.specs.Prelude.{codes}
 use Rattle.std.specs.Fmt.{digits}
-use Rattle.std.specs.List.{All}
-use Rattle.std.proofs.Math.Nat.{one-dvd}
 use Rattle.yds_model.specs.declared.status.Status.TheVariants.{Done, No, Refused}
-use Rattle.yds_model.specs.Numbers.{IsFirstFailure}
 use Rattle.yds_model.specs.Job.{Job}
 use Rattle.yds_model.specs.Scale.{Fraction, of_whole, of_parts}
-use Rattle.yds_model.specs.Slot.{WrittenSlot, WholeSlot, IsScale, slots_at, no_written_slot}
+use Rattle.yds_model.specs.Slot.{WrittenSlot, WholeSlot, IsScale, slots_at}
 use Rattle.yds_model.specs.Piece.{Piece}
 use Rattle.yds_model.specs.Level.{Level}
 use Rattle.yds_model.specs.Table.{Point, hull_multiple}
@@ -19,16 +16,15 @@ use Rattle.yds_model.specs.Policy.{IsRunAt}
 use Rattle.yds_model.specs.AverageRate.{average_rate, IsAverageRateRun}
 use Rattle.yds_model.specs.Comparison.{work_in, all_time_at, all_energy, Spent, IsSpentAt, IsSpent, HoldsStretch, stretch_at, IsTooSlowFor, Spends, TooSlowFor, HoldsAll, IsSide}
 use Rattle.yds_model.specs.Answer.{Answers}
-use Rattle.yds_model.proofs.Scale.{one_scale_of, least_scale_of}
-use Rattle.yds_model.proofs.Divisor.{multiple_is_least}
 use Rattle.yds_texts.specs.CompareText.{CostsNoLess}
 use Rattle.yds_examples.proofs.Tests.{Test, tests, proved, refuted, test_never, test_le, test_eq, test_implied, test_all, test_each}
 use Rattle.yds_examples.proofs.TestedSchedules.{is_scale, run_at}
 use Rattle.yds_examples.proofs.TestedPlans.{proper_by_test, served_by_test, plan_by_test}
 use Rattle.yds_examples.proofs.TestedRounding.{slow_enough}
-use Rattle.yds_energy.proofs.RunScale.{average_rate_run_scaled}
+use Rattle.yds_energy.proofs.Finer.{each_scale_of}
+use Rattle.yds_energy.proofs.RunScale.{average_rate_run_free}
 use Rattle.yds_examples.proofs.Policies.{available_jobs as jobs, fine_slots as available, fine_scale as available_scale, fine_accepted as available_run}
-use Rattle.yds_energy.proofs.SpentScale.{spent_kept, all_hold_kept, first_failure_kept, units_kept}
+use Rattle.yds_energy.proofs.SpentScale.{spent_free, all_hold_free, first_failure_free, units_free}
 
 -- the points: speed 0 at no power, 1 at 1, 2 at 3
 abbrev points : List Point
@@ -50,7 +46,7 @@ abbrev level : Level
 level = record { work = 3; length = 3; pieces = record { from = 0; to = 3 } ∷ []; members = 0 ∷ 1 ∷ [] }
 
 plan_served : (scale : ℕ) → IsScale scale planned → IsServedInStretches jobs scale (slots_at scale planned)
-plan_served = served_by_test jobs planned 1 refl (λ scale is. one-dvd scale) refl
+plan_served = served_by_test jobs planned 1 refl refl
 
 plan : IsPlan jobs planned (level ∷ [])
 plan = plan_by_test jobs planned (level ∷ []) (proper_by_test jobs planned (level ∷ []) refl refl refl) plan_served refl
@@ -69,12 +65,10 @@ average_scale = proved (is_scale 30 average) refl
 average_run_at : IsRunAt jobs 6 30 (average_rate jobs 6 30 (slots_at 30 average)) (slots_at 30 average)
 average_run_at = proved (run_at jobs 6 30 (average_rate jobs 6 30 (slots_at 30 average)) (slots_at 30 average)) refl
 
--- Each of its scales is a multiple of 5 and of 6, so it is a run, and rounds nowhere.
+-- One scale decides, so it is a run, and rounds nowhere.
 average_run : IsAverageRateRun jobs 6 0 average
 average_run = record {
-  run = least_scale_of average (λ scale whole. IsRunAt jobs 6 scale (average_rate jobs 6 scale whole) whole) 30 average_scale
-      (λ scale is. (multiple_is_least 5 6).2 scale (is.divided 1 no_written_slot (omega arith)).to (is.divided 0 no_written_slot (omega arith)).work)
-      (λ k some. average_rate_run_scaled jobs 6 k 30 average some average_scale average_run_at);
+  run = each_scale_of _ (average_rate_run_free jobs 6) average 30 average_scale average_run_at;
   rounds = refl;
 }
 
@@ -110,7 +104,7 @@ third whole num = record { whole = whole; num = num; den = 3 }
 -- One scale decides: what is spent at one of them is spent.
 spends : (points : List Point) (slots : List WrittenSlot) (spent : Spent) (scale : ℕ) → 1 ≤ hull_multiple points → IsScale scale slots →
     IsSpentAt jobs points spent scale (slots_at scale slots) → IsSpent jobs points slots spent
-spends points slots spent scale wide is at_one = one_scale_of slots (IsSpentAt jobs points spent) (spent_kept jobs points slots spent wide) scale is at_one
+spends points slots spent scale wide is at_one = each_scale_of _ (spent_free jobs points spent wide) slots scale is at_one
 
 -- the plan
 abbrev planned_spent : Spent
@@ -185,7 +179,7 @@ holds points scale slots stretch = hlevel tests
 holds_all : (slots : List WrittenSlot) (spent : Spent) (scale : ℕ) → IsScale scale slots → IsSpent jobs points slots spent →
     (test_all (holds points scale (slots_at scale slots)) (stretches jobs)).passes ≡ true → HoldsAll jobs points slots spent
 holds_all slots spent scale is spends passed = record {
-  holds = one_scale_of slots (λ scale whole. All (HoldsStretch points scale whole) (stretches jobs)) (all_hold_kept jobs points slots) scale is
+  holds = each_scale_of _ (all_hold_free jobs points) slots scale is
       (proved (test_all (holds points scale (slots_at scale slots)) (stretches jobs)) passed);
   is_spent = spends;
 }
@@ -213,14 +207,12 @@ too_slow_at_one : (slots : List WrittenSlot) (scale units place : ℕ) → IsSca
 too_slow_at_one slots scale units place is within before fails same = record {
   place = place;
   is_stretch = refl;
-  first = one_scale_of slots (λ scale whole. IsFirstFailure 3 (λ i. HoldsStretch slow scale whole (stretch_at jobs i)) place)
-      (first_failure_kept jobs slow slots 3 place) scale is (record {
-        within = within;
-        before = proved (test_each (λ i. holds slow scale (slots_at scale slots) (stretch_at jobs i)) place) before;
-        fails = refuted (holds slow scale (slots_at scale slots) (stretch_at jobs place)) fails;
-      });
-  is_units = one_scale_of slots (λ scale whole. units * scale ≡ 6 * work_in scale (stretch_at jobs place) whole)
-      (units_kept jobs slow slots 6 units (stretch_at jobs place)) scale is same;
+  first = each_scale_of _ (first_failure_free jobs slow 3 place) slots scale is (record {
+    within = within;
+    before = proved (test_each (λ i. holds slow scale (slots_at scale slots) (stretch_at jobs i)) place) before;
+    fails = refuted (holds slow scale (slots_at scale slots) (stretch_at jobs place)) fails;
+  });
+  is_units = each_scale_of _ (units_free 6 units (stretch_at jobs place)) slots scale is same;
 }
 
 -- Average Rate serves 10 units from 1 to 2, where 6 can be served,

@@ -1,6 +1,5 @@
 -- The one form of a plan where two jobs have the same speed: x from 0 to 2 and y from 2 to 4, each with work 2.
 use Rattle.std.proofs.Common.{List, [], ◌∷◌, refl, arith}
-use Rattle.std.proofs.Math.Nat.{one-dvd}
 use Rattle.yds_model.specs.Job.{Job}
 use Rattle.yds_model.specs.Scale.{of_whole}
 use Rattle.yds_model.specs.Slot.{WrittenSlot}
@@ -33,7 +32,7 @@ together = record { work = 4; length = 4; pieces = record { from = 0; to = 4 } �
 -- by the laws of scale and of tests
 plan : IsPlan jobs slots together
 plan =
-    plan_by_test jobs slots together (proper_by_test jobs slots together refl refl refl) (served_by_test jobs slots 1 refl (λ scale is. one-dvd scale) refl) refl
+    plan_by_test jobs slots together (proper_by_test jobs slots together refl refl refl) (served_by_test jobs slots 1 refl refl) refl
 
 -- Each in a level of its own: this is proper,
 abbrev apart : List Level

@@ -1,12 +1,10 @@
 -- The two policies, tried on small runs of each, on the grids 1 and 6: at a scale of their slots, and at each.
-use Rattle.std.proofs.Common.{◌≡◌, ℕ, zero, suc, ◌-◌, ◌*◌, ◌/◌, ◌≤◌, List, [], ◌∷◌, map, refl, sym, ap, subst, arith, inl, inr}
+use Rattle.std.proofs.Common.{◌≡◌, ℕ, zero, suc, ◌-◌, ◌*◌, ◌/◌, ◌≤◌, List, [], ◌∷◌, map, refl, ap, subst, arith, inl, inr}
 use Rattle.std.specs.Prelude.{count_by}
-use Rattle.std.specs.Int.{◌∣◌}
 use Rattle.std.specs.List.{All, Contains}
-use Rattle.std.proofs.Math.Nat.{one-dvd}
 use Rattle.yds_model.specs.Job.{Job}
 use Rattle.yds_model.specs.Scale.{Fraction, of_whole, of_parts}
-use Rattle.yds_model.specs.Slot.{WrittenSlot, AtEachScale, IsScale, slots_at, no_written_slot, written_slot_at}
+use Rattle.yds_model.specs.Slot.{WrittenSlot, AtEachScale, IsScale, slots_at, written_slot_at}
 use Rattle.yds_model.specs.Feasible.{IsFeasible}
 use Rattle.yds_model.specs.Piece.{Piece}
 use Rattle.yds_model.specs.Event.{stretches}
@@ -16,12 +14,11 @@ use Rattle.yds_model.specs.Policy.{IsRunAt, HasRunDenominators}
 use Rattle.yds_model.specs.AverageRate.{average_rate, average_rate_rounds, IsAverageRateRun}
 use Rattle.yds_model.specs.OptimalAvailable.{optimal_available, optimal_available_rounds, IsOptimalAvailableRun}
 use Rattle.yds_model.specs.Comparison.{work_in}
-use Rattle.yds_model.proofs.Scale.{least_scale_of}
-use Rattle.yds_model.proofs.Divisor.{multiple_is_least}
 use Rattle.yds_events.specs.Stretch.{no_stretch}
 use Rattle.yds_laws.specs.RunLaws.{DoesItsTerms}
 use Rattle.yds_laws.proofs.ExactRates.{average_rate_is_exact}
-use Rattle.yds_energy.proofs.RunScale.{average_rate_run_scaled, optimal_available_run_scaled, optimal_available_rounds_scaled}
+use Rattle.yds_energy.proofs.Finer.{each_scale_of}
+use Rattle.yds_energy.proofs.RunScale.{average_rate_run_free, optimal_available_run_free, optimal_available_rounds_free}
 use Rattle.yds_examples.proofs.Tests.{tests, proved, refuted}
 use Rattle.yds_examples.proofs.TestedSchedules.{is_scale, feasible_by_test, run_at}
 
@@ -60,10 +57,9 @@ rate_run = proved (run_at rate_jobs 1 3 (average_rate rate_jobs 1 3 (slots_at 3 
 pub rate_thirds : IsScale 3 rate_slots
 rate_thirds = proved (is_scale 3 rate_slots) refl
 
--- each scale of the slots is a multiple of 3, so they are a run at each
+-- one scale decides, so they are a run at each
 rate_at_each : AtEachScale rate_slots (λ scale whole. IsRunAt rate_jobs 1 scale (average_rate rate_jobs 1 scale whole) whole)
-rate_at_each = least_scale_of rate_slots (λ scale whole. IsRunAt rate_jobs 1 scale (average_rate rate_jobs 1 scale whole) whole) 3 rate_thirds
-    (λ scale is. (is.divided 1 no_written_slot (omega arith)).to) (λ k some. average_rate_run_scaled rate_jobs 1 k 3 rate_slots some rate_thirds rate_run)
+rate_at_each = each_scale_of _ (average_rate_run_free rate_jobs 1) rate_slots 3 rate_thirds rate_run
 
 -- the slots are a run of Average Rate that rounds at two event points
 pub rate_accepted : IsAverageRateRun rate_jobs 1 2 rate_slots
@@ -110,18 +106,14 @@ whole_units = refl
 whole_run : IsRunAt rate_jobs 3 15 (average_rate rate_jobs 3 15 (slots_at 15 whole_slots)) (slots_at 15 whole_slots)
 whole_run = proved (run_at rate_jobs 3 15 (average_rate rate_jobs 3 15 (slots_at 15 whole_slots)) (slots_at 15 whole_slots)) refl
 
--- 15 is a scale of them, and each is a multiple of it, being one of 5 and of 3
+-- 15 is a scale of them
 whole_scale : IsScale 15 whole_slots
 whole_scale = proved (is_scale 15 whole_slots) refl
-
-whole_divides : (scale : ℕ) → IsScale scale whole_slots → 15 ∣ scale
-whole_divides scale is = (multiple_is_least 5 3).2 scale (is.divided 1 no_written_slot (omega arith)).to (is.divided 0 no_written_slot (omega arith)).work
 
 -- so they are a run at each, which rounds nowhere
 pub whole_accepted : IsAverageRateRun rate_jobs 3 0 whole_slots
 whole_accepted = record {
-  run = least_scale_of whole_slots (λ scale whole. IsRunAt rate_jobs 3 scale (average_rate rate_jobs 3 scale whole) whole) 15 whole_scale whole_divides
-      (λ k some. average_rate_run_scaled rate_jobs 3 k 15 whole_slots some whole_scale whole_run);
+  run = each_scale_of _ (average_rate_run_free rate_jobs 3) whole_slots 15 whole_scale whole_run;
   rounds = refl;
 }
 
@@ -168,17 +160,13 @@ available_run = proved (run_at available_jobs 1 1 (optimal_available available_j
 pub available_whole : IsScale 1 available_slots
 available_whole = proved (is_scale 1 available_slots) refl
 
--- each scale is a multiple of 1, so they are a run at each
+-- so they are a run at each
 available_at_each : AtEachScale available_slots (λ scale whole. IsRunAt available_jobs 1 scale (optimal_available available_jobs 1 scale whole) whole)
-available_at_each =
-    least_scale_of available_slots (λ scale whole. IsRunAt available_jobs 1 scale (optimal_available available_jobs 1 scale whole) whole) 1 available_whole
-    (λ scale is. one-dvd scale) (λ k some. optimal_available_run_scaled available_jobs 1 k 1 available_slots some available_whole available_run)
+available_at_each = each_scale_of _ (optimal_available_run_free available_jobs 1) available_slots 1 available_whole available_run
 
 -- and it rounds at one event point at each
 available_rounds_at_each : AtEachScale available_slots (λ scale whole. 1 ≡ count_by (optimal_available_rounds available_jobs 1 scale whole) (stretches available_jobs))
-available_rounds_at_each =
-    least_scale_of available_slots (λ scale whole. 1 ≡ count_by (optimal_available_rounds available_jobs 1 scale whole) (stretches available_jobs)) 1 available_whole
-    (λ scale is. one-dvd scale) (λ k some. sym (optimal_available_rounds_scaled available_jobs 1 k 1 available_slots some available_whole))
+available_rounds_at_each = each_scale_of _ (optimal_available_rounds_free available_jobs 1 1) available_slots 1 available_whole refl
 
 -- the slots are a run of Optimal Available that rounds at one event point
 available_accepted : IsOptimalAvailableRun available_jobs 1 1 available_slots
@@ -221,24 +209,17 @@ fine_units = refl
 fine_run : IsRunAt available_jobs 6 42 (optimal_available available_jobs 6 42 (slots_at 42 fine_slots)) (slots_at 42 fine_slots)
 fine_run = proved (run_at available_jobs 6 42 (optimal_available available_jobs 6 42 (slots_at 42 fine_slots)) (slots_at 42 fine_slots)) refl
 
--- 42 is a scale of them, and each is a multiple of it, being one of 7 and of 6
+-- 42 is a scale of them
 pub fine_scale : IsScale 42 fine_slots
 fine_scale = proved (is_scale 42 fine_slots) refl
 
-fine_divides : (scale : ℕ) → IsScale scale fine_slots → 42 ∣ scale
-fine_divides scale is = (multiple_is_least 7 6).2 scale (is.divided 1 no_written_slot (omega arith)).to (is.divided 0 no_written_slot (omega arith)).work
-
 -- so they are a run at each,
 fine_at_each : AtEachScale fine_slots (λ scale whole. IsRunAt available_jobs 6 scale (optimal_available available_jobs 6 scale whole) whole)
-fine_at_each =
-    least_scale_of fine_slots (λ scale whole. IsRunAt available_jobs 6 scale (optimal_available available_jobs 6 scale whole) whole) 42 fine_scale fine_divides
-    (λ k some. optimal_available_run_scaled available_jobs 6 k 42 fine_slots some fine_scale fine_run)
+fine_at_each = each_scale_of _ (optimal_available_run_free available_jobs 6) fine_slots 42 fine_scale fine_run
 
 -- which rounds nowhere
 fine_rounds_at_each : AtEachScale fine_slots (λ scale whole. 0 ≡ count_by (optimal_available_rounds available_jobs 6 scale whole) (stretches available_jobs))
-fine_rounds_at_each =
-    least_scale_of fine_slots (λ scale whole. 0 ≡ count_by (optimal_available_rounds available_jobs 6 scale whole) (stretches available_jobs)) 42 fine_scale
-    fine_divides (λ k some. sym (optimal_available_rounds_scaled available_jobs 6 k 42 fine_slots some fine_scale))
+fine_rounds_at_each = each_scale_of _ (optimal_available_rounds_free available_jobs 6 0) fine_slots 42 fine_scale refl
 
 -- the slots are a run of Optimal Available that rounds at no event point
 pub fine_accepted : IsOptimalAvailableRun available_jobs 6 0 fine_slots

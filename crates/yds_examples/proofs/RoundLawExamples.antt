@@ -2,7 +2,6 @@
 use Rattle.std.proofs.Common.{◌≡◌, ℕ, List, [], ◌∷◌, Ok, refl, ap, subst, ◌∙◌, arith, inl, inr}
 use Rattle.std.specs.Prelude.{codes, MatchOption}
 use Rattle.std.specs.Fmt.{digits}
-use Rattle.std.proofs.Math.Nat.{one-dvd}
 use Rattle.yds_model.specs.declared.status.Status.TheVariants.{Done, No}
 use Rattle.yds_model.specs.Job.{Job}
 use Rattle.yds_model.specs.Scale.{of_whole}
@@ -35,7 +34,7 @@ use Rattle.yds_examples.proofs.RoundNestedExamples.{jobs, point, points, planned
 
 -- the levels and slots are a plan
 plan : IsPlan jobs planned levels
-plan = plan_by_test jobs planned levels planned_proper (served_by_test jobs planned 1 refl (λ scale is. one-dvd scale) refl) refl
+plan = plan_by_test jobs planned levels planned_proper (served_by_test jobs planned 1 refl refl) refl
 
 -- and the points a table
 table : IsTable points

@@ -1,6 +1,5 @@
 -- Tests of what is said of levels: the conditions of a proper certificate, verdicts and judgements, and the conditions of a plan.
 use Rattle.std.proofs.Common.{◌≡◌, ℕ, ◌+◌, ◌*◌, ◌<◌, ◌≤◌, List, [], ◌∷◌, length, take, true, zero, suc, Option, Some, None, Bool, false, refl, subst, arith}
-use Rattle.std.specs.Int.{◌∣◌}
 use Rattle.std.specs.List.{All, Contains}
 use Rattle.yds_model.specs.Numbers.{Each}
 use Rattle.yds_model.specs.Job.{Job, job_at}
@@ -10,8 +9,8 @@ use Rattle.yds_model.specs.Level.{Level, level_at, all_members, all_pieces}
 use Rattle.yds_model.specs.Proper.{PiecesStand, StandsOnce, SumsAgree, IsNotFaster, IsWindowCovered, AreLevels, IsProper}
 use Rattle.yds_model.specs.Plan.{IsServedInStretches, IsPlan, IsSlower, DontTouch, Rise, HasLevelDenominators}
 use Rattle.yds_model.specs.Judgement.{HasWrittenSpeed, Judgement, Accepted, Slots, Pieces, Members, Sums, Order, Window, Speed, IsJudgement}
-use Rattle.yds_model.proofs.Scale.{least_scale_of}
-use Rattle.yds_energy.proofs.RunScale.{served_in_stretches_scaled}
+use Rattle.yds_energy.proofs.Finer.{each_scale_of}
+use Rattle.yds_energy.proofs.RunScale.{served_free}
 use Rattle.yds_laws.proofs.Judgements.{judgement_is_exact}
 use Rattle.yds_examples.proofs.Tests.{Test, tests, proved, test_le, test_each, test_before, test_between, test_grid, test_implied, test_contains, test_both, test_all, test_any, test_like, test_never}
 use Rattle.yds_examples.proofs.TestedSchedules.{is_scale, are_slots, served_in_stretches}
@@ -175,14 +174,12 @@ proper_by_test jobs slots levels are well_formed accepted =
     (judgement_is_exact jobs slots levels (proved (are_slots (length jobs) slots) are) (proved (are_levels jobs levels) well_formed)).0
     (proved (is_judgement jobs slots levels Accepted) accepted)
 
--- written slots that are served in stretches at a scale which divides all others are so at each
-pub served_by_test : (jobs : List Job) (slots : List WrittenSlot) (least : ℕ) → (is_scale least slots).passes ≡ true →
-    ((scale : ℕ) → IsScale scale slots → least ∣ scale) → (served_in_stretches jobs least (slots_at least slots)).passes ≡ true →
-    (scale : ℕ) → IsScale scale slots → IsServedInStretches jobs scale (slots_at scale slots)
-served_by_test jobs slots least is divides passed =
-    let is_least = proved (is_scale least slots) is in
-    (least_scale_of slots (IsServedInStretches jobs) least is_least divides
-    (λ k some. served_in_stretches_scaled jobs k least slots some is_least (proved (served_in_stretches jobs least (slots_at least slots)) passed))).holds
+-- written slots that are served in stretches at a scale are so at each
+pub served_by_test : (jobs : List Job) (slots : List WrittenSlot) (scale : ℕ) → (is_scale scale slots).passes ≡ true →
+    (served_in_stretches jobs scale (slots_at scale slots)).passes ≡ true →
+    (other : ℕ) → IsScale other slots → IsServedInStretches jobs other (slots_at other slots)
+served_by_test jobs slots scale is passed =
+    (each_scale_of (IsServedInStretches jobs) (served_free jobs) slots scale (proved (is_scale scale slots) is) (proved (served_in_stretches jobs scale (slots_at scale slots)) passed)).holds
 
 -- all that makes a plan, besides that the certificate is proper and the slots are served in stretches
 abbrev pub is_plan_form : (jobs : List Job) (slots : List WrittenSlot) (levels : List Level) → Test (

@@ -3,7 +3,7 @@
 use Rattle.std.proofs.Common.{◌≡◌, ℕ, List, [], ◌∷◌, refl, arith}
 use Rattle.yds_model.specs.Job.{Job}
 use Rattle.yds_model.specs.Scale.{Fraction, of_whole}
-use Rattle.yds_model.specs.Slot.{WrittenSlot, IsScale, slots_at, no_written_slot, work_given}
+use Rattle.yds_model.specs.Slot.{WrittenSlot, IsScale, slots_at, work_given}
 use Rattle.yds_model.specs.Feasible.{IsFeasibleAt, IsFeasible}
 use Rattle.yds_model.specs.EarliestFirst.{IsEarliestFirst}
 use Rattle.yds_model.specs.Excess.{excess, IsLeast}
@@ -116,7 +116,7 @@ proper = proper_by_test jobs slots levels refl refl refl
 
 -- So they are a plan: each scale is a multiple of 3, at which they are served in stretches.
 pub plan : IsPlan jobs slots levels
-plan = plan_by_test jobs slots levels proper (served_by_test jobs slots 3 refl (λ scale is. (is.divided 1 no_written_slot (omega arith)).work) refl) refl
+plan = plan_by_test jobs slots levels proper (served_by_test jobs slots 3 refl refl) refl
 
 -- by the law of plans the slots are least, and the levels explain them
 pub least_and_explained : IsLeast jobs slots × Explains jobs slots levels

@@ -7,9 +7,9 @@ use Rattle.yds_model.specs.Slot.{WrittenSlot, IsScale}
 use Rattle.yds_model.specs.Feasible.{IsFeasible}
 use Rattle.yds_model.specs.Table.{Point}
 use Rattle.yds_model.specs.Rounding.{IsEnergyOf}
-use Rattle.yds_model.specs.Comparison.{Spent, IsSpentAt, IsSpent}
-use Rattle.yds_model.proofs.Scale.{one_scale_of}
-use Rattle.yds_energy.proofs.SpentScale.{spent_kept}
+use Rattle.yds_model.specs.Comparison.{Spent, IsSpent}
+use Rattle.yds_energy.proofs.Finer.{each_scale_of}
+use Rattle.yds_energy.proofs.SpentScale.{spent_free}
 use Rattle.yds_examples.proofs.Tests.{proved}
 use Rattle.yds_examples.proofs.TestedSchedules.{is_scale, feasible_by_test}
 use Rattle.yds_examples.proofs.TestedRounding.{energy_by_test}
@@ -44,4 +44,4 @@ even = record { energy = of_whole 4; times = of_whole 0 ∷ of_whole 1 ∷ of_wh
 
 -- That is what `IsSpent` says.
 its_spent : IsSpent jobs points slots even
-its_spent = one_scale_of slots (IsSpentAt jobs points even) (spent_kept jobs points slots even (omega arith)) 1 its_scale (record { energy = refl; times = refl })
+its_spent = each_scale_of _ (spent_free jobs points even (omega arith)) slots 1 its_scale (record { energy = refl; times = refl })

@@ -1,13 +1,14 @@
 -- Two numbers over their greatest common divisor.
-use Rattle.std.proofs.Common.{◌≡◌, ℕ, zero, suc, ◌+◌, ◌*◌, ◌/◌, ◌%◌, ◌<◌, ◌≤◌, ap, subst, sym, ◌∙◌, refl, arith, Bool, true, false, eqb-true}
+use Rattle.std.proofs.Common.{◌≡◌, ℕ, ◌+◌, ◌*◌, ◌/◌, ◌%◌, ◌<◌, ◌≤◌, ap, ap₂, subst, sym, ◌∙◌, refl, arith, Bool, true, false, eqb-true}
 use Rattle.std.specs.Prelude.{◌==◌, if◌then◌else◌}
 use Rattle.std.specs.Int.{◌∣◌, IsGcd}
 use Rattle.std.proofs.lemmas.Nat.Gcd.{same_from_IsGcd}
-use Rattle.std.proofs.Math.Nat.{div-one, div-mul_cancel, div-le_self, one-dvd, mul-dvd-mul_left, dvd_of_mul-dvd-mul_left, dvd-mul_right, zero-mul, lt_of_mul-lt-mul_right}
-use Rattle.yds_model.specs.Divisor.{common_divisor}
-use Rattle.yds_model.specs.Scale.{Fraction, of_whole, of_parts}
+use Rattle.std.proofs.Math.Nat.{div-one, div-mul_cancel, div-le_self, one-dvd, mul-dvd-mul_left, dvd_of_mul-dvd-mul_left, dvd-mul_right, zero-mul, lt_of_mul-lt-mul_right, eq_of_mul-eq-mul_left}
+use Rattle.yds_model.specs.Divisor.{common_divisor, in_lowest_terms}
+use Rattle.yds_model.specs.Scale.{Fraction, Quotient, numerator, of_whole, of_parts, IsSame}
 use Rattle.yds_model.proofs.Divisor.{divisor_is_greatest, lowest_terms_are_one}
-use Rattle.yds_model.proofs.Fractions.{den_positive}
+use Rattle.yds_model.proofs.LowestTerms.{parts_value, lowest_is as in_lowest, lowest_same}
+use Rattle.yds_model.proofs.Fractions.{factors, den_positive}
 use Rattle.yds_fraction.specs.Ratio.{IsRatio}
 use Rattle.yds_fraction.proofs.Kept.{some_parts}
 use Rattle.yds_fraction.specs.Mixed.{IsMixed, fraction_of}
@@ -36,12 +37,8 @@ pub same_lowest : (n d g : ℕ) → IsGcd n d g → n * (d / g) ≡ n / g * d
 same_lowest n d g greatest =
     omega (arith, ap (λ m. m * (d / g)) (div-mul_cancel g greatest.0), ap (λ m. n / g * m) (div-mul_cancel g greatest.1))
 
-positive_part : (part g d : ℕ) → part * g ≡ d → 1 ≤ d → 1 ≤ part
-positive_part zero g d e some = omega arith
-positive_part (suc part) g d e some = omega arith
-
 pub parts_lowest : (n d g : ℕ) → 1 ≤ d → IsGcd n d g → 1 ≤ d / g
-parts_lowest n d g some greatest = positive_part (d / g) g d (div-mul_cancel g greatest.1) some
+parts_lowest n d g some greatest = (factors (d / g) g d (div-mul_cancel g greatest.1) some).0
 
 pub IsRatio-lowest : (most_num most_den num den g : ℕ) → IsRatio most_num most_den (record { num = num; den = den }) → IsGcd num den g →
     IsRatio most_num most_den (record { num = num / g; den = den / g })
@@ -93,6 +90,23 @@ lowest_is a b c d some_b some_d same lowest =
     let one : common_divisor c d ≡ 1 = same_from_IsGcd c d (common_divisor c d) 1 (divisor_is_greatest c d) lowest in
     let terms = lowest_terms_are_one a b c d some_b some_d same in
     (sym (terms.0 ∙ ap (λ n. c / n) one ∙ div-one c), sym (terms.1 ∙ ap (λ n. d / n) one ∙ div-one d))
+
+-- a quotient that no number above 1 divides, as parts, is an equal one in lowest terms
+pub speed_reduced : (num den : ℕ) (x : Quotient) → 1 ≤ den → num * x.den ≡ x.num * den → 1 ≤ x.den → IsGcd x.num x.den 1 →
+    of_parts x.num x.den ≡ in_lowest_terms num den
+speed_reduced num den x some same parts lowest =
+    let terms = lowest_is num den x.num x.den some parts same lowest in
+    ap₂ (λ n d. of_parts n d) terms.0 terms.1
+
+-- and so is a fraction that equals so many parts
+pub reduced_is : (parts den : ℕ) (x : Fraction) → 1 ≤ den → IsSame (of_parts parts den) x → IsGcd x.num x.den 1 → x.num < x.den → x ≡ in_lowest_terms parts den
+reduced_is parts den x some same lowest below =
+    let first = of_parts parts den in
+    let value = parts_value parts den some in
+    let quotient : numerator x * den ≡ parts * x.den =
+    eq_of_mul-eq-mul_left first.den value.has_parts (numerator x * den) (parts * x.den) (omega (arith, ap (λ n. n * x.den) value.same, ap (λ n. n * den) same)) in
+    let reduced = same_from_IsGcd x.num x.den (common_divisor x.num x.den) 1 (divisor_is_greatest x.num x.den) lowest in
+    sym (in_lowest x (record { below_one = below; reduced = reduced })) ∙ lowest_same (numerator x) x.den parts den (omega (arith, below)) some quotient
 
 -- # So many parts as a fraction
 

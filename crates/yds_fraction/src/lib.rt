@@ -6,11 +6,13 @@
 
 mod divisors;
 mod laws;
+mod lowest_terms;
 mod mixed;
 mod ratio;
 
 pub use divisors::{gcd, lcm_within};
 pub use laws::{multiple_carries_factor, order_of_fractions, order_of_quotients, sum_carries_one};
+pub use lowest_terms::in_lowest_terms;
 pub use mixed::{Amount, Mixed, Moment};
 pub use ratio::{Ratio, Speed};
 

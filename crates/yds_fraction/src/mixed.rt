@@ -1,4 +1,4 @@
-ghost use Rattle.std.specs.Prelude.{◌≡◌, ◌<◌, ◌≤◌, ◌/◌, ◌↔◌, IsTrue, Some, refl};
+ghost use Rattle.std.specs.Prelude.{◌≡◌, ◌<◌, ◌*◌, ◌≤◌, ◌/◌, ◌%◌, ◌^◌, ◌↔◌, IsTrue, Some, refl};
 ghost use Rattle.std.specs.Int.{◌∣◌, IsGcd};
 ghost use Rattle.std.specs.Cmp.{partial_equiv_from_equiv};
 ghost use Rattle.std.specs.Ordering.{MatchOrdering};
@@ -57,6 +57,33 @@ impl<const D: u64> Model for Mixed<D> {
     ghost inverse = { λ x. record { whole = x.whole; num = x.num; den = x.den } };
 }
 
+/// The quotient and the rest, with one division, of 64 bits where the parts are so few.
+fn divided(parts: u128, den: u64) -> (u64, u64)
+    requires some { 1 ≤ den }
+    requires in_range { parts / den < 2 ^ 64 }
+    ensures quotient { result.0 ≡ parts / den }
+    ensures rest { result.1 ≡ parts % den }
+{
+    if let Ok(parts) = u64::try_from(parts) {
+        return (parts / den, parts % den);
+    }
+    let whole = parts / u128::from(den);
+    (whole as u64, (parts - whole * u128::from(den)) as u64)
+}
+
+/// The same of less than two wholes, without a division.
+fn carried(parts: u64, den: u64) -> (u64, u64)
+    requires { parts < 2 * den }
+    ensures quotient { result.0 ≡ parts / den }
+    ensures rest { result.1 ≡ parts % den }
+{
+    if parts < den {
+        (0, parts)
+    } else {
+        (1, parts - den)
+    }
+}
+
 impl<const D: u64> Mixed<D> {
     /// The whole number.
     pub fn from_whole(whole: u64) -> Self
@@ -98,8 +125,8 @@ impl<const D: u64> Mixed<D> {
         ensures whole { result.whole ≡ parts / den }
         ensures kept { IsMixed D result }
     {
-        let each = u128::from(den);
-        Mixed::new((parts / each) as u64, (parts % each) as u64, den)
+        let (whole, num) = divided(parts, den);
+        Mixed::new(whole, num, den)
     }
 
     /// The whole part.
@@ -217,8 +244,8 @@ impl<const D: u64> Add for Mixed<D> {
 
     fn add(self, other: Mixed<D>) -> Mixed<D> {
         let den = self.den.max(other.den);
-        let parts = self.num + other.num;
-        Mixed::new(self.whole + other.whole + parts / den, parts % den, den)
+        let (carry, num) = carried(self.num + other.num, den);
+        Mixed::new(self.whole + other.whole + carry, num, den)
     }
 }
 

@@ -44,6 +44,10 @@ fn fractions_by_hand(rt: HostRuntime) -> Result<(), Fail> {
     assert_eq!(rt; product.to_string(rt.alloc())?.as_str(), "7+2/4");
     let lowest = product.reduced();
     assert_eq!(rt; (lowest.whole(), lowest.num(), lowest.den()), (7, 1, 2));
+    assert_eq!(rt;
+        in_lowest_terms(30, 4).to_string(rt.alloc())?.as_str(),
+        "7+1/2"
+    );
     assert_eq!(rt; Amount::from_whole(5).to_string(rt.alloc())?.as_str(), "5");
     Ok(())
 }

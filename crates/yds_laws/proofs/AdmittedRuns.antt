@@ -1,8 +1,8 @@
 -- No slot of the admitted jobs' schedule is faster than the top speed: a stretch that serves something is filled at one speed, by which
 -- it serves at most what the top speed does there.
-use Rattle.std.proofs.Common.{◌≡◌, ℕ, zero, suc, ◌-◌, ◌*◌, ◌<◌, ◌≤◌, List, [], ◌∷◌, length, get_or, subst, arith, inl, inr, ap, Bool, true, ◌&&◌, nat_le}
-use Rattle.std.specs.List.{All, Contains, filter}
-use Rattle.std.proofs.lemmas.Bool.{le-leb, and_from, cases_Bool, cases_lt}
+use Rattle.std.proofs.Common.{◌≡◌, ℕ, zero, suc, ◌-◌, ◌*◌, ◌<◌, ◌≤◌, List, [], ◌∷◌, length, get_or, subst, arith, inl, inr, ap, true, ◌&&◌, nat_le}
+use Rattle.std.specs.List.{All, Contains}
+use Rattle.std.proofs.lemmas.Bool.{le-leb, and_from, cases_lt}
 use Rattle.std.proofs.lemmas.List.Elements.{All-nil, All-cons, All-contains, Contains-get_or}
 use Rattle.std.proofs.Math.Nat.{mul-le-mul_right, le_of_mul-le-mul_right, mul-pos}
 use Rattle.yds_model.specs.Slot.{WholeSlot, slots_at}
@@ -11,18 +11,8 @@ use Rattle.yds_model.specs.Event.{LiesIn}
 use Rattle.yds_model.specs.Policy.{slots_in, FillsAtSpeed, ServesCapacity}
 use Rattle.yds_model.specs.Admission.{IsWithinTop, top_capacity}
 use Rattle.yds_model.proofs.Runs.{run_forward}
+use Rattle.yds_model.proofs.Filters.{contains_filter}
 use Rattle.yds_laws.specs.AdmissionLaws.{AdmittedRunsAreWithinTop}
-
--- an element that passes a filter stands in what it keeps
-kept : {X : Type 0} (p : X → Bool) (xs : List X) (x : X) → p x ≡ true → Contains xs x → Contains (filter p xs) x
-kept p [] x passes (k, within, is) = absurd (omega arith)
-kept p (y ∷ ys) x passes (zero, within, is) = rw (ap p is, passes) (0, omega arith, is)
-kept p (y ∷ ys) x passes (suc k, within, is) =
-    let found = kept p ys x passes (k, omega arith, is) in
-    elim (cases_Bool (p y)) [
-      | inl here ↦ rw here (suc found.0, omega (arith, found.1), found.2)
-      | inr fails ↦ rw fails found
-    ]
 
 -- a slot that lies in a stretch takes some of its time, and is one of those that do
 in_stretch : (scale : ℕ) (slot : WholeSlot) (stretch : Piece) → LiesIn scale slot stretch →
@@ -55,13 +45,13 @@ serves_within : (top scale : ℕ) (stretch : Piece) (slots : List WholeSlot) (sl
     capacity ≤ scale * (top * (stretch.to - stretch.from)) → ServesCapacity 1 scale capacity stretch slots → Contains slots slot →
     LiesIn scale slot stretch → slot.from < slot.to → IsWithinTop top slot
 serves_within top scale stretch slots slot zero some most serves there lies forward =
-    let here = kept (λ one. nat_le (stretch.from * scale) one.from && nat_le one.to (stretch.to * scale)) slots slot (in_stretch scale slot stretch lies) there in
+    let here = contains_filter (λ one. nat_le (stretch.from * scale) one.from && nat_le one.to (stretch.to * scale)) slots slot (in_stretch scale slot stretch lies) there in
     absurd (omega (arith, here.1, ap (λ (part : List WholeSlot). length part) serves))
 serves_within top scale stretch slots slot (suc capacity) some most serves there lies forward =
     slower slot.work (stretch.to - stretch.from) scale (suc capacity) top (slot.to - slot.from) (some_length scale slot stretch lies forward) some
     (All-contains (λ (one : WholeSlot). one.work * (1 * (stretch.to - stretch.from) * scale) ≡ suc capacity * (one.to - one.from)) (slots_in scale stretch slots) slot
     (fill_speed (suc capacity) (1 * (stretch.to - stretch.from) * scale) (stretch.from * scale) (stretch.to * scale) (slots_in scale stretch slots) serves)
-    (kept (λ one. nat_le (stretch.from * scale) one.from && nat_le one.to (stretch.to * scale)) slots slot (in_stretch scale slot stretch lies) there))
+    (contains_filter (λ one. nat_le (stretch.from * scale) one.from && nat_le one.to (stretch.to * scale)) slots slot (in_stretch scale slot stretch lies) there))
     most
 
 pub admitted_runs_within_top : AdmittedRunsAreWithinTop

@@ -15,7 +15,7 @@ use Rattle.yds_model.specs.Plan.{IsPlan}
 use Rattle.yds_model.specs.Curve.{least_above, Break, break_at, breaks_of}
 use Rattle.yds_model.proofs.Sums.{sum_by_zero}
 use Rattle.yds_laws.specs.CurveLaws.{IsNotAbove, IsNotBelow, IsBetween, excess_of, way, IsOnLine, CurveIsStraight}
-use Rattle.yds_laws.proofs.LowestTerms.{HasValue, lowest_value}
+use Rattle.yds_model.proofs.LowestTerms.{HasValue, lowest_value}
 use Rattle.yds_laws.proofs.Curve.{curve}
 use Rattle.yds_laws.proofs.Plans.{plan_falls}
 use Rattle.yds_laws.proofs.LeastAbove.{above_curve}

@@ -17,11 +17,12 @@ use Rattle.yds_model.specs.AverageRate.{is_live, term_of, terms_of, average_rate
 use Rattle.yds_model.specs.Comparison.{work_in, stretch_at}
 use Rattle.yds_model.proofs.Sums.{sum_by-add, sum_by-mul, sum_by_at_most, sum_by_zero}
 use Rattle.yds_model.proofs.Runs.{run_forward}
+use Rattle.yds_model.proofs.Filters.{sum_by-filter}
 use Rattle.yds_events.specs.Stretch.{no_stretch}
 use Rattle.yds_events.proofs.Neighbours.{stretch_begins, stretch_ends, stretch_forward, stretch_order, release_outside, deadline_outside}
 use Rattle.yds_laws.specs.RunLaws.{HasWholeTerms, DoesItsTerms, AverageRateIsExact}
 use Rattle.yds_laws.proofs.Group.{given_together, group_at_most}
-use Rattle.yds_laws.proofs.Served.{sum_by-filter, all_numbers, kept_different}
+use Rattle.yds_laws.proofs.Served.{all_numbers, kept_different}
 use Rattle.yds_laws.proofs.JobNumbers.{sum_by_number}
 use Rattle.yds_laws.proofs.ExactRuns.{none_counted, does_capacity, whole_terms}
 

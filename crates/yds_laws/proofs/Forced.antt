@@ -7,10 +7,11 @@ use Rattle.std.proofs.lemmas.List.Sums.{sum_by-append}
 use Rattle.yds_model.specs.Job.{Job, no_job, job_at, work_of}
 use Rattle.yds_model.specs.Policy.{numbers_of}
 use Rattle.yds_model.proofs.Lists.{count-cons}
-use Rattle.yds_model.proofs.Sums.{sum_by_at_most}
+use Rattle.yds_model.proofs.Sums.{sum_by_at_most, sum_by-map}
+use Rattle.yds_model.proofs.Filters.{sum_by-filter}
 use Rattle.yds_laws.proofs.Bound.{served_at_speed}
-use Rattle.yds_laws.proofs.JobNumbers.{sum_by-map, sum_by_number}
-use Rattle.yds_laws.proofs.Served.{sum_by-filter, all_numbers, counted_once, cond_less, lies}
+use Rattle.yds_laws.proofs.JobNumbers.{sum_by_number}
+use Rattle.yds_laws.proofs.Served.{all_numbers, counted_once, cond_less, lies}
 use Rattle.yds_model.specs.Numbers.{AreDifferent}
 use Rattle.yds_model.specs.Admission.{CanServe, jobs_with, lies_within, Refusal, IsRefusal, AdmitsAfter}
 use Rattle.yds_laws.specs.AdmissionLaws.{IsForced, RefusalsAreForced}

@@ -1,17 +1,12 @@
 -- Jobs by their numbers: the jobs with all numbers are the jobs, so a sum over them is one over their numbers.
-use Rattle.std.proofs.Common.{◌≡◌, ℕ, ◌<◌, List, [], ◌∷◌, length, get_or, map, ◌∙◌, refl, sym, arith, ap}
+use Rattle.std.proofs.Common.{◌≡◌, ℕ, ◌<◌, List, length, get_or, ◌∙◌, sym, arith, ap}
 use Rattle.std.specs.List.{sum_by}
 use Rattle.std.proofs.lemmas.List.{same_lists, get_or-map, get_or_default, length-map}
-use Rattle.std.proofs.lemmas.List.Sums.{sum_by-cons}
 use Rattle.std.proofs.lemmas.List.FromFn.{get_or-range_with_len, length-range_with_len}
 use Rattle.yds_model.specs.Job.{Job, no_job, job_at}
 use Rattle.yds_model.specs.Policy.{numbers_of}
 use Rattle.yds_model.specs.Admission.{jobs_with}
-
--- a sum over what a function makes
-pub sum_by-map : {X Y : Type 0} (g : X → Y) (f : Y → ℕ) (xs : List X) → sum_by f (map g xs) ≡ sum_by (λ x. f (g x)) xs
-sum_by-map g f [] = refl
-sum_by-map g f (x ∷ xs) = omega (arith, sum_by-cons f (g x) (map g xs), sum_by-cons (λ y. f (g y)) x xs, sum_by-map g f xs)
+use Rattle.yds_model.proofs.Sums.{sum_by-map}
 
 -- the jobs with the numbers of all jobs are the jobs
 pub all_jobs : (jobs : List Job) → jobs_with jobs (numbers_of jobs) ≡ jobs

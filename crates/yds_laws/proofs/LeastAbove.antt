@@ -15,7 +15,7 @@ use Rattle.yds_model.specs.Curve.{least_above}
 use Rattle.yds_model.proofs.Sums.{sum_by_same}
 use Rattle.yds_model.proofs.Scale.{scale_exists}
 use Rattle.yds_laws.specs.CurveLaws.{LevelsTellLeastExcess}
-use Rattle.yds_laws.proofs.LowestTerms.{HasValue, lowest_value}
+use Rattle.yds_model.proofs.LowestTerms.{HasValue, lowest_value}
 use Rattle.yds_laws.proofs.Bound.{confinement_bound}
 use Rattle.yds_laws.proofs.Explained.{proper_explains}
 use Rattle.yds_laws.proofs.Curve.{curve, AreFalling, curve_slow, curve_above}

@@ -1,4 +1,3 @@
-pub mod Lists
 pub mod Group
 pub mod Bound
 pub mod Served
@@ -9,7 +8,6 @@ pub mod OneJudgement
 pub mod Judgements
 pub mod Curve
 pub mod Plans
-pub mod LowestTerms
 pub mod LeastAbove
 pub mod SameSpeed
 pub mod CurveLine

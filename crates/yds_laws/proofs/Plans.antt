@@ -12,7 +12,8 @@ use Rattle.yds_model.specs.Plan.{IsPlan}
 use Rattle.yds_laws.specs.Laws.{PlansAreLeast, PlansHaveTheSameLevels, PlansServeWork}
 use Rattle.yds_laws.proofs.Bound.{explained_is_least, scale_left, scale_right}
 use Rattle.yds_laws.proofs.Explained.{proper_explains}
-use Rattle.yds_model.proofs.Scale.{scale_exists, first_factor}
+use Rattle.yds_model.proofs.Scale.{scale_exists}
+use Rattle.yds_model.proofs.Fractions.{factors}
 use Rattle.yds_laws.proofs.Curve.{curve, AreFalling, are_falling, SumsUp, curve_above, DoTheSame, same_levels}
 
 -- a plan's certificate is proper, so it explains the schedule, which is least
@@ -71,7 +72,7 @@ due_has_work : (jobs : List Job) (scale : ℕ) (before : List WholeSlot) (slots 
 due_has_work jobs scale before [] due = All-nil (λ slot. 1 ≤ (job_at jobs slot.job).work)
 due_has_work jobs scale before (slot ∷ slots) due =
     All-cons (λ slot. 1 ≤ (job_at jobs slot.job).work) slot slots
-    (first_factor (job_at jobs slot.job).work scale ((job_at jobs slot.job).work * scale) refl (omega (arith, due.0.may_run.pending)))
+    (factors (job_at jobs slot.job).work scale ((job_at jobs slot.job).work * scale) refl (omega (arith, due.0.may_run.pending))).0
     (due_has_work jobs scale (before ++ slot_at_scale scale slot ∷ []) slots due.1)
 
 -- and a plan is served so, at a scale that there is

@@ -12,7 +12,7 @@ use Rattle.yds_model.specs.Curve.{IsLeastExcess, least_above}
 use Rattle.yds_model.proofs.Sums.{sum_by-mul, sum_by_same}
 use Rattle.yds_laws.proofs.Curve.{curve, AreFalling}
 use Rattle.yds_laws.proofs.LeastAbove.{above_curve}
-use Rattle.yds_laws.proofs.LowestTerms.{lowest_same}
+use Rattle.yds_model.proofs.LowestTerms.{lowest_same}
 
 -- of one work in one time
 one_above : (p q r s work time : ℕ) → p * s ≡ r * q → s * (q * work - p * time) ≡ q * (s * work - r * time)

@@ -18,22 +18,11 @@ use Rattle.yds_model.specs.Policy.{numbers_of}
 use Rattle.yds_model.specs.Admission.{IsWithinTop, CanServe, lies_within, confined_work}
 use Rattle.yds_model.proofs.Sums.{sum_by_same, sum_by_at_most, sum_by_zero}
 use Rattle.yds_model.proofs.Lists.{count-cons}
+use Rattle.yds_model.proofs.Filters.{sum_by-filter, found_or_none}
 use Rattle.yds_laws.specs.AdmissionLaws.{HasRoom, ServedWhereRoom}
 use Rattle.yds_laws.proofs.Bound.{served_at_speed}
 
 -- # Sums over numbers
-
-filter_step : {X : Type 0} (p : Bool) (x : X) (f : X → ℕ) (xs : List X) →
-    sum_by f (cond p (x ∷ xs) xs) ≡ cond p (f x) 0 + sum_by f xs
-filter_step true x f xs = sum_by-cons f x xs
-filter_step false x f xs = omega arith
-
--- the sum over what a filter keeps
-pub sum_by-filter : {X : Type 0} (p : X → Bool) (f : X → ℕ) (xs : List X) →
-    sum_by f (filter p xs) ≡ sum_by (λ x. cond (p x) (f x) 0) xs
-sum_by-filter p f [] = refl
-sum_by-filter p f (x ∷ xs) =
-    omega (arith, filter_step (p x) x f (filter p xs), sum_by-cons (λ y. cond (p y) (f y) 0) x xs, sum_by-filter p f xs)
 
 -- a sum of terms that are at most others, and that of one element less
 sum_by_less : (f g : ℕ → ℕ) (xs : List ℕ) (x : ℕ) → All (λ y. f y ≤ g y) xs → Contains xs x → f x < g x → sum_by f xs < sum_by g xs
@@ -128,21 +117,6 @@ ends_outside jobs from to number after = elim (cases_lt (job_at jobs number).rel
 ]
 
 -- # Room in any interval that ends at a deadline
-
--- some of the first n numbers passes a test, or none does
-found_or_none : (n : ℕ) (test : ℕ → Bool) →
-    ((k : ℕ) × (k < n) × (test k ≡ true)) ⊎ ((k : ℕ) → k < n → test k ≡ false)
-found_or_none zero test = inr (λ k within. absurd (omega arith))
-found_or_none (suc n) test = elim (found_or_none n test) [
-  | inl found ↦ inl (found.0, omega (arith, found.1), found.2)
-  | inr none ↦ elim (cases_Bool (test n)) [
-    | inl passes ↦ inl (n, omega arith, passes)
-    | inr fails ↦ inr (λ k within. elim (cases_eq k n) [
-      | inl same ↦ subst (λ j. test j ≡ false) (sym same) fails
-      | inr other ↦ none k (omega arith)
-    ])
-  ]
-]
 
 not_equal : (a b : ℕ) → a < suc b → (a == b) ≡ false → a < b
 not_equal a b less other = elim (cases_eq a b) [

@@ -7,14 +7,15 @@ use Rattle.std.proofs.lemmas.Bool.{cases_lt, cases_Bool}
 use Rattle.yds_model.specs.Scale.{Fraction, at_scale, numerator, of_parts, AreAlike, IsLess, IsAtMost}
 use Rattle.yds_model.specs.ScaleLaws.{OrderIsOfValues, EqualityIsOfValues, SumIsOfValues, MultipleIsOfValues, OrderIsTransitive, EqualityIsTransitive, OrderAgreesWithEquality}
 
--- a product that isn't 0 has no factor 0
-factor_positive : (quotient d scale : ℕ) → quotient * d ≡ scale → 1 ≤ scale → 1 ≤ d
-factor_positive quotient zero scale e positive = omega arith
-factor_positive quotient (suc d) scale e positive = omega arith
+-- both factors of a product that isn't 0 are at least 1
+pub factors : (one other product : ℕ) → one * other ≡ product → 1 ≤ product → (1 ≤ one) × (1 ≤ other)
+factors zero other product is some = absurd (omega arith)
+factors (suc one) zero product is some = absurd (omega arith)
+factors (suc one) (suc other) product is some = (omega arith, omega arith)
 
 -- so a divisor of a scale is at least 1
 pub den_positive : (scale d : ℕ) → 1 ≤ scale → d ∣ scale → 1 ≤ d
-den_positive scale d positive divides = factor_positive (scale / d) d scale (div-mul_cancel d divides) positive
+den_positive scale d positive divides = (factors (scale / d) d scale (div-mul_cancel d divides) positive).1
 
 -- the value at a scale, times the denominator, is the numerator times the scale
 scaled : (whole num d quotient scale : ℕ) → quotient * d ≡ scale → (whole * scale + num * quotient) * d ≡ (whole * d + num) * scale

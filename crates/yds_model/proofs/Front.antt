@@ -12,7 +12,7 @@ use Rattle.yds_model.specs.Proper.{PiecesStand, IsWindowCovered, AreLevels}
 use Rattle.yds_model.proofs.Lists.{Any-append_left, AllPairs-append, flat_map-take}
 
 -- pieces that lie one after another all begin at the start or later
-pieces_begin : (start : ℕ) (pieces : List Piece) → PiecesFrom start pieces → All (λ piece. start ≤ piece.from) pieces
+pub pieces_begin : (start : ℕ) (pieces : List Piece) → PiecesFrom start pieces → All (λ piece. start ≤ piece.from) pieces
 pieces_begin start [] run = All-nil (λ piece. start ≤ piece.from)
 pieces_begin start (piece ∷ pieces) run =
     All-cons (λ one. start ≤ one.from) piece pieces run.0

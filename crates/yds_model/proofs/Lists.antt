@@ -3,7 +3,7 @@ use Rattle.std.proofs.Common.{◌≡◌, ℕ, suc, ◌+◌, ◌<◌, ◌≤◌, 
 use Rattle.std.specs.List.{All, AllPairs, Any, Contains, flat_map}
 use Rattle.std.proofs.lemmas.List.{take_more, append-nil, length-append, length_push, get_or_append_left, get_or-append-add, get_or_push}
 use Rattle.std.proofs.lemmas.List.Concat.{flat_map-append}
-use Rattle.std.proofs.lemmas.List.Elements.{All-append, All-tail}
+use Rattle.std.proofs.lemmas.List.Elements.{All-nil, All-append, All-tail}
 use Rattle.std.proofs.lemmas.List.Kept.{AllPairs-cons}
 use Rattle.std.proofs.lemmas.List.Sums.{sum_by-cons}
 use Rattle.std.proofs.lemmas.Bool.{cases_eq, cases_lt, ne_eqb}
@@ -32,6 +32,12 @@ All-front P xs ys all k d within = subst P (get_or_append_left xs ys d k within)
 pub All-back : {X : Type 0} (P : X → Type 0) (xs ys : List X) → All P (xs ++ ys) → All P ys
 All-back P xs ys all k d within = subst P (get_or-append-add xs ys k d) (all (length xs + k) d (omega (arith, length-append xs ys)))
 
+-- what holds of all elements of each part holds of the parts together
+pub All-flat : {X A : Type 0} (P : A → Type 0) (f : X → List A) (xs : List X) → All (λ x. All P (f x)) xs → All P (flat_map f xs)
+All-flat P f [] each = All-nil P
+All-flat P f (x ∷ xs) each =
+    All-append P (f x) (flat_map f xs) (each 0 x (omega arith)) (All-flat P f xs (All-tail (λ y. All P (f y)) x xs each))
+
 -- some element of a list is one of a longer list
 pub Any-append_left : {X : Type 0} (P : X → Type 0) (xs ys : List X) → Any P xs → Any P (xs ++ ys)
 Any-append_left P xs ys some = (
@@ -39,6 +45,16 @@ Any-append_left P xs ys some = (
   some.1,
   omega (arith, some.2, length-append xs ys),
   get_or_append_left xs ys some.1 some.0 some.2 ∙ some.3,
+  some.4,
+)
+
+-- and so is some element of the list that is put behind it
+pub Any-append_right : {X : Type 0} (P : X → Type 0) (xs ys : List X) → Any P ys → Any P (xs ++ ys)
+Any-append_right P xs ys some = (
+  length xs + some.0,
+  some.1,
+  omega (arith, some.2, length-append xs ys),
+  get_or-append-add xs ys some.0 some.1 ∙ some.3,
   some.4,
 )
 

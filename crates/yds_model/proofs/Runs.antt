@@ -39,3 +39,8 @@ pub run_after : (start : ℕ) (slots : List WholeSlot) → RunFrom start slots �
 run_after start [] run i within = absurd (omega arith)
 run_after start (slot ∷ slots) run zero within = run_begins slot.to slots run.2 (omega arith)
 run_after start (slot ∷ slots) run (suc i) within = run_after slot.to slots run.2 i (omega arith)
+
+-- slots that run from a time on run from each earlier one
+pub run_earlier : (earlier start : ℕ) (slots : List WholeSlot) → earlier ≤ start → RunFrom start slots → RunFrom earlier slots
+run_earlier earlier start [] before run = tt
+run_earlier earlier start (slot ∷ slots) before run = (omega (arith, before, run.0), run.1, run.2)

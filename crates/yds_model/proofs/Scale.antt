@@ -11,7 +11,7 @@ use Rattle.yds_model.specs.Scale.{Fraction, at_scale}
 use Rattle.yds_model.specs.Slot.{WrittenSlot, WholeSlot, IsDivided, IsScale, IsSolid, AtEachScale, slot_at_scale, slots_at, work_given}
 use Rattle.yds_model.specs.Feasible.{RunFrom, IsInWindow, IsFeasibleAt}
 use Rattle.yds_model.specs.Excess.{excess}
-use Rattle.yds_model.proofs.Fractions.{den_positive}
+use Rattle.yds_model.proofs.Fractions.{factors, den_positive}
 use Rattle.yds_model.specs.ScaleLaws.{ScaleKeepsFeasible, ScaleMultipliesExcess, OneScaleDecides, ScaleExists}
 
 -- the slot in parts that are k times as fine
@@ -169,11 +169,6 @@ one_scale_of slots P kept scale is at_one = record {
       (subst (λ (both : ℕ). P both (slots_at both slots)) (mul_comm other scale) ((kept scale other is is_other.positive).0 at_one));
 }
 
--- a product that isn't 0 has a first factor that isn't
-pub first_factor : (k n product : ℕ) → k * n ≡ product → 1 ≤ product → 1 ≤ k
-first_factor zero n product same positive = omega (arith, same, positive)
-first_factor (suc k) n product same positive = omega arith
-
 -- what holds at each multiple of a scale that divides all others holds at each scale
 pub least_scale_of : (slots : List WrittenSlot) (P : ℕ → List WholeSlot → Type 0) (least : ℕ) → IsScale least slots →
     ((scale : ℕ) → IsScale scale slots → least ∣ scale) → ((k : ℕ) → 1 ≤ k → P (k * least) (slots_at (k * least) slots)) → AtEachScale slots P
@@ -181,7 +176,7 @@ least_scale_of slots P least is divides at_multiples = record {
   solid = solid_of_scale slots least is;
   holds = λ scale is_scale.
       let same : scale / least * least ≡ scale = div-mul_cancel least (divides scale is_scale) in
-      subst (λ (n : ℕ). P n (slots_at n slots)) same (at_multiples (scale / least) (first_factor (scale / least) least scale same is_scale.positive));
+      subst (λ (n : ℕ). P n (slots_at n slots)) same (at_multiples (scale / least) (factors (scale / least) least scale same is_scale.positive).0);
 }
 
 -- the law: one scale decides

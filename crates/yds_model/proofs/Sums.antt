@@ -1,5 +1,5 @@
--- Sums over a list: of sums, of multiples, and of terms that are compared one by one.
-use Rattle.std.proofs.Common.{◌≡◌, ℕ, ◌+◌, ◌*◌, ◌≤◌, List, [], ◌∷◌, refl, arith}
+-- Sums over a list: of sums, of multiples, of what a function makes, and of terms that are compared one by one.
+use Rattle.std.proofs.Common.{◌≡◌, ℕ, ◌+◌, ◌*◌, ◌≤◌, List, [], ◌∷◌, map, refl, arith}
 use Rattle.std.specs.List.{All, sum_by}
 use Rattle.std.proofs.lemmas.List.Sums.{sum_by-cons}
 use Rattle.std.proofs.lemmas.List.Elements.{All-tail}
@@ -14,6 +14,11 @@ sum_by-add f g (x ∷ xs) = simp sum_by-cons (omega (arith, sum_by-add f g xs))
 pub sum_by-mul : {X : Type 0} (k : ℕ) (f : X → ℕ) (xs : List X) → sum_by (λ x. k * f x) xs ≡ k * sum_by f xs
 sum_by-mul k f [] = omega arith
 sum_by-mul k f (x ∷ xs) = simp sum_by-cons (omega (arith, sum_by-mul k f xs, mul-add k (f x) (sum_by f xs)))
+
+-- a sum over what a function makes
+pub sum_by-map : {X Y : Type 0} (g : X → Y) (f : Y → ℕ) (xs : List X) → sum_by f (map g xs) ≡ sum_by (λ x. f (g x)) xs
+sum_by-map g f [] = refl
+sum_by-map g f (x ∷ xs) = omega (arith, sum_by-cons f (g x) (map g xs), sum_by-cons (λ y. f (g y)) x xs, sum_by-map g f xs)
 
 -- a sum of terms that are equal, each to its own
 pub sum_by_same : {X : Type 0} (f g : X → ℕ) (xs : List X) → All (λ x. f x ≡ g x) xs → sum_by f xs ≡ sum_by g xs

@@ -16,6 +16,7 @@ use Rattle.yds_model.specs.Policy.{div_up, pending_at, numbers_of}
 use Rattle.yds_model.specs.OptimalAvailable.{pending_jobs, due_units, pending_deadlines, asked, units_asked, optimal_available, optimal_available_rounds, IsOptimalAvailableRun}
 use Rattle.yds_model.specs.Comparison.{stretch_at}
 use Rattle.yds_model.proofs.Sums.{sum_by-mul, sum_by_same}
+use Rattle.yds_model.proofs.Filters.{sum_by-filter}
 use Rattle.yds_events.specs.Stretch.{no_stretch}
 use Rattle.yds_events.proofs.Times.{not_later, release_at, deadline_at}
 use Rattle.yds_events.proofs.Neighbours.{count_stretches, stretch_begins, stretch_ends, stretch_forward, release_outside, deadline_outside}
@@ -24,14 +25,16 @@ use Rattle.yds_edf.specs.Pending.{sum_below, units_wanted}
 use Rattle.yds_edf.specs.Filled.{IsInTime}
 use Rattle.yds_edf.specs.Run.{pending_before, IsServed, IsLaidOut, IsPolicyRun}
 use Rattle.yds_edf.proofs.Sums.{sum_below_same, sum_below_at_most, sum_below_less, sum_by_grouped}
-use Rattle.yds_edf.proofs.Numbers.{sum_filter, sum_numbers, sum_places}
-use Rattle.yds_edf.proofs.Parts.{all_before, none_before, given_next, share_given}
+use Rattle.yds_edf.proofs.Numbers.{sum_numbers, sum_places}
+use Rattle.yds_timetable.proofs.Places.{all_before, none_before}
+use Rattle.yds_edf.proofs.Parts.{given_next, share_given}
 use Rattle.yds_edf.proofs.Demand.{none_given}
 use Rattle.yds_edf.proofs.Filled.{stands_in}
 use Rattle.yds_edf.proofs.RunAt.{run_at}
 use Rattle.yds_edf.proofs.Standing.{all_shares, laid_solid}
 use Rattle.yds_edf.proofs.Capped.{pending_term}
-use Rattle.yds_edf.proofs.Quotients.{up_enough, up_most, up_scaled}
+use Rattle.yds_model.proofs.RoundedUp.{rounded_up_same}
+use Rattle.yds_edf.proofs.Quotients.{up_enough, up_most}
 use Rattle.yds_oa.specs.Asked.{is_waiting, waiting, due_by, deadlines, asked_by, most_asked, most_rounds}
 use Rattle.yds_oa.proofs.Waiting.{waits_is, waits_for, each_waits}
 use Rattle.yds_oa.proofs.Greatest.{asks_at_most, most_at_most}
@@ -55,7 +58,7 @@ due_term jobs pending stretch time job =
 due_numbered : (jobs : List Job) (pending : ℕ → ℕ) (stretch : Piece) (time : ℕ) →
     due_by jobs pending stretch time ≡ sum_below (length jobs) (due_term jobs pending stretch time)
 due_numbered jobs pending stretch time =
-    sum_filter (λ job. nat_le (job_at jobs job).deadline time) pending (waiting jobs pending stretch)
+    sum_by-filter (λ job. nat_le (job_at jobs job).deadline time) pending (waiting jobs pending stretch)
     ∙ sum_numbers (is_waiting jobs pending stretch) (λ job. cond (nat_le (job_at jobs job).deadline time) (pending job) 0) (length jobs)
 
 at_most : (b : Bool) (n m : ℕ) → n ≤ m → cond b n 0 ≤ m
@@ -339,7 +342,7 @@ module _ (jobs : List Job) (grid : ℕ) (some_grid : 1 ≤ grid) (are : All IsJo
     same_asked deadline =
         ap (λ n. div_up (n * (st.to - st.from)) (scale * (deadline - st.from))) (same_due deadline)
         ∙ ap (λ n. div_up n (scale * (deadline - st.from))) (grouped scale (due_by jobs (held k) st deadline) (st.to - st.from))
-        ∙ up_scaled scale (due_by jobs (held k) st deadline * (st.to - st.from)) (deadline - st.from) is.positive
+        ∙ rounded_up_same scale is.positive (due_by jobs (held k) st deadline * (st.to - st.from)) (deadline - st.from)
 
     same_most : units_asked jobs grid scale (slots_at scale slots) st ≡ most_asked jobs (held k) st
     same_most =

@@ -38,10 +38,6 @@ placed_with jobs pending units placed long = record {
   rising = placed.rising;
 }
 
--- none is looked at
-pub none_refreshed : (queue : JobQueue) (pending : PendingJobs) (IsLeftOut : ℕ → Type 0) → ((job : ℕ) → IsLeftOut job) → AreRefreshed queue pending pending IsLeftOut
-none_refreshed queue pending IsLeftOut all place within = inr (refl, all (due_at pending.order.items place).job)
-
 -- one job more is looked at
 module _ (queue : JobQueue) (old : PendingJobs) (units : List ℕ) (job : ℕ) (placed : ArePlaced queue.jobs (with_units old units)) (known : job < length queue.jobs)
     (IsLeftOut IsStillOut : ℕ → Type 0) (still : (other : ℕ) → other ≢ job → IsLeftOut other → IsStillOut other) where

@@ -8,12 +8,14 @@ use Rattle.std.proofs.lemmas.List.Sorted.{sum_by-IsPermutation, Contains-permuta
 use Rattle.std.proofs.lemmas.List.FromFn.{length-map-range_with_len, get_or-map-range_with_len}
 use Rattle.yds_model.specs.Job.{Job}
 use Rattle.yds_model.specs.Policy.{numbers_of}
+use Rattle.yds_model.proofs.Filters.{sum_by-filter}
+use Rattle.yds_model.proofs.Sums.{sum_by-map}
 use Rattle.yds_edf.specs.Pending.{sum_below}
 use Rattle.yds_edf.proofs.Sums.{sum_below_zero, sum_below_term, sum_below_change, sum_below_front}
-use Rattle.yds_edf.proofs.Numbers.{sum_places, sum_filter, sum_numbers}
+use Rattle.yds_edf.proofs.Numbers.{sum_places, sum_numbers}
 use Rattle.yds_oa.specs.declared.order.Due.{Due}
 use Rattle.yds_oa.specs.Order.{due_job, due_jobs, no_due, due_at, IsDueJob}
-use Rattle.yds_oa.proofs.Waiting.{sum_by-map, all_due}
+use Rattle.yds_oa.proofs.Waiting.{all_due}
 
 -- there are as many entries as jobs
 pub all_placed : (jobs : List Job) (order : List Due) → IsPermutation (due_jobs jobs) order → length order ≡ length jobs
@@ -44,8 +46,8 @@ once jobs order same job known =
     let here : test job ≡ 1 = ap {B = ℕ} (λ b. cond b 1 0) (eq-eqb job job refl) in
     let all : sum_below (length jobs) test ≡ 1 = omega (arith, none, change, here) in
     sum_by-IsPermutation (is_job job) (due_jobs jobs) order same
-    ∙ sum_by-map (is_job job) (due_job jobs) (numbers_of jobs)
-    ∙ sym (sum_filter (λ number. number == job) (λ number. 1) (numbers_of jobs))
+    ∙ sum_by-map (due_job jobs) (is_job job) (numbers_of jobs)
+    ∙ sym (sum_by-filter (λ number. number == job) (λ number. 1) (numbers_of jobs))
     ∙ sum_numbers (λ number. number == job) (λ number. 1) (length jobs)
     ∙ all
 

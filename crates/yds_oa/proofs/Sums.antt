@@ -7,7 +7,7 @@ use Rattle.std.proofs.lemmas.List.Elements.{All-set}
 use Rattle.std.proofs.Math.ListN.{get_or-eq_default}
 use Rattle.std.proofs.Math.Nat.{div-add-mod, mod-lt}
 use Rattle.yds_edf.proofs.Sums.{sum_below_same, sum_below_zero, sum_below_change, sum_below_front}
-use Rattle.yds_oa.specs.Blocks.{units_before, HaveFewUnits, AreBlocks}
+use Rattle.yds_oa.specs.Blocks.{units_before, HaveFewUnits, AreBlocks, AreSummed}
 
 -- # The units before a place
 
@@ -140,6 +140,25 @@ module _ (units sums : List ℕ) (blocks : AreBlocks units sums) (place : ℕ) (
       few = omega (arith, blocks.few, length-set units place more);
       in_range = All-set (λ n. n ≤ 1000000000000000) units place more in_range blocks.in_range;
     }
+
+-- the units of one place are some of all
+pub place_has : (units : List ℕ) (place : ℕ) → place < length units → slice_index units place ≤ units_before units (length units)
+place_has units place known = omega (arith, one_place_more units place, before_rises units (place + 1) (length units) (omega arith))
+
+-- other units at a place, and the sums beside them
+pub summed_set : (units sums : List ℕ) (total : ℕ) → AreSummed units sums total → (place : ℕ) → place < length units → (more sum other : ℕ) → more ≤ 1000000000000000 →
+    sum ≡ slice_index sums (place / 32) - slice_index units place + more → other ≡ total - slice_index units place + more →
+    AreSummed (set units place more) (set sums (place / 32) sum) other
+summed_set units sums total summed place known more sum other in_range sum_is other_is = record {
+  blocks = blocks_set units sums summed.blocks place known more sum in_range sum_is;
+  all = rw (length-set units place more)
+      (omega (arith, other_is, summed.all, place_has units place known, before_changes units place more known (length units) known));
+}
+
+-- where all are counted there are none from here on
+pub none_left : (units : List ℕ) (start place so_far : ℕ) → place ≤ length units → units_before units start + so_far ≡ units_before units place →
+    units_before units (length units) ≤ so_far → units_before units start + so_far ≡ units_before units (length units)
+none_left units start place so_far within sum all = omega (arith, sum, all, before_rises units place (length units) within)
 
 -- a whole block
 pub whole_block : (units sums : List ℕ) → AreBlocks units sums → (start end : ℕ) → start % 32 ≡ 0 → end ≡ start + 32 → end ≤ length units →

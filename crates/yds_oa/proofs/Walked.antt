@@ -10,8 +10,9 @@ use Rattle.yds_oa.specs.declared.quotient.Quotient.{Quotient}
 use Rattle.yds_oa.specs.Blocks.{units_before}
 use Rattle.yds_oa.specs.Order.{no_due, due_at}
 use Rattle.yds_oa.specs.Pending.{AreInOrder}
-use Rattle.yds_oa.specs.Greatest.{AreDueAfter, IsQuotientAmong, IsNotGreater, IsGreatestWithin}
-use Rattle.yds_oa.proofs.Sums.{before_rises}
+use Rattle.yds_oa.specs.declared.walk.Walk.{Walk}
+use Rattle.yds_oa.specs.Greatest.{AreDueAfter, IsQuotientAmong, IsNotGreater, IsGreatestWithin, IsWalk}
+use Rattle.yds_oa.proofs.Sums.{before_rises, none_left}
 
 -- what is at most a quotient is at most a greater one
 pub through : (a b u t v s : ℕ) → a * t ≤ u * b → u * s ≤ v * t → 1 ≤ t → a * s ≤ v * b
@@ -88,3 +89,41 @@ passed_over pending from start place end units best are past within sum most bef
 pub none_within : (pending : PendingJobs) (from start : ℕ) (guess : Quotient) → 1 ≤ guess.time → IsQuotientAmong pending from start guess → IsGreatestWithin pending from start start guess
 none_within pending from start guess some attained =
     record { some_time = some; attained = attained; upper = λ p most less. absurd (omega (arith, most, less)) }
+
+-- the units so far, at the next deadline, give no greater quotient: they didn't at the last one, which is no later
+at_last : (pending : PendingJobs) (walk : Walk) → AreInOrder pending → IsWalk pending walk → walk.place < length pending.order.items →
+    walk.units * walk.greatest.time ≤ walk.greatest.units * ((due_at pending.order.items walk.place).deadline - walk.from)
+at_last pending walk are is more = elim (cases_lt walk.start walk.place) [
+  | inr begun ↦
+      let place : walk.place ≡ walk.start = omega (arith, begun, is.past) in
+      let none : walk.units ≡ 0 = omega (arith, is.units, ap (units_before pending.units) place) in
+      omega (arith, ap (λ n. n * walk.greatest.time) none)
+  | inl further ↦
+      let last = walk.place - 1 in
+      let next : last + 1 ≡ walk.place = omega (arith, further) in
+      let upper : IsNotGreater pending walk.from walk.start walk.greatest last = is.greatest.upper last (omega (arith, further)) (omega (arith, further)) in
+      let units : units_before pending.units (last + 1) - units_before pending.units walk.start ≡ walk.units = omega (arith, is.units, ap (units_before pending.units) next) in
+      let longer : (due_at pending.order.items last).deadline - walk.from ≤ (due_at pending.order.items walk.place).deadline - walk.from =
+      omega (arith, are.rising last walk.place no_due (omega (arith, next)) more) in
+      omega (arith, upper, ap (λ n. n * walk.greatest.time) units, mul-le-mul_left walk.greatest.units longer)
+]
+
+-- a walk is over at the end of the places, or where it has counted all units
+walked_to_end : (pending : PendingJobs) (walk : Walk) → IsWalk pending walk → length pending.order.items ≤ walk.place →
+    IsGreatestWithin pending walk.from walk.start (length pending.order.items) walk.greatest
+walked_to_end pending walk is past =
+    let end : walk.place ≡ length pending.order.items = omega (arith, past, is.within) in
+    subst (λ (end : ℕ). IsGreatestWithin pending walk.from walk.start end walk.greatest) end is.greatest
+
+pub walked_through : (pending : PendingJobs) (walk : Walk) → AreInOrder pending → IsWalk pending walk →
+    (length pending.order.items ≤ walk.place) ⊎ (units_before pending.units (length pending.units) ≤ walk.units) →
+    IsGreatestWithin pending walk.from walk.start (length pending.order.items) walk.greatest
+walked_through pending walk are is (inl past) = walked_to_end pending walk is past
+walked_through pending walk are is (inr counted) = elim (cases_lt walk.place (length pending.order.items)) [
+  | inr past ↦ walked_to_end pending walk is past
+  | inl more ↦
+      passed_over pending walk.from walk.start walk.place (length pending.order.items) walk.units walk.greatest are is.past (omega arith)
+      (subst (λ (n : ℕ). units_before pending.units walk.start + walk.units ≡ units_before pending.units n) are.all_units
+      (none_left pending.units walk.start walk.place walk.units (omega (arith, are.all_units, is.within)) is.units counted))
+      (at_last pending walk are is more) is.greatest
+]

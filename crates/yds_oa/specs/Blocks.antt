@@ -18,3 +18,8 @@ pub record AreBlocks (units sums : List ℕ) : Type 0 where
   pub all : length units < length sums * BLOCK
   pub few : length units ≤ MAX_JOBS
   pub in_range : All (λ n. n ≤ MAX_WORK * MAX_GRAIN) units
+
+-- and the total is that of all
+pub record AreSummed (units sums : List ℕ) (total : ℕ) : Type 0 where
+  pub blocks : AreBlocks units sums
+  pub all : total ≡ units_before units (length units)

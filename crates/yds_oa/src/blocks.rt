@@ -18,17 +18,19 @@ pub(crate) struct PlacedUnits {
     units: Vec<u64>,
     /// The sum of each block, of which the last may have no place.
     sums: Vec<u64>,
+    /// The sum of all.
+    total: u64,
 }
 
 impl Model for PlacedUnits {
     ghost use Rattle.std.specs.Prelude.{ℕ, List};
-    ghost use Rattle.yds_oa.specs.Blocks.{AreBlocks};
+    ghost use Rattle.yds_oa.specs.Blocks.{AreSummed};
 
     ghost Value = { List ℕ };
 
     ghost view = { λ placed. placed.units.items };
 
-    ghost invariant = { λ placed. AreBlocks placed.units.items placed.sums.items };
+    ghost invariant = { λ placed. AreSummed placed.units.items placed.sums.items placed.total };
 }
 
 impl PlacedUnits {
@@ -40,6 +42,7 @@ impl PlacedUnits {
         Ok(PlacedUnits {
             units: vec![in alloc; 0; count]?,
             sums: vec![in alloc; 0; count / BLOCK + 1]?,
+            total: 0,
         })
     }
 
@@ -51,6 +54,13 @@ impl PlacedUnits {
         &self.units
     }
 
+    /// The units at all places together.
+    pub(crate) fn total(&self) -> u64
+        ensures { result ≡ units_before self.now (length self.now) }
+    {
+        self.total
+    }
+
     /// Puts so many units at the place, in place of those that were there.
     pub(crate) fn set(&mut self, place: usize, units: u64)
         requires known { place < length self.old }
@@ -59,6 +69,7 @@ impl PlacedUnits {
     {
         let block = place / BLOCK;
         self.sums[block] = self.sums[block] - self.units[place] + units;
+        self.total = self.total - self.units[place] + units;
         self.units[place] = units;
     }
 

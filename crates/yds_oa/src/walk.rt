@@ -1,4 +1,5 @@
-ghost use Rattle.std.specs.Prelude.{◌≤◌, ◌<◌, length};
+ghost use Rattle.std.specs.Prelude.{◌≤◌, ◌<◌, ◌⊎◌, length, IsTrue, IsFalse};
+ghost use Rattle.yds_oa.specs.Blocks.{units_before};
 ghost use Rattle.yds_oa.specs.Pending.{AreInOrder};
 ghost use Rattle.yds_oa.specs.Greatest.{AreDueAfter, IsGreatestOf, IsWalk, IsFurther, IsQuotientAmong, IsGreatestWithin};
 
@@ -24,7 +25,8 @@ pub(crate) struct Walk {
 impl PendingJobs {
     /// The greatest quotient of the pending units that are due after this time and by a deadline, and the time until then; no
     /// units where there are no such deadlines. It looks first at the deadline that is expected to have it, and passes over
-    /// blocks of places where even all units that are due by the end of a block, at its first deadline, give no greater one.
+    /// blocks of places where even all units that are due by the end of a block, at its first deadline, give no greater one. Behind the last pending
+    /// unit no deadline has a greater one.
     pub(crate) fn greatest_quotient(&self, from: u32, expected: u32) -> Quotient
         requires { AreInOrder self.now }
         ensures { IsGreatestOf self.now from result }
@@ -37,10 +39,18 @@ impl PendingJobs {
             units: 0,
             greatest: self.first_guess(from, start, expected),
         };
-        while walk.place < self.order.len() {
+        while self.has_more(&walk) {
             walk = self.past_block(walk);
         }
         walk.greatest
+    }
+
+    /// Whether a place is left at which units may be pending.
+    fn has_more(&self, walk: &Walk) -> bool
+        ensures more { IsTrue result → walk.now.place < length self.now.order.items }
+        ensures none { IsFalse result → (length self.now.order.items ≤ walk.now.place) ⊎ (units_before self.now.units (length self.now.units) ≤ walk.now.units) }
+    {
+        walk.place < self.order.len() && walk.units < self.units.total()
     }
 
     /// The quotient of the last deadline that isn't after the expected one, where it is after this time.

@@ -15,12 +15,12 @@ use Rattle.yds_model.specs.Piece.{Piece}
 use Rattle.yds_model.specs.Feasible.{IsFeasibleAt}
 use Rattle.yds_model.specs.Policy.{pending_at, numbers_of, pending_units}
 use Rattle.yds_model.specs.OptimalAvailable.{pending_jobs, due_units, pending_deadlines}
-use Rattle.yds_model.proofs.Sums.{sum_by_same, sum_by_zero}
-use Rattle.yds_laws.proofs.JobNumbers.{sum_by-map}
+use Rattle.yds_model.proofs.Sums.{sum_by_same, sum_by_zero, sum_by-map}
+use Rattle.yds_model.proofs.Filters.{filter_none, filter_all}
 use Rattle.yds_parts.specs.Parts.{ArePartedAt, moved, together_at}
 use Rattle.yds_parts.proofs.TwoParts.{first_job, second_job, only_first, only_second}
 use Rattle.yds_parts.proofs.EventsOfParts.{IsGap, EndsBy, BeginsFrom}
-use Rattle.yds_parts.proofs.StretchesOfParts.{filter_none, filter_all, filter_made}
+use Rattle.yds_parts.proofs.StretchesOfParts.{filter_made}
 
 -- # Numbers of jobs
 

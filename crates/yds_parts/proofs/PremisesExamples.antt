@@ -1,6 +1,5 @@
 -- The premises of the laws are met: a job from 0 to 2 and one from 5 to 7, each of work 2, with a slot that fills the window.
 use Rattle.std.proofs.Common.{◌≡◌, ℕ, zero, suc, ◌*◌, ◌<◌, ◌≤◌, List, [], ◌∷◌, ◌++◌, refl, sym, subst, arith, inr}
-use Rattle.std.specs.Prelude.{count_by}
 use Rattle.std.specs.List.{All, Any}
 use Rattle.std.proofs.lemmas.List.Elements.{All-cons, All-nil}
 use Rattle.std.proofs.Math.Nat.{one-dvd}
@@ -14,9 +13,9 @@ use Rattle.yds_model.specs.EarliestFirst.{ComesFirst}
 use Rattle.yds_model.specs.Event.{stretches, LiesIn, IsUncut}
 use Rattle.yds_model.specs.Policy.{ServesCapacity, IsRunAt}
 use Rattle.yds_model.specs.AverageRate.{average_rate, IsAverageRateRun}
-use Rattle.yds_model.specs.OptimalAvailable.{optimal_available, optimal_available_rounds, IsOptimalAvailableRun}
-use Rattle.yds_model.proofs.Scale.{least_scale_of}
-use Rattle.yds_energy.proofs.RunScale.{average_rate_run_scaled, optimal_available_run_scaled, optimal_available_rounds_scaled}
+use Rattle.yds_model.specs.OptimalAvailable.{optimal_available, IsOptimalAvailableRun}
+use Rattle.yds_energy.proofs.Finer.{each_scale_of}
+use Rattle.yds_energy.proofs.RunScale.{average_rate_run_free, optimal_available_run_free, optimal_available_rounds_free}
 use Rattle.yds_parts.specs.Parts.{slots_in_turn, WindowsAreForward}
 use Rattle.yds_parts.specs.EnergyOfParts.{AreScheduled}
 use Rattle.yds_parts.proofs.RunsOfParts.{average_rate_of_parts, optimal_available_of_parts}
@@ -108,17 +107,15 @@ table = record { some = omega arith; idle = refl; rising = (omega arith, (omega 
 -- each part has a run that rounds nowhere
 first_rate : IsAverageRateRun one 1 0 (written 0 2 2)
 first_rate = record {
-  run = least_scale_of (written 0 2 2) (λ scale whole. IsRunAt one 1 scale (average_rate one 1 scale whole) whole) 1 (written_scale 0 2 2) (λ scale is. one-dvd scale)
-      (λ k some. average_rate_run_scaled one 1 k 1 (written 0 2 2) some (written_scale 0 2 2)
-      (alone_run 0 2 2 (average_rate one 1 1 slots) (omega arith) (omega arith) refl (refl, refl, refl)));
+  run = each_scale_of _ (average_rate_run_free one 1) (written 0 2 2) 1 (written_scale 0 2 2)
+      (alone_run 0 2 2 (average_rate one 1 1 slots) (omega arith) (omega arith) refl (refl, refl, refl));
   rounds = refl;
 }
 
 second_rate : IsAverageRateRun other 1 0 (written 5 7 2)
 second_rate = record {
-  run = least_scale_of (written 5 7 2) (λ scale whole. IsRunAt other 1 scale (average_rate other 1 scale whole) whole) 1 (written_scale 5 7 2) (λ scale is. one-dvd scale)
-      (λ k some. average_rate_run_scaled other 1 k 1 (written 5 7 2) some (written_scale 5 7 2)
-      (alone_run 5 7 2 (average_rate other 1 1 others) (omega arith) (omega arith) refl (refl, refl, refl)));
+  run = each_scale_of _ (average_rate_run_free other 1) (written 5 7 2) 1 (written_scale 5 7 2)
+      (alone_run 5 7 2 (average_rate other 1 1 others) (omega arith) (omega arith) refl (refl, refl, refl));
   rounds = refl;
 }
 
@@ -131,24 +128,18 @@ rate_of_both =
 
 -- so it is here
 first_available : IsOptimalAvailableRun one 1 0 (written 0 2 2)
-first_available =
-    let run = alone_run 0 2 2 (optimal_available one 1 1 slots) (omega arith) (omega arith) refl (refl, refl, refl) in
-    record {
-      run = least_scale_of (written 0 2 2) (λ scale whole. IsRunAt one 1 scale (optimal_available one 1 scale whole) whole) 1 (written_scale 0 2 2) (λ scale is. one-dvd scale)
-          (λ k some. optimal_available_run_scaled one 1 k 1 (written 0 2 2) some (written_scale 0 2 2) run);
-      rounds = least_scale_of (written 0 2 2) (λ scale whole. 0 ≡ count_by (optimal_available_rounds one 1 scale whole) (stretches one)) 1 (written_scale 0 2 2)
-          (λ scale is. one-dvd scale) (λ k some. sym (optimal_available_rounds_scaled one 1 k 1 (written 0 2 2) some (written_scale 0 2 2)));
-    }
+first_available = record {
+  run = each_scale_of _ (optimal_available_run_free one 1) (written 0 2 2) 1 (written_scale 0 2 2)
+      (alone_run 0 2 2 (optimal_available one 1 1 slots) (omega arith) (omega arith) refl (refl, refl, refl));
+  rounds = each_scale_of _ (optimal_available_rounds_free one 1 0) (written 0 2 2) 1 (written_scale 0 2 2) refl;
+}
 
 second_available : IsOptimalAvailableRun other 1 0 (written 5 7 2)
-second_available =
-    let run = alone_run 5 7 2 (optimal_available other 1 1 others) (omega arith) (omega arith) refl (refl, refl, refl) in
-    record {
-      run = least_scale_of (written 5 7 2) (λ scale whole. IsRunAt other 1 scale (optimal_available other 1 scale whole) whole) 1 (written_scale 5 7 2)
-          (λ scale is. one-dvd scale) (λ k some. optimal_available_run_scaled other 1 k 1 (written 5 7 2) some (written_scale 5 7 2) run);
-      rounds = least_scale_of (written 5 7 2) (λ scale whole. 0 ≡ count_by (optimal_available_rounds other 1 scale whole) (stretches other)) 1 (written_scale 5 7 2)
-          (λ scale is. one-dvd scale) (λ k some. sym (optimal_available_rounds_scaled other 1 k 1 (written 5 7 2) some (written_scale 5 7 2)));
-    }
+second_available = record {
+  run = each_scale_of _ (optimal_available_run_free other 1) (written 5 7 2) 1 (written_scale 5 7 2)
+      (alone_run 5 7 2 (optimal_available other 1 1 others) (omega arith) (omega arith) refl (refl, refl, refl));
+  rounds = each_scale_of _ (optimal_available_rounds_free other 1 0) (written 5 7 2) 1 (written_scale 5 7 2) refl;
+}
 
 -- and of both together
 available_of_both : IsOptimalAvailableRun (one ++ other) 1 0 (slots_in_turn one (written 0 2 2) (written 5 7 2))

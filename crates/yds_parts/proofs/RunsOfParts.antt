@@ -5,9 +5,9 @@ use Rattle.std.specs.List.{All, Contains, filter, list_any, list_all}
 use Rattle.std.proofs.lemmas.Bool.{lt-leb, le-ltb}
 use Rattle.std.proofs.lemmas.List.{append-nil}
 use Rattle.std.proofs.lemmas.List.Elements.{filter-append, All-from_get_or, All-append, Contains-append_left, Contains-append_right, All-map}
-use Rattle.std.proofs.lemmas.List.Folds.{list_all-map}
 use Rattle.std.proofs.lemmas.List.Sums.{sum_by-append}
 use Rattle.std.proofs.Math.Bool.{false-and, and-false}
+use Rattle.std.proofs.Math.Path.{fun_ext}
 use Rattle.yds_model.specs.Job.{Job, no_job, job_at}
 use Rattle.yds_model.specs.Slot.{WholeSlot, slots_at}
 use Rattle.yds_model.specs.Piece.{Piece}
@@ -17,12 +17,11 @@ use Rattle.yds_model.specs.Policy.{div_up, pending_at, pending_units, IsRunAt, H
 use Rattle.yds_model.specs.AverageRate.{is_live, term_of, terms_of, average_rate, rounds_term, average_rate_rounds}
 use Rattle.yds_model.specs.OptimalAvailable.{pending_jobs, due_units, pending_deadlines, asked, units_asked, optimal_available, optimal_available_rounds}
 use Rattle.yds_model.proofs.Sums.{sum_by_same}
-use Rattle.yds_energy.proofs.RunScale.{map_agree}
+use Rattle.yds_model.proofs.Filters.{filter_none}
 use Rattle.yds_parts.specs.Parts.{ArePartedAt, together_at, moved_written, WindowsAreForward}
 use Rattle.yds_parts.specs.RunsOfParts.{AverageRateOfParts, OptimalAvailableOfParts, RunDenominatorsOfParts}
 use Rattle.yds_parts.proofs.WrittenParts.{together_is, scale_of_first, scale_of_second, solid_of_both}
 use Rattle.yds_parts.proofs.EventsOfParts.{IsGap, EndsBy, BeginsFrom, stretches_between, stretches_joined, gaps_are, first_stretches, second_stretches}
-use Rattle.yds_parts.proofs.StretchesOfParts.{filter_none}
 use Rattle.yds_parts.proofs.PendingOfParts.{after_gap, before_gap, after_first, before_second, units_together, second_units_none, first_units_none, deadlines_together, due_together, none_waiting_second, none_waiting_first}
 use Rattle.yds_parts.proofs.ServedOfParts.{run_together}
 
@@ -137,33 +136,23 @@ module _ (time : ℕ) (first second : List Job) (parted : ArePartedAt time first
 
     -- # Optimal Available: what a stretch serves
 
-    -- what waits by the same deadlines, and as much of it due, asks for as much
+    -- each deadline by which as much is due asks for as much
+    asked_same : (part : List Job) (its : List WholeSlot) (stretch : Piece) →
+        ((deadline : ℕ) → due_units jobs grid scale all stretch deadline ≡ due_units part grid scale its stretch deadline) →
+        asked jobs grid scale all stretch ≡ asked part grid scale its stretch
+    asked_same part its stretch due = fun_ext (λ deadline. ap (λ n. div_up (n * (stretch.to - stretch.from)) (scale * (deadline - stretch.from))) (due deadline))
+
+    -- so what waits by the same deadlines does
     asks_same : (part : List Job) (its : List WholeSlot) (stretch : Piece) → pending_deadlines jobs scale all stretch ≡ pending_deadlines part scale its stretch →
         ((deadline : ℕ) → due_units jobs grid scale all stretch deadline ≡ due_units part grid scale its stretch deadline) →
         units_asked jobs grid scale all stretch ≡ units_asked part grid scale its stretch
-    asks_same part its stretch deadlines due =
-        ap (λ (some : List ℕ). fold max 0 (map (asked jobs grid scale all stretch) some)) deadlines
-        ∙ ap (fold max 0) (map_agree (asked jobs grid scale all stretch) (asked part grid scale its stretch)
-        (λ deadline. ap (λ n. div_up (n * (stretch.to - stretch.from)) (scale * (deadline - stretch.from))) (due deadline))
-        (pending_deadlines part scale its stretch))
+    asks_same part its stretch deadlines due = simp (asked_same part its stretch due, deadlines)
 
     -- and it rounds where the part does
     rounds_same : (part : List Job) (its : List WholeSlot) (stretch : Piece) → pending_deadlines jobs scale all stretch ≡ pending_deadlines part scale its stretch →
         ((deadline : ℕ) → due_units jobs grid scale all stretch deadline ≡ due_units part grid scale its stretch deadline) →
         optimal_available_rounds jobs grid scale all stretch ≡ optimal_available_rounds part grid scale its stretch
-    rounds_same part its stretch deadlines due =
-        let units = asks_same part its stretch deadlines due in
-        let test = λ (most n deadline : ℕ). not (n * (stretch.to - stretch.from) == most * (scale * (deadline - stretch.from))) in
-        ap (λ n. nat_lt 0 n && list_all (λ deadline. test n (due_units jobs grid scale all stretch deadline) deadline) (pending_deadlines jobs scale all stretch)) units
-        ∙ ap (λ (some : List ℕ). nat_lt 0 (units_asked part grid scale its stretch)
-        && list_all (λ deadline. test (units_asked part grid scale its stretch) (due_units jobs grid scale all stretch deadline) deadline) some) deadlines
-        ∙ ap (λ b. nat_lt 0 (units_asked part grid scale its stretch) && b)
-        (let whole = λ (deadline : ℕ). test (units_asked part grid scale its stretch) (due_units jobs grid scale all stretch deadline) deadline in
-        let own = λ (deadline : ℕ). test (units_asked part grid scale its stretch) (due_units part grid scale its stretch deadline) deadline in
-        sym (list_all-map (λ b. b) whole (pending_deadlines part scale its stretch))
-        ∙ ap (list_all (λ b. b))
-        (map_agree whole own (λ deadline. ap (λ n. test (units_asked part grid scale its stretch) n deadline) (due deadline)) (pending_deadlines part scale its stretch))
-        ∙ list_all-map (λ b. b) own (pending_deadlines part scale its stretch))
+    rounds_same part its stretch deadlines due = simp (asked_same part its stretch due, deadlines, due)
 
     -- a part of which nothing waits has nothing due
     nothing_due : (part : List Job) (its : List WholeSlot) (stretch : Piece) (deadline : ℕ) → pending_jobs part scale its stretch ≡ [] →

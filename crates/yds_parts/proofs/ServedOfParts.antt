@@ -15,7 +15,7 @@ use Rattle.yds_model.specs.EarliestFirst.{ComesFirst, MayRun, IsFirstDue, Earlie
 use Rattle.yds_model.specs.Plan.{IsServedInStretches}
 use Rattle.yds_model.specs.Policy.{slots_in, FillsAtSpeed, ServesCapacity, IsRunAt}
 use Rattle.yds_model.proofs.Runs.{run_forward}
-use Rattle.yds_model.proofs.Lists.{Any-append_left}
+use Rattle.yds_model.proofs.Lists.{Any-append_left, Any-append_right}
 use Rattle.yds_parts.specs.Parts.{ArePartedAt, moved, together_at, WindowsAreForward}
 use Rattle.yds_parts.proofs.TwoParts.{first_job, second_job, ends_by, only_first, only_second, feasible_together}
 use Rattle.yds_parts.proofs.EventsOfParts.{IsGap, EndsBy, BeginsFrom, stretches_between, stretches_joined, gaps_are, first_stretches, second_stretches}
@@ -44,16 +44,6 @@ serves_moved n grid scale (suc capacity) stretch slots all same serves =
     (fills_moved n (suc capacity) _ _ _ (slots_in scale stretch slots) serves)
 
 -- # A later part of a list
-
--- some element of a list is one of a list that ends with it
-any_back : {X : Type 0} (P : X → Type 0) (xs ys : List X) → Any P ys → Any P (xs ++ ys)
-any_back P xs ys some = (
-  length xs + some.0,
-  some.1,
-  omega (arith, some.2, length-append xs ys),
-  get_or-append-add xs ys some.0 some.1 ∙ some.3,
-  some.4,
-)
 
 -- what one fact gives of some element, another does too
 any_same : {X : Type 0} (P Q : X → Type 0) (xs : List X) → ((x : X) → P x → Q x) → Any P xs → Any Q xs
@@ -195,7 +185,7 @@ module _ (time scale : ℕ) (first second : List Job) (parted : ArePartedAt time
       (All-map (IsUncut jobs scale) (moved n) others (λ k d within.
       let slot = get_or others k d in
       subst (Any (LiesIn scale (moved n slot))) (sym joined)
-      (any_back (LiesIn scale (moved n slot)) (stretches first) back (any_back (LiesIn scale (moved n slot)) (stretches_between first second) (stretches second)
+      (Any-append_right (LiesIn scale (moved n slot)) (stretches first) back (Any-append_right (LiesIn scale (moved n slot)) (stretches_between first second) (stretches second)
       (any_same (LiesIn scale slot) (LiesIn scale (moved n slot)) (stretches second) (λ stretch lies. record { from = lies.from; to = lies.to }) (others_uncut k d within))))))
 
   -- the slot at a place among the first

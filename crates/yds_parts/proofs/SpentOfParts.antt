@@ -11,13 +11,11 @@ use Rattle.yds_model.specs.Event.{stretches}
 use Rattle.yds_model.specs.Policy.{slots_in}
 use Rattle.yds_model.specs.Comparison.{work_in, time_at, all_time_at, in_parts}
 use Rattle.yds_model.proofs.HullExists.{hull_exists}
-use Rattle.yds_model.proofs.Sums.{sum_by-add, sum_by-mul, sum_by_same, sum_by_zero}
+use Rattle.yds_model.proofs.Sums.{sum_by-add, sum_by-mul, sum_by_same, sum_by_zero, sum_by-map}
 use Rattle.yds_events.specs.Stretch.{length_of}
-use Rattle.yds_laws.proofs.JobNumbers.{sum_by-map}
 use Rattle.yds_energy.proofs.HullEnergy.{hull_first}
 use Rattle.yds_energy.proofs.PlansEnergy.{hull_table}
 use Rattle.yds_energy.proofs.PointTimes.{idle_time, idle_energy}
-use Rattle.yds_energy.proofs.RunScale.{map_agree}
 use Rattle.yds_energy.proofs.StretchTimes.{stretches_long}
 use Rattle.yds_parts.specs.Parts.{moved, together_at, gap_between}
 use Rattle.yds_parts.specs.EnergyOfParts.{AreScheduled}
@@ -132,5 +130,5 @@ stretch_energy_of_parts time scale first second points slots others are table =
 pub spent_of_parts : SpentOfParts
 spent_of_parts time scale first second points slots others are table = record {
   energy = ap (in_parts points scale) (sym (stretch_energy_of_parts time scale first second points slots others are table));
-  times = map_agree _ _ (λ point. ap (in_parts points scale) (sym (times_of_parts time scale point.speed first second points slots others are table))) points;
+  times = simp (λ (speed : ℕ). times_of_parts time scale speed first second points slots others are table);
 }

@@ -1,5 +1,5 @@
 -- The slots in a stretch of one part are that part's, and in the stretch between the parts there are none.
-use Rattle.std.proofs.Common.{◌≡◌, ℕ, ◌*◌, ◌<◌, ◌≤◌, ◌⊎◌, Bool, true, false, List, [], ◌∷◌, ◌++◌, length, map, get_or, refl, ap, ◌∙◌, arith, inl, inr}
+use Rattle.std.proofs.Common.{◌≡◌, ℕ, ◌*◌, ◌<◌, ◌≤◌, ◌⊎◌, Bool, List, [], ◌∷◌, ◌++◌, length, map, get_or, refl, ap, ◌∙◌, arith, inl, inr}
 use Rattle.std.specs.List.{All, filter}
 use Rattle.std.proofs.lemmas.Bool.{cases_Bool}
 use Rattle.std.proofs.lemmas.List.{append-nil}
@@ -12,22 +12,13 @@ use Rattle.yds_model.specs.Feasible.{IsFeasibleAt}
 use Rattle.yds_model.specs.Event.{LiesIn}
 use Rattle.yds_model.specs.Policy.{slots_in}
 use Rattle.yds_model.proofs.Runs.{run_forward}
+use Rattle.yds_model.proofs.Filters.{filter_none}
 use Rattle.yds_energy.proofs.StretchSlots.{lies, lies_told}
 use Rattle.yds_parts.specs.Parts.{ArePartedAt, moved, together_at}
 use Rattle.yds_parts.proofs.TwoParts.{ends_by, begins_from}
 use Rattle.yds_parts.proofs.EventsOfParts.{IsGap, EndsBy, BeginsFrom}
 
 -- # Tests of a list
-
--- where no element passes, none is left
-pub filter_none : {X : Type 0} (test : X → Bool) (xs : List X) → All (λ x. test x ≡ false) xs → filter test xs ≡ []
-filter_none test [] fail = refl
-filter_none test (x ∷ xs) fail = rw (All-head (λ x. test x ≡ false) x xs fail, filter_none test xs (All-tail (λ x. test x ≡ false) x xs fail)) refl
-
--- and where each does, all are
-pub filter_all : {X : Type 0} (test : X → Bool) (xs : List X) → All (λ x. test x ≡ true) xs → filter test xs ≡ xs
-filter_all test [] pass = refl
-filter_all test (x ∷ xs) pass = rw (All-head (λ x. test x ≡ true) x xs pass, filter_all test xs (All-tail (λ x. test x ≡ true) x xs pass)) refl
 
 -- what a function makes passes where what it is made of does
 pub filter_made : {X Y : Type 0} (f : X → Y) (made : Y → Bool) (test : X → Bool) (xs : List X) → All (λ x. made (f x) ≡ test x) xs →

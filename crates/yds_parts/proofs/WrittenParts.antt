@@ -10,7 +10,8 @@ use Rattle.yds_model.specs.Feasible.{IsFeasibleAt}
 use Rattle.yds_model.specs.Excess.{IsLeastAt}
 use Rattle.yds_model.proofs.Lists.{All-front, All-back}
 use Rattle.yds_model.proofs.Scale.{finer, finer_excess, excess_scaled, feasible_scaled, feasible_finer, one_scale_decides, scale_exists}
-use Rattle.yds_energy.proofs.PlanParts.{scale_times}
+use Rattle.yds_laws.proofs.Bound.{scale_left, scale_right}
+use Rattle.yds_energy.proofs.PlanParts.{scale_joined, scale_times}
 use Rattle.yds_parts.specs.Parts.{moved, moved_written, slots_in_turn, together_at, AreOf}
 use Rattle.yds_parts.specs.PartsLaws.{FeasibleInParts, LeastInParts}
 use Rattle.yds_parts.proofs.TwoParts.{All-made, feasible_together, feasible_first, feasible_second, least_together, least_first, least_second}
@@ -29,27 +30,22 @@ together_is scale first slots others =
 
 -- a scale of all is one of each part
 pub scale_of_first : (scale : ℕ) (first : List Job) (slots others : List WrittenSlot) → IsScale scale (slots_in_turn first slots others) → IsScale scale slots
-scale_of_first scale first slots others is = record {
-  positive = is.positive;
-  divided = All-front (IsDivided scale) slots (map (moved_written (length first)) others) is.divided;
-}
+scale_of_first scale first slots others is = scale_left scale slots (map (moved_written (length first)) others) is
 
 pub scale_of_second : (scale : ℕ) (first : List Job) (slots others : List WrittenSlot) → IsScale scale (slots_in_turn first slots others) → IsScale scale others
 scale_of_second scale first slots others is =
-    let divided = All-made (IsDivided scale) (moved_written (length first)) others (All-back (IsDivided scale) slots (map (moved_written (length first)) others) is.divided) in
-    record {
-      positive = is.positive;
-      divided = λ k d within. let one = divided k d within in record { from = one.from; to = one.to; work = one.work };
-    }
+    let later = scale_right scale slots (map (moved_written (length first)) others) is in
+    let divided = All-made (IsDivided scale) (moved_written (length first)) others later.divided in
+    record { positive = is.positive; divided = λ k d within. let one = divided k d within in record { from = one.from; to = one.to; work = one.work } }
 
 -- and the other way round
 scale_of_both : (scale : ℕ) (first : List Job) (slots others : List WrittenSlot) → IsScale scale slots → IsScale scale others → IsScale scale (slots_in_turn first slots others)
-scale_of_both scale first slots others one other = record {
-  positive = one.positive;
-  divided = All-append (IsDivided scale) slots (map (moved_written (length first)) others) one.divided
-      (All-map (IsDivided scale) (moved_written (length first)) others
-      (λ k d within. let divided = other.divided k d within in record { from = divided.from; to = divided.to; work = divided.work }));
-}
+scale_of_both scale first slots others one other =
+    scale_joined scale slots (map (moved_written (length first)) others) one (record {
+      positive = other.positive;
+      divided = All-map (IsDivided scale) (moved_written (length first)) others
+          (λ k d within. let divided = other.divided k d within in record { from = divided.from; to = divided.to; work = divided.work });
+    })
 
 pub solid_of_both : (first : List Job) (slots others : List WrittenSlot) → All IsSolid slots → All IsSolid others → All IsSolid (slots_in_turn first slots others)
 solid_of_both first slots others one other =

@@ -11,11 +11,12 @@ use Rattle.yds_model.specs.Job.{Job, IsJob, no_job, job_at}
 use Rattle.yds_model.specs.Piece.{Piece, PiecesFrom, total_length}
 use Rattle.yds_model.specs.Event.{stretches}
 use Rattle.yds_model.proofs.Sums.{sum_by-mul, sum_by_same, sum_by_at_most}
+use Rattle.yds_model.proofs.Filters.{sum_by-filter}
 use Rattle.yds_search.specs.Found.{Group, Found, IsFound, no_group, group_of, group_at, work_of_group, length_of_group}
 use Rattle.yds_events.specs.Stretch.{no_stretch}
 use Rattle.yds_events.specs.Window.{length_at}
 use Rattle.yds_plan.specs.Drafts.{AreGroupsWithin}
-use Rattle.yds_search.proofs.KeySums.{in_range, split_at_most, sum_by-filter, sum_of_all, cond_at_most, count_all}
+use Rattle.yds_search.proofs.KeySums.{in_range, split_at_most, sum_of_all, cond_at_most, count_all}
 use Rattle.yds_events.proofs.Neighbours.{stretches_run, stretch_in_range}
 
 abbrev EndsBy : ℕ → Piece → Type 0

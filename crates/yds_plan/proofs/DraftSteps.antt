@@ -7,14 +7,14 @@ use Rattle.yds_plan.specs.Laid.{merge, merged, level_of, levels_among, level_of_
 use Rattle.yds_plan.specs.Drafts.{touches_last, with_next, extended, draft, drafts, extended_level}
 use Rattle.std.specs.List.{filter, range_with_len}
 use Rattle.std.proofs.lemmas.List.{append-nil, map-append}
-use Rattle.std.proofs.lemmas.List.Elements.{filter-append}
 use Rattle.std.proofs.lemmas.List.FromFn.{get_or-map-range_with_len, length-map-range_with_len}
 use Rattle.yds_model.specs.Level.{Level, no_level, level_at}
+use Rattle.yds_model.proofs.Filters.{filter-range_with_len_more}
 use Rattle.yds_certificate.specs.Level.{with_member}
 use Rattle.yds_search.specs.Found.{Found, group_of}
 use Rattle.yds_events.specs.Stretch.{nth_stretch}
-use Rattle.yds_search.proofs.KeySums.{range_more}
-use Rattle.yds_plan.proofs.Drafts.{among_above, map_range_set, map_range_same}
+use Rattle.yds_timetable.proofs.Lists.{map_range_same}
+use Rattle.yds_plan.proofs.Drafts.{among_above, map_range_set}
 use Rattle.yds_plan.proofs.Levels.{place_level, place_in_level}
 
 -- the same by recursion
@@ -73,15 +73,12 @@ merged_last (first ∷ pieces) piece = ap (merge first) (merged_last pieces piec
 pub merged_more : (pieces : List Piece) (piece : Piece) → merged (pieces ++ piece ∷ []) ≡ extended (merged pieces) piece
 merged_more pieces piece = merged_last pieces piece ∙ add_last_is (merged pieces) piece
 
-filter_more : (p : ℕ → Bool) (n : ℕ) → filter p (range_with_len 0 (n + 1)) ≡ filter p (range_with_len 0 n) ++ cond (p n) (n ∷ []) []
-filter_more p n = ap (filter p) (range_more n) ∙ filter-append p (range_with_len 0 n) (n ∷ [])
-
 filter_takes : (p : ℕ → Bool) (n : ℕ) → p n ≡ true → filter p (range_with_len 0 (n + 1)) ≡ filter p (range_with_len 0 n) ++ n ∷ []
-filter_takes p n passes = filter_more p n ∙ ap (λ b. filter p (range_with_len 0 n) ++ cond b (n ∷ []) []) passes
+filter_takes p n passes = filter-range_with_len_more p n ∙ ap (λ b. filter p (range_with_len 0 n) ++ cond b (n ∷ []) []) passes
 
 filter_leaves : (p : ℕ → Bool) (n : ℕ) → p n ≡ false → filter p (range_with_len 0 n) ≡ filter p (range_with_len 0 (n + 1))
 filter_leaves p n fails =
-    sym (filter_more p n ∙ ap (λ b. filter p (range_with_len 0 n) ++ cond b (n ∷ []) []) fails ∙ append-nil (filter p (range_with_len 0 n)))
+    sym (filter-range_with_len_more p n ∙ ap (λ b. filter p (range_with_len 0 n) ++ cond b (n ∷ []) []) fails ∙ append-nil (filter p (range_with_len 0 n)))
 
 module _ (timeline : List Piece) (found : Found) where
   abbrev job_level : ℕ → ℕ

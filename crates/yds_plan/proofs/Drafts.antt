@@ -10,6 +10,7 @@ use Rattle.yds_model.proofs.Sums.{sum_by-mul, sum_by_same, sum_by_at_most, sum_b
 use Rattle.yds_model.proofs.Fractions.{same_through}
 use Rattle.yds_search.specs.Found.{Group, group_at, no_group}
 use Rattle.yds_plan.specs.Laid.{slows_after, level_of, levels_among, together}
+use Rattle.yds_timetable.proofs.Lists.{map_range_same}
 use Rattle.yds_search.proofs.KeySums.{in_range, not_here, is_here, range_more, sum_of_first, cond_at_most}
 use Rattle.std.proofs.lemmas.List.{ext_get_or, length-set, get_or-set_same, get_or-set_other, get_or-map, get_or_past}
 use Rattle.yds_model.specs.Level.{Level, no_level, level_at}
@@ -194,12 +195,6 @@ map_range_set d f g n l below others =
       | inr other ↦ get_or-set_other (map f (range_with_len 0 n)) l i (g l) d other
           ∙ get_or-map-range_with_len f 0 n i i d known (omega arith) ∙ others i known other ∙ sym there
     ])
-
-pub map_range_same : {X : Type 0} (d : X) (f g : ℕ → X) (n : ℕ) → ((k : ℕ) → k < n → f k ≡ g k) → map f (range_with_len 0 n) ≡ map g (range_with_len 0 n)
-map_range_same d f g n same =
-    ext_get_or d _ _ (length-map-range_with_len f 0 n ∙ sym (length-map-range_with_len g 0 n)) (λ i within.
-    let known : i < n = omega (arith, length-map-range_with_len f 0 n) in
-    get_or-map-range_with_len f 0 n i i d known (omega arith) ∙ same i known ∙ sym (get_or-map-range_with_len g 0 n i i d known (omega arith)))
 
 module _ (groups : List Group) where
   pub joining : (i : ℕ) → joins_before groups i ≡ true → level_of groups i + 1 ≡ levels_among groups i

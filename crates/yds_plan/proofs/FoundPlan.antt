@@ -1,31 +1,38 @@
 -- What the search finds makes a plan.
-use Rattle.std.proofs.Common.{◌≡◌, ℕ, ◌+◌, ◌*◌, ◌<◌, ◌≤◌, List, ◌∙◌, length, get_or, sym, ap, arith, inl, inr}
-use Rattle.std.specs.Prelude.{Result, Ok, Err, IfOk}
+use Rattle.std.proofs.Common.{◌≡◌, ℕ, ◌+◌, ◌*◌, ◌<◌, ◌≤◌, List, Some, None, ◌∙◌, length, map, get_or, refl, sym, ap, ap₂, arith, inl, inr}
+use Rattle.std.specs.Prelude.{Option, Result, Ok, Err, IfOk, slice_get}
 use Rattle.std.specs.List.{All, Contains, sum_by, range_with_len}
-use Rattle.std.proofs.lemmas.List.{length-map}
-use Rattle.std.proofs.lemmas.List.Concat.{length-flat_map}
-use Rattle.std.proofs.lemmas.List.Elements.{All-contains, All-weaker}
+use Rattle.std.proofs.lemmas.Bool.{cases_lt}
+use Rattle.std.proofs.lemmas.List.{length-map, get_or-map}
+use Rattle.std.proofs.lemmas.List.FromFn.{length-map-range_with_len, get_or-map-range_with_len}
+use Rattle.std.proofs.lemmas.Option.{slice_get-get_or, slice_get_past}
+use Rattle.std.proofs.lemmas.List.Elements.{All-contains}
 use Rattle.yds_model.specs.Numbers.{Each}
-use Rattle.yds_model.specs.Job.{Job, job_at, work_of}
-use Rattle.yds_model.specs.Scale.{Fraction}
-use Rattle.yds_model.specs.Slot.{WrittenSlot, no_slot, no_written_slot, IsSolid, IsScale, slot_at_scale, slots_at, written_slot_at}
+use Rattle.yds_model.specs.Job.{Job, IsJob, job_at, work_of}
+use Rattle.yds_model.specs.declared.limits.TheConstants.{MAX_JOBS}
+use Rattle.yds_model.specs.Slot.{WrittenSlot, no_slot, no_written_slot, IsSolid, IsScale, slots_at, written_slot_at}
 use Rattle.yds_model.specs.Level.{Level, level_at, all_members}
 use Rattle.yds_model.specs.Proper.{PiecesStand, StandsOnce, SumsAgree, IsWindowCovered, HasLevelSpeed, AreLevels}
 use Rattle.yds_model.specs.Event.{stretches}
-use Rattle.yds_model.specs.Plan.{IsSlower, DontTouch, Rise, IsOver, HasLevelDenominators, IsPlan}
-use Rattle.yds_model.proofs.Sums.{sum_by_same}
+use Rattle.yds_model.specs.Plan.{IsSlower, DontTouch, Rise, HasLevelDenominators, IsPlan, speed_num, speed_den}
 use Rattle.yds_model.proofs.Fractions.{same_through}
 use Rattle.yds_model.proofs.Divisor.{lowest_terms_are_one}
 use Rattle.yds_slots.specs.Schedule.{WrittenSchedule}
-use Rattle.yds_search.specs.Found.{Found, IsFound, group_of, group_at}
+use Rattle.yds_timetable.specs.Shares.{JobShare, no_share}
+use Rattle.yds_timetable.specs.Timetable.{Row, slots_of}
+use Rattle.yds_timetable.proofs.Lists.{all_second, zipped_at, zipped_by_places}
+use Rattle.yds_timetable.proofs.Rows.{no_row, rows_solid}
+use Rattle.yds_timetable.proofs.Made.{rows_stretches}
+use Rattle.yds_search.specs.Found.{Found, IsFound, group_of, group_at, per_time, per_work}
 use Rattle.yds_model.specs.Comparison.{stretch_at}
 use Rattle.yds_events.specs.Window.{length_at}
-use Rattle.yds_plan.specs.Laid.{level_of, levels_among, together, members_of, stretches_of_level, level_numbered, levels_of, slots_in_stretch, laid_slots, shares_in_stretch}
-use Rattle.yds_search.proofs.KeySums.{count_all, split_all}
+use Rattle.yds_plan.specs.Laid.{level_of, levels_among, together, members_of, stretches_of_level, level_numbered, levels_of, pace_of_group, row_found, rows_found, laid_slots}
+use Rattle.yds_plan.specs.Timetabled.{pace_of_level, RunsAtLevel, IsTimetabled}
+use Rattle.yds_slots.proofs.Parts.{of_parts_over}
 use Rattle.yds_events.proofs.Neighbours.{release_outside, deadline_outside, stretch_with, few_stretches}
 use Rattle.yds_plan.proofs.Merged.{all_of_blocks}
-use Rattle.yds_plan.proofs.Schedule.{Serves, all_serve, has_work, terms, all_stand, feasible, served_in_stretches}
-use Rattle.yds_plan.proofs.Filled.{IsOverTerms, over_terms, slots_of_jobs, slots_from_length}
+use Rattle.yds_plan.proofs.Rows.{IsLaid, sorted_shares, has_work, terms, paced, unpaced, all_laid, rows_are, slots_length, length_sorted}
+use Rattle.yds_plan.proofs.Schedule.{Stands, all_stand, feasible, served_in_stretches}
 use Rattle.yds_plan.proofs.Drafts.{AreGroups, level_rises, among_above, among_found, level_speed, level_has, level_slower}
 use Rattle.yds_plan.proofs.Levels.{IsMember, place_level, group_sum, level_there, levels_length, each_level, members_joined, each_member, members_rise, member_at_most_once, member_once, pieces_apart, pieces_run, pieces_dont_touch, pieces_total, some_pieces, stretch_covered, few_pieces}
 
@@ -33,12 +40,7 @@ use Rattle.yds_plan.proofs.Levels.{IsMember, place_level, group_sum, level_there
 at_speed : (work time p q g w l : ℕ) → work * q ≡ p * time → p * g ≡ w → q * g ≡ l → work * l ≡ w * time
 at_speed work time p q g w l e f h = omega (arith, ap (λ n. n * g) e, ap (λ n. n * time) f, ap (λ n. work * n) h)
 
--- what is whole or over some parts has some
-over_some : (den : ℕ) (x : Fraction) → 1 ≤ den → IsOver den x → 1 ≤ x.den
-over_some den x some (inl whole) = omega (arith, ap (λ (one : Fraction). one.den) whole)
-over_some den x some (inr same) = omega (arith, same)
-
-module _ (jobs : List Job) (found : Found) (is : IsFound jobs found) where
+module _ (jobs : List Job) (proper : All IsJob jobs) (few : length jobs ≤ MAX_JOBS) (found : Found) (is : IsFound jobs found) where
   abbrev count_of_levels : ℕ
   count_of_levels = levels_among found.groups (length found.groups)
 
@@ -138,19 +140,80 @@ module _ (jobs : List Job) (found : Found) (is : IsFound jobs found) where
       level_work i * (group_at found.groups g).length ≡ (group_at found.groups g).work * level_length i
   group_speed i g known grouped level = rw level at (level_speed found.groups groups_are g grouped)
 
+  -- so they are the same in lowest terms
+  same_terms : (i g : ℕ) → i < count_of_levels → g < length found.groups → level_of found.groups g ≡ i →
+      (speed_num (level_numbered jobs found i) ≡ per_time (group_at found.groups g)) × (speed_den (level_numbered jobs found i) ≡ per_work (group_at found.groups g))
+  same_terms i g known grouped level = lowest_terms_are_one (level_work i) (level_length i) (group_at found.groups g).work (group_at found.groups g).length
+      (some_level_length i known) (is.some_length g grouped) (group_speed i g known grouped level)
+
+  -- # The timetable
+
+  -- a group runs at the pace of its level
+  level_pace : (g : ℕ) → g < length found.groups →
+      (level_of found.groups g < length (levels_of jobs found)) × (pace_of_group (group_at found.groups g) ≡ pace_of_level (level_at (levels_of jobs found) (level_of found.groups g)))
+  level_pace g grouped =
+      let known = among_above found.groups (length found.groups) g grouped in
+      let same = same_terms (level_of found.groups g) g known grouped refl in (
+        omega (arith, known, levels_length jobs found),
+        rw (level_there jobs found (level_of found.groups g) known)
+            (sym (ap₂ (λ units grain. record { units = units; time = 1; grain = grain }) same.0 same.1)),
+      )
+
+  module _ (numbers : List ℕ) (stretch_levels : List (Option ℕ)) (are : numbers ≡ map (level_of found.groups) (range_with_len 0 (length found.groups)))
+      (told : stretch_levels ≡ map (slice_get numbers) found.group_of_stretch) where
+    numbered : (g : ℕ) → g < length found.groups → slice_get numbers g ≡ Some (level_of found.groups g)
+    numbered g grouped =
+        ap (λ (some : List ℕ). slice_get some g) are
+        ∙ slice_get-get_or (map (level_of found.groups) (range_with_len 0 (length found.groups))) g 0
+        (omega (arith, grouped, length-map-range_with_len (level_of found.groups) 0 (length found.groups)))
+        ∙ ap Some (get_or-map-range_with_len (level_of found.groups) 0 (length found.groups) g g 0 grouped (omega arith))
+
+    unnumbered : (g : ℕ) → length found.groups ≤ g → slice_get numbers g ≡ None
+    unnumbered g past = slice_get_past numbers g (omega (arith, past, ap (λ (some : List ℕ). length some) are, length-map-range_with_len (level_of found.groups) 0 (length found.groups)))
+
+    runs_at : (k : ℕ) → RunsAtLevel (levels_of jobs found) (slice_get (map pace_of_group found.groups) (group_of found.group_of_stretch k)) (slice_get numbers (group_of found.group_of_stretch k))
+    runs_at k = elim (cases_lt (group_of found.group_of_stretch k) (length found.groups)) [
+      | inl grouped ↦ rw (paced jobs found is k grouped, numbered (group_of found.group_of_stretch k) grouped) (level_pace (group_of found.group_of_stretch k) grouped)
+      | inr past ↦ rw (unpaced jobs found is k past, unnumbered (group_of found.group_of_stretch k) past) tt
+    ]
+
+    found_timetabled : IsTimetabled jobs (rows_found jobs found) stretch_levels (laid_slots jobs found) (levels_of jobs found)
+    found_timetabled = record {
+      stretches_are = rows_stretches (stretches jobs) (map pace_of_group found.groups) found.group_of_stretch found.shares;
+      levels_are = zipped_by_places (λ (row : Row) (number : Option ℕ). RunsAtLevel (levels_of jobs found) row.pace number) (rows_found jobs found) stretch_levels no_row None
+          (omega (arith, ap (λ (some : List (Option ℕ)). length some) told, length-map found.group_of_stretch (slice_get numbers), is.all_stretches, as_many_rows))
+          (λ k within.
+          let known : k < length (stretches jobs) = omega (arith, within, as_many_rows) in
+          let there : get_or stretch_levels k None ≡ slice_get numbers (group_of found.group_of_stretch k) =
+          ap (λ (some : List (Option ℕ)). get_or some k None) told
+          ∙ get_or-map (slice_get numbers) found.group_of_stretch k 0 None (omega (arith, known, is.all_stretches)) in
+          rw (get_or-map-range_with_len (row_found jobs found) 0 (length (stretches jobs)) k k no_row known (omega arith), there)
+          (runs_at k));
+      slots_are = refl;
+    } where
+      as_many_rows : length (rows_found jobs found) ≡ length (stretches jobs)
+      as_many_rows = length-map-range_with_len (row_found jobs found) 0 (length (stretches jobs))
+
+    -- the same of what was made
+    pub timetabled : (rows : List Row) (slots : List WrittenSlot) (levels : List Level) → rows ≡ rows_found jobs found → slots ≡ slots_of rows →
+        levels ≡ levels_of jobs found → IsTimetabled jobs rows stretch_levels slots levels
+    timetabled rows slots levels is_rows is_slots is_levels = rw (is_slots, is_rows, is_levels) found_timetabled
+
+  -- # The plan
+
   speeds : (scale : ℕ) → IsScale scale (laid_slots jobs found) →
       Each (length (laid_slots jobs found)) (HasLevelSpeed (levels_of jobs found) (slots_at scale (laid_slots jobs found)))
   speeds scale divided s within i inside contains =
       let member = member_there i _ inside contains in
-      let stands = all_stand jobs found is scale divided s no_slot (omega (arith, length-map (laid_slots jobs found) (slot_at_scale scale))) in
-      let serves = stands.2.serves in
-      let g = group_of found.group_of_stretch stands.0 in
-      let grouped : g < length found.groups = omega (arith, serves.same_group, serves.grouped) in
-      let level : level_of found.groups g ≡ i = ap (level_of found.groups) serves.same_group ∙ member.level in
+      let here = zipped_at (Stands jobs found scale) (sorted_shares jobs found) (slots_at scale (laid_slots jobs found)) s no_share no_slot
+      (all_stand jobs found is proper few scale divided) (omega (arith, within, slots_length jobs found is proper few, length_sorted jobs found is)) in
+      let g = group_of found.group_of_stretch (get_or (sorted_shares jobs found) s no_share).stretch in
+      let grouped : g < length found.groups = omega (arith, here.is_share.same_group, here.is_share.grouped) in
+      let level : level_of found.groups g ≡ i = ap (level_of found.groups) (here.is_share.same_group ∙ ap (group_of found.group_of_job) (sym here.job)) ∙ member.level in
       let known : i < count_of_levels = omega (arith, levels_length jobs found) in
       let low = terms jobs found is g grouped in
       rw (level_there jobs found i known) (same_through _ (group_at found.groups g).work (level_work i) _ (group_at found.groups g).length (level_length i)
-      (is.some_length g grouped) (at_speed _ _ _ _ _ (group_at found.groups g).work (group_at found.groups g).length stands.2.speed low.first low.second)
+      (is.some_length g grouped) (at_speed _ _ _ _ _ (group_at found.groups g).work (group_at found.groups g).length here.speed low.first low.second)
       (sym (group_speed i g known grouped level)))
 
   members_have_work : All (λ number. 1 ≤ (job_at jobs number).work) (all_members (levels_of jobs found))
@@ -159,40 +222,15 @@ module _ (jobs : List Job) (found : Found) (is : IsFound jobs found) where
       let member = each_member jobs found l known k d within in
       has_work jobs found is _ member.known member.grouped))
 
-  pub slots_length : length (laid_slots jobs found) ≡ length found.shares
-  slots_length =
-      length-flat_map (slots_in_stretch jobs found) (range_with_len 0 (length (stretches jobs)))
-      ∙ sum_by_same (λ k. length (slots_in_stretch jobs found k)) (λ k. sum_by (λ share. 1) (shares_in_stretch found.shares k)) (range_with_len 0 (length (stretches jobs)))
-      (λ k d within. slots_from_length _ _ 0 (shares_in_stretch found.shares (get_or (range_with_len 0 (length (stretches jobs))) k d))
-      ∙ sym (count_all (shares_in_stretch found.shares (get_or (range_with_len 0 (length (stretches jobs))) k d))))
-      ∙ split_all (λ share. share.stretch) (λ share. 1) (length (stretches jobs)) found.shares (λ k d within. (is.shares k d within).known_stretch)
-      ∙ count_all found.shares
-
-  -- a slot is written over the terms of the group of its stretch
+  -- each slot is that of a share, so its denominators are at least 1
   abbrev IsWritten : WrittenSlot → Type 0
-  IsWritten slot = (k : ℕ) × Serves jobs found k slot.job × IsOverTerms (group_at found.groups (group_of found.group_of_stretch k)) slot
+  IsWritten slot = (share : JobShare) × IsLaid jobs found share slot
 
   all_written : All IsWritten (laid_slots jobs found)
-  all_written =
-      all_of_blocks IsWritten (slots_in_stretch jobs found) (length (stretches jobs))
-      (λ k known x d within. (
-        k,
-        slots_of_jobs (Serves jobs found k) (group_at found.groups (group_of found.group_of_stretch k)) (stretch_at jobs k).from 0
-            (shares_in_stretch found.shares k) (all_serve jobs found is k) x d within,
-        over_terms (group_at found.groups (group_of found.group_of_stretch k)) (stretch_at jobs k).from 0 (shares_in_stretch found.shares k) x d within,
-      ))
+  all_written = all_second (IsLaid jobs found) IsWritten (λ share slot laid. (share, laid)) (sorted_shares jobs found) (laid_slots jobs found) (all_laid jobs found is proper few)
 
-  -- so its denominators are at least 1
   all_solid : All IsSolid (laid_slots jobs found)
-  all_solid = All-weaker IsWritten IsSolid (λ slot written. solid slot written.0 written.1 written.2) (laid_slots jobs found) all_written where
-    solid : (slot : WrittenSlot) (k : ℕ) → Serves jobs found k slot.job → IsOverTerms (group_at found.groups (group_of found.group_of_stretch k)) slot → IsSolid slot
-    solid slot k serves over =
-        let low = terms jobs found is (group_of found.group_of_stretch k) (omega (arith, serves.same_group, serves.grouped)) in
-        record {
-          from = over_some _ slot.from low.some_first over.from;
-          to = over_some _ slot.to low.some_first over.to;
-          work = over_some _ slot.work low.some_second over.work;
-        }
+  all_solid = rows_solid (rows_found jobs found) (rows_are jobs found is proper few)
 
   denominators : (i s : ℕ) → i < length (levels_of jobs found) → s < length (laid_slots jobs found) →
       Contains (level_at (levels_of jobs found) i).members (written_slot_at (laid_slots jobs found) s).job →
@@ -200,20 +238,25 @@ module _ (jobs : List Job) (found : Found) (is : IsFound jobs found) where
   denominators i s within inside contains =
       let member = member_there i _ within contains in
       let written = all_written s no_written_slot inside in
-      let serves = written.1 in
-      let g = group_of found.group_of_stretch written.0 in
-      let grouped : g < length found.groups = omega (arith, serves.same_group, serves.grouped) in
-      let level : level_of found.groups g ≡ i = ap (level_of found.groups) serves.same_group ∙ member.level in
+      let share = written.0 in
+      let laid = written.1 in
+      let g = group_of found.group_of_stretch share.stretch in
+      let grouped : g < length found.groups = omega (arith, laid.is_share.same_group, laid.is_share.grouped) in
+      let level : level_of found.groups g ≡ i =
+      ap (level_of found.groups) (laid.is_share.same_group ∙ ap (λ (slot : WrittenSlot). group_of found.group_of_job slot.job) (sym laid.slot_is)) ∙ member.level in
       let known : i < count_of_levels = omega (arith, levels_length jobs found) in
-      let same = lowest_terms_are_one (level_work i) (level_length i) (group_at found.groups g).work (group_at found.groups g).length
-      (some_level_length i known) (is.some_length g grouped) (group_speed i g known grouped level) in
-      rw (level_there jobs found i known) (record { from = rw (same.0) written.2.from; to = rw (same.0) written.2.to; work = rw (same.1) written.2.work })
+      let same = same_terms i g known grouped level in
+      rw (level_there jobs found i known, laid.slot_is) (record {
+        from = rw (same.0) (of_parts_over ((stretch_at jobs share.stretch).from * per_time (group_at found.groups g) + laid.done * 1) (per_time (group_at found.groups g)));
+        to = rw (same.0) (of_parts_over ((stretch_at jobs share.stretch).from * per_time (group_at found.groups g) + (laid.done + share.units) * 1) (per_time (group_at found.groups g)));
+        work = rw (same.1) (of_parts_over share.units (per_work (group_at found.groups g)));
+      })
 
   pub makes_plan : IsPlan jobs (laid_slots jobs found) (levels_of jobs found)
   makes_plan = record {
     proper = record {
       well_formed = well_formed;
-      feasible = record { solid = all_solid; holds = λ scale divided. feasible jobs found is scale divided };
+      feasible = record { solid = all_solid; holds = λ scale divided. feasible jobs found is proper few scale divided };
       pieces = pieces_stand;
       members = stands_once;
       sums = sums_agree;
@@ -225,14 +268,14 @@ module _ (jobs : List Job) (found : Found) (is : IsFound jobs found) where
     pieces_apart = each_level (λ level. DontTouch level.pieces) jobs found (λ l known. pieces_dont_touch jobs found l);
     members_rise = each_level (λ level. Rise level.members) jobs found (λ l known. members_rise jobs found l);
     members_work = members_have_work;
-    served = λ scale divided. served_in_stretches jobs found is scale divided;
-    few_slots = omega (arith, slots_length, is.few, few_stretches jobs);
+    served = λ scale divided. served_in_stretches jobs found is proper few scale divided;
+    few_slots = omega (arith, slots_length jobs found is proper few, is.few, few_stretches jobs);
     few_pieces = omega (arith, few_pieces jobs found, few_stretches jobs);
     denominators = denominators;
   }
 
 -- What is found makes a plan.
-pub found_makes_plan : (jobs : List Job) (found : Found) → IsFound jobs found → IsPlan jobs (laid_slots jobs found) (levels_of jobs found)
+pub found_makes_plan : (jobs : List Job) → All IsJob jobs → length jobs ≤ MAX_JOBS → (found : Found) → IsFound jobs found → IsPlan jobs (laid_slots jobs found) (levels_of jobs found)
 found_makes_plan = makes_plan
 
 -- two facts of a result's value make a third
@@ -241,9 +284,9 @@ both_ok P Q R join (Ok x) first second = join x first second
 both_ok P Q R join (Err e) first second = tt
 
 -- slots and levels that are those of what was found make a plan
-pub laid_plan : {T E : Type 0} (jobs : List Job) (found : Found) (schedule : T → WrittenSchedule) (levels : T → List Level) (r : Result T E) →
+pub laid_plan : {T E : Type 0} (jobs : List Job) → All IsJob jobs → length jobs ≤ MAX_JOBS → (found : Found) (schedule : T → WrittenSchedule) (levels : T → List Level) (r : Result T E) →
     IsFound jobs found → IfOk r (λ x. schedule x ≡ record { jobs = length jobs; slots = laid_slots jobs found }) →
     IfOk r (λ x. levels x ≡ levels_of jobs found) → IfOk r (λ x. IsPlan jobs (schedule x).slots (levels x))
-laid_plan jobs found schedule levels r is laid certified =
+laid_plan jobs proper few found schedule levels r is laid certified =
     both_ok (λ x. schedule x ≡ record { jobs = length jobs; slots = laid_slots jobs found }) (λ x. levels x ≡ levels_of jobs found)
-    (λ x. IsPlan jobs (schedule x).slots (levels x)) (λ x one other. rw (one, other) (found_makes_plan jobs found is)) r laid certified
+    (λ x. IsPlan jobs (schedule x).slots (levels x)) (λ x one other. rw (one, other) (found_makes_plan jobs proper few found is)) r laid certified

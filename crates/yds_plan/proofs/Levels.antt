@@ -11,16 +11,18 @@ use Rattle.yds_model.specs.Numbers.{count}
 use Rattle.yds_model.specs.Job.{Job}
 use Rattle.yds_model.specs.Level.{Level, no_level, level_at, all_members, all_pieces}
 use Rattle.yds_model.specs.Plan.{Rise, DontTouch}
-use Rattle.yds_model.proofs.Sums.{sum_by_same, sum_by_at_most, sum_by_zero}
+use Rattle.yds_model.proofs.Sums.{sum_by_same, sum_by_at_most, sum_by_zero, sum_by-map}
 use Rattle.yds_search.specs.Found.{Group, Found, group_of, group_at}
 use Rattle.yds_plan.specs.Laid.{level_of, levels_among, level_of_place, together, members_of, level_numbered, levels_of, stretches_of_level, merged}
-use Rattle.yds_search.proofs.KeySums.{All-range, in_range, sums_swap, not_here, is_here, one_of_range, split_sum, split_at_most, cond_at_most, count_all, sum_by-filter, sum_by-flat_map, sum_by-map}
-use Rattle.yds_plan.proofs.Merged.{flat_map-map, all_of_blocks, some_of_blocks, Holds, merged_run, merged_apart, merged_total, merged_length, merged_stays_apart, merged_covers, some_stretches_run, some_stretches_cover}
+use Rattle.yds_search.proofs.KeySums.{All-range, in_range, sums_swap, not_here, is_here, one_of_range, split_sum, split_at_most, cond_at_most, count_all, sum_by-flat_map}
+use Rattle.std.proofs.lemmas.List.Folds.{flat_map-map}
+use Rattle.yds_plan.proofs.Merged.{all_of_blocks, some_of_blocks, Holds, merged_run, merged_apart, merged_total, merged_length, merged_stays_apart, merged_covers, some_stretches_run, some_stretches_cover}
 use Rattle.yds_plan.proofs.Drafts.{among_below}
 use Rattle.std.proofs.lemmas.List.{length-map}
 use Rattle.yds_model.specs.Piece.{Piece, AreApart, PiecesFrom, Covers, total_length}
 use Rattle.yds_model.specs.Event.{stretches}
 use Rattle.yds_model.proofs.Front.{pieces_forward, apart_turned}
+use Rattle.yds_model.proofs.Filters.{sum_by-filter}
 use Rattle.yds_model.specs.Comparison.{stretch_at}
 use Rattle.yds_events.specs.Window.{length_at}
 use Rattle.yds_events.proofs.Neighbours.{stretch_order}

@@ -1,11 +1,9 @@
 pub mod Merged
-pub mod Filled
+pub mod Rows
 pub mod Schedule
 pub mod Levels
 pub mod FoundPlan
 pub mod Drafts
 pub mod DraftSteps
-pub mod Places
 pub mod Bounds
-pub mod Laying
 pub mod Fitting

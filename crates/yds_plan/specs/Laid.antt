@@ -1,49 +1,30 @@
 -- What the search finds, laid out: the slots of a plan and its levels.
 use Rattle.std.specs.Prelude.{ℕ, zero, suc, Bool, ◌+◌, ◌*◌, List, [], ◌∷◌, length, map, sum_by, nat_lt, ◌==◌, if◌then◌else◌}
-use Rattle.std.specs.List.{filter, flat_map, range_with_len}
+use Rattle.std.specs.List.{filter, range_with_len}
 use Rattle.yds_model.specs.Job.{Job}
-use Rattle.yds_model.specs.Scale.{Fraction, of_parts}
 use Rattle.yds_model.specs.Slot.{WrittenSlot}
 use Rattle.yds_model.specs.Piece.{Piece}
 use Rattle.yds_model.specs.Level.{Level}
 use Rattle.yds_model.specs.Event.{stretches}
-use Rattle.yds_plan.specs.declared.layout_slots.Terms.{Terms}
-use Rattle.yds_search.specs.Found.{Group, Share, Found, group_at, per_time, per_work, group_of}
+use Rattle.yds_timetable.specs.declared.pace.Pace.{Pace}
+use Rattle.yds_timetable.specs.Timetable.{Row, row_of, rows_of, slots_of}
+use Rattle.yds_search.specs.Found.{Group, Found, group_at, per_time, per_work, group_of}
 use Rattle.yds_model.specs.Comparison.{stretch_at}
 
--- a group's speed in lowest terms
-abbrev pub speed_terms : Group → Terms
-speed_terms group = record { per_time = per_time group; per_work = per_work group }
+-- a group's speed in lowest terms, as a pace
+abbrev pub pace_of_group : Group → Pace
+pace_of_group group = record { units = per_time group; time = 1; grain = per_work group }
 
--- the time at which so many units are done, from `start` on, where `per_time` of them fill a unit of time
-abbrev pub time_after : ℕ → ℕ → ℕ → Fraction
-time_after start done per_time = of_parts (start * per_time + done) per_time
+-- a stretch at the pace of its group, with its shares, or idle
+abbrev pub row_found : List Job → Found → ℕ → Row
+row_found jobs found = row_of (stretches jobs) (map pace_of_group found.groups) found.group_of_stretch found.shares
 
--- the slot of a share, in a stretch that begins at `start`, where `done` units are done before it
-abbrev pub slot_for : Terms → ℕ → ℕ → Share → WrittenSlot
-slot_for terms start done share = record {
-  job = share.job;
-  from = time_after start done terms.per_time;
-  to = time_after start (done + share.units) terms.per_time;
-  work = of_parts share.units terms.per_work;
-}
+-- The timetable of a plan: its stretches so. The slots of a plan are those of its timetable.
+abbrev pub rows_found : List Job → Found → List Row
+rows_found jobs found = rows_of (stretches jobs) (map pace_of_group found.groups) found.group_of_stretch found.shares
 
--- one share after another, without a gap
-abbrev pub slots_from : Terms → ℕ → ℕ → List Share → List WrittenSlot
-slots_from terms start done [] = []
-slots_from terms start done (share ∷ shares) = slot_for terms start done share ∷ slots_from terms start (done + share.units) shares
-
--- the shares of a stretch, in the order in which they were found
-abbrev pub shares_in_stretch : List Share → ℕ → List Share
-shares_in_stretch shares k = filter (λ share. share.stretch == k) shares
-
-abbrev pub slots_in_stretch : List Job → Found → ℕ → List WrittenSlot
-slots_in_stretch jobs found k =
-    slots_from (speed_terms (group_at found.groups (group_of found.group_of_stretch k))) (stretch_at jobs k).from 0 (shares_in_stretch found.shares k)
-
--- The slots of a plan: each stretch is filled from its start.
 abbrev pub laid_slots : List Job → Found → List WrittenSlot
-laid_slots jobs found = flat_map (slots_in_stretch jobs found) (range_with_len 0 (length (stretches jobs)))
+laid_slots jobs found = slots_of (rows_found jobs found)
 
 -- the group after this place is slower than the one at it
 abbrev pub slows_after : List Group → ℕ → Bool

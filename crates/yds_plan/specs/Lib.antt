@@ -1,5 +1,4 @@
 pub mod Laid
 pub mod PlanLevels
 pub mod Drafts
-pub mod Room
-pub mod Sorted
+pub mod Timetabled

@@ -1,7 +1,7 @@
 //! The offline plan: the slots and the certificate that do, above every speed, the least work that any
 //! feasible schedule does.
 //!
-//! It stands on `yds_model`, `yds_fraction`, `yds_events`, `yds_search`, `yds_slots` and `yds_certificate`. Its one promise is
+//! It stands on `yds_model`, `yds_fraction`, `yds_events`, `yds_search`, `yds_slots`, `yds_timetable` and `yds_certificate`. Its one promise is
 //! that `plan` answers a plan by the model's definition, and `plan_levels` the levels of one; that it is least, for every speed and every convex power
 //! function, are laws of that definition.
 #![tactic(auto)]
@@ -9,8 +9,7 @@
 mod layout;
 mod layout_levels;
 mod layout_members;
-mod layout_shares;
-mod layout_slots;
+mod layout_timetable;
 mod planning;
 
 pub use layout::{Planned, lay_out};

@@ -4,6 +4,7 @@ ghost use Rattle.yds_model.specs.declared.limits.TheConstants.{MAX_JOBS};
 ghost use Rattle.yds_model.specs.Job.{IsJob};
 ghost use Rattle.yds_model.specs.Plan.{IsPlan};
 ghost use Rattle.yds_plan.specs.PlanLevels.{AreLevelsOfPlan};
+ghost use Rattle.yds_plan.specs.Timetabled.{IsTimetabled};
 
 use crate::layout::{Planned, lay_out, levels_of_found};
 use std::alloc::Global;
@@ -30,6 +31,7 @@ pub fn plan(alloc: Global, rows: &[JobRow]) -> Result<Planned, Memory>
     requires { length rows.now ≤ MAX_JOBS }
     ensures plan { IfOk result (λ planned. IsPlan rows.now planned.schedule.slots planned.certificate) }
     ensures jobs { IfOk result (λ planned. planned.schedule.jobs ≡ length rows.now) }
+    ensures timetable { IfOk result (λ planned. IsTimetabled rows.now planned.timetable planned.level_of_stretch.items planned.schedule.slots planned.certificate) }
 {
     read_rows(rows);
     let timeline = stretches(alloc, rows)?;
@@ -47,6 +49,6 @@ pub fn plan_levels(alloc: Global, rows: &[JobRow]) -> Result<Certificate, Memory
     read_rows(rows);
     let timeline = stretches(alloc, rows)?;
     let found = find(alloc, rows, &timeline)?;
-    let levels = levels_of_found(alloc, &timeline, &found)?;
+    let (levels, _) = levels_of_found(alloc, &timeline, &found)?;
     Ok(Certificate::from_levels(levels))
 }

@@ -11,7 +11,8 @@ use Rattle.yds_model.specs.Slot.{WrittenSlot, WholeSlot, IsDivided, slot_at_scal
 use Rattle.yds_model.specs.Piece.{Piece}
 use Rattle.yds_model.specs.Rounding.{RunsAtPoint}
 use Rattle.yds_slots.proofs.Parts.{of_parts_at}
-use Rattle.yds_round.specs.Written.{Course, slot_units, units_of_slots, slots_after}
+use Rattle.yds_timetable.specs.Shares.{JobShare, total_units}
+use Rattle.yds_round.specs.Written.{Course, slots_after}
 use Rattle.yds_round.proofs.Cuts.{piece_between, some_between, none_between}
 
 -- While up to so many units are done the part runs at this speed: its time and work stand as a constant more tells.
@@ -70,11 +71,11 @@ same_time speed grain den first last before after held some_speed some_grain one
 -- # The slots of a part
 
 -- the work that the part does for a job, in parts of its grain
-abbrev pub parts_for : Course → ℕ → List WrittenSlot → ℕ → ℕ
+abbrev pub parts_for : Course → ℕ → List JobShare → ℕ → ℕ
 parts_for course done [] job = 0
-parts_for course done (slot ∷ slots) job =
-    (if job == slot.job then course.work (done + slot_units course.unit slot) - course.work done else 0)
-    + parts_for course (done + slot_units course.unit slot) slots job
+parts_for course done (share ∷ shares) job =
+    (if job == share.job then course.work (done + share.units) - course.work done else 0)
+    + parts_for course (done + share.units) shares job
 
 -- where a part begins and ends
 pub record RunsTo (course : Course) (stretch : Piece) (speed scale start units : ℕ) (slots : List WrittenSlot) : Type 0 where
@@ -83,24 +84,24 @@ pub record RunsTo (course : Course) (stretch : Piece) (speed scale start units :
   pub ends : end * course.den ≡ (stretch.from * course.den + course.time units) * scale
 
 module _ (course : Course) (stretch : Piece) (speed most held scale : ℕ) (at : RunsAt course speed most held) (positive : 1 ≤ scale) where
-  pub runs_after : (planned : List WrittenSlot) (done start : ℕ) → done + units_of_slots course.unit planned ≤ most →
-      start * course.den ≡ (stretch.from * course.den + course.time done) * scale → All (IsDivided scale) (slots_after course stretch done planned) →
-      RunsTo course stretch speed scale start (done + units_of_slots course.unit planned) (slots_after course stretch done planned)
+  pub runs_after : (shares : List JobShare) (done start : ℕ) → done + total_units shares ≤ most →
+      start * course.den ≡ (stretch.from * course.den + course.time done) * scale → All (IsDivided scale) (slots_after course stretch done shares) →
+      RunsTo course stretch speed scale start (done + total_units shares) (slots_after course stretch done shares)
   runs_after [] done start within begins divided =
       let none : done ≡ done + 0 = omega arith in
       record { end = start; runs = refl; ends = begins ∙ ap (λ n. (stretch.from * course.den + course.time n) * scale) none }
-  runs_after (slot ∷ planned) done start within begins divided =
-      let next = done + slot_units course.unit slot in
-      let sum = sum_by-cons (λ (s : WrittenSlot). slot_units course.unit s) slot planned in
-      let all : next + units_of_slots course.unit planned ≡ done + units_of_slots course.unit (slot ∷ planned) = omega (arith, sum) in
-      let fits : next + units_of_slots course.unit planned ≤ most = omega (arith, all, within) in
+  runs_after (share ∷ shares) done start within begins divided =
+      let next = done + share.units in
+      let sum = sum_by-cons (λ (s : JobShare). s.units) share shares in
+      let all : next + total_units shares ≡ done + total_units (share ∷ shares) = omega (arith, sum) in
+      let fits : next + total_units shares ≤ most = omega (arith, all, within) in
       let order = at.rises done next (omega arith) in
       elim (cases_lt (course.work done) (course.work next)) [
         | inl some ↦
-            let piece = piece_between course stretch slot.job done next in
-            let is = some_between course stretch slot.job done next some in
-            let parts : All (IsDivided scale) (piece ∷ slots_after course stretch next planned) =
-            subst (λ (xs : List WrittenSlot). All (IsDivided scale) (xs ++ slots_after course stretch next planned)) is divided in
+            let piece = piece_between course stretch share.job done next in
+            let is = some_between course stretch share.job done next some in
+            let parts : All (IsDivided scale) (piece ∷ slots_after course stretch next shares) =
+            subst (λ (xs : List WrittenSlot). All (IsDivided scale) (xs ++ slots_after course stretch next shares)) is divided in
             let mine = parts 0 piece (omega arith) in
             let from = of_parts_at scale (stretch.from * course.den + course.time done) course.den mine.from in
             let to = of_parts_at scale (stretch.from * course.den + course.time next) course.den mine.to in
@@ -108,7 +109,7 @@ module _ (course : Course) (stretch : Piece) (speed most held scale : ℕ) (at :
             let one = at.pace done (omega (arith, fits)) in
             let two = at.pace next (omega (arith, fits)) in
             let whole = slot_at_scale scale piece in
-            let rest = runs_after planned next whole.to fits to (All-tail (IsDivided scale) piece (slots_after course stretch next planned) parts) in
+            let rest = runs_after shares next whole.to fits to (All-tail (IsDivided scale) piece (slots_after course stretch next shares) parts) in
             let same : whole.from ≡ start = eq_of_mul-eq-mul_right course.den at.some_den whole.from start (from ∙ sym begins) in
             rw is (record {
               end = rest.end;
@@ -123,13 +124,13 @@ module _ (course : Course) (stretch : Piece) (speed most held scale : ℕ) (at :
               ends = rest.ends ∙ ap (λ n. (stretch.from * course.den + course.time n) * scale) all;
             })
         | inr none ↦
-            let is = none_between course stretch slot.job done next none in
-            let parts : All (IsDivided scale) (slots_after course stretch next planned) =
-            subst (λ (xs : List WrittenSlot). All (IsDivided scale) (xs ++ slots_after course stretch next planned)) is divided in
+            let is = none_between course stretch share.job done next none in
+            let parts : All (IsDivided scale) (slots_after course stretch next shares) =
+            subst (λ (xs : List WrittenSlot). All (IsDivided scale) (xs ++ slots_after course stretch next shares)) is divided in
             let time : course.time done ≡ course.time next =
             same_time speed course.grain course.den (course.time done) (course.time next) (course.work done) (course.work next) held at.some_speed at.some_grain
             (at.pace done (omega (arith, fits))) (at.pace next (omega (arith, fits))) (omega (arith, none, order)) in
-            let rest = runs_after planned next start fits (begins ∙ ap (λ n. (stretch.from * course.den + n) * scale) time) parts in
+            let rest = runs_after shares next start fits (begins ∙ ap (λ n. (stretch.from * course.den + n) * scale) time) parts in
             rw is (record {
               end = rest.end;
               runs = rest.runs;
@@ -148,34 +149,34 @@ own_work job other work grain parts scale is = grind (arith, nat_tests)
 none_of : (job other parts : ℕ) → parts ≡ 0 → (if job == other then parts else 0) ≡ 0
 none_of job other parts none = grind (arith, nat_tests)
 
-pub given_after : (course : Course) (stretch : Piece) (scale : ℕ) (planned : List WrittenSlot) (done job : ℕ) →
-    ((from to : ℕ) → from ≤ to → course.work from ≤ course.work to) → All (IsDivided scale) (slots_after course stretch done planned) →
-    work_given (slots_at scale (slots_after course stretch done planned)) job * course.grain ≡ parts_for course done planned job * scale
+pub given_after : (course : Course) (stretch : Piece) (scale : ℕ) (shares : List JobShare) (done job : ℕ) →
+    ((from to : ℕ) → from ≤ to → course.work from ≤ course.work to) → All (IsDivided scale) (slots_after course stretch done shares) →
+    work_given (slots_at scale (slots_after course stretch done shares)) job * course.grain ≡ parts_for course done shares job * scale
 given_after course stretch scale [] done job rises divided = omega arith
-given_after course stretch scale (slot ∷ planned) done job rises divided =
-    let next = done + slot_units course.unit slot in
+given_after course stretch scale (share ∷ shares) done job rises divided =
+    let next = done + share.units in
     let order = rises done next (omega arith) in
     elim (cases_lt (course.work done) (course.work next)) [
       | inl some ↦
-          let piece = piece_between course stretch slot.job done next in
-          let is = some_between course stretch slot.job done next some in
-          let parts : All (IsDivided scale) (piece ∷ slots_after course stretch next planned) =
-          subst (λ (xs : List WrittenSlot). All (IsDivided scale) (xs ++ slots_after course stretch next planned)) is divided in
+          let piece = piece_between course stretch share.job done next in
+          let is = some_between course stretch share.job done next some in
+          let parts : All (IsDivided scale) (piece ∷ slots_after course stretch next shares) =
+          subst (λ (xs : List WrittenSlot). All (IsDivided scale) (xs ++ slots_after course stretch next shares)) is divided in
           let work = of_parts_at scale (course.work next - course.work done) course.grain (parts 0 piece (omega arith)).work in
           rw is (omega (
             arith,
-            ap (λ n. n * course.grain) (sum_by-cons (λ (s : WholeSlot). if job == s.job then s.work else 0) (slot_at_scale scale piece) (slots_at scale (slots_after course stretch next planned))),
-            own_work job slot.job (slot_at_scale scale piece).work course.grain (course.work next - course.work done) scale work,
-            given_after course stretch scale planned next job rises (All-tail (IsDivided scale) piece (slots_after course stretch next planned) parts),
+            ap (λ n. n * course.grain) (sum_by-cons (λ (s : WholeSlot). if job == s.job then s.work else 0) (slot_at_scale scale piece) (slots_at scale (slots_after course stretch next shares))),
+            own_work job share.job (slot_at_scale scale piece).work course.grain (course.work next - course.work done) scale work,
+            given_after course stretch scale shares next job rises (All-tail (IsDivided scale) piece (slots_after course stretch next shares) parts),
           ))
       | inr none ↦
-          let is = none_between course stretch slot.job done next none in
-          let parts : All (IsDivided scale) (slots_after course stretch next planned) =
-          subst (λ (xs : List WrittenSlot). All (IsDivided scale) (xs ++ slots_after course stretch next planned)) is divided in
+          let is = none_between course stretch share.job done next none in
+          let parts : All (IsDivided scale) (slots_after course stretch next shares) =
+          subst (λ (xs : List WrittenSlot). All (IsDivided scale) (xs ++ slots_after course stretch next shares)) is divided in
           let nothing : course.work next - course.work done ≡ 0 = omega (arith, none, order) in
           rw is (omega (
             arith,
-            ap (λ n. n * scale) (none_of job slot.job (course.work next - course.work done) nothing),
-            given_after course stretch scale planned next job rises parts,
+            ap (λ n. n * scale) (none_of job share.job (course.work next - course.work done) nothing),
+            given_after course stretch scale shares next job rises parts,
           ))
     ]

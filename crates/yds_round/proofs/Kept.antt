@@ -7,7 +7,8 @@ use Rattle.yds_model.specs.Slot.{WrittenSlot}
 use Rattle.yds_slots.specs.Schedule.{FitsGrain}
 use Rattle.yds_round.specs.Cut.{CanKeep}
 use Rattle.yds_round.specs.Written.{FitsJob}
-use Rattle.yds_round.proofs.Cuts.{WorksOver, fits_more, fits_grain}
+use Rattle.yds_timetable.proofs.Grains.{fits_own}
+use Rattle.yds_round.proofs.Cuts.{WorksOver, fits_more}
 
 -- the slot that is read, after those before it
 module _ (jobs : ℕ) (before planned : List WrittenSlot) (fits : CanKeep jobs before planned) (k : ℕ) (slot : WrittenSlot)
@@ -19,7 +20,7 @@ module _ (jobs : ℕ) (before planned : List WrittenSlot) (fits : CanKeep jobs b
   kept_fits =
       let job : FitsJob fits.grain before slot.job = subst (λ (s : WrittenSlot). FitsJob fits.grain before s.job) (sym is) (fits.grains k slot within) in
       let work : WorksOver fits.grain slot = subst (λ (s : WrittenSlot). WorksOver fits.grain s) (sym is) (fits.works k slot within) in
-      fits_grain fits.grain (before ++ take k planned) slot
+      fits_own fits.grain (before ++ take k planned) slot
       (fits_more fits.grain before (take k planned) slot.job job (All-take (WorksOver fits.grain) k planned fits.works)) work
 
   pub kept_room : length (before ++ take k planned) < MAX_SLOTS

@@ -5,7 +5,6 @@ pub mod Reaching
 pub mod Pieces
 pub mod Cuts
 pub mod Serving
-pub mod Marks
 pub mod Paces
 pub mod Kept
 pub mod Energies
@@ -13,11 +12,10 @@ pub mod Courses
 pub mod Shares
 pub mod InTurn
 pub mod SplitAt
-pub mod Decomposed
+pub mod Levels
 pub mod Held
 pub mod Rounds
 pub mod AllStretches
 pub mod RoundedEnergies
-pub mod Steps
 pub mod Faults
 pub mod RoundedPlans

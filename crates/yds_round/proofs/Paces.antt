@@ -1,5 +1,5 @@
 -- How a level runs on the points of a table.
-use Rattle.std.proofs.Common.{◌≡◌, ℕ, ◌+◌, ◌-◌, ◌*◌, ◌/◌, ◌^◌, ◌<◌, ◌≤◌, List, [], ◌∷◌, ◌++◌, length, sym, ap, ◌∙◌, subst, arith, inl, inr}
+use Rattle.std.proofs.Common.{◌≡◌, ℕ, ◌+◌, ◌-◌, ◌*◌, ◌/◌, ◌^◌, ◌<◌, ◌≤◌, List, [], ◌∷◌, sym, ap, ◌∙◌, subst, arith, inl, inr}
 use Rattle.std.specs.List.{AllZip}
 use Rattle.std.specs.Int.{◌∣◌}
 use Rattle.std.proofs.lemmas.List.Sums.{sum_by-cons}
@@ -101,12 +101,3 @@ spent_fits points (level ∷ levels) (pace ∷ paces) are = omega (
   sum_by-cons (λ (p : Pace). p.energy) pace paces,
   ap (λ n. MAX_POINT_POWER * n * hull_multiple points) (sum_by-cons (λ (l : Level). l.length) level levels),
 )
-
--- # All levels
-
-pub paces_push : (points : List Point) (levels : List Level) (paces : List Pace) (level : Level) (pace : Pace) → AllZip (IsPaceOf points) levels paces →
-    IsPaceOf points level pace → AllZip (IsPaceOf points) (levels ++ level ∷ []) (paces ++ pace ∷ [])
-paces_push points [] [] level pace are is = (is, tt)
-paces_push points [] (first ∷ paces) level pace are is = absurd are
-paces_push points (first ∷ levels) [] level pace are is = absurd are
-paces_push points (first ∷ levels) (one ∷ paces) level pace are is = (are.0, paces_push points levels paces level pace are.1 is)

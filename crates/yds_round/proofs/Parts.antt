@@ -1,25 +1,18 @@
 -- The numbers of a part: its speed and the gap over their greatest common divisor.
-use Rattle.std.proofs.Common.{◌≡◌, ℕ, ◌*◌, ◌/◌, ◌≤◌, ap, arith, inl, inr}
-use Rattle.std.proofs.lemmas.Bool.{cases_lt}
+use Rattle.std.proofs.Common.{◌≡◌, ℕ, ◌*◌, ◌/◌, ◌≤◌, ap, arith}
 use Rattle.std.proofs.Math.Nat.{mul-le-mul, mul-pos, div-mul_cancel, div-le_self}
 use Rattle.yds_model.specs.declared.limits.TheConstants.{MAX_LEVEL_LENGTH, MAX_POINT_SPEED}
 use Rattle.yds_model.specs.Divisor.{common_divisor}
 use Rattle.yds_model.proofs.Divisor.{divisor_is_greatest, divisor_positive}
+use Rattle.yds_model.proofs.Fractions.{factors}
 use Rattle.yds_round.specs.Part.{IsPart}
-
--- a number of at least 1 over a divisor of it is at least 1
-pub over_divisor : (n d : ℕ) → 1 ≤ n → n / d * d ≡ n → 1 ≤ n / d
-over_divisor n d some is = elim (cases_lt (n / d) 1) [
-  | inr least ↦ least
-  | inl none ↦ absurd (omega (arith, is, some, ap (λ m. m * d) (let zero_parts : n / d ≡ 0 = omega (arith, none) in zero_parts)))
-]
 
 -- the numbers over the definition's divisor
 part_by : (unit gap speed d : ℕ) → 1 ≤ unit → unit ≤ MAX_LEVEL_LENGTH → 1 ≤ gap → gap ≤ MAX_POINT_SPEED → 1 ≤ speed → speed ≤ MAX_POINT_SPEED →
     d ≡ common_divisor speed gap → gap / d * d ≡ gap → speed / d * d ≡ speed →
     IsPart unit gap speed (record { den = unit * (speed / d * gap); step = gap / d; switch = speed / d })
 part_by unit gap speed d some_unit unit_fits some_gap gap_fits some_speed speed_fits is of_gap of_speed =
-    let some_switch : 1 ≤ speed / d = over_divisor speed d some_speed of_speed in
+    let some_switch : 1 ≤ speed / d = (factors (speed / d) d speed of_speed some_speed).0 in
     let switch_fits : speed / d ≤ MAX_POINT_SPEED = omega (arith, div-le_self speed d) in
     record {
       is_den = ap (λ n. unit * (speed / n * gap)) is;

@@ -1,13 +1,15 @@
 -- What is written for each stretch rounds what the plan has there, and can be put after what is written before.
-use Rattle.std.proofs.Common.{◌≡◌, ℕ, zero, suc, ◌+◌, ◌-◌, ◌*◌, ◌<◌, ◌≤◌, ◌⊎◌, max, List, [], ◌∷◌, ◌++◌, length, refl, sym, ap, ◌∙◌, subst, arith, inl, inr}
-use Rattle.std.specs.Prelude.{slice_index, Option, Some, None}
-use Rattle.std.specs.List.{All, AllZip, Contains, flat_map}
+use Rattle.std.proofs.Common.{◌≡◌, ℕ, zero, suc, ◌+◌, ◌-◌, ◌*◌, ◌<◌, ◌≤◌, max, List, ◌++◌, length, refl, sym, ap, ◌∙◌, subst, arith, inl, inr}
+use Rattle.std.specs.Prelude.{Option, Some, None}
+use Rattle.std.specs.List.{All, Contains}
 use Rattle.std.proofs.lemmas.List.{length-append}
-use Rattle.std.proofs.lemmas.List.Elements.{All-nil, All-tail, All-append}
-use Rattle.yds_model.specs.Scale.{Fraction, of_parts}
-use Rattle.yds_model.specs.Slot.{WrittenSlot, IsSolid, no_written_slot, written_slot_at}
+use Rattle.std.proofs.lemmas.List.Elements.{All-nil, All-append}
+use Rattle.std.proofs.Math.Nat.{mul-pos}
+use Rattle.yds_model.specs.declared.limits.TheConstants.{MAX_SLOTS, MAX_SLOT_WORK}
+use Rattle.yds_model.specs.Scale.{of_parts}
+use Rattle.yds_model.specs.Slot.{WrittenSlot, IsSolid}
 use Rattle.yds_model.specs.Piece.{Piece}
-use Rattle.yds_model.specs.Level.{Level, level_at}
+use Rattle.yds_model.specs.Level.{Level}
 use Rattle.yds_model.specs.Divisor.{common_multiple}
 use Rattle.yds_model.specs.Table.{Point, hull_of}
 use Rattle.yds_model.specs.Plan.{IsOver, speed_num, speed_den}
@@ -15,30 +17,21 @@ use Rattle.yds_model.specs.Rounding.{HasSplitDenominators, SplitsStretch, Rounds
 use Rattle.yds_model.proofs.Fractions.{parts_den}
 use Rattle.yds_events.specs.Stretch.{length_of}
 use Rattle.yds_laws.proofs.Bound.{scale_left, scale_right}
-use Rattle.yds_slots.proofs.Grains.{grain_found, IsGrainOf}
-use Rattle.yds_model.specs.Audit.{grain_of}
-use Rattle.std.proofs.Math.Nat.{mul-pos}
 use Rattle.yds_slots.proofs.Parts.{of_parts_over}
+use Rattle.yds_timetable.specs.Shares.{JobShare, total_units}
+use Rattle.yds_timetable.specs.Pace.{slots_from, Fills}
+use Rattle.yds_timetable.proofs.Filling.{length_from}
+use Rattle.yds_timetable.proofs.Rows.{row_solid, row_over}
+use Rattle.yds_plan.specs.Timetabled.{pace_of_level}
 use Rattle.yds_round.specs.declared.split.Split.{Split}
-use Rattle.yds_round.specs.declared.pace.Pace.{Pace}
 use Rattle.yds_round.specs.Split.{IsSplitOf}
-use Rattle.yds_round.specs.Pace.{RunsAtTwo, RunsAs, IsPaceOf, pace_at}
-use Rattle.yds_round.specs.Written.{Course, units_of_slots, all_units, fast_course, slow_course, slots_after, cut_slots, written_at, FitsJob}
-use Rattle.yds_round.specs.Rounded.{planned_in, written_here, written_in}
-use Rattle.yds_round.proofs.Cuts.{WorksOver, piece_between, all_after, few_cut, cut_over}
-use Rattle.yds_round.proofs.InTurn.{AreApartByJob, DoesWork, jobs_after, count_after, count_once, one_more}
+use Rattle.yds_round.specs.Pace.{RunsAtTwo, RunsAs}
+use Rattle.yds_round.specs.Written.{Course, all_units, fast_course, slow_course, slots_after, cut_slots, written_at, FitsJob}
+use Rattle.yds_round.specs.Cut.{CanRound}
+use Rattle.yds_round.proofs.Cuts.{WorksOver, piece_between, all_after, cut_over}
+use Rattle.yds_round.proofs.InTurn.{share_jobs, jobs_back, jobs_planned, jobs_after, count_after, count_once, one_more}
 use Rattle.yds_round.proofs.SplitAt.{split_at, no_slow}
-
--- # The paces
-
--- each level has its pace
-pub zip_at : (points : List Point) (levels : List Level) (paces : List Pace) (i : ℕ) → AllZip (IsPaceOf points) levels paces → i < length levels →
-    IsPaceOf points (level_at levels i) (pace_at paces i) × (i < length paces)
-zip_at points [] paces i are within = absurd (omega (arith, within))
-zip_at points (level ∷ levels) [] i are within = absurd are
-zip_at points (level ∷ levels) (pace ∷ paces) zero are within = (are.0, omega arith)
-zip_at points (level ∷ levels) (pace ∷ paces) (suc i) are within =
-    let rest = zip_at points levels paces i are.1 (omega (arith, within)) in (rest.0, omega (arith, rest.1))
+use Rattle.yds_round.proofs.Held.{IsHeld, units_held}
 
 -- # A split as it is written
 
@@ -46,16 +39,16 @@ zip_at points (level ∷ levels) (pace ∷ paces) (suc i) are within =
 solid_parts : (parts den : ℕ) → 1 ≤ den → 1 ≤ (of_parts parts den).den
 solid_parts parts den some = elim (parts_den parts den) [ inl plain ↦ omega (arith, plain) | inr is ↦ omega (arith, is, some) ]
 
-solid_after : (course : Course) (stretch : Piece) (planned : List WrittenSlot) → 1 ≤ course.den → 1 ≤ course.grain → All IsSolid (slots_after course stretch 0 planned)
-solid_after course stretch planned some_den some_grain = all_after IsSolid course stretch 0 planned (λ job from to some. record {
+solid_after : (course : Course) (stretch : Piece) (shares : List JobShare) → 1 ≤ course.den → 1 ≤ course.grain → All IsSolid (slots_after course stretch 0 shares)
+solid_after course stretch shares some_den some_grain = all_after IsSolid course stretch 0 shares (λ job from to some. record {
   from = solid_parts (stretch.from * course.den + course.time from) course.den some_den;
   to = solid_parts (stretch.from * course.den + course.time to) course.den some_den;
   work = solid_parts (course.work to - course.work from) course.grain some_grain;
 })
 
-dens_after : (level : Level) (gap speed : ℕ) (course : Course) (stretch : Piece) (planned : List WrittenSlot) → course.den ≡ speed_den level * common_multiple speed gap →
-    course.grain ≡ speed_den level * gap → All (HasSplitDenominators level gap speed) (slots_after course stretch 0 planned)
-dens_after level gap speed course stretch planned den grain = all_after (HasSplitDenominators level gap speed) course stretch 0 planned (λ job from to some. record {
+dens_after : (level : Level) (gap speed : ℕ) (course : Course) (stretch : Piece) (shares : List JobShare) → course.den ≡ speed_den level * common_multiple speed gap →
+    course.grain ≡ speed_den level * gap → All (HasSplitDenominators level gap speed) (slots_after course stretch 0 shares)
+dens_after level gap speed course stretch shares den grain = all_after (HasSplitDenominators level gap speed) course stretch 0 shares (λ job from to some. record {
   from = subst (λ (n : ℕ). IsOver n (piece_between course stretch job from to).from) den (of_parts_over (stretch.from * course.den + course.time from) course.den);
   to = subst (λ (n : ℕ). IsOver n (piece_between course stretch job from to).to) den (of_parts_over (stretch.from * course.den + course.time to) course.den);
   work = subst (λ (n : ℕ). IsOver n (piece_between course stretch job from to).work) grain (of_parts_over (course.work to - course.work from) course.grain);
@@ -69,152 +62,154 @@ all_of_level level low high split stretch is =
     ap (λ n. split.surplus + n * split.den) is.is_low ∙ ap (λ n. split.surplus + low.speed * n) is.is_den ∙ is.is_surplus in
     ap (λ n. n * length_of stretch) over
 
--- what the plan has in a stretch, as the code meets it
-pub full_of : (level : Level) (low high : Point) (split : Split) (stretch : Piece) (here : List WrittenSlot) → IsSplitOf level low high split →
-    units_of_slots (speed_den level) here ≡ speed_num level * length_of stretch → units_of_slots split.den here ≡ all_units split stretch
-full_of level low high split stretch here is units =
-    ap (λ n. units_of_slots n here) is.is_den ∙ units ∙ sym (all_of_level level low high split stretch is)
+-- what a stretch serves, as the code meets it
+pub full_of : (level : Level) (low high : Point) (split : Split) (stretch : Piece) (shares : List JobShare) → IsSplitOf level low high split →
+    Fills (pace_of_level level) stretch shares → total_units shares ≡ all_units split stretch
+full_of level low high split stretch shares is fills = units_held level stretch shares fills ∙ sym (all_of_level level low high split stretch is)
 
-splits : (points : List Point) (level : Level) (parts : ℕ) (split : Split) (stretch : Piece) (here : List WrittenSlot) → RunsAtTwo points level parts split → 1 ≤ level.length →
-    stretch.from < stretch.to → units_of_slots (speed_den level) here ≡ speed_num level * length_of stretch → AreApartByJob here → All (DoesWork (speed_den level)) here →
-    All (WorksOver (speed_den level)) here → All IsSolid here → SplitsStretch (hull_of points) level stretch here (cut_slots split stretch here)
-splits points level parts split stretch here at some_length forward units apart does over solid =
-    let is = at.numbers in
-    let kept = is.kept in
-    let fast = slots_after (fast_course split stretch) stretch 0 here in
-    let slow = slots_after (slow_course split stretch) stretch 0 here in
-    let full = full_of level at.low at.high split stretch here is units in
-    let gap : split.gap ≡ at.high.speed - at.low.speed = omega (arith, kept.is_gap, is.is_low, is.is_high) in
-    let grain : split.den * split.gap ≡ speed_den level * (at.high.speed - at.low.speed) = ap (λ n. n * split.gap) is.is_den ∙ ap (λ n. speed_den level * n) gap in
-    record {
-      low = at.low;
-      high = at.high;
-      around = at.around;
-      fast = fast;
-      slow = slow;
-      parts = refl;
-      split = record {
-        solid = All-append IsSolid (here ++ fast) slow
-            (All-append IsSolid here fast solid (solid_after (fast_course split stretch) stretch here kept.fast.some (mul-pos kept.some_den kept.some_gap)))
-            (solid_after (slow_course split stretch) stretch here kept.slow.some (mul-pos kept.some_den kept.some_gap));
-        holds = λ scale divided.
-            let front = scale_left scale (here ++ fast) slow divided in
-            split_at level at.low at.high split stretch here scale is some_length forward divided.positive full apart
-            (subst (λ (n : ℕ). All (DoesWork n) here) (sym is.is_den) does) (subst (λ (n : ℕ). All (WorksOver n) here) (sym is.is_den) over)
-            (scale_left scale here fast front).divided (scale_right scale here fast front).divided (scale_right scale (here ++ fast) slow divided).divided;
-      };
-      fast_once = λ number. omega (arith, count_after (fast_course split stretch) stretch 0 here number, count_once here apart number);
-      slow_once = λ number. omega (arith, count_after (slow_course split stretch) stretch 0 here number, count_once here apart number);
-      fast_denominators = dens_after level (at.high.speed - at.low.speed) at.high.speed (fast_course split stretch) stretch here
-          (kept.fast.is_den ∙ ap (λ n. n * common_multiple split.high split.gap) is.is_den ∙ ap (λ n. speed_den level * common_multiple n split.gap) is.is_high
-          ∙ ap (λ n. speed_den level * common_multiple at.high.speed n) gap) grain;
-      slow_denominators = slow_dens split.low refl;
-    }
-  where
-    -- by whether the slower point is the idle one
-    slow_dens : (low : ℕ) → low ≡ split.low → All (HasSplitDenominators level (at.high.speed - at.low.speed) at.low.speed) (slots_after (slow_course split stretch) stretch 0 here)
-    slow_dens zero idle =
-        let full = full_of level at.low at.high split stretch here at.numbers units in
-        subst (λ (xs : List WrittenSlot). All (HasSplitDenominators level (at.high.speed - at.low.speed) at.low.speed) xs)
-        (sym (no_slow split stretch at.numbers.kept (sym idle) here full)) (All-nil (HasSplitDenominators level (at.high.speed - at.low.speed) at.low.speed))
-    slow_dens (suc low) runs =
-        let is = at.numbers in
-        let kept = is.kept in
-        let plain : max split.low 1 ≡ split.low = omega (arith, runs) in
-        let gap : split.gap ≡ at.high.speed - at.low.speed = omega (arith, kept.is_gap, is.is_low, is.is_high) in
-        let grain : split.den * split.gap ≡ speed_den level * (at.high.speed - at.low.speed) = ap (λ n. n * split.gap) is.is_den ∙ ap (λ n. speed_den level * n) gap in
-        dens_after level (at.high.speed - at.low.speed) at.low.speed (slow_course split stretch) stretch here
-        (kept.slow.is_den ∙ ap (λ n. n * common_multiple (max split.low 1) split.gap) is.is_den ∙ ap (λ n. speed_den level * common_multiple n split.gap) (plain ∙ is.is_low)
-        ∙ ap (λ n. speed_den level * common_multiple at.low.speed n) gap) grain
+module _ (points : List Point) (levels : List Level) (level : Level) (parts : ℕ) (split : Split) (stretch : Piece) (shares : List JobShare)
+    (at : RunsAtTwo points level parts split) (held : IsHeld levels level stretch shares) where
+  abbrev here : List WrittenSlot
+  here = slots_from (pace_of_level level) stretch.from 0 shares
+
+  abbrev fast : List WrittenSlot
+  fast = slots_after (fast_course split stretch) stretch 0 shares
+
+  abbrev slow : List WrittenSlot
+  slow = slots_after (slow_course split stretch) stretch 0 shares
+
+  full : total_units shares ≡ all_units split stretch
+  full = full_of level at.low at.high split stretch shares at.numbers held.fills
+
+  gap : split.gap ≡ at.high.speed - at.low.speed
+  gap = omega (arith, at.numbers.kept.is_gap, at.numbers.is_low, at.numbers.is_high)
+
+  grain : split.den * split.gap ≡ speed_den level * (at.high.speed - at.low.speed)
+  grain = ap (λ n. n * split.gap) at.numbers.is_den ∙ ap (λ n. speed_den level * n) gap
+
+  some_grain : 1 ≤ split.den * split.gap
+  some_grain = mul-pos at.numbers.kept.some_den at.numbers.kept.some_gap
+
+  -- by whether the slower point is the idle one
+  slow_dens : (low : ℕ) → low ≡ split.low → All (HasSplitDenominators level (at.high.speed - at.low.speed) at.low.speed) slow
+  slow_dens zero idle =
+      subst (λ (xs : List WrittenSlot). All (HasSplitDenominators level (at.high.speed - at.low.speed) at.low.speed) xs)
+      (sym (no_slow split stretch at.numbers.kept (sym idle) shares full)) (All-nil (HasSplitDenominators level (at.high.speed - at.low.speed) at.low.speed))
+  slow_dens (suc low) runs =
+      let kept = at.numbers.kept in
+      let plain : max split.low 1 ≡ split.low = omega (arith, runs) in
+      dens_after level (at.high.speed - at.low.speed) at.low.speed (slow_course split stretch) stretch shares
+      (kept.slow.is_den ∙ ap (λ n. n * common_multiple (max split.low 1) split.gap) at.numbers.is_den
+      ∙ ap (λ n. speed_den level * common_multiple n split.gap) (plain ∙ at.numbers.is_low) ∙ ap (λ n. speed_den level * common_multiple at.low.speed n) gap) grain
+
+  splits : SplitsStretch (hull_of points) level stretch here (cut_slots split stretch shares)
+  splits =
+      let is = at.numbers in
+      let kept = is.kept in
+      let solid : All IsSolid here = row_solid (record { stretch = stretch; pace = Some (pace_of_level level); shares = shares }) held.fills in
+      record {
+        low = at.low;
+        high = at.high;
+        around = at.around;
+        fast = fast;
+        slow = slow;
+        parts = refl;
+        split = record {
+          solid = All-append IsSolid (here ++ fast) slow
+              (All-append IsSolid here fast solid (solid_after (fast_course split stretch) stretch shares kept.fast.some some_grain))
+              (solid_after (slow_course split stretch) stretch shares kept.slow.some some_grain);
+          holds = λ scale divided.
+              let front = scale_left scale (here ++ fast) slow divided in
+              split_at level at.low at.high split stretch shares scale is held.some_length held.fills.own.is_stretch.has_length divided.positive full held.apart
+              held.fills.some (scale_left scale here fast front).divided (scale_right scale here fast front).divided
+              (scale_right scale (here ++ fast) slow divided).divided;
+        };
+        fast_once = λ number. omega (arith, count_after (fast_course split stretch) stretch 0 shares number, count_once (share_jobs shares) held.apart number);
+        slow_once = λ number. omega (arith, count_after (slow_course split stretch) stretch 0 shares number, count_once (share_jobs shares) held.apart number);
+        fast_denominators = dens_after level (at.high.speed - at.low.speed) at.high.speed (fast_course split stretch) stretch shares
+            (kept.fast.is_den ∙ ap (λ n. n * common_multiple split.high split.gap) is.is_den ∙ ap (λ n. speed_den level * common_multiple n split.gap) is.is_high
+            ∙ ap (λ n. speed_den level * common_multiple at.high.speed n) gap) grain;
+        slow_denominators = slow_dens split.low refl;
+      }
 
 -- # One stretch
 
-pub rounds_by : (points : List Point) (levels : List Level) (level : Level) (parts : ℕ) (split : Option Split) (stretch : Piece) (here : List WrittenSlot) → RunsAs points level parts split →
-    Contains levels level → All (λ slot. Contains level.members slot.job) here → 1 ≤ level.length → stretch.from < stretch.to →
-    units_of_slots (speed_den level) here ≡ speed_num level * length_of stretch → AreApartByJob here → All (DoesWork (speed_den level)) here →
-    All (WorksOver (speed_den level)) here → All IsSolid here → RoundsStretch (hull_of points) levels stretch here (written_at stretch here split)
-rounds_by points levels level parts None stretch here at has members some_length forward units apart does over solid =
-    inr (level, has, members, inl (record { at_point = (at.in_hull.0, at.point, at.in_hull.1, at.in_hull.2, at.has_speed); kept = refl }))
-rounds_by points levels level parts (Some split) stretch here at has members some_length forward units apart does over solid =
-    inr (level, has, members, inr (splits points level parts split stretch here at some_length forward units apart does over solid))
+-- the slots of a stretch at its level's speed
+abbrev pub level_slots : Level → Piece → List JobShare → List WrittenSlot
+level_slots level stretch shares = slots_from (pace_of_level level) stretch.from 0 shares
 
--- at the pace of the level's number
-pub here_written : (numbers : List ℕ) (paces : List Pace) (stretch : Piece) (here : List WrittenSlot) (place : ℕ) → 1 ≤ length here →
-    All (λ slot. slice_index numbers slot.job ≡ place) here → written_here numbers paces stretch here ≡ written_at stretch here (pace_at paces place).split
-here_written numbers paces stretch [] place some are = absurd (omega (arith, some))
-here_written numbers paces stretch (first ∷ slots) place some are = ap (λ n. written_at stretch (first ∷ slots) (pace_at paces n).split) (are 0 first (omega arith))
+pub rounds_by : (points : List Point) (levels : List Level) (level : Level) (parts : ℕ) (split : Option Split) (stretch : Piece) (shares : List JobShare) →
+    RunsAs points level parts split → IsHeld levels level stretch shares →
+    RoundsStretch (hull_of points) levels stretch (level_slots level stretch shares) (written_at stretch shares (level_slots level stretch shares) split)
+rounds_by points levels level parts None stretch shares at held =
+    inr (
+      level,
+      held.has,
+      jobs_planned (λ job. Contains level.members job) (pace_of_level level) stretch.from 0 shares held.members,
+      inl (record { at_point = (at.in_hull.0, at.point, at.in_hull.1, at.in_hull.2, at.has_speed); kept = refl }),
+    )
+rounds_by points levels level parts (Some split) stretch shares at held =
+    inr (
+      level,
+      held.has,
+      jobs_planned (λ job. Contains level.members job) (pace_of_level level) stretch.from 0 shares held.members,
+      inr (splits points levels level parts split stretch shares at held),
+    )
 
 -- the denominator of a level's works
 abbrev pub pace_grain : Level → Option Split → ℕ
 pace_grain level None = speed_den level
 pace_grain level (Some split) = split.den * split.gap
 
-pub over_by : (level : Level) (split : Option Split) (stretch : Piece) (here : List WrittenSlot) → All (WorksOver (speed_den level)) here →
-    All (WorksOver (pace_grain level split)) (written_at stretch here split)
-over_by level None stretch here over = over
-over_by level (Some split) stretch here over = cut_over split stretch here
+-- the plan's works are over that of the speed
+pub over_planned : (levels : List Level) (level : Level) (stretch : Piece) (shares : List JobShare) → IsHeld levels level stretch shares →
+    All (WorksOver (speed_den level)) (level_slots level stretch shares)
+over_planned levels level stretch shares held =
+    row_over (speed_den level) (record { stretch = stretch; pace = Some (pace_of_level level); shares = shares }) held.fills refl
+
+pub over_by : (levels : List Level) (level : Level) (split : Option Split) (stretch : Piece) (shares : List JobShare) → IsHeld levels level stretch shares →
+    All (WorksOver (pace_grain level split)) (written_at stretch shares (level_slots level stretch shares) split)
+over_by levels level None stretch shares held = over_planned levels level stretch shares held
+over_by levels level (Some split) stretch shares held = cut_over split stretch shares
 
 -- of jobs of the plan alone
-pub jobs_by : (P : ℕ → Type 0) (split : Option Split) (stretch : Piece) (here : List WrittenSlot) → All (λ slot. P slot.job) here → All (λ slot. P slot.job) (written_at stretch here split)
-jobs_by P None stretch here each = each
-jobs_by P (Some split) stretch here each =
-    All-append (λ slot. P slot.job) (slots_after (fast_course split stretch) stretch 0 here) (slots_after (slow_course split stretch) stretch 0 here)
-    (jobs_after P (fast_course split stretch) stretch 0 here each) (jobs_after P (slow_course split stretch) stretch 0 here each)
+pub jobs_by : (P : ℕ → Type 0) (level : Level) (split : Option Split) (stretch : Piece) (shares : List JobShare) → All P (share_jobs shares) →
+    All (λ slot. P slot.job) (written_at stretch shares (level_slots level stretch shares) split)
+jobs_by P level None stretch shares each = jobs_planned P (pace_of_level level) stretch.from 0 shares each
+jobs_by P level (Some split) stretch shares each =
+    All-append (λ slot. P slot.job) (slots_after (fast_course split stretch) stretch 0 shares) (slots_after (slow_course split stretch) stretch 0 shares)
+    (jobs_after P (fast_course split stretch) stretch 0 shares each) (jobs_after P (slow_course split stretch) stretch 0 shares each)
 
--- at most twice as many slots as the plan has, and one more
-twice_by : (split : Option Split) (stretch : Piece) (here : List WrittenSlot) → length (written_at stretch here split) ≤ 2 * length here
-twice_by None stretch here = omega arith
-twice_by (Some split) stretch here = few_cut split stretch here
-
-pub more_by : (points : List Point) (level : Level) (parts : ℕ) (split : Option Split) (stretch : Piece) (here : List WrittenSlot) → RunsAs points level parts split →
-    length (written_at stretch here split) ≤ length here + 1
-more_by points level parts None stretch here at = omega arith
-more_by points level parts (Some split) stretch here at = omega (
+-- at most one slot more than the plan has
+pub more_by : (points : List Point) (level : Level) (parts : ℕ) (split : Option Split) (stretch : Piece) (shares : List JobShare) → RunsAs points level parts split →
+    length (written_at stretch shares (level_slots level stretch shares) split) ≤ length (level_slots level stretch shares) + 1
+more_by points level parts None stretch shares at = omega arith
+more_by points level parts (Some split) stretch shares at = omega (
   arith,
-  one_more split stretch at.numbers.kept.some_gap 0 here,
-  length-append (slots_after (fast_course split stretch) stretch 0 here) (slots_after (slow_course split stretch) stretch 0 here),
+  one_more split stretch at.numbers.kept.some_gap 0 shares,
+  length_from (pace_of_level level) stretch.from 0 shares,
+  length-append (slots_after (fast_course split stretch) stretch 0 shares) (slots_after (slow_course split stretch) stretch 0 shares),
 )
 
-twice_here : (numbers : List ℕ) (paces : List Pace) (stretch : Piece) (here : List WrittenSlot) → length (written_here numbers paces stretch here) ≤ 2 * length here
-twice_here numbers paces stretch [] = omega arith
-twice_here numbers paces stretch (first ∷ slots) = twice_by (pace_at paces (slice_index numbers first.job)).split stretch (first ∷ slots)
-
--- over some stretches
-pub twice_all : (numbers : List ℕ) (paces : List Pace) (planned : List WrittenSlot) (pieces : List Piece) →
-    length (flat_map (written_in numbers paces planned) pieces) ≤ 2 * length (flat_map (planned_in planned) pieces)
-twice_all numbers paces planned [] = omega arith
-twice_all numbers paces planned (piece ∷ pieces) = omega (
-  arith,
-  twice_here numbers paces piece (planned_in planned piece),
-  twice_all numbers paces planned pieces,
-  length-append (written_in numbers paces planned piece) (flat_map (written_in numbers paces planned) pieces),
-  length-append (planned_in planned piece) (flat_map (planned_in planned) pieces),
+-- the slots can be put after others
+pub can_round_by : (points : List Point) (levels : List Level) (level : Level) (parts : ℕ) (split : Option Split) (stretch : Piece) (jobs : ℕ) (before : List WrittenSlot)
+    (shares : List JobShare) → RunsAs points level parts split → IsHeld levels level stretch shares → All (λ job. job < jobs) (share_jobs shares) →
+    All (λ job. FitsJob (pace_grain level split) before job) (share_jobs shares) → length before + 2 * length shares ≤ MAX_SLOTS →
+    CanRound split stretch jobs before shares (level_slots level stretch shares)
+can_round_by points levels level parts None stretch jobs before shares at held known fits room = record {
+  grain = speed_den level;
+  works = over_planned levels level stretch shares held;
+  known = jobs_planned (λ job. job < jobs) (pace_of_level level) stretch.from 0 shares known;
+  grains = jobs_planned (λ job. FitsJob (speed_den level) before job) (pace_of_level level) stretch.from 0 shares fits;
+  room = omega (arith, room, length_from (pace_of_level level) stretch.from 0 shares);
+}
+can_round_by points levels level parts (Some split) stretch jobs before shares at held known fits room = (
+  at.numbers.kept,
+  record {
+    full = full_of level at.low at.high split stretch shares at.numbers held.fills;
+    works = subst (λ (n : ℕ). All (λ (share : JobShare). share.units ≤ n * MAX_SLOT_WORK) shares) (sym at.numbers.is_den) held.fills.works;
+    known = jobs_back (λ job. job < jobs) shares known;
+    grains = jobs_back (λ job. FitsJob (split.den * split.gap) before job) shares fits;
+    room = room;
+  },
 )
-
-pub more_all : (numbers : List ℕ) (paces : List Pace) (planned : List WrittenSlot) (pieces : List Piece) →
-    All (λ piece. length (written_in numbers paces planned piece) ≤ length (planned_in planned piece) + 1) pieces →
-    length (flat_map (written_in numbers paces planned) pieces) ≤ length (flat_map (planned_in planned) pieces) + length pieces
-more_all numbers paces planned [] each = omega arith
-more_all numbers paces planned (piece ∷ pieces) each = omega (
-  arith,
-  each 0 piece (omega arith),
-  more_all numbers paces planned pieces (All-tail (λ p. length (written_in numbers paces planned p) ≤ length (planned_in planned p) + 1) piece pieces each),
-  length-append (written_in numbers paces planned piece) (flat_map (written_in numbers paces planned) pieces),
-  length-append (planned_in planned piece) (flat_map (planned_in planned) pieces),
-)
-
--- works over their jobs' denominators fit them
-pub fits_by : (grain_for : ℕ → ℕ) (slots : List WrittenSlot) → All (λ slot. WorksOver (grain_for slot.job) slot) slots → (job : ℕ) → FitsJob (grain_for job) slots job
-fits_by grain_for slots over job = by (grain_found slots job) where
-  -- the denominator of one of the job's works
-  den_of : (grain : ℕ) (x : Fraction) → IsOver grain x → (x.den ≡ 1) ⊎ (x.den ≡ grain)
-  den_of grain x (inl plain) = inl (ap (λ (y : Fraction). y.den) plain)
-  den_of grain x (inr is) = inr is
-
-  -- by what was found
-  by : (grain_of slots job ≡ 1) ⊎ ((k : ℕ) × (k < length slots) × IsGrainOf job (grain_of slots job) (written_slot_at slots k)) → FitsJob (grain_for job) slots job
-  by (inl plain) = inl plain
-  by (inr (k, within, found)) = elim (den_of (grain_for (written_slot_at slots k).job) (written_slot_at slots k).work (over k no_written_slot within)) [
-    | inl plain ↦ inl (found.1 ∙ plain)
-    | inr is ↦ inr (found.1 ∙ is ∙ ap grain_for found.0)
-  ]

@@ -1,46 +1,36 @@
 -- What a stretch that is cut gives each job: as much as the plan.
-use Rattle.std.proofs.Common.{◌≡◌, ℕ, ◌+◌, ◌-◌, ◌*◌, ◌/◌, ◌≤◌, ◌==◌, min, max, List, [], ◌∷◌, ap, arith, inl, inr}
-use Rattle.std.specs.Prelude.{if◌then◌else◌, sum_by}
+use Rattle.std.proofs.Common.{◌≡◌, ℕ, ◌+◌, ◌-◌, ◌*◌, ◌≤◌, ◌==◌, ◌∙◌, min, max, List, [], ◌∷◌, ap, sym, arith}
+use Rattle.std.specs.Prelude.{if◌then◌else◌}
 use Rattle.std.specs.List.{All}
-use Rattle.std.specs.Int.{◌∣◌}
 use Rattle.std.proofs.lemmas.Bool.Decides.{nat_tests}
 use Rattle.std.proofs.lemmas.List.Sums.{sum_by-cons}
 use Rattle.std.proofs.lemmas.List.Elements.{All-tail}
 use Rattle.std.proofs.Math.Nat.{eq_of_mul-eq-mul_right, mul-pos, mul-le-mul_right}
-use Rattle.yds_model.specs.Scale.{Fraction, at_scale}
-use Rattle.yds_model.specs.Slot.{WrittenSlot, WholeSlot, IsDivided, slot_at_scale, slots_at, work_given}
+use Rattle.yds_model.specs.Slot.{WholeSlot, IsDivided, slot_at_scale, slots_at, work_given}
 use Rattle.yds_model.specs.Piece.{Piece}
-use Rattle.yds_model.specs.Plan.{IsOver}
-use Rattle.yds_model.proofs.Fractions.{value-den}
+use Rattle.yds_slots.proofs.Parts.{of_parts_at}
+use Rattle.yds_timetable.specs.declared.pace.Pace.{Pace}
+use Rattle.yds_timetable.specs.Shares.{JobShare, units_given}
+use Rattle.yds_timetable.specs.Pace.{slot_of, slots_from}
 use Rattle.yds_round.specs.declared.split.Split.{Split}
-use Rattle.yds_round.specs.Written.{slot_units, turn, fast_course, slow_course, slots_after}
-use Rattle.yds_round.proofs.Cuts.{WorksOver}
+use Rattle.yds_round.specs.Written.{turn, fast_course, slow_course, slots_after}
 use Rattle.yds_round.proofs.Courses.{own_work, parts_for, given_after}
 
--- the units that slots give a job
-abbrev pub units_for : ℕ → List WrittenSlot → ℕ → ℕ
-units_for unit slots job = sum_by (λ slot. if job == slot.job then slot_units unit slot else 0) slots
-
--- a work over a denominator, at a scale
-pub work_at : (unit scale : ℕ) (x : Fraction) → IsOver unit x → x.den ∣ scale → at_scale scale x * unit ≡ (x.whole * unit + x.num) * scale
-work_at unit scale x (inl plain) divides =
-    let none : x.num ≡ 0 = ap (λ (y : Fraction). y.num) plain in
-    omega (arith, ap (λ n. n * (scale / x.den) * unit) none, ap (λ n. n * scale) none)
-work_at unit scale x (inr parts) divides =
-    omega (arith, value-den scale x divides, ap (λ n. at_scale scale x * n) parts, ap (λ n. x.whole * n * scale) parts)
-
 -- the work that a plan's slots give a job
-pub given_planned : (unit scale : ℕ) (planned : List WrittenSlot) (job : ℕ) → All (WorksOver unit) planned → All (IsDivided scale) planned →
-    work_given (slots_at scale planned) job * unit ≡ units_for unit planned job * scale
-given_planned unit scale [] job over divided = omega arith
-given_planned unit scale (slot ∷ planned) job over divided = omega (
-  arith,
-  ap (λ n. n * unit) (sum_by-cons (λ (s : WholeSlot). if job == s.job then s.work else 0) (slot_at_scale scale slot) (slots_at scale planned)),
-  ap (λ n. n * scale) (sum_by-cons (λ (s : WrittenSlot). if job == s.job then slot_units unit s else 0) slot planned),
-  own_work job slot.job (at_scale scale slot.work) unit (slot_units unit slot) scale
-      (work_at unit scale slot.work (over 0 slot (omega arith)) (divided 0 slot (omega arith)).work),
-  given_planned unit scale planned job (All-tail (WorksOver unit) slot planned over) (All-tail (IsDivided scale) slot planned divided),
-)
+pub given_planned : (pace : Pace) (start done scale : ℕ) (shares : List JobShare) (job : ℕ) → All (IsDivided scale) (slots_from pace start done shares) →
+    work_given (slots_at scale (slots_from pace start done shares)) job * pace.grain ≡ units_given shares job * scale
+given_planned pace start done scale [] job divided = omega arith
+given_planned pace start done scale (share ∷ shares) job divided =
+    let slot = slot_of pace start done share in
+    let rest = slots_from pace start (done + share.units) shares in
+    omega (
+      arith,
+      ap (λ n. n * pace.grain) (sum_by-cons (λ (s : WholeSlot). if job == s.job then s.work else 0) (slot_at_scale scale slot) (slots_at scale rest)),
+      ap (λ n. n * scale) (sum_by-cons (λ (s : JobShare). if job == s.job then s.units else 0) share shares),
+      own_work job share.job (slot_at_scale scale slot).work pace.grain share.units scale
+          (of_parts_at scale share.units pace.grain (divided 0 slot (omega arith)).work),
+      given_planned pace start (done + share.units) scale shares job (All-tail (IsDivided scale) slot rest divided),
+    )
 
 -- what is done at the faster point and at the slower is all
 both_work : (done units gap turn : ℕ) →
@@ -55,14 +45,14 @@ both_own : (job other fast slow units gap : ℕ) → fast + slow ≡ units * gap
     (if job == other then fast else 0) + (if job == other then slow else 0) ≡ (if job == other then units else 0) * gap
 both_own job other fast slow units gap sum = grind (arith, nat_tests)
 
-pub both_parts : (split : Split) (stretch : Piece) (planned : List WrittenSlot) (done job : ℕ) →
-    parts_for (fast_course split stretch) done planned job + parts_for (slow_course split stretch) done planned job ≡ units_for split.den planned job * split.gap
+pub both_parts : (split : Split) (stretch : Piece) (shares : List JobShare) (done job : ℕ) →
+    parts_for (fast_course split stretch) done shares job + parts_for (slow_course split stretch) done shares job ≡ units_given shares job * split.gap
 both_parts split stretch [] done job = omega arith
-both_parts split stretch (slot ∷ planned) done job = omega (
+both_parts split stretch (share ∷ shares) done job = omega (
   arith,
-  both_own job slot.job _ _ (slot_units split.den slot) split.gap (both_work done (slot_units split.den slot) split.gap (turn split stretch)),
-  both_parts split stretch planned (done + slot_units split.den slot) job,
-  ap (λ n. n * split.gap) (sum_by-cons (λ (s : WrittenSlot). if job == s.job then slot_units split.den s else 0) slot planned),
+  both_own job share.job _ _ share.units split.gap (both_work done share.units split.gap (turn split stretch)),
+  both_parts split stretch shares (done + share.units) job,
+  ap (λ n. n * split.gap) (sum_by-cons (λ (s : JobShare). if job == s.job then s.units else 0) share shares),
 )
 
 -- of works in parts of 1/(unit * gap)
@@ -85,14 +75,15 @@ pub slow_rises : (split : Split) (stretch : Piece) (from to : ℕ) → from ≤ 
 slow_rises split stretch from to order = omega (arith, mul-le-mul_right split.gap order)
 
 -- so both parts give each job what the plan does
-pub same_given : (split : Split) (stretch : Piece) (planned : List WrittenSlot) (scale job : ℕ) → 1 ≤ split.den → 1 ≤ split.gap →
-    All (WorksOver split.den) planned → All (IsDivided scale) planned →
-    All (IsDivided scale) (slots_after (fast_course split stretch) stretch 0 planned) → All (IsDivided scale) (slots_after (slow_course split stretch) stretch 0 planned) →
-    work_given (slots_at scale (slots_after (fast_course split stretch) stretch 0 planned)) job
-    + work_given (slots_at scale (slots_after (slow_course split stretch) stretch 0 planned)) job ≡ work_given (slots_at scale planned) job
-same_given split stretch planned scale job some_den some_gap over divided fast slow =
-    same_by _ _ _ split.den split.gap (parts_for (fast_course split stretch) 0 planned job) (parts_for (slow_course split stretch) 0 planned job)
-    (units_for split.den planned job) scale some_den some_gap
-    (given_after (fast_course split stretch) stretch scale planned 0 job (fast_rises split stretch) fast)
-    (given_after (slow_course split stretch) stretch scale planned 0 job (slow_rises split stretch) slow)
-    (both_parts split stretch planned 0 job) (given_planned split.den scale planned job over divided)
+pub same_given : (split : Split) (stretch : Piece) (pace : Pace) (shares : List JobShare) (scale job : ℕ) → pace.grain ≡ split.den → 1 ≤ split.den → 1 ≤ split.gap →
+    All (IsDivided scale) (slots_from pace stretch.from 0 shares) →
+    All (IsDivided scale) (slots_after (fast_course split stretch) stretch 0 shares) → All (IsDivided scale) (slots_after (slow_course split stretch) stretch 0 shares) →
+    work_given (slots_at scale (slots_after (fast_course split stretch) stretch 0 shares)) job
+    + work_given (slots_at scale (slots_after (slow_course split stretch) stretch 0 shares)) job ≡ work_given (slots_at scale (slots_from pace stretch.from 0 shares)) job
+same_given split stretch pace shares scale job grain some_den some_gap divided fast slow =
+    same_by _ _ _ split.den split.gap (parts_for (fast_course split stretch) 0 shares job) (parts_for (slow_course split stretch) 0 shares job)
+    (units_given shares job) scale some_den some_gap
+    (given_after (fast_course split stretch) stretch scale shares 0 job (fast_rises split stretch) fast)
+    (given_after (slow_course split stretch) stretch scale shares 0 job (slow_rises split stretch) slow)
+    (both_parts split stretch shares 0 job)
+    (ap (λ n. work_given (slots_at scale (slots_from pace stretch.from 0 shares)) job * n) (sym grain) ∙ given_planned pace stretch.from 0 scale shares job divided)

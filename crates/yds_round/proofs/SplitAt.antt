@@ -4,7 +4,7 @@ use Rattle.std.specs.List.{All}
 use Rattle.std.proofs.lemmas.Bool.{cases_lt}
 use Rattle.std.proofs.Math.Nat.{mul-pos, mul-le-mul_right, le_of_mul-le-mul_right, eq_of_mul-eq-mul_right}
 use Rattle.yds_model.specs.Divisor.{common_divisor, common_multiple}
-use Rattle.yds_model.specs.Slot.{WrittenSlot, IsDivided, slots_at}
+use Rattle.yds_model.specs.Slot.{IsDivided, slots_at}
 use Rattle.yds_model.specs.Piece.{Piece}
 use Rattle.yds_model.specs.Level.{Level}
 use Rattle.yds_model.specs.Table.{Point}
@@ -12,15 +12,18 @@ use Rattle.yds_model.specs.Plan.{speed_num}
 use Rattle.yds_model.specs.Rounding.{RunsAtPoint, RunsOn, IsSplitAt}
 use Rattle.yds_energy.proofs.PlanParts.{given_joined}
 use Rattle.yds_events.specs.Stretch.{length_of}
+use Rattle.yds_timetable.specs.Shares.{JobShare, total_units}
+use Rattle.yds_timetable.specs.Pace.{slots_from}
+use Rattle.yds_plan.specs.Timetabled.{pace_of_level}
 use Rattle.yds_round.specs.declared.split.Split.{Split}
 use Rattle.yds_round.specs.Split.{IsSplit, IsSplitOf}
-use Rattle.yds_round.specs.Written.{units_of_slots, all_units, surplus_of, turn, fast_course, slow_course, slots_after}
+use Rattle.yds_round.specs.Written.{all_units, surplus_of, turn, fast_course, slow_course, slots_after}
 use Rattle.yds_round.proofs.Splits.{work_over, length_over}
 use Rattle.yds_round.proofs.Turns.{fast_before, fast_after, slow_before, slow_after, surplus_done, slow_switch_within}
-use Rattle.yds_round.proofs.Cuts.{WorksOver, none_slow}
+use Rattle.yds_round.proofs.Cuts.{none_slow}
 use Rattle.yds_round.proofs.Courses.{RunsAt, runs_after}
 use Rattle.yds_round.proofs.Shares.{same_given, fast_rises, slow_rises}
-use Rattle.yds_round.proofs.InTurn.{AreApartByJob, DoesWork, turns_cut, turns_planned}
+use Rattle.yds_round.proofs.InTurn.{AreApart, DoesWork, share_jobs, turns_cut, turns_planned}
 
 -- nothing is done at first
 nothing_before : (surplus step : ℕ) → (0 - surplus) * step ≡ 0
@@ -191,10 +194,10 @@ module _ (split : Split) (stretch : Piece) (kept : IsSplit split) where
   -- # The slower part
 
   -- where the slower point is the idle one nothing runs there
-  pub no_slow : split.low ≡ 0 → (planned : List WrittenSlot) → units_of_slots split.den planned ≡ all_units split stretch →
-      slots_after (slow_course split stretch) stretch 0 planned ≡ []
-  no_slow idle planned full =
-      none_slow split stretch planned (omega (
+  pub no_slow : split.low ≡ 0 → (shares : List JobShare) → total_units shares ≡ all_units split stretch →
+      slots_after (slow_course split stretch) stretch 0 shares ≡ []
+  no_slow idle shares full =
+      none_slow split stretch shares (omega (
         arith,
         ap (λ n. n * split.gap) full,
         ap (λ n. n * split.gap) all_parts,
@@ -203,25 +206,25 @@ module _ (split : Split) (stretch : Piece) (kept : IsSplit split) where
         ap (λ n. n * surplus_of split stretch) idle,
       ))
 
-  runs_slow : (low scale switch : ℕ) (planned : List WrittenSlot) → low ≡ split.low → 1 ≤ scale → stretch.from < stretch.to →
-      units_of_slots split.den planned ≡ all_units split stretch →
+  runs_slow : (low scale switch : ℕ) (shares : List JobShare) → low ≡ split.low → 1 ≤ scale → stretch.from < stretch.to →
+      total_units shares ≡ all_units split stretch →
       switch * split.slow.den ≡ (stretch.from * split.slow.den + surplus_of split stretch * split.slow.switch) * scale →
-      All (IsDivided scale) (slots_after (slow_course split stretch) stretch 0 planned) →
-      RunsOn low switch (stretch.to * scale) (slots_at scale (slots_after (slow_course split stretch) stretch 0 planned))
-  runs_slow zero scale switch planned is positive forward full begins divided = ap (slots_at scale) (no_slow (sym is) planned full)
-  runs_slow (suc low) scale switch planned is positive forward full begins divided =
+      All (IsDivided scale) (slots_after (slow_course split stretch) stretch 0 shares) →
+      RunsOn low switch (stretch.to * scale) (slots_at scale (slots_after (slow_course split stretch) stretch 0 shares))
+  runs_slow zero scale switch shares is positive forward full begins divided = ap (slots_at scale) (no_slow (sym is) shares full)
+  runs_slow (suc low) scale switch shares is positive forward full begins divided =
       let some : 1 ≤ split.low = omega (arith, is) in
-      let all : 0 + units_of_slots split.den planned ≡ all_units split stretch = omega (arith, full) in
+      let all : 0 + total_units shares ≡ all_units split stretch = omega (arith, full) in
       let runs = runs_after (slow_course split stretch) stretch split.low (all_units split stretch) (split.gap * surplus_of split stretch * split.slow.den) scale
-      (slow_runs some) positive planned 0 switch (omega (arith, all)) (begins ∙ ap (λ n. (stretch.from * split.slow.den + n) * scale) (sym slow_first)) divided in
+      (slow_runs some) positive shares 0 switch (omega (arith, all)) (begins ∙ ap (λ n. (stretch.from * split.slow.den + n) * scale) (sym slow_first)) divided in
       let whole : stretch.to ≡ stretch.from + length_of stretch = omega (arith, forward) in
       let last : runs.end * split.slow.den ≡ (stretch.from * split.slow.den + split.slow.den * length_of stretch) * scale =
       runs.ends ∙ ap (λ n. (stretch.from * split.slow.den + (slow_course split stretch).time n) * scale) all
       ∙ ap (λ n. (stretch.from * split.slow.den + n) * scale) (slow_last some) in
       let end : runs.end ≡ stretch.to * scale =
       eq_of_mul-eq-mul_right split.slow.den kept.slow.some runs.end (stretch.to * scale) (omega (arith, last, ap (λ n. n * scale * split.slow.den) whole)) in
-      subst (λ (n : ℕ). RunsAtPoint (suc low) switch n (slots_at scale (slots_after (slow_course split stretch) stretch 0 planned))) end
-      (subst (λ (n : ℕ). RunsAtPoint n switch runs.end (slots_at scale (slots_after (slow_course split stretch) stretch 0 planned))) (sym is) runs.runs)
+      subst (λ (n : ℕ). RunsAtPoint (suc low) switch n (slots_at scale (slots_after (slow_course split stretch) stretch 0 shares))) end
+      (subst (λ (n : ℕ). RunsAtPoint n switch runs.end (slots_at scale (slots_after (slow_course split stretch) stretch 0 shares))) (sym is) runs.runs)
 
 -- # The split
 
@@ -243,22 +246,22 @@ level_time time scale work long low high den over gap length d of_work of_length
 begin_at : (from den scale time : ℕ) → time ≡ 0 → from * scale * den ≡ (from * den + time) * scale
 begin_at from den scale time none = omega (arith, ap (λ n. n * scale) none)
 
-pub split_at : (level : Level) (low high : Point) (split : Split) (stretch : Piece) (planned : List WrittenSlot) (scale : ℕ) → IsSplitOf level low high split →
-    1 ≤ level.length → stretch.from < stretch.to → 1 ≤ scale → units_of_slots split.den planned ≡ all_units split stretch → AreApartByJob planned →
-    All (DoesWork split.den) planned → All (WorksOver split.den) planned → All (IsDivided scale) planned →
-    All (IsDivided scale) (slots_after (fast_course split stretch) stretch 0 planned) → All (IsDivided scale) (slots_after (slow_course split stretch) stretch 0 planned) →
-    IsSplitAt scale level low high stretch (slots_at scale planned) (slots_at scale (slots_after (fast_course split stretch) stretch 0 planned))
-    (slots_at scale (slots_after (slow_course split stretch) stretch 0 planned))
-split_at level low high split stretch planned scale is some_length forward positive full apart does over divided fast_divided slow_divided =
+pub split_at : (level : Level) (low high : Point) (split : Split) (stretch : Piece) (shares : List JobShare) (scale : ℕ) → IsSplitOf level low high split →
+    1 ≤ level.length → stretch.from < stretch.to → 1 ≤ scale → total_units shares ≡ all_units split stretch → AreApart (share_jobs shares) →
+    All DoesWork shares → All (IsDivided scale) (slots_from (pace_of_level level) stretch.from 0 shares) →
+    All (IsDivided scale) (slots_after (fast_course split stretch) stretch 0 shares) → All (IsDivided scale) (slots_after (slow_course split stretch) stretch 0 shares) →
+    IsSplitAt scale level low high stretch (slots_at scale (slots_from (pace_of_level level) stretch.from 0 shares)) (slots_at scale (slots_after (fast_course split stretch) stretch 0 shares))
+    (slots_at scale (slots_after (slow_course split stretch) stretch 0 shares))
+split_at level low high split stretch shares scale is some_length forward positive full apart does divided fast_divided slow_divided =
     let kept = is.kept in
-    let fast = slots_after (fast_course split stretch) stretch 0 planned in
-    let slow = slots_after (slow_course split stretch) stretch 0 planned in
+    let fast = slots_after (fast_course split stretch) stretch 0 shares in
+    let slow = slots_after (slow_course split stretch) stretch 0 shares in
     let start : ℕ = stretch.from * scale in
-    let all : 0 + units_of_slots split.den planned ≡ all_units split stretch = omega (arith, full) in
+    let all : 0 + total_units shares ≡ all_units split stretch = omega (arith, full) in
     let first : start * split.fast.den ≡ (stretch.from * split.fast.den + (fast_course split stretch).time 0) * scale =
     begin_at stretch.from split.fast.den scale ((fast_course split stretch).time 0) (fast_first split stretch kept) in
     let runs = runs_after (fast_course split stretch) stretch split.high (all_units split stretch) 0 scale (fast_runs split stretch kept (all_units split stretch)) positive
-    planned 0 start (omega (arith, all)) first fast_divided in
+    shares 0 start (omega (arith, all)) first fast_divided in
     let ends : runs.end * split.fast.den ≡ (stretch.from * split.fast.den + surplus_of split stretch * split.fast.switch) * scale =
     runs.ends ∙ ap (λ n. (stretch.from * split.fast.den + (fast_course split stretch).time n) * scale) all
     ∙ ap (λ n. (stretch.from * split.fast.den + n) * scale) (fast_last split stretch kept) in
@@ -275,8 +278,8 @@ split_at level low high split stretch planned scale is some_length forward posit
       first = subst (λ (n : ℕ). RunsAtPoint high.speed start n (slots_at scale fast)) switch
           (subst (λ (n : ℕ). RunsAtPoint n start runs.end (slots_at scale fast)) is.is_high runs.runs);
       then_slow = subst (λ (n : ℕ). RunsOn low.speed n (stretch.to * scale) (slots_at scale slow)) switch
-          (runs_slow split stretch kept low.speed scale runs.end planned (sym is.is_low) positive forward full (switch_slow split stretch kept scale runs.end positive ends) slow_divided);
-      same_order = turns_cut split stretch kept.some_gap scale 0 planned apart does ∙ sym (turns_planned scale planned apart);
+          (runs_slow split stretch kept low.speed scale runs.end shares (sym is.is_low) positive forward full (switch_slow split stretch kept scale runs.end positive ends) slow_divided);
+      same_order = turns_cut split stretch kept.some_gap scale 0 shares apart does ∙ sym (turns_planned scale (pace_of_level level) stretch.from 0 shares apart);
       same_work = λ job. given_joined (slots_at scale fast) (slots_at scale slow) job
-          ∙ same_given split stretch planned scale job kept.some_den kept.some_gap over divided fast_divided slow_divided;
+          ∙ same_given split stretch (pace_of_level level) shares scale job (sym is.is_den) kept.some_den kept.some_gap divided fast_divided slow_divided;
     }

@@ -6,10 +6,10 @@ use Rattle.yds_model.specs.Divisor.{common_divisor}
 use Rattle.yds_model.specs.Level.{Level}
 use Rattle.yds_model.specs.Table.{Point}
 use Rattle.yds_model.proofs.Divisor.{divisor_is_greatest}
+use Rattle.yds_model.proofs.Fractions.{factors}
 use Rattle.yds_round.specs.declared.part.Part.{Part}
 use Rattle.yds_round.specs.Part.{IsPart}
 use Rattle.yds_round.specs.Split.{IsSplitOf}
-use Rattle.yds_round.proofs.Parts.{over_divisor}
 
 -- work and length of a level over their greatest common divisor
 module _ (work long d : ℕ) (some_length : 1 ≤ long) (is : d ≡ common_divisor work long) where
@@ -23,7 +23,7 @@ module _ (work long d : ℕ) (some_length : 1 ≤ long) (is : d ≡ common_divis
 
   -- what is left of the length is at least 1
   pub some_den : 1 ≤ long / d
-  some_den = over_divisor long d some_length length_over
+  some_den = (factors (long / d) d long length_over some_length).0
 
   -- the level is faster than this speed, also in lowest terms
   pub above_in_terms : (speed : ℕ) → speed * long < work → speed * (long / d) < work / d

@@ -1,7 +1,7 @@
 -- A stretch that is cut between two points, and how far its work is done.
 use Rattle.std.specs.Prelude.{◌≡◌, ℕ, ◌+◌, ◌*◌, ◌<◌, ◌≤◌, List, length, Option, Some, None}
 use Rattle.std.specs.List.{All}
-use Rattle.yds_model.specs.declared.limits.TheConstants.{MAX_SLOTS, MAX_TIME}
+use Rattle.yds_model.specs.declared.limits.TheConstants.{MAX_SLOTS, MAX_SLOT_WORK, MAX_TIME}
 use Rattle.yds_model.specs.Slot.{WrittenSlot}
 use Rattle.yds_model.specs.Piece.{Piece}
 use Rattle.yds_model.specs.Plan.{IsOver}
@@ -10,8 +10,9 @@ use Rattle.yds_round.specs.declared.split.Split.{Split}
 use Rattle.yds_round.specs.declared.cut.Cut.{Cut}
 use Rattle.yds_round.specs.declared.cut.Reached.{Reached}
 use Rattle.yds_events.specs.Stretch.{IsStretch}
+use Rattle.yds_timetable.specs.Shares.{JobShare, total_units}
 use Rattle.yds_round.specs.Split.{IsSplit}
-use Rattle.yds_round.specs.Written.{units_of_slots, all_units, surplus_of, moment, fast_course, slow_course, FitsJob}
+use Rattle.yds_round.specs.Written.{all_units, surplus_of, moment, fast_course, slow_course, FitsJob}
 
 pub record IsCut (cut : Cut) : Type 0 where
   pub kept : IsSplit cut.split
@@ -30,13 +31,13 @@ pub record IsReached (cut : Cut) (reached : Reached) : Type 0 where
   pub fast_in_range : IsFraction MAX_TIME reached.fast
   pub slow_in_range : IsFraction MAX_TIME reached.slow
 
--- what the plan has in the stretch fits it, and can be put after what is written
-pub record CanServe (split : Split) (stretch : Piece) (jobs : ℕ) (before planned : List WrittenSlot) : Type 0 where
-  pub full : units_of_slots split.den planned ≡ all_units split stretch
-  pub works : All (λ slot. IsOver split.den slot.work) planned
-  pub known : All (λ slot. slot.job < jobs) planned
-  pub grains : All (λ slot. FitsJob (split.den * split.gap) before slot.job) planned
-  pub room : length before + 2 * length planned ≤ MAX_SLOTS
+-- the shares fill the stretch, and their slots can be put after what is written
+pub record CanServe (split : Split) (stretch : Piece) (jobs : ℕ) (before : List WrittenSlot) (shares : List JobShare) : Type 0 where
+  pub full : total_units shares ≡ all_units split stretch
+  pub works : All (λ share. share.units ≤ split.den * MAX_SLOT_WORK) shares
+  pub known : All (λ share. share.job < jobs) shares
+  pub grains : All (λ share. FitsJob (split.den * split.gap) before share.job) shares
+  pub room : length before + 2 * length shares ≤ MAX_SLOTS
 
 -- the same where the slots stay
 pub record CanKeep (jobs : ℕ) (before planned : List WrittenSlot) : Type 0 where
@@ -46,6 +47,6 @@ pub record CanKeep (jobs : ℕ) (before planned : List WrittenSlot) : Type 0 whe
   pub grains : All (λ slot. FitsJob grain before slot.job) planned
   pub room : length before + length planned ≤ MAX_SLOTS
 
-abbrev pub CanRound : Option Split → Piece → ℕ → List WrittenSlot → List WrittenSlot → Type 0
-CanRound None stretch jobs before planned = CanKeep jobs before planned
-CanRound (Some split) stretch jobs before planned = IsSplit split × CanServe split stretch jobs before planned
+abbrev pub CanRound : Option Split → Piece → ℕ → List WrittenSlot → List JobShare → List WrittenSlot → Type 0
+CanRound None stretch jobs before shares planned = CanKeep jobs before planned
+CanRound (Some split) stretch jobs before shares planned = IsSplit split × CanServe split stretch jobs before shares

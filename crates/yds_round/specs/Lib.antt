@@ -2,7 +2,6 @@ pub mod Fault
 pub mod Part
 pub mod Split
 pub mod Pace
-pub mod Members
 pub mod Written
 pub mod Cut
 pub mod Rounded

@@ -1,20 +1,21 @@
--- What is written for the stretches of a plan.
-use Rattle.std.specs.Prelude.{ℕ, List, [], ◌∷◌, filter, slice_index}
+-- What is written for the stretches of a timetable.
+use Rattle.std.specs.Prelude.{ℕ, zero, suc, List, [], ◌++◌, Option, Some, None}
+use Rattle.std.specs.List.{slice_index_or}
 use Rattle.yds_model.specs.Slot.{WrittenSlot}
-use Rattle.yds_model.specs.Piece.{Piece}
-use Rattle.yds_slots.specs.Between.{lies_between}
+use Rattle.yds_timetable.specs.Timetable.{Row, row_at, row_slots}
 use Rattle.yds_round.specs.declared.pace.Pace.{Pace}
 use Rattle.yds_round.specs.Pace.{pace_at}
 use Rattle.yds_round.specs.Written.{written_at}
 
--- the plan's slots in the stretch, at the pace of the first one's level
-abbrev pub written_here : List ℕ → List Pace → Piece → List WrittenSlot → List WrittenSlot
-written_here numbers paces stretch [] = []
-written_here numbers paces stretch (first ∷ slots) =
-    written_at stretch (first ∷ slots) (pace_at paces (slice_index numbers first.job)).split
+-- for a stretch, at the pace of the level with this number; nothing where it is idle
+abbrev pub written_row : List Pace → Row → Option ℕ → List WrittenSlot
+written_row paces row None = []
+written_row paces row (Some number) = written_at row.stretch row.shares (row_slots row) (pace_at paces number).split
 
-abbrev pub planned_in : List WrittenSlot → Piece → List WrittenSlot
-planned_in planned stretch = filter (lies_between stretch.from stretch.to) planned
+abbrev pub level_number_at : List (Option ℕ) → ℕ → Option ℕ
+level_number_at numbers place = slice_index_or numbers place None
 
-abbrev pub written_in : List ℕ → List Pace → List WrittenSlot → Piece → List WrittenSlot
-written_in numbers paces planned stretch = written_here numbers paces stretch (planned_in planned stretch)
+-- for the first so many stretches
+abbrev pub written_to : List Pace → List Row → List (Option ℕ) → ℕ → List WrittenSlot
+written_to paces rows numbers zero = []
+written_to paces rows numbers (suc k) = written_to paces rows numbers k ++ written_row paces (row_at rows k) (level_number_at numbers k)

@@ -1,19 +1,14 @@
--- What is written for a stretch: the plan's slots, or each of them at the faster point as far as the switch and at the slower
--- point from there on. A stretch's work is counted in units, as its slots do it one after another.
-use Rattle.std.specs.Prelude.{◌≡◌, ℕ, ◌+◌, ◌-◌, ◌*◌, ◌⊎◌, min, max, List, [], ◌∷◌, ◌++◌, sum_by, nat_lt, Option, Some, None, if◌then◌else◌}
+-- What is written for a stretch of a timetable: the plan's slots, or for each share a slot at the faster point as far as the switch and
+-- one at the slower point from there on. A stretch's work is counted in units, as its shares are done one after another.
+use Rattle.std.specs.Prelude.{◌≡◌, ℕ, ◌+◌, ◌-◌, ◌*◌, min, max, List, [], ◌∷◌, ◌++◌, nat_lt, Option, Some, None, if◌then◌else◌}
+use Rattle.std.specs.List.{All}
 use Rattle.yds_model.specs.Scale.{Fraction, of_parts}
 use Rattle.yds_model.specs.Slot.{WrittenSlot}
 use Rattle.yds_model.specs.Piece.{Piece}
-use Rattle.yds_model.specs.Audit.{grain_of}
+use Rattle.yds_model.specs.Plan.{IsOver}
 use Rattle.yds_events.specs.Stretch.{length_of}
+use Rattle.yds_timetable.specs.Shares.{JobShare}
 use Rattle.yds_round.specs.declared.split.Split.{Split}
-
--- the slot's work in units, of which a unit of work has so many
-abbrev pub slot_units : ℕ → WrittenSlot → ℕ
-slot_units unit slot = slot.work.whole * unit + slot.work.num
-
-abbrev pub units_of_slots : ℕ → List WrittenSlot → ℕ
-units_of_slots unit slots = sum_by (λ slot. slot_units unit slot) slots
 
 -- what the level does in the stretch, and of that what it does above the slower point's speed
 abbrev pub all_units : Split → Piece → ℕ
@@ -36,7 +31,6 @@ pub record Course : Type 0 where
   pub work : ℕ → ℕ
   pub den : ℕ
   pub grain : ℕ
-  pub unit : ℕ
 
 -- at the faster point, as far as the switch
 abbrev pub fast_course : Split → Piece → Course
@@ -45,7 +39,6 @@ fast_course split stretch = record {
   work = λ units. min (units * split.gap) (turn split stretch);
   den = split.fast.den;
   grain = split.den * split.gap;
-  unit = split.den;
 }
 
 -- at the slower point, from the switch on
@@ -55,7 +48,6 @@ slow_course split stretch = record {
   work = λ units. max (units * split.gap) (turn split stretch);
   den = split.slow.den;
   grain = split.den * split.gap;
-  unit = split.den;
 }
 
 -- a job's slot in that part while the units from one number to another are done, if it does any there
@@ -70,26 +62,25 @@ slot_between course stretch job from to =
     } ∷ []
     else []
 
--- the slots in that part of all these, before which so many units are done
-abbrev pub slots_after : Course → Piece → ℕ → List WrittenSlot → List WrittenSlot
+-- the slots in that part of all these shares, before which so many units are done
+abbrev pub slots_after : Course → Piece → ℕ → List JobShare → List WrittenSlot
 slots_after course stretch done [] = []
-slots_after course stretch done (slot ∷ slots) =
-    slot_between course stretch slot.job done (done + slot_units course.unit slot)
-    ++ slots_after course stretch (done + slot_units course.unit slot) slots
+slots_after course stretch done (share ∷ shares) =
+    slot_between course stretch share.job done (done + share.units) ++ slots_after course stretch (done + share.units) shares
 
 -- both parts
-abbrev pub cut_slots : Split → Piece → List WrittenSlot → List WrittenSlot
-cut_slots split stretch planned =
-    slots_after (fast_course split stretch) stretch 0 planned ++ slots_after (slow_course split stretch) stretch 0 planned
+abbrev pub cut_slots : Split → Piece → List JobShare → List WrittenSlot
+cut_slots split stretch shares =
+    slots_after (fast_course split stretch) stretch 0 shares ++ slots_after (slow_course split stretch) stretch 0 shares
 
--- all of it, by the pace of the level
-abbrev pub written_at : Piece → List WrittenSlot → Option Split → List WrittenSlot
-written_at stretch planned None = planned
-written_at stretch planned (Some split) = cut_slots split stretch planned
+-- all of it, by the pace of the level: the plan's slots, or the shares cut
+abbrev pub written_at : Piece → List JobShare → List WrittenSlot → Option Split → List WrittenSlot
+written_at stretch shares planned None = planned
+written_at stretch shares planned (Some split) = cut_slots split stretch shares
 
--- the works of the job are whole so far, or have this denominator
+-- the works of the job so far are whole, or have this denominator
 abbrev pub FitsJob : ℕ → List WrittenSlot → ℕ → Type 0
-FitsJob grain slots job = (grain_of slots job ≡ 1) ⊎ (grain_of slots job ≡ grain)
+FitsJob grain slots job = All (λ slot. slot.job ≡ job → IsOver grain slot.work) slots
 
 abbrev pub listed : Option WrittenSlot → List WrittenSlot
 listed None = []

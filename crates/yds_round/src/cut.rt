@@ -1,12 +1,11 @@
-ghost use Rattle.std.specs.Prelude.{◌≡◌, ◌+◌, ◌-◌, ◌*◌, ◌^◌, ◌<◌, ◌≤◌, ◌++◌, length, OnOk, IfSome};
-ghost use Rattle.yds_model.specs.declared.limits.TheConstants.{MAX_DENOMINATOR, MAX_SLOTS, MAX_SLOT_WORK, MAX_TIME};
+ghost use Rattle.std.specs.Prelude.{◌≡◌, ◌+◌, ◌-◌, ◌*◌, ◌/◌, ◌^◌, ◌<◌, ◌≤◌, ◌++◌, length, OnOk, IfSome};
+ghost use Rattle.yds_model.specs.declared.limits.TheConstants.{MAX_DENOMINATOR, MAX_SLOTS, MAX_SLOT_WORK, MAX_TIME, MAX_WHOLE};
 ghost use Rattle.yds_model.specs.Scale.{of_parts};
-ghost use Rattle.yds_model.specs.Plan.{IsOver};
 ghost use Rattle.yds_events.specs.Stretch.{length_of};
 ghost use Rattle.yds_fraction.specs.Mixed.{IsMixed};
 ghost use Rattle.yds_slots.specs.Schedule.{FitsGrain};
 ghost use Rattle.yds_round.specs.Split.{IsSplit};
-ghost use Rattle.yds_round.specs.Written.{listed, moment as moment_of, slot_units, all_units, turn, fast_course, slow_course, slot_between, cut_slots};
+ghost use Rattle.yds_round.specs.Written.{listed, moment as moment_of, all_units, turn, fast_course, slow_course, slot_between, cut_slots};
 ghost use Rattle.yds_round.specs.Cut.{IsCut, IsReached, CanServe};
 
 use crate::split::Split;
@@ -14,6 +13,7 @@ use yds_events::Stretch;
 use yds_fraction::{Amount, Moment};
 use yds_model::Memory;
 use yds_slots::{Schedule, Slot};
+use yds_timetable::Share;
 
 /// One stretch of a level between two points, and the time of its switch.
 #[derive(Clone, Copy, Debug)]
@@ -41,6 +41,22 @@ pub(crate) struct Reached {
     pub slow: Moment,
 }
 
+/// The whole number and so many parts of `1/den`, which mostly fit in 64 bits.
+fn with_parts(whole: u32, parts: u128, den: u64) -> Moment
+    requires some { 1 ≤ den }
+    requires den_in_range { den ≤ MAX_DENOMINATOR }
+    requires whole_in_range { whole + parts / den ≤ MAX_WHOLE }
+    ensures value { result ≡ of_parts (whole * den + parts) den }
+    ensures whole { result.whole ≡ whole + parts / den }
+    ensures kept { IsMixed MAX_DENOMINATOR result }
+{
+    if parts < 1 << 64 {
+        let few = parts as u64;
+        return Moment::new(u64::from(whole) + few / den, few % den, den);
+    }
+    Moment::of_parts(u128::from(whole) * u128::from(den) + parts, den)
+}
+
 /// The time so many parts of `1/den` after the start of the stretch.
 fn moment(stretch: Stretch, parts: u128, den: u64) -> Moment
     requires some { 1 ≤ den }
@@ -50,8 +66,7 @@ fn moment(stretch: Stretch, parts: u128, den: u64) -> Moment
     ensures in_range { result.whole ≤ MAX_TIME }
     ensures kept { IsMixed MAX_DENOMINATOR result }
 {
-    let start = u128::from(stretch.from) * u128::from(den);
-    Moment::of_parts(start + parts, den)
+    with_parts(stretch.from, parts, den)
 }
 
 /// Puts the slot last, if there is one.
@@ -134,7 +149,7 @@ impl Cut {
         requires from { IsReached self.now from.now }
         requires to { IsReached self.now to.now }
         requires order { from.now.units ≤ to.now.units }
-        requires few { to.now.units < from.now.units + (MAX_SLOT_WORK + 1) * self.now.split.den }
+        requires few { to.now.units ≤ from.now.units + self.now.split.den * MAX_SLOT_WORK }
         ensures { listed result ≡ slot_between (fast_course self.now.split self.now.stretch) self.now.stretch job from.now.units to.now.units }
     {
         let before = self.parts(from.units).min(self.turn());
@@ -156,7 +171,7 @@ impl Cut {
         requires from { IsReached self.now from.now }
         requires to { IsReached self.now to.now }
         requires order { from.now.units ≤ to.now.units }
-        requires few { to.now.units < from.now.units + (MAX_SLOT_WORK + 1) * self.now.split.den }
+        requires few { to.now.units ≤ from.now.units + self.now.split.den * MAX_SLOT_WORK }
         ensures { listed result ≡ slot_between (slow_course self.now.split self.now.stretch) self.now.stretch job from.now.units to.now.units }
     {
         let before = self.parts(from.units).max(self.turn());
@@ -175,39 +190,28 @@ impl Cut {
     /// The work of so many parts of `1/(den * gap)` of a unit.
     fn work(&self, parts: u128) -> Amount
         requires cut { IsCut self.now }
-        requires in_range { parts < (MAX_SLOT_WORK + 1) * (self.now.split.den * self.now.split.gap) }
+        requires in_range { parts ≤ self.now.split.den * self.now.split.gap * MAX_SLOT_WORK }
         ensures value { result ≡ of_parts parts (self.now.split.den * self.now.split.gap) }
         ensures in_range { result.whole ≤ MAX_SLOT_WORK }
         ensures kept { IsMixed MAX_DENOMINATOR result }
     {
-        Amount::of_parts(parts, self.split.den * self.split.gap)
+        with_parts(0, parts, self.split.den * self.split.gap)
     }
 
-    /// The units of the slot's work.
-    fn units(&self, slot: &Slot) -> u64
+    /// Puts last what is written for the shares of the stretch: first all at the faster point up to the switch, and then at the slower.
+    pub(crate) fn serve(&self, shares: &[Share], rounded: &mut Schedule) -> Result<(), Memory>
         requires cut { IsCut self.now }
-        requires over { IsOver self.now.split.den slot.now.work }
-        requires fits { slot_units self.now.split.den slot.now < 2 ^ 64 }
-        ensures value { result ≡ slot_units self.now.split.den slot.now }
-        ensures few { result < (MAX_SLOT_WORK + 1) * self.now.split.den }
-    {
-        slot.work.whole() * self.split.den + slot.work.num()
-    }
-
-    /// Puts last what the plan does in the stretch: first all at the faster point up to the switch, and then at the slower.
-    pub(crate) fn serve(&self, planned: &[Slot], rounded: &mut Schedule) -> Result<(), Memory>
-        requires cut { IsCut self.now }
-        requires fits { CanServe self.now.split self.now.stretch rounded.old.jobs rounded.old.slots planned.now }
+        requires fits { CanServe self.now.split self.now.stretch rounded.old.jobs rounded.old.slots shares.now }
         ensures { OnOk result (rounded.new ≡ record {
           jobs = rounded.old.jobs;
-          slots = rounded.old.slots ++ cut_slots self.now.split self.now.stretch planned.now;
+          slots = rounded.old.slots ++ cut_slots self.now.split self.now.stretch shares.now;
         }) }
     {
         let mut reached = self.reach(0);
-        for slot in planned {
-            let next = self.reach(reached.units + self.units(slot));
-            put(rounded, self.fast_slot(slot.job, &reached, &next))?;
-            put(rounded, self.slow_slot(slot.job, &reached, &next))?;
+        for share in shares {
+            let next = self.reach(reached.units + share.units);
+            put(rounded, self.fast_slot(share.job, &reached, &next))?;
+            put(rounded, self.slow_slot(share.job, &reached, &next))?;
             reached = next;
         }
         Ok(())

@@ -1,30 +1,29 @@
-ghost use Rattle.std.specs.Prelude.{◌≡◌, ◌≤◌, ℕ, List, ◌++◌, length, IfOk, OnOk, IfErr, Err, MatchOption};
-ghost use Rattle.std.specs.List.{All, AllZip, flat_map};
+ghost use Rattle.std.specs.Prelude.{◌≡◌, ◌<◌, ◌≤◌, ◌++◌, length, IfOk, OnOk, IfErr, Err, MatchOption};
+ghost use Rattle.std.specs.List.{All, AllZip};
 ghost use Rattle.yds_model.specs.declared.limits.TheConstants.{MAX_ENERGY, MAX_JOBS};
-ghost use Rattle.yds_model.specs.Event.{stretches as job_stretches};
 ghost use Rattle.yds_model.specs.Plan.{IsPlan};
 ghost use Rattle.yds_model.specs.Rounding.{IsTooFast, IsRounding};
 ghost use Rattle.yds_model.specs.Within.{IsFraction, AreSlotsOf};
+ghost use Rattle.yds_timetable.specs.Timetable.{row_at, IsRow};
+ghost use Rattle.yds_plan.specs.Timetabled.{IsTimetabled};
 ghost use Rattle.yds_round.specs.Fault.{IsCauseOfRoundFault, HasFastLevel, too_slow};
-ghost use Rattle.yds_round.specs.Members.{Numbers};
 ghost use Rattle.yds_round.specs.Pace.{IsPaceOf};
 ghost use Rattle.yds_round.specs.Written.{written_at};
 ghost use Rattle.yds_round.specs.Cut.{CanKeep, CanRound};
-ghost use Rattle.yds_round.specs.Rounded.{written_in};
+ghost use Rattle.yds_round.specs.Rounded.{written_to};
 
 use crate::cut::Cut;
 use crate::energy::energy;
 use crate::fault::RoundFault;
-use crate::members::level_numbers;
 use crate::pace::Pace;
 use std::alloc::Global;
 use yds_certificate::Level;
-use yds_events::{Stretch, stretches};
 use yds_fraction::Amount;
 use yds_model::{JobRow, Memory};
 use yds_plan::Planned;
 use yds_slots::{Schedule, Slot};
 use yds_table::Table;
+use yds_timetable::Timetable;
 
 /// A plan on operating points, with what it spends.
 #[derive(Drop)]
@@ -76,26 +75,31 @@ fn keep(planned: &[Slot], rounded: &mut Schedule) -> Result<(), Memory>
     Ok(())
 }
 
-/// Puts last what is written for a stretch in which the plan has these slots.
+/// Puts last what is written for the stretch with this number, in which the plan has these slots.
 fn round_stretch(
-    stretch: Stretch,
+    timetable: &Timetable,
+    number: usize,
     planned: &[Slot],
     pace: &Pace,
     rounded: &mut Schedule,
 ) -> Result<(), Memory>
-    requires { CanRound pace.now.split stretch rounded.old.jobs rounded.old.slots planned.now }
+    requires known { number < length timetable.now }
+    requires can { CanRound pace.now.split (row_at timetable.now number).stretch rounded.old.jobs rounded.old.slots
+        (row_at timetable.now number).shares planned.now }
     ensures { OnOk result (rounded.new ≡ record {
       jobs = rounded.old.jobs;
-      slots = rounded.old.slots ++ written_at stretch planned.now pace.now.split;
+      slots = rounded.old.slots ++ written_at (row_at timetable.now number).stretch (row_at timetable.now number).shares planned.now pace.now.split;
     }) }
 {
     match pace.split {
-        Some(split) => Cut::of(split, stretch).serve(planned, rounded),
+        Some(split) => {
+            Cut::of(split, timetable.stretch(number)).serve(timetable.shares(number), rounded)
+        }
         None => keep(planned, rounded),
     }
 }
 
-/// The plan's slots at the paces of their levels, stretch by stretch.
+/// The plan's shares and slots at the paces of their levels, stretch by stretch.
 fn round_slots(
     alloc: Global,
     rows: &[JobRow],
@@ -105,21 +109,33 @@ fn round_slots(
 ) -> Result<Schedule, Memory>
     requires few { length rows.now ≤ MAX_JOBS }
     requires plan { IsPlan rows.now plan.now.schedule.slots plan.now.certificate }
+    requires timetable { IsTimetabled rows.now plan.now.timetable plan.now.level_of_stretch.items plan.now.schedule.slots plan.now.certificate }
     requires paces { AllZip (IsPaceOf table.now) plan.now.certificate paces.now }
-    ensures { IfOk result (λ rounded. (numbers : List ℕ) × Numbers (length rows.now) plan.now.certificate numbers × (rounded ≡ record {
+    ensures written { IfOk result (λ rounded. rounded ≡ record {
       jobs = length rows.now;
-      slots = flat_map (written_in numbers paces.now plan.now.schedule.slots) (job_stretches rows.now);
-    })) }
+      slots = written_to paces.now plan.now.timetable plan.now.level_of_stretch.items (length plan.now.timetable);
+    }) }
+    ensures rows { IfOk result (λ _. All IsRow plan.now.timetable) }
 {
-    let numbers = level_numbers(alloc, rows.len(), plan.certificate.levels())?;
-    let timeline = stretches(alloc, rows)?;
-    let mut rounded = Schedule::new(alloc, rows.len() as u32)?;
-    for stretch in &timeline {
-        let planned = plan.schedule.between(stretch.from, stretch.to);
-        if let [first, ..] = planned {
-            let pace = &paces[numbers[first.job as usize] as usize];
-            round_stretch(*stretch, planned, pace, &mut rounded)?;
+    let timetable = &plan.timetable;
+    let mut rest = plan.schedule.slots();
+    let mut rounded = Schedule::with_capacity(
+        alloc,
+        rows.len() as u32,
+        rest.len() + timetable.len(),
+    )?;
+    for number in 0..timetable.len() {
+        let (planned, later) = rest.split_at(timetable.shares(number).len());
+        if let Some(level) = plan.level_of_stretch[number] {
+            round_stretch(
+                timetable,
+                number,
+                planned,
+                &paces[level as usize],
+                &mut rounded,
+            )?;
         }
+        rest = later;
     }
     Ok(rounded)
 }
@@ -137,6 +153,7 @@ pub fn round(
 ) -> Result<Rounded, RoundFault>
     requires few { length rows.now ≤ MAX_JOBS }
     requires plan { IsPlan rows.now plan.now.schedule.slots plan.now.certificate }
+    requires timetable { IsTimetabled rows.now plan.now.timetable plan.now.level_of_stretch.items plan.now.schedule.slots plan.now.certificate }
     ensures rounding { IfOk result (λ rounded. IsRounding rows.now table.now plan.now.schedule.slots plan.now.certificate rounded.schedule.slots rounded.energy) }
     ensures jobs { IfOk result (λ rounded. rounded.schedule.jobs ≡ length rows.now) }
     ensures slots { IfOk result (λ rounded. AreSlotsOf (length rows.now) rounded.schedule.slots) }

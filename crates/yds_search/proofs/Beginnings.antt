@@ -5,7 +5,7 @@ use Rattle.std.specs.List.{All, filter, range_with_len}
 use Rattle.std.proofs.lemmas.List.{get_or_append_left, get_or_push, length_push, map-id, get_or_default, length-map, length-replicate, get_or-replicate, nil_from_length}
 use Rattle.std.proofs.lemmas.List.Elements.{All-nil, All-map, All-filter, filter_passes}
 use Rattle.std.proofs.lemmas.List.Filters.{length-filter_both}
-use Rattle.std.proofs.lemmas.List.FromFn.{filter_of_map_range_with_len_more, length-range_with_len, get_or-range_with_len}
+use Rattle.std.proofs.lemmas.List.FromFn.{length-range_with_len, get_or-range_with_len}
 use Rattle.std.proofs.lemmas.List.Kept.{AllPairs-filter}
 use Rattle.std.proofs.lemmas.List.Sorted.{length_permutation}
 use Rattle.std.proofs.lemmas.Simd.{map-map}
@@ -99,12 +99,6 @@ covering_more ends n end end' mark marks marks' so_far is same here =
       most = most;
       one = one;
     }
-
--- the marked ones of one number more
-pub marked_more : (p : ℕ → Bool) (n : ℕ) → filter p (range_with_len 0 (n + 1)) ≡ filter p (range_with_len 0 n) ++ cond (p n) (n ∷ []) []
-marked_more p n =
-    ap (filter p) (sym (map-id (range_with_len 0 (n + 1)))) ∙ filter_of_map_range_with_len_more p (λ (k : ℕ). k) 0 n n (omega arith)
-    ∙ ap (λ (xs : List ℕ). filter p xs ++ cond (p n) (n ∷ []) []) (map-id (range_with_len 0 n))
 
 -- the numbers of the first stretches
 begun_stretches : (timeline : List Piece) (marks : List ℕ) → stretch_numbers (first_stretches timeline marks) ≡ filter (λ k. nat_lt 0 (get_or marks k 0)) (range_with_len 0 (length timeline))

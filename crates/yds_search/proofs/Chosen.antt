@@ -1,18 +1,18 @@
 -- The fastest part, which is taken off the stack, and the search after it is finished or split.
 use Rattle.std.proofs.Common.{Vec, Global, ◌≡◌, ℕ, ◌*◌, ◌^◌, ◌<◌, ◌≤◌, List, [], ◌∷◌, ◌++◌, ◌∙◌, length, map, get_or, sym, ap, subst, arith}
 use Rattle.std.specs.List.{All, sum_by}
-use Rattle.std.proofs.lemmas.List.{length-map, length-append, map_push, get_or-map}
+use Rattle.std.proofs.lemmas.List.{length-map, length-append, map_push}
 use Rattle.yds_model.specs.Job.{Job}
+use Rattle.yds_timetable.specs.Shares.{JobShare}
 use Rattle.yds_search.specs.declared.own.Own.{Own}
 use Rattle.yds_search.specs.declared.own.OwnJob.{OwnJob}
 use Rattle.yds_search.specs.declared.own.OwnStretch.{OwnStretch}
 use Rattle.yds_search.specs.declared.stack.Size.{Size}
 use Rattle.yds_search.specs.declared.search.Search.{Search}
 use Rattle.yds_search.specs.declared.found.Group as groups
-use Rattle.yds_search.specs.declared.share.Share as taken
 use Rattle.yds_search.specs.declared.found.TheConstants.{NO_GROUP}
-use Rattle.yds_search.specs.Found.{Group, Share, per_time, per_work}
-use Rattle.yds_search.specs.Views.{found_view, group_view, share_view, shares_view}
+use Rattle.yds_search.specs.Found.{Group, per_time, per_work}
+use Rattle.yds_search.specs.Views.{found_view, group_view}
 use Rattle.yds_search.specs.Numbers.{AreWritten}
 use Rattle.yds_search.specs.Fill.{IsFill, IsNotAfter, IsPart}
 use Rattle.yds_search.specs.Closure.{AreClosing, AreRanks}
@@ -46,15 +46,6 @@ chosen_as jobs size search x own jobs_are stretches_are =
       groups = subst (λ (part : Part). IsSearch jobs x.windows (found_view search.found) (part ∷ x.parts)) same x.groups;
       last = subst (λ (part : Part). AreLast x.parts part size search.stack) same x.last;
     }
-
--- what holds of the shares holds of the program's own ones
-pub shares_known : (items : List taken.Share) (n m : ℕ) → All (λ share. (share.job < n) × (share.stretch < m)) (shares_view items) →
-    All (λ share. share.job < n) items × All (λ share. share.stretch < m) items
-shares_known items n m known =
-    let here : (k : ℕ) (d : taken.Share) → k < length items → ((get_or items k d).job < n) × ((get_or items k d).stretch < m) = λ k d within.
-    subst (λ (share : Share). (share.job < n) × (share.stretch < m)) (get_or-map share_view items k d (share_view d) within)
-    (known k (share_view d) (omega (arith, within, length-map items share_view))) in
-    ((λ k d within. (here k d within).0), (λ k d within. (here k d within).1))
 
 module _ (jobs : List Job) (size : Size) (search : Search) (x : IsChosen jobs size search) where
   pub chosen_waits : IsWaiting jobs x.windows (found_view search.found) x.part
@@ -90,7 +81,7 @@ module _ (jobs : List Job) (size : Size) (search : Search) (x : IsChosen jobs si
     pub chosen_units : All (λ own. per_time (group_view group) * own.length < 2 ^ 64) x.part.stretches × All (λ own. per_work (group_view group) * own.work < 2 ^ 64) x.part.jobs
     chosen_units = units_fit jobs x.windows (found_view search.found) x.part x.instance chosen_waits (group_view group) work length_is chosen_few.0 chosen_few.1
 
-    module _ (shares : List Share) (wants' rooms' : List ℕ) (fill : IsFill IsNotAfter (own_windows x.part.jobs) (wants_at (per_work (group_view group)) x.part.jobs)
+    module _ (shares : List JobShare) (wants' rooms' : List ℕ) (fill : IsFill IsNotAfter (own_windows x.part.jobs) (wants_at (per_work (group_view group)) x.part.jobs)
         (rooms_at (per_time (group_view group)) x.part.stretches) shares wants' rooms') where
       pub chosen_rooms : length rooms' ≡ length x.part.stretches
       chosen_rooms = fill.same_rooms ∙ length-map x.part.stretches (λ own. per_time (group_view group) * own.length)
@@ -102,7 +93,7 @@ module _ (jobs : List Job) (size : Size) (search : Search) (x : IsChosen jobs si
 
       -- it is finished
       pub chosen_finished : (new : Search) → ((i : ℕ) → get_or wants' i 0 ≡ 0) → AreLaid x.parts new.stack → new.found.groups.items ≡ search.found.groups.items ++ group ∷ [] →
-          shares_view new.found.shares.items ≡ shares_view search.found.shares.items ++ shares_by_number x.part.jobs x.part.stretches shares →
+          new.found.shares.items ≡ search.found.shares.items ++ shares_by_number x.part.jobs x.part.stretches shares →
           AreWritten (λ j value. value ≡ length search.found.groups.items) (job_numbers x.part.jobs) (length x.part.jobs) search.found.group_of_job.items new.found.group_of_job.items →
           AreWritten (λ k value. value ≡ length search.found.groups.items) (stretch_numbers x.part.stretches) (length x.part.stretches)
           search.found.group_of_stretch.items new.found.group_of_stretch.items → IsSearching jobs new
@@ -123,10 +114,10 @@ module _ (jobs : List Job) (size : Size) (search : Search) (x : IsChosen jobs si
               groups = xs;
               group_of_job = new.found.group_of_job.items;
               group_of_stretch = new.found.group_of_stretch.items;
-              shares = shares_view new.found.shares.items;
+              shares = new.found.shares.items;
             }) x.parts)
                 (sym (ap (map group_view) groups ∙ map_push group_view search.found.groups.items group))
-                (subst (λ (xs : List Share). IsSearch jobs x.windows (record {
+                (subst (λ (xs : List JobShare). IsSearch jobs x.windows (record {
                   groups = old.groups ++ group_view group ∷ [];
                   group_of_job = new.found.group_of_job.items;
                   group_of_stretch = new.found.group_of_stretch.items;

@@ -6,7 +6,7 @@ use Rattle.std.proofs.lemmas.Bool.{cases_lt, cases_eq}
 use Rattle.std.proofs.lemmas.Bool.Decides.{nat_tests}
 use Rattle.yds_events.specs.declared.window.Window.{Window}
 use Rattle.yds_events.specs.Window.{window_at}
-use Rattle.yds_search.specs.Found.{Share, share_at, no_share}
+use Rattle.yds_timetable.specs.Shares.{JobShare, share_at, no_share}
 use Rattle.yds_search.specs.Fill.{IsNotAfter, IsFill}
 use Rattle.yds_search.specs.Closure.{AreLeast, reach_from, reach_over, AreLateReaches, AreShareReaches, AreMarksOf, AreClosing, IsMarked, AreClosed}
 
@@ -126,7 +126,7 @@ reach_falls late shared m (suc more) count upto = elim (cases_eq count (suc more
 ]
 
 -- a group was filled, and its stretches are marked
-record Known (windows : List Window) (wants rooms : List ℕ) (shares : List Share) (wants' rooms' late shared marks : List ℕ) : Type 0 where
+record Known (windows : List Window) (wants rooms : List ℕ) (shares : List JobShare) (wants' rooms' late shared marks : List ℕ) : Type 0 where
   fill : IsFill IsNotAfter windows wants rooms shares wants' rooms'
   windows_are : (j : ℕ) → j < length windows → ((window_at windows j).first < (window_at windows j).end) × ((window_at windows j).end ≤ length rooms)
   ends : (i j : ℕ) → i ≤ j → j < length windows → (window_at windows i).end ≤ (window_at windows j).end
@@ -135,12 +135,12 @@ record Known (windows : List Window) (wants rooms : List ℕ) (shares : List Sha
   are : AreMarksOf late shared (length rooms) marks
 
 -- The stretch is full, and who has a share in it has only marked stretches from p on.
-record IsClosedOver (windows : List Window) (shares : List Share) (rooms marks : List ℕ) (p k : ℕ) : Type 0 where
+record IsClosedOver (windows : List Window) (shares : List JobShare) (rooms marks : List ℕ) (p k : ℕ) : Type 0 where
   full : get_or rooms k 0 ≡ 0
   next : (x i : ℕ) → x < length shares → (share_at shares x).stretch ≡ k → p ≤ i → i < (window_at windows (share_at shares x).job).end → IsMarked marks i
 
 -- what late jobs that end here reach, and what is reached over further right, is closed
-closed_here : {windows : List Window} {wants rooms : List ℕ} {shares : List Share} {wants' rooms' late shared marks : List ℕ} →
+closed_here : {windows : List Window} {wants rooms : List ℕ} {shares : List JobShare} {wants' rooms' late shared marks : List ℕ} →
     Known windows wants rooms shares wants' rooms' late shared marks → (p : ℕ) → p < length rooms → IsMarked marks p →
     ((k : ℕ) → k < p + 1 → reach_at late shared (length rooms) (p + 1) ≤ k → IsClosedOver windows shares rooms' marks (p + 1) k) →
     (k : ℕ) → k ≤ p → open_at late shared (length rooms) p ≤ k → IsClosedOver windows shares rooms' marks p k
@@ -167,7 +167,7 @@ closed_here {windows} {wants} {rooms} {shares} {wants'} {rooms'} {late} {shared}
     ]
 
 -- all the way from the right
-closed_from : {windows : List Window} {wants rooms : List ℕ} {shares : List Share} {wants' rooms' late shared marks : List ℕ} →
+closed_from : {windows : List Window} {wants rooms : List ℕ} {shares : List JobShare} {wants' rooms' late shared marks : List ℕ} →
     Known windows wants rooms shares wants' rooms' late shared marks → (rest p : ℕ) → p + rest ≡ length rooms →
     (k : ℕ) → k < p → reach_at late shared (length rooms) p ≤ k → IsClosedOver windows shares rooms' marks p k
 closed_from {windows} {wants} {rooms} {shares} {wants'} {rooms'} {late} {shared} {marks} known zero p end k before reached =
@@ -197,7 +197,7 @@ closed_from {windows} {wants} {rooms} {shares} {wants'} {rooms'} {late} {shared}
     ]
 
 -- what a fill's late jobs close upon
-pub fill_closes : (windows : List Window) (wants rooms : List ℕ) (shares : List Share) (wants' rooms' marks : List ℕ) →
+pub fill_closes : (windows : List Window) (wants rooms : List ℕ) (shares : List JobShare) (wants' rooms' marks : List ℕ) →
     IsFill IsNotAfter windows wants rooms shares wants' rooms' →
     ((j : ℕ) → j < length windows → ((window_at windows j).first < (window_at windows j).end) × ((window_at windows j).end ≤ length rooms)) →
     ((i j : ℕ) → i ≤ j → j < length windows → (window_at windows i).end ≤ (window_at windows j).end) →

@@ -7,7 +7,8 @@ use Rattle.yds_model.specs.Comparison.{stretch_at}
 use Rattle.yds_events.specs.declared.window.Window.{Window}
 use Rattle.yds_events.specs.Window.{IsInWindow}
 use Rattle.yds_events.proofs.Neighbours.{stretch_forward, stretch_order}
-use Rattle.yds_search.specs.Found.{Found, share_at, no_share, group_of, IsFound}
+use Rattle.yds_timetable.specs.Shares.{share_at, no_share}
+use Rattle.yds_search.specs.Found.{Found, group_of, IsFound}
 use Rattle.yds_search.specs.Instance.{IsInstance}
 use Rattle.yds_search.specs.Search.{IsSearch}
 

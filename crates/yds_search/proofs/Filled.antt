@@ -12,19 +12,20 @@ use Rattle.yds_model.specs.Job.{Job, job_at}
 use Rattle.yds_model.specs.Divisor.{common_divisor}
 use Rattle.yds_model.specs.EarliestFirst.{ComesFirst}
 use Rattle.yds_model.proofs.Horizon.{part_own, part_other}
-use Rattle.yds_model.proofs.Sums.{sum_by_same, sum_by-mul}
+use Rattle.yds_model.proofs.Sums.{sum_by_same, sum_by-mul, sum_by-map}
 use Rattle.yds_events.specs.declared.window.Window.{Window}
 use Rattle.yds_events.specs.Window.{window_at, no_window, IsIn, IsPlace}
+use Rattle.yds_timetable.specs.Shares.{JobShare}
 use Rattle.yds_search.specs.declared.own.OwnJob.{OwnJob}
 use Rattle.yds_search.specs.declared.own.OwnStretch.{OwnStretch}
-use Rattle.yds_search.specs.Found.{Found, Group, Share, per_time, per_work, units_of_job, units_in_stretch}
+use Rattle.yds_search.specs.Found.{Found, Group, per_time, per_work, units_of_job, units_in_stretch}
 use Rattle.yds_search.specs.Order.{Precedes}
 use Rattle.yds_search.specs.Own.{Part, job_numbers, stretch_numbers, window_of, own_windows, HaveWindows, wants_at, rooms_at, share_by_number, shares_by_number}
 use Rattle.yds_search.specs.Fill.{IsNotAfter, IsFill}
 use Rattle.yds_search.specs.Instance.{IsInstance}
 use Rattle.yds_search.specs.Waiting.{HasJob, HasStretch, IsWaiting}
 use Rattle.yds_search.specs.Search.{IsEarly, IsLaidOut}
-use Rattle.yds_search.proofs.KeySums.{over, over_same, over_add, over_list, over_one, over_zero, sum_by-map, sums_swap}
+use Rattle.yds_search.proofs.KeySums.{over, over_same, over_add, over_list, over_one, over_zero, sums_swap}
 use Rattle.yds_search.proofs.Lowest.{lowest}
 use Rattle.yds_search.proofs.Members.{AreApart, one_at, at_one, same_place, all_pairs_map}
 use Rattle.yds_search.proofs.Shares.{units_between, over_stretches, over_jobs}
@@ -190,25 +191,25 @@ module _ (jobs : List Job) (windows : List Window) (found : Found) (part : Part)
         )
 
     -- that is filled at its average speed
-    module _ (shares : List Share) (wants' rooms' : List ℕ)
+    module _ (shares : List JobShare) (wants' rooms' : List ℕ)
         (fill : IsFill IsNotAfter (own_windows part.jobs) (wants_at (per_work group) part.jobs) (rooms_at (per_time group) part.stretches) shares wants' rooms') where
-      abbrev pub own_shares : List Share
+      abbrev pub own_shares : List JobShare
       own_shares = shares_by_number part.jobs part.stretches shares
 
       -- a share's job and stretch are places of the part
-      job_place : (x : ℕ) (d : Share) → x < length shares → (get_or shares x d).job < length part.jobs
+      job_place : (x : ℕ) (d : JobShare) → x < length shares → (get_or shares x d).job < length part.jobs
       job_place x d below = omega (arith, (fill.taken.parts x d below).known, length-map part.jobs window_of)
 
       -- a share's stretch is a place of the part
-      stretch_place : (x : ℕ) (d : Share) → x < length shares → (get_or shares x d).stretch < length part.stretches
+      stretch_place : (x : ℕ) (d : JobShare) → x < length shares → (get_or shares x d).stretch < length part.stretches
       stretch_place x d below = omega (arith, (fill.taken.parts x d below).known_stretch, length-map part.stretches (λ own. per_time group * own.length))
 
       -- the number that a place stands for
-      job_is : (x : ℕ) (d : Share) → x < length shares → get_or (job_numbers part.jobs) (get_or shares x d).job 0 ≡ (job_in (get_or shares x d).job).job
+      job_is : (x : ℕ) (d : JobShare) → x < length shares → get_or (job_numbers part.jobs) (get_or shares x d).job 0 ≡ (job_in (get_or shares x d).job).job
       job_is x d below = get_or-map (λ own. own.job) part.jobs (get_or shares x d).job no_own 0 (job_place x d below)
 
       -- so has the stretch
-      stretch_is : (x : ℕ) (d : Share) → x < length shares → get_or (stretch_numbers part.stretches) (get_or shares x d).stretch 0 ≡ (stretch_in (get_or shares x d).stretch).stretch
+      stretch_is : (x : ℕ) (d : JobShare) → x < length shares → get_or (stretch_numbers part.stretches) (get_or shares x d).stretch 0 ≡ (stretch_in (get_or shares x d).stretch).stretch
       stretch_is x d below = number_at (get_or shares x d).stretch (stretch_place x d below)
 
       -- the units by number with what is left are what a job wants and what room a stretch has
@@ -318,7 +319,7 @@ module _ (jobs : List Job) (windows : List Window) (found : Found) (part : Part)
             less {a} {b} differ upto = elim (cases_eq a b) [ inl same ↦ absurd (differ same) | inr other ↦ omega (arith, other, upto) ]
 
             -- a job with a share found what is before it in its window taken by jobs before it
-            early : (x : ℕ) (d : Share) → x < length shares → (y : ℕ) (e : Share) → y < length shares →
+            early : (x : ℕ) (d : JobShare) → x < length shares → (y : ℕ) (e : JobShare) → y < length shares →
                 IsEarly jobs windows (share_by_number part.jobs part.stretches (get_or shares x d)) (share_by_number part.jobs part.stretches (get_or shares y e))
             early x d below y e below' is_in before =
                 let one = get_or shares x d in

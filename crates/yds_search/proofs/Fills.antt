@@ -10,11 +10,12 @@ use Rattle.std.proofs.lemmas.Bool.{cases_lt, cases_eq}
 use Rattle.std.proofs.lemmas.Bool.Decides.{nat_tests}
 use Rattle.yds_events.specs.declared.window.Window.{Window}
 use Rattle.yds_events.specs.Window.{window_at, IsIn}
-use Rattle.yds_search.specs.Found.{Share, units_of_job}
+use Rattle.yds_timetable.specs.Shares.{JobShare}
+use Rattle.yds_search.specs.Found.{units_of_job}
 use Rattle.yds_search.specs.Fill.{IsNotAfter, IsFullBefore, IsPart, FoundFull, StandInOrder, AreTaken, IsServed, full_count, wanting_count, IsFilling, IsFill, IsNext, IsTake}
 
 -- a full stretch stays full and keeps its shares, because nothing is put into it
-full_keeps : (shares : List Share) (rooms : List ℕ) (share : Share) (rest k job : ℕ) → IsFullBefore IsNotAfter shares rooms k job →
+full_keeps : (shares : List JobShare) (rooms : List ℕ) (share : JobShare) (rest k job : ℕ) → IsFullBefore IsNotAfter shares rooms k job →
     1 ≤ get_or rooms share.stretch 0 → IsFullBefore IsNotAfter (shares ++ share ∷ []) (set rooms share.stretch rest) k job
 full_keeps shares rooms share rest k job full room =
     let other : k ≢ share.stretch = λ same. omega (arith, ap (λ i. get_or rooms i 0) same, full.full, room) in
@@ -24,7 +25,7 @@ full_keeps shares rooms share rest k job full room =
     }
 
 -- one share more
-taken_more : (windows : List Window) (m : ℕ) (shares : List Share) (rooms : List ℕ) (share : Share) (rest : ℕ) →
+taken_more : (windows : List Window) (m : ℕ) (shares : List JobShare) (rooms : List ℕ) (share : JobShare) (rest : ℕ) →
     AreTaken IsNotAfter windows m shares rooms → IsPart windows (length windows) m share → 1 ≤ get_or rooms share.stretch 0 →
     All (λ one. one.job ≤ share.job) shares → All (λ one. one.job ≡ share.job → one.stretch < share.stretch) shares →
     ((k : ℕ) → (window_at windows share.job).first ≤ k → k < share.stretch → get_or rooms k 0 ≡ 0) →
@@ -42,7 +43,7 @@ taken_more windows m shares rooms share rest taken part room all ahead swept = r
 }
 
 -- full stretches are passed over at once, and so is all once the job is done
-pub serve_jumps : {windows : List Window} {job want : ℕ} {shares : List Share} {rooms : List ℕ} {next next' left : ℕ} {shares' : List Share} {rooms' : List ℕ} →
+pub serve_jumps : {windows : List Window} {job want : ℕ} {shares : List JobShare} {rooms : List ℕ} {next next' left : ℕ} {shares' : List JobShare} {rooms' : List ℕ} →
     IsServed windows job want shares rooms next left shares' rooms' → next ≤ next' →
     (1 ≤ left → (k : ℕ) → next ≤ k → k < next' → get_or rooms' k 0 ≡ 0) → IsServed windows job want shares rooms next' left shares' rooms'
 serve_jumps {windows} {job} {want} {shares} {rooms} {next} {next'} {left} {shares'} {rooms'} so_far after full = record {
@@ -83,12 +84,12 @@ counts : (shares full full' shares' full'' left want units room : ℕ) → 1 ≤
 counts shares full full' shares' full'' left want units room some free is few sets = grind (arith, nat_tests)
 
 -- the job takes what it can in a stretch
-serve_takes : (windows : List Window) (job want : ℕ) (shares : List Share) (rooms : List ℕ) (next left : ℕ) (shares' : List Share) (rooms' : List ℕ) →
+serve_takes : (windows : List Window) (job want : ℕ) (shares : List JobShare) (rooms : List ℕ) (next left : ℕ) (shares' : List JobShare) (rooms' : List ℕ) →
     IsServed windows job want shares rooms next left shares' rooms' → job < length windows → IsIn windows job next → next < length rooms →
     1 ≤ left → 1 ≤ get_or rooms' next 0 → (units : ℕ) → units ≡ min left (get_or rooms' next 0) → IsServed windows job want shares rooms (next + 1) (left - units)
     (shares' ++ record { job = job; stretch = next; units = units } ∷ []) (set rooms' next (get_or rooms' next 0 - units))
 serve_takes windows job want shares rooms next left shares' rooms' so_far known inside within some free units is =
-    let share : Share = record { job = job; stretch = next; units = units } in
+    let share : JobShare = record { job = job; stretch = next; units = units } in
     let rest : ℕ = get_or rooms' next 0 - units in
     let room : (1 ≤ units) × (units ≤ get_or rooms' next 0) × (units ≤ left) = (grind arith, grind arith, grind arith) in
     let in_range : next < length rooms' = omega (arith, so_far.same_length) in
@@ -117,8 +118,8 @@ serve_takes windows job want shares rooms next left shares' rooms' so_far known 
     }
 
 -- a job takes what it can in the next stretch of its window, or passes over it
-pub serve_take : {windows : List Window} {job want : ℕ} {shares : List Share} {rooms : List ℕ} {next left : ℕ} {shares' : List Share} {rooms' : List ℕ}
-    {left'' : ℕ} {shares'' : List Share} {rooms'' : List ℕ} → IsServed windows job want shares rooms next left shares' rooms' → job < length windows →
+pub serve_take : {windows : List Window} {job want : ℕ} {shares : List JobShare} {rooms : List ℕ} {next left : ℕ} {shares' : List JobShare} {rooms' : List ℕ}
+    {left'' : ℕ} {shares'' : List JobShare} {rooms'' : List ℕ} → IsServed windows job want shares rooms next left shares' rooms' → job < length windows →
     IsIn windows job next → next < length rooms → IsTake job next left shares' rooms' left'' shares'' rooms'' →
     IsServed windows job want shares rooms (next + 1) left'' shares'' rooms''
 serve_take {windows} {job} {want} {shares} {rooms} {next} {left} {shares'} {rooms'} {left''} {shares''} {rooms''} so_far known inside within take = elim take [
@@ -133,7 +134,7 @@ wanted_once : (want given units : ℕ) → units + want ≡ given → min want 1
 wanted_once want given units is = grind (arith, nat_tests)
 
 -- one job more
-pub fill_more : {windows : List Window} {wants rooms : List ℕ} {i : ℕ} {shares : List Share} {wants' rooms' : List ℕ} {left : ℕ} {shares' : List Share} {rooms'' : List ℕ} →
+pub fill_more : {windows : List Window} {wants rooms : List ℕ} {i : ℕ} {shares : List JobShare} {wants' rooms' : List ℕ} {left : ℕ} {shares' : List JobShare} {rooms'' : List ℕ} →
     i < length wants → IsFilling windows wants rooms i shares wants' rooms' →
     IsServed windows i (get_or wants' i 0) shares rooms' (window_at windows i).end left shares' rooms'' → IsFilling windows wants rooms (i + 1) shares' (set wants' i left) rooms''
 fill_more {windows} {wants} {rooms} {i} {shares} {wants'} {rooms'} {left} {shares'} {rooms''} within so_far served =
@@ -170,7 +171,7 @@ fill_more {windows} {wants} {rooms} {i} {shares} {wants'} {rooms'} {left} {share
     }
 
 -- everybody has taken what they could
-pub fill_ends : {windows : List Window} {wants rooms : List ℕ} {i : ℕ} {shares : List Share} {wants' rooms' : List ℕ} → length windows ≤ i → length wants ≤ i →
+pub fill_ends : {windows : List Window} {wants rooms : List ℕ} {i : ℕ} {shares : List JobShare} {wants' rooms' : List ℕ} → length windows ≤ i → length wants ≤ i →
     IsFilling windows wants rooms i shares wants' rooms' → IsFill IsNotAfter windows wants rooms shares wants' rooms'
 fill_ends {windows} {wants} {rooms} {i} {shares} {wants'} {rooms'} windows_end end filling = record {
   taken = filling.taken;
@@ -208,7 +209,7 @@ next_full rooms next place are within none =
     }
 
 -- rooms become no greater, so one may go on as before
-pub take_next : (rooms next : List ℕ) (job place left : ℕ) (shares : List Share) (left' : ℕ) (shares' : List Share) (rooms' : List ℕ) →
+pub take_next : (rooms next : List ℕ) (job place left : ℕ) (shares : List JobShare) (left' : ℕ) (shares' : List JobShare) (rooms' : List ℕ) →
     IsNext rooms next → IsTake job place left shares rooms left' shares' rooms' → IsNext rooms' next
 take_next rooms next job place left shares left' shares' rooms' are take = elim take [
   | inl passed ↦ rw passed.3 are
@@ -223,7 +224,7 @@ take_next rooms next job place left shares left' shares' rooms' are take = elim 
 ]
 
 -- a stretch is full once a job has passed over it and still wants units
-pub next_passed : {rooms next : List ℕ} (job : ℕ) {place : ℕ} (left : ℕ) (shares : List Share) (left' : ℕ) (shares' : List Share) {rooms' : List ℕ} →
+pub next_passed : {rooms next : List ℕ} (job : ℕ) {place : ℕ} (left : ℕ) (shares : List JobShare) (left' : ℕ) (shares' : List JobShare) {rooms' : List ℕ} →
     IsNext rooms next → place < length rooms → IsTake job place left shares rooms left' shares' rooms' → 1 ≤ left' → IsNext rooms' (set next place (place + 1))
 next_passed {rooms} {next} job {place} left shares left' shares' {rooms'} are within take more =
     let after : IsNext rooms' next = take_next rooms next job place left shares left' shares' rooms' are take in

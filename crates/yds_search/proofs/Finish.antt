@@ -13,10 +13,11 @@ use Rattle.yds_model.proofs.Horizon.{part_other}
 use Rattle.yds_model.proofs.Sums.{sum_by_same, sum_by_at_most, sum_by-mul}
 use Rattle.yds_events.specs.declared.window.Window.{Window}
 use Rattle.yds_events.specs.Window.{length_at}
+use Rattle.yds_timetable.specs.Shares.{JobShare, no_share}
 use Rattle.yds_search.specs.declared.found.TheConstants.{NO_GROUP}
 use Rattle.yds_search.specs.declared.own.OwnJob.{OwnJob}
 use Rattle.yds_search.specs.declared.own.OwnStretch.{OwnStretch}
-use Rattle.yds_search.specs.Found.{Found, Group, Share, no_share, group_at, no_group, group_of, per_time, per_work, units_of_job, units_in_stretch, IsShare}
+use Rattle.yds_search.specs.Found.{Found, Group, group_at, no_group, group_of, per_time, per_work, units_of_job, units_in_stretch, IsShare}
 use Rattle.yds_search.specs.Numbers.{AreWritten}
 use Rattle.yds_search.specs.Own.{Part, job_numbers, stretch_numbers}
 use Rattle.yds_search.specs.Instance.{IsInstance}
@@ -73,7 +74,7 @@ same_chosen old new group i value cases finished few = elim cases [
 
 -- all that is known when a part is finished
 module _ (jobs : List Job) (windows : List Window) (found : Found) (part : Part) (parts : List Part) (are : IsInstance jobs windows) (search : IsSearch jobs windows found (part ∷ parts))
-    (group : Group) (own_shares : List Share) (laid : IsLaidOut jobs windows part group own_shares) (new_jobs new_stretches : List ℕ)
+    (group : Group) (own_shares : List JobShare) (laid : IsLaidOut jobs windows part group own_shares) (new_jobs new_stretches : List ℕ)
     (jobs_written : AreWritten (λ j number. number ≡ length found.groups) (job_numbers part.jobs) (length part.jobs) found.group_of_job new_jobs)
     (stretches_written : AreWritten (λ k number. number ≡ length found.groups) (stretch_numbers part.stretches) (length part.stretches) found.group_of_stretch new_stretches) where
   -- what is found then
@@ -217,7 +218,7 @@ module _ (jobs : List Job) (windows : List Window) (found : Found) (part : Part)
   ]
 
   -- an old share is of a finished group, a new one of the part
-  share_of : (x : ℕ) (d : Share) → x < length found.shares →
+  share_of : (x : ℕ) (d : JobShare) → x < length found.shares →
       (group_of found.group_of_job (get_or found.shares x d).job < length found.groups) × (group_of found.group_of_stretch (get_or found.shares x d).stretch < length found.groups)
   share_of x d within = let share = search.finished.shares x d within in (share.grouped, omega (arith, share.grouped, share.same_group))
 

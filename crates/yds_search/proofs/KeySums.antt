@@ -1,4 +1,4 @@
--- Sums over lists that are filtered, mapped and merged, over the numbers below n, and a sum that is split by a key.
+-- Sums over lists that are merged, over the numbers below n, and a sum that is split by a key.
 use Rattle.std.proofs.Common.{◌≡◌, ℕ, zero, suc, ◌+◌, ◌<◌, ◌≤◌, ◌==◌, List, [], ◌∷◌, ◌++◌, ◌∙◌, length, map, get_or, take, sym, refl, ap, arith, inl, inr, Bool, true, false, add-one}
 use Rattle.std.specs.Prelude.{cond, nat_lt}
 use Rattle.std.specs.List.{All, sum_by, filter, flat_map, range_with_len}
@@ -7,19 +7,8 @@ use Rattle.std.proofs.lemmas.List.Sums.{sum_by-cons, sum_by-append, sum_by_push,
 use Rattle.std.proofs.lemmas.List.{map-id, take_all, same_lists, get_or_default}
 use Rattle.std.proofs.lemmas.List.FromFn.{get_or-range_with_len, length-range_with_len, map-range_with_len_more, length-map-range_with_len, get_or-map-range_with_len}
 use Rattle.yds_model.proofs.Sums.{sum_by-add, sum_by_same, sum_by_zero}
+use Rattle.yds_model.proofs.Filters.{sum_by-filter}
 use Rattle.std.proofs.lemmas.List.Folds.{fold-map}
-
-filter_step : {X : Type 0} (p : Bool) (x : X) (f : X → ℕ) (xs : List X) → sum_by f (cond p (x ∷ xs) xs) ≡ cond p (f x) 0 + sum_by f xs
-filter_step true x f xs = sum_by-cons f x xs
-filter_step false x f xs = omega arith
-
-pub sum_by-filter : {X : Type 0} (p : X → Bool) (f : X → ℕ) (xs : List X) → sum_by f (filter p xs) ≡ sum_by (λ x. cond (p x) (f x) 0) xs
-sum_by-filter p f [] = refl
-sum_by-filter p f (x ∷ xs) = omega (arith, filter_step (p x) x f (filter p xs), sum_by-cons (λ y. cond (p y) (f y) 0) x xs, sum_by-filter p f xs)
-
-pub sum_by-map : {X Y : Type 0} (g : X → Y) (f : Y → ℕ) (xs : List X) → sum_by f (map g xs) ≡ sum_by (λ x. f (g x)) xs
-sum_by-map g f [] = refl
-sum_by-map g f (x ∷ xs) = omega (arith, sum_by-cons f (g x) (map g xs), sum_by-cons (λ y. f (g y)) x xs, sum_by-map g f xs)
 
 pub sum_by-flat_map : {X Y : Type 0} (g : X → List Y) (f : Y → ℕ) (xs : List X) → sum_by f (flat_map g xs) ≡ sum_by (λ x. sum_by f (g x)) xs
 sum_by-flat_map g f [] = refl

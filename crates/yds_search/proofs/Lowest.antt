@@ -1,8 +1,9 @@
 -- Two numbers in lowest terms.
-use Rattle.std.proofs.Common.{◌≡◌, ℕ, zero, suc, ◌*◌, ◌/◌, ◌≤◌, arith}
+use Rattle.std.proofs.Common.{◌≡◌, ℕ, ◌*◌, ◌/◌, ◌≤◌}
 use Rattle.std.proofs.Math.Nat.{div-mul_cancel}
 use Rattle.yds_model.specs.Divisor.{common_divisor}
 use Rattle.yds_model.proofs.Divisor.{divisor_is_greatest}
+use Rattle.yds_model.proofs.Fractions.{factors}
 
 -- the terms of a / b, where neither is 0
 pub record Lowest (a b : ℕ) : Type 0 where
@@ -11,11 +12,6 @@ pub record Lowest (a b : ℕ) : Type 0 where
   pub some : 1 ≤ common_divisor a b
   pub some_first : 1 ≤ a / common_divisor a b
   pub some_second : 1 ≤ b / common_divisor a b
-
-factors : (one other product : ℕ) → one * other ≡ product → 1 ≤ product → (1 ≤ one) × (1 ≤ other)
-factors zero other product is some = absurd (omega arith)
-factors (suc one) zero product is some = absurd (omega arith)
-factors (suc one) (suc other) product is some = (omega arith, omega arith)
 
 pub lowest : (a b : ℕ) → 1 ≤ a → 1 ≤ b → Lowest a b
 lowest a b some some' =

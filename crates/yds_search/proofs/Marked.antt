@@ -7,6 +7,7 @@ use Rattle.std.proofs.lemmas.List.Elements.{All-nil, All-cons, All-tail, All-map
 use Rattle.std.proofs.lemmas.List.Filters.{length-filter_both, sum_by-filter_both}
 use Rattle.std.proofs.lemmas.List.Kept.{AllPairs-cons}
 use Rattle.std.proofs.lemmas.List.Sums.{sum_by-cons}
+use Rattle.yds_model.proofs.Sums.{sum_by-map}
 use Rattle.yds_events.specs.Window.{IsPlace}
 use Rattle.yds_search.specs.declared.own.OwnJob.{OwnJob}
 use Rattle.yds_search.specs.declared.own.OwnStretch.{OwnStretch}
@@ -14,7 +15,7 @@ use Rattle.yds_search.specs.Own.{stretch_numbers}
 use Rattle.yds_search.specs.Closure.{AreRanks}
 use Rattle.yds_search.specs.Stack.{moves, moving_jobs, staying_jobs, marked_with}
 use Rattle.yds_search.specs.Waiting.{HasOne}
-use Rattle.yds_search.proofs.KeySums.{count_all, sum_by-map}
+use Rattle.yds_search.proofs.KeySums.{count_all}
 use Rattle.yds_search.proofs.Members.{one_at, at_one, one_map, one_filter}
 use Rattle.yds_search.proofs.Filled.{no_own, no_own_stretch}
 

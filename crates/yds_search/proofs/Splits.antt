@@ -9,9 +9,10 @@ use Rattle.yds_model.specs.Job.{Job}
 use Rattle.yds_model.proofs.Sums.{sum_by_zero}
 use Rattle.yds_events.specs.declared.window.Window.{Window}
 use Rattle.yds_events.specs.Window.{window_at, no_window, IsIn, IsPlace}
+use Rattle.yds_timetable.specs.Shares.{JobShare, share_at, no_share}
 use Rattle.yds_search.specs.declared.own.OwnJob.{OwnJob}
 use Rattle.yds_search.specs.declared.own.OwnStretch.{OwnStretch}
-use Rattle.yds_search.specs.Found.{Found, Group, Share, share_at, no_share, per_time, per_work, units_of_job, units_in_stretch}
+use Rattle.yds_search.specs.Found.{Found, Group, per_time, per_work, units_of_job, units_in_stretch}
 use Rattle.yds_search.specs.Order.{Precedes}
 use Rattle.yds_search.specs.Own.{Part, stretch_numbers, window_of, own_windows, HaveWindows, wants_at, rooms_at, share_by_number}
 use Rattle.yds_search.specs.Fill.{IsNotAfter, IsFill}
@@ -42,7 +43,7 @@ first_as windows part own slower jobs_of stretches_of before = record {
 -- all that is known of a split
 module _ (jobs : List Job) (windows : List Window) (found : Found) (part : Part) (are : IsInstance jobs windows) (waits : IsWaiting jobs windows found part)
     (group : Group) (work_is : group.work ≡ sum_by (λ own. own.work) part.jobs) (length_is : group.length ≡ sum_by (λ own. own.length) part.stretches)
-    (shares : List Share) (wants' rooms' : List ℕ)
+    (shares : List JobShare) (wants' rooms' : List ℕ)
     (fill : IsFill IsNotAfter (own_windows part.jobs) (wants_at (per_work group) part.jobs) (rooms_at (per_time group) part.stretches) shares wants' rooms')
     (marks ranks : List ℕ) (closing : AreClosing (own_windows part.jobs) wants' shares (length rooms') marks) (count : length marks ≡ length part.stretches)
     (small : All (λ mark. mark ≤ 1) marks) (ranked : AreRanks marks ranks) (late : (i : ℕ) × (i < length wants') × (1 ≤ get_or wants' i 0)) where
@@ -63,7 +64,7 @@ module _ (jobs : List Job) (windows : List Window) (found : Found) (part : Part)
   stretch_in p = get_or part.stretches p no_own_stretch
 
   -- the fill's own shares, by number
-  abbrev own_shares : List Share
+  abbrev own_shares : List JobShare
   own_shares = filled.own_shares jobs windows found part are waits group work_is length_is shares wants' rooms' fill
 
   -- so many units of a job in a stretch

@@ -1,7 +1,7 @@
 -- What late jobs close upon: the stretches of their windows, and those of the windows of jobs with a share in such a stretch.
 use Rattle.std.specs.Prelude.{◌≡◌, ℕ, zero, suc, ◌+◌, ◌-◌, ◌<◌, ◌≤◌, nat_le, min, if◌then◌else◌, List, length, take, slice_index, sum}
 use Rattle.yds_events.specs.declared.window.Window.{Window}
-use Rattle.yds_search.specs.Found.{Share, share_at}
+use Rattle.yds_timetable.specs.Shares.{JobShare, share_at}
 use Rattle.yds_events.specs.Window.{window_at, IsIn}
 
 -- Of the first n items those that count have a place among m and a value each: for each place the least value, or m where there is none.
@@ -16,7 +16,7 @@ AreLateReaches windows wants n m reaches =
     AreLeast (λ j. 1 ≤ slice_index wants j) (λ j. (window_at windows j).end - 1) (λ j. (window_at windows j).first) n m reaches
 
 -- for each of m stretches the least first one of the windows of the jobs with one of the first n shares in it
-abbrev pub AreShareReaches : List Window → List Share → ℕ → ℕ → List ℕ → Type 0
+abbrev pub AreShareReaches : List Window → List JobShare → ℕ → ℕ → List ℕ → Type 0
 AreShareReaches windows shares n m reaches =
     AreLeast (λ x. Unit {0}) (λ x. (share_at shares x).stretch) (λ x. (window_at windows (share_at shares x).job).first) n m reaches
 
@@ -36,7 +36,7 @@ pub record AreMarksOf (late shared : List ℕ) (m : ℕ) (marks : List ℕ) : Ty
   pub each : (p : ℕ) → p < m → slice_index marks p ≡ (if nat_le (reach_over late shared m (m - p)) p then 1 else 0)
 
 -- the marks of what late jobs reach, directly or through shares
-pub record AreClosing (windows : List Window) (wants : List ℕ) (shares : List Share) (m : ℕ) (marks : List ℕ) : Type 0 where
+pub record AreClosing (windows : List Window) (wants : List ℕ) (shares : List JobShare) (m : ℕ) (marks : List ℕ) : Type 0 where
   pub late : List ℕ
   pub shared : List ℕ
   pub lates : AreLateReaches windows wants (length windows) m late
@@ -48,7 +48,7 @@ abbrev pub IsMarked : List ℕ → ℕ → Type 0
 IsMarked marks k = 1 ≤ slice_index marks k
 
 -- Of the own stretches of a group all that are marked are full, who has a share in one has only marked ones, and so does who is late.
-pub record AreClosed (IsOwn : ℕ → Type 0) (windows : List Window) (shares : List Share) (wants rooms marks : List ℕ) : Type 0 where
+pub record AreClosed (IsOwn : ℕ → Type 0) (windows : List Window) (shares : List JobShare) (wants rooms marks : List ℕ) : Type 0 where
   pub full : (k : ℕ) → IsOwn k → IsMarked marks k → slice_index rooms k ≡ 0
   pub shared : (x k : ℕ) → x < length shares → IsMarked marks (share_at shares x).stretch → IsIn windows (share_at shares x).job k →
       IsOwn k → IsMarked marks k

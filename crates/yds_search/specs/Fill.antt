@@ -2,7 +2,8 @@
 use Rattle.std.specs.Prelude.{◌≡◌, ℕ, ◌+◌, ◌-◌, ◌<◌, ◌≤◌, ◌⊎◌, ◌==◌, nat_lt, min, List, [], ◌∷◌, ◌++◌, length, take, slice_index, slice_set, count_by}
 use Rattle.std.specs.List.{All, AllPairs}
 use Rattle.yds_events.specs.declared.window.Window.{Window}
-use Rattle.yds_search.specs.Found.{Share, units_of_job, units_in_stretch}
+use Rattle.yds_timetable.specs.Shares.{JobShare}
+use Rattle.yds_search.specs.Found.{units_of_job, units_in_stretch}
 use Rattle.yds_events.specs.Window.{window_at, IsIn}
 
 -- one place isn't after another
@@ -11,27 +12,27 @@ IsNotAfter one other = one ≤ other
 
 -- The stretch has no room, and who has a share in it comes before the job, or is the job. Which job comes before another is told by `Before`:
 -- by place in a group, or by deadline and number.
-pub record IsFullBefore (Before : ℕ → ℕ → Type 0) (shares : List Share) (rooms : List ℕ) (k job : ℕ) : Type 0 where
+pub record IsFullBefore (Before : ℕ → ℕ → Type 0) (shares : List JobShare) (rooms : List ℕ) (k job : ℕ) : Type 0 where
   pub full : slice_index rooms k ≡ 0
   pub before : All (λ share. share.stretch ≡ k → Before share.job job) shares
 
 -- some units of one of n jobs in one of m stretches, in the job's window
-pub record IsPart (windows : List Window) (n m : ℕ) (share : Share) : Type 0 where
+pub record IsPart (windows : List Window) (n m : ℕ) (share : JobShare) : Type 0 where
   pub known : share.job < n
   pub known_stretch : share.stretch < m
   pub inside : IsIn windows share.job share.stretch
   pub some : 1 ≤ share.units
 
 -- a job with a share found each stretch before it in its window full
-abbrev pub FoundFull : (ℕ → ℕ → Type 0) → List Window → List Share → List ℕ → Share → Type 0
+abbrev pub FoundFull : (ℕ → ℕ → Type 0) → List Window → List JobShare → List ℕ → JobShare → Type 0
 FoundFull Before windows shares rooms share = (k : ℕ) → (window_at windows share.job).first ≤ k → k < share.stretch → IsFullBefore Before shares rooms k share.job
 
 -- in a stretch one job comes before the next, which is another one
-abbrev pub StandInOrder : (ℕ → ℕ → Type 0) → Share → Share → Type 0
+abbrev pub StandInOrder : (ℕ → ℕ → Type 0) → JobShare → JobShare → Type 0
 StandInOrder Before one next = one.stretch ≡ next.stretch → (one.job ≡ next.job → ⊥) × Before one.job next.job
 
 -- the shares that jobs took in order, and the room that is left
-pub record AreTaken (Before : ℕ → ℕ → Type 0) (windows : List Window) (m : ℕ) (shares : List Share) (rooms : List ℕ) : Type 0 where
+pub record AreTaken (Before : ℕ → ℕ → Type 0) (windows : List Window) (m : ℕ) (shares : List JobShare) (rooms : List ℕ) : Type 0 where
   pub parts : All (IsPart windows (length windows) m) shares
   pub early : All (FoundFull Before windows shares rooms) shares
   pub ordered : AllPairs (StandInOrder Before) shares
@@ -43,8 +44,8 @@ abbrev pub wanting_count : List ℕ → ℕ
 wanting_count wants = count_by (λ want. nat_lt 0 want) wants
 
 -- A job has taken what it could before stretch `next`, and so much of its want is left.
-pub record IsServed (windows : List Window) (job want : ℕ) (shares : List Share) (rooms : List ℕ)
-    (next left : ℕ) (shares' : List Share) (rooms' : List ℕ) : Type 0 where
+pub record IsServed (windows : List Window) (job want : ℕ) (shares : List JobShare) (rooms : List ℕ)
+    (next left : ℕ) (shares' : List JobShare) (rooms' : List ℕ) : Type 0 where
   pub taken : AreTaken IsNotAfter windows (length rooms) shares' rooms'
   pub all : All (λ share. share.job ≤ job) shares'
   pub ahead : All (λ share. share.job ≡ job → share.stretch < next) shares'
@@ -58,7 +59,7 @@ pub record IsServed (windows : List Window) (job want : ℕ) (shares : List Shar
 
 -- All jobs have taken what they could.
 pub record IsFill (Before : ℕ → ℕ → Type 0) (windows : List Window) (wants rooms : List ℕ)
-    (shares : List Share) (wants' rooms' : List ℕ) : Type 0 where
+    (shares : List JobShare) (wants' rooms' : List ℕ) : Type 0 where
   pub taken : AreTaken Before windows (length rooms) shares rooms'
   pub same_wants : length wants' ≡ length wants
   pub same_rooms : length rooms' ≡ length rooms
@@ -68,7 +69,7 @@ pub record IsFill (Before : ℕ → ℕ → Type 0) (windows : List Window) (wan
   pub few : length shares + full_count rooms ≤ wanting_count wants + full_count rooms'
 
 -- The jobs before place i have taken what they could.
-pub record IsFilling (windows : List Window) (wants rooms : List ℕ) (i : ℕ) (shares : List Share) (wants' rooms' : List ℕ) : Type 0 where
+pub record IsFilling (windows : List Window) (wants rooms : List ℕ) (i : ℕ) (shares : List JobShare) (wants' rooms' : List ℕ) : Type 0 where
   pub taken : AreTaken IsNotAfter windows (length rooms) shares rooms'
   pub same_wants : length wants' ≡ length wants
   pub same_rooms : length rooms' ≡ length rooms
@@ -97,7 +98,7 @@ pub record IsNumbers (last : ℕ) (numbers : List ℕ) : Type 0 where
   pub each : (k : ℕ) → k < last + 1 → slice_index numbers k ≡ k
 
 -- A job has passed over a stretch, because it is done or the stretch is full, or has taken what it could.
-abbrev pub IsTake : ℕ → ℕ → ℕ → List Share → List ℕ → ℕ → List Share → List ℕ → Type 0
+abbrev pub IsTake : ℕ → ℕ → ℕ → List JobShare → List ℕ → ℕ → List JobShare → List ℕ → Type 0
 IsTake job stretch left shares rooms left' shares' rooms' =
     ((1 ≤ left → slice_index rooms stretch ≡ 0) × (left' ≡ left) × (shares' ≡ shares) × (rooms' ≡ rooms))
     ⊎ ((units : ℕ) × (1 ≤ left) × (1 ≤ slice_index rooms stretch) × (units ≡ min left (slice_index rooms stretch)) × (left' ≡ left - units)

@@ -8,24 +8,19 @@ use Rattle.yds_model.specs.Event.{stretches}
 use Rattle.yds_model.specs.EarliestFirst.{ComesFirst}
 use Rattle.yds_model.specs.Comparison.{stretch_at}
 use Rattle.yds_events.specs.Window.{length_at, IsInWindow}
+use Rattle.yds_timetable.specs.Shares.{JobShare, share_at}
 
 -- A group's jobs have so much work together, and its stretches so much length. Its speed is work / length.
 pub record Group : Type 0 where
   pub work : ℕ
   pub length : ℕ
 
--- a job gets so many units in a stretch, which is named by its number among all stretches, from 0
-pub record Share : Type 0 where
-  pub job : ℕ
-  pub stretch : ℕ
-  pub units : ℕ
-
 -- The groups in order, the place of each job's group and of each stretch's (no group's where there is none), and the shares.
 pub record Found : Type 0 where
   pub groups : List Group
   pub group_of_job : List ℕ
   pub group_of_stretch : List ℕ
-  pub shares : List Share
+  pub shares : List JobShare
 
 abbrev pub no_group : Group
 no_group = record { work = 0; length = 0 }
@@ -41,12 +36,6 @@ per_time group = group.work / common_divisor group.work group.length
 abbrev pub per_work : Group → ℕ
 per_work group = group.length / common_divisor group.work group.length
 
-abbrev pub no_share : Share
-no_share = record { job = 0; stretch = 0; units = 0 }
-
-abbrev pub share_at : List Share → ℕ → Share
-share_at shares x = slice_index_or shares x no_share
-
 abbrev pub group_of : List ℕ → ℕ → ℕ
 group_of places i = slice_index_or places i 0
 
@@ -58,14 +47,14 @@ abbrev pub length_of_group : List Job → List ℕ → ℕ → ℕ → ℕ
 length_of_group jobs places group n = sum_by (λ k. if group_of places k == group then length_at jobs k else 0) (range_with_len 0 n)
 
 -- the units that a job gets, and those that are done in a stretch
-abbrev pub units_of_job : List Share → ℕ → ℕ
+abbrev pub units_of_job : List JobShare → ℕ → ℕ
 units_of_job shares job = sum_by (λ share. if share.job == job then share.units else 0) shares
 
-abbrev pub units_in_stretch : List Share → ℕ → ℕ
+abbrev pub units_in_stretch : List JobShare → ℕ → ℕ
 units_in_stretch shares k = sum_by (λ share. if share.stretch == k then share.units else 0) shares
 
 -- a share is one of a job in a stretch of its window, and of its group
-pub record IsShare (jobs : List Job) (found : Found) (share : Share) : Type 0 where
+pub record IsShare (jobs : List Job) (found : Found) (share : JobShare) : Type 0 where
   pub known : share.job < length jobs
   pub known_stretch : share.stretch < length (stretches jobs)
   pub some : 1 ≤ share.units

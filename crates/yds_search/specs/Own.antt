@@ -2,9 +2,9 @@
 use Rattle.std.specs.Prelude.{ℕ, ◌*◌, ◌<◌, ◌≤◌, List, map, slice_index}
 use Rattle.std.specs.List.{All}
 use Rattle.yds_events.specs.declared.window.Window.{Window}
+use Rattle.yds_timetable.specs.Shares.{JobShare}
 use Rattle.yds_search.specs.declared.own.OwnJob.{OwnJob}
 use Rattle.yds_search.specs.declared.own.OwnStretch.{OwnStretch}
-use Rattle.yds_search.specs.Found.{Share}
 
 -- the numbers of the jobs and of the stretches
 abbrev pub job_numbers : List OwnJob → List ℕ
@@ -32,14 +32,14 @@ abbrev pub rooms_at : ℕ → List OwnStretch → List ℕ
 rooms_at per_time stretches = map (λ own. per_time * own.length) stretches
 
 -- a share by place, as a share by number
-abbrev pub share_by_number : List OwnJob → List OwnStretch → Share → Share
+abbrev pub share_by_number : List OwnJob → List OwnStretch → JobShare → JobShare
 share_by_number jobs stretches share = record {
   job = slice_index (job_numbers jobs) share.job;
   stretch = slice_index (stretch_numbers stretches) share.stretch;
   units = share.units;
 }
 
-abbrev pub shares_by_number : List OwnJob → List OwnStretch → List Share → List Share
+abbrev pub shares_by_number : List OwnJob → List OwnStretch → List JobShare → List JobShare
 shares_by_number jobs stretches shares = map (share_by_number jobs stretches) shares
 
 -- the jobs and stretches of a group

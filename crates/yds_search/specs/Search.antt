@@ -6,8 +6,9 @@ use Rattle.yds_model.specs.Event.{stretches}
 use Rattle.yds_model.specs.EarliestFirst.{ComesFirst}
 use Rattle.yds_events.specs.declared.window.Window.{Window}
 use Rattle.yds_events.specs.Window.{length_at, IsIn}
+use Rattle.yds_timetable.specs.Shares.{JobShare}
 use Rattle.yds_search.specs.declared.found.TheConstants.{NO_GROUP}
-use Rattle.yds_search.specs.Found.{Found, Group, Share, group_at, group_of, work_of_group, length_of_group, per_time, per_work, units_of_job, units_in_stretch, IsShare}
+use Rattle.yds_search.specs.Found.{Found, Group, group_at, group_of, work_of_group, length_of_group, per_time, per_work, units_of_job, units_in_stretch, IsShare}
 use Rattle.yds_search.specs.Order.{Precedes}
 use Rattle.yds_search.specs.Own.{Part}
 use Rattle.yds_search.specs.Stack.{jobs_of, own_stretches_of}
@@ -27,11 +28,11 @@ pub record IsGroup (jobs : List Job) (found : Found) (number : ℕ) (group : Gro
   pub length_is : group.length ≡ length_of_group jobs found.group_of_stretch number (length (stretches jobs))
 
 -- who gets units in a stretch found each earlier stretch of its window taken by jobs that come before it
-abbrev pub IsEarly : List Job → List Window → Share → Share → Type 0
+abbrev pub IsEarly : List Job → List Window → JobShare → JobShare → Type 0
 IsEarly jobs windows share other = IsIn windows share.job other.stretch → other.stretch < share.stretch → ComesFirst jobs other.job share.job
 
 -- two shares, one before the other in the list: in a stretch one job precedes the next, and in a group both are early
-abbrev pub StandTogether : List Job → List Window → List ℕ → Share → Share → Type 0
+abbrev pub StandTogether : List Job → List Window → List ℕ → JobShare → JobShare → Type 0
 StandTogether jobs windows groups one next = (one.stretch ≡ next.stretch → Precedes jobs one.job next.job)
     × (group_of groups one.job ≡ group_of groups next.job → IsEarly jobs windows one next × IsEarly jobs windows next one)
 
@@ -82,7 +83,7 @@ pub record IsSearch (jobs : List Job) (windows : List Window) (found : Found) (p
   pub few_groups : length found.groups + length (own_stretches_of parts) ≤ length (stretches jobs)
 
 -- A part is filled at its average speed, that of the group which it becomes: all its jobs are served and its stretches full, earliest deadline first.
-pub record IsLaidOut (jobs : List Job) (windows : List Window) (part : Part) (group : Group) (shares : List Share) : Type 0 where
+pub record IsLaidOut (jobs : List Job) (windows : List Window) (part : Part) (group : Group) (shares : List JobShare) : Type 0 where
   pub work_is : group.work ≡ sum_by (λ own. own.work) part.jobs
   pub length_is : group.length ≡ sum_by (λ own. own.length) part.stretches
   pub some_work : 1 ≤ group.work

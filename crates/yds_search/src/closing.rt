@@ -1,16 +1,15 @@
 ghost use Rattle.std.specs.Prelude.{◌≡◌, ℕ, ◌*◌, ◌^◌, ◌<◌, ◌≤◌, length, replicate, slice_index, OnOk};
 ghost use Rattle.std.specs.List.{All};
 ghost use Rattle.yds_model.specs.declared.limits.TheConstants.{MAX_JOBS};
-ghost use Rattle.yds_search.specs.Views.{shares_view};
 ghost use Rattle.yds_search.specs.Own.{HaveWindows, own_windows};
 ghost use Rattle.yds_search.specs.Fill.{IsPart};
 ghost use Rattle.yds_search.specs.Closure.{AreLateReaches, AreShareReaches, AreMarksOf, AreClosing, AreRanks};
 
 use crate::filling::Filling;
 use crate::own::OwnJob;
-use crate::share::Share;
 use std::alloc::Global;
 use yds_model::Memory;
+use yds_timetable::Share;
 
 /// What the late jobs of a group close upon. Jobs and stretches go by their places in the group.
 #[derive(Debug, Drop)]
@@ -32,9 +31,7 @@ fn set_all(reaches: &mut Vec<u32>, count: usize) -> Result<(), Memory>
     ensures { OnOk result (reaches.new.items ≡ replicate count count) }
 {
     reaches.clear();
-    for _ in 0..count {
-        reaches.push(count as u32)?;
-    }
+    reaches.resize(count, count as u32)?;
     Ok(())
 }
 
@@ -55,9 +52,9 @@ fn late_reaches(jobs: &[OwnJob], wants: &[u64], reaches: &mut [u32])
 
 /// For each stretch the least first place of the windows of the jobs that have a share in it.
 fn share_reaches(jobs: &[OwnJob], shares: &[Share], reaches: &mut [u32])
-    requires parts { All (IsPart (own_windows jobs.now) (length jobs.now) (length reaches.old)) (shares_view shares.now) }
+    requires parts { All (IsPart (own_windows jobs.now) (length jobs.now) (length reaches.old)) shares.now }
     requires none { (p : ℕ) → p < length reaches.old → slice_index reaches.old p ≡ length reaches.old }
-    ensures { AreShareReaches (own_windows jobs.now) (shares_view shares.now) (length (shares_view shares.now)) (length reaches.old) reaches.new }
+    ensures { AreShareReaches (own_windows jobs.now) shares.now (length shares.now) (length reaches.old) reaches.new }
 {
     for share in shares {
         let at = share.stretch as usize;
@@ -91,11 +88,11 @@ pub(crate) fn rank(marks: &[u32], ranks: &mut Vec<u32>) -> Result<(), Memory>
     ensures { OnOk result (AreRanks marks.now ranks.new.items) }
 {
     ranks.clear();
+    ranks.resize(marks.len() + 1, 0)?;
     let mut count = 0;
-    ranks.push(count)?;
-    for mark in marks {
+    for (place, mark) in marks.iter().enumerate() {
         count += *mark;
-        ranks.push(count)?;
+        ranks[place + 1] = count;
     }
     Ok(())
 }
@@ -118,8 +115,8 @@ impl Closing {
         requires few { length filling.now.rooms.items ≤ 2 * MAX_JOBS }
         requires windows { HaveWindows (length filling.now.rooms.items) jobs.now }
         requires wants { length filling.now.wants.items ≡ length jobs.now }
-        requires parts { All (IsPart (own_windows jobs.now) (length jobs.now) (length filling.now.rooms.items)) (shares_view filling.now.shares.items) }
-        ensures closing { OnOk result (AreClosing (own_windows jobs.now) filling.now.wants.items (shares_view filling.now.shares.items)
+        requires parts { All (IsPart (own_windows jobs.now) (length jobs.now) (length filling.now.rooms.items)) filling.now.shares.items }
+        ensures closing { OnOk result (AreClosing (own_windows jobs.now) filling.now.wants.items filling.now.shares.items
             (length filling.now.rooms.items) self.new.marks.items) }
         ensures marks { OnOk result (All (λ mark. mark ≤ 1) self.new.marks.items) }
         ensures count { OnOk result (length self.new.marks.items ≡ length filling.now.rooms.items) }

@@ -2,14 +2,13 @@ ghost use Rattle.std.specs.Prelude.{◌≡◌, ℕ, ◌*◌, ◌^◌, ◌<◌, �
 ghost use Rattle.std.specs.List.{All};
 ghost use Rattle.yds_model.specs.declared.limits.TheConstants.{MAX_JOBS};
 ghost use Rattle.yds_events.specs.Window.{window_at};
-ghost use Rattle.yds_search.specs.Views.{shares_view};
 ghost use Rattle.yds_search.specs.Own.{HaveWindows, own_windows, wants_at, rooms_at};
 ghost use Rattle.yds_search.specs.Fill.{IsNotAfter, AreTaken, IsServed, IsFill, IsNext, IsNextFrom, IsNumbers, IsTake};
 
-use crate::own::{Own, OwnJob};
-use crate::share::Share;
+use crate::own::{Own, OwnJob, OwnStretch};
 use std::alloc::Global;
 use yds_model::Memory;
+use yds_timetable::Share;
 
 /// The fill of a group: what its jobs want, what room its stretches have, and who takes it. Jobs and stretches go by their
 /// places in the group.
@@ -50,6 +49,45 @@ fn next_place(next: &mut [u32], from: u32) -> u32
     place
 }
 
+/// What the jobs want, where so many units are a unit of work.
+fn set_wants(wants: &mut Vec<u64>, jobs: &[OwnJob], per_work: u64) -> Result<(), Memory>
+    requires { All (λ one. per_work * one.work < 2 ^ 64) jobs.now }
+    ensures { OnOk result (wants.new.items ≡ wants_at per_work jobs.now) }
+{
+    wants.clear();
+    wants.resize(jobs.len(), 0)?;
+    for (place, want) in wants.iter_mut().enumerate() {
+        *want = per_work * u64::from(jobs[place].work);
+    }
+    Ok(())
+}
+
+/// The room of the stretches, where so many units fill a unit of time.
+fn set_rooms(rooms: &mut Vec<u64>, stretches: &[OwnStretch], per_time: u64) -> Result<(), Memory>
+    requires { All (λ one. per_time * one.length < 2 ^ 64) stretches.now }
+    ensures { OnOk result (rooms.new.items ≡ rooms_at per_time stretches.now) }
+{
+    rooms.clear();
+    rooms.resize(stretches.len(), 0)?;
+    for (place, room) in rooms.iter_mut().enumerate() {
+        *room = per_time * u64::from(stretches[place].length);
+    }
+    Ok(())
+}
+
+/// Each number at its own place, up to the last one.
+fn set_numbers(numbers: &mut Vec<u32>, last: usize) -> Result<(), Memory>
+    requires { last ≤ 2 * MAX_JOBS }
+    ensures { OnOk result (IsNumbers last numbers.new.items) }
+{
+    numbers.clear();
+    numbers.resize(last + 1, 0)?;
+    for (place, number) in numbers.iter_mut().enumerate() {
+        *number = place as u32;
+    }
+    Ok(())
+}
+
 impl Filling {
     /// Nobody is served yet, and there is room for so many jobs and stretches.
     pub(crate) fn new(alloc: Global, jobs: usize, stretches: usize) -> Result<Filling, Memory>
@@ -75,24 +113,15 @@ impl Filling {
         ensures shares { OnOk result (self.new.shares.items ≡ []) }
     {
         self.shares.clear();
-        self.wants.clear();
-        for job in own.jobs {
-            self.wants.push(speed.per_work * u64::from(job.work))?;
-        }
-        self.rooms.clear();
-        self.next.clear();
-        for (place, stretch) in own.stretches.iter().enumerate() {
-            self.rooms.push(speed.per_time * u64::from(stretch.length))?;
-            self.next.push(place as u32)?;
-        }
-        self.next.push(own.stretches.len() as u32)?;
-        Ok(())
+        set_wants(&mut self.wants, own.jobs, speed.per_work)?;
+        set_rooms(&mut self.rooms, own.stretches, speed.per_time)?;
+        set_numbers(&mut self.next, own.stretches.len())
     }
 
     /// A job takes what it can in one stretch, and still wants so many units then.
     fn take(&mut self, job: u32, stretch: u32, left: u64) -> Result<u64, Memory>
         requires { stretch < length self.old.rooms.items }
-        ensures taken { IfOk result (λ rest. IsTake job stretch left (shares_view self.old.shares.items) self.old.rooms.items rest (shares_view self.new.shares.items) self.new.rooms.items) }
+        ensures taken { IfOk result (λ rest. IsTake job stretch left self.old.shares.items self.old.rooms.items rest self.new.shares.items self.new.rooms.items) }
         ensures next { self.new.next ≡ self.old.next }
         ensures wants { self.new.wants ≡ self.old.wants }
     {
@@ -115,10 +144,10 @@ impl Filling {
         requires known { job < length jobs.now }
         requires windows { HaveWindows (length self.old.rooms.items) jobs.now }
         requires next { IsNext self.old.rooms.items self.old.next.items }
-        requires taken { AreTaken IsNotAfter (own_windows jobs.now) (length self.old.rooms.items) (shares_view self.old.shares.items) self.old.rooms.items }
-        requires later { All (λ share. share.job < job) (shares_view self.old.shares.items) }
-        ensures served { IfOk result (λ left. IsServed (own_windows jobs.now) job want (shares_view self.old.shares.items) self.old.rooms.items
-            (window_at (own_windows jobs.now) job).end left (shares_view self.new.shares.items) self.new.rooms.items) }
+        requires taken { AreTaken IsNotAfter (own_windows jobs.now) (length self.old.rooms.items) self.old.shares.items self.old.rooms.items }
+        requires later { All (λ share. share.job < job) self.old.shares.items }
+        ensures served { IfOk result (λ left. IsServed (own_windows jobs.now) job want self.old.shares.items self.old.rooms.items
+            (window_at (own_windows jobs.now) job).end left self.new.shares.items self.new.rooms.items) }
         ensures next { OnOk result (IsNext self.new.rooms.items self.new.next.items) }
         ensures wants { OnOk result (self.new.wants ≡ self.old.wants) }
     {
@@ -144,7 +173,7 @@ impl Filling {
         requires rooms_fit { All (λ one. speed.per_time * one.length < 2 ^ 64) own.now.stretches.now }
         requires wants_fit { All (λ one. speed.per_work * one.work < 2 ^ 64) own.now.jobs.now }
         ensures { OnOk result (IsFill IsNotAfter (own_windows own.now.jobs.now) (wants_at speed.per_work own.now.jobs.now) (rooms_at speed.per_time own.now.stretches.now)
-            (shares_view self.new.shares.items) self.new.wants.items self.new.rooms.items) }
+            self.new.shares.items self.new.wants.items self.new.rooms.items) }
     {
         self.begin(own, speed)?;
         for job in 0..own.jobs.len() {

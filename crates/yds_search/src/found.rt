@@ -1,14 +1,14 @@
 ghost use Rattle.std.specs.Prelude.{◌≡◌, ◌*◌, ◌<◌, ◌≤◌, ◌++◌, ◌∷◌, [], length, replicate, IfOk, OnOk};
 ghost use Rattle.std.specs.List.{All};
 ghost use Rattle.yds_model.specs.declared.limits.TheConstants.{MAX_JOBS};
-ghost use Rattle.yds_search.specs.Views.{found_view, shares_view};
+ghost use Rattle.yds_search.specs.Views.{found_view};
 ghost use Rattle.yds_search.specs.Numbers.{AreWritten};
 ghost use Rattle.yds_search.specs.Own.{job_numbers, stretch_numbers, shares_by_number};
 
 use crate::own::Own;
-use crate::share::Share;
 use std::alloc::Global;
 use yds_model::Memory;
+use yds_timetable::Share;
 
 /// Stands for the place of a group where there is none.
 pub const NO_GROUP: u32 = u32::MAX;
@@ -31,7 +31,8 @@ pub struct Found {
     pub group_of_job: Vec<u32>,
     /// For each stretch its group's place, or `NO_GROUP` where no job with work may run.
     pub group_of_stretch: Vec<u32>,
-    /// How many units of work each job gets in each stretch.
+    /// How many units each job gets in each stretch. A unit of work has as many as the denominator of the group's speed, work in
+    /// length, in lowest terms.
     pub shares: Vec<Share>,
 }
 
@@ -60,7 +61,7 @@ impl Found {
         ensures groups { OnOk result (self.new.groups.items ≡ self.old.groups.items ++ group ∷ []) }
         ensures job_numbers { OnOk result (AreWritten (λ j number. number ≡ length self.old.groups.items) (job_numbers own.now.jobs.now) (length own.now.jobs.now) self.old.group_of_job.items self.new.group_of_job.items) }
         ensures stretch_numbers { OnOk result (AreWritten (λ k number. number ≡ length self.old.groups.items) (stretch_numbers own.now.stretches.now) (length own.now.stretches.now) self.old.group_of_stretch.items self.new.group_of_stretch.items) }
-        ensures shares { OnOk result (shares_view self.new.shares.items ≡ shares_view self.old.shares.items ++ shares_by_number own.now.jobs.now own.now.stretches.now (shares_view shares.now)) }
+        ensures shares { OnOk result (self.new.shares.items ≡ self.old.shares.items ++ shares_by_number own.now.jobs.now own.now.stretches.now shares.now) }
     {
         let number = self.groups.len() as u32;
         self.groups.push(group)?;

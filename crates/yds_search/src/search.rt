@@ -4,7 +4,7 @@ ghost use Rattle.yds_model.specs.Job.{Job, IsJob};
 ghost use Rattle.yds_model.specs.Event.{stretches};
 ghost use Rattle.yds_model.specs.declared.limits.TheConstants.{MAX_JOBS};
 ghost use Rattle.yds_search.specs.Found.{IsFound, per_time, per_work};
-ghost use Rattle.yds_search.specs.Views.{found_view, group_view, shares_view};
+ghost use Rattle.yds_search.specs.Views.{found_view, group_view};
 ghost use Rattle.yds_search.specs.Numbers.{AreWritten};
 ghost use Rattle.yds_search.specs.Own.{job_numbers, stretch_numbers, shares_by_number};
 ghost use Rattle.yds_search.specs.Searching.{IsSearching, IsChosen, IsNearer};

@@ -1,5 +1,5 @@
 -- The grain of a job: the denominator of its works that aren't whole.
-use Rattle.std.proofs.Common.{◌≡◌, ℕ, ◌<◌, ◌≤◌, ◌⊎◌, inl, inr, List, [], ◌∷◌, ◌++◌, length, take, max, refl, sym, ap, ◌∙◌, arith, Bool}
+use Rattle.std.proofs.Common.{◌≡◌, ℕ, ◌<◌, ◌≤◌, ◌⊎◌, inl, inr, List, [], ◌∷◌, ◌++◌, length, take, max, refl, sym, ◌∙◌, arith}
 use Rattle.std.specs.Prelude.{◌==◌, if◌then◌else◌}
 use Rattle.std.specs.List.{All, fold, slice_index_or}
 use Rattle.std.specs.List.Sorted.{IsPermutation}
@@ -20,12 +20,10 @@ pub grain_pushed : (slots : List WrittenSlot) (slot : WrittenSlot) (job : ℕ) �
 grain_pushed slots slot job = fold_push (λ (grain : ℕ) (s : WrittenSlot). if s.job == job then max grain s.work.den else grain) 1 slots slot
 
 pub grain_other : (slots : List WrittenSlot) (slot : WrittenSlot) (job : ℕ) → ¬ (slot.job ≡ job) → grain_of (slots ++ slot ∷ []) job ≡ grain_of slots job
-grain_other slots slot job other =
-    grain_pushed slots slot job ∙ ap (λ (b : Bool). if b then max (grain_of slots job) slot.work.den else grain_of slots job) (ne_eqb slot.job job other)
+grain_other slots slot job other = rw (grain_pushed slots slot job, ne_eqb slot.job job other) refl
 
 pub grain_same : (slots : List WrittenSlot) (slot : WrittenSlot) (job : ℕ) → slot.job ≡ job → grain_of (slots ++ slot ∷ []) job ≡ max (grain_of slots job) slot.work.den
-grain_same slots slot job same =
-    grain_pushed slots slot job ∙ ap (λ (b : Bool). if b then max (grain_of slots job) slot.work.den else grain_of slots job) (eq-eqb slot.job job same)
+grain_same slots slot job same = rw (grain_pushed slots slot job, eq-eqb slot.job job same) refl
 
 -- # A grain stays 1 for a job without slots
 
@@ -33,9 +31,8 @@ none_from : (job a : ℕ) (slots : List WrittenSlot) → All (λ slot. ¬ (slot.
     fold (λ (grain : ℕ) (s : WrittenSlot). if s.job == job then max grain s.work.den else grain) a slots ≡ a
 none_from job a [] none = refl
 none_from job a (slot ∷ slots) none =
-    ap (λ (b : Bool). fold (λ (grain : ℕ) (s : WrittenSlot). if s.job == job then max grain s.work.den else grain) (if b then max a slot.work.den else a) slots)
-    (ne_eqb slot.job job (none 0 slot (omega arith)))
-    ∙ none_from job a slots (All-tail (λ slot. ¬ (slot.job ≡ job)) slot slots none)
+    let other = ne_eqb slot.job job (none 0 slot (omega arith)) in
+    rw other (none_from job a slots (All-tail (λ slot. ¬ (slot.job ≡ job)) slot slots none))
 
 pub grain_none : (slots : List WrittenSlot) (job : ℕ) → All (λ slot. ¬ (slot.job ≡ job)) slots → grain_of slots job ≡ 1
 grain_none slots job none = none_from job 1 slots none

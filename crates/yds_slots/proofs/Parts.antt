@@ -32,13 +32,11 @@ part_finer g n den false whole = omega arith
 pub parts_finer : (g : ℕ) (slots : List WrittenSlot) (job : ℕ) → All (IsWholeFor job) slots → parts_at g slots job ≡ parts_at 1 slots job * g
 parts_finer g [] job whole = omega arith
 parts_finer g (slot ∷ slots) job whole =
-    omega (
+    simp sum_by-cons (omega (
       arith,
-      sum_by-cons (λ (s : WrittenSlot). if s.job == job then numerator s.work * (g / s.work.den) else 0) slot slots,
-      ap (λ n. n * g) (sum_by-cons (λ (s : WrittenSlot). if s.job == job then numerator s.work * (1 / s.work.den) else 0) slot slots),
       part_finer g (numerator slot.work) slot.work.den (slot.job == job) (λ mine. whole 0 slot (omega arith) (eqb-true slot.job job mine)),
       parts_finer g slots job (All-tail (IsWholeFor job) slot slots whole),
-    )
+    ))
 
 -- # A fraction of so many parts
 
@@ -84,15 +82,6 @@ fraction_is z whole num den e f g =
     let z' : Fraction = record { whole = z.whole; num = z.num; den = z.den } in
     let is : z' ≡ record { whole = whole; num = num; den = den } = cc in is
 
-plain_fraction : (p g : ℕ) (z : Fraction) → p % g ≡ 0 → z.whole ≡ p / g → z.num ≡ 0 → z.den ≡ 1 → z ≡ of_parts p g
-plain_fraction p g z rest whole none one =
-    fraction_is z (p / g) 0 1 whole none one ∙ sym (ap (λ (b : Bool). if b then of_whole (p / g) else record { whole = p / g; num = p % g; den = g }) (eq-eqb (p % g) 0 rest))
-
-parted_fraction : (p g : ℕ) (z : Fraction) → ¬ (p % g ≡ 0) → z.whole ≡ p / g → z.num ≡ p % g → z.den ≡ g → z ≡ of_parts p g
-parted_fraction p g z rest whole some parts =
-    let fraction : Fraction = record { whole = p / g; num = p % g; den = g } in
-    fraction_is z (p / g) (p % g) g whole some parts ∙ sym (ap (λ (b : Bool). if b then of_whole (p / g) else fraction) (ne_eqb (p % g) 0 rest))
-
 -- A fraction of that value that is written in these parts, or is whole, is that one.
 pub of_parts_is : (p g : ℕ) (z : Fraction) → 1 ≤ g → z.num < z.den → (z.num ≡ 0 → z.den ≡ 1) → (z.num ≡ 0) ⊎ (z.den ≡ g) →
     numerator z * g ≡ p * z.den → z ≡ of_parts p g
@@ -100,7 +89,7 @@ of_parts_is p g z some below plain (inl none) value =
     let one : z.den ≡ 1 = plain none in
     let is : (z.whole * 1 + 0) * g ≡ p * 1 = ap (λ n. (z.whole * n + 0) * g) (sym one) ∙ ap (λ n. (z.whole * z.den + n) * g) (sym none) ∙ value ∙ ap (λ n. p * n) one in
     let parts : (p / g ≡ z.whole) × (p % g ≡ 0) = whole_parts z.whole g p some (omega arith) in
-    plain_fraction p g z parts.1 (sym parts.0) none one
+    rw (eq-eqb (p % g) 0 parts.1) (fraction_is z (p / g) 0 1 (sym parts.0) none one)
 of_parts_is p g z some below plain (inr same) value =
     let is : (z.whole * g + z.num) * g ≡ p * g = ap (λ n. (z.whole * n + z.num) * g) (sym same) ∙ value ∙ ap (λ n. p * n) same in
     let sum : z.whole * g + z.num ≡ p = eq_of_mul-eq-mul_right g some (z.whole * g + z.num) p is in
@@ -108,8 +97,10 @@ of_parts_is p g z some below plain (inr same) value =
     let quotient : p / g ≡ z.whole = ap (λ n. n / g) (sym sum) ∙ div-mul-add z.whole g z.num within in
     let rest : p % g ≡ z.num = ap (λ n. n % g) (sym sum) ∙ mod-mul-add z.whole g z.num within in
     elim (cases_eq (p % g) 0) [
-      | inl nothing_left ↦ let none : z.num ≡ 0 = sym rest ∙ nothing_left in plain_fraction p g z nothing_left (sym quotient) none (plain none)
-      | inr some_left ↦ parted_fraction p g z some_left (sym quotient) (sym rest) same
+      | inl nothing_left ↦
+          let none : z.num ≡ 0 = sym rest ∙ nothing_left in
+          rw (eq-eqb (p % g) 0 nothing_left) (fraction_is z (p / g) 0 1 (sym quotient) none (plain none))
+      | inr some_left ↦ rw (ne_eqb (p % g) 0 some_left) (fraction_is z (p / g) (p % g) g (sym quotient) (sym rest) same)
     ]
 
 -- # One more work

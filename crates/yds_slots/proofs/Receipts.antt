@@ -33,16 +33,13 @@ HasNone job slot = ¬ (slot.job ≡ job)
 no_parts : (g : ℕ) (slots : List WrittenSlot) (job : ℕ) → All (HasNone job) slots → parts_at g slots job ≡ 0
 no_parts g slots job none =
     sum_by_zero (λ (s : WrittenSlot). if s.job == job then numerator s.work * (g / s.work.den) else 0) slots
-    (λ k d within. ap (λ (b : Bool). if b then numerator (slice_index_or slots k d).work * (g / (slice_index_or slots k d).work.den) else 0)
-    (ne_eqb (slice_index_or slots k d).job job (none k d within)))
+    (λ k d within. let other = ne_eqb (slice_index_or slots k d).job job (none k d within) in rw other refl)
 
 no_work : (scale : ℕ) (slots : List WrittenSlot) (job : ℕ) → All (HasNone job) slots → work_given (slots_at scale slots) job ≡ 0
 no_work scale [] job none = refl
 no_work scale (slot ∷ slots) job none =
-    let here : (if job == slot.job then at_scale scale slot.work else 0) ≡ 0 =
-    ap (λ (b : Bool). if b then at_scale scale slot.work else 0) (ne_eqb job slot.job (λ e. none 0 slot (omega arith) (sym e))) in
-    sum_by-cons (λ (s : WholeSlot). if job == s.job then s.work else 0) (slot_at_scale scale slot) (slots_at scale slots)
-    ∙ ap (λ n. n + work_given (slots_at scale slots) job) here ∙ omega (arith, no_work scale slots job (All-tail (HasNone job) slot slots none))
+    let other = ne_eqb job slot.job (λ e. none 0 slot (omega arith) (sym e)) in
+    simp sum_by-cons (rw other (omega (arith, no_work scale slots job (All-tail (HasNone job) slot slots none))))
 
 zero_is_mixed : IsMixed MAX_DENOMINATOR (of_whole 0)
 zero_is_mixed = omega arith
@@ -88,29 +85,19 @@ work_pushed scale slots slot job =
     ∙ sum_by_push (λ (s : WholeSlot). if job == s.job then s.work else 0) (slots_at scale slots) (slot_at_scale scale slot)
 
 parts_other : (g : ℕ) (slots : List WrittenSlot) (slot : WrittenSlot) (job : ℕ) → ¬ (slot.job ≡ job) → parts_at g (slots ++ slot ∷ []) job ≡ parts_at g slots job
-parts_other g slots slot job other =
-    parts_pushed g slots slot job
-    ∙ ap (λ (b : Bool). parts_at g slots job + (if b then numerator slot.work * (g / slot.work.den) else 0)) (ne_eqb slot.job job other)
-    ∙ omega arith
+parts_other g slots slot job other = rw (parts_pushed g slots slot job, ne_eqb slot.job job other) (omega arith)
 
 parts_same : (g : ℕ) (slots : List WrittenSlot) (slot : WrittenSlot) (job : ℕ) → slot.job ≡ job →
     parts_at g (slots ++ slot ∷ []) job ≡ parts_at g slots job + numerator slot.work * (g / slot.work.den)
-parts_same g slots slot job same =
-    parts_pushed g slots slot job
-    ∙ ap (λ (b : Bool). parts_at g slots job + (if b then numerator slot.work * (g / slot.work.den) else 0)) (eq-eqb slot.job job same)
+parts_same g slots slot job same = rw (parts_pushed g slots slot job, eq-eqb slot.job job same) refl
 
 work_other : (scale : ℕ) (slots : List WrittenSlot) (slot : WrittenSlot) (job : ℕ) → ¬ (slot.job ≡ job) →
     work_given (slots_at scale (slots ++ slot ∷ [])) job ≡ work_given (slots_at scale slots) job
-work_other scale slots slot job other =
-    work_pushed scale slots slot job
-    ∙ ap (λ (b : Bool). work_given (slots_at scale slots) job + (if b then at_scale scale slot.work else 0)) (ne_eqb job slot.job (λ e. other (sym e)))
-    ∙ omega arith
+work_other scale slots slot job other = rw (work_pushed scale slots slot job, ne_eqb job slot.job (λ e. other (sym e))) (omega arith)
 
 work_same : (scale : ℕ) (slots : List WrittenSlot) (slot : WrittenSlot) (job : ℕ) → slot.job ≡ job →
     work_given (slots_at scale (slots ++ slot ∷ [])) job ≡ work_given (slots_at scale slots) job + at_scale scale slot.work
-work_same scale slots slot job same =
-    work_pushed scale slots slot job
-    ∙ ap (λ (b : Bool). work_given (slots_at scale slots) job + (if b then at_scale scale slot.work else 0)) (eq-eqb job slot.job (sym same))
+work_same scale slots slot job same = rw (work_pushed scale slots slot job, eq-eqb job slot.job (sym same)) refl
 
 scale_front : (scale : ℕ) (slots : List WrittenSlot) (slot : WrittenSlot) → IsScale scale (slots ++ slot ∷ []) → IsScale scale slots
 scale_front scale slots slot is = record { positive = is.positive; divided = All-front (IsDivided scale) slots (slot ∷ []) is.divided }

@@ -15,14 +15,15 @@ use Rattle.yds_model.specs.Event.{stretches}
 use Rattle.yds_model.specs.Comparison.{stretch_at}
 use Rattle.yds_model.proofs.Lists.{AllPairs-append}
 use Rattle.yds_model.proofs.Sums.{sum_by_zero}
+use Rattle.yds_model.proofs.Filters.{contains_filter}
 use Rattle.yds_events.specs.Window.{length_at, IsInWindow}
-use Rattle.yds_search.specs.Found.{Group, Share, group_at, per_time, per_work, units_of_job, units_in_stretch}
-use Rattle.yds_search.specs.Views.{shares_view, group_view}
+use Rattle.yds_timetable.specs.Shares.{JobShare}
+use Rattle.yds_search.specs.Found.{Group, group_at, per_time, per_work, units_of_job, units_in_stretch}
+use Rattle.yds_search.specs.Views.{group_view}
 use Rattle.yds_search.proofs.KeySums.{over, over_same, count_all, All-range}
 use Rattle.yds_edf.specs.Pending.{sum_below}
 use Rattle.yds_edf.proofs.Sums.{sum_below_at_most, sum_below-add}
 use Rattle.yds_edf.proofs.Numbers.{sum_numbers}
-use Rattle.yds_edf.proofs.Filled.{contains_filter}
 use Rattle.yds_critical.specs.declared.interval.Interval.{Interval}
 use Rattle.yds_critical.specs.Critical.{IsCritical}
 use Rattle.yds_contract.specs.Contracted.{place, Removes}
@@ -38,8 +39,8 @@ use Rattle.yds_textbook.proofs.Stands.{IsBetween, IsLeft, count_left, left_befor
 abbrev pub groups_of : List Stage → List Group
 groups_of stages = map (λ stage. group_view stage.group) stages
 
-abbrev pub shares_of : List Stage → List Share
-shares_of stages = flat_map (λ stage. shares_view stage.shares.items) stages
+abbrev pub shares_of : List Stage → List JobShare
+shares_of stages = flat_map (λ stage. stage.shares.items) stages
 
 -- the group of a job, and of a stretch
 abbrev pub group_of_job : List Stage → ℕ → Group
@@ -49,7 +50,7 @@ abbrev pub group_of_stretch : List Stage → ℕ → Group
 group_of_stretch stages k = group_at (groups_of stages) (stage_of_stretch stages k)
 
 -- a share of a job in a stretch of its window, both of the same stage
-pub record IsShareOf (jobs : List Job) (stages : List Stage) (share : Share) : Type 0 where
+pub record IsShareOf (jobs : List Job) (stages : List Stage) (share : JobShare) : Type 0 where
   pub known : share.job < length jobs
   pub known_stretch : share.stretch < length (stretches jobs)
   pub some : 1 ≤ share.units
@@ -58,7 +59,7 @@ pub record IsShareOf (jobs : List Job) (stages : List Stage) (share : Share) : T
   pub same_stage : stage_of_stretch stages share.stretch ≡ stage_of_job stages share.job
 
 -- of shares of one stage
-pub record IsEarliestOfStage (jobs : List Job) (stages : List Stage) (late early : Share) : Type 0 where
+pub record IsEarliestOfStage (jobs : List Job) (stages : List Stage) (late early : JobShare) : Type 0 where
   pub comes : stage_of_job stages late.job ≡ stage_of_job stages early.job → IsEarliest jobs late early
 
 pub record AreTogether (jobs : List Job) (removed : List Piece) (waiting : List ℕ) (stages : List Stage) : Type 0 where
@@ -146,8 +147,8 @@ module _ (jobs : List Job) (removed changed : List Piece) (waiting : List ℕ) (
   abbrev numbers : List ℕ
   numbers = stage.stretches.items
 
-  abbrev own_shares : List Share
-  own_shares = shares_view stage.shares.items
+  abbrev own_shares : List JobShare
+  own_shares = stage.shares.items
 
   abbrev all : List Stage
   all = stage ∷ stages
@@ -347,15 +348,15 @@ module _ (jobs : List Job) (removed changed : List Piece) (waiting : List ℕ) (
   own_shares_all : All (IsShareOf jobs all) (shares_of all)
   own_shares_all = All-append (IsShareOf jobs all) own_shares (shares_of stages) own_here own_later
 
-  not_in_members : (share : Share) → IsShareOf jobs stages share → Contains members share.job → ⊥
+  not_in_members : (share : JobShare) → IsShareOf jobs stages share → Contains members share.job → ⊥
   not_in_members share own here = not_both share.job here (rest.job_waits share.job own.grouped)
 
-  not_in_numbers : (share : Share) → IsShareOf jobs stages share → Contains numbers share.stretch → ⊥
+  not_in_numbers : (share : JobShare) → IsShareOf jobs stages share → Contains numbers share.stretch → ⊥
   not_in_numbers share own here = later_outside share.stretch (omega (arith, own.grouped, own.same_stage)) here
 
   served : (j : ℕ) → Contains waiting j → units_of_job (shares_of all) j ≡ per_work (group_of_job all j) * (job_at jobs j).work
   served j waits =
-      let units = λ (share : Share). cond (share.job == j) share.units 0 in
+      let units = λ (share : JobShare). cond (share.job == j) share.units 0 in
       let both : units_of_job (shares_of all) j ≡ units_of_job own_shares j + units_of_job (shares_of stages) j = sum_by-append units own_shares (shares_of stages) in
       elim (cases_Bool (lies_in jobs removed interval j)) [
         | inl lies ↦
@@ -374,7 +375,7 @@ module _ (jobs : List Job) (removed changed : List Piece) (waiting : List ℕ) (
 
   full : (k : ℕ) → stage_of_stretch all k < length all → units_in_stretch (shares_of all) k ≡ per_time (group_of_stretch all k) * length_at jobs k
   full k below =
-      let units = λ (share : Share). cond (share.stretch == k) share.units 0 in
+      let units = λ (share : JobShare). cond (share.stretch == k) share.units 0 in
       let both : units_in_stretch (shares_of all) k ≡ units_in_stretch own_shares k + units_in_stretch (shares_of stages) k = sum_by-append units own_shares (shares_of stages) in
       elim (in_numbers k) [
         | inl here ↦

@@ -7,9 +7,8 @@ use Rattle.std.proofs.lemmas.Bool.{cases_lt, cases_Bool, le-leb, leb-true, and_f
 use Rattle.std.proofs.Math.Nat.{mul-le-mul_right}
 use Rattle.yds_model.specs.Job.{Job, job_at}
 use Rattle.yds_model.specs.Piece.{Piece}
-use Rattle.yds_model.proofs.Sums.{sum_by-add, sum_by_at_most}
-use Rattle.yds_search.proofs.KeySums.{sum_by-map}
-use Rattle.yds_edf.proofs.Numbers.{sum_filter}
+use Rattle.yds_model.proofs.Sums.{sum_by-add, sum_by_at_most, sum_by-map}
+use Rattle.yds_model.proofs.Filters.{sum_by-filter}
 use Rattle.yds_intensity.specs.Work.{window_is_within, work_within}
 use Rattle.yds_intensity.proofs.Work.{share}
 use Rattle.yds_critical.specs.declared.interval.Interval.{Interval}
@@ -59,7 +58,7 @@ module _ (jobs : List Job) (removed changed : List Piece) (waiting : List ℕ) (
       ≡ sum_by (λ n. cond (not (lies_in jobs removed interval n)) (share from to (after n)) 0) waiting
   work_after from to =
       sum_by-map after (share from to) (outside jobs removed interval waiting)
-      ∙ sum_filter (λ n. not (lies_in jobs removed interval n)) (λ n. share from to (after n)) waiting
+      ∙ sum_by-filter (λ n. not (lies_in jobs removed interval n)) (λ n. share from to (after n)) waiting
 
   work_before : (from to : ℕ) → work_within (contracted_jobs jobs removed waiting) from to ≡ sum_by (λ n. share from to (before n)) waiting
   work_before from to = sum_by-map before (share from to) waiting

@@ -7,12 +7,11 @@ use Rattle.std.proofs.lemmas.List.Sums.{get_or-le-sum_by}
 use Rattle.std.proofs.lemmas.List.Elements.{All-contains, Contains-get_or}
 use Rattle.std.proofs.lemmas.List.FromFn.{length-range_with_len, get_or-range_with_len}
 use Rattle.yds_model.proofs.Sums.{sum_by-add, sum_by_at_most}
+use Rattle.yds_model.proofs.Filters.{sum_by-filter, contains_filter}
 use Rattle.yds_edf.specs.Serving.{AreTies}
 use Rattle.yds_edf.specs.Pending.{sum_below}
 use Rattle.yds_timetable.specs.Shares.{JobShare, units_given, shares_in, shares_before}
 use Rattle.yds_edf.proofs.Sums.{sum_below_less}
-use Rattle.yds_edf.proofs.Numbers.{sum_filter}
-use Rattle.yds_edf.proofs.Filled.{contains_filter}
 
 -- terms that are at most others, with the same sum, are the same
 pub same_terms : (n k : ℕ) (f g : ℕ → ℕ) → k < n → ((j : ℕ) → j < n → f j ≤ g j) → sum_below n f ≡ sum_below n g → f k ≡ g k
@@ -99,8 +98,8 @@ fewer_before shares i x d within later =
     sum_by_at_most (λ s. before s + here s + after s) f shares (λ k e below. omega (arith, parts_of i (get_or shares k e).stretch (f (get_or shares k e)))) in
     omega (
       arith,
-      sum_filter (λ s. nat_lt s.stretch i) f shares,
-      sum_filter (λ s. i == s.stretch) f shares,
+      sum_by-filter (λ s. nat_lt s.stretch i) f shares,
+      sum_by-filter (λ s. i == s.stretch) f shares,
       own,
       get_or-le-sum_by after shares x d within,
       all,

@@ -12,10 +12,11 @@ use Rattle.yds_model.specs.Scale.{Quotient}
 use Rattle.yds_model.specs.Piece.{Piece, PiecesFrom}
 use Rattle.yds_model.specs.Event.{stretches}
 use Rattle.yds_model.specs.Comparison.{stretch_at}
+use Rattle.yds_model.proofs.Sums.{sum_by-map}
 use Rattle.yds_events.specs.Stretch.{IsOutside, no_stretch, nth_stretch}
 use Rattle.yds_events.specs.Window.{length_at}
 use Rattle.yds_events.proofs.Neighbours.{stretch_order}
-use Rattle.yds_search.proofs.KeySums.{All-range, sum_by-map}
+use Rattle.yds_search.proofs.KeySums.{All-range}
 use Rattle.yds_edf.specs.Pending.{sum_below}
 use Rattle.yds_edf.specs.Demand.{capacity_at, confined_units, capacity_between, IsWithinCapacity, AreUncut}
 use Rattle.yds_edf.proofs.Sums.{sum_below_same, sum_below_at_most}

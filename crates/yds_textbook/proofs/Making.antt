@@ -1,11 +1,10 @@
 -- What a stage is made of, as it is read from lists that are known to be equal to others.
-use Rattle.std.proofs.Common.{◌≡◌, ℕ, ◌+◌, ◌*◌, ◌<◌, ◌≤◌, List, [], ◌∷◌, ◌++◌, length, get_or, map, take, add-one, ◌∙◌, sym, ap, arith, cond, refl, subst}
-use Rattle.std.specs.Prelude.{Bool, filter}
+use Rattle.std.proofs.Common.{◌≡◌, ℕ, ◌+◌, ◌*◌, ◌<◌, ◌≤◌, List, [], ◌∷◌, ◌++◌, length, get_or, map, take, add-one, ◌∙◌, sym, ap, arith, refl, subst}
 use Rattle.std.specs.Int.{IsGcd}
 use Rattle.std.specs.List.{All, range_with_len, flat_map}
 use Rattle.std.proofs.lemmas.List.{length-map, map-append, map_more}
 use Rattle.std.proofs.lemmas.List.Sums.{length-filter, count_by-le-length}
-use Rattle.std.proofs.lemmas.List.Elements.{All-contains, filter-append, Contains-get_or}
+use Rattle.std.proofs.lemmas.List.Elements.{All-contains, Contains-get_or}
 use Rattle.std.proofs.lemmas.List.FromFn.{length-range_with_len}
 use Rattle.yds_model.proofs.Lists.{flat_map-take}
 use Rattle.yds_model.specs.Job.{Job}
@@ -15,11 +14,9 @@ use Rattle.yds_model.specs.Event.{stretches}
 use Rattle.yds_events.specs.Stretch.{nth_stretch}
 use Rattle.yds_fraction.proofs.Lowest.{lowest_is}
 use Rattle.yds_search.specs.declared.found.Group as groups
-use Rattle.yds_search.specs.declared.share.Share as shares
-use Rattle.yds_search.specs.Found.{Group, Share, Found}
-use Rattle.yds_search.specs.Views.{group_view, share_view, shares_view}
+use Rattle.yds_search.specs.Found.{Group, Found}
+use Rattle.yds_search.specs.Views.{group_view}
 use Rattle.yds_textbook.specs.declared.stage.Stage.{Stage}
-use Rattle.yds_search.proofs.KeySums.{range_more}
 use Rattle.yds_timetable.specs.Shares.{JobShare, shares_in}
 use Rattle.yds_edf.specs.Filled.{IsFilled}
 use Rattle.yds_edf.proofs.Filled.{stands_in}
@@ -29,10 +26,6 @@ use Rattle.yds_textbook.specs.Waiting.{contracted_stretch, contracted_stretches,
 use Rattle.yds_textbook.specs.Served.{capacity_of}
 use Rattle.yds_textbook.specs.Stages.{speed_of}
 use Rattle.yds_textbook.proofs.Left.{each_inside}
-
--- the numbers below the next one that pass a test
-pub numbers_next : (p : ℕ → Bool) (n : ℕ) → filter p (range_with_len 0 (n + 1)) ≡ filter p (range_with_len 0 n) ++ cond (p n) (n ∷ []) []
-numbers_next p n = ap (filter p) (range_more n) ∙ filter-append p (range_with_len 0 n) (n ∷ [])
 
 -- the stretches of the jobs, by another name
 pub stretches_are : (jobs : List Job) (timeline removed : List Piece) (interval : Interval) (numbers : List ℕ) → timeline ≡ stretches jobs →
@@ -105,19 +98,18 @@ groups_next stages i stage groups more within is so_far next =
     ∙ ap (λ (one : Stage). map (λ (s : Stage). group_view s.group) (take i stages) ++ group_view one.group ∷ []) is
     ∙ sym (map_more (λ (one : Stage). group_view one.group) stages i stage within)
 
-pub shares_next : (stages : List Stage) (i : ℕ) (stage : Stage) (own more : List shares.Share) → i < length stages → stage ≡ get_or stages i stage →
-    shares_view own ≡ flat_map (λ (one : Stage). shares_view one.shares.items) (take i stages) → more ≡ own ++ stage.shares.items →
-    shares_view more ≡ flat_map (λ (one : Stage). shares_view one.shares.items) (take (i + 1) stages)
+pub shares_next : (stages : List Stage) (i : ℕ) (stage : Stage) (own more : List JobShare) → i < length stages → stage ≡ get_or stages i stage →
+    own ≡ flat_map (λ (one : Stage). one.shares.items) (take i stages) → more ≡ own ++ stage.shares.items →
+    more ≡ flat_map (λ (one : Stage). one.shares.items) (take (i + 1) stages)
 shares_next stages i stage own more within is so_far next =
-    ap shares_view next ∙ map-append share_view own stage.shares.items
-    ∙ ap (λ (ss : List Share). ss ++ shares_view stage.shares.items) so_far
-    ∙ ap (λ (one : Stage). flat_map (λ (s : Stage). shares_view s.shares.items) (take i stages) ++ shares_view one.shares.items) is
-    ∙ sym (rw add-one (flat_map-take (λ (one : Stage). shares_view one.shares.items) stages i stage within))
+    next ∙ ap (λ (ss : List JobShare). ss ++ stage.shares.items) so_far
+    ∙ ap (λ (one : Stage). flat_map (λ (s : Stage). s.shares.items) (take i stages) ++ one.shares.items) is
+    ∙ sym (rw add-one (flat_map-take (λ (one : Stage). one.shares.items) stages i stage within))
 
 -- what was found, part by part
-abbrev pub found_with : List Group → List ℕ → List ℕ → List Share → Found
+abbrev pub found_with : List Group → List ℕ → List ℕ → List JobShare → Found
 found_with one jobs stretches shares = record { groups = one; group_of_job = jobs; group_of_stretch = stretches; shares = shares }
 
-pub found_parts : (one one' : List Group) (jobs jobs' stretches stretches' : List ℕ) (shares shares' : List Share) → one ≡ one' → jobs ≡ jobs' → stretches ≡ stretches' →
+pub found_parts : (one one' : List Group) (jobs jobs' stretches stretches' : List ℕ) (shares shares' : List JobShare) → one ≡ one' → jobs ≡ jobs' → stretches ≡ stretches' →
     shares ≡ shares' → found_with one jobs stretches shares ≡ found_with one' jobs' stretches' shares'
 found_parts one one' jobs jobs' stretches stretches' shares shares' e f g h = rw (e, f, g, h) refl

@@ -13,13 +13,13 @@ use Rattle.yds_model.specs.Piece.{Piece}
 use Rattle.yds_model.specs.Event.{stretches}
 use Rattle.yds_model.specs.EarliestFirst.{ComesFirst}
 use Rattle.yds_model.specs.Comparison.{stretch_at}
-use Rattle.yds_model.proofs.Sums.{sum_by_same}
+use Rattle.yds_model.proofs.Sums.{sum_by_same, sum_by-map}
+use Rattle.yds_model.proofs.Filters.{sum_by-filter}
 use Rattle.yds_events.specs.Stretch.{no_stretch, nth_stretch, length_of}
 use Rattle.yds_events.specs.Window.{length_at, IsInWindow}
 use Rattle.yds_events.proofs.Neighbours.{release_outside, deadline_outside}
-use Rattle.yds_search.specs.Found.{Group, Share, per_time, per_work, units_of_job, units_in_stretch}
-use Rattle.yds_search.specs.Views.{shares_view, group_view}
-use Rattle.yds_search.proofs.KeySums.{sum_by-map}
+use Rattle.yds_search.specs.Found.{Group, per_time, per_work, units_of_job, units_in_stretch}
+use Rattle.yds_search.specs.Views.{group_view}
 use Rattle.yds_search.proofs.Lowest.{lowest}
 use Rattle.yds_edf.specs.Pending.{sum_below, units_wanted}
 use Rattle.yds_timetable.specs.Shares.{JobShare, units_given, total_units, shares_in, shares_before}
@@ -27,7 +27,7 @@ use Rattle.yds_edf.specs.Serving.{IsDueBefore}
 use Rattle.yds_edf.specs.Filled.{pending_at_start}
 use Rattle.yds_edf.specs.Demand.{capacity_at}
 use Rattle.yds_edf.proofs.Sums.{sum_below_same, sum_by_grouped}
-use Rattle.yds_edf.proofs.Numbers.{sum_below-mul, sum_places, sum_numbers, sum_filter}
+use Rattle.yds_edf.proofs.Numbers.{sum_below-mul, sum_places, sum_numbers}
 use Rattle.yds_edf.proofs.Filled.{stands_in}
 use Rattle.yds_intensity.proofs.Work.{share}
 use Rattle.yds_critical.specs.declared.interval.Interval.{Interval}
@@ -49,22 +49,22 @@ pub record IsAhead (jobs : List Job) (one other : ℕ) : Type 0 where
   pub first : ComesFirst jobs one other
 
 -- a share of one of these jobs, in one of these stretches and in the job's window
-pub record IsOwnShare (jobs : List Job) (members numbers : List ℕ) (share : Share) : Type 0 where
+pub record IsOwnShare (jobs : List Job) (members numbers : List ℕ) (share : JobShare) : Type 0 where
   pub job : Contains members share.job
   pub stretch : Contains numbers share.stretch
   pub some : 1 ≤ share.units
   pub in_window : IsInWindow jobs share.job share.stretch
 
 -- in one stretch, the first is of another job, which comes first
-pub record IsInTurn (jobs : List Job) (one other : Share) : Type 0 where
+pub record IsInTurn (jobs : List Job) (one other : JobShare) : Type 0 where
   pub turn : one.stretch ≡ other.stretch → IsAhead jobs one.job other.job
 
 -- a share in an earlier stretch, in which the later one's job could run, is of a job that comes first
-pub record IsEarliest (jobs : List Job) (late early : Share) : Type 0 where
+pub record IsEarliest (jobs : List Job) (late early : JobShare) : Type 0 where
   pub comes : (job_at jobs late.job).release ≤ (stretch_at jobs early.stretch).from → early.stretch < late.stretch → ComesFirst jobs early.job late.job
 
 -- the stage serves its jobs
-pub record IsServed (jobs : List Job) (group : Group) (members numbers : List ℕ) (shares : List Share) : Type 0 where
+pub record IsServed (jobs : List Job) (group : Group) (members numbers : List ℕ) (shares : List JobShare) : Type 0 where
   pub own : All (IsOwnShare jobs members numbers) shares
   pub served : (j : ℕ) → Contains members j → units_of_job shares j ≡ per_work group * (job_at jobs j).work
   pub full : (k : ℕ) → Contains numbers k → units_in_stretch shares k ≡ per_time group * length_at jobs k
@@ -167,7 +167,7 @@ module _ (jobs : List Job) (removed : List Piece) (interval : Interval) (waiting
         | inr late ↦ late
       ]
 
-  abbrev by_number : JobShare → Share
+  abbrev by_number : JobShare → JobShare
   by_number = share_of_members members numbers
 
   all_own : All (IsOwnShare jobs members numbers) (map by_number given)
@@ -184,7 +184,7 @@ module _ (jobs : List Job) (removed : List Piece) (interval : Interval) (waiting
   -- units of a job
   units_are : (x : ℕ) → x < length members → units_of_job (map by_number given) (get_or members x 0) ≡ units_given given x
   units_are x within =
-      sum_by-map by_number (λ (s : Share). cond (s.job == get_or members x 0) s.units 0) given
+      sum_by-map by_number (λ (s : JobShare). cond (s.job == get_or members x 0) s.units 0) given
       ∙ sum_by_same (λ (s : JobShare). cond (get_or members s.job 0 == get_or members x 0) s.units 0) (λ s. cond (x == s.job) s.units 0) given
       (λ k d here. elim (cases_eq x (get_or given k d).job) [
         | inl same ↦ rw (eq-eqb x (get_or given k d).job same, eq-eqb (get_or members (get_or given k d).job 0) (get_or members x 0) (sym (ap (λ n. get_or members n 0) same))) refl
@@ -205,7 +205,7 @@ module _ (jobs : List Job) (removed : List Piece) (interval : Interval) (waiting
   -- units in a stretch
   units_in : (i : ℕ) → i < length numbers → units_in_stretch (map by_number given) (get_or numbers i 0) ≡ total_units (shares_in given i)
   units_in i within =
-      sum_by-map by_number (λ (s : Share). cond (s.stretch == get_or numbers i 0) s.units 0) given
+      sum_by-map by_number (λ (s : JobShare). cond (s.stretch == get_or numbers i 0) s.units 0) given
       ∙ sum_by_same (λ (s : JobShare). cond (get_or numbers s.stretch 0 == get_or numbers i 0) s.units 0) (λ s. cond (i == s.stretch) s.units 0) given
       (λ k d here. elim (cases_eq i (get_or given k d).stretch) [
         | inl same ↦ rw (eq-eqb i (get_or given k d).stretch same, eq-eqb (get_or numbers (get_or given k d).stretch 0) (get_or numbers i 0) (sym (ap (λ n. get_or numbers n 0) same))) refl
@@ -214,13 +214,13 @@ module _ (jobs : List Job) (removed : List Piece) (interval : Interval) (waiting
           ne_eqb (get_or numbers (get_or given k d).stretch 0) (get_or numbers i 0) (λ same. other (sym (one_number (get_or given k d).stretch i (in_stretches k d here) within same))),
         ) refl
       ])
-      ∙ sym (sum_filter (λ (s : JobShare). i == s.stretch) (λ s. s.units) given)
+      ∙ sym (sum_by-filter (λ (s : JobShare). i == s.stretch) (λ s. s.units) given)
 
   -- the stage's jobs have the interval's work, and its stretches have the interval's length
   pub members_work : work_of jobs members ≡ interval.work
   members_work =
       ap (λ (ns : List ℕ). work_of jobs ns) is.members
-      ∙ sum_filter (lies_in jobs removed interval) (λ n. (job_at jobs n).work) waiting
+      ∙ sum_by-filter (lies_in jobs removed interval) (λ n. (job_at jobs n).work) waiting
       ∙ sym (critical.candidate.is_work ∙ sum_by-map (λ n. contracted removed (job_at jobs n)) (share interval.start interval.end) waiting)
 
   pub lengths_inside : sum_below (length (stretches jobs)) (λ k. cond (stretch_lies_in (stretches jobs) removed interval k) (length_at jobs k) 0) ≡ interval.end - interval.start
@@ -251,7 +251,7 @@ module _ (jobs : List Job) (removed : List Piece) (interval : Interval) (waiting
   total_served : sum_below (length own_stretches) (λ i. total_units (shares_in given i)) ≡ per_work group * interval.work
   total_served =
       sum_below_same (length own_stretches) (λ i. total_units (shares_in given i)) (λ i. sum_by (λ (s : JobShare). cond (i == s.stretch) s.units 0) given)
-      (λ i within. sum_filter (λ (s : JobShare). i == s.stretch) (λ s. s.units) given)
+      (λ i within. sum_by-filter (λ (s : JobShare). i == s.stretch) (λ s. s.units) given)
       ∙ sym (sum_by_grouped (length own_stretches) (λ (s : JobShare). s.stretch) (λ s. s.units) given is.serves.known)
       ∙ sum_by_grouped (length own_jobs) (λ (s : JobShare). s.job) (λ s. s.units) given of_own_jobs
       ∙ sum_below_same (length own_jobs) (λ x. units_given given x) (λ x. units_wanted own_jobs (per_work group) x) is.serves.served
@@ -373,7 +373,7 @@ module _ (jobs : List Job) (removed : List Piece) (interval : Interval) (waiting
       earliest_of (get_or given x d) (get_or given y e) (of_members x d within) (of_members y e below) (in_stretches y e below) (in_stretches x d within)
       (Contains-get_or given y e below) x within (get_or_default given x (get_or given x d) d within)))
 
-  pub served_in_real_time : IsServed jobs group members numbers (shares_view stage.shares.items)
+  pub served_in_real_time : IsServed jobs group members numbers stage.shares.items
   served_in_real_time =
       subst (IsServed jobs group members numbers) (sym is.shares) (record {
         own = all_own;

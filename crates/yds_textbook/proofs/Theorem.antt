@@ -12,13 +12,14 @@ use Rattle.yds_model.specs.Piece.{Piece}
 use Rattle.yds_model.specs.Event.{stretches}
 use Rattle.yds_model.specs.Policy.{numbers_of}
 use Rattle.yds_model.specs.Comparison.{stretch_at}
+use Rattle.yds_model.proofs.Filters.{contains_filter}
 use Rattle.yds_events.specs.Window.{length_at}
 use Rattle.yds_events.proofs.Neighbours.{stretch_forward}
-use Rattle.yds_search.specs.Found.{Group, Found, IsShare, IsFound, no_share, share_at, group_of, group_at, per_work, per_time}
+use Rattle.yds_timetable.specs.Shares.{no_share, share_at}
+use Rattle.yds_search.specs.Found.{Group, Found, IsShare, IsFound, group_of, group_at, per_work, per_time}
 use Rattle.yds_search.specs.Views.{group_view}
 use Rattle.yds_search.proofs.KeySums.{over_same}
 use Rattle.yds_edf.proofs.Sums.{sum_below_bound}
-use Rattle.yds_edf.proofs.Filled.{contains_filter}
 use Rattle.yds_intensity.specs.Order.{IsDeadlineOrder}
 use Rattle.yds_critical.specs.declared.interval.Interval.{Interval}
 use Rattle.yds_critical.specs.Critical.{IsCritical}

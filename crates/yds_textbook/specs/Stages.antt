@@ -12,8 +12,8 @@ use Rattle.yds_intensity.specs.Work.{work_within}
 use Rattle.yds_critical.specs.declared.interval.Interval.{Interval}
 use Rattle.yds_critical.specs.Critical.{IsCritical}
 use Rattle.yds_contract.specs.Contracted.{Removes}
-use Rattle.yds_search.specs.Found.{Group, Share, per_time, per_work}
-use Rattle.yds_search.specs.Views.{shares_view, group_view}
+use Rattle.yds_search.specs.Found.{Group, per_time, per_work}
+use Rattle.yds_search.specs.Views.{group_view}
 use Rattle.yds_textbook.specs.declared.stage.Stage.{Stage}
 use Rattle.yds_textbook.specs.Waiting.{contracted_jobs, inside, outside, contracted_stretches, stretches_inside}
 use Rattle.yds_textbook.specs.Served.{capacity_of}
@@ -33,7 +33,7 @@ abbrev pub speed_of : Group → Quotient
 speed_of group = record { num = per_time group; den = per_work group }
 
 -- the share with the numbers of its job and stretch, where it tells their places among these
-abbrev pub share_of_members : List ℕ → List ℕ → JobShare → Share
+abbrev pub share_of_members : List ℕ → List ℕ → JobShare → JobShare
 share_of_members members stretches share =
     record { job = slice_index members share.job; stretch = slice_index stretches share.stretch; units = share.units }
 
@@ -47,7 +47,7 @@ pub record IsStage (jobs : List Job) (removed : List Piece) (interval : Interval
   pub serves : IsFilled (contracted_jobs jobs removed stage.members.items) (range_with_len 0 (length stage.members.items)) (per_work (group_view stage.group))
       (contracted_stretches (stretches jobs) removed stage.stretches.items)
       (map (capacity_of (speed_of (group_view stage.group))) (contracted_stretches (stretches jobs) removed stage.stretches.items)) served
-  pub shares : shares_view stage.shares.items ≡ map (share_of_members stage.members.items stage.stretches.items) served
+  pub shares : stage.shares.items ≡ map (share_of_members stage.members.items stage.stretches.items) served
 
 -- The stages once so much time is removed and the jobs with these numbers wait. The first is that of a critical interval. Then its
 -- time is removed too, and the jobs outside it wait for the next stage. In the end none waits.

@@ -4,7 +4,7 @@ use Rattle.std.specs.List.{flat_map, range_with_len, position_or_len, list_any}
 use Rattle.yds_model.specs.Job.{Job}
 use Rattle.yds_model.specs.Event.{stretches}
 use Rattle.yds_search.specs.Found.{Found}
-use Rattle.yds_search.specs.Views.{shares_view, group_view}
+use Rattle.yds_search.specs.Views.{group_view}
 use Rattle.yds_textbook.specs.declared.stage.Stage.{Stage}
 
 -- the number stands among these
@@ -23,5 +23,5 @@ found_of jobs stages = record {
   groups = map (λ stage. group_view stage.group) stages;
   group_of_job = map (stage_of_job stages) (range_with_len 0 (length jobs));
   group_of_stretch = map (stage_of_stretch stages) (range_with_len 0 (length (stretches jobs)));
-  shares = flat_map (λ stage. shares_view stage.shares.items) stages;
+  shares = flat_map (λ stage. stage.shares.items) stages;
 }

@@ -3,6 +3,7 @@ ghost use Rattle.yds_model.specs.declared.limits.TheConstants.{MAX_JOBS};
 ghost use Rattle.yds_model.specs.Event.{stretches};
 ghost use Rattle.yds_model.specs.Plan.{IsPlan};
 ghost use Rattle.yds_intensity.specs.Order.{IsDeadlineOrder};
+ghost use Rattle.yds_plan.specs.Timetabled.{IsTimetabled};
 ghost use Rattle.yds_textbook.specs.Waiting.{job_has_work};
 ghost use Rattle.yds_textbook.specs.Stages.{AreStages};
 
@@ -49,6 +50,7 @@ pub fn textbook(alloc: Global, rows: &[JobRow]) -> Result<Planned, Memory>
     requires { length rows.now ≤ MAX_JOBS }
     ensures plan { IfOk result (λ planned. IsPlan rows.now planned.schedule.slots planned.certificate) }
     ensures jobs { IfOk result (λ planned. planned.schedule.jobs ≡ length rows.now) }
+    ensures timetable { IfOk result (λ planned. IsTimetabled rows.now planned.timetable planned.level_of_stretch.items planned.schedule.slots planned.certificate) }
 {
     read_rows(rows);
     let timeline = stretches(alloc, rows)?;

@@ -7,10 +7,11 @@ ghost use Rattle.yds_edf.specs.Filled.{IsFilled};
 ghost use Rattle.yds_textbook.specs.Served.{capacity_of};
 
 use std::alloc::{AllocError, Global};
-use yds_edf::{Share, fill};
+use yds_edf::fill;
 use yds_events::Stretch;
 use yds_fraction::Speed;
 use yds_model::{JobRow, Memory};
+use yds_timetable::Share;
 
 /// The units that each stretch serves at this speed, of which a unit of work has as many as the speed's denominator.
 fn capacities(alloc: Global, stretches: &[Stretch], speed: Speed) -> Result<Vec<u64>, Memory>

@@ -1,7 +1,6 @@
 ghost use Rattle.std.specs.Prelude.{◌≡◌, ◌<◌, length, map, IfOk};
 ghost use Rattle.std.specs.List.{All};
 ghost use Rattle.yds_critical.specs.Critical.{IsCritical};
-ghost use Rattle.yds_search.specs.Views.{shares_view};
 ghost use Rattle.yds_textbook.specs.Waiting.{AreLeft, contracted_jobs, inside};
 ghost use Rattle.yds_textbook.specs.Stages.{IsStage, share_of_members};
 
@@ -9,10 +8,10 @@ use crate::serving::serve;
 use crate::waiting::{Left, contracted_rows, contracted_stretches, stretches_inside};
 use std::alloc::Global;
 use yds_critical::Interval;
-use yds_edf::Share as ShareByPlace;
 use yds_fraction::Speed;
 use yds_model::Memory;
-use yds_search::{Group, Share};
+use yds_search::Group;
+use yds_timetable::Share;
 
 /// What a critical interval has: its jobs and stretches, and how they are served.
 #[derive(Debug, Drop)]
@@ -32,11 +31,11 @@ fn shares_by_number(
     alloc: Global,
     members: &[u32],
     stretches: &[u32],
-    shares: &[ShareByPlace],
+    shares: &[Share],
 ) -> Result<Vec<Share>, Memory>
     requires members { All (λ share. share.job < length members.now) shares.now }
     requires stretches { All (λ share. share.stretch < length stretches.now) shares.now }
-    ensures { IfOk result (λ own. shares_view own.items ≡ map (share_of_members members.now stretches.now) shares.now) }
+    ensures { IfOk result (λ own. own.items ≡ map (share_of_members members.now stretches.now) shares.now) }
 {
     let mut own = Vec::new(alloc);
     for share in shares {

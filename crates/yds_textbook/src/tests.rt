@@ -9,7 +9,8 @@ use yds_events::stretches;
 use yds_model::JobRow;
 use yds_model::limits::MAX_JOBS;
 use yds_plan::plan;
-use yds_search::{Group, Share};
+use yds_search::Group;
+use yds_timetable::Share;
 
 fn row(release: u32, deadline: u32, work: u32) -> JobRow
     requires { IsJob (record { release = release; deadline = deadline; work = work }) }
@@ -25,12 +26,16 @@ fn draw(state: &mut u32) -> u32
     *state / 65_536
 }
 
-/// Both ways find the same slots, to the last fraction, and the same pieces and members of each level.
+/// Both ways find the same slots, to the last fraction, the same levels with their pieces and members, and each stretch at the same.
 fn compare(rt: &impl Abort, alloc: Global, rows: &[JobRow]) -> Result<(), Fail> {
     assert!(rt; rows.len() <= MAX_JOBS);
     let told = textbook(alloc, rows)?;
     let planned = plan(alloc, rows)?;
     assert_eq!(rt; told.schedule.slots(), planned.schedule.slots());
+    assert_eq!(rt;
+        told.level_of_stretch.as_slice(),
+        planned.level_of_stretch.as_slice()
+    );
     let own = told.certificate.levels();
     let levels = planned.certificate.levels();
     assert_eq!(rt; own.len(), levels.len());

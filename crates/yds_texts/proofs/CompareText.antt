@@ -1,5 +1,5 @@
 -- What the answer of `compare` is worth: it ends as `round` does and tells the same energy of a plan, and no policy's energy is less.
-use Rattle.yds_laws.proofs.LowestTerms.{lowest_is_lowest}
+use Rattle.yds_model.proofs.LowestTerms.{lowest_is_lowest}
 use Rattle.yds_model.proofs.Scale.{scale_exists}
 use Rattle.yds_model.specs.Divisor.{IsLowest}
 use Rattle.yds_model.specs.Job.{Job}

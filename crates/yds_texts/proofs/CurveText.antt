@@ -17,7 +17,7 @@ use Rattle.yds_model.specs.Curve.{IsLeastExcess, Break, break_at, breaks_of, lea
 use Rattle.yds_laws.specs.CurveLaws.{excess_of, IsNotAbove, IsOnLine, IsNotBelow}
 use Rattle.yds_laws.proofs.CurveLine.{at_most_still, curve_is_straight}
 use Rattle.yds_laws.proofs.LeastAbove.{levels_tell_least_excess}
-use Rattle.yds_laws.proofs.LowestTerms.{HasValue, lowest_value, lowest_is_lowest}
+use Rattle.yds_model.proofs.LowestTerms.{HasValue, lowest_value, lowest_is_lowest}
 use Rattle.yds_laws.proofs.Plans.{plan_falls}
 use Rattle.yds_laws.proofs.SameSpeed.{least_same, above_same}
 use Rattle.yds_texts.specs.CurveText.{bend_at, speed_at, as_quotient, IsLeastAbove, GoesStraight, CurvesAreLeast, no_bend}

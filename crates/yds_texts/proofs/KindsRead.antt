@@ -1,5 +1,5 @@
 -- The printed line of each kind is read as what it says, after lines that leave room for it.
-use Rattle.std.proofs.Common.{◌≡◌, ℕ, ◌^◌, ◌<◌, ◌≤◌, ◌⊎◌, Bool, true, false, ◌==◌, ◌||◌, List, [], ◌∷◌, ◌++◌, length, Some, None, Ok, decimal, refl, arith, inl, inr, eq-eqb}
+use Rattle.std.proofs.Common.{◌≡◌, ℕ, ◌^◌, ◌<◌, ◌≤◌, true, ◌==◌, List, [], ◌∷◌, ◌++◌, length, Some, None, Ok, decimal, refl, arith, inl, inr, eq-eqb}
 use Rattle.std.specs.Prelude.{codes, if◌then◌else◌}
 use Rattle.std.specs.List.{All, AllByRecursion, filter_map, list_all}
 use Rattle.std.proofs.lemmas.Bool.{lt-ltb, le-leb, cases_eq, ne_eqb, and_from}
@@ -21,6 +21,7 @@ use Rattle.yds_model.specs.Scale.{AreAlike}
 use Rattle.yds_model.proofs.Lines.{spaced}
 use Rattle.yds_model.proofs.Spelling.{number_at-decimal}
 use Rattle.yds_model.proofs.Said.{levels_counted}
+use Rattle.yds_model.proofs.Alike.{alike_test}
 use Rattle.yds_texts.proofs.Brought.{IsWord}
 use Rattle.yds_texts.proofs.Printed.{decimal_word, name_word, fraction_word, fraction_read}
 
@@ -58,21 +59,6 @@ job_words name job named fits =
     (name_word (codes "job") refl, (name_word name named, (release, (deadline, (work, tt)))))
 
 -- ---- slots
-
--- one of three tests that passes makes their disjunction pass
-one_of_three : (a b c : Bool) → (a ≡ true) ⊎ ((b ≡ true) ⊎ (c ≡ true)) → (a || b || c) ≡ true
-one_of_three true b c some = refl
-one_of_three false true c some = refl
-one_of_three false false true some = refl
-one_of_three false false false (inl one) = one
-one_of_three false false false (inr (inl one)) = one
-one_of_three false false false (inr (inr one)) = one
-
--- works that are alike pass the test of it
-pub alike_test : (x y : Fraction) → AreAlike x y → are_alike x y ≡ true
-alike_test x y (inl same) = one_of_three (x.den == y.den) (x.den == 1) (y.den == 1) (inl (eq-eqb x.den y.den same))
-alike_test x y (inr (inl one)) = one_of_three (x.den == y.den) (x.den == 1) (y.den == 1) (inr (inl (eq-eqb x.den 1 one)))
-alike_test x y (inr (inr one)) = one_of_three (x.den == y.den) (x.den == 1) (y.den == 1) (inr (inr (eq-eqb y.den 1 one)))
 
 -- the work is alike with each earlier work of the job
 pub grain_test : (job : ℕ) (work : Fraction) (slots : List WrittenSlot) → All (λ slot. slot.job ≡ job → AreAlike work slot.work) slots →

@@ -15,9 +15,8 @@ use Rattle.yds_model.specs.Spelling.{is_digit, is_name}
 use Rattle.yds_model.specs.Tasks.{Task, nth_name, count_of_jobs, numbers_of_jobs}
 use Rattle.yds_model.specs.TaskReading.{is_task_name}
 use Rattle.yds_model.specs.Within.{AreDifferentNames}
-use Rattle.yds_model.proofs.Lists.{AllPairs-append}
+use Rattle.yds_model.proofs.Lists.{AllPairs-append, All-flat}
 use Rattle.yds_model.proofs.Spelling.{decimal_digits, decimal_without, digit_range, digits_value-decimal}
-use Rattle.yds_laws.proofs.Lists.{All-flat}
 use Rattle.yds_texts.proofs.TaskLimits.{HaveOtherNames}
 
 -- # Lists over the numbers of jobs

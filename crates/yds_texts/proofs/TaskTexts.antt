@@ -9,8 +9,8 @@ use Rattle.std.proofs.lemmas.List.{length-append, take_all}
 use Rattle.std.proofs.lemmas.List.Concat.{length-flat_map}
 use Rattle.std.proofs.lemmas.List.Elements.{All-nil, All-weaker, All-head, All-tail}
 use Rattle.std.proofs.lemmas.List.FromFn.{length-map-range_with_len}
-use Rattle.std.proofs.lemmas.List.Sums.{sum_by-cons, sum_by-append, get_or-le-sum_by}
-use Rattle.yds_model.specs.declared.limits.TheConstants.{MAX_JOBS, MAX_TIME, MAX_WORK, MAX_GAPS}
+use Rattle.std.proofs.lemmas.List.Sums.{sum_by-append, get_or-le-sum_by}
+use Rattle.yds_model.specs.declared.limits.TheConstants.{MAX_JOBS, MAX_TIME, MAX_GAPS}
 use Rattle.yds_model.specs.declared.task_reason.TaskReason.{TaskReason}
 use Rattle.yds_model.specs.declared.status.Status.TheVariants.{Done, Refused}
 use Rattle.yds_model.specs.Job.{Job, IsJob}
@@ -36,7 +36,7 @@ use Rattle.yds_texts.proofs.Short.{jobs_short, line_length}
 use Rattle.yds_texts.proofs.TaskCounts.{task_jobs_end_in_time}
 use Rattle.yds_texts.proofs.TaskLimits.{IsTask, AreTasks, tasks_keep}
 use Rattle.yds_model.proofs.Horizon.{works_few}
-use Rattle.yds_laws.proofs.Lists.{All-flat}
+use Rattle.yds_model.proofs.Lists.{All-flat}
 use Rattle.yds_texts.proofs.TaskNames.{All-numbers, names_of_task, nth_name_fits, names_differ}
 use Rattle.yds_laws.proofs.TaskWork.{jobs_of_task, jobs_until, jobs_counted, works_of_task, count_fills}
 

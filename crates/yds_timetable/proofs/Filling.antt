@@ -1,5 +1,5 @@
 -- Share by share and stretch by stretch: the next slots are within their limits, and then they stand last.
-use Rattle.std.proofs.Common.{◌≡◌, ℕ, ◌+◌, ◌*◌, ◌%◌, ◌<◌, ◌≤◌, List, [], ◌∷◌, ◌++◌, ◌∙◌, length, get_or, take, drop, sym, refl, ap, ap₂, subst, arith, Some, None, add-one}
+use Rattle.std.proofs.Common.{◌≡◌, ℕ, ◌+◌, ◌*◌, ◌/◌, ◌%◌, ◌<◌, ◌≤◌, List, [], ◌∷◌, ◌++◌, ◌∙◌, length, get_or, take, drop, sym, refl, ap, ap₂, subst, arith, Some, None, add-one}
 use Rattle.std.specs.Prelude.{Option}
 use Rattle.std.specs.List.{All}
 use Rattle.std.proofs.lemmas.List.{append_assoc, length-append, take_more, take-append-drop, length-take-le}
@@ -8,7 +8,7 @@ use Rattle.std.proofs.lemmas.List.Folds.{length-flat_map-take}
 use Rattle.std.proofs.lemmas.List.Sums.{sum_by-cons, sum_by_push, sum_by_more_le}
 use Rattle.std.proofs.lemmas.List.Elements.{All-nil, All-cons, All-append}
 use Rattle.std.proofs.lemmas.Nat.Gcd.{mod-eq-zero_of_dvd}
-use Rattle.std.proofs.Math.Nat.{mul-le-mul_right, le_of_mul-le-mul_right, dvd-mul_left, mul-div_cancel}
+use Rattle.std.proofs.Math.Nat.{mul-le-mul_right, le_of_mul-le-mul_right, dvd-mul_left, mul-div_cancel, mul-add-div_right, mul-add-mod_self_right, div-le_of_le-mul}
 use Rattle.std.proofs.lemmas.Bool.{eq-eqb}
 use Rattle.yds_model.specs.declared.limits.TheConstants.{MAX_SLOTS, MAX_TIME, MAX_SLOT_WORK, MAX_WHOLE}
 use Rattle.yds_model.specs.Scale.{Fraction, of_whole, of_parts}
@@ -18,6 +18,8 @@ use Rattle.yds_model.specs.Plan.{IsOver}
 use Rattle.yds_events.specs.Stretch.{no_stretch}
 use Rattle.yds_model.specs.Within.{IsFraction}
 use Rattle.yds_model.proofs.Lists.{All-front, All-back, flat_map-take}
+use Rattle.yds_fraction.specs.Mixed.{fraction_of}
+use Rattle.yds_fraction.proofs.Lowest.{fraction_of_parts}
 use Rattle.yds_fraction.proofs.Kept.{IsFraction-within}
 use Rattle.yds_slots.specs.Schedule.{FitsGrain}
 use Rattle.yds_timetable.specs.declared.limits.TheConstants.{MAX_UNITS}
@@ -35,6 +37,17 @@ pub whole_parts : (n den : ℕ) → 1 ≤ den → of_parts (n * den) den ≡ of_
 whole_parts n den some =
     let rest : (n * den) % den ≡ 0 = mod-eq-zero_of_dvd den (dvd-mul_left den n) in
     rw (eq-eqb ((n * den) % den) 0 rest) (ap of_whole (mul-div_cancel n some))
+
+-- the quotient and the rest of the time that has gone by, after the start
+pub time_parts : (start through units : ℕ) → 1 ≤ units → fraction_of (start + through / units) (through % units) units ≡ of_parts (start * units + through) units
+time_parts start through units some =
+    rw (← mul-add-div_right some start through, ← mul-add-mod_self_right start units through) (fraction_of_parts (start * units + through) units)
+
+pub time_kept : (start through units : ℕ) (time : Fraction) → 1 ≤ units → time ≡ fraction_of (start + through / units) (through % units) units →
+    IsFraction MAX_WHOLE time → start * units + through ≤ MAX_TIME * units → IsFraction MAX_TIME time
+time_kept start through units time some is kept ends =
+    IsFraction-within MAX_WHOLE MAX_TIME time kept
+    (rw is (rw (← mul-add-div_right some start through) (div-le_of_le-mul units (omega (arith, ends)))))
 
 -- nothing is done yet
 pub time_begins : (pace : Pace) (start : ℕ) → 1 ≤ pace.units → time_after pace start 0 ≡ of_whole start
@@ -127,9 +140,6 @@ module _ (pace : Pace) (start : ℕ) (shares : List JobShare) (i : ℕ) (share :
 
   -- and it can stand after others
   module _ (jobs : ℕ) (slots now : List WrittenSlot) (can : CanFollow jobs slots pace start shares) (laid : now ≡ slots ++ slots_from pace start 0 (take i shares)) where
-    pub known_next : share.job < jobs
-    known_next = subst (λ (s : JobShare). s.job < jobs) (sym next.is) (can.known i next.default next.within)
-
     pub room_next : length now < MAX_SLOTS
     room_next = omega (
       arith,

@@ -1,14 +1,16 @@
 -- One more stretch of a timetable: those before it keep their shares.
-use Rattle.std.proofs.Common.{◌≡◌, ℕ, ◌≤◌, List, [], ◌∷◌, ◌++◌, length, drop, ap, ap₂, sym, subst, refl, ◌∙◌, arith}
-use Rattle.std.specs.Prelude.{Result, Ok, Err, OnErr}
+use Rattle.std.proofs.Common.{◌≡◌, ℕ, ◌≤◌, Some, None, List, [], ◌∷◌, ◌++◌, length, drop, ap, ap₂, sym, subst, refl, ◌∙◌, arith}
+use Rattle.std.specs.Prelude.{Option, Result, Ok, Err, OnErr}
 use Rattle.std.specs.List.{slice_range}
-use Rattle.std.proofs.lemmas.List.{take-append-le, drop_at, map-append, length-append}
+use Rattle.std.proofs.lemmas.List.{append-nil, get_or_append_left, take-append-le, drop_at, map-append, length-append}
+use Rattle.std.proofs.lemmas.Option.{slice_get-get_or}
 use Rattle.std.proofs.lemmas.List.Elements.{All-nil, All-cons, All-tail, All-append}
 use Rattle.std.proofs.lemmas.Slice.{between_is, between_to_end}
+use Rattle.yds_timetable.specs.declared.pace.Pace.{Pace}
 use Rattle.yds_timetable.specs.declared.timetable.KeptRow.{KeptRow}
 use Rattle.yds_timetable.specs.Shares.{JobShare}
 use Rattle.yds_timetable.specs.Timetable.{Row, IsRow}
-use Rattle.yds_timetable.specs.Kept.{row_kept, rows_kept, IsKeptRow, AreKept}
+use Rattle.yds_timetable.specs.Kept.{pace_kept, row_kept, rows_kept, IsPlaced, IsKeptRow, AreKept, Keeps}
 
 -- a part of a list stays where others come after it
 part_stays : (xs ys : List JobShare) (a b : ℕ) → b ≤ length xs → slice_range (xs ++ ys) a b ≡ slice_range xs a b
@@ -19,47 +21,79 @@ part_stays xs ys a b within =
 part_last : (xs ys : List JobShare) → slice_range (xs ++ ys) (length xs) (length (xs ++ ys)) ≡ ys
 part_last xs ys = between_to_end (xs ++ ys) (length xs) (length (xs ++ ys)) (omega arith) ∙ drop_at xs ys (length xs) refl
 
-row_stays : (shares more : List JobShare) (kept : KeptRow) → kept.end ≤ length shares → row_kept (shares ++ more) kept ≡ row_kept shares kept
-row_stays shares more kept within =
-    ap (λ (own : List JobShare). record { stretch = kept.stretch; pace = kept.pace; shares = own }) (part_stays shares more kept.first kept.end within)
+no_pace : Pace
+no_pace = record { units = 0; time = 0; grain = 0 }
 
-pub rows_stay : (shares more : List JobShare) (rows : List KeptRow) → AreKept shares rows → rows_kept (shares ++ more) rows ≡ rows_kept shares rows
-rows_stay shares more [] are = refl
-rows_stay shares more (kept ∷ rows) are =
-    ap₂ (λ (row : Row) (rest : List Row). row ∷ rest) (row_stays shares more kept (are 0 kept (omega arith)).within)
-    (rows_stay shares more rows (All-tail (IsKeptRow shares) kept rows are))
+module _ (paces added : List Pace) (shares more : List JobShare) where
+  -- a pace stays where others come after it
+  pace_stays : (place : Option ℕ) → IsPlaced paces place → pace_kept (paces ++ added) place ≡ pace_kept paces place
+  pace_stays None is = refl
+  pace_stays (Some place) is =
+      slice_get-get_or (paces ++ added) place no_pace (omega (arith, is, length-append paces added))
+      ∙ ap Some (get_or_append_left paces added no_pace place is) ∙ sym (slice_get-get_or paces place no_pace is)
 
-kept_stay : (shares more : List JobShare) (kept : KeptRow) → IsKeptRow shares kept → IsKeptRow (shares ++ more) kept
-kept_stay shares more kept is = record {
-  forward = is.forward;
-  within = omega (arith, is.within, length-append shares more);
-  is_row = subst IsRow (sym (row_stays shares more kept is.within)) is.is_row;
-}
+  place_stays : (place : Option ℕ) → IsPlaced paces place → IsPlaced (paces ++ added) place
+  place_stays None is = tt
+  place_stays (Some place) is = omega (arith, is, length-append paces added)
 
-pub all_stay : (shares more : List JobShare) (rows : List KeptRow) → AreKept shares rows → AreKept (shares ++ more) rows
-all_stay shares more rows are k d within = kept_stay shares more _ (are k d within)
+  row_stays : (kept : KeptRow) → IsKeptRow paces shares kept → row_kept (paces ++ added) (shares ++ more) kept ≡ row_kept paces shares kept
+  row_stays kept is =
+      ap₂ (λ (pace : Option Pace) (own : List JobShare). record { stretch = kept.stretch; pace = pace; shares = own }) (pace_stays kept.pace is.placed)
+      (part_stays shares more kept.first kept.end is.within)
+
+  pub rows_stay : (rows : List KeptRow) → AreKept paces shares rows → rows_kept (paces ++ added) (shares ++ more) rows ≡ rows_kept paces shares rows
+  rows_stay [] are = refl
+  rows_stay (kept ∷ rows) are =
+      ap₂ (λ (row : Row) (rest : List Row). row ∷ rest) (row_stays kept (are 0 kept (omega arith)))
+      (rows_stay rows (All-tail (IsKeptRow paces shares) kept rows are))
+
+  kept_stay : (kept : KeptRow) → IsKeptRow paces shares kept → IsKeptRow (paces ++ added) (shares ++ more) kept
+  kept_stay kept is = record {
+    forward = is.forward;
+    within = omega (arith, is.within, length-append shares more);
+    placed = place_stays kept.pace is.placed;
+    is_row = subst IsRow (sym (row_stays kept is)) is.is_row;
+  }
+
+  all_stay : (rows : List KeptRow) → AreKept paces shares rows → AreKept (paces ++ added) (shares ++ more) rows
+  all_stay rows are k d within = kept_stay _ (are k d within)
+
+-- the shares alone
+pub rows_stay_beside : (paces : List Pace) (shares more : List JobShare) (rows : List KeptRow) → AreKept paces shares rows →
+    rows_kept paces (shares ++ more) rows ≡ rows_kept paces shares rows
+rows_stay_beside paces shares more rows are =
+    ap (λ (some : List Pace). rows_kept some (shares ++ more) rows) (sym (append-nil paces)) ∙ rows_stay paces [] shares more rows are
 
 -- the row that is put last
-module _ (shares more : List JobShare) (kept : KeptRow) (begins : kept.first ≡ length shares) (ends : kept.end ≡ length (shares ++ more)) where
-  row_last : row_kept (shares ++ more) kept ≡ record { stretch = kept.stretch; pace = kept.pace; shares = more }
-  row_last = ap₂ (λ a b. record { stretch = kept.stretch; pace = kept.pace; shares = slice_range (shares ++ more) a b }) begins ends
-      ∙ ap (λ (own : List JobShare). record { stretch = kept.stretch; pace = kept.pace; shares = own }) (part_last shares more)
+module _ (paces now : List Pace) (pace : Option Pace) (place : Option ℕ) (shares more : List JobShare) (keeps : Keeps paces pace place now) where
+  pub rows_stay_now : (rows : List KeptRow) → AreKept paces shares rows → rows_kept now (shares ++ more) rows ≡ rows_kept paces shares rows
+  rows_stay_now rows are = ap (λ (some : List Pace). rows_kept some (shares ++ more) rows) keeps.more_are ∙ rows_stay paces keeps.added shares more rows are
 
-  pub kept_more : (rows : List KeptRow) → AreKept shares rows → IsRow (record { stretch = kept.stretch; pace = kept.pace; shares = more }) →
-      AreKept (shares ++ more) (rows ++ kept ∷ [])
-  kept_more rows are is =
-      All-append (IsKeptRow (shares ++ more)) rows (kept ∷ []) (all_stay shares more rows are)
-      (All-cons (IsKeptRow (shares ++ more)) kept [] (record {
-        forward = omega (arith, begins, ends, length-append shares more);
-        within = omega (arith, ends);
-        is_row = subst IsRow (sym row_last) is;
-      }) (All-nil (IsKeptRow (shares ++ more))))
+  pub kept_stays_now : (rows : List KeptRow) → AreKept paces shares rows → AreKept now (shares ++ more) rows
+  kept_stays_now rows are = subst (λ (some : List Pace). AreKept some (shares ++ more) rows) (sym keeps.more_are) (all_stay paces keeps.added shares more rows are)
 
-  pub rows_more : (rows : List KeptRow) → AreKept shares rows →
-      rows_kept (shares ++ more) (rows ++ kept ∷ []) ≡ rows_kept shares rows ++ record { stretch = kept.stretch; pace = kept.pace; shares = more } ∷ []
-  rows_more rows are =
-      map-append (row_kept (shares ++ more)) rows (kept ∷ [])
-      ∙ ap₂ (λ (front : List Row) (row : Row). front ++ row ∷ []) (rows_stay shares more rows are) row_last
+  module _ (kept : KeptRow) (is_place : kept.pace ≡ place) (begins : kept.first ≡ length shares) (ends : kept.end ≡ length (shares ++ more)) where
+    row_last : row_kept now (shares ++ more) kept ≡ record { stretch = kept.stretch; pace = pace; shares = more }
+    row_last = ap₂ (λ a b. record { stretch = kept.stretch; pace = pace_kept now kept.pace; shares = slice_range (shares ++ more) a b }) begins ends
+        ∙ ap₂ (λ (one : Option Pace) (own : List JobShare). record { stretch = kept.stretch; pace = one; shares = own })
+        (ap (pace_kept now) is_place ∙ keeps.there) (part_last shares more)
+
+    pub kept_more : (rows : List KeptRow) → AreKept paces shares rows → IsRow (record { stretch = kept.stretch; pace = pace; shares = more }) →
+        AreKept now (shares ++ more) (rows ++ kept ∷ [])
+    kept_more rows are is =
+        All-append (IsKeptRow now (shares ++ more)) rows (kept ∷ []) (kept_stays_now rows are)
+        (All-cons (IsKeptRow now (shares ++ more)) kept [] (record {
+          forward = omega (arith, begins, ends, length-append shares more);
+          within = omega (arith, ends);
+          placed = subst (IsPlaced now) (sym is_place) keeps.placed;
+          is_row = subst IsRow (sym row_last) is;
+        }) (All-nil (IsKeptRow now (shares ++ more))))
+
+    pub rows_more : (rows : List KeptRow) → AreKept paces shares rows →
+        rows_kept now (shares ++ more) (rows ++ kept ∷ []) ≡ rows_kept paces shares rows ++ record { stretch = kept.stretch; pace = pace; shares = more } ∷ []
+    rows_more rows are =
+        map-append (row_kept now (shares ++ more)) rows (kept ∷ [])
+        ∙ ap₂ (λ (front : List Row) (row : Row). front ++ row ∷ []) (rows_stay_now rows are) row_last
 
 pub on_err : {T E P : Type 0} (r : Result T E) → P → OnErr r P
 on_err (Ok x) holds = tt

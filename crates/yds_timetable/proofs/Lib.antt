@@ -5,3 +5,5 @@ pub mod Grains
 pub mod Filling
 pub mod Paces
 pub mod Rows
+pub mod Places
+pub mod Made

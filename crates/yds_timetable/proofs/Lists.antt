@@ -1,28 +1,32 @@
--- Lists that are filtered, joined or made of parts, and pairs of two lists.
-use Rattle.std.proofs.Common.{◌≡◌, ℕ, zero, suc, ◌<◌, List, [], ◌∷◌, ◌++◌, length, get_or, refl, ap, arith, true, false}
-use Rattle.std.specs.Prelude.{Bool, filter}
-use Rattle.std.specs.List.{All, AllZip, flat_map}
-use Rattle.std.proofs.lemmas.List.Elements.{All-nil, All-head, All-tail, All-append}
+-- Lists that are made of parts or of a range, and pairs of two lists.
+use Rattle.std.proofs.Common.{◌≡◌, ℕ, zero, suc, ◌<◌, List, [], ◌∷◌, ◌++◌, length, get_or, refl, sym, ◌∙◌, map, arith, Some, None, Bor}
+use Rattle.std.specs.Prelude.{Option, slice_get}
+use Rattle.std.specs.Slice.{IsItemAt}
+use Rattle.std.specs.Option.{option_copied}
+use Rattle.std.specs.List.{All, AllZip, flat_map, range_with_len}
+use Rattle.std.proofs.lemmas.List.Elements.{All-nil, All-cons, All-head, All-tail}
+use Rattle.std.proofs.lemmas.List.{ext_get_or}
+use Rattle.std.proofs.lemmas.Option.{slice_get_past, slice_get_read}
+use Rattle.std.proofs.lemmas.List.FromFn.{length-map-range_with_len, get_or-map-range_with_len}
 use Rattle.yds_model.proofs.Lists.{All-front, All-back}
 
--- a filter that each element passes, and one that none does
-pub filter_all : {X : Type 0} (p : X → Bool) (xs : List X) → All (λ x. p x ≡ true) xs → filter p xs ≡ xs
-filter_all p [] h = refl
-filter_all p (x ∷ xs) h = rw (h 0 x (omega arith)) (ap (λ ys. x ∷ ys) (filter_all p xs (All-tail (λ y. p y ≡ true) x xs h)))
-
-pub filter_none : {X : Type 0} (p : X → Bool) (xs : List X) → All (λ x. p x ≡ false) xs → filter p xs ≡ []
-filter_none p [] h = refl
-filter_none p (x ∷ xs) h = rw (h 0 x (omega arith)) (filter_none p xs (All-tail (λ y. p y ≡ false) x xs h))
-
--- what holds of all elements of each part, and what holds of all holds of those of a part
-pub All-flat : {X A : Type 0} (P : A → Type 0) (f : X → List A) (xs : List X) → All (λ x. All P (f x)) xs → All P (flat_map f xs)
-All-flat P f [] each = All-nil P
-All-flat P f (x ∷ xs) each = All-append P (f x) (flat_map f xs) (All-head (λ x. All P (f x)) x xs each) (All-flat P f xs (All-tail (λ x. All P (f x)) x xs each))
-
+-- what holds of all elements of the parts together holds of those of a part
 pub all_of_part : {X A : Type 0} (P : A → Type 0) (f : X → List A) (xs : List X) (k : ℕ) (d : X) → k < length xs → All P (flat_map f xs) → All P (f (get_or xs k d))
 all_of_part P f [] k d within all = absurd (omega arith)
 all_of_part P f (x ∷ xs) zero d within all = All-front P (f x) (flat_map f xs) all
 all_of_part P f (x ∷ xs) (suc k) d within all = all_of_part P f xs k d (omega arith) (All-back P (f x) (flat_map f xs) all)
+
+-- the copy of what a list lends at a place
+pub copied_read : {X : Type 0} (xs : List X) (i : ℕ) (lent : Option (Bor X)) → IsItemAt xs i lent → option_copied lent ≡ slice_get xs i
+copied_read xs i None item = sym (slice_get_past xs i item.3)
+copied_read xs i (Some x) item = sym (slice_get_read xs (length xs) i x.now refl item.3.0 item.1)
+
+-- equal values over a range
+pub map_range_same : {X : Type 0} (d : X) (f g : ℕ → X) (n : ℕ) → ((k : ℕ) → k < n → f k ≡ g k) → map f (range_with_len 0 n) ≡ map g (range_with_len 0 n)
+map_range_same d f g n same =
+    ext_get_or d _ _ (length-map-range_with_len f 0 n ∙ sym (length-map-range_with_len g 0 n)) (λ i within.
+    let known : i < n = omega (arith, length-map-range_with_len f 0 n) in
+    get_or-map-range_with_len f 0 n i i d known (omega arith) ∙ same i known ∙ sym (get_or-map-range_with_len g 0 n i i d known (omega arith)))
 
 -- pairs that are joined
 pub AllZip-append : {X Y : Type 0} (R : X → Y → Type 0) (xs : List X) (ys : List Y) (xs' : List X) (ys' : List Y) → AllZip R xs ys →
@@ -51,6 +55,22 @@ zipped_at R [] ys i d e h within = absurd (omega arith)
 zipped_at R (x ∷ xs) [] i d e h within = absurd h
 zipped_at R (x ∷ xs) (y ∷ ys) zero d e h within = h.0
 zipped_at R (x ∷ xs) (y ∷ ys) (suc i) d e h within = zipped_at R xs ys i d e h.1 (omega arith)
+
+-- pairs at each place
+pub zipped_by_places : {X Y : Type 0} (R : X → Y → Type 0) (xs : List X) (ys : List Y) (d : X) (e : Y) → length ys ≡ length xs →
+    ((i : ℕ) → i < length xs → R (get_or xs i d) (get_or ys i e)) → AllZip R xs ys
+zipped_by_places R [] [] d e same each = tt
+zipped_by_places R [] (y ∷ ys) d e same each = absurd (omega arith)
+zipped_by_places R (x ∷ xs) [] d e same each = absurd (omega arith)
+zipped_by_places R (x ∷ xs) (y ∷ ys) d e same each =
+    (each 0 (omega arith), zipped_by_places R xs ys d e (omega arith) (λ i within. each (suc i) (omega arith)))
+
+-- what each pair says of its second
+pub all_second : {X Y : Type 0} (R : X → Y → Type 0) (P : Y → Type 0) → ((x : X) (y : Y) → R x y → P y) → (xs : List X) (ys : List Y) → AllZip R xs ys → All P ys
+all_second R P says [] [] h = All-nil P
+all_second R P says [] (y ∷ ys) h = absurd h
+all_second R P says (x ∷ xs) [] h = absurd h
+all_second R P says (x ∷ xs) (y ∷ ys) h = All-cons P y ys (says x y h.0) (all_second R P says xs ys h.1)
 
 -- one more pair
 pub all_zip_push : {A B : Type 0} (R : A → B → Type 0) (xs : List A) (ys : List B) (x : A) (y : B) → AllZip R xs ys → R x y →

@@ -1,29 +1,19 @@
 -- Units and a length in lowest terms, and units that are read off a pace.
-use Rattle.std.proofs.Common.{◌≡◌, ℕ, zero, suc, ◌*◌, ◌/◌, ◌≤◌, List, Some, ap, subst, sym, ◌∙◌, arith}
+use Rattle.std.proofs.Common.{◌≡◌, ℕ, ◌*◌, ◌/◌, ◌≤◌, List, Some, ap, subst, sym, ◌∙◌, arith}
 use Rattle.std.specs.Prelude.{Option}
 use Rattle.std.specs.List.{All}
-use Rattle.std.specs.Int.{IsGcd}
 use Rattle.std.proofs.Math.Nat.{div-mul_cancel, div-le_self, mul-div_cancel}
 use Rattle.yds_model.specs.declared.limits.TheConstants.{MAX_DENOMINATOR, MAX_SLOT_WORK}
 use Rattle.yds_model.specs.Divisor.{common_divisor}
 use Rattle.yds_model.specs.Piece.{Piece}
 use Rattle.yds_model.proofs.Divisor.{divisor_is_greatest}
+use Rattle.yds_model.proofs.Fractions.{factors}
 use Rattle.yds_events.specs.Stretch.{IsStretch, length_of}
 use Rattle.yds_timetable.specs.declared.limits.TheConstants.{MAX_UNITS}
 use Rattle.yds_timetable.specs.declared.pace.Pace.{Pace}
 use Rattle.yds_timetable.specs.Shares.{JobShare, total_units}
 use Rattle.yds_timetable.specs.Pace.{lowest_pace, IsPaceOf, Fills}
 use Rattle.yds_timetable.specs.Timetable.{Row, IsFilledAt, IsRow}
-
--- both factors of a product of at least 1 are at least 1
-pub factors : (one other product : ℕ) → one * other ≡ product → 1 ≤ product → (1 ≤ one) × (1 ≤ other)
-factors zero other product is some = absurd (omega arith)
-factors (suc one) zero product is some = absurd (omega arith)
-factors (suc one) (suc other) product is some = (omega arith, omega arith)
-
--- so the greatest common divisor of a number of at least 1 with another is
-pub divisor_some : (a b divisor : ℕ) → 1 ≤ b → IsGcd a b divisor → 1 ≤ divisor
-divisor_some a b divisor some greatest = (factors (b / divisor) divisor b (div-mul_cancel divisor greatest.1) some).1
 
 -- units fill a stretch at the pace in lowest terms
 pub lowest_is : (units : ℕ) (stretch : Piece) (grain : ℕ) → IsStretch stretch → 1 ≤ units → 1 ≤ grain → grain ≤ MAX_DENOMINATOR →

@@ -13,12 +13,12 @@ use Rattle.yds_model.specs.Event.{LiesIn, LiesWritten}
 use Rattle.yds_model.specs.Audit.{HasSpeed}
 use Rattle.yds_model.specs.Plan.{IsOver}
 use Rattle.yds_model.specs.Policy.{FillsAtSpeed}
+use Rattle.yds_model.proofs.Fractions.{factors}
 use Rattle.yds_slots.proofs.Parts.{of_parts_at, of_parts_over, of_parts_value}
 use Rattle.yds_events.specs.Stretch.{length_of}
 use Rattle.yds_timetable.specs.declared.pace.Pace.{Pace}
 use Rattle.yds_timetable.specs.Shares.{JobShare, total_units}
 use Rattle.yds_timetable.specs.Pace.{time_after, slot_of, slots_from, IsPaceOf}
-use Rattle.yds_timetable.proofs.Lowest.{factors}
 use Rattle.yds_timetable.proofs.Filling.{whole_parts}
 
 -- # In plain numbers
@@ -174,13 +174,16 @@ module _ (pace : Pace) (stretch : Piece) (all : ℕ) (is : IsPaceOf pace stretch
       (one done share (some 0 share (omega arith)) (omega (arith, enough, more)))
       (each_slot P one (done + share.units) shares (All-tail (λ s. 1 ≤ s.units) share shares some) (omega (arith, enough, more)))
 
-  pub each_for : (done : ℕ) (shares : List JobShare) → All (λ share. 1 ≤ share.units) shares → done + total_units shares ≤ all →
-      AllZip (IsFor stretch pace.grain) shares (slots_from pace stretch.from done shares)
-  each_for done [] some enough = tt
-  each_for done (share ∷ shares) some enough =
+  -- what holds of each share that fits and its slot
+  pub each_pair : (R : JobShare → WrittenSlot → Type 0) →
+      ((done : ℕ) (share : JobShare) → 1 ≤ share.units → done + share.units ≤ all → R share (slot_of pace stretch.from done share)) →
+      (done : ℕ) (shares : List JobShare) → All (λ share. 1 ≤ share.units) shares → done + total_units shares ≤ all →
+      AllZip R shares (slots_from pace stretch.from done shares)
+  each_pair R one done [] some enough = tt
+  each_pair R one done (share ∷ shares) some enough =
       let more = sum_by-cons (λ (s : JobShare). s.units) share shares in (
-        is_for done share (some 0 share (omega arith)) (omega (arith, enough, more)),
-        each_for (done + share.units) shares (All-tail (λ s. 1 ≤ s.units) share shares some) (omega (arith, enough, more)),
+        one done share (some 0 share (omega arith)) (omega (arith, enough, more)),
+        each_pair R one (done + share.units) shares (All-tail (λ s. 1 ≤ s.units) share shares some) (omega (arith, enough, more)),
       )
 
   module _ (scale : ℕ) (positive : 1 ≤ scale) where

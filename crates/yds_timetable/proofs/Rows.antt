@@ -1,29 +1,32 @@
 -- The slots of a timetable's stretches: they run one after another, and which of them lie in a stretch.
 use Rattle.std.proofs.Common.{◌≡◌, ◌≢◌, ℕ, zero, suc, ◌+◌, ◌*◌, ◌<◌, ◌≤◌, List, [], ◌∷◌, ◌++◌, ◌∙◌, length, get_or, refl, sym, subst, arith, inl, inr, ap, ap₂, true, false, Some, None}
-use Rattle.std.specs.Prelude.{Bool, Option, ◌&&◌, nat_le, sum_by, filter}
+use Rattle.std.specs.Prelude.{Bool, Option, ◌&&◌, ◌==◌, cond, nat_le, sum_by, filter}
 use Rattle.std.specs.List.{All, AllZip}
-use Rattle.std.proofs.lemmas.Bool.{cases_lt, le-leb, lt-leb}
+use Rattle.std.proofs.lemmas.Bool.{cases_eq, cases_lt, eq-eqb, le-leb, lt-leb, ne_eqb}
 use Rattle.std.proofs.lemmas.List.{append-nil, map-append, get_or-map, length-map}
 use Rattle.std.proofs.lemmas.List.Elements.{All-nil, All-tail, All-map, All-weaker, filter-append}
+use Rattle.std.proofs.lemmas.List.Sums.{sum_by-cons}
 use Rattle.std.proofs.Math.Nat.{mul-le-mul_right, mul-pos}
 use Rattle.yds_model.specs.Scale.{at_scale, of_whole}
-use Rattle.yds_model.specs.Slot.{WrittenSlot, WholeSlot, IsDivided, IsScale, IsSolid, slot_at_scale, slots_at}
+use Rattle.yds_model.specs.Slot.{WrittenSlot, WholeSlot, IsDivided, IsScale, IsSolid, slot_at, slot_at_scale, slots_at, work_given}
 use Rattle.yds_model.specs.Piece.{Piece, PiecesFrom}
 use Rattle.yds_model.specs.Feasible.{RunFrom}
 use Rattle.yds_model.specs.Event.{LiesIn}
 use Rattle.yds_model.specs.Plan.{IsOver}
 use Rattle.yds_model.specs.Policy.{slots_in, FillsAtSpeed, ServesCapacity}
-use Rattle.yds_model.proofs.Lists.{All-front, All-back}
+use Rattle.yds_model.proofs.Lists.{All-front, All-back, All-flat}
+use Rattle.yds_model.proofs.Runs.{run_earlier}
+use Rattle.yds_model.proofs.Filters.{filter_all, filter_none}
 use Rattle.yds_slots.proofs.Parts.{of_parts_over}
 use Rattle.yds_events.specs.Stretch.{IsStretch, no_stretch, length_of}
 use Rattle.yds_events.proofs.InOrder.{later_start}
 use Rattle.yds_timetable.specs.declared.pace.Pace.{Pace}
-use Rattle.yds_timetable.specs.Shares.{JobShare, total_units}
+use Rattle.yds_timetable.specs.Shares.{JobShare, total_units, units_given}
 use Rattle.yds_timetable.specs.Pace.{time_after, slot_of, slots_from, Fills}
 use Rattle.yds_timetable.specs.Timetable.{Row, row_at, stretches_of, slots_at_pace, row_slots, shares_of, slots_of, IsFilledAt, IsRow, HasGrain}
 use Rattle.yds_timetable.proofs.Filling.{time_begins}
-use Rattle.yds_timetable.proofs.Lists.{filter_all, filter_none, All-flat, all_of_part, AllZip-flat}
-use Rattle.yds_timetable.proofs.Paces.{IsFor, runs, solid, some_times, time_ends, each_slot, each_for, slots_run, slots_fill, slots_work}
+use Rattle.yds_timetable.proofs.Lists.{all_of_part, AllZip-flat}
+use Rattle.yds_timetable.proofs.Paces.{IsFor, is_for, runs, solid, some_times, time_ends, each_slot, each_pair, slots_run, slots_fill, slots_work}
 
 -- # One stretch
 
@@ -70,7 +73,7 @@ row_for : (grain : ℕ) (pace : Option Pace) (stretch : Piece) (shares : List Jo
     AllZip (IsFor stretch grain) shares (slots_at_pace pace stretch.from shares)
 row_for grain None stretch shares is has = rw (is.1) tt
 row_for grain (Some pace) stretch shares fills has =
-    subst (λ (g : ℕ). AllZip (IsFor stretch g) shares (slots_from pace stretch.from 0 shares)) has (each_for pace stretch (total_units shares) fills.own 0 shares fills.some (omega arith))
+    subst (λ (g : ℕ). AllZip (IsFor stretch g) shares (slots_from pace stretch.from 0 shares)) has (each_pair pace stretch (total_units shares) fills.own (IsFor stretch pace.grain) (is_for pace stretch (total_units shares) fills.own) 0 shares fills.some (omega arith))
 
 module _ (scale : ℕ) (positive : 1 ≤ scale) where
   whole_at : (time : ℕ) → at_scale scale (of_whole time) ≡ time * scale
@@ -138,9 +141,17 @@ run_append start time [] (slot ∷ more) run before ends after = (omega (arith, 
 run_append start time (slot ∷ slots) more run before ends after =
     (run.0, run.1, run_append slot.to time slots more run.2 (ends 0 slot (omega arith)) (All-tail (λ s. s.to ≤ time) slot slots ends) after)
 
-run_earlier : (start time : ℕ) (slots : List WholeSlot) → start ≤ time → RunFrom time slots → RunFrom start slots
-run_earlier start time [] before run = tt
-run_earlier start time (slot ∷ slots) before run = (omega (arith, before, run.0), run.1, run.2)
+-- what runs one after another, by two places
+run_at : (start : ℕ) (slots : List WholeSlot) (j : ℕ) → RunFrom start slots → j < length slots → start ≤ (slot_at slots j).from
+run_at start [] j run within = absurd (omega arith)
+run_at start (slot ∷ slots) zero run within = run.0
+run_at start (slot ∷ slots) (suc j) run within = omega (arith, run.0, run.1, run_at slot.to slots j run.2 (omega arith))
+
+pub run_pairs : (start : ℕ) (slots : List WholeSlot) (i j : ℕ) → RunFrom start slots → i < j → j < length slots → (slot_at slots i).to ≤ (slot_at slots j).from
+run_pairs start [] i j run order within = absurd (omega arith)
+run_pairs start (slot ∷ slots) i zero run order within = absurd (omega arith)
+run_pairs start (slot ∷ slots) zero (suc j) run order within = run_at slot.to slots j run.2 (omega arith)
+run_pairs start (slot ∷ slots) (suc i) (suc j) run order within = run_pairs slot.to slots i j run.2 (omega arith) (omega arith)
 
 -- all slots run one after another
 pub rows_run : (scale : ℕ) → 1 ≤ scale → (start : ℕ) (rows : List Row) → PiecesFrom start (stretches_of rows) → All IsRow rows →
@@ -260,3 +271,25 @@ pub rows_for : (R : JobShare → WrittenSlot → Type 0) (grain : ℕ) (rows : L
     AllZip R (shares_of rows) (slots_of rows)
 rows_for R grain rows are has each = AllZip-flat R (λ (row : Row). row.shares) row_slots rows no_row
     (λ k within. each k within (row_for grain (row_at rows k).pace (row_at rows k).stretch (row_at rows k).shares (are k no_row within) (has k no_row within)))
+
+-- slots beside shares: the work that they give a job, where a unit of work has q of its units
+pub zipped_work : (R : JobShare → WholeSlot → Type 0) (q scale job : ℕ) →
+    ((share : JobShare) (slot : WholeSlot) → R share slot → (slot.job ≡ share.job) × (share.job ≡ job → slot.work * q ≡ share.units * scale)) →
+    (shares : List JobShare) (slots : List WholeSlot) → AllZip R shares slots → q * work_given slots job ≡ scale * units_given shares job
+zipped_work R q scale job says [] [] beside = omega arith
+zipped_work R q scale job says [] (slot ∷ slots) beside = absurd beside
+zipped_work R q scale job says (share ∷ shares) [] beside = absurd beside
+zipped_work R q scale job says (share ∷ shares) (slot ∷ slots) beside =
+    let here = says share slot beside.0 in
+    let mine : q * cond (job == slot.job) slot.work 0 ≡ scale * cond (job == share.job) share.units 0 =
+    rw (here.0) (elim (cases_eq job share.job) [
+      | inl same ↦ rw (eq-eqb job share.job same) (omega (arith, here.1 (sym same)))
+      | inr other ↦ rw (ne_eqb job share.job other) (omega arith)
+    ]) in
+    omega (
+      arith,
+      mine,
+      zipped_work R q scale job says shares slots beside.1,
+      ap (λ n. q * n) (sum_by-cons (λ (s : WholeSlot). cond (job == s.job) s.work 0) slot slots),
+      ap (λ n. scale * n) (sum_by-cons (λ (s : JobShare). cond (job == s.job) s.units 0) share shares),
+    )

@@ -2,4 +2,5 @@ pub mod Shares
 pub mod Pace
 pub mod Timetable
 pub mod Kept
+pub mod Sorted
 pub mod Room

@@ -1,10 +1,18 @@
 -- Shares: in a stretch, which is known by its number, a job gets so many units.
 use Rattle.std.specs.Prelude.{ℕ, ◌==◌, if◌then◌else◌, nat_lt, List, sum_by, filter}
+use Rattle.std.specs.List.{slice_index_or}
 
 pub record JobShare : Type 0 where
   pub stretch : ℕ
   pub job : ℕ
   pub units : ℕ
+
+-- the share at a place
+abbrev pub no_share : JobShare
+no_share = record { stretch = 0; job = 0; units = 0 }
+
+abbrev pub share_at : List JobShare → ℕ → JobShare
+share_at shares i = slice_index_or shares i no_share
 
 -- the units that the shares give a job, together
 abbrev pub units_given : List JobShare → ℕ → ℕ

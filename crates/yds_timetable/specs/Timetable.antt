@@ -1,11 +1,11 @@
 -- A timetable: stretches, each with its pace and the shares that fill it, or idle. Its slots are those of the stretches in order.
-use Rattle.std.specs.Prelude.{◌≡◌, ℕ, List, [], Option, Some, None, map}
-use Rattle.std.specs.List.{flat_map, slice_index_or}
+use Rattle.std.specs.Prelude.{◌≡◌, ℕ, List, [], Option, Some, None, length, map, slice_get, slice_index}
+use Rattle.std.specs.List.{flat_map, range_with_len, slice_index_or}
 use Rattle.yds_model.specs.Slot.{WrittenSlot}
 use Rattle.yds_model.specs.Piece.{Piece}
-use Rattle.yds_events.specs.Stretch.{IsStretch, no_stretch}
+use Rattle.yds_events.specs.Stretch.{IsStretch, no_stretch, nth_stretch}
 use Rattle.yds_timetable.specs.declared.pace.Pace.{Pace}
-use Rattle.yds_timetable.specs.Shares.{JobShare}
+use Rattle.yds_timetable.specs.Shares.{JobShare, shares_in}
 use Rattle.yds_timetable.specs.Pace.{slots_from, Fills}
 
 pub record Row : Type 0 where
@@ -47,3 +47,15 @@ IsRow row = IsFilledAt row.pace row.stretch row.shares
 abbrev pub HasGrain : ℕ → Option Pace → Type 0
 HasGrain grain None = Unit {0}
 HasGrain grain (Some pace) = pace.grain ≡ grain
+
+-- Rows that are made of lists: a stretch, the pace that stands at its place, none where there is none, and the shares in it, in the
+-- order in which they stand.
+abbrev pub row_of : List Piece → List Pace → List ℕ → List JobShare → ℕ → Row
+row_of timeline paces places shares k = record {
+  stretch = nth_stretch timeline k;
+  pace = slice_get paces (slice_index places k);
+  shares = shares_in shares k;
+}
+
+abbrev pub rows_of : List Piece → List Pace → List ℕ → List JobShare → List Row
+rows_of timeline paces places shares = map (row_of timeline paces places shares) (range_with_len 0 (length timeline))

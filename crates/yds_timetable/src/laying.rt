@@ -22,7 +22,7 @@ pub fn lay(alloc: Global, jobs: u32, timetable: &Timetable) -> Result<Schedule, 
     requires { CanLay jobs timetable.now }
     ensures { IfOk result (λ schedule. schedule ≡ record { jobs = jobs; slots = slots_of timetable.now }) }
 {
-    let mut schedule = Schedule::new(alloc, jobs)?;
+    let mut schedule = Schedule::with_capacity(alloc, jobs, timetable.room())?;
     for number in 0..timetable.len() {
         lay_stretch(&mut schedule, timetable, number)?;
     }

@@ -46,9 +46,17 @@ impl Pace {
         ensures value { result ≡ time_after self start done }
         ensures kept { IsFraction MAX_TIME result }
     {
-        let begun = u128::from(start) * u128::from(self.units);
         let through = u128::from(done) * u128::from(self.time);
-        Moment::of_parts(begun + through, self.units)
+        if through > u128::from(u64::MAX) {
+            let begun = u128::from(start) * u128::from(self.units);
+            return Moment::of_parts(begun + through, self.units);
+        }
+        let through = through as u64;
+        Moment::new(
+            u64::from(start) + through / self.units,
+            through % self.units,
+            self.units,
+        )
     }
 
     /// The work that so many units are.

@@ -1,29 +1,35 @@
-ghost use Rattle.std.specs.Prelude.{◌≡◌, ◌<◌, ◌≤◌, [], ◌∷◌, ◌++◌, length, OnOk, OnErr};
-ghost use Rattle.std.specs.List.{All};
+ghost use Rattle.std.specs.Prelude.{◌≡◌, ◌<◌, ◌≤◌, [], ◌∷◌, ◌++◌, length, map, IfOk, OnOk, OnErr};
+ghost use Rattle.std.specs.List.{All, range_with_len};
+ghost use Rattle.yds_model.specs.declared.limits.TheConstants.{MAX_SLOTS};
 ghost use Rattle.yds_events.specs.Stretch.{IsStretch};
 ghost use Rattle.yds_timetable.specs.Shares.{total_units};
-ghost use Rattle.yds_timetable.specs.Timetable.{row_at, IsRow};
+ghost use Rattle.yds_timetable.specs.Timetable.{row_at, rows_of, IsRow};
+ghost use Rattle.yds_timetable.specs.Kept.{Keeps};
+ghost use Rattle.yds_timetable.specs.Sorted.{kept_row};
 
 use crate::pace::Pace;
 use crate::share::Share;
+use crate::sorting::sort_shares;
 use std::alloc::Global;
 use std::marker::Model;
 use yds_events::Stretch;
 use yds_model::Memory;
 
-/// A stretch as it is kept: its shares stand from one place of the list of all shares to another.
+/// A stretch as it is kept: its pace stands at a place of the list of paces, or it is idle, and its shares stand from one place of the
+/// list of all shares to another.
 #[derive(Clone, Copy, Debug)]
 struct KeptRow {
     stretch: Stretch,
-    pace: Option<Pace>,
-    first: usize,
-    end: usize,
+    pace: Option<u32>,
+    first: u32,
+    end: u32,
 }
 
 /// Stretches, each with its pace and the shares that fill it at that pace, or idle. They are numbered from 0.
 #[derive(Drop)]
 pub struct Timetable {
     rows: Vec<KeptRow>,
+    paces: Vec<Pace>,
     /// The shares of the stretches, in their order.
     shares: Vec<Share>,
 }
@@ -35,9 +41,9 @@ impl Model for Timetable {
 
     ghost Value = { List Row };
 
-    ghost view = { λ t. rows_kept t.shares.items t.rows.items };
+    ghost view = { λ t. rows_kept t.paces.items t.shares.items t.rows.items };
 
-    ghost invariant = { λ t. AreKept t.shares.items t.rows.items };
+    ghost invariant = { λ t. AreKept t.paces.items t.shares.items t.rows.items };
 }
 
 impl Timetable {
@@ -47,8 +53,34 @@ impl Timetable {
     {
         Timetable {
             rows: Vec::new(alloc),
+            paces: Vec::new(alloc),
             shares: Vec::new(alloc),
         }
+    }
+
+    /// The timetable of these stretches: each with the pace that stands at its place, idle where there is none, and with its shares in
+    /// the order in which they stand in the list.
+    pub fn of_shares(
+        alloc: Global,
+        timeline: &[Stretch],
+        paces: &[Pace],
+        places: &[u32],
+        shares: &[Share],
+    ) -> Result<Timetable, Memory>
+        requires many { length places.now ≡ length timeline.now }
+        requires few { length shares.now ≤ MAX_SLOTS }
+        requires known { All (λ share. share.stretch < length timeline.now) shares.now }
+        requires rows { All IsRow (rows_of timeline.now paces.now places.now shares.now) }
+        ensures { IfOk result (λ timetable. timetable ≡ rows_of timeline.now paces.now places.now shares.now) }
+    {
+        let (shares, ends) = sort_shares(alloc, shares, timeline.len())?;
+        let rows = kept_rows(alloc, timeline, paces.len(), places, &ends)?;
+        let paces = Vec::from_slice(alloc, paces)?;
+        Ok(Timetable {
+            rows,
+            paces,
+            shares,
+        })
     }
 
     /// Puts the stretch last, with the shares that fill it at the pace, or idle where it has no pace and no shares. After want of
@@ -63,9 +95,10 @@ impl Timetable {
         ensures ok { OnOk result (self.new ≡ self.old ++ record { stretch = stretch; pace = pace; shares = shares.now } ∷ []) }
         ensures err { OnErr result (self.new ≡ self.old) }
     {
-        let first = self.shares.len();
+        let first = place_of(self.shares.len())?;
         self.shares.extend_from_slice(shares)?;
-        let end = self.shares.len();
+        let end = place_of(self.shares.len())?;
+        let pace = keep_pace(&mut self.paces, pace)?;
         self.rows.push(KeptRow {
             stretch,
             pace,
@@ -77,9 +110,15 @@ impl Timetable {
 
     /// How many stretches it has.
     pub fn len(&self) -> usize
-        ensures { result ≡ length self.now }
+        ensures value { result ≡ length self.now }
+        ensures kept { All IsRow self.now }
     {
         self.rows.len()
+    }
+
+    /// Room for a slot of each share.
+    pub(crate) fn room(&self) -> usize {
+        self.shares.len()
     }
 
     /// The stretch with this number.
@@ -97,7 +136,10 @@ impl Timetable {
         ensures value { result ≡ (row_at self.now number).pace }
         ensures kept { IsRow (row_at self.now number) }
     {
-        self.rows[number].pace
+        match self.rows[number].pace {
+            Some(place) => Some(self.paces[place as usize]),
+            None => None,
+        }
     }
 
     /// Its shares, in order.
@@ -106,7 +148,7 @@ impl Timetable {
         ensures { result.now ≡ (row_at self.now number).shares }
     {
         let row = self.rows[number];
-        &self.shares[row.first..row.end]
+        &self.shares[row.first as usize..row.end as usize]
     }
 
     /// The units that it serves. They are read off its pace, and not added up.
@@ -119,4 +161,55 @@ impl Timetable {
             None => 0,
         }
     }
+}
+
+/// A place in a list, or want of memory where there are more than 32 bits count.
+fn place_of(count: usize) -> Result<u32, Memory>
+    ensures { IfOk result (λ place. place ≡ count) }
+{
+    if count > u32::MAX as usize {
+        return Err(Memory);
+    }
+    Ok(count as u32)
+}
+
+/// Puts the pace last, where there is one, and tells its place.
+fn keep_pace(paces: &mut Vec<Pace>, pace: Option<Pace>) -> Result<Option<u32>, Memory>
+    ensures ok { IfOk result (λ place. Keeps paces.old.items pace place paces.new.items) }
+    ensures err { OnErr result (paces.new.items ≡ paces.old.items) }
+{
+    let Some(pace) = pace else {
+        return Ok(None);
+    };
+    let place = place_of(paces.len())?;
+    paces.push(pace)?;
+    Ok(Some(place))
+}
+
+/// The rows of stretches whose shares stand up to these ends, beside so many paces.
+fn kept_rows(
+    alloc: Global,
+    timeline: &[Stretch],
+    paces: usize,
+    places: &[u32],
+    ends: &[u32],
+) -> Result<Vec<KeptRow>, Memory>
+    requires many { length places.now ≡ length timeline.now }
+    requires ends { length ends.now ≡ length timeline.now }
+    ensures { IfOk result (λ rows. rows.items ≡ map (kept_row timeline.now paces places.now ends.now) (range_with_len 0 (length timeline.now))) }
+{
+    let mut rows = Vec::with_capacity(alloc, timeline.len())?;
+    let mut start = 0;
+    for (number, stretch) in timeline.iter().enumerate() {
+        let place = places[number];
+        let end = ends[number];
+        rows.push(KeptRow {
+            stretch: *stretch,
+            pace: ((place as usize) < paces).then_some(place),
+            first: start,
+            end,
+        })?;
+        start = end;
+    }
+    Ok(rows)
 }

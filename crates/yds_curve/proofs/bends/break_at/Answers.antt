@@ -3,7 +3,7 @@ use Rattle.yds_model.specs.Scale.{Fraction, IsSameQuotient}
 use Rattle.yds_model.specs.Level.{Level}
 use Rattle.yds_model.specs.Divisor.{in_lowest_terms}
 use Rattle.yds_model.specs.Curve.{Break}
-use Rattle.yds_curve.proofs.Reduced.{speed_reduced}
+use Rattle.yds_fraction.proofs.Lowest.{speed_reduced}
 use Rattle.yds_curve.proofs.bends.break_at.Goals as goal
 
 pub returns : goal.returns

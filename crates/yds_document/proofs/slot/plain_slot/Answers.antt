@@ -1,6 +1,7 @@
 use Rattle.std.proofs.Common.{sym, ◌∙◌, subst}
 use Rattle.yds_model.specs.Within.{IsFraction}
-use Rattle.yds_document.proofs.PlainLine.{says_slot, test_alike}
+use Rattle.yds_model.proofs.Alike.{alike_test}
+use Rattle.yds_document.proofs.PlainLine.{says_slot}
 use Rattle.yds_document.proofs.slot.plain_slot.Goals as goal
 
 pub invariant_of-result : goal.invariant_of-result
@@ -16,4 +17,4 @@ returns-clause-says c =
     says_slot c.args.instance.now.names c.args.schedule.now.slots _ _ _ _ _ _ c.in-Ok.job c.from-latest.result c.in_ok-from.from c.in_ok-to.to c.in_ok-work.work
     c.in_ok-next.ensures.steps.first c.from-latest.ensures c.in_ok-from.ensures.says c.in_ok-to.ensures.says c.in_ok-work.ensures.says
     (c.at_end.ensures.0 c.if-not-at_end.false) c.in-Ok.ensures.gives
-    (test_alike c.in_ok-from.from c.in_ok-to.to (c.alike.ensures.0 c.if-not-alike.false)) (sym c.fits_grain.ensures.value ∙ c.if-not-fits_grain.false)
+    (alike_test c.in_ok-from.from c.in_ok-to.to (c.alike.ensures.0 c.if-not-alike.false)) (sym c.fits_grain.ensures.value ∙ c.if-not-fits_grain.false)

@@ -3,7 +3,7 @@ use Rattle.std.specs.List.{AllZip}
 use Rattle.std.proofs.lemmas.List.{take_more, take_all}
 use Rattle.yds_model.specs.Level.{Level}
 use Rattle.yds_round.specs.Pace.{IsPaceOf}
-use Rattle.yds_round.proofs.Paces.{paces_push}
+use Rattle.yds_timetable.proofs.Lists.{all_zip_push}
 use Rattle.yds_round.proofs.rounding.paces_of.Goals as goal
 
 pub loop-level-init : goal.loop-level-init
@@ -14,7 +14,7 @@ loop-level-preserved c =
     let taken = take_more c.args.levels.now c.loop-level.level-index c.level-item.result c.loop-level-test.true
     ∙ ap (λ (level : Level). take c.loop-level.level-index c.args.levels.now ++ level ∷ []) (sym c.level-item.is) in
     rw (taken, c.in_ok-push.ensures.items)
-    (paces_push c.args.table.now (take c.loop-level.level-index c.args.levels.now) c.loop-level.paces.items c.level-item.result c.of.result c.loop-level.invariant c.of.ensures)
+    (all_zip_push (IsPaceOf c.args.table.now) (take c.loop-level.level-index c.args.levels.now) c.loop-level.paces.items c.level-item.result c.of.result c.loop-level.invariant c.of.ensures)
 
 pub returns : goal.returns
 returns c =

@@ -37,9 +37,9 @@ returns-clause-rounding c =
     let parts : numerator c.energy-energy.result * hull_multiple c.args.table.now
     ≡ energy_parts c.args.rows.now c.args.table.now c.args.plan.now.certificate c.in_ok-paces.paces.items * c.energy-energy.result.den =
     rw (c.levels-levels.ensures.value, c.deref-2.ensures.value) at c.energy-energy.ensures.value in
-    let written = rw (c.deref.ensures.value) at c.in_ok-schedule.ensures in
-    is_rounding c.args.rows.now c.args.table.now c.args.plan.now.schedule.slots c.args.plan.now.certificate c.in_ok-paces.paces.items written.0
-    c.in_ok-schedule.schedule.slots c.energy-energy.result c.requires.plan c.points-points.ensures.kept.table
-    (λ some fast. slow (fast_first c.args.plan.now.certificate c.args.table.now some fast)) are written.1 (ap (λ (schedule : WrittenSchedule). schedule.slots) written.2)
+    is_rounding c.args.rows.now c.args.table.now c.args.plan.now.schedule.slots c.args.plan.now.certificate c.in_ok-paces.paces.items c.args.plan.now.timetable
+    c.args.plan.now.level_of_stretch.items c.in_ok-schedule.schedule.slots c.energy-energy.result c.requires.plan c.points-points.ensures.kept.table
+    (λ some fast. slow (fast_first c.args.plan.now.certificate c.args.table.now some fast)) are c.requires.timetable c.in_ok-schedule.ensures.rows
+    (ap (λ (schedule : WrittenSchedule). schedule.slots) (rw (c.deref.ensures.value) at c.in_ok-schedule.ensures.written))
     (slots_solid c.in_ok-schedule.schedule.slots c.slots-slots.ensures.kept.fit) (some_parts MAX_ENERGY c.energy-energy.ensures.kept)
     c.energy-energy.ensures.multiple parts c.energy-energy.ensures.lowest

@@ -1,10 +1,10 @@
-use Rattle.std.proofs.Common.{◌≡◌, length, take}
-use Rattle.std.specs.List.{flat_map}
-use Rattle.yds_round.specs.Rounded.{written_in}
+use Rattle.std.proofs.Common.{◌≡◌, length, drop}
+use Rattle.yds_timetable.specs.Timetable.{slots_of}
+use Rattle.yds_round.specs.Rounded.{written_to}
 use Rattle.yds_round.proofs.rounding.round_slots.Given as goal
 
-abbrev pub invariant-loop-stretch : goal.invariant-loop-stretch
-invariant-loop-stretch l = l.rounded ≡ record {
-  jobs = length l.rows;
-  slots = flat_map (written_in l.numbers.items l.paces l.plan.schedule.slots) (take l.stretch-index l.stretch-items);
+abbrev pub invariant-loop-number : goal.invariant-loop-number
+invariant-loop-number l = record {
+  written : l.rounded ≡ record { jobs = length l.rows; slots = written_to l.paces l.plan.timetable l.plan.level_of_stretch.items l.number };
+  rest : l.rest ≡ slots_of (drop l.number l.plan.timetable);
 }

@@ -1,10 +1,10 @@
 use Rattle.std.proofs.Common.{◌≡◌, ℕ, ◌+◌, ◌≤◌, length, get_or, take, sum}
 use Rattle.yds_search.proofs.closing.rank.Given as goal
 
-abbrev pub invariant-loop-mark : goal.invariant-loop-mark
-invariant-loop-mark l = record {
-  all : length l.ranks.items ≡ l.mark-index + 1;
-  is : l.count ≡ sum (take l.mark-index l.marks);
-  few : l.count ≤ l.mark-index;
-  each : (p : ℕ) → p ≤ l.mark-index → get_or l.ranks.items p 0 ≡ sum (take p l.marks);
+abbrev pub invariant-loop-place : goal.invariant-loop-place
+invariant-loop-place l = record {
+  all : length l.ranks.items ≡ length l.marks + 1;
+  is : l.count ≡ sum (take l.place l.marks);
+  few : l.count ≤ l.place;
+  each : (p : ℕ) → p ≤ l.place → get_or l.ranks.items p 0 ≡ sum (take p l.marks);
 }

@@ -25,5 +25,5 @@ returns-clause-plan c =
     let found : IsFound c.args.rows.now (found_view c.in_ok-found.found) =
     found_of_stages c.args.rows.now c.in_ok-stages.stages.items c.deref-3.result.now (found_view c.in_ok-found.found) c.read_rows.ensures c.requires c.in_ok-stages.ensures
     c.deref-3.ensures.value c.in_ok-found.ensures in
-    laid_plan c.args.rows.now (found_view c.in_ok-found.found) (λ planned. planned.schedule) (λ planned. planned.certificate) c.lay_out.result found
-    c.lay_out.ensures.schedule c.lay_out.ensures.certificate
+    laid_plan c.args.rows.now c.read_rows.ensures c.requires (found_view c.in_ok-found.found) (λ planned. planned.schedule) (λ planned. planned.certificate) c.lay_out.result
+    found c.lay_out.ensures.schedule c.lay_out.ensures.certificate

@@ -1,7 +1,6 @@
 use Rattle.std.proofs.Common.{◌≡◌, take, map}
-use Rattle.yds_search.specs.Views.{shares_view}
 use Rattle.yds_textbook.specs.Stages.{share_of_members}
 use Rattle.yds_textbook.proofs.stage.shares_by_number.Given as goal
 
 abbrev pub invariant-loop-share : goal.invariant-loop-share
-invariant-loop-share l = shares_view l.own.items ≡ map (share_of_members l.members l.stretches) (take l.share-index l.shares)
+invariant-loop-share l = l.own.items ≡ map (share_of_members l.members l.stretches) (take l.share-index l.shares)

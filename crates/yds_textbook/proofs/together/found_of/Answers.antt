@@ -4,7 +4,7 @@ use Rattle.std.proofs.lemmas.List.{take_all}
 use Rattle.yds_model.specs.Piece.{Piece}
 use Rattle.yds_model.specs.Event.{stretches}
 use Rattle.yds_events.proofs.Neighbours.{few_stretches}
-use Rattle.yds_search.specs.Views.{group_view, shares_view}
+use Rattle.yds_search.specs.Views.{group_view}
 use Rattle.yds_textbook.specs.declared.stage.Stage.{Stage}
 use Rattle.yds_textbook.specs.Together.{stage_of_job, stage_of_stretch}
 use Rattle.yds_textbook.proofs.Making.{groups_next, shares_next, found_parts}
@@ -28,8 +28,8 @@ returns c =
     let stages = c.args.stages.now in
     let all = take_all c.loop-stage.stage-index stages c.loop-stage-test.false in
     found_parts _ (map (λ (stage : Stage). group_view stage.group) stages) _ (map (stage_of_job stages) (range_with_len 0 (length c.args.rows.now))) _
-    (map (stage_of_stretch stages) (range_with_len 0 (length (stretches c.args.rows.now)))) _ (flat_map (λ (stage : Stage). shares_view stage.shares.items) stages)
+    (map (stage_of_stretch stages) (range_with_len 0 (length (stretches c.args.rows.now)))) _ (flat_map (λ (stage : Stage). stage.shares.items) stages)
     (c.loop-stage.invariant.groups ∙ ap (λ (front : List Stage). map (λ (stage : Stage). group_view stage.group) front) all)
     c.in_ok-stages_of_jobs.ensures
     (c.in_ok-stages_of_stretches.ensures ∙ ap (λ (pieces : List Piece). map (stage_of_stretch stages) (range_with_len 0 (length pieces))) c.requires.timeline)
-    (c.loop-stage.invariant.shares ∙ ap (λ (front : List Stage). flat_map (λ (stage : Stage). shares_view stage.shares.items) front) all)
+    (c.loop-stage.invariant.shares ∙ ap (λ (front : List Stage). flat_map (λ (stage : Stage). stage.shares.items) front) all)

@@ -2,9 +2,9 @@ use Rattle.std.proofs.Common.{ℕ, List, [], ◌∷◌, ◌++◌, ◌∙◌, sym
 use Rattle.std.specs.Prelude.{Bool, filter}
 use Rattle.std.specs.List.{range_with_len}
 use Rattle.std.proofs.lemmas.List.{append-nil, get_or_read}
+use Rattle.yds_model.proofs.Filters.{filter-range_with_len_more}
 use Rattle.yds_events.specs.Stretch.{no_stretch}
 use Rattle.yds_textbook.specs.Waiting.{is_left_in, stretch_lies_in}
-use Rattle.yds_textbook.proofs.Making.{numbers_next}
 use Rattle.yds_textbook.proofs.waiting.stretches_inside.Goals as goal
 use Rattle.yds_textbook.proofs.waiting.stretches_inside.Goals.{then-is_left_in+in_ok-push, else-is_left_in}
 
@@ -21,9 +21,9 @@ loop-number-preserved c =
       | then-is_left_in+in_ok-push w ↦
           ap (λ numbers. numbers.items) w.numbers-is ∙ w.in_ok-push.ensures.items
           ∙ ap (λ (ns : List ℕ). ns ++ n ∷ []) c.loop-number.invariant
-          ∙ sym (numbers_next p n ∙ ap (λ (b : Bool). filter p (range_with_len 0 n) ++ cond b (n ∷ []) []) (sym test ∙ w.if-is_left_in.true))
+          ∙ sym (filter-range_with_len_more p n ∙ ap (λ (b : Bool). filter p (range_with_len 0 n) ++ cond b (n ∷ []) []) (sym test ∙ w.if-is_left_in.true))
       | else-is_left_in w ↦
           ap (λ numbers. numbers.items) w.numbers-is ∙ c.loop-number.invariant
-          ∙ sym (numbers_next p n ∙ ap (λ (b : Bool). filter p (range_with_len 0 n) ++ cond b (n ∷ []) []) (sym test ∙ w.if-is_left_in.false)
+          ∙ sym (filter-range_with_len_more p n ∙ ap (λ (b : Bool). filter p (range_with_len 0 n) ++ cond b (n ∷ []) []) (sym test ∙ w.if-is_left_in.false)
           ∙ append-nil (filter p (range_with_len 0 n)))
     ]

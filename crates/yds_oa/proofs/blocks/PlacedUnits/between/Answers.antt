@@ -10,12 +10,12 @@ returns-then-end-start-clause-units c =
     let within : c.args.end ≤ length units = omega (arith, c.requires.within, ap length c.self.view_is) in
     let known : c.args.start < length units = omega (arith, within, c.if-end-start.true) in
     let sum : c.index.result.now ≡ slice_index sums (c.args.start / 32) =
-    c.index.ensures ∙ get_or_default_zero sums (c.args.start / 32) c.index.result.now (block_known units sums c.self.invariant c.args.start known) in
+    c.index.ensures ∙ get_or_default_zero sums (c.args.start / 32) c.index.result.now (block_known units sums c.self.invariant.blocks c.args.start known) in
     rw (← c.self.view_is)
-    (omega (arith, sum, whole_block units sums c.self.invariant c.args.start c.args.end c.if-start-eq0.true c.if-end-start.true within))
+    (omega (arith, sum, whole_block units sums c.self.invariant.blocks c.args.start c.args.end c.if-start-eq0.true c.if-end-start.true within))
 
 pub returns-then-end-start-clause-few : goal.returns-then-end-start-clause-few
-returns-then-end-start-clause-few c = rw (← c.self.view_is) (few_units c.self.inside.units.items c.self.inside.sums.items c.self.invariant)
+returns-then-end-start-clause-few c = rw (← c.self.view_is) (few_units c.self.inside.units.items c.self.inside.sums.items c.self.invariant.blocks)
 
 pub overflow_add-units : goal.overflow_add-units
 overflow_add-units c =
@@ -27,7 +27,7 @@ overflow_add-units c =
       arith,
       here,
       one_place_more units place,
-      few_units units c.self.inside.sums.items c.self.invariant (place + 1),
+      few_units units c.self.inside.sums.items c.self.invariant.blocks (place + 1),
       rw (← c.self.view_is) at c.loop-place.invariant,
     )
 
@@ -45,4 +45,4 @@ loop-place-preserved c =
     ))
 
 pub returns-clause-few : goal.returns-clause-few
-returns-clause-few c = rw (← c.self.view_is) (few_units c.self.inside.units.items c.self.inside.sums.items c.self.invariant)
+returns-clause-few c = rw (← c.self.view_is) (few_units c.self.inside.units.items c.self.inside.sums.items c.self.invariant.blocks)

@@ -1,10 +1,10 @@
-use Rattle.std.proofs.Common.{◌≡◌, ℕ, List, length, rules, refl, sym, subst, ◌∙◌, arith}
+use Rattle.std.proofs.Common.{ℕ, List, length, rules, refl, sym, subst, ◌∙◌, arith}
 use Rattle.std.specs.Prelude.{nat_le}
 use Rattle.std.specs.List.Sorted.{IsNonDecreasingBy}
 use Rattle.std.proofs.lemmas.List.Sorted.{IsPartitionPoint-from_clause, IsPartitionedBy-leb}
 use Rattle.yds_oa.specs.declared.order.Due.{Due}
 use Rattle.yds_oa.specs.Greatest.{AreDueAfter, IsGreatestWithin}
-use Rattle.yds_oa.proofs.Walked.{due_behind, none_within}
+use Rattle.yds_oa.proofs.Walked.{due_behind, none_within, walked_through}
 use Rattle.yds_oa.proofs.pending.PendingJobs.greatest_quotient.Goals as goal
 
 pub first_guess-requires-clause-after : goal.first_guess-requires-clause-after
@@ -49,10 +49,9 @@ returns c =
     let order = c.args.self.now.order.items in
     let walk = c.loop-walk.walk in
     let kept = c.loop-walk.invariant in
-    let all : walk.place ≡ length order = omega (arith, kept.walk.within, c.loop-walk-test.false, c.len.ensures) in
     record {
       start = walk.start;
       after = subst (λ (from : ℕ). AreDueAfter order from walk.start) kept.from kept.walk.after;
       greatest = subst (λ (from : ℕ). IsGreatestWithin c.args.self.now from walk.start (length order) walk.greatest) kept.from
-          (subst (λ (end : ℕ). IsGreatestWithin c.args.self.now walk.from walk.start end walk.greatest) all kept.walk.greatest);
+          (walked_through c.args.self.now walk c.requires kept.walk (c.has_more.ensures.none c.loop-walk-test.false));
     }

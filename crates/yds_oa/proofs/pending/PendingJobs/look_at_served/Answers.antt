@@ -1,12 +1,9 @@
 use Rattle.std.proofs.Common.{◌≡◌, ◌+◌, ◌<◌, List, length, take, ◌∙◌, sym, subst, ap, arith}
 use Rattle.std.proofs.lemmas.List.{take_all, get_or_default}
-use Rattle.yds_timetable.specs.Shares.{JobShare}
+use Rattle.yds_timetable.specs.Shares.{JobShare, no_share}
 use Rattle.yds_oa.specs.Pending.{AreRefreshed, IsNotServed}
 use Rattle.yds_oa.proofs.Fresh.{one_step, still_not_served}
 use Rattle.yds_oa.proofs.pending.PendingJobs.look_at_served.Goals as goal
-
-abbrev no_share : JobShare
-no_share = record { stretch = 0; job = 0; units = 0 }
 
 pub look_at_job-requires-clause-known : goal.look_at_job-requires-clause-known
 look_at_job-requires-clause-known c =

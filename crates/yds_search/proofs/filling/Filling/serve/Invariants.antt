@@ -1,14 +1,13 @@
 use Rattle.std.proofs.Common.{◌≡◌, ◌-◌, ◌≤◌, ◌<◌, length}
 use Rattle.yds_events.specs.Window.{window_at}
-use Rattle.yds_search.specs.Views.{shares_view}
 use Rattle.yds_search.specs.Own.{own_windows}
 use Rattle.yds_search.specs.Fill.{IsServed, IsNext}
 use Rattle.yds_search.proofs.filling.Filling.serve.Given as goal
 
 abbrev pub invariant-loop-place : goal.invariant-loop-place
 invariant-loop-place l = record {
-  served : IsServed (own_windows l.jobs) l.job l.want (shares_view l.initial.self.shares.items) l.initial.self.rooms.items l.place l.left
-      (shares_view l.self.shares.items) l.self.rooms.items;
+  served : IsServed (own_windows l.jobs) l.job l.want l.initial.self.shares.items l.initial.self.rooms.items l.place l.left
+      l.self.shares.items l.self.rooms.items;
   next : IsNext l.self.rooms.items l.self.next.items;
   from : (window_at (own_windows l.jobs) l.job).first ≤ l.place;
   within : l.place < length l.self.next.items;

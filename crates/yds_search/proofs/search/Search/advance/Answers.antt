@@ -1,5 +1,5 @@
-use Rattle.std.proofs.Common.{◌*◌, ◌∙◌, arith, refl, length}
-use Rattle.yds_search.proofs.Chosen.{chosen_as, chosen_waits, chosen_few, chosen_windows, chosen_known, chosen_some, chosen_units, chosen_finished, chosen_split, chosen_rooms, chosen_parts, chosen_room, shares_known}
+use Rattle.std.proofs.Common.{◌*◌, ◌∙◌, arith, refl}
+use Rattle.yds_search.proofs.Chosen.{chosen_as, chosen_waits, chosen_few, chosen_windows, chosen_known, chosen_some, chosen_units, chosen_finished, chosen_split, chosen_rooms, chosen_parts, chosen_room}
 use Rattle.yds_search.proofs.Laid.{finish_nearer, split_nearer}
 use Rattle.yds_search.specs.Found.{per_work}
 use Rattle.yds_search.specs.Views.{group_view}
@@ -61,14 +61,12 @@ add-requires c =
     let known = chosen_known c.requires.chosen.0 c.args.size c.args.self.now x in
     let fill = rw (c.speed_of.ensures.per_time, c.speed_of.ensures.per_work) at c.in_ok-fill.ensures in
     let parts = chosen_parts c.requires.chosen.0 c.args.size c.args.self.now x c.total-group.result c.total-group.ensures.work c.total-group.ensures.length _ _ _ fill in
-    let shares = shares_known c.fill.new.self.shares.items (length x.part.jobs) (length x.part.stretches)
-    (λ i d within. ((parts i d within).known, (parts i d within).known_stretch)) in
     record {
       few = chosen_room c.requires.chosen.0 c.args.size c.args.self.now x;
       jobs = known.0;
       stretches = known.1;
-      share_jobs = rw c.deref.ensures.value shares.0;
-      share_stretches = rw c.deref.ensures.value shares.1;
+      share_jobs = rw c.deref.ensures.value (λ i d within. (parts i d within).known);
+      share_stretches = rw c.deref.ensures.value (λ i d within. (parts i d within).known_stretch);
     }
 
 pub returns-in_ok-add-clause-search : goal.returns-in_ok-add-clause-search

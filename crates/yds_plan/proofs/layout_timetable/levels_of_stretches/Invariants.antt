@@ -1,0 +1,6 @@
+use Rattle.std.proofs.Common.{◌≡◌, map, take}
+use Rattle.std.specs.Prelude.{slice_get}
+use Rattle.yds_plan.proofs.layout_timetable.levels_of_stretches.Given as goal
+
+abbrev pub invariant-loop-place : goal.invariant-loop-place
+invariant-loop-place l = l.levels.items ≡ map (slice_get l.numbers) (take l.place-index l.places)
