@@ -8,35 +8,10 @@ use Rattle.std.proofs.lemmas.List.Sums.{sum_by_more, sum_by_push, sum_by-take-dr
 use Rattle.std.proofs.Math.Nat.{mul-le-mul_left}
 use Rattle.yds_model.specs.declared.limits.TheConstants.{MAX_WORK}
 use Rattle.yds_model.specs.Job.{Job, IsJob, no_job, job_at}
+use Rattle.yds_model.proofs.Confined.{part_within, part_inside, part_early, part_late, part_released, is_released, not_released}
 use Rattle.yds_model.proofs.Sums.{sum_by_same, sum_by_zero}
-use Rattle.yds_admit.specs.Interval.{enclosed_work, released_work, HasRoomFrom, IsFirstFrom}
-
--- # What one job adds
-
-abbrev pub term : ℕ → ℕ → Job → ℕ
-term from to job = cond (nat_le from job.release && nat_le job.deadline to) job.work 0
-
-pub inside : (from to : ℕ) (job : Job) → from ≤ job.release → job.deadline ≤ to → term from to job ≡ job.work
-inside from to job first second = rw (le-leb from job.release first, le-leb job.deadline to second) refl
-
-pub before : (from to : ℕ) (job : Job) → job.release < from → term from to job ≡ 0
-before from to job less = rw (lt-leb from job.release less) refl
-
-pub after : (from to : ℕ) (job : Job) → to < job.deadline → term from to job ≡ 0
-after from to job more = elim (cases_lt job.release from) [
-  | inl less ↦ before from to job less
-  | inr first ↦ rw (le-leb from job.release first, lt-leb job.deadline to more) refl
-]
-
--- the work of a job that is released at a time or later
-abbrev pub released_term : ℕ → Job → ℕ
-released_term from job = cond (nat_le from job.release) job.work 0
-
-pub is_released : (from : ℕ) (job : Job) → from ≤ job.release → released_term from job ≡ job.work
-is_released from job first = rw (le-leb from job.release first) refl
-
-pub not_released : (from : ℕ) (job : Job) → job.release < from → released_term from job ≡ 0
-not_released from job less = rw (lt-leb from job.release less) refl
+use Rattle.yds_model.specs.Confined.{work_within, released_work}
+use Rattle.yds_admit.specs.Interval.{HasRoomFrom, IsFirstFrom}
 
 -- # The walk by rising deadlines
 
@@ -50,12 +25,12 @@ pub record Counted (top : ℕ) (jobs : List Job) (row : Job) (from work to i : �
   pub own : row.deadline ≤ to
   pub due : (k : ℕ) → k < i → (job_at jobs k).deadline ≤ to
   pub later : (k : ℕ) → i ≤ k → k < length jobs → to ≤ (job_at jobs k).deadline
-  pub room : (other : ℕ) → from < other → other < to → enclosed_work (jobs ++ row ∷ []) from other ≤ top * (other - from)
+  pub room : (other : ℕ) → from < other → other < to → work_within (jobs ++ row ∷ []) from other ≤ top * (other - from)
 
 -- the work of the first jobs, all of which are due by a time
 front_work : (jobs : List Job) (from to i : ℕ) → i ≤ length jobs → ((k : ℕ) → k < i → (job_at jobs k).deadline ≤ to) →
-    sum_by (term from to) (take i jobs) ≡ released_work (take i jobs) from
-front_work jobs from to i within due = sum_by_same (term from to) (released_term from) (take i jobs)
+    sum_by (part_within from to) (take i jobs) ≡ released_work (take i jobs) from
+front_work jobs from to i within due = sum_by_same (part_within from to) (part_released from) (take i jobs)
     (λ k d below.
     let short : k < i = omega (arith, below, length-take-le i jobs within) in
     let soon : (get_or (take i jobs) k d).deadline ≤ to = omega (
@@ -65,16 +40,16 @@ front_work jobs from to i within due = sum_by_same (term from to) (released_term
       ap (λ (job : Job). job.deadline) (get_or_default jobs k d no_job (omega (arith, short, within))),
     ) in
     elim (cases_lt (get_or (take i jobs) k d).release from) [
-      | inl less ↦ before from to (get_or (take i jobs) k d) less ∙ sym (not_released from (get_or (take i jobs) k d) less)
-      | inr first ↦ inside from to (get_or (take i jobs) k d) first soon ∙ sym (is_released from (get_or (take i jobs) k d) first)
+      | inl less ↦ part_early from to (get_or (take i jobs) k d) less ∙ sym (not_released from (get_or (take i jobs) k d) less)
+      | inr first ↦ part_inside from to (get_or (take i jobs) k d) first soon ∙ sym (is_released from (get_or (take i jobs) k d) first)
     ])
 
 -- jobs that are due after a time have no work in an interval that ends by then
-rest_work : (jobs : List Job) (from to i : ℕ) → ((k : ℕ) → i ≤ k → k < length jobs → to < (job_at jobs k).deadline) → sum_by (term from to) (drop i jobs) ≡ 0
-rest_work jobs from to i late = sum_by_zero (term from to) (drop i jobs)
+rest_work : (jobs : List Job) (from to i : ℕ) → ((k : ℕ) → i ≤ k → k < length jobs → to < (job_at jobs k).deadline) → sum_by (part_within from to) (drop i jobs) ≡ 0
+rest_work jobs from to i late = sum_by_zero (part_within from to) (drop i jobs)
     (λ k d below.
     let there : i + k < length jobs = omega (arith, below, length-drop i jobs) in
-    after from to (get_or (drop i jobs) k d) (omega (
+    part_late from to (get_or (drop i jobs) k d) (omega (
       arith,
       late (i + k) (omega arith) there,
       ap (λ (job : Job). job.deadline) (get_or-drop i jobs k d),
@@ -84,7 +59,7 @@ rest_work jobs from to i late = sum_by_zero (term from to) (drop i jobs)
 -- nothing of jobs that are due before a time is released then or later
 pub none_released : (jobs : List Job) (from i : ℕ) → i ≤ length jobs → All IsJob jobs → ((k : ℕ) → k < i → (job_at jobs k).deadline < from) →
     released_work (take i jobs) from ≡ 0
-none_released jobs from i within are early = sum_by_zero (released_term from) (take i jobs)
+none_released jobs from i within are early = sum_by_zero (part_released from) (take i jobs)
     (λ k d below.
     let short : k < i = omega (arith, below, length-take-le i jobs within) in
     not_released from (get_or (take i jobs) k d) (omega (
@@ -96,8 +71,8 @@ none_released jobs from i within are early = sum_by_zero (released_term from) (t
     )))
 
 -- one job more
-pub more_released : (jobs : List Job) (from i : ℕ) → i < length jobs → released_work (take (i + 1) jobs) from ≡ released_work (take i jobs) from + released_term from (job_at jobs i)
-more_released jobs from i within = sum_by_more (released_term from) jobs i no_job within
+pub more_released : (jobs : List Job) (from i : ℕ) → i < length jobs → released_work (take (i + 1) jobs) from ≡ released_work (take i jobs) from + part_released from (job_at jobs i)
+more_released jobs from i within = sum_by_more (part_released from) jobs i no_job within
 
 module _ (top : ℕ) (jobs : List Job) (row : Job) (from : ℕ) (until : from ≤ row.release) where
   -- where those due before the one more are counted
@@ -112,25 +87,25 @@ module _ (top : ℕ) (jobs : List Job) (row : Job) (from : ℕ) (until : from �
     own = omega (arith, to_is);
     due = early;
     later = late;
-    room = λ other ahead soon. omega (arith, alone other ahead, sum_by_push (term from other) jobs row, after from other row (omega (arith, soon, to_is)));
+    room = λ other ahead soon. omega (arith, alone other ahead, sum_by_push (part_within from other) jobs row, part_late from other row (omega (arith, soon, to_is)));
   }
 
   module _ (work to i : ℕ) (counted : Counted top jobs row from work to i) where
     -- the work in an interval that ends before the others are due
-    exact : (other : ℕ) → to ≤ other → ((k : ℕ) → i ≤ k → k < length jobs → other < (job_at jobs k).deadline) → enclosed_work (jobs ++ row ∷ []) from other ≡ work
+    exact : (other : ℕ) → to ≤ other → ((k : ℕ) → i ≤ k → k < length jobs → other < (job_at jobs k).deadline) → work_within (jobs ++ row ∷ []) from other ≡ work
     exact other most late = omega (
       arith,
-      sum_by_push (term from other) jobs row,
-      sum_by-take-drop (term from other) jobs i,
+      sum_by_push (part_within from other) jobs row,
+      sum_by-take-drop (part_within from other) jobs i,
       front_work jobs from other i counted.within (λ k less. omega (arith, counted.due k less, most)),
       rest_work jobs from other i late,
-      inside from other row until (omega (arith, counted.own, most)),
+      part_inside from other row until (omega (arith, counted.own, most)),
       counted.sum,
     )
 
     -- such an interval has room if the one to `to` has
     fits : (other : ℕ) → work ≤ top * (to - from) → to ≤ other → ((k : ℕ) → i ≤ k → k < length jobs → other < (job_at jobs k).deadline) →
-        enclosed_work (jobs ++ row ∷ []) from other ≤ top * (other - from)
+        work_within (jobs ++ row ∷ []) from other ≤ top * (other - from)
     fits other room most late = omega (
       arith,
       exact other most late,
@@ -156,7 +131,7 @@ module _ (top : ℕ) (jobs : List Job) (row : Job) (from : ℕ) (until : from �
     }
 
     -- one job more that is due by then
-    pub added : i < length jobs → (job_at jobs i).deadline ≤ to → (job_at jobs i).work ≤ MAX_WORK → (more : ℕ) → more ≡ released_term from (job_at jobs i) → more ≤ MAX_WORK →
+    pub added : i < length jobs → (job_at jobs i).deadline ≤ to → (job_at jobs i).work ≤ MAX_WORK → (more : ℕ) → more ≡ part_released from (job_at jobs i) → more ≤ MAX_WORK →
         Counted top jobs row from (work + more) to (i + 1)
     added below soon light more is few = record {
       within = omega (arith, below);

@@ -13,7 +13,7 @@ use Rattle.yds_edf.proofs.Sums.{sum_below_same}
 use Rattle.yds_admit.specs.Chain.{IsChain, due_work, AreEmpty}
 use Rattle.yds_admit.specs.Board.{AreGaps}
 use Rattle.yds_admit.specs.Pieces.{went, IsGreatest, IsCutting, IsCutInto}
-use Rattle.yds_admit.proofs.Between.{term}
+use Rattle.yds_model.proofs.Confined.{part_within}
 use Rattle.yds_admit.proofs.Sweep.{no_more, attained}
 
 yes : (place q x : ℕ) → place ≤ q → cond (nat_le place q) x 0 ≡ x
@@ -244,16 +244,16 @@ cut_last job old new left piece so_far release deadline work = record {
 
 -- what pieces of one job add to an interval
 pub added : (from to : ℕ) (job : Job) (more : List Job) → All (λ piece. (piece.release ≡ job.release) × (piece.deadline ≡ job.deadline)) more →
-    sum_by (λ piece. piece.work) more ≡ job.work → sum_by (term from to) more ≡ term from to job
+    sum_by (λ piece. piece.work) more ≡ job.work → sum_by (part_within from to) more ≡ part_within from to job
 added from to job more windows work = by_test (nat_le from job.release && nat_le job.deadline to) refl where
-  same : (b : Bool) → nat_le from job.release && nat_le job.deadline to ≡ b → All (λ piece. term from to piece ≡ cond b piece.work 0) more
+  same : (b : Bool) → nat_le from job.release && nat_le job.deadline to ≡ b → All (λ piece. part_within from to piece ≡ cond b piece.work 0) more
   same b is k d below =
       let one : Job = get_or more k d in
       ap {B = ℕ} (λ t. cond t one.work 0) (rw ((windows k d below).0, (windows k d below).1) is)
 
-  by_test : (b : Bool) → nat_le from job.release && nat_le job.deadline to ≡ b → sum_by (term from to) more ≡ term from to job
-  by_test true is = sum_by_same (term from to) (λ piece. piece.work) more (same true is) ∙ work ∙ sym (ap {B = ℕ} (λ t. cond t job.work 0) is)
-  by_test false is = sum_by_zero (term from to) more (same false is) ∙ sym (ap {B = ℕ} (λ t. cond t job.work 0) is)
+  by_test : (b : Bool) → nat_le from job.release && nat_le job.deadline to ≡ b → sum_by (part_within from to) more ≡ part_within from to job
+  by_test true is = sum_by_same (part_within from to) (λ piece. piece.work) more (same true is) ∙ work ∙ sym (ap {B = ℕ} (λ t. cond t job.work 0) is)
+  by_test false is = sum_by_zero (part_within from to) more (same false is) ∙ sym (ap {B = ℕ} (λ t. cond t job.work 0) is)
 
 -- no pieces yet
 pub none_cut : (top : ℕ) (times gaps : List ℕ) → AreGaps top times gaps → IsCutting top times [] [] gaps

@@ -9,7 +9,7 @@ use Rattle.yds_model.specs.Policy.{numbers_of}
 use Rattle.yds_model.specs.Admission.{CanServe, jobs_with, IsFirstOverfull, Refusal, IsRefusal, AdmitsAfter, IsAdmission}
 use Rattle.yds_laws.specs.AdmissionLaws.{HasRoom}
 use Rattle.yds_laws.proofs.Served.{served_where_room}
-use Rattle.yds_admit.specs.Interval.{enclosed_work}
+use Rattle.yds_model.specs.Confined.{work_within}
 use Rattle.yds_admit.specs.State.{IsDecision, Decided}
 use Rattle.yds_admit.proofs.Overfull.{numbers_work, first_numbers, room_front}
 
@@ -56,7 +56,7 @@ module _ (rows : List Job) (top i : ℕ) (taken : List ℕ) (jobs : List Job) (r
   }
 
   -- or it is refused
-  pub refuses : (from to work : ℕ) → IsFirstOverfull (jobs ++ row ∷ []) top (numbers_of (jobs ++ row ∷ [])) from to → work ≡ enclosed_work (jobs ++ row ∷ []) from to →
+  pub refuses : (from to work : ℕ) → IsFirstOverfull (jobs ++ row ∷ []) top (numbers_of (jobs ++ row ∷ [])) from to → work ≡ work_within (jobs ++ row ∷ []) from to →
       Decided rows top (i + 1) taken jobs (refused ++ record { job = i; from = from; to = to; work = work } ∷ [])
   refuses from to work first is_work =
       let refusal : Refusal = record { job = i; from = from; to = to; work = work } in
@@ -66,7 +66,7 @@ module _ (rows : List Job) (top i : ℕ) (taken : List ℕ) (jobs : List Job) (r
         is_job = refl;
         interval = first_numbers rows top (taken ++ i ∷ []) from to
             (subst (λ (some : List Job). IsFirstOverfull some top (numbers_of some) from to) with_job first);
-        is_work = is_work ∙ (ap (λ (some : List Job). enclosed_work some from to) with_job ∙ sym (numbers_work rows (taken ++ i ∷ []) from to));
+        is_work = is_work ∙ (ap (λ (some : List Job). work_within some from to) with_job ∙ sym (numbers_work rows (taken ++ i ∷ []) from to));
       } in
       record {
         same = decided.same;

@@ -12,10 +12,10 @@ use Rattle.yds_model.proofs.Sums.{sum_by_same, sum_by-map}
 use Rattle.yds_laws.specs.AdmissionLaws.{HasRoom}
 use Rattle.yds_admit.specs.declared.board.Board.{Board}
 use Rattle.yds_admit.specs.declared.board.Spot.{Spot}
-use Rattle.yds_admit.specs.Interval.{enclosed_work}
+use Rattle.yds_model.specs.Confined.{work_within}
 use Rattle.yds_admit.specs.Chain.{IsFalling, AreTimes, due_work, IsChain, Takes}
 use Rattle.yds_admit.specs.Board.{IsSpot, IsBoard, AreMarked, if_marked}
-use Rattle.yds_admit.proofs.Between.{term}
+use Rattle.yds_model.proofs.Confined.{part_within}
 use Rattle.yds_admit.proofs.Overfull.{jobs_work, any_of_all}
 use Rattle.yds_admit.proofs.Sweep.{reach, due_units, no_more, none_before, step_is, goes_through, last_with, work_of_front}
 
@@ -208,23 +208,23 @@ module _ (board : Board) (valid : IsBoard board) (marks : List Bool) (m : ℕ) (
       (there.0, short, sym (get_or-map (λ (spot : Spot). spot.number) spots there.0 no_spot number short) ∙ there.2)
 
   same_term : (from to : ℕ) (spot : Spot) → IsSpot rows times spot →
-      if_marked marks (λ n. term from to (job_at rows n)) spot.number ≡ term from to (masked times marks spot)
+      if_marked marks (λ n. part_within from to (job_at rows n)) spot.number ≡ part_within from to (masked times marks spot)
   same_term from to spot is = by_mark (get_or marks spot.number false) where
-    by_mark : (b : Bool) → cond b (term from to (job_at rows spot.number)) 0 ≡
+    by_mark : (b : Bool) → cond b (part_within from to (job_at rows spot.number)) 0 ≡
         cond (nat_le from spot.release && nat_le (get_or times spot.end 0) to) (cond b spot.work 0) 0
     by_mark false = sym (no_work (nat_le from spot.release && nat_le (get_or times spot.end 0) to))
     by_mark true = rw (is.release, is.work, is.deadline) refl
 
   module _ (jobs : List Job) (marked : AreMarked rows marks jobs) where
-    same_work : (from to : ℕ) → enclosed_work jobs from to ≡ enclosed_work all from to
+    same_work : (from to : ℕ) → work_within jobs from to ≡ work_within all from to
     same_work from to =
-        let g : ℕ → ℕ = if_marked marks (λ n. term from to (job_at rows n)) in
-        sym (marked.sums (term from to))
+        let g : ℕ → ℕ = if_marked marks (λ n. part_within from to (job_at rows n)) in
+        sym (marked.sums (part_within from to))
         ∙ sym (sum_by-IsPermutation g (numbers_of rows) (map (λ (spot : Spot). spot.number) spots) valid.are_spots.same)
         ∙ sum_by-map (λ (spot : Spot). spot.number) g spots
-        ∙ sum_by_same (λ (spot : Spot). g spot.number) (λ (spot : Spot). term from to (masked times marks spot)) spots
+        ∙ sum_by_same (λ (spot : Spot). g spot.number) (λ (spot : Spot). part_within from to (masked times marks spot)) spots
         (λ k d below. same_term from to (get_or spots k d) (valid.are_spots.each k d below))
-        ∙ sym (sum_by-map (masked times marks) (term from to) spots)
+        ∙ sym (sum_by-map (masked times marks) (part_within from to) spots)
 
     -- a job has a spot with its window
     spot_for : (P : Job → Type 0) → Any P jobs → (k : ℕ) × (k < length spots) × P (job_at rows (spot_at spots k).number)

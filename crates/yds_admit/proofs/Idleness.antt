@@ -9,12 +9,12 @@ use Rattle.std.proofs.Math.Nat.{mul-sub, mul-le-mul_left}
 use Rattle.yds_model.specs.Job.{Job, IsJob, job_at}
 use Rattle.yds_edf.proofs.Sums.{sum_below_same, sum_below_zero}
 use Rattle.yds_laws.specs.AdmissionLaws.{HasRoom}
-use Rattle.yds_admit.specs.Interval.{enclosed_work}
+use Rattle.yds_model.specs.Confined.{work_within}
 use Rattle.yds_admit.specs.Chain.{IsFalling, due_work}
 use Rattle.yds_admit.specs.Board.{AreGaps}
 use Rattle.yds_admit.specs.Pieces.{went, IsCutting, ArePieces, AreDue}
 use Rattle.yds_admit.specs.Idle.{HasIdle, IsTaken, IsCleared, IsRest, idle_before}
-use Rattle.yds_admit.proofs.Between.{term, inside, before, after}
+use Rattle.yds_model.proofs.Confined.{part_within, part_inside, part_early, part_late}
 use Rattle.yds_admit.proofs.Overfull.{jobs_work, any_of_all}
 use Rattle.yds_admit.proofs.Sweep.{step_is}
 use Rattle.yds_admit.proofs.Cutting.{next_went}
@@ -121,27 +121,27 @@ nothing_between idle a b forward none =
 module _ (top : ℕ) (times : List ℕ) (jobs : List Job) (old : List ℕ) (rising : IsNonDecreasing times) (has : HasIdle top times jobs old) (row : Job) (end : ℕ) (new : List ℕ)
     (within : end < length times) (is_end : get_or times end 0 ≡ row.deadline) (as_long : length new ≡ length old) (less : (q : ℕ) → get_or new q 0 ≤ get_or old q 0)
     (holds : (from a b : ℕ) → end ≤ b → b < length times → a ≤ b → from ≤ row.release → from ≤ get_or times a 0 →
-    enclosed_work jobs from (get_or times b 0) + row.work + idle_before new b ≤ top * (get_or times b 0 - from) + idle_before new a) where
+    work_within jobs from (get_or times b 0) + row.work + idle_before new b ≤ top * (get_or times b 0 - from) + idle_before new a) where
   has_with : HasIdle top times (jobs ++ row ∷ []) new
   has_with = record {
     as_long = omega (arith, as_long, has.as_long);
     room = λ from a b forward below ahead.
         let time : ℕ = get_or times b 0 in
-        let added = sum_by_push (term from time) jobs row in
+        let added = sum_by_push (part_within from time) jobs row in
         elim (cases_lt row.release from) [
-          | inl early ↦ omega (arith, added, before from time row early, has.room from a b forward below ahead, fewer_between old new less a b forward)
+          | inl early ↦ omega (arith, added, part_early from time row early, has.room from a b forward below ahead, fewer_between old new less a b forward)
           | inr counts ↦ elim (cases_lt time row.deadline) [
-            | inl soon ↦ omega (arith, added, after from time row soon, has.room from a b forward below ahead, fewer_between old new less a b forward)
+            | inl soon ↦ omega (arith, added, part_late from time row soon, has.room from a b forward below ahead, fewer_between old new less a b forward)
             | inr due ↦ elim (cases_lt b end) [
-              | inr later ↦ omega (arith, added, inside from time row counts due, holds from a b later below forward counts ahead)
+              | inr later ↦ omega (arith, added, part_inside from time row counts due, holds from a b later below forward counts ahead)
               | inl sooner ↦
                   let same : time ≡ get_or times end 0 = omega (arith, due, is_end, rising b end 0 (omega (arith, sooner)) within) in
                   omega (
                     arith,
                     added,
-                    inside from time row counts due,
+                    part_inside from time row counts due,
                     holds from a end (omega arith) within (omega (arith, forward, sooner)) counts ahead,
-                    ap (λ t. enclosed_work jobs from t) same,
+                    ap (λ t. work_within jobs from t) same,
                     ap (λ t. top * (t - from)) same,
                     later_idle new b end (omega (arith, sooner)),
                   )
@@ -172,7 +172,7 @@ module _ (top : ℕ) (times : List ℕ) (jobs : List Job) (old : List ℕ) (risi
 
   -- with the job, over an interval that holds its window
   holds : (from a b : ℕ) → end ≤ b → b < length times → a ≤ b → from ≤ row.release → from ≤ get_or times a 0 →
-      enclosed_work jobs from (get_or times b 0) + row.work + idle_before new b ≤ top * (get_or times b 0 - from) + idle_before new a
+      work_within jobs from (get_or times b 0) + row.work + idle_before new b ≤ top * (get_or times b 0 - from) + idle_before new a
   holds from a b later below forward counts ahead =
       let e : end + (b - end) ≡ b = omega (arith, later) in
       let less = less_late (b - end) in
@@ -203,7 +203,7 @@ module _ (top : ℕ) (times : List ℕ) (jobs : List Job) (old : List ℕ) (risi
 module _ (top : ℕ) (times : List ℕ) (jobs : List Job) (old : List ℕ) (rising : IsNonDecreasing times) (has : HasIdle top times jobs old) (row : Job) (end : ℕ) (new : List ℕ)
     (cleared : IsCleared old new end row.work) (within : end < length times) (is_end : get_or times end 0 ≡ row.deadline)
     (far : (from b : ℕ) → from ≤ row.release → end ≤ b → b < length times →
-    enclosed_work jobs from (get_or times b 0) + row.work + idle_before old b ≤ top * (get_or times b 0 - from) + idle_before old end) where
+    work_within jobs from (get_or times b 0) + row.work + idle_before old b ≤ top * (get_or times b 0 - from) + idle_before old end) where
   cleared_less : (q : ℕ) → get_or new q 0 ≤ get_or old q 0
   cleared_less q = elim (cases_lt q cleared.place) [
     | inl less ↦ omega (arith, cleared.early q less)
@@ -217,7 +217,7 @@ module _ (top : ℕ) (times : List ℕ) (jobs : List Job) (old : List ℕ) (risi
   cleared_early q most = sum_below_same q (λ k. get_or new k 0) (λ k. get_or old k 0) (λ k below. cleared.early k (omega (arith, below, most)))
 
   cleared_holds : (from a b : ℕ) → end ≤ b → b < length times → a ≤ b → from ≤ row.release → from ≤ get_or times a 0 →
-      enclosed_work jobs from (get_or times b 0) + row.work + idle_before new b ≤ top * (get_or times b 0 - from) + idle_before new a
+      work_within jobs from (get_or times b 0) + row.work + idle_before new b ≤ top * (get_or times b 0 - from) + idle_before new a
   cleared_holds from a b later below forward counts ahead = elim (cases_lt a cleared.place) [
     | inl less ↦ omega (
       arith,
@@ -256,7 +256,7 @@ idle_room top times jobs idle due has from to full =
       arith,
       full.too_much,
       jobs_work jobs from to,
-      subst (λ (end : ℕ). enclosed_work jobs from end + idle_before idle b ≤ top * (end - from) + idle_before idle b) is
+      subst (λ (end : ℕ). work_within jobs from end + idle_before idle b ≤ top * (end - from) + idle_before idle b) is
           (has.room from b b (omega arith) there.1 (omega (arith, is, full.forward))),
     ))
 
@@ -281,7 +281,7 @@ pub same_idle : (top : ℕ) (times : List ℕ) (jobs others : List Job) (idle : 
     HasIdle top times jobs idle
 same_idle top times jobs others idle same has = record {
   as_long = has.as_long;
-  room = λ from a b forward below ahead. omega (arith, has.room from a b forward below ahead, same (term from (get_or times b 0)));
+  room = λ from a b forward below ahead. omega (arith, has.room from a b forward below ahead, same (part_within from (get_or times b 0)));
 }
 
 -- # What a cut leaves
@@ -352,7 +352,7 @@ count_from jobs falling from (suc k) within =
     ]
 
 module _ (top : ℕ) (times full : List ℕ) (all jobs : List Job) (places gaps : List ℕ) (cutting : IsCutting top times jobs places gaps) (are_gaps : AreGaps top times full)
-    (same : (from to : ℕ) → enclosed_work jobs from to ≡ enclosed_work all from to) (falling : IsFalling jobs) (are : All IsJob all) (room : HasRoom top all)
+    (same : (from to : ℕ) → work_within jobs from to ≡ work_within all from to) (falling : IsFalling jobs) (are : All IsJob all) (room : HasRoom top all)
     (rising : IsNonDecreasing times) (long : length gaps + 1 ≡ length times) where
   abbrev m : ℕ
   m = length gaps
@@ -456,7 +456,7 @@ module _ (top : ℕ) (times full : List ℕ) (all jobs : List Job) (places gaps 
 pub far_idle : (top : ℕ) (times : List ℕ) (all jobs : List Job) (places used idle : List ℕ) (m : ℕ) → length times ≡ m + 1 → ArePieces top times all jobs places used →
     IsRest top times idle used → (row : Job) (end : ℕ) → end ≤ m → get_or times end 0 ≡ row.deadline → IsNonDecreasing times → All IsJob (all ++ row ∷ []) → HasRoom top (all ++ row ∷ []) →
     (from b : ℕ) → from ≤ row.release → end ≤ b → b < length times →
-    enclosed_work all from (get_or times b 0) + row.work + idle_before idle b ≤ top * (get_or times b 0 - from) + idle_before idle end
+    work_within all from (get_or times b 0) + row.work + idle_before idle b ≤ top * (get_or times b 0 - from) + idle_before idle end
 far_idle top times all jobs places used idle m long pieces rest row end short is_end rising are room from b counts later below =
     let count = count_from jobs pieces.falling from (length jobs) (omega arith) in
     let n : ℕ = count.0 in
@@ -482,8 +482,8 @@ far_idle top times all jobs places used idle m long pieces rest row end short is
       pieces.same from to,
       work_of_first jobs n from to count.1 count.2 count.3,
       room_to top (all ++ row ∷ []) are room from to,
-      sum_by_push (term from to) all row,
-      inside from to row counts due,
+      sum_by_push (part_within from to) all row,
+      part_inside from to row counts due,
       ap (λ t. top * t) is_end,
       mul-sub top to from,
       mul-sub top time from,

@@ -11,27 +11,28 @@ use Rattle.yds_model.specs.Job.{Job, IsJob, no_job, job_at}
 use Rattle.yds_model.specs.Policy.{numbers_of}
 use Rattle.yds_model.proofs.Sums.{sum_by_same, sum_by_zero}
 use Rattle.yds_model.proofs.Filters.{found_or_none}
-use Rattle.yds_admit.specs.Interval.{enclosed_work, HasRoomFrom}
+use Rattle.yds_model.specs.Confined.{work_within}
+use Rattle.yds_admit.specs.Interval.{HasRoomFrom}
 use Rattle.yds_admit.specs.Chain.{due_work, HasRoomOver, IsLeastFrom, NoFrom}
 use Rattle.yds_admit.specs.Pieces.{went, ArePieces, AreDue, IsBehindIdle}
 use Rattle.yds_laws.specs.AdmissionLaws.{HasRoom}
 use Rattle.yds_laws.proofs.Served.{room_from, confined_sum}
-use Rattle.yds_admit.proofs.Between.{term, inside, before, after}
+use Rattle.yds_model.proofs.Confined.{part_within, part_inside, part_early, part_late}
 use Rattle.yds_admit.proofs.Overfull.{jobs_work}
 use Rattle.yds_admit.proofs.Sweep.{released_all, last_of}
 use Rattle.yds_admit.proofs.Cutting.{next_went}
 
 -- the work in an interval is that of the pieces up to the last one released in it
 pub work_of_first : (jobs : List Job) (n from to : ℕ) → n ≤ length jobs → ((i : ℕ) → i < n → from ≤ (job_at jobs i).release) →
-    ((i : ℕ) → n ≤ i → i < length jobs → (job_at jobs i).release < from) → enclosed_work jobs from to ≡ due_work (take n jobs) to
+    ((i : ℕ) → n ≤ i → i < length jobs → (job_at jobs i).release < from) → work_within jobs from to ≡ due_work (take n jobs) to
 work_of_first jobs n from to within early late = omega (
   arith,
-  sum_by-take-drop (term from to) jobs n,
+  sum_by-take-drop (part_within from to) jobs n,
   first_work jobs n from to within early,
-  sum_by_zero (term from to) (drop n jobs)
+  sum_by_zero (part_within from to) (drop n jobs)
       (λ i d below.
       let there : n + i < length jobs = omega (arith, below, length-drop n jobs) in
-      before from to (get_or (drop n jobs) i d) (omega (
+      part_early from to (get_or (drop n jobs) i d) (omega (
         arith,
         late (n + i) (omega arith) there,
         ap (λ (job : Job). job.release) (get_or-drop n jobs i d),
@@ -39,9 +40,9 @@ work_of_first jobs n from to within early late = omega (
       ))),
 ) where
   first_work : (jobs : List Job) (n from to : ℕ) → n ≤ length jobs → ((i : ℕ) → i < n → from ≤ (job_at jobs i).release) →
-      sum_by (term from to) (take n jobs) ≡ due_work (take n jobs) to
+      sum_by (part_within from to) (take n jobs) ≡ due_work (take n jobs) to
   first_work jobs n from to within early =
-      sum_by_same (term from to) (λ (job : Job). cond (nat_le job.deadline to) job.work 0) (take n jobs)
+      sum_by_same (part_within from to) (λ (job : Job). cond (nat_le job.deadline to) job.work 0) (take n jobs)
       (λ i d below.
       let short : i < n = omega (arith, below, length-take-le n jobs within) in
       released_all from to (get_or (take n jobs) i d) (omega (
@@ -52,11 +53,11 @@ work_of_first jobs n from to within early late = omega (
       )))
 
 -- at least that of the first ones
-first_at_most : (jobs : List Job) (n from to : ℕ) → n ≤ length jobs → ((i : ℕ) → i < n → from ≤ (job_at jobs i).release) → due_work (take n jobs) to ≤ enclosed_work jobs from to
+first_at_most : (jobs : List Job) (n from to : ℕ) → n ≤ length jobs → ((i : ℕ) → i < n → from ≤ (job_at jobs i).release) → due_work (take n jobs) to ≤ work_within jobs from to
 first_at_most jobs n from to within early = omega (
   arith,
-  sum_by-take-drop (term from to) jobs n,
-  sum_by_same (term from to) (λ (job : Job). cond (nat_le job.deadline to) job.work 0) (take n jobs)
+  sum_by-take-drop (part_within from to) jobs n,
+  sum_by_same (part_within from to) (λ (job : Job). cond (nat_le job.deadline to) job.work 0) (take n jobs)
       (λ i d below.
       let short : i < n = omega (arith, below, length-take-le n jobs within) in
       released_all from to (get_or (take n jobs) i d) (omega (
@@ -94,32 +95,32 @@ module _ (top : ℕ) (jobs : List Job) (places : List ℕ) (row : Job) (end : �
 
 -- jobs that leave no interval overfull have room in any
 module _ (top : ℕ) (all : List Job) (are : All IsJob all) (room : HasRoom top all) (from : ℕ) where
-  known_deadline : (to i : ℕ) → i < length all → (job_at all i).deadline ≡ to → enclosed_work all from to ≤ top * (to - from)
-  known_deadline to i known is = subst (λ (end : ℕ). enclosed_work all from end ≤ top * (end - from)) is (omega (
+  known_deadline : (to i : ℕ) → i < length all → (job_at all i).deadline ≡ to → work_within all from to ≤ top * (to - from)
+  known_deadline to i known is = subst (λ (end : ℕ). work_within all from end ≤ top * (end - from)) is (omega (
     arith,
     room_from top all are room i known (job_at all i).deadline from (omega arith),
     confined_sum all (numbers_of all) from (job_at all i).deadline,
     jobs_work all from (job_at all i).deadline,
   ))
 
-  same_term : (to : ℕ) (job : Job) → (job.deadline ≡ suc to → ⊥) → term from (suc to) job ≡ term from to job
+  same_term : (to : ℕ) (job : Job) → (job.deadline ≡ suc to → ⊥) → part_within from (suc to) job ≡ part_within from to job
   same_term to job other = elim (cases_lt job.release from) [
-    | inl less ↦ before from (suc to) job less ∙ sym (before from to job less)
+    | inl less ↦ part_early from (suc to) job less ∙ sym (part_early from to job less)
     | inr first ↦ elim (cases_lt to job.deadline) [
-      | inl more ↦ after from (suc to) job (apart job.deadline (suc to) (omega (arith, more)) other) ∙ sym (after from to job more)
-      | inr due ↦ inside from (suc to) job first (omega (arith, due)) ∙ sym (inside from to job first due)
+      | inl more ↦ part_late from (suc to) job (apart job.deadline (suc to) (omega (arith, more)) other) ∙ sym (part_late from to job more)
+      | inr due ↦ part_inside from (suc to) job first (omega (arith, due)) ∙ sym (part_inside from to job first due)
     ]
   ] where
     apart : (x y : ℕ) → y ≤ x → (x ≡ y → ⊥) → y < x
     apart x y most other = elim (cases_lt y x) [ inl less ↦ less | inr more ↦ absurd (other (omega (arith, most, more))) ]
 
-  pub room_to : (to : ℕ) → enclosed_work all from to ≤ top * (to - from)
-  room_to zero = omega (arith, sum_by_zero (term from 0) all (λ k d below. after from 0 (get_or all k d) (omega (arith, (are k d below).has_window))))
+  pub room_to : (to : ℕ) → work_within all from to ≤ top * (to - from)
+  room_to zero = omega (arith, sum_by_zero (part_within from 0) all (λ k d below. part_late from 0 (get_or all k d) (omega (arith, (are k d below).has_window))))
   room_to (suc to) = elim (found_or_none (length all) (λ i. (job_at all i).deadline == suc to)) [
     | inl found ↦ known_deadline (suc to) found.0 found.1 (eqb-true (job_at all found.0).deadline (suc to) found.2)
     | inr none ↦ omega (
       arith,
-      sum_by_same (term from (suc to)) (term from to) all (λ k d below. same_term to (get_or all k d) (λ e.
+      sum_by_same (part_within from (suc to)) (part_within from to) all (λ k d below. same_term to (get_or all k d) (λ e.
           eqb-false (job_at all k).deadline (suc to) (none k below) (ap (λ (job : Job). job.deadline) (get_or_default all k no_job d below) ∙ e))),
       room_to to,
       mul-le-mul_left top (let less : to - from ≤ suc to - from = omega arith in less),
@@ -201,15 +202,15 @@ module _ (top : ℕ) (times : List ℕ) (all jobs : List Job) (places used : Lis
 
 module _ (top : ℕ) (times : List ℕ) (all jobs : List Job) (places used : List ℕ) (row : Job) (end m : ℕ) (long : length times ≡ m + 1) (pieces : ArePieces top times all jobs places used)
     (short : end ≤ m) (is_end : get_or times end 0 ≡ row.deadline) (rising : IsNonDecreasing times) (due : AreDue times all) (window : row.release < row.deadline) where
-  with_row : (from to : ℕ) → enclosed_work (all ++ row ∷ []) from to ≡ enclosed_work jobs from to + term from to row
-  with_row from to = omega (arith, sum_by_push (term from to) all row, pieces.same from to)
+  with_row : (from to : ℕ) → work_within (all ++ row ∷ []) from to ≡ work_within jobs from to + part_within from to row
+  with_row from to = omega (arith, sum_by_push (part_within from to) all row, pieces.same from to)
 
-  at_most : (from to : ℕ) → term from to row ≤ row.work
+  at_most : (from to : ℕ) → part_within from to row ≤ row.work
   at_most from to = elim (cases_lt row.release from) [
-    | inl less ↦ omega (arith, before from to row less)
+    | inl less ↦ omega (arith, part_early from to row less)
     | inr first ↦ elim (cases_lt to row.deadline) [
-      | inl more ↦ omega (arith, after from to row more)
-      | inr within ↦ omega (arith, inside from to row first within)
+      | inl more ↦ omega (arith, part_late from to row more)
+      | inr within ↦ omega (arith, part_inside from to row first within)
     ]
   ]
 
@@ -296,7 +297,7 @@ module _ (top : ℕ) (times : List ℕ) (all jobs : List Job) (places used : Lis
       ((i : ℕ) → n ≤ i → i < length jobs → (job_at jobs i).release < row.release) → LeavesRoom top jobs places row end n row.release →
       AllLeaveRoom top jobs places row end n → NoFrom top row.deadline (all ++ row ∷ [])
   none_found are room n known early late leaves others from ahead some = elim (cases_lt row.release from) [
-    | inl later ↦ λ to beyond deadline. omega (arith, with_row from to, before from to row later, pieces.same from to, room_to top all are room from to)
+    | inl later ↦ λ to beyond deadline. omega (arith, with_row from to, part_early from to row later, pieces.same from to, room_to top all are room from to)
     | inr most ↦ elim (cases_eq from row.release) [
       | inl same ↦ has_room_over n from known (λ i below. omega (arith, early i below, same)) (λ i behind below. omega (arith, late i behind below, same))
           (subst (LeavesRoom top jobs places row end n) (sym same) leaves)
@@ -331,7 +332,7 @@ module _ (top : ℕ) (times : List ℕ) (all jobs : List Job) (places used : Lis
         too_much = omega (
           arith,
           with_row from to,
-          inside from to row much.ahead later,
+          part_inside from to row much.ahead later,
           first_at_most jobs n from to much.within much.early,
           greatest.exact,
           ap (λ t. top * t) is_end,
@@ -351,7 +352,7 @@ module _ (top : ℕ) (times : List ℕ) (all jobs : List Job) (places used : Lis
 module _ (top : ℕ) (jobs others : List Job) (are : All IsJob jobs) (same : IsPermutation jobs others) (room : HasRoom top jobs) where
   -- they have room from any time on
   pub room_alone : (from : ℕ) → HasRoomFrom top others from
-  room_alone from to forward = omega (arith, room_to top jobs are room from to, sum_by-IsPermutation (term from to) jobs others same)
+  room_alone from to forward = omega (arith, room_to top jobs are room from to, sum_by-IsPermutation (part_within from to) jobs others same)
 
 -- an interval that is overfull with one job more begins at the job's release or before
 pub until_release : (top : ℕ) (jobs : List Job) (row : Job) (from : ℕ) → All IsJob jobs → HasRoom top jobs → IsLeastFrom top row.deadline (jobs ++ row ∷ []) from → from ≤ row.release
@@ -360,8 +361,8 @@ until_release top jobs row from are room least = elim (cases_lt row.release from
   | inl late ↦ absurd (omega (
     arith,
     least.too_much,
-    sum_by_push (term from least.to) jobs row,
-    before from least.to row late,
+    sum_by_push (part_within from least.to) jobs row,
+    part_early from least.to row late,
     room_to top jobs are room from least.to,
   ))
 ]

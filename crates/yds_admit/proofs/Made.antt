@@ -10,9 +10,9 @@ use Rattle.yds_model.specs.Job.{Job, no_job, job_at}
 use Rattle.yds_model.proofs.Lists.{Any-append_left}
 use Rattle.yds_admit.specs.declared.board.Spot.{Spot}
 use Rattle.yds_admit.specs.Board.{falling_jobs}
-use Rattle.yds_admit.specs.Interval.{enclosed_work}
+use Rattle.yds_model.specs.Confined.{work_within}
 use Rattle.yds_admit.specs.Pieces.{IsGreatest, IsCutting, IsCutInto, AreCut, ArePieces, went}
-use Rattle.yds_admit.proofs.Between.{term}
+use Rattle.yds_model.proofs.Confined.{part_within}
 use Rattle.yds_admit.proofs.Fitting.{no_spot, spot_at}
 use Rattle.yds_admit.proofs.Newly.{any_same}
 use Rattle.yds_admit.proofs.Cutting.{added}
@@ -76,11 +76,11 @@ module _ (job : Job) (old new : List Job) (into : IsCutInto job old new) where
     );
     same = λ from to. omega (
       arith,
-      ap (λ (jobs : List Job). enclosed_work jobs from to) into.is,
-      sum_by-append (term from to) old into.more,
+      ap (λ (jobs : List Job). work_within jobs from to) into.is,
+      sum_by-append (part_within from to) old into.more,
       added from to job into.more into.windows into.work,
       made.same from to,
-      sum_by_push (term from to) all job,
+      sum_by_push (part_within from to) all job,
     );
     kept = λ from some. elim (cases_lt some.0 (length all)) [
       | inl early ↦
@@ -136,7 +136,7 @@ same_pieces top times all others jobs places used same pieces = record {
   used_is = pieces.used_is;
   falling = pieces.falling;
   few = pieces.few;
-  same = λ from to. pieces.same from to ∙ same (term from to);
+  same = λ from to. pieces.same from to ∙ same (part_within from to);
   kept = λ from some. pieces.kept from (any_same (λ job. job.release) from all others same some);
   known = λ from some. any_same (λ job. job.release) from others all (λ g. sym (same g)) (pieces.known from some);
   greatest = pieces.greatest;

@@ -12,9 +12,10 @@ use Rattle.yds_model.specs.Admission.{IsOverfull, IsFirstOverfull}
 use Rattle.yds_model.proofs.Lists.{All-front, All-last}
 use Rattle.yds_laws.specs.AdmissionLaws.{HasRoom}
 use Rattle.yds_laws.proofs.Served.{room_from, confined_sum, confined_term}
-use Rattle.yds_admit.specs.Interval.{enclosed_work, HasRoomFrom, IsFirstFrom, IsFirstWith}
+use Rattle.yds_model.specs.Confined.{work_within}
+use Rattle.yds_admit.specs.Interval.{HasRoomFrom, IsFirstFrom, IsFirstWith}
 use Rattle.yds_admit.specs.Chain.{HasRoomOver, IsLeastFrom, NoFrom}
-use Rattle.yds_admit.proofs.Between.{term, before, after}
+use Rattle.yds_model.proofs.Confined.{part_within, part_early, part_late}
 use Rattle.yds_admit.proofs.Overfull.{any_of_all, number_of_any, jobs_work}
 
 -- # Jobs with the same sums
@@ -53,7 +54,7 @@ room_same top jobs others same room from to full = room from to (record {
       (any_same (λ job. job.release) from others jobs (λ g. sym (same g)) (any_of_all (λ job. job.release ≡ from) others full.is_release));
   is_deadline = number_of_any (λ job. job.deadline ≡ to) jobs
       (any_same (λ job. job.deadline) to others jobs (λ g. sym (same g)) (any_of_all (λ job. job.deadline ≡ to) others full.is_deadline));
-  too_much = omega (arith, full.too_much, jobs_work jobs from to, jobs_work others from to, same (term from to));
+  too_much = omega (arith, full.too_much, jobs_work jobs from to, jobs_work others from to, same (part_within from to));
 })
 
 -- # One job more
@@ -64,9 +65,9 @@ module _ (top : ℕ) (jobs : List Job) (row : Job) (are : All IsJob (jobs ++ row
   elsewhere_fits from to apart full =
       let ends = any_of_all (λ job. job.deadline ≡ to) (jobs ++ row ∷ []) full.is_deadline in
       let window = (All-last IsJob jobs row are).has_window in
-      let added : term from to row ≡ 0 = elim apart [
-        | inl soon ↦ after from to row soon
-        | inr late ↦ before from to row (omega (arith, window, late))
+      let added : part_within from to row ≡ 0 = elim apart [
+        | inl soon ↦ part_late from to row soon
+        | inr late ↦ part_early from to row (omega (arith, window, late))
       ] in
       elim (cases_lt ends.0 (length jobs)) [
         | inl known ↦
@@ -77,7 +78,7 @@ module _ (top : ℕ) (jobs : List Job) (row : Job) (are : All IsJob (jobs ++ row
               arith,
               full.too_much,
               jobs_work (jobs ++ row ∷ []) from to,
-              sum_by_push (term from to) jobs row,
+              sum_by_push (part_within from to) jobs row,
               added,
               jobs_work jobs from to,
               confined_sum jobs (numbers_of jobs) from to,
@@ -125,8 +126,8 @@ module _ (top : ℕ) (jobs : List Job) (row : Job) (are : All IsJob (jobs ++ row
 
 -- no interval before it is overfull, and of those that begin with it it ends first
 module _ (top : ℕ) (all by_deadline : List Job) (deadlines : IsPermutation all by_deadline) where
-  same_work : (from to : ℕ) → enclosed_work by_deadline from to ≡ enclosed_work all from to
-  same_work from to = sum_by-IsPermutation (term from to) all by_deadline deadlines
+  same_work : (from to : ℕ) → work_within by_deadline from to ≡ work_within all from to
+  same_work from to = sum_by-IsPermutation (part_within from to) all by_deadline deadlines
 
   pub first_with : (start from to work : ℕ) → Any (λ (job : Job). job.release ≡ start) all →
       ((other_from other_to : ℕ) → other_from < start → IsOverfull all top (numbers_of all) other_from other_to → ⊥) →
@@ -149,7 +150,7 @@ module _ (top : ℕ) (all by_deadline : List Job) (deadlines : IsPermutation all
             | inr late ↦ late
             | inl early ↦ absurd (omega (
               arith,
-              subst (λ (s : ℕ). top * (other_to - s) < enclosed_work by_deadline s other_to) (sym equal)
+              subst (λ (s : ℕ). top * (other_to - s) < work_within by_deadline s other_to) (sym equal)
                   (omega (arith, full.too_much, jobs_work all other_from other_to, same_work other_from other_to)),
               found.ends.first other_to (omega (arith, equal, full.forward)) early,
             ))
@@ -157,7 +158,7 @@ module _ (top : ℕ) (all by_deadline : List Job) (deadlines : IsPermutation all
         )
       ];
     });
-    all = found.all ∙ same_work start to ∙ ap (λ begin. enclosed_work all begin to) (sym found.begins);
+    all = found.all ∙ same_work start to ∙ ap (λ begin. work_within all begin to) (sym found.begins);
   }
 
   -- there is one from a release that has too much over a deadline

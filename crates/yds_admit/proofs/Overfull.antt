@@ -11,16 +11,16 @@ use Rattle.yds_model.proofs.Sums.{sum_by-map}
 use Rattle.yds_laws.specs.AdmissionLaws.{HasRoom}
 use Rattle.yds_laws.proofs.JobNumbers.{all_jobs}
 use Rattle.yds_laws.proofs.Served.{confined_sum}
-use Rattle.yds_admit.specs.Interval.{enclosed_work}
-use Rattle.yds_admit.proofs.Between.{term}
+use Rattle.yds_model.specs.Confined.{work_within}
+use Rattle.yds_model.proofs.Confined.{part_within}
 
 -- # The work confined to an interval
 
-pub numbers_work : (jobs : List Job) (numbers : List ℕ) (from to : ℕ) → confined_work jobs numbers from to ≡ enclosed_work (jobs_with jobs numbers) from to
-numbers_work jobs numbers from to = confined_sum jobs numbers from to ∙ sym (sum_by-map (job_at jobs) (term from to) numbers)
+pub numbers_work : (jobs : List Job) (numbers : List ℕ) (from to : ℕ) → confined_work jobs numbers from to ≡ work_within (jobs_with jobs numbers) from to
+numbers_work jobs numbers from to = confined_sum jobs numbers from to ∙ sym (sum_by-map (job_at jobs) (part_within from to) numbers)
 
-pub jobs_work : (jobs : List Job) (from to : ℕ) → confined_work jobs (numbers_of jobs) from to ≡ enclosed_work jobs from to
-jobs_work jobs from to = numbers_work jobs (numbers_of jobs) from to ∙ ap (λ (some : List Job). enclosed_work some from to) (all_jobs jobs)
+pub jobs_work : (jobs : List Job) (from to : ℕ) → confined_work jobs (numbers_of jobs) from to ≡ work_within jobs from to
+jobs_work jobs from to = numbers_work jobs (numbers_of jobs) from to ∙ ap (λ (some : List Job). work_within some from to) (all_jobs jobs)
 
 -- # Some job, and some number of a job
 
@@ -91,6 +91,6 @@ room_front top jobs others room from to full = room from to (record {
     full.too_much,
     jobs_work jobs from to,
     jobs_work (jobs ++ others) from to,
-    sum_by-append (term from to) jobs others,
+    sum_by-append (part_within from to) jobs others,
   );
 })

@@ -7,9 +7,9 @@ use Rattle.std.proofs.lemmas.List.{get_or_default, get_or-take, get_or-drop, len
 use Rattle.std.proofs.lemmas.List.Sums.{sum_by_more, sum_by-take-drop}
 use Rattle.yds_model.specs.Job.{Job, no_job, job_at}
 use Rattle.yds_model.proofs.Sums.{sum_by_same, sum_by_zero}
-use Rattle.yds_admit.specs.Interval.{enclosed_work}
+use Rattle.yds_model.specs.Confined.{work_within}
 use Rattle.yds_admit.specs.Chain.{IsFalling, AreTimes, due_work, IsChain, Takes}
-use Rattle.yds_admit.proofs.Between.{term, before as released_before}
+use Rattle.yds_model.proofs.Confined.{part_within, part_early}
 use Rattle.yds_admit.proofs.GoingOn.{ended}
 
 -- # What a chain says of the units that went on before it
@@ -138,7 +138,7 @@ module _ (top due : ℕ) (jobs : List Job) (times : List ℕ) (m : ℕ) (long : 
 
 -- # What was found
 
-pub released_all : (from to : ℕ) (job : Job) → from ≤ job.release → term from to job ≡ cond (nat_le job.deadline to) job.work 0
+pub released_all : (from to : ℕ) (job : Job) → from ≤ job.release → part_within from to job ≡ cond (nat_le job.deadline to) job.work 0
 released_all from to job released = rw (le-leb from job.release released) refl
 
 -- of some numbers that pass a test the last
@@ -164,9 +164,9 @@ last_of (suc n) test j below passes = elim (cases_Bool (test n)) [
 
 module _ (top due : ℕ) (jobs others : List Job) (times : List ℕ) (m : ℕ) (long : length times ≡ m + 1) (are : AreTimes due others times) (same : IsPermutation others jobs)
     (falling : IsFalling jobs) where
-  front : (k from to : ℕ) → k < length jobs → from ≤ (job_at jobs k).release → sum_by (term from to) (take (k + 1) jobs) ≡ due_work (take (k + 1) jobs) to
+  front : (k from to : ℕ) → k < length jobs → from ≤ (job_at jobs k).release → sum_by (part_within from to) (take (k + 1) jobs) ≡ due_work (take (k + 1) jobs) to
   front k from to within released =
-      sum_by_same (term from to) (λ (job : Job). cond (nat_le job.deadline to) job.work 0) (take (k + 1) jobs)
+      sum_by_same (part_within from to) (λ (job : Job). cond (nat_le job.deadline to) job.work 0) (take (k + 1) jobs)
       (λ i d below.
       let short : i < k + 1 = omega (arith, below, length-take-le (k + 1) jobs (omega arith)) in
       released_all from to (get_or (take (k + 1) jobs) i d) (omega (
@@ -179,16 +179,16 @@ module _ (top due : ℕ) (jobs others : List Job) (times : List ℕ) (m : ℕ) (
 
   -- the work in an interval from a release is that of the jobs up to the last one with that release
   pub work_of_front : (k from to : ℕ) → k < length jobs → from ≤ (job_at jobs k).release → ((i : ℕ) → k < i → i < length jobs → (job_at jobs i).release < from) →
-      enclosed_work jobs from to ≡ due_work (take (k + 1) jobs) to
+      work_within jobs from to ≡ due_work (take (k + 1) jobs) to
   work_of_front k from to within released last =
       omega (
         arith,
         front k from to within released,
-        sum_by-take-drop (term from to) jobs (k + 1),
-        sum_by_zero (term from to) (drop (k + 1) jobs)
+        sum_by-take-drop (part_within from to) jobs (k + 1),
+        sum_by_zero (part_within from to) (drop (k + 1) jobs)
             (λ i d below.
             let there : k + 1 + i < length jobs = omega (arith, below, length-drop (k + 1) jobs) in
-            released_before from to (get_or (drop (k + 1) jobs) i d) (omega (
+            part_early from to (get_or (drop (k + 1) jobs) i d) (omega (
               arith,
               last (k + 1 + i) (omega arith) there,
               ap (λ (job : Job). job.release) (get_or-drop (k + 1) jobs i d),

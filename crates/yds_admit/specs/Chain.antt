@@ -3,7 +3,7 @@ use Rattle.std.specs.Prelude.{◌≡◌, ℕ, ◌+◌, ◌-◌, ◌*◌, ◌<◌
 use Rattle.std.specs.List.{All, Any, Contains}
 use Rattle.std.specs.List.Sorted.{IsNonDecreasing}
 use Rattle.yds_model.specs.Job.{Job, job_at}
-use Rattle.yds_admit.specs.Interval.{enclosed_work}
+use Rattle.yds_model.specs.Confined.{work_within}
 
 -- no job is released after one before it
 abbrev pub IsFalling : List Job → Type 0
@@ -52,7 +52,7 @@ pub record Takes (old : List ℕ) (place units : ℕ) (new : List ℕ) (at left 
 
 -- the top speed does all that is confined to an interval from this time on that ends at `due` or at a later deadline
 abbrev pub HasRoomOver : ℕ → ℕ → List Job → ℕ → Type 0
-HasRoomOver top due jobs from = (to : ℕ) → due ≤ to → (due < to → Any (λ job. job.deadline ≡ to) jobs) → enclosed_work jobs from to ≤ top * (to - from)
+HasRoomOver top due jobs from = (to : ℕ) → due ≤ to → (due < to → Any (λ job. job.deadline ≡ to) jobs) → work_within jobs from to ≤ top * (to - from)
 
 -- the least release before `due` from which it doesn't, where there is one
 pub record IsLeastFrom (top due : ℕ) (jobs : List Job) (from : ℕ) : Type 0 where
@@ -60,7 +60,7 @@ pub record IsLeastFrom (top due : ℕ) (jobs : List Job) (from : ℕ) : Type 0 w
   pub is_release : Any (λ job. job.release ≡ from) jobs
   pub to : ℕ
   pub beyond : due ≤ to
-  pub too_much : top * (to - from) < enclosed_work jobs from to
+  pub too_much : top * (to - from) < work_within jobs from to
   pub earlier : (other : ℕ) → other < from → Any (λ job. job.release ≡ other) jobs → HasRoomOver top due jobs other
 
 abbrev pub NoFrom : ℕ → ℕ → List Job → Type 0

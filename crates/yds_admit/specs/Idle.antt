@@ -2,7 +2,7 @@
 use Rattle.std.specs.Prelude.{◌≡◌, ℕ, ◌+◌, ◌-◌, ◌*◌, ◌<◌, ◌≤◌, List, length, slice_index}
 use Rattle.yds_model.specs.Job.{Job}
 use Rattle.yds_edf.specs.Pending.{sum_below}
-use Rattle.yds_admit.specs.Interval.{enclosed_work}
+use Rattle.yds_model.specs.Confined.{work_within}
 
 -- what is idle in the gaps before a place
 abbrev pub idle_before : List ℕ → ℕ → ℕ
@@ -13,7 +13,7 @@ idle_before idle q = sum_below q (λ k. slice_index idle k)
 pub record HasIdle (top : ℕ) (times : List ℕ) (jobs : List Job) (idle : List ℕ) : Type 0 where
   pub as_long : length idle + 1 ≡ length times
   pub room : (from a b : ℕ) → a ≤ b → b < length times → from ≤ slice_index times a →
-      enclosed_work jobs from (slice_index times b) + idle_before idle b ≤ top * (slice_index times b - from) + idle_before idle a
+      work_within jobs from (slice_index times b) + idle_before idle b ≤ top * (slice_index times b - from) + idle_before idle a
 
 -- so many units were taken from what is idle between two places
 pub record IsTaken (old new : List ℕ) (begin end units : ℕ) : Type 0 where

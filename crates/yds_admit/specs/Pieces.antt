@@ -6,7 +6,7 @@ use Rattle.yds_model.specs.Job.{Job, IsJob, job_at}
 use Rattle.yds_laws.specs.AdmissionLaws.{HasRoom}
 use Rattle.yds_edf.specs.Pending.{sum_below}
 use Rattle.yds_admit.specs.declared.pieces.Pieces.{Pieces}
-use Rattle.yds_admit.specs.Interval.{enclosed_work}
+use Rattle.yds_model.specs.Confined.{work_within}
 use Rattle.yds_admit.specs.Chain.{IsFalling, IsChain, due_work}
 
 -- each job's deadline is one of the times
@@ -45,7 +45,7 @@ pub record IsCutInto (job : Job) (old new : List Job) : Type 0 where
 pub record AreCut (all jobs : List Job) : Type 0 where
   pub falling : IsFalling jobs
   pub few : sum_by (λ job. job.work) jobs ≤ length all * MAX_WORK
-  pub same : (from to : ℕ) → enclosed_work jobs from to ≡ enclosed_work all from to
+  pub same : (from to : ℕ) → work_within jobs from to ≡ work_within all from to
   pub kept : (from : ℕ) → Any (λ job. job.release ≡ from) all → Any (λ job. job.release ≡ from) jobs
   pub known : (from : ℕ) → Any (λ job. job.release ≡ from) jobs → Any (λ job. job.release ≡ from) all
 
@@ -55,7 +55,7 @@ pub record ArePieces (top : ℕ) (times : List ℕ) (all jobs : List Job) (place
   pub used_as_long : length used ≡ length times
   pub falling : IsFalling jobs
   pub few : sum_by (λ job. job.work) jobs ≤ MAX_JOBS * MAX_WORK
-  pub same : (from to : ℕ) → enclosed_work jobs from to ≡ enclosed_work all from to
+  pub same : (from to : ℕ) → work_within jobs from to ≡ work_within all from to
   pub kept : (from : ℕ) → Any (λ job. job.release ≡ from) all → Any (λ job. job.release ≡ from) jobs
   pub known : (from : ℕ) → Any (λ job. job.release ≡ from) jobs → Any (λ job. job.release ≡ from) all
   pub greatest : (m n : ℕ) → length times ≡ m + 1 → n ≤ length jobs → (q : ℕ) → q ≤ m → IsGreatest top times m n jobs places q

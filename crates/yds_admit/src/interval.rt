@@ -2,7 +2,8 @@ ghost use Rattle.std.specs.Prelude.{◌≡◌, ◌*◌, ◌≤◌, ◌++◌, ◌
 ghost use Rattle.std.specs.List.Sorted.{IsPermutation, IsNonDecreasingBy};
 ghost use Rattle.yds_model.specs.declared.limits.TheConstants.{MAX_WORK};
 ghost use Rattle.yds_model.specs.Job.{IsJob};
-ghost use Rattle.yds_admit.specs.Interval.{released_work, HasRoomFrom, IsFirstFrom};
+ghost use Rattle.yds_model.specs.Confined.{released_work};
+ghost use Rattle.yds_admit.specs.Interval.{HasRoomFrom, IsFirstFrom};
 
 use crate::standing::due_before;
 use yds_model::limits::{MAX_JOBS, MAX_TOP};

@@ -9,9 +9,9 @@ use Rattle.std.proofs.Math.Nat.{mul-pos, mul-lt-mul_of_pos_left}
 use Rattle.yds_model.specs.Job.{Job, IsJob, job_at, no_job}
 use Rattle.yds_model.proofs.Lists.{place_cases}
 use Rattle.yds_intensity.specs.declared.sweeping.Sum.{Sum}
-use Rattle.yds_intensity.specs.Work.{work_within}
+use Rattle.yds_model.specs.Confined.{work_within}
 use Rattle.yds_intensity.specs.Sums.{AreSums, sum_at, no_sum}
-use Rattle.yds_intensity.proofs.Work.{share, share_inside}
+use Rattle.yds_model.proofs.Confined.{part_within, part_inside}
 use Rattle.yds_critical.specs.declared.interval.Interval.{Interval}
 use Rattle.yds_critical.specs.Leading.{Leads}
 use Rattle.yds_critical.specs.Critical.{IsCandidate, IsCriticalOf}
@@ -95,7 +95,7 @@ pub best_works : (jobs : List Job) (best : Interval) → 0 < length jobs → IsJ
 best_works jobs best some valid works forward leads =
     let job : Job = job_at jobs 0 in
     let own : job.work ≤ work_within jobs job.release job.deadline =
-    omega (arith, get_or-le-sum_by (share job.release job.deadline) jobs 0 no_job some, share_inside job.release job.deadline job (omega arith) (omega arith)) in
+    omega (arith, get_or-le-sum_by (part_within job.release job.deadline) jobs 0 no_job some, part_inside job.release job.deadline job (omega arith) (omega arith)) in
     let product : 1 ≤ work_within jobs job.release job.deadline * (best.end - best.start) = mul-pos (omega arith) (omega arith) in
     elim (cases_eq best.work 0) [
       | inl idle ↦

@@ -6,8 +6,8 @@ use Rattle.std.proofs.lemmas.List.Elements.{All-cons, All-nil}
 use Rattle.std.proofs.lemmas.List.{get_or-map, length-map}
 use Rattle.yds_model.specs.Job.{Job, IsJob}
 use Rattle.yds_model.proofs.Sums.{sum_by_same, sum_by_zero}
-use Rattle.yds_intensity.specs.Work.{work_within}
-use Rattle.yds_intensity.proofs.Work.{share, share_inside, share_early, share_late}
+use Rattle.yds_model.specs.Confined.{work_within}
+use Rattle.yds_model.proofs.Confined.{part_within, part_inside, part_early, part_late}
 
 -- a number stands in a list or differs from each
 stands_or_not : (numbers : List ℕ) (number : ℕ) → Contains numbers number ⊎ All (λ other. other ≢ number) numbers
@@ -20,15 +20,15 @@ stands_or_not (n ∷ numbers) number = elim (cases_eq n number) [
   ]
 ]
 
-no_share : (from to : ℕ) (job : Job) → to ≤ from → job.release < job.deadline → share from to job ≡ 0
+no_share : (from to : ℕ) (job : Job) → to ≤ from → job.release < job.deadline → part_within from to job ≡ 0
 no_share from to job empty window = elim (cases_lt job.release from) [
-  | inl early ↦ share_early from to job early
-  | inr late ↦ share_late from to job (omega arith)
+  | inl early ↦ part_early from to job early
+  | inr late ↦ part_late from to job (omega arith)
 ]
 
 -- an interval without length confines nothing
 pub nothing_within : (jobs : List Job) (from to : ℕ) → All IsJob jobs → to ≤ from → work_within jobs from to ≡ 0
-nothing_within jobs from to valid empty = sum_by_zero (share from to) jobs (λ k d within. no_share from to (get_or jobs k d) empty (valid k d within).has_window)
+nothing_within jobs from to valid empty = sum_by_zero (part_within from to) jobs (λ k d within. no_share from to (get_or jobs k d) empty (valid k d within).has_window)
 
 -- an interval that ends with a deadline and begins with a release, inside the first one, to which the same work is confined
 pub record IsShrunk (jobs : List Job) (from to : ℕ) (start end : ℕ) : Type 0 where
@@ -42,21 +42,21 @@ pub record IsShrunk (jobs : List Job) (from to : ℕ) (start end : ℕ) : Type 0
 abbrev pub Shrinks : List Job → ℕ → ℕ → Type 0
 Shrinks jobs from to = (work_within jobs from to ≡ 0) ⊎ ((start : ℕ) × (end : ℕ) × IsShrunk jobs from to start end)
 
-begins_later : (job : Job) (from to : ℕ) → job.release ≢ from → share from to job ≡ share (suc from) to job
+begins_later : (job : Job) (from to : ℕ) → job.release ≢ from → part_within from to job ≡ part_within (suc from) to job
 begins_later job from to differs = elim (cases_lt job.release from) [
-  | inl early ↦ share_early from to job early ∙ sym (share_early (suc from) to job (omega arith))
+  | inl early ↦ part_early from to job early ∙ sym (part_early (suc from) to job (omega arith))
   | inr late ↦ elim (cases_lt to job.deadline) [
-    | inl after ↦ share_late from to job after ∙ sym (share_late (suc from) to job after)
-    | inr due ↦ share_inside from to job late due ∙ sym (share_inside (suc from) to job (omega arith) due)
+    | inl after ↦ part_late from to job after ∙ sym (part_late (suc from) to job after)
+    | inr due ↦ part_inside from to job late due ∙ sym (part_inside (suc from) to job (omega arith) due)
   ]
 ]
 
-ends_earlier : (job : Job) (from to : ℕ) → job.deadline ≢ suc to → share from (suc to) job ≡ share from to job
+ends_earlier : (job : Job) (from to : ℕ) → job.deadline ≢ suc to → part_within from (suc to) job ≡ part_within from to job
 ends_earlier job from to differs = elim (cases_lt (suc to) job.deadline) [
-  | inl after ↦ share_late from (suc to) job after ∙ sym (share_late from to job (omega arith))
+  | inl after ↦ part_late from (suc to) job after ∙ sym (part_late from to job (omega arith))
   | inr due ↦ elim (cases_lt job.release from) [
-    | inl early ↦ share_early from (suc to) job early ∙ sym (share_early from to job early)
-    | inr late ↦ share_inside from (suc to) job late due ∙ sym (share_inside from to job late (omega arith))
+    | inl early ↦ part_early from (suc to) job early ∙ sym (part_early from to job early)
+    | inr late ↦ part_inside from (suc to) job late due ∙ sym (part_inside from to job late (omega arith))
   ]
 ]
 
@@ -91,7 +91,7 @@ shrink_end jobs from (suc to) valid begins = elim (cases_lt from (suc to)) [
   | inl forward ↦ elim (stands_or_not (map (λ job. job.deadline) jobs) (suc to)) [
     | inl ends ↦ inr (from, suc to, record { forward = forward; begins = omega arith; ends = omega arith; is_release = begins; is_deadline = ends; same = refl })
     | inr none ↦ wider jobs from (suc to) from to (omega arith) (omega arith)
-        (sum_by_same (share from (suc to)) (share from to) jobs (λ k d within. ends_earlier (get_or jobs k d) from to (deadlines_differ jobs (suc to) none k d within)))
+        (sum_by_same (part_within from (suc to)) (part_within from to) jobs (λ k d within. ends_earlier (get_or jobs k d) from to (deadlines_differ jobs (suc to) none k d within)))
         (shrink_end jobs from to valid begins)
   ]
 ]
@@ -101,7 +101,7 @@ shrink_within zero jobs from to valid short = inl (nothing_within jobs from to v
 shrink_within (suc n) jobs from to valid short = elim (stands_or_not (map (λ job. job.release) jobs) from) [
   | inl begins ↦ shrink_end jobs from to valid begins
   | inr none ↦ wider jobs from to (suc from) to (omega arith) (omega arith)
-      (sum_by_same (share from to) (share (suc from) to) jobs (λ k d within. begins_later (get_or jobs k d) from to (releases_differ jobs from none k d within)))
+      (sum_by_same (part_within from to) (part_within (suc from) to) jobs (λ k d within. begins_later (get_or jobs k d) from to (releases_differ jobs from none k d within)))
       (shrink_within n jobs (suc from) to valid (omega arith))
 ]
 

@@ -12,11 +12,11 @@ use Rattle.yds_model.specs.declared.limits.TheConstants.{MAX_WORK}
 use Rattle.yds_model.specs.Policy.{numbers_of}
 use Rattle.yds_model.proofs.Lists.{All-front}
 use Rattle.yds_intensity.specs.declared.sweeping.Sum.{Sum}
-use Rattle.yds_intensity.specs.Work.{work_within}
+use Rattle.yds_model.specs.Confined.{work_within, released_work}
 use Rattle.yds_intensity.specs.Sums.{no_sum, sum_at, HaveRisingEnds, AreSums}
 use Rattle.yds_intensity.specs.Put.{IsPut}
 use Rattle.yds_intensity.specs.Order.{IsDeadlineOrder}
-use Rattle.yds_intensity.proofs.Work.{share, share_early, share_late, work_from, work_from_more, work_due, work_push}
+use Rattle.yds_model.proofs.Confined.{part_within, part_early, part_late, released_more, released_due, within_push}
 
 abbrev pub ends_of : List Sum → List ℕ
 ends_of sums = map (λ sum. sum.end) sums
@@ -75,7 +75,7 @@ sweep_kept seen job start sums are window past = record {
       | inr here ↦ absurd (omega arith)
     ]),
   );
-  works = λ k d within. are.works k d within ∙ omega (arith, work_push seen job start (get_or sums k d).end, share_early start (get_or sums k d).end job (omega arith));
+  works = λ k d within. are.works k d within ∙ omega (arith, within_push seen job start (get_or sums k d).end, part_early start (get_or sums k d).end job (omega arith));
 }
 
 -- what is left of the sums where one is put after them
@@ -125,7 +125,7 @@ put_kept seen start sums put sum are due (kept, is, inr (last, same, was)) =
 
 -- a job that is due later, and not before any seen, ends a sum
 pub sweep_put : (seen : List Job) (job : Job) (start work : ℕ) (sums put : List Sum) → AreSums seen start sums → All (λ j. j.deadline ≤ job.deadline) seen →
-    start < job.deadline → work ≡ work_from (seen ++ job ∷ []) start → IsPut sums (record { end = job.deadline; work = work }) put →
+    start < job.deadline → work ≡ released_work (seen ++ job ∷ []) start → IsPut sums (record { end = job.deadline; work = work }) put →
     AreSums (seen ++ job ∷ []) start put
 sweep_put seen job start work sums put are due after running is =
     let sum : Sum = record { end = job.deadline; work = work } in
@@ -161,14 +161,14 @@ sweep_put seen job start work sums put are due after running is =
           (λ k d within.
           let end_d : get_or kept k d ≡ sum_at kept k = get_or_default kept k d no_sum within in
           rest.works seen start are.works k d within
-          ∙ omega (arith, work_push seen job start (get_or kept k d).end, share_late start (get_or kept k d).end job (omega (arith, rest.below k within, ap (λ (s : Sum). s.end) end_d))))
-          (running ∙ work_due (seen ++ job ∷ []) start job.deadline all_due);
+          ∙ omega (arith, within_push seen job start (get_or kept k d).end, part_late start (get_or kept k d).end job (omega (arith, rest.below k within, ap (λ (s : Sum). s.end) end_d))))
+          (running ∙ released_due (seen ++ job ∷ []) start job.deadline all_due);
     })
 
 -- what the walk knows of the jobs seen
 pub record SweptSoFar (seen : List Job) (start work : ℕ) (sums : List Sum) : Type 0 where
   pub are : AreSums seen start sums
-  pub running : work ≡ work_from seen start
+  pub running : work ≡ released_work seen start
   pub fits : work ≤ MAX_WORK * length seen
 
 -- each number in order is a row's
@@ -200,7 +200,7 @@ pub swept_more : (jobs : List Job) (order : List ℕ) (i start work more : ℕ) 
 swept_more jobs order i start work more sums put job ordered within is valid goes so_far =
     let seen : List Job = map (job_at jobs) (take i order) in
     let due : All (λ (j : Job). j.deadline ≤ job.deadline) seen = subst (λ (other : Job). All (λ (j : Job). j.deadline ≤ other.deadline) seen) (sym is) (jobs_before jobs order i ordered within) in
-    let running : more ≡ work_from (seen ++ job ∷ []) start = work_from_more seen job start work more so_far.running goes.adds in
+    let running : more ≡ released_work (seen ++ job ∷ []) start = released_more seen job start work more so_far.running goes.adds in
     subst (λ (xs : List Job). SweptSoFar xs start more put)
     (ap (λ (j : Job). seen ++ j ∷ []) is ∙ sym (map_more (job_at jobs) order i 0 within))
     (record {
@@ -237,5 +237,5 @@ sums_reordered jobs order start sums ordered are =
         (λ has. let known = (are.ends end).0 has in (known.0, Contains-permutation (deadlines_of (map (job_at jobs) order)) (deadlines_of jobs) end undue known.1)),
         (λ (after, has). (are.ends end).1 (after, Contains-permutation (deadlines_of jobs) (deadlines_of (map (job_at jobs) order)) end due has)),
       );
-      works = λ k d within. are.works k d within ∙ sum_by-IsPermutation (share start (get_or sums k d).end) jobs (map (job_at jobs) order) same;
+      works = λ k d within. are.works k d within ∙ sum_by-IsPermutation (part_within start (get_or sums k d).end) jobs (map (job_at jobs) order) same;
     }

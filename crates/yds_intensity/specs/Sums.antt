@@ -3,7 +3,7 @@ use Rattle.std.specs.Prelude.{◌≡◌, ℕ, ◌<◌, ◌↔◌, List, length, 
 use Rattle.std.specs.List.{All, Contains, slice_index_or}
 use Rattle.yds_model.specs.Job.{Job}
 use Rattle.yds_intensity.specs.declared.sweeping.Sum.{Sum}
-use Rattle.yds_intensity.specs.Work.{work_within}
+use Rattle.yds_model.specs.Confined.{work_within}
 
 abbrev pub no_sum : Sum
 no_sum = record { end = 0; work = 0 }

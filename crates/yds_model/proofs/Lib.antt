@@ -1,4 +1,5 @@
 pub mod Sums
+pub mod Confined
 pub mod Horizon
 pub mod Lists
 pub mod Filters

@@ -1,8 +1,9 @@
 -- Admission under a top speed: in the order of the list, a job is admitted where a processor that is nowhere faster can still serve
 -- it beside the jobs admitted before it.
-use Rattle.std.specs.Prelude.{◌≡◌, ℕ, ◌-◌, ◌*◌, ◌<◌, ◌≤◌, ◌⊎◌, List, [], ◌∷◌, ◌++◌, map, min, Bool, nat_le, ◌&&◌}
+use Rattle.std.specs.Prelude.{◌≡◌, ℕ, ◌-◌, ◌*◌, ◌<◌, ◌≤◌, ◌⊎◌, List, [], ◌∷◌, ◌++◌, map, min, Bool}
 use Rattle.std.specs.List.{All, Any, filter}
 use Rattle.yds_model.specs.Job.{Job, job_at, work_of}
+use Rattle.yds_model.specs.Confined.{window_is_within}
 use Rattle.yds_model.specs.Slot.{WrittenSlot, WholeSlot, AtEachScale}
 use Rattle.yds_model.specs.Feasible.{IsFeasibleAt}
 use Rattle.yds_model.specs.Piece.{Piece}
@@ -25,7 +26,7 @@ jobs_with jobs numbers = map (job_at jobs) numbers
 
 -- the job's window lies between these times
 abbrev pub lies_within : List Job → ℕ → ℕ → ℕ → Bool
-lies_within jobs from to number = nat_le from (job_at jobs number).release && nat_le (job_at jobs number).deadline to
+lies_within jobs from to number = window_is_within from to (job_at jobs number)
 
 -- the work of those of the jobs whose windows lie between these times
 abbrev pub confined_work : List Job → List ℕ → ℕ → ℕ → ℕ

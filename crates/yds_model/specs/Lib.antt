@@ -1,5 +1,6 @@
 pub mod Numbers
 pub mod Job
+pub mod Confined
 pub mod Scale
 pub mod Slot
 pub mod Feasible

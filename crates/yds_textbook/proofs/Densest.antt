@@ -11,8 +11,8 @@ use Rattle.std.proofs.Math.Nat.{mul-le-mul_right}
 use Rattle.yds_model.specs.declared.limits.TheConstants.{MAX_JOBS, MAX_TIME, MAX_WORK}
 use Rattle.yds_model.specs.Job.{Job, IsJob, no_job, job_at}
 use Rattle.yds_model.specs.Piece.{Piece}
-use Rattle.yds_intensity.specs.Work.{window_is_within, work_within}
-use Rattle.yds_intensity.proofs.Work.{share}
+use Rattle.yds_model.specs.Confined.{window_is_within, work_within}
+use Rattle.yds_model.proofs.Confined.{part_within}
 use Rattle.yds_critical.specs.declared.interval.Interval.{Interval}
 use Rattle.yds_critical.specs.Critical.{IsCritical}
 use Rattle.yds_critical.proofs.Searching.{best_works}
@@ -28,14 +28,14 @@ inside_less f q [] from to = omega arith
 inside_less f q (number ∷ numbers) from to = elim (cases_Bool (q number)) [
   | inl holds ↦ rw holds (omega (
     arith,
-    sum_by-cons (share from to) (f number) (map f (filter q numbers)),
-    sum_by-cons (share from to) (f number) (map f numbers),
+    sum_by-cons (part_within from to) (f number) (map f (filter q numbers)),
+    sum_by-cons (part_within from to) (f number) (map f numbers),
     inside_less f q numbers from to,
   ))
-  | inr fails ↦ rw fails (omega (arith, sum_by-cons (share from to) (f number) (map f numbers), inside_less f q numbers from to))
+  | inr fails ↦ rw fails (omega (arith, sum_by-cons (part_within from to) (f number) (map f numbers), inside_less f q numbers from to))
 ]
 
-share_few : (from to : ℕ) (job : Job) → job.work ≤ MAX_WORK → share from to job ≤ MAX_WORK
+share_few : (from to : ℕ) (job : Job) → job.work ≤ MAX_WORK → part_within from to job ≤ MAX_WORK
 share_few from to job few = elim (cases_Bool (window_is_within from to job)) [
   | inl holds ↦ rw holds few
   | inr fails ↦ rw fails (omega arith)
@@ -44,7 +44,7 @@ share_few from to job few = elim (cases_Bool (window_is_within from to job)) [
 -- so many jobs have so much work
 work_few : (jobs : List Job) (from to : ℕ) → All IsJob jobs → work_within jobs from to ≤ length jobs * MAX_WORK
 work_few jobs from to are =
-    sum_by-le (share from to) MAX_WORK jobs (All-weaker IsJob (λ job. share from to job ≤ MAX_WORK) (λ job is. share_few from to job is.work_in_range) jobs are)
+    sum_by-le (part_within from to) MAX_WORK jobs (All-weaker IsJob (λ job. part_within from to job ≤ MAX_WORK) (λ job is. share_few from to job is.work_in_range) jobs are)
 
 -- a job that may wait is a job in the time that is left too
 can_be : (jobs : List Job) (removed : List Piece) (number : ℕ) → CanWait jobs removed number → IsJob (contracted removed (job_at jobs number))
@@ -83,8 +83,8 @@ less_outside f start end (number ∷ numbers) work = elim (cases_Bool (window_is
       omega (arith, length-filter_both (λ (n : ℕ). window_is_within start end (f n)) (λ n. not (window_is_within start end (f n))) (λ n. refl) numbers) in
       rw (not_from_true (window_is_within start end (f number)) holds) (omega (arith, few))
   | inr fails ↦
-      let none : share start end (f number) ≡ 0 = rw fails refl in
-      let rest : 1 ≤ work_within (map f numbers) start end = omega (arith, work, none, sum_by-cons (share start end) (f number) (map f numbers)) in
+      let none : part_within start end (f number) ≡ 0 = rw fails refl in
+      let rest : 1 ≤ work_within (map f numbers) start end = omega (arith, work, none, sum_by-cons (part_within start end) (f number) (map f numbers)) in
       rw (not_from_false (window_is_within start end (f number)) fails) (omega (arith, less_outside f start end numbers rest))
 ]
 

@@ -9,8 +9,8 @@ use Rattle.yds_model.specs.Job.{Job, job_at}
 use Rattle.yds_model.specs.Piece.{Piece}
 use Rattle.yds_model.proofs.Sums.{sum_by-add, sum_by_at_most, sum_by-map}
 use Rattle.yds_model.proofs.Filters.{sum_by-filter}
-use Rattle.yds_intensity.specs.Work.{window_is_within, work_within}
-use Rattle.yds_intensity.proofs.Work.{share}
+use Rattle.yds_model.specs.Confined.{window_is_within, work_within}
+use Rattle.yds_model.proofs.Confined.{part_within}
 use Rattle.yds_critical.specs.declared.interval.Interval.{Interval}
 use Rattle.yds_critical.specs.Critical.{IsCritical}
 use Rattle.yds_contract.specs.Contracted.{AreApartFrom, place, Removes}
@@ -28,7 +28,7 @@ is_inside from to job begins ends = and_from _ _ (le-leb from job.release begins
 
 -- where each window that lies between two times lies between two others, so does its work
 share_more : (from to low high : ℕ) (one other : Job) → one.work ≡ other.work →
-    (from ≤ one.release → one.deadline ≤ to → (low ≤ other.release) × (other.deadline ≤ high)) → share from to one ≤ share low high other
+    (from ≤ one.release → one.deadline ≤ to → (low ≤ other.release) × (other.deadline ≤ high)) → part_within from to one ≤ part_within low high other
 share_more from to low high one other work wider = elim (cases_Bool (window_is_within from to one)) [
   | inr outside ↦ rw outside (omega arith)
   | inl lies ↦
@@ -55,20 +55,20 @@ module _ (jobs : List Job) (removed changed : List Piece) (waiting : List ℕ) (
 
   -- the work of those that wait on, as a sum over those that waited
   work_after : (from to : ℕ) → work_within (contracted_jobs jobs changed (outside jobs removed interval waiting)) from to
-      ≡ sum_by (λ n. cond (not (lies_in jobs removed interval n)) (share from to (after n)) 0) waiting
+      ≡ sum_by (λ n. cond (not (lies_in jobs removed interval n)) (part_within from to (after n)) 0) waiting
   work_after from to =
-      sum_by-map after (share from to) (outside jobs removed interval waiting)
-      ∙ sum_by-filter (λ n. not (lies_in jobs removed interval n)) (λ n. share from to (after n)) waiting
+      sum_by-map after (part_within from to) (outside jobs removed interval waiting)
+      ∙ sum_by-filter (λ n. not (lies_in jobs removed interval n)) (λ n. part_within from to (after n)) waiting
 
-  work_before : (from to : ℕ) → work_within (contracted_jobs jobs removed waiting) from to ≡ sum_by (λ n. share from to (before n)) waiting
-  work_before from to = sum_by-map before (share from to) waiting
+  work_before : (from to : ℕ) → work_within (contracted_jobs jobs removed waiting) from to ≡ sum_by (λ n. part_within from to (before n)) waiting
+  work_before from to = sum_by-map before (part_within from to) waiting
 
   -- an interval that doesn't touch the removed one is an interval of the time before
   moved : (from to low high : ℕ) → ((n : ℕ) → from ≤ (after n).release → (after n).deadline ≤ to → (low ≤ (before n).release) × ((before n).deadline ≤ high)) →
       work_within (contracted_jobs jobs changed (outside jobs removed interval waiting)) from to ≤ work_within (contracted_jobs jobs removed waiting) low high
   moved from to low high wider =
-      let one = λ (n : ℕ). cond (not (lies_in jobs removed interval n)) (share from to (after n)) 0 in
-      let at_most : (n : ℕ) → one n ≤ share low high (before n) = λ n. elim (cases_Bool (lies_in jobs removed interval n)) [
+      let one = λ (n : ℕ). cond (not (lies_in jobs removed interval n)) (part_within from to (after n)) 0 in
+      let at_most : (n : ℕ) → one n ≤ part_within low high (before n) = λ n. elim (cases_Bool (lies_in jobs removed interval n)) [
         | inl inside ↦ rw (not_from_true (lies_in jobs removed interval n) inside) (omega arith)
         | inr other ↦ rw (not_from_false (lies_in jobs removed interval n) other) (share_more from to low high (after n) (before n) refl (wider n))
       ] in
@@ -76,7 +76,7 @@ module _ (jobs : List Job) (removed changed : List Piece) (waiting : List ℕ) (
         arith,
         work_after from to,
         work_before low high,
-        sum_by_at_most one (λ n. share low high (before n)) waiting (λ k d within. at_most (get_or waiting k d)),
+        sum_by_at_most one (λ n. part_within low high (before n)) waiting (λ k d within. at_most (get_or waiting k d)),
       )
 
   -- one that touches it has with it an interval of the time before
@@ -85,9 +85,9 @@ module _ (jobs : List Job) (removed changed : List Piece) (waiting : List ℕ) (
       ≤ work_within (contracted_jobs jobs removed waiting) from (to + (interval.end - interval.start))
   touching from to early late =
       let high = to + (interval.end - interval.start) in
-      let one = λ (n : ℕ). cond (not (lies_in jobs removed interval n)) (share from to (after n)) 0 in
-      let own = λ (n : ℕ). share interval.start interval.end (before n) in
-      let at_most : (n : ℕ) → one n + own n ≤ share from high (before n) = λ n. elim (cases_Bool (lies_in jobs removed interval n)) [
+      let one = λ (n : ℕ). cond (not (lies_in jobs removed interval n)) (part_within from to (after n)) 0 in
+      let own = λ (n : ℕ). part_within interval.start interval.end (before n) in
+      let at_most : (n : ℕ) → one n + own n ≤ part_within from high (before n) = λ n. elim (cases_Bool (lies_in jobs removed interval n)) [
         | inl inside ↦ rw (not_from_true (lies_in jobs removed interval n) inside)
             (omega (arith, share_more interval.start interval.end from high (before n) (before n) refl (λ begins ends. (omega (arith, begins, early), omega (arith, ends, late, critical.candidate.forward)))))
         | inr other ↦
@@ -109,7 +109,7 @@ module _ (jobs : List Job) (removed changed : List Piece) (waiting : List ℕ) (
         work_before interval.start interval.end,
         work_before from high,
         sum_by-add one own waiting,
-        sum_by_at_most (λ n. one n + own n) (λ n. share from high (before n)) waiting (λ k d within. at_most (get_or waiting k d)),
+        sum_by_at_most (λ n. one n + own n) (λ n. part_within from high (before n)) waiting (λ k d within. at_most (get_or waiting k d)),
       )
 
   denser : (from to : ℕ) → from < to → work_within (contracted_jobs jobs removed waiting) from to * (interval.end - interval.start) ≤ interval.work * (to - from)

@@ -21,8 +21,8 @@ use Rattle.yds_edf.specs.Pending.{sum_below}
 use Rattle.yds_edf.specs.Demand.{capacity_at, confined_units, capacity_between, IsWithinCapacity, AreUncut}
 use Rattle.yds_edf.proofs.Sums.{sum_below_same, sum_below_at_most}
 use Rattle.yds_edf.proofs.Numbers.{sum_below-mul, sum_places, sum_numbers}
-use Rattle.yds_intensity.specs.Work.{window_is_within, work_within}
-use Rattle.yds_intensity.proofs.Work.{share}
+use Rattle.yds_model.specs.Confined.{window_is_within, work_within}
+use Rattle.yds_model.proofs.Confined.{part_within}
 use Rattle.yds_critical.specs.declared.interval.Interval.{Interval}
 use Rattle.yds_critical.proofs.Shrinking.{nothing_within}
 use Rattle.yds_contract.specs.Contracted.{AreApartFrom, place}
@@ -148,7 +148,7 @@ module _ (jobs : List Job) (removed : List Piece) (apart : AreApartFrom 0 remove
         )
 
 -- what a job adds to the confined units
-units_of : (grain from to : ℕ) (job : Job) → cond (window_is_within from to job) (job.work * grain) 0 ≡ grain * share from to job
+units_of : (grain from to : ℕ) (job : Job) → cond (window_is_within from to job) (job.work * grain) 0 ≡ grain * part_within from to job
 units_of grain from to job = elim (cases_Bool (window_is_within from to job)) [
   | inl holds ↦ rw holds (mul_comm job.work grain)
   | inr fails ↦ rw fails (omega arith)
@@ -158,9 +158,9 @@ units_of grain from to job = elim (cases_Bool (window_is_within from to job)) [
 pub confined_is : (jobs : List Job) (grain from to : ℕ) → confined_units jobs grain from to ≡ grain * work_within jobs from to
 confined_is jobs grain from to =
     sum_below_same (length jobs) (λ number. cond (window_is_within from to (job_at jobs number)) ((job_at jobs number).work * grain) 0)
-    (λ number. grain * share from to (job_at jobs number)) (λ number within. units_of grain from to (job_at jobs number))
-    ∙ sum_below-mul (length jobs) grain (λ number. share from to (job_at jobs number))
-    ∙ ap (λ n. grain * n) (sym (sum_places (share from to) jobs no_job))
+    (λ number. grain * part_within from to (job_at jobs number)) (λ number within. units_of grain from to (job_at jobs number))
+    ∙ sum_below-mul (length jobs) grain (λ number. part_within from to (job_at jobs number))
+    ∙ ap (λ n. grain * n) (sym (sum_places (part_within from to) jobs no_job))
 
 -- so the stretches of an interval can serve the jobs inside it
 pub demand_left : (jobs : List Job) (removed : List Piece) (interval : Interval) (members : List ℕ) (speed : Quotient) → AreApartFrom 0 removed →

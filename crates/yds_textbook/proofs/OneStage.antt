@@ -29,7 +29,7 @@ use Rattle.yds_edf.specs.Demand.{capacity_at}
 use Rattle.yds_edf.proofs.Sums.{sum_below_same, sum_by_grouped}
 use Rattle.yds_edf.proofs.Numbers.{sum_below-mul, sum_places, sum_numbers}
 use Rattle.yds_edf.proofs.Filled.{stands_in}
-use Rattle.yds_intensity.proofs.Work.{share}
+use Rattle.yds_model.proofs.Confined.{part_within}
 use Rattle.yds_critical.specs.declared.interval.Interval.{Interval}
 use Rattle.yds_critical.specs.Critical.{IsCritical}
 use Rattle.yds_contract.specs.Contracted.{AreApartFrom, place}
@@ -221,7 +221,7 @@ module _ (jobs : List Job) (removed : List Piece) (interval : Interval) (waiting
   members_work =
       ap (λ (ns : List ℕ). work_of jobs ns) is.members
       ∙ sum_by-filter (lies_in jobs removed interval) (λ n. (job_at jobs n).work) waiting
-      ∙ sym (critical.candidate.is_work ∙ sum_by-map (λ n. contracted removed (job_at jobs n)) (share interval.start interval.end) waiting)
+      ∙ sym (critical.candidate.is_work ∙ sum_by-map (λ n. contracted removed (job_at jobs n)) (part_within interval.start interval.end) waiting)
 
   pub lengths_inside : sum_below (length (stretches jobs)) (λ k. cond (stretch_lies_in (stretches jobs) removed interval k) (length_at jobs k) 0) ≡ interval.end - interval.start
   lengths_inside =

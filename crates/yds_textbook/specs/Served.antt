@@ -3,7 +3,7 @@ use Rattle.std.specs.Prelude.{ℕ, ◌<◌, ◌≤◌, ◌-◌, ◌*◌, List}
 use Rattle.yds_model.specs.Job.{Job}
 use Rattle.yds_model.specs.Scale.{Quotient}
 use Rattle.yds_model.specs.Piece.{Piece}
-use Rattle.yds_intensity.specs.Work.{work_within}
+use Rattle.yds_model.specs.Confined.{work_within}
 
 -- no interval of time has more work confined to it than the speed does there
 abbrev pub IsFastEnough : List Job → Quotient → Type 0

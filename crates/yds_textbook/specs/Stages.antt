@@ -8,7 +8,7 @@ use Rattle.yds_model.specs.Piece.{Piece}
 use Rattle.yds_model.specs.Event.{stretches}
 use Rattle.yds_timetable.specs.Shares.{JobShare}
 use Rattle.yds_edf.specs.Filled.{IsFilled}
-use Rattle.yds_intensity.specs.Work.{work_within}
+use Rattle.yds_model.specs.Confined.{work_within}
 use Rattle.yds_critical.specs.declared.interval.Interval.{Interval}
 use Rattle.yds_critical.specs.Critical.{IsCritical}
 use Rattle.yds_contract.specs.Contracted.{Removes}

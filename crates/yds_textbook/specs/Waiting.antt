@@ -7,7 +7,7 @@ use Rattle.yds_model.specs.Numbers.{Each}
 use Rattle.yds_model.specs.Piece.{Piece}
 use Rattle.yds_model.specs.Event.{stretches}
 use Rattle.yds_events.specs.Stretch.{nth_stretch}
-use Rattle.yds_intensity.specs.Work.{window_is_within}
+use Rattle.yds_model.specs.Confined.{window_is_within}
 use Rattle.yds_critical.specs.declared.interval.Interval.{Interval}
 use Rattle.yds_contract.specs.Contracted.{AreApartFrom, place}
 
