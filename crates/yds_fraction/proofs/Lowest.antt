@@ -3,7 +3,7 @@ use Rattle.std.proofs.Common.{◌≡◌, ℕ, ◌+◌, ◌*◌, ◌/◌, ◌%◌
 use Rattle.std.specs.Prelude.{◌==◌, if◌then◌else◌}
 use Rattle.std.specs.Int.{◌∣◌, IsGcd}
 use Rattle.std.proofs.lemmas.Nat.Gcd.{same_from_IsGcd}
-use Rattle.std.proofs.Math.Nat.{div-one, div-mul_cancel, div-le_self, one-dvd, mul-dvd-mul_left, dvd_of_mul-dvd-mul_left, dvd-mul_right, zero-mul, lt_of_mul-lt-mul_right, eq_of_mul-eq-mul_left}
+use Rattle.std.proofs.Math.Nat.{div-one, div-mul_cancel, div-le_self, one-dvd, mul-dvd-mul_left, dvd_of_mul-dvd-mul_left, dvd-mul_right, zero-mul, lt_of_mul-lt-mul_right, eq_of_mul-eq-mul_left, mul-add-div_right, mul-add-mod_self_right}
 use Rattle.yds_model.specs.Divisor.{common_divisor, in_lowest_terms}
 use Rattle.yds_model.specs.Scale.{Fraction, Quotient, numerator, of_whole, of_parts, IsSame}
 use Rattle.yds_model.proofs.Divisor.{divisor_is_greatest, lowest_terms_are_one}
@@ -119,3 +119,8 @@ fraction_of_parts_by p d false some = refl
 -- the quotient and the rest, as a fraction, are so many parts
 pub fraction_of_parts : (p d : ℕ) → fraction_of (p / d) (p % d) d ≡ of_parts p d
 fraction_of_parts p d = fraction_of_parts_by p d (p % d == 0) refl
+
+-- a whole number, the quotient and the rest
+pub with_parts : (whole p d : ℕ) → 1 ≤ d → fraction_of (whole + p / d) (p % d) d ≡ of_parts (whole * d + p) d
+with_parts whole p d some =
+    rw (← mul-add-div_right some whole p, ← mul-add-mod_self_right whole d p) (fraction_of_parts (whole * d + p) d)

@@ -1,4 +1,4 @@
-ghost use Rattle.std.specs.Prelude.{◌≡◌, ◌<◌, ◌*◌, ◌≤◌, ◌/◌, ◌%◌, ◌^◌, ◌↔◌, IsTrue, Some, refl};
+ghost use Rattle.std.specs.Prelude.{◌≡◌, ◌+◌, ◌<◌, ◌*◌, ◌≤◌, ◌/◌, ◌%◌, ◌^◌, ◌↔◌, IsTrue, Some, refl};
 ghost use Rattle.std.specs.Int.{◌∣◌, IsGcd};
 ghost use Rattle.std.specs.Cmp.{partial_equiv_from_equiv};
 ghost use Rattle.std.specs.Ordering.{MatchOrdering};
@@ -125,8 +125,21 @@ impl<const D: u64> Mixed<D> {
         ensures whole { result.whole ≡ parts / den }
         ensures kept { IsMixed D result }
     {
-        let (whole, num) = divided(parts, den);
-        Mixed::new(whole, num, den)
+        Mixed::with_parts(0, parts, den)
+    }
+
+    /// The whole number and so many parts more, of which `den` make one.
+    pub fn with_parts(whole: u64, parts: u128, den: u64) -> Self
+        requires limit { IsLimit D }
+        requires some { 1 ≤ den }
+        requires den_in_range { den ≤ D }
+        requires whole_in_range { whole + parts / den ≤ MAX_WHOLE }
+        ensures value { result ≡ of_parts (whole * den + parts) den }
+        ensures whole { result.whole ≡ whole + parts / den }
+        ensures kept { IsMixed D result }
+    {
+        let (more, num) = divided(parts, den);
+        Mixed::new(whole + more, num, den)
     }
 
     /// The whole part.
@@ -281,12 +294,8 @@ impl<const D: u64> Mul<u32> for Mixed<D> {
 
     fn mul(self, factor: u32) -> Mixed<D> {
         let parts = u128::from(factor) * u128::from(self.num);
-        let den = u128::from(self.den);
-        Mixed::new(
-            u64::from(factor) * self.whole + (parts / den) as u64,
-            (parts % den) as u64,
-            self.den,
-        )
+        let (more, num) = divided(parts, self.den);
+        Mixed::new(u64::from(factor) * self.whole + more, num, self.den)
     }
 }
 

@@ -41,22 +41,6 @@ pub(crate) struct Reached {
     pub slow: Moment,
 }
 
-/// The whole number and so many parts of `1/den`, which mostly fit in 64 bits.
-fn with_parts(whole: u32, parts: u128, den: u64) -> Moment
-    requires some { 1 ≤ den }
-    requires den_in_range { den ≤ MAX_DENOMINATOR }
-    requires whole_in_range { whole + parts / den ≤ MAX_WHOLE }
-    ensures value { result ≡ of_parts (whole * den + parts) den }
-    ensures whole { result.whole ≡ whole + parts / den }
-    ensures kept { IsMixed MAX_DENOMINATOR result }
-{
-    if parts < 1 << 64 {
-        let few = parts as u64;
-        return Moment::new(u64::from(whole) + few / den, few % den, den);
-    }
-    Moment::of_parts(u128::from(whole) * u128::from(den) + parts, den)
-}
-
 /// The time so many parts of `1/den` after the start of the stretch.
 fn moment(stretch: Stretch, parts: u128, den: u64) -> Moment
     requires some { 1 ≤ den }
@@ -66,7 +50,7 @@ fn moment(stretch: Stretch, parts: u128, den: u64) -> Moment
     ensures in_range { result.whole ≤ MAX_TIME }
     ensures kept { IsMixed MAX_DENOMINATOR result }
 {
-    with_parts(stretch.from, parts, den)
+    Moment::with_parts(u64::from(stretch.from), parts, den)
 }
 
 /// Puts the slot last, if there is one.
@@ -195,7 +179,7 @@ impl Cut {
         ensures in_range { result.whole ≤ MAX_SLOT_WORK }
         ensures kept { IsMixed MAX_DENOMINATOR result }
     {
-        with_parts(0, parts, self.split.den * self.split.gap)
+        Amount::of_parts(parts, self.split.den * self.split.gap)
     }
 
     /// Puts last what is written for the shares of the stretch: first all at the faster point up to the switch, and then at the slower.

@@ -38,17 +38,6 @@ whole_parts n den some =
     let rest : (n * den) % den ≡ 0 = mod-eq-zero_of_dvd den (dvd-mul_left den n) in
     rw (eq-eqb ((n * den) % den) 0 rest) (ap of_whole (mul-div_cancel n some))
 
--- the quotient and the rest of the time that has gone by, after the start
-pub time_parts : (start through units : ℕ) → 1 ≤ units → fraction_of (start + through / units) (through % units) units ≡ of_parts (start * units + through) units
-time_parts start through units some =
-    rw (← mul-add-div_right some start through, ← mul-add-mod_self_right start units through) (fraction_of_parts (start * units + through) units)
-
-pub time_kept : (start through units : ℕ) (time : Fraction) → 1 ≤ units → time ≡ fraction_of (start + through / units) (through % units) units →
-    IsFraction MAX_WHOLE time → start * units + through ≤ MAX_TIME * units → IsFraction MAX_TIME time
-time_kept start through units time some is kept ends =
-    IsFraction-within MAX_WHOLE MAX_TIME time kept
-    (rw is (rw (← mul-add-div_right some start through) (div-le_of_le-mul units (omega (arith, ends)))))
-
 -- nothing is done yet
 pub time_begins : (pace : Pace) (start : ℕ) → 1 ≤ pace.units → time_after pace start 0 ≡ of_whole start
 time_begins pace start some =

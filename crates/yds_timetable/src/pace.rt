@@ -47,16 +47,7 @@ impl Pace {
         ensures kept { IsFraction MAX_TIME result }
     {
         let through = u128::from(done) * u128::from(self.time);
-        if through > u128::from(u64::MAX) {
-            let begun = u128::from(start) * u128::from(self.units);
-            return Moment::of_parts(begun + through, self.units);
-        }
-        let through = through as u64;
-        Moment::new(
-            u64::from(start) + through / self.units,
-            through % self.units,
-            self.units,
-        )
+        Moment::with_parts(u64::from(start), through, self.units)
     }
 
     /// The work that so many units are.
