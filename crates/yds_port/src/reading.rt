@@ -1,4 +1,4 @@
-ghost use Rattle.std.specs.Prelude.{◌≡◌, ◌<◌, ◌≤◌, ◌+◌, IsErrOf, OnOk, take, drop, vec_len};
+ghost use Rattle.std.specs.Prelude.{◌≡◌, ◌<◌, ◌≤◌, ◌+◌, IfOk, IsErrOf, OnOk, take, drop, vec_len};
 ghost use Rattle.yds_port.specs.declared.reading.ReadAllFault.TheVariants.{Memory};
 ghost use Rattle.yds_port.specs.Source.{Reads, ReadsAll};
 
@@ -9,6 +9,9 @@ use yds_model::limits::MAX_BYTES;
 
 /// How many bytes one read of `read_all` asks for at most.
 const READ_PIECE: usize = 65_536;
+
+/// For how many bytes `read_all` has room at first. Most inputs have fewer, and aren't moved as they grow.
+const FIRST_ROOM: usize = 1_048_576;
 
 /// Why an input wasn't read to its end.
 #[derive(Clone, Copy, Debug, PartialEq, Eq, Error)]
@@ -44,7 +47,7 @@ pub fn read_all<S: Source>(
     ensures later { S.faults source.old ≤ S.faults source.new }
     ensures counted { S.faults source.old < S.faults source.new → IsErrOf result ReadAllFault.ReadFault }
 {
-    let mut bytes = Vec::new(alloc);
+    let mut bytes = Vec::with_capacity(alloc, FIRST_ROOM)?;
     let mut filled = 0;
     while filled <= most {
         make_room(&mut bytes, filled, most)?;
@@ -52,12 +55,25 @@ pub fn read_all<S: Source>(
             Taken::Bytes(count) => filled += count,
             Taken::End => {
                 bytes.truncate(filled);
-                return Ok(bytes);
+                return Ok(fitted(alloc, bytes)?);
             }
             Taken::Failed => return Err(ReadAllFault::ReadFault),
         }
     }
     Err(ReadAllFault::TooLong)
+}
+
+/// The same bytes, in no more room than they need where they are few. The large room is given back before anything else is
+/// taken: the C library then keeps what is freed for later, in place of giving it back to the system each time.
+fn fitted(alloc: Global, bytes: Vec<u8>) -> Result<Vec<u8>, AllocError>
+    ensures { IfOk result (λ fitted. fitted.items ≡ bytes.items) }
+{
+    if bytes.len() > FIRST_ROOM / 2 {
+        return Ok(bytes);
+    }
+    let mut fitted = vec![in alloc; 0; bytes.len()]?;
+    fitted.copy_from_slice(&bytes);
+    Ok(fitted)
 }
 
 /// Room for a read behind the `filled` bytes that were read before: what is left of it, or a new piece.

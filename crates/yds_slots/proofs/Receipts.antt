@@ -3,7 +3,7 @@ use Rattle.std.proofs.Common.{◌≡◌, ℕ, ◌+◌, ◌-◌, ◌*◌, ◌/◌
 use Rattle.std.specs.Prelude.{◌==◌, if◌then◌else◌}
 use Rattle.std.specs.List.{All, slice_index_or, slice_set}
 use Rattle.std.proofs.lemmas.Bool.{cases_eq, cases_lt, ne_eqb, eq-eqb}
-use Rattle.std.proofs.lemmas.List.{get_or-replicate, get_or_append_left, get_or-append_right, length-append, length-replicate, take_all, get_or-set_same, get_or-set_other, length-set, map-append}
+use Rattle.std.proofs.lemmas.List.{get_or-replicate, get_or_append_left, get_or-append_right, length-append, length-replicate, take_all, get_or-set_same, get_or-set_other, get_or_past, length-set, map-append}
 use Rattle.std.proofs.lemmas.List.Sums.{sum_by_push, sum_by-cons}
 use Rattle.std.proofs.lemmas.List.Elements.{All-push, All-tail}
 use Rattle.std.proofs.Math.Nat.{one-dvd, div-mul_cancel, div-one}
@@ -56,25 +56,31 @@ nothing_is slots job none = record {
   at_scales = λ scale is. (one-dvd scale, zero_at_scale scale ∙ sym (no_work scale slots job none));
 }
 
--- # More jobs
+-- # More receipts
 
-pub widened_receipts : (slots : List WrittenSlot) (receipts : List Receipt) (jobs before : ℕ) → IsKept slots receipts → length receipts ≡ before → length receipts ≤ jobs →
-    IsKept slots (take jobs receipts ++ replicate (jobs - before) nothing)
-widened_receipts slots receipts jobs before kept is more =
-    let longer : length (receipts ++ replicate (jobs - before) nothing) ≡ jobs =
-    length-append receipts (replicate (jobs - before) nothing) ∙ omega (arith, length-replicate (jobs - before) nothing) in
-    rw (take_all jobs receipts more) (record {
-      few = kept.few;
-      each = kept.each;
-      known = λ k d within. let known : (slice_index_or slots k d).job < length receipts = kept.known k d within in omega arith;
-      grains = kept.grains;
-      given = λ job within. elim (cases_lt job (length receipts)) [
-        | inl old ↦ rw (get_or_append_left receipts (replicate (jobs - before) nothing) nothing job old) (kept.given job old)
-        | inr new ↦
-            rw (get_or-append_right receipts (replicate (jobs - before) nothing) before job nothing is (omega arith), get_or-replicate (jobs - before) (job - before) nothing nothing (omega arith))
-            (nothing_is slots job (λ k d inside same. let known : (slice_index_or slots k d).job < length receipts = kept.known k d inside in omega arith))
-      ];
-    })
+nothing_at : (count job : ℕ) → receipt_at (replicate count nothing) job ≡ nothing
+nothing_at count job = elim (cases_lt job count) [
+  | inl inside ↦ get_or-replicate count job nothing nothing inside
+  | inr past ↦ get_or_past (replicate count nothing) job nothing (omega (arith, past, length-replicate count nothing))
+]
+
+pub more_nothing : (receipts : List Receipt) (count job : ℕ) → receipt_at (receipts ++ replicate count nothing) job ≡ receipt_at receipts job
+more_nothing receipts count job = elim (cases_lt job (length receipts)) [
+  | inl old ↦ get_or_append_left receipts (replicate count nothing) nothing job old
+  | inr new ↦ get_or-append_right receipts (replicate count nothing) (length receipts) job nothing refl new
+      ∙ nothing_at count (job - length receipts) ∙ sym (get_or_past receipts job nothing new)
+]
+
+pub reached_receipts : (jobs : ℕ) (slots : List WrittenSlot) (before receipts : List Receipt) → IsKept jobs slots before →
+    ((job : ℕ) → receipt_at receipts job ≡ receipt_at before job) → length before ≤ length receipts → IsKept jobs slots receipts
+reached_receipts jobs slots before receipts kept same longer = record {
+  few = kept.few;
+  each = kept.each;
+  known = kept.known;
+  reached = λ k d within. let short : (slice_index_or slots k d).job < length before = kept.reached k d within in omega (arith, short, longer);
+  grains = kept.grains;
+  given = λ job. rw (same job) (kept.given job);
+}
 
 -- # One more slot
 
@@ -205,24 +211,37 @@ grain_kept slots slot old fits positive is =
       | inr other ↦ rw (grain_other slots slot old.job other) is
     ]
 
-pub pushed_receipts : (slots : List WrittenSlot) (slot : WrittenSlot) (receipts : List Receipt) (after : Receipt) → IsKept slots receipts → IsSlot slot →
-    slot.job < length receipts → FitsGrain slots slot → length slots < MAX_SLOTS →
-    after.grain ≡ max (receipt_at receipts slot.job).grain slot.work.den → Adds MAX_DENOMINATOR (receipt_at receipts slot.job).given slot.work after.given →
-    IsKept (slots ++ slot ∷ []) (slice_set receipts slot.job after)
-pushed_receipts slots slot receipts after kept is known fits room grain adds = record {
+pub pushed_receipts : (jobs : ℕ) (slots : List WrittenSlot) (slot : WrittenSlot) (receipts : List Receipt) (receipt after : Receipt) → IsKept jobs slots receipts → IsSlot slot →
+    slot.job < jobs → slot.job < length receipts → FitsGrain slots slot → length slots < MAX_SLOTS → IsReceiptOf slots slot.job receipt →
+    after.grain ≡ max receipt.grain slot.work.den → Adds MAX_DENOMINATOR receipt.given slot.work after.given →
+    IsKept jobs (slots ++ slot ∷ []) (slice_set receipts slot.job after)
+pushed_receipts jobs slots slot receipts receipt after kept is known reached fits room own grain adds = record {
   few = omega (arith, length-append slots (slot ∷ []));
   each = All-push IsSlot slots slot kept.each is;
-  known = rw (length-set receipts slot.job after) (All-push (λ s. s.job < length receipts) slots slot kept.known known);
+  known = All-push (λ s. s.job < jobs) slots slot kept.known known;
+  reached = rw (length-set receipts slot.job after) (All-push (λ s. s.job < length receipts) slots slot kept.reached reached);
   grains = All-push (IsInGrain (slots ++ slot ∷ [])) slots slot
       (λ k d within. grain_kept slots slot (slice_index_or slots k d) fits (some_parts _ is.work) (kept.grains k d within))
       (rw (grain_same slots slot slot.job refl) (fits_in (grain_of slots slot.job) slot.work.den fits (some_parts _ is.work)));
-  given = λ job within. elim (cases_eq slot.job job) [
-    | inl same ↦
-        subst (λ (j : ℕ). IsReceiptOf (slots ++ slot ∷ []) j (receipt_at (slice_set receipts slot.job after) j)) same
-        (rw (get_or-set_same receipts slot.job after nothing known)
-        (receipt_same slots slot slot.job (receipt_at receipts slot.job) after refl kept.grains fits is (kept.given slot.job known) grain adds))
+  given = λ job. elim (cases_eq slot.job job) [
+    | inl here ↦
+        subst (λ (j : ℕ). IsReceiptOf (slots ++ slot ∷ []) j (receipt_at (slice_set receipts slot.job after) j)) here
+        (rw (get_or-set_same receipts slot.job after nothing reached)
+        (receipt_same slots slot slot.job receipt after refl kept.grains fits is own grain adds))
     | inr other ↦
         rw (get_or-set_other receipts slot.job job after nothing (λ e. other (sym e)))
-        (receipt_other slots slot job (receipt_at receipts job) other (kept.given job (rw (length-set receipts slot.job after) at within)))
+        (receipt_other slots slot job (receipt_at receipts job) other (kept.given job))
   ];
+}
+
+-- # No slots
+
+pub no_receipts : (jobs : ℕ) → IsKept jobs [] []
+no_receipts jobs = record {
+  few = omega arith;
+  each = λ k d within. absurd (omega (arith, within));
+  known = λ k d within. absurd (omega (arith, within));
+  reached = λ k d within. absurd (omega (arith, within));
+  grains = λ k d within. absurd (omega (arith, within));
+  given = λ job. nothing_is [] job (λ k d within. absurd (omega (arith, within)));
 }

@@ -29,9 +29,11 @@ nothing = record { grain = 1; given = of_whole 0 }
 abbrev pub receipt_at : List Receipt → ℕ → Receipt
 receipt_at receipts job = slice_index_or receipts job nothing
 
-pub record IsKept (slots : List WrittenSlot) (receipts : List Receipt) : Type 0 where
+-- The receipts are those of the first jobs, at least of each that has a slot. The jobs behind them have got nothing.
+pub record IsKept (jobs : ℕ) (slots : List WrittenSlot) (receipts : List Receipt) : Type 0 where
   pub few : length slots ≤ MAX_SLOTS
   pub each : All IsSlot slots
-  pub known : All (λ slot. slot.job < length receipts) slots
+  pub known : All (λ slot. slot.job < jobs) slots
+  pub reached : All (λ slot. slot.job < length receipts) slots
   pub grains : All (IsInGrain slots) slots
-  pub given : (job : ℕ) → job < length receipts → IsReceiptOf slots job (receipt_at receipts job)
+  pub given : (job : ℕ) → IsReceiptOf slots job (receipt_at receipts job)

@@ -10,11 +10,12 @@ ghost use Rattle.yds_model.specs.Within.{AreSlotsOf};
 ghost use Rattle.yds_fraction.specs.Mixed.{IsMixed};
 ghost use Rattle.yds_slots.specs.Between.{RunInOrder, lies_between};
 ghost use Rattle.yds_slots.specs.Schedule.{WrittenSchedule, FitsGrain};
+ghost use Rattle.yds_slots.specs.Kept.{IsReceiptOf, receipt_at};
 
 use crate::received::Received;
 use crate::search::{end_of, first_from};
 use crate::slot::Slot;
-use std::alloc::Global;
+use std::alloc::{AllocError, Global};
 use std::marker::Model;
 use yds_fraction::Amount;
 use yds_model::Memory;
@@ -25,21 +26,22 @@ use yds_model::Memory;
 /// job are alike: those that aren't whole have one denominator, the job's grain.
 #[derive(Drop)]
 pub struct Schedule {
+    jobs: u32,
     slots: Vec<Slot>,
+    /// What the first jobs have got, at least up to the last one that has a slot. The others have got nothing.
     received: Vec<Received>,
 }
 
 impl Model for Schedule {
-    ghost use Rattle.std.specs.Prelude.{length};
     ghost use Rattle.yds_slots.specs.Between.{RunInOrder, lies_between};
     ghost use Rattle.yds_slots.specs.Schedule.{WrittenSchedule};
     ghost use Rattle.yds_slots.specs.Kept.{IsKept};
 
     ghost Value = { WrittenSchedule };
 
-    ghost view = { λ s. record { jobs = length s.received.items; slots = s.slots.items } };
+    ghost view = { λ s. record { jobs = s.jobs; slots = s.slots.items } };
 
-    ghost invariant = { λ s. IsKept s.slots.items s.received.items };
+    ghost invariant = { λ s. IsKept s.jobs s.slots.items s.received.items };
 }
 
 /// The slots in rising order of their starts, equal ones in their given order.
@@ -50,6 +52,19 @@ fn by_start(mut slots: Vec<Slot>) -> Result<Vec<Slot>, Memory>
 {
     slots.sort_by_key(|slot| slot.from)?;
     Ok(slots)
+}
+
+/// Makes the receipts reach this one of so many jobs. Those that are added say nothing.
+fn reach(received: &mut Vec<Received>, job: u32, jobs: u32) -> Result<(), AllocError>
+    requires { job < jobs }
+    ensures same { (other : ℕ) → receipt_at received.new.items other ≡ receipt_at received.old.items other }
+    ensures no_fewer { length received.old.items ≤ length received.new.items }
+    ensures reached { OnOk result (job < length received.new.items) }
+{
+    if received.len() <= job as usize {
+        received.resize(jobs as usize, Received::nothing())?;
+    }
+    Ok(())
 }
 
 impl Schedule {
@@ -64,12 +79,11 @@ impl Schedule {
     pub fn with_capacity(alloc: Global, jobs: u32, slots: usize) -> Result<Schedule, Memory>
         ensures { IfOk result (λ schedule. schedule ≡ record { jobs = jobs; slots = [] }) }
     {
-        let mut schedule = Schedule {
+        Ok(Schedule {
+            jobs,
             slots: Vec::with_capacity(alloc, slots)?,
             received: Vec::new(alloc),
-        };
-        schedule.widen(jobs)?;
-        Ok(schedule)
+        })
     }
 
     /// These slots of so many jobs, in rising order of the times at which they begin. Slots that begin together
@@ -90,13 +104,13 @@ impl Schedule {
         Ok(schedule)
     }
 
-    /// Raises the number of jobs. The slots stay.
+    /// Raises the number of jobs. The slots stay. It takes no memory.
     pub fn widen(&mut self, jobs: u32) -> Result<(), Memory>
         requires { self.old.jobs ≤ jobs }
         ensures ok { OnOk result (self.new ≡ record { jobs = jobs; slots = self.old.slots }) }
         ensures err { OnErr result (self.new ≡ self.old) }
     {
-        self.received.resize(jobs as usize, Received::nothing())?;
+        self.jobs = jobs;
         Ok(())
     }
 
@@ -108,11 +122,22 @@ impl Schedule {
         ensures ok { OnOk result (self.new ≡ record { jobs = self.old.jobs; slots = self.old.slots ++ slot ∷ [] }) }
         ensures err { OnErr result (self.new ≡ self.old) }
     {
-        let job = slot.job as usize;
-        let received = self.received[job].with(slot.work);
+        let job = slot.job;
+        let received = self.received(job).with(slot.work);
+        reach(&mut self.received, job, self.jobs)?;
         self.slots.push(slot)?;
-        self.received[job] = received;
+        self.received[job as usize] = received;
         Ok(())
+    }
+
+    /// What the slots give the job.
+    fn received(&self, job: u32) -> Received
+        ensures { IsReceiptOf self.now.slots job result }
+    {
+        if job as usize >= self.received.len() {
+            return Received::nothing();
+        }
+        self.received[job as usize]
     }
 
     /// The denominator of the job's works that aren't whole, or 1.
@@ -120,8 +145,7 @@ impl Schedule {
         requires { job < self.now.jobs }
         ensures { result ≡ grain_of self.now.slots job }
     {
-        let received = &self.received[job as usize];
-        received.grain
+        self.received(job).grain
     }
 
     /// The work that the slots give the job, together.
@@ -132,8 +156,7 @@ impl Schedule {
             (result.den ∣ scale) × (at_scale scale result ≡ work_given (slots_at scale self.now.slots) job) }
         ensures kept { IsMixed MAX_DENOMINATOR result }
     {
-        let received = &self.received[job as usize];
-        received.given
+        self.received(job).given
     }
 
     /// The slots, in their order.

@@ -1,4 +1,5 @@
-use Rattle.std.proofs.Common.{◌∙◌, subst, sym, arith, length-drop}
+use Rattle.std.proofs.Common.{ℕ, List, length, ap, ◌∙◌, subst, sym, arith, length-drop}
+use Rattle.std.proofs.lemmas.List.{length-take}
 use Rattle.std.proofs.KnownBytes.{Consumes-kept}
 use Rattle.std.specs.Io.KnownBytes.{Consumes}
 use Rattle.yds_port.proofs.Read.{Consumes-next}
@@ -15,9 +16,10 @@ loop-filled-preserved g c = record {
 
 pub returns-in-End-clause-reads : goal.returns-in-End-clause-reads
 returns-in-End-clause-reads g c =
-    let same = c.truncate.ensures.items ∙ c.read_into.ensures.front ∙ c.make_room.ensures.front in record {
+    let cut = c.truncate.ensures.items ∙ c.read_into.ensures.front ∙ c.make_room.ensures.front in
+    let same = c.in_ok-fitted-in-End.ensures ∙ cut in record {
       consumed = subst (Consumes _ _) (sym same) (Consumes-kept _ _ _ _ c.loop-filled.invariant.consumed c.in-End.ensures.reads.kept);
       at_end = c.in-End.ensures.reads.at_end;
-      within = omega arith;
+      within = omega (arith, ap (λ (bytes : List ℕ). length bytes) same, length-take c.loop-filled.filled c.loop-filled.bytes.items);
       no_fault = c.in-End.ensures.reads.no_fault ∙ c.loop-filled.invariant.no_fault;
     }
