@@ -25,20 +25,21 @@ use Rattle.yds_document.specs.Member.{member_of}
 use Rattle.yds_document.proofs.Told.{holds_more, slot_same}
 
 -- a name that is new, and three numbers
-pub says_job : (names : List (List ℕ)) (fields rest two one none : List Field) (a : Field) (name : List ℕ) (from to work : ℕ) → fields ≡ a ∷ rest →
+pub says_job : (names : List (List ℕ)) (fields rest two one none : List Field) (name : List ℕ) (from to work : ℕ) → ReadsText (λ text. text ≡ name) fields rest →
     ReadsText (λ text. number_at 0 MAX_TIME text ≡ Ok from) rest two → ReadsText (λ text. number_at 0 MAX_TIME text ≡ Ok to) two one →
-    ReadsText (λ text. number_at 0 MAX_WORK text ≡ Ok work) one none → none ≡ [] → name ≡ a.text → is_name a.text ≡ true → number_of names name ≡ None → from < to →
+    ReadsText (λ text. number_at 0 MAX_WORK text ≡ Ok work) one none → none ≡ [] → is_name name ≡ true → number_of names name ≡ None → from < to →
     SaysFour (job_of names) fields (JobEntry name (record { release = from; deadline = to; work = work }))
-says_job names fields rest two one none a name from to work first b c d last text named new before = record {
-  first = a;
+says_job names fields rest two one none name from to work a b c d last named new before = record {
+  first = a.field;
   second = b.field;
   third = c.field;
   fourth = d.field;
-  are = first ∙ ap (λ l. a ∷ l) (b.first ∙ ap (λ l. b.field ∷ l) (c.first ∙ ap (λ l. c.field ∷ l) (d.first ∙ ap (λ l. d.field ∷ l) last)));
+  are = a.first ∙ ap (λ l. a.field ∷ l) (b.first ∙ ap (λ l. b.field ∷ l) (c.first ∙ ap (λ l. c.field ∷ l) (d.first ∙ ap (λ l. d.field ∷ l) last)));
   says =
-      let unknown : number_of names a.text ≡ None = ap (number_of names) (sym text) ∙ new in
+      let text : is_name a.field.text ≡ true = ap is_name a.says ∙ named in
+      let unknown : number_of names a.field.text ≡ None = ap (number_of names) a.says ∙ new in
       let less : nat_lt from to ≡ true = lt-ltb from to before in
-      rw (named, unknown, b.says, c.says, d.says, less) (ap (λ said. Ok (JobEntry said (record { release = from; deadline = to; work = work }))) (sym text));
+      rw (text, unknown, b.says, c.says, d.says, less) (ap (λ said. Ok (JobEntry said (record { release = from; deadline = to; work = work }))) a.says);
 }
 
 -- what the line of a slot says, once its job is known

@@ -24,7 +24,7 @@ use yds_instance::{AddFault, Instance};
 use yds_model::limits::{MAX_TIME, MAX_WORK};
 use yds_model::{JobRow, Memory, Reason};
 use yds_port::{Sink, WriteFault, write_all};
-use yds_text::{Field, Fields, four_fields, name};
+use yds_text::{Field, Fields, four_fields};
 
 /// Reads the line whose first field is `kind`, and adds its job.
 pub(crate) fn read<'a>(
@@ -72,7 +72,7 @@ fn plain_job(mut fields: Fields<'_>) -> Option<(&str, JobRow)>
         → SaysFour (job_of names) fields.entry.fields (JobEntry said.0.now said.1)) }
     ensures named { IfSome result (λ said. IsTrue (is_name said.0.now)) }
 {
-    let name = name(fields.next()?)?;
+    let name = fields.plain_name()?;
     let from = fields.plain_small(0, MAX_TIME)?;
     let to = fields.plain_small(0, MAX_TIME)?;
     let work = fields.plain_small(0, MAX_WORK)?;

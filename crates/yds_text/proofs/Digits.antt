@@ -1,9 +1,9 @@
 -- The digits at the front of a text, the byte after them, and the separators of a fraction.
-use Rattle.std.proofs.Common.{◌≡◌, ℕ, ◌<◌, ◌≤◌, ◌⊎◌, Bool, true, false, cond, List, length, get_or, take, nat_le, Ok, Err, refl, sym, ap, ◌∙◌, subst, inl, inr, arith}
+use Rattle.std.proofs.Common.{◌≡◌, ℕ, ◌<◌, ◌≤◌, ◌⊎◌, Bool, true, false, cond, List, length, get_or, take, drop, All, nat_le, Ok, Err, refl, sym, ap, ◌∙◌, subst, inl, inr, arith}
 use Rattle.std.specs.List.{list_all, list_any, prefix_len, position_or_len, before_first}
 use Rattle.std.specs.Str.Parse.{digits_value}
 use Rattle.std.proofs.lemmas.Bool.{cases_Bool, cases_order, false≢true, le-leb, leb-true}
-use Rattle.std.proofs.lemmas.List.{get_or-take, length-take, length-take-le, take_all}
+use Rattle.std.proofs.lemmas.List.{get_or-take, length-take, length-take-le, take_all, take-append-drop, take-append-le}
 use Rattle.std.proofs.lemmas.List.Sums.{prefix_len_passes, prefix_len_stops, prefix_len_is, position_or_len_is, passes_at_first, list_all-from_AllPass}
 use Rattle.yds_model.specs.declared.number_fault.NumberFault.TheVariants.{BadNumber, OutOfRange}
 use Rattle.yds_model.specs.Spelling.{is_digit, is_number, number_at}
@@ -21,12 +21,24 @@ pub number_ends : (text : List ℕ) (len : ℕ) → len ≡ prefix_len is_digit 
 number_ends text len is within =
     not_number text (prefix_len is_digit text) (omega arith) (prefix_len_stops is_digit text 0 (omega arith))
 
--- the front has only digits
-pub front_digits : (text : List ℕ) (len : ℕ) → len ≤ length text → len ≡ prefix_len is_digit text → list_all is_digit (take len text) ≡ true
-front_digits text len within is =
-    list_all-from_AllPass is_digit (take len text) (λ k d below.
+-- each byte at the front passes
+pub front_passes : (passes : ℕ → Bool) (text : List ℕ) (len : ℕ) → len ≤ length text → len ≡ prefix_len passes text → All (λ byte. passes byte ≡ true) (take len text)
+front_passes passes text len within is = λ k d below.
     let inside : k < len = omega (arith, length-take-le len text within) in
-    ap is_digit (get_or-take len text k d inside) ∙ prefix_len_passes is_digit text k d (omega arith))
+    ap passes (get_or-take len text k d inside) ∙ prefix_len_passes passes text k d (omega arith)
+
+pub front_all : (passes : ℕ → Bool) (text : List ℕ) (len : ℕ) → len ≤ length text → len ≡ prefix_len passes text → list_all passes (take len text) ≡ true
+front_all passes text len within is = list_all-from_AllPass passes (take len text) (front_passes passes text len within is)
+
+-- the first bytes of a part are those of all
+pub front_of_part : (text : List ℕ) (len part : ℕ) → len ≤ part → part ≤ length text → take len (take part text) ≡ take len text
+front_of_part text len part fewer within =
+    sym (take-append-le len (take part text) (drop part text) (omega (arith, length-take-le part text within))) ∙ ap (take len) (take-append-drop part text)
+
+-- digits at the front of a part are digits at the front of all
+pub front_digits : (text : List ℕ) (part len : ℕ) → part ≤ length text → len ≤ length (take part text) → len ≡ prefix_len is_digit (take part text) → list_all is_digit (take len text) ≡ true
+front_digits text part len within fewer is =
+    ap (list_all is_digit) (sym (front_of_part text len part (omega (arith, length-take-le part text within)) within)) ∙ front_all is_digit (take part text) len fewer is
 
 -- digits at the front of a part are those at the front of all, unless the part ends with them before the other does
 pub digits_of_part : (text : List ℕ) (part len : ℕ) → part ≤ length text → len ≡ prefix_len is_digit (take part text) → (len < part) ⊎ (part ≡ length text) → len ≡ prefix_len is_digit text

@@ -1,21 +1,22 @@
 -- The first field of a plain spelling: one space, the field, and a blank or the end after it.
-use Rattle.std.proofs.Common.{◌≡◌, ℕ, ◌+◌, ◌-◌, ◌<◌, ◌≤◌, true, false, List, [], ◌∷◌, ◌++◌, length, inl, inr, get_or, drop, All, Ok, refl, sym, ap, ap₂, ◌∙◌, subst, arith, ne_eqb, length-append, append_assoc}
-use Rattle.std.specs.Prelude.{◌==◌}
+use Rattle.std.proofs.Common.{◌≡◌, ℕ, ◌+◌, ◌-◌, ◌<◌, ◌≤◌, true, false, List, [], ◌∷◌, ◌++◌, length, inl, inr, get_or, take, drop, All, Ok, refl, sym, ap, ap₂, ◌∙◌, subst, arith, ne_eqb, length-append, append_assoc}
+use Rattle.std.specs.Prelude.{◌==◌, nat_le}
 use Rattle.std.specs.List.{prefix_len}
 use Rattle.std.proofs.Math.Seq.{take-append_seam, drop-append-add}
-use Rattle.std.proofs.lemmas.Bool.{false≢true, cases_Bool, le-leb, lt-ltb, eqb-true}
+use Rattle.std.proofs.lemmas.Bool.{false≢true, cases_Bool, le-leb, leb-true, lt-ltb, eqb-true, and_parts, and_from}
+use Rattle.std.proofs.lemmas.List.{take-append-drop, length-take-le}
 use Rattle.std.proofs.lemmas.Grind.{common_steps}
 use Rattle.std.proofs.lemmas.List.Elements.{All-head, All-tail, All-cons, All-append, All-weaker}
 use Rattle.yds_fraction.specs.Mixed.{fraction_of}
-use Rattle.yds_model.specs.declared.limits.TheConstants.{MAX_DENOMINATOR}
+use Rattle.yds_model.specs.declared.limits.TheConstants.{MAX_DENOMINATOR, MAX_NAME}
 use Rattle.yds_model.specs.Lines.{is_blank, fields_from}
 use Rattle.yds_model.specs.Scale.{Fraction}
-use Rattle.yds_model.specs.Spelling.{is_digit, is_number, number_at, fraction_at, kept}
+use Rattle.yds_model.specs.Spelling.{is_digit, is_number, is_name, number_at, fraction_at, kept}
 use Rattle.yds_model.proofs.Lines.{EndsField, fields_from-run}
 use Rattle.yds_model.proofs.Spelling.{number_digits, digit_range}
 use Rattle.yds_text.specs.Parts.{fraction_after, fraction_of_parts}
-use Rattle.yds_text.specs.Plain.{BeginsNumber, BeginsPlainly, ReadsText, ends_field}
-use Rattle.yds_text.proofs.Digits.{Told, is_told}
+use Rattle.yds_text.specs.Plain.{BeginsNumber, BeginsPlainly, ReadsText, ends_field, is_visible}
+use Rattle.yds_text.proofs.Digits.{Told, is_told, front_passes, front_all}
 use Rattle.yds_text.proofs.Fractions.{whole_fraction, plus_fraction, slash_fraction, parts_told}
 
 ends : (rest : List ℕ) → ends_field rest ≡ true → EndsField rest
@@ -32,6 +33,25 @@ plain_field Says (byte ∷ text) rest some full ended says = record {
   first = λ column. fields_from-run (column + 1) byte text rest full (ends rest ended);
   lengths = omega (arith, length-append (byte ∷ text) rest);
 }
+
+visible_full : (byte : ℕ) → is_visible byte ≡ true → is_blank byte ≡ false
+visible_full byte visible =
+    let low : 33 ≤ byte = leb-true 33 byte (and_parts (nat_le 33 byte) (nat_le byte 126) visible).0 in
+    rw (ne_eqb byte 32 (λ same. omega arith), ne_eqb byte 9 (λ same. omega arith)) refl
+
+-- the visible bytes at the front, few enough, are a name
+pub front_name : (after : List ℕ) (len : ℕ) → len ≤ length after → len ≡ prefix_len is_visible after → 0 < len → len ≤ MAX_NAME → is_name (take len after) ≡ true
+front_name after len within is some short =
+    let long : length (take len after) ≡ len = length-take-le len after within in
+    and_from _ _ (and_from _ _ (le-leb 1 (length (take len after)) (omega arith)) (le-leb (length (take len after)) MAX_NAME (omega arith))) (front_all is_visible after len within is)
+
+-- and a field
+pub plain_name : (bytes after : List ℕ) (len : ℕ) → bytes ≡ 32 ∷ after → len ≤ length after → len ≡ prefix_len is_visible after → 0 < len → ends_field (drop len after) ≡ true →
+    (name : List ℕ) → take len after ≡ name → BeginsPlainly (λ text. text ≡ name) bytes (drop len after)
+plain_name bytes after len begins within is some ended name same =
+    subst (λ bytes. BeginsPlainly (λ text. text ≡ name) bytes (drop len after)) (sym (begins ∙ ap (λ l. 32 ∷ l) (sym (take-append-drop len after))))
+    (plain_field (λ text. text ≡ name) (take len after) (drop len after) (omega (arith, length-take-le len after within))
+    (All-weaker (λ byte. is_visible byte ≡ true) (λ byte. is_blank byte ≡ false) visible_full (take len after) (front_passes is_visible after len within is)) ended same)
 
 digit_full : (byte : ℕ) → is_digit byte ≡ true → is_blank byte ≡ false
 digit_full byte digit =

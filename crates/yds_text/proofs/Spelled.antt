@@ -1,16 +1,14 @@
 -- Numbers by their first digits, and names as text.
-use Rattle.std.proofs.Common.{◌≡◌, ℕ, ◌≤◌, List, length, take, drop, Option, Result, Ok, Err, MatchResult, IfNone, sym, ap, ◌∙◌, subst, arith}
+use Rattle.std.proofs.Common.{◌≡◌, ℕ, ◌≤◌, List, length, take, Option, Result, Ok, Err, MatchResult, IfNone, sym, subst, arith}
 use Rattle.std.specs.Result.{result_ok}
 use Rattle.std.specs.Str.Parse.{digits_value}
-use Rattle.std.proofs.lemmas.List.{take-append-drop, take-append-le, length-take-le}
 use Rattle.std.proofs.lemmas.Str.Parse.{digits_value-take-le}
+use Rattle.yds_text.proofs.Digits.{front_of_part}
 
 -- the first digits of a text write no more than all those at its front
 pub front_above : (text : List ℕ) (few len : ℕ) → few ≤ len → len ≤ length text → digits_value 10 (take few text) ≤ digits_value 10 (take len text)
 front_above text few len fewer within =
-    let same : take few text ≡ take few (take len text) =
-    sym (ap (take few) (take-append-drop len text)) ∙ take-append-le few (take len text) (drop len text) (omega (arith, length-take-le len text within)) in
-    rw same (digits_value-take-le 10 (take len text) few (omega arith))
+    rw (sym (front_of_part text few len fewer within)) (digits_value-take-le 10 (take len text) few (omega arith))
 
 -- reading bytes that are text as text gives one
 pub some_text : {T E : Type 0} (P Q : Type 0) (IsSame : T → Type 0) (IsFault : E → Type 0) (read : Result T E) (result : Option T) →

@@ -4,10 +4,10 @@ ghost use Rattle.std.specs.List.{prefix_len, position_or_len};
 ghost use Rattle.yds_model.specs.declared.limits.TheConstants.{MAX_BYTES, MAX_WHOLE};
 ghost use Rattle.yds_model.specs.Lines.{fields_from, fields_of, is_blank};
 ghost use Rattle.yds_model.specs.Reading.{begins_comment};
-ghost use Rattle.yds_model.specs.Spelling.{number_at, fraction_at};
+ghost use Rattle.yds_model.specs.Spelling.{number_at, fraction_at, is_name};
 ghost use Rattle.yds_text.specs.Plain.{ReadsText};
 
-use crate::plain::{first_fraction, first_number};
+use crate::plain::{first_fraction, first_name, first_number};
 use std::iter::FusedIterator;
 use std::marker::Model;
 use yds_fraction::Amount;
@@ -76,12 +76,28 @@ impl<'a> Fields<'a> {
     pub fn at_end(&self) -> bool
         ensures { IsTrue result ↔ self.now.fields ≡ [] }
     {
+        // Mostly no byte is left, not even a blank.
+        if self.rest.is_empty() {
+            return true;
+        }
         let (_, text, _) = first_field(self.rest);
         text.is_empty()
     }
 
+    /// The name that the next field is, where just one space stands before the field. `None` tells nothing of the fields,
+    /// nor of those that are left then.
+    pub fn plain_name(&mut self) -> Option<&'a str>
+        ensures says { IfSome result (λ name. ReadsText (λ text. text ≡ name.now) self.old.fields self.new.fields) }
+        ensures named { IfSome result (λ name. IsTrue (is_name name.now)) }
+    {
+        let (name, rest) = first_name(self.rest)?;
+        self.column += (self.rest.len() - rest.len()) as u32;
+        self.rest = rest;
+        Some(name)
+    }
+
     /// The number from `least` to `most` that the next field spells, where just one space stands before the field. `None`
-    /// tells nothing of the fields, nor of those that are left then.
+    /// tells nothing, as there.
     pub fn plain_number(&mut self, least: u64, most: u64) -> Option<u64>
         ensures says { IfSome result (λ number. ReadsText (λ text. number_at least most text ≡ Ok number) self.old.fields self.new.fields) }
         ensures within { IfSome result (λ number. (least ≤ number) × (number ≤ most)) }

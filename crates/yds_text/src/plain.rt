@@ -1,13 +1,49 @@
 //! Fields of the plain spelling, with one space before each, read in one pass over their bytes.
-ghost use Rattle.std.specs.Prelude.{◌≡◌, ◌<◌, ◌≤◌, ◌∷◌, Ok, IfSome};
+ghost use Rattle.std.specs.Prelude.{◌≡◌, ◌<◌, ◌≤◌, ◌∷◌, length, Ok, IfSome, IsTrue};
+ghost use Rattle.std.specs.List.{prefix_len};
 ghost use Rattle.yds_model.specs.declared.limits.TheConstants.{MAX_DENOMINATOR};
-ghost use Rattle.yds_model.specs.Spelling.{number_at, fraction_at};
+ghost use Rattle.yds_model.specs.Spelling.{number_at, fraction_at, is_name};
 ghost use Rattle.yds_fraction.specs.Mixed.{fraction_of};
-ghost use Rattle.yds_text.specs.Plain.{BeginsNumber, BeginsPlainly, ends_field};
+ghost use Rattle.yds_text.specs.Plain.{BeginsNumber, BeginsPlainly, ends_field, is_visible};
 
 use crate::field::is_blank;
-use crate::spelling::leading_number;
-use yds_model::limits::MAX_DENOMINATOR;
+use crate::spelling::{SHORT, few_digits, may_be_number};
+use std::str;
+use yds_model::limits::{MAX_DENOMINATOR, MAX_NAME};
+
+/// The name that the first field is, and what is after the field.
+pub(crate) fn first_name(bytes: &[u8]) -> Option<(&str, &[u8])>
+    ensures says { IfSome result (λ read. BeginsPlainly (λ text. text ≡ read.0.now) bytes.now read.1.now) }
+    ensures named { IfSome result (λ read. IsTrue (is_name read.0.now)) }
+{
+    let bytes = after_byte(b' ', bytes)?;
+    let (text, rest) = bytes.split_at(visible_len(bytes));
+    if text.is_empty() || text.len() > MAX_NAME || !ends_field(rest) {
+        return None;
+    }
+    let name = as_text(text)?;
+    Some((name, rest))
+}
+
+/// The bytes as text, where they are.
+fn as_text(bytes: &[u8]) -> Option<&str>
+    ensures { IfSome result (λ text. text.now ≡ bytes.now) }
+{
+    str::from_utf8(bytes).ok()
+}
+
+/// How many visible bytes stand at the front.
+fn visible_len(bytes: &[u8]) -> usize
+    ensures value { result ≡ prefix_len is_visible bytes.now }
+    ensures within { result ≤ length bytes.now }
+{
+    for (index, &byte) in bytes.iter().enumerate() {
+        if !byte.is_ascii_graphic() {
+            return index;
+        }
+    }
+    bytes.len()
+}
 
 /// The number, at most `most`, that the first field spells, and what is after the field.
 pub(crate) fn first_number(bytes: &[u8], most: u64) -> Option<(u64, &[u8])>
@@ -44,14 +80,16 @@ pub(crate) fn first_fraction(bytes: &[u8], most: u64) -> Option<(u64, u64, u64, 
     }
 }
 
-/// The number, at most `most`, that the digits at the front spell, and what is after them.
+/// The number, at most `most`, that the first digits spell, and what is after them.
 fn number_front(bytes: &[u8], most: u64) -> Option<(u64, &[u8])>
     ensures says { IfSome result (λ read. BeginsNumber most read.0 bytes.now read.1.now) }
     ensures within { IfSome result (λ read. read.0 ≤ most) }
 {
-    let (number, len) = leading_number(bytes, most);
-    let number = number.ok()?;
-    let (_, rest) = bytes.split_at(len);
+    let (number, len) = few_digits(&bytes[..bytes.len().min(SHORT)]);
+    let (digits, rest) = bytes.split_at(len);
+    if most < number || !may_be_number(digits) {
+        return None;
+    }
     Some((number, rest))
 }
 

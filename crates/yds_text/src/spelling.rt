@@ -11,7 +11,7 @@ use yds_model::NumberFault;
 use yds_model::limits::MAX_NAME;
 
 /// So many digits are a number of 64 bits, whatever they are.
-const SHORT: usize = 19;
+pub(crate) const SHORT: usize = 19;
 
 /// The number that the field spells, at most `most`: `0`, or a digit from 1 to 9 and any digits after
 /// it. Another spelling is a `BadNumber`, and a number above `most`, however long, is `OutOfRange`.
@@ -77,7 +77,7 @@ pub(crate) fn leading_number(text: &[u8], most: u64) -> (Result<u64, NumberFault
 }
 
 /// Whether these digits are some, without a zero before the others.
-fn may_be_number(digits: &[u8]) -> bool
+pub(crate) fn may_be_number(digits: &[u8]) -> bool
     requires { list_all is_digit digits.now ≡ true }
     ensures { result ≡ is_number digits.now }
 {
@@ -103,7 +103,7 @@ fn leading_digits(text: &[u8]) -> (Option<u64>, usize)
 }
 
 /// The same of a text that is short enough for 64 bits.
-fn few_digits(text: &[u8]) -> (u64, usize)
+pub(crate) fn few_digits(text: &[u8]) -> (u64, usize)
     requires { length text.now ≤ SHORT }
     ensures value { result.0 ≡ digits_value 10 (take result.1 text.now) }
     ensures count { result.1 ≡ prefix_len is_digit text.now }

@@ -59,8 +59,9 @@ fn what_fields_spell(rt: HostRuntime) {
 
 #[test]
 fn plain_fields_are_read_as_they_stand(rt: HostRuntime) {
-    for line in lines(b" 12 3+1/4 0\n") {
+    for line in lines(b" a_1 12 3+1/4 0\n") {
         let mut fields = line.fields();
+        assert_eq!(rt; fields.plain_name(), Some("a_1"));
         let mut again = fields.again();
         assert_eq!(rt; fields.plain_number(1, 12), Some(12));
         let value = fields
