@@ -16,12 +16,12 @@ use Rattle.yds_search.specs.Views.{found_view, group_view}
 use Rattle.yds_search.specs.Numbers.{AreWritten}
 use Rattle.yds_search.specs.Fill.{IsFill, IsNotAfter, IsPart}
 use Rattle.yds_search.specs.Closure.{AreClosing, AreRanks}
-use Rattle.yds_search.specs.Own.{Part, HaveWindows, window_of, own_windows, wants_at, rooms_at, shares_by_number, job_numbers, stretch_numbers}
+use Rattle.yds_search.specs.Own.{Part, HaveWindows, window_of, own_windows, wants_at, rooms_at, shares_by_number, full_shares, job_numbers, stretch_numbers}
 use Rattle.yds_search.specs.Stack.{AreLaid, AreLast, jobs_of, own_stretches_of, staying_part, moving_part}
 use Rattle.yds_search.specs.Waiting.{IsWaiting}
-use Rattle.yds_search.specs.Search.{IsSearch}
+use Rattle.yds_search.specs.Search.{IsSearch, IsLaidOut}
 use Rattle.yds_search.specs.Searching.{IsChosen, IsSearching}
-use Rattle.yds_search.proofs.Filled.{windows_have, group_some, units_fit, laid_out}
+use Rattle.yds_search.proofs.Filled.{windows_have, group_some, units_fit, rooms_some, single_laid_out, laid_out}
 use Rattle.yds_search.proofs.Splits.{split_search}
 use Rattle.yds_search.proofs.Finish.{finish_search}
 use Rattle.yds_search.proofs.Laid.{last_part}
@@ -81,6 +81,48 @@ module _ (jobs : List Job) (size : Size) (search : Search) (x : IsChosen jobs si
     pub chosen_units : All (λ own. per_time (group_view group) * own.length < 2 ^ 64) x.part.stretches × All (λ own. per_work (group_view group) * own.work < 2 ^ 64) x.part.jobs
     chosen_units = units_fit jobs x.windows (found_view search.found) x.part x.instance chosen_waits (group_view group) work length_is chosen_few.0 chosen_few.1
 
+    -- and there is room in each stretch
+    pub chosen_rooms_some : All (λ own. 1 ≤ per_time (group_view group) * own.length) x.part.stretches
+    chosen_rooms_some = rooms_some jobs x.windows (found_view search.found) x.part x.instance chosen_waits (group_view group) work length_is
+
+    -- a single job gets all units of each stretch
+    pub chosen_single : length x.part.jobs ≡ 1 → IsLaidOut jobs x.windows x.part (group_view group) (full_shares (per_time (group_view group)) x.part.jobs x.part.stretches)
+    chosen_single = single_laid_out jobs x.windows (found_view search.found) x.part x.instance chosen_waits (group_view group) work length_is
+
+    -- it is finished
+    pub chosen_finished : (new : Search) (own_shares : List JobShare) → IsLaidOut jobs x.windows x.part (group_view group) own_shares → AreLaid x.parts new.stack → new.found.groups.items ≡ search.found.groups.items ++ group ∷ [] →
+        new.found.shares.items ≡ search.found.shares.items ++ own_shares →
+        AreWritten (λ j value. value ≡ length search.found.groups.items) (job_numbers x.part.jobs) (length x.part.jobs) search.found.group_of_job.items new.found.group_of_job.items →
+        AreWritten (λ k value. value ≡ length search.found.groups.items) (stretch_numbers x.part.stretches) (length x.part.stretches)
+        search.found.group_of_stretch.items new.found.group_of_stretch.items → IsSearching jobs new
+    chosen_finished new own_shares is laid groups shares_are jobs_written stretches_written =
+        let old = found_view search.found in
+        let count = sym (length-map search.found.groups.items group_view) in
+        let ended = finish_search jobs x.windows old x.part x.parts x.instance x.groups (group_view group) own_shares
+        is new.found.group_of_job.items new.found.group_of_stretch.items
+        (subst (λ (n : ℕ). AreWritten (λ j value. value ≡ n) (job_numbers x.part.jobs) (length x.part.jobs) search.found.group_of_job.items new.found.group_of_job.items) count jobs_written)
+        (subst (λ (n : ℕ). AreWritten (λ k value. value ≡ n) (stretch_numbers x.part.stretches) (length x.part.stretches) search.found.group_of_stretch.items
+        new.found.group_of_stretch.items) count stretches_written) in
+        record {
+          windows = x.windows;
+          parts = x.parts;
+          instance = x.instance;
+          groups = subst (λ (xs : List Group). IsSearch jobs x.windows (record {
+            groups = xs;
+            group_of_job = new.found.group_of_job.items;
+            group_of_stretch = new.found.group_of_stretch.items;
+            shares = new.found.shares.items;
+          }) x.parts)
+              (sym (ap (map group_view) groups ∙ map_push group_view search.found.groups.items group))
+              (subst (λ (xs : List JobShare). IsSearch jobs x.windows (record {
+                groups = old.groups ++ group_view group ∷ [];
+                group_of_job = new.found.group_of_job.items;
+                group_of_stretch = new.found.group_of_stretch.items;
+                shares = xs;
+              }) x.parts) (sym shares_are) ended);
+          laid = laid;
+        }
+
     module _ (shares : List JobShare) (wants' rooms' : List ℕ) (fill : IsFill IsNotAfter (own_windows x.part.jobs) (wants_at (per_work (group_view group)) x.part.jobs)
         (rooms_at (per_time (group_view group)) x.part.stretches) shares wants' rooms') where
       pub chosen_rooms : length rooms' ≡ length x.part.stretches
@@ -91,40 +133,9 @@ module _ (jobs : List Job) (size : Size) (search : Search) (x : IsChosen jobs si
       chosen_parts i d within =
           rw (sym (length-map x.part.jobs window_of), sym (length-map x.part.stretches (λ own. per_time (group_view group) * own.length))) (fill.taken.parts i d within)
 
-      -- it is finished
-      pub chosen_finished : (new : Search) → ((i : ℕ) → get_or wants' i 0 ≡ 0) → AreLaid x.parts new.stack → new.found.groups.items ≡ search.found.groups.items ++ group ∷ [] →
-          new.found.shares.items ≡ search.found.shares.items ++ shares_by_number x.part.jobs x.part.stretches shares →
-          AreWritten (λ j value. value ≡ length search.found.groups.items) (job_numbers x.part.jobs) (length x.part.jobs) search.found.group_of_job.items new.found.group_of_job.items →
-          AreWritten (λ k value. value ≡ length search.found.groups.items) (stretch_numbers x.part.stretches) (length x.part.stretches)
-          search.found.group_of_stretch.items new.found.group_of_stretch.items → IsSearching jobs new
-      chosen_finished new none laid groups shares_are jobs_written stretches_written =
-          let old = found_view search.found in
-          let own_shares = shares_by_number x.part.jobs x.part.stretches shares in
-          let count = sym (length-map search.found.groups.items group_view) in
-          let ended = finish_search jobs x.windows old x.part x.parts x.instance x.groups (group_view group) own_shares
-          (laid_out jobs x.windows old x.part x.instance chosen_waits (group_view group) work length_is shares wants' rooms' fill none) new.found.group_of_job.items new.found.group_of_stretch.items
-          (subst (λ (n : ℕ). AreWritten (λ j value. value ≡ n) (job_numbers x.part.jobs) (length x.part.jobs) search.found.group_of_job.items new.found.group_of_job.items) count jobs_written)
-          (subst (λ (n : ℕ). AreWritten (λ k value. value ≡ n) (stretch_numbers x.part.stretches) (length x.part.stretches) search.found.group_of_stretch.items
-          new.found.group_of_stretch.items) count stretches_written) in
-          record {
-            windows = x.windows;
-            parts = x.parts;
-            instance = x.instance;
-            groups = subst (λ (xs : List Group). IsSearch jobs x.windows (record {
-              groups = xs;
-              group_of_job = new.found.group_of_job.items;
-              group_of_stretch = new.found.group_of_stretch.items;
-              shares = new.found.shares.items;
-            }) x.parts)
-                (sym (ap (map group_view) groups ∙ map_push group_view search.found.groups.items group))
-                (subst (λ (xs : List JobShare). IsSearch jobs x.windows (record {
-                  groups = old.groups ++ group_view group ∷ [];
-                  group_of_job = new.found.group_of_job.items;
-                  group_of_stretch = new.found.group_of_stretch.items;
-                  shares = xs;
-                }) x.parts) (sym shares_are) ended);
-            laid = laid;
-          }
+      -- where nobody wants more it is laid out
+      pub chosen_laid_out : ((i : ℕ) → get_or wants' i 0 ≡ 0) → IsLaidOut jobs x.windows x.part (group_view group) (shares_by_number x.part.jobs x.part.stretches shares)
+      chosen_laid_out none = laid_out jobs x.windows (found_view search.found) x.part x.instance chosen_waits (group_view group) work length_is shares wants' rooms' fill none
 
       -- it is split
       pub chosen_split : (new : Search) (marks ranks : List ℕ) → ((i : ℕ) × (i < length wants') × (1 ≤ get_or wants' i 0)) → AreClosing (own_windows x.part.jobs) wants' shares (length rooms') marks →

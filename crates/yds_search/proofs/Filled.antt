@@ -1,12 +1,12 @@
 -- A part by place and by number: its windows, its work and length, and how it is filled.
-use Rattle.std.proofs.Common.{◌≡◌, ℕ, ◌+◌, ◌*◌, ◌^◌, ◌<◌, ◌≤◌, ◌==◌, List, ◌∙◌, length, map, get_or, refl, sym, ap, inl, inr, arith}
+use Rattle.std.proofs.Common.{◌≡◌, ℕ, ◌+◌, ◌*◌, ◌^◌, ◌<◌, ◌≤◌, ◌==◌, List, [], ◌∷◌, ◌∙◌, length, map, get_or, refl, sym, ap, subst, inl, inr, arith}
 use Rattle.std.specs.Prelude.{if◌then◌else◌, nat_lt}
 use Rattle.std.specs.List.{All, sum_by}
 use Rattle.std.proofs.Math.Nat.{div-le_self}
 use Rattle.std.proofs.lemmas.Bool.{cases_lt, cases_eq}
 use Rattle.std.proofs.lemmas.List.{get_or-map, length-map}
 use Rattle.std.proofs.lemmas.List.Elements.{All-map, All-from_get_or}
-use Rattle.std.proofs.lemmas.List.Sums.{sum_by-le, get_or-le-sum_by, count_by-le-length}
+use Rattle.std.proofs.lemmas.List.Sums.{sum_by-le, sum_by-cons, get_or-le-sum_by, count_by-le-length}
 use Rattle.std.proofs.lemmas.Nat.{mul-le}
 use Rattle.yds_model.specs.Job.{Job, job_at}
 use Rattle.yds_model.specs.Divisor.{common_divisor}
@@ -20,14 +20,14 @@ use Rattle.yds_search.specs.declared.own.OwnJob.{OwnJob}
 use Rattle.yds_search.specs.declared.own.OwnStretch.{OwnStretch}
 use Rattle.yds_search.specs.Found.{Found, Group, per_time, per_work, units_of_job, units_in_stretch}
 use Rattle.yds_search.specs.Order.{Precedes}
-use Rattle.yds_search.specs.Own.{Part, job_numbers, stretch_numbers, window_of, own_windows, HaveWindows, wants_at, rooms_at, share_by_number, shares_by_number}
+use Rattle.yds_search.specs.Own.{Part, job_numbers, stretch_numbers, window_of, own_windows, HaveWindows, wants_at, rooms_at, share_by_number, shares_by_number, full_share, full_shares}
 use Rattle.yds_search.specs.Fill.{IsNotAfter, IsFill}
 use Rattle.yds_search.specs.Instance.{IsInstance}
 use Rattle.yds_search.specs.Waiting.{HasJob, HasStretch, IsWaiting}
 use Rattle.yds_search.specs.Search.{IsEarly, IsLaidOut}
 use Rattle.yds_search.proofs.KeySums.{over, over_same, over_add, over_list, over_one, over_zero, sums_swap}
 use Rattle.yds_search.proofs.Lowest.{lowest}
-use Rattle.yds_search.proofs.Members.{AreApart, one_at, at_one, same_place, all_pairs_map}
+use Rattle.yds_search.proofs.Members.{AreApart, one_at, at_one, over_alone, same_place, all_pairs_map}
 use Rattle.yds_search.proofs.Shares.{units_between, over_stretches, over_jobs}
 
 -- what stands where no job does
@@ -59,6 +59,14 @@ left_over f g xs d left each = omega (
   over_add (λ i. f (get_or xs i d)) (λ i. get_or left i 0) (length xs),
   over_same (λ i. f (get_or xs i d) + get_or left i 0) (λ i. g (get_or xs i d)) (length xs) each,
 )
+
+-- of a single item the sum is its own
+sum_alone : {X : Type 0} (f : X → ℕ) (xs : List X) (d : X) → length xs ≡ 1 → f (get_or xs 0 d) ≡ sum_by f xs
+sum_alone f [] d single = absurd (omega (arith, single))
+sum_alone f (x ∷ xs) d single = omega (arith, sum_by-cons f x xs, ap (sum_by f) (no_items xs (omega (arith, single)))) where
+  no_items : {X : Type 0} (xs : List X) → length xs ≡ 0 → xs ≡ []
+  no_items [] none = refl
+  no_items (x ∷ xs) none = absurd (omega (arith, none))
 
 module _ (jobs : List Job) (windows : List Window) (found : Found) (part : Part) (are : IsInstance jobs windows) (waits : IsWaiting jobs windows found part) where
   abbrev pub job_in : ℕ → OwnJob
@@ -189,6 +197,62 @@ module _ (jobs : List Job) (windows : List Window) (found : Found) (part : Part)
           λ i d inside. omega (arith, mul-le (per_time group) (get_or part.stretches i d).length 4000000000 1000000000 small (stretch_length i d inside).1),
           λ i d inside. omega (arith, mul-le (per_work group) (get_or part.jobs i d).work 8000000000000 1000000 small' (job_work i d inside).1),
         )
+
+    -- and each stretch has some room
+    pub rooms_some : All (λ own. 1 ≤ per_time group * own.length) part.stretches
+    rooms_some p d within =
+        mul-le 1 1 (per_time group) (get_or part.stretches p d).length (lowest group.work group.length group_some.0 group_some.1).some_first (stretch_length p d within).0
+
+    -- a single job gets all units of each stretch
+    pub single_laid_out : length part.jobs ≡ 1 → IsLaidOut jobs windows part group (full_shares (per_time group) part.jobs part.stretches)
+    single_laid_out single =
+        let terms = lowest group.work group.length group_some.0 group_some.1 in
+        let give : OwnStretch → JobShare = full_share (per_time group) part.jobs in
+        let shares : List JobShare = full_shares (per_time group) part.jobs part.stretches in
+        let job : get_or (job_numbers part.jobs) 0 0 ≡ (job_in 0).job = get_or-map (λ own. own.job) part.jobs 0 no_own 0 some_job in
+        let units : ℕ → ℕ = λ p. per_time group * (stretch_in p).length in
+        record {
+          work_is = work_is;
+          length_is = length_is;
+          some_work = group_some.0;
+          some_length = group_some.1;
+          jobs_of = All-map (λ share. HasJob part share.job) give part.stretches
+              (λ p d within. at_one (λ own. own.job ≡ get_or (job_numbers part.jobs) 0 0) part.jobs 0 no_own some_job (sym job));
+          stretches_of = All-map (λ share. HasStretch part share.stretch) give part.stretches
+              (λ p d within. at_one (λ own. own.stretch ≡ (get_or part.stretches p d).stretch) part.stretches p d within refl);
+          inside = All-map (λ share. IsIn windows share.job share.stretch) give part.stretches (λ p d within.
+              let one = one_at (λ one. IsIn windows one.job (get_or part.stretches p d).stretch) part.jobs (waits.own_stretches p d within).covered in
+              let first : 0 ≡ one.0 = omega (arith, one.1, single) in
+              rw (job ∙ ap (λ i. (job_in i).job) first) (one.2 no_own));
+          some = All-map (λ share. 1 ≤ share.units) give part.stretches rooms_some;
+          served = All-from_get_or (λ own. units_of_job shares own.job ≡ per_work group * own.work) part.jobs no_own (λ i inside.
+              let first : 0 ≡ i = omega (arith, inside, single) in
+              subst (λ (i : ℕ). units_of_job shares (job_in i).job ≡ per_work group * (job_in i).work) first (omega (
+                arith,
+                sum_by-map give (λ share. if share.job == (job_in 0).job then share.units else 0) part.stretches,
+                sum_by_same (λ own. if get_or (job_numbers part.jobs) 0 0 == (job_in 0).job then per_time group * own.length else 0) (λ own. per_time group * own.length) part.stretches
+                    (λ p d within. part_own (get_or (job_numbers part.jobs) 0 0) (job_in 0).job (per_time group * (get_or part.stretches p d).length) job),
+                sum_by-mul (per_time group) (λ own. own.length) part.stretches,
+                ap (λ n. per_time group * n) (sym length_is ∙ sym terms.second),
+                ap (λ n. per_work group * n) (sum_alone (λ own. own.work) part.jobs no_own single ∙ sym work_is ∙ sym terms.first),
+              )));
+          full = All-from_get_or (λ own. units_in_stretch shares own.stretch ≡ per_time group * own.length) part.stretches no_own_stretch (λ p upto.
+              sum_by-map give (λ share. if share.stretch == (stretch_in p).stretch then share.units else 0) part.stretches
+              ∙ sym (over_list (λ own. if own.stretch == (stretch_in p).stretch then per_time group * own.length else 0) part.stretches no_own_stretch)
+              ∙ over_same (λ i. if (stretch_in i).stretch == (stretch_in p).stretch then units i else 0) (λ i. if p == i then units p else 0) (length part.stretches) (λ i within.
+              elim (cases_eq i p) [
+                | inl same ↦ part_own (stretch_in i).stretch (stretch_in p).stretch (units i) (ap (λ k. (stretch_in k).stretch) same) ∙ ap units same ∙ sym (part_own p i (units p) (sym same))
+                | inr other ↦ part_other (stretch_in i).stretch (stretch_in p).stretch (units i)
+                    (λ is. other (same_place (λ own. own.stretch) part.stretches i p no_own_stretch stretches_apart within upto is))
+                    ∙ sym (part_other p i (units p) (λ same. other (sym same)))
+              ])
+              ∙ over_alone (units p) (length part.stretches) p upto);
+          in_order = all_pairs_map (λ one next. one.stretch ≡ next.stretch → Precedes jobs one.job next.job) give part.stretches
+              (λ a b d before within same. absurd (stretches_apart a b d before within same));
+          early = All-map (λ share. All (IsEarly jobs windows share) shares) give part.stretches
+              (λ p d within. All-map (IsEarly jobs windows (give (get_or part.stretches p d))) give part.stretches (λ q e within' is_in before. inr (refl, omega arith)));
+          few = omega (arith, length-map part.stretches give, single);
+        }
 
     -- that is filled at its average speed
     module _ (shares : List JobShare) (wants' rooms' : List ℕ)

@@ -42,6 +42,13 @@ share_by_number jobs stretches share = record {
 abbrev pub shares_by_number : List OwnJob → List OwnStretch → List JobShare → List JobShare
 shares_by_number jobs stretches shares = map (share_by_number jobs stretches) shares
 
+-- the first job gets all units of each stretch
+abbrev pub full_share : ℕ → List OwnJob → OwnStretch → JobShare
+full_share per_time jobs own = record { job = slice_index (job_numbers jobs) 0; stretch = own.stretch; units = per_time * own.length }
+
+abbrev pub full_shares : ℕ → List OwnJob → List OwnStretch → List JobShare
+full_shares per_time jobs stretches = map (full_share per_time jobs) stretches
+
 -- the jobs and stretches of a group
 pub record Part : Type 0 where
   pub jobs : List OwnJob

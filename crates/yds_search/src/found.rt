@@ -1,9 +1,9 @@
-ghost use Rattle.std.specs.Prelude.{◌≡◌, ◌*◌, ◌<◌, ◌≤◌, ◌++◌, ◌∷◌, [], length, replicate, IfOk, OnOk};
+ghost use Rattle.std.specs.Prelude.{◌≡◌, ◌*◌, ◌^◌, ◌<◌, ◌≤◌, ◌++◌, ◌∷◌, [], length, replicate, IfOk, OnOk};
 ghost use Rattle.std.specs.List.{All};
 ghost use Rattle.yds_model.specs.declared.limits.TheConstants.{MAX_JOBS};
 ghost use Rattle.yds_search.specs.Views.{found_view};
 ghost use Rattle.yds_search.specs.Numbers.{AreWritten};
-ghost use Rattle.yds_search.specs.Own.{job_numbers, stretch_numbers, shares_by_number};
+ghost use Rattle.yds_search.specs.Own.{job_numbers, stretch_numbers, shares_by_number, full_shares};
 
 use crate::own::Own;
 use std::alloc::Global;
@@ -51,6 +51,27 @@ impl Found {
         })
     }
 
+    /// One group more, without its shares.
+    fn number(&mut self, group: Group, own: &Own) -> Result<(), Memory>
+        requires few { length self.old.groups.items < NO_GROUP }
+        requires jobs { All (λ one. one.job < length self.old.group_of_job.items) own.now.jobs.now }
+        requires stretches { All (λ one. one.stretch < length self.old.group_of_stretch.items) own.now.stretches.now }
+        ensures groups { OnOk result (self.new.groups.items ≡ self.old.groups.items ++ group ∷ []) }
+        ensures job_numbers { OnOk result (AreWritten (λ j number. number ≡ length self.old.groups.items) (job_numbers own.now.jobs.now) (length own.now.jobs.now) self.old.group_of_job.items self.new.group_of_job.items) }
+        ensures stretch_numbers { OnOk result (AreWritten (λ k number. number ≡ length self.old.groups.items) (stretch_numbers own.now.stretches.now) (length own.now.stretches.now) self.old.group_of_stretch.items self.new.group_of_stretch.items) }
+        ensures shares { OnOk result (self.new.shares.items ≡ self.old.shares.items) }
+    {
+        let number = self.groups.len() as u32;
+        self.groups.push(group)?;
+        for one in own.jobs {
+            self.group_of_job[one.job as usize] = number;
+        }
+        for one in own.stretches {
+            self.group_of_stretch[one.stretch as usize] = number;
+        }
+        Ok(())
+    }
+
     /// One group more, with its shares.
     pub(crate) fn add(&mut self, group: Group, own: &Own, shares: &[Share]) -> Result<(), Memory>
         requires few { length self.old.groups.items < NO_GROUP }
@@ -63,8 +84,6 @@ impl Found {
         ensures stretch_numbers { OnOk result (AreWritten (λ k number. number ≡ length self.old.groups.items) (stretch_numbers own.now.stretches.now) (length own.now.stretches.now) self.old.group_of_stretch.items self.new.group_of_stretch.items) }
         ensures shares { OnOk result (self.new.shares.items ≡ self.old.shares.items ++ shares_by_number own.now.jobs.now own.now.stretches.now shares.now) }
     {
-        let number = self.groups.len() as u32;
-        self.groups.push(group)?;
         for share in shares {
             self.shares.push(Share {
                 job: own.jobs[share.job as usize].job,
@@ -72,12 +91,35 @@ impl Found {
                 units: share.units,
             })?;
         }
-        for one in own.jobs {
-            self.group_of_job[one.job as usize] = number;
-        }
+        self.number(group, own)
+    }
+
+    /// One group more, of a single job, which gets all units of each stretch.
+    pub(crate) fn add_single(
+        &mut self,
+        group: Group,
+        own: &Own,
+        per_time: u64,
+    ) -> Result<(), Memory>
+        requires few { length self.old.groups.items < NO_GROUP }
+        requires single { length own.now.jobs.now ≡ 1 }
+        requires fit { All (λ one. per_time * one.length < 2 ^ 64) own.now.stretches.now }
+        requires some { All (λ one. 1 ≤ per_time * one.length) own.now.stretches.now }
+        requires jobs { All (λ one. one.job < length self.old.group_of_job.items) own.now.jobs.now }
+        requires stretches { All (λ one. one.stretch < length self.old.group_of_stretch.items) own.now.stretches.now }
+        ensures groups { OnOk result (self.new.groups.items ≡ self.old.groups.items ++ group ∷ []) }
+        ensures job_numbers { OnOk result (AreWritten (λ j number. number ≡ length self.old.groups.items) (job_numbers own.now.jobs.now) (length own.now.jobs.now) self.old.group_of_job.items self.new.group_of_job.items) }
+        ensures stretch_numbers { OnOk result (AreWritten (λ k number. number ≡ length self.old.groups.items) (stretch_numbers own.now.stretches.now) (length own.now.stretches.now) self.old.group_of_stretch.items self.new.group_of_stretch.items) }
+        ensures shares { OnOk result (self.new.shares.items ≡ self.old.shares.items ++ full_shares per_time own.now.jobs.now own.now.stretches.now) }
+    {
+        let job = own.jobs[0].job;
         for one in own.stretches {
-            self.group_of_stretch[one.stretch as usize] = number;
+            self.shares.push(Share {
+                job,
+                stretch: one.stretch,
+                units: per_time * u64::from(one.length),
+            })?;
         }
-        Ok(())
+        self.number(group, own)
     }
 }

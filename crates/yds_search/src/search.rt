@@ -72,7 +72,13 @@ impl Search {
     {
         let own = self.stack.last(size);
         let group = own.total();
-        self.filling.fill(&own, speed_of(&group))?;
+        let speed = speed_of(&group);
+        if size.jobs == 1 {
+            self.found.add_single(group, &own, speed.per_time)?;
+            self.stack.drop_last(size);
+            return Ok(());
+        }
+        self.filling.fill(&own, speed)?;
         if self.filling.has_late() {
             self.closing.close(own.jobs, &self.filling)?;
             self.stack.split_last(size, &self.closing)
