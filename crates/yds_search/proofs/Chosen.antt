@@ -1,9 +1,10 @@
 -- The fastest part, which is taken off the stack, and the search after it is finished or split.
-use Rattle.std.proofs.Common.{Vec, Global, ◌≡◌, ℕ, ◌*◌, ◌^◌, ◌<◌, ◌≤◌, List, [], ◌∷◌, ◌++◌, ◌∙◌, length, map, get_or, sym, ap, subst, arith}
+use Rattle.std.proofs.Common.{Vec, Global, ◌≡◌, ℕ, Bool, true, false, ◌*◌, ◌^◌, ◌<◌, ◌≤◌, List, [], ◌∷◌, ◌++◌, ◌∙◌, length, map, get_or, sym, ap, subst, arith}
 use Rattle.std.specs.List.{All, sum_by}
 use Rattle.std.proofs.lemmas.List.{length-map, length-append, map_push}
 use Rattle.yds_model.specs.Job.{Job}
 use Rattle.yds_timetable.specs.Shares.{JobShare}
+use Rattle.yds_search.specs.declared.filling.Cell.{Cell}
 use Rattle.yds_search.specs.declared.own.Own.{Own}
 use Rattle.yds_search.specs.declared.own.OwnJob.{OwnJob}
 use Rattle.yds_search.specs.declared.own.OwnStretch.{OwnStretch}
@@ -14,8 +15,9 @@ use Rattle.yds_search.specs.declared.found.TheConstants.{NO_GROUP}
 use Rattle.yds_search.specs.Found.{Group, per_time, per_work}
 use Rattle.yds_search.specs.Views.{found_view, group_view}
 use Rattle.yds_search.specs.Numbers.{AreWritten}
-use Rattle.yds_search.specs.Fill.{IsFill, IsNotAfter, IsPart}
-use Rattle.yds_search.specs.Closure.{AreClosing, AreRanks}
+use Rattle.yds_search.specs.Fill.{IsPart}
+use Rattle.yds_search.specs.Closure.{AreMarksOf, AreClosing, AreRanks}
+use Rattle.yds_search.specs.Cells.{rooms_of, shared_of, lates_of, IsFilled}
 use Rattle.yds_search.specs.Own.{Part, HaveWindows, window_of, own_windows, wants_at, rooms_at, shares_by_number, full_shares, job_numbers, stretch_numbers}
 use Rattle.yds_search.specs.Stack.{AreLaid, AreLast, jobs_of, own_stretches_of, staying_part, moving_part}
 use Rattle.yds_search.specs.Waiting.{IsWaiting}
@@ -123,32 +125,41 @@ module _ (jobs : List Job) (size : Size) (search : Search) (x : IsChosen jobs si
           laid = laid;
         }
 
-    module _ (shares : List JobShare) (wants' rooms' : List ℕ) (fill : IsFill IsNotAfter (own_windows x.part.jobs) (wants_at (per_work (group_view group)) x.part.jobs)
-        (rooms_at (per_time (group_view group)) x.part.stretches) shares wants' rooms') where
-      pub chosen_rooms : length rooms' ≡ length x.part.stretches
-      chosen_rooms = fill.same_rooms ∙ length-map x.part.stretches (λ own. per_time (group_view group) * own.length)
+    module _ (shares : List JobShare) (cells : List Cell) (late : Bool) (filled : IsFilled (own_windows x.part.jobs) (wants_at (per_work (group_view group)) x.part.jobs)
+        (rooms_at (per_time (group_view group)) x.part.stretches) late shares cells) where
+      pub chosen_cells : length cells ≡ length x.part.stretches
+      chosen_cells = sym (length-map cells (λ cell. cell.room)) ∙ filled.fill.same_rooms ∙ length-map x.part.stretches (λ own. per_time (group_view group) * own.length)
 
       -- and each share is of a job in a stretch of its window
       pub chosen_parts : All (IsPart (own_windows x.part.jobs) (length x.part.jobs) (length x.part.stretches)) shares
       chosen_parts i d within =
-          rw (sym (length-map x.part.jobs window_of), sym (length-map x.part.stretches (λ own. per_time (group_view group) * own.length))) (fill.taken.parts i d within)
+          rw (sym (length-map x.part.jobs window_of), sym (length-map x.part.stretches (λ own. per_time (group_view group) * own.length))) (filled.fill.taken.parts i d within)
 
-      -- where nobody wants more it is laid out
-      pub chosen_laid_out : ((i : ℕ) → get_or wants' i 0 ≡ 0) → IsLaidOut jobs x.windows x.part (group_view group) (shares_by_number x.part.jobs x.part.stretches shares)
-      chosen_laid_out none = laid_out jobs x.windows (found_view search.found) x.part x.instance chosen_waits (group_view group) work length_is shares wants' rooms' fill none
+      -- where nobody is late it is laid out
+      pub chosen_laid_out : late ≡ false → IsLaidOut jobs x.windows x.part (group_view group) (shares_by_number x.part.jobs x.part.stretches shares)
+      chosen_laid_out served = laid_out jobs x.windows (found_view search.found) x.part x.instance chosen_waits (group_view group) work length_is shares filled.left (rooms_of cells)
+          filled.fill (filled.none served)
 
-      -- it is split
-      pub chosen_split : (new : Search) (marks ranks : List ℕ) → ((i : ℕ) × (i < length wants') × (1 ≤ get_or wants' i 0)) → AreClosing (own_windows x.part.jobs) wants' shares (length rooms') marks →
-          length marks ≡ length rooms' → All (λ mark. mark ≤ 1) marks → AreRanks marks ranks →
+      -- else it is split
+      pub chosen_split : (new : Search) (marks ranks : List ℕ) → late ≡ true → AreMarksOf (lates_of cells) (shared_of cells) (length cells) marks →
+          length marks ≡ length cells → All (λ mark. mark ≤ 1) marks → AreRanks marks ranks →
           AreLaid (moving_part marks ranks x.part ∷ staying_part marks ranks x.part ∷ x.parts) new.stack → found_view new.found ≡ found_view search.found → IsSearching jobs new
-      chosen_split new marks ranks late closing count small ranked laid same = record {
-        windows = x.windows;
-        parts = moving_part marks ranks x.part ∷ staying_part marks ranks x.part ∷ x.parts;
-        instance = x.instance;
-        groups = rw same (split_search jobs x.windows (found_view search.found) x.part x.instance chosen_waits (group_view group) work length_is shares wants' rooms' fill
-            marks ranks closing (count ∙ chosen_rooms) small ranked late x.parts x.groups);
-        laid = laid;
-      }
+      chosen_split new marks ranks is_late are count small ranked laid same =
+          let closing : AreClosing (own_windows x.part.jobs) filled.left shares (length (rooms_of cells)) marks = rw filled.fill.same_rooms record {
+            late = lates_of cells;
+            shared = shared_of cells;
+            lates = filled.lates;
+            shareds = filled.shareds;
+            are = subst (λ (m : ℕ). AreMarksOf (lates_of cells) (shared_of cells) m marks) (sym (length-map cells (λ cell. cell.room)) ∙ filled.fill.same_rooms) are;
+          } in
+          record {
+            windows = x.windows;
+            parts = moving_part marks ranks x.part ∷ staying_part marks ranks x.part ∷ x.parts;
+            instance = x.instance;
+            groups = rw same (split_search jobs x.windows (found_view search.found) x.part x.instance chosen_waits (group_view group) work length_is shares filled.left (rooms_of cells)
+                filled.fill marks ranks closing (count ∙ chosen_cells) small ranked (filled.some is_late) x.parts x.groups);
+            laid = laid;
+          }
 
 -- the part on top of the stack is the fastest, when its size is taken off
 pub choose : (jobs : List Job) (size : Size) (search new : Search) → IsSearching jobs search → search.stack.sizes.items ≡ new.stack.sizes.items ++ size ∷ [] →

@@ -8,51 +8,7 @@ use Rattle.yds_events.specs.declared.window.Window.{Window}
 use Rattle.yds_events.specs.Window.{window_at}
 use Rattle.yds_timetable.specs.Shares.{JobShare, share_at, no_share}
 use Rattle.yds_search.specs.Fill.{IsNotAfter, IsFill}
-use Rattle.yds_search.specs.Closure.{AreLeast, reach_from, reach_over, AreLateReaches, AreShareReaches, AreMarksOf, AreClosing, IsMarked, AreClosed}
-
--- an item that doesn't count
-pub least_skips : {Counts : ℕ → Type 0} {place value : ℕ → ℕ} {n m : ℕ} {reaches : List ℕ} → AreLeast Counts place value n m reaches → (Counts n → ⊥) →
-    AreLeast Counts place value (n + 1) m reaches
-least_skips {Counts} {place} {value} {n} {m} {reaches} so_far idle = record {
-  all = so_far.all;
-  least = λ i before counted. elim (cases_lt i n) [
-    | inl less ↦ so_far.least i less counted
-    | inr more ↦ let same : i ≡ n = omega arith in absurd (idle (subst Counts same counted))
-  ];
-  some = λ p within less. let found = so_far.some p within less in (found.0, omega (arith, found.1), found.2, found.3, found.4);
-}
-
--- an item that counts
-pub least_takes : {Counts : ℕ → Type 0} {place value : ℕ → ℕ} {n m : ℕ} {reaches : List ℕ} → AreLeast Counts place value n m reaches → Counts n → place n < m → value n < m →
-    AreLeast Counts place value (n + 1) m (set reaches (place n) (min (get_or reaches (place n) 0) (value n)))
-least_takes {Counts} {place} {value} {n} {m} {reaches} so_far counted known small =
-    let least : ℕ = min (get_or reaches (place n) 0) (value n) in
-    let at : (p : ℕ) → p ≡ place n → get_or (set reaches (place n) least) p 0 ≡ least =
-    λ p same. ap (λ i. get_or (set reaches (place n) least) i 0) same ∙ get_or-set_same reaches (place n) least 0 (omega (arith, so_far.all)) in
-    let there : (p : ℕ) → p ≢ place n → get_or (set reaches (place n) least) p 0 ≡ get_or reaches p 0 = λ p other. get_or-set_other reaches (place n) p least 0 other in
-    record {
-      all = length-set reaches (place n) least ∙ so_far.all;
-      least = λ i before counts. elim (cases_lt i n) [
-        | inl less ↦ elim (cases_eq (place i) (place n)) [
-          | inl same ↦ omega (arith, at (place i) same, so_far.least i less counts, ap (λ p. get_or reaches p 0) same)
-          | inr other ↦ omega (arith, there (place i) other, so_far.least i less counts)
-        ]
-        | inr more ↦
-            let same : i ≡ n = omega arith in
-            omega (arith, at (place i) (ap place same), ap value same)
-      ];
-      some = λ p within less. elim (cases_eq p (place n)) [
-        | inr other ↦
-            let found = so_far.some p within (omega (arith, less, there p other)) in
-            (found.0, omega (arith, found.1), found.2, found.3, found.4 ∙ sym (there p other))
-        | inl same ↦ elim (cases_lt (get_or reaches (place n) 0) (value n)) [
-          | inl old ↦
-              let found = so_far.some (place n) known (omega arith) in
-              (found.0, omega (arith, found.1), found.2, found.3 ∙ sym same, omega (arith, found.4, at p same))
-          | inr new ↦ (n, omega arith, counted, sym same, omega (arith, at p same))
-        ]
-      ];
-    }
+use Rattle.yds_search.specs.Closure.{reach_from, reach_over, AreLateReaches, AreShareReaches, AreMarksOf, AreClosing, IsMarked, AreClosed}
 
 -- from one stretch to the next one on its left
 pub reach_step : (late shared : List ℕ) (m p : ℕ) → p < m →

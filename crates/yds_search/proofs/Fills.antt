@@ -1,5 +1,5 @@
 -- The fill by place, share by share and job by job; full stretches are jumped over.
-use Rattle.std.proofs.Common.{◌≡◌, ℕ, ◌<◌, ◌≤◌, ◌+◌, ◌-◌, ◌≢◌, ◌==◌, min, List, [], ◌∷◌, ◌++◌, ◌∙◌, length, get_or, set, take, sym, ap, subst, inl, inr, arith}
+use Rattle.std.proofs.Common.{◌≡◌, ℕ, ◌<◌, ◌≤◌, ◌+◌, ◌-◌, ◌≢◌, ◌==◌, ◌⊎◌, min, List, [], ◌∷◌, ◌++◌, ◌∙◌, length, get_or, set, take, sym, ap, subst, inl, inr, arith}
 use Rattle.std.specs.Prelude.{cond, if◌then◌else◌, nat_lt}
 use Rattle.std.specs.List.{All}
 use Rattle.std.proofs.lemmas.List.{get_or-set_same, get_or-set_other, length-set, length_push, take_all}
@@ -12,7 +12,14 @@ use Rattle.yds_events.specs.declared.window.Window.{Window}
 use Rattle.yds_events.specs.Window.{window_at, IsIn}
 use Rattle.yds_timetable.specs.Shares.{JobShare}
 use Rattle.yds_search.specs.Found.{units_of_job}
-use Rattle.yds_search.specs.Fill.{IsNotAfter, IsFullBefore, IsPart, FoundFull, StandInOrder, AreTaken, IsServed, full_count, wanting_count, IsFilling, IsFill, IsNext, IsTake}
+use Rattle.yds_search.specs.Fill.{IsNotAfter, IsFullBefore, IsPart, FoundFull, StandInOrder, AreTaken, IsServed, full_count, wanting_count, IsFilling, IsFill, IsNext, IsNumbers}
+
+-- A job has passed over a stretch, because it is done or the stretch is full, or has taken what it could.
+abbrev pub Takes : ℕ → ℕ → ℕ → List JobShare → List ℕ → ℕ → List JobShare → List ℕ → Type 0
+Takes job stretch left shares rooms left' shares' rooms' =
+    ((1 ≤ left → get_or rooms stretch 0 ≡ 0) × (left' ≡ left) × (shares' ≡ shares) × (rooms' ≡ rooms))
+    ⊎ ((units : ℕ) × (1 ≤ left) × (1 ≤ get_or rooms stretch 0) × (units ≡ min left (get_or rooms stretch 0)) × (left' ≡ left - units)
+    × (shares' ≡ shares ++ record { job = job; stretch = stretch; units = units } ∷ []) × (rooms' ≡ set rooms stretch (get_or rooms stretch 0 - units)))
 
 -- a full stretch stays full and keeps its shares, because nothing is put into it
 full_keeps : (shares : List JobShare) (rooms : List ℕ) (share : JobShare) (rest k job : ℕ) → IsFullBefore IsNotAfter shares rooms k job →
@@ -120,7 +127,7 @@ serve_takes windows job want shares rooms next left shares' rooms' so_far known 
 -- a job takes what it can in the next stretch of its window, or passes over it
 pub serve_take : {windows : List Window} {job want : ℕ} {shares : List JobShare} {rooms : List ℕ} {next left : ℕ} {shares' : List JobShare} {rooms' : List ℕ}
     {left'' : ℕ} {shares'' : List JobShare} {rooms'' : List ℕ} → IsServed windows job want shares rooms next left shares' rooms' → job < length windows →
-    IsIn windows job next → next < length rooms → IsTake job next left shares' rooms' left'' shares'' rooms'' →
+    IsIn windows job next → next < length rooms → Takes job next left shares' rooms' left'' shares'' rooms'' →
     IsServed windows job want shares rooms (next + 1) left'' shares'' rooms''
 serve_take {windows} {job} {want} {shares} {rooms} {next} {left} {shares'} {rooms'} {left''} {shares''} {rooms''} so_far known inside within take = elim take [
   | inl passed ↦
@@ -183,6 +190,15 @@ fill_ends {windows} {wants} {rooms} {i} {shares} {wants'} {rooms'} windows_end e
   few = omega (arith, filling.few, ap wanting_count (take_all i wants end));
 }
 
+-- each number at its own place, one may go on from each stretch itself
+pub next_begins : (rooms numbers : List ℕ) (last : ℕ) → length rooms ≡ last → IsNumbers last numbers → IsNext rooms numbers
+next_begins rooms numbers last count are = record {
+  count = omega (arith, count, are.count);
+  forward = λ k within. omega (arith, are.each k (omega (arith, within, are.count)));
+  inside = λ k within. omega (arith, within, are.each k (omega (arith, within, are.count)));
+  full = λ k i within from upto. absurd (omega (arith, from, upto, are.each k (omega (arith, within, are.count))));
+}
+
 -- a stretch that is full now
 next_full : (rooms next : List ℕ) (place : ℕ) → IsNext rooms next → place < length rooms → get_or rooms place 0 ≡ 0 → IsNext rooms (set next place (place + 1))
 next_full rooms next place are within none =
@@ -210,7 +226,7 @@ next_full rooms next place are within none =
 
 -- rooms become no greater, so one may go on as before
 pub take_next : (rooms next : List ℕ) (job place left : ℕ) (shares : List JobShare) (left' : ℕ) (shares' : List JobShare) (rooms' : List ℕ) →
-    IsNext rooms next → IsTake job place left shares rooms left' shares' rooms' → IsNext rooms' next
+    IsNext rooms next → Takes job place left shares rooms left' shares' rooms' → IsNext rooms' next
 take_next rooms next job place left shares left' shares' rooms' are take = elim take [
   | inl passed ↦ rw passed.3 are
   | inr took ↦ rw took.6 (record {
@@ -225,7 +241,7 @@ take_next rooms next job place left shares left' shares' rooms' are take = elim 
 
 -- a stretch is full once a job has passed over it and still wants units
 pub next_passed : {rooms next : List ℕ} (job : ℕ) {place : ℕ} (left : ℕ) (shares : List JobShare) (left' : ℕ) (shares' : List JobShare) {rooms' : List ℕ} →
-    IsNext rooms next → place < length rooms → IsTake job place left shares rooms left' shares' rooms' → 1 ≤ left' → IsNext rooms' (set next place (place + 1))
+    IsNext rooms next → place < length rooms → Takes job place left shares rooms left' shares' rooms' → 1 ≤ left' → IsNext rooms' (set next place (place + 1))
 next_passed {rooms} {next} job {place} left shares left' shares' {rooms'} are within take more =
     let after : IsNext rooms' next = take_next rooms next job place left shares left' shares' rooms' are take in
     next_full rooms' next place after (omega (arith, after.count, are.count)) (elim take [

@@ -12,6 +12,7 @@ mod Laid
 mod Chosen
 mod Deadlines
 mod Fills
+mod Reaches
 mod Closures
 pub mod Ranks
 pub mod Partings

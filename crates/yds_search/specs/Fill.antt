@@ -1,5 +1,5 @@
 -- The fill of stretches with room by jobs that want units: each job, in order, takes the earliest room in its window.
-use Rattle.std.specs.Prelude.{◌≡◌, ℕ, ◌+◌, ◌-◌, ◌<◌, ◌≤◌, ◌⊎◌, ◌==◌, nat_lt, min, List, [], ◌∷◌, ◌++◌, length, take, slice_index, slice_set, count_by}
+use Rattle.std.specs.Prelude.{◌≡◌, ℕ, ◌+◌, ◌-◌, ◌<◌, ◌≤◌, ◌⊎◌, ◌==◌, nat_lt, min, List, length, take, slice_index, count_by}
 use Rattle.std.specs.List.{All, AllPairs}
 use Rattle.yds_events.specs.declared.window.Window.{Window}
 use Rattle.yds_timetable.specs.Shares.{JobShare}
@@ -96,10 +96,3 @@ pub record IsNextFrom (rooms : List ℕ) (from place n : ℕ) : Type 0 where
 pub record IsNumbers (last : ℕ) (numbers : List ℕ) : Type 0 where
   pub count : length numbers ≡ last + 1
   pub each : (k : ℕ) → k < last + 1 → slice_index numbers k ≡ k
-
--- A job has passed over a stretch, because it is done or the stretch is full, or has taken what it could.
-abbrev pub IsTake : ℕ → ℕ → ℕ → List JobShare → List ℕ → ℕ → List JobShare → List ℕ → Type 0
-IsTake job stretch left shares rooms left' shares' rooms' =
-    ((1 ≤ left → slice_index rooms stretch ≡ 0) × (left' ≡ left) × (shares' ≡ shares) × (rooms' ≡ rooms))
-    ⊎ ((units : ℕ) × (1 ≤ left) × (1 ≤ slice_index rooms stretch) × (units ≡ min left (slice_index rooms stretch)) × (left' ≡ left - units)
-    × (shares' ≡ shares ++ record { job = job; stretch = stretch; units = units } ∷ []) × (rooms' ≡ slice_set rooms stretch (slice_index rooms stretch - units)))

@@ -5,6 +5,7 @@ pub mod Numbers
 pub mod Own
 pub mod Fill
 pub mod Closure
+pub mod Cells
 pub mod Search
 pub mod Instance
 pub mod Beginning

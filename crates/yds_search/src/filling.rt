@@ -1,23 +1,33 @@
-ghost use Rattle.std.specs.Prelude.{◌≡◌, ℕ, ◌*◌, ◌^◌, ◌<◌, ◌≤◌, true, false, [], List, length, slice_index, IfOk, OnOk};
+ghost use Rattle.std.specs.Prelude.{◌≡◌, ℕ, ◌-◌, ◌*◌, ◌^◌, ◌<◌, ◌≤◌, [], List, length, map, slice_set, IfOk, OnOk};
 ghost use Rattle.std.specs.List.{All};
 ghost use Rattle.yds_model.specs.declared.limits.TheConstants.{MAX_JOBS};
 ghost use Rattle.yds_events.specs.Window.{window_at};
 ghost use Rattle.yds_search.specs.Own.{HaveWindows, own_windows, wants_at, rooms_at};
-ghost use Rattle.yds_search.specs.Fill.{IsNotAfter, AreTaken, IsServed, IsFill, IsNext, IsNextFrom, IsNumbers, IsTake};
+ghost use Rattle.yds_search.specs.Fill.{IsNotAfter, AreTaken, IsServed, IsNext, IsNextFrom, IsNumbers};
+ghost use Rattle.yds_search.specs.Cells.{rooms_of, lates_of, cell_at, first_cell, late_cell, IsTake, KeepReaches, IsFilled};
 
 use crate::own::{Own, OwnJob, OwnStretch};
 use std::alloc::Global;
 use yds_model::Memory;
 use yds_timetable::Share;
 
-/// The fill of a group: what its jobs want, what room its stretches have, and who takes it. Jobs and stretches go by their
-/// places in the group.
+/// What is known of a stretch as a group is filled. Stretches go by their places in the group.
+#[derive(Clone, Copy, Debug, PartialEq, Eq)]
+pub(crate) struct Cell {
+    /// The units for which it still has room.
+    pub room: u64,
+    /// How far to the left the jobs reach that have a share in it: the least first place of their windows, or the number of stretches
+    /// where there is none.
+    pub shared: u32,
+    /// How far the late jobs reach whose windows end with it.
+    pub late: u32,
+}
+
+/// The fill of a group: what room its stretches have, and who takes it. Jobs and stretches go by their places in the group.
 #[derive(Debug, Drop)]
 pub(crate) struct Filling {
-    /// The units that each job still wants.
-    pub wants: Vec<u64>,
-    /// The units for which each stretch still has room.
-    pub rooms: Vec<u64>,
+    /// What is known of each stretch.
+    pub cells: Vec<Cell>,
     /// For each stretch a place from which to go on, with no room before it. There is one more place after the last stretch.
     pub next: Vec<u32>,
     /// The shares that jobs took.
@@ -49,28 +59,20 @@ fn next_place(next: &mut [u32], from: u32) -> u32
     place
 }
 
-/// What the jobs want, where so many units are a unit of work.
-fn set_wants(wants: &mut Vec<u64>, jobs: &[OwnJob], per_work: u64) -> Result<(), Memory>
-    requires { All (λ one. per_work * one.work < 2 ^ 64) jobs.now }
-    ensures { OnOk result (wants.new.items ≡ wants_at per_work jobs.now) }
+/// The stretches with all their room, where so many units fill a unit of time. Nobody reaches further than the last one.
+fn set_cells(cells: &mut Vec<Cell>, stretches: &[OwnStretch], per_time: u64) -> Result<(), Memory>
+    requires few { length stretches.now ≤ 2 * MAX_JOBS }
+    requires fit { All (λ one. per_time * one.length < 2 ^ 64) stretches.now }
+    ensures { OnOk result (cells.new.items ≡ map (first_cell per_time (length stretches.now)) stretches.now) }
 {
-    wants.clear();
-    wants.resize(jobs.len(), 0)?;
-    for (place, want) in wants.iter_mut().enumerate() {
-        *want = per_work * u64::from(jobs[place].work);
-    }
-    Ok(())
-}
-
-/// The room of the stretches, where so many units fill a unit of time.
-fn set_rooms(rooms: &mut Vec<u64>, stretches: &[OwnStretch], per_time: u64) -> Result<(), Memory>
-    requires { All (λ one. per_time * one.length < 2 ^ 64) stretches.now }
-    ensures { OnOk result (rooms.new.items ≡ rooms_at per_time stretches.now) }
-{
-    rooms.clear();
-    rooms.resize(stretches.len(), 0)?;
-    for (place, room) in rooms.iter_mut().enumerate() {
-        *room = per_time * u64::from(stretches[place].length);
+    let count = stretches.len() as u32;
+    cells.clear();
+    for own in stretches {
+        cells.push(Cell {
+            room: per_time * u64::from(own.length),
+            shared: count,
+            late: count,
+        })?;
     }
     Ok(())
 }
@@ -95,38 +97,34 @@ impl Filling {
         requires few_stretches { stretches ≤ 2 * MAX_JOBS }
     {
         Ok(Filling {
-            wants: Vec::with_capacity(alloc, jobs)?,
-            rooms: Vec::with_capacity(alloc, stretches)?,
+            cells: Vec::with_capacity(alloc, stretches)?,
             next: Vec::with_capacity(alloc, stretches + 1)?,
             shares: Vec::with_capacity(alloc, jobs + stretches)?,
         })
     }
 
-    /// Each job wants all its units and each stretch has all its room: nobody took any.
-    fn begin(&mut self, own: &Own, speed: Speed) -> Result<(), Memory>
-        requires few { length own.now.stretches.now ≤ 2 * MAX_JOBS }
-        requires rooms_fit { All (λ one. speed.per_time * one.length < 2 ^ 64) own.now.stretches.now }
-        requires wants_fit { All (λ one. speed.per_work * one.work < 2 ^ 64) own.now.jobs.now }
-        ensures wants { OnOk result (self.new.wants.items ≡ wants_at speed.per_work own.now.jobs.now) }
-        ensures rooms { OnOk result (self.new.rooms.items ≡ rooms_at speed.per_time own.now.stretches.now) }
-        ensures next { OnOk result (IsNumbers (length own.now.stretches.now) self.new.next.items) }
+    /// Each stretch has all its room: nobody took any.
+    fn begin(&mut self, stretches: &[OwnStretch], per_time: u64) -> Result<(), Memory>
+        requires few { length stretches.now ≤ 2 * MAX_JOBS }
+        requires fit { All (λ one. per_time * one.length < 2 ^ 64) stretches.now }
+        ensures cells { OnOk result (self.new.cells.items ≡ map (first_cell per_time (length stretches.now)) stretches.now) }
+        ensures next { OnOk result (IsNumbers (length stretches.now) self.new.next.items) }
         ensures shares { OnOk result (self.new.shares.items ≡ []) }
     {
         self.shares.clear();
-        set_wants(&mut self.wants, own.jobs, speed.per_work)?;
-        set_rooms(&mut self.rooms, own.stretches, speed.per_time)?;
-        set_numbers(&mut self.next, own.stretches.len())
+        set_cells(&mut self.cells, stretches, per_time)?;
+        set_numbers(&mut self.next, stretches.len())
     }
 
-    /// A job takes what it can in one stretch, and still wants so many units then.
-    fn take(&mut self, job: u32, stretch: u32, left: u64) -> Result<u64, Memory>
-        requires { stretch < length self.old.rooms.items }
-        ensures taken { IfOk result (λ rest. IsTake job stretch left self.old.shares.items self.old.rooms.items rest self.new.shares.items self.new.rooms.items) }
+    /// A job whose window begins at this place takes what it can in one stretch, and still wants so many units then.
+    fn take(&mut self, job: u32, first: u32, stretch: u32, left: u64) -> Result<u64, Memory>
+        requires { stretch < length self.old.cells.items }
+        ensures taken { IfOk result (λ rest. IsTake job first stretch left self.old.shares.items self.old.cells.items rest self.new.shares.items self.new.cells.items) }
         ensures next { self.new.next ≡ self.old.next }
-        ensures wants { self.new.wants ≡ self.old.wants }
+        ensures count { length self.new.cells.items ≡ length self.old.cells.items }
     {
-        let room = self.rooms[stretch as usize];
-        let units = left.min(room);
+        let cell = self.cells[stretch as usize];
+        let units = left.min(cell.room);
         if units == 0 {
             return Ok(left);
         }
@@ -135,27 +133,32 @@ impl Filling {
             stretch,
             units,
         })?;
-        self.rooms[stretch as usize] = room - units;
+        self.cells[stretch as usize] = Cell {
+            room: cell.room - units,
+            shared: cell.shared.min(first),
+            ..cell
+        };
         Ok(left - units)
     }
 
     /// A job takes the earliest room in its window, and still wants so many units then.
     fn serve(&mut self, jobs: &[OwnJob], job: u32, want: u64) -> Result<u64, Memory>
         requires known { job < length jobs.now }
-        requires windows { HaveWindows (length self.old.rooms.items) jobs.now }
-        requires next { IsNext self.old.rooms.items self.old.next.items }
-        requires taken { AreTaken IsNotAfter (own_windows jobs.now) (length self.old.rooms.items) self.old.shares.items self.old.rooms.items }
+        requires windows { HaveWindows (length self.old.cells.items) jobs.now }
+        requires next { IsNext (rooms_of self.old.cells.items) self.old.next.items }
+        requires taken { AreTaken IsNotAfter (own_windows jobs.now) (length (rooms_of self.old.cells.items)) self.old.shares.items (rooms_of self.old.cells.items) }
         requires later { All (λ share. share.job < job) self.old.shares.items }
-        ensures served { IfOk result (λ left. IsServed (own_windows jobs.now) job want self.old.shares.items self.old.rooms.items
-            (window_at (own_windows jobs.now) job).end left self.new.shares.items self.new.rooms.items) }
-        ensures next { OnOk result (IsNext self.new.rooms.items self.new.next.items) }
-        ensures wants { OnOk result (self.new.wants ≡ self.old.wants) }
+        ensures served { IfOk result (λ left. IsServed (own_windows jobs.now) job want self.old.shares.items (rooms_of self.old.cells.items)
+            (window_at (own_windows jobs.now) job).end left self.new.shares.items (rooms_of self.new.cells.items)) }
+        ensures shared { OnOk result (KeepReaches (own_windows jobs.now) self.old.shares.items self.old.cells.items self.new.shares.items self.new.cells.items) }
+        ensures lates { OnOk result (lates_of self.new.cells.items ≡ lates_of self.old.cells.items) }
+        ensures next { OnOk result (IsNext (rooms_of self.new.cells.items) self.new.next.items) }
     {
         let own = jobs[job as usize];
         let mut place = next_place(&mut self.next, own.first);
         let mut left = want;
         while place < own.end {
-            left = self.take(job, place, left)?;
+            left = self.take(job, own.first, place, left)?;
             if left == 0 {
                 return Ok(left);
             }
@@ -165,29 +168,42 @@ impl Filling {
         Ok(left)
     }
 
-    /// Each of a group's jobs, in order, takes the earliest room in its window.
-    pub(crate) fn fill(&mut self, own: &Own, speed: Speed) -> Result<(), Memory>
+    /// A late job reaches from the last stretch of its window to the first.
+    fn set_late(&mut self, own: OwnJob)
+        requires some { own.first < own.end }
+        requires within { own.end ≤ length self.old.cells.items }
+        ensures cells { self.new.cells.items ≡ slice_set self.old.cells.items (own.end - 1) (late_cell (cell_at self.old.cells.items (own.end - 1)) own.first) }
+        ensures next { self.new.next ≡ self.old.next }
+        ensures shares { self.new.shares ≡ self.old.shares }
+    {
+        let last = own.end as usize - 1;
+        let cell = self.cells[last];
+        self.cells[last] = Cell {
+            late: cell.late.min(own.first),
+            ..cell
+        };
+    }
+
+    /// Each of a group's jobs, in order, takes the earliest room in its window. Answers whether one of them is late: it wants more.
+    pub(crate) fn fill(&mut self, own: &Own, speed: Speed) -> Result<bool, Memory>
         requires few_jobs { length own.now.jobs.now ≤ MAX_JOBS }
         requires few { length own.now.stretches.now ≤ 2 * MAX_JOBS }
         requires windows { HaveWindows (length own.now.stretches.now) own.now.jobs.now }
         requires rooms_fit { All (λ one. speed.per_time * one.length < 2 ^ 64) own.now.stretches.now }
         requires wants_fit { All (λ one. speed.per_work * one.work < 2 ^ 64) own.now.jobs.now }
-        ensures { OnOk result (IsFill IsNotAfter (own_windows own.now.jobs.now) (wants_at speed.per_work own.now.jobs.now) (rooms_at speed.per_time own.now.stretches.now)
-            self.new.shares.items self.new.wants.items self.new.rooms.items) }
+        ensures { IfOk result (λ late. IsFilled (own_windows own.now.jobs.now) (wants_at speed.per_work own.now.jobs.now) (rooms_at speed.per_time own.now.stretches.now)
+            late self.new.shares.items self.new.cells.items) }
     {
-        self.begin(own, speed)?;
+        self.begin(own.stretches, speed.per_time)?;
+        let mut late = false;
         for job in 0..own.jobs.len() {
-            let want = self.wants[job];
-            self.wants[job] = self.serve(own.jobs, job as u32, want)?;
+            let one = own.jobs[job];
+            let left = self.serve(own.jobs, job as u32, speed.per_work * u64::from(one.work))?;
+            if left > 0 {
+                self.set_late(one);
+                late = true;
+            }
         }
-        Ok(())
-    }
-
-    /// Whether a job still wants units.
-    pub(crate) fn has_late(&self) -> bool
-        ensures late { result ≡ true → (i : ℕ) × (i < length self.now.wants.items) × (1 ≤ slice_index self.now.wants.items i) }
-        ensures none { result ≡ false → (i : ℕ) → slice_index self.now.wants.items i ≡ 0 }
-    {
-        self.wants.iter().any(|want| *want > 0)
+        Ok(late)
     }
 }

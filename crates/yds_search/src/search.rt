@@ -78,9 +78,9 @@ impl Search {
             self.stack.drop_last(size);
             return Ok(());
         }
-        self.filling.fill(&own, speed)?;
-        if self.filling.has_late() {
-            self.closing.close(own.jobs, &self.filling)?;
+        let late = self.filling.fill(&own, speed)?;
+        if late {
+            self.closing.close(&self.filling.cells)?;
             self.stack.split_last(size, &self.closing)
         } else {
             self.found.add(group, &own, &self.filling.shares)?;

@@ -1,21 +1,49 @@
-use Rattle.std.proofs.Common.{◌<◌, ◌≡◌, ◌*◌, length, get_or, arith}
-use Rattle.std.proofs.lemmas.List.{length-map, get_or_read}
-use Rattle.yds_search.specs.Own.{window_of, wants_at}
-use Rattle.yds_search.proofs.Fills.{fill_more, fill_ends}
+use Rattle.std.proofs.Common.{◌*◌, ◌<◌, ◌∙◌, length, map, sym, arith}
+use Rattle.std.proofs.lemmas.List.{get_or-map, length-map}
+use Rattle.yds_events.specs.Window.{no_window}
+use Rattle.yds_search.specs.Own.{own_windows, window_of, wants_at, rooms_at}
+use Rattle.yds_search.proofs.Filled.{no_own}
+use Rattle.yds_search.specs.Cells.{first_cell}
+use Rattle.yds_search.proofs.Fills.{next_begins}
+use Rattle.yds_search.proofs.Reaches.{fill_begins, fill_served, fill_late, fill_is, late_next}
 use Rattle.yds_search.proofs.filling.Filling.fill.Goals as goal
+use Rattle.yds_search.proofs.filling.Filling.fill.Goals.{then-left-gt0, else-left-gt0}
+
+pub loop-job-init : goal.loop-job-init
+loop-job-init c = record {
+  filling = rw (c.in_ok-begin.ensures.shares, c.in_ok-begin.ensures.cells) (fill_begins c.args.own.now.jobs.now c.args.own.now.stretches.now c.args.speed.per_time c.args.speed.per_work);
+  next = rw c.in_ok-begin.ensures.cells (next_begins _ _ (length c.args.own.now.stretches.now)
+      (length-map (map (first_cell c.args.speed.per_time (length c.args.own.now.stretches.now)) c.args.own.now.stretches.now) (λ cell. cell.room)
+      ∙ length-map c.args.own.now.stretches.now (first_cell c.args.speed.per_time (length c.args.own.now.stretches.now)))
+      c.in_ok-begin.ensures.next);
+}
 
 pub loop-job-preserved : goal.loop-job-preserved
 loop-job-preserved c =
-    let within : c.loop-job.job < length (wants_at c.args.speed.per_work c.args.own.now.jobs.now) =
-    omega (arith, c.loop-job-test.true, length-map c.args.own.now.jobs.now (λ own. c.args.speed.per_work * own.work)) in
-    let want : c.index-want.result.now ≡ get_or c.loop-job.self.wants.items c.loop-job.job 0 =
-    get_or_read c.loop-job.self.wants.items c.loop-job.job c.index-want.result.now (omega (arith, within, c.loop-job.invariant.filling.same_wants)) c.index-want.ensures 0 in
-    record {
-      filling = rw c.in_ok-self.ensures.wants (fill_more within c.loop-job.invariant.filling (rw want at c.in_ok-self.ensures.served));
-      next = c.in_ok-self.ensures.next;
-    }
+    let jobs = c.args.own.now.jobs.now in
+    let job = c.loop-job.job in
+    let wants = wants_at c.args.speed.per_work jobs in
+    let rooms = rooms_at c.args.speed.per_time c.args.own.now.stretches.now in
+    let within : job < length wants = omega (arith, c.loop-job-test.true, length-map jobs (λ own. c.args.speed.per_work * own.work)) in
+    let served = rw (c.from.ensures, sym (get_or-map (λ own. c.args.speed.per_work * own.work) jobs job no_own 0 c.loop-job-test.true)) at c.in_ok-left.ensures.served in
+    elim c.if-left-gt0.branch [
+      | then-left-gt0 w ↦
+          let range = c.requires.windows job no_own c.loop-job-test.true in
+          rw (w.self-is, w.late-is, w.set_late.ensures.cells, w.set_late.ensures.next, w.set_late.ensures.shares) record {
+            filling = fill_late (own_windows jobs) wants rooms job c.loop-job.late _ _ _ _ _ within c.loop-job.invariant.filling served c.in_ok-left.ensures.shared c.in_ok-left.ensures.lates
+                _ (get_or-map window_of jobs job no_own no_window c.loop-job-test.true) range.0 (omega (arith, range.1, length-map c.args.own.now.stretches.now (λ own. c.args.speed.per_time * own.length)))
+                w.if-left-gt0.true;
+            next = late_next _ _ _ _ c.in_ok-left.ensures.next;
+          }
+      | else-left-gt0 w ↦ rw (w.self-is, w.late-is) record {
+        filling = fill_served (own_windows jobs) wants rooms job c.loop-job.late _ _ _ _ _ within c.loop-job.invariant.filling served c.in_ok-left.ensures.shared c.in_ok-left.ensures.lates
+            (omega (arith, w.if-left-gt0.false));
+        next = c.in_ok-left.ensures.next;
+      }
+    ]
 
 pub returns : goal.returns
 returns c =
-    fill_ends (omega (arith, c.loop-job-test.false, length-map c.args.own.now.jobs.now window_of))
-    (omega (arith, c.loop-job-test.false, length-map c.args.own.now.jobs.now (λ own. c.args.speed.per_work * own.work))) c.loop-job.invariant.filling
+    let jobs = c.args.own.now.jobs.now in
+    fill_is (omega (arith, c.loop-job-test.false, c.loop-job.auto, length-map jobs window_of)) (omega (arith, c.loop-job-test.false, c.loop-job.auto, length-map jobs (λ own. c.args.speed.per_work * own.work)))
+    c.loop-job.invariant.filling

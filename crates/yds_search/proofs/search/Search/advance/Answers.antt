@@ -1,10 +1,7 @@
 use Rattle.std.proofs.Common.{◌*◌, ◌∙◌, ap, arith, refl}
-use Rattle.yds_search.proofs.Chosen.{chosen_as, chosen_waits, chosen_few, chosen_windows, chosen_known, chosen_some, chosen_units, chosen_rooms_some, chosen_single, chosen_laid_out, chosen_finished, chosen_split, chosen_rooms, chosen_parts, chosen_room}
+use Rattle.yds_search.proofs.Chosen.{chosen_as, chosen_waits, chosen_few, chosen_windows, chosen_known, chosen_some, chosen_units, chosen_rooms_some, chosen_single, chosen_laid_out, chosen_finished, chosen_split, chosen_cells, chosen_parts, chosen_room}
 use Rattle.yds_search.proofs.Laid.{finish_nearer, split_nearer}
 use Rattle.yds_search.specs.declared.stack.Size.{Size}
-use Rattle.yds_search.specs.Found.{per_work}
-use Rattle.yds_search.specs.Views.{group_view}
-use Rattle.std.proofs.lemmas.List.{length-map}
 use Rattle.std.proofs.lemmas.Result.{on_ok_weaker}
 use Rattle.yds_search.proofs.search.Search.advance.Goals as goal
 
@@ -36,38 +33,33 @@ fill-requires c =
 pub close-requires : goal.close-requires
 close-requires c =
     let x = chosen_as c.requires.chosen.0 c.args.size c.args.self.now c.requires.chosen.1 c.last-own.result c.last-own.ensures.jobs c.last-own.ensures.stretches in
-    let fill = rw (c.speed_of-speed.ensures.per_time, c.speed_of-speed.ensures.per_work) at c.in_ok-fill.ensures in
-    let rooms = chosen_rooms c.requires.chosen.0 c.args.size c.args.self.now x c.total-group.result c.total-group.ensures.work c.total-group.ensures.length _ _ _ fill in
-    record {
-      few = omega (arith, rooms, (chosen_few c.requires.chosen.0 c.args.size c.args.self.now x).1);
-      windows = rw rooms (chosen_windows c.requires.chosen.0 c.args.size c.args.self.now x);
-      wants = fill.same_wants ∙ length-map x.part.jobs (λ own. per_work (group_view c.total-group.result) * own.work);
-      parts = rw rooms (chosen_parts c.requires.chosen.0 c.args.size c.args.self.now x c.total-group.result c.total-group.ensures.work c.total-group.ensures.length _ _ _ fill);
-    }
+    let filled = rw (c.speed_of-speed.ensures.per_time, c.speed_of-speed.ensures.per_work) at c.in_ok-late.ensures in
+    let cells = chosen_cells c.requires.chosen.0 c.args.size c.args.self.now x c.total-group.result c.total-group.ensures.work c.total-group.ensures.length _ _ _ filled in
+    rw c.deref.ensures.value (omega (arith, cells, (chosen_few c.requires.chosen.0 c.args.size c.args.self.now x).1))
 
 pub split_last-requires : goal.split_last-requires
 split_last-requires c =
     let x = chosen_as c.requires.chosen.0 c.args.size c.args.self.now c.requires.chosen.1 c.last-own.result c.last-own.ensures.jobs c.last-own.ensures.stretches in
-    let fill = rw (c.speed_of-speed.ensures.per_time, c.speed_of-speed.ensures.per_work) at c.in_ok-fill.ensures in
-    let rooms = chosen_rooms c.requires.chosen.0 c.args.size c.args.self.now x c.total-group.result c.total-group.ensures.work c.total-group.ensures.length _ _ _ fill in
+    let filled = rw (c.speed_of-speed.ensures.per_time, c.speed_of-speed.ensures.per_work) at c.in_ok-late.ensures in
+    let cells = chosen_cells c.requires.chosen.0 c.args.size c.args.self.now x c.total-group.result c.total-group.ensures.work c.total-group.ensures.length _ _ _ filled in
     record {
       marks = c.in_ok-close.ensures.marks;
       ranks = c.in_ok-close.ensures.ranks;
-      last = (x.parts, x.part, x.last, c.in_ok-close.ensures.count ∙ rooms, chosen_windows c.requires.chosen.0 c.args.size c.args.self.now x);
+      last = (x.parts, x.part, x.last, (rw c.deref.ensures.value at c.in_ok-close.ensures.count) ∙ cells, chosen_windows c.requires.chosen.0 c.args.size c.args.self.now x);
     }
 
 pub add-requires : goal.add-requires
 add-requires c =
     let x = chosen_as c.requires.chosen.0 c.args.size c.args.self.now c.requires.chosen.1 c.last-own.result c.last-own.ensures.jobs c.last-own.ensures.stretches in
     let known = chosen_known c.requires.chosen.0 c.args.size c.args.self.now x in
-    let fill = rw (c.speed_of-speed.ensures.per_time, c.speed_of-speed.ensures.per_work) at c.in_ok-fill.ensures in
-    let parts = chosen_parts c.requires.chosen.0 c.args.size c.args.self.now x c.total-group.result c.total-group.ensures.work c.total-group.ensures.length _ _ _ fill in
+    let filled = rw (c.speed_of-speed.ensures.per_time, c.speed_of-speed.ensures.per_work) at c.in_ok-late.ensures in
+    let parts = chosen_parts c.requires.chosen.0 c.args.size c.args.self.now x c.total-group.result c.total-group.ensures.work c.total-group.ensures.length _ _ _ filled in
     record {
       few = chosen_room c.requires.chosen.0 c.args.size c.args.self.now x;
       jobs = known.0;
       stretches = known.1;
-      share_jobs = rw c.deref.ensures.value (λ i d within. (parts i d within).known);
-      share_stretches = rw c.deref.ensures.value (λ i d within. (parts i d within).known_stretch);
+      share_jobs = rw c.deref-else-late.ensures.value (λ i d within. (parts i d within).known);
+      share_stretches = rw c.deref-else-late.ensures.value (λ i d within. (parts i d within).known_stretch);
     }
 
 pub add_single-requires : goal.add_single-requires
@@ -101,32 +93,32 @@ returns-then-size-eq1-clause-nearer c =
 pub returns-in_ok-add-clause-search : goal.returns-in_ok-add-clause-search
 returns-in_ok-add-clause-search c jobs chosen =
     let x = chosen_as jobs c.args.size c.args.self.now chosen c.last-own.result c.last-own.ensures.jobs c.last-own.ensures.stretches in
-    let fill = rw (c.speed_of-speed.ensures.per_time, c.speed_of-speed.ensures.per_work) at c.in_ok-fill.ensures in
+    let filled = rw (c.speed_of-speed.ensures.per_time, c.speed_of-speed.ensures.per_work) at c.in_ok-late.ensures in
     chosen_finished jobs c.args.size c.args.self.now x c.total-group.result c.total-group.ensures.work c.total-group.ensures.length _ _
-    (chosen_laid_out jobs c.args.size c.args.self.now x c.total-group.result c.total-group.ensures.work c.total-group.ensures.length _ _ _ fill (c.if-has_late.ensures.none refl))
-    (c.drop_last-else-has_late.ensures x.parts x.part x.last) c.in_ok-add.ensures.groups (rw c.deref.ensures.value at c.in_ok-add.ensures.shares)
+    (chosen_laid_out jobs c.args.size c.args.self.now x c.total-group.result c.total-group.ensures.work c.total-group.ensures.length _ _ _ filled c.if-late.false)
+    (c.drop_last-else-late.ensures x.parts x.part x.last) c.in_ok-add.ensures.groups (rw c.deref-else-late.ensures.value at c.in_ok-add.ensures.shares)
     c.in_ok-add.ensures.job_numbers c.in_ok-add.ensures.stretch_numbers
 
 pub returns-in_ok-add-clause-nearer : goal.returns-in_ok-add-clause-nearer
 returns-in_ok-add-clause-nearer c =
     let x = chosen_as c.requires.chosen.0 c.args.size c.args.self.now c.requires.chosen.1 c.last-own.result c.last-own.ensures.jobs c.last-own.ensures.stretches in
-    finish_nearer x.parts x.part c.args.size c.args.self.now.stack c.drop_last-else-has_late.new.self x.last (c.drop_last-else-has_late.ensures x.parts x.part x.last)
+    finish_nearer x.parts x.part c.args.size c.args.self.now.stack c.drop_last-else-late.new.self x.last (c.drop_last-else-late.ensures x.parts x.part x.last)
     (chosen_waits c.requires.chosen.0 c.args.size c.args.self.now x).some
 
 pub returns-in_ok-close-clause-search : goal.returns-in_ok-close-clause-search
 returns-in_ok-close-clause-search c = on_ok_weaker c.split_last.result (λ laid jobs chosen.
     let x = chosen_as jobs c.args.size c.args.self.now chosen c.last-own.result c.last-own.ensures.jobs c.last-own.ensures.stretches in
-    let fill = rw (c.speed_of-speed.ensures.per_time, c.speed_of-speed.ensures.per_work) at c.in_ok-fill.ensures in
-    let rooms = chosen_rooms jobs c.args.size c.args.self.now x c.total-group.result c.total-group.ensures.work c.total-group.ensures.length _ _ _ fill in
-    chosen_split jobs c.args.size c.args.self.now x c.total-group.result c.total-group.ensures.work c.total-group.ensures.length _ _ _ fill _ _ _ (c.if-has_late.ensures.late refl)
-    c.in_ok-close.ensures.closing c.in_ok-close.ensures.count c.in_ok-close.ensures.marks c.in_ok-close.ensures.ranks
-    (laid x.parts x.part x.last (c.in_ok-close.ensures.count ∙ rooms)) refl) c.split_last.ensures
+    let filled = rw (c.speed_of-speed.ensures.per_time, c.speed_of-speed.ensures.per_work) at c.in_ok-late.ensures in
+    let cells = chosen_cells jobs c.args.size c.args.self.now x c.total-group.result c.total-group.ensures.work c.total-group.ensures.length _ _ _ filled in
+    chosen_split jobs c.args.size c.args.self.now x c.total-group.result c.total-group.ensures.work c.total-group.ensures.length _ _ _ filled _ _ _ c.if-late.true
+    (rw c.deref.ensures.value at c.in_ok-close.ensures.closed) (rw c.deref.ensures.value at c.in_ok-close.ensures.count) c.in_ok-close.ensures.marks c.in_ok-close.ensures.ranks
+    (laid x.parts x.part x.last ((rw c.deref.ensures.value at c.in_ok-close.ensures.count) ∙ cells)) refl) c.split_last.ensures
 
 pub returns-in_ok-close-clause-nearer : goal.returns-in_ok-close-clause-nearer
 returns-in_ok-close-clause-nearer c = on_ok_weaker c.split_last.result (λ laid.
     let x = chosen_as c.requires.chosen.0 c.args.size c.args.self.now c.requires.chosen.1 c.last-own.result c.last-own.ensures.jobs c.last-own.ensures.stretches in
-    let fill = rw (c.speed_of-speed.ensures.per_time, c.speed_of-speed.ensures.per_work) at c.in_ok-fill.ensures in
-    let count = c.in_ok-close.ensures.count
-    ∙ chosen_rooms c.requires.chosen.0 c.args.size c.args.self.now x c.total-group.result c.total-group.ensures.work c.total-group.ensures.length _ _ _ fill in
+    let filled = rw (c.speed_of-speed.ensures.per_time, c.speed_of-speed.ensures.per_work) at c.in_ok-late.ensures in
+    let count = (rw c.deref.ensures.value at c.in_ok-close.ensures.count)
+    ∙ chosen_cells c.requires.chosen.0 c.args.size c.args.self.now x c.total-group.result c.total-group.ensures.work c.total-group.ensures.length _ _ _ filled in
     split_nearer x.parts x.part c.args.size c.args.self.now.stack c.split_last.new.self c.close.new.self.marks.items c.close.new.self.ranks.items x.last
     (laid x.parts x.part x.last count) c.in_ok-close.ensures.marks count) c.split_last.ensures
