@@ -1,10 +1,8 @@
 -- Stretches that lie one after another, by their places.
-use Rattle.std.proofs.Common.{ℕ, zero, suc, ◌<◌, ◌≤◌, List, [], ◌∷◌, length, inl, inr, ap, arith}
-use Rattle.std.specs.List.Sorted.{IsNonDecreasingBy}
+use Rattle.std.proofs.Common.{ℕ, zero, suc, ◌<◌, ◌≤◌, List, [], ◌∷◌, length, inl, inr, arith}
 use Rattle.std.proofs.lemmas.Bool.{cases_eq}
-use Rattle.std.proofs.lemmas.List.{get_or_default}
 use Rattle.yds_model.specs.Piece.{Piece, PiecesFrom}
-use Rattle.yds_events.specs.Stretch.{no_stretch, nth_stretch}
+use Rattle.yds_events.specs.Stretch.{nth_stretch}
 
 from_start : (start i : ℕ) (stretches : List Piece) → PiecesFrom start stretches → i < length stretches →
     start ≤ (nth_stretch stretches i).from
@@ -38,12 +36,3 @@ starts_rise i k stretches order less within = elim (cases_eq i k) [
     has_length 0 i stretches order (omega arith),
   )
 ]
-
--- the same for any default
-pub starts_in_order : (stretches : List Piece) → PiecesFrom 0 stretches → IsNonDecreasingBy (λ stretch. stretch.from) stretches
-starts_in_order stretches order i j d less within = omega (
-  arith,
-  ap (λ (piece : Piece). piece.from) (get_or_default stretches i no_stretch d (omega arith)),
-  ap (λ (piece : Piece). piece.from) (get_or_default stretches j no_stretch d within),
-  starts_rise i j stretches order less within,
-)

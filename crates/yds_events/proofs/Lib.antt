@@ -1,6 +1,9 @@
 pub mod InOrder
 pub mod Rising
 pub mod Times
+pub mod Keys
+pub mod Cut
+pub mod Orders
 pub mod Neighbours
 pub mod Places
 pub mod Following

@@ -112,7 +112,7 @@ contains_from_Stands z (time ∷ times) (inl is) = (0, omega arith, sym is)
 contains_from_Stands z (time ∷ times) (inr there) =
     let found = contains_from_Stands z times there in (suc found.0, omega (arith, found.1), found.2)
 
-stands_from_Contains : (z : ℕ) (times : List ℕ) → Contains times z → Stands z times
+pub stands_from_Contains : (z : ℕ) (times : List ℕ) → Contains times z → Stands z times
 stands_from_Contains z [] (k, within, is) = absurd (omega arith)
 stands_from_Contains z (time ∷ times) (zero, within, is) = inl (sym is)
 stands_from_Contains z (time ∷ times) (suc k, within, is) = inr (stands_from_Contains z times (k, omega arith, is))

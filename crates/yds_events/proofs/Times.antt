@@ -1,17 +1,14 @@
 -- The event points of jobs: they rise, have each release and each deadline, and are at most two a job.
-use Rattle.std.proofs.Common.{◌≡◌, ℕ, zero, suc, ◌*◌, ◌<◌, ◌≤◌, List, [], ◌∷◌, length, get_or, ◌∙◌, refl, ap, inl, inr, arith}
-use Rattle.std.specs.List.{All, flat_map}
+use Rattle.std.proofs.Common.{◌≡◌, ℕ, zero, suc, ◌+◌, ◌*◌, ◌<◌, ◌≤◌, List, [], ◌∷◌, length, get_or, ◌∙◌, refl, ap, inl, inr, arith}
+use Rattle.std.specs.List.{All}
 use Rattle.std.proofs.lemmas.List.{get_or_default}
 use Rattle.std.proofs.lemmas.Bool.{cases_lt, cases_eq}
 use Rattle.std.proofs.lemmas.List.Elements.{All-nil, All-cons, All-head, All-tail}
 use Rattle.yds_model.specs.declared.limits.TheConstants.{MAX_TIME}
 use Rattle.yds_model.specs.Job.{Job, IsJob, job_at}
 use Rattle.yds_model.specs.Event.{with_time, event_points}
-use Rattle.yds_events.proofs.Rising.{Stands, rises_times, rises_at, stands_times, contains_from_Stands, rising_all, with_time_length}
-
--- the releases and deadlines in the jobs' order
-abbrev ends_of : List Job → List ℕ
-ends_of jobs = flat_map (λ job. job.release ∷ job.deadline ∷ []) jobs
+use Rattle.yds_events.specs.Keys.{ends_of}
+use Rattle.yds_events.proofs.Rising.{rises_times, rises_at, stands_times, contains_from_Stands, stands_from_Contains, rising_all, with_time_length}
 
 -- a later event point is later
 pub times_rise : (jobs : List Job) (i j : ℕ) → i < j → j < length (event_points jobs) →
@@ -40,31 +37,38 @@ place_not_after jobs i j within most = elim (cases_lt j i) [
   | inl after ↦ absurd (omega (arith, times_rise jobs j i after within, most))
 ]
 
+-- where the jobs' releases and deadlines stand
+pub length_ends : (jobs : List Job) → length (ends_of jobs) ≡ 2 * length jobs
+length_ends [] = omega arith
+length_ends (job ∷ jobs) = omega (arith, length_ends jobs)
+
+pub release_end : (jobs : List Job) (j : ℕ) → j < length jobs → get_or (ends_of jobs) (2 * j) 0 ≡ (job_at jobs j).release
+release_end [] j within = absurd (omega arith)
+release_end (job ∷ jobs) zero within = refl
+release_end (job ∷ jobs) (suc j) within = let next : 2 * suc j ≡ suc (suc (2 * j)) = omega arith in rw next (release_end jobs j (omega arith))
+
+pub deadline_end : (jobs : List Job) (j : ℕ) → j < length jobs → get_or (ends_of jobs) (2 * j + 1) 0 ≡ (job_at jobs j).deadline
+deadline_end [] j within = absurd (omega arith)
+deadline_end (job ∷ jobs) zero within = refl
+deadline_end (job ∷ jobs) (suc j) within =
+    let next : 2 * suc j + 1 ≡ suc (suc (2 * j + 1)) = omega arith in rw next (deadline_end jobs j (omega arith))
+
 -- a job's release and its deadline are event points
-stands_release : (jobs : List Job) (j : ℕ) → j < length jobs → Stands (job_at jobs j).release (ends_of jobs)
-stands_release [] j within = absurd (omega arith)
-stands_release (job ∷ jobs) zero within = inl refl
-stands_release (job ∷ jobs) (suc j) within = inr (inr (stands_release jobs j (omega arith)))
-
-stands_deadline : (jobs : List Job) (j : ℕ) → j < length jobs → Stands (job_at jobs j).deadline (ends_of jobs)
-stands_deadline [] j within = absurd (omega arith)
-stands_deadline (job ∷ jobs) zero within = inr (inl refl)
-stands_deadline (job ∷ jobs) (suc j) within = inr (inr (stands_deadline jobs j (omega arith)))
-
-place_of : (time : ℕ) (times : List ℕ) → Stands time times → (i : ℕ) × (i < length times) × (get_or times i 0 ≡ time)
-place_of time times stands =
-    let found = contains_from_Stands time times stands in
-    (found.0, found.1, get_or_default times found.0 0 time found.1 ∙ found.2)
+place_of : (jobs : List Job) (number time : ℕ) → number < 2 * length jobs → get_or (ends_of jobs) number 0 ≡ time →
+    (i : ℕ) × (i < length (event_points jobs)) × (get_or (event_points jobs) i 0 ≡ time)
+place_of jobs number time within is =
+    let inside : number < length (ends_of jobs) = omega (arith, within, length_ends jobs) in
+    let found = contains_from_Stands time (event_points jobs) (stands_times time (ends_of jobs)
+    (stands_from_Contains time (ends_of jobs) (number, inside, get_or_default (ends_of jobs) number time 0 inside ∙ is))) in
+    (found.0, found.1, get_or_default (event_points jobs) found.0 0 time found.1 ∙ found.2)
 
 pub release_at : (jobs : List Job) (j : ℕ) → j < length jobs →
     (i : ℕ) × (i < length (event_points jobs)) × (get_or (event_points jobs) i 0 ≡ (job_at jobs j).release)
-release_at jobs j within = place_of (job_at jobs j).release (event_points jobs)
-    (stands_times (job_at jobs j).release (ends_of jobs) (stands_release jobs j within))
+release_at jobs j within = place_of jobs (2 * j) (job_at jobs j).release (omega arith) (release_end jobs j within)
 
 pub deadline_at : (jobs : List Job) (j : ℕ) → j < length jobs →
     (i : ℕ) × (i < length (event_points jobs)) × (get_or (event_points jobs) i 0 ≡ (job_at jobs j).deadline)
-deadline_at jobs j within = place_of (job_at jobs j).deadline (event_points jobs)
-    (stands_times (job_at jobs j).deadline (ends_of jobs) (stands_deadline jobs j within))
+deadline_at jobs j within = place_of jobs (2 * j + 1) (job_at jobs j).deadline (omega arith) (deadline_end jobs j within)
 
 -- at most two event points a job
 pub few_times : (jobs : List Job) → length (event_points jobs) ≤ 2 * length jobs

@@ -1,2 +1,5 @@
+pub mod Keys
+pub mod Order
 pub mod Stretch
+pub mod Timeline
 pub mod Window

@@ -1,8 +1,7 @@
 -- Jobs' windows as ranges of the jobs' stretches, which are numbered in order of time from 0.
-use Rattle.std.specs.Prelude.{◌≡◌, ℕ, ◌<◌, ◌≤◌, ◌↔◌, List, length, map, slice_index}
+use Rattle.std.specs.Prelude.{◌≡◌, ℕ, ◌<◌, ◌≤◌, ◌↔◌, List, length, slice_index}
 use Rattle.std.specs.List.{slice_index_or}
 use Rattle.yds_model.specs.Job.{Job, job_at}
-use Rattle.yds_model.specs.Piece.{Piece}
 use Rattle.yds_model.specs.Event.{stretches}
 use Rattle.yds_events.specs.declared.window.Window.{Window}
 use Rattle.yds_model.specs.Comparison.{stretch_at}
@@ -43,7 +42,3 @@ pub record IsPlace (numbers : List ℕ) (number place : ℕ) : Type 0 where
   pub within : place ≤ length numbers
   pub before : (i : ℕ) → i < place → slice_index numbers i < number
   pub from : (i : ℕ) → place ≤ i → i < length numbers → number ≤ slice_index numbers i
-
--- when the stretches begin
-abbrev pub starts_of : List Piece → List ℕ
-starts_of stretches = map (λ stretch. stretch.from) stretches

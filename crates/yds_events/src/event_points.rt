@@ -2,6 +2,7 @@ ghost use Rattle.std.specs.Prelude.{◌≡◌, IfOk, OnOk};
 ghost use Rattle.std.specs.List.{All};
 ghost use Rattle.yds_model.specs.Job.{IsJob};
 ghost use Rattle.yds_model.specs.Event.{event_points};
+ghost use Rattle.yds_events.specs.Keys.{ends_of};
 
 use std::alloc::Global;
 use yds_model::{JobRow, Memory};
@@ -18,12 +19,21 @@ pub(crate) fn rising_times(alloc: Global, rows: &[JobRow]) -> Result<Vec<u32>, M
     ensures times { IfOk result (λ times. times.items ≡ event_points rows.now) }
     ensures jobs { OnOk result (All IsJob rows.now) }
 {
-    let mut times = Vec::with_capacity(alloc, 2 * rows.len())?;
-    for row in rows {
-        times.push(row.release)?;
-        times.push(row.deadline)?;
-    }
+    let mut times = ends(alloc, rows)?;
     times.sort_unstable();
     times.dedup();
     Ok(times)
+}
+
+/// The jobs' releases and deadlines, in time units, in the jobs' order.
+pub(crate) fn ends(alloc: Global, rows: &[JobRow]) -> Result<Vec<u32>, Memory>
+    ensures ends { IfOk result (λ ends. ends.items ≡ ends_of rows.now) }
+    ensures jobs { OnOk result (All IsJob rows.now) }
+{
+    let mut ends = Vec::with_capacity(alloc, 2 * rows.len())?;
+    for row in rows {
+        ends.push(row.release)?;
+        ends.push(row.deadline)?;
+    }
+    Ok(ends)
 }

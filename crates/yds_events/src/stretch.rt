@@ -60,7 +60,7 @@ pub fn stretches(alloc: Global, rows: &[JobRow]) -> Result<Vec<Stretch>, Memory>
 }
 
 /// The stretches between neighbours of rising times.
-fn between(alloc: Global, times: &[u32]) -> Result<Vec<Stretch>, Memory>
+pub(crate) fn between(alloc: Global, times: &[u32]) -> Result<Vec<Stretch>, Memory>
     requires rising { (i j : ℕ) → i < j → j < length times.now → slice_index times.now i < slice_index times.now j }
     requires in_range { All (λ time. time ≤ MAX_TIME) times.now }
     ensures { IfOk result (λ stretches. stretches.items ≡ neighbours times.now) }

@@ -15,9 +15,17 @@ fn three_jobs_cut_time(rt: HostRuntime) -> Result<(), Fail> {
     let cut = stretches(rt.alloc(), &rows)?;
     assert_eq!(rt; cut.len(), 4);
     assert_eq!(rt; (cut[3].from, cut[3].to, cut[3].length()), (6, 12, 6));
-    let ranges = windows(rt.alloc(), &rows, &cut)?;
-    assert_eq!(rt; ranges.len(), 3);
-    assert_eq!(rt; (ranges[0].first, ranges[0].end), (2, 3));
-    assert_eq!(rt; (ranges[1].first, ranges[1].end), (0, 4));
+    let timeline = Timeline::new(rt.alloc(), &rows)?;
+    assert_eq!(rt; timeline.stretches.as_slice(), cut.as_slice());
+    assert_eq!(rt; timeline.windows.len(), 3);
+    assert_eq!(rt;
+        (timeline.windows[0].first, timeline.windows[0].end),
+        (2, 3)
+    );
+    assert_eq!(rt;
+        (timeline.windows[1].first, timeline.windows[1].end),
+        (0, 4)
+    );
+    assert_eq!(rt; timeline.order.as_slice(), [0, 2, 1].as_slice());
     Ok(())
 }

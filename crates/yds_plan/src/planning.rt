@@ -9,7 +9,7 @@ ghost use Rattle.yds_plan.specs.Timetabled.{IsTimetabled};
 use crate::layout::{Planned, lay_out, levels_of_found};
 use std::alloc::Global;
 use yds_certificate::Certificate;
-use yds_events::stretches;
+use yds_events::Timeline;
 use yds_model::{JobRow, Memory};
 use yds_search::find;
 
@@ -34,9 +34,9 @@ pub fn plan(alloc: Global, rows: &[JobRow]) -> Result<Planned, Memory>
     ensures timetable { IfOk result (λ planned. IsTimetabled rows.now planned.timetable planned.level_of_stretch.items planned.schedule.slots planned.certificate) }
 {
     read_rows(rows);
-    let timeline = stretches(alloc, rows)?;
+    let timeline = Timeline::new(alloc, rows)?;
     let found = find(alloc, rows, &timeline)?;
-    lay_out(alloc, rows, &timeline, &found)
+    lay_out(alloc, rows, &timeline.stretches, &found)
 }
 
 /// The levels of the offline plan, without its slots: none is laid for them.
@@ -47,8 +47,8 @@ pub fn plan_levels(alloc: Global, rows: &[JobRow]) -> Result<Certificate, Memory
     ensures { IfOk result (AreLevelsOfPlan rows.now) }
 {
     read_rows(rows);
-    let timeline = stretches(alloc, rows)?;
+    let timeline = Timeline::new(alloc, rows)?;
     let found = find(alloc, rows, &timeline)?;
-    let (levels, _) = levels_of_found(alloc, &timeline, &found)?;
+    let (levels, _) = levels_of_found(alloc, &timeline.stretches, &found)?;
     Ok(Certificate::from_levels(levels))
 }

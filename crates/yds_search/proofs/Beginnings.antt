@@ -21,7 +21,7 @@ use Rattle.yds_search.specs.declared.own.OwnJob.{OwnJob}
 use Rattle.yds_search.specs.declared.own.OwnStretch.{OwnStretch}
 use Rattle.yds_search.specs.declared.stack.Stack.{Stack}
 use Rattle.yds_search.specs.Found.{group_of, IsShare}
-use Rattle.yds_search.specs.Order.{Precedes, IsOrder}
+use Rattle.yds_events.specs.Order.{Precedes, IsOrder}
 use Rattle.yds_search.specs.Own.{Part, stretch_numbers}
 use Rattle.yds_search.specs.Instance.{IsInstance}
 use Rattle.yds_search.specs.Stack.{size_of, jobs_of, own_stretches_of}

@@ -19,7 +19,7 @@ use Rattle.yds_timetable.specs.Shares.{JobShare}
 use Rattle.yds_search.specs.declared.own.OwnJob.{OwnJob}
 use Rattle.yds_search.specs.declared.own.OwnStretch.{OwnStretch}
 use Rattle.yds_search.specs.Found.{Found, Group, per_time, per_work, units_of_job, units_in_stretch}
-use Rattle.yds_search.specs.Order.{Precedes}
+use Rattle.yds_events.specs.Order.{Precedes}
 use Rattle.yds_search.specs.Own.{Part, job_numbers, stretch_numbers, window_of, own_windows, HaveWindows, wants_at, rooms_at, share_by_number, shares_by_number, full_share, full_shares}
 use Rattle.yds_search.specs.Fill.{IsNotAfter, IsFill}
 use Rattle.yds_search.specs.Instance.{IsInstance}

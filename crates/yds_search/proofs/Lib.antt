@@ -10,7 +10,6 @@ mod Beginnings
 mod Ends
 mod Laid
 mod Chosen
-mod Deadlines
 mod Fills
 mod Reaches
 mod Closures

@@ -13,7 +13,7 @@ use Rattle.yds_timetable.specs.Shares.{JobShare, share_at, no_share}
 use Rattle.yds_search.specs.declared.own.OwnJob.{OwnJob}
 use Rattle.yds_search.specs.declared.own.OwnStretch.{OwnStretch}
 use Rattle.yds_search.specs.Found.{Found, Group, per_time, per_work, units_of_job, units_in_stretch}
-use Rattle.yds_search.specs.Order.{Precedes}
+use Rattle.yds_events.specs.Order.{Precedes}
 use Rattle.yds_search.specs.Own.{Part, stretch_numbers, window_of, own_windows, HaveWindows, wants_at, rooms_at, share_by_number}
 use Rattle.yds_search.specs.Fill.{IsNotAfter, IsFill}
 use Rattle.yds_search.specs.Closure.{IsMarked, AreClosing, AreClosed, AreRanks}

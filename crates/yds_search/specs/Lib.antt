@@ -1,6 +1,5 @@
 pub mod Found
 pub mod Views
-pub mod Order
 pub mod Numbers
 pub mod Own
 pub mod Fill

@@ -3,16 +3,16 @@ ghost use Rattle.std.specs.List.{All};
 ghost use Rattle.yds_model.specs.declared.limits.TheConstants.{MAX_JOBS};
 ghost use Rattle.yds_model.specs.Job.{IsJob};
 ghost use Rattle.yds_model.specs.Event.{stretches};
+ghost use Rattle.yds_events.specs.Timeline.{IsTimeline};
 ghost use Rattle.yds_events.specs.Window.{AreWindows};
 ghost use Rattle.yds_search.specs.Searching.{IsBegun};
 ghost use Rattle.yds_search.specs.Beginning.{AreFarthest, AreCovered, first_jobs, first_stretches};
 
 use crate::closing::rank;
-use crate::order::deadline_order;
 use crate::own::{OwnJob, OwnStretch};
 use crate::stack::{Size, Stack};
 use std::alloc::Global;
-use yds_events::{Stretch, Window, windows};
+use yds_events::{Stretch, Timeline, Window};
 use yds_model::{JobRow, Memory};
 
 /// For each stretch the greatest end of the windows that begin with it, of jobs with work, or 0.
@@ -105,22 +105,27 @@ fn add_stretches(
 pub(crate) fn first_group(
     alloc: Global,
     rows: &[JobRow],
-    timeline: &[Stretch],
+    timeline: &Timeline,
 ) -> Result<Stack, Memory>
     requires few { length rows.now ≤ MAX_JOBS }
     requires jobs { All IsJob rows.now }
-    requires timeline { timeline.now ≡ stretches rows.now }
+    requires timeline { IsTimeline rows.now timeline.now }
     ensures { IfOk result (IsBegun rows.now) }
 {
-    let windows = windows(alloc, rows, timeline)?;
-    let order = deadline_order(alloc, rows)?;
-    let ends = farthest(alloc, rows, &windows, timeline.len())?;
+    let count = timeline.stretches.len();
+    let ends = farthest(alloc, rows, &timeline.windows, count)?;
     let marks = covered(alloc, &ends)?;
-    let mut ranks = Vec::with_capacity(alloc, timeline.len() + 1)?;
+    let mut ranks = Vec::with_capacity(alloc, count + 1)?;
     rank(&marks, &mut ranks)?;
-    let mut stack = Stack::new(alloc, rows.len(), timeline.len())?;
-    add_jobs(&mut stack.jobs, rows, &order, &windows, &ranks)?;
-    add_stretches(&mut stack.stretches, timeline, &marks)?;
+    let mut stack = Stack::new(alloc, rows.len(), count)?;
+    add_jobs(
+        &mut stack.jobs,
+        rows,
+        &timeline.order,
+        &timeline.windows,
+        &ranks,
+    )?;
+    add_stretches(&mut stack.stretches, &timeline.stretches, &marks)?;
     let jobs = stack.jobs.len();
     let stretches = stack.stretches.len();
     if jobs > 0 {

@@ -10,7 +10,6 @@ mod beginning;
 mod closing;
 mod filling;
 mod found;
-mod order;
 mod own;
 mod search;
 mod stack;

@@ -1,8 +1,8 @@
 ghost use Rattle.std.specs.Prelude.{◌≡◌, ◌*◌, ◌<◌, ◌≤◌, ◌++◌, ◌∷◌, [], List, ℕ, length, map, replicate, IfOk, OnOk};
 ghost use Rattle.std.specs.List.{All};
 ghost use Rattle.yds_model.specs.Job.{Job, IsJob};
-ghost use Rattle.yds_model.specs.Event.{stretches};
 ghost use Rattle.yds_model.specs.declared.limits.TheConstants.{MAX_JOBS};
+ghost use Rattle.yds_events.specs.Timeline.{IsTimeline};
 ghost use Rattle.yds_search.specs.Found.{IsFound, per_time, per_work};
 ghost use Rattle.yds_search.specs.Views.{found_view, group_view};
 ghost use Rattle.yds_search.specs.Numbers.{AreWritten};
@@ -15,7 +15,7 @@ use crate::filling::{Filling, Speed};
 use crate::found::{Found, Group};
 use crate::stack::{Size, Stack};
 use std::alloc::Global;
-use yds_events::Stretch;
+use yds_events::Timeline;
 use yds_fraction::gcd;
 use yds_model::{JobRow, Memory};
 
@@ -48,14 +48,14 @@ fn speed_of(group: &Group) -> Speed
 
 impl Search {
     /// All jobs with work wait in one group.
-    fn new(alloc: Global, rows: &[JobRow], timeline: &[Stretch]) -> Result<Search, Memory>
+    fn new(alloc: Global, rows: &[JobRow], timeline: &Timeline) -> Result<Search, Memory>
         requires few { length rows.now ≤ MAX_JOBS }
         requires jobs { All IsJob rows.now }
-        requires timeline { timeline.now ≡ stretches rows.now }
+        requires timeline { IsTimeline rows.now timeline.now }
         ensures { IfOk result (IsSearching rows.now) }
     {
         let jobs = rows.len();
-        let stretches = timeline.len();
+        let stretches = timeline.stretches.len();
         Ok(Search {
             found: Found::new(alloc, jobs, stretches)?,
             stack: first_group(alloc, rows, timeline)?,
@@ -90,11 +90,11 @@ impl Search {
     }
 }
 
-/// Groups of jobs and stretches, the fastest first, with the shares of jobs in stretches.
-pub fn find(alloc: Global, rows: &[JobRow], timeline: &[Stretch]) -> Result<Found, Memory>
+/// Groups of jobs and stretches, the fastest first, with the shares of jobs in stretches. `timeline` is that of the jobs.
+pub fn find(alloc: Global, rows: &[JobRow], timeline: &Timeline) -> Result<Found, Memory>
     requires few { length rows.now ≤ MAX_JOBS }
     requires jobs { All IsJob rows.now }
-    requires timeline { timeline.now ≡ stretches rows.now }
+    requires timeline { IsTimeline rows.now timeline.now }
     ensures { IfOk result (λ found. IsFound rows.now (found_view found)) }
 {
     let mut search = Search::new(alloc, rows, timeline)?;

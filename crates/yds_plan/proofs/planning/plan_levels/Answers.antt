@@ -12,24 +12,24 @@ levels_of_found-requires-clause-groups c =
 
 pub from_levels-requires-clause-few : goal.from_levels-requires-clause-few
 from_levels-requires-clause-few c =
-    levels_fit c.args.rows.now (found_view c.in_ok-found.found) c.in_ok-found.ensures _ (c.deref-2.ensures.value ∙ c.in_ok-timeline.ensures) c.in_ok-levels.levels.items
+    levels_fit c.args.rows.now (found_view c.in_ok-found.found) c.in_ok-found.ensures _ (c.deref.ensures.value ∙ c.in_ok-timeline.ensures.cut) c.in_ok-levels.levels.items
     c.in_ok-levels.ensures.levels c.read_rows.ensures c.requires
 
 pub from_levels-requires-clause-few_pieces : goal.from_levels-requires-clause-few_pieces
 from_levels-requires-clause-few_pieces c =
-    pieces_fit c.args.rows.now (found_view c.in_ok-found.found) c.in_ok-found.ensures _ (c.deref-2.ensures.value ∙ c.in_ok-timeline.ensures) c.in_ok-levels.levels.items
+    pieces_fit c.args.rows.now (found_view c.in_ok-found.found) c.in_ok-found.ensures _ (c.deref.ensures.value ∙ c.in_ok-timeline.ensures.cut) c.in_ok-levels.levels.items
     c.in_ok-levels.ensures.levels c.requires
 
 pub from_levels-requires-clause-few_members : goal.from_levels-requires-clause-few_members
 from_levels-requires-clause-few_members c =
-    members_fit c.args.rows.now (found_view c.in_ok-found.found) c.in_ok-found.ensures _ (c.deref-2.ensures.value ∙ c.in_ok-timeline.ensures) c.in_ok-levels.levels.items
+    members_fit c.args.rows.now (found_view c.in_ok-found.found) c.in_ok-found.ensures _ (c.deref.ensures.value ∙ c.in_ok-timeline.ensures.cut) c.in_ok-levels.levels.items
     c.in_ok-levels.ensures.levels c.requires
 
 pub returns : goal.returns
 returns c =
     let found = found_view c.in_ok-found.found in (
       laid_slots c.args.rows.now found,
-      rw (c.from_levels.ensures ∙ all_drafted c.args.rows.now found c.in_ok-found.ensures _ (c.deref-2.ensures.value ∙ c.in_ok-timeline.ensures)
+      rw (c.from_levels.ensures ∙ all_drafted c.args.rows.now found c.in_ok-found.ensures _ (c.deref.ensures.value ∙ c.in_ok-timeline.ensures.cut)
           c.in_ok-levels.levels.items c.in_ok-levels.ensures.levels)
           (found_makes_plan c.args.rows.now c.read_rows.ensures c.requires found c.in_ok-found.ensures),
     )

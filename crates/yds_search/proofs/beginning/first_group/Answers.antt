@@ -23,7 +23,7 @@ rank-requires-clause-few c = omega (
   c.in_ok-marks.ensures.count,
   ap (λ (xs : List ℕ). length xs) c.deref-2.ensures.value,
   c.in_ok-ends.ensures.all,
-  ap (λ (pieces : List Piece). length pieces) c.requires.timeline,
+  ap (λ (pieces : List Piece). length pieces) c.requires.timeline.cut,
   few_stretches c.args.rows.now,
   c.requires.few,
 )
@@ -32,38 +32,39 @@ pub rank-requires-clause-marks : goal.rank-requires-clause-marks
 rank-requires-clause-marks c = rw c.deref-3.ensures.value (marks_small c.deref-2.result.now c.in_ok-marks.marks.items c.in_ok-marks.ensures)
 
 pub add_jobs-requires-clause-known : goal.add_jobs-requires-clause-known
-add_jobs-requires-clause-known c = rw c.deref-4.ensures.value (known_all c.args.rows.now c.in_ok-order.order.items c.in_ok-order.ensures)
+add_jobs-requires-clause-known c = rw c.deref-4.ensures.value (known_all c.args.rows.now c.args.timeline.now.order.items c.requires.timeline.ordered)
 
 pub add_stretches-requires-clause-few : goal.add_stretches-requires-clause-few
-add_stretches-requires-clause-few c = omega (arith, ap (λ (pieces : List Piece). length pieces) c.requires.timeline, few_stretches c.args.rows.now, c.requires.few)
+add_stretches-requires-clause-few c = omega (arith, ap (λ (pieces : List Piece). length pieces) c.requires.timeline.cut, few_stretches c.args.rows.now, c.requires.few)
 
 pub returns : goal.returns
 returns c =
     let jobs : List Job = c.args.rows.now in
-    let windows : List Window = c.in_ok-windows.windows.items in
-    let order : List ℕ = c.in_ok-order.order.items in
+    let windows : List Window = c.args.timeline.now.windows.items in
+    let order : List ℕ = c.args.timeline.now.order.items in
     let marks : List ℕ = c.in_ok-marks.marks.items in
     let ends : List ℕ = c.in_ok-ends.ends.items in
     let ranks : List ℕ = c.rank.new.ranks.items in
     let part : Part = begun_part jobs windows order marks ranks in
-    let timeline : length c.args.timeline.now ≡ length (stretches jobs) = ap (λ (pieces : List Piece). length pieces) c.requires.timeline in
+    let all : c.len-count.result ≡ length (stretches jobs) =
+    omega (arith, c.len-count.ensures, c.args.timeline.now.stretches.ok, ap (λ (pieces : List Piece). length pieces) c.requires.timeline.cut) in
     let farthest : AreFarthest jobs windows (length jobs) (length (stretches jobs)) ends =
-    rw (c.deref.ensures.value, timeline) at c.in_ok-ends.ensures in
+    rw (c.deref.ensures.value, all) at c.in_ok-ends.ensures in
     let covered : AreCovered ends (length ends) marks = rw c.deref-2.ensures.value at c.in_ok-marks.ensures in
     let ranked : AreRanks marks ranks = rw c.deref-3.ensures.value at c.in_ok-rank.ensures in
     let own : c.add_jobs.new.jobs.items ≡ part.jobs =
     rw (c.in_ok-stack.ensures.jobs, c.deref-5.ensures.value, c.deref-6.ensures.value, c.deref-4.ensures.value) at c.in_ok-add_jobs.ensures in
     let own_stretches : c.add_stretches.new.stretches.items ≡ part.stretches =
-    rw (c.in_ok-stack.ensures.stretches, c.deref-7.ensures.value, c.requires.timeline) at c.in_ok-add_stretches.ensures in
+    rw (c.in_ok-stack.ensures.stretches, c.deref-7.ensures.value, c.deref-8.ensures.value, c.requires.timeline.cut) at c.in_ok-add_stretches.ensures in
     let count : c.len-jobs.result ≡ length part.jobs = omega (arith, c.len-jobs.ensures, c.add_jobs.new.jobs.ok, ap (λ (xs : List OwnJob). length xs) own) in
     let count_stretches : c.len-stretches.result ≡ length part.stretches =
     omega (arith, c.len-stretches.ensures, c.add_stretches.new.stretches.ok, ap (λ (xs : List OwnStretch). length xs) own_stretches) in
-    let instance = instance_is jobs windows c.requires.few c.requires.jobs c.in_ok-windows.ensures in
+    let instance = instance_is jobs windows c.requires.few c.requires.jobs c.requires.timeline.windows_are in
     elim c.if-jobs-gt0.branch [
-      | then-jobs-gt0+in_ok-push w ↦ subst (IsBegun jobs) (sym w.stack-is) (one_begun jobs windows order ends marks ranks instance c.in_ok-order.ensures farthest covered ranked _
+      | then-jobs-gt0+in_ok-push w ↦ subst (IsBegun jobs) (sym w.stack-is) (one_begun jobs windows order ends marks ranks instance c.requires.timeline.ordered farthest covered ranked _
           (omega (arith, w.if-jobs-gt0.true, count)) own own_stretches
           (w.in_ok-push.ensures.items ∙ ap (λ (sizes : List Size). sizes ++ record { jobs = c.len-jobs.result; stretches = c.len-stretches.result } ∷ []) c.in_ok-stack.ensures.sizes
           ∙ ap (λ (size : Size). size ∷ []) (size_is c.len-jobs.result c.len-stretches.result part count count_stretches)))
-      | else-jobs-gt0 w ↦ subst (IsBegun jobs) (sym w.stack-is) (none_begun jobs windows order ends marks ranks instance c.in_ok-order.ensures farthest covered ranked _
+      | else-jobs-gt0 w ↦ subst (IsBegun jobs) (sym w.stack-is) (none_begun jobs windows order ends marks ranks instance c.requires.timeline.ordered farthest covered ranked _
           (omega (arith, w.if-jobs-gt0.false, count)) own own_stretches c.in_ok-stack.ensures.sizes)
     ]

@@ -1,0 +1,101 @@
+-- How sorted keys cut time: a time more behind others, and the places of the keys' times.
+use Rattle.std.proofs.Common.{◌≡◌, ℕ, suc, ◌+◌, ◌-◌, ◌<◌, ◌≤◌, List, [], ◌∷◌, ◌++◌, length, get_or, set, map, take, ◌∙◌, refl, sym, ap, inl, inr, arith}
+use Rattle.std.specs.Prelude.{◌==◌, Bool, true, false, cond, nat_lt}
+use Rattle.std.specs.List.{All, dedup, dedup_from}
+use Rattle.std.proofs.lemmas.Bool.{cases_Bool, cases_eq, and_parts, lt-ltb, ltb-true, eqb-true}
+use Rattle.std.proofs.lemmas.List.{get_or_append_left, get_or_push, get_or-set_same, get_or-set_other, length_push, map_more}
+use Rattle.yds_model.proofs.Lists.{place_cases}
+use Rattle.yds_events.specs.Keys.{time_of, number_of, IsKey, IsAt, ArePlaced, ends_with, with_last}
+
+-- # A time more
+
+-- it stands last
+last_at : (times : List ℕ) (time : ℕ) → IsAt (with_last times time) time (length (with_last times time) - 1)
+last_at times time = elim (cases_Bool (ends_with times time)) [
+  | inl ends ↦
+      let parts = and_parts (nat_lt 0 (length times)) (time == get_or times (length times - 1) 0) ends in
+      rw ends (record {
+        within = omega (arith, ltb-true 0 (length times) parts.0);
+        is = sym (eqb-true time (get_or times (length times - 1) 0) parts.1);
+      })
+  | inr new ↦ rw new (record {
+    within = omega (arith, length_push times time);
+    is = get_or_push times time 0 (length (times ++ time ∷ []) - 1) (omega (arith, length_push times time));
+  })
+]
+
+-- and the others where they stood
+kept_at : (times : List ℕ) (more time place : ℕ) → IsAt times time place → IsAt (with_last times more) time place
+kept_at times more time place at = elim (cases_Bool (ends_with times more)) [
+  | inl ends ↦ rw ends at
+  | inr new ↦ rw new (record {
+    within = omega (arith, at.within, length_push times more);
+    is = get_or_append_left times (more ∷ []) 0 place at.within ∙ at.is;
+  })
+]
+
+pub at_most_one : (times : List ℕ) (time : ℕ) → length (with_last times time) ≤ length times + 1
+at_most_one times time = elim (cases_Bool (ends_with times time)) [
+  | inl ends ↦ rw ends (omega arith)
+  | inr new ↦ rw new (omega (arith, length_push times time))
+]
+
+-- # What stays without repeats
+
+cond_after : (first : ℕ) (b : Bool) (xs ys : List ℕ) → first ∷ cond b xs ys ≡ cond b (first ∷ xs) (first ∷ ys)
+cond_after first true xs ys = refl
+cond_after first false xs ys = refl
+
+-- a time before others
+same_end : (first next time : ℕ) (times : List ℕ) → ends_with (first ∷ next ∷ times) time ≡ ends_with (next ∷ times) time
+same_end first next time times =
+    let one : length (next ∷ times) - 1 ≡ length times = omega arith in
+    let two : length (first ∷ next ∷ times) - 1 ≡ suc (length times) = omega arith in
+    rw (one, two, lt-ltb 0 (length (next ∷ times)) (omega arith), lt-ltb 0 (length (first ∷ next ∷ times)) (omega arith)) refl
+
+last_cons : (first : ℕ) (times : List ℕ) (time : ℕ) → 1 ≤ length times → first ∷ with_last times time ≡ with_last (first ∷ times) time
+last_cons first [] time some = absurd (omega arith)
+last_cons first (next ∷ times) time some =
+    ap (λ b. first ∷ cond b (next ∷ times) ((next ∷ times) ++ time ∷ [])) (sym (same_end first next time times))
+    ∙ cond_after first (ends_with (first ∷ next ∷ times) time) (next ∷ times) ((next ∷ times) ++ time ∷ [])
+
+dedup_more : (first : ℕ) (times : List ℕ) (time : ℕ) →
+    (1 ≤ length (dedup_from (λ x y. x == y) first times))
+    × (dedup_from (λ x y. x == y) first (times ++ time ∷ []) ≡ with_last (dedup_from (λ x y. x == y) first times) time)
+dedup_more first [] time = (omega arith, elim (cases_Bool (time == first)) [ inl same ↦ rw same refl | inr new ↦ rw new refl ])
+dedup_more first (next ∷ times) time = elim (cases_Bool (next == first)) [
+  | inl same ↦ rw same (dedup_more first times time)
+  | inr new ↦
+      let more = dedup_more next times time in
+      rw new (omega arith, ap (λ (xs : List ℕ). first ∷ xs) more.1 ∙ last_cons first (dedup_from (λ x y. x == y) next times) time more.0)
+]
+
+dedup_push : (times : List ℕ) (time : ℕ) → dedup (λ x y. x == y) (times ++ time ∷ []) ≡ with_last (dedup (λ x y. x == y) times) time
+dedup_push [] time = refl
+dedup_push (first ∷ times) time = (dedup_more first times time).1
+
+pub times_more : (keys : List ℕ) (i : ℕ) → i < length keys →
+    with_last (dedup (λ x y. x == y) (map time_of (take i keys))) (time_of (get_or keys i 0)) ≡ dedup (λ x y. x == y) (map time_of (take (i + 1) keys))
+times_more keys i within = sym (ap (dedup (λ x y. x == y)) (map_more time_of keys i 0 within) ∙ dedup_push (map time_of (take i keys)) (time_of (get_or keys i 0)))
+
+-- # Places
+
+pub placed_more : (times keys points places : List ℕ) (n : ℕ) → All (IsKey times) keys → length times ≡ length keys → length places ≡ length keys → n < length keys →
+    ArePlaced keys n points places → ArePlaced keys (n + 1) (with_last points (time_of (get_or keys n 0)))
+    (set places (number_of (get_or keys n 0)) (length (with_last points (time_of (get_or keys n 0))) - 1))
+placed_more times keys points places n are count all within placed i below =
+    let key = get_or keys n 0 in
+    let place = length (with_last points (time_of key)) - 1 in
+    let here = are n 0 within in
+    elim (cases_eq (number_of (get_or keys i 0)) (number_of key)) [
+      | inl same ↦
+          let time : time_of (get_or keys i 0) ≡ time_of key = (are i 0 (omega arith)).same ∙ ap (λ k. get_or times k 0) same ∙ sym here.same in
+          rw (time, same, get_or-set_same places (number_of key) place 0 (omega (arith, here.known))) (last_at points (time_of key))
+      | inr other ↦
+          let before : i < n = elim (place_cases i n below) [
+            | inl less ↦ less
+            | inr is ↦ absurd (other (ap (λ k. number_of (get_or keys k 0)) is))
+          ] in
+          rw (get_or-set_other places (number_of key) (number_of (get_or keys i 0)) place 0 other)
+          (kept_at points (time_of key) (time_of (get_or keys i 0)) (get_or places (number_of (get_or keys i 0)) 0) (placed i before))
+    ]

@@ -1,0 +1,8 @@
+use Rattle.std.proofs.Common.{◌≡◌, take}
+use Rattle.std.specs.List.{All}
+use Rattle.yds_model.specs.Job.{IsJob}
+use Rattle.yds_events.specs.Keys.{ends_of}
+use Rattle.yds_events.proofs.event_points.ends.Given as goal
+
+abbrev pub invariant-loop-row : goal.invariant-loop-row
+invariant-loop-row l = record { ends : l.ends.items ≡ ends_of (take l.row-index l.rows); jobs : All IsJob (take l.row-index l.rows) }

@@ -1,0 +1,13 @@
+use Rattle.std.proofs.Common.{◌≡◌, ◌≤◌, length, map, take}
+use Rattle.std.specs.Prelude.{◌==◌}
+use Rattle.std.specs.List.{dedup}
+use Rattle.yds_events.specs.Keys.{time_of, ArePlaced}
+use Rattle.yds_events.proofs.timeline.cut.Given as goal
+
+abbrev pub invariant-loop-key : goal.invariant-loop-key
+invariant-loop-key l = record {
+  few : length l.times.items ≤ l.key-index;
+  count : length l.places.items ≡ length l.keys;
+  times : l.times.items ≡ dedup (λ x y. x == y) (map time_of (take l.key-index l.keys));
+  placed : ArePlaced l.keys l.key-index l.times.items l.places.items;
+}

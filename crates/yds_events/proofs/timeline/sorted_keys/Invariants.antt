@@ -1,0 +1,7 @@
+use Rattle.std.proofs.Common.{◌≡◌, map}
+use Rattle.std.specs.List.{range_with_len}
+use Rattle.yds_events.specs.Keys.{key_of}
+use Rattle.yds_events.proofs.timeline.sorted_keys.Given as goal
+
+abbrev pub invariant-loop-number : goal.invariant-loop-number
+invariant-loop-number l = l.keys.items ≡ map (key_of l.times) (range_with_len 0 l.number)

@@ -1,0 +1,8 @@
+use Rattle.std.proofs.Common.{◌∙◌, sym, arith}
+use Rattle.std.proofs.lemmas.List.FromFn.{map-range_with_len_more}
+use Rattle.yds_events.specs.Keys.{window_from}
+use Rattle.yds_events.proofs.timeline.windows_from.Goals as goal
+
+pub loop-job-preserved : goal.loop-job-preserved
+loop-job-preserved c = c.in_ok-push.ensures.items
+    ∙ rw c.loop-job.invariant (sym (map-range_with_len_more (window_from c.args.places.now) 0 c.loop-job.job c.loop-job.job (omega arith)))
