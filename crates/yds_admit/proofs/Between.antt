@@ -131,9 +131,9 @@ module _ (top : ℕ) (jobs : List Job) (row : Job) (from : ℕ) (until : from �
     }
 
     -- one job more that is due by then
-    pub added : i < length jobs → (job_at jobs i).deadline ≤ to → (job_at jobs i).work ≤ MAX_WORK → (more : ℕ) → more ≡ part_released from (job_at jobs i) → more ≤ MAX_WORK →
+    pub added : i < length jobs → (job_at jobs i).deadline ≤ to → (more : ℕ) → more ≡ part_released from (job_at jobs i) → more ≤ MAX_WORK →
         Counted top jobs row from (work + more) to (i + 1)
-    added below soon light more is few = record {
+    added below soon more is few = record {
       within = omega (arith, below);
       sum = omega (arith, counted.sum, more_released jobs from i below, is);
       few = omega (arith, counted.few, few);

@@ -1,4 +1,4 @@
-ghost use Rattle.std.specs.Prelude.{◌≡◌, ◌*◌, ◌≤◌, ◌++◌, ◌∷◌, [], IfOk, MatchOption, length, take, All};
+ghost use Rattle.std.specs.Prelude.{◌≡◌, ◌*◌, ◌≤◌, ◌++◌, ◌∷◌, [], nat_le, if◌then◌else◌, IfOk, MatchOption, length, take, All};
 ghost use Rattle.std.specs.List.Sorted.{IsPermutation, IsNonDecreasingBy};
 ghost use Rattle.yds_model.specs.declared.limits.TheConstants.{MAX_WORK};
 ghost use Rattle.yds_model.specs.Job.{IsJob};
@@ -58,9 +58,7 @@ pub(crate) fn overfull_from(
             }
             to = job.deadline;
         }
-        if from <= job.release {
-            work += u64::from(job.work);
-        }
+        work += released_part(job, from);
     }
     if work > u64::from(top) * u64::from(to - from) {
         return Some(Overfull { from, to, work });
@@ -80,10 +78,17 @@ fn released_before(by_deadline: &[JobRow], place: usize, from: u32) -> u64
     let mut work = 0;
     // Those that are due before that time were released before it.
     for number in due_before(by_deadline, from).min(place)..place {
-        let job = &by_deadline[number];
-        if job.release >= from {
-            work += u64::from(job.work);
-        }
+        work += released_part(&by_deadline[number], from);
     }
     work
+}
+
+/// The work of a job that is released at a time or later, in units of work, and none of one that is released before.
+#[inline]
+fn released_part(job: &JobRow, from: u32) -> u64
+    ensures part { result ≡ (if nat_le from job.now.release then job.now.work else 0) }
+    ensures few { result ≤ MAX_WORK }
+{
+    let work = u64::from(job.work);
+    if from <= job.release { work } else { 0 }
 }

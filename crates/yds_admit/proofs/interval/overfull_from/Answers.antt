@@ -1,10 +1,10 @@
-use Rattle.std.proofs.Common.{◌≡◌, ◌≤◌, ◌∙◌, ◌+◌, sym, arith, ap, subst}
+use Rattle.std.proofs.Common.{◌≡◌, ◌≤◌, ◌∙◌, sym, arith, ap, subst}
 use Rattle.std.proofs.lemmas.List.{get_or_read}
 use Rattle.yds_model.specs.Job.{Job, no_job, job_at}
-use Rattle.yds_model.proofs.Confined.{is_released, not_released}
+use Rattle.yds_model.proofs.Confined.{part_released}
 use Rattle.yds_admit.proofs.Between.{Counted, begun, moved, added, first_from, none_found}
 use Rattle.yds_admit.proofs.interval.overfull_from.Goals as goal
-use Rattle.yds_admit.proofs.interval.overfull_from.Goals.{then-to-job+else-work-from, else-to-job, then-from-job, else-from-job}
+use Rattle.yds_admit.proofs.interval.overfull_from.Goals.{then-to-job+else-work-from, else-to-job}
 
 pub loop-number-init : goal.loop-number-init
 loop-number-init c =
@@ -33,10 +33,7 @@ loop-number-preserved c =
     let i = c.loop-number.number in
     let below = c.loop-number-test.true in
     let is = c.job.view_is ∙ get_or_read jobs i c.index-by_deadline-number.result below c.index-by_deadline-number.is no_job in
-    let release : c.job.inside.release ≡ (job_at jobs i).release = ap (λ (job : Job). job.release) is in
     let deadline : c.job.inside.deadline ≡ (job_at jobs i).deadline = ap (λ (job : Job). job.deadline) is in
-    let work : c.job.inside.work ≡ (job_at jobs i).work = ap (λ (job : Job). job.work) is in
-    let light : (job_at jobs i).work ≤ 1000000 = omega (arith, work, c.job.invariant.work_in_range) in
     let reached : Counted top jobs row c.args.from c.loop-number.work c.if-to-job.to i = elim c.if-to-job.branch [
       | then-to-job+else-work-from w ↦
           subst (λ to. Counted top jobs row c.args.from c.loop-number.work to i) (sym (w.to-is ∙ deadline))
@@ -48,17 +45,8 @@ loop-number-preserved c =
       | then-to-job+else-work-from w ↦ omega (arith, w.to-is, deadline)
       | else-to-job w ↦ omega (arith, w.to-is, w.if-to-job.false, deadline)
     ] in
-    elim c.if-from-job.branch [
-      | then-from-job w ↦
-          rw (w.work-is, w.from-work.ensures)
-          (added top jobs row c.args.from c.requires.until c.loop-number.work c.if-to-job.to i reached below soon light c.job.inside.work
-          (work ∙ sym (is_released c.args.from (job_at jobs i) (omega (arith, w.if-from-job.true, release)))) (omega (arith, light, work)))
-      | else-from-job w ↦
-          let same : c.loop-number.work + 0 ≡ c.loop-number.work = omega arith in
-          rw w.work-is (subst (λ work. Counted top jobs row c.args.from work c.if-to-job.to (i + 1)) same
-          (added top jobs row c.args.from c.requires.until c.loop-number.work c.if-to-job.to i reached below soon light 0
-          (sym (not_released c.args.from (job_at jobs i) (omega (arith, w.if-from-job.false, release)))) (omega arith)))
-    ]
+    added top jobs row c.args.from c.requires.until c.loop-number.work c.if-to-job.to i reached below soon c.released_part-work.result
+    (c.released_part-work.ensures.part ∙ ap (part_released c.args.from) (get_or_read jobs i c.index-by_deadline-number.result below c.index-by_deadline-number.is no_job)) c.released_part-work.ensures.few
 
 pub returns-then-work-from-2 : goal.returns-then-work-from-2
 returns-then-work-from-2 c =
