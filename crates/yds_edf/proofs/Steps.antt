@@ -1,32 +1,19 @@
--- What one step of an engine keeps: a job is served, or a job arrives.
-use Rattle.std.proofs.Common.{◌≡◌, ◌≢◌, ℕ, ◌+◌, ◌-◌, ◌*◌, ◌<◌, ◌≤◌, min, List, ◌∷◌, length, slice_index, slice_index_or, slice_set, ◌∙◌, refl, sym, subst, arith, inl, inr, ap, cond, length-set, get_or-set_other, get_or-set_same}
-use Rattle.std.specs.Prelude.{◌==◌, All, Contains, Option, Some, None, IsSome, IfSome, OnSome}
-use Rattle.std.specs.declared.cmp.Reverse.{Reverse}
-use Rattle.std.specs.BinaryHeap.{IsHeap, IsUpperBound, PopsGreatest}
-use Rattle.std.specs.List.Sorted.{IsPermutation}
-use Rattle.std.proofs.lemmas.List.Sums.{get_or-le-sum_by}
-use Rattle.std.proofs.lemmas.List.Sorted.{sum_by_popped, All-permutation}
-use Rattle.std.proofs.lemmas.List.Elements.{All-contains, All-tail}
-use Rattle.std.proofs.lemmas.Bool.{cases_eq, eq-eqb, ne_eqb}
+-- What serving the job at the first place with units keeps of an engine.
+use Rattle.std.proofs.Common.{◌≡◌, ◌≢◌, ℕ, ◌+◌, ◌-◌, ◌<◌, ◌≤◌, min, List, length, set, slice_index, slice_index_or, slice_set, ◌∙◌, refl, sym, arith, inl, inr, ap, cond, length-set, get_or-set_other, get_or-set_same}
+use Rattle.std.specs.Prelude.{nat_lt}
+use Rattle.std.proofs.lemmas.Bool.{cases_eq, cases_lt, lt-ltb, le-ltb}
 use Rattle.std.proofs.lemmas.List.{get_or_read}
-use Rattle.yds_model.specs.Job.{Job, no_job, job_at}
-use Rattle.yds_edf.specs.declared.entry.Entry.{Entry}
-use Rattle.yds_edf.specs.Entries.{comes_first, entries_of}
+use Rattle.std.proofs.Math.Nat.{mul-le-mul}
+use Rattle.yds_model.specs.Job.{no_job}
+use Rattle.yds_edf.specs.declared.order.Due.{Due}
+use Rattle.yds_edf.specs.declared.pending.PendingJobs.{PendingJobs}
+use Rattle.yds_edf.specs.Blocks.{IsFirstPlace}
+use Rattle.yds_edf.specs.Order.{no_due, due_at}
 use Rattle.yds_edf.specs.Pending.{units_wanted}
 use Rattle.yds_edf.specs.Queue.{pending_in, units_left}
-use Rattle.yds_edf.specs.Engine.{TiedQueue, IsTiedQueue, IsEngine, IsPending, with_served, ServesFirst}
-use Rattle.yds_edf.proofs.Sums.{sum_below_change, sum_below_term}
-use Rattle.yds_edf.proofs.Heaps.{entries_tell, none_coming, entries_times, top_is_first}
-
--- an entry counts for its job
-pub entry_counts : (entry : Reverse Entry) (entries : List (Reverse Entry)) → Contains entries entry → 1 ≤ entries_of entries entry.0.job
-entry_counts entry entries there =
-    omega (
-      arith,
-      get_or-le-sum_by (λ (x : Reverse Entry). cond (entry.0.job == x.0.job) 1 0) entries there.0 entry there.1,
-      ap {B = ℕ} (λ (x : Reverse Entry). cond (entry.0.job == x.0.job) 1 0) there.2,
-      ap {B = ℕ} (λ b. cond b 1 0) (eq-eqb entry.0.job entry.0.job refl),
-    )
+use Rattle.yds_edf.specs.Engine.{TiedQueue, IsTiedQueue, IsEngine, with_served, ServesFirst}
+use Rattle.yds_edf.proofs.Places.{entry_at, placed_at, ranked_with}
+use Rattle.yds_edf.proofs.Ranked.{fresh_at, pending_is_left, first_is_due}
 
 -- the number at a place, once that at a place was changed
 pub changed_here : (xs : List ℕ) (i v : ℕ) → i < length xs → slice_index (slice_set xs i v) i ≡ v
@@ -35,201 +22,149 @@ changed_here xs i v within = get_or-set_same xs i v 0 within
 pub changed_elsewhere : (xs : List ℕ) (i j v : ℕ) → j ≢ i → slice_index (slice_set xs i v) j ≡ slice_index xs j
 changed_elsewhere xs i j v other = get_or-set_other xs i j v 0 other
 
--- the job of an entry that pending jobs have is served so many units more
-module _ (tied : TiedQueue) (waiting ready : List (Reverse Entry)) (units : ℕ) (engine : IsEngine tied waiting ready units)
-    (top : Reverse Entry) (there : Contains ready top) where
-  its : IsPending tied.queue.jobs tied.ties tied.queue.time top
-  its = All-contains (IsPending tied.queue.jobs tied.ties tied.queue.time) ready top engine.heaps.pending there
+module _ {tied : TiedQueue} {arrivals : List Due} {arrived : ℕ} {pending : PendingJobs} (engine : IsEngine tied arrivals arrived pending)
+    {place : ℕ} (first : IsFirstPlace pending.units place) where
+  abbrev pub job : ℕ
+  job = (due_at pending.order.items place).job
 
-  one_entry : entries_of ready top.0.job ≡ 1
-  one_entry = omega (arith, entry_counts top ready there, (entries_tell tied waiting ready units engine top.0.job its.known).0)
+  within : place < length pending.order.items
+  within = omega (arith, first.known, engine.jobs.ranked.all_units)
 
-  pub pending_is_left : pending_in tied.queue top.0.job ≡ units_left tied.queue top.0.job
-  pending_is_left = rw its.arrived refl
+  pub job_known : job < length tied.queue.jobs
+  job_known = (entry_at tied.queue.jobs tied.ties pending.order.items engine.jobs.ranked.order.same place within).known
 
-  pub some_left : 1 ≤ units_left tied.queue top.0.job
-  some_left = omega (arith, pending_is_left, one_entry, (entries_tell tied waiting ready units engine top.0.job its.known).0)
+  pub job_read : (due : Due) → due ≡ slice_index_or pending.order.items place due → (due.job ≡ job) × (due.job < length tied.queue.served)
+  job_read due is =
+      let same : due.job ≡ job = ap (λ (due : Due). due.job) (get_or_read pending.order.items place due within is no_due) in
+      (same, omega (arith, same, job_known, engine.kept.served))
 
-  pub left_within : units_left tied.queue top.0.job ≤ units
-  left_within = omega (
+  -- the units at the place are what is pending of its job, and all that is left of it
+  pub is_pending : slice_index pending.units place ≡ pending_in tied.queue job
+  is_pending = fresh_at engine place within
+
+  pub is_left : slice_index pending.units place ≡ units_left tied.queue job
+  is_left = is_pending ∙ pending_is_left engine job (omega (arith, is_pending, first.some))
+
+  module _ (more : ℕ) (enough : more ≤ slice_index pending.units place) where
+    abbrev units : List ℕ
+    units = set pending.units place (slice_index pending.units place - more)
+
+    left_here : units_left (with_served tied job more).queue job ≡ slice_index pending.units place - more
+    left_here = omega (
+      arith,
+      is_left,
+      changed_here tied.queue.served job (slice_index tied.queue.served job + more) (omega (arith, job_known, engine.kept.served)),
+    )
+
+    left_elsewhere : (number : ℕ) → number ≢ job → units_left (with_served tied job more).queue number ≡ units_left tied.queue number
+    left_elsewhere number other =
+        ap (λ n. units_wanted tied.queue.jobs tied.queue.grain number - n) (changed_elsewhere tied.queue.served job number _ other)
+
+    kept_after : IsTiedQueue (with_served tied job more)
+    kept_after = record {
+      few = engine.kept.few;
+      jobs = engine.kept.jobs;
+      some_grain = engine.kept.some_grain;
+      grain_in_range = engine.kept.grain_in_range;
+      ties = engine.kept.ties;
+      different = engine.kept.different;
+      served = length-set _ _ _ ∙ engine.kept.served;
+      within = λ number known. elim (cases_eq number job) [
+        | inl same ↦ rw (
+          same,
+          changed_here tied.queue.served job (slice_index tied.queue.served job + more) (omega (arith, job_known, engine.kept.served)),
+        )
+            (omega (arith, enough, is_left, engine.kept.within job job_known))
+        | inr other ↦ rw (changed_elsewhere tied.queue.served job number (slice_index tied.queue.served job + more) other) (engine.kept.within number known)
+      ];
+    }
+
+    placed_after : (k : ℕ) → k < length arrivals →
+        slice_index units (slice_index pending.places.items (due_at arrivals k).job)
+        ≡ cond (nat_lt k arrived) (units_left (with_served tied job more).queue (due_at arrivals k).job) 0
+    placed_after k inside =
+        let number = (due_at arrivals k).job in
+        let entry = entry_at tied.queue.jobs tied.ties arrivals engine.jobs.same k inside in
+        elim (cases_eq number job) [
+          | inl same ↦ elim (cases_lt k arrived) [
+            | inl before ↦ rw (same, engine.jobs.ranked.places place within, lt-ltb k arrived before)
+                (changed_here pending.units place (slice_index pending.units place - more) first.known ∙ sym left_here)
+            | inr later ↦
+                let none : slice_index pending.units place ≡ 0 =
+                ap (slice_index pending.units) (sym (engine.jobs.ranked.places place within) ∙ ap (slice_index pending.places.items) (sym same))
+                ∙ engine.jobs.placed k inside ∙ ap {B = ℕ} (λ b. cond b (units_left tied.queue number) 0) (le-ltb k arrived later) in
+                absurd (omega (arith, none, first.some))
+          ]
+          | inr other ↦
+              changed_elsewhere pending.units place (slice_index pending.places.items number) (slice_index pending.units place - more)
+              (λ is. other (sym (placed_at engine.jobs.ranked number entry.known).1 ∙ ap (λ p. (due_at pending.order.items p).job) is))
+              ∙ engine.jobs.placed k inside
+              ∙ ap (λ n. cond (nat_lt k arrived) n 0) (sym (left_elsewhere number other))
+        ]
+
+    pub served_some : IsEngine (with_served tied job more) arrivals arrived (record pending { units = units })
+    served_some = record {
+      kept = kept_after;
+      jobs = record {
+        ranked = ranked_with engine.jobs.ranked units (length-set pending.units place (slice_index pending.units place - more));
+        same = engine.jobs.same;
+        rising = engine.jobs.rising;
+        placed = placed_after;
+      };
+      come = engine.come;
+    }
+
+  pub serves_first : (room more : ℕ) → 1 ≤ room → more ≡ min (slice_index pending.units place) room → ServesFirst tied (with_served tied job more) room job more
+  serves_first room more some is = record {
+    known = job_known;
+    some = omega (arith, is, some, first.some);
+    lesser = omega (arith, is, is_pending);
+    first = first_is_due engine place first;
+    after = refl;
+  }
+
+-- what `serve_first` reads: the entry at the place, the units there, how many of them are served, and those that the job was served
+-- before; and the units that it leaves
+pub record Reads (tied : TiedQueue) (pending : PendingJobs) (room place : ℕ) (due : Due) (left more now : ℕ) (units : List ℕ) : Type 0 where
+  pub first : IsFirstPlace pending.units place
+  pub some : 1 ≤ room
+  pub due_is : due ≡ slice_index_or pending.order.items place due
+  pub left_is : left ≡ slice_index pending.units place
+  pub more_is : more ≡ min left room
+  pub now_is : now ≡ slice_index_or tied.queue.served due.job now
+  pub units_are : units ≡ set pending.units place (left - more)
+
+module _ {tied : TiedQueue} {arrivals : List Due} {arrived : ℕ} {pending : PendingJobs} (engine : IsEngine tied arrivals arrived pending)
+    {room place : ℕ} {due : Due} {left more now : ℕ} {units : List ℕ} (reads : Reads tied pending room place due left more now units) where
+  read : due.job ≡ job engine reads.first
+  read = (job_read engine reads.first due reads.due_is).0
+
+  now_read : now ≡ slice_index tied.queue.served (job engine reads.first)
+  now_read =
+      get_or_read tied.queue.served due.job now (job_read engine reads.first due reads.due_is).1 reads.now_is 0
+      ∙ ap (slice_index tied.queue.served) read
+
+  pub now_fits : now + more ≤ 1000000000000000
+  now_fits = omega (
     arith,
-    engine.heaps.sum,
-    sum_below_term (length tied.queue.jobs) top.0.job (λ number. entries_of ready number * units_left tied.queue number) its.known,
-    (entries_tell tied waiting ready units engine top.0.job its.known).1,
-    pending_is_left,
+    now_read,
+    reads.more_is,
+    reads.left_is,
+    is_left engine reads.first,
+    engine.kept.within (job engine reads.first) (job_known engine reads.first),
+    mul-le-mul (engine.kept.jobs (job engine reads.first) no_job (job_known engine reads.first)).work_in_range engine.kept.grain_in_range,
   )
 
-  left_after : (more number : ℕ) → number < length tied.queue.jobs → number ≢ top.0.job →
-      units_left (with_served tied top.0.job more).queue number ≡ units_left tied.queue number
-  left_after more number within other =
-      ap (λ n. units_wanted tied.queue.jobs tied.queue.grain number - n) (changed_elsewhere tied.queue.served top.0.job number _ other)
-
-  left_here : (more : ℕ) →
-      units_left (with_served tied top.0.job more).queue top.0.job ≡ units_left tied.queue top.0.job - more
-  left_here more =
-      let here = changed_here tied.queue.served top.0.job (slice_index tied.queue.served top.0.job + more)
-      (omega (arith, its.known, engine.kept.served)) in
-      omega (arith, here)
-
-  kept_after : (more : ℕ) → more ≤ units_left tied.queue top.0.job → IsTiedQueue (with_served tied top.0.job more)
-  kept_after more enough = record {
-    few = engine.kept.few;
-    jobs = engine.kept.jobs;
-    some_grain = engine.kept.some_grain;
-    grain_in_range = engine.kept.grain_in_range;
-    ties = engine.kept.ties;
-    different = engine.kept.different;
-    served = length-set _ _ _ ∙ engine.kept.served;
-    within = λ number within. elim (cases_eq number top.0.job) [
-      | inl same ↦ rw (
-        same,
-        changed_here tied.queue.served top.0.job (slice_index tied.queue.served top.0.job + more)
-            (omega (arith, its.known, engine.kept.served)),
-      )
-          (omega (arith, enough, engine.kept.within top.0.job its.known))
-      | inr other ↦ rw (changed_elsewhere tied.queue.served top.0.job number (slice_index tied.queue.served top.0.job + more) other) (engine.kept.within number within)
-    ];
-  }
-
-  -- its entry is still there where units of it are left, and gone where none are
-  pub after_serving : (more : ℕ) (rest : List (Reverse Entry)) → more ≤ units_left tied.queue top.0.job →
-      All (IsPending tied.queue.jobs tied.ties tied.queue.time) rest → IsHeap comes_first rest →
-      ((number : ℕ) → number ≢ top.0.job → entries_of rest number ≡ entries_of ready number) →
-      entries_of rest top.0.job ≡ min 1 (units_left tied.queue top.0.job - more) →
-      IsEngine (with_served tied top.0.job more) waiting rest (units - more)
-  after_serving more rest enough pending heap others here =
-      let gone = none_coming tied waiting ready units engine top.0.job its.arrived in
-      let same : (number : ℕ) → number < length tied.queue.jobs → number ≢ top.0.job →
-      entries_of ready number * units_left tied.queue number
-      ≡ entries_of rest number * units_left (with_served tied top.0.job more).queue number =
-      λ number within other. rw (others number other, left_after more number within other) refl in
-      record {
-        kept = kept_after more enough;
-        heaps = record {
-          coming = engine.heaps.coming;
-          pending = pending;
-          once = λ number within. elim (cases_eq number top.0.job) [
-            | inl is ↦ rw (is, left_here more) (omega (arith, gone, here))
-            | inr other ↦ rw (others number other, left_after more number within other) (engine.heaps.once number within)
-          ];
-          coming_heap = engine.heaps.coming_heap;
-          pending_heap = heap;
-          sum = omega (
-            arith,
-            engine.heaps.sum,
-            sum_below_change (length tied.queue.jobs) top.0.job
-                (λ number. entries_of ready number * units_left tied.queue number)
-                (λ number. entries_of rest number * units_left (with_served tied top.0.job more).queue number) its.known same,
-            (entries_tell tied waiting ready units engine top.0.job its.known).1,
-            pending_is_left,
-            ap (λ n. entries_of rest top.0.job * n) (left_here more),
-            entries_times (entries_of rest top.0.job) (units_left tied.queue top.0.job - more) here,
-          );
-        };
-        later = engine.later;
-      }
-
-  -- not all that is left of the job is served
-  pub served_some : (more : ℕ) → more < units_left tied.queue top.0.job →
-      IsEngine (with_served tied top.0.job more) waiting ready (units - more)
-  served_some more less =
-      after_serving more ready (omega (arith, less)) engine.heaps.pending engine.heaps.pending_heap (λ number other. refl)
-      (omega (arith, one_entry, less))
-
-  -- all that is left of the job is served, and its entry is taken out
-  pub served_all : (rest : List (Reverse Entry)) → IsPermutation ready (top ∷ rest) → IsHeap comes_first rest →
-      IsEngine (with_served tied top.0.job (units_left tied.queue top.0.job)) waiting rest
-      (units - units_left tied.queue top.0.job)
-  served_all rest moved heap =
-      let counted : (number : ℕ) → entries_of rest number + cond (number == top.0.job) 1 0 ≡ entries_of ready number =
-      λ number. sum_by_popped (λ (entry : Reverse Entry). cond (number == entry.0.job) 1 0) top ready rest moved in
-      after_serving (units_left tied.queue top.0.job) rest (omega arith)
-      (All-tail (IsPending tied.queue.jobs tied.ties tied.queue.time) top rest
-      (All-permutation (IsPending tied.queue.jobs tied.ties tied.queue.time) _ _ moved engine.heaps.pending)) heap
-      (λ number other. omega (arith, counted number, ap {B = ℕ} (λ b. cond b 1 0) (ne_eqb number top.0.job other)))
-      (omega (arith, counted top.0.job, one_entry, ap {B = ℕ} (λ b. cond b 1 0) (eq-eqb top.0.job top.0.job refl)))
-
--- what `serve_first` reads: the top of the pending heap, the units that its job was served, its row, the units that are left
--- of it, and how many of them are served
-pub record Reads (tied : TiedQueue) (ready : List (Reverse Entry)) (room : ℕ) (top : Reverse Entry) (now : ℕ) (row : Job)
-    (left more : ℕ) : Type 0 where
-  pub some : 1 ≤ room
-  pub there : 0 < length ready
-  pub top_is : top ≡ slice_index_or ready 0 top
-  pub now_is : now ≡ slice_index_or tied.queue.served top.0.job now
-  pub row_is : row ≡ slice_index_or tied.queue.jobs top.0.job row
-  pub left_is : left ≡ row.work * tied.queue.grain - now
-  pub more_is : more ≡ min left room
-
-module _ {tied : TiedQueue} {waiting ready : List (Reverse Entry)} {units : ℕ} (engine : IsEngine tied waiting ready units)
-    {room : ℕ} {top : Reverse Entry} {now : ℕ} {row : Job} {left more : ℕ} (reads : Reads tied ready room top now row left more) where
-  stands : Contains ready top
-  stands = (0, reads.there, sym reads.top_is)
-
-  pub now_read : now ≡ slice_index tied.queue.served top.0.job
-  now_read = get_or_read tied.queue.served top.0.job now
-      (omega (arith, (its tied waiting ready units engine top stands).known, engine.kept.served)) reads.now_is 0
-
-  pub left_read : left ≡ units_left tied.queue top.0.job
-  left_read =
-      let row_at : row ≡ job_at tied.queue.jobs top.0.job =
-      get_or_read tied.queue.jobs top.0.job row (its tied waiting ready units engine top stands).known reads.row_is no_job in
-      reads.left_is ∙ rw (row_at, now_read) refl
-
-  -- no more is served than is pending
-  pub more_within : more ≤ units
-  more_within = omega (arith, reads.more_is, left_read, left_within tied waiting ready units engine top stands)
-
   -- the queue as it is written back
-  served_more : with_served tied top.0.job more
-      ≡ record {
-        queue = record tied.queue { served = slice_set tied.queue.served top.0.job (now + more) };
-        ties = tied.ties;
-      }
-  served_more = rw now_read refl
+  abbrev written : TiedQueue
+  written = record { queue = record tied.queue { served = slice_set tied.queue.served due.job (now + more) }; ties = tied.ties }
 
-  pub some_kept : (more ≡ left → ⊥) →
-      IsEngine (record {
-        queue = record tied.queue { served = slice_set tied.queue.served top.0.job (now + more) };
-        ties = tied.ties;
-      }) waiting ready (units - more)
-  some_kept other = subst (λ (after : TiedQueue). IsEngine after waiting ready (units - more)) served_more
-      (served_some tied waiting ready units engine top stands more (omega (arith, reads.more_is, left_read, other)))
+  served_more : with_served tied (job engine reads.first) more ≡ written
+  served_more = rw (read, now_read) refl
 
-  pub all_kept : (rest : List (Reverse Entry)) → more ≡ left → IsPermutation ready (top ∷ rest) → IsHeap comes_first rest →
-      IsEngine (record {
-        queue = record tied.queue { served = slice_set tied.queue.served top.0.job (now + more) };
-        ties = tied.ties;
-      }) waiting rest (units - more)
-  all_kept rest same moved heap = subst (λ (after : TiedQueue). IsEngine after waiting rest (units - more)) served_more
-      (rw (same ∙ left_read) (served_all tied waiting ready units engine top stands rest moved heap))
+  pub kept_read : IsEngine written arrivals arrived (record pending { units = units })
+  kept_read = rw (← served_more, reads.units_are, reads.left_is)
+      (served_some engine reads.first more (omega (arith, reads.more_is, reads.left_is)))
 
-  pub serves_first : IsUpperBound comes_first top ready →
-      ServesFirst tied (record {
-        queue = record tied.queue { served = slice_set tied.queue.served top.0.job (now + more) };
-        ties = tied.ties;
-      }) room top.0.job more
-  serves_first bound = record {
-    known = (its tied waiting ready units engine top stands).known;
-    some = omega (arith, reads.more_is, reads.some, left_read, some_left tied waiting ready units engine top stands);
-    lesser = omega (arith, reads.more_is, left_read, pending_is_left tied waiting ready units engine top stands);
-    first = top_is_first tied waiting ready units engine top stands bound;
-    after = sym served_more;
-  }
-
--- what `pop` of the pending heap takes out is its top
-pub popped : (ready rest : List (Reverse Entry)) (top : Reverse Entry) (popping : Option (Reverse Entry)) → 0 < length ready →
-    top ≡ slice_index_or ready 0 top → IsHeap comes_first ready → IsSome popping →
-    IfSome popping (λ x. x ≡ slice_index_or ready 0 x) →
-    IfSome popping (λ x. IsPermutation ready (x ∷ rest)) →
-    IfSome popping (λ x. PopsGreatest comes_first ready x rest) →
-    IsPermutation ready (top ∷ rest) × IsHeap comes_first rest
-popped ready rest top None there is heap some first moved greatest = cc
-popped ready rest top (Some x) there is heap some first moved greatest =
-    let same : x ≡ top = get_or_read ready 0 x there first top ∙ sym is in
-    (rw same at moved, (greatest heap).0)
-
--- it leaves one entry fewer
-pub fewer : {X : Type 0} (popping : Option X) (new old : ℕ) → IsSome popping → OnSome popping (new + 1 ≡ old) → new + 1 ≡ old
-fewer None new old some one = cc
-fewer (Some x) new old some one = one
+  pub serves_read : ServesFirst tied written room due.job more
+  serves_read = rw (← served_more, read) (serves_first engine reads.first room more reads.some (omega (arith, reads.more_is, reads.left_is)))

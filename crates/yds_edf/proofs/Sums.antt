@@ -56,7 +56,7 @@ sum_below_change (suc n) k f g within h = elim (cases_eq k n) [
 ]
 
 -- one term alone
-sum_below_one : (n k m : ℕ) → k < n → sum_below n (λ j. cond (j == k) m 0) ≡ m
+pub sum_below_one : (n k m : ℕ) → k < n → sum_below n (λ j. cond (j == k) m 0) ≡ m
 sum_below_one n k m within =
     omega (
       arith,

@@ -1,17 +1,18 @@
--- What an engine keeps true of its two heaps: the jobs to come by their releases, and the pending ones by their deadlines.
-use Rattle.std.specs.Prelude.{◌≡◌, ℕ, ◌+◌, ◌*◌, ◌<◌, ◌≤◌, ◌⊎◌, min, true, false, List, length, slice_index, slice_set, All, Option}
-use Rattle.std.specs.BinaryHeap.{IsHeap}
-use Rattle.std.specs.declared.cmp.Reverse.{Reverse}
+-- What an engine keeps true: which jobs have arrived, and the units that are pending of each.
+use Rattle.std.specs.Prelude.{◌≡◌, ℕ, ◌+◌, ◌<◌, ◌≤◌, ◌⊎◌, min, true, false, nat_lt, if◌then◌else◌, List, length, slice_index, slice_set, All, Option}
+use Rattle.std.specs.List.Sorted.{IsPermutation, IsNonDecreasingBy}
 use Rattle.yds_model.specs.declared.limits.TheConstants.{MAX_JOBS}
 use Rattle.yds_model.specs.Numbers.{Each}
-use Rattle.yds_model.specs.Job.{Job, IsJob, job_at}
-use Rattle.yds_edf.specs.declared.entry.Entry.{Entry}
+use Rattle.yds_model.specs.Job.{IsJob}
 use Rattle.yds_edf.specs.declared.limits.TheConstants.{MAX_GRAIN}
-use Rattle.yds_edf.specs.Entries.{comes_first, entries_of}
-use Rattle.yds_edf.specs.Pending.{sum_below, units_wanted, has_arrived}
+use Rattle.yds_edf.specs.declared.order.Due.{Due}
+use Rattle.yds_edf.specs.declared.pending.PendingJobs.{PendingJobs}
+use Rattle.yds_edf.specs.Order.{due_jobs, due_at}
+use Rattle.yds_edf.specs.Pending.{units_wanted, is_within}
 use Rattle.yds_timetable.specs.Shares.{JobShare}
 use Rattle.yds_edf.specs.Serving.{IsDueBefore, IsServing}
 use Rattle.yds_edf.specs.Queue.{JobQueue, pending_in, units_left, unfinished, Adds}
+use Rattle.yds_edf.specs.Ranked.{AreRanked}
 
 -- a queue, and the numbers that order jobs of the same deadline
 pub record TiedQueue : Type 0 where
@@ -25,20 +26,6 @@ with_served tied job units = record {
   ties = tied.ties;
 }
 
--- an entry of a job that is to come, and one of a job that is pending
-pub record IsComing (jobs : List Job) (entry : Reverse Entry) : Type 0 where
-  pub known : entry.0.job < length jobs
-  pub release : entry.0.time ≡ (job_at jobs entry.0.job).release
-
-pub record IsPending (jobs : List Job) (ties : List ℕ) (time : Option ℕ) (entry : Reverse Entry) : Type 0 where
-  pub known : entry.0.job < length jobs
-  pub deadline : entry.0.time ≡ (job_at jobs entry.0.job).deadline
-  pub tie : entry.0.tie ≡ slice_index ties entry.0.job
-  pub arrived : has_arrived time (job_at jobs entry.0.job) ≡ true
-
-abbrev pub HasNotArrived : List Job → Option ℕ → Reverse Entry → Type 0
-HasNotArrived jobs time entry = has_arrived time (job_at jobs entry.0.job) ≡ false
-
 -- what is kept of the queue itself
 pub record IsTiedQueue (tied : TiedQueue) : Type 0 where
   pub few : length tied.queue.jobs ≤ MAX_JOBS
@@ -51,20 +38,25 @@ pub record IsTiedQueue (tied : TiedQueue) : Type 0 where
   pub served : length tied.queue.served ≡ length tied.queue.jobs
   pub within : Each (length tied.queue.jobs) (λ number. slice_index tied.queue.served number ≤ units_wanted tied.queue.jobs tied.queue.grain number)
 
--- and of the heaps: a job with units left has one entry in one of them, and `units` are those of the pending jobs together
-pub record AreHeaps (tied : TiedQueue) (waiting ready : List (Reverse Entry)) (units : ℕ) : Type 0 where
-  pub coming : All (IsComing tied.queue.jobs) waiting
-  pub pending : All (IsPending tied.queue.jobs tied.ties tied.queue.time) ready
-  pub once : Each (length tied.queue.jobs) (λ number.
-      entries_of waiting number + entries_of ready number ≡ min 1 (units_left tied.queue number))
-  pub coming_heap : IsHeap comes_first waiting
-  pub pending_heap : IsHeap comes_first ready
-  pub sum : units ≡ sum_below (length tied.queue.jobs) (λ number. entries_of ready number * units_left tied.queue number)
+-- the jobs in order of their releases: of the first of them what is left is pending, of the others nothing
+pub record AreArrived (tied : TiedQueue) (arrivals : List Due) (arrived : ℕ) (pending : PendingJobs) : Type 0 where
+  pub ranked : AreRanked tied.queue.jobs tied.ties pending
+  pub same : IsPermutation (due_jobs tied.queue.jobs tied.ties) arrivals
+  pub rising : IsNonDecreasingBy (λ due. due.release) arrivals
+  pub placed : Each (length arrivals) (λ k.
+      slice_index pending.units (slice_index pending.places.items (due_at arrivals k).job)
+      ≡ (if nat_lt k arrived then units_left tied.queue (due_at arrivals k).job else 0))
 
-pub record IsEngine (tied : TiedQueue) (waiting ready : List (Reverse Entry)) (units : ℕ) : Type 0 where
+-- these first ones are those that were released by the last time of arrival
+pub record HaveArrived (time : Option ℕ) (arrivals : List Due) (arrived : ℕ) : Type 0 where
+  pub within : arrived ≤ length arrivals
+  pub before : (k : ℕ) → k < arrived → is_within time (due_at arrivals k).release ≡ true
+  pub after : (k : ℕ) → arrived ≤ k → k < length arrivals → is_within time (due_at arrivals k).release ≡ false
+
+pub record IsEngine (tied : TiedQueue) (arrivals : List Due) (arrived : ℕ) (pending : PendingJobs) : Type 0 where
   pub kept : IsTiedQueue tied
-  pub heaps : AreHeaps tied waiting ready units
-  pub later : All (HasNotArrived tied.queue.jobs tied.queue.time) waiting
+  pub jobs : AreArrived tied arrivals arrived pending
+  pub come : HaveArrived tied.queue.time arrivals arrived
 
 -- the next job that is served, and how many units it gets: of those with units pending it is due first
 pub record ServesFirst (old new : TiedQueue) (room job units : ℕ) : Type 0 where

@@ -3,7 +3,9 @@ pub mod Serving
 pub mod Demand
 pub mod Filled
 pub mod Queue
-pub mod Entries
+pub mod Blocks
+pub mod Order
+pub mod Ranked
 pub mod Engine
 pub mod Laid
 pub mod Run

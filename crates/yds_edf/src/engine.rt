@@ -16,15 +16,15 @@ ghost use Rattle.std.specs.Prelude.{
 };
 ghost use Rattle.yds_model.specs.Job.{IsJob};
 ghost use Rattle.yds_edf.specs.Engine.{IsTiedQueue, ServesFirst, ServesTied};
+ghost use Rattle.yds_edf.specs.Ranked.{ArePendingIn};
 ghost use Rattle.yds_edf.specs.Pending.{is_within};
 ghost use Rattle.yds_edf.specs.Serving.{AreTies};
 ghost use Rattle.yds_edf.specs.Queue.{new_queue, IsNoEarlier, all_pending, pending_in, pending_due};
 
-use crate::entry::Entry;
 use crate::limits::MAX_GRAIN;
+use crate::order::{Due, by_release};
+use crate::pending::PendingJobs;
 use std::alloc::Global;
-use std::cmp::Reverse;
-use std::collections::BinaryHeap;
 use std::marker::Model;
 use yds_model::limits::{MAX_JOBS, MAX_WORK};
 use yds_model::{JobRow, Memory};
@@ -32,8 +32,8 @@ use yds_timetable::Share;
 
 /// Serves jobs earliest deadline first, jobs of the same deadline in order of their ties.
 ///
-/// The jobs that are to come stand in a heap by their releases, those that are pending in one by their
-/// deadlines. Each job with units left has one entry in one of the two.
+/// The jobs stand in two orders: by their releases, where so many of the first have arrived, and by their deadlines, with the
+/// units that are pending of each.
 #[derive(Drop)]
 pub(crate) struct Engine {
     rows: Vec<JobRow>,
@@ -43,15 +43,14 @@ pub(crate) struct Engine {
     time: Option<u32>,
     /// The units that each job was served.
     served: Vec<u64>,
-    coming: BinaryHeap<Reverse<Entry>>,
-    pending: BinaryHeap<Reverse<Entry>>,
-    /// The units of all pending jobs together.
-    units: u64,
+    /// The jobs in order of their releases.
+    arrivals: Vec<Due>,
+    /// How many of those have arrived.
+    arrived: usize,
+    pending: PendingJobs,
 }
 
 impl Model for Engine {
-    ghost use Rattle.std.specs.Prelude.{◌+◌, ◌≤◌};
-    ghost use Rattle.std.specs.BinaryHeap.{heap_items, heap_len, heap_capacity};
     ghost use Rattle.yds_edf.specs.Engine.{TiedQueue, IsEngine};
 
     ghost Value = { TiedQueue };
@@ -64,8 +63,7 @@ impl Model for Engine {
     ghost invariant = { λ e. IsEngine (record {
       queue = record { jobs = e.rows.items; grain = e.grain; time = e.time; served = e.served.items };
       ties = e.ties.items;
-    }) (heap_items e.coming) (heap_items e.pending) e.units
-        × (heap_len e.coming + heap_len e.pending ≤ heap_capacity e.pending) };
+    }) e.arrivals.items e.arrived e.pending };
 }
 
 impl Engine {
@@ -87,25 +85,15 @@ impl Engine {
         }) }
         ensures kept { IfOk result IsTiedQueue }
     {
-        let mut coming = BinaryHeap::new(alloc);
-        for (number, row) in rows.iter().enumerate() {
-            if row.work > 0 {
-                coming.push(Reverse(Entry {
-                    time: row.release,
-                    tie: ties[number],
-                    job: number as u32,
-                }))?;
-            }
-        }
         Ok(Engine {
             rows: Vec::from_slice(alloc, rows)?,
-            ties,
             grain,
             time: None,
             served: vec![in alloc; 0; rows.len()]?,
-            coming,
-            pending: BinaryHeap::with_capacity(alloc, rows.len())?,
-            units: 0,
+            arrivals: by_release(alloc, rows, &ties)?,
+            arrived: 0,
+            pending: PendingJobs::new(alloc, rows, &ties)?,
+            ties,
         })
     }
 
@@ -132,7 +120,7 @@ impl Engine {
         ensures units { result ≡ all_pending self.now.queue }
         ensures in_range { result ≤ MAX_JOBS * (MAX_WORK * self.now.queue.grain) }
     {
-        self.units
+        self.pending.units.total()
     }
 
     /// The units that are pending of one job.
@@ -165,8 +153,14 @@ impl Engine {
         &self.served
     }
 
-    /// The jobs with release at most this time have arrived. It takes no memory: the heap of the pending
-    /// jobs has room for all of them.
+    /// The jobs in the order in which they are served, with the units that are pending of each.
+    pub(crate) fn in_order(&self) -> &PendingJobs
+        ensures { ArePendingIn self.now.queue result.now }
+    {
+        &self.pending
+    }
+
+    /// The jobs with release at most this time have arrived. It takes no memory.
     pub(crate) fn arrive(&mut self, time: u32)
         requires { IsNoEarlier self.old.queue.time time }
         ensures { self.new ≡ record {
@@ -174,20 +168,15 @@ impl Engine {
           ties = self.old.ties;
         } }
     {
-        while let Some(Reverse(next)) = self.coming.peek() {
-            if next.time > time {
+        while self.arrived < self.arrivals.len() {
+            let next = self.arrivals[self.arrived];
+            if next.release > time {
                 break;
             }
             let job = next.job as usize;
-            let row = &self.rows[job];
-            let entry = Entry {
-                time: row.deadline,
-                tie: self.ties[job],
-                job: next.job,
-            };
-            self.units += units_left(row, self.grain, self.served[job]);
-            let _ = self.pending.push(Reverse(entry));
-            let _ = self.coming.pop();
+            let units = units_left(&self.rows[job], self.grain, self.served[job]);
+            self.pending.set(next.job, units);
+            self.arrived += 1;
         }
         self.time = Some(time);
     }
@@ -200,17 +189,13 @@ impl Engine {
             ((all_pending self.old.queue ≡ 0) × (self.new ≡ self.old))
             (λ served. ServesFirst self.old self.new room served.0 served.1) }
     {
-        let Reverse(first) = *self.pending.peek()?;
-        let job = first.job as usize;
-        let served = &mut self.served[job];
-        let left = units_left(&self.rows[job], self.grain, *served);
+        let place = self.pending.units.first()?;
+        let job = self.pending.order[place].job;
+        let left = self.pending.units.at(place);
         let units = left.min(room);
-        *served += units;
-        self.units -= units;
-        if units == left {
-            let _ = self.pending.pop();
-        }
-        Some((first.job, units))
+        self.pending.units.set(place, left - units);
+        self.served[job as usize] += units;
+        Some((job, units))
     }
 
     /// How many jobs it serves.

@@ -8,17 +8,22 @@
 //! its own.
 #![tactic(auto)]
 
+mod blocks;
 mod engine;
-mod entry;
 mod filling;
 mod laying;
 pub mod limits;
+mod order;
+mod pending;
 mod policy;
 mod policy_run;
 mod queue;
 
+pub use blocks::{PlacedUnits, block_end};
 pub use filling::fill;
 pub use laying::lay;
+pub use order::Due;
+pub use pending::PendingJobs;
 pub use policy::{Policy, Setting};
 pub use policy_run::{PolicyRun, PolicyTimetable, run_policy, serve_policy};
 pub use queue::Queue;

@@ -2,9 +2,11 @@ ghost use Rattle.std.specs.Prelude.{◌≡◌, ◌<◌, ◌≤◌, IfOk, OnOk, O
 ghost use Rattle.std.specs.List.{range_with_len};
 ghost use Rattle.yds_model.specs.Job.{IsJob};
 ghost use Rattle.yds_edf.specs.Queue.{new_queue, IsNoEarlier, all_pending, pending_in, pending_due, Serves};
+ghost use Rattle.yds_edf.specs.Ranked.{ArePendingIn};
 
 use crate::engine::Engine;
 use crate::limits::MAX_GRAIN;
+use crate::pending::PendingJobs;
 use std::alloc::{AllocError, Global};
 use std::marker::Model;
 use yds_model::limits::{MAX_JOBS, MAX_WORK};
@@ -93,6 +95,13 @@ impl Queue {
         ensures { result ≡ pending_due self.now time }
     {
         self.engine.due(time)
+    }
+
+    /// The jobs in order of their deadlines, with the units that are pending of each. It takes no memory.
+    pub fn in_order(&self) -> &PendingJobs
+        ensures { ArePendingIn self.now result.now }
+    {
+        self.engine.in_order()
     }
 
     /// The units that each job was served, by the jobs' numbers. It takes no memory.

@@ -1,6 +1,7 @@
 -- The greatest quotient by places is the greatest of all that deadlines ask.
 use Rattle.std.proofs.Common.{◌≡◌, ℕ, zero, suc, ◌+◌, ◌-◌, ◌*◌, ◌<◌, ◌≤◌, List, length, slice_index, ◌∙◌, refl, sym, subst, ap, arith, inl, inr, add-one}
 use Rattle.std.specs.List.Sorted.{IsNonDecreasingBy}
+use Rattle.std.specs.Prelude.{nat_le, nat_lt}
 use Rattle.std.proofs.lemmas.Bool.{cases_lt, cases_eq, le-leb, lt-leb, lt-ltb, le-ltb}
 use Rattle.std.proofs.Math.Nat.{mul-le-mul_left, le_of_mul-le-mul_left}
 use Rattle.yds_model.specs.Numbers.{Each}
@@ -9,16 +10,16 @@ use Rattle.yds_model.specs.Piece.{Piece}
 use Rattle.yds_edf.specs.Pending.{sum_below}
 use Rattle.yds_edf.proofs.Sums.{sum_below_zero}
 use Rattle.yds_edf.proofs.Numbers.{sum_places}
-use Rattle.yds_oa.specs.declared.order.Due.{Due}
-use Rattle.yds_oa.specs.declared.pending.PendingJobs.{PendingJobs}
+use Rattle.yds_edf.specs.declared.order.Due.{Due}
+use Rattle.yds_edf.specs.declared.pending.PendingJobs.{PendingJobs}
 use Rattle.yds_oa.specs.declared.quotient.Quotient.{Quotient}
 use Rattle.yds_oa.specs.Asked.{due_by}
-use Rattle.yds_oa.specs.Blocks.{units_before}
-use Rattle.yds_oa.specs.Order.{no_due, due_at, AreByDeadline}
+use Rattle.yds_edf.specs.Blocks.{units_before}
+use Rattle.yds_edf.specs.Order.{no_due, due_at, AreByDeadline}
 use Rattle.yds_oa.specs.Greatest.{IsOfDeadline, IsGreatest, AreDueAfter, IsQuotientAt, IsGreatestOf}
-use Rattle.yds_oa.proofs.Waiting.{weight_by, waits_is, due_in_order}
-use Rattle.yds_oa.proofs.Sums.{one_place_more, before_rises}
-use Rattle.yds_oa.proofs.Places.{entry_at}
+use Rattle.yds_oa.proofs.Waiting.{weight_by, waits_is, nothing_of, due_in_order}
+use Rattle.yds_edf.proofs.PlacedSums.{one_place_more, before_rises}
+use Rattle.yds_edf.proofs.Places.{entry_at}
 
 -- # The places that are due by a time
 
@@ -56,9 +57,9 @@ cut_of order rising deadline (suc end) within = elim (cases_lt deadline (due_at 
   )
 ]
 
-module _ (jobs : List Job) (pending : PendingJobs) (units : ℕ → ℕ) (stretch : Piece) (start : ℕ) (by_deadline : AreByDeadline jobs pending.order.items)
+module _ (jobs : List Job) (pending : PendingJobs) (units : ℕ → ℕ) (stretch : Piece) (start : ℕ) {ties : List ℕ} (by_deadline : AreByDeadline jobs ties pending.order.items)
     (fresh : Each (length pending.order.items) (λ place. slice_index pending.units place ≡ units (due_at pending.order.items place).job))
-    (after : AreDueAfter pending.order.items stretch.from start) where
+    (after : AreDueAfter pending stretch.from start) where
   abbrev order : List Due
   order = pending.order.items
 
@@ -73,7 +74,11 @@ module _ (jobs : List Job) (pending : PendingJobs) (units : ℕ → ℕ) (stretc
     weight_over : (place : ℕ) → place < start → weight deadline place ≡ 0
     weight_over place less = elim (cases_lt deadline (due_at order place).deadline) [
       | inl later ↦ rw (lt-leb (due_at order place).deadline deadline later) refl
-      | inr upto ↦ rw (le-leb (due_at order place).deadline deadline upto, le-ltb stretch.from (due_at order place).deadline (after.before place less)) refl
+      | inr upto ↦ elim (after.before place less) [
+        | inl over ↦ rw (le-leb (due_at order place).deadline deadline upto, le-ltb stretch.from (due_at order place).deadline over) refl
+        | inr none ↦ rw (sym (fresh place (omega (arith, less, after.within))) ∙ none)
+            (nothing_of (nat_le (due_at order place).deadline deadline) (nat_lt stretch.from (due_at order place).deadline))
+      ]
     ]
 
     weight_due : (place : ℕ) → start ≤ place → place < cut → weight deadline place ≡ slice_index pending.units place
@@ -105,22 +110,21 @@ module _ (jobs : List Job) (pending : PendingJobs) (units : ℕ → ℕ) (stretc
     pub due_cut : start ≤ cut → due_by jobs units stretch deadline + before start ≡ before cut
     due_cut past = omega (
       arith,
-      due_in_order jobs units stretch order by_deadline.same deadline,
+      due_in_order jobs units stretch ties order by_deadline.same deadline,
       sum_places (weight_by units stretch deadline) order no_due,
       sum_later (length order) is.within (omega arith),
       sum_due cut past (omega arith),
     )
 
-    pub cut_past : stretch.from < deadline → start ≤ cut
-    cut_past later = elim (cases_lt cut start) [
-      | inr past ↦ past
-      | inl first ↦ absurd (omega (
-        arith,
-        later,
-        after.before cut first,
-        is.after cut (omega arith) (omega (arith, first, after.within)),
-      ))
-    ]
+    -- nothing is due by it where no place from the start on is
+    none_due : cut ≤ start → due_by jobs units stretch deadline ≡ 0
+    none_due first = omega (
+      arith,
+      due_in_order jobs units stretch ties order by_deadline.same deadline,
+      sum_places (weight_by units stretch deadline) order no_due,
+      sum_later (length order) is.within (omega arith),
+      sum_over cut first,
+    )
 
   -- # The last place before with some units
 
@@ -148,13 +152,11 @@ module _ (jobs : List Job) (pending : PendingJobs) (units : ℕ → ℕ) (stretc
     asks_less deadline later =
         let found = cut_of order by_deadline.rising deadline (length order) (omega arith) in
         let cut = found.0 in
-        let past = cut_past deadline cut found.1 later in
-        let due = due_cut deadline cut found.1 past in
-        elim (cases_eq start cut) [
-          | inl none ↦
-              let nothing : due_by jobs units stretch deadline ≡ 0 = omega (arith, due, ap before none) in
-              omega (arith, ap (λ n. n * greatest.time) nothing)
-          | inr some ↦
+        elim (cases_lt start cut) [
+          | inr none ↦ omega (arith, ap (λ n. n * greatest.time) (none_due deadline cut found.1 none))
+          | inl some ↦
+              let past : start ≤ cut = omega (arith, some) in
+              let due = due_cut deadline cut found.1 past in
               let last : cut - 1 + 1 ≡ cut = omega (arith, past, some) in
               let inside : cut - 1 < cut = omega (arith, past, some) in
               let same : before (cut - 1 + 1) - before start ≡ due_by jobs units stretch deadline = omega (arith, due, ap before last) in
@@ -172,7 +174,7 @@ module _ (jobs : List Job) (pending : PendingJobs) (units : ℕ → ℕ) (stretc
         let found = last_some at.place at.after (omega (arith, some, at.units)) in
         let last = found.0 in
         let known : last < length order = omega (arith, found.2, at.known) in
-        let entry = entry_at jobs order by_deadline.same last known in
+        let entry = entry_at jobs ties order by_deadline.same last known in
         let due = due_at order last in
         let same : before (last + 1) - before start ≡ greatest.units = omega (arith, found.4, at.units) in
         let later : stretch.from < due.deadline = after.after last found.1 known in
@@ -201,7 +203,7 @@ module _ (jobs : List Job) (pending : PendingJobs) (units : ℕ → ℕ) (stretc
         }
 
 -- the greatest quotient by places is the greatest that a deadline has
-pub is_greatest : (jobs : List Job) (pending : PendingJobs) (units : ℕ → ℕ) (stretch : Piece) (from : ℕ) (greatest : Quotient) → AreByDeadline jobs pending.order.items →
+pub is_greatest : (jobs : List Job) (pending : PendingJobs) (units : ℕ → ℕ) (stretch : Piece) (from : ℕ) (greatest : Quotient) {ties : List ℕ} → AreByDeadline jobs ties pending.order.items →
     Each (length pending.order.items) (λ place. slice_index pending.units place ≡ units (due_at pending.order.items place).job) → from ≡ stretch.from →
     IsGreatestOf pending from greatest → IsGreatest jobs units stretch greatest.units greatest.time
 is_greatest jobs pending units stretch from greatest by_deadline fresh from_is of_from =

@@ -1,20 +1,19 @@
 -- The waiting jobs, and the units that are due, in order of numbers and in order of deadlines.
-use Rattle.std.proofs.Common.{◌≡◌, ℕ, ◌<◌, ◌≤◌, List, length, get_or, map, ◌∙◌, refl, sym, subst, ap, arith, inl, inr, cond, true, false}
+use Rattle.std.proofs.Common.{◌≡◌, ℕ, ◌<◌, ◌≤◌, List, length, get_or, ◌∙◌, refl, sym, ap, arith, inl, inr, cond, true, false}
 use Rattle.std.specs.Prelude.{Bool, nat_le, nat_lt, ◌&&◌, All, Contains, sum_by}
-use Rattle.std.specs.List.{range_with_len}
 use Rattle.std.specs.List.Sorted.{IsPermutation}
 use Rattle.std.proofs.lemmas.Bool.{cases_lt, lt-ltb, le-ltb, true≢false}
 use Rattle.std.proofs.lemmas.List.{get_or-map, length-map}
-use Rattle.std.proofs.lemmas.List.FromFn.{length-range_with_len, get_or-range_with_len, length-map-range_with_len, get_or-map-range_with_len}
-use Rattle.std.proofs.lemmas.List.Sorted.{sum_by-IsPermutation, All-permutation}
+use Rattle.std.proofs.lemmas.List.FromFn.{length-range_with_len, get_or-range_with_len}
+use Rattle.std.proofs.lemmas.List.Sorted.{sum_by-IsPermutation}
 use Rattle.std.proofs.lemmas.List.Elements.{All-filter, filter_passes}
 use Rattle.yds_model.specs.Job.{Job, job_at}
 use Rattle.yds_model.specs.Piece.{Piece}
 use Rattle.yds_model.specs.Policy.{numbers_of}
 use Rattle.yds_model.proofs.Sums.{sum_by_same, sum_by-map}
 use Rattle.yds_model.proofs.Filters.{sum_by-filter, contains_filter}
-use Rattle.yds_oa.specs.declared.order.Due.{Due}
-use Rattle.yds_oa.specs.Order.{due_job, due_jobs, IsDueJob}
+use Rattle.yds_edf.specs.declared.order.Due.{Due}
+use Rattle.yds_edf.specs.Order.{due_job, due_jobs}
 use Rattle.yds_oa.specs.Asked.{is_waiting, waiting, due_by, deadlines}
 
 -- # Who waits
@@ -65,13 +64,6 @@ deadline_place jobs pending stretch job known waits =
 abbrev pub weight_by : (ℕ → ℕ) → Piece → ℕ → Due → ℕ
 weight_by pending stretch deadline due = cond (nat_le due.deadline deadline) (cond (nat_lt stretch.from due.deadline) (pending due.job) 0) 0
 
-pub all_due : (jobs : List Job) (order : List Due) → IsPermutation (due_jobs jobs) order → All (IsDueJob jobs) order
-all_due jobs order same = All-permutation (IsDueJob jobs) (due_jobs jobs) order same (λ i d within.
-    let below : i < length jobs = omega (arith, within, length-map-range_with_len (due_job jobs) 0 (length jobs)) in
-    let is : get_or (map (due_job jobs) (range_with_len 0 (length jobs))) i d ≡ due_job jobs i =
-    get_or-map-range_with_len (due_job jobs) 0 (length jobs) i i d below (omega arith) in
-    subst (IsDueJob jobs) (sym is) (record { known = below; release = refl; deadline = refl }))
-
 -- a term under two tests, in either order
 turned : (n : ℕ) (one other : Bool) → ◌≡◌ {A = ℕ} (cond one (cond other n 0) 0) (cond other (cond one n 0) 0)
 turned n true true = refl
@@ -79,7 +71,7 @@ turned n true false = refl
 turned n false true = refl
 turned n false false = refl
 
-nothing_of : (one other : Bool) → ◌≡◌ {A = ℕ} (cond one (cond other 0 0) 0) 0
+pub nothing_of : (one other : Bool) → ◌≡◌ {A = ℕ} (cond one (cond other 0 0) 0) 0
 nothing_of true true = refl
 nothing_of true false = refl
 nothing_of false other = refl
@@ -91,13 +83,13 @@ one n later soon = elim (cases_lt 0 n) [
 ]
 
 -- the units that are due by a deadline, summed in that order
-pub due_in_order : (jobs : List Job) (pending : ℕ → ℕ) (stretch : Piece) (order : List Due) → IsPermutation (due_jobs jobs) order → (deadline : ℕ) →
+pub due_in_order : (jobs : List Job) (pending : ℕ → ℕ) (stretch : Piece) (ties : List ℕ) (order : List Due) → IsPermutation (due_jobs jobs ties) order → (deadline : ℕ) →
     due_by jobs pending stretch deadline ≡ sum_by (weight_by pending stretch deadline) order
-due_in_order jobs pending stretch order same deadline =
+due_in_order jobs pending stretch ties order same deadline =
     let soon : ℕ → Bool = λ job. nat_le (job_at jobs job).deadline deadline in
     sum_by-filter soon pending (waiting jobs pending stretch)
     ∙ sum_by-filter (is_waiting jobs pending stretch) (λ job. cond (soon job) (pending job) 0) (numbers_of jobs)
-    ∙ sum_by_same (λ job. cond (is_waiting jobs pending stretch job) (cond (soon job) (pending job) 0) 0) (λ job. weight_by pending stretch deadline (due_job jobs job)) (numbers_of jobs)
+    ∙ sum_by_same (λ job. cond (is_waiting jobs pending stretch job) (cond (soon job) (pending job) 0) 0) (λ job. weight_by pending stretch deadline (due_job jobs ties job)) (numbers_of jobs)
     (λ i d within. one (pending (get_or (numbers_of jobs) i d)) (nat_lt stretch.from (job_at jobs (get_or (numbers_of jobs) i d)).deadline) (soon (get_or (numbers_of jobs) i d)))
-    ∙ sym (sum_by-map (due_job jobs) (weight_by pending stretch deadline) (numbers_of jobs))
-    ∙ sym (sum_by-IsPermutation (weight_by pending stretch deadline) (due_jobs jobs) order same)
+    ∙ sym (sum_by-map (due_job jobs ties) (weight_by pending stretch deadline) (numbers_of jobs))
+    ∙ sym (sum_by-IsPermutation (weight_by pending stretch deadline) (due_jobs jobs ties) order same)

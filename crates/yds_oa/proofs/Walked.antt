@@ -1,35 +1,37 @@
 -- A walk over places in order of deadlines, which keeps the greatest quotient, and passes over some places together.
-use Rattle.std.proofs.Common.{◌≡◌, ℕ, ◌+◌, ◌-◌, ◌*◌, ◌<◌, ◌≤◌, ◌⊎◌, List, length, ◌∙◌, sym, subst, ap, arith, inl, inr, true, false}
-use Rattle.std.specs.Prelude.{nat_le}
-use Rattle.std.specs.List.Sorted.{IsPartitionPoint}
-use Rattle.std.proofs.lemmas.Bool.{cases_lt, cases_eq, leb-true, leb-false}
+use Rattle.std.proofs.Common.{◌≡◌, ℕ, ◌+◌, ◌-◌, ◌*◌, ◌<◌, ◌≤◌, ◌⊎◌, List, length, slice_index, ◌∙◌, sym, subst, ap, arith, inl, inr}
+use Rattle.std.proofs.lemmas.Bool.{cases_lt, cases_eq}
 use Rattle.std.proofs.Math.Nat.{mul-le-mul_right, mul-le-mul_left, le_of_mul-le-mul_right}
-use Rattle.yds_oa.specs.declared.order.Due.{Due}
-use Rattle.yds_oa.specs.declared.pending.PendingJobs.{PendingJobs}
+use Rattle.yds_edf.specs.declared.pending.PendingJobs.{PendingJobs}
 use Rattle.yds_oa.specs.declared.quotient.Quotient.{Quotient}
-use Rattle.yds_oa.specs.Blocks.{units_before}
-use Rattle.yds_oa.specs.Order.{no_due, due_at}
-use Rattle.yds_oa.specs.Pending.{AreInOrder}
+use Rattle.yds_edf.specs.Blocks.{units_before}
+use Rattle.yds_edf.specs.Order.{no_due, due_at}
 use Rattle.yds_oa.specs.declared.walk.Walk.{Walk}
-use Rattle.yds_oa.specs.Greatest.{AreDueAfter, IsQuotientAmong, IsNotGreater, IsGreatestWithin, IsWalk}
-use Rattle.yds_oa.proofs.Sums.{before_rises, none_left}
+use Rattle.yds_oa.specs.Greatest.{AreInOrder, AreDueAfter, IsQuotientAmong, IsNotGreater, IsGreatestWithin, IsWalk}
+use Rattle.yds_edf.proofs.Sums.{sum_below_term}
+use Rattle.yds_edf.proofs.PlacedSums.{before_rises, none_left}
 
 -- what is at most a quotient is at most a greater one
 pub through : (a b u t v s : ℕ) → a * t ≤ u * b → u * s ≤ v * t → 1 ≤ t → a * s ≤ v * b
 through a b u t v s first second some =
     le_of_mul-le-mul_right {k = t} (omega (arith, mul-le-mul_right s first, mul-le-mul_right b second)) some
 
--- the places behind a partition point
-pub due_behind : (order : List Due) (from start : ℕ) → start ≤ length order →
-    IsPartitionPoint (λ due. nat_le due.deadline from ≡ true) (λ due. nat_le due.deadline from ≡ false) order start → AreDueAfter order from start
-due_behind order from start within parts = record {
+-- before a place with no units before it there are none
+pub none_there : (units : List ℕ) (start place : ℕ) → units_before units start ≡ 0 → place < start → slice_index units place ≡ 0
+none_there units start place none less = omega (arith, none, sum_below_term start place (slice_index units) less)
+
+-- the places behind the first that is due later
+pub due_behind : (pending : PendingJobs) (from start : ℕ) → AreInOrder pending → start ≤ length pending.order.items →
+    ((place : ℕ) → place < start → ((due_at pending.order.items place).deadline ≤ from) ⊎ (slice_index pending.units place ≡ 0)) →
+    (start < length pending.order.items → from < (due_at pending.order.items start).deadline) → AreDueAfter pending from start
+due_behind pending from start are within before next = record {
   within = within;
-  before = λ place less. leb-true (due_at order place).deadline from (parts.0 place no_due (omega arith) less);
-  after = λ place most less. leb-false (due_at order place).deadline from (parts.1 place no_due most less);
+  before = before;
+  after = λ place most less. omega (arith, are.rising start place no_due most less, next (omega (arith, most, less)));
 }
 
 -- one place more is looked at
-module _ (pending : PendingJobs) (from start place units : ℕ) (old new one : Quotient) (after : AreDueAfter pending.order.items from start) (past : start ≤ place)
+module _ (pending : PendingJobs) (from start place units : ℕ) (old new one : Quotient) (after : AreDueAfter pending from start) (past : start ≤ place)
     (known : place < length pending.order.items) (sum : units_before pending.units start + units ≡ units_before pending.units (place + 1))
     (units_is : one.units ≡ units) (time_is : one.time ≡ (due_at pending.order.items place).deadline - from) (either : (new ≡ old) ⊎ (new ≡ one))
     (first : old.units * new.time ≤ new.units * old.time) (second : one.units * new.time ≤ new.units * one.time) (before : IsGreatestWithin pending from start place old) where

@@ -1,14 +1,15 @@
 -- The greatest quotient of units that are due by a deadline and the time until then.
-use Rattle.std.specs.Prelude.{◌≡◌, ℕ, ◌+◌, ◌-◌, ◌*◌, ◌<◌, ◌≤◌, ◌⊎◌, List, length, true}
+use Rattle.std.specs.Prelude.{◌≡◌, ℕ, ◌+◌, ◌-◌, ◌*◌, ◌<◌, ◌≤◌, ◌⊎◌, List, length, slice_index, true}
+use Rattle.std.specs.List.Sorted.{IsNonDecreasingBy}
+use Rattle.yds_model.specs.declared.limits.TheConstants.{MAX_JOBS}
 use Rattle.yds_model.specs.Job.{Job, job_at}
 use Rattle.yds_model.specs.Piece.{Piece}
 use Rattle.yds_oa.specs.declared.quotient.Quotient.{Quotient}
-use Rattle.yds_oa.specs.declared.order.Due.{Due}
-use Rattle.yds_oa.specs.declared.pending.PendingJobs.{PendingJobs}
+use Rattle.yds_edf.specs.declared.pending.PendingJobs.{PendingJobs}
 use Rattle.yds_oa.specs.declared.walk.Walk.{Walk}
 use Rattle.yds_oa.specs.Asked.{is_waiting, due_by}
-use Rattle.yds_oa.specs.Blocks.{units_before}
-use Rattle.yds_oa.specs.Order.{due_at}
+use Rattle.yds_edf.specs.Blocks.{units_before}
+use Rattle.yds_edf.specs.Order.{due_at}
 
 -- the quotient is that of a waiting job's deadline, or at least no greater
 pub record IsOfDeadline (jobs : List Job) (pending : ℕ → ℕ) (stretch : Piece) (units time : ℕ) : Type 0 where
@@ -26,11 +27,17 @@ pub record IsGreatest (jobs : List Job) (pending : ℕ → ℕ) (stretch : Piece
 
 -- # By places
 
--- the places from the start on are those of the deadlines after a time
-pub record AreDueAfter (order : List Due) (from start : ℕ) : Type 0 where
-  pub within : start ≤ length order
-  pub before : (place : ℕ) → place < start → (due_at order place).deadline ≤ from
-  pub after : (place : ℕ) → start ≤ place → place < length order → from < (due_at order place).deadline
+-- they rise by their deadlines
+pub record AreInOrder (pending : PendingJobs) : Type 0 where
+  pub rising : IsNonDecreasingBy (λ due. due.deadline) pending.order.items
+  pub all_units : length pending.units ≡ length pending.order.items
+  pub few : length pending.order.items ≤ MAX_JOBS
+
+-- the places from the start on are of deadlines after a time, and all before it that have units aren't
+pub record AreDueAfter (pending : PendingJobs) (from start : ℕ) : Type 0 where
+  pub within : start ≤ length pending.order.items
+  pub before : (place : ℕ) → place < start → ((due_at pending.order.items place).deadline ≤ from) ⊎ (slice_index pending.units place ≡ 0)
+  pub after : (place : ℕ) → start ≤ place → place < length pending.order.items → from < (due_at pending.order.items place).deadline
 
 -- the quotient is that of the units from the start to a place, and the time until its deadline
 pub record IsQuotientAt (pending : PendingJobs) (from start : ℕ) (quotient : Quotient) : Type 0 where
@@ -56,12 +63,12 @@ pub record IsGreatestWithin (pending : PendingJobs) (from start end : ℕ) (grea
 
 pub record IsGreatestOf (pending : PendingJobs) (from : ℕ) (quotient : Quotient) : Type 0 where
   pub start : ℕ
-  pub after : AreDueAfter pending.order.items from start
+  pub after : AreDueAfter pending from start
   pub greatest : IsGreatestWithin pending from start (length pending.order.items) quotient
 
 -- a walk has come to a place
 pub record IsWalk (pending : PendingJobs) (walk : Walk) : Type 0 where
-  pub after : AreDueAfter pending.order.items walk.from walk.start
+  pub after : AreDueAfter pending walk.from walk.start
   pub past : walk.start ≤ walk.place
   pub within : walk.place ≤ length pending.order.items
   pub units : units_before pending.units walk.start + walk.units ≡ units_before pending.units walk.place

@@ -6,10 +6,7 @@
 //! the greatest quotient wasn't whole.
 #![tactic(auto)]
 
-mod blocks;
 mod optimal_available;
-mod order;
-mod pending;
 mod quotient;
 mod walk;
 

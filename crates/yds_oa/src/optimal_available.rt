@@ -1,4 +1,4 @@
-ghost use Rattle.std.specs.Prelude.{◌≡◌, ◌≤◌, IfOk, length, All};
+ghost use Rattle.std.specs.Prelude.{⊤, ◌≡◌, ◌≤◌, IfOk, length, All};
 ghost use Rattle.yds_model.specs.Policy.{HasRunDenominators};
 ghost use Rattle.yds_model.specs.OptimalAvailable.{IsOptimalAvailableRun};
 ghost use Rattle.yds_model.specs.Within.{AreSlotsOf};
@@ -6,9 +6,8 @@ ghost use Rattle.yds_timetable.specs.Timetable.{slots_of};
 ghost use Rattle.yds_timetable.specs.Room.{CanLay};
 ghost use Rattle.yds_edf.specs.Run.{AreRowsOf};
 ghost use Rattle.yds_oa.specs.Asked.{most_asked, most_rounds};
-ghost use Rattle.yds_oa.specs.Pending.{AreKept};
 
-use crate::pending::PendingJobs;
+use crate::walk::greatest_quotient;
 use std::alloc::Global;
 use yds_edf::{Policy, PolicyRun, PolicyTimetable, Queue, Setting, Share, serve_policy};
 use yds_events::Stretch;
@@ -45,17 +44,15 @@ pub fn oa_timetable(alloc: Global, rows: &[JobRow], grid: u32) -> Result<PolicyT
     ensures room { IfOk result (λ run. CanLay (length rows.now) run.timetable) }
     ensures count_in_range { IfOk result (λ run. run.rounded ≤ MAX_ROUNDED) }
 {
-    let jobs = PendingJobs::new(alloc, rows)?;
-    let mut policy = OptimalAvailable { jobs, last: 0 };
+    let mut policy = OptimalAvailable { last: 0 };
     serve_policy(alloc, rows, grid, &mut policy)
 }
 
-/// Optimal Available, which looks anew at those jobs alone of which other units are pending than in the last stretch.
+/// Optimal Available.
 #[derive(Drop)]
 struct OptimalAvailable {
-    jobs: PendingJobs,
-    /// The deadline that had the greatest quotient in the last stretch, in time units.
-    last: u32,
+    /// The place of the deadline that had the greatest quotient in the last stretch: it mostly has it again.
+    last: usize,
 }
 
 impl Policy for OptimalAvailable {
@@ -63,12 +60,11 @@ impl Policy for OptimalAvailable {
 
     ghost rounds = { λ policy jobs grid pending stretch. most_rounds jobs pending stretch };
 
-    ghost keeps = { λ policy queue number. AreKept queue policy.jobs };
+    ghost keeps = { λ policy queue number. ⊤ };
 
-    fn set(&mut self, _number: u32, queue: &Queue, stretch: Stretch, served: &[Share]) -> Setting {
-        self.jobs.look_at(queue, stretch.from, served);
-        let greatest = self.jobs.greatest_quotient(stretch.from, self.last);
-        self.last = stretch.from.saturating_add(greatest.time);
+    fn set(&mut self, _number: u32, queue: &Queue, stretch: Stretch, _served: &[Share]) -> Setting {
+        let greatest = greatest_quotient(queue.in_order(), stretch.from, self.last);
+        self.last = greatest.place;
         let units = u128::from(greatest.units) * u128::from(stretch.length());
         let time = u128::from(greatest.time);
         Setting {

@@ -7,6 +7,8 @@ pub(crate) struct Quotient {
     pub(crate) units: u64,
     /// The time units, at least 1.
     pub(crate) time: u32,
+    /// The place of the deadline that has it.
+    pub(crate) place: usize,
 }
 
 impl Quotient {

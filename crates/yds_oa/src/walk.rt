@@ -1,11 +1,9 @@
 ghost use Rattle.std.specs.Prelude.{◌≤◌, ◌<◌, ◌⊎◌, length, IsTrue, IsFalse};
-ghost use Rattle.yds_oa.specs.Blocks.{units_before};
-ghost use Rattle.yds_oa.specs.Pending.{AreInOrder};
-ghost use Rattle.yds_oa.specs.Greatest.{AreDueAfter, IsGreatestOf, IsWalk, IsFurther, IsQuotientAmong, IsGreatestWithin};
+ghost use Rattle.yds_edf.specs.Blocks.{units_before};
+ghost use Rattle.yds_oa.specs.Greatest.{AreInOrder, AreDueAfter, IsGreatestOf, IsWalk, IsFurther, IsQuotientAmong, IsGreatestWithin};
 
-use crate::blocks::block_end;
-use crate::pending::PendingJobs;
 use crate::quotient::Quotient;
+use yds_edf::{PendingJobs, block_end};
 
 /// How far a walk over the jobs that are due after a time has come.
 #[derive(Clone, Copy, Debug)]
@@ -22,99 +20,118 @@ pub(crate) struct Walk {
     pub(crate) greatest: Quotient,
 }
 
-impl PendingJobs {
-    /// The greatest quotient of the pending units that are due after this time and by a deadline, and the time until then; no
-    /// units where there are no such deadlines. It looks first at the deadline that is expected to have it, and passes over
-    /// blocks of places where even all units that are due by the end of a block, at its first deadline, give no greater one. Behind the last pending
-    /// unit no deadline has a greater one.
-    pub(crate) fn greatest_quotient(&self, from: u32, expected: u32) -> Quotient
-        requires { AreInOrder self.now }
-        ensures { IsGreatestOf self.now from result }
-    {
-        let start = self.order.partition_point(|due| due.deadline <= from);
-        let mut walk = Walk {
-            from,
-            start,
-            place: start,
+/// The greatest quotient of the pending units that are due after this time and by a deadline, and the time until then; no
+/// units where there are no such deadlines. It looks first at the place that is expected to have it, and passes over
+/// blocks of places where even all units that are due by the end of a block, at its first deadline, give no greater one. Behind
+/// the last pending unit no deadline has a greater one.
+pub(crate) fn greatest_quotient(jobs: &PendingJobs, from: u32, expected: usize) -> Quotient
+    requires { AreInOrder jobs.now }
+    ensures { IsGreatestOf jobs.now from result }
+{
+    let start = first_due(jobs, from);
+    let mut walk = Walk {
+        from,
+        start,
+        place: start,
+        units: 0,
+        greatest: first_guess(jobs, from, start, expected),
+    };
+    while has_more(jobs, &walk) {
+        walk = past_block(jobs, walk);
+    }
+    walk.greatest
+}
+
+/// The first place whose deadline is after this time, behind the places where nothing is pending.
+fn first_due(jobs: &PendingJobs, from: u32) -> usize
+    requires { AreInOrder jobs.now }
+    ensures { AreDueAfter jobs.now from result }
+{
+    let mut start = jobs.units.start().min(jobs.order.len());
+    while start < jobs.order.len() {
+        if jobs.order[start].deadline > from {
+            break;
+        }
+        start += 1;
+    }
+    start
+}
+
+/// Whether a place is left at which units may be pending.
+fn has_more(jobs: &PendingJobs, walk: &Walk) -> bool
+    ensures more { IsTrue result → walk.now.place < length jobs.now.order.items }
+    ensures none { IsFalse result → (length jobs.now.order.items ≤ walk.now.place) ⊎ (units_before jobs.now.units (length jobs.now.units) ≤ walk.now.units) }
+{
+    walk.place < jobs.order.len() && walk.units < jobs.units.total()
+}
+
+/// The quotient of the expected place's deadline, where that is none of the places before the start.
+fn first_guess(jobs: &PendingJobs, from: u32, start: usize, expected: usize) -> Quotient
+    requires units { AreInOrder jobs.now }
+    requires after { AreDueAfter jobs.now from start }
+    ensures some_time { 1 ≤ result.time }
+    ensures attained { IsQuotientAmong jobs.now from start result }
+{
+    if expected < start || expected >= jobs.order.len() {
+        return Quotient {
             units: 0,
-            greatest: self.first_guess(from, start, expected),
+            time: 1,
+            place: start,
         };
-        while self.has_more(&walk) {
-            walk = self.past_block(walk);
-        }
+    }
+    Quotient {
+        units: jobs.units.sum(start, expected + 1),
+        time: jobs.order[expected].deadline - from,
+        place: expected,
+    }
+}
+
+/// Past the block of the next place.
+fn past_block(jobs: &PendingJobs, walk: Walk) -> Walk
+    requires units { AreInOrder jobs.now }
+    requires walk { IsWalk jobs.now walk }
+    requires more { walk.place < length jobs.now.order.items }
+    ensures walk { IsWalk jobs.now result }
+    ensures further { IsFurther walk result }
+{
+    let end = block_end(walk.place, jobs.order.len());
+    let units = walk.units + jobs.units.between(walk.place, end);
+    let most = Quotient {
+        units,
+        time: jobs.order[walk.place].deadline - walk.from,
+        place: walk.place,
+    };
+    let greatest = if most.is_at_most(walk.greatest) {
         walk.greatest
+    } else {
+        greatest_until(jobs, end, walk)
+    };
+    Walk {
+        place: end,
+        units,
+        greatest,
+        ..walk
     }
+}
 
-    /// Whether a place is left at which units may be pending.
-    fn has_more(&self, walk: &Walk) -> bool
-        ensures more { IsTrue result → walk.now.place < length self.now.order.items }
-        ensures none { IsFalse result → (length self.now.order.items ≤ walk.now.place) ⊎ (units_before self.now.units (length self.now.units) ≤ walk.now.units) }
-    {
-        walk.place < self.order.len() && walk.units < self.units.total()
-    }
-
-    /// The quotient of the last deadline that isn't after the expected one, where it is after this time.
-    fn first_guess(&self, from: u32, start: usize, expected: u32) -> Quotient
-        requires units { AreInOrder self.now }
-        requires after { AreDueAfter self.now.order.items from start }
-        ensures some_time { 1 ≤ result.time }
-        ensures attained { IsQuotientAmong self.now from start result }
-    {
-        let end = self.order.partition_point(|due| due.deadline <= expected);
-        if end <= start {
-            return Quotient { units: 0, time: 1 };
-        }
-        Quotient {
-            units: self.units.sum(start, end),
-            time: self.order[end - 1].deadline - from,
-        }
-    }
-
-    /// Past the block of the next place.
-    fn past_block(&self, walk: Walk) -> Walk
-        requires units { AreInOrder self.now }
-        requires walk { IsWalk self.now walk }
-        requires more { walk.place < length self.now.order.items }
-        ensures walk { IsWalk self.now result }
-        ensures further { IsFurther walk result }
-    {
-        let end = block_end(walk.place, self.order.len());
-        let units = walk.units + self.units.between(walk.place, end);
-        let most = Quotient {
+/// The greatest quotient once the walk has come to this end.
+fn greatest_until(jobs: &PendingJobs, end: usize, walk: Walk) -> Quotient
+    requires units { AreInOrder jobs.now }
+    requires walk { IsWalk jobs.now walk }
+    requires forward { walk.place ≤ end }
+    requires within { end ≤ length jobs.now.order.items }
+    ensures { IsGreatestWithin jobs.now walk.from walk.start end result }
+{
+    let placed = jobs.units.units();
+    let mut units = walk.units;
+    let mut greatest = walk.greatest;
+    for place in walk.place..end {
+        units += placed[place];
+        greatest = greatest.max(Quotient {
             units,
-            time: self.order[walk.place].deadline - walk.from,
-        };
-        let greatest = if most.is_at_most(walk.greatest) {
-            walk.greatest
-        } else {
-            self.greatest_until(end, walk)
-        };
-        Walk {
-            place: end,
-            units,
-            greatest,
-            ..walk
-        }
+            time: jobs.order[place].deadline - walk.from,
+            place,
+        });
     }
-
-    /// The greatest quotient once the walk has come to this end.
-    fn greatest_until(&self, end: usize, walk: Walk) -> Quotient
-        requires units { AreInOrder self.now }
-        requires walk { IsWalk self.now walk }
-        requires forward { walk.place ≤ end }
-        requires within { end ≤ length self.now.order.items }
-        ensures { IsGreatestWithin self.now walk.from walk.start end result }
-    {
-        let placed = self.units.units();
-        let mut units = walk.units;
-        let mut greatest = walk.greatest;
-        for place in walk.place..end {
-            units += placed[place];
-            greatest = greatest.max(Quotient {
-                units,
-                time: self.order[place].deadline - walk.from,
-            });
-        }
-        greatest
-    }
+    greatest
 }

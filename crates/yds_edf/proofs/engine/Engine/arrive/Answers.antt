@@ -1,73 +1,70 @@
-use Rattle.std.proofs.Common.{arith, refl, heap_items, heap_len, ap}
-use Rattle.yds_model.specs.Job.{Job}
-use Rattle.yds_edf.proofs.Arrivals.{sum_fits, heaps_kept, pushed, all_arrived}
-use Rattle.yds_edf.proofs.Steps.{popped, fewer}
+use Rattle.std.proofs.Common.{refl, ap, rules, arith, below_more}
+use Rattle.yds_edf.specs.declared.order.Due.{Due}
+use Rattle.yds_edf.proofs.Arrivals.{within_later, due_read, job_known, place_read, now_within, arrived_read, all_come}
 use Rattle.yds_edf.proofs.engine.Engine.arrive.Goals as goal
-use Rattle.yds_edf.proofs.engine.Engine.arrive.Goals.{in-Some+then-next-time, in_default}
+use Rattle.yds_edf.proofs.engine.Engine.arrive.Goals.{else-loop-self-test, then-loop-self-test+then-next-time}
 
-pub overflow_add-self : goal.overflow_add-self
-overflow_add-self c =
-    let fits = sum_fits c.loop-next.invariant.kept c.loop-next.invariant.heaps (record {
-      at = refl;
-      there = omega (arith, c.in-Some.ensures.item);
-      top_is = c.in-Some.ensures.lookup;
-      released = c.if-next-time.false;
-      row_is = c.index-row.ensures;
-      now_is = c.index-in-Some.ensures;
-      tie_is = c.index.ensures;
-      left_is = c.units_left.ensures.left;
-    }) in
-    omega (arith, fits)
+pub loop-self-init : goal.loop-self-init
+loop-self-init c = record {
+  kept = c.self.invariant.kept;
+  jobs = c.self.invariant.jobs;
+  before = λ k less. within_later _ _ _ (rw (← c.self.view_is) at c.requires) (c.self.invariant.come.before k less);
+  within = c.self.invariant.come.within;
+  rows = refl;
+  ties = refl;
+  grain = refl;
+  time = refl;
+  served = refl;
+}
 
-pub loop-next-preserved : goal.loop-next-preserved
-loop-next-preserved c =
-    let out = popped (heap_items c.loop-next.self-inside.coming) (heap_items c.pop.new.self) c.in-Some.field-0.now c.pop.result
-    (omega (arith, c.in-Some.ensures.item)) c.in-Some.ensures.lookup c.loop-next.invariant.heaps.coming_heap
-    (c.pop.ensures.variant.1 (c.in-Some.ensures.variant.0 refl))
-    c.pop.ensures.top c.pop.ensures.permutation c.pop.ensures.heap_order in
-    let less = fewer c.pop.result (heap_len c.pop.new.self) (heap_len c.loop-next.self-inside.coming)
-    (c.pop.ensures.variant.1 (c.in-Some.ensures.variant.0 refl)) c.pop.ensures.len in
-    let joined = pushed (heap_items c.loop-next.self-inside.pending) (heap_items c.push.new.self) _ c.push.result
-    (heap_len c.push.new.self) (heap_len c.loop-next.self-inside.pending) c.loop-next.invariant.heaps.pending_heap
-    (c.push.ensures.succeeds (omega (arith, c.loop-next.invariant.room, less)))
-    c.push.ensures.len c.push.ensures.permutation c.push.ensures.heap_order in
-    record {
-      kept = c.loop-next.invariant.kept;
-      heaps = heaps_kept c.loop-next.invariant.kept c.loop-next.invariant.heaps (record {
-        at = refl;
-        there = omega (arith, c.in-Some.ensures.item);
-        top_is = c.in-Some.ensures.lookup;
-        released = c.if-next-time.false;
-        row_is = c.index-row.ensures;
-        now_is = c.index-in-Some.ensures;
-        tie_is = c.index.ensures;
-        left_is = c.units_left.ensures.left;
-      }) (heap_items c.pop.new.self) (heap_items c.push.new.self) c.row.inside.deadline
-          (ap (λ (job : Job). job.deadline) c.row.view_is) out joined.1 joined.2;
-      room = omega (arith, less, joined.0, c.push.ensures.capacity, c.loop-next.invariant.room);
-      rows = c.loop-next.invariant.rows;
-      ties = c.loop-next.invariant.ties;
-      grain = c.loop-next.invariant.grain;
-      served = c.loop-next.invariant.served;
-    }
+pub index-requires : goal.index-requires
+index-requires c = omega (arith, (job_known c.loop-self.invariant.kept c.loop-self.invariant.jobs (omega (arith, c.loop-self-test.true, c.len.ensures)) c.index-next.ensures).0)
+
+pub index-requires-in-loop-self : goal.index-requires-in-loop-self
+index-requires-in-loop-self c = omega (arith, (job_known c.loop-self.invariant.kept c.loop-self.invariant.jobs (omega (arith, c.loop-self-test.true, c.len.ensures)) c.index-next.ensures).1)
+
+pub units_left-units-requires-clause-within : goal.units_left-units-requires-clause-within
+units_left-units-requires-clause-within c =
+    now_within c.loop-self.invariant.kept c.loop-self.invariant.jobs (omega (arith, c.loop-self-test.true, c.len.ensures)) c.index-next.ensures
+    c.index.ensures c.index-in-loop-self.ensures
+
+pub set-requires-clause-known : goal.set-requires-clause-known
+set-requires-clause-known c = (place_read c.loop-self.invariant.kept c.loop-self.invariant.jobs (omega (arith, c.loop-self-test.true, c.len.ensures)) c.index-next.ensures).0
+
+pub set-requires-clause-placed : goal.set-requires-clause-placed
+set-requires-clause-placed c = (place_read c.loop-self.invariant.kept c.loop-self.invariant.jobs (omega (arith, c.loop-self-test.true, c.len.ensures)) c.index-next.ensures).1
+
+pub loop-self-preserved : goal.loop-self-preserved
+loop-self-preserved c = record {
+  kept = c.loop-self.invariant.kept;
+  jobs = arrived_read c.loop-self.invariant.kept c.loop-self.invariant.jobs (omega (arith, c.loop-self-test.true, c.len.ensures)) c.index-next.ensures
+      c.index.ensures c.index-in-loop-self.ensures c.units_left-units.result c.set.new.self c.units_left-units.ensures.left c.set.ensures;
+  before = below_more _ _ c.loop-self.invariant.before (omega (
+    arith,
+    c.if-next-time.false,
+    ap (λ (due : Due). due.release)
+        (due_read c.loop-self.invariant.kept c.loop-self.invariant.jobs (omega (arith, c.loop-self-test.true, c.len.ensures)) c.index-next.ensures),
+  ));
+  within = omega (arith, c.loop-self-test.true, c.len.ensures);
+  rows = c.loop-self.invariant.rows;
+  ties = c.loop-self.invariant.ties;
+  grain = c.loop-self.invariant.grain;
+  time = c.loop-self.invariant.time;
+  served = c.loop-self.invariant.served;
+}
 
 pub invariant_of-self : goal.invariant_of-self
-invariant_of-self c = elim c.match-peek.branch [
-  | in-Some+then-next-time w ↦ rw w.self-inside-is (
+invariant_of-self c =
+    let kept = c.loop-self.invariant in
     record {
-      kept = c.loop-next.invariant.kept;
-      heaps = c.loop-next.invariant.heaps;
-      later = all_arrived _ _ _ w.in-Some.field-0.now c.loop-next.invariant.heaps.coming
-          (w.in-Some.ensures.greatest c.loop-next.invariant.heaps.coming_heap) w.if-next-time.true;
-    },
-    c.loop-next.invariant.room,
-  )
-  | in_default w ↦ rw w.self-inside-is (
-    record {
-      kept = c.loop-next.invariant.kept;
-      heaps = c.loop-next.invariant.heaps;
-      later = λ k d within. absurd (omega (arith, within, w.in_default.ensures.item));
-    },
-    c.loop-next.invariant.room,
-  )
-]
+      kept = search rules;
+      jobs = record { ranked = kept.jobs.ranked; same = kept.jobs.same; rising = kept.jobs.rising; placed = kept.jobs.placed };
+      come = all_come _ _ _ kept.jobs.rising kept.within kept.before (λ inside. elim c.loop-self-test.branch [
+        | else-loop-self-test w ↦ absurd (omega (arith, inside, w.loop-self-test.false, c.len.ensures))
+        | then-loop-self-test+then-next-time w ↦ omega (
+          arith,
+          w.if-next-time.true,
+          ap (λ (due : Due). due.release) (due_read kept.kept kept.jobs inside w.index-next.ensures),
+        )
+      ]);
+    }

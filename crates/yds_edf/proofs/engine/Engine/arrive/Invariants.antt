@@ -1,35 +1,36 @@
-use Rattle.std.proofs.Common.{◌≡◌, ◌+◌, ◌≤◌, heap_items, heap_len}
-use Rattle.std.specs.Prelude.{Some}
-use Rattle.std.specs.BinaryHeap.{heap_capacity}
-use Rattle.yds_edf.specs.Engine.{IsTiedQueue, AreHeaps}
+use Rattle.std.proofs.Common.{◌≡◌, ℕ, ◌-◌, ◌<◌, ◌≤◌, length}
+use Rattle.yds_edf.specs.Order.{due_at}
+use Rattle.yds_edf.specs.Engine.{IsTiedQueue, AreArrived}
 use Rattle.yds_edf.proofs.engine.Engine.arrive.Given as goal
 
-abbrev pub invariant-loop-next : goal.invariant-loop-next
-invariant-loop-next l = record {
+abbrev pub invariant-loop-self : goal.invariant-loop-self
+invariant-loop-self l = record {
   kept : IsTiedQueue (record {
     queue = record {
       jobs = l.self-inside.rows.items;
       grain = l.self-inside.grain;
-      time = Some l.time;
+      time = l.self-inside.time;
       served = l.self-inside.served.items;
     };
     ties = l.self-inside.ties.items;
   });
-  heaps : AreHeaps (record {
+  jobs : AreArrived (record {
     queue = record {
       jobs = l.self-inside.rows.items;
       grain = l.self-inside.grain;
-      time = Some l.time;
+      time = l.self-inside.time;
       served = l.self-inside.served.items;
     };
     ties = l.self-inside.ties.items;
-  }) (heap_items l.self-inside.coming) (heap_items l.self-inside.pending) l.self-inside.units;
-  room : heap_len l.self-inside.coming + heap_len l.self-inside.pending ≤ heap_capacity l.self-inside.pending;
+  }) l.self-inside.arrivals.items l.self-inside.arrived l.self-inside.pending;
+  before : (k : ℕ) → k < l.self-inside.arrived → (due_at l.self-inside.arrivals.items k).release ≤ l.time;
+  within : l.self-inside.arrived ≤ length l.self-inside.arrivals.items;
   rows : l.self-inside.rows ≡ l.initial.self-inside.rows;
   ties : l.self-inside.ties ≡ l.initial.self-inside.ties;
   grain : l.self-inside.grain ≡ l.initial.self-inside.grain;
+  time : l.self-inside.time ≡ l.initial.self-inside.time;
   served : l.self-inside.served ≡ l.initial.self-inside.served;
 }
 
-abbrev pub decreases-loop-next : goal.decreases-loop-next
-decreases-loop-next l = heap_len l.self-inside.coming
+abbrev pub decreases-loop-self : goal.decreases-loop-self
+decreases-loop-self l = length l.self-inside.arrivals.items - l.self-inside.arrived

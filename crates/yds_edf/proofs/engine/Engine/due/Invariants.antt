@@ -1,6 +1,6 @@
 use Rattle.std.proofs.Common.{◌≡◌}
 use Rattle.yds_edf.specs.Pending.{sum_below}
-use Rattle.yds_edf.proofs.Due.{due_of}
+use Rattle.yds_edf.proofs.DueBy.{due_of}
 use Rattle.yds_edf.proofs.engine.Engine.due.Given as goal
 
 abbrev pub invariant-loop-job : goal.invariant-loop-job

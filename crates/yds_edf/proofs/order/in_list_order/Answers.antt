@@ -1,0 +1,31 @@
+use Rattle.std.proofs.Common.{◌≡◌, ◌∙◌, ◌++◌, ◌∷◌, [], List, length, map, slice_index, sym, subst, ap, arith, below_more}
+use Rattle.std.specs.List.{range_with_len}
+use Rattle.std.proofs.lemmas.List.{get_or_read}
+use Rattle.std.proofs.lemmas.List.FromFn.{map-range_with_len_more}
+use Rattle.std.proofs.lemmas.List.Elements.{All-from_get_or}
+use Rattle.yds_model.specs.Job.{Job, IsJob, no_job}
+use Rattle.yds_edf.specs.declared.order.Due.{Due}
+use Rattle.yds_edf.specs.Order.{due_job}
+use Rattle.yds_edf.proofs.order.in_list_order.Goals as goal
+
+pub loop-number-preserved : goal.loop-number-preserved
+loop-number-preserved c =
+    let number = c.loop-number.number in
+    let ties = c.args.ties.now in
+    let row = c.row.view_is ∙ get_or_read c.args.rows.now number c.index-rows-number.result c.loop-number-test.true c.index-rows-number.is no_job in
+    record {
+      jobs = below_more _ _ c.loop-number.invariant.jobs (subst IsJob row c.row.invariant);
+      order = c.in_ok-push.ensures.items
+          ∙ ap (λ (dues : List Due). dues ++ record { release = c.row.inside.release; deadline = c.row.inside.deadline; tie = slice_index ties number; job = number } ∷ []) c.loop-number.invariant.order
+          ∙ ap (λ (job : Job). map (due_job c.args.rows.now ties) (range_with_len 0 number) ++ record { release = job.release; deadline = job.deadline; tie = slice_index ties number; job = number } ∷ []) row
+          ∙ sym (map-range_with_len_more (due_job c.args.rows.now ties) 0 number number (omega arith));
+    }
+
+pub returns-clause-jobs : goal.returns-clause-jobs
+returns-clause-jobs c = All-from_get_or IsJob c.args.rows.now no_job
+    (λ number within. c.loop-number.invariant.jobs number (omega (arith, within, c.loop-number-test.false)))
+
+pub returns-clause-order : goal.returns-clause-order
+returns-clause-order c =
+    let all : c.loop-number.number ≡ length c.args.rows.now = omega (arith, c.loop-number-test.false) in
+    c.loop-number.invariant.order ∙ ap (λ n. map (due_job c.args.rows.now c.args.ties.now) (range_with_len 0 n)) all

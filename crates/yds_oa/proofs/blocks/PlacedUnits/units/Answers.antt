@@ -1,5 +1,0 @@
-use Rattle.yds_oa.proofs.Sums.{few_units}
-use Rattle.yds_oa.proofs.blocks.PlacedUnits.units.Goals as goal
-
-pub returns-clause-few : goal.returns-clause-few
-returns-clause-few c = rw (c.deref.ensures.value) (few_units c.self.inside.units.items c.self.inside.sums.items c.self.invariant.blocks)

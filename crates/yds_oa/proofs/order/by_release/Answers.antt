@@ -1,7 +1,0 @@
-use Rattle.std.proofs.Common.{rules}
-use Rattle.std.proofs.lemmas.List.Sorted.{IsNonDecreasingBy-from_sort_by_key}
-use Rattle.yds_oa.specs.declared.order.Due.{Due}
-use Rattle.yds_oa.proofs.order.by_release.Goals as goal
-
-pub returns-clause-rising : goal.returns-clause-rising
-returns-clause-rising c = IsNonDecreasingBy-from_sort_by_key (λ (due : Due). due.release) _ c.in_ok-sort_by_key.ensures.sorted (λ a r f k. search rules)
