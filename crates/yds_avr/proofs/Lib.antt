@@ -1,4 +1,4 @@
 pub mod Terms
-pub mod Parts
+pub mod Standing
 pub mod Rounded
 pub mod Together

@@ -79,6 +79,9 @@ rest_none x y some = elim (cases_eq (x % y) 0) [
 
 -- # What the code computes
 
+pub whole_few : (rate : Rate) → IsRate rate → rate.whole ≤ 1000000000000
+whole_few rate is = omega (arith, mul-le-mul_left rate.whole (let some : 1 ≤ window_length rate = omega (arith, is.has_window) in some), is.few)
+
 module _ (rate : Rate) (is : IsRate rate) (length : ℕ) (within : length ≤ window_length rate) where
   some_window : 1 ≤ window_length rate
   some_window = omega (arith, is.has_window)
@@ -116,9 +119,6 @@ module _ (stretch : Piece) (rate : Rate) (live : IsLive stretch rate) where
     up_most (rate_units rate * length_of stretch) (window_length rate) (rate_units rate) (omega (arith, live.is_rate.has_window)) (mul-le-mul_left (rate_units rate) part_long),
     live.is_rate.few,
   )
-
-  pub whole_few : rate.whole ≤ 1000000000000
-  whole_few = omega (arith, mul-le-mul_left rate.whole (let some : 1 ≤ window_length rate = omega (arith, live.is_rate.has_window) in some), live.is_rate.few)
 
   pub part_rounds : rate_rounds stretch rate ≡ not (rate.rest * length_of stretch % window_length rate == 0)
   part_rounds =

@@ -9,8 +9,8 @@ use Rattle.yds_model.specs.Policy.{div_up}
 use Rattle.yds_events.specs.Stretch.{length_of}
 use Rattle.yds_avr.specs.declared.rate.Rate.{Rate}
 use Rattle.yds_avr.specs.Rate.{window_length, rate_term, rate_rounds, IsLive}
-use Rattle.yds_avr.specs.Live.{no_rate}
-use Rattle.yds_avr.proofs.Rounded.{part_apart, part_few, part_rounds, whole_few}
+use Rattle.yds_avr.specs.Roster.{no_rate}
+use Rattle.yds_avr.proofs.Rounded.{part_apart, part_few, part_rounds}
 
 module _ (stretch : Piece) (live : List Rate) (are : All (IsLive stretch) live) (i : ℕ) (within : i < length live) where
   abbrev this : Rate
@@ -19,15 +19,13 @@ module _ (stretch : Piece) (live : List Rate) (are : All (IsLive stretch) live) 
   pub this_one : IsLive stretch this
   this_one = are i no_rate within
 
-  pub this_few : this.whole ≤ 1000000000000
-  this_few = whole_few stretch this this_one
-
   -- one part more
-  pub sum_next : (length whole more rest : ℕ) → length ≡ length_of stretch → whole * length + more ≡ sum_by (rate_term stretch) (take i live) →
-      rest ≡ div_up (this.rest * length) (window_length this) →
-      (whole + this.whole) * length + (more + rest) ≡ sum_by (rate_term stretch) (take (i + 1) live)
-  sum_next length whole more rest long sum rest_is = omega (
+  pub sum_next : (length more rest : ℕ) → length ≡ length_of stretch →
+      sum_by (λ rate. rate.whole) (take i live) * length + more ≡ sum_by (rate_term stretch) (take i live) → rest ≡ div_up (this.rest * length) (window_length this) →
+      sum_by (λ rate. rate.whole) (take (i + 1) live) * length + (more + rest) ≡ sum_by (rate_term stretch) (take (i + 1) live)
+  sum_next length more rest long sum rest_is = omega (
     arith,
+    ap (λ n. n * length) (sum_by_more (λ (rate : Rate). rate.whole) live i no_rate within),
     sum_by_more (rate_term stretch) live i no_rate within,
     part_apart stretch this this_one,
     sum,

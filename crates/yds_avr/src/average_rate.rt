@@ -7,10 +7,10 @@ ghost use Rattle.yds_timetable.specs.Timetable.{slots_of};
 ghost use Rattle.yds_timetable.specs.Room.{CanLay};
 ghost use Rattle.yds_edf.specs.Run.{AreRowsOf};
 ghost use Rattle.yds_avr.specs.Rate.{IsLive, rate_term, rate_rounds};
-ghost use Rattle.yds_avr.specs.Live.{ArePartsBefore};
+ghost use Rattle.yds_avr.specs.Roster.{IsRosterBefore};
 
-use crate::live::{arrived_by, by_release, over_by};
 use crate::rate::{Rate, rest_of, rounds};
+use crate::roster::Roster;
 use std::alloc::Global;
 use yds_edf::{Policy, PolicyRun, PolicyTimetable, Queue, Setting, Share, serve_policy};
 use yds_events::Stretch;
@@ -46,13 +46,8 @@ pub fn avr_timetable(alloc: Global, rows: &[JobRow], grid: u32) -> Result<Policy
     ensures room { IfOk result (λ run. CanLay (length rows.now) run.timetable) }
     ensures count_in_range { IfOk result (λ run. run.rounded ≤ MAX_ROUNDED) }
 {
-    let order = by_release(alloc, rows, grid)?;
-    let mut policy = AverageRate {
-        grid,
-        order,
-        over: 0,
-        arrived: 0,
-    };
+    let roster = Roster::new(alloc, rows, grid)?;
+    let mut policy = AverageRate { grid, roster };
     serve_policy(alloc, rows, grid, &mut policy)
 }
 
@@ -61,13 +56,8 @@ pub fn avr_timetable(alloc: Global, rows: &[JobRow], grid: u32) -> Result<Policy
 struct AverageRate {
     /// The number of units in a unit of work.
     grid: u32,
-    /// The jobs' rates on that grid: first those that are over, then the others that have arrived, then those that are to
-    /// come, in order of their releases.
-    order: Vec<Rate>,
-    /// How many are over.
-    over: usize,
-    /// How many have arrived.
-    arrived: usize,
+    /// The jobs' rates on that grid.
+    roster: Roster,
 }
 
 impl Policy for AverageRate {
@@ -75,40 +65,39 @@ impl Policy for AverageRate {
 
     ghost rounds = { λ policy jobs grid pending stretch. average_rate_rounds jobs policy.grid stretch };
 
-    ghost keeps = { λ policy queue number. ArePartsBefore queue.jobs policy.grid policy.order.items policy.over policy.arrived number };
+    ghost keeps = { λ policy queue number. IsRosterBefore queue.jobs policy.grid policy.roster number };
 
     fn set(&mut self, _number: u32, queue: &Queue, stretch: Stretch, _served: &[Share]) -> Setting {
-        self.arrived = arrived_by(&self.order, self.arrived, stretch.from);
-        self.over = over_by(&mut self.order, self.over, self.arrived, stretch.from);
         let _rows = queue.rows();
-        terms(&self.order[self.over..self.arrived], stretch)
+        self.roster.go_to(stretch.from);
+        terms(&self.roster.live, self.roster.whole, stretch)
     }
 }
 
 /// The sum of the live jobs' parts of a stretch, and whether one was rounded up.
-fn terms(live: &[Rate], stretch: Stretch) -> Setting
+fn terms(live: &[Rate], whole: u64, stretch: Stretch) -> Setting
     requires few { length live.now ≤ MAX_JOBS }
     requires live { All (IsLive stretch) live.now }
+    requires whole { whole ≡ sum_by (λ rate. rate.whole) live.now }
     ensures units { result.units ≡ sum_by (rate_term stretch) live.now }
     ensures rounds { result.rounds ≡ list_any (rate_rounds stretch) live.now }
 {
     Setting {
-        units: units_of(live, stretch),
+        units: units_of(live, whole, stretch),
         rounds: is_rounded(live, stretch),
     }
 }
 
-/// The sum of the live jobs' parts of a stretch, each rounded up. The whole units of a time unit are added first.
-fn units_of(live: &[Rate], stretch: Stretch) -> u64
+/// The sum of the live jobs' parts of a stretch, each rounded up. The whole units of a time unit are added before.
+fn units_of(live: &[Rate], whole: u64, stretch: Stretch) -> u64
     requires few { length live.now ≤ MAX_JOBS }
     requires live { All (IsLive stretch) live.now }
+    requires whole { whole ≡ sum_by (λ rate. rate.whole) live.now }
     ensures { result ≡ sum_by (rate_term stretch) live.now }
 {
     let length = u64::from(stretch.length());
-    let mut whole = 0;
     let mut more = 0;
     for rate in live {
-        whole += rate.whole;
         more += rest_of(rate, length);
     }
     whole * length + more

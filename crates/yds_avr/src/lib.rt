@@ -6,8 +6,8 @@
 #![tactic(auto)]
 
 mod average_rate;
-mod live;
 mod rate;
+mod roster;
 
 pub use average_rate::{avr, avr_timetable};
 

@@ -1,6 +1,6 @@
 use Rattle.std.proofs.Common.{rules}
 use Rattle.std.proofs.lemmas.List.Sorted.{IsNonDecreasingBy-from_sort_by_key}
-use Rattle.yds_avr.proofs.live.by_release.Goals as goal
+use Rattle.yds_avr.proofs.roster.by_release.Goals as goal
 
 pub returns-clause-rising : goal.returns-clause-rising
 returns-clause-rising c = IsNonDecreasingBy-from_sort_by_key (λ rate. rate.release) _ c.in_ok-sort_by_key.ensures.sorted (λ a r f k. search rules)
