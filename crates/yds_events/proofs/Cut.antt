@@ -3,41 +3,36 @@ use Rattle.std.proofs.Common.{◌≡◌, ℕ, suc, ◌+◌, ◌-◌, ◌<◌, �
 use Rattle.std.specs.Prelude.{◌==◌, Bool, true, false, cond, nat_lt}
 use Rattle.std.specs.List.{All, dedup, dedup_from}
 use Rattle.std.proofs.lemmas.Bool.{cases_Bool, cases_eq, and_parts, lt-ltb, ltb-true, eqb-true}
-use Rattle.std.proofs.lemmas.List.{get_or_append_left, get_or_push, get_or-set_same, get_or-set_other, length_push, map_more}
+use Rattle.std.proofs.lemmas.List.{get_or_append_left, get_or_default, get_or_push, get_or-set_same, get_or-set_other, length_push, map_more}
 use Rattle.yds_model.proofs.Lists.{place_cases}
-use Rattle.yds_events.specs.Keys.{time_of, number_of, IsKey, IsAt, ArePlaced, ends_with, with_last}
+use Rattle.yds_events.specs.Keys.{key_of, time_of, number_of, AreKeys, IsAt, ArePlaces, ends_with, with_last}
+use Rattle.yds_events.proofs.Keys.{IsKey, key_is, as_many, key_at}
 
--- # A time more
+-- a time more, which stands last; the others stay
+pub record Added (times : List ℕ) (time : ℕ) (more : List ℕ) : Type 0 where
+  pub last : IsAt more time (length more - 1)
+  pub kept : (other place : ℕ) → IsAt times other place → IsAt more other place
+  pub few : length more ≤ length times + 1
 
--- it stands last
-last_at : (times : List ℕ) (time : ℕ) → IsAt (with_last times time) time (length (with_last times time) - 1)
-last_at times time = elim (cases_Bool (ends_with times time)) [
+pub added : (times : List ℕ) (time : ℕ) → Added times time (with_last times time)
+added times time = elim (cases_Bool (ends_with times time)) [
   | inl ends ↦
       let parts = and_parts (nat_lt 0 (length times)) (time == get_or times (length times - 1) 0) ends in
       rw ends (record {
-        within = omega (arith, ltb-true 0 (length times) parts.0);
-        is = sym (eqb-true time (get_or times (length times - 1) 0) parts.1);
+        last = record {
+          within = omega (arith, ltb-true 0 (length times) parts.0);
+          is = sym (eqb-true time (get_or times (length times - 1) 0) parts.1);
+        };
+        kept = λ other place at. at;
+        few = omega arith;
       })
-  | inr new ↦ rw new (record {
-    within = omega (arith, length_push times time);
-    is = get_or_push times time 0 (length (times ++ time ∷ []) - 1) (omega (arith, length_push times time));
-  })
-]
-
--- and the others where they stood
-kept_at : (times : List ℕ) (more time place : ℕ) → IsAt times time place → IsAt (with_last times more) time place
-kept_at times more time place at = elim (cases_Bool (ends_with times more)) [
-  | inl ends ↦ rw ends at
-  | inr new ↦ rw new (record {
-    within = omega (arith, at.within, length_push times more);
-    is = get_or_append_left times (more ∷ []) 0 place at.within ∙ at.is;
-  })
-]
-
-pub at_most_one : (times : List ℕ) (time : ℕ) → length (with_last times time) ≤ length times + 1
-at_most_one times time = elim (cases_Bool (ends_with times time)) [
-  | inl ends ↦ rw ends (omega arith)
-  | inr new ↦ rw new (omega (arith, length_push times time))
+  | inr new ↦
+      let count = length_push times time in
+      rw new (record {
+        last = record { within = omega (arith, count); is = get_or_push times time 0 (length (times ++ time ∷ []) - 1) (omega (arith, count)) };
+        kept = λ other place at. record { within = omega (arith, at.within, count); is = get_or_append_left times (time ∷ []) 0 place at.within ∙ at.is };
+        few = omega (arith, count);
+      })
 ]
 
 -- # What stays without repeats
@@ -80,7 +75,11 @@ times_more keys i within = sym (ap (dedup (λ x y. x == y)) (map_more time_of ke
 
 -- # Places
 
-pub placed_more : (times keys points places : List ℕ) (n : ℕ) → All (IsKey times) keys → length times ≡ length keys → length places ≡ length keys → n < length keys →
+-- at the numbers of the first n keys stand the places of their times
+abbrev pub ArePlaced : List ℕ → ℕ → List ℕ → List ℕ → Type 0
+ArePlaced keys n points places = (i : ℕ) → i < n → IsAt points (time_of (get_or keys i 0)) (get_or places (number_of (get_or keys i 0)) 0)
+
+pub placed_more : (times keys points places : List ℕ) (n : ℕ) → All (IsKey times) keys → length keys ≡ length times → length places ≡ length keys → n < length keys →
     ArePlaced keys n points places → ArePlaced keys (n + 1) (with_last points (time_of (get_or keys n 0)))
     (set places (number_of (get_or keys n 0)) (length (with_last points (time_of (get_or keys n 0))) - 1))
 placed_more times keys points places n are count all within placed i below =
@@ -90,12 +89,24 @@ placed_more times keys points places n are count all within placed i below =
     elim (cases_eq (number_of (get_or keys i 0)) (number_of key)) [
       | inl same ↦
           let time : time_of (get_or keys i 0) ≡ time_of key = (are i 0 (omega arith)).same ∙ ap (λ k. get_or times k 0) same ∙ sym here.same in
-          rw (time, same, get_or-set_same places (number_of key) place 0 (omega (arith, here.known))) (last_at points (time_of key))
+          rw (time, same, get_or-set_same places (number_of key) place 0 (omega (arith, here.known))) (added points (time_of key)).last
       | inr other ↦
           let before : i < n = elim (place_cases i n below) [
             | inl less ↦ less
             | inr is ↦ absurd (other (ap (λ k. number_of (get_or keys k 0)) is))
           ] in
           rw (get_or-set_other places (number_of key) (number_of (get_or keys i 0)) place 0 other)
-          (kept_at points (time_of key) (time_of (get_or keys i 0)) (get_or places (number_of (get_or keys i 0)) 0) (placed i before))
+          ((added points (time_of key)).kept (time_of (get_or keys i 0)) (get_or places (number_of (get_or keys i 0)) 0) (placed i before))
     ]
+
+-- then each number has its place
+pub all_placed : (times keys points places : List ℕ) → AreKeys times keys → length places ≡ length keys → ArePlaced keys (length keys) points places →
+    ArePlaces times points places
+all_placed times keys points places are count placed = record {
+  all = count ∙ as_many times keys are;
+  each = λ number known.
+      let found = key_at times keys are number known in
+      let is = key_is (get_or times number 0) number (omega (arith, known, are.few)) in
+      let here : get_or keys found.0 0 ≡ key_of times number = get_or_default keys found.0 0 (key_of times number) found.1 ∙ found.2 in
+      rw (here, is.0, is.1) at (placed found.0 found.1);
+}

@@ -1,66 +1,79 @@
--- Sorted keys of times: what their times are without repeats, and where each number's time stands among them.
-use Rattle.std.proofs.Common.{◌≡◌, ℕ, ◌+◌, ◌*◌, ◌<◌, ◌≤◌, List, length, get_or, map, ◌∙◌, false, sym, ap, subst, arith}
-use Rattle.std.specs.Prelude.{◌==◌}
-use Rattle.std.specs.List.{All, dedup, range_with_len}
-use Rattle.std.specs.List.Sorted.{IsPermutation}
+-- Sorted keys of times: what their times are without repeats, and where each number's key stands.
+use Rattle.std.proofs.Common.{◌≡◌, ℕ, ◌+◌, ◌*◌, ◌<◌, ◌≤◌, ◌==◌, List, length, get_or, map, ◌∙◌, false, sym, ap, subst, arith}
+use Rattle.std.specs.List.{All, Contains, dedup, range_with_len}
+use Rattle.std.specs.List.Sorted.{IsPermutation, IsStrictlyIncreasing}
 use Rattle.std.specs.Ordering.{nat_cmp, is_lt}
+use Rattle.std.proofs.lemmas.Bool.{ne_eqb}
 use Rattle.std.proofs.lemmas.Bool.Decides.{nat_tests}
-use Rattle.std.proofs.lemmas.List.{get_or-map, get_or_default, length-map}
+use Rattle.std.proofs.lemmas.Cmp.{nat_eq_equiv}
+use Rattle.std.proofs.lemmas.List.{get_or-map, length-map}
 use Rattle.std.proofs.lemmas.List.Elements.{All-map}
 use Rattle.std.proofs.lemmas.List.FromFn.{length-range_with_len, get_or-range_with_len, length-map-range_with_len, get_or-map-range_with_len, fill_by_all}
 use Rattle.std.proofs.lemmas.List.Sorted.{IsPermutation-map, All-permutation, Contains-permutation, length_permutation}
+use Rattle.std.proofs.lemmas.Map.Keys.{IsDistinct-from_apart, IsDistinct-IsPermutation, IsStrictlyIncreasing-from_distinct}
 use Rattle.std.proofs.lemmas.Simd.{map-map}
 use Rattle.yds_model.specs.Event.{rising_times}
-use Rattle.yds_events.specs.Keys.{key_of, time_of, number_of, IsKey, AreKeys, IsAt, ArePlaced}
+use Rattle.yds_events.specs.Keys.{key_of, time_of, number_of, AreKeys}
 use Rattle.yds_events.proofs.Rising.{sorted_times}
 
 -- a key has its time and its number
-key_is : (time number : ℕ) → number < 4294967296 →
+pub key_is : (time number : ℕ) → number < 4294967296 →
     (time_of (time * 4294967296 + number) ≡ time) × (number_of (time * 4294967296 + number) ≡ number)
 key_is time number small = (omega arith, omega arith)
 
 not_less : (x y : ℕ) → x ≤ y → is_lt (nat_cmp y x) ≡ false
 not_less x y most = grind (arith, nat_tests)
 
-module _ (times keys : List ℕ) (small : length times ≤ 4294967296) (are : AreKeys times keys) where
+-- the key's number is that of its time
+pub record IsKey (times : List ℕ) (key : ℕ) : Type 0 where
+  pub known : number_of key < length times
+  pub same : time_of key ≡ get_or times (number_of key) 0
+
+module _ (times keys : List ℕ) (are : AreKeys times keys) where
   -- the keys in order of number
   abbrev numbered : List ℕ
   numbered = map (key_of times) (range_with_len 0 (length times))
 
+  count : length numbered ≡ length times
+  count = length-map-range_with_len (key_of times) 0 (length times)
+
   pub as_many : length keys ≡ length times
-  as_many = length_permutation numbered keys are.once ∙ length-map-range_with_len (key_of times) 0 (length times)
+  as_many = length_permutation numbered keys are.once ∙ count
 
   pub all_keys : All (IsKey times) keys
   all_keys = All-permutation (IsKey times) numbered keys are.once (All-map (IsKey times) (key_of times) (range_with_len 0 (length times)) (λ i d within.
       let number = get_or (range_with_len 0 (length times)) i d in
       let below : i < length times = omega (arith, within, length-range_with_len 0 (length times)) in
       let known : number < length times = omega (arith, below, get_or-range_with_len 0 (length times) i d below) in
-      let is = key_is (get_or times number 0) number (omega arith) in
+      let is = key_is (get_or times number 0) number (omega (arith, are.few)) in
       record { known = omega (arith, is.1, known); same = is.0 ∙ ap (λ k. get_or times k 0) (sym is.1) }))
 
-  -- each number's time stands where it is placed
-  pub placed_at : (points places : List ℕ) (number : ℕ) → number < length times → ArePlaced keys (length keys) points places →
-      IsAt points (get_or times number 0) (get_or places number 0)
-  placed_at points places number known placed =
-      let key = key_of times number in
-      let found = Contains-permutation numbered keys key are.once (
-        number,
-        omega (arith, known, length-map-range_with_len (key_of times) 0 (length times)),
-        get_or-map-range_with_len (key_of times) 0 (length times) number number key known (omega arith),
-      ) in
-      let is = key_is (get_or times number 0) number (omega arith) in
-      let here : get_or keys found.0 0 ≡ key = get_or_default keys found.0 0 key found.1 ∙ found.2 in
-      let at : IsAt points (time_of key) (get_or places (number_of key) 0) =
-      subst (λ (k : ℕ). IsAt points (time_of k) (get_or places (number_of k) 0)) here (placed found.0 found.1) in
-      subst (λ (k : ℕ). IsAt points (get_or times number 0) (get_or places k 0)) is.1
-      (subst (λ (time : ℕ). IsAt points time (get_or places (number_of key) 0)) is.0 at)
+  -- each number's key is one of them
+  pub key_at : (number : ℕ) → number < length times → Contains keys (key_of times number)
+  key_at number known = Contains-permutation numbered keys (key_of times number) are.once (
+    number,
+    omega (arith, known, count),
+    get_or-map-range_with_len (key_of times) 0 (length times) number number (key_of times number) known (omega arith),
+  )
 
-  -- the keys' times are the times in order
+  -- and no two are the same
+  pub strictly : IsStrictlyIncreasing keys
+  strictly = IsStrictlyIncreasing-from_distinct keys are.rising (IsDistinct-IsPermutation (λ x y. x == y) nat_eq_equiv.symm numbered keys are.once
+      (IsDistinct-from_apart (λ x y. x == y) numbered (λ i j d less within. ne_eqb (get_or numbered i d) (get_or numbered j d) (λ same. omega (
+        arith,
+        same,
+        are.few,
+        count,
+        get_or-map-range_with_len (key_of times) 0 (length times) i i d (omega (arith, less, within, count)) (omega arith),
+        get_or-map-range_with_len (key_of times) 0 (length times) j j d (omega (arith, within, count)) (omega arith),
+      )))))
+
+  -- their times are the times in order
   pub rising_keys : dedup (λ x y. x == y) (map time_of keys) ≡ rising_times times
   rising_keys =
       let back : map time_of numbered ≡ times = map-map time_of (key_of times) (range_with_len 0 (length times))
       ∙ sym (fill_by_all (λ k. time_of (key_of times k)) times (length times) 0 (omega arith)
-      (λ k below. sym (key_is (get_or times k 0) k (omega arith)).0)) in
+      (λ k below. sym (key_is (get_or times k 0) k (omega (arith, are.few))).0)) in
       sorted_times times (map time_of keys)
       (subst (λ (xs : List ℕ). IsPermutation xs (map time_of keys)) back (IsPermutation-map time_of numbered keys are.once))
       (λ k d low within.

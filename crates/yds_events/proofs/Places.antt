@@ -1,13 +1,12 @@
 -- Windows are found by the places of releases and deadlines among the event points.
-use Rattle.std.proofs.Common.{◌≡◌, ℕ, ◌+◌, ◌*◌, ◌/◌, ◌<◌, ◌≤◌, List, length, get_or, map, arith, subst, ap}
+use Rattle.std.proofs.Common.{◌≡◌, ℕ, ◌+◌, ◌*◌, ◌/◌, ◌<◌, List, length, get_or, map, arith, ap}
 use Rattle.std.specs.List.{All, range_with_len}
 use Rattle.std.proofs.lemmas.List.FromFn.{length-map-range_with_len, get_or-map-range_with_len}
 use Rattle.yds_model.specs.Job.{Job, IsJob, job_at, no_job}
 use Rattle.yds_model.specs.Event.{event_points}
 use Rattle.yds_events.specs.declared.window.Window.{Window}
-use Rattle.yds_events.specs.Keys.{ends_of, AreKeys, IsAt, ArePlaced, window_from}
+use Rattle.yds_events.specs.Keys.{ends_of, IsAt, ArePlaces, window_from}
 use Rattle.yds_events.specs.Window.{no_window, window_at, AreWindows}
-use Rattle.yds_events.proofs.Keys.{as_many, placed_at}
 use Rattle.yds_events.proofs.Times.{not_later, place_before, place_not_after, length_ends, release_end, deadline_end}
 use Rattle.yds_events.proofs.Neighbours.{stretch_begins, stretch_ends, stretch_next, count_stretches}
 
@@ -59,15 +58,12 @@ windows_found jobs windows are count found = record {
 }
 
 -- from the places of their releases and deadlines among the event points
-pub windows_placed : (jobs : List Job) (keys points places : List ℕ) (windows : List Window) → All IsJob jobs → 2 * length jobs ≤ 4294967296 →
-    AreKeys (ends_of jobs) keys → points ≡ event_points jobs → length places ≡ length keys → ArePlaced keys (length keys) points places →
-    windows ≡ map (window_from places) (range_with_len 0 (length places / 2)) → AreWindows jobs windows
-windows_placed jobs keys points places windows are small keyed cut all placed is =
-    let few : length (ends_of jobs) ≤ 4294967296 = omega (arith, length_ends jobs) in
-    let half : length places / 2 ≡ length jobs = omega (arith, all, as_many (ends_of jobs) keys few keyed, length_ends jobs) in
+pub windows_placed : (jobs : List Job) (points places : List ℕ) (windows : List Window) → All IsJob jobs → points ≡ event_points jobs →
+    ArePlaces (ends_of jobs) points places → windows ≡ map (window_from places) (range_with_len 0 (length places / 2)) → AreWindows jobs windows
+windows_placed jobs points places windows are cut placed is =
+    let half : length places / 2 ≡ length jobs = omega (arith, placed.all, length_ends jobs) in
     let at : (number : ℕ) → number < 2 * length jobs → IsAt (event_points jobs) (get_or (ends_of jobs) number 0) (get_or places number 0) =
-    λ number within. subst (λ (times : List ℕ). IsAt times (get_or (ends_of jobs) number 0) (get_or places number 0)) cut
-    (placed_at (ends_of jobs) keys few keyed points places number (omega (arith, length_ends jobs)) placed) in
+    λ number within. rw cut at (placed.each number (omega (arith, length_ends jobs))) in
     windows_found jobs windows are (omega (arith, ap (λ (ws : List Window). length ws) is, length-map-range_with_len (window_from places) 0 (length places / 2), half))
     (λ j known. rw (is, get_or-map-range_with_len (window_from places) 0 (length places / 2) j j no_window (omega arith) (omega arith)) (record {
       first = rw (← release_end jobs j known) (at (2 * j) (omega arith));

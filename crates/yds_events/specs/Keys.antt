@@ -19,13 +19,9 @@ time_of key = key / 4294967296
 abbrev pub number_of : ℕ → ℕ
 number_of key = key % 4294967296
 
--- the key's number is that of its time
-pub record IsKey (times : List ℕ) (key : ℕ) : Type 0 where
-  pub known : number_of key < length times
-  pub same : time_of key ≡ slice_index times (number_of key)
-
 -- the keys of all times, sorted
 pub record AreKeys (times keys : List ℕ) : Type 0 where
+  pub few : length times < 4294967296
   pub once : IsPermutation (map (key_of times) (range_with_len 0 (length times))) keys
   pub rising : IsNonDecreasing keys
 
@@ -42,9 +38,10 @@ pub record IsAt (times : List ℕ) (time place : ℕ) : Type 0 where
   pub within : place < length times
   pub is : slice_index times place ≡ time
 
--- at the numbers of the first n keys stand the places of their times
-abbrev pub ArePlaced : List ℕ → ℕ → List ℕ → List ℕ → Type 0
-ArePlaced keys n times places = (i : ℕ) → i < n → IsAt times (time_of (slice_index keys i)) (slice_index places (number_of (slice_index keys i)))
+-- each number has the place of its time
+pub record ArePlaces (times points places : List ℕ) : Type 0 where
+  pub all : length places ≡ length times
+  pub each : (number : ℕ) → number < length times → IsAt points (slice_index times number) (slice_index places number)
 
 -- a job's window from the place of its release to that of its deadline
 abbrev pub window_from : List ℕ → ℕ → Window

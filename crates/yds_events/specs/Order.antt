@@ -1,7 +1,5 @@
 -- The order in which jobs are served.
 use Rattle.std.specs.Prelude.{◌≡◌, ℕ, ◌<◌, List, length, slice_index}
-use Rattle.std.specs.List.{range_with_len}
-use Rattle.std.specs.List.Sorted.{IsPermutation}
 use Rattle.yds_model.specs.Job.{Job}
 use Rattle.yds_model.specs.EarliestFirst.{ComesFirst}
 
@@ -13,5 +11,4 @@ Precedes jobs one other = (one ≡ other → ⊥) × ComesFirst jobs one other
 pub record IsOrder (jobs : List Job) (order : List ℕ) : Type 0 where
   pub known : (i : ℕ) → i < length order → slice_index order i < length jobs
   pub rising : (a b : ℕ) → a < b → b < length order → Precedes jobs (slice_index order a) (slice_index order b)
-  pub once : IsPermutation (range_with_len 0 (length jobs)) order
   pub each : (j : ℕ) → j < length jobs → (a : ℕ) × (a < length order) × (slice_index order a ≡ j)

@@ -1,7 +1,8 @@
-ghost use Rattle.std.specs.Prelude.{◌≡◌, ℕ, ◌<◌, ◌≤◌, ◌/◌, ◌^◌, ◌==◌, List, length, map, IfOk, OnOk};
-ghost use Rattle.std.specs.List.{All, dedup, filter, range_with_len};
+ghost use Rattle.std.specs.Prelude.{◌≡◌, ℕ, ◌<◌, ◌≤◌, ◌/◌, ◌^◌, List, length, map, IfOk, OnOk};
+ghost use Rattle.std.specs.List.{filter, range_with_len};
 ghost use Rattle.yds_model.specs.declared.limits.TheConstants.{MAX_JOBS};
-ghost use Rattle.yds_events.specs.Keys.{IsKey, AreKeys, ArePlaced, time_of, number_of, job_of, with_last, window_from, is_deadline};
+ghost use Rattle.yds_model.specs.Event.{rising_times};
+ghost use Rattle.yds_events.specs.Keys.{AreKeys, ArePlaces, time_of, number_of, job_of, with_last, window_from, is_deadline};
 ghost use Rattle.yds_events.specs.Timeline.{IsTimeline};
 
 use crate::event_points::ends;
@@ -70,11 +71,9 @@ fn number(key: u64) -> u32
 
 /// The times of sorted keys without repeats, and at each number the place of its time among them.
 fn cut(alloc: Global, keys: &[u64]) -> Result<(Vec<u32>, Vec<u32>), Memory>
-    requires few { length keys.now < 2 ^ 32 }
-    requires keys { (times : List ℕ) × (length times ≡ length keys.now) × All (IsKey times) keys.now }
-    ensures times { IfOk result (λ cut. cut.0.items ≡ dedup (λ x y. x == y) (map time_of keys.now)) }
-    ensures count { IfOk result (λ cut. length cut.1.items ≡ length keys.now) }
-    ensures places { IfOk result (λ cut. ArePlaced keys.now (length keys.now) cut.0.items cut.1.items) }
+    requires { (times : List ℕ) × AreKeys times keys.now }
+    ensures times { IfOk result (λ cut. (times : List ℕ) → AreKeys times keys.now → cut.0.items ≡ rising_times times) }
+    ensures places { IfOk result (λ cut. (times : List ℕ) → AreKeys times keys.now → ArePlaces times cut.0.items cut.1.items) }
 {
     let mut times = Vec::with_capacity(alloc, keys.len())?;
     let mut places = vec![in alloc; 0; keys.len()]?;

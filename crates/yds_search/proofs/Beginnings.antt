@@ -1,15 +1,17 @@
 -- How the search begins.
 use Rattle.std.proofs.Common.{◌≡◌, ℕ, ◌<◌, ◌≤◌, ◌⊎◌, List, [], ◌∷◌, ◌++◌, ◌∙◌, ◌+◌, true, not, max, length, get_or, sym, ap, subst, inl, inr, refl, arith}
-use Rattle.std.specs.Prelude.{Bool, cond, nat_lt}
+use Rattle.std.specs.Prelude.{Bool, cond, nat_lt, ◌==◌}
 use Rattle.std.specs.List.{All, filter, range_with_len}
 use Rattle.std.proofs.lemmas.List.{get_or_append_left, get_or_push, length_push, map-id, get_or_default, length-map, length-replicate, get_or-replicate, nil_from_length}
-use Rattle.std.proofs.lemmas.List.Elements.{All-nil, All-map, All-filter, filter_passes}
+use Rattle.std.proofs.lemmas.List.Elements.{All-nil, All-map, All-filter, All-contains, filter_passes}
 use Rattle.std.proofs.lemmas.List.Filters.{length-filter_both}
 use Rattle.std.proofs.lemmas.List.FromFn.{length-range_with_len, get_or-range_with_len}
 use Rattle.std.proofs.lemmas.List.Kept.{AllPairs-filter}
-use Rattle.std.proofs.lemmas.List.Sorted.{length_permutation}
+use Rattle.std.proofs.lemmas.Map.Keys.{IsDistinct-from_apart}
+use Rattle.std.proofs.lemmas.Map.Steps.{length-le_from_distinct_below}
+use Rattle.std.proofs.lemmas.Map.Views.{Contains-from_any}
 use Rattle.std.proofs.lemmas.Simd.{map-map}
-use Rattle.std.proofs.lemmas.Bool.{cases_lt, lt-ltb, ltb-true}
+use Rattle.std.proofs.lemmas.Bool.{cases_lt, lt-ltb, ltb-true, eqb-true, ne_eqb}
 use Rattle.yds_model.specs.Job.{Job, IsJob, job_at, no_job}
 use Rattle.yds_model.specs.Event.{stretches}
 use Rattle.yds_model.specs.Piece.{Piece}
@@ -143,6 +145,13 @@ begun_place timeline ends marks ranks k covered all ranked within =
 -- each number of an order is a job's
 pub known_all : (jobs : List Job) (order : List ℕ) → IsOrder jobs order → All (λ j. j < length jobs) order
 known_all jobs order ordered i d within = subst (λ (j : ℕ). j < length jobs) (get_or_default order i 0 d within) (ordered.known i within)
+
+-- and so there are no more than jobs
+order_few : (jobs : List Job) (order : List ℕ) → IsOrder jobs order → length order ≤ length jobs
+order_few jobs order ordered = length-le_from_distinct_below order (length jobs)
+    (IsDistinct-from_apart (λ x y. x == y) order (λ i j d less within. ne_eqb (get_or order i d) (get_or order j d) (λ same.
+    (ordered.rising i j less within).0 (get_or_default order i 0 d (omega (arith, less, within)) ∙ same ∙ get_or_default order j d 0 within))))
+    (λ q found. All-contains (λ j. j < length jobs) order q (known_all jobs order ordered) (Contains-from_any eqb-true q order found))
 
 -- what stays the same is known from the beginning
 pub instance_is : (jobs : List Job) (windows : List Window) → length jobs ≤ 4000 → All IsJob jobs → AreWindows jobs windows → IsInstance jobs windows
@@ -283,8 +292,7 @@ module _ (jobs : List Job) (windows : List Window) (order ends marks ranks : Lis
     arith,
     length-map (filter works order) (first_job jobs windows ranks),
     length-filter_both works (λ j. not (works j)) (λ j. refl) order,
-    length_permutation (range_with_len 0 (length jobs)) order ordered.once,
-    length-range_with_len 0 (length jobs),
+    order_few jobs order ordered,
   )
 
   -- nor of the stretches

@@ -1,7 +1,8 @@
 use Rattle.std.proofs.Common.{◌≡◌, ◌≤◌, length, map, take}
 use Rattle.std.specs.Prelude.{◌==◌}
 use Rattle.std.specs.List.{dedup}
-use Rattle.yds_events.specs.Keys.{time_of, ArePlaced}
+use Rattle.yds_events.specs.Keys.{time_of}
+use Rattle.yds_events.proofs.Cut.{ArePlaced}
 use Rattle.yds_events.proofs.timeline.cut.Given as goal
 
 abbrev pub invariant-loop-key : goal.invariant-loop-key

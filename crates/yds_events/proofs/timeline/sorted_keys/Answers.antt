@@ -12,6 +12,7 @@ loop-number-preserved c = c.in_ok-push.ensures.items ∙ rw (c.loop-number.invar
 
 pub returns : goal.returns
 returns c = record {
+  few = c.requires;
   once = subst (λ (n : ℕ). IsPermutation (map (key_of c.args.times.now) (range_with_len 0 n)) c.sort_unstable.new.self.items)
       (omega (arith, c.loop-number.auto.number-end, c.loop-number-test.false))
       (subst (λ (xs : List ℕ). IsPermutation xs c.sort_unstable.new.self.items) c.loop-number.invariant c.sort_unstable.ensures.permutation);
