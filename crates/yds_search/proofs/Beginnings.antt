@@ -1,11 +1,11 @@
 -- How the search begins.
-use Rattle.std.proofs.Common.{◌≡◌, ℕ, ◌<◌, ◌≤◌, ◌⊎◌, List, [], ◌∷◌, ◌++◌, ◌∙◌, ◌+◌, true, not, max, length, get_or, sym, ap, subst, inl, inr, refl, arith}
-use Rattle.std.specs.Prelude.{Bool, cond, nat_lt, ◌==◌}
+use Rattle.std.proofs.Common.{◌≡◌, ℕ, ◌<◌, ◌≤◌, List, [], ◌∷◌, ◌++◌, ◌∙◌, ◌+◌, true, not, max, zero, suc, take, map, length, get_or, sym, ap, subst, inl, inr, refl, arith}
+use Rattle.std.specs.Prelude.{Bool, nat_lt, ◌==◌}
 use Rattle.std.specs.List.{All, filter, range_with_len}
-use Rattle.std.proofs.lemmas.List.{get_or_append_left, get_or_push, length_push, map-id, get_or_default, length-map, length-replicate, get_or-replicate, nil_from_length}
+use Rattle.std.proofs.lemmas.List.{take_more, get_or-take, length-take, get_or_past, map-id, get_or_default, length-map, length-replicate, get_or-replicate, nil_from_length}
 use Rattle.std.proofs.lemmas.List.Elements.{All-nil, All-map, All-filter, All-contains, filter_passes}
 use Rattle.std.proofs.lemmas.List.Filters.{length-filter_both}
-use Rattle.std.proofs.lemmas.List.FromFn.{length-range_with_len, get_or-range_with_len}
+use Rattle.std.proofs.lemmas.List.FromFn.{length-range_with_len, get_or-range_with_len, take-map-range_with_len, get_or-map-range_with_len}
 use Rattle.std.proofs.lemmas.List.Kept.{AllPairs-filter}
 use Rattle.std.proofs.lemmas.Map.Keys.{IsDistinct-from_apart}
 use Rattle.std.proofs.lemmas.Map.Steps.{length-le_from_distinct_below}
@@ -22,91 +22,66 @@ use Rattle.yds_search.specs.declared.found.TheConstants.{NO_GROUP}
 use Rattle.yds_search.specs.declared.own.OwnJob.{OwnJob}
 use Rattle.yds_search.specs.declared.own.OwnStretch.{OwnStretch}
 use Rattle.yds_search.specs.declared.stack.Stack.{Stack}
-use Rattle.yds_search.specs.Found.{group_of, IsShare}
+use Rattle.yds_search.specs.Found.{IsShare}
 use Rattle.yds_events.specs.Order.{Precedes, IsOrder}
 use Rattle.yds_search.specs.Own.{Part, stretch_numbers}
 use Rattle.yds_search.specs.Instance.{IsInstance}
 use Rattle.yds_search.specs.Stack.{size_of, jobs_of, own_stretches_of}
-use Rattle.yds_search.specs.Closure.{AreRanks}
-use Rattle.yds_search.specs.Beginning.{IsReached, AreCovered, AreFarthest, first_job, first_jobs, first_stretch, first_stretches}
+use Rattle.yds_search.specs.Beginning.{IsReached, AreFarthest, greatest, is_reached, reached_before, first_job, first_jobs, first_stretch, first_stretches}
 use Rattle.yds_search.specs.Waiting.{HasOne, HasJob, HasStretch, IsOwnJob, IsOwnStretch, IsWaiting, IsBefore, AreWaiting}
 use Rattle.yds_search.specs.Search.{MayTake, IsFinished, IsLed, IsSearch}
 use Rattle.yds_search.specs.Searching.{IsBegun, nothing_found}
 use Rattle.yds_search.proofs.KeySums.{in_range}
 use Rattle.yds_search.proofs.Members.{one_at, at_one, one_map, one_filter, all_pairs_map}
-use Rattle.yds_search.proofs.Ranks.{place_among}
+use Rattle.yds_search.proofs.Ranks.{filtered_place}
 use Rattle.yds_search.proofs.Filled.{no_own, no_own_stretch}
 use Rattle.yds_search.proofs.Marked.{places_meet}
 
--- the first n stretches have their marks, and `end` is the greatest of their ends
-pub record IsCovering (ends : List ℕ) (n end : ℕ) (marks : List ℕ) : Type 0 where
-  pub covered : AreCovered ends n marks
-  pub most : (i : ℕ) → i < n → get_or ends i 0 ≤ end
-  pub one : (end ≡ 0) ⊎ ((i : ℕ) × (i < n) × (get_or ends i 0 ≡ end))
+-- # Reached stretches
 
--- before the first stretch nothing is marked
-pub covering_none : (ends marks : List ℕ) → marks ≡ [] → IsCovering ends 0 0 marks
-covering_none ends marks none = record {
-  covered = record { count = ap (λ (xs : List ℕ). length xs) none; each = λ k before. absurd (omega arith) };
-  most = λ i before. absurd (omega arith);
-  one = inl refl;
-}
+greatest_most : (ends : List ℕ) (i : ℕ) → i < length ends → get_or ends i 0 ≤ greatest ends
+greatest_most [] i within = absurd (omega arith)
+greatest_most (end ∷ ends) zero within = omega arith
+greatest_most (end ∷ ends) (suc i) within = omega (arith, greatest_most ends i (omega arith))
 
--- the greatest end is an end
-covering_one : (ends : List ℕ) (n end end' : ℕ) → (end ≡ 0) ⊎ ((i : ℕ) × (i < n) × (get_or ends i 0 ≡ end)) → end' ≡ max end (get_or ends n 0) →
-    (end' ≡ 0) ⊎ ((i : ℕ) × (i < n + 1) × (get_or ends i 0 ≡ end'))
-covering_one ends n end end' one is = elim (cases_lt end (get_or ends n 0)) [
-  | inl less ↦ inr (n, omega arith, omega (arith, is, less))
-  | inr more ↦ elim one [
-    | inl none ↦ inl (omega (arith, is, more, none))
-    | inr found ↦ inr (found.0, omega (arith, found.1), omega (arith, found.2, is, more))
-  ]
+greatest_one : (ends : List ℕ) → 1 ≤ greatest ends → (i : ℕ) × (i < length ends) × (get_or ends i 0 ≡ greatest ends)
+greatest_one [] some = absurd (omega arith)
+greatest_one (end ∷ ends) some = elim (cases_lt end (greatest ends)) [
+  | inl less ↦ let one = greatest_one ends (omega arith) in (suc one.0, omega (arith, one.1), omega (arith, one.2, less))
+  | inr more ↦ (0, omega arith, omega (arith, more))
 ]
 
--- and no end is greater
-covering_most : (ends : List ℕ) (n end end' : ℕ) → ((i : ℕ) → i < n → get_or ends i 0 ≤ end) → end' ≡ max end (get_or ends n 0) →
-    (i : ℕ) → i < n + 1 → get_or ends i 0 ≤ end'
-covering_most ends n end end' most is i below = elim (cases_lt i n) [
-  | inl before ↦ omega (arith, is, most i before)
-  | inr after ↦ let same : i ≡ n = omega arith in omega (arith, is, ap (λ j. get_or ends j 0) same)
+greatest_push : (ends : List ℕ) (end : ℕ) → greatest (ends ++ end ∷ []) ≡ max (greatest ends) end
+greatest_push [] end = omega arith
+greatest_push (first ∷ ends) end = omega (arith, greatest_push ends end)
+
+pub greatest_more : (ends : List ℕ) (k : ℕ) → k < length ends → greatest (take (k + 1) ends) ≡ max (greatest (take k ends)) (get_or ends k 0)
+greatest_more ends k within = ap greatest (take_more ends k 0 within) ∙ greatest_push (take k ends) (get_or ends k 0)
+
+-- the test tells them
+reaches : (ends : List ℕ) (k : ℕ) → IsReached ends k → is_reached ends k ≡ true
+reaches ends k reached = elim (cases_lt reached.0 (length ends)) [
+  | inr past ↦ absurd (omega (arith, reached.2, get_or_past ends reached.0 0 past))
+  | inl within ↦ lt-ltb k (greatest (take (k + 1) ends)) (omega (
+    arith,
+    reached.2,
+    get_or-take (k + 1) ends reached.0 0 (omega (arith, reached.1)),
+    greatest_most (take (k + 1) ends) reached.0 (omega (arith, reached.1, length-take (k + 1) ends)),
+  ))
 ]
 
--- one stretch more
-pub covering_more : (ends : List ℕ) (n end end' mark : ℕ) (marks marks' : List ℕ) → IsCovering ends n end marks → end' ≡ max end (get_or ends n 0) →
-    marks' ≡ marks ++ mark ∷ [] → ((n < end') × (mark ≡ 1)) ⊎ ((end' ≤ n) × (mark ≡ 0)) → IsCovering ends (n + 1) end' marks'
-covering_more ends n end end' mark marks marks' so_far is same here =
-    let one = covering_one ends n end end' so_far.one is in
-    let most = covering_most ends n end end' so_far.most is in
-    record {
-      covered = record {
-        count = omega (arith, ap (λ (xs : List ℕ). length xs) same, length_push marks mark, so_far.covered.count);
-        each = λ k below. elim (cases_lt k n) [
-          | inl before ↦
-              subst (λ (m : ℕ). (IsReached ends k × (m ≡ 1)) ⊎ ((IsReached ends k → ⊥) × (m ≡ 0)))
-              (sym (ap (λ (xs : List ℕ). group_of xs k) same ∙ get_or_append_left marks (mark ∷ []) 0 k (omega (arith, before, so_far.covered.count))))
-              (so_far.covered.each k before)
-          | inr after ↦
-              let last : n ≡ k = omega arith in
-              let mark_is : group_of marks' n ≡ mark = ap (λ (xs : List ℕ). group_of xs n) same ∙ get_or_push marks mark 0 n so_far.covered.count in
-              subst (λ (i : ℕ). (IsReached ends i × (group_of marks' i ≡ 1)) ⊎ ((IsReached ends i → ⊥) × (group_of marks' i ≡ 0))) last
-              (elim here [
-                | inl covered ↦ elim one [
-                  | inl none ↦ absurd (omega (arith, none, covered.0))
-                  | inr found ↦ inl ((found.0, omega (arith, found.1), omega (arith, found.2, covered.0)), mark_is ∙ covered.1)
-                ]
-                | inr free ↦ inr ((λ reached. omega (arith, free.0, reached.2, most reached.0 (omega (arith, reached.1)))), mark_is ∙ free.1)
-              ])
-        ];
-      };
-      most = most;
-      one = one;
-    }
+reached_by : (ends : List ℕ) (k : ℕ) → is_reached ends k ≡ true → IsReached ends k
+reached_by ends k passes =
+    let far = ltb-true k (greatest (take (k + 1) ends)) passes in
+    let one = greatest_one (take (k + 1) ends) (omega (arith, far)) in
+    let before : one.0 < k + 1 = omega (arith, one.1, length-take (k + 1) ends) in
+    (one.0, omega (arith, before), omega (arith, far, one.2, get_or-take (k + 1) ends one.0 0 before))
 
 -- the numbers of the first stretches
-begun_stretches : (timeline : List Piece) (marks : List ℕ) → stretch_numbers (first_stretches timeline marks) ≡ filter (λ k. nat_lt 0 (get_or marks k 0)) (range_with_len 0 (length timeline))
-begun_stretches timeline marks =
-    map-map (λ (own : OwnStretch). own.stretch) (first_stretch timeline) (filter (λ k. nat_lt 0 (get_or marks k 0)) (range_with_len 0 (length timeline)))
-    ∙ map-id (filter (λ k. nat_lt 0 (get_or marks k 0)) (range_with_len 0 (length timeline)))
+begun_stretches : (timeline : List Piece) (ends : List ℕ) → stretch_numbers (first_stretches timeline ends) ≡ filter (is_reached ends) (range_with_len 0 (length timeline))
+begun_stretches timeline ends =
+    map-map (λ (own : OwnStretch). own.stretch) (first_stretch timeline) (filter (is_reached ends) (range_with_len 0 (length timeline)))
+    ∙ map-id (filter (is_reached ends) (range_with_len 0 (length timeline)))
 
 -- a number is its own place in a range
 range_place : (m k : ℕ) → k ≤ m → IsPlace (range_with_len 0 m) k k
@@ -116,31 +91,15 @@ range_place m k within = record {
   from = λ i after upto. omega (arith, get_or-range_with_len 0 m i 0 (omega (arith, upto, length-range_with_len 0 m)));
 }
 
--- a mark is 1 or 0
-marks_are : (ends marks : List ℕ) (k : ℕ) → AreCovered ends (length marks) marks → k < length marks → get_or marks k 0 ≡ cond (nat_lt 0 (get_or marks k 0)) 1 0
-marks_are ends marks k covered within = elim (covered.each k within) [
-  | inl reached ↦ ap (λ (n : ℕ). n) reached.1 ∙ ap (λ n. cond (nat_lt 0 n) 1 0) (sym reached.1)
-  | inr free ↦ free.1 ∙ ap (λ n. cond (nat_lt 0 n) 1 0) (sym free.1)
-]
-
--- and so no mark is above 1
-pub marks_small : (ends marks : List ℕ) → AreCovered ends (length ends) marks → All (λ mark. mark ≤ 1) marks
-marks_small ends marks covered i d within = elim (covered.each i (omega (arith, within, covered.count))) [
-  | inl reached ↦ omega (arith, get_or_default marks i 0 d within, reached.1)
-  | inr free ↦ omega (arith, get_or_default marks i 0 d within, free.1)
-]
-
--- the rank is the place among the marked stretches
-begun_place : (timeline : List Piece) (ends marks ranks : List ℕ) (k : ℕ) → AreCovered ends (length marks) marks → length marks ≡ length timeline → AreRanks marks ranks → k ≤ length timeline →
-    IsPlace (stretch_numbers (first_stretches timeline marks)) k (get_or ranks k 0)
-begun_place timeline ends marks ranks k covered all ranked within =
-    subst (λ (xs : List ℕ). IsPlace xs k (get_or ranks k 0)) (sym (begun_stretches timeline marks))
-    (place_among (λ i. nat_lt 0 (get_or marks i 0)) (range_with_len 0 (length timeline)) marks ranks k k ranked (omega (arith, all, length-range_with_len 0 (length timeline)))
-    (λ i below.
-    let known : i < length marks = omega (arith, below, all, length-range_with_len 0 (length timeline)) in
-    let here : i ≡ get_or (range_with_len 0 (length timeline)) i 0 = omega (arith, get_or-range_with_len 0 (length timeline) i 0 (omega (arith, known, all))) in
-    marks_are ends marks i covered known ∙ ap (λ (n : ℕ). cond {A = ℕ} (nat_lt 0 (get_or marks n 0)) 1 0) here)
-    (range_place (length timeline) k within))
+-- a stretch's place among those that are reached is how many before it are
+begun_place : (timeline : List Piece) (ends : List ℕ) (k : ℕ) → k ≤ length timeline → IsPlace (stretch_numbers (first_stretches timeline ends)) k (reached_before ends k)
+begun_place timeline ends k within =
+    let numbers = range_with_len 0 (length timeline) in
+    let front : take k numbers ≡ range_with_len 0 k =
+    ap (take k) (sym (map-id numbers)) ∙ take-map-range_with_len (λ x. x) 0 (length timeline) k within ∙ map-id (range_with_len 0 k) in
+    subst (λ (xs : List ℕ). IsPlace xs k (reached_before ends k)) (sym (begun_stretches timeline ends))
+    (subst (λ (xs : List ℕ). IsPlace (filter (is_reached ends) numbers) k (length (filter (is_reached ends) xs))) front
+    (filtered_place (is_reached ends) numbers k k (range_place (length timeline) k within)))
 
 -- each number of an order is a job's
 pub known_all : (jobs : List Job) (order : List ℕ) → IsOrder jobs order → All (λ j. j < length jobs) order
@@ -178,12 +137,12 @@ nothing_finished jobs windows = record {
 
 -- the first part: the jobs with work, and the stretches in which one of them may run
 abbrev pub begun_part : List Job → List Window → List ℕ → List ℕ → List ℕ → Part
-begun_part jobs windows order marks ranks = record { jobs = first_jobs jobs windows ranks order; stretches = first_stretches (stretches jobs) marks }
+begun_part jobs windows order ends ranks = record { jobs = first_jobs jobs windows ranks order; stretches = first_stretches (stretches jobs) ends }
 
-module _ (jobs : List Job) (windows : List Window) (order ends marks ranks : List ℕ) (are : IsInstance jobs windows) (ordered : IsOrder jobs order)
-    (farthest : AreFarthest jobs windows (length jobs) (length (stretches jobs)) ends) (covered : AreCovered ends (length ends) marks) (ranked : AreRanks marks ranks) where
+module _ (jobs : List Job) (windows : List Window) (order ends ranks : List ℕ) (are : IsInstance jobs windows) (ordered : IsOrder jobs order)
+    (farthest : AreFarthest jobs windows (length jobs) (length (stretches jobs)) ends) (ranked : ranks ≡ map (reached_before ends) (range_with_len 0 (length (stretches jobs) + 1))) where
   abbrev part : Part
-  part = begun_part jobs windows order marks ranks
+  part = begun_part jobs windows order ends ranks
 
   -- the job has work
   abbrev works : ℕ → Bool
@@ -191,15 +150,11 @@ module _ (jobs : List Job) (windows : List Window) (order ends marks ranks : Lis
 
   -- a job with work may run in the stretch
   abbrev marked : ℕ → Bool
-  marked k = nat_lt 0 (get_or marks k 0)
+  marked = is_reached ends
 
   -- the stretches' numbers
   abbrev numbers : List ℕ
   numbers = range_with_len 0 (length (stretches jobs))
-
-  -- each stretch has a mark
-  count : length marks ≡ length (stretches jobs)
-  count = covered.count ∙ farthest.all
 
   -- a job with work is one of the part
   has_job : (P : OwnJob → Type 0) (j : ℕ) → j < length jobs → 1 ≤ (job_at jobs j).work → P (first_job jobs windows ranks j) → HasOne P part.jobs
@@ -210,25 +165,24 @@ module _ (jobs : List Job) (windows : List Window) (order ends marks ranks : Lis
       (subst (λ (n : ℕ). P (first_job jobs windows ranks n) × (works n ≡ true)) (sym place.2) (is, lt-ltb 0 (job_at jobs j).work some))))
 
   -- and a stretch in which one may run
-  has_stretch : (k : ℕ) → k < length (stretches jobs) → 1 ≤ get_or marks k 0 → HasStretch part k
+  has_stretch : (k : ℕ) → k < length (stretches jobs) → marked k ≡ true → HasStretch part k
   has_stretch k known some =
       let here : get_or numbers k 0 ≡ k = (in_range (length (stretches jobs)) k 0 (omega (arith, known, length-range_with_len 0 (length (stretches jobs))))).1 in
       one_map (λ own. own.stretch ≡ k) (first_stretch (stretches jobs)) (filter marked numbers) (one_filter (λ n. n ≡ k) marked numbers
       (at_one (λ n. (n ≡ k) × (marked n ≡ true)) numbers k 0 (omega (arith, known, length-range_with_len 0 (length (stretches jobs))))
-      (here, subst (λ (n : ℕ). marked n ≡ true) (sym here) (lt-ltb 0 (get_or marks k 0) some))))
+      (here, subst (λ (n : ℕ). marked n ≡ true) (sym here) some)))
 
   -- where a job may run the stretch is marked
   runs_marked : (j k : ℕ) → MayTake jobs windows j k → HasStretch part k
   runs_marked j k runs =
       let known : k < length (stretches jobs) = omega (arith, runs.inside.upto, are.windows_are.inside j runs.known) in
-      has_stretch k known (elim (covered.each k (omega (arith, known, farthest.all))) [
-        | inl reached ↦ omega (arith, reached.1)
-        | inr free ↦ absurd (free.0 ((window_at windows j).first, runs.inside.from, omega (arith, runs.inside.upto, farthest.most j runs.known runs.some)))
-      ])
+      has_stretch k known
+      (reaches ends k ((window_at windows j).first, runs.inside.from, omega (arith, runs.inside.upto, farthest.most j runs.known runs.some)))
 
   -- the rank is the place among the marked stretches, also of the number after the last one
   place : (k : ℕ) → k ≤ length (stretches jobs) → IsPlace (stretch_numbers part.stretches) k (get_or ranks k 0)
-  place k within = begun_place (stretches jobs) ends marks ranks k (subst (λ (n : ℕ). AreCovered ends n marks) (sym covered.count) covered) count ranked within
+  place k within = rw (ranked, get_or-map-range_with_len (reached_before ends) 0 (length (stretches jobs) + 1) k k 0 (omega arith) (omega arith))
+      (begun_place (stretches jobs) ends k within)
 
   -- what a job of the part is
   own_job : (j : ℕ) → j < length jobs → 1 ≤ (job_at jobs j).work → IsOwnJob jobs windows (nothing_found jobs).group_of_job (stretch_numbers part.stretches) (first_job jobs windows ranks j)
@@ -250,17 +204,15 @@ module _ (jobs : List Job) (windows : List Window) (order ends marks ranks : Lis
       }
 
   -- what a stretch of the part is
-  own_stretch : (k : ℕ) → k < length (stretches jobs) → 1 ≤ get_or marks k 0 → IsOwnStretch jobs windows (nothing_found jobs).group_of_stretch part.jobs (first_stretch (stretches jobs) k)
+  own_stretch : (k : ℕ) → k < length (stretches jobs) → marked k ≡ true → IsOwnStretch jobs windows (nothing_found jobs).group_of_stretch part.jobs (first_stretch (stretches jobs) k)
   own_stretch k known some = record {
     known = known;
     length_is = refl;
     free = get_or-replicate (length (stretches jobs)) k NO_GROUP 0 known;
-    covered = elim (covered.each k (omega (arith, known, farthest.all))) [
-      | inl reached ↦
-          let one = farthest.some reached.0.0 (omega (arith, reached.0.2)) in
-          has_job (λ own. IsIn windows own.job k) one.0 one.1 one.2 (record { from = omega (arith, one.3, reached.0.1); upto = omega (arith, one.4, reached.0.2) })
-      | inr free ↦ absurd (omega (arith, some, free.1))
-    ];
+    covered =
+        let reached = reached_by ends k some in
+        let one = farthest.some reached.0 (omega (arith, reached.2)) in
+        has_job (λ own. IsIn windows own.job k) one.0 one.1 one.2 (record { from = omega (arith, one.3, reached.1); upto = omega (arith, one.4, reached.2) });
   }
 
   -- the part waits
@@ -272,7 +224,7 @@ module _ (jobs : List Job) (windows : List Window) (order ends marks ranks : Lis
     own_stretches = All-map (IsOwnStretch jobs windows (nothing_found jobs).group_of_stretch part.jobs) (first_stretch (stretches jobs)) (filter marked numbers)
         (λ i d within. own_stretch (get_or (filter marked numbers) i d)
         (All-filter marked (λ k. k < length (stretches jobs)) numbers (λ i d within. let here = in_range (length (stretches jobs)) i d within in omega (arith, here.0, here.1)) i d within)
-        (ltb-true 0 (get_or marks (get_or (filter marked numbers) i d) 0) (filter_passes marked numbers i d within)));
+        (filter_passes marked numbers i d within));
     precede = all_pairs_map (λ one next. Precedes jobs one.job next.job) (first_job jobs windows ranks) (filter works order) (AllPairs-filter (Precedes jobs) works order
         (λ a b d before within. subst (λ (n : ℕ). Precedes jobs n (get_or order b d)) (get_or_default order a 0 d (omega (arith, before, within)))
         (subst (Precedes jobs (get_or order a 0)) (get_or_default order b 0 d within) (ordered.rising a b before within))));

@@ -1,10 +1,9 @@
 -- How many of the marks before a place are 1.
-use Rattle.std.proofs.Common.{◌≡◌, ℕ, zero, suc, ◌+◌, ◌-◌, ◌<◌, ◌≤◌, ◌∙◌, ◌⊎◌, inl, inr, Bool, cond, List, length, take, drop, get_or, sum, refl, ap, sym, subst, zero-add, add-zero, add-one, arith}
+use Rattle.std.proofs.Common.{◌≡◌, ℕ, zero, suc, ◌+◌, ◌-◌, ◌<◌, ◌≤◌, ◌∙◌, ◌⊎◌, inl, inr, Bool, List, length, take, drop, get_or, refl, ap, sym, subst, zero-add, add-zero, arith}
 use Rattle.std.specs.List.{All, filter}
 use Rattle.std.proofs.lemmas.Bool.{cases_lt}
 use Rattle.std.proofs.lemmas.List.{length-take, length-drop, length-append, take-append-drop, get_or-take, get_or-drop, get_or_default, get_or_append_left, get_or-append_right}
 use Rattle.std.proofs.lemmas.List.Elements.{All-filter, filter-append}
-use Rattle.std.proofs.lemmas.List.Filters.{length-filter_more}
 use Rattle.std.proofs.lemmas.List.Sums.{sum_by_more}
 use Rattle.yds_events.specs.Window.{IsPlace}
 use Rattle.yds_search.specs.declared.own.OwnJob.{OwnJob}
@@ -60,7 +59,7 @@ pub are_ranked : (marks ranks : List ℕ) (jobs : List OwnJob) → All (λ mark.
 are_ranked marks ranks jobs small are windows i d within = is_ranked marks ranks (get_or jobs i d) small are (windows i d within)
 
 -- a number's place among those that pass is how many before it pass
-filtered_place : (p : ℕ → Bool) (numbers : List ℕ) (number place : ℕ) → IsPlace numbers number place → IsPlace (filter p numbers) number (length (filter p (take place numbers)))
+pub filtered_place : (p : ℕ → Bool) (numbers : List ℕ) (number place : ℕ) → IsPlace numbers number place → IsPlace (filter p numbers) number (length (filter p (take place numbers)))
 filtered_place p numbers number place is =
     let before = filter p (take place numbers) in
     let after = filter p (drop place numbers) in
@@ -79,27 +78,6 @@ filtered_place p numbers number place is =
       before = λ i upto. omega (arith, less i 0 upto, get_or_append_left before after 0 i upto);
       from = λ i from upto. omega (arith, more (i - length before) 0 (omega (arith, upto, length-append before after)), get_or-append_right before after (length before) i 0 refl from);
     }
-
--- where a mark says that a number passes, ranks count those that do
-rank_counts : (p : ℕ → Bool) (numbers marks : List ℕ) (place : ℕ) → length marks ≡ length numbers → ((i : ℕ) → i < length numbers → get_or marks i 0 ≡ cond (p (get_or numbers i 0)) 1 0) →
-    place ≤ length numbers → sum (take place marks) ≡ length (filter p (take place numbers))
-rank_counts p numbers marks zero count each within = refl
-rank_counts p numbers marks (suc place) count each within = omega (
-  arith,
-  rank_counts p numbers marks place count each (omega (arith, within)),
-  each place (omega (arith, within)),
-  sum_by_more (λ x. x) marks place 0 (omega (arith, within, count)),
-  length-filter_more p numbers place 0 (omega (arith, within)),
-  ap (λ n. sum (take n marks)) (add-one place),
-  ap (λ n. length (filter p (take n numbers))) (add-one place),
-)
-
--- so the rank is the place
-pub place_among : (p : ℕ → Bool) (numbers marks ranks : List ℕ) (number place : ℕ) → AreRanks marks ranks → length marks ≡ length numbers →
-    ((i : ℕ) → i < length numbers → get_or marks i 0 ≡ cond (p (get_or numbers i 0)) 1 0) → IsPlace numbers number place → IsPlace (filter p numbers) number (get_or ranks place 0)
-place_among p numbers marks ranks number place are count each is =
-    subst (IsPlace (filter p numbers) number) (sym (are.each place (omega (arith, is.within, count)) ∙ rank_counts p numbers marks place count each is.within))
-    (filtered_place p numbers number place is)
 
 -- over some places either all are marked, and ranks rise by their number, or one is not, and ranks rise by less
 pub over_cases : (marks ranks : List ℕ) (p n : ℕ) → All (λ mark. mark ≤ 1) marks → AreRanks marks ranks → p + n ≤ length marks →

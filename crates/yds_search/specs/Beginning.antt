@@ -1,5 +1,5 @@
 -- What the search begins with, in parts.
-use Rattle.std.specs.Prelude.{◌≡◌, ℕ, ◌<◌, ◌≤◌, ◌⊎◌, nat_lt, List, length, map, slice_index}
+use Rattle.std.specs.Prelude.{◌≡◌, ℕ, ◌+◌, ◌<◌, ◌≤◌, Bool, nat_lt, List, [], ◌∷◌, length, map, max, take, slice_index}
 use Rattle.std.specs.List.{filter, range_with_len}
 use Rattle.yds_model.specs.Job.{Job, job_at}
 use Rattle.yds_model.specs.Piece.{Piece}
@@ -20,10 +20,18 @@ pub record AreFarthest (jobs : List Job) (windows : List Window) (n m : ℕ) (en
 abbrev pub IsReached : List ℕ → ℕ → Type 0
 IsReached ends k = (i : ℕ) × (i ≤ k) × (k < slice_index ends i)
 
--- of the first n stretches those that lie in such a window are marked by 1, the others by 0
-pub record AreCovered (ends : List ℕ) (n : ℕ) (marks : List ℕ) : Type 0 where
-  pub count : length marks ≡ n
-  pub each : (k : ℕ) → k < n → (IsReached ends k × (slice_index marks k ≡ 1)) ⊎ ((IsReached ends k → ⊥) × (slice_index marks k ≡ 0))
+-- the greatest of some ends
+abbrev pub greatest : List ℕ → ℕ
+greatest [] = 0
+greatest (end ∷ ends) = max end (greatest ends)
+
+-- the same as a test
+abbrev pub is_reached : List ℕ → ℕ → Bool
+is_reached ends k = nat_lt k (greatest (take (k + 1) ends))
+
+-- how many of the stretches before this number lie in such a window
+abbrev pub reached_before : List ℕ → ℕ → ℕ
+reached_before ends k = length (filter (is_reached ends) (range_with_len 0 k))
 
 -- a job with its window as a range of the stretches that are counted
 abbrev pub first_job : List Job → List Window → List ℕ → ℕ → OwnJob
@@ -38,9 +46,9 @@ first_job jobs windows ranks j = record {
 abbrev pub first_jobs : List Job → List Window → List ℕ → List ℕ → List OwnJob
 first_jobs jobs windows ranks order = map (first_job jobs windows ranks) (filter (λ j. nat_lt 0 (job_at jobs j).work) order)
 
--- the stretches of a timeline that are marked, numbered in order of time
+-- the stretches of a timeline that are reached, numbered in order of time
 abbrev pub first_stretch : List Piece → ℕ → OwnStretch
 first_stretch timeline k = record { stretch = k; length = length_of (nth_stretch timeline k) }
 
 abbrev pub first_stretches : List Piece → List ℕ → List OwnStretch
-first_stretches timeline marks = map (first_stretch timeline) (filter (λ k. nat_lt 0 (slice_index marks k)) (range_with_len 0 (length timeline)))
+first_stretches timeline ends = map (first_stretch timeline) (filter (is_reached ends) (range_with_len 0 (length timeline)))

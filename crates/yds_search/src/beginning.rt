@@ -1,14 +1,13 @@
-ghost use Rattle.std.specs.Prelude.{◌≡◌, ◌*◌, ◌<◌, ◌≤◌, ◌++◌, length, IfOk, OnOk};
-ghost use Rattle.std.specs.List.{All};
+ghost use Rattle.std.specs.Prelude.{◌≡◌, ◌+◌, ◌*◌, ◌<◌, ◌≤◌, ◌++◌, [], length, map, IfOk, OnOk};
+ghost use Rattle.std.specs.List.{All, range_with_len};
 ghost use Rattle.yds_model.specs.declared.limits.TheConstants.{MAX_JOBS};
 ghost use Rattle.yds_model.specs.Job.{IsJob};
 ghost use Rattle.yds_model.specs.Event.{stretches};
 ghost use Rattle.yds_events.specs.Timeline.{IsTimeline};
 ghost use Rattle.yds_events.specs.Window.{AreWindows};
 ghost use Rattle.yds_search.specs.Searching.{IsBegun};
-ghost use Rattle.yds_search.specs.Beginning.{AreFarthest, AreCovered, first_jobs, first_stretches};
+ghost use Rattle.yds_search.specs.Beginning.{AreFarthest, reached_before, first_jobs, first_stretches};
 
-use crate::closing::rank;
 use crate::own::{OwnJob, OwnStretch};
 use crate::stack::{Size, Stack};
 use std::alloc::Global;
@@ -36,19 +35,6 @@ fn farthest(
         }
     }
     Ok(ends)
-}
-
-/// For each stretch 1 where a job with work may run in it, and 0 elsewhere.
-fn covered(alloc: Global, ends: &[u32]) -> Result<Vec<u32>, Memory>
-    ensures { IfOk result (λ marks. AreCovered ends.now (length ends.now) marks.items) }
-{
-    let mut marks = Vec::with_capacity(alloc, ends.len())?;
-    let mut end = 0;
-    for (stretch, next) in ends.iter().enumerate() {
-        end = end.max(*next);
-        marks.push(u32::from(end as usize > stretch))?;
-    }
-    Ok(marks)
 }
 
 /// Adds the jobs with work, in order of deadline and number. Their windows become ranges of the stretches that are counted.
@@ -80,25 +66,34 @@ fn add_jobs(
     Ok(())
 }
 
-/// Adds the stretches that are marked.
+/// Adds the stretches in which a job with work may run. Answers for each stretch, and for the end of the last one, how many of those
+/// before it are such.
 fn add_stretches(
+    alloc: Global,
     stretches: &mut Vec<OwnStretch>,
     timeline: &[Stretch],
-    marks: &[u32],
-) -> Result<(), Memory>
+    ends: &[u32],
+) -> Result<Vec<u32>, Memory>
     requires few { length timeline.now ≤ 2 * MAX_JOBS }
-    requires marks { length marks.now ≡ length timeline.now }
-    ensures { OnOk result (stretches.new.items ≡ stretches.old.items ++ first_stretches timeline.now marks.now) }
+    requires ends { length ends.now ≡ length timeline.now }
+    requires none { stretches.old.items ≡ [] }
+    ensures stretches { OnOk result (stretches.new.items ≡ first_stretches timeline.now ends.now) }
+    ensures ranks { IfOk result (λ ranks. ranks.items ≡ map (reached_before ends.now) (range_with_len 0 (length timeline.now + 1))) }
 {
+    let mut ranks = Vec::with_capacity(alloc, timeline.len() + 1)?;
+    let mut end = 0;
     for (stretch, own) in timeline.iter().enumerate() {
-        if marks[stretch] > 0 {
+        ranks.push(stretches.len() as u32)?;
+        end = end.max(ends[stretch]);
+        if end as usize > stretch {
             stretches.push(OwnStretch {
                 stretch: stretch as u32,
                 length: own.length(),
             })?;
         }
     }
-    Ok(())
+    ranks.push(stretches.len() as u32)?;
+    Ok(ranks)
 }
 
 /// All jobs with work wait in one group, with the stretches in which one of them may run.
@@ -114,10 +109,8 @@ pub(crate) fn first_group(
 {
     let count = timeline.stretches.len();
     let ends = farthest(alloc, rows, &timeline.windows, count)?;
-    let marks = covered(alloc, &ends)?;
-    let mut ranks = Vec::with_capacity(alloc, count + 1)?;
-    rank(&marks, &mut ranks)?;
     let mut stack = Stack::new(alloc, rows.len(), count)?;
+    let ranks = add_stretches(alloc, &mut stack.stretches, &timeline.stretches, &ends)?;
     add_jobs(
         &mut stack.jobs,
         rows,
@@ -125,7 +118,6 @@ pub(crate) fn first_group(
         &timeline.windows,
         &ranks,
     )?;
-    add_stretches(&mut stack.stretches, &timeline.stretches, &marks)?;
     let jobs = stack.jobs.len();
     let stretches = stack.stretches.len();
     if jobs > 0 {
