@@ -125,27 +125,27 @@ module _ (jobs : List Job) (size : Size) (search : Search) (x : IsChosen jobs si
           laid = laid;
         }
 
-    module _ (shares : List JobShare) (cells : List Cell) (late : Bool) (filled : IsFilled (own_windows x.part.jobs) (wants_at (per_work (group_view group)) x.part.jobs)
-        (rooms_at (per_time (group_view group)) x.part.stretches) late shares cells) where
+    module _ (kept : List JobShare) (cells : List Cell) (late : Bool) (filled : IsFilled (own_windows x.part.jobs) (wants_at (per_work (group_view group)) x.part.jobs)
+        (rooms_at (per_time (group_view group)) x.part.stretches) late kept cells) where
       pub chosen_cells : length cells ≡ length x.part.stretches
       chosen_cells = sym (length-map cells (λ cell. cell.room)) ∙ filled.fill.same_rooms ∙ length-map x.part.stretches (λ own. per_time (group_view group) * own.length)
 
-      -- and each share is of a job in a stretch of its window
-      pub chosen_parts : All (IsPart (own_windows x.part.jobs) (length x.part.jobs) (length x.part.stretches)) shares
-      chosen_parts i d within =
-          rw (sym (length-map x.part.jobs window_of), sym (length-map x.part.stretches (λ own. per_time (group_view group) * own.length))) (filled.fill.taken.parts i d within)
+      -- where nobody is late each share is of a job in a stretch of its window
+      pub chosen_parts : late ≡ false → All (IsPart (own_windows x.part.jobs) (length x.part.jobs) (length x.part.stretches)) kept
+      chosen_parts served = rw (filled.keeps served) (λ i d within.
+          rw (sym (length-map x.part.jobs window_of), sym (length-map x.part.stretches (λ own. per_time (group_view group) * own.length))) (filled.fill.taken.parts i d within))
 
-      -- where nobody is late it is laid out
-      pub chosen_laid_out : late ≡ false → IsLaidOut jobs x.windows x.part (group_view group) (shares_by_number x.part.jobs x.part.stretches shares)
-      chosen_laid_out served = laid_out jobs x.windows (found_view search.found) x.part x.instance chosen_waits (group_view group) work length_is shares filled.left (rooms_of cells)
-          filled.fill (filled.none served)
+      -- and it is laid out
+      pub chosen_laid_out : late ≡ false → IsLaidOut jobs x.windows x.part (group_view group) (shares_by_number x.part.jobs x.part.stretches kept)
+      chosen_laid_out served = rw (filled.keeps served) (laid_out jobs x.windows (found_view search.found) x.part x.instance chosen_waits (group_view group) work length_is filled.shares filled.left
+          (rooms_of cells) filled.fill (filled.none served))
 
       -- else it is split
       pub chosen_split : (new : Search) (marks ranks : List ℕ) → late ≡ true → AreMarksOf (lates_of cells) (shared_of cells) (length cells) marks →
           length marks ≡ length cells → All (λ mark. mark ≤ 1) marks → AreRanks marks ranks →
           AreLaid (moving_part marks ranks x.part ∷ staying_part marks ranks x.part ∷ x.parts) new.stack → found_view new.found ≡ found_view search.found → IsSearching jobs new
       chosen_split new marks ranks is_late are count small ranked laid same =
-          let closing : AreClosing (own_windows x.part.jobs) filled.left shares (length (rooms_of cells)) marks = rw filled.fill.same_rooms record {
+          let closing : AreClosing (own_windows x.part.jobs) filled.left filled.shares (length (rooms_of cells)) marks = rw filled.fill.same_rooms record {
             late = lates_of cells;
             shared = shared_of cells;
             lates = filled.lates;
@@ -156,7 +156,7 @@ module _ (jobs : List Job) (size : Size) (search : Search) (x : IsChosen jobs si
             windows = x.windows;
             parts = moving_part marks ranks x.part ∷ staying_part marks ranks x.part ∷ x.parts;
             instance = x.instance;
-            groups = rw same (split_search jobs x.windows (found_view search.found) x.part x.instance chosen_waits (group_view group) work length_is shares filled.left (rooms_of cells)
+            groups = rw same (split_search jobs x.windows (found_view search.found) x.part x.instance chosen_waits (group_view group) work length_is filled.shares filled.left (rooms_of cells)
                 filled.fill marks ranks closing (count ∙ chosen_cells) small ranked (filled.some is_late) x.parts x.groups);
             laid = laid;
           }

@@ -1,5 +1,5 @@
 -- The fill by place, share by share and job by job; full stretches are jumped over.
-use Rattle.std.proofs.Common.{◌≡◌, ℕ, ◌<◌, ◌≤◌, ◌+◌, ◌-◌, ◌≢◌, ◌==◌, ◌⊎◌, min, List, [], ◌∷◌, ◌++◌, ◌∙◌, length, get_or, set, take, sym, ap, subst, inl, inr, arith}
+use Rattle.std.proofs.Common.{◌≡◌, ℕ, ◌<◌, ◌≤◌, ◌+◌, ◌-◌, ◌≢◌, ◌==◌, ◌⊎◌, min, List, [], ◌∷◌, ◌++◌, ◌∙◌, length, get_or, set, take, refl, sym, ap, subst, inl, inr, arith}
 use Rattle.std.specs.Prelude.{cond, if◌then◌else◌, nat_lt}
 use Rattle.std.specs.List.{All}
 use Rattle.std.proofs.lemmas.List.{get_or-set_same, get_or-set_other, length-set, length_push, take_all}
@@ -12,7 +12,7 @@ use Rattle.yds_events.specs.declared.window.Window.{Window}
 use Rattle.yds_events.specs.Window.{window_at, IsIn}
 use Rattle.yds_timetable.specs.Shares.{JobShare}
 use Rattle.yds_search.specs.Found.{units_of_job}
-use Rattle.yds_search.specs.Fill.{IsNotAfter, IsFullBefore, IsPart, FoundFull, StandInOrder, AreTaken, IsServed, full_count, wanting_count, IsFilling, IsFill, IsNext, IsNumbers}
+use Rattle.yds_search.specs.Fill.{IsNotAfter, IsFullBefore, IsPart, FoundFull, StandInOrder, AreTaken, IsServed, full_count, wanting_count, IsFilling, IsFill, IsNext, IsNextFrom, IsNumbers}
 
 -- A job has passed over a stretch, because it is done or the stretch is full, or has taken what it could.
 abbrev pub Takes : ℕ → ℕ → ℕ → List JobShare → List ℕ → ℕ → List JobShare → List ℕ → Type 0
@@ -49,6 +49,23 @@ taken_more windows m shares rooms share rest taken part room all ahead swept = r
       (λ i d within same. (λ mine. absurd (omega (arith, ahead i d within mine, same)), all i d within));
 }
 
+-- a job that comes after all who have shares begins where there may be room
+pub serve_begins : (windows : List Window) (job want : ℕ) (shares : List JobShare) (rooms : List ℕ) (place : ℕ) → AreTaken IsNotAfter windows (length rooms) shares rooms →
+    All (λ share. share.job < job) shares → ((k : ℕ) → (window_at windows job).first ≤ k → k < place → get_or rooms k 0 ≡ 0) →
+    IsServed windows job want shares rooms place want shares rooms
+serve_begins windows job want shares rooms place taken later full = record {
+  taken = taken;
+  all = λ i d within. omega (arith, later i d within);
+  ahead = λ i d within same. omega (arith, later i d within, same);
+  wanted = refl;
+  others = λ i other. refl;
+  same_length = refl;
+  room = λ k. refl;
+  swept = λ some. full;
+  kept = λ k i full. full;
+  few = omega arith;
+}
+
 -- full stretches are passed over at once, and so is all once the job is done
 pub serve_jumps : {windows : List Window} {job want : ℕ} {shares : List JobShare} {rooms : List ℕ} {next next' left : ℕ} {shares' : List JobShare} {rooms' : List ℕ} →
     IsServed windows job want shares rooms next left shares' rooms' → next ≤ next' →
@@ -62,6 +79,22 @@ serve_jumps {windows} {job} {want} {shares} {rooms} {next} {next'} {left} {share
   same_length = so_far.same_length;
   room = so_far.room;
   swept = λ some k from upto. elim (cases_lt k next) [ inl below ↦ so_far.swept some k from below | inr above ↦ full some k above upto ];
+  kept = so_far.kept;
+  few = so_far.few;
+}
+
+-- no share lies behind the window's end
+pub serve_ends : {windows : List Window} {job want : ℕ} {shares : List JobShare} {rooms : List ℕ} {next left : ℕ} {shares' : List JobShare} {rooms' : List ℕ} →
+    IsServed windows job want shares rooms next left shares' rooms' → (window_at windows job).end ≤ next → IsServed windows job want shares rooms (window_at windows job).end left shares' rooms'
+serve_ends {windows} {job} {want} {shares} {rooms} {next} {left} {shares'} {rooms'} so_far past = record {
+  taken = so_far.taken;
+  all = so_far.all;
+  ahead = λ i d within same. omega (arith, (so_far.taken.parts i d within).inside.upto, ap (λ j. (window_at windows j).end) same);
+  wanted = so_far.wanted;
+  others = so_far.others;
+  same_length = so_far.same_length;
+  room = so_far.room;
+  swept = λ some k from upto. so_far.swept some k from (omega (arith, upto, past));
   kept = so_far.kept;
   few = so_far.few;
 }
@@ -199,27 +232,29 @@ next_begins rooms numbers last count are = record {
   full = λ k i within from upto. absurd (omega (arith, from, upto, are.each k (omega (arith, within, are.count))));
 }
 
--- a stretch that is full now
-next_full : (rooms next : List ℕ) (place : ℕ) → IsNext rooms next → place < length rooms → get_or rooms place 0 ≡ 0 → IsNext rooms (set next place (place + 1))
-next_full rooms next place are within none =
-    let here : get_or (set next place (place + 1)) place 0 ≡ place + 1 = get_or-set_same next place (place + 1) 0 (omega (arith, are.count)) in
-    let there : (k : ℕ) → k ≢ place → get_or (set next place (place + 1)) k 0 ≡ get_or next k 0 = λ k other. get_or-set_other next place k (place + 1) 0 other in
-    let at : (k : ℕ) → k ≡ place → get_or (set next place (place + 1)) k 0 ≡ place + 1 = λ k same. ap (λ j. get_or (set next place (place + 1)) j 0) same ∙ here in
-    let same : length (set next place (place + 1)) ≡ length next = length-set next place (place + 1) in
+-- from a full stretch one may go on to where one may go on from the next one
+pub next_jumps : {rooms next : List ℕ} (place after : ℕ) → IsNext rooms next → place < length rooms → get_or rooms place 0 ≡ 0 → IsNextFrom rooms (place + 1) after (length next) →
+    IsNext rooms (set next place after)
+next_jumps {rooms} {next} place after are within none from_next =
+    let here : get_or (set next place after) place 0 ≡ after = get_or-set_same next place after 0 (omega (arith, are.count)) in
+    let there : (k : ℕ) → k ≢ place → get_or (set next place after) k 0 ≡ get_or next k 0 = λ k other. get_or-set_other next place k after 0 other in
+    let at : (k : ℕ) → k ≡ place → get_or (set next place after) k 0 ≡ after = λ k same. ap (λ j. get_or (set next place after) j 0) same ∙ here in
+    let same : length (set next place after) ≡ length next = length-set next place after in
     record {
       count = same ∙ are.count;
       forward = λ k in_range. elim (cases_eq k place) [
-        | inl at_place ↦ omega (arith, at k at_place)
+        | inl at_place ↦ omega (arith, at k at_place, from_next.after)
         | inr other ↦ omega (arith, there k other, are.forward k (omega (arith, same)))
       ];
       inside = λ k in_range. elim (cases_eq k place) [
-        | inl at_place ↦ omega (arith, at k at_place, same, are.count)
+        | inl at_place ↦ omega (arith, at k at_place, same, from_next.within)
         | inr other ↦ omega (arith, there k other, same, are.inside k (omega (arith, same)))
       ];
       full = λ k i in_range from upto. elim (cases_eq k place) [
-        | inl at_place ↦
-            let is : i ≡ place = omega (arith, upto, at k at_place) in
-            ap (λ j. get_or rooms j 0) is ∙ none
+        | inl at_place ↦ elim (cases_eq i place) [
+          | inl is ↦ ap (λ j. get_or rooms j 0) is ∙ none
+          | inr beyond ↦ from_next.full i (omega (arith, from, at_place, beyond)) (omega (arith, upto, at k at_place))
+        ]
         | inr other ↦ are.full k i (omega (arith, same)) from (omega (arith, upto, there k other))
       ];
     }
@@ -240,12 +275,10 @@ take_next rooms next job place left shares left' shares' rooms' are take = elim 
 ]
 
 -- a stretch is full once a job has passed over it and still wants units
-pub next_passed : {rooms next : List ℕ} (job : ℕ) {place : ℕ} (left : ℕ) (shares : List JobShare) (left' : ℕ) (shares' : List JobShare) {rooms' : List ℕ} →
-    IsNext rooms next → place < length rooms → Takes job place left shares rooms left' shares' rooms' → 1 ≤ left' → IsNext rooms' (set next place (place + 1))
-next_passed {rooms} {next} job {place} left shares left' shares' {rooms'} are within take more =
-    let after : IsNext rooms' next = take_next rooms next job place left shares left' shares' rooms' are take in
-    next_full rooms' next place after (omega (arith, after.count, are.count)) (elim take [
-      | inl passed ↦ ap (λ (xs : List ℕ). get_or xs place 0) passed.3 ∙ passed.0 (omega (arith, passed.1))
-      | inr took ↦ ap (λ (xs : List ℕ). get_or xs place 0) took.6 ∙ get_or-set_same rooms place (get_or rooms place 0 - took.0) 0 within
-          ∙ all_taken left (get_or rooms place 0) took.0 took.3 (omega (arith, took.4))
-    ])
+pub take_fills : (job place left : ℕ) (shares : List JobShare) (rooms : List ℕ) (left' : ℕ) (shares' : List JobShare) (rooms' : List ℕ) →
+    place < length rooms → Takes job place left shares rooms left' shares' rooms' → 1 ≤ left' → get_or rooms' place 0 ≡ 0
+take_fills job place left shares rooms left' shares' rooms' within take more = elim take [
+  | inl passed ↦ ap (λ (xs : List ℕ). get_or xs place 0) passed.3 ∙ passed.0 (omega (arith, passed.1))
+  | inr took ↦ ap (λ (xs : List ℕ). get_or xs place 0) took.6 ∙ get_or-set_same rooms place (get_or rooms place 0 - took.0) 0 within
+      ∙ all_taken left (get_or rooms place 0) took.0 took.3 (omega (arith, took.4))
+]

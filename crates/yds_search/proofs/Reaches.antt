@@ -5,7 +5,7 @@ use Rattle.std.proofs.Math.Seq.{map-set_same}
 use Rattle.std.proofs.lemmas.Simd.{map-map}
 use Rattle.std.proofs.lemmas.Bool.{cases_lt, cases_eq}
 use Rattle.yds_events.specs.declared.window.Window.{Window}
-use Rattle.yds_events.specs.Window.{window_at}
+use Rattle.yds_events.specs.Window.{window_at, IsIn}
 use Rattle.yds_timetable.specs.Shares.{JobShare, share_at, no_share}
 use Rattle.yds_search.specs.declared.filling.Cell.{Cell}
 use Rattle.yds_search.specs.declared.own.OwnJob.{OwnJob}
@@ -13,8 +13,8 @@ use Rattle.yds_search.specs.declared.own.OwnStretch.{OwnStretch}
 use Rattle.yds_search.specs.Own.{own_windows, wants_at, rooms_at}
 use Rattle.yds_search.specs.Fill.{IsServed, IsFilling, IsNext}
 use Rattle.yds_search.specs.Closure.{AreLeast, AreLateReaches, AreShareReaches}
-use Rattle.yds_search.specs.Cells.{rooms_of, shared_of, lates_of, no_cell, cell_at, first_cell, taken_cell, late_cell, IsTake, KeepReaches, IsFilled}
-use Rattle.yds_search.proofs.Fills.{Takes, fill_more, fill_ends}
+use Rattle.yds_search.specs.Cells.{rooms_of, shared_of, lates_of, no_cell, cell_at, first_cell, taken_cell, late_cell, IsTake, KeepReaches, Keeps, IsServing, IsFilled}
+use Rattle.yds_search.proofs.Fills.{Takes, serve_jumps, serve_take, fill_more, fill_ends}
 use Rattle.yds_search.proofs.Shares.{no_units}
 use Rattle.yds_search.proofs.Filled.{no_own_stretch}
 
@@ -129,14 +129,34 @@ take_lates job first stretch left shares cells left' shares' cells' take = elim 
   | inr took ↦ ap lates_of took.6 ∙ map-set_same (λ cell. cell.late) cells stretch (taken_cell (cell_at cells stretch) first took.0) no_cell refl
 ]
 
+-- so it goes on being served
+pub serving_takes : (windows : List Window) (job want : ℕ) (late : Bool) (kept shares : List JobShare) (cells : List Cell) (place left : ℕ) (kept' : List JobShare) (cells' : List Cell)
+    (first left' next : ℕ) (kept'' : List JobShare) (cells'' : List Cell) (so_far : IsServing windows job want late kept shares cells place left kept' cells') →
+    job < length windows → IsIn windows job place → place < length cells → length cells' ≡ length cells → first ≡ (window_at windows job).first →
+    ((shares' : List JobShare) × IsTake job first place left so_far.shares' cells' left' shares' cells'' × (Keeps late kept' so_far.shares' → Keeps late kept'' shares')) →
+    place + 1 ≤ next → (1 ≤ left' → (k : ℕ) → place + 1 ≤ k → k < next → get_or (rooms_of cells'') k 0 ≡ 0) → IsServing windows job want late kept shares cells next left' kept'' cells''
+serving_takes windows job want late kept shares cells place left kept' cells' first left' next kept'' cells'' so_far known inside within count begins take after full =
+    let here : place < length cells' = omega (arith, within, count) in
+    record {
+      shares' = take.0;
+      served = serve_jumps (serve_take so_far.served known inside (omega (arith, within, length-map cells (λ cell. cell.room)))
+          (take_rooms job first place left so_far.shares' cells' left' take.0 cells'' here take.1)) after full;
+      reaches = λ m reaches. take_reaches windows job first place left so_far.shares' cells' left' take.0 cells'' here (omega (arith, inside.from, begins, here)) begins take.1 m
+          (so_far.reaches m reaches);
+      keeps = λ keeps. take.2 (so_far.keeps keeps);
+      lates = take_lates job first place left so_far.shares' cells' left' take.0 cells'' take.1 ∙ so_far.lates;
+    }
+
 -- a late job takes nothing
 pub late_next : (cells : List Cell) (next : List ℕ) (place first : ℕ) → IsNext (rooms_of cells) next → IsNext (rooms_of (set cells place (late_cell (cell_at cells place) first))) next
 late_next cells next place first are = rw (map-set_same (λ cell. cell.room) cells place (late_cell (cell_at cells place) first) no_cell refl) are
 
 -- the jobs before place i have taken what they could, and whether one of them is late
-pub record AreFilling (windows : List Window) (wants rooms : List ℕ) (i : ℕ) (late : Bool) (shares : List JobShare) (cells : List Cell) : Type 0 where
+pub record AreFilling (windows : List Window) (wants rooms : List ℕ) (i : ℕ) (late : Bool) (kept : List JobShare) (cells : List Cell) : Type 0 where
+  pub shares : List JobShare
   pub left : List ℕ
   pub filling : IsFilling windows wants rooms i shares left (rooms_of cells)
+  pub keeps : Keeps late kept shares
   pub lates : AreLateReaches windows left i (length rooms) (lates_of cells)
   pub shareds : AreShareReaches windows shares (length shares) (length rooms) (shared_of cells)
   pub some : late ≡ true → (j : ℕ) × (j < i) × (1 ≤ get_or left j 0)
@@ -157,7 +177,9 @@ fill_begins jobs stretches per_time per_work =
     let count = length-map stretches (λ own. per_time * own.length) in
     let cell = first_cell per_time (length stretches) in
     record {
+      shares = [];
       left = wants_at per_work jobs;
+      keeps = λ served. refl;
       filling = rw (map-map (λ cell. cell.room) cell stretches) record {
         taken = record {
           parts = λ x d within. absurd (omega (arith, within));
@@ -178,20 +200,15 @@ fill_begins jobs stretches per_time per_work =
       none = λ no j before. absurd (omega (arith, before));
     }
 
--- who comes next wants all its units
-pub wants_all : {windows : List Window} {wants rooms : List ℕ} {i : ℕ} {late : Bool} {shares : List JobShare} {cells : List Cell} (so_far : AreFilling windows wants rooms i late shares cells) →
-    get_or so_far.left i 0 ≡ get_or wants i 0
-wants_all {i = i} {shares = shares} so_far = omega (
-  arith,
-  so_far.filling.want i,
-  no_units (λ share. share.job) shares i (λ x within same. omega (arith, so_far.filling.later x no_share within, same)),
-)
-
 -- the next job is served
-module _ (windows : List Window) (wants rooms : List ℕ) (i : ℕ) (late : Bool) (shares : List JobShare) (cells : List Cell) (rest : ℕ) (shares' : List JobShare) (cells' : List Cell)
-    (within : i < length wants) (so_far : AreFilling windows wants rooms i late shares cells)
-    (served : IsServed windows i (get_or wants i 0) shares (rooms_of cells) (window_at windows i).end rest shares' (rooms_of cells'))
-    (reaches : KeepReaches windows shares cells shares' cells') (same : lates_of cells' ≡ lates_of cells) where
+module _ (windows : List Window) (wants rooms : List ℕ) (i : ℕ) (late : Bool) (kept : List JobShare) (cells : List Cell) (rest : ℕ) (kept' : List JobShare) (cells' : List Cell)
+    (within : i < length wants) (so_far : AreFilling windows wants rooms i late kept cells)
+    (serving : IsServing windows i (get_or wants i 0) late kept so_far.shares cells (window_at windows i).end rest kept' cells') where
+  -- it wanted all its units
+  wants_all : get_or so_far.left i 0 ≡ get_or wants i 0
+  wants_all =
+      omega (arith, so_far.filling.want i, no_units (λ share. share.job) so_far.shares i (λ x within same. omega (arith, so_far.filling.later x no_share within, same)))
+
   abbrev after : List ℕ
   after = set so_far.left i rest
 
@@ -201,57 +218,64 @@ module _ (windows : List Window) (wants rooms : List ℕ) (i : ℕ) (late : Bool
   there : (j : ℕ) → j ≢ i → get_or after j 0 ≡ get_or so_far.left j 0
   there j other = get_or-set_other so_far.left i j rest 0 other
 
-  filling : IsFilling windows wants rooms (i + 1) shares' after (rooms_of cells')
-  filling = fill_more within so_far.filling (subst (λ (want : ℕ). IsServed windows i want shares (rooms_of cells) (window_at windows i).end rest shares' (rooms_of cells')) (sym (wants_all so_far)) served)
+  filling : IsFilling windows wants rooms (i + 1) serving.shares' after (rooms_of cells')
+  filling = fill_more within so_far.filling (subst (λ (want : ℕ). IsServed windows i want so_far.shares (rooms_of cells) (window_at windows i).end rest serving.shares' (rooms_of cells'))
+      (sym wants_all) serving.served)
 
   lates : AreLateReaches windows after i (length rooms) (lates_of cells')
-  lates = rw same (least_same so_far.lates (λ j before.
+  lates = rw serving.lates (least_same so_far.lates (λ j before.
       let other = there j (λ is. omega (arith, before, is)) in
       ((λ some. omega (arith, some, other)), (λ some. omega (arith, some, other)), refl, refl)))
 
   -- and wants no more
-  pub fill_served : rest ≡ 0 → AreFilling windows wants rooms (i + 1) late shares' cells'
+  pub fill_served : rest ≡ 0 → AreFilling windows wants rooms (i + 1) late kept' cells'
   fill_served done = record {
+    shares = serving.shares';
     left = after;
     filling = filling;
+    keeps = serving.keeps so_far.keeps;
     lates = least_skips lates (λ some. omega (arith, some, here, done));
-    shareds = reaches (length rooms) so_far.shareds;
-    some = λ yes.
-        let found = so_far.some yes in
+    shareds = serving.reaches (length rooms) so_far.shareds;
+    some = λ is_late.
+        let found = so_far.some is_late in
         (found.0, omega (arith, found.1), omega (arith, found.2, there found.0 (λ is. omega (arith, found.1, is))));
-    none = λ no j before. elim (cases_eq j i) [
+    none = λ served j before. elim (cases_eq j i) [
       | inl is ↦ ap (λ j. get_or after j 0) is ∙ here ∙ done
-      | inr other ↦ there j other ∙ so_far.none no j (omega (arith, before, other))
+      | inr other ↦ there j other ∙ so_far.none served j (omega (arith, before, other))
     ];
   }
 
   -- or is late
   pub fill_late : (window : Window) → window_at windows i ≡ window → window.first < window.end → window.end ≤ length rooms → 1 ≤ rest →
-      AreFilling windows wants rooms (i + 1) true shares' (set cells' (window.end - 1) (late_cell (cell_at cells' (window.end - 1)) window.first))
+      AreFilling windows wants rooms (i + 1) true kept' (set cells' (window.end - 1) (late_cell (cell_at cells' (window.end - 1)) window.first))
   fill_late window is range upto more =
       let last : ℕ = window.end - 1 in
       let cell : Cell = late_cell (cell_at cells' last) window.first in
       let count : length cells' ≡ length rooms = sym (length-map cells' (λ cell. cell.late)) ∙ lates.all in
       let read : get_or (lates_of cells') last 0 ≡ (cell_at cells' last).late = get_or-map (λ cell. cell.late) cells' last no_cell 0 (omega (arith, range, upto, count)) in
       record {
+        shares = serving.shares';
         left = after;
         filling = rw (map-set_same (λ cell. cell.room) cells' last cell no_cell refl) filling;
+        keeps = search rules;
         lates = rw (map-set (λ cell. cell.late) cells' last cell, sym read) (subst (λ (one : Window). AreLateReaches windows after (i + 1) (length rooms)
             (set (lates_of cells') (one.end - 1) (min (get_or (lates_of cells') (one.end - 1) 0) one.first))) is
             (least_takes lates (omega (arith, more, here)) (omega (arith, range, upto, ap (λ (one : Window). one.end) is)) (omega (arith, range, upto, ap (λ (one : Window). one.first) is))));
-        shareds = rw (map-set_same (λ cell. cell.shared) cells' last cell no_cell refl) (reaches (length rooms) so_far.shareds);
-        some = λ yes. (i, omega arith, omega (arith, more, here));
-        none = λ no. search rules;
+        shareds = rw (map-set_same (λ cell. cell.shared) cells' last cell no_cell refl) (serving.reaches (length rooms) so_far.shareds);
+        some = λ is_late. (i, omega arith, omega (arith, more, here));
+        none = search rules;
       }
 
 -- everybody has taken what they could
-pub fill_is : {windows : List Window} {wants rooms : List ℕ} {i : ℕ} {late : Bool} {shares : List JobShare} {cells : List Cell} → length windows ≡ i → length wants ≡ i →
-    AreFilling windows wants rooms i late shares cells → IsFilled windows wants rooms late shares cells
-fill_is {windows} {wants} {rooms} {i} {late} {shares} {cells} end end' so_far = record {
+pub fill_is : {windows : List Window} {wants rooms : List ℕ} {i : ℕ} {late : Bool} {kept : List JobShare} {cells : List Cell} → length windows ≡ i → length wants ≡ i →
+    AreFilling windows wants rooms i late kept cells → IsFilled windows wants rooms late kept cells
+fill_is {windows} {wants} {rooms} {i} {late} {kept} {cells} end end' so_far = record {
+  shares = so_far.shares;
   left = so_far.left;
   fill = fill_ends (omega (arith, end)) (omega (arith, end')) so_far.filling;
+  keeps = so_far.keeps;
   lates = rw end so_far.lates;
   shareds = so_far.shareds;
-  some = λ yes. let found = so_far.some yes in (found.0, omega (arith, found.1, end', so_far.filling.same_wants), found.2);
-  none = λ no j. elim (cases_lt j i) [ inl before ↦ so_far.none no j before | inr past ↦ get_or_past so_far.left j 0 (omega (arith, past, end', so_far.filling.same_wants)) ];
+  some = λ is_late. let found = so_far.some is_late in (found.0, omega (arith, found.1, end', so_far.filling.same_wants), found.2);
+  none = λ served j. elim (cases_lt j i) [ inl before ↦ so_far.none served j before | inr past ↦ get_or_past so_far.left j 0 (omega (arith, past, end', so_far.filling.same_wants)) ];
 }

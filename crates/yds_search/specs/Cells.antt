@@ -5,7 +5,7 @@ use Rattle.yds_events.specs.declared.window.Window.{Window}
 use Rattle.yds_timetable.specs.Shares.{JobShare}
 use Rattle.yds_search.specs.declared.filling.Cell.{Cell}
 use Rattle.yds_search.specs.declared.own.OwnStretch.{OwnStretch}
-use Rattle.yds_search.specs.Fill.{IsNotAfter, IsFill}
+use Rattle.yds_search.specs.Fill.{IsNotAfter, IsServed, IsFill}
 use Rattle.yds_search.specs.Closure.{AreLateReaches, AreShareReaches}
 
 -- the room of the stretches, and how far those reach who have a share in them, and late jobs that end with them
@@ -48,10 +48,25 @@ abbrev pub KeepReaches : List Window → List JobShare → List Cell → List Jo
 KeepReaches windows shares cells shares' cells' =
     (m : ℕ) → AreShareReaches windows shares (length shares) m (shared_of cells) → AreShareReaches windows shares' (length shares') m (shared_of cells')
 
+-- as long as nobody is late all shares are kept
+abbrev pub Keeps : Bool → List JobShare → List JobShare → Type 0
+Keeps late kept shares = late ≡ false → kept ≡ shares
+
+-- A job has taken what it could before stretch `next`, and so much of its want is left.
+pub record IsServing (windows : List Window) (job want : ℕ) (late : Bool) (kept shares : List JobShare) (cells : List Cell) (next left : ℕ)
+    (kept' : List JobShare) (cells' : List Cell) : Type 0 where
+  pub shares' : List JobShare
+  pub served : IsServed windows job want shares (rooms_of cells) next left shares' (rooms_of cells')
+  pub reaches : KeepReaches windows shares cells shares' cells'
+  pub keeps : Keeps late kept shares → Keeps late kept' shares'
+  pub lates : lates_of cells' ≡ lates_of cells
+
 -- All jobs have taken what they could, with so much `left` of what each wants, and it is kept how far those reach who have shares or are late.
-pub record IsFilled (windows : List Window) (wants rooms : List ℕ) (late : Bool) (shares : List JobShare) (cells : List Cell) : Type 0 where
+pub record IsFilled (windows : List Window) (wants rooms : List ℕ) (late : Bool) (kept : List JobShare) (cells : List Cell) : Type 0 where
+  pub shares : List JobShare
   pub left : List ℕ
   pub fill : IsFill IsNotAfter windows wants rooms shares left (rooms_of cells)
+  pub keeps : Keeps late kept shares
   pub lates : AreLateReaches windows left (length windows) (length rooms) (lates_of cells)
   pub shareds : AreShareReaches windows shares (length shares) (length rooms) (shared_of cells)
   pub some : late ≡ true → (i : ℕ) × (i < length left) × (1 ≤ slice_index left i)

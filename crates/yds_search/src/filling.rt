@@ -1,10 +1,11 @@
-ghost use Rattle.std.specs.Prelude.{◌≡◌, ℕ, ◌-◌, ◌*◌, ◌^◌, ◌<◌, ◌≤◌, [], List, length, map, slice_set, IfOk, OnOk};
+ghost use Rattle.std.specs.Prelude.{◌≡◌, ℕ, true, false, ◌-◌, ◌*◌, ◌^◌, ◌<◌, ◌≤◌, [], List, length, map, slice_set, IfOk, OnOk};
 ghost use Rattle.std.specs.List.{All};
 ghost use Rattle.yds_model.specs.declared.limits.TheConstants.{MAX_JOBS};
 ghost use Rattle.yds_events.specs.Window.{window_at};
 ghost use Rattle.yds_search.specs.Own.{HaveWindows, own_windows, wants_at, rooms_at};
-ghost use Rattle.yds_search.specs.Fill.{IsNotAfter, AreTaken, IsServed, IsNext, IsNextFrom, IsNumbers};
-ghost use Rattle.yds_search.specs.Cells.{rooms_of, lates_of, cell_at, first_cell, late_cell, IsTake, KeepReaches, IsFilled};
+ghost use Rattle.yds_timetable.specs.Shares.{JobShare};
+ghost use Rattle.yds_search.specs.Fill.{IsNotAfter, AreTaken, IsNext, IsNextFrom, IsNumbers};
+ghost use Rattle.yds_search.specs.Cells.{rooms_of, cell_at, first_cell, late_cell, IsTake, Keeps, IsServing, IsFilled};
 
 use crate::own::{Own, OwnJob, OwnStretch};
 use std::alloc::Global;
@@ -30,8 +31,10 @@ pub(crate) struct Filling {
     pub cells: Vec<Cell>,
     /// For each stretch a place from which to go on, with no room before it. There is one more place after the last stretch.
     pub next: Vec<u32>,
-    /// The shares that jobs took.
+    /// The shares that jobs took, as long as none is late.
     pub shares: Vec<Share>,
+    /// Whether a job is late: it wants more than it could take.
+    pub late: bool,
 }
 
 /// A speed in lowest terms: `per_time` units fill a unit of time, and `per_work` of them are a unit of work.
@@ -66,13 +69,15 @@ fn set_cells(cells: &mut Vec<Cell>, stretches: &[OwnStretch], per_time: u64) -> 
     ensures { OnOk result (cells.new.items ≡ map (first_cell per_time (length stretches.now)) stretches.now) }
 {
     let count = stretches.len() as u32;
+    let full = Cell {
+        room: 0,
+        shared: count,
+        late: count,
+    };
     cells.clear();
-    for own in stretches {
-        cells.push(Cell {
-            room: per_time * u64::from(own.length),
-            shared: count,
-            late: count,
-        })?;
+    cells.resize(stretches.len(), full)?;
+    for (place, cell) in cells.iter_mut().enumerate() {
+        cell.room = per_time * u64::from(stretches[place].length);
     }
     Ok(())
 }
@@ -100,6 +105,7 @@ impl Filling {
             cells: Vec::with_capacity(alloc, stretches)?,
             next: Vec::with_capacity(alloc, stretches + 1)?,
             shares: Vec::with_capacity(alloc, jobs + stretches)?,
+            late: false,
         })
     }
 
@@ -110,60 +116,65 @@ impl Filling {
         ensures cells { OnOk result (self.new.cells.items ≡ map (first_cell per_time (length stretches.now)) stretches.now) }
         ensures next { OnOk result (IsNumbers (length stretches.now) self.new.next.items) }
         ensures shares { OnOk result (self.new.shares.items ≡ []) }
+        ensures late { self.new.late ≡ false }
     {
+        self.late = false;
         self.shares.clear();
         set_cells(&mut self.cells, stretches, per_time)?;
         set_numbers(&mut self.next, stretches.len())
     }
 
-    /// A job whose window begins at this place takes what it can in one stretch, and still wants so many units then.
+    /// A job whose window begins at this place takes what it can in one stretch, and still wants so many units then. Its share is kept
+    /// if no job is late.
     fn take(&mut self, job: u32, first: u32, stretch: u32, left: u64) -> Result<u64, Memory>
         requires { stretch < length self.old.cells.items }
-        ensures taken { IfOk result (λ rest. IsTake job first stretch left self.old.shares.items self.old.cells.items rest self.new.shares.items self.new.cells.items) }
+        ensures taken { IfOk result (λ rest. (shares : List JobShare) → (shares' : List JobShare) × IsTake job first stretch left shares self.old.cells.items rest shares' self.new.cells.items
+            × (Keeps self.old.late self.old.shares.items shares → Keeps self.old.late self.new.shares.items shares')) }
         ensures next { self.new.next ≡ self.old.next }
+        ensures late { self.new.late ≡ self.old.late }
         ensures count { length self.new.cells.items ≡ length self.old.cells.items }
     {
-        let cell = self.cells[stretch as usize];
+        let cell = &mut self.cells[stretch as usize];
         let units = left.min(cell.room);
         if units == 0 {
             return Ok(left);
         }
-        self.shares.push(Share {
-            job,
-            stretch,
-            units,
-        })?;
-        self.cells[stretch as usize] = Cell {
-            room: cell.room - units,
-            shared: cell.shared.min(first),
-            ..cell
-        };
+        if !self.late {
+            self.shares.push(Share {
+                job,
+                stretch,
+                units,
+            })?;
+        }
+        cell.room -= units;
+        cell.shared = cell.shared.min(first);
         Ok(left - units)
     }
 
     /// A job takes the earliest room in its window, and still wants so many units then.
-    fn serve(&mut self, jobs: &[OwnJob], job: u32, want: u64) -> Result<u64, Memory>
+    fn serve(&mut self, jobs: &[OwnJob], job: usize, want: u64) -> Result<u64, Memory>
+        requires few { length jobs.now ≤ MAX_JOBS }
         requires known { job < length jobs.now }
         requires windows { HaveWindows (length self.old.cells.items) jobs.now }
         requires next { IsNext (rooms_of self.old.cells.items) self.old.next.items }
-        requires taken { AreTaken IsNotAfter (own_windows jobs.now) (length (rooms_of self.old.cells.items)) self.old.shares.items (rooms_of self.old.cells.items) }
-        requires later { All (λ share. share.job < job) self.old.shares.items }
-        ensures served { IfOk result (λ left. IsServed (own_windows jobs.now) job want self.old.shares.items (rooms_of self.old.cells.items)
-            (window_at (own_windows jobs.now) job).end left self.new.shares.items (rooms_of self.new.cells.items)) }
-        ensures shared { OnOk result (KeepReaches (own_windows jobs.now) self.old.shares.items self.old.cells.items self.new.shares.items self.new.cells.items) }
-        ensures lates { OnOk result (lates_of self.new.cells.items ≡ lates_of self.old.cells.items) }
+        ensures served { IfOk result (λ left. (shares : List JobShare) → AreTaken IsNotAfter (own_windows jobs.now) (length (rooms_of self.old.cells.items)) shares (rooms_of self.old.cells.items) →
+            All (λ share. share.job < job) shares → IsServing (own_windows jobs.now) job want self.old.late self.old.shares.items shares self.old.cells.items
+            (window_at (own_windows jobs.now) job).end left self.new.shares.items self.new.cells.items) }
+        ensures late { OnOk result (self.new.late ≡ self.old.late) }
+        ensures count { OnOk result (length self.new.cells.items ≡ length self.old.cells.items) }
         ensures next { OnOk result (IsNext (rooms_of self.new.cells.items) self.new.next.items) }
     {
-        let own = jobs[job as usize];
+        let own = jobs[job];
         let mut place = next_place(&mut self.next, own.first);
         let mut left = want;
         while place < own.end {
-            left = self.take(job, own.first, place, left)?;
+            left = self.take(job as u32, own.first, place, left)?;
             if left == 0 {
                 return Ok(left);
             }
-            self.next[place as usize] = place + 1;
-            place = next_place(&mut self.next, place + 1);
+            let after = next_place(&mut self.next, place + 1);
+            self.next[place as usize] = after;
+            place = after;
         }
         Ok(left)
     }
@@ -175,7 +186,9 @@ impl Filling {
         ensures cells { self.new.cells.items ≡ slice_set self.old.cells.items (own.end - 1) (late_cell (cell_at self.old.cells.items (own.end - 1)) own.first) }
         ensures next { self.new.next ≡ self.old.next }
         ensures shares { self.new.shares ≡ self.old.shares }
+        ensures late { self.new.late ≡ true }
     {
+        self.late = true;
         let last = own.end as usize - 1;
         let cell = self.cells[last];
         self.cells[last] = Cell {
@@ -184,7 +197,7 @@ impl Filling {
         };
     }
 
-    /// Each of a group's jobs, in order, takes the earliest room in its window. Answers whether one of them is late: it wants more.
+    /// Each of a group's jobs, in order, takes the earliest room in its window. Answers whether one of them is late.
     pub(crate) fn fill(&mut self, own: &Own, speed: Speed) -> Result<bool, Memory>
         requires few_jobs { length own.now.jobs.now ≤ MAX_JOBS }
         requires few { length own.now.stretches.now ≤ 2 * MAX_JOBS }
@@ -195,15 +208,13 @@ impl Filling {
             late self.new.shares.items self.new.cells.items) }
     {
         self.begin(own.stretches, speed.per_time)?;
-        let mut late = false;
         for job in 0..own.jobs.len() {
             let one = own.jobs[job];
-            let left = self.serve(own.jobs, job as u32, speed.per_work * u64::from(one.work))?;
+            let left = self.serve(own.jobs, job, speed.per_work * u64::from(one.work))?;
             if left > 0 {
                 self.set_late(one);
-                late = true;
             }
         }
-        Ok(late)
+        Ok(self.late)
     }
 }

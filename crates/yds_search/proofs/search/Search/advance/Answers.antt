@@ -53,7 +53,7 @@ add-requires c =
     let x = chosen_as c.requires.chosen.0 c.args.size c.args.self.now c.requires.chosen.1 c.last-own.result c.last-own.ensures.jobs c.last-own.ensures.stretches in
     let known = chosen_known c.requires.chosen.0 c.args.size c.args.self.now x in
     let filled = rw (c.speed_of-speed.ensures.per_time, c.speed_of-speed.ensures.per_work) at c.in_ok-late.ensures in
-    let parts = chosen_parts c.requires.chosen.0 c.args.size c.args.self.now x c.total-group.result c.total-group.ensures.work c.total-group.ensures.length _ _ _ filled in
+    let parts = chosen_parts c.requires.chosen.0 c.args.size c.args.self.now x c.total-group.result c.total-group.ensures.work c.total-group.ensures.length _ _ _ filled c.if-late.false in
     record {
       few = chosen_room c.requires.chosen.0 c.args.size c.args.self.now x;
       jobs = known.0;
