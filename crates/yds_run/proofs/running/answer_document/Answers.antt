@@ -7,6 +7,12 @@ use Rattle.yds_run.specs.Run.{Replies}
 use Rattle.yds_run.proofs.Replied.{made_replies}
 use Rattle.yds_run.proofs.running.answer_document.Goals as goal
 
+pub returns-in-Plan : goal.returns-in-Plan
+returns-in-Plan g c =
+    subst (λ question. Replies g.K.Sink.written g.K.Sink.flushed g.K.Sink.flushes g.K.Sink.faults (AnswersQuestion (question_view question) (document_view c.args.document)) c.reply.result
+    c.args.sink.now c.reply.new.sink) (sym c.in-Plan.is)
+    (made_replies _ _ _ _ _ _ _ _ _ _ _ c.plan_document.ensures c.reply.ensures)
+
 pub returns-in-Round : goal.returns-in-Round
 returns-in-Round g c =
     subst (λ question. Replies g.K.Sink.written g.K.Sink.flushed g.K.Sink.flushes g.K.Sink.faults (AnswersQuestion (question_view question) (document_view c.args.document)) c.reply-in-Round.result
