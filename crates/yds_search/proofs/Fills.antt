@@ -66,14 +66,14 @@ serve_begins windows job want shares rooms place taken later full = record {
   few = omega arith;
 }
 
--- full stretches are passed over at once, and so is all once the job is done
-pub serve_jumps : {windows : List Window} {job want : ℕ} {shares : List JobShare} {rooms : List ℕ} {next next' left : ℕ} {shares' : List JobShare} {rooms' : List ℕ} →
-    IsServed windows job want shares rooms next left shares' rooms' → next ≤ next' →
+-- the job goes on at another stretch, behind all its shares, where what lies between is full, or the job is done
+serve_moves : {windows : List Window} {job want : ℕ} {shares : List JobShare} {rooms : List ℕ} {next next' left : ℕ} {shares' : List JobShare} {rooms' : List ℕ} →
+    IsServed windows job want shares rooms next left shares' rooms' → All (λ share. share.job ≡ job → share.stretch < next') shares' →
     (1 ≤ left → (k : ℕ) → next ≤ k → k < next' → get_or rooms' k 0 ≡ 0) → IsServed windows job want shares rooms next' left shares' rooms'
-serve_jumps {windows} {job} {want} {shares} {rooms} {next} {next'} {left} {shares'} {rooms'} so_far after full = record {
+serve_moves {windows} {job} {want} {shares} {rooms} {next} {next'} {left} {shares'} {rooms'} so_far ahead full = record {
   taken = so_far.taken;
   all = so_far.all;
-  ahead = λ i d within same. omega (arith, so_far.ahead i d within same);
+  ahead = ahead;
   wanted = so_far.wanted;
   others = so_far.others;
   same_length = so_far.same_length;
@@ -83,21 +83,17 @@ serve_jumps {windows} {job} {want} {shares} {rooms} {next} {next'} {left} {share
   few = so_far.few;
 }
 
+-- full stretches are passed over at once, and so is all once the job is done
+pub serve_jumps : {windows : List Window} {job want : ℕ} {shares : List JobShare} {rooms : List ℕ} {next next' left : ℕ} {shares' : List JobShare} {rooms' : List ℕ} →
+    IsServed windows job want shares rooms next left shares' rooms' → next ≤ next' →
+    (1 ≤ left → (k : ℕ) → next ≤ k → k < next' → get_or rooms' k 0 ≡ 0) → IsServed windows job want shares rooms next' left shares' rooms'
+serve_jumps so_far after full = serve_moves so_far (λ i d within same. omega (arith, so_far.ahead i d within same)) full
+
 -- no share lies behind the window's end
 pub serve_ends : {windows : List Window} {job want : ℕ} {shares : List JobShare} {rooms : List ℕ} {next left : ℕ} {shares' : List JobShare} {rooms' : List ℕ} →
     IsServed windows job want shares rooms next left shares' rooms' → (window_at windows job).end ≤ next → IsServed windows job want shares rooms (window_at windows job).end left shares' rooms'
-serve_ends {windows} {job} {want} {shares} {rooms} {next} {left} {shares'} {rooms'} so_far past = record {
-  taken = so_far.taken;
-  all = so_far.all;
-  ahead = λ i d within same. omega (arith, (so_far.taken.parts i d within).inside.upto, ap (λ j. (window_at windows j).end) same);
-  wanted = so_far.wanted;
-  others = so_far.others;
-  same_length = so_far.same_length;
-  room = so_far.room;
-  swept = λ some k from upto. so_far.swept some k from (omega (arith, upto, past));
-  kept = so_far.kept;
-  few = so_far.few;
-}
+serve_ends {windows} so_far past = serve_moves so_far
+    (λ i d within same. omega (arith, (so_far.taken.parts i d within).inside.upto, ap (λ j. (window_at windows j).end) same)) (λ some k from upto. absurd (omega (arith, from, upto, past)))
 
 own_units : (job i units : ℕ) → (i ≡ job → ⊥) → (if job == i then units else 0) ≡ 0
 own_units job i units other = grind (arith, nat_tests)

@@ -180,20 +180,7 @@ fill_begins jobs stretches per_time per_work =
       shares = [];
       left = wants_at per_work jobs;
       keeps = λ served. refl;
-      filling = rw (map-map (λ cell. cell.room) cell stretches) record {
-        taken = record {
-          parts = λ x d within. absurd (omega (arith, within));
-          early = λ x d within. absurd (omega (arith, within));
-          ordered = λ a b d before within. absurd (omega (arith, within));
-        };
-        same_wants = refl;
-        same_rooms = refl;
-        want = λ j. search rules;
-        room = λ k. search rules;
-        later = λ x d within. absurd (omega (arith, within));
-        late = λ j before. absurd (omega (arith, before));
-        few = search rules;
-      };
+      filling = rw (map-map (λ cell. cell.room) cell stretches) (search rules);
       lates = rw (count, map-map (λ cell. cell.late) cell stretches) (nobody stretches (length stretches) refl);
       shareds = rw (count, map-map (λ cell. cell.shared) cell stretches) (nobody stretches (length stretches) refl);
       some = λ yes. search rules;
