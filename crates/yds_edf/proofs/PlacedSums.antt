@@ -1,12 +1,13 @@
 -- Units at places, summed before a place and in blocks.
-use Rattle.std.proofs.Common.{◌≡◌, ℕ, zero, suc, ◌+◌, ◌-◌, ◌*◌, ◌/◌, ◌%◌, ◌<◌, ◌≤◌, List, length, set, replicate, slice_index, ap, arith, inl, inr, add-one, min}
+use Rattle.std.proofs.Common.{◌≡◌, ℕ, zero, suc, ◌+◌, ◌-◌, ◌*◌, ◌/◌, ◌%◌, ◌<◌, ◌≤◌, List, length, set, replicate, slice_index, slice_index_or, refl, ◌∙◌, ap, arith, inl, inr, add-one, min}
 use Rattle.std.specs.Prelude.{All}
 use Rattle.std.proofs.lemmas.Bool.{cases_lt, cases_eq}
 use Rattle.std.proofs.lemmas.List.{get_or-replicate, length-replicate, get_or-set_same, get_or-set_other, length-set}
 use Rattle.std.proofs.lemmas.List.Elements.{All-set}
 use Rattle.std.proofs.Math.ListN.{get_or-eq_default}
-use Rattle.std.proofs.Math.Nat.{div-add-mod, mod-lt}
+use Rattle.std.proofs.Math.Nat.{div-add-mod, mod-lt, div-div-eq-div-mul}
 use Rattle.yds_edf.proofs.Sums.{sum_below_same, sum_below_zero, sum_below_change, sum_below_front}
+use Rattle.std.proofs.lemmas.Grind.{get_or_default_zero}
 use Rattle.yds_edf.specs.Blocks.{units_before, HaveFewUnits, AreBlocks, AreSummed}
 
 -- # The units before a place
@@ -39,8 +40,25 @@ at_most units each (suc place) =
           (omega (arith, before.0, none), omega (arith, before.1, none))
     ]
 
-pub few_units : (units sums : List ℕ) → AreBlocks units sums → HaveFewUnits units
-few_units units sums blocks place = omega (arith, (at_most units blocks.in_range place).1, blocks.few)
+-- none beyond the last place
+pub before_beyond : (units : List ℕ) (place : ℕ) → length units ≤ place → units_before units place ≡ units_before units (length units)
+before_beyond units place beyond = elim (cases_eq place (length units)) [
+  | inl same ↦ ap (units_before units) same
+  | inr other ↦ one_beyond place (omega (arith, beyond, other))
+]
+  where
+    one_beyond : (place : ℕ) → length units < place → units_before units place ≡ units_before units (length units)
+    one_beyond zero less = absurd (omega (arith, less))
+    one_beyond (suc place) less =
+        let none : slice_index units place ≡ 0 = get_or-eq_default units 0 (omega (arith, less)) in
+        elim (cases_eq place (length units)) [
+          | inl same ↦ omega (arith, none, ap (units_before units) same)
+          | inr other ↦ omega (arith, none, one_beyond place (omega (arith, less, other)))
+        ]
+
+module _ {units blocks groups : List ℕ} {total start : ℕ} (summed : AreSummed units blocks groups total start) where
+  pub few_units : HaveFewUnits units
+  few_units place = omega (arith, (at_most units summed.in_range place).1, summed.few)
 
 -- # Other units at a place
 
@@ -58,103 +76,168 @@ module _ (units : List ℕ) (place more : ℕ) (known : place < length units) wh
 
 -- # Blocks
 
-block_of : (place : ℕ) → (place / 32 * 32 ≤ place) × (place < place / 32 * 32 + 32)
+block_of : (place : ℕ) → (place / 8 * 8 ≤ place) × (place < place / 8 * 8 + 8)
 block_of place =
-    let whole = div-add-mod place 32 in
-    let rest : place % 32 < 32 = mod-lt place (omega arith) in
+    let whole = div-add-mod place 8 in
+    let rest : place % 8 < 8 = mod-lt place (omega arith) in
     (omega (arith, whole, rest), omega (arith, whole, rest))
 
-pub none_in_blocks : (count : ℕ) → count ≤ 4000 → AreBlocks (replicate count 0) (replicate (count / 32 + 1) 0)
-none_in_blocks count few = record {
+pub none_in_blocks : (count : ℕ) → AreBlocks (replicate count 0) (replicate (count / 8 + 1) 0)
+none_in_blocks count = record {
   each = λ block within. omega (
     arith,
-    none_before count (block * 32),
-    none_before count (block * 32 + 32),
-    none_at (count / 32 + 1) block,
+    none_before count (block * 8),
+    none_before count (block * 8 + 8),
+    none_at (count / 8 + 1) block,
   );
-  all = omega (arith, length-replicate {A = ℕ} count 0, length-replicate {A = ℕ} (count / 32 + 1) 0, (block_of count).1);
-  few = omega (arith, length-replicate {A = ℕ} count 0, few);
-  in_range = λ k d within. omega (arith, get_or-replicate count k 0 d (omega (arith, within, length-replicate {A = ℕ} count 0)));
+  all = omega (arith, length-replicate {A = ℕ} count 0, length-replicate {A = ℕ} (count / 8 + 1) 0, (block_of count).1);
 }
 
+pub small_in_range : (count : ℕ) → All (λ n. n ≤ 1000000000000000) (replicate {A = ℕ} count 0)
+small_in_range count k d within = omega (arith, get_or-replicate count k 0 d (omega (arith, within, length-replicate {A = ℕ} count 0)))
+
+-- the sums before a block are the units before its first place
+pub before_block : (units sums : List ℕ) → AreBlocks units sums → (block : ℕ) → units_before sums block ≡ units_before units (block * 8)
+before_block units sums blocks zero = refl
+before_block units sums blocks (suc block) = elim (cases_lt block (length sums)) [
+  | inl within ↦ omega (arith, before_block units sums blocks block, blocks.each block within, ap (units_before units) (let at : suc block * 8 ≡ block * 8 + 8 = omega arith in at))
+  | inr beyond ↦
+      let none : slice_index sums block ≡ 0 = get_or-eq_default sums 0 beyond in
+      omega (
+        arith,
+        none,
+        before_block units sums blocks block,
+        before_beyond units (block * 8) (omega (arith, blocks.all, beyond)),
+        before_beyond units (suc block * 8) (omega (arith, blocks.all, beyond)),
+      )
+]
+
 module _ (units sums : List ℕ) (blocks : AreBlocks units sums) (place : ℕ) (known : place < length units) where
-  pub block_known : place / 32 < length sums
-  block_known = elim (cases_lt (place / 32) (length sums)) [
+  pub block_known : place / 8 < length sums
+  block_known = elim (cases_lt (place / 8) (length sums)) [
     | inl within ↦ within
     | inr beyond ↦ absurd (omega (arith, blocks.all, known, beyond, (block_of place).0))
   ]
 
   -- the units at a place are some of its block's
-  pub block_has : slice_index units place ≤ slice_index sums (place / 32)
+  pub block_has : slice_index units place ≤ slice_index sums (place / 8)
   block_has = omega (
     arith,
-    blocks.each (place / 32) block_known,
-    before_rises units (place / 32 * 32) place (block_of place).0,
-    before_rises units (place + 1) (place / 32 * 32 + 32) (omega (arith, (block_of place).1)),
+    blocks.each (place / 8) block_known,
+    before_rises units (place / 8 * 8) place (block_of place).0,
+    before_rises units (place + 1) (place / 8 * 8 + 8) (omega (arith, (block_of place).1)),
     one_place_more units place,
   )
 
-  pub block_few : slice_index sums (place / 32) ≤ 4000000000000000000
-  block_few = omega (arith, blocks.each (place / 32) block_known, few_units units sums blocks (place / 32 * 32 + 32))
+  pub block_few : HaveFewUnits units → slice_index sums (place / 8) ≤ 4000000000000000000
+  block_few few = omega (arith, blocks.each (place / 8) block_known, few (place / 8 * 8 + 8))
 
-  module _ (more sum : ℕ) (in_range : more ≤ 1000000000000000) (is : sum ≡ slice_index sums (place / 32) - slice_index units place + more) where
+  module _ (more sum : ℕ) (is : sum ≡ slice_index sums (place / 8) - slice_index units place + more) where
     each_block : (block : ℕ) → block < length sums →
-        units_before (set units place more) (block * 32) + slice_index (set sums (place / 32) sum) block ≡ units_before (set units place more) (block * 32 + 32)
-    each_block block within = elim (cases_eq block (place / 32)) [
+        units_before (set units place more) (block * 8) + slice_index (set sums (place / 8) sum) block ≡ units_before (set units place more) (block * 8 + 8)
+    each_block block within = elim (cases_eq block (place / 8)) [
       | inl same ↦
           rw same (omega (
             arith,
             is,
             block_has,
-            blocks.each (place / 32) block_known,
-            get_or-set_same sums (place / 32) sum 0 block_known,
-            before_stays units place more known (place / 32 * 32) (block_of place).0,
-            before_changes units place more known (place / 32 * 32 + 32) (block_of place).1,
+            blocks.each (place / 8) block_known,
+            get_or-set_same sums (place / 8) sum 0 block_known,
+            before_stays units place more known (place / 8 * 8) (block_of place).0,
+            before_changes units place more known (place / 8 * 8 + 8) (block_of place).1,
           ))
       | inr other ↦
-          let stays = get_or-set_other sums (place / 32) block sum 0 other in
-          elim (cases_lt place (block * 32)) [
+          let stays = get_or-set_other sums (place / 8) block sum 0 other in
+          elim (cases_lt place (block * 8)) [
             | inl sooner ↦ omega (
               arith,
               stays,
               blocks.each block within,
-              before_changes units place more known (block * 32) sooner,
-              before_changes units place more known (block * 32 + 32) (omega (arith, sooner)),
+              before_changes units place more known (block * 8) sooner,
+              before_changes units place more known (block * 8 + 8) (omega (arith, sooner)),
             )
             | inr upto ↦
-                let later : block * 32 + 32 ≤ place = omega (arith, upto, other, (block_of place).0, (block_of place).1) in
+                let later : block * 8 + 8 ≤ place = omega (arith, upto, other, (block_of place).0, (block_of place).1) in
                 omega (
                   arith,
                   stays,
                   blocks.each block within,
-                  before_stays units place more known (block * 32) upto,
-                  before_stays units place more known (block * 32 + 32) later,
+                  before_stays units place more known (block * 8) upto,
+                  before_stays units place more known (block * 8 + 8) later,
                 )
           ]
     ]
 
-    pub blocks_set : AreBlocks (set units place more) (set sums (place / 32) sum)
+    pub blocks_set : AreBlocks (set units place more) (set sums (place / 8) sum)
     blocks_set = record {
-      each = λ block within. each_block block (omega (arith, within, length-set sums (place / 32) sum));
-      all = omega (arith, blocks.all, length-set units place more, length-set sums (place / 32) sum);
-      few = omega (arith, blocks.few, length-set units place more);
-      in_range = All-set (λ n. n ≤ 1000000000000000) units place more in_range blocks.in_range;
+      each = λ block within. each_block block (omega (arith, within, length-set sums (place / 8) sum));
+      all = omega (arith, blocks.all, length-set units place more, length-set sums (place / 8) sum);
     }
 
 -- the units of one place are some of all
 pub place_has : (units : List ℕ) (place : ℕ) → place < length units → slice_index units place ≤ units_before units (length units)
 place_has units place known = omega (arith, one_place_more units place, before_rises units (place + 1) (length units) (omega arith))
 
--- other units at a place, and the sums beside them
-pub summed_set : (units sums : List ℕ) (total start : ℕ) → AreSummed units sums total start → (place : ℕ) → place < length units → (more sum other : ℕ) → more ≤ 1000000000000000 →
-    sum ≡ slice_index sums (place / 32) - slice_index units place + more → other ≡ total - slice_index units place + more →
-    AreSummed (set units place more) (set sums (place / 32) sum) other (min start place)
-summed_set units sums total start summed place known more sum other in_range sum_is other_is = record {
-  blocks = blocks_set units sums summed.blocks place known more sum in_range sum_is;
-  all = rw (length-set units place more)
-      (omega (arith, other_is, summed.all, place_has units place known, before_changes units place more known (length units) known));
-  none = omega (arith, before_stays units place more known (min start place) (omega arith), before_rises units (min start place) start (omega arith), summed.none);
-}
+-- the sums of the blocks and of their blocks that a place is in
+module _ {units blocks groups : List ℕ} {total start : ℕ} (summed : AreSummed units blocks groups total start) (place : ℕ) (known : place < length units) where
+  pub in_block : place / 8 < length blocks
+  in_block = block_known units blocks summed.in_blocks place known
+
+  pub in_group : place / 8 / 8 < length groups
+  in_group = block_known blocks groups summed.in_groups (place / 8) in_block
+
+  pub sums_have : (slice_index units place ≤ slice_index blocks (place / 8)) × (slice_index blocks (place / 8) ≤ slice_index groups (place / 8 / 8))
+  sums_have = (block_has units blocks summed.in_blocks place known, block_has blocks groups summed.in_groups (place / 8) in_block)
+
+  pub sums_few : (slice_index blocks (place / 8) ≤ 4000000000000000000) × (slice_index groups (place / 8 / 8) ≤ 4000000000000000000)
+  sums_few = (
+    block_few units blocks summed.in_blocks place known (few_units summed),
+    block_few blocks groups summed.in_groups (place / 8) in_block
+        (λ block. omega (arith, before_block units blocks summed.in_blocks block, few_units summed (block * 8))),
+  )
+
+  -- other units at the place, and the sums beside them
+  pub summed_set : (more block group all : ℕ) → more ≤ 1000000000000000 → block ≡ slice_index blocks (place / 8) - slice_index units place + more →
+      group ≡ slice_index groups (place / 8 / 8) - slice_index units place + more → all ≡ total - slice_index units place + more →
+      AreSummed (set units place more) (set blocks (place / 8) block) (set groups (place / 8 / 8) group) all (min start place)
+  summed_set more block group all in_range block_is group_is all_is = record {
+    few = omega (arith, summed.few, length-set units place more);
+    in_range = All-set (λ n. n ≤ 1000000000000000) units place more in_range summed.in_range;
+    in_blocks = blocks_set units blocks summed.in_blocks place known more block block_is;
+    in_groups = blocks_set blocks groups summed.in_groups (place / 8) in_block block group (omega (arith, block_is, group_is, sums_have));
+    all = rw (length-set units place more)
+        (omega (arith, all_is, summed.all, place_has units place known, before_changes units place more known (length units) known));
+    none = omega (arith, before_stays units place more known (min start place) (omega arith), before_rises units (min start place) start (omega arith), summed.none);
+  }
+
+  -- what is read of the place, its block and the block of blocks
+  module _ {old : ℕ} (old_is : old ≡ slice_index_or units place old) where
+    old_read : old ≡ slice_index units place
+    old_read = old_is ∙ get_or_default_zero units place old known
+
+    pub total_fits : (old ≤ total) × (total ≤ 4000000000000000000)
+    total_fits = (omega (arith, old_read, summed.all, place_has units place known), omega (arith, summed.all, few_units summed (length units)))
+
+    module _ {block : ℕ} (block_is : block ≡ slice_index_or blocks (place / 8) block) where
+      block_read : block ≡ slice_index blocks (place / 8)
+      block_read = block_is ∙ get_or_default_zero blocks (place / 8) block in_block
+
+      pub block_fits : (old ≤ block) × (block ≤ 4000000000000000000)
+      block_fits = (omega (arith, old_read, block_read, sums_have), omega (arith, block_read, sums_few))
+
+    module _ {group : ℕ} (group_is : group ≡ slice_index_or groups (place / 8 / 8) group) where
+      group_read : group ≡ slice_index groups (place / 8 / 8)
+      group_read = group_is ∙ get_or_default_zero groups (place / 8 / 8) group in_group
+
+      pub group_fits : (old ≤ group) × (group ≤ 4000000000000000000)
+      group_fits = (omega (arith, old_read, group_read, sums_have), omega (arith, group_read, sums_few))
+
+    pub set_read : {block group : ℕ} → block ≡ slice_index_or blocks (place / 8) block → group ≡ slice_index_or groups (place / 8 / 8) group →
+        (more first : ℕ) → more ≤ 1000000000000000 → first ≡ min start place →
+        AreSummed (set units place more) (set blocks (place / 8) (block - old + more)) (set groups (place / 8 / 8) (group - old + more)) (total - old + more) first
+    set_read {block = block} {group = group} block_is group_is more first in_range is =
+        rw is (summed_set more (block - old + more) (group - old + more) (total - old + more) in_range
+        (omega (arith, old_read, block_read block_is)) (omega (arith, old_read, group_read group_is)) (omega (arith, old_read)))
 
 -- where some have units, a place with none before it is one of them
 pub place_left : (units : List ℕ) (place : ℕ) → 1 ≤ units_before units (length units) → units_before units place ≡ 0 → place < length units
@@ -169,15 +252,29 @@ pub none_left : (units : List ℕ) (start place so_far : ℕ) → place ≤ leng
 none_left units start place so_far within sum all = omega (arith, sum, all, before_rises units place (length units) within)
 
 -- a whole block
-pub whole_block : (units sums : List ℕ) → AreBlocks units sums → (start end : ℕ) → start % 32 ≡ 0 → end ≡ start + 32 → end ≤ length units →
-    units_before units start + slice_index sums (start / 32) ≡ units_before units end
+pub whole_block : (units sums : List ℕ) → AreBlocks units sums → (start end : ℕ) → start % 8 ≡ 0 → end ≡ start + 8 → start < length units →
+    units_before units start + slice_index sums (start / 8) ≡ units_before units end
 whole_block units sums blocks start end begins ends within =
-    let at : start / 32 * 32 ≡ start = omega (arith, div-add-mod start 32, begins) in
-    let known = block_known units sums blocks start (omega (arith, within, ends)) in
+    let at : start / 8 * 8 ≡ start = omega (arith, div-add-mod start 8, begins) in
+    let known = block_known units sums blocks start within in
     omega (
       arith,
-      blocks.each (start / 32) known,
+      blocks.each (start / 8) known,
       ap (units_before units) at,
-      ap (λ n. units_before units (n + 32)) at,
+      ap (λ n. units_before units (n + 8)) at,
       ap (units_before units) ends,
+    )
+
+-- a whole block of blocks
+pub whole_group : {units blocks groups : List ℕ} {total start : ℕ} → AreSummed units blocks groups total start → (from end : ℕ) → from % 64 ≡ 0 → end ≡ from + 64 →
+    from < length units → units_before units from + slice_index groups (from / 8 / 8) ≡ units_before units end
+whole_group {units = units} {blocks = blocks} summed from end begins ends known =
+    let at : from / 8 / 8 * 8 * 8 ≡ from = omega (arith, div-add-mod from 64, begins, div-div-eq-div-mul from 8 8) in
+    omega (
+      arith,
+      summed.in_groups.each (from / 8 / 8) (in_group summed from known),
+      before_block units blocks summed.in_blocks (from / 8 / 8 * 8),
+      before_block units blocks summed.in_blocks (from / 8 / 8 * 8 + 8),
+      ap (units_before units) at,
+      ap (units_before units) (let upto : (from / 8 / 8 * 8 + 8) * 8 ≡ end = omega (arith, at, ends) in upto),
     )

@@ -16,12 +16,13 @@ HaveFewUnits units = (place : ℕ) → units_before units place ≤ 400000000000
 pub record AreBlocks (units sums : List ℕ) : Type 0 where
   pub each : (block : ℕ) → block < length sums → units_before units (block * BLOCK) + slice_index sums block ≡ units_before units (block * BLOCK + BLOCK)
   pub all : length units < length sums * BLOCK
+
+-- the blocks have sums, and so do blocks of them; the total is that of all, and there are none before the start
+pub record AreSummed (units blocks groups : List ℕ) (total start : ℕ) : Type 0 where
   pub few : length units ≤ MAX_JOBS
   pub in_range : All (λ n. n ≤ MAX_WORK * MAX_GRAIN) units
-
--- the total is that of all, and there are none before the start
-pub record AreSummed (units sums : List ℕ) (total start : ℕ) : Type 0 where
-  pub blocks : AreBlocks units sums
+  pub in_blocks : AreBlocks units blocks
+  pub in_groups : AreBlocks blocks groups
   pub all : total ≡ units_before units (length units)
   pub none : units_before units start ≡ 0
 

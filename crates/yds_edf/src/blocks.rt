@@ -8,14 +8,19 @@ use yds_model::Memory;
 use yds_model::limits::{MAX_JOBS, MAX_WORK};
 
 /// How many places a block has.
-pub const BLOCK: usize = 32;
+pub const BLOCK: usize = 8;
 
-/// The units at places, with their sums in blocks.
+/// How many places a block of blocks has.
+pub const GROUP: usize = 64;
+
+/// The units at places, with their sums in blocks of places, and in blocks of such blocks.
 #[derive(Drop)]
 pub struct PlacedUnits {
     units: Vec<u64>,
     /// The sum of each block, of which the last may have no place.
-    sums: Vec<u64>,
+    blocks: Vec<u64>,
+    /// The sum of each block of those, likewise.
+    groups: Vec<u64>,
     /// The sum of all.
     total: u64,
     /// A place with no units before it.
@@ -30,7 +35,7 @@ impl Model for PlacedUnits {
 
     ghost view = { λ placed. placed.units.items };
 
-    ghost invariant = { λ placed. AreSummed placed.units.items placed.sums.items placed.total placed.start };
+    ghost invariant = { λ placed. AreSummed placed.units.items placed.blocks.items placed.groups.items placed.total placed.start };
 }
 
 impl PlacedUnits {
@@ -41,7 +46,8 @@ impl PlacedUnits {
     {
         Ok(PlacedUnits {
             units: vec![in alloc; 0; count]?,
-            sums: vec![in alloc; 0; count / BLOCK + 1]?,
+            blocks: vec![in alloc; 0; count / BLOCK + 1]?,
+            groups: vec![in alloc; 0; (count / BLOCK + 1) / BLOCK + 1]?,
             total: 0,
             start: 0,
         })
@@ -75,9 +81,12 @@ impl PlacedUnits {
         requires in_range { units ≤ MAX_WORK * MAX_GRAIN }
         ensures { self.new ≡ slice_set self.old place units }
     {
+        let old = self.units[place];
         let block = place / BLOCK;
-        self.sums[block] = self.sums[block] - self.units[place] + units;
-        self.total = self.total - self.units[place] + units;
+        let group = block / BLOCK;
+        self.groups[group] = self.groups[group] - old + units;
+        self.blocks[block] = self.blocks[block] - old + units;
+        self.total = self.total - old + units;
         self.units[place] = units;
         self.start = self.start.min(place);
     }
@@ -114,22 +123,27 @@ impl PlacedUnits {
         ensures further { place < result }
         ensures none { units_before self.now result ≡ units_before self.now place }
     {
-        if place % BLOCK == 0 && self.sums[place / BLOCK] == 0 {
+        if place % GROUP == 0 && self.groups[place / BLOCK / BLOCK] == 0 {
+            place + GROUP
+        } else if place % BLOCK == 0 && self.blocks[place / BLOCK] == 0 {
             place + BLOCK
         } else {
             place + 1
         }
     }
 
-    /// The units from this place to the end, which is in the same block.
+    /// The units from this place to the end: of a block or of a block of blocks without looking at its places.
     pub fn between(&self, start: usize, end: usize) -> u64
         requires forward { start ≤ end }
         requires within { end ≤ length self.now }
         ensures units { units_before self.now start + result ≡ units_before self.now end }
         ensures few { HaveFewUnits self.now }
     {
+        if start % GROUP == 0 && end == start + GROUP {
+            return self.groups[start / BLOCK / BLOCK];
+        }
         if start % BLOCK == 0 && end == start + BLOCK {
-            return self.sums[start / BLOCK];
+            return self.blocks[start / BLOCK];
         }
         let mut units = 0;
         for place in start..end {
@@ -148,7 +162,7 @@ impl PlacedUnits {
         let mut units = 0;
         let mut place = start;
         while place < end {
-            let next = block_end(place, end);
+            let next = group_end(place, end);
             units += self.between(place, next);
             place = next;
         }
@@ -164,4 +178,18 @@ pub fn block_end(place: usize, limit: usize) -> usize
     ensures within { result ≤ limit }
 {
     limit.min((place / BLOCK + 1) * BLOCK)
+}
+
+/// The end of the block of blocks that begins at the place, or of the place's block where none does before this limit.
+pub fn group_end(place: usize, limit: usize) -> usize
+    requires before { place < limit }
+    requires in_range { limit ≤ MAX_JOBS }
+    ensures forward { place < result }
+    ensures within { result ≤ limit }
+{
+    if place % GROUP == 0 && place + GROUP <= limit {
+        place + GROUP
+    } else {
+        block_end(place, limit)
+    }
 }

@@ -19,7 +19,7 @@ mod policy;
 mod policy_run;
 mod queue;
 
-pub use blocks::{PlacedUnits, block_end};
+pub use blocks::{PlacedUnits, block_end, group_end};
 pub use filling::fill;
 pub use laying::lay;
 pub use order::Due;

@@ -1,9 +1,9 @@
-ghost use Rattle.std.specs.Prelude.{◌≤◌, ◌<◌, ◌⊎◌, length, IsTrue, IsFalse};
+ghost use Rattle.std.specs.Prelude.{◌≤◌, ◌<◌, ◌⊎◌, length, IsTrue, IsFalse, IfSome};
 ghost use Rattle.yds_edf.specs.Blocks.{units_before};
 ghost use Rattle.yds_oa.specs.Greatest.{AreInOrder, AreDueAfter, IsGreatestOf, IsWalk, IsFurther, IsQuotientAmong, IsGreatestWithin};
 
 use crate::quotient::Quotient;
-use yds_edf::{PendingJobs, block_end};
+use yds_edf::{PendingJobs, block_end, group_end};
 
 /// How far a walk over the jobs that are due after a time has come.
 #[derive(Clone, Copy, Debug)]
@@ -22,7 +22,8 @@ pub(crate) struct Walk {
 
 /// The greatest quotient of the pending units that are due after this time and by a deadline, and the time until then; no
 /// units where there are no such deadlines. It looks first at the place that is expected to have it, and passes over
-/// blocks of places where even all units that are due by the end of a block, at its first deadline, give no greater one. Behind
+/// blocks of places where even all units that are due by the end of a block, at its first deadline, give no greater one, eight
+/// blocks at once where it can. Behind
 /// the last pending unit no deadline has a greater one.
 pub(crate) fn greatest_quotient(jobs: &PendingJobs, from: u32, expected: usize) -> Quotient
     requires { AreInOrder jobs.now }
@@ -86,7 +87,7 @@ fn first_guess(jobs: &PendingJobs, from: u32, start: usize, expected: usize) -> 
     }
 }
 
-/// Past the block of the next place.
+/// Past the block of blocks that begins at the next place where it can be passed over, or past the place's block.
 fn past_block(jobs: &PendingJobs, walk: Walk) -> Walk
     requires units { AreInOrder jobs.now }
     requires walk { IsWalk jobs.now walk }
@@ -94,24 +95,45 @@ fn past_block(jobs: &PendingJobs, walk: Walk) -> Walk
     ensures walk { IsWalk jobs.now result }
     ensures further { IsFurther walk result }
 {
+    let long = group_end(walk.place, jobs.order.len());
+    if let Some(further) = passed_over(jobs, long, walk) {
+        return further;
+    }
     let end = block_end(walk.place, jobs.order.len());
+    if let Some(further) = passed_over(jobs, end, walk) {
+        return further;
+    }
+    Walk {
+        place: end,
+        units: walk.units + jobs.units.between(walk.place, end),
+        greatest: greatest_until(jobs, end, walk),
+        ..walk
+    }
+}
+
+/// The walk at this end where even all units that are due by it, at the next place's deadline, give no greater quotient.
+fn passed_over(jobs: &PendingJobs, end: usize, walk: Walk) -> Option<Walk>
+    requires units { AreInOrder jobs.now }
+    requires walk { IsWalk jobs.now walk }
+    requires forward { walk.place < end }
+    requires within { end ≤ length jobs.now.order.items }
+    ensures walk { IfSome result (IsWalk jobs.now) }
+    ensures further { IfSome result (IsFurther walk) }
+{
     let units = walk.units + jobs.units.between(walk.place, end);
     let most = Quotient {
         units,
         time: jobs.order[walk.place].deadline - walk.from,
         place: walk.place,
     };
-    let greatest = if most.is_at_most(walk.greatest) {
-        walk.greatest
-    } else {
-        greatest_until(jobs, end, walk)
-    };
-    Walk {
+    if !most.is_at_most(walk.greatest) {
+        return None;
+    }
+    Some(Walk {
         place: end,
         units,
-        greatest,
         ..walk
-    }
+    })
 }
 
 /// The greatest quotient once the walk has come to this end.

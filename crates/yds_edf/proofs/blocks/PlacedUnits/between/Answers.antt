@@ -1,21 +1,30 @@
-use Rattle.std.proofs.Common.{◌≡◌, ◌+◌, ◌/◌, ◌<◌, ◌≤◌, length, slice_index, ◌∙◌, ap, arith}
+use Rattle.std.proofs.Common.{◌≡◌, ◌+◌, ◌/◌, ◌<◌, length, slice_index, ◌∙◌, ap, arith}
 use Rattle.std.proofs.lemmas.Grind.{get_or_default_zero}
-use Rattle.yds_edf.proofs.PlacedSums.{few_units, one_place_more, block_known, whole_block}
+use Rattle.yds_edf.proofs.PlacedSums.{few_units, one_place_more, in_block, in_group, whole_block, whole_group}
 use Rattle.yds_edf.proofs.blocks.PlacedUnits.between.Goals as goal
 
 pub returns-then-end-start-clause-units : goal.returns-then-end-start-clause-units
 returns-then-end-start-clause-units c =
-    let units = c.self.inside.units.items in
-    let sums = c.self.inside.sums.items in
-    let within : c.args.end ≤ length units = omega (arith, c.requires.within, ap length c.self.view_is) in
-    let known : c.args.start < length units = omega (arith, within, c.if-end-start.true) in
-    let sum : c.index.result.now ≡ slice_index sums (c.args.start / 32) =
-    c.index.ensures ∙ get_or_default_zero sums (c.args.start / 32) c.index.result.now (block_known units sums c.self.invariant.blocks c.args.start known) in
-    rw (← c.self.view_is)
-    (omega (arith, sum, whole_block units sums c.self.invariant.blocks c.args.start c.args.end c.if-start-eq0.true c.if-end-start.true within))
+    let known : c.args.start < length c.self.inside.units.items = omega (arith, c.requires.within, c.if-end-start.true, ap length c.self.view_is) in
+    let sum = c.index.ensures ∙ get_or_default_zero c.self.inside.groups.items (c.args.start / 8 / 8) c.index.result.now (in_group c.self.invariant c.args.start known) in
+    rw (← c.self.view_is) (omega (arith, sum, whole_group c.self.invariant c.args.start c.args.end c.if-start-eq0.true c.if-end-start.true known))
 
 pub returns-then-end-start-clause-few : goal.returns-then-end-start-clause-few
-returns-then-end-start-clause-few c = rw (← c.self.view_is) (few_units c.self.inside.units.items c.self.inside.sums.items c.self.invariant.blocks)
+returns-then-end-start-clause-few c = rw (← c.self.view_is) (few_units c.self.invariant)
+
+pub returns-then-end-start-2-clause-units : goal.returns-then-end-start-2-clause-units
+returns-then-end-start-2-clause-units c =
+    let known : c.args.start < length c.self.inside.units.items = omega (arith, c.requires.within, c.if-end-start-2.true, ap length c.self.view_is) in
+    let sum = c.index-then-end-start-2.ensures
+    ∙ get_or_default_zero c.self.inside.blocks.items (c.args.start / 8) c.index-then-end-start-2.result.now (in_block c.self.invariant c.args.start known) in
+    rw (← c.self.view_is) (omega (
+      arith,
+      sum,
+      whole_block c.self.inside.units.items c.self.inside.blocks.items c.self.invariant.in_blocks c.args.start c.args.end c.if-start-eq0-2.true c.if-end-start-2.true known,
+    ))
+
+pub returns-then-end-start-2-clause-few : goal.returns-then-end-start-2-clause-few
+returns-then-end-start-2-clause-few c = rw (← c.self.view_is) (few_units c.self.invariant)
 
 pub overflow_add-units : goal.overflow_add-units
 overflow_add-units c =
@@ -27,7 +36,7 @@ overflow_add-units c =
       arith,
       here,
       one_place_more units place,
-      few_units units c.self.inside.sums.items c.self.invariant.blocks (place + 1),
+      few_units c.self.invariant (place + 1),
       rw (← c.self.view_is) at c.loop-place.invariant,
     )
 
@@ -45,4 +54,4 @@ loop-place-preserved c =
     ))
 
 pub returns-clause-few : goal.returns-clause-few
-returns-clause-few c = rw (← c.self.view_is) (few_units c.self.inside.units.items c.self.inside.sums.items c.self.invariant.blocks)
+returns-clause-few c = rw (← c.self.view_is) (few_units c.self.invariant)

@@ -2,4 +2,4 @@ use Rattle.yds_edf.proofs.PlacedSums.{few_units}
 use Rattle.yds_edf.proofs.blocks.PlacedUnits.units.Goals as goal
 
 pub returns-clause-few : goal.returns-clause-few
-returns-clause-few c = rw (c.deref.ensures.value) (few_units c.self.inside.units.items c.self.inside.sums.items c.self.invariant.blocks)
+returns-clause-few c = rw (c.deref.ensures.value) (few_units c.self.invariant)
