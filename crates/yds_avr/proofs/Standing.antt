@@ -2,14 +2,14 @@
 use Rattle.std.proofs.Common.{◌≡◌, ℕ, ◌+◌, ◌-◌, ◌*◌, ◌%◌, ◌<◌, ◌≤◌, List, [], ◌∷◌, ◌++◌, length, get_or, take, drop, drop-cons, add-one, ◌∙◌, refl, sym, ap, subst, arith, inl, inr, cond, true, false}
 use Rattle.std.specs.Prelude.{Bool, ◌&&◌, ◌||◌, ◌==◌, not, nat_lt, nat_le, All, sum_by, filter, insert}
 use Rattle.std.specs.List.{list_any}
-use Rattle.std.specs.List.Sorted.{IsPermutation, IsNonDecreasingBy, IsPartitionedBy, IsPartitionPoint}
+use Rattle.std.specs.List.Sorted.{IsPermutation, IsPartitionedBy, IsPartitionPoint}
 use Rattle.std.proofs.Math.Nat.{mod-lt, mul-le-mul_left}
 use Rattle.std.proofs.lemmas.Nat.{div-add-mod'}
 use Rattle.std.proofs.lemmas.Bool.{cases_lt, cases_Bool, le-leb, lt-leb, lt-ltb, le-ltb, leb-true, leb-false}
 use Rattle.std.proofs.lemmas.List.{take-append-drop, get_or-take, get_or-drop, get_or_append_left, length-append, length-take, length-drop, append_assoc, append-nil, length-map}
 use Rattle.std.proofs.lemmas.List.Sums.{sum_by-cons, sum_by-le}
-use Rattle.std.proofs.lemmas.List.Elements.{filter-append, All-from_get_or, All-nil, All-cons, All-append, All-take, All-map, All-weaker}
-use Rattle.std.proofs.lemmas.List.Sorted.{All-permutation, IsPermutation-refl, IsPermutation-trans, IsPermutation-append_left, IsPermutation-middle, IsNonDecreasingBy-insert, IsNonDecreasingBy-take, length_permutation, sum_by_pushed, sum_by-IsPermutation, list_any-IsPermutation}
+use Rattle.std.proofs.lemmas.List.Elements.{filter-append, All-from_get_or, All-cons, All-append, All-take, All-map, All-weaker}
+use Rattle.std.proofs.lemmas.List.Sorted.{All-permutation, IsPermutation-trans, IsPermutation-append_left, IsPermutation-middle, IsNonDecreasingBy-insert, IsNonDecreasingBy-take, length_permutation, sum_by_pushed, sum_by-IsPermutation, list_any-IsPermutation}
 use Rattle.yds_model.specs.declared.limits.TheConstants.{MAX_GRID, MAX_JOBS, MAX_TIME}
 use Rattle.yds_model.specs.Job.{Job, IsJob}
 use Rattle.yds_model.specs.Piece.{Piece}
@@ -59,20 +59,6 @@ due_behind live stay time due = All-from_get_or (λ rate. rate.deadline ≤ time
 ))
 
 -- # As time goes on
-
--- nobody has arrived
-pub begun : (order : List Rate) (capacity : ℕ) → IsNonDecreasingBy (λ rate. rate.release) order → length order ≤ capacity → (time : ℕ) → IsRoster order [] 0 0 capacity time
-begun order capacity rising room time = record {
-  within = omega arith;
-  rising = rising;
-  falling = λ i j d order less. absurd (omega (arith, less));
-  together = refl;
-  room = omega (arith, room);
-  over = [];
-  same = IsPermutation-refl order;
-  come = All-nil (λ rate. rate.release ≤ time);
-  done = All-nil (λ rate. rate.deadline ≤ time);
-}
 
 pub stands_later : (order live : List Rate) (arrived whole capacity time later : ℕ) → IsRoster order live arrived whole capacity time → time ≤ later →
     IsRoster order live arrived whole capacity later
