@@ -37,26 +37,3 @@ fn fills_a_level(rt: HostRuntime) -> Result<(), Fail> {
     assert_eq!(rt; (last.stretch, last.job, last.units), (0, 1, 15));
     Ok(())
 }
-
-/// Jobs a 0 3 2 and b 1 2 1 on the grid 6: b, which is due at 2, stands before a, of which 8 units are left.
-#[test]
-fn pending_in_order(rt: HostRuntime) -> Result<(), Fail> {
-    let rows = [JobRow::new(0, 3, 2), JobRow::new(1, 2, 1)];
-    let mut queue = Queue::new(rt.alloc(), &rows, 6)?;
-    queue.arrive(0);
-    queue.serve(0, 4)?;
-    queue.arrive(1);
-    let jobs = queue.in_order();
-    assert_eq!(rt; (jobs.order[0].job, jobs.order[1].job), (1, 0));
-    assert_eq!(rt; jobs.units.units(), [6, 8].as_slice());
-    assert_eq!(rt;
-        (jobs.units.start(), jobs.units.at(1), jobs.units.total()),
-        (0, 8, 14)
-    );
-    assert_eq!(rt; (jobs.units.between(1, 2), jobs.units.sum(0, 2)), (8, 14));
-    assert_eq!(rt;
-        (block_end(3, 20), group_end(0, 100), group_end(64, 100)),
-        (8, 64, 72)
-    );
-    Ok(())
-}
