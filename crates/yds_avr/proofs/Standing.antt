@@ -2,7 +2,7 @@
 use Rattle.std.proofs.Common.{◌≡◌, ℕ, ◌+◌, ◌-◌, ◌*◌, ◌%◌, ◌<◌, ◌≤◌, List, [], ◌∷◌, ◌++◌, length, get_or, take, drop, drop-cons, add-one, ◌∙◌, refl, sym, ap, subst, arith, inl, inr, cond, true, false}
 use Rattle.std.specs.Prelude.{Bool, ◌&&◌, ◌||◌, ◌==◌, not, nat_lt, nat_le, All, sum_by, filter, insert}
 use Rattle.std.specs.List.{list_any}
-use Rattle.std.specs.List.Sorted.{IsPermutation, IsPartitionedBy, IsPartitionPoint}
+use Rattle.std.specs.List.Sorted.{IsPermutation, IsNonDecreasingBy, IsPartitionedBy, IsPartitionPoint}
 use Rattle.std.proofs.Math.Nat.{mod-lt, mul-le-mul_left}
 use Rattle.std.proofs.lemmas.Nat.{div-add-mod'}
 use Rattle.std.proofs.lemmas.Bool.{cases_lt, cases_Bool, le-leb, lt-leb, lt-ltb, le-ltb, leb-true, leb-false}
@@ -23,7 +23,7 @@ use Rattle.yds_events.proofs.Neighbours.{stretch_begins, stretch_next}
 use Rattle.yds_events.proofs.Times.{not_later}
 use Rattle.yds_avr.specs.declared.rate.Rate.{Rate}
 use Rattle.yds_avr.specs.Rate.{rate_of, rate_units, rate_term, rate_rounds, IsRate, IsLive}
-use Rattle.yds_avr.specs.Roster.{no_rate, rate_at, rates_of, HaveFallingDeadlines, AreRates, IsRoster}
+use Rattle.yds_avr.specs.Roster.{no_rate, rate_at, rates_of, HaveFallingDeadlines, AreRates, AreParts, IsRoster}
 use Rattle.yds_avr.proofs.Rounded.{whole_few}
 
 -- the stretch lies in the job's window
@@ -58,23 +58,29 @@ due_behind live stay time due = All-from_get_or (λ rate. rate.deadline ≤ time
   ap (λ (rate : Rate). rate.deadline) (get_or-drop stay live place no_rate),
 ))
 
+-- by the time until a day that comes after all
+pub falls_by : (live : List Rate) → All IsRate live → IsNonDecreasingBy (λ rate. 4294967295 - rate.deadline) live → HaveFallingDeadlines live
+falls_by live are rising i j d order within = omega (arith, rising i j d order within, (are j d within).time_in_range, (are i d (omega arith)).time_in_range)
+
 -- # As time goes on
 
 pub stands_later : (order live : List Rate) (arrived whole capacity time later : ℕ) → IsRoster order live arrived whole capacity time → time ≤ later →
     IsRoster order live arrived whole capacity later
 stands_later order live arrived whole capacity time later so after = record {
-  within = so.within;
-  rising = so.rising;
+  parts = record {
+    within = so.parts.within;
+    rising = so.parts.rising;
+    together = so.parts.together;
+    room = so.parts.room;
+    over = so.parts.over;
+    same = so.parts.same;
+    come = λ k d less. omega (arith, so.parts.come k d less, after);
+    done = λ k d less. omega (arith, so.parts.done k d less, after);
+  };
   falling = so.falling;
-  together = so.together;
-  room = so.room;
-  over = so.over;
-  same = so.same;
-  come = λ k d less. omega (arith, so.come k d less, after);
-  done = λ k d less. omega (arith, so.done k d less, after);
 }
 
-module _ (order live : List Rate) (arrived whole capacity time : ℕ) (so : IsRoster order live arrived whole capacity time) where
+module _ (order live : List Rate) (arrived whole capacity time : ℕ) (so : AreParts order live arrived whole capacity time) where
   -- what is said of all is said of the live ones
   pub live_all : (P : Rate → Type 0) → All P order → All P live
   live_all P all k d less =
@@ -95,14 +101,13 @@ module _ (order live : List Rate) (arrived whole capacity time : ℕ) (so : IsRo
 
   -- the next arrives
   pub one_arrives : (rate : Rate) (after : List Rate) (room : ℕ) → arrived < length order → rate_at order arrived ≡ rate → rate.release ≤ time →
-      HaveFallingDeadlines after → IsPermutation (rate ∷ live) after → capacity ≤ room → IsRoster order after (arrived + 1) (whole + rate.whole) room time
-  one_arrives rate after room known is released falling same more =
+      IsPermutation (rate ∷ live) after → capacity ≤ room → AreParts order after (arrived + 1) (whole + rate.whole) room time
+  one_arrives rate after room known is released same more =
       let rest = drop (arrived + 1) order in
       let next : drop arrived order ≡ rate ∷ rest = subst (λ (one : Rate). drop arrived order ≡ one ∷ rest) is (rw (add-one arrived) (drop-cons order arrived no_rate known)) in
       record {
         within = omega arith;
         rising = so.rising;
-        falling = falling;
         together = omega (arith, so.together, sum_by_pushed (λ (one : Rate). one.whole) rate live after same);
         room = omega (arith, so.room, length_permutation (rate ∷ live) after same);
         over = so.over;
@@ -115,13 +120,26 @@ module _ (order live : List Rate) (arrived whole capacity time : ℕ) (so : IsRo
         done = so.done;
       }
 
+  -- those that are live, in another order
+  pub other_order : (after : List Rate) (room : ℕ) → IsPermutation live after → capacity ≤ room → AreParts order after arrived whole room time
+  other_order after room same more = record {
+    within = so.within;
+    rising = so.rising;
+    together = so.together ∙ sym (sum_by-IsPermutation (λ (rate : Rate). rate.whole) live after same);
+    room = omega (arith, so.room, more, length_permutation live after same);
+    over = so.over;
+    same = IsPermutation-trans order (live ++ (so.over ++ drop arrived order)) (after ++ (so.over ++ drop arrived order)) so.same
+        (IsPermutation-append_left (so.over ++ drop arrived order) live after same);
+    come = All-permutation (λ rate. rate.release ≤ time) live after same so.come;
+    done = so.done;
+  }
+
   -- those that are due stand behind
   pub some_leave : (stay left : ℕ) → left ≡ sum_by (λ rate. rate.whole) (take stay live) → All (λ rate. rate.deadline ≤ time) (drop stay live) →
-      IsRoster order (take stay live) arrived left capacity time
+      AreParts order (take stay live) arrived left capacity time
   some_leave stay left together due = record {
     within = so.within;
     rising = so.rising;
-    falling = IsNonDecreasingBy-take (λ rate. MAX_TIME - rate.deadline) stay live so.falling;
     together = together;
     room = omega (arith, so.room, length-take stay live);
     over = drop stay live ++ so.over;
@@ -146,13 +164,13 @@ module _ (order live : List Rate) (arrived whole capacity time : ℕ) (so : IsRo
       ))
 
   -- none is due before the last
-  pub none_due : All IsRate order → (stay : ℕ) → stay ≤ length live → (0 < stay → time < (rate_at live (stay - 1)).deadline) → All (λ rate. time < rate.deadline) (take stay live)
-  none_due are stay within last = All-from_get_or (λ rate. time < rate.deadline) (take stay live) no_rate (λ place less.
+  pub none_due : All IsRate order → HaveFallingDeadlines live → (stay : ℕ) → stay ≤ length live → (0 < stay → time < (rate_at live (stay - 1)).deadline) → All (λ rate. time < rate.deadline) (take stay live)
+  none_due are falling stay within last = All-from_get_or (λ rate. time < rate.deadline) (take stay live) no_rate (λ place less.
       let before : place < stay = omega (arith, less, length-take stay live) in
       omega (
         arith,
         last (omega (arith, before)),
-        so.falling place (stay - 1) no_rate (omega (arith, before)) (omega (arith, before, within)),
+        falling place (stay - 1) no_rate (omega (arith, before)) (omega (arith, before, within)),
         (live_all IsRate are (stay - 1) no_rate (omega (arith, before, within))).time_in_range,
         ap (λ (rate : Rate). rate.deadline) (get_or-take stay live place no_rate before),
       ))
@@ -252,7 +270,7 @@ all_rates jobs grid order in_range are few same = record {
   few = omega (arith, few, length_permutation (rates_of grid jobs) order same, length-map jobs (rate_of grid));
 }
 
-module _ (jobs : List Job) (grid : ℕ) (order live : List Rate) (arrived whole capacity time : ℕ) (stretch : Piece) (so : IsRoster order live arrived whole capacity time)
+module _ (jobs : List Job) (grid : ℕ) (order live : List Rate) (arrived whole capacity time : ℕ) (stretch : Piece) (so : AreParts order live arrived whole capacity time)
     (now : time ≡ stretch.from) (same : IsPermutation (rates_of grid jobs) order) (coming : All (λ rate. time < rate.release) (drop arrived order))
     (due : All (λ rate. time < rate.deadline) live) where
   passes : filter (rate_live stretch) (live ++ (so.over ++ drop arrived order)) ≡ live

@@ -29,16 +29,20 @@ pub record AreRates (rates : List Rate) : Type 0 where
   pub few : length rates ≤ MAX_JOBS
 
 -- Of those that have arrived all are released by this time, and those that aren't live are due by it.
-pub record IsRoster (order live : List Rate) (arrived whole capacity time : ℕ) : Type 0 where
+pub record AreParts (order live : List Rate) (arrived whole capacity time : ℕ) : Type 0 where
   pub within : arrived ≤ length order
   pub rising : IsNonDecreasingBy (λ rate. rate.release) order
-  pub falling : HaveFallingDeadlines live
   pub together : whole ≡ sum_by (λ rate. rate.whole) live
   pub room : length live + (length order - arrived) ≤ capacity
   pub over : List Rate
   pub same : IsPermutation order (live ++ (over ++ drop arrived order))
   pub come : All (λ rate. rate.release ≤ time) live
   pub done : All (λ rate. rate.deadline ≤ time) over
+
+-- the same, where those that are live stand in falling order of their deadlines
+pub record IsRoster (order live : List Rate) (arrived whole capacity time : ℕ) : Type 0 where
+  pub parts : AreParts order live arrived whole capacity time
+  pub falling : HaveFallingDeadlines live
 
 abbrev pub IsRosterAt : Roster → ℕ → Type 0
 IsRosterAt roster time = IsRoster roster.order.items roster.live.items roster.arrived roster.whole (vec_capacity roster.live) time

@@ -1,4 +1,4 @@
-ghost use Rattle.std.specs.Prelude.{◌≡◌, ◌∷◌, ◌<◌, ◌≤◌, IfOk, All, vec_len, vec_capacity};
+ghost use Rattle.std.specs.Prelude.{◌≡◌, ◌∷◌, ◌<◌, ◌≤◌, IfOk, All, take, vec_len, vec_capacity};
 ghost use Rattle.std.specs.List.Sorted.{IsPermutation, IsNonDecreasingBy};
 ghost use Rattle.yds_avr.specs.Rate.{IsRate};
 ghost use Rattle.yds_avr.specs.Roster.{rates_of, HaveFallingDeadlines};
@@ -62,12 +62,14 @@ impl Roster {
         ensures stands { IsRosterAt self.new time }
         ensures next { self.new.arrived < length self.new.order.items → time < (rate_at self.new.order.items self.new.arrived).release }
     {
+        let before = self.live.len();
         while self.arrived < self.order.len() && self.order[self.arrived].release <= time {
             let rate = self.order[self.arrived];
             self.whole += rate.whole;
-            put_in(&mut self.live, rate);
+            self.live.push_reserved(rate);
             self.arrived += 1;
         }
+        settle(&mut self.live, before);
     }
 
     /// Those that are due by a time are over.
@@ -86,6 +88,30 @@ impl Roster {
         }
         self.live.truncate(stay);
     }
+}
+
+/// Puts rates in falling order of their deadlines, of which those before this place stand so: a single one behind them goes to its
+/// place, and more are sorted with all.
+fn settle(live: &mut Vec<Rate>, before: usize)
+    requires rates { All IsRate live.old.items }
+    requires within { before ≤ vec_len live.old }
+    requires falling { HaveFallingDeadlines (take before live.old.items) }
+    ensures same { IsPermutation live.old.items live.new.items }
+    ensures falling { HaveFallingDeadlines live.new.items }
+    ensures room { vec_capacity live.old ≤ vec_capacity live.new }
+{
+    let added = live.len() - before;
+    if added > 1 {
+        live.sort_unstable_by_key(|rate| u32::MAX - rate.deadline);
+        return;
+    }
+    if added == 0 {
+        return;
+    }
+    let Some(last) = live.pop() else {
+        return;
+    };
+    put_in(live, last);
 }
 
 /// Puts a rate among others that stand in falling order of their deadlines, where there is room for it.
