@@ -1,15 +1,16 @@
 -- What the fields of a line say where they were read in one pass.
-use Rattle.std.proofs.Common.{◌≡◌, ℕ, ◌<◌, true, List, [], ◌∷◌, None, Result, Ok, refl, sym, ap, ◌∙◌}
-use Rattle.std.specs.Prelude.{nat_lt}
+use Rattle.std.proofs.Common.{◌≡◌, ℕ, ◌<◌, ◌*◌, ◌-◌, ◌/◌, Bool, true, false, List, [], ◌∷◌, None, Result, Ok, refl, sym, ap, ◌∙◌}
+use Rattle.std.specs.Prelude.{nat_lt, nat_le}
+use Rattle.std.specs.Option.{unwrap_or}
 use Rattle.std.proofs.lemmas.Bool.{lt-ltb}
-use Rattle.yds_model.specs.declared.limits.TheConstants.{MAX_TIME, MAX_WORK, MAX_SLOT_WORK}
+use Rattle.yds_model.specs.declared.limits.TheConstants.{MAX_TIME, MAX_WORK, MAX_SLOT_WORK, MAX_RUN_SPEED}
 use Rattle.yds_model.specs.Lines.{Field}
 use Rattle.yds_model.specs.Entry.{Entry, JobEntry, SlotEntry, MemberEntry}
 use Rattle.yds_model.specs.declared.reason.Reason.{Reason}
 use Rattle.yds_model.specs.declared.reason.Reason.TheVariants as reasons
 use Rattle.yds_model.specs.Fields.{Spot, ◌>>=◌, demand, count_fields}
-use Rattle.yds_model.specs.Reading.{SlotLine, are_alike, fraction_in}
-use Rattle.yds_model.specs.Scale.{Fraction}
+use Rattle.yds_model.specs.Reading.{SlotLine, RunLine, are_alike, fraction_in}
+use Rattle.yds_model.specs.Scale.{Fraction, of_parts}
 use Rattle.yds_model.specs.Slot.{WrittenSlot}
 use Rattle.yds_model.specs.Spelling.{is_name, number_at, fraction_at}
 use Rattle.yds_instance.specs.Named.{number_of}
@@ -20,9 +21,10 @@ use Rattle.yds_document.specs.Draft.{Holds, HoldsMore, Takes, count_and_read}
 use Rattle.yds_document.specs.Fields.{known_job_of}
 use Rattle.yds_document.specs.Job.{job_of}
 use Rattle.yds_document.specs.Slot.{fits_among, slot_of}
+use Rattle.yds_document.specs.Run.{run_between, run_after, run_of, run_slot}
 use Rattle.yds_document.specs.Plain.{SaysOne, SaysFour}
 use Rattle.yds_document.specs.Member.{member_of}
-use Rattle.yds_document.proofs.Told.{holds_more, slot_same}
+use Rattle.yds_document.proofs.Told.{holds_more, slot_same, run_same}
 
 -- a name that is new, and three numbers
 pub says_job : (names : List (List ℕ)) (fields rest two one none : List Field) (name : List ℕ) (from to work : ℕ) → ReadsText (λ text. text ≡ name) fields rest →
@@ -71,6 +73,36 @@ says_slot names slots fields rest two one none a job most from to work first lim
       ap (λ (r : Result ℕ (Spot Reason)). r >>= (λ job. slot_after slots job b.field c.field d.field)) known ∙ rest;
 }
 
+-- where a run has no fault, its column doesn't matter
+any_column : (slots : List WrittenSlot) (ticks job from to speed column other : ℕ) (entry : Entry) → run_between slots ticks job from to speed column ≡ Ok entry →
+    run_between slots ticks job from to speed other ≡ Ok entry
+any_column slots ticks job from to speed column other entry = by_tests (nat_le (speed * (to - from) / ticks) MAX_SLOT_WORK) (fits_among slots job (of_parts (speed * (to - from)) ticks)) where
+  by_tests : (small grain : Bool) →
+      (demand small column reasons.OutOfRange >>= (λ _. demand grain column reasons.MixedGrain >>= (λ _. Ok (SlotEntry (run_slot ticks job from to speed))))) ≡ Ok entry →
+      (demand small other reasons.OutOfRange >>= (λ _. demand grain other reasons.MixedGrain >>= (λ _. Ok (SlotEntry (run_slot ticks job from to speed))))) ≡ Ok entry
+  by_tests true true is = is
+  by_tests true false is = cc
+  by_tests false grain is = cc
+
+-- a name that is known, and three numbers
+pub says_run : (names : List (List ℕ)) (slots : List WrittenSlot) (ticks : ℕ) (fields rest two one none : List Field) (a : Field) (job most fastest from to speed column : ℕ) (entry : Entry) →
+    fields ≡ a ∷ rest → most ≡ MAX_TIME * ticks → fastest ≡ MAX_RUN_SPEED → ReadsText (λ text. number_at 0 most text ≡ Ok from) rest two →
+    ReadsText (λ text. number_at 0 most text ≡ Ok to) two one → ReadsText (λ text. number_at 0 fastest text ≡ Ok speed) one none → none ≡ [] →
+    known_job_of names a ≡ Ok job → run_between slots ticks job from to speed column ≡ Ok entry → SaysFour (run_of names slots ticks) fields entry
+says_run names slots ticks fields rest two one none a job most fastest from to speed column entry first limit greatest b c d last known is = record {
+  first = a;
+  second = b.field;
+  third = c.field;
+  fourth = d.field;
+  are = first ∙ ap (λ l. a ∷ l) (b.first ∙ ap (λ l. b.field ∷ l) (c.first ∙ ap (λ l. c.field ∷ l) (d.first ∙ ap (λ l. d.field ∷ l) last)));
+  says =
+      let start : number_at 0 (MAX_TIME * ticks) b.field.text ≡ Ok from = ap (λ m. number_at 0 m b.field.text) (sym limit) ∙ b.says in
+      let end : number_at 0 (MAX_TIME * ticks) c.field.text ≡ Ok to = ap (λ m. number_at 0 m c.field.text) (sym limit) ∙ c.says in
+      let rate : number_at 0 MAX_RUN_SPEED d.field.text ≡ Ok speed = ap (λ m. number_at 0 m d.field.text) (sym greatest) ∙ d.says in
+      let rest : run_after slots ticks job b.field c.field d.field ≡ Ok entry = rw (start, end, rate) (any_column slots ticks job from to speed column d.field.column entry is) in
+      ap (λ (r : Result ℕ (Spot Reason)). r >>= (λ job. run_after slots ticks job b.field c.field d.field)) known ∙ rest;
+}
+
 -- a name that is known
 pub says_member : (names : List (List ℕ)) (fields rest : List Field) (a : Field) (job : ℕ) → fields ≡ a ∷ rest → rest ≡ [] → known_job_of names a ≡ Ok job →
     SaysOne (member_of names) fields (MemberEntry job)
@@ -91,3 +123,9 @@ pub holds_slot_line : (old new : Draft) (earlier : List Entry) (kind : Field) (f
 holds_slot_line old new earlier kind fields entry said holds takes =
     holds_more SlotLine earlier (kind ∷ fields) _ entry old new (four_counted kind said.first said.second said.third said.fourth fields said.are)
     (sym (slot_same old earlier kind said.first said.second said.third said.fourth holds) ∙ said.says) holds takes
+
+pub holds_run_line : (old new : Draft) (earlier : List Entry) (ticks : ℕ) (kind : Field) (fields : List Field) (entry : Entry) → SaysFour (run_of old.instance.names old.schedule.slots ticks) fields entry →
+    Holds old earlier → ticks ≡ unwrap_or old.ticks 1 → Takes old new entry → HoldsMore (count_and_read RunLine earlier (kind ∷ fields)) new earlier
+holds_run_line old new earlier ticks kind fields entry said holds is takes =
+    holds_more RunLine earlier (kind ∷ fields) _ entry old new (four_counted kind said.first said.second said.third said.fourth fields said.are)
+    (sym (run_same old earlier ticks kind said.first said.second said.third said.fourth holds is) ∙ said.says) holds takes

@@ -12,15 +12,24 @@ use Rattle.yds_model.specs.Reading.{number_in}
 use Rattle.yds_document.specs.Fields.{known_job_of}
 use Rattle.yds_document.specs.Slot.{fits_among}
 
--- a run of this job
+-- the slot of a run of this job
+abbrev pub run_slot : ℕ → ℕ → ℕ → ℕ → ℕ → WrittenSlot
+run_slot ticks job from to speed = record { job = job; from = of_parts from ticks; to = of_parts to ticks; work = of_parts (speed * (to - from)) ticks }
+
+-- a run of this job between these ticks at this speed, whose field has this column
+abbrev pub run_between : List WrittenSlot → ℕ → ℕ → ℕ → ℕ → ℕ → ℕ → Result Entry (Spot Reason)
+run_between slots ticks job from to speed column = do
+  small ← demand (nat_le (speed * (to - from) / ticks) MAX_SLOT_WORK) column reasons.OutOfRange
+  grain ← demand (fits_among slots job (of_parts (speed * (to - from)) ticks)) column reasons.MixedGrain
+  Ok (SlotEntry (run_slot ticks job from to speed))
+
+-- a run of this job, by its fields
 abbrev pub run_after : List WrittenSlot → ℕ → ℕ → Field → Field → Field → Result Entry (Spot Reason)
 run_after slots ticks job b c d = do
   from ← number_in 0 (MAX_TIME * ticks) b
   to ← number_in 0 (MAX_TIME * ticks) c
   speed ← number_in 0 MAX_RUN_SPEED d
-  small ← demand (nat_le (speed * (to - from) / ticks) MAX_SLOT_WORK) d.column reasons.OutOfRange
-  grain ← demand (fits_among slots job (of_parts (speed * (to - from)) ticks)) d.column reasons.MixedGrain
-  Ok (SlotEntry (record { job = job; from = of_parts from ticks; to = of_parts to ticks; work = of_parts (speed * (to - from)) ticks }))
+  run_between slots ticks job from to speed d.column
 
 abbrev pub run_of : List (List ℕ) → List WrittenSlot → ℕ → Field → Field → Field → Field → Result Entry (Spot Reason)
 run_of names slots ticks a b c d = do
