@@ -298,6 +298,7 @@ function at_line(i, line,    field, n, text) {
 # Answers of no to some part. All without points is an answer to the whole.
 function refuse_all() {
     if (without_points != parts) end_failed()
+    close("cat 1>&2")
     print "refused no-table"
     end(1)
 }
@@ -318,6 +319,7 @@ function add_too_slow(i, line,    field, this) {
 }
 function write_too_slow() {
     if (family != "" && family != "text" && family != "energies") end_failed()
+    close("cat 1>&2")
     printf "too-slow work %.0f length %.0f top %s\n", slow_work, slow_length, slow_top
     end(1)
 }
@@ -665,6 +667,7 @@ function write_verdict(    i, line) {
     print "feasible"
 }
 function answer_no(line) {
+    close("cat 1>&2")
     print line
     end(1)
 }
