@@ -28,14 +28,15 @@
 #
 # faults, fuzz, costly, library and bench-library want a C compiler (Debian: gcc and libc6-dev), bench and library-test also one for C++ (g++), and
 # library-test pkg-config and python3-venv.
-# JOBS crates are proved side by side, each in up to 2 GB of memory.
+# JOBS crates are proved side by side, each in up to 2 GB of memory. With LINK=dynamic the program is the toolchain's own, which wants glibc.
 
 SHELL := /bin/bash
 PROGRAM := yds_cli
 BINARY := build/$(PROGRAM)
 SOURCES := crates.txt $(shell find crates -path '*/out' -prune -o \( -name '*.rt' -o -name '*.antt' \) -print)
 CRATES := $(shell grep -c '^[a-z]' crates.txt)
-JOBS ?= $(shell nproc)
+# Some wait for those that they stand on: so there are twice as many as processors, where memory holds them.
+JOBS ?= $(shell awk -v n=$$(nproc) '/^MemTotal/ { m = int($$2 / 2097152); print m < 1 ? 1 : m < 2 * n ? m : 2 * n }' /proc/meminfo)
 PREFIX ?= /usr/local
 BIN = $(DESTDIR)$(PREFIX)/bin
 SHARE = $(DESTDIR)$(PREFIX)/share
@@ -72,20 +73,23 @@ HAS_TOOL = command -v rt >/dev/null 2>&1 || { echo "make: the command 'rt' of th
 tool:
 	@$(HAS_TOOL)
 
-# A line for each crate that is proved. How long it took is kept for the next time. Where the program is built, no tool is wanted.
+# A line for each crate that is proved. The one on which all others stand comes first, on all processors. How long it took is kept for the next
+# time. Where the program is built, no tool is wanted.
 $(BINARY): $(SOURCES)
 	@$(HAS_TOOL)
 	@mkdir -p build
 	@echo "Proving $(CRATES) crates, $(JOBS) side by side$$(test -f build/seconds && echo "; the last time this took $$(cat build/seconds) seconds")."
 	@set -o pipefail; began=$$(date +%s); \
-	rt all check --jobs $(JOBS) 2>&1 | tee build/log \
+	(cd crates/yds_model && rt lib) >build/log 2>&1 \
+	&& rt all check --jobs $(JOBS) 2>&1 | tee build/log \
 	| awk -v n=$(CRATES) '/^== / && $$2 != "summary" { printf "crate %d of %d: %s\n", ++k, n, $$2; fflush() }' \
 	&& echo "Building $(PROGRAM)." \
 	&& (cd crates/$(PROGRAM) && rt run $(PROGRAM) -- plan </dev/null) >>build/log 2>&1 \
 	|| { tail -n 40 build/log >&2; exit 1; }; \
 	echo $$(($$(date +%s) - began)) >build/seconds
 	@cp crates/$(PROGRAM)/out/$(PROGRAM).o build/
-	@cp crates/$(PROGRAM)/out/$(PROGRAM) $@
+	@cp crates/$(PROGRAM)/out/$(PROGRAM) build/$(PROGRAM)-dynamic
+	@CC=$(CC) LINK=$(LINK) sh packaging/link.sh
 	@echo "Built $@ in $$(cat build/seconds) seconds."
 
 run: $(BINARY)
@@ -190,20 +194,17 @@ map:
 deb: $(BINARY)
 	@sh packaging/deb.sh
 
-build/$(PROGRAM)-static: $(BINARY)
-	@sh packaging/static.sh
-
-dist: build/$(PROGRAM)-static
-	@sh packaging/dist.sh
+dist: $(BINARY)
+	@CC=$(CC) sh packaging/dist.sh
 
 check-build: $(BINARY)
-	@sh packaging/check-build.sh
+	@CC=$(CC) sh packaging/check-build.sh
 
 record-build: $(BINARY)
-	@sh packaging/check-build.sh --record
+	@CC=$(CC) sh packaging/check-build.sh --record
 
 packages-test: $(BINARY)
-	@sh packaging/test.sh
+	@CC=$(CC) sh packaging/test.sh
 
 clean:
 	rm -rf build crates/*/out

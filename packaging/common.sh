@@ -41,3 +41,12 @@ same_times() { find "$1" -exec touch -h -d "@$SOURCE_DATE_EPOCH" {} +; }
 sums() {
 	(cd "$out" && rm -f SHA256SUMS && sha256sum -- *"$version"* >../SHA256SUMS.new && mv ../SHA256SUMS.new SHA256SUMS && cat SHA256SUMS)
 }
+
+# static PROGRAM: links the proved object file into a static program.
+static() {
+	kit=$(dirname "$(dirname "$(readlink -f "$(command -v rt)")")")
+	"${CC:-cc}" -static -s -Wl,--build-id=none -o "$1" build/yds_cli.o "$kit/c/libos_c.a" "$kit/c/liblibc_c.a"
+}
+
+# is_static: whether build/yds_cli is another program than the toolchain's dynamic one.
+is_static() { ! cmp -s $program build/yds_cli-dynamic; }

@@ -53,7 +53,7 @@ close() {
 		echo "Section: utils"
 		echo "Priority: optional"
 		echo "Installed-Size: $(find "$tree/usr" -type f -exec cat {} + | wc -c | awk '{ print int(($1 + 1023) / 1024) }')"
-		echo "Depends: $3"
+		[ -z "$3" ] || echo "Depends: $3"
 		[ -z "$4" ] || echo "Suggests: $4"
 		echo "Description: $5"
 		sed 's/^/ /; s/^ $/ ./'
@@ -77,7 +77,8 @@ compiled() {
 
 make --no-print-directory install-program DESTDIR="$PWD/$stage/yds-cli" PREFIX=/usr >/dev/null || die "make install failed"
 compress $stage/yds-cli
-close yds-cli amd64 "libc6 (>= 2.34)" "jq, gnuplot-nox, parallel, trace-cmd, bash-completion" \
+is_static && needs= || needs="libc6 (>= 2.34)"
+close yds-cli amd64 "$needs" "jq, gnuplot-nox, parallel, trace-cmd, bash-completion" \
 	"planner and auditor for jobs on a processor of variable speed" <<'TEXT'
 Plans jobs with releases, deadlines and works on one processor whose speed
 can be changed, so that every deadline is met and the least energy is spent,

@@ -10,7 +10,7 @@
 
 . "$(dirname "$0")/common.sh"
 want git git tar tar gzip gzip
-[ -x build/yds_cli-static ] || die "build/yds_cli-static isn't there; make dist links it"
+is_static || die "$program isn't static; make links it so where gcc and libc6-dev are"
 [ -z "$(git status --porcelain)" ] || die "there are changes that no commit has; a release is made of a commit"
 set_epoch
 mkdir -p $out
@@ -20,15 +20,15 @@ git archive --prefix="$name/" HEAD | gzip -9n >"$out/$name.tar.gz"
 stage=build/stage
 folder=$stage/$name-linux-x86_64
 rm -rf $stage
-make --no-print-directory install-program INSTALLED=build/yds_cli-static DESTDIR="$PWD/$folder" PREFIX= >/dev/null || die "make install failed"
+make --no-print-directory install-program DESTDIR="$PWD/$folder" PREFIX= >/dev/null || die "make install failed"
 cp README.md CHANGELOG.md LICENSE-MIT LICENSE-APACHE VERSION "$folder"
 {
 	echo "This program, bin/yds_cli, is one file that needs no library. It runs on any Linux, on a processor of x86-64-v2 or later."
 	echo "It has the object file that was proved and compiled by the toolchain. It is linked by gcc and Debian's"
 	echo "C library in place of the toolchain's linker:"
 	echo
-	"${CC:-gcc}" --version | head -n 1
-	echo "C library: $(printf '#include <gnu/libc-version.h>\n__GLIBC__.__GLIBC_MINOR__\n' | "${CC:-gcc}" -E -P - | tail -n 1 | tr -d ' ')"
+	"${CC:-cc}" --version | head -n 1
+	echo "C library: $(printf '#include <gnu/libc-version.h>\n__GLIBC__.__GLIBC_MINOR__\n' | "${CC:-cc}" -E -P - | tail -n 1 | tr -d ' ')"
 } >"$folder/STATIC"
 same_times "$folder"
 tar --sort=name --owner=0 --group=0 --numeric-owner --format=ustar -C $stage -cf - "$name-linux-x86_64" | gzip -9n >"$out/$name-linux-x86_64.tar.gz"

@@ -30,7 +30,7 @@ try() {
 	if "$@" >"$work/log" 2>&1; then pass "$name: $(tail -n 1 "$work/log")"; else fail "$name"; tail -n 12 "$work/log"; fi
 }
 # inside COMMAND ..: in the root of the suite.
-inside() { env -i PATH=/usr/sbin:/usr/bin:/sbin:/bin LC_ALL=C HOME=/root DEBIAN_FRONTEND=noninteractive chroot "$root" "$@"; }
+inside() { env -i PATH=/usr/sbin:/usr/bin:/sbin:/bin LC_ALL=C HOME=/ DEBIAN_FRONTEND=noninteractive chroot "$root" "$@"; }
 
 # files: each file of the root with its kind, mode and, where it is a file, its sum.
 files() {
@@ -48,13 +48,13 @@ rows() {
 
 # readme: the commands of README.md, by the installed program and recipes; only the test itself comes from here.
 readme() {
-	rm -rf "$root/tmp/yds_cli"
-	cp -r "$root/usr/share/yds_cli" "$root/tmp/yds_cli" &&
-		cp -r recipes/test.sh recipes/expected recipes/tests "$root/tmp/yds_cli/recipes" &&
-		cp README.md "$root/tmp/yds_cli" && mkdir "$root/tmp/yds_cli/docs" && cp docs/manual.md "$root/tmp/yds_cli/docs" &&
-		inside env YDS=/usr/bin/yds_cli sh /tmp/yds_cli/recipes/test.sh readme
+	rm -rf "$root/srv/yds_cli"
+	cp -r "$root/usr/share/yds_cli" "$root/srv/yds_cli" &&
+		cp -r recipes/test.sh recipes/expected recipes/tests "$root/srv/yds_cli/recipes" &&
+		cp README.md "$root/srv/yds_cli" && mkdir "$root/srv/yds_cli/docs" && cp docs/manual.md "$root/srv/yds_cli/docs" &&
+		inside env YDS=/usr/bin/yds_cli sh /srv/yds_cli/recipes/test.sh readme
 	got=$?
-	rm -rf "$root/tmp/yds_cli"
+	rm -rf "$root/srv/yds_cli"
 	return $got
 }
 
@@ -67,14 +67,14 @@ try_suite() {
 		: >"$root.done"
 	fi
 	files >"$work/before"
-	cp build/dist/yds-cli_"$version"_amd64.deb "$root/tmp/yds-cli.deb"
-	try "$suite: install" inside apt-get install -y --no-install-recommends /tmp/yds-cli.deb
+	cp build/dist/yds-cli_"$version"_amd64.deb "$root/srv/yds-cli.deb"
+	try "$suite: install" inside apt-get install -y --no-install-recommends /srv/yds-cli.deb
 	try "$suite: rows" rows "$root" /usr/bin/yds_cli
 	try "$suite: README" readme
 	try "$suite: the manual page has the version" inside sh -c "zcat /usr/share/man/man1/yds_cli.1.gz | grep '^.Os yds_cli $version\$'"
 	if [ -f build/dist/libyds_"$version"_amd64.deb ]; then library; fi
 	try "$suite: remove" inside apt-get purge -y yds-cli
-	rm -f "$root/tmp/yds-cli.deb"
+	rm -f "$root/srv/yds-cli.deb"
 	files >"$work/after"
 	try "$suite: nothing is left" sh -c 'diff "$1" "$2" && echo "$(wc -l <"$1") lines of files and sums are as before"' sh "$work/before" "$work/after"
 }
@@ -84,13 +84,13 @@ library() {
 	rm -rf "$root.library"
 	cp -a "$root" "$root.library"
 	plain=$root root=$root.library
-	cp build/dist/libyds_"$version"_amd64.deb build/dist/python3-yds_"$version"_all.deb "$root/tmp"
+	cp build/dist/libyds_"$version"_amd64.deb build/dist/python3-yds_"$version"_all.deb "$root/srv"
 	inside apt-get update >/dev/null 2>&1
-	try "$suite: install the library and the module" inside sh -c 'apt-get install -y --no-install-recommends /tmp/libyds_*.deb /tmp/python3-yds_*.deb'
-	printf 'job a 0 4 8\n' | $program plan >"$root/tmp/wanted"
+	try "$suite: install the library and the module" inside sh -c 'apt-get install -y --no-install-recommends /srv/libyds_*.deb /srv/python3-yds_*.deb'
+	printf 'job a 0 4 8\n' | $program plan >"$root/srv/wanted"
 	try "$suite: the module answers" inside python3 -c 'import yds
 status, text = yds.answer(["plan"], b"job a 0 4 8\n")
-assert int(status) == 0 and bytes(text) == open("/tmp/wanted", "rb").read()
+assert int(status) == 0 and bytes(text) == open("/srv/wanted", "rb").read()
 print("as the program")'
 	try "$suite: the module and the library leave nothing" inside sh -c 'apt-get purge -y python3-yds libyds &&
 		[ -z "$(ls -d /usr/lib/python3/dist-packages/yds /usr/lib/libyds* /usr/include/yds.h 2>/dev/null)" ] && echo "nothing of them"'
@@ -100,12 +100,11 @@ print("as the program")'
 
 # same_bytes: builds the packages a second time, in a copy of the repository in another folder.
 same_bytes() {
-	git clone -q . "$work/copy" && mkdir "$work/copy/build" && cp build/yds_cli "$work/copy/build" || return 1
-	for file in build/yds_cli.o build/libyds.*; do
+	git clone -q . "$work/copy" && mkdir "$work/copy/build" && cp build/yds_cli.o build/yds_cli-dynamic "$work/copy/build" || return 1
+	for file in build/libyds.*; do
 		[ ! -f $file ] || cp $file "$work/copy/build"
 	done
-	touch "$work/copy"/build/*
-	(cd "$work/copy" && make -s deb >/dev/null && if [ -f build/yds_cli.o ]; then rm -f build/yds_cli-static && make -s dist >/dev/null; fi) || return 1
+	(cd "$work/copy" && sh packaging/link.sh && touch build/* && make -s deb && make -s dist) >/dev/null || return 1
 	cat "$work/copy/build/dist/SHA256SUMS"
 	diff build/dist/SHA256SUMS "$work/copy/build/dist/SHA256SUMS" && echo "$(wc -l <build/dist/SHA256SUMS) files are the same bytes"
 }
@@ -114,7 +113,7 @@ same_bytes() {
 from_archive() {
 	tar -xzf build/dist/yds_cli-"$version".tar.gz -C "$work" || return 1
 	folder=$work/yds_cli-$version
-	mkdir "$folder/build" && cp build/yds_cli "$folder/build" && touch "$folder/build/yds_cli" || return 1
+	mkdir "$folder/build" && cp build/yds_cli build/yds_cli-dynamic "$folder/build" && touch "$folder/build/yds_cli" || return 1
 	[ ! -f build/libyds.so ] || cp -p build/libyds.* "$folder/build"
 	(cd "$folder" && make -s deb) || return 1
 	for package in "$folder"/build/dist/*.deb; do cmp "$package" "build/dist/${package##*/}" || return 1; done
@@ -123,21 +122,16 @@ from_archive() {
 
 rm -rf build/dist
 try "make deb" make -s deb
-if [ -f build/yds_cli.o ] && command -v rt >/dev/null 2>&1; then
-	rm -f build/yds_cli-static
-	try "make dist" make -s dist
-else
-	fail "make dist: build/yds_cli.o or the toolchain isn't here; make builds the one with the other"
-fi
+try "make dist" make -s dist
 try "two builds in two folders" same_bytes
 if [ -f build/dist/yds_cli-"$version".tar.gz ]; then try "the sources' archive" from_archive; fi
 for suite in ${*:-bookworm trixie}; do try_suite "$suite"; done
-if [ -x build/yds_cli-static ]; then
+if is_static; then
 	mkdir "$work/empty"
-	cp build/yds_cli-static "$work/empty/yds_cli"
+	cp $program "$work/empty/yds_cli"
 	try "the static program in an empty root: rows" rows "$work/empty" /yds_cli
 else
-	fail "the static program isn't there"
+	fail "$program isn't static"
 fi
 echo "$passed passed, $failed failed"
 [ $failed = 0 ]

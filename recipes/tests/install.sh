@@ -2,18 +2,18 @@
 test_install() {
 	has make || return
 	version=$(cat "$here/../VERSION")
-	in_root() { make -s -C "$here/.." -o build/yds_cli -o build/libyds.so "$1" INSTALLED="$YDS" DESTDIR="$work/root" PREFIX=/usr >"$work/log" 2>&1; }
+	in_root() { make -s -C "$here/.." -o build/yds_cli -o build/libyds.so "$1" INSTALLED="$YDS" DESTDIR="$work/stage" PREFIX=/usr >"$work/log" 2>&1; }
 	in_root install
-	if grep -q "^.Os yds_cli $version\$" "$work/root/usr/share/man/man1/yds_cli.1" 2>/dev/null; then pass; else fail "install: the manual page has no version $version"; head -n 3 "$work/log"; fi
+	if grep -q "^.Os yds_cli $version\$" "$work/stage/usr/share/man/man1/yds_cli.1" 2>/dev/null; then pass; else fail "install: the manual page has no version $version"; head -n 3 "$work/log"; fi
 	if grep -q "^## $version\$" "$here/../CHANGELOG.md"; then pass; else fail "install: CHANGELOG.md has nothing of version $version"; fi
-	answers "install: the installed program" 0 accepted from /dev/null sh -c '"$1" trial 0 9 | tail -n 1' sh "$work/root/usr/bin/yds_cli"
+	answers "install: the installed program" 0 accepted from /dev/null sh -c '"$1" trial 0 9 | tail -n 1' sh "$work/stage/usr/bin/yds_cli"
 	for file in share/bash-completion/completions/yds_cli share/yds_cli/recipes/trace.awk share/yds_cli/recipes/samples/folder/a.txt share/yds_cli/examples/three-jobs.txt; do
-		[ -f "$work/root/usr/$file" ] || { fail "install: $file isn't there"; return; }
+		[ -f "$work/stage/usr/$file" ] || { fail "install: $file isn't there"; return; }
 	done
-	for link in "$work"/root/usr/bin/yds-*; do
+	for link in "$work"/stage/usr/bin/yds-*; do
 		[ -x "$link" ] || { fail "install: $link leads nowhere"; return; }
 	done
 	in_root uninstall
-	left=$(find "$work/root" -type f -o -type l | head -n 3)
-	if [ -z "$left" ] && [ ! -d "$work/root/usr/share/yds_cli" ]; then pass; else fail "uninstall: left $left"; fi
+	left=$(find "$work/stage" -type f -o -type l | head -n 3)
+	if [ -z "$left" ] && [ ! -d "$work/stage/usr/share/yds_cli" ]; then pass; else fail "uninstall: left $left"; fi
 }

@@ -211,20 +211,20 @@ test_commands() {
 test_installed_commands() {
 	has make || { left_out=$((left_out + 1)); return; }
 	touch "$work/program"
-	make -s -C "$here/.." install BINARY="$work/program" -o build/libyds.so DESTDIR="$work/root" PREFIX=/opt/yds >"$work/log" 2>&1 || { fail "install: $(tail -n 1 "$work/log")"; return; }
+	make -s -C "$here/.." install BINARY="$work/program" -o build/libyds.so DESTDIR="$work/stage" PREFIX=/usr/yds >"$work/log" 2>&1 || { fail "install: $(tail -n 1 "$work/log")"; return; }
 	(cd "$here/bin" && ls) >"$work/wanted"
-	(cd "$work/root/opt/yds/bin" && ls yds-*) >"$work/got"
+	(cd "$work/stage/usr/yds/bin" && ls yds-*) >"$work/got"
 	same "install: the commands" 0 - cmp "$work/wanted" "$work/got"
-	(cd "$work/root/opt/yds/share/man/man1" && ls yds-* | sed 's/\.1$//') >"$work/got"
+	(cd "$work/stage/usr/yds/share/man/man1" && ls yds-* | sed 's/\.1$//') >"$work/got"
 	same "install: their manual pages" 0 - cmp "$work/wanted" "$work/got"
-	(cd "$work/root/opt/yds/share/bash-completion/completions" && ls yds-*) >"$work/got"
+	(cd "$work/stage/usr/yds/share/bash-completion/completions" && ls yds-*) >"$work/got"
 	same "install: their completions" 0 - cmp "$work/wanted" "$work/got"
-	mv "$work/root/opt/yds" "$work/root/opt/elsewhere"
-	same "install: a command, also where the folder was moved" 0 trace.txt "$work/root/opt/elsewhere/bin/yds-trace" tasks=decode:16.667,audio:10 trace-report.txt
-	mv "$work/root/opt/elsewhere" "$work/root/opt/yds"
-	make -s -C "$here/.." uninstall BINARY="$work/program" -o build/libyds.so DESTDIR="$work/root" PREFIX=/opt/yds >"$work/log" 2>&1
-	find "$work/root" ! -type d >"$work/left"
-	find "$work/root" -name 'yds*' ! -path "$work/root/opt/yds" >>"$work/left"
+	mv "$work/stage/usr/yds" "$work/stage/usr/elsewhere"
+	same "install: a command, also where the folder was moved" 0 trace.txt "$work/stage/usr/elsewhere/bin/yds-trace" tasks=decode:16.667,audio:10 trace-report.txt
+	mv "$work/stage/usr/elsewhere" "$work/stage/usr/yds"
+	make -s -C "$here/.." uninstall BINARY="$work/program" -o build/libyds.so DESTDIR="$work/stage" PREFIX=/usr/yds >"$work/log" 2>&1
+	find "$work/stage" ! -type d >"$work/left"
+	find "$work/stage" -name 'yds*' ! -path "$work/stage/usr/yds" >>"$work/left"
 	same "uninstall: nothing is left" 0 - cat "$work/left"
 	for name in $(cat "$work/wanted"); do
 		if grep -q "$name" "$here/../docs/yds_cli.1"; then pass; else fail "the manual page doesn't name $name"; fi

@@ -9,17 +9,16 @@ use Rattle.yds_model.specs.Job.{Job, IsJob, job_at}
 use Rattle.yds_model.specs.Event.{event_points, stretches}
 use Rattle.yds_model.specs.Comparison.{stretch_at}
 use Rattle.yds_model.specs.Policy.{numbers_of}
-use Rattle.yds_model.specs.Admission.{lies_within, confined_work}
 use Rattle.yds_events.specs.Stretch.{no_stretch}
 use Rattle.yds_events.proofs.Times.{release_at, deadline_at, not_later}
 use Rattle.yds_events.proofs.Neighbours.{count_stretches, stretch_begins, stretch_ends}
 use Rattle.yds_edf.specs.Pending.{sum_below}
-use Rattle.yds_edf.specs.Demand.{capacity_at, confined_units, capacity_between, IsWithinCapacity}
-use Rattle.yds_edf.proofs.Sums.{sum_below_same, sum_below_front}
-use Rattle.yds_edf.proofs.Numbers.{sum_numbers}
+use Rattle.yds_edf.specs.Demand.{capacity_at, capacity_between, IsWithinCapacity}
+use Rattle.yds_edf.proofs.Sums.{sum_below_front}
 use Rattle.yds_laws.specs.AdmissionLaws.{HasRoom}
 use Rattle.yds_admit.specs.Serving.{top_units}
 use Rattle.yds_laws.proofs.Served.{room_from, confined_sum}
+use Rattle.yds_admit.proofs.Overfull.{jobs_work}
 
 -- a step from one event point to the next
 steps : (top next here begin from to : ℕ) → to ≡ next → from ≡ here → begin ≤ from →
@@ -84,20 +83,12 @@ module _ (top : ℕ) (jobs : List Job) (first last : ℕ) (first_known : first <
         sum_below_front end.0 (length (stretches jobs)) term (omega (arith, end.1, count_stretches jobs (omega arith))),
       )
 
--- the units confined between two times are the work
-confined_is : (jobs : List Job) (from to : ℕ) → confined_units jobs 1 from to ≡ confined_work jobs (numbers_of jobs) from to
-confined_is jobs from to =
-    sum_below_same (length jobs) (λ number. cond (lies_within jobs from to number) ((job_at jobs number).work * 1) 0)
-    (λ number. cond (lies_within jobs from to number) (job_at jobs number).work 0)
-    (λ number within. ap (λ (n : ℕ). cond (lies_within jobs from to number) n 0) (let once : (job_at jobs number).work * 1 ≡ (job_at jobs number).work = omega arith in once))
-    ∙ sym (sum_numbers (lies_within jobs from to) (λ number. (job_at jobs number).work) (length jobs))
-
--- so they can be served in time
+-- the jobs can be served in time
 pub within_capacity : (top : ℕ) (jobs : List Job) → All IsJob jobs → HasRoom top jobs →
     IsWithinCapacity jobs 1 (stretches jobs) (map (top_units top) (stretches jobs))
 within_capacity top jobs are room first last first_known last_known = omega (
   arith,
-  confined_is jobs (job_at jobs first).release (job_at jobs last).deadline,
+  jobs_work jobs (job_at jobs first).release (job_at jobs last).deadline,
   confined_sum jobs (numbers_of jobs) (job_at jobs first).release (job_at jobs last).deadline,
   room_from top jobs are room last last_known (job_at jobs last).deadline (job_at jobs first).release (omega arith),
   room_between top jobs first last first_known last_known,

@@ -8,6 +8,7 @@ use Rattle.std.proofs.lemmas.List.Elements.{All-from_get_or}
 use Rattle.std.proofs.Math.Nat.{le_of_mul-le-mul_right}
 use Rattle.yds_model.specs.Job.{Job, IsJob, no_job, job_at}
 use Rattle.yds_model.specs.Piece.{Piece}
+use Rattle.yds_model.specs.Confined.{window_is_within, work_within}
 use Rattle.yds_model.specs.Event.{event_points, stretches}
 use Rattle.yds_model.specs.AverageRate.{is_live, term_numerator, term_of, terms_of, average_rate_rounds, IsAverageRateRun}
 use Rattle.yds_model.specs.Slot.{WrittenSlot}
@@ -17,9 +18,10 @@ use Rattle.yds_events.specs.Stretch.{no_stretch, length_of, IsOutside}
 use Rattle.yds_events.proofs.Times.{not_later, deadline_at, release_at}
 use Rattle.yds_events.proofs.Neighbours.{count_stretches, stretch_begins, stretch_ends, stretch_forward, release_outside, deadline_outside}
 use Rattle.yds_edf.specs.Pending.{sum_below, units_wanted}
-use Rattle.yds_edf.specs.Demand.{capacity_at, confined_units, capacity_between, IsWithinCapacity}
+use Rattle.yds_edf.specs.Demand.{capacity_at, capacity_between, IsWithinCapacity}
 use Rattle.yds_edf.specs.Run.{IsPolicyRun}
 use Rattle.yds_edf.proofs.Capped.{set_run}
+use Rattle.yds_edf.proofs.Demand.{confined_is}
 use Rattle.yds_edf.proofs.Quotients.{up_enough}
 use Rattle.yds_edf.proofs.Sums.{sum_below_same, sum_below_at_most, sum_below_zero}
 use Rattle.yds_edf.proofs.Numbers.{sum_places, sum_below_swap, sum_below-mul}
@@ -124,7 +126,7 @@ live_from stretch job live = elim (cases_lt stretch.from job.release) [
 
 module _ (jobs : List Job) (grid : ℕ) (are : All IsJob jobs) (from to : ℕ) where
   abbrev confined : ℕ → Bool
-  confined j = nat_le from (job_at jobs j).release && nat_le (job_at jobs j).deadline to
+  confined j = window_is_within from to (job_at jobs j)
 
   abbrev between : ℕ → Bool
   between k = nat_le from (stretch_at jobs k).from && nat_le (stretch_at jobs k).to to
@@ -177,9 +179,10 @@ module _ (jobs : List Job) (grid : ℕ) (are : All IsJob jobs) (from to : ℕ) w
     at_most true n = omega arith
     at_most false n = omega arith
 
-  pub demand_within : confined_units jobs grid from to ≤ capacity_between (stretches jobs) (map (terms_of jobs grid) (stretches jobs)) from to
+  pub demand_within : grid * work_within jobs from to ≤ capacity_between (stretches jobs) (map (terms_of jobs grid) (stretches jobs)) from to
   demand_within = omega (
     arith,
+    confined_is jobs grid from to,
     sum_below_at_most (length jobs) (λ j. cond (confined j) (units_wanted jobs grid j) 0) (λ j. sum_below (length (stretches jobs)) (λ k. part k j))
         (λ j known. job_within j known),
     sum_below_swap (length (stretches jobs)) (length jobs) part,

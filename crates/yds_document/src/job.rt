@@ -119,7 +119,7 @@ fn add_new<'a>(draft: &mut Draft<'a>, name: &'a str, row: JobRow) -> Result<bool
     let jobs = draft.instance.rows().len() as u32;
     match draft.instance.add(name, row) {
         Ok(_) => {
-            draft.schedule.widen(jobs + 1)?;
+            draft.schedule.widen(jobs + 1);
             Ok(true)
         }
         Err(AddFault::Duplicate(_)) => Ok(false),
@@ -136,8 +136,8 @@ fn add<'a>(draft: &mut Draft<'a>, name: &'a str, row: JobRow) -> Result<(), Memo
     ensures takes { OnOk result (Takes draft.old draft.new (JobEntry name.entry.now row)) }
 {
     let jobs = draft.instance.rows().len() as u32;
-    draft.schedule.widen(jobs + 1)?;
     draft.instance.add_new(name, row)?;
+    draft.schedule.widen(jobs + 1);
     Ok(())
 }
 

@@ -3,23 +3,27 @@
 --
 -- The argument: the units that are left of the jobs due by a deadline are at most the capacity of the stretches that are left
 -- before it. A stretch either serves its whole capacity to them, or leaves none of them pending.
-use Rattle.std.proofs.Common.{◌≡◌, ◌≢◌, ℕ, zero, suc, ◌+◌, ◌-◌, ◌<◌, ◌≤◌, List, length, get_or, ◌∙◌, refl, sym, subst, arith, inl, inr, ap, cond}
+use Rattle.std.proofs.Common.{◌≡◌, ◌≢◌, ℕ, zero, suc, ◌+◌, ◌-◌, ◌*◌, ◌<◌, ◌≤◌, List, length, get_or, ◌∙◌, refl, sym, subst, arith, inl, inr, ap, cond}
 use Rattle.std.specs.Prelude.{◌==◌, ◌&&◌, nat_le, nat_lt, All}
+use Rattle.std.proofs.Math.Nat.{mul_comm}
 use Rattle.std.proofs.lemmas.Bool.{cases_lt, cases_order, cases_Bool, ltb-true, ltb-false, lt-leb, le-leb, eq-eqb, ne_eqb, eqb-true, true≢false}
 use Rattle.yds_model.specs.Numbers.{Each}
 use Rattle.yds_model.specs.Job.{Job, IsJob, no_job, job_at}
 use Rattle.yds_model.specs.Piece.{Piece, PiecesFrom}
+use Rattle.yds_model.specs.Confined.{window_is_within, work_within}
+use Rattle.yds_model.proofs.Confined.{part_within}
 use Rattle.yds_timetable.specs.Shares.{JobShare, units_given, shares_in, shares_before}
 use Rattle.yds_edf.specs.Pending.{sum_below, units_wanted}
 use Rattle.yds_edf.specs.Serving.{IsServing}
 use Rattle.yds_events.specs.Stretch.{no_stretch, nth_stretch}
 use Rattle.yds_events.proofs.InOrder.{has_length, starts_rise}
-use Rattle.yds_edf.specs.Demand.{capacity_at, confined_units, capacity_between, IsWithinCapacity, AreUncut}
+use Rattle.yds_edf.specs.Demand.{capacity_at, capacity_between, IsWithinCapacity, AreUncut}
 use Rattle.yds_edf.specs.Filled.{pending_at_start}
 use Rattle.yds_edf.proofs.Sums.{sum_below_same, sum_below_at_most, sum_below_zero, sum_below-add, sum_below_term, sum_below_change, sum_below_less, sum_by_grouped}
 use Rattle.yds_model.proofs.Sums.{sum_by_zero}
 use Rattle.yds_model.proofs.Filters.{found_or_none}
 use Rattle.yds_timetable.proofs.Places.{all_before, none_before}
+use Rattle.yds_edf.proofs.Numbers.{sum_below-mul, sum_places}
 use Rattle.yds_edf.proofs.Parts.{given_next, share_given}
 
 -- a term that counts where two orders hold
@@ -45,11 +49,29 @@ not_one c d x less = rw (lt-leb c d less) refl
 -- what a job adds to the demand between two times, and a stretch to the capacity
 abbrev pub confined_term : List Job → ℕ → ℕ → ℕ → ℕ → ℕ
 confined_term jobs grain from to number =
-    cond (nat_le from (job_at jobs number).release && nat_le (job_at jobs number).deadline to) (units_wanted jobs grain number) 0
+    cond (window_is_within from to (job_at jobs number)) (units_wanted jobs grain number) 0
 
 abbrev pub between_term : List Piece → List ℕ → ℕ → ℕ → ℕ → ℕ
 between_term stretches capacities from to k =
     cond (nat_le from (nth_stretch stretches k).from && nat_le (nth_stretch stretches k).to to) (capacity_at capacities k) 0
+
+-- the units of the jobs whose windows lie between two times
+abbrev pub confined_units : List Job → ℕ → ℕ → ℕ → ℕ
+confined_units jobs grain from to = sum_below (length jobs) (confined_term jobs grain from to)
+
+term_units : (grain from to : ℕ) (job : Job) → cond (window_is_within from to job) (job.work * grain) 0 ≡ grain * part_within from to job
+term_units grain from to job = elim (cases_Bool (window_is_within from to job)) [
+  | inl holds ↦ rw holds (mul_comm job.work grain)
+  | inr fails ↦ rw fails (omega arith)
+]
+
+-- they are so many to a unit of work
+pub confined_is : (jobs : List Job) (grain from to : ℕ) → confined_units jobs grain from to ≡ grain * work_within jobs from to
+confined_is jobs grain from to =
+    sum_below_same (length jobs) (confined_term jobs grain from to) (λ number. grain * part_within from to (job_at jobs number))
+    (λ number within. term_units grain from to (job_at jobs number))
+    ∙ sum_below-mul (length jobs) grain (λ number. part_within from to (job_at jobs number))
+    ∙ ap (λ n. grain * n) (sym (sum_places (part_within from to) jobs no_job))
 
 module _ (jobs : List Job) (grain : ℕ) (stretches : List Piece) (capacities : List ℕ) (are : All IsJob jobs)
     (enough : IsWithinCapacity jobs grain stretches capacities) (last : ℕ) (there : last < length jobs) where
@@ -59,9 +81,7 @@ module _ (jobs : List Job) (grain : ℕ) (stretches : List Piece) (capacities : 
       ≤ capacity_between stretches capacities from (job_at jobs last).deadline
   from_any zero from near =
       let nothing = sum_below_zero (length jobs)
-      (λ number.
-      cond (nat_le from (job_at jobs number).release && nat_le (job_at jobs number).deadline (job_at jobs last).deadline)
-      (units_wanted jobs grain number) 0)
+      (confined_term jobs grain from (job_at jobs last).deadline)
       (λ number within. elim (cases_lt (job_at jobs number).release from) [
         | inl before ↦ not_first from (job_at jobs number).release _ _ _ before
         | inr after ↦ not_second from (job_at jobs number).release (job_at jobs number).deadline (job_at jobs last).deadline _
@@ -72,11 +92,12 @@ module _ (jobs : List Job) (grain : ℕ) (stretches : List Piece) (capacities : 
     | inl found ↦
         subst (λ time. confined_units jobs grain time (job_at jobs last).deadline
         ≤ capacity_between stretches capacities time (job_at jobs last).deadline)
-        (eqb-true (job_at jobs found.0).release from found.2) (enough found.0 last found.1 there)
+        (eqb-true (job_at jobs found.0).release from found.2)
+        (omega (arith, confined_is jobs grain (job_at jobs found.0).release (job_at jobs last).deadline, enough found.0 last found.1 there))
     | inr none ↦
         let demand = sum_below_same (length jobs)
-        (λ number. confined_term jobs grain from (job_at jobs last).deadline number)
-        (λ number. confined_term jobs grain (suc from) (job_at jobs last).deadline number)
+        (confined_term jobs grain from (job_at jobs last).deadline)
+        (confined_term jobs grain (suc from) (job_at jobs last).deadline)
         (λ number within. elim (cases_order (job_at jobs number).release from) [
           | inl same ↦ absurd (true≢false (sym (eq-eqb (job_at jobs number).release from same) ∙ none number within))
           | inr (inl before) ↦ not_first from (job_at jobs number).release _ _ _ before

@@ -1,20 +1,15 @@
--- Demand and capacity: the units confined between two times, and the capacity of the stretches between them.
-use Rattle.std.specs.Prelude.{ℕ, ◌<◌, ◌≤◌, ◌&&◌, nat_le, if◌then◌else◌, List, length, All}
+-- Demand and capacity: the work of the jobs whose windows lie between two times, and the capacity of the stretches there.
+use Rattle.std.specs.Prelude.{ℕ, ◌*◌, ◌<◌, ◌≤◌, ◌&&◌, nat_le, if◌then◌else◌, List, length, All}
 use Rattle.std.specs.List.{slice_index_or}
 use Rattle.yds_model.specs.Job.{Job, job_at}
 use Rattle.yds_model.specs.Piece.{Piece}
+use Rattle.yds_model.specs.Confined.{work_within}
 use Rattle.yds_events.specs.Stretch.{nth_stretch, IsOutside}
-use Rattle.yds_edf.specs.Pending.{sum_below, units_wanted}
+use Rattle.yds_edf.specs.Pending.{sum_below}
 
 -- the stretch's capacity, by its number
 abbrev pub capacity_at : List ℕ → ℕ → ℕ
 capacity_at capacities i = slice_index_or capacities i 0
-
--- the units of the jobs that are released and due between two times
-abbrev pub confined_units : List Job → ℕ → ℕ → ℕ → ℕ
-confined_units jobs grain from to =
-    sum_below (length jobs) (λ number.
-    if nat_le from (job_at jobs number).release && nat_le (job_at jobs number).deadline to then units_wanted jobs grain number else 0)
 
 -- the capacity of the stretches that lie between two times
 abbrev pub capacity_between : List Piece → List ℕ → ℕ → ℕ → ℕ
@@ -22,11 +17,11 @@ capacity_between stretches capacities from to =
     sum_below (length stretches) (λ i.
     if nat_le from (nth_stretch stretches i).from && nat_le (nth_stretch stretches i).to to then capacity_at capacities i else 0)
 
--- between any release and any deadline the confined units are at most the capacity
+-- between any release and any deadline the units of the jobs whose windows lie there are at most the capacity
 abbrev pub IsWithinCapacity : List Job → ℕ → List Piece → List ℕ → Type 0
 IsWithinCapacity jobs grain stretches capacities =
     (first last : ℕ) → first < length jobs → last < length jobs →
-    confined_units jobs grain (job_at jobs first).release (job_at jobs last).deadline
+    grain * work_within jobs (job_at jobs first).release (job_at jobs last).deadline
     ≤ capacity_between stretches capacities (job_at jobs first).release (job_at jobs last).deadline
 
 -- no job is released or due strictly inside a stretch

@@ -13,12 +13,12 @@ use Rattle.std.proofs.lemmas.List.Sorted.{IsPermutation-map, All-permutation, Co
 use Rattle.std.proofs.lemmas.Map.Keys.{IsDistinct-from_apart, IsDistinct-IsPermutation, IsStrictlyIncreasing-from_distinct}
 use Rattle.std.proofs.lemmas.Simd.{map-map}
 use Rattle.yds_model.specs.Event.{rising_times}
-use Rattle.yds_events.specs.Keys.{key_of, time_of, number_of, AreKeys}
+use Rattle.yds_events.specs.Keys.{key_of, time_of_key, number_of_key, AreKeys}
 use Rattle.yds_events.proofs.Rising.{sorted_times}
 
 -- a key has its time and its number
 pub key_is : (time number : ℕ) → number < 4294967296 →
-    (time_of (time * 4294967296 + number) ≡ time) × (number_of (time * 4294967296 + number) ≡ number)
+    (time_of_key (time * 4294967296 + number) ≡ time) × (number_of_key (time * 4294967296 + number) ≡ number)
 key_is time number small = (omega arith, omega arith)
 
 not_less : (x y : ℕ) → x ≤ y → is_lt (nat_cmp y x) ≡ false
@@ -26,8 +26,8 @@ not_less x y most = grind (arith, nat_tests)
 
 -- the key's number is that of its time
 pub record IsKey (times : List ℕ) (key : ℕ) : Type 0 where
-  pub known : number_of key < length times
-  pub same : time_of key ≡ get_or times (number_of key) 0
+  pub known : number_of_key key < length times
+  pub same : time_of_key key ≡ get_or times (number_of_key key) 0
 
 module _ (times keys : List ℕ) (are : AreKeys times keys) where
   -- the keys in order of number
@@ -69,14 +69,14 @@ module _ (times keys : List ℕ) (are : AreKeys times keys) where
       )))))
 
   -- their times are the times in order
-  pub rising_keys : dedup (λ x y. x == y) (map time_of keys) ≡ rising_times times
+  pub rising_keys : dedup (λ x y. x == y) (map time_of_key keys) ≡ rising_times times
   rising_keys =
-      let back : map time_of numbered ≡ times = map-map time_of (key_of times) (range_with_len 0 (length times))
-      ∙ sym (fill_by_all (λ k. time_of (key_of times k)) times (length times) 0 (omega arith)
+      let back : map time_of_key numbered ≡ times = map-map time_of_key (key_of times) (range_with_len 0 (length times))
+      ∙ sym (fill_by_all (λ k. time_of_key (key_of times k)) times (length times) 0 (omega arith)
       (λ k below. sym (key_is (get_or times k 0) k (omega (arith, are.few))).0)) in
-      sorted_times times (map time_of keys)
-      (subst (λ (xs : List ℕ). IsPermutation xs (map time_of keys)) back (IsPermutation-map time_of numbered keys are.once))
+      sorted_times times (map time_of_key keys)
+      (subst (λ (xs : List ℕ). IsPermutation xs (map time_of_key keys)) back (IsPermutation-map time_of_key numbered keys are.once))
       (λ k d low within.
-      let inside : k + 1 < length keys = omega (arith, within, length-map keys time_of) in
-      rw (get_or-map time_of keys k 0 d (omega arith), get_or-map time_of keys (k + 1) 0 d inside)
-      (not_less (time_of (get_or keys k 0)) (time_of (get_or keys (k + 1) 0)) (omega (arith, are.rising k (k + 1) 0 (omega arith) inside))))
+      let inside : k + 1 < length keys = omega (arith, within, length-map keys time_of_key) in
+      rw (get_or-map time_of_key keys k 0 d (omega arith), get_or-map time_of_key keys (k + 1) 0 d inside)
+      (not_less (time_of_key (get_or keys k 0)) (time_of_key (get_or keys (k + 1) 0)) (omega (arith, are.rising k (k + 1) 0 (omega arith) inside))))

@@ -13,11 +13,11 @@ ends_of jobs = flat_map (λ job. job.release ∷ job.deadline ∷ []) jobs
 abbrev pub key_of : List ℕ → ℕ → ℕ
 key_of times number = slice_index times number * 4294967296 + number
 
-abbrev pub time_of : ℕ → ℕ
-time_of key = key / 4294967296
+abbrev pub time_of_key : ℕ → ℕ
+time_of_key key = key / 4294967296
 
-abbrev pub number_of : ℕ → ℕ
-number_of key = key % 4294967296
+abbrev pub number_of_key : ℕ → ℕ
+number_of_key key = key % 4294967296
 
 -- the keys of all times, sorted
 pub record AreKeys (times keys : List ℕ) : Type 0 where
@@ -30,8 +30,8 @@ abbrev pub ends_with : List ℕ → ℕ → Bool
 ends_with times time = nat_lt 0 (length times) && (time == slice_index times (length times - 1))
 
 -- a time more, unless it is the last
-abbrev pub with_last : List ℕ → ℕ → List ℕ
-with_last times time = cond (ends_with times time) times (times ++ time ∷ [])
+abbrev pub with_end : List ℕ → ℕ → List ℕ
+with_end times time = cond (ends_with times time) times (times ++ time ∷ [])
 
 -- the time stands at the place
 pub record IsAt (times : List ℕ) (time place : ℕ) : Type 0 where
@@ -51,5 +51,5 @@ window_from places job = record { first = slice_index places (2 * job); end = sl
 abbrev pub is_deadline : ℕ → Bool
 is_deadline key = key % 2 == 1
 
-abbrev pub job_of : ℕ → ℕ
-job_of key = key % 4294967296 / 2
+abbrev pub job_of_key : ℕ → ℕ
+job_of_key key = key % 4294967296 / 2

@@ -2,7 +2,7 @@ ghost use Rattle.std.specs.Prelude.{◌≡◌, ℕ, ◌<◌, ◌≤◌, ◌/◌,
 ghost use Rattle.std.specs.List.{filter, range_with_len};
 ghost use Rattle.yds_model.specs.declared.limits.TheConstants.{MAX_JOBS};
 ghost use Rattle.yds_model.specs.Event.{rising_times};
-ghost use Rattle.yds_events.specs.Keys.{AreKeys, ArePlaces, time_of, number_of, job_of, with_last, window_from, is_deadline};
+ghost use Rattle.yds_events.specs.Keys.{AreKeys, ArePlaces, time_of_key, number_of_key, job_of_key, with_end, window_from, is_deadline};
 ghost use Rattle.yds_events.specs.Timeline.{IsTimeline};
 
 use crate::event_points::ends;
@@ -57,14 +57,14 @@ fn sorted_keys(alloc: Global, times: &[u32]) -> Result<Vec<u64>, Memory>
 
 /// The time of a key.
 fn time(key: u64) -> u32
-    ensures { result ≡ time_of key }
+    ensures { result ≡ time_of_key key }
 {
     (key / NUMBERS) as u32
 }
 
 /// The number that its time has.
 fn number(key: u64) -> u32
-    ensures { result ≡ number_of key }
+    ensures { result ≡ number_of_key key }
 {
     (key % NUMBERS) as u32
 }
@@ -86,7 +86,7 @@ fn cut(alloc: Global, keys: &[u64]) -> Result<(Vec<u32>, Vec<u32>), Memory>
 
 /// Adds a time behind the others, unless it is the last of them.
 fn add_last(times: &mut Vec<u32>, time: u32) -> Result<(), Memory>
-    ensures { OnOk result (times.new.items ≡ with_last times.old.items time) }
+    ensures { OnOk result (times.new.items ≡ with_end times.old.items time) }
 {
     let count = times.len();
     if count == 0 || times[count - 1] != time {
@@ -111,7 +111,7 @@ fn windows_from(alloc: Global, places: &[u32]) -> Result<Vec<Window>, Memory>
 
 /// The jobs whose deadlines the keys have, in their order.
 fn deadline_order(alloc: Global, keys: &[u64]) -> Result<Vec<u32>, Memory>
-    ensures { IfOk result (λ order. order.items ≡ map job_of (filter is_deadline keys.now)) }
+    ensures { IfOk result (λ order. order.items ≡ map job_of_key (filter is_deadline keys.now)) }
 {
     let mut order = vec![in alloc; 0; keys.len()]?;
     let mut count = 0;

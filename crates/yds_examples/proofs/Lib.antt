@@ -26,3 +26,5 @@ pub mod ComparisonExamples
 mod WorthExamples
 mod ComparedExamples
 mod UnevenExamples
+mod TimelineExamples
+mod TimetableExamples

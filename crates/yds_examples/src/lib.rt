@@ -2,5 +2,6 @@
 //! and a near miss that doesn't. They are proved in `proofs/`, and nothing stands on this crate.
 //! What computes is tried by a test, which `hlevel` puts together from the parts of the statement (`proofs/Tests.antt`).
 //!
-//! It stands on `yds_model`, whose definitions it tries, and on the crates of laws for those that the laws alone have.
+//! It stands on `yds_model`, whose definitions it tries, on the crates of laws for those that the laws alone have, and on `yds_events`,
+//! `yds_timetable` and `yds_plan` for what they say of timelines and timetables.
 #![tactic(auto)]

@@ -10,7 +10,7 @@ use Rattle.std.proofs.lemmas.Str.Parse.{digit_from_value}
 use Rattle.std.proofs.lemmas.Str.Ascii.{IsAscii-nil, IsAscii-cons}
 use Rattle.std.proofs.lemmas.List.Elements.{All-nil, All-cons, All-weaker}
 use Rattle.yds_model.specs.Lines.{is_blank}
-use Rattle.yds_model.specs.Spelling.{is_digit, is_number, number_at, is_name}
+use Rattle.yds_model.specs.Spelling.{is_digit, is_number, number_at, is_visible, is_name}
 
 -- more digits make no number smaller
 pub digits_value_after-le : (value : ℕ) (digits : List ℕ) → value ≤ digits_value_after 10 value digits
@@ -18,10 +18,10 @@ digits_value_after-le value [] = omega arith
 digits_value_after-le value (digit ∷ digits) = omega (arith, digits_value_after-le (value * 10 + digit_value digit) digits)
 
 -- visible bytes are ASCII
-visible_ascii : (text : List ℕ) → list_all (λ byte. nat_le 33 byte && nat_le byte 126) text ≡ true → IsAscii text
+visible_ascii : (text : List ℕ) → list_all is_visible text ≡ true → IsAscii text
 visible_ascii [] visible = IsAscii-nil
 visible_ascii (byte ∷ text) visible =
-    let parts = and_parts (nat_le 33 byte && nat_le byte 126) (list_all (λ byte. nat_le 33 byte && nat_le byte 126) text) visible in
+    let parts = and_parts (is_visible byte) (list_all is_visible text) visible in
     let high : byte ≤ 126 = leb-true byte 126 (and_parts (nat_le 33 byte) (nat_le byte 126) parts.0).1 in
     IsAscii-cons byte text (omega arith) (visible_ascii text parts.1)
 

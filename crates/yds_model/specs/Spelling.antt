@@ -55,6 +55,10 @@ fraction_at most text =
     if is_number text then kept most (of_whole (digits_value 10 text))
     else (if is_mixed text then kept most (mixed_of text) else Err BadNumber)
 
+-- a visible ASCII character
+abbrev pub is_visible : ℕ → Bool
+is_visible byte = nat_le 33 byte && nat_le byte 126
+
 -- 1 to 64 bytes, each a visible ASCII character
 abbrev pub is_name : List ℕ → Bool
-is_name text = nat_le 1 (length text) && nat_le (length text) MAX_NAME && list_all (λ byte. nat_le 33 byte && nat_le byte 126) text
+is_name text = nat_le 1 (length text) && nat_le (length text) MAX_NAME && list_all is_visible text

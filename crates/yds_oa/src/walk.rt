@@ -23,8 +23,7 @@ pub(crate) struct Walk {
 /// The greatest quotient of the pending units that are due after this time and by a deadline, and the time until then; no
 /// units where there are no such deadlines. It looks first at the place that is expected to have it, and passes over
 /// blocks of places where even all units that are due by the end of a block, at its first deadline, give no greater one, eight
-/// blocks at once where it can. Behind
-/// the last pending unit no deadline has a greater one.
+/// blocks at once where it can. Behind the last pending unit no deadline has a greater one.
 pub(crate) fn greatest_quotient(jobs: &PendingJobs, from: u32, expected: usize) -> Quotient
     requires { AreInOrder jobs.now }
     ensures { IsGreatestOf jobs.now from result }

@@ -27,7 +27,7 @@ use Rattle.yds_events.specs.Order.{Precedes, IsOrder}
 use Rattle.yds_search.specs.Own.{Part, stretch_numbers}
 use Rattle.yds_search.specs.Instance.{IsInstance}
 use Rattle.yds_search.specs.Stack.{size_of, jobs_of, own_stretches_of}
-use Rattle.yds_search.specs.Beginning.{IsReached, AreFarthest, greatest, is_reached, reached_before, first_job, first_jobs, first_stretch, first_stretches}
+use Rattle.yds_search.specs.Beginning.{IsReached, AreFarthest, greatest_end, is_reached, reached_before, first_job, first_jobs, first_stretch, first_stretches}
 use Rattle.yds_search.specs.Waiting.{HasOne, HasJob, HasStretch, IsOwnJob, IsOwnStretch, IsWaiting, IsBefore, AreWaiting}
 use Rattle.yds_search.specs.Search.{MayTake, IsFinished, IsLed, IsSearch}
 use Rattle.yds_search.specs.Searching.{IsBegun, nothing_found}
@@ -39,30 +39,30 @@ use Rattle.yds_search.proofs.Marked.{places_meet}
 
 -- # Reached stretches
 
-greatest_most : (ends : List ℕ) (i : ℕ) → i < length ends → get_or ends i 0 ≤ greatest ends
+greatest_most : (ends : List ℕ) (i : ℕ) → i < length ends → get_or ends i 0 ≤ greatest_end ends
 greatest_most [] i within = absurd (omega arith)
 greatest_most (end ∷ ends) zero within = omega arith
 greatest_most (end ∷ ends) (suc i) within = omega (arith, greatest_most ends i (omega arith))
 
-greatest_one : (ends : List ℕ) → 1 ≤ greatest ends → (i : ℕ) × (i < length ends) × (get_or ends i 0 ≡ greatest ends)
+greatest_one : (ends : List ℕ) → 1 ≤ greatest_end ends → (i : ℕ) × (i < length ends) × (get_or ends i 0 ≡ greatest_end ends)
 greatest_one [] some = absurd (omega arith)
-greatest_one (end ∷ ends) some = elim (cases_lt end (greatest ends)) [
+greatest_one (end ∷ ends) some = elim (cases_lt end (greatest_end ends)) [
   | inl less ↦ let one = greatest_one ends (omega arith) in (suc one.0, omega (arith, one.1), omega (arith, one.2, less))
   | inr more ↦ (0, omega arith, omega (arith, more))
 ]
 
-greatest_push : (ends : List ℕ) (end : ℕ) → greatest (ends ++ end ∷ []) ≡ max (greatest ends) end
+greatest_push : (ends : List ℕ) (end : ℕ) → greatest_end (ends ++ end ∷ []) ≡ max (greatest_end ends) end
 greatest_push [] end = omega arith
 greatest_push (first ∷ ends) end = omega (arith, greatest_push ends end)
 
-pub greatest_more : (ends : List ℕ) (k : ℕ) → k < length ends → greatest (take (k + 1) ends) ≡ max (greatest (take k ends)) (get_or ends k 0)
-greatest_more ends k within = ap greatest (take_more ends k 0 within) ∙ greatest_push (take k ends) (get_or ends k 0)
+pub greatest_more : (ends : List ℕ) (k : ℕ) → k < length ends → greatest_end (take (k + 1) ends) ≡ max (greatest_end (take k ends)) (get_or ends k 0)
+greatest_more ends k within = ap greatest_end (take_more ends k 0 within) ∙ greatest_push (take k ends) (get_or ends k 0)
 
 -- the test tells them
 reaches : (ends : List ℕ) (k : ℕ) → IsReached ends k → is_reached ends k ≡ true
 reaches ends k reached = elim (cases_lt reached.0 (length ends)) [
   | inr past ↦ absurd (omega (arith, reached.2, get_or_past ends reached.0 0 past))
-  | inl within ↦ lt-ltb k (greatest (take (k + 1) ends)) (omega (
+  | inl within ↦ lt-ltb k (greatest_end (take (k + 1) ends)) (omega (
     arith,
     reached.2,
     get_or-take (k + 1) ends reached.0 0 (omega (arith, reached.1)),
@@ -72,7 +72,7 @@ reaches ends k reached = elim (cases_lt reached.0 (length ends)) [
 
 reached_by : (ends : List ℕ) (k : ℕ) → is_reached ends k ≡ true → IsReached ends k
 reached_by ends k passes =
-    let far = ltb-true k (greatest (take (k + 1) ends)) passes in
+    let far = ltb-true k (greatest_end (take (k + 1) ends)) passes in
     let one = greatest_one (take (k + 1) ends) (omega (arith, far)) in
     let before : one.0 < k + 1 = omega (arith, one.1, length-take (k + 1) ends) in
     (one.0, omega (arith, before), omega (arith, far, one.2, get_or-take (k + 1) ends one.0 0 before))

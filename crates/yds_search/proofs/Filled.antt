@@ -25,7 +25,7 @@ use Rattle.yds_search.specs.Fill.{IsNotAfter, IsFill}
 use Rattle.yds_search.specs.Instance.{IsInstance}
 use Rattle.yds_search.specs.Waiting.{HasJob, HasStretch, IsWaiting}
 use Rattle.yds_search.specs.Search.{IsEarly, IsLaidOut}
-use Rattle.yds_search.proofs.KeySums.{over, over_same, over_add, over_list, over_one, over_zero, sums_swap}
+use Rattle.yds_search.proofs.KeySums.{over, over_same, over_add, sum_of_all, over_one, over_zero, sums_swap}
 use Rattle.yds_search.proofs.Lowest.{lowest}
 use Rattle.yds_search.proofs.Members.{AreApart, one_at, at_one, over_alone, same_place, all_pairs_map}
 use Rattle.yds_search.proofs.Shares.{units_between, over_stretches, over_jobs}
@@ -54,8 +54,8 @@ left_over : {X : Type 0} (f g : X → ℕ) (xs : List X) (d : X) (left : List �
     sum_by f xs + over (length xs) (λ i. get_or left i 0) ≡ sum_by g xs
 left_over f g xs d left each = omega (
   arith,
-  over_list f xs d,
-  over_list g xs d,
+  sum_of_all f xs d,
+  sum_of_all g xs d,
   over_add (λ i. f (get_or xs i d)) (λ i. get_or left i 0) (length xs),
   over_same (λ i. f (get_or xs i d) + get_or left i 0) (λ i. g (get_or xs i d)) (length xs) each,
 )
@@ -238,7 +238,7 @@ module _ (jobs : List Job) (windows : List Window) (found : Found) (part : Part)
               )));
           full = All-from_get_or (λ own. units_in_stretch shares own.stretch ≡ per_time group * own.length) part.stretches no_own_stretch (λ p upto.
               sum_by-map give (λ share. if share.stretch == (stretch_in p).stretch then share.units else 0) part.stretches
-              ∙ sym (over_list (λ own. if own.stretch == (stretch_in p).stretch then per_time group * own.length else 0) part.stretches no_own_stretch)
+              ∙ sym (sum_of_all (λ own. if own.stretch == (stretch_in p).stretch then per_time group * own.length else 0) part.stretches no_own_stretch)
               ∙ over_same (λ i. if (stretch_in i).stretch == (stretch_in p).stretch then units i else 0) (λ i. if p == i then units p else 0) (length part.stretches) (λ i within.
               elim (cases_eq i p) [
                 | inl same ↦ part_own (stretch_in i).stretch (stretch_in p).stretch (units i) (ap (λ k. (stretch_in k).stretch) same) ∙ ap units same ∙ sym (part_own p i (units p) (sym same))

@@ -4,11 +4,10 @@ use Rattle.std.specs.Prelude.{cond, nat_lt}
 use Rattle.std.specs.List.{All, sum_by, filter, flat_map, range_with_len}
 use Rattle.std.proofs.lemmas.Bool.{cases_eq, cases_lt, ne_eqb, eq-eqb, lt-ltb, le-ltb}
 use Rattle.std.proofs.lemmas.List.Sums.{sum_by-cons, sum_by-append, sum_by_push, sum_by_more, sum_by-le-sum_by}
-use Rattle.std.proofs.lemmas.List.{map-id, take_all, same_lists, get_or_default}
-use Rattle.std.proofs.lemmas.List.FromFn.{get_or-range_with_len, length-range_with_len, map-range_with_len_more, length-map-range_with_len, get_or-map-range_with_len}
+use Rattle.std.proofs.lemmas.List.{map-id, take_all}
+use Rattle.std.proofs.lemmas.List.FromFn.{get_or-range_with_len, length-range_with_len, map-range_with_len_more}
 use Rattle.yds_model.proofs.Sums.{sum_by-add, sum_by_same, sum_by_zero}
 use Rattle.yds_model.proofs.Filters.{sum_by-filter}
-use Rattle.std.proofs.lemmas.List.Folds.{fold-map}
 
 pub sum_by-flat_map : {X Y : Type 0} (g : X → List Y) (f : Y → ℕ) (xs : List X) → sum_by f (flat_map g xs) ≡ sum_by (λ x. sum_by f (g x)) xs
 sum_by-flat_map g f [] = refl
@@ -106,16 +105,6 @@ sum_of_first f xs d (suc i) within =
 pub sum_of_all : {X : Type 0} (f : X → ℕ) (xs : List X) (d : X) → sum_by (λ k. f (get_or xs k d)) (range_with_len 0 (length xs)) ≡ sum_by f xs
 sum_of_all f xs d = sum_of_first f xs d (length xs) (omega arith) ∙ ap (sum_by f) (take_all (length xs) xs (omega arith))
 
--- the terms before a place and the one at it are within all
-pub range_within : (f : ℕ → ℕ) (n k : ℕ) → k < n → sum_by f (range_with_len 0 k) + f k ≤ sum_by f (range_with_len 0 n)
-range_within f zero k below = absurd (omega arith)
-range_within f (suc n) k below =
-    let last = ap (sum_by f) (ap (range_with_len 0) (sym (add-one n)) ∙ range_more n) ∙ sum_by_push f (range_with_len 0 n) n in
-    elim (cases_lt k n) [
-      | inl before ↦ omega (arith, range_within f n k before, last)
-      | inr here ↦ let same : k ≡ n = omega arith in rw same (omega (arith, last))
-    ]
-
 -- the sum of f over the numbers below n
 abbrev pub over : ℕ → (ℕ → ℕ) → ℕ
 over n f = sum_by f (range_with_len 0 n)
@@ -151,17 +140,4 @@ over_some f (suc n) some = elim (cases_lt 0 (f n)) [
 ]
 
 pub over_add : (f g : ℕ → ℕ) (n : ℕ) → over n (λ k. f k + g k) ≡ over n f + over n g
-over_add f g zero = refl
-over_add f g (suc n) = omega (arith, over_more (λ k. f k + g k) n, over_more f n, over_more g n, over_add f g n)
-
--- the places of a list read one by one
-list_place : {X : Type 0} (xs : List X) (d : X) (k : ℕ) → k < length (map (λ n. get_or xs n d) (range_with_len 0 (length xs))) → k < length xs
-list_place xs d k within = omega (arith, within, length-map-range_with_len (λ n. get_or xs n d) 0 (length xs))
-
--- the sum over a list's places is that over the list
-pub over_list : {X : Type 0} (f : X → ℕ) (xs : List X) (d : X) → over (length xs) (λ k. f (get_or xs k d)) ≡ sum_by f xs
-over_list f xs d =
-    sym (fold-map (λ a x. a + f x) (λ k. get_or xs k d) 0 (range_with_len 0 (length xs)))
-    ∙ ap (sum_by f) (same_lists (map (λ k. get_or xs k d) (range_with_len 0 (length xs))) xs (length-map-range_with_len (λ k. get_or xs k d) 0 (length xs))
-    (λ k e within. get_or-map-range_with_len (λ n. get_or xs n d) 0 (length xs) k k e (list_place xs d k within) (omega arith)
-    ∙ get_or_default xs k d e (list_place xs d k within)))
+over_add f g n = sum_by-add f g (range_with_len 0 n)

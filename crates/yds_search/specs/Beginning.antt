@@ -21,13 +21,13 @@ abbrev pub IsReached : List ℕ → ℕ → Type 0
 IsReached ends k = (i : ℕ) × (i ≤ k) × (k < slice_index ends i)
 
 -- the greatest of some ends
-abbrev pub greatest : List ℕ → ℕ
-greatest [] = 0
-greatest (end ∷ ends) = max end (greatest ends)
+abbrev pub greatest_end : List ℕ → ℕ
+greatest_end [] = 0
+greatest_end (end ∷ ends) = max end (greatest_end ends)
 
 -- the same as a test
 abbrev pub is_reached : List ℕ → ℕ → Bool
-is_reached ends k = nat_lt k (greatest (take (k + 1) ends))
+is_reached ends k = nat_lt k (greatest_end (take (k + 1) ends))
 
 -- how many of the stretches before this number lie in such a window
 abbrev pub reached_before : List ℕ → ℕ → ℕ

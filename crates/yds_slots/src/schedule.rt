@@ -104,14 +104,12 @@ impl Schedule {
         Ok(schedule)
     }
 
-    /// Raises the number of jobs. The slots stay. It takes no memory.
-    pub fn widen(&mut self, jobs: u32) -> Result<(), Memory>
+    /// Raises the number of jobs. The slots stay.
+    pub fn widen(&mut self, jobs: u32)
         requires { self.old.jobs ≤ jobs }
-        ensures ok { OnOk result (self.new ≡ record { jobs = jobs; slots = self.old.slots }) }
-        ensures err { OnErr result (self.new ≡ self.old) }
+        ensures { self.new ≡ record { jobs = jobs; slots = self.old.slots } }
     {
         self.jobs = jobs;
-        Ok(())
     }
 
     /// Puts the slot last.

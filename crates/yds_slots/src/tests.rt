@@ -63,7 +63,7 @@ fn works_of_a_job_in_thirds(rt: HostRuntime) -> Result<(), Fail> {
         to: Moment::from_whole(4),
         work: Amount::from_whole(1),
     })?;
-    schedule.widen(2)?;
+    schedule.widen(2);
     assert_eq!(rt; schedule.slots().len(), 2);
     assert_eq!(rt; (schedule.grain(0), schedule.grain(1)), (3, 1));
     assert!(rt; schedule.given(0) == Amount::new(1, 2, 3));

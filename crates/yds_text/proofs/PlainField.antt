@@ -11,11 +11,11 @@ use Rattle.yds_fraction.specs.Mixed.{fraction_of}
 use Rattle.yds_model.specs.declared.limits.TheConstants.{MAX_DENOMINATOR, MAX_NAME}
 use Rattle.yds_model.specs.Lines.{is_blank, fields_from}
 use Rattle.yds_model.specs.Scale.{Fraction}
-use Rattle.yds_model.specs.Spelling.{is_digit, is_number, is_name, number_at, fraction_at, kept}
+use Rattle.yds_model.specs.Spelling.{is_digit, is_number, is_visible, is_name, number_at, fraction_at, kept}
 use Rattle.yds_model.proofs.Lines.{EndsField, fields_from-run}
 use Rattle.yds_model.proofs.Spelling.{number_digits, digit_range}
 use Rattle.yds_text.specs.Parts.{fraction_after, fraction_of_parts}
-use Rattle.yds_text.specs.Plain.{BeginsNumber, BeginsPlainly, ReadsText, ends_field, is_visible}
+use Rattle.yds_text.specs.Plain.{BeginsNumber, BeginsPlainly, ReadsText, ends_field}
 use Rattle.yds_text.proofs.Digits.{Told, is_told, front_passes, front_all}
 use Rattle.yds_text.proofs.Fractions.{whole_fraction, plus_fraction, slash_fraction, parts_told}
 

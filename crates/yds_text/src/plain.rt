@@ -2,9 +2,9 @@
 ghost use Rattle.std.specs.Prelude.{◌≡◌, ◌<◌, ◌≤◌, ◌∷◌, length, Ok, IfSome, IsTrue};
 ghost use Rattle.std.specs.List.{prefix_len};
 ghost use Rattle.yds_model.specs.declared.limits.TheConstants.{MAX_DENOMINATOR};
-ghost use Rattle.yds_model.specs.Spelling.{number_at, fraction_at, is_name};
+ghost use Rattle.yds_model.specs.Spelling.{number_at, fraction_at, is_visible, is_name};
 ghost use Rattle.yds_fraction.specs.Mixed.{fraction_of};
-ghost use Rattle.yds_text.specs.Plain.{BeginsNumber, BeginsPlainly, ends_field, is_visible};
+ghost use Rattle.yds_text.specs.Plain.{BeginsNumber, BeginsPlainly, ends_field};
 
 use crate::field::is_blank;
 use crate::spelling::{SHORT, few_digits, may_be_number};

@@ -3,7 +3,7 @@ ghost use Rattle.std.specs.Prelude.{◌≡◌, ◌+◌, ◌*◌, ◌^◌, ◌≤
 ghost use Rattle.std.specs.Char.{digit_value};
 ghost use Rattle.std.specs.List.{list_all, prefix_len};
 ghost use Rattle.std.specs.Str.Parse.{digits_value};
-ghost use Rattle.yds_model.specs.Spelling.{number_at, is_digit, is_number, is_name};
+ghost use Rattle.yds_model.specs.Spelling.{number_at, is_digit, is_number, is_visible, is_name};
 
 use crate::field::Field;
 use std::str;
@@ -166,7 +166,7 @@ fn is_name(text: &[u8]) -> bool
 }
 
 fn are_visible(text: &[u8]) -> bool
-    ensures { result ≡ list_all (λ byte. nat_le 33 byte && nat_le byte 126) text.now }
+    ensures { result ≡ list_all is_visible text.now }
 {
     text.iter().all(|byte| byte.is_ascii_graphic())
 }

@@ -18,11 +18,9 @@ use Rattle.yds_events.specs.Window.{length_at}
 use Rattle.yds_events.proofs.Neighbours.{stretch_order}
 use Rattle.yds_search.proofs.KeySums.{All-range}
 use Rattle.yds_edf.specs.Pending.{sum_below}
-use Rattle.yds_edf.specs.Demand.{capacity_at, confined_units, capacity_between, IsWithinCapacity, AreUncut}
+use Rattle.yds_edf.specs.Demand.{capacity_at, capacity_between, IsWithinCapacity, AreUncut}
 use Rattle.yds_edf.proofs.Sums.{sum_below_same, sum_below_at_most}
 use Rattle.yds_edf.proofs.Numbers.{sum_below-mul, sum_places, sum_numbers}
-use Rattle.yds_model.specs.Confined.{window_is_within, work_within}
-use Rattle.yds_model.proofs.Confined.{part_within}
 use Rattle.yds_critical.specs.declared.interval.Interval.{Interval}
 use Rattle.yds_critical.proofs.Shrinking.{nothing_within}
 use Rattle.yds_contract.specs.Contracted.{AreApartFrom, place}
@@ -147,21 +145,6 @@ module _ (jobs : List Job) (removed : List Piece) (apart : AreApartFrom 0 remove
           served_is,
         )
 
--- what a job adds to the confined units
-units_of : (grain from to : ℕ) (job : Job) → cond (window_is_within from to job) (job.work * grain) 0 ≡ grain * part_within from to job
-units_of grain from to job = elim (cases_Bool (window_is_within from to job)) [
-  | inl holds ↦ rw holds (mul_comm job.work grain)
-  | inr fails ↦ rw fails (omega arith)
-]
-
--- the units confined between two times are the work, so many to a unit of work
-pub confined_is : (jobs : List Job) (grain from to : ℕ) → confined_units jobs grain from to ≡ grain * work_within jobs from to
-confined_is jobs grain from to =
-    sum_below_same (length jobs) (λ number. cond (window_is_within from to (job_at jobs number)) ((job_at jobs number).work * grain) 0)
-    (λ number. grain * part_within from to (job_at jobs number)) (λ number within. units_of grain from to (job_at jobs number))
-    ∙ sum_below-mul (length jobs) grain (λ number. part_within from to (job_at jobs number))
-    ∙ ap (λ n. grain * n) (sym (sum_places (part_within from to) jobs no_job))
-
 -- so the stretches of an interval can serve the jobs inside it
 pub demand_left : (jobs : List Job) (removed : List Piece) (interval : Interval) (members : List ℕ) (speed : Quotient) → AreApartFrom 0 removed →
     AreWhole (stretches jobs) removed → All (CanWait jobs removed) members → All (λ number. lies_in jobs removed interval number ≡ true) members →
@@ -183,10 +166,9 @@ demand_left jobs removed interval members speed apart whole can lie fast first l
     elim (cases_lt from to) [
       | inl forward ↦ omega (
         arith,
-        confined_is own speed.den from to,
         fast from to forward,
         room_between jobs removed apart speed interval (record { start = from; end = to; work = 0 }) (get_or members first 0) (get_or members last 0)
             (can first 0 one).known (can last 0 other).known whole from_is to_is (omega (arith, begins, from_is)) (omega (arith, ends, to_is)),
       )
-      | inr empty ↦ omega (arith, confined_is own speed.den from to, ap (λ n. speed.den * n) (nothing_within own from to (are_jobs jobs removed members can) empty))
+      | inr empty ↦ omega (arith, ap (λ n. speed.den * n) (nothing_within own from to (are_jobs jobs removed members can) empty))
     ]

@@ -10,7 +10,7 @@ use Rattle.std.proofs.lemmas.List.{length-append}
 use Rattle.std.proofs.lemmas.List.Elements.{All-nil, All-cons, All-head, All-tail, All-weaker, All-append}
 use Rattle.yds_model.specs.declared.limits.TheConstants.{MAX_DENOMINATOR}
 use Rattle.yds_model.specs.Scale.{Fraction, of_whole}
-use Rattle.yds_model.specs.Spelling.{is_digit, is_number, is_plus, is_slash, kept, fraction_at, is_name}
+use Rattle.yds_model.specs.Spelling.{is_digit, is_number, is_plus, is_slash, kept, fraction_at, is_visible, is_name}
 use Rattle.yds_model.specs.Text.{fraction_text}
 use Rattle.yds_model.specs.Within.{IsFraction}
 use Rattle.yds_model.proofs.Spelling.{decimal_digits, decimal_none, digit_range, number_digits, is_number-decimal, digits_value-decimal}
@@ -30,10 +30,10 @@ decimal_word n small = record {
     high byte digit = let range = digit_range byte digit in omega (arith, range.0)
 
 -- bytes that pass the test of it are visible
-visible_bytes : (text : List ℕ) → list_all (λ byte. nat_le 33 byte && nat_le byte 126) text ≡ true → All (λ byte. 33 ≤ byte) text
+visible_bytes : (text : List ℕ) → list_all is_visible text ≡ true → All (λ byte. 33 ≤ byte) text
 visible_bytes [] visible = All-nil (λ byte. 33 ≤ byte)
 visible_bytes (byte ∷ text) visible =
-    let parts = and_parts (nat_le 33 byte && nat_le byte 126) (list_all (λ byte. nat_le 33 byte && nat_le byte 126) text) visible in
+    let parts = and_parts (is_visible byte) (list_all is_visible text) visible in
     All-cons (λ byte. 33 ≤ byte) byte text (leb-true 33 byte (and_parts (nat_le 33 byte) (nat_le byte 126) parts.0).0) (visible_bytes text parts.1)
 
 -- a name is a word

@@ -11,7 +11,7 @@ use Rattle.std.proofs.lemmas.List.Elements.{All-head, All-tail}
 use Rattle.std.proofs.lemmas.List.Folds.{list_all-append}
 use Rattle.std.proofs.lemmas.List.FromFn.{get_or-map-range_with_len, length-map-range_with_len}
 use Rattle.yds_model.specs.declared.limits.TheConstants.{MAX_JOBS, MAX_NAME, MAX_TASK_NAME}
-use Rattle.yds_model.specs.Spelling.{is_digit, is_name}
+use Rattle.yds_model.specs.Spelling.{is_digit, is_visible, is_name}
 use Rattle.yds_model.specs.Tasks.{Task, nth_name, count_of_jobs, numbers_of_jobs}
 use Rattle.yds_model.specs.TaskReading.{is_task_name}
 use Rattle.yds_model.specs.Within.{AreDifferentNames}
@@ -60,11 +60,11 @@ name_tells one other k j few fewer same =
 -- # Names that fit
 
 -- digits are visible
-digits_seen : (text : List ℕ) → All (λ byte. is_digit byte ≡ true) text → list_all (λ byte. nat_le 33 byte && nat_le byte 126) text ≡ true
+digits_seen : (text : List ℕ) → All (λ byte. is_digit byte ≡ true) text → list_all is_visible text ≡ true
 digits_seen [] digits = refl
 digits_seen (byte ∷ text) digits =
     let range = digit_range byte (All-head (λ byte. is_digit byte ≡ true) byte text digits) in
-    and_from (nat_le 33 byte && nat_le byte 126) (list_all (λ byte. nat_le 33 byte && nat_le byte 126) text)
+    and_from (is_visible byte) (list_all is_visible text)
     (and_from (nat_le 33 byte) (nat_le byte 126) (le-leb 33 byte (omega (arith, range.0))) (le-leb byte 126 (omega (arith, range.1))))
     (digits_seen text (All-tail (λ byte. is_digit byte ≡ true) byte text digits))
 
@@ -72,19 +72,19 @@ digits_seen (byte ∷ text) digits =
 pub nth_name_fits : (task : Task) (k : ℕ) → is_task_name task.name ≡ true → k < MAX_JOBS → is_name (nth_name task k) ≡ true
 nth_name_fits task k named few =
     let parts = and_parts (is_name task.name) (nat_le (length task.name) MAX_TASK_NAME) named in
-    let name = and_parts (nat_le 1 (length task.name) && nat_le (length task.name) MAX_NAME) (list_all (λ byte. nat_le 33 byte && nat_le byte 126) task.name) parts.0 in
+    let name = and_parts (nat_le 1 (length task.name) && nat_le (length task.name) MAX_NAME) (list_all is_visible task.name) parts.0 in
     let some : 1 ≤ length task.name = leb-true 1 (length task.name) (and_parts (nat_le 1 (length task.name)) (nat_le (length task.name) MAX_NAME) name.0).0 in
     let short : length task.name ≤ MAX_TASK_NAME = leb-true (length task.name) MAX_TASK_NAME parts.1 in
     let digits : length (decimal k) ≤ 4 = length-decimal-le 4 k (omega arith) (omega (arith, few)) (omega (arith, few)) in
     let long : length (nth_name task k) ≡ length task.name + 1 + length (decimal k) =
     omega (arith, length-append (task.name ++ codes ".") (decimal k), length-append task.name (codes ".")) in
-    let seen : list_all (λ byte. nat_le 33 byte && nat_le byte 126) (nth_name task k) ≡ true =
-    list_all-append (λ byte. nat_le 33 byte && nat_le byte 126) (task.name ++ codes ".") (decimal k)
-    ∙ and_from (list_all (λ byte. nat_le 33 byte && nat_le byte 126) (task.name ++ codes ".")) (list_all (λ byte. nat_le 33 byte && nat_le byte 126) (decimal k))
-    (list_all-append (λ byte. nat_le 33 byte && nat_le byte 126) task.name (codes ".")
-    ∙ and_from (list_all (λ byte. nat_le 33 byte && nat_le byte 126) task.name) (list_all (λ byte. nat_le 33 byte && nat_le byte 126) (codes ".")) name.1 refl)
+    let seen : list_all is_visible (nth_name task k) ≡ true =
+    list_all-append is_visible (task.name ++ codes ".") (decimal k)
+    ∙ and_from (list_all is_visible (task.name ++ codes ".")) (list_all is_visible (decimal k))
+    (list_all-append is_visible task.name (codes ".")
+    ∙ and_from (list_all is_visible task.name) (list_all is_visible (codes ".")) name.1 refl)
     (digits_seen (decimal k) (decimal_digits k (omega (arith, few)))) in
-    and_from (nat_le 1 (length (nth_name task k)) && nat_le (length (nth_name task k)) MAX_NAME) (list_all (λ byte. nat_le 33 byte && nat_le byte 126) (nth_name task k))
+    and_from (nat_le 1 (length (nth_name task k)) && nat_le (length (nth_name task k)) MAX_NAME) (list_all is_visible (nth_name task k))
     (and_from (nat_le 1 (length (nth_name task k))) (nat_le (length (nth_name task k)) MAX_NAME) (le-leb 1 (length (nth_name task k)) (omega (arith, long, some)))
     (le-leb (length (nth_name task k)) MAX_NAME (omega (arith, long, short, digits)))) seen
 

@@ -11,7 +11,7 @@ use Rattle.yds_model.proofs.Filters.{filter-range_with_len_more}
 use Rattle.yds_model.specs.Piece.{Piece}
 use Rattle.yds_events.specs.Stretch.{no_stretch, length_of}
 use Rattle.yds_search.specs.declared.own.OwnStretch.{OwnStretch}
-use Rattle.yds_search.specs.Beginning.{first_stretch, greatest, is_reached, reached_before}
+use Rattle.yds_search.specs.Beginning.{first_stretch, greatest_end, is_reached, reached_before}
 use Rattle.yds_search.proofs.Beginnings.{greatest_more}
 use Rattle.yds_search.proofs.beginning.add_stretches.Goals as goal
 use Rattle.yds_search.proofs.beginning.add_stretches.Goals.{then-end-stretch+in_ok-push-2, else-end-stretch}
@@ -38,17 +38,17 @@ loop-stretch-preserved c =
     let timeline : List Piece = c.args.timeline.now in
     let ends : List ℕ = c.args.ends.now in
     let n : ℕ = c.loop-stretch.stretch in
-    let end : c.max-end.result ≡ greatest (take (n + 1) ends) = c.max-end.ensures ∙ as_max c.loop-stretch.end (get_or ends n 0)
+    let end : c.max-end.result ≡ greatest_end (take (n + 1) ends) = c.max-end.ensures ∙ as_max c.loop-stretch.end (get_or ends n 0)
     ∙ ap (λ e. max e (get_or ends n 0)) c.loop-stretch.invariant.end ∙ sym (greatest_more ends n (omega (arith, c.loop-stretch-test.true, c.requires.ends))) in
     let added : c.if-end-stretch.stretches.items ≡ map (first_stretch timeline) (filter (is_reached ends) (range_with_len 0 (n + 1))) = elim c.if-end-stretch.branch [
       | then-end-stretch+in_ok-push-2 w ↦
           let own : length_of c.index-timeline-stretch.result ≡ length_of (get_or timeline n no_stretch) =
           ap length_of (get_or_read timeline n c.index-timeline-stretch.result c.loop-stretch-test.true c.index-timeline-stretch.is no_stretch) in
           rw (w.stretches-is, w.in_ok-push-2.ensures.items, c.loop-stretch.invariant.stretches, w.length.ensures.length, own)
-          (one_more timeline ends n true (lt-ltb n (greatest (take (n + 1) ends)) (omega (arith, end, w.if-end-stretch.true))))
+          (one_more timeline ends n true (lt-ltb n (greatest_end (take (n + 1) ends)) (omega (arith, end, w.if-end-stretch.true))))
       | else-end-stretch w ↦
           rw (w.stretches-is, c.loop-stretch.invariant.stretches)
-          (sym (append-nil _) ∙ one_more timeline ends n false (le-ltb n (greatest (take (n + 1) ends)) (omega (arith, end, w.if-end-stretch.false))))
+          (sym (append-nil _) ∙ one_more timeline ends n false (le-ltb n (greatest_end (take (n + 1) ends)) (omega (arith, end, w.if-end-stretch.false))))
     ] in
     let rank : c.len.result ≡ reached_before ends n =
     omega (arith, c.len.ensures, c.loop-stretch.stretches.ok, counted timeline ends n c.loop-stretch.stretches.items c.loop-stretch.invariant.stretches) in
