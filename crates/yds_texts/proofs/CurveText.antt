@@ -15,7 +15,8 @@ use Rattle.yds_model.specs.Divisor.{in_lowest_terms, IsLowest}
 use Rattle.yds_model.specs.Plan.{IsPlan}
 use Rattle.yds_model.specs.Curve.{IsLeastExcess, Break, break_at, breaks_of, least_above}
 use Rattle.yds_laws.specs.CurveLaws.{excess_of, IsNotAbove, IsOnLine, IsNotBelow}
-use Rattle.yds_laws.proofs.CurveLine.{at_most_still, curve_is_straight}
+use Rattle.yds_laws.proofs.CurveLine.{curve_is_straight}
+use Rattle.yds_model.proofs.Fractions.{at_most_still}
 use Rattle.yds_laws.proofs.LeastAbove.{levels_tell_least_excess}
 use Rattle.yds_model.proofs.LowestTerms.{HasValue, lowest_value, lowest_is_lowest}
 use Rattle.yds_laws.proofs.Plans.{plan_falls}
