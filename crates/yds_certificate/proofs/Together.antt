@@ -3,8 +3,8 @@ use Rattle.std.proofs.Common.{◌≡◌, ℕ, suc, ◌+◌, ◌-◌, ◌<◌, �
 use Rattle.std.specs.Prelude.{◌↔◌, nat_lt, ◌&&◌, eqb, cond}
 use Rattle.std.specs.List.{All, AllByRecursion, IsDistinct, slice_index_or}
 use Rattle.std.specs.List.Sorted.{IsPermutation, IsNonDecreasing, IsNonDecreasingBy, IsStrictlyIncreasing}
-use Rattle.std.proofs.lemmas.Bool.{lt-ltb, le-ltb, ne_eqb, eq-eqb, cases_lt, cases_eq, false≢true}
-use Rattle.std.proofs.Math.Bool.{and_comm, and-false, false-and}
+use Rattle.std.proofs.lemmas.Bool.{lt-ltb, le-ltb, ne_eqb, eq-eqb, cases_lt, cases_eq, false≢true, and_left, and_right}
+use Rattle.std.proofs.Math.Bool.{and_comm}
 use Rattle.std.proofs.lemmas.List.{length-append}
 use Rattle.std.proofs.lemmas.List.Elements.{All-tail, All-append, recursion_from_All, All-from_recursion}
 use Rattle.std.proofs.lemmas.List.Sorted.{All-permutation, sum_by-IsPermutation, length_permutation, Contains-permutation, IsPermutation-sym}
@@ -40,12 +40,6 @@ overlaps one other = nat_lt one.from other.to && nat_lt other.from one.to
 
 overlaps_both : (one other : Piece) → overlaps one other ≡ overlaps other one
 overlaps_both one other = and_comm (nat_lt one.from other.to) (nat_lt other.from one.to)
-
-and_left : (a b : Bool) → a ≡ false → (a && b) ≡ false
-and_left a b e = ap (λ (x : Bool). x && b) e ∙ false-and b
-
-and_right : (a b : Bool) → b ≡ false → (a && b) ≡ false
-and_right a b e = ap (λ (x : Bool). a && x) e ∙ and-false a
 
 apart_passes : (one other : Piece) → AreApart one other → overlaps one other ≡ false
 apart_passes one other (inl before) = and_right _ _ (le-ltb other.from one.to before)

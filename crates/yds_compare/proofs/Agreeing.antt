@@ -1,11 +1,10 @@
 -- What loads spend is what slots spend at a scale, where they take as long at each point.
-use Rattle.std.proofs.Common.{◌≡◌, ℕ, ◌*◌, ◌≤◌, List, map, get_or, sym, ap, ◌∙◌}
+use Rattle.std.proofs.Common.{◌≡◌, ℕ, ◌*◌, ◌≤◌, List, map, get_or, sym, ap, ◌∙◌, mul_left_comm}
 use Rattle.std.proofs.Math.Path.{fun_ext}
 use Rattle.yds_model.specs.Job.{Job}
 use Rattle.yds_model.specs.Slot.{WholeSlot}
 use Rattle.yds_model.specs.Table.{Point}
 use Rattle.yds_model.specs.Comparison.{Spent, IsSpentAt, all_time_at, all_energy}
-use Rattle.yds_model.proofs.Scale.{shifted}
 use Rattle.yds_model.proofs.Sums.{sum_by-mul, sum_by_same}
 use Rattle.yds_energy.proofs.SpentScale.{parts_same}
 use Rattle.yds_compare.specs.declared.load.Load.{Load}
@@ -25,8 +24,8 @@ spent_at jobs points unit loads scale slots spent some some_unit long is =
     sym (sum_by-mul unit here points)
     ∙ sum_by_same (λ point. unit * here point) (λ point. scale * there point) points (λ i d within.
     let point = get_or points i d in
-    shifted unit point.power (all_time_at jobs points scale slots point.speed) ∙ ap (λ n. point.power * n) (long point.speed)
-    ∙ shifted point.power scale (time_of_loads points loads point.speed))
+    mul_left_comm unit point.power (all_time_at jobs points scale slots point.speed) ∙ ap (λ n. point.power * n) (long point.speed)
+    ∙ mul_left_comm point.power scale (time_of_loads points loads point.speed))
     ∙ sum_by-mul scale there points in
     record {
       energy = is.energy ∙ sym (parts_same points scale unit (all_energy jobs points scale slots) (energy_of_loads points loads) some some_unit wide energy);

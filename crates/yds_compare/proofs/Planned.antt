@@ -1,5 +1,5 @@
 -- What a plan's slots take at each point, stretch by stretch, is what its levels take, and the time outside them.
-use Rattle.std.proofs.Common.{◌≡◌, ℕ, ◌+◌, ◌-◌, ◌*◌, ◌<◌, ◌≤◌, ◌==◌, Bool, true, false, List, [], ◌∷◌, length, map, get_or, refl, sym, ap, ap₂, subst, ◌∙◌, arith, inl, inr}
+use Rattle.std.proofs.Common.{◌≡◌, ℕ, ◌+◌, ◌-◌, ◌*◌, ◌<◌, ◌≤◌, ◌==◌, List, [], ◌∷◌, length, map, get_or, sym, ap, ap₂, subst, ◌∙◌, arith, inl, inr}
 use Rattle.std.specs.Prelude.{sum_by, if◌then◌else◌}
 use Rattle.std.specs.List.{All, Contains}
 use Rattle.std.proofs.lemmas.List.{length-map, get_or-map}
@@ -33,11 +33,7 @@ use Rattle.yds_energy.proofs.StretchSlots.{lies, sum_in_stretches}
 use Rattle.yds_energy.proofs.PointTimes.{idle_time}
 use Rattle.yds_energy.proofs.RoundedRuns.{HasRate, rate_together}
 use Rattle.yds_energy.proofs.LevelsEnergy.{all_lengths, lengths_positive, rate, rate_member, rates_together, level_rates}
-
--- the time in which nothing is done is proportional to all of it
-choice_times : (b : Bool) (time multiple : ℕ) → (if b then time * multiple else 0) ≡ time * (if b then multiple else 0)
-choice_times true time multiple = refl
-choice_times false time multiple = omega arith
+use Rattle.yds_model.proofs.Scale.{given_split}
 
 -- A plan on a hull of rising points, at a scale and a speed.
 module _ (jobs : List Job) (planned : List WrittenSlot) (levels : List Level) (points : List Point) (plan : IsPlan jobs planned levels)
@@ -53,7 +49,7 @@ module _ (jobs : List Job) (planned : List WrittenSlot) (levels : List Level) (p
   idle_at : (time : ℕ) → at time 0 ≡ time * idle_part
   idle_at time =
       sym (idle_time (hull_multiple points) time (hull_of points) rising some_hull speed)
-      ∙ choice_times (speed == (point_at (hull_of points) 0).speed) time (hull_multiple points)
+      ∙ given_split time (hull_multiple points) (speed == (point_at (hull_of points) 0).speed)
 
   abbrev cost : Level → ℕ
   cost level = at level.length level.work
@@ -130,7 +126,7 @@ module _ (jobs : List Job) (planned : List WrittenSlot) (levels : List Level) (p
         ∙ ap (λ n. all_lengths levels * n) (get_or-map cost levels place no_level 0 of.has.1) in
         record {
           taken = full_taken (all_lengths levels) (at time work) level.length time (busy (here stretch)) (cost level) (sum_by slot_cost (here stretch)) idle_part positive.1 is_time full
-              (omega (arith, level_rates levels costs level.length (all_lengths levels * cost level) (here stretch) rates));
+              (omega (arith, level_rates (rate levels costs) level.length (all_lengths levels * cost level) (here stretch) rates));
           short = omega (arith, full);
         }
   ]

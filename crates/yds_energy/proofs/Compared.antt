@@ -1,7 +1,5 @@
 -- What a plan spends on the points: the energy of its rounded slots, and no more than the run of any policy.
-use Rattle.std.proofs.Common.{◌≡◌, ℕ, ◌-◌, ◌*◌, ◌/◌, ◌<◌, ◌≤◌, List, [], ◌∷◌, ◌++◌, get_or, sym, ap, ap₂, subst, ◌∙◌, arith, inl, inr}
-use Rattle.std.specs.Prelude.{sum_by}
-use Rattle.std.specs.List.{All}
+use Rattle.std.proofs.Common.{◌≡◌, ℕ, ◌-◌, ◌*◌, ◌/◌, ◌<◌, ◌≤◌, List, [], ◌∷◌, ◌++◌, get_or, sym, ap, ap₂, subst, ◌∙◌, arith, inl, inr, sum_by, All}
 use Rattle.std.proofs.lemmas.List.Elements.{All-append, All-weaker}
 use Rattle.std.proofs.Math.Nat.{mul-pos, mul-le-mul_right, div-mul_cancel, le_of_mul-le-mul_right}
 use Rattle.yds_model.specs.Job.{Job, IsJob}
@@ -27,7 +25,7 @@ use Rattle.yds_model.proofs.Sums.{sum_by_zero}
 use Rattle.yds_events.proofs.Neighbours.{stretches_run}
 use Rattle.yds_energy.specs.ComparisonLaws.{PlanSpendsItsRounding, PlanSpendsLeast}
 use Rattle.yds_laws.proofs.Bound.{scale_left, scale_right}
-use Rattle.yds_energy.proofs.EvenStretches.{run_even, plan_even, plan_holds}
+use Rattle.yds_energy.proofs.EvenStretches.{run_even, plan_even, plan_holds, held_at}
 use Rattle.yds_model.proofs.LowestTerms.{lowest_value, lowest_is}
 use Rattle.yds_model.proofs.Fractions.{factors}
 use Rattle.yds_energy.proofs.PlansEnergy.{plans_cost_least, hull_table}
@@ -72,12 +70,6 @@ run_energy : (jobs : List Job) (points : List Point) (grid scale : ℕ) (capacit
 run_energy jobs points grid scale capacity slots positive table run holds =
     even_energy jobs points scale slots positive table run.feasible run.served.uncut (run_even jobs grid scale capacity slots positive run) holds
 
--- the work of a slot of a stretch that the top speed holds is within it
-slot_held : (top work time slot_work slot_time : ℕ) → slot_work * time ≡ work * slot_time → work ≤ top * time → 1 ≤ time → slot_work ≤ top * slot_time
-slot_held top work time slot_work slot_time is holds some =
-    let less : slot_work * time ≤ top * slot_time * time = omega (arith, is, mul-le-mul_right slot_time holds) in
-    le_of_mul-le-mul_right {k = time} less some
-
 -- so slots of one speed do nothing above the top
 above_none : (top scale : ℕ) (stretch : Piece) (slots : List WholeSlot) → 1 ≤ scale → stretch.from < stretch.to → IsEven scale slots stretch →
     all_work (slots_in scale stretch slots) ≤ top * ((stretch.to - stretch.from) * scale) →
@@ -88,7 +80,7 @@ above_none top scale stretch slots positive forward (inr full) holds =
     let ahead : 1 ≤ stretch.to - stretch.from = omega (arith, forward) in
     sum_by_zero (λ slot. 1 * slot.work - top * (slot.to - slot.from)) here (λ k d within.
     let slot = get_or here k d in
-    let held = slot_held top (all_work here) ((stretch.to - stretch.from) * scale) slot.work (slot.to - slot.from) (full.speeds k d within) holds (mul-pos ahead positive) in
+    let held = held_at top slot.work (slot.to - slot.from) (all_work here) ((stretch.to - stretch.from) * scale) (mul-pos ahead positive) holds (full.speeds k d within) in
     omega (arith, held))
 
 -- a run for which the top point is fast enough is nowhere faster

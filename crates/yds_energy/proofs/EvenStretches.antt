@@ -1,6 +1,5 @@
 -- The stretches of a plan are even, and so are those of each policy's run: empty, or full of slots of one speed.
-use Rattle.std.proofs.Common.{◌≡◌, ℕ, zero, suc, ◌+◌, ◌-◌, ◌*◌, ◌<◌, ◌≤◌, ◌⊎◌, List, [], ◌∷◌, length, get_or, refl, sym, ap, subst, ◌∙◌, arith, inl, inr, true}
-use Rattle.std.specs.List.{All, Contains}
+use Rattle.std.proofs.Common.{◌≡◌, ℕ, zero, suc, ◌+◌, ◌-◌, ◌*◌, ◌<◌, ◌≤◌, ◌⊎◌, List, [], ◌∷◌, length, get_or, refl, sym, ap, subst, ◌∙◌, arith, inl, inr, true, All, Contains}
 use Rattle.std.proofs.lemmas.Bool.{cases_lt}
 use Rattle.std.proofs.lemmas.List.{get_or_default}
 use Rattle.std.proofs.lemmas.List.Elements.{All-nil, All-cons, All-tail, All-filter, All-contains, All-weaker, All-from_get_or, filter_passes}
@@ -157,7 +156,7 @@ plan_even jobs planned levels scale plan is = All-from_get_or (IsEven scale (slo
     ])
 
 -- work that is done at a speed below another is at most what the other does
-held_at : (top work long level_work level_length : ℕ) → 1 ≤ level_length → level_work ≤ top * level_length → work * level_length ≡ level_work * long → work ≤ top * long
+pub held_at : (top work long level_work level_length : ℕ) → 1 ≤ level_length → level_work ≤ top * level_length → work * level_length ≡ level_work * long → work ≤ top * long
 held_at top work long level_work level_length some slow is =
     let less : work * level_length ≤ top * long * level_length = omega (arith, is, mul-le-mul_right long slow) in
     le_of_mul-le-mul_right {k = level_length} less some

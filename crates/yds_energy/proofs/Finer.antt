@@ -1,7 +1,5 @@
 -- Numbers and slots in parts that are k times as fine, and the one law of scale for all that is said of slots.
-use Rattle.std.proofs.Common.{◌≡◌, ◌⊎◌, ℕ, ◌-◌, ◌*◌, ◌<◌, ◌≤◌, List, [], ◌∷◌, map, min, refl, sym, ap, arith, inl, inr, Bool, true, false}
-use Rattle.std.specs.Prelude.{cond, if◌then◌else◌, nat_le, nat_lt, ◌==◌, ◌↔◌}
-use Rattle.std.specs.List.{filter}
+use Rattle.std.proofs.Common.{◌≡◌, ◌⊎◌, ℕ, ◌-◌, ◌*◌, ◌<◌, ◌≤◌, List, [], ◌∷◌, map, min, refl, sym, ap, arith, inl, inr, Bool, true, false, cond, if◌then◌else◌, nat_le, nat_lt, ◌==◌, ◌↔◌, filter}
 use Rattle.std.proofs.lemmas.Bool.{cases_order}
 use Rattle.std.proofs.lemmas.Bool.Decides.{nat_tests}
 use Rattle.std.proofs.Math.Nat.{one-mul, mul-sub, mul-lt-mul_of_pos_left}

@@ -1,11 +1,9 @@
 -- A stretch in which a plan has a slot is full, of slots of one level: the level's members have no time to spare.
-use Rattle.std.proofs.Common.{◌≡◌, ℕ, zero, suc, ◌+◌, ◌-◌, ◌*◌, ◌<◌, ◌≤◌, List, [], ◌∷◌, ◌++◌, length, get_or, take, refl, sym, ap, subst, ◌∙◌, arith, inl, inr, add-one, eq-eqb}
-use Rattle.std.specs.Prelude.{cond}
-use Rattle.std.specs.List.{All, Contains}
+use Rattle.std.proofs.Common.{◌≡◌, ℕ, zero, suc, ◌+◌, ◌-◌, ◌*◌, ◌<◌, ◌≤◌, List, [], ◌∷◌, ◌++◌, length, get_or, take, refl, sym, ap, subst, ◌∙◌, arith, inl, inr, add-one, eq-eqb, cond, All, Contains}
 use Rattle.std.proofs.lemmas.Bool.{cases_lt}
 use Rattle.std.proofs.lemmas.Bool.Decides.{nat_tests}
 use Rattle.std.proofs.lemmas.List.{get_or_append_left, get_or_push, length-append, length-map, take_all}
-use Rattle.std.proofs.lemmas.List.Elements.{All-cons, All-tail, All-append, All-map, All-contains, All-weaker, Contains-get_or}
+use Rattle.std.proofs.lemmas.List.Elements.{All-cons, All-append, All-map, All-contains, All-weaker, Contains-get_or}
 use Rattle.std.proofs.lemmas.List.Sums.{sum_by-cons, sum_by-append, get_or-le-sum_by}
 use Rattle.std.proofs.Math.Nat.{mul-sub, mul-le-mul_right, mul-lt-mul_of_pos_right}
 use Rattle.yds_model.specs.Numbers.{count, AreDifferent}
@@ -21,39 +19,17 @@ use Rattle.yds_model.proofs.Sums.{sum_by-add, sum_by_same}
 use Rattle.yds_model.proofs.Lists.{All-front, All-back, count-cons, counted_contains, flat_map-take}
 use Rattle.yds_model.proofs.Time.{time_within}
 use Rattle.yds_model.proofs.Front.{front_at}
-use Rattle.yds_model.proofs.Runs.{run_forward}
+use Rattle.yds_model.proofs.Runs.{run_forward, run_later, run_joined}
 use Rattle.yds_laws.proofs.Group.{group, group-nil, group-cons, group-append, group_at_most}
 use Rattle.yds_laws.proofs.Exact.{Fits, level_time}
 use Rattle.yds_laws.proofs.Plans.{plans_serve_work}
 use Rattle.yds_laws.proofs.Explained.{levels_fit, front_different}
 use Rattle.yds_energy.proofs.RoundedFeasible.{IsBetweenEvents, slot_open}
-use Rattle.yds_energy.proofs.Members.{contained_counted, count_joined}
-use Rattle.yds_energy.proofs.PlanParts.{run_front, run_back, run_later, run_joined}
+use Rattle.yds_energy.proofs.PlanParts.{run_front, run_back}
+use Rattle.yds_model.proofs.Horizon.{busy_within}
+use Rattle.yds_model.proofs.Counted.{count_joined, one_level}
 
 -- # Members
-
--- a number stands in a level's members at most as often as in all
-pub level_count : (levels : List Level) (i number : ℕ) → i < length levels → count number (level_at levels i).members ≤ count number (all_members levels)
-level_count [] i number within = absurd (omega (arith, within))
-level_count (level ∷ levels) zero number within = omega (arith, count_joined number level.members (all_members levels))
-level_count (level ∷ levels) (suc i) number within =
-    omega (arith, level_count levels i number (omega (arith, within)), count_joined number level.members (all_members levels))
-
--- so a member of a level is counted among all members
-pub member_counted : (levels : List Level) (i number : ℕ) → i < length levels → Contains (level_at levels i).members number → 1 ≤ count number (all_members levels)
-member_counted levels i number within has = omega (arith, contained_counted (level_at levels i).members number has, level_count levels i number within)
-
--- and where it is counted once, that level is the only one
-pub one_level : (levels : List Level) (i j number : ℕ) → count number (all_members levels) ≤ 1 → i < length levels → j < length levels →
-    Contains (level_at levels i).members number → Contains (level_at levels j).members number → i ≡ j
-one_level [] i j number once within inside has other = absurd (omega (arith, within))
-one_level (level ∷ levels) zero zero number once within inside has other = refl
-one_level (level ∷ levels) zero (suc j) number once within inside has other =
-    absurd (omega (arith, once, count_joined number level.members (all_members levels), contained_counted level.members number has, member_counted levels j number (omega (arith, inside)) other))
-one_level (level ∷ levels) (suc i) zero number once within inside has other =
-    absurd (omega (arith, once, count_joined number level.members (all_members levels), contained_counted level.members number other, member_counted levels i number (omega (arith, within)) has))
-one_level (level ∷ levels) (suc i) (suc j) number once within inside has other =
-    ap suc (one_level levels i j number (omega (arith, once, count_joined number level.members (all_members levels))) (omega (arith, within)) (omega (arith, inside)) has other)
 
 -- the level of a number that is counted among the first levels' members
 pub level_of_member : (levels : List Level) (n number : ℕ) → n ≤ length levels → 1 ≤ count number (all_members (take n levels)) →
@@ -87,13 +63,6 @@ front_time jobs scale slots levels served fit (suc n) within =
     ))
 
 -- # A stretch beside the others
-
--- slots between two times take no longer
-busy_between : (start end : ℕ) (slots : List WholeSlot) → start ≤ end → RunFrom start slots → All (λ slot. slot.to ≤ end) slots → busy slots + start ≤ end
-busy_between start end [] order run ends = omega (arith, order)
-busy_between start end (slot ∷ slots) order run ends =
-    let later = busy_between slot.to end slots (ends 0 slot (omega arith)) run.2 (All-tail (λ one. one.to ≤ end) slot slots ends) in
-    simp sum_by-cons (omega (arith, run.0, run.1, later))
 
 -- how long a slot takes
 abbrev time_of : WholeSlot → ℕ
@@ -232,7 +201,7 @@ module _ (jobs : List Job) (planned : List WrittenSlot) (levels : List Level) (s
   here_short =
       omega (
         arith,
-        busy_between (stretch.from * scale) (stretch.to * scale) here (omega (arith, mul-le-mul_right scale forward))
+        busy_within (stretch.to * scale) (stretch.from * scale) here (omega (arith, mul-le-mul_right scale forward))
             (run_later 0 (stretch.from * scale) here here_runs (λ k d within. (lies k d within).from)) (λ k d within. (lies k d within).to),
         mul-sub scale stretch.to stretch.from,
       )

@@ -1,10 +1,7 @@
 -- The energy of one slot, by a convex table: the number of the first line, and what each later point adds above its speed.
-use Rattle.std.proofs.Common.{◌≡◌, ℕ, ◌+◌, ◌-◌, ◌*◌, ◌<◌, ◌≤◌, List, [], ◌∷◌, refl, arith, inl, inr, ap, ◌∙◌}
-use Rattle.std.specs.Prelude.{ℤ, pos, ◌*ℤ◌}
+use Rattle.std.proofs.Common.{◌≡◌, ℕ, ◌+◌, ◌-◌, ◌*◌, ◌<◌, ◌≤◌, List, [], ◌∷◌, refl, arith, inl, inr, ap, ◌∙◌, ℤ, pos, ◌*ℤ◌, fold, mul-le-mul_left, mul-le-mul_right}
 use Rattle.std.specs.Int.{int_max}
-use Rattle.std.specs.List.{fold}
 use Rattle.std.proofs.lemmas.Bool.{cases_lt}
-use Rattle.std.proofs.Math.Nat.{mul-le-mul_left, mul-le-mul_right}
 use Rattle.yds_model.specs.Table.{Point, AreRising, IsConvex, IsOnOrBelow, gaps_of}
 use Rattle.yds_model.specs.Energy.{product, on_line, on_lines, greatest}
 use Rattle.yds_energy.proofs.Differences.{fold_from, IsDifference, difference_of, difference_times, difference_plus, difference_first, difference_second, greatest-cons}

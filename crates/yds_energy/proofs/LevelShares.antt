@@ -1,6 +1,5 @@
 -- What a stretch of a level spends, rounded: the level's cost, by the stretch's share of the level's length.
-use Rattle.std.proofs.Common.{◌≡◌, ◌⊎◌, ℕ, ◌+◌, ◌-◌, ◌*◌, ◌<◌, ◌≤◌, List, ◌++◌, get_or, refl, sym, ap, subst, ◌∙◌, arith, inl, inr}
-use Rattle.std.specs.List.{All, Any, Contains}
+use Rattle.std.proofs.Common.{◌≡◌, ◌⊎◌, ℕ, ◌+◌, ◌-◌, ◌*◌, ◌<◌, ◌≤◌, List, ◌++◌, get_or, refl, sym, ap, subst, ◌∙◌, arith, inl, inr, All, Any, Contains}
 use Rattle.std.proofs.Math.Nat.{mul-sub, eq_of_mul-eq-mul_right}
 use Rattle.yds_model.specs.Job.{Job}
 use Rattle.yds_model.specs.Slot.{WholeSlot}

@@ -1,8 +1,7 @@
--- What the rounded slots of a plan spend, level by level: in the stretches of a level just what the level costs.
-use Rattle.std.proofs.Common.{◌≡◌, ℕ, zero, suc, ◌+◌, ◌-◌, ◌*◌, ◌<◌, ◌≤◌, List, [], ◌∷◌, ◌++◌, length, get_or, refl, sym, ap, subst, arith, inl, inr}
-use Rattle.std.specs.Prelude.{sum, sum_by}
+-- What the rounded slots of a plan spend: those of a level what the level costs, and all together what the levels do.
+use Rattle.std.proofs.Common.{◌≡◌, ℕ, zero, suc, ◌+◌, ◌-◌, ◌*◌, ◌<◌, ◌≤◌, List, [], ◌∷◌, ◌++◌, length, get_or, refl, sym, ap, subst, arith, inl, inr, sum, sum_by, ◌⊎◌, ◌∙◌, le-leb, nat_le, All, Any, Contains, filter}
 use Rattle.std.specs.List.{All, AllZip, Contains}
-use Rattle.std.proofs.lemmas.List.Elements.{All-head, All-tail, All-contains}
+use Rattle.std.proofs.lemmas.List.Elements.{All-head, All-tail, All-contains, filter-append}
 use Rattle.std.proofs.lemmas.List.Sums.{sum_by-cons, sum_by-append}
 use Rattle.std.proofs.Math.Nat.{mul-pos, eq_of_mul-eq-mul_left, eq_of_mul-eq-mul_right}
 use Rattle.yds_model.specs.Numbers.{count}
@@ -14,20 +13,21 @@ use Rattle.yds_model.specs.Plan.{IsPlan}
 use Rattle.yds_model.specs.Table.{Point, point_at, AreRising, IsTable, IsHullOf, hull_of}
 use Rattle.yds_model.specs.Energy.{busy, idle, horizon, SpendsAtPoints}
 use Rattle.yds_model.specs.Event.{stretches}
-use Rattle.yds_model.specs.Rounding.{RoundsStretches}
-use Rattle.yds_model.proofs.Sums.{sum_by-add, sum_by-mul, sum_by_zero}
+use Rattle.yds_model.specs.Rounding.{RoundsStretches, HasPointSpeed}
+use Rattle.yds_model.proofs.Sums.{sum_by-add, sum_by-mul, sum_by_zero, sum_by_same}
 use Rattle.yds_model.proofs.Horizon.{busy_and_idle}
 use Rattle.yds_model.proofs.HullExists.{hull_exists}
-use Rattle.yds_energy.specs.RoundingLaws.{IsLevelCost, RoundedCostsItsLevels}
+use Rattle.yds_energy.specs.RoundingLaws.{IsLevelCost, RoundedCostsItsLevels, member_slots, RoundedCostsItsLevel}
 use Rattle.yds_laws.proofs.Bound.{scale_left, scale_right}
 use Rattle.yds_energy.proofs.HullEnergy.{hull_rising}
 use Rattle.yds_energy.proofs.LevelTimes.{TakesLong, levels_long, plan_busy, levels_fit_the_horizon}
 use Rattle.yds_energy.proofs.LevelShares.{stretch_share}
 use Rattle.yds_energy.proofs.PlanParts.{IsPartOfPlan, level_found}
-use Rattle.yds_energy.proofs.RoundedFeasible.{RoundsAt, rounds_fold, written_feasible}
+use Rattle.yds_energy.proofs.RoundedFeasible.{RoundsAt, rounds_fold, written_feasible, SplitsAt, same_jobs}
 use Rattle.yds_energy.proofs.RoundedEnergy.{spends_joined}
-use Rattle.yds_energy.proofs.FullStretches.{member_counted}
-use Rattle.yds_energy.proofs.Members.{count_joined, contained_counted}
+use Rattle.std.proofs.lemmas.Bool.{cases_eq, cases_lt}
+use Rattle.yds_model.proofs.Lists.{counted_contains}
+use Rattle.yds_model.proofs.Counted.{member_counted, level_count, one_level, count_joined, contained_counted}
 
 -- # Rates
 
@@ -95,36 +95,16 @@ rates_together scale slots (level ∷ levels) (cost ∷ costs) same long =
     each : (often share long rest time : ℕ) → (often * share + long * rest) * time ≡ share * (often * time) + long * (rest * time)
     each often share long rest time = omega arith
 
--- # A stretch
-
--- What the written slots spend, with the time without a slot at a power, is what the planned ones cost at their levels' rates.
-record SpendsByRate (points : List Point) (parts power : ℕ) (levels : List Level) (costs : List ℕ) (planned written : List WholeSlot) : Type 0 where
-  spent : ℕ
-  spends : SpendsAtPoints points written spent
-  is_spent : parts * all_lengths levels * (spent + power * busy planned)
-      ≡ sum_by (λ slot. rate levels costs slot.job * (slot.to - slot.from)) planned + parts * all_lengths levels * (power * busy written)
-
--- slots of one level cost its cost, by their share of its length
-pub level_rates : (levels : List Level) (costs : List ℕ) (long share : ℕ) (slots : List WholeSlot) → All (λ slot. rate levels costs slot.job * long ≡ share) slots →
-    sum_by (λ slot. rate levels costs slot.job * (slot.to - slot.from)) slots * long ≡ share * busy slots
-level_rates levels costs long share [] each = omega arith
-level_rates levels costs long share (slot ∷ slots) each =
+-- the slots of jobs of one price cost it, by their share of a length
+pub level_rates : (price : ℕ → ℕ) (long share : ℕ) (slots : List WholeSlot) → All (λ slot. price slot.job * long ≡ share) slots →
+    sum_by (λ slot. price slot.job * (slot.to - slot.from)) slots * long ≡ share * busy slots
+level_rates price long share [] each = omega arith
+level_rates price long share (slot ∷ slots) each =
     simp sum_by-cons (omega (
       arith,
       ap (λ n. n * (slot.to - slot.from)) (each 0 slot (omega arith)),
-      level_rates levels costs long share slots (All-tail (λ one. rate levels costs one.job * long ≡ share) slot slots each),
+      level_rates price long share slots (All-tail (λ one. price one.job * long ≡ share) slot slots each),
     ))
-
--- so a stretch costs what its slots do
-stretch_rates : (all parts cost long stretch_cost time total : ℕ) → 1 ≤ long → parts * stretch_cost * long ≡ cost * time → total * long ≡ all * cost * time →
-    parts * all * stretch_cost ≡ total
-stretch_rates all parts cost long stretch_cost time total some is rates =
-    eq_of_mul-eq-mul_right long some (parts * all * stretch_cost) total (omega (arith, ap (λ n. all * n) is, rates))
-
--- what a stretch spends is of the rates where it is so of its cost
-by_rate : (all parts power spent stretch_cost planned written total : ℕ) → spent + power * planned ≡ stretch_cost + power * written → parts * all * stretch_cost ≡ total →
-    parts * all * (spent + power * planned) ≡ total + parts * all * (power * written)
-by_rate all parts power spent stretch_cost planned written total is_spent is = omega (arith, ap (λ n. parts * all * n) is_spent, is)
 
 -- there are as many costs as levels
 same_number : (hull : List Point) (parts : ℕ) (levels : List Level) (costs : List ℕ) → AllZip (IsLevelCost hull parts) levels costs → length levels ≡ length costs
@@ -141,72 +121,207 @@ cost_at hull parts (level ∷ levels) [] i each within = absurd each
 cost_at hull parts (level ∷ levels) (cost ∷ costs) zero each within = each.0
 cost_at hull parts (level ∷ levels) (cost ∷ costs) (suc i) each within = cost_at hull parts levels costs i each.1 (omega (arith, within))
 
+-- # The slots of some jobs
+
+-- the slots of the jobs that have a weight
+abbrev kept : (ℕ → ℕ) → List WholeSlot → List WholeSlot
+kept weight slots = filter (λ slot. nat_le 1 (weight slot.job)) slots
+
+-- where each has one they are all
+all_kept : (weight : ℕ → ℕ) (slots : List WholeSlot) → All (λ slot. 1 ≤ weight slot.job) slots → kept weight slots ≡ slots
+all_kept weight [] some = refl
+all_kept weight (slot ∷ slots) some =
+    let here = All-head (λ one. 1 ≤ weight one.job) slot slots some in
+    rw (le-leb 1 (weight slot.job) here) (ap (λ rest. slot ∷ rest) (all_kept weight slots (All-tail (λ one. 1 ≤ weight one.job) slot slots some)))
+
+-- and where none has one they are none
+none_kept : (weight : ℕ → ℕ) (slots : List WholeSlot) → All (λ slot. weight slot.job ≡ 0) slots → kept weight slots ≡ []
+none_kept weight [] none = refl
+none_kept weight (slot ∷ slots) none =
+    let here = All-head (λ one. weight one.job ≡ 0) slot slots none in
+    rw here (none_kept weight slots (All-tail (λ one. weight one.job ≡ 0) slot slots none))
+
+-- the time of the slots, times what their jobs weigh or cost
+abbrev timed : (ℕ → ℕ) → List WholeSlot → ℕ
+timed price slots = sum_by (λ slot. price slot.job * (slot.to - slot.from)) slots
+
+-- what holds of the jobs of the planned slots of a stretch holds of those of the written ones
+written_jobs : (hull : List Point) (levels : List Level) (scale : ℕ) (level : Level) (stretch : Piece) (planned written : List WholeSlot) (P : ℕ → Type 0) →
+    (Any (HasPointSpeed level) hull × (written ≡ planned)) ⊎ SplitsAt hull scale level stretch planned written → All (λ slot. P slot.job) planned →
+    All (λ slot. P slot.job) written
+written_jobs hull levels scale level stretch planned written P (inl (at, kept)) each = subst (All (λ slot. P slot.job)) (sym kept) each
+written_jobs hull levels scale level stretch planned written P (inr split) each =
+    subst (All (λ slot. P slot.job)) (sym split.parts) (same_jobs P planned (split.fast ++ split.slow) split.split.same_order each)
+
+-- # What they spend
+
+-- What the written slots of the jobs that have a weight spend, with the time without a slot at a power, is what the planned ones cost by
+-- the prices of their jobs.
+record SpendsByPrice (points : List Point) (all power : ℕ) (weight price : ℕ → ℕ) (planned written : List WholeSlot) : Type 0 where
+  spent : ℕ
+  spends : SpendsAtPoints points (kept weight written) spent
+  shorter : busy (kept weight written) ≤ timed weight planned
+  is_spent : all * (spent + power * timed weight planned) ≡ timed price planned + all * (power * busy (kept weight written))
+
+-- a level's jobs weigh 1 and have its cost as price, over its length and times all; or they weigh and cost nothing
+abbrev IsPriced : List Job → List Point → ℕ → ℕ → (ℕ → ℕ) → (ℕ → ℕ) → Level → Type 0
+IsPriced jobs hull parts all weight price level =
+    ((cost : ℕ) × IsLevelCost hull parts level cost
+    × ((number : ℕ) → number < length jobs → Contains level.members number → (weight number ≡ 1) × (price number * level.length ≡ all * cost)))
+    ⊎ ((number : ℕ) → number < length jobs → Contains level.members number → (weight number ≡ 0) × (price number ≡ 0))
+
+-- what a stretch of a level spends, in plain numbers
+priced_spent : (all parts cost long stretch_cost power spent planned written total : ℕ) → 1 ≤ long → spent + power * planned ≡ stretch_cost + power * written →
+    parts * stretch_cost * long ≡ cost * planned → total * long ≡ all * cost * planned → parts * all * (spent + power * planned) ≡ total + parts * all * (power * written)
+priced_spent all parts cost long stretch_cost power spent planned written total some is_spent share prices =
+    let same : parts * all * stretch_cost ≡ total = eq_of_mul-eq-mul_right long some (parts * all * stretch_cost) total (omega (arith, ap (λ n. all * n) share, prices)) in
+    omega (arith, ap (λ n. parts * all * n) is_spent, same)
+
 -- the parts of a plan, rounded, at a scale
-module _ (jobs : List Job) (points hull : List Point) (levels : List Level) (costs : List ℕ) (parts scale : ℕ) (table : IsTable points)
-    (is_hull : IsHullOf points hull) (rising : AreRising hull) (positive : All (λ level. (1 ≤ level.work) × (1 ≤ level.length)) levels)
-    (each_cost : AllZip (IsLevelCost hull parts) levels costs) (once : (number : ℕ) → number < length jobs → count number (all_members levels) ≤ 1) where
-  -- each slot of a level costs by its rate what the level does
-  slot_rates : (level : Level) (slots : List WholeSlot) → (has : Contains levels level) → All (λ slot. Contains level.members slot.job) slots →
-      IsPartOfPlan jobs levels slots scale → All (λ slot. rate levels costs slot.job * level.length ≡ all_lengths levels * get_or costs has.0 0) slots
-  slot_rates level slots has members part k d inside =
-      let slot = get_or slots k d in
-      let found = level_found levels level has in
-      subst (λ (one : Level). rate levels costs slot.job * one.length ≡ all_lengths levels * get_or costs has.0 0) found
-      (rate_member levels costs has.0 slot.job (same_number hull parts levels costs each_cost) has.1
-      (subst (λ (one : Level). Contains one.members slot.job) (sym found) (members k d inside)) (once slot.job (part.windows k d inside).known))
+module _ (jobs : List Job) (points hull : List Point) (levels : List Level) (parts scale : ℕ) (table : IsTable points) (is_hull : IsHullOf points hull)
+    (rising : AreRising hull) (positive : All (λ level. (1 ≤ level.work) × (1 ≤ level.length)) levels) (all : ℕ) (weight price : ℕ → ℕ)
+    (priced : (level : Level) → Contains levels level → IsPriced jobs hull parts all weight price level) where
+  abbrev Spends : List WholeSlot → List WholeSlot → Type 0
+  Spends planned written = SpendsByPrice points (parts * all) (point_at points 0).power weight price planned written
 
-  -- the level's cost is among the costs
-  cost_of : (level : Level) → (has : Contains levels level) → IsLevelCost hull parts level (get_or costs has.0 0)
-  cost_of level has =
-      subst (λ (one : Level). IsLevelCost hull parts one (get_or costs has.0 0)) (level_found levels level has)
-      (cost_at hull parts levels costs has.0 each_cost has.1)
+  -- a stretch without a slot
+  of_nothing : Spends [] []
+  of_nothing = record { spent = 0; spends = refl; shorter = omega arith; is_spent = omega arith }
 
-  -- what is written for a stretch spends by its slots' rates
-  stretch_spends : (stretch : Piece) (planned written : List WholeSlot) → stretch.from < stretch.to → IsPartOfPlan jobs levels planned scale →
-      RoundsAt hull levels scale stretch planned written → SpendsByRate points parts (point_at points 0).power levels costs planned written
-  stretch_spends stretch planned written forward part (inl (none, empty)) = rw (none, empty) record { spent = 0; spends = refl; is_spent = omega arith }
-  stretch_spends stretch planned written forward part (inr (level, has, members, how)) =
-      let some = All-contains (λ level. (1 ≤ level.work) × (1 ≤ level.length)) levels level positive has in
-      let cost : ℕ = get_or costs has.0 0 in
-      let total : ℕ = sum_by (λ (slot : WholeSlot). rate levels costs slot.job * (slot.to - slot.from)) planned in
-      let is = stretch_share jobs points hull levels parts cost scale level stretch planned written table is_hull rising some forward part has members (cost_of level has) how in
-      record {
-        spent = is.spent;
-        spends = is.spends;
-        is_spent = by_rate (all_lengths levels) parts (point_at points 0).power is.spent is.stretch_cost (busy planned) (busy written) total is.is_spent
-            (stretch_rates (all_lengths levels) parts cost level.length is.stretch_cost (busy planned) total some.1 is.share
-            (omega (arith, level_rates levels costs level.length (all_lengths levels * cost) planned (slot_rates level planned has members part))));
-      }
+  -- what is written for a stretch
+  of_stretch : (stretch : Piece) (planned written : List WholeSlot) → stretch.from < stretch.to → IsPartOfPlan jobs levels planned scale →
+      RoundsAt hull levels scale stretch planned written → Spends planned written
+  of_stretch stretch planned written forward part (inl (none, empty)) = rw (none, empty) of_nothing
+  of_stretch stretch planned written forward part (inr (level, has, members, how)) = elim (priced level has) [
+    | inl (cost, is_cost, each) ↦
+        let some = All-contains (λ level. (1 ≤ level.work) × (1 ≤ level.length)) levels level positive has in
+        let is = stretch_share jobs points hull levels parts cost scale level stretch planned written table is_hull rising some forward part has members is_cost how in
+        let one = λ (k : ℕ) (d : WholeSlot) (inside : k < length planned). each (get_or planned k d).job (part.windows k d inside).known (members k d inside) in
+        let weights = level_rates weight 1 1 planned (λ k d inside. omega (arith, (one k d inside).0)) in
+        let times : timed weight planned ≡ busy planned = omega (arith, weights) in
+        let prices = level_rates price level.length (all * cost) planned (λ k d inside. (one k d inside).1) in
+        let whole = all_kept weight written
+        (written_jobs hull levels scale level stretch planned written (λ number. 1 ≤ weight number) how (λ k d inside. omega (arith, (one k d inside).0))) in
+        record {
+          spent = is.spent;
+          spends = subst (λ slots. SpendsAtPoints points slots is.spent) (sym whole) is.spends;
+          shorter = omega (arith, is.shorter, times, ap busy whole);
+          is_spent = rw (times, whole) (priced_spent all parts cost level.length is.stretch_cost (point_at points 0).power is.spent (busy planned) (busy written)
+              (timed price planned) some.1 is.is_spent is.share prices);
+        }
+    | inr nothing ↦
+        let none = λ (k : ℕ) (d : WholeSlot) (inside : k < length planned). nothing (get_or planned k d).job (part.windows k d inside).known (members k d inside) in
+        let weights = level_rates weight 1 0 planned (λ k d inside. omega (arith, (none k d inside).0)) in
+        let times : timed weight planned ≡ 0 = omega (arith, weights) in
+        let prices = level_rates price 1 0 planned (λ k d inside. omega (arith, (none k d inside).1)) in
+        let empty = none_kept weight written (written_jobs hull levels scale level stretch planned written (λ number. weight number ≡ 0) how (λ k d inside. (none k d inside).0)) in
+        record { spent = 0; spends = rw empty refl; shorter = omega (arith, ap busy empty); is_spent = rw (times, empty) (omega (arith, prices)) }
+  ]
 
-  -- and so do two parts
-  spends_both : (planned others written made : List WholeSlot) → SpendsByRate points parts (point_at points 0).power levels costs planned written →
-      SpendsByRate points parts (point_at points 0).power levels costs others made →
-      SpendsByRate points parts (point_at points 0).power levels costs (planned ++ others) (written ++ made)
-  spends_both planned others written made one other =
-      let all : ℕ = parts * all_lengths levels in
+  -- and for two parts
+  of_both : (planned others written made : List WholeSlot) → Spends planned written → Spends others made → Spends (planned ++ others) (written ++ made)
+  of_both planned others written made one other =
       let power : ℕ = (point_at points 0).power in
+      let joined = filter-append (λ (slot : WholeSlot). nat_le 1 (weight slot.job)) written made in
+      let weights = sum_by-append (λ (slot : WholeSlot). weight slot.job * (slot.to - slot.from)) planned others in
+      let times : busy (kept weight (written ++ made)) ≡ busy (kept weight written) + busy (kept weight made) =
+      ap busy joined ∙ sum_by-append (λ (slot : WholeSlot). slot.to - slot.from) (kept weight written) (kept weight made) in
       record {
         spent = one.spent + other.spent;
-        spends = spends_joined points written made one.spent other.spent one.spends other.spends;
+        spends = subst (λ slots. SpendsAtPoints points slots (one.spent + other.spent)) (sym joined)
+            (spends_joined points (kept weight written) (kept weight made) one.spent other.spent one.spends other.spends);
+        shorter = omega (arith, weights, times, one.shorter, other.shorter);
         is_spent = omega (
           arith,
           one.is_spent,
           other.is_spent,
-          sum_by-append (λ (slot : WholeSlot). rate levels costs slot.job * (slot.to - slot.from)) planned others,
-          ap (λ n. all * (power * n)) (sum_by-append (λ (slot : WholeSlot). slot.to - slot.from) planned others),
-          ap (λ n. all * (power * n)) (sum_by-append (λ (slot : WholeSlot). slot.to - slot.from) written made),
+          sum_by-append (λ (slot : WholeSlot). price slot.job * (slot.to - slot.from)) planned others,
+          ap (λ n. parts * all * (power * n)) weights,
+          ap (λ n. parts * all * (power * n)) times,
         );
       }
 
-  -- so all that is written does
+  -- so for all
   all_spend : (planned written : List WrittenSlot) → IsPlan jobs planned levels → IsScale scale planned → IsScale scale written →
-      RoundsStretches hull levels (stretches jobs) planned written →
-      SpendsByRate points parts (point_at points 0).power levels costs (slots_at scale planned) (slots_at scale written)
-  all_spend planned written plan is is_written rounds =
-      rounds_fold jobs hull levels scale (SpendsByRate points parts (point_at points 0).power levels costs)
-      (record { spent = 0; spends = refl; is_spent = omega arith }) stretch_spends spends_both planned written plan is is_written rounds
+      RoundsStretches hull levels (stretches jobs) planned written → Spends (slots_at scale planned) (slots_at scale written)
+  all_spend planned written plan is is_written rounds = rounds_fold jobs hull levels scale Spends of_nothing of_stretch of_both planned written plan is is_written rounds
 
--- # The law
+-- # One level
+
+-- the members of a level weigh 1, and those of the others nothing
+level_priced : (jobs : List Job) (hull : List Point) (levels : List Level) (parts cost : ℕ) (level : Level) → (has : Contains levels level) →
+    IsLevelCost hull parts level cost → ((number : ℕ) → number < length jobs → count number (all_members levels) ≤ 1) → (other : Level) → Contains levels other →
+    IsPriced jobs hull parts level.length (λ number. count number level.members) (λ number. cost * count number level.members) other
+level_priced jobs hull levels parts cost level has is_cost once other inside =
+    let found = level_found levels level has in
+    let there = level_found levels other inside in
+    elim (cases_eq has.0 inside.0) [
+      | inl same ↦
+          let is : level ≡ other = sym found ∙ ap (level_at levels) same ∙ there in
+          subst (IsPriced jobs hull parts level.length (λ number. count number level.members) (λ number. cost * count number level.members)) is (inl (
+            cost,
+            is_cost,
+            λ number known member.
+                let few = subst (λ (one : Level). count number one.members ≤ count number (all_members levels)) found (level_count levels has.0 number has.1) in
+                let one : count number level.members ≡ 1 = omega (arith, contained_counted level.members number member, few, once number known) in
+                (one, omega (arith, ap (λ n. cost * n * level.length) one)),
+          ))
+      | inr apart ↦ inr (λ number known member.
+          let none : count number level.members ≡ 0 = elim (cases_lt (count number level.members) 1) [
+            | inl less ↦ omega (arith, less)
+            | inr some ↦ absurd (apart (one_level levels has.0 inside.0 number (once number known) has.1 inside.1
+                (subst (λ (one : Level). Contains one.members number) (sym found) (counted_contains number level.members some))
+                (subst (λ (one : Level). Contains one.members number) (sym there) member)))
+          ] in (none, omega (arith, ap (λ n. cost * n) none)))
+    ]
+
+-- without the length, and with the time that is left of it
+level_spent : (parts long power cost spent scale written : ℕ) → 1 ≤ long → written ≤ scale * long →
+    parts * long * (spent + power * (scale * long)) ≡ cost * (scale * long) + parts * long * (power * written) →
+    parts * (spent + power * (scale * long - written)) ≡ scale * cost
+level_spent parts long power cost spent scale written some shorter is =
+    let rest : written + (scale * long - written) ≡ scale * long = omega (arith, shorter) in
+    eq_of_mul-eq-mul_right long some (parts * (spent + power * (scale * long - written))) (scale * cost)
+    (omega (arith, is, ap (λ n. parts * long * power * n) rest))
+
+-- the law: the level's slots take the time of its length, and spend its cost
+pub rounded_costs_its_level : RoundedCostsItsLevel
+rounded_costs_its_level jobs points planned levels written level parts cost scale plan table rounds has is_cost is =
+    let hull : List Point = hull_of points in
+    let power : ℕ = (point_at points 0).power in
+    let is_hull = hull_exists points table.rising in
+    let left = scale_left scale planned written is in
+    let slots : List WholeSlot = slots_at scale planned in
+    let positive = plan.proper.well_formed.positive in
+    let spends = all_spend jobs points hull levels parts scale table is_hull (hull_rising points hull table.rising is_hull) positive level.length (λ number. count number level.members)
+    (λ number. cost * count number level.members)
+    (level_priced jobs hull levels parts cost level has is_cost (λ number known. (plan.proper.members number known).at_most_once)) planned written plan left
+    (scale_right scale planned written is) rounds in
+    let long = All-contains (TakesLong slots scale) levels level (levels_long jobs planned levels scale plan left) has in
+    let prices = sum_by_same (λ slot. cost * count slot.job level.members * (slot.to - slot.from)) (λ slot. cost * (count slot.job level.members * (slot.to - slot.from))) slots
+    (λ k d inside. omega arith) ∙ sum_by-mul cost (λ (slot : WholeSlot). count slot.job level.members * (slot.to - slot.from)) slots in
+    let mine : ℕ = busy (member_slots level (slots_at scale written)) in
+    let within : mine ≤ scale * level.length = omega (arith, spends.shorter, long) in (
+      spends.spent,
+      spends.spends,
+      within,
+      level_spent parts level.length power cost spends.spent scale mine (All-contains (λ level. (1 ≤ level.work) × (1 ≤ level.length)) levels level positive has).1
+          within
+          (subst (λ (n : ℕ). parts * level.length * (spends.spent + power * n) ≡ cost * n + parts * level.length * (power * mine)) long (rw prices at spends.is_spent)),
+    )
+
+-- # All levels
+
+-- each level's members have its price
+levels_priced : (jobs : List Job) (hull : List Point) (levels : List Level) (costs : List ℕ) (parts : ℕ) → AllZip (IsLevelCost hull parts) levels costs →
+    ((number : ℕ) → number < length jobs → count number (all_members levels) ≤ 1) → (level : Level) → Contains levels level →
+    IsPriced jobs hull parts (all_lengths levels) (λ number. 1) (rate levels costs) level
+levels_priced jobs hull levels costs parts each_cost once level has =
+    subst (IsPriced jobs hull parts (all_lengths levels) (λ number. 1) (rate levels costs)) (level_found levels level has) (inl (
+      get_or costs has.0 0,
+      cost_at hull parts levels costs has.0 each_cost has.1,
+      λ number known member. (refl, rate_member levels costs has.0 number (same_number hull parts levels costs each_cost) has.1 member (once number known)),
+    ))
 
 -- with the idle time, and without the lengths' product
 with_idle : (parts all power spent energy costs length_sum horizon scale busy_planned busy_written idle_written total : ℕ) → 1 ≤ all → length_sum ≤ horizon →
@@ -234,15 +349,20 @@ rounded_costs_its_levels jobs points planned levels written costs parts scale pl
     let is_hull = hull_exists points table.rising in
     let left = scale_left scale planned written is in
     let slots : List WholeSlot = slots_at scale planned in
+    let made : List WholeSlot = slots_at scale written in
     let feasible = written_feasible jobs hull levels planned written scale plan rounds is in
-    let spends = all_spend jobs points hull levels costs parts scale table is_hull (hull_rising points hull table.rising is_hull) plan.proper.well_formed.positive each_cost
-    (λ number known. (plan.proper.members number known).at_most_once) planned written plan left (scale_right scale planned written is) rounds in (
-      spends.spent + power * idle jobs scale (slots_at scale written),
-      (spends.spent, spends.spends, refl),
-      with_idle parts (all_lengths levels) power spends.spent (spends.spent + power * idle jobs scale (slots_at scale written)) (sum costs)
-          (sum_by (λ level. level.length) levels) (horizon jobs) scale (busy slots) (busy (slots_at scale written)) (idle jobs scale (slots_at scale written))
-          (sum_by (λ slot. rate levels costs slot.job * (slot.to - slot.from)) slots) (lengths_positive levels plan.proper.well_formed.positive)
+    let positive = plan.proper.well_formed.positive in
+    let spends = all_spend jobs points hull levels parts scale table is_hull (hull_rising points hull table.rising is_hull) positive (all_lengths levels) (λ number. 1)
+    (rate levels costs) (levels_priced jobs hull levels costs parts each_cost (λ number known. (plan.proper.members number known).at_most_once)) planned written plan left
+    (scale_right scale planned written is) rounds in
+    let whole = all_kept (λ number. 1) made (λ k d inside. omega arith) in
+    let energy : ℕ = spends.spent + power * idle jobs scale made in (
+      energy,
+      (spends.spent, subst (λ all. SpendsAtPoints points all spends.spent) whole spends.spends, refl),
+      with_idle parts (all_lengths levels) power spends.spent energy (sum costs) (sum_by (λ level. level.length) levels) (horizon jobs) scale (timed (λ number. 1) slots)
+          (busy (kept (λ number. 1) made)) (idle jobs scale made) (timed (rate levels costs) slots) (lengths_positive levels positive)
           (levels_fit_the_horizon jobs planned levels plan) spends.is_spent
           (rates_together scale slots levels costs (same_number hull parts levels costs each_cost) (levels_long jobs planned levels scale plan left))
-          (plan_busy jobs planned levels scale plan left) (busy_and_idle jobs scale (slots_at scale written) feasible) refl,
+          (omega (arith, sum_by-mul 1 (λ (slot : WholeSlot). slot.to - slot.from) slots, plan_busy jobs planned levels scale plan left))
+          (omega (arith, ap busy whole, busy_and_idle jobs scale made feasible)) refl,
     )

@@ -21,7 +21,6 @@ pub mod Members
 pub mod LevelTimes
 pub mod LevelShares
 pub mod LevelsEnergy
-pub mod LevelEnergy
 pub mod RoundedEnergy
 pub mod RoundedCheapest
 pub mod RoundedRuns

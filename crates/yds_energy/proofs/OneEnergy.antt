@@ -1,6 +1,5 @@
 -- A feasible schedule has one energy on the points of a table, since each slot's speed is that of one point.
-use Rattle.std.proofs.Common.{◌≡◌, ℕ, zero, suc, ◌-◌, ◌*◌, ◌<◌, List, [], ◌∷◌, length, sym, ap, ◌∙◌, arith, inl, inr}
-use Rattle.std.specs.List.{Contains}
+use Rattle.std.proofs.Common.{◌≡◌, ℕ, zero, suc, ◌-◌, ◌*◌, ◌<◌, List, [], ◌∷◌, length, sym, ap, ◌∙◌, arith, inl, inr, Contains}
 use Rattle.std.proofs.lemmas.Bool.{cases_lt}
 use Rattle.std.proofs.lemmas.List.{get_or_default}
 use Rattle.std.proofs.Math.Nat.{eq_of_mul-eq-mul_right}

@@ -1,9 +1,7 @@
 -- Parts of a plan's slots, at a scale: each has what the whole has.
-use Rattle.std.proofs.Common.{◌≡◌, ℕ, ◌-◌, ◌*◌, ◌+◌, ◌≤◌, ◌==◌, List, [], ◌∷◌, ◌++◌, sym, subst, ◌∙◌, arith}
-use Rattle.std.specs.Prelude.{if◌then◌else◌}
-use Rattle.std.specs.List.{All, Contains}
+use Rattle.std.proofs.Common.{◌≡◌, ℕ, ◌-◌, ◌*◌, ◌+◌, ◌≤◌, ◌==◌, List, [], ◌∷◌, ◌++◌, sym, subst, ◌∙◌, arith, if◌then◌else◌, All, Contains}
 use Rattle.std.proofs.lemmas.List.{map-append, get_or_default, length-map}
-use Rattle.std.proofs.lemmas.List.Elements.{All-head, All-tail, All-append, All-weaker, All-from_get_or}
+use Rattle.std.proofs.lemmas.List.Elements.{All-append, All-weaker, All-from_get_or}
 use Rattle.std.proofs.lemmas.List.Sums.{sum_by-append}
 use Rattle.std.proofs.Math.Nat.{mul-pos, dvd-mul_right_of_dvd}
 use Rattle.yds_model.specs.Job.{Job}
@@ -16,11 +14,6 @@ use Rattle.yds_model.proofs.Runs.{run_earlier}
 
 -- # Slots in order
 
--- and from each time up to their start
-pub run_later : (low start : ℕ) (slots : List WholeSlot) → RunFrom low slots → All (λ slot. start ≤ slot.from) slots → RunFrom start slots
-run_later low start [] run later = tt
-run_later low start (slot ∷ slots) run later = (later 0 slot (omega arith), run.1, run.2)
-
 -- the first of two parts
 pub run_front : (start : ℕ) (slots others : List WholeSlot) → RunFrom start (slots ++ others) → RunFrom start slots
 run_front start [] others run = tt
@@ -30,16 +23,6 @@ run_front start (slot ∷ slots) others run = (run.0, run.1, run_front slot.to s
 pub run_back : (start : ℕ) (slots others : List WholeSlot) → RunFrom start (slots ++ others) → RunFrom 0 others
 run_back start [] others run = run_earlier 0 start others (omega arith) run
 run_back start (slot ∷ slots) others run = run_back slot.to slots others run.2
-
--- two parts, of which the second begins where the first has ended
-pub run_joined : (start middle : ℕ) (slots others : List WholeSlot) → start ≤ middle → RunFrom start slots → All (λ slot. slot.to ≤ middle) slots →
-    RunFrom middle others → RunFrom start (slots ++ others)
-run_joined start middle [] others order run ends later = run_earlier start middle others order later
-run_joined start middle (slot ∷ slots) others order run ends later = (
-  run.0,
-  run.1,
-  run_joined slot.to middle slots others (All-head (λ one. one.to ≤ middle) slot slots ends) run.2 (All-tail (λ one. one.to ≤ middle) slot slots ends) later,
-)
 
 -- two parts give a job what each gives it
 pub given_joined : (slots others : List WholeSlot) (job : ℕ) → work_given (slots ++ others) job ≡ work_given slots job + work_given others job

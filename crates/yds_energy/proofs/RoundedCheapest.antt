@@ -1,6 +1,5 @@
 -- The energy of the rounded slots of a plan is the least of all feasible schedules on the table's points.
-use Rattle.std.proofs.Common.{◌≡◌, ℕ, zero, suc, ◌-◌, ◌*◌, ◌<◌, ◌≤◌, List, [], ◌∷◌, ◌++◌, map, ap, arith, refl}
-use Rattle.std.specs.Prelude.{ℤ, pos, ◌≤ℤ◌}
+use Rattle.std.proofs.Common.{◌≡◌, ℕ, zero, suc, ◌-◌, ◌*◌, ◌<◌, ◌≤◌, List, [], ◌∷◌, ◌++◌, map, ap, arith, refl, ℤ, pos, ◌≤ℤ◌}
 use Rattle.std.proofs.lemmas.Int.{ints}
 use Rattle.std.proofs.lemmas.List.Elements.{All-append}
 use Rattle.std.proofs.Math.Nat.{mul-pos, mul-le-mul_right, le_of_mul-le-mul_left, le_of_mul-le-mul_right}

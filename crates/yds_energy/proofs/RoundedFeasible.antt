@@ -1,6 +1,5 @@
 -- The slots of a plan, rounded to a table's points, are a feasible schedule on them: stretch by stretch.
-use Rattle.std.proofs.Common.{◌≡◌, ◌⊎◌, ℕ, ◌+◌, ◌-◌, ◌*◌, ◌<◌, ◌≤◌, ◌==◌, List, [], ◌∷◌, ◌++◌, length, get_or, refl, sym, ap, subst, ◌∙◌, arith, inl, inr, eqb-true}
-use Rattle.std.specs.Prelude.{◌↔◌}
+use Rattle.std.proofs.Common.{◌≡◌, ◌⊎◌, ℕ, ◌+◌, ◌-◌, ◌*◌, ◌<◌, ◌≤◌, ◌==◌, List, [], ◌∷◌, ◌++◌, length, get_or, refl, sym, ap, subst, ◌∙◌, arith, inl, inr, eqb-true, ◌↔◌}
 use Rattle.std.specs.List.{All, AllByRecursion, Any, Contains}
 use Rattle.std.proofs.lemmas.Bool.{cases_Bool}
 use Rattle.std.proofs.lemmas.List.{map-append}
@@ -18,11 +17,11 @@ use Rattle.yds_model.specs.Event.{stretches, LiesIn, LiesWritten}
 use Rattle.yds_model.specs.Rounding.{HasPointSpeed, AreNeighbours, jobs_in_turn, IsSplitAt, RoundsStretch, RoundsStretches}
 use Rattle.yds_events.specs.Stretch.{no_stretch, IsOutside}
 use Rattle.yds_model.proofs.Fractions.{at_most_of_values}
-use Rattle.yds_model.proofs.Runs.{run_forward, run_earlier}
+use Rattle.yds_model.proofs.Runs.{run_forward, run_earlier, run_later, run_joined}
 use Rattle.yds_events.proofs.Neighbours.{stretches_run, release_outside, deadline_outside}
 use Rattle.yds_laws.proofs.Bound.{scale_left, scale_right}
 use Rattle.yds_energy.proofs.RoundedRuns.{runs_order, runs_within, runs_on_order}
-use Rattle.yds_energy.proofs.PlanParts.{run_later, run_joined, given_joined, scale_joined, IsPartOfPlan, plan_part, part_front, part_back}
+use Rattle.yds_energy.proofs.PlanParts.{given_joined, scale_joined, IsPartOfPlan, plan_part, part_front, part_back}
 
 -- # Jobs in turn
 

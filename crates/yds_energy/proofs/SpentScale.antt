@@ -1,8 +1,5 @@
 -- What schedules spend on the operating points, stretch by stretch, is free of scale.
-use Rattle.std.proofs.Common.{◌≡◌, ℕ, ◌-◌, ◌*◌, ◌≤◌, List, [], ◌∷◌, map, get_or, refl, ap, ap₂, ◌∙◌, arith}
-use Rattle.std.specs.List.{All}
-use Rattle.std.specs.Prelude.{◌↔◌}
-use Rattle.std.proofs.Math.Nat.{mul-pos}
+use Rattle.std.proofs.Common.{◌≡◌, ℕ, ◌-◌, ◌*◌, ◌≤◌, List, [], ◌∷◌, map, get_or, refl, ap, ap₂, ◌∙◌, arith, All, ◌↔◌, mul-pos}
 use Rattle.std.proofs.Math.Path.{fun_ext}
 use Rattle.yds_model.specs.Numbers.{IsFirstFailure}
 use Rattle.yds_model.specs.Job.{Job}

@@ -1,7 +1,6 @@
 -- The slots of a schedule by the stretches that they lie in: each is in one, and those in a stretch stand between those before it and
 -- those after it.
-use Rattle.std.proofs.Common.{◌≡◌, ℕ, ◌+◌, ◌*◌, ◌<◌, ◌≤◌, ◌⊎◌, Bool, true, false, List, [], ◌∷◌, ◌++◌, zero, suc, refl, sym, ap, ◌∙◌, arith, inl, inr, leb-true}
-use Rattle.std.specs.Prelude.{sum_by, nat_le, ◌&&◌, if◌then◌else◌}
+use Rattle.std.proofs.Common.{◌≡◌, ℕ, ◌+◌, ◌*◌, ◌<◌, ◌≤◌, ◌⊎◌, Bool, true, false, List, [], ◌∷◌, ◌++◌, zero, suc, refl, sym, ap, ◌∙◌, arith, inl, inr, leb-true, sum_by, nat_le, ◌&&◌, if◌then◌else◌}
 use Rattle.std.specs.List.{All, Any}
 use Rattle.std.specs.Cmp.Derive.{both_true}
 use Rattle.std.proofs.Math.Nat.{mul-le-mul_right}

@@ -1,13 +1,11 @@
 -- The stretches of jobs are together as long as the horizon.
-use Rattle.std.proofs.Common.{◌≡◌, ℕ, zero, suc, ◌+◌, ◌-◌, ◌<◌, ◌≤◌, ◌⊎◌, min, max, List, [], ◌∷◌, length, get_or, refl, sym, ap, ◌∙◌, arith, inl, inr}
-use Rattle.std.specs.Prelude.{sum_by}
-use Rattle.std.specs.List.{All, flat_map, fold}
+use Rattle.std.proofs.Common.{◌≡◌, ℕ, suc, ◌+◌, ◌-◌, ◌<◌, ◌≤◌, ◌⊎◌, min, max, List, [], ◌∷◌, length, get_or, refl, sym, ap, ◌∙◌, arith, inl, inr, sum_by, All, flat_map, fold}
 use Rattle.std.proofs.lemmas.List.Elements.{All-nil, All-cons, All-head, All-tail, All-from_get_or}
 use Rattle.std.proofs.lemmas.List.Sums.{sum_by-cons}
 use Rattle.yds_model.specs.Job.{Job, no_job, job_at}
 use Rattle.yds_model.specs.Energy.{first_release, last_deadline, horizon}
 use Rattle.yds_model.specs.Event.{event_points, neighbours, stretches}
-use Rattle.yds_model.proofs.Horizon.{releases_from}
+use Rattle.yds_model.proofs.Horizon.{deadlines_below, releases_above}
 use Rattle.yds_events.specs.Stretch.{length_of}
 use Rattle.yds_events.proofs.Rising.{Rises, rises_times, rising_all}
 use Rattle.yds_events.proofs.Times.{not_later, release_at, deadline_at}
@@ -39,23 +37,6 @@ picked pick of either from (job ∷ jobs) = elim (picked pick of either (pick fr
     | inr second ↦ inr (0, omega arith, sym (is ∙ second))
   ]
 ]
-
--- the greatest is no less than the first number
-last_from : (from : ℕ) (jobs : List Job) → from ≤ fold (λ time job. max time job.deadline) from jobs
-last_from from [] = omega arith
-last_from from (job ∷ jobs) = omega (arith, last_from (max from job.deadline) jobs)
-
--- and no less than a deadline
-last_none : (from : ℕ) (jobs : List Job) (number : ℕ) → number < length jobs → (job_at jobs number).deadline ≤ fold (λ time job. max time job.deadline) from jobs
-last_none from [] number within = absurd (omega (arith, within))
-last_none from (job ∷ jobs) zero within = omega (arith, last_from (max from job.deadline) jobs)
-last_none from (job ∷ jobs) (suc number) within = last_none (max from job.deadline) jobs number (omega (arith, within))
-
--- the least is no greater than a release
-first_none : (from : ℕ) (jobs : List Job) (number : ℕ) → number < length jobs → fold (λ time job. min time job.release) from jobs ≤ (job_at jobs number).release
-first_none from [] number within = absurd (omega (arith, within))
-first_none from (job ∷ jobs) zero within = omega (arith, releases_from jobs (min from job.release))
-first_none from (job ∷ jobs) (suc number) within = first_none (min from job.release) jobs number (omega (arith, within))
 
 -- so the last deadline is one of the jobs', or 0
 last_one : (jobs : List Job) → (last_deadline jobs ≡ 0) ⊎ ((number : ℕ) × (number < length jobs) × ((job_at jobs number).deadline ≡ last_deadline jobs))
@@ -96,7 +77,7 @@ first_event : (jobs : List Job) → 1 ≤ length jobs → ((number : ℕ) → nu
     get_or (event_points jobs) 0 0 ≤ first_release jobs
 first_event jobs some window =
     elim (first_one jobs) [
-      | inl is ↦ absurd (omega (arith, is, first_none (last_deadline jobs) jobs 0 some, window 0 some, last_none 0 jobs 0 some))
+      | inl is ↦ absurd (omega (arith, is, releases_above jobs (last_deadline jobs) 0 some, window 0 some, deadlines_below jobs 0 0 some))
       | inr (number, within, is) ↦
           let event = release_at jobs number within in
           omega (arith, is, event.2, not_later jobs 0 event.0 (omega arith) event.1)
@@ -106,7 +87,7 @@ last_event : (jobs : List Job) → 1 ≤ length jobs → ((number : ℕ) → num
     last_deadline jobs ≤ get_or (event_points jobs) (length (event_points jobs) - 1) 0
 last_event jobs some window =
     elim (last_one jobs) [
-      | inl is ↦ absurd (omega (arith, is, window 0 some, last_none 0 jobs 0 some))
+      | inl is ↦ absurd (omega (arith, is, window 0 some, deadlines_below jobs 0 0 some))
       | inr (number, within, is) ↦
           let event = deadline_at jobs number within in
           omega (arith, is, event.2, not_later jobs event.0 (length (event_points jobs) - 1) (omega (arith, event.1)) (omega (arith, event.1)))
@@ -120,7 +101,7 @@ stretches_long (job ∷ others) windows =
     let window : (number : ℕ) → number < length jobs → (job_at jobs number).release < (job_at jobs number).deadline = λ number within. windows number no_job within in
     let each : All (λ job. (first_release jobs ≤ job.release) × (job.release < job.deadline) × (job.deadline ≤ last_deadline jobs)) jobs =
     All-from_get_or (λ job. (first_release jobs ≤ job.release) × (job.release < job.deadline) × (job.deadline ≤ last_deadline jobs)) jobs no_job
-    (λ number within. (first_none (last_deadline jobs) jobs number within, window number within, last_none 0 jobs number within)) in
+    (λ number within. (releases_above jobs (last_deadline jobs) number within, window number within, deadlines_below jobs 0 number within)) in
     long_between (first_release jobs) (last_deadline jobs) (event_points jobs) (let event = release_at jobs 0 (omega arith) in omega (arith, event.1))
     (rises_times (flat_map (λ job. job.release ∷ job.deadline ∷ []) jobs))
     (rising_all (λ time. (first_release jobs ≤ time) × (time ≤ last_deadline jobs)) (flat_map (λ job. job.release ∷ job.deadline ∷ []) jobs)

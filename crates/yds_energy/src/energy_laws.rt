@@ -9,6 +9,7 @@ ghost use Rattle.yds_energy.specs.EnergyLaws.{FeasibleHaveACommonScale, LeastIsC
 ///
 /// The table may have any size and any powers that make it convex. No schedule has to stay at or below its top
 /// speed: above it the last line goes on.
+#[tactic(auto, using(crate::proofs::Energy::least_is_cheapest))]
 pub fn least_is_cheapest()
     ensures { LeastIsCheapest }
 {}
@@ -25,17 +26,20 @@ pub fn feasible_have_a_common_scale()
 {}
 
 /// By a convex table, a plan's schedule has at most the energy of each feasible schedule.
+#[tactic(auto, using(crate::proofs::PlansEnergy::plans_cost_least))]
 pub fn plans_cost_least()
     ensures { PlansCostLeast }
 {}
 
 /// A schedule that runs at the speeds of a table's points spends at least its energy by the table's lower hull.
+#[tactic(auto, using(crate::proofs::HullEnergy::points_cost_at_least_the_hull))]
 pub fn points_cost_at_least_the_hull()
     ensures { PointsCostAtLeastTheHull }
 {}
 
 /// By the lower hull of any table, a plan's schedule has at most the energy that a feasible schedule spends at
 /// the speeds of the table's points.
+#[tactic(auto, using(crate::proofs::PlansEnergy::plans_cost_least_on_points))]
 pub fn plans_cost_least_on_points()
     ensures { PlansCostLeastOnPoints }
 {}
@@ -43,6 +47,7 @@ pub fn plans_cost_least_on_points()
 /// The line between any two neighbours of a table gives a slot at most the slot's energy.
 ///
 /// So time at two neighbours, with the same work, costs no more than the interpolated energy.
+#[tactic(auto, using(crate::proofs::LineEnergy::lines_are_at_most_energy))]
 pub fn lines_are_at_most_energy()
     ensures { LinesAreAtMostEnergy }
 {}

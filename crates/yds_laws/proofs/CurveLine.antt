@@ -19,13 +19,9 @@ use Rattle.yds_model.proofs.LowestTerms.{HasValue, lowest_value}
 use Rattle.yds_laws.proofs.Curve.{curve}
 use Rattle.yds_laws.proofs.Plans.{plan_falls}
 use Rattle.yds_laws.proofs.LeastAbove.{above_curve}
+use Rattle.yds_model.proofs.Fractions.{at_most_still}
 
 -- # One level
-
--- where a speed isn't above another one, and that isn't above a third, the first isn't above the third
-pub at_most_still : (a b p q c d : ℕ) → 1 ≤ q → a * q ≤ p * b → p * d ≤ c * q → a * d ≤ c * b
-at_most_still a b p q c d some first second =
-    le_of_mul-le-mul_right {k = q} (omega (arith, mul-le-mul_right d first, mul-le-mul_right b second)) some
 
 -- of numbers x + p * long ≡ q * work, .. , with the ways g, h and k: the line through the numbers at a/b and c/d has x at p/q
 line : (x y z g h k work long a b p q c d : ℕ) → x + p * long ≡ q * work → y + a * long ≡ b * work → z + c * long ≡ d * work →

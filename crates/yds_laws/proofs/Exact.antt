@@ -15,6 +15,7 @@ use Rattle.yds_model.specs.Proper.{IsNotFaster}
 use Rattle.yds_model.proofs.Sums.{sum_by-add, sum_by-mul, sum_by_same, sum_by_zero}
 use Rattle.yds_model.proofs.Time.{none_times}
 use Rattle.yds_laws.proofs.Group.{group, group-nil, group-append, work_served}
+use Rattle.yds_model.proofs.Fractions.{at_most_still}
 
 -- the slot has the level's speed, if its job is a member
 abbrev pub FitsSlot : Level → WholeSlot → Type 0
@@ -71,12 +72,6 @@ slow_slot p q often work time all long speed some_length slow = elim (cases_lt o
       let nothing : q * work - p * time ≡ 0 = omega arith in
       omega (arith, ap (λ n. often * n) nothing)
 ]
-
--- where a level isn't faster than one that isn't above p/q, it isn't above p/q either
-slow_next : (p q work long next next_long : ℕ) → 1 ≤ long → work * q ≤ p * long → next * long ≤ work * next_long →
-    next * q ≤ p * next_long
-slow_next p q work long next next_long some_length slow falls =
-    le_of_mul-le-mul_right {k = long} (omega (arith, mul-le-mul_right q falls, mul-le-mul_right next_long slow)) some_length
 
 -- speeds that don't rise don't rise after the first level
 falling_tail : (level : Level) (levels : List Level) → Each (length (level ∷ levels)) (IsNotFaster (level ∷ levels)) →
@@ -166,8 +161,8 @@ module _ (jobs : List Job) (scale : ℕ) (slots : List WholeSlot)
           slow_level level (fit 0 level (omega arith)) slow,
           slow_levels next levels (All-tail (Fits jobs slots) level (next ∷ levels) fit)
               (falling_tail level (next ∷ levels) falling)
-              (slow_next p q level.work level.length next.work next.length (fit 0 level (omega arith)).some_length slow
-              (falling 1 (omega arith) 0 (omega arith))),
+              (at_most_still next.work next.length level.work level.length p q (fit 0 level (omega arith)).some_length
+              (falling 1 (omega arith) 0 (omega arith)) slow),
         )
 
     -- all slots of the members do above p/q just what the levels above it force

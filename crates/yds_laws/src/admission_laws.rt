@@ -14,6 +14,7 @@ pub fn admitted_runs_are_within_the_top()
 
 /// Each job that isn't admitted has its interval: in it lie the windows of jobs, this one and admitted ones, whose work is more
 /// than the top speed does there, so that no schedule at or below the top speed serves them.
+#[tactic(auto, using(crate::proofs::Forced::refusals_are_forced))]
 pub fn refusals_are_forced()
     ensures { RefusalsAreForced }
 {}

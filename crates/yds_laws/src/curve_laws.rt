@@ -9,6 +9,7 @@ pub fn levels_tell_least_excess()
 
 /// Between two neighbouring breaks the least excess is that on the line between them, and above the last break it
 /// is 0.
+#[tactic(auto, using(crate::proofs::CurveLine::curve_is_straight))]
 pub fn curve_is_straight()
     ensures { CurveIsStraight }
 {}

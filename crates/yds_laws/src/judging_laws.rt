@@ -20,16 +20,19 @@ pub fn judgement_is_exact()
 {}
 
 /// Two verdicts of the same jobs, table and slots are one.
+#[tactic(auto, using(yds_model::proofs::OneVerdict::verdict_is_unique))]
 pub fn verdict_is_unique()
     ensures { VerdictIsUnique }
 {}
 
 /// Two judgements of the same jobs, slots and levels are one.
+#[tactic(auto, using(crate::proofs::OneJudgement::judgement_is_unique))]
 pub fn judgement_is_unique()
     ensures { JudgementIsUnique }
 {}
 
 /// `audit`, with or without `--points`, and `check` have one answer to each input.
+#[tactic(auto, using(crate::proofs::AnsweredOnce::audit_and_check_answer_once))]
 pub fn audit_and_check_answer_once()
     ensures { AuditAndCheckAnswerOnce }
 {}

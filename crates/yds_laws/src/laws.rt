@@ -2,6 +2,7 @@ ghost use Rattle.yds_laws.specs.Laws.{ConfinementBound, ExplainedIsLeast, LeastA
 
 /// Different jobs that are confined to pieces of time force, in every feasible schedule and above each
 /// speed, an excess of at least the work that the pieces don't take at that speed.
+#[tactic(auto, using(crate::proofs::Bound::confinement_bound))]
 pub fn confinement_bound()
     ensures { ConfinementBound }
 {}

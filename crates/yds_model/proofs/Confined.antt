@@ -1,6 +1,6 @@
 -- What a job adds to the work that is confined to an interval, and to the work that is released from a time on.
-use Rattle.std.proofs.Common.{◌≡◌, ℕ, ◌<◌, ◌≤◌, ◌⊎◌, ◌+◌, arith, List, [], ◌∷◌, ◌++◌, refl, inl, inr, cond, ◌&&◌, nat_le, ◌∙◌, sym}
-use Rattle.std.specs.List.{All, sum_by}
+use Rattle.std.proofs.Common.{◌≡◌, ℕ, ◌<◌, ◌≤◌, ◌⊎◌, ◌+◌, arith, List, [], ◌∷◌, ◌++◌, refl, inl, inr, cond, nat_le, ◌∙◌, sym}
+use Rattle.std.specs.List.{All}
 use Rattle.std.proofs.lemmas.Bool.{cases_lt, lt-leb, le-leb}
 use Rattle.std.proofs.lemmas.List.Sums.{sum_by_push}
 use Rattle.yds_model.specs.Job.{Job}

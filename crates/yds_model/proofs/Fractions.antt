@@ -1,8 +1,8 @@
 -- What order, equality, sum and multiple of fractions say of their values at a scale.
-use Rattle.std.proofs.Common.{◌≡◌, ℕ, zero, suc, ◌+◌, ◌*◌, ◌/◌, ◌%◌, ◌<◌, ◌≤◌, ◌⊎◌, ◌==◌, ap, sym, ◌∙◌, arith, inl, inr, refl}
+use Rattle.std.proofs.Common.{◌≡◌, ℕ, zero, suc, ◌+◌, ◌*◌, ◌/◌, ◌%◌, ◌<◌, ◌≤◌, ◌⊎◌, ◌==◌, ap, sym, ◌∙◌, arith, inl, inr, refl, mul_right_comm}
 use Rattle.std.specs.Prelude.{◌↔◌}
 use Rattle.std.specs.Int.{◌∣◌}
-use Rattle.std.proofs.Math.Nat.{div-mul_cancel, mul-pos, mul-lt-mul_of_pos_right, lt_of_mul-lt-mul_right, eq_of_mul-eq-mul_right}
+use Rattle.std.proofs.Math.Nat.{div-mul_cancel, mul-pos, mul-lt-mul_of_pos_right, lt_of_mul-lt-mul_right, eq_of_mul-eq-mul_right, le_of_mul-le-mul_right, mul-le-mul_right}
 use Rattle.std.proofs.lemmas.Bool.{cases_lt, cases_Bool}
 use Rattle.yds_model.specs.Scale.{Fraction, at_scale, numerator, of_parts, AreAlike, IsLess, IsAtMost}
 use Rattle.yds_model.specs.ScaleLaws.{OrderIsOfValues, EqualityIsOfValues, SumIsOfValues, MultipleIsOfValues, OrderIsTransitive, EqualityIsTransitive, OrderAgreesWithEquality}
@@ -116,15 +116,16 @@ equality_transitive x y z _ dy _ one two =
 alike_left : (a b c d e f : ℕ) → a * e ≡ b * d → b * f * d ≡ a * f * e
 alike_left a b c d e f h = omega (arith, ap (λ n. n * f) h)
 
--- factors in another order
-alike_right : (c d e : ℕ) → c * e * d ≡ c * d * e
-alike_right c d e = omega arith
+-- where a speed isn't above another one, and that isn't above a third, the first isn't above the third
+pub at_most_still : (a b p q c d : ℕ) → 1 ≤ q → a * q ≤ p * b → p * d ≤ c * q → a * d ≤ c * b
+at_most_still a b p q c d some first second =
+    le_of_mul-le-mul_right {k = q} (omega (arith, mul-le-mul_right d first, mul-le-mul_right b second)) some
 
 -- the law: equal fractions are ordered alike
 pub order_agrees : OrderAgreesWithEquality
 order_agrees x y z dx dy dz same =
     let left = alike_left (numerator x) (numerator y) (numerator z) x.den y.den z.den same in
-    let right = alike_right (numerator z) x.den y.den in (
+    let right = mul_right_comm (numerator z) y.den x.den in (
       tied_order (numerator x * z.den) (numerator z * x.den) x.den y.den (numerator y * z.den) (numerator z * y.den) dy dx left right,
       tied_order (numerator z * x.den) (numerator x * z.den) x.den y.den (numerator z * y.den) (numerator y * z.den) dy dx right left,
     )

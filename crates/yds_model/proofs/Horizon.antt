@@ -12,6 +12,7 @@ use Rattle.yds_model.specs.Job.{Job, job_at, IsJob}
 use Rattle.yds_model.specs.Slot.{WholeSlot, work_given}
 use Rattle.yds_model.specs.Feasible.{RunFrom, IsFeasibleAt}
 use Rattle.yds_model.specs.Energy.{last_deadline, first_release, horizon, busy, idle}
+use Rattle.yds_model.proofs.Runs.{run_later}
 
 -- # The work of all slots
 
@@ -75,23 +76,27 @@ unfolding given_below
 given_same slots others zero same = refl
 given_same slots others (suc n) same = omega (arith, same n (omega arith), given_same slots others n (λ number within. same number (omega arith)))
 
--- so all feasible schedules of the same jobs have the same work
+-- so slots that give each job the same do the same work
+pub work_by_jobs : (slots others : List WholeSlot) (n : ℕ) → All (λ slot. slot.job < n) slots → All (λ slot. slot.job < n) others →
+    ((number : ℕ) → number < n → work_given slots number ≡ work_given others number) → sum_by (λ slot. slot.work) slots ≡ sum_by (λ slot. slot.work) others
+work_by_jobs slots others n known other_known same = all_given slots n known ∙ given_same slots others n same ∙ sym (all_given others n other_known)
+
+-- and all feasible schedules of the same jobs have the same work
 pub same_work : (jobs : List Job) (scale : ℕ) (slots others : List WholeSlot) → IsFeasibleAt jobs scale slots → IsFeasibleAt jobs scale others →
     sum_by (λ slot. slot.work) slots ≡ sum_by (λ slot. slot.work) others
 same_work jobs scale slots others feasible other_feasible =
-    all_given slots (length jobs) (λ k d within. (feasible.in_windows k d within).known)
-    ∙ given_same slots others (length jobs) (λ number within. feasible.served number within ∙ sym (other_feasible.served number within))
-    ∙ sym (all_given others (length jobs) (λ k d within. (other_feasible.in_windows k d within).known))
+    work_by_jobs slots others (length jobs) (λ k d within. (feasible.in_windows k d within).known) (λ k d within. (other_feasible.in_windows k d within).known)
+    (λ number within. feasible.served number within ∙ sym (other_feasible.served number within))
 
 -- # The horizon
 
 -- a fold by the greater, or by the lesser, passes none of its numbers
-deadlines_from : (jobs : List Job) (from : ℕ) → from ≤ fold (λ time job. max time job.deadline) from jobs
+pub deadlines_from : (jobs : List Job) (from : ℕ) → from ≤ fold (λ time job. max time job.deadline) from jobs
 deadlines_from [] from = omega arith
 deadlines_from (job ∷ jobs) from = omega (arith, deadlines_from jobs (max from job.deadline))
 
 -- no deadline is beyond the greatest one
-deadlines_below : (jobs : List Job) (from number : ℕ) → number < length jobs →
+pub deadlines_below : (jobs : List Job) (from number : ℕ) → number < length jobs →
     (job_at jobs number).deadline ≤ fold (λ time job. max time job.deadline) from jobs
 deadlines_below [] from number within = absurd (omega arith)
 deadlines_below (job ∷ jobs) from zero within = omega (arith, deadlines_from jobs (max from job.deadline))
@@ -103,14 +108,14 @@ releases_from [] from = omega arith
 releases_from (job ∷ jobs) from = omega (arith, releases_from jobs (min from job.release))
 
 -- no release is before the least one
-releases_above : (jobs : List Job) (from number : ℕ) → number < length jobs →
+pub releases_above : (jobs : List Job) (from number : ℕ) → number < length jobs →
     fold (λ time job. min time job.release) from jobs ≤ (job_at jobs number).release
 releases_above [] from number within = absurd (omega arith)
 releases_above (job ∷ jobs) from zero within = omega (arith, releases_from jobs (min from job.release))
 releases_above (job ∷ jobs) from (suc number) within = releases_above jobs (min from job.release) number (omega arith)
 
 -- slots that run within a time take no longer
-busy_within : (last start : ℕ) (slots : List WholeSlot) → start ≤ last → RunFrom start slots → All (λ slot. slot.to ≤ last) slots →
+pub busy_within : (last start : ℕ) (slots : List WholeSlot) → start ≤ last → RunFrom start slots → All (λ slot. slot.to ≤ last) slots →
     busy slots + start ≤ last
 busy_within last start [] within runs due = omega (arith, within)
 busy_within last start (slot ∷ slots) within runs due =
@@ -121,11 +126,6 @@ busy_within last start (slot ∷ slots) within runs due =
       runs.1,
       busy_within last slot.to slots (due 0 slot (omega arith)) runs.2 (All-tail (λ other. other.to ≤ last) slot slots due),
     )
-
--- the first slot begins at the first release or later
-runs_from : (start : ℕ) (slots : List WholeSlot) → RunFrom 0 slots → All (λ slot. start ≤ slot.from) slots → RunFrom start slots
-runs_from start [] runs released = tt
-runs_from start (slot ∷ slots) runs released = (released 0 slot (omega arith), runs.1, runs.2)
 
 -- the time in which something runs, and the rest, are the horizon
 pub busy_and_idle : (jobs : List Job) (scale : ℕ) (slots : List WholeSlot) → IsFeasibleAt jobs scale slots →
@@ -138,7 +138,7 @@ busy_and_idle jobs scale slots feasible =
       arith,
       ap (λ n. scale * n) gap,
       busy_within (last_deadline jobs * scale) (first_release jobs * scale) slots order
-          (runs_from (first_release jobs * scale) slots feasible.one_at_a_time
+          (run_later 0 (first_release jobs * scale) slots feasible.one_at_a_time
           (λ k d within. omega (arith, (feasible.in_windows k d within).released, mul-le-mul_right scale (releases_above jobs (last_deadline jobs) _ (feasible.in_windows k d within).known))))
           (λ k d within. omega (arith, (feasible.in_windows k d within).due, mul-le-mul_right scale (deadlines_below jobs 0 _ (feasible.in_windows k d within).known))),
     )
@@ -152,11 +152,10 @@ works_few (job ∷ jobs) fit =
     omega (arith, sum_by-cons (λ (job : Job). job.work) job jobs, (All-head IsJob job jobs fit).work_in_range, works_few jobs (All-tail IsJob job jobs fit))
 
 -- the greatest of their deadlines, and of an earlier time
-deadlines_within : (time : ℕ) (jobs : List Job) → time ≤ MAX_TIME → All IsJob jobs → fold (λ time job. max time job.deadline) time jobs ≤ MAX_TIME
-deadlines_within time [] within fit = within
-deadlines_within time (job ∷ jobs) within fit =
-    let own = (All-head IsJob job jobs fit).time_in_range in
-    deadlines_within (max time job.deadline) jobs (grind (arith, own, within)) (All-tail IsJob job jobs fit)
+pub deadlines_within : (limit time : ℕ) (jobs : List Job) → time ≤ limit → All (λ job. job.deadline ≤ limit) jobs → fold (λ time job. max time job.deadline) time jobs ≤ limit
+deadlines_within limit time [] within due = within
+deadlines_within limit time (job ∷ jobs) within due =
+    deadlines_within limit (max time job.deadline) jobs (omega (arith, within, due 0 job (omega arith))) (All-tail (λ (job : Job). job.deadline ≤ limit) job jobs due)
 
 pub last_within : (jobs : List Job) → All IsJob jobs → last_deadline jobs ≤ MAX_TIME
-last_within jobs fit = deadlines_within 0 jobs (omega arith) fit
+last_within jobs fit = deadlines_within MAX_TIME 0 jobs (omega arith) (λ k d within. (fit k d within).time_in_range)

@@ -22,3 +22,4 @@ pub mod HullOf
 pub mod HullExists
 pub mod Spelling
 pub mod Said
+pub mod Counted

@@ -1,8 +1,8 @@
 -- Slots that run one after another, by recursion on their list and by their places.
-use Rattle.std.proofs.Common.{◌≡◌, ℕ, zero, suc, ◌<◌, ◌≤◌, List, [], ◌∷◌, length, arith}
+use Rattle.std.proofs.Common.{◌≡◌, ℕ, zero, suc, ◌<◌, ◌≤◌, List, [], ◌∷◌, ◌++◌, length, arith}
 use Rattle.std.specs.List.{All}
 use Rattle.std.proofs.lemmas.List.{get_or-map}
-use Rattle.std.proofs.lemmas.List.Elements.{All-nil, All-cons, All-tail}
+use Rattle.std.proofs.lemmas.List.Elements.{All-nil, All-cons, All-tail, All-head}
 use Rattle.yds_model.specs.Slot.{WrittenSlot, WholeSlot, slot_at_scale, slots_at, no_slot, slot_at, no_written_slot, written_slot_at}
 use Rattle.yds_model.specs.Feasible.{RunFrom}
 
@@ -44,3 +44,18 @@ run_after start (slot ∷ slots) run (suc i) within = run_after slot.to slots ru
 pub run_earlier : (earlier start : ℕ) (slots : List WholeSlot) → earlier ≤ start → RunFrom start slots → RunFrom earlier slots
 run_earlier earlier start [] before run = tt
 run_earlier earlier start (slot ∷ slots) before run = (omega (arith, before, run.0), run.1, run.2)
+
+-- and from each time up to their start
+pub run_later : (low start : ℕ) (slots : List WholeSlot) → RunFrom low slots → All (λ slot. start ≤ slot.from) slots → RunFrom start slots
+run_later low start [] run later = tt
+run_later low start (slot ∷ slots) run later = (later 0 slot (omega arith), run.1, run.2)
+
+-- two parts, of which the second begins where the first has ended
+pub run_joined : (start middle : ℕ) (slots others : List WholeSlot) → start ≤ middle → RunFrom start slots → All (λ slot. slot.to ≤ middle) slots →
+    RunFrom middle others → RunFrom start (slots ++ others)
+run_joined start middle [] others order run ends later = run_earlier start middle others order later
+run_joined start middle (slot ∷ slots) others order run ends later = (
+  run.0,
+  run.1,
+  run_joined slot.to middle slots others (All-head (λ one. one.to ≤ middle) slot slots ends) run.2 (All-tail (λ one. one.to ≤ middle) slot slots ends) later,
+)

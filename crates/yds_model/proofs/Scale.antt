@@ -1,17 +1,17 @@
 -- The law of scale: what a written schedule is at a multiple of one of its scales.
-use Rattle.std.proofs.Common.{◌≡◌, ℕ, zero, suc, ◌+◌, ◌-◌, ◌*◌, ◌/◌, ◌≤◌, List, [], ◌∷◌, map, ap, subst, sym, ◌∙◌, refl, arith, Bool, true, false}
+use Rattle.std.proofs.Common.{◌≡◌, ℕ, ◌+◌, ◌-◌, ◌*◌, ◌/◌, ◌≤◌, List, [], ◌∷◌, map, ap, subst, sym, ◌∙◌, refl, arith, Bool, true, false, mul_left_comm}
 use Rattle.std.specs.Prelude.{sum_by, ◌==◌, if◌then◌else◌, ◌↔◌}
 use Rattle.std.specs.List.{All, AllByRecursion}
 use Rattle.std.specs.Int.{◌∣◌}
 use Rattle.std.proofs.lemmas.List.Sums.{sum_by-cons}
 use Rattle.std.proofs.lemmas.List.Elements.{recursion_from_All, All-from_recursion, All-nil, All-cons, All-weaker}
-use Rattle.std.proofs.Math.Nat.{mul-div_assoc, div-mul_cancel, mul_comm, mul-zero, mul-pos, mul-sub, mul-le-mul_left, mul-lt-mul_of_pos_left, le_of_mul-le-mul_left, lt_of_mul-lt-mul_left, eq_of_mul-eq-mul_left, dvd-mul_left, dvd-mul_right, dvd-mul_left_of_dvd, dvd-mul_right_of_dvd}
+use Rattle.std.proofs.Math.Nat.{mul-div_assoc, mul_comm, mul-zero, mul-pos, mul-sub, mul-le-mul_left, mul-lt-mul_of_pos_left, le_of_mul-le-mul_left, lt_of_mul-lt-mul_left, eq_of_mul-eq-mul_left, dvd-mul_left, dvd-mul_right, dvd-mul_left_of_dvd, dvd-mul_right_of_dvd}
 use Rattle.yds_model.specs.Job.{Job, job_at}
 use Rattle.yds_model.specs.Scale.{Fraction, at_scale}
 use Rattle.yds_model.specs.Slot.{WrittenSlot, WholeSlot, IsDivided, IsScale, IsSolid, AtEachScale, slot_at_scale, slots_at, work_given}
 use Rattle.yds_model.specs.Feasible.{RunFrom, IsInWindow, IsFeasibleAt}
 use Rattle.yds_model.specs.Excess.{excess}
-use Rattle.yds_model.proofs.Fractions.{factors, den_positive}
+use Rattle.yds_model.proofs.Fractions.{den_positive}
 use Rattle.yds_model.specs.ScaleLaws.{ScaleKeepsFeasible, ScaleMultipliesExcess, OneScaleDecides, ScaleExists}
 
 -- the slot in parts that are k times as fine
@@ -59,7 +59,7 @@ finer_excess k p q slots =
     finer_sum k (λ slot. q * slot.work - p * (slot.to - slot.from)) (λ slot. excess_split k p q slot.work slot.from slot.to) slots
 
 -- a finer slot gives a job k times the work, or nothing as before
-given_split : (k work : ℕ) (mine : Bool) → (if mine then k * work else 0) ≡ k * (if mine then work else 0)
+pub given_split : (k work : ℕ) (mine : Bool) → (if mine then k * work else 0) ≡ k * (if mine then work else 0)
 given_split k work true = refl
 given_split k work false = omega arith
 
@@ -71,10 +71,6 @@ finer_work k slots job =
 -- the law: at k times a scale each excess is k times what it was
 pub excess_scaled : ScaleMultipliesExcess
 excess_scaled slots scale k p q is = ap (excess p q) (finer_slots k scale slots is) ∙ finer_excess k p q (slots_at scale slots)
-
--- a product with k between is k times the product
-pub shifted : (n k scale : ℕ) → n * (k * scale) ≡ k * (n * scale)
-shifted n k scale = omega arith
 
 -- Feasible at a scale is feasible at k times it, and back.
 run_finer : (k start : ℕ) (slots : List WholeSlot) → 1 ≤ k → RunFrom start slots → RunFrom (k * start) (map (finer k) slots)
@@ -92,16 +88,16 @@ run_coarser k start (slot ∷ slots) some run =
 window_finer : (jobs : List Job) (k scale : ℕ) (slot : WholeSlot) → IsInWindow jobs scale slot → IsInWindow jobs (k * scale) (finer k slot)
 window_finer jobs k scale slot window = record {
   known = window.known;
-  released = rw (shifted (job_at jobs slot.job).release k scale) (mul-le-mul_left k window.released);
-  due = rw (shifted (job_at jobs slot.job).deadline k scale) (mul-le-mul_left k window.due);
+  released = rw (mul_left_comm (job_at jobs slot.job).release k scale) (mul-le-mul_left k window.released);
+  due = rw (mul_left_comm (job_at jobs slot.job).deadline k scale) (mul-le-mul_left k window.due);
 }
 
 -- and was before
 window_coarser : (jobs : List Job) (k scale : ℕ) (slot : WholeSlot) → 1 ≤ k → IsInWindow jobs (k * scale) (finer k slot) → IsInWindow jobs scale slot
 window_coarser jobs k scale slot some window = record {
   known = window.known;
-  released = le_of_mul-le-mul_left (rw (shifted (job_at jobs slot.job).release k scale) at window.released) some;
-  due = le_of_mul-le-mul_left (rw (shifted (job_at jobs slot.job).deadline k scale) at window.due) some;
+  released = le_of_mul-le-mul_left (rw (mul_left_comm (job_at jobs slot.job).release k scale) at window.released) some;
+  due = le_of_mul-le-mul_left (rw (mul_left_comm (job_at jobs slot.job).deadline k scale) at window.due) some;
 }
 
 -- and so are all slots
@@ -124,7 +120,7 @@ feasible_finer jobs k scale slots some feasible = record {
   one_at_a_time = subst (λ (start : ℕ). RunFrom start (map (finer k) slots)) (mul-zero k) (run_finer k 0 slots some feasible.one_at_a_time);
   in_windows = All-from_recursion (IsInWindow jobs (k * scale)) (map (finer k) slots)
       (windows_finer jobs k scale slots (recursion_from_All (IsInWindow jobs scale) slots feasible.in_windows));
-  served = λ number known. finer_work k slots number ∙ ap (λ n. k * n) (feasible.served number known) ∙ sym (shifted (job_at jobs number).work k scale);
+  served = λ number known. finer_work k slots number ∙ ap (λ n. k * n) (feasible.served number known) ∙ sym (mul_left_comm (job_at jobs number).work k scale);
 }
 
 -- and one that is so was feasible before
@@ -135,7 +131,7 @@ feasible_coarser jobs k scale slots some feasible = record {
   in_windows = All-from_recursion (IsInWindow jobs scale) slots
       (windows_coarser jobs k scale slots some (recursion_from_All (IsInWindow jobs (k * scale)) (map (finer k) slots) feasible.in_windows));
   served = λ number known. eq_of_mul-eq-mul_left k some (work_given slots number) ((job_at jobs number).work * scale)
-      (sym (finer_work k slots number) ∙ feasible.served number known ∙ shifted (job_at jobs number).work k scale);
+      (sym (finer_work k slots number) ∙ feasible.served number known ∙ mul_left_comm (job_at jobs number).work k scale);
 }
 
 -- the law of both
@@ -167,16 +163,6 @@ one_scale_of slots P kept scale is at_one = record {
   holds = λ other is_other.
       (kept other scale is_other is.positive).1
       (subst (λ (both : ℕ). P both (slots_at both slots)) (mul_comm other scale) ((kept scale other is is_other.positive).0 at_one));
-}
-
--- what holds at each multiple of a scale that divides all others holds at each scale
-pub least_scale_of : (slots : List WrittenSlot) (P : ℕ → List WholeSlot → Type 0) (least : ℕ) → IsScale least slots →
-    ((scale : ℕ) → IsScale scale slots → least ∣ scale) → ((k : ℕ) → 1 ≤ k → P (k * least) (slots_at (k * least) slots)) → AtEachScale slots P
-least_scale_of slots P least is divides at_multiples = record {
-  solid = solid_of_scale slots least is;
-  holds = λ scale is_scale.
-      let same : scale / least * least ≡ scale = div-mul_cancel least (divides scale is_scale) in
-      subst (λ (n : ℕ). P n (slots_at n slots)) same (at_multiples (scale / least) (factors (scale / least) least scale same is_scale.positive).0);
 }
 
 -- the law: one scale decides

@@ -1,21 +1,14 @@
 -- Spellings: what numbers written in base ten and names are made of.
-use Rattle.std.proofs.Common.{◌≡◌, ◌≢◌, ℕ, ◌+◌, ◌*◌, ◌^◌, ◌<◌, ◌≤◌, true, false, ◌==◌, ◌&&◌, nat_le, List, [], ◌∷◌, length, get_or, All, IsUtf8, IsAscii, decimal, Ok, refl, ap, ◌∙◌, arith, inl, inr, eqb-true, eq-eqb, ne_eqb, eq-zero-or-pos}
+use Rattle.std.proofs.Common.{◌≡◌, ◌≢◌, ℕ, ◌^◌, ◌<◌, ◌≤◌, true, false, ◌==◌, ◌&&◌, nat_le, List, [], ◌∷◌, length, get_or, All, IsUtf8, IsAscii, decimal, Ok, refl, ap, ◌∙◌, arith, inl, inr, eqb-true, eq-eqb, ne_eqb, eq-zero-or-pos}
 use Rattle.std.specs.List.{list_all}
-use Rattle.std.specs.Char.{digit_value}
-use Rattle.std.specs.Str.Parse.{digits_value, digits_value_after, AllDigits}
-use Rattle.std.proofs.lemmas.Bool.{and_parts, and_from, or_from, eqb-false, cases_Bool, leb-true, le-leb}
+use Rattle.std.specs.Str.Parse.{digits_value, AllDigits}
+use Rattle.std.proofs.lemmas.Bool.{and_parts, and_from, eqb-false, cases_Bool, leb-true, le-leb}
 use Rattle.std.proofs.lemmas.Fmt.{decimal_is_IsNumeral, decimal_digit, first_decimal}
 use Rattle.std.proofs.lemmas.Str.{IsUtf8-from_ascii}
 use Rattle.std.proofs.lemmas.Str.Parse.{digit_from_value}
 use Rattle.std.proofs.lemmas.Str.Ascii.{IsAscii-nil, IsAscii-cons}
 use Rattle.std.proofs.lemmas.List.Elements.{All-nil, All-cons, All-weaker}
-use Rattle.yds_model.specs.Lines.{is_blank}
 use Rattle.yds_model.specs.Spelling.{is_digit, is_number, number_at, is_visible, is_name}
-
--- more digits make no number smaller
-pub digits_value_after-le : (value : ℕ) (digits : List ℕ) → value ≤ digits_value_after 10 value digits
-digits_value_after-le value [] = omega arith
-digits_value_after-le value (digit ∷ digits) = omega (arith, digits_value_after-le (value * 10 + digit_value digit) digits)
 
 -- visible bytes are ASCII
 visible_ascii : (text : List ℕ) → list_all is_visible text ≡ true → IsAscii text
@@ -104,17 +97,9 @@ digit_other byte other apart digit =
     let range = digit_range byte digit in
     ne_eqb byte other (λ (same : byte ≡ other). omega arith)
 
--- and no blank
-digit_no_blank : (byte : ℕ) → is_digit byte ≡ true → is_blank byte ≡ false
-digit_no_blank byte digit = or_from (byte == 32) (byte == 9) (digit_other byte 32 (omega arith) digit) (digit_other byte 9 (omega arith) digit)
-
 -- the bytes of what is written in base ten
 pub decimal_digits : (n : ℕ) → n < 2 ^ 64 → All (λ byte. is_digit byte ≡ true) (decimal n)
 decimal_digits n small = number_digits (decimal n) (is_number-decimal n small)
-
--- none is a blank
-pub decimal_no_blank : (n : ℕ) → n < 2 ^ 64 → All (λ byte. is_blank byte ≡ false) (decimal n)
-decimal_no_blank n small = All-weaker (λ byte. is_digit byte ≡ true) (λ byte. is_blank byte ≡ false) digit_no_blank (decimal n) (decimal_digits n small)
 
 -- no byte of it is this one, as a line feed (10), a carriage return (13), a plus (43) or a slash (47)
 pub decimal_none : (other n : ℕ) → n < 2 ^ 64 → other < 48 → All (λ byte. (byte == other) ≡ false) (decimal n)

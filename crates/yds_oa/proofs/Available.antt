@@ -1,9 +1,9 @@
 -- A run of Optimal Available: by each event point every job that is due by then is served in full, and what the code asks of a
 -- stretch is what the definition asks.
-use Rattle.std.proofs.Common.{◌≡◌, ℕ, zero, suc, ◌-◌, ◌*◌, ◌<◌, ◌≤◌, max, List, length, get_or, map, ◌∙◌, refl, sym, subst, ap, arith, inl, inr, cond, true, false, add-one}
+use Rattle.std.proofs.Common.{◌≡◌, ℕ, zero, suc, ◌-◌, ◌*◌, ◌<◌, ◌≤◌, max, List, length, get_or, map, ◌∙◌, refl, sym, subst, ap, arith, inl, inr, cond, true, false, add-one, mul_assoc}
 use Rattle.std.specs.Prelude.{Bool, nat_le, nat_lt, ◌==◌, ◌&&◌, not, All, sum_by, filter, fold, Result, Ok, Err, IfOk, OnOk}
 use Rattle.std.specs.List.{list_all}
-use Rattle.std.proofs.lemmas.Bool.{cases_lt, cases_eq, cases_Bool, le-leb, lt-leb, lt-ltb, le-ltb, eq-eqb, ne_eqb}
+use Rattle.std.proofs.lemmas.Bool.{cases_lt, cases_eq, cases_Bool, le-leb, lt-leb, lt-ltb, le-ltb, eq-eqb, ne_eqb, and_left, and_right, and_from}
 use Rattle.std.proofs.lemmas.List.Elements.{All-filter, All-weaker, Contains-get_or, filter_agree}
 use Rattle.std.proofs.Math.ListN.{get_or-eq_default}
 use Rattle.std.proofs.Math.Nat.{mul-le-mul_left, le_of_mul-le-mul_right, mul-pos, eq_of_mul-eq-mul_left}
@@ -38,17 +38,6 @@ use Rattle.yds_edf.proofs.Quotients.{up_enough, up_most}
 use Rattle.yds_oa.specs.Asked.{is_waiting, waiting, due_by, deadlines, asked_by, most_asked, most_rounds}
 use Rattle.yds_oa.proofs.Waiting.{waits_is, waits_for, each_waits}
 use Rattle.yds_oa.proofs.Greatest.{asks_at_most, most_at_most}
-
--- two tests in one
-and_true : (a b : Bool) → a ≡ true → b ≡ true → (a && b) ≡ true
-and_true a b first second = rw (first, second) refl
-
-and_not : (a b : Bool) → a ≡ false → (a && b) ≡ false
-and_not a b first = rw first refl
-
-and_second : (a b : Bool) → b ≡ false → (a && b) ≡ false
-and_second true b second = second
-and_second false b second = refl
 
 -- what a waiting job adds to the units that are due by a time
 abbrev due_term : List Job → (ℕ → ℕ) → Piece → ℕ → ℕ → ℕ
@@ -293,19 +282,19 @@ module _ (jobs : List Job) (grid : ℕ) (some_grid : 1 ≤ grid) (are : All IsJo
                       let nothing : left_at job ≡ 0 = omega arith in
                       absurd (omega (arith, mul-pos is.positive some, arrived_term job arrived, ap (λ n. grid * n) nothing))
                 ] in
-                and_true _ _ arrived (lt-ltb 0 (left_at job) positive) ∙ sym (and_true _ _ (lt-ltb 0 (held k job) some) (lt-ltb st.from (job_at jobs job).deadline later))
+                and_from _ _ arrived (lt-ltb 0 (left_at job) positive) ∙ sym (and_from _ _ (lt-ltb 0 (held k job) some) (lt-ltb st.from (job_at jobs job).deadline later))
             | inr not_yet ↦ absurd (omega (arith, mul-pos is.positive some, early_term job not_yet))
           ]
       | inr none ↦
           let nothing : held k job ≡ 0 = omega arith in
           elim (cases_Bool (nat_le (job_at jobs job).release st.from)) [
-            | inr not_yet ↦ and_not _ _ not_yet ∙ sym (and_not _ _ (le-ltb 0 (held k job) none))
+            | inr not_yet ↦ and_left _ _ not_yet ∙ sym (and_left _ _ (le-ltb 0 (held k job) none))
             | inl arrived ↦
                 let zero_left : left_at job ≤ 0 = elim (cases_lt 0 (left_at job)) [
                   | inr zeros ↦ zeros
                   | inl more ↦ absurd (omega (arith, mul-pos some_grid more, arrived_term job arrived, ap (λ n. scale * n) nothing))
                 ] in
-                and_second _ _ (le-ltb 0 (left_at job) zero_left) ∙ sym (and_not _ _ (le-ltb 0 (held k job) none))
+                and_right _ _ (le-ltb 0 (left_at job) zero_left) ∙ sym (and_left _ _ (le-ltb 0 (held k job) none))
           ]
     ]
 
@@ -335,13 +324,10 @@ module _ (jobs : List Job) (grid : ℕ) (some_grid : 1 ≤ grid) (are : All IsJo
         (waiting jobs (held k) st) (each_waits jobs (held k) st)))
         ∙ sum_by-mul scale (held k) xs
 
-    grouped : (a b c : ℕ) → a * b * c ≡ a * (b * c)
-    grouped a b c = omega arith
-
     same_asked : (deadline : ℕ) → asked jobs grid scale (slots_at scale slots) st deadline ≡ asked_by jobs (held k) st deadline
     same_asked deadline =
         ap (λ n. div_up (n * (st.to - st.from)) (scale * (deadline - st.from))) (same_due deadline)
-        ∙ ap (λ n. div_up n (scale * (deadline - st.from))) (grouped scale (due_by jobs (held k) st deadline) (st.to - st.from))
+        ∙ ap (λ n. div_up n (scale * (deadline - st.from))) (mul_assoc scale (due_by jobs (held k) st deadline) (st.to - st.from))
         ∙ rounded_up_same scale is.positive (due_by jobs (held k) st deadline * (st.to - st.from)) (deadline - st.from)
 
     same_most : units_asked jobs grid scale (slots_at scale slots) st ≡ most_asked jobs (held k) st
@@ -370,7 +356,7 @@ module _ (jobs : List Job) (grid : ℕ) (some_grid : 1 ≤ grid) (are : All IsJo
     same_short most deadline =
         let other : most * (scale * (deadline - st.from)) ≡ scale * (most * (deadline - st.from)) = omega arith in
         ap (λ n. not (n * (st.to - st.from) == most * (scale * (deadline - st.from)))) (same_due deadline)
-        ∙ ap (λ n. not (n == most * (scale * (deadline - st.from)))) (grouped scale (due_by jobs (held k) st deadline) (st.to - st.from))
+        ∙ ap (λ n. not (n == most * (scale * (deadline - st.from)))) (mul_assoc scale (due_by jobs (held k) st deadline) (st.to - st.from))
         ∙ ap (λ n. not (scale * (due_by jobs (held k) st deadline * (st.to - st.from)) == n)) other
         ∙ ap not (eq_scaled (due_by jobs (held k) st deadline * (st.to - st.from)) (most * (deadline - st.from)))
 

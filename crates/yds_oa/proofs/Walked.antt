@@ -1,7 +1,7 @@
 -- A walk over places in order of deadlines, which keeps the greatest quotient, and passes over some places together.
 use Rattle.std.proofs.Common.{◌≡◌, ℕ, ◌+◌, ◌-◌, ◌*◌, ◌<◌, ◌≤◌, ◌⊎◌, List, length, slice_index, ◌∙◌, sym, subst, ap, arith, inl, inr}
 use Rattle.std.proofs.lemmas.Bool.{cases_lt, cases_eq}
-use Rattle.std.proofs.Math.Nat.{mul-le-mul_right, mul-le-mul_left, le_of_mul-le-mul_right}
+use Rattle.std.proofs.Math.Nat.{mul-le-mul_right, mul-le-mul_left}
 use Rattle.yds_edf.specs.declared.pending.PendingJobs.{PendingJobs}
 use Rattle.yds_oa.specs.declared.quotient.Quotient.{Quotient}
 use Rattle.yds_edf.specs.Blocks.{units_before}
@@ -10,11 +10,7 @@ use Rattle.yds_oa.specs.declared.walk.Walk.{Walk}
 use Rattle.yds_oa.specs.Greatest.{AreInOrder, AreDueAfter, IsQuotientAmong, IsNotGreater, IsGreatestWithin, IsWalk}
 use Rattle.yds_edf.proofs.Sums.{sum_below_term}
 use Rattle.yds_edf.proofs.PlacedSums.{before_rises, none_left}
-
--- what is at most a quotient is at most a greater one
-pub through : (a b u t v s : ℕ) → a * t ≤ u * b → u * s ≤ v * t → 1 ≤ t → a * s ≤ v * b
-through a b u t v s first second some =
-    le_of_mul-le-mul_right {k = t} (omega (arith, mul-le-mul_right s first, mul-le-mul_right b second)) some
+use Rattle.yds_model.proofs.Fractions.{at_most_still}
 
 -- before a place with no units before it there are none
 pub none_there : (units : List ℕ) (start place : ℕ) → units_before units start ≡ 0 → place < start → slice_index units place ≡ 0
@@ -65,8 +61,8 @@ module _ (pending : PendingJobs) (from start place units : ℕ) (old new one : Q
     attained = still_attained either;
     upper = λ p most less. elim (cases_eq p place) [
       | inl last ↦ subst (IsNotGreater pending from start new) (sym last) here_at_most
-      | inr other ↦ through (units_before pending.units (p + 1) - units_before pending.units start) ((due_at pending.order.items p).deadline - from) old.units old.time new.units new.time
-          (before.upper p most (omega (arith, less, other))) first before.some_time
+      | inr other ↦ at_most_still (units_before pending.units (p + 1) - units_before pending.units start) ((due_at pending.order.items p).deadline - from) old.units old.time new.units new.time
+          before.some_time (before.upper p most (omega (arith, less, other))) first
     ];
   }
 

@@ -14,8 +14,9 @@ use Rattle.yds_model.specs.Feasible.{RunFrom, IsInWindow, IsFeasibleAt}
 use Rattle.yds_model.specs.Excess.{excess, IsLeastAt}
 use Rattle.yds_model.proofs.Horizon.{part_other}
 use Rattle.yds_model.proofs.Lists.{All-front, All-back}
-use Rattle.yds_energy.proofs.PlanParts.{run_later, run_front, run_back, run_joined, given_joined}
+use Rattle.yds_energy.proofs.PlanParts.{run_front, run_back, given_joined}
 use Rattle.yds_parts.specs.Parts.{ArePartedAt, moved, together_at}
+use Rattle.yds_model.proofs.Runs.{run_later, run_joined}
 
 -- # Slots of jobs some places later
 

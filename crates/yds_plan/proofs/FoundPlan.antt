@@ -72,13 +72,6 @@ module _ (jobs : List Job) (proper : All IsJob jobs) (few : length jobs ≤ MAX_
   stretches_length l known =
       group_sum found.groups found.group_of_stretch (length_at jobs) (length (stretches jobs)) l (λ group. group.length) is.lengths known
 
-  -- by place
-  place : (P : ℕ → Level → Type 0) → ((l : ℕ) → l < count_of_levels → P l (level_numbered jobs found l)) →
-      (i : ℕ) → i < length (levels_of jobs found) → P i (level_at (levels_of jobs found) i)
-  place P each i within =
-      let known : i < count_of_levels = omega (arith, levels_length jobs found) in
-      rw (level_there jobs found i known) (each i known)
-
   well_formed : AreLevels jobs (levels_of jobs found)
   well_formed = record {
     positive = each_level (λ level. (1 ≤ level.work) × (1 ≤ level.length)) jobs found (λ l known. (some_level_work l known, some_level_length l known));

@@ -121,6 +121,7 @@ fn write_level<S: Serializer>(level: &Level, out: &mut S) -> Result<(), S::Error
 }
 
 /// The text of a report is read by `serde_json` as the report: its members, and an object for each level.
+#[tactic(auto, using(crate::proofs::JsonRead::reports_are_read))]
 pub fn reports_are_read()
     ensures { ReportsAreRead }
 {}

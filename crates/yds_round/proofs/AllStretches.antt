@@ -19,7 +19,6 @@ use Rattle.yds_model.proofs.Lists.{flat_map-take}
 use Rattle.yds_model.proofs.Scale.{scale_exists}
 use Rattle.yds_events.specs.Stretch.{no_stretch}
 use Rattle.yds_events.proofs.Neighbours.{few_stretches}
-use Rattle.yds_energy.proofs.FullStretches.{one_level}
 use Rattle.yds_timetable.specs.declared.pace.Pace.{Pace as Speed}
 use Rattle.yds_timetable.specs.Shares.{JobShare}
 use Rattle.yds_timetable.specs.Timetable.{Row, row_at, stretches_of, slots_at_pace, row_slots, slots_of, IsFilledAt, IsRow}
@@ -36,6 +35,7 @@ use Rattle.yds_round.proofs.Cuts.{WorksOver}
 use Rattle.yds_round.proofs.InTurn.{share_jobs, jobs_of}
 use Rattle.yds_round.proofs.Held.{IsHeld, known, held, held_slots, row_lies, same_jobs}
 use Rattle.yds_round.proofs.Rounds.{level_slots, pace_grain, rounds_by, over_by, jobs_by, more_by, can_round_by}
+use Rattle.yds_model.proofs.Counted.{one_level}
 
 -- # A timetable's slots, stretch by stretch
 

@@ -1,13 +1,12 @@
 -- Slots that run in order, and those of them that lie between two times.
-use Rattle.std.proofs.Common.{◌≡◌, ℕ, suc, zero, ◌+◌, ◌-◌, ◌*◌, ◌<◌, ◌≤◌, List, [], ◌∷◌, length, take, drop, Bool, true, false, ◌⊎◌, inl, inr, max, refl, sym, ap, ◌∙◌, arith}
-use Rattle.std.specs.Prelude.{nat_lt, nat_le, ◌&&◌, ◌↔◌, cond}
+use Rattle.std.proofs.Common.{◌≡◌, ℕ, suc, zero, ◌+◌, ◌-◌, ◌*◌, ◌<◌, ◌≤◌, List, [], ◌∷◌, length, take, drop, Bool, true, false, ◌⊎◌, inl, inr, max, refl, sym, ap, ◌∙◌, arith, mul_right_comm}
+use Rattle.std.specs.Prelude.{nat_lt, nat_le, ◌↔◌, cond}
 use Rattle.std.specs.Int.{◌∣◌}
 use Rattle.std.specs.List.{All, slice_index_or, filter}
 use Rattle.std.specs.List.Sorted.{IsPartitionedBy, IsPartitionPoint}
-use Rattle.std.proofs.lemmas.Bool.{lt-ltb, le-ltb, ltb-true, ltb-false, leb-true, le-leb, cases_lt}
+use Rattle.std.proofs.lemmas.Bool.{lt-ltb, le-ltb, ltb-true, ltb-false, leb-true, le-leb, cases_lt, and_left, and_right, and_from}
 use Rattle.std.proofs.lemmas.List.Elements.{All-nil, All-cons, All-weaker}
 use Rattle.std.proofs.lemmas.Bool.Decides.{leb_tells}
-use Rattle.std.proofs.Math.Bool.{and-false, false-and}
 use Rattle.std.proofs.Math.Nat.{le_refl, mul-le-mul_right}
 use Rattle.yds_model.specs.Scale.{Fraction, at_scale, numerator}
 use Rattle.yds_model.specs.Slot.{WrittenSlot, IsScale, IsSolid, slots_at}
@@ -48,20 +47,17 @@ rises scale start (slot ∷ slots) run (suc i) (suc j) d order within = rises sc
 
 -- # Tests, at a scale
 
-over : (time scale den : ℕ) → time * scale * den ≡ time * den * scale
-over time scale den = omega arith
-
 -- the fraction is below a whole time
 below_at : (scale time : ℕ) (x : Fraction) → 1 ≤ scale → x.den ∣ scale → (numerator x < time * x.den) ↔ (at_scale scale x < time * scale)
 below_at scale time x positive divides =
     tied_order (numerator x) (time * x.den) x.den scale (at_scale scale x) (time * scale) positive (den_positive scale x.den positive divides)
-    (value-den scale x divides) (over time scale x.den)
+    (value-den scale x divides) (mul_right_comm time scale x.den)
 
 -- a whole time is below the fraction
 above_at : (scale time : ℕ) (x : Fraction) → 1 ≤ scale → x.den ∣ scale → (time * x.den < numerator x) ↔ (time * scale < at_scale scale x)
 above_at scale time x positive divides =
     tied_order (time * x.den) (numerator x) x.den scale (time * scale) (at_scale scale x) positive (den_positive scale x.den positive divides)
-    (over time scale x.den) (value-den scale x divides)
+    (mul_right_comm time scale x.den) (value-den scale x divides)
 
 pub starts_rise : (time scale : ℕ) (slots : List WrittenSlot) → IsScale scale slots → RunFrom 0 (slots_at scale slots) → IsPartitionedBy (begins_before time) slots
 starts_rise time scale slots is run i j d order within before =
@@ -130,15 +126,6 @@ filter_window p (x ∷ xs) (suc s) (suc e) order before in_it after =
 
 -- The place of the first slot that doesn't begin before a time, and the place after the last that has ended by another, are the
 -- ends of the slots between the two.
-and_left : (a b : Bool) → a ≡ false → (a && b) ≡ false
-and_left a b e = ap (λ (x : Bool). x && b) e ∙ false-and b
-
-and_right : (a b : Bool) → b ≡ false → (a && b) ≡ false
-and_right a b e = ap (λ (x : Bool). a && x) e ∙ and-false a
-
-and_both : (a b : Bool) → a ≡ true → b ≡ true → (a && b) ≡ true
-and_both a b e f = ap (λ (x : Bool). x && b) e ∙ ap (λ (x : Bool). true && x) f
-
 too_great : (a b : ℕ) → b < a → nat_le a b ≡ false
 too_great a b less = elim (leb_tells a b) [ inl within ↦ absurd (omega (arith, within.1)) | inr beyond ↦ beyond.0 ]
 
@@ -154,5 +141,5 @@ pub between_is : (from to start finish end : ℕ) (slots : List WrittenSlot) →
 between_is from to start finish end slots begun ended is =
     filter_window (lies_between from to) slots start end (omega arith)
     (λ k d within first. and_left _ _ (starts_late from (slice_index_or slots k d) (begun.0 k d (omega arith) first)))
-    (λ k d within first second. and_both _ _ (starts_in from (slice_index_or slots k d) (begun.1 k d first within)) (ended.0 k d (omega arith) (omega arith)))
+    (λ k d within first second. and_from _ _ (starts_in from (slice_index_or slots k d) (begun.1 k d first within)) (ended.0 k d (omega arith) (omega arith)))
     (λ k d within later. and_right _ _ (ended.1 k d (omega arith) within))

@@ -1,9 +1,9 @@
 -- What a schedule keeps, through each of its calls.
-use Rattle.std.proofs.Common.{◌≡◌, ℕ, ◌+◌, ◌-◌, ◌*◌, ◌/◌, ◌<◌, ◌≤◌, ◌⊎◌, inl, inr, List, [], ◌∷◌, ◌++◌, length, max, refl, sym, ap, ◌∙◌, subst, arith, Bool, replicate, take}
+use Rattle.std.proofs.Common.{◌≡◌, ℕ, ◌+◌, ◌-◌, ◌*◌, ◌/◌, ◌<◌, ◌≤◌, ◌⊎◌, inl, inr, List, [], ◌∷◌, ◌++◌, length, max, refl, sym, ap, ◌∙◌, subst, arith, Bool}
 use Rattle.std.specs.Prelude.{◌==◌, if◌then◌else◌}
 use Rattle.std.specs.List.{All, slice_index_or, slice_set}
-use Rattle.std.proofs.lemmas.Bool.{cases_eq, cases_lt, ne_eqb, eq-eqb}
-use Rattle.std.proofs.lemmas.List.{get_or-replicate, get_or_append_left, get_or-append_right, length-append, length-replicate, take_all, get_or-set_same, get_or-set_other, get_or_past, length-set, map-append}
+use Rattle.std.proofs.lemmas.Bool.{cases_eq, ne_eqb, eq-eqb}
+use Rattle.std.proofs.lemmas.List.{length-append, get_or-set_same, get_or-set_other, length-set, map-append}
 use Rattle.std.proofs.lemmas.List.Sums.{sum_by_push, sum_by-cons}
 use Rattle.std.proofs.lemmas.List.Elements.{All-push, All-tail}
 use Rattle.std.proofs.Math.Nat.{one-dvd, div-mul_cancel, div-one}
@@ -57,19 +57,6 @@ nothing_is slots job none = record {
 }
 
 -- # More receipts
-
-nothing_at : (count job : ℕ) → receipt_at (replicate count nothing) job ≡ nothing
-nothing_at count job = elim (cases_lt job count) [
-  | inl inside ↦ get_or-replicate count job nothing nothing inside
-  | inr past ↦ get_or_past (replicate count nothing) job nothing (omega (arith, past, length-replicate count nothing))
-]
-
-pub more_nothing : (receipts : List Receipt) (count job : ℕ) → receipt_at (receipts ++ replicate count nothing) job ≡ receipt_at receipts job
-more_nothing receipts count job = elim (cases_lt job (length receipts)) [
-  | inl old ↦ get_or_append_left receipts (replicate count nothing) nothing job old
-  | inr new ↦ get_or-append_right receipts (replicate count nothing) (length receipts) job nothing refl new
-      ∙ nothing_at count (job - length receipts) ∙ sym (get_or_past receipts job nothing new)
-]
 
 pub reached_receipts : (jobs : ℕ) (slots : List WrittenSlot) (before receipts : List Receipt) → IsKept jobs slots before →
     ((job : ℕ) → receipt_at receipts job ≡ receipt_at before job) → length before ≤ length receipts → IsKept jobs slots receipts

@@ -13,7 +13,6 @@ use Rattle.yds_model.specs.declared.limits.TheConstants.{MAX_JOBS, MAX_TIME, MAX
 use Rattle.yds_model.specs.declared.number_fault.NumberFault.{NumberFault}
 use Rattle.yds_model.specs.declared.status.Status.TheVariants.{Done}
 use Rattle.yds_model.specs.Job.{Job, IsJob, job_at}
-use Rattle.yds_model.specs.Audit.{AreSlots, Feasible}
 use Rattle.yds_model.specs.Policy.{numbers_of}
 use Rattle.yds_model.specs.Admission.{jobs_with, lies_within, confined_work, Refusal, IsRefusal, AdmitsAfter, top_capacity}
 use Rattle.yds_model.specs.AdmitAnswer.{with_taken, refusal_comment, AdmitAnswer}
@@ -22,17 +21,15 @@ use Rattle.yds_model.specs.Text.{canonical_text}
 use Rattle.yds_model.specs.Spelling.{is_name, number_at}
 use Rattle.yds_model.specs.Reading.{reading}
 use Rattle.yds_model.specs.Within.{IsDocument}
-use Rattle.yds_model.specs.Request.{Request, AskAdmit, AskAudit, OfDocument, request_of_word, request_of_top, request_of_two, request_of_grid, request_of_trial, request_of_three, request_of}
+use Rattle.yds_model.specs.Request.{Request, AskAdmit, OfDocument, request_of_word, request_of_top, request_of_two, request_of_grid, request_of_trial, request_of_three, request_of}
 use Rattle.yds_model.specs.Answer.{AnswersRequest}
-use Rattle.yds_model.proofs.Verdicts.{verdict_is_exact}
 use Rattle.yds_texts.specs.AdmitText.{ReadAdmission, HoldsAdmission, AdmissionsAreRead, AdmissionsAreFeasible}
 use Rattle.yds_laws.proofs.Forced.{refusals_are_forced}
 use Rattle.yds_laws.proofs.AdmittedRuns.{admitted_runs_within_top}
 use Rattle.yds_texts.proofs.Brought.{IsWord, Brings, Brings-nil, Brings-append, Brings-comment, read_whole}
 use Rattle.yds_texts.proofs.Inverse.{number_at_ok}
 use Rattle.yds_texts.proofs.Printed.{decimal_word, name_word}
-use Rattle.yds_texts.proofs.PlanText.{slots_agree, answers_document}
-use Rattle.yds_texts.proofs.RoundText.{answered, done_not_refused}
+use Rattle.yds_texts.proofs.Answered.{done_not_refused, answered, audited}
 use Rattle.yds_texts.proofs.RoundTrip.{text_brought}
 use Rattle.yds_texts.proofs.RunText.{run_feasible, run_few}
 use Rattle.yds_laws.proofs.Served.{all_numbers}
@@ -170,33 +167,18 @@ comment_texts document top refusal =
 
 comment_words : (document : Document) (top : ℕ) (refusal : Refusal) → is_name (name_at document.names refusal.job) ≡ true → top ≤ MAX_TOP →
     IsSmall (length document.jobs) refusal → AllByRecursion IsWord (comment_texts document top refusal)
-comment_words document top refusal named within small = (
+comment_words document top refusal named within small = assumption (
   name_word (codes "#") refl,
-  (
-    name_word (codes "refuse") refl,
-    (
-      name_word (name_at document.names refusal.job) named,
-      (
-        name_word (codes "from") refl,
-        (
-          decimal_word refusal.from (omega (arith, small.from)),
-          (
-            name_word (codes "to") refl,
-            (
-              decimal_word refusal.to (omega (arith, small.to)),
-              (
-                name_word (codes "work") refl,
-                (
-                  decimal_word refusal.work (omega (arith, small.work)),
-                  (name_word (codes "top") refl, (decimal_word top (omega (arith, within)), tt)),
-                ),
-              ),
-            ),
-          ),
-        ),
-      ),
-    ),
-  ),
+  name_word (codes "refuse") refl,
+  name_word (name_at document.names refusal.job) named,
+  name_word (codes "from") refl,
+  decimal_word refusal.from (omega (arith, small.from)),
+  name_word (codes "to") refl,
+  decimal_word refusal.to (omega (arith, small.to)),
+  name_word (codes "work") refl,
+  decimal_word refusal.work (omega (arith, small.work)),
+  name_word (codes "top") refl,
+  decimal_word top (omega (arith, within)),
 )
 
 comment_short : (document : Document) (top : ℕ) (refusal : Refusal) → length (name_at document.names refusal.job) ≤ MAX_NAME → top ≤ MAX_TOP →
@@ -289,17 +271,5 @@ admissions_are_read words top asks input text answers =
 -- the law: `audit` answers it with 'feasible'
 pub admission_texts_are_feasible : AdmissionsAreFeasible
 admission_texts_are_feasible words top asks input text answers =
-    let is = answered (AskAdmit top) input text Done done_not_refused (subst (λ request. AnswersRequest request input text Done) asks answers) in
-    let answer = is.answers in
-    let within : top ≤ MAX_TOP = subst TopFits asks (request_fits words) in
-    let admission = admission_read top input text is.document within is.read answer in
-    let shown = with_taken is.document answer.taken answer.slots in
-    let possible : IsDocument shown = answer.is_admitted.possible in
-    let agree : AreSlots (length shown.jobs) answer.slots =
-    subst (λ count. AreSlots count answer.slots) possible.jobs.one_name_each (slots_agree (length shown.names) answer.slots possible.slots) in
-    answers_document AskAudit text (codes "feasible\n") shown admission.short admission.read_again record {
-      verdict = Feasible;
-      is_verdict = (verdict_is_exact shown.jobs answer.slots agree).1 admission.feasible;
-      said = refl;
-      ended = refl;
-    }
+    let (document, taken, refused, slots, is) = admissions_are_read words top asks input text answers in
+    audited text (with_taken document taken slots) is.short is.read_again is.feasible

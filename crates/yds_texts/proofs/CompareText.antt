@@ -3,11 +3,9 @@ use Rattle.yds_model.proofs.LowestTerms.{lowest_is_lowest}
 use Rattle.yds_model.proofs.Scale.{scale_exists}
 use Rattle.yds_model.specs.Divisor.{IsLowest}
 use Rattle.yds_model.specs.Job.{Job}
-use Rattle.std.proofs.Math.Nat.{mul-pos}
 use Rattle.std.proofs.lemmas.List.Elements.{All-map}
 use Rattle.std.proofs.lemmas.List.{length-map}
-use Rattle.std.proofs.Common.{◌≡◌, ℕ, ◌*◌, ◌≤◌, length, Bool, true, false, List, [], ◌∷◌, ◌++◌, Some, Result, Ok, Err, sym, ap, subst, ◌∙◌, append_assoc, inl, inr}
-use Rattle.std.specs.Prelude.{codes, decimal}
+use Rattle.std.proofs.Common.{◌≡◌, ℕ, ◌*◌, ◌≤◌, length, Bool, true, false, List, [], ◌∷◌, ◌++◌, Some, Result, Ok, Err, sym, ap, subst, ◌∙◌, append_assoc, inl, inr, mul-pos, codes, decimal}
 use Rattle.std.specs.List.{flat_map, zip, All}
 use Rattle.yds_model.specs.declared.reason.Reason.{Reason}
 use Rattle.yds_model.specs.declared.status.Status.{Status}
@@ -33,7 +31,8 @@ use Rattle.yds_model.specs.Answer.{OnPoints, AnswersReading, UnlessTooLong, is_t
 use Rattle.yds_texts.specs.CompareText.{plan_energy_line, TellOneEnergy, ComparedAsRounded, CostsNoLess, ComparedPlanIsCheapest, HoldsComparison, ComparedIsTooSlow, AreTold, IsToldSide}
 use Rattle.yds_texts.specs.RoundText.{with_energy}
 use Rattle.yds_energy.proofs.Compared.{plan_spends_its_rounding, plan_spends_least, hull_some_multiple}
-use Rattle.yds_texts.proofs.RoundText.{answered, on_points, points_table, done_not_no, done_not_refused, IsRounded, round_read, no_not_refused, slow_answer}
+use Rattle.yds_texts.proofs.Answered.{done_not_no, done_not_refused, no_not_refused, answered, on_points}
+use Rattle.yds_texts.proofs.RoundText.{points_table, IsRounded, round_read, slow_answer}
 use Rattle.yds_energy.proofs.TooSlow.{too_slow_is_exact}
 use Rattle.yds_texts.proofs.Within.{read_is_within_limits}
 
@@ -128,10 +127,10 @@ one_energy grid input compared rounded is round =
     let same : round.document ≡ document = let read = is.read in let other = round.read in cc in
     let points = document.points in
     let spent = answer.plan_spent in
-    let other_plan = subst (λ (d : Document). IsPlan d.jobs round.planned round.levels) same round.plan in
-    let rounding = subst (λ (d : Document). IsRounding d.jobs d.points round.planned round.levels round.slots round.energy) same round.rounding in
-    let energy : spent.energy ≡ round.energy =
-    plan_spends_its_rounding document.jobs points answer.planned round.planned answer.levels round.levels spent round.slots round.energy
+    let other_plan = subst (λ (d : Document). IsPlan d.jobs round.answer.planned round.answer.levels) same round.answer.plan in
+    let rounding = subst (λ (d : Document). IsRounding d.jobs d.points round.answer.planned round.answer.levels round.answer.slots round.answer.energy) same round.answer.rounded in
+    let energy : spent.energy ≡ round.answer.energy =
+    plan_spends_its_rounding document.jobs points answer.planned round.answer.planned answer.levels round.answer.levels spent round.answer.slots round.answer.energy
     (read_is_within_limits input document is.read).jobs.jobs_fit is.table answer.plan answer.plan_spends other_plan rounding in
     let times = flat_map (λ (timed : Timed). line (codes "plan" ∷ codes "time" ∷ decimal timed.0.speed ∷ fraction_text timed.1 ∷ [])) (zip points spent.times) in
     let average = side_lines (codes "avr") points answer.average_side in
@@ -140,11 +139,11 @@ one_energy grid input compared rounded is round =
     let optimal_line = rounded_line (codes "oa") answer.optimal_rounded in
     record {
       document = document;
-      slots = round.slots;
-      energy = round.energy;
+      slots = round.answer.slots;
+      energy = round.answer.energy;
       other_lines = times ++ average ++ average_line ++ optimal ++ optimal_line;
       read = is.read;
-      by_round = subst (λ (d : Document). rounded ≡ canonical_text (with_energy d round.slots round.energy)) same round.said.written;
+      by_round = subst (λ (d : Document). rounded ≡ canonical_text (with_energy d round.answer.slots round.answer.energy)) same round.answer.said.written;
       by_compare = answer.said ∙ first_line (plan_energy_line spent.energy) times average average_line optimal optimal_line
           ∙ ap (λ x. plan_energy_line x ++ (times ++ average ++ average_line ++ optimal ++ optimal_line)) energy;
     }

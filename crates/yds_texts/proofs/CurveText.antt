@@ -1,5 +1,5 @@
 -- What the answer of `curve` is worth: at each of its breaks the least excess, and between two of them a straight line.
-use Rattle.yds_texts.proofs.RoundText.{answered, done_not_refused}
+use Rattle.yds_texts.proofs.Answered.{answered, done_not_refused}
 use Rattle.yds_model.specs.Request.{AskCurve}
 use Rattle.yds_model.specs.declared.status.Status.TheVariants.{Done}
 use Rattle.std.proofs.lemmas.List.Elements.{All-from_get_or}
@@ -15,12 +15,13 @@ use Rattle.yds_model.specs.Divisor.{in_lowest_terms, IsLowest}
 use Rattle.yds_model.specs.Plan.{IsPlan}
 use Rattle.yds_model.specs.Curve.{IsLeastExcess, Break, break_at, breaks_of, least_above}
 use Rattle.yds_laws.specs.CurveLaws.{excess_of, IsNotAbove, IsOnLine, IsNotBelow}
-use Rattle.yds_laws.proofs.CurveLine.{at_most_still, curve_is_straight}
+use Rattle.yds_laws.proofs.CurveLine.{curve_is_straight}
 use Rattle.yds_laws.proofs.LeastAbove.{levels_tell_least_excess}
 use Rattle.yds_model.proofs.LowestTerms.{HasValue, lowest_value, lowest_is_lowest}
 use Rattle.yds_laws.proofs.Plans.{plan_falls}
 use Rattle.yds_laws.proofs.SameSpeed.{least_same, above_same}
 use Rattle.yds_texts.specs.CurveText.{bend_at, speed_at, as_quotient, IsLeastAbove, GoesStraight, CurvesAreLeast, no_bend}
+use Rattle.yds_model.proofs.Fractions.{at_most_still}
 
 -- # Values
 

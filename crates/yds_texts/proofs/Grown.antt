@@ -189,24 +189,15 @@ slots_more count slots slot are room fits known alike = record {
 
 -- the slots of some jobs are slots of more jobs
 pub slots_of_more : (few many : ℕ) (slots : List WrittenSlot) → few ≤ many → AreSlotsOf few slots → AreSlotsOf many slots
-slots_of_more few many slots more are = record {
-  few = are.few;
-  fit = are.fit;
-  known = All-weaker (λ slot. slot.job < few) (λ slot. slot.job < many) (λ slot (known : slot.job < few). omega (arith, known, more)) slots are.known;
-  grains = are.grains;
-}
+slots_of_more few many slots more are =
+    assumption (All-weaker (λ slot. slot.job < few) (λ slot. slot.job < many) (λ slot (known : slot.job < few). omega (arith, known, more)) slots are.known)
 
 -- ---- levels
 
 -- levels of so many jobs are levels of more jobs
 pub levels_of_more : (few many : ℕ) (levels : List Level) → few ≤ many → AreLevelsOf few levels → AreLevelsOf many levels
-levels_of_more few many levels more are = record {
-  few = are.few;
-  few_pieces = are.few_pieces;
-  few_members = are.few_members;
-  fit = are.fit;
-  known = All-weaker (λ job. job < few) (λ job. job < many) (λ job (known : job < few). omega (arith, known, more)) (all_members levels) are.known;
-}
+levels_of_more few many levels more are =
+    assumption (All-weaker (λ job. job < few) (λ job. job < many) (λ job (known : job < few). omega (arith, known, more)) (all_members levels) are.known)
 
 -- levels stay within the limits with one more that is empty
 pub levels_more : (count : ℕ) (levels : List Level) (work long : ℕ) → AreLevelsOf count levels → length levels < MAX_LEVELS → IsLevel (empty_level work long) →
@@ -242,13 +233,8 @@ last_level_more count before level entry are pieces members few_pieces few_membe
           (omega (arith, few_pieces, length-append (all_pieces (before ++ level ∷ [])) (filter_map piece_said (entry ∷ []))));
       few_members = subst (λ members. length members ≤ MAX_MEMBERS) all_of_members
           (omega (arith, few_members, length-append (all_members (before ++ level ∷ [])) (filter_map member_said (entry ∷ []))));
-      fit = All-push IsLevel before (with_entry entry level) (All-front IsLevel before (level ∷ []) are.fit) (record {
-        has_work = this.has_work;
-        work_in_range = this.work_in_range;
-        has_length = this.has_length;
-        length_in_range = this.length_in_range;
-        pieces = All-append IsPiece level.pieces (filter_map piece_said (entry ∷ [])) this.pieces pieces;
-      });
+      fit = All-push IsLevel before (with_entry entry level) (All-front IsLevel before (level ∷ []) are.fit)
+          (assumption (All-append IsPiece level.pieces (filter_map piece_said (entry ∷ [])) this.pieces pieces));
       known = subst (All (λ job. job < count)) all_of_members
           (All-append (λ job. job < count) (all_members (before ++ level ∷ [])) (filter_map member_said (entry ∷ [])) are.known members);
     }

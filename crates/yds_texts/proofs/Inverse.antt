@@ -1,6 +1,5 @@
 -- What a step of reading says where it succeeds.
-use Rattle.std.proofs.Common.{◌≡◌, ℕ, ◌<◌, ◌≤◌, Bool, true, false, ◌==◌, ◌&&◌, nat_le, nat_lt, List, [], length, Option, Some, None, Result, Ok, Err, refl, ap, subst, arith, inl, inr}
-use Rattle.std.specs.Prelude.{is_none}
+use Rattle.std.proofs.Common.{◌≡◌, ℕ, ◌<◌, ◌≤◌, Bool, true, false, ◌==◌, ◌&&◌, nat_le, nat_lt, List, [], ◌∷◌, ◌++◌, length, Option, Some, None, Result, Ok, Err, refl, sym, ap, subst, ◌∙◌, arith, inl, inr, is_none, eqb-true}
 use Rattle.std.specs.Str.Parse.{digits_value}
 use Rattle.std.specs.Str.{bytes_eq}
 use Rattle.std.specs.List.{filter_map}
@@ -11,11 +10,11 @@ use Rattle.yds_model.specs.declared.number_fault.NumberFault.{NumberFault}
 use Rattle.yds_model.specs.declared.number_fault.NumberFault.TheVariants as faults
 use Rattle.yds_model.specs.declared.reason.Reason.{Reason}
 use Rattle.yds_model.specs.Scale.{Fraction, of_whole}
-use Rattle.yds_model.specs.Lines.{Field}
+use Rattle.yds_model.specs.Lines.{Line, Field}
 use Rattle.yds_model.specs.Spelling.{is_number, is_mixed, mixed_of, kept, number_at, fraction_at, is_name}
 use Rattle.yds_model.specs.declared.reason.Reason.TheVariants as reasons
-use Rattle.yds_model.specs.Entry.{Entry, name_said, job_named}
-use Rattle.yds_model.specs.Fields.{Spot, ◌>>=◌, refuse, demand, field_at, count_fields, in_field}
+use Rattle.yds_model.specs.Entry.{Entry, name_said, job_named, first_of_them}
+use Rattle.yds_model.specs.Fields.{Spot, ◌>>=◌, refuse, demand, field_at, count_fields, in_field, on_line}
 use Rattle.yds_model.specs.Reading.{Kind, kind_of, fields_wanted, may_follow, has_room, reason_of, number_in, fraction_in, new_name, known_job, read_kind, read_fields}
 use Rattle.yds_model.specs.Within.{IsFraction}
 
@@ -187,3 +186,36 @@ room_from earlier fields entry (Some kind) is =
 pub fields_ok : (earlier : List Entry) (fields : List Field) (entry : Entry) → read_fields earlier fields ≡ Ok entry →
     (kind : Kind) × (may_follow kind earlier ≡ true) × (has_room kind earlier ≡ true) × (read_kind kind earlier fields ≡ Ok entry)
 fields_ok earlier fields entry is = room_from earlier fields entry (kind_of (field_at fields 0).text) is
+
+-- where no line of a kind stands, none is the first
+pub no_first : {X : Type 0} (xs : List X) → (length xs == 0) ≡ true → first_of_them xs ≡ None
+no_first [] none = refl
+no_first (x ∷ xs) none = let long : length (x ∷ xs) ≡ 0 = eqb-true (length (x ∷ xs)) 0 none in absurd (omega arith)
+
+-- ---- all lines
+
+-- what succeeds with its line's number succeeds without it
+pub on_line_ok : {R A : Type 0} (number : ℕ) (read : Result A (Spot R)) (entry : A) → on_line number read ≡ Ok entry → read ≡ Ok entry
+on_line_ok number (Ok made) entry is = let same : made ≡ entry = cc in ap Ok same
+on_line_ok number (Err spot) entry is = absurd (cc)
+
+-- what is made of what was read, or the fault that came in its place
+abbrev pub made_of : {X Y F : Type 0} → (X → Result Y F) → Result X F → Result Y F
+made_of make read = elim read [ Ok x ↦ make x | Err fault ↦ Err fault ]
+
+-- where it is made, something was read
+pub read_of : {X Y F : Type 0} (make : X → Result Y F) (read : Result X F) (y : Y) → made_of make read ≡ Ok y → (x : X) × (read ≡ Ok x) × (make x ≡ Ok y)
+read_of make (Ok x) y is = (x, refl, is)
+read_of make (Err fault) y is = absurd (cc)
+
+-- what each line that is read keeps, lines that are read one after another keep
+pub lines_keep : {E F : Type 0} (read_line : List E → Line → Result E F) (read_lines : List E → List Line → Result (List E) F) (P : List E → Type 0) →
+    ((earlier : List E) → read_lines earlier [] ≡ Ok earlier) →
+    ((earlier : List E) (line : Line) (lines : List Line) →
+    read_lines earlier (line ∷ lines) ≡ made_of (λ entry. read_lines (earlier ++ entry ∷ []) lines) (read_line earlier line)) →
+    ((earlier : List E) (line : Line) (entry : E) → P earlier → read_line earlier line ≡ Ok entry → P (earlier ++ entry ∷ [])) →
+    (earlier : List E) (lines : List Line) (entries : List E) → P earlier → read_lines earlier lines ≡ Ok entries → P entries
+lines_keep read_line read_lines P none more each earlier [] entries holds is = let same : earlier ≡ entries = cc (none earlier) in subst P same holds
+lines_keep read_line read_lines P none more each earlier (line ∷ lines) entries holds is =
+    let first = read_of (λ entry. read_lines (earlier ++ entry ∷ []) lines) (read_line earlier line) entries (sym (more earlier line lines) ∙ is) in
+    lines_keep read_line read_lines P none more each (earlier ++ first.0 ∷ []) lines entries (each earlier line first.0 holds first.1) first.2

@@ -1,8 +1,5 @@
 -- What the answers of `audit` and `check` are worth: a yes exactly where the document is as wanted, a no exactly where it isn't.
-use Rattle.std.proofs.Common.{◌≡◌, ℕ, ◌<◌, List, [], ◌∷◌, ◌++◌, length, get_or, Ok, refl, sym, ap, subst, ◌∙◌, arith, inl, inr}
-use Rattle.std.specs.Prelude.{codes, ◌≤◌, ◌↔◌, Option, Some, None}
-use Rattle.std.specs.List.{All}
-use Rattle.std.proofs.lemmas.List.{take_at, drop_at}
+use Rattle.std.proofs.Common.{◌≡◌, ℕ, ◌<◌, List, [], ◌∷◌, ◌++◌, length, get_or, Ok, refl, sym, ap, subst, ◌∙◌, arith, inl, inr, codes, ◌≤◌, ◌↔◌, Option, Some, None, All, take_at, drop_at}
 use Rattle.std.proofs.lemmas.List.Elements.{All-nil, All-cons, All-take, All-drop, All-weaker}
 use Rattle.yds_model.specs.declared.status.Status.{Status}
 use Rattle.yds_model.specs.declared.status.Status.TheVariants.{Done, No, Refused}
@@ -10,7 +7,7 @@ use Rattle.yds_model.specs.Job.{Job}
 use Rattle.yds_model.specs.Slot.{WrittenSlot}
 use Rattle.yds_model.specs.Level.{Level, all_members}
 use Rattle.yds_model.specs.Proper.{IsProper, AreLevels}
-use Rattle.yds_model.specs.Audit.{Verdict, Feasible, Backward, Overlap, Early, Late, OffPoint, WrongWork, IsVerdict, AreSlots}
+use Rattle.yds_model.specs.Audit.{Verdict, Feasible, Backward, Overlap, Early, Late, OffPoint, WrongWork, IsVerdict}
 use Rattle.yds_model.specs.Judgement.{Judgement, Accepted, Slots, IsJudgement}
 use Rattle.yds_model.specs.Document.{Document}
 use Rattle.yds_model.specs.Table.{Point}
@@ -28,8 +25,7 @@ use Rattle.yds_laws.proofs.Judgements.{judgement_is_exact}
 use Rattle.yds_laws.proofs.OneJudgement.{judgement_is_unique}
 use Rattle.yds_energy.proofs.PlansEnergy.{least_is_cheapest_among_written}
 use Rattle.yds_texts.proofs.Within.{read_is_within_limits}
-use Rattle.yds_texts.proofs.PlanText.{slots_agree}
-use Rattle.yds_texts.proofs.RoundText.{answered, on_points, done_not_no, done_not_refused, no_not_refused}
+use Rattle.yds_texts.proofs.Answered.{done_not_no, done_not_refused, no_not_refused, answered, on_points, slots_agree}
 
 -- # A yes or a no
 
@@ -65,11 +61,6 @@ judged_not_refused status (inl is) refused = done_not_refused (sym is ∙ refuse
 judged_not_refused status (inr is) refused = no_not_refused (sym is ∙ refused)
 
 -- # What the program keeps of slots and levels
-
--- the slots of a document that was read are as the auditor wants them
-slots_read : (document : Document) → IsDocument document → AreSlots (length document.jobs) document.slots
-slots_read document fits =
-    subst (λ count. AreSlots count document.slots) fits.jobs.one_name_each (slots_agree (length document.names) document.slots fits.slots)
 
 -- what holds of the members of all levels holds of each level's
 members_known : (count : ℕ) (levels : List Level) → All (λ job. job < count) (all_members levels) → All (λ level. All (λ job. job < count) level.members) levels
@@ -125,10 +116,10 @@ judgement_tells : (input text : List ℕ) (status : Status) (document : Document
 judgement_tells input text status document Accepted read is said ended =
     let fits = read_is_within_limits input document read in
     tells_yes IsCertified (codes "accepted\n") input text status document read
-    ((judgement_is_exact document.jobs document.slots document.levels (slots_read document fits) (levels_read document fits)).0 is) ended said
+    ((judgement_is_exact document.jobs document.slots document.levels (slots_agree document fits) (levels_read document fits)).0 is) ended said
 judgement_tells input text status document judgement read is said ended =
     let fits = read_is_within_limits input document read in
-    let exact = judgement_is_exact document.jobs document.slots document.levels (slots_read document fits) (levels_read document fits) in
+    let exact = judgement_is_exact document.jobs document.slots document.levels (slots_agree document fits) (levels_read document fits) in
     let other = other_judgement document judgement (λ same. absurd cc) in
     tells_no IsCertified (codes "accepted\n") input text status document read
     (λ proper. (not_accepted document judgement is (exact.1 proper) (λ same. absurd cc)))
@@ -188,11 +179,11 @@ verdicts_tell_feasible = record {
   audit = λ input text status judged answers.
       let is = answered AskAudit input text status (judged_not_refused status judged) answers in
       audit_tells IsServed None input text status is.document is.read
-      (verdict_is_exact is.document.jobs is.document.slots (slots_read is.document (read_is_within_limits input is.document is.read))) is.answers;
+      (verdict_is_exact is.document.jobs is.document.slots (slots_agree is.document (read_is_within_limits input is.document is.read))) is.answers;
   on_points = λ input text status judged answers.
       let is = answered AskAuditOnPoints input text status (judged_not_refused status judged) answers in
       let points = on_points (AuditAnswer is.document (Some is.document.points)) is.document.points text status (judged_not_refused status judged) is.answers in
       audit_tells IsServedOnPoints (Some is.document.points) input text status is.document is.read
-      (table_verdict_is_exact is.document.jobs is.document.points is.document.slots (slots_read is.document (read_is_within_limits input is.document is.read)))
+      (table_verdict_is_exact is.document.jobs is.document.points is.document.slots (slots_agree is.document (read_is_within_limits input is.document is.read)))
       points.1;
 }

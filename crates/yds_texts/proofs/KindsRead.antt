@@ -1,6 +1,5 @@
 -- The printed line of each kind is read as what it says, after lines that leave room for it.
-use Rattle.std.proofs.Common.{◌≡◌, ℕ, ◌^◌, ◌<◌, ◌≤◌, true, ◌==◌, List, [], ◌∷◌, ◌++◌, length, Some, None, Ok, decimal, refl, arith, inl, inr, eq-eqb}
-use Rattle.std.specs.Prelude.{codes, if◌then◌else◌}
+use Rattle.std.proofs.Common.{◌≡◌, ℕ, ◌^◌, ◌<◌, ◌≤◌, true, ◌==◌, List, [], ◌∷◌, ◌++◌, length, Some, None, Ok, decimal, refl, arith, inl, inr, eq-eqb, codes, if◌then◌else◌}
 use Rattle.std.specs.List.{All, AllByRecursion, filter_map, list_all}
 use Rattle.std.proofs.lemmas.Bool.{lt-ltb, le-leb, cases_eq, ne_eqb, and_from}
 use Rattle.std.proofs.lemmas.List.Elements.{All-head, All-tail}

@@ -10,6 +10,7 @@ pub mod Short
 pub mod Inverse
 pub mod Grown
 pub mod Within
+pub mod Answered
 pub mod PlanText
 pub mod RoundText
 pub mod RunText

@@ -1,16 +1,10 @@
 -- Where the jobs of each task follow one another without a gap until the horizon, a plan has one level.
-use Rattle.std.proofs.Common.{◌≡◌, ℕ, ◌+◌, ◌-◌, ◌*◌, ◌<◌, ◌≤◌, true, List, [], ◌∷◌, ◌++◌, length, get_or, refl, sym, ap, ◌∙◌, append_assoc, arith, inl, inr}
-use Rattle.std.specs.Prelude.{max}
-use Rattle.std.specs.List.{All, sum_by, fold, list_all, range_with_len}
+use Rattle.std.proofs.Common.{◌≡◌, ℕ, ◌+◌, ◌-◌, ◌*◌, ◌<◌, ◌≤◌, true, List, [], ◌∷◌, length, get_or, refl, sym, ap, ◌∙◌, arith, inl, inr}
+use Rattle.std.specs.List.{All, sum_by, list_all, range_with_len}
 use Rattle.std.proofs.Math.Nat.{le_of_mul-le-mul_left, eq_of_mul-eq-mul_left, mul-le-mul_left, mul-sub}
-use Rattle.std.proofs.Math.Seq.{get_or-append_seam}
 use Rattle.std.proofs.lemmas.Bool.{cases_lt}
-use Rattle.std.proofs.lemmas.List.{length_push}
-use Rattle.std.proofs.lemmas.List.Elements.{All-head, All-tail}
-use Rattle.std.proofs.lemmas.List.FromFn.{get_or-range_with_len, length-range_with_len}
 use Rattle.std.proofs.lemmas.List.Sums.{sum_by-cons, get_or-le-sum_by}
-use Rattle.yds_model.specs.Numbers.{AreDifferent}
-use Rattle.yds_model.specs.Job.{Job, no_job, job_at, work_of}
+use Rattle.yds_model.specs.Job.{Job, no_job, job_at}
 use Rattle.yds_model.specs.Slot.{WrittenSlot, WholeSlot, IsScale, slots_at}
 use Rattle.yds_model.specs.Feasible.{IsFeasibleAt}
 use Rattle.yds_model.specs.Excess.{excess}
@@ -19,7 +13,7 @@ use Rattle.yds_model.specs.Piece.{Piece, IsConfined, total_length}
 use Rattle.yds_model.specs.Level.{Level}
 use Rattle.yds_model.specs.Plan.{IsPlan}
 use Rattle.yds_model.specs.Tasks.{Task, fills_horizon}
-use Rattle.yds_model.proofs.Horizon.{busy_and_idle}
+use Rattle.yds_model.proofs.Horizon.{busy_and_idle, deadlines_within}
 use Rattle.yds_model.proofs.Scale.{scale_exists}
 use Rattle.yds_model.proofs.Sums.{sum_by-mul, sum_by_at_most, sum_by_zero}
 use Rattle.yds_texts.specs.TaskLaws.{IsOneLevel}
@@ -27,39 +21,9 @@ use Rattle.yds_laws.proofs.Bound.{confinement_bound}
 use Rattle.yds_laws.proofs.Curve.{curve, AreFalling, DoTheSame, same_levels}
 use Rattle.yds_laws.proofs.Explained.{proper_explains}
 use Rattle.yds_laws.proofs.Plans.{plan_falls, plan_excess}
-use Rattle.yds_laws.proofs.Served.{counted_once}
+use Rattle.yds_laws.proofs.Served.{counted_once, all_numbers}
 use Rattle.yds_laws.proofs.TaskWork.{jobs_until, confined_work}
-
--- # All jobs, by their numbers
-
--- no number is there twice
-all_different : (a n : ℕ) → AreDifferent (range_with_len a n)
-all_different a n number = counted_once number a n
-
--- and each is below the end
-all_known : (n : ℕ) → All (λ number. number < n) (range_with_len 0 n)
-all_known n k d within = omega (arith, within, length-range_with_len 0 n, get_or-range_with_len 0 n k d (omega (arith, within, length-range_with_len 0 n)))
-
--- their work together
-work_from : (before jobs : List Job) → work_of (before ++ jobs) (range_with_len (length before) (length jobs)) ≡ sum_by (λ job. job.work) jobs
-work_from before [] = refl
-work_from before (job ∷ jobs) =
-    let all : List Job = before ++ (job ∷ jobs) in
-    let here : job_at all (length before) ≡ job = get_or-append_seam before job jobs no_job in
-    let next : length (before ++ job ∷ []) ≡ length before + 1 = omega (arith, length_push before job) in
-    let rest : work_of all (range_with_len (length before + 1) (length jobs)) ≡ sum_by (λ job. job.work) jobs =
-    ap (λ n. work_of all (range_with_len n (length jobs))) (sym next) ∙ ap (λ some. work_of some (range_with_len (length (before ++ job ∷ [])) (length jobs))) (sym (append_assoc before (job ∷ []) jobs))
-    ∙ work_from (before ++ job ∷ []) jobs in
-    omega (
-      arith,
-      sum_by-cons (λ number. (job_at all number).work) (length before) (range_with_len (length before + 1) (length jobs)),
-      sum_by-cons (λ (job : Job). job.work) job jobs,
-      ap (λ (j : Job). j.work) here,
-      rest,
-    )
-
-all_work : (jobs : List Job) → work_of jobs (range_with_len 0 (length jobs)) ≡ sum_by (λ job. job.work) jobs
-all_work jobs = work_from [] jobs
+use Rattle.yds_laws.proofs.JobNumbers.{sum_by_number}
 
 -- # The time until the horizon
 
@@ -74,16 +38,10 @@ until_long time = omega (arith, sum_by-cons (λ (piece : Piece). piece.to - piec
 confined_until : (time : ℕ) (job : Job) → job.deadline ≤ time → IsConfined job (until time)
 confined_until time job due now released before = (0, record { from = 0; to = time }, omega arith, refl, (omega arith, omega arith))
 
--- the last deadline is no later
-last_until : (time from : ℕ) (jobs : List Job) → from ≤ time → All (λ job. job.deadline ≤ time) jobs → fold (λ now job. max now job.deadline) from jobs ≤ time
-last_until time from [] within due = within
-last_until time from (job ∷ jobs) within due =
-    last_until time (max from job.deadline) jobs (omega (arith, within, All-head (λ (job : Job). job.deadline ≤ time) job jobs due)) (All-tail (λ (job : Job). job.deadline ≤ time) job jobs due)
-
 -- so nothing runs longer
 busy_until : (time : ℕ) (jobs : List Job) (scale : ℕ) (slots : List WholeSlot) → All (λ job. job.deadline ≤ time) jobs → IsFeasibleAt jobs scale slots → busy slots ≤ scale * time
 busy_until time jobs scale slots due feasible =
-    let last : horizon jobs ≤ time = omega (arith, last_until time 0 jobs (omega arith) due) in
+    let last : horizon jobs ≤ time = omega (arith, deadlines_within time 0 jobs (omega arith) due) in
     omega (arith, busy_and_idle jobs scale slots feasible, mul-le-mul_left scale last)
 
 -- # The excess of a plan of such tasks
@@ -156,13 +114,13 @@ module _ (time : ℕ) (tasks : List Task) (slots : List WrittenSlot) (levels : L
 
   -- all jobs are confined to the time until the horizon
   confined : All (λ number. IsConfined (job_at jobs number) (until time)) (range_with_len 0 (length jobs))
-  confined k d within =
-      confined_until time (job_at jobs (get_or (range_with_len 0 (length jobs)) k d)) (due (get_or (range_with_len 0 (length jobs)) k d) no_job (all_known (length jobs) k d within))
+  confined = all_numbers (λ number. IsConfined (job_at jobs number) (until time)) jobs (λ number below. confined_until time (job_at jobs number) (due number no_job below))
 
   plan_like_one : (p q : ℕ) → 1 ≤ q → curve p q levels ≡ q * all - p * time
   plan_like_one p q some_q =
-      let least = confinement_bound jobs scale p q whole (range_with_len 0 (length jobs)) (until time) is.positive (all_different 0 (length jobs)) (all_known (length jobs)) confined feasible in
-      let one = excess_of_one p q scale all time whole positive (busy_until time jobs scale whole due feasible) slow (omega (arith, least, ap (λ n. q * scale * n) (all_work jobs), ap (λ n. p * scale * n) (until_long time))) in
+      let least = confinement_bound jobs scale p q whole (range_with_len 0 (length jobs)) (until time) is.positive (λ number. counted_once number 0 (length jobs))
+      (all_numbers (λ number. number < length jobs) jobs (λ number below. below)) confined feasible in
+      let one = excess_of_one p q scale all time whole positive (busy_until time jobs scale whole due feasible) slow (omega (arith, least, ap (λ n. q * scale * n) (sum_by_number (λ job. job.work) jobs), ap (λ n. p * scale * n) (until_long time))) in
       eq_of_mul-eq-mul_left scale is.positive (curve p q levels) (q * all - p * time) (omega (arith, one, plan_excess jobs slots levels scale p q plan is some_q))
 
 -- the one level

@@ -1,32 +1,26 @@
 -- What the answers of `avr` and `oa` are worth: their texts are read again as the document with the run, and `audit` answers them with
 -- 'feasible'.
-use Rattle.std.proofs.Common.{◌≡◌, ℕ, ◌*◌, ◌≤◌, List, length, Some, Ok, refl, ap, subst, ◌∙◌, arith}
-use Rattle.std.specs.Prelude.{codes}
+use Rattle.std.proofs.Common.{◌≡◌, ℕ, ◌*◌, ◌≤◌, List, length, Some, Ok, subst, arith}
 use Rattle.std.proofs.lemmas.List.{length-map}
 use Rattle.yds_model.specs.declared.status.Status.TheVariants.{Done}
 use Rattle.yds_model.specs.Job.{Job}
 use Rattle.yds_model.specs.Slot.{WrittenSlot, WholeSlot, AtEachScale, slot_at_scale}
 use Rattle.yds_model.specs.Piece.{Piece}
 use Rattle.yds_model.specs.Feasible.{IsFeasible}
-use Rattle.yds_model.specs.Audit.{AreSlots, Feasible}
 use Rattle.yds_model.specs.Policy.{IsRunAt}
 use Rattle.yds_model.specs.AverageRate.{average_rate, IsAverageRateRun}
 use Rattle.yds_model.specs.OptimalAvailable.{optimal_available, IsOptimalAvailableRun}
 use Rattle.yds_model.specs.Document.{Document}
 use Rattle.yds_model.specs.Reading.{reading}
 use Rattle.yds_model.specs.Within.{IsTextOf}
-use Rattle.yds_model.specs.Request.{AskAverageRate, AskOptimalAvailable, AskAudit, OfDocument}
+use Rattle.yds_model.specs.Request.{AskAverageRate, AskOptimalAvailable, OfDocument}
 use Rattle.yds_model.specs.Answer.{AnswersRequest}
 use Rattle.yds_model.proofs.Scale.{scale_exists}
-use Rattle.yds_model.proofs.Verdicts.{verdict_is_exact}
 use Rattle.yds_laws.specs.RunLaws.{IsExactAverageRate, IsExactOptimalAvailable}
 use Rattle.yds_laws.proofs.ExactRates.{average_rate_is_exact}
 use Rattle.yds_laws.proofs.ExactRuns.{optimal_available_is_exact}
 use Rattle.yds_texts.specs.RunText.{with_run, ReadRun, HoldsAverageRate, HoldsOptimalAvailable, RunsAreRead, RunsAreFeasible}
-use Rattle.yds_texts.proofs.RoundTrip.{printed_is_read}
-use Rattle.yds_texts.proofs.Short.{text_is_short}
-use Rattle.yds_texts.proofs.PlanText.{slots_agree, answers_document}
-use Rattle.yds_texts.proofs.RoundText.{answered, done_not_refused}
+use Rattle.yds_texts.proofs.Answered.{done_not_refused, answered, text_read, audited}
 
 -- the slots of a run are feasible, and at most three for a job
 pub run_feasible : (jobs : List Job) (grid : ℕ) (capacity : ℕ → List WholeSlot → Piece → ℕ) (slots : List WrittenSlot) →
@@ -43,22 +37,19 @@ run_few jobs grid capacity slots run =
 read_run : (IsRun : List Job → ℕ → ℕ → List WrittenSlot → Type 0) (IsExact : List Job → ℕ → List WrittenSlot → Type 0) (grid : ℕ) (input text : List ℕ) (document : Document) (slots : List WrittenSlot) (rounded : ℕ) →
     reading input ≡ Ok document → IsTextOf (with_run document slots grid rounded) text → IsRun document.jobs grid rounded slots → IsFeasible document.jobs slots →
     length slots ≤ 3 * length document.jobs → (1 ≤ grid → rounded ≡ 0 → IsExact document.jobs grid slots) → ReadRun IsRun IsExact grid input text
-read_run IsRun IsExact grid input text document slots rounded read said run feasible few exact = record {
-  document = document;
-  slots = slots;
-  rounded = rounded;
-  read = read;
-  written = said.written;
-  short = omega (
-    arith,
-    ap length said.written,
-    text_is_short (with_run document slots grid rounded) said.possible (omega (arith, few, said.possible.jobs.few)) (omega arith) (omega arith) (omega arith),
-  );
-  read_again = ap reading said.written ∙ printed_is_read (with_run document slots grid rounded) said.possible;
-  run = run;
-  feasible = feasible;
-  exact = exact said.possible.grid.some;
-}
+read_run IsRun IsExact grid input text document slots rounded read said run feasible few exact =
+    let again = text_read (with_run document slots grid rounded) text said (omega (arith, few, said.possible.jobs.few)) (omega arith) (omega arith) (omega arith) in record {
+      document = document;
+      slots = slots;
+      rounded = rounded;
+      read = read;
+      written = said.written;
+      short = again.short;
+      read_again = again.read_again;
+      run = run;
+      feasible = feasible;
+      exact = exact said.possible.grid.some;
+    }
 
 average_rate_read : (grid : ℕ) (input text : List ℕ) → AnswersRequest (Some (OfDocument (AskAverageRate grid))) input text Done →
     HoldsAverageRate grid input text
@@ -84,38 +75,11 @@ optimal_available_read grid input text answers =
 pub runs_are_read : RunsAreRead
 runs_are_read = record { average_rate = average_rate_read; optimal_available = optimal_available_read }
 
--- `audit` answers such a text with 'feasible'
-audited : (document : Document) (slots : List WrittenSlot) (grid rounded : ℕ) (text : List ℕ) → IsTextOf (with_run document slots grid rounded) text →
-    length slots ≤ 3 * length document.jobs → IsFeasible document.jobs slots → AnswersRequest (Some (OfDocument AskAudit)) text (codes "feasible\n") Done
-audited document slots grid rounded text said few feasible =
-    let agree : AreSlots (length document.jobs) slots =
-    subst (λ count. AreSlots count slots) said.possible.jobs.one_name_each (slots_agree (length document.names) slots said.possible.slots) in
-    answers_document AskAudit text (codes "feasible\n") (with_run document slots grid rounded)
-    (omega (
-      arith,
-      ap length said.written,
-      text_is_short (with_run document slots grid rounded) said.possible (omega (arith, few, said.possible.jobs.few)) (omega arith) (omega arith) (omega arith),
-    ))
-    (ap reading said.written ∙ printed_is_read (with_run document slots grid rounded) said.possible) record {
-      verdict = Feasible;
-      is_verdict = (verdict_is_exact document.jobs slots agree).1 feasible;
-      said = refl;
-      ended = refl;
-    }
-
--- the law of it
+-- the law: `audit` answers such a text with 'feasible'
 pub runs_are_feasible : RunsAreFeasible
 runs_are_feasible = record {
   average_rate = λ grid input text answers.
-      let is = answered (AskAverageRate grid) input text Done done_not_refused answers in
-      let jobs = is.document.jobs in
-      let answer = is.answers in
-      audited is.document answer.slots grid answer.rounded text answer.said (run_few jobs grid (average_rate jobs grid) answer.slots answer.run.run)
-      (run_feasible jobs grid (average_rate jobs grid) answer.slots answer.run.run);
+      let is = average_rate_read grid input text answers in audited text (with_run is.document is.slots grid is.rounded) is.short is.read_again is.feasible;
   optimal_available = λ grid input text answers.
-      let is = answered (AskOptimalAvailable grid) input text Done done_not_refused answers in
-      let jobs = is.document.jobs in
-      let answer = is.answers in
-      audited is.document answer.slots grid answer.rounded text answer.said (run_few jobs grid (optimal_available jobs grid) answer.slots answer.run.run)
-      (run_feasible jobs grid (optimal_available jobs grid) answer.slots answer.run.run);
+      let is = optimal_available_read grid input text answers in audited text (with_run is.document is.slots grid is.rounded) is.short is.read_again is.feasible;
 }

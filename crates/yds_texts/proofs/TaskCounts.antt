@@ -1,7 +1,6 @@
 -- How many jobs a periodic task has.
-use Rattle.std.proofs.Common.{ℕ, ◌+◌, ◌-◌, inl, inr, arith}
+use Rattle.std.proofs.Common.{ℕ, ◌+◌, ◌-◌, inl, inr, arith, le-div_iff_mul-le}
 use Rattle.std.proofs.lemmas.Bool.{cases_lt, lt-ltb, le-ltb}
-use Rattle.std.proofs.Math.Nat.{le-div_iff_mul-le}
 use Rattle.yds_texts.specs.TaskLaws.{TaskJobsEndInTime}
 
 -- the law: by the quotient of the time that is left after the first job's deadline

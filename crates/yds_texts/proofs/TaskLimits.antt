@@ -1,9 +1,9 @@
 -- Tasks that are read keep their limits, and no two have the same name.
-use Rattle.std.proofs.Common.{◌≡◌, ◌≢◌, ℕ, ◌<◌, ◌≤◌, Bool, true, false, not, nat_le, nat_lt, ◌==◌, ◌||◌, List, [], ◌∷◌, ◌++◌, length, Some, None, Result, Ok, Err, refl, sym, ap, subst, ◌∙◌, arith, eqb-true}
+use Rattle.std.proofs.Common.{◌≡◌, ◌≢◌, ℕ, ◌<◌, ◌≤◌, Bool, true, false, not, nat_le, nat_lt, ◌==◌, List, [], ◌∷◌, ◌++◌, length, Some, None, Result, Ok, Err, refl, sym, ap, subst, ◌∙◌, arith}
 use Rattle.std.specs.Prelude.{codes, if◌then◌else◌}
 use Rattle.std.specs.List.{All, AllPairs, filter_map, list_any}
 use Rattle.std.specs.Str.{bytes_eq}
-use Rattle.std.proofs.lemmas.Bool.{leb-true, ltb-true, false≢true, true≢false}
+use Rattle.std.proofs.lemmas.Bool.{leb-true, ltb-true, false≢true, or_parts}
 use Rattle.std.proofs.lemmas.List.Elements.{All-nil, All-cons, All-push}
 use Rattle.std.proofs.lemmas.Slice.Eq.{bytes_eq-Decides}
 use Rattle.yds_model.specs.declared.limits.TheConstants.{MAX_JOBS, MAX_TIME, MAX_WORK, MAX_TASKS}
@@ -11,13 +11,13 @@ use Rattle.yds_model.specs.declared.task_reason.TaskReason.{TaskReason}
 use Rattle.yds_model.specs.declared.task_reason.TaskReason.TheVariants as reasons
 use Rattle.yds_model.specs.Lines.{Line, Field, lines_of, fields_of}
 use Rattle.yds_model.specs.Spelling.{number_at}
-use Rattle.yds_model.specs.Fields.{Spot, Fault, ◌>>=◌, demand, refuse, count_fields, field_at, on_line}
+use Rattle.yds_model.specs.Fields.{Spot, ◌>>=◌, demand, refuse, count_fields, field_at}
 use Rattle.yds_model.specs.Entry.{first_of_them}
 use Rattle.yds_model.specs.Reading.{live_lines}
 use Rattle.yds_model.specs.Tasks.{Task, TaskSet}
 use Rattle.yds_model.specs.TaskReading.{TaskEntry, HorizonEntry, TaskEntryOf, horizon_said, task_said, tasks_said, task_reason_of, task_number_in, is_task_name, has_task_named, new_task_name, count_of_all, read_horizon, read_task, read_task_fields, read_task_line, read_tasks_after, task_reading}
 use Rattle.yds_model.proofs.Lists.{AllPairs-append}
-use Rattle.yds_texts.proofs.Inverse.{demand_ok, one_step, two_steps, four_steps, in_field_ok, number_at_ok}
+use Rattle.yds_texts.proofs.Inverse.{demand_ok, one_step, two_steps, four_steps, in_field_ok, number_at_ok, no_first, on_line_ok, read_of, lines_keep}
 use Rattle.yds_laws.proofs.TasksSaid.{horizon_more, one_more, task_more}
 
 -- what a task that was read keeps
@@ -57,14 +57,10 @@ task_name_ok earlier field name is =
     (subst (λ name. is_task_name name ≡ true) parts.2 parts.0, subst (λ name. has_task_named earlier name ≡ false) parts.2 parts.1)
 
 -- a name that no task has is another than each one's
-either_false : (a b : Bool) → (a || b) ≡ false → (a ≡ false) × (b ≡ false)
-either_false true b none = absurd (true≢false none)
-either_false false b none = (refl, none)
-
 other_names : (tasks : List Task) (name : List ℕ) → list_any (λ task. bytes_eq task.name name) tasks ≡ false → All (λ task. task.name ≢ name) tasks
 other_names [] name none = All-nil (λ task. task.name ≢ name)
 other_names (task ∷ tasks) name none =
-    let parts = either_false (bytes_eq task.name name) (list_any (λ task. bytes_eq task.name name) tasks) none in
+    let parts = or_parts (bytes_eq task.name name) (list_any (λ task. bytes_eq task.name name) tasks) none in
     All-cons (λ task. task.name ≢ name) task tasks (λ same. false≢true (sym parts.0 ∙ (bytes_eq-Decides task.name name).1 same)) (other_names tasks name parts.1)
 
 -- # A line
@@ -93,10 +89,6 @@ horizon_line earlier fields entry are is =
       different = are.different;
     }))
   where
-    no_first : {X : Type 0} (xs : List X) → (length xs == 0) ≡ true → first_of_them xs ≡ None
-    no_first [] none = refl
-    no_first (x ∷ xs) none = let long : length (x ∷ xs) ≡ 0 = eqb-true (length (x ∷ xs)) 0 none in absurd (omega arith)
-
     some_none : (x : ℕ) → Some x ≡ None → ⊥
     some_none x same = absurd (cc)
 
@@ -172,24 +164,9 @@ fields_keep earlier fields entry are is =
 
 -- # All lines
 
-line_ok : (number : ℕ) (read : Result TaskEntry (Spot TaskReason)) (entry : TaskEntry) → on_line number read ≡ Ok entry → read ≡ Ok entry
-line_ok number (Ok one) entry is = let same : one ≡ entry = cc in ap Ok same
-line_ok number (Err spot) entry is = absurd (cc)
-
-abbrev read_on : List TaskEntry → List Line → Result TaskEntry (Fault TaskReason) → Result (List TaskEntry) (Fault TaskReason)
-read_on earlier lines read = elim read [ Ok entry ↦ read_tasks_after (earlier ++ entry ∷ []) lines | Err fault ↦ Err fault ]
-
-read_first : (earlier : List TaskEntry) (lines : List Line) (entries : List TaskEntry) (read : Result TaskEntry (Fault TaskReason)) →
-    read_on earlier lines read ≡ Ok entries → (entry : TaskEntry) × (read ≡ Ok entry) × (read_tasks_after (earlier ++ entry ∷ []) lines ≡ Ok entries)
-read_first earlier lines entries (Ok entry) is = (entry, refl, is)
-read_first earlier lines entries (Err fault) is = absurd (cc)
-
-lines_keep : (earlier : List TaskEntry) (lines : List Line) (entries : List TaskEntry) → AreTasks (tasks_said earlier) → read_tasks_after earlier lines ≡ Ok entries → AreTasks (tasks_said entries)
-lines_keep earlier [] entries are is = let same : earlier ≡ entries = cc in subst (λ es. AreTasks (tasks_said es)) same are
-lines_keep earlier (line ∷ lines) entries are is =
-    let first = read_first earlier lines entries (read_task_line earlier line) is in
-    lines_keep (earlier ++ first.0 ∷ []) lines entries
-    (fields_keep earlier (fields_of line.text) first.0 are (line_ok line.number (read_task_fields earlier (fields_of line.text)) first.0 first.1)) first.2
+line_keeps : (earlier : List TaskEntry) (line : Line) (entry : TaskEntry) → AreTasks (tasks_said earlier) → read_task_line earlier line ≡ Ok entry → AreTasks (tasks_said (earlier ++ entry ∷ []))
+line_keeps earlier line entry are is =
+    fields_keep earlier (fields_of line.text) entry are (on_line_ok line.number (read_task_fields earlier (fields_of line.text)) entry is)
 
 -- no lines say no tasks
 no_lines : AreTasks (tasks_said [])
@@ -203,15 +180,11 @@ no_lines = record {
   none_some : (x : ℕ) → None ≡ Some x → ⊥
   none_some x same = absurd (cc)
 
-abbrev set_of : Result (List TaskEntry) (Fault TaskReason) → Result TaskSet (Fault TaskReason)
-set_of read = elim read [ Ok entries ↦ Ok (tasks_said entries) | Err fault ↦ Err fault ]
-
-set_read : (read : Result (List TaskEntry) (Fault TaskReason)) (set : TaskSet) → set_of read ≡ Ok set → (entries : List TaskEntry) × (read ≡ Ok entries) × (tasks_said entries ≡ set)
-set_read (Ok entries) set is = (entries, refl, cc)
-set_read (Err fault) set is = absurd (cc)
-
 -- Tasks that are read keep their limits.
 pub tasks_keep : (bytes : List ℕ) (set : TaskSet) → task_reading bytes ≡ Ok set → AreTasks set
 tasks_keep bytes set is =
-    let all = set_read (read_tasks_after [] (live_lines (lines_of bytes))) set is in
-    subst AreTasks all.2 (lines_keep [] (live_lines (lines_of bytes)) all.0 no_lines all.1)
+    let lines = live_lines (lines_of bytes) in
+    let all = read_of (λ entries. Ok (tasks_said entries)) (read_tasks_after [] lines) set is in
+    let kept = lines_keep read_task_line read_tasks_after (λ entries. AreTasks (tasks_said entries)) (λ earlier. refl) (λ earlier line lines. refl) line_keeps [] lines all.0 no_lines all.1 in
+    let same : tasks_said all.0 ≡ set = cc all.2 in
+    subst AreTasks same kept

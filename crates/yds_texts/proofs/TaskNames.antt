@@ -1,6 +1,5 @@
 -- The names of tasks' jobs: the last dot parts a task's name and a job's number, so no two are the same.
-use Rattle.std.proofs.Common.{◌≡◌, ◌≢◌, ℕ, suc, ◌+◌, ◌<◌, ◌≤◌, true, ◌&&◌, nat_le, List, [], ◌∷◌, ◌++◌, length, get_or, map, decimal, refl, sym, ap, subst, ◌∙◌, append_assoc, arith, inl, inr}
-use Rattle.std.specs.Prelude.{codes}
+use Rattle.std.proofs.Common.{◌≡◌, ◌≢◌, ℕ, suc, ◌+◌, ◌<◌, ◌≤◌, true, ◌&&◌, nat_le, List, [], ◌∷◌, ◌++◌, length, get_or, map, decimal, refl, sym, ap, subst, ◌∙◌, append_assoc, arith, inl, inr, codes}
 use Rattle.std.specs.List.{All, AllPairs, flat_map, list_all, range_with_len}
 use Rattle.std.specs.Str.Parse.{digits_value}
 use Rattle.std.proofs.Math.Seq.{get_or-append_seam}

@@ -5,27 +5,26 @@ use Rattle.std.specs.List.{All, AllByRecursion, list_all, list_any, sum_by}
 use Rattle.std.proofs.Math.Nat.{mul-pos}
 use Rattle.std.proofs.lemmas.Bool.{cases_Bool, and_parts, leb-true, false≢true}
 use Rattle.std.proofs.lemmas.Fmt.{length-decimal-le}
-use Rattle.std.proofs.lemmas.List.{length-append, take_all}
+use Rattle.std.proofs.lemmas.List.{length-append}
 use Rattle.std.proofs.lemmas.List.Concat.{length-flat_map}
-use Rattle.std.proofs.lemmas.List.Elements.{All-nil, All-weaker, All-head, All-tail}
+use Rattle.std.proofs.lemmas.List.Elements.{All-weaker, All-head, All-tail}
 use Rattle.std.proofs.lemmas.List.FromFn.{length-map-range_with_len}
 use Rattle.std.proofs.lemmas.List.Sums.{sum_by-append, get_or-le-sum_by}
-use Rattle.yds_model.specs.declared.limits.TheConstants.{MAX_JOBS, MAX_TIME, MAX_GAPS}
+use Rattle.yds_model.specs.declared.limits.TheConstants.{MAX_JOBS, MAX_TIME}
 use Rattle.yds_model.specs.declared.task_reason.TaskReason.{TaskReason}
-use Rattle.yds_model.specs.declared.status.Status.TheVariants.{Done, Refused}
+use Rattle.yds_model.specs.declared.status.Status.TheVariants.{Done}
 use Rattle.yds_model.specs.Job.{Job, IsJob}
-use Rattle.yds_model.specs.Table.{hull_multiple}
 use Rattle.yds_model.specs.Document.{Document, no_document}
 use Rattle.yds_model.specs.Spelling.{is_name}
 use Rattle.yds_model.specs.Text.{job_lines}
 use Rattle.yds_model.specs.Fields.{Fault}
 use Rattle.yds_model.specs.Reading.{reading}
-use Rattle.yds_model.specs.Within.{IsDocument, AreNamedJobs, IsPoint, IsSlot, IsLevel}
+use Rattle.yds_model.specs.Within.{IsDocument, AreNamedJobs}
 use Rattle.yds_model.specs.Plan.{IsPlan}
 use Rattle.yds_model.specs.Tasks.{Task, TaskSet, nth_job, nth_name, count_of_jobs, horizon_of, jobs_of_tasks, names_of_tasks, fills_horizon, has_work, level_until, one_level}
 use Rattle.yds_model.specs.TaskReading.{count_of_all, task_reading}
 use Rattle.yds_model.specs.ExpandAnswer.{level_comment, expansion_text}
-use Rattle.yds_model.specs.Answer.{AnswersTasks, UnlessTooLong, is_too_long}
+use Rattle.yds_model.specs.Answer.{AnswersTasks, is_too_long}
 use Rattle.yds_model.proofs.Sums.{sum_by_same}
 use Rattle.yds_texts.specs.TaskLaws.{jobs_document, IsExpansion, HoldsExpansion, ExpansionsAreRead, IsOneLevel, OneLevelIsPlanned}
 use Rattle.yds_texts.proofs.Brought.{IsWord, Brings, Brings-nil, Brings-append, Brings-comment, read_whole}
@@ -39,6 +38,8 @@ use Rattle.yds_model.proofs.Horizon.{works_few}
 use Rattle.yds_model.proofs.Lists.{All-flat}
 use Rattle.yds_texts.proofs.TaskNames.{All-numbers, names_of_task, nth_name_fits, names_differ}
 use Rattle.yds_laws.proofs.TaskWork.{jobs_of_task, jobs_until, jobs_counted, works_of_task, count_fills}
+use Rattle.yds_texts.proofs.Answered.{done_not_refused, not_too_long}
+use Rattle.yds_texts.proofs.Within.{only_jobs}
 
 -- # The jobs fit
 
@@ -88,18 +89,8 @@ named_jobs set are =
       jobs_fit = All-jobs IsJob horizon set.tasks are.fit (λ task k is below. job_fits horizon task k is (horizon_in_range set.horizon are.has_horizon) below);
     }
 
-no_gaps : hull_multiple [] ≤ MAX_GAPS
-no_gaps = omega arith
-
 expansion_fits : (set : TaskSet) → AreTasks set → IsDocument (jobs_document set)
-expansion_fits set are = record {
-  jobs = named_jobs set are;
-  points = record { few = omega arith; fit = All-nil IsPoint; table = inl refl; gaps_in_range = λ n. subst (λ points. hull_multiple points ≤ MAX_GAPS) (sym (take_all n [] (omega arith))) no_gaps };
-  slots = record { few = omega arith; fit = All-nil IsSlot; known = All-nil (λ slot. slot.job < length (names_of_tasks set)); grains = λ i j i_within j_within same. absurd (omega (arith, i_within)) };
-  levels = record { few = omega arith; few_pieces = omega arith; few_members = omega arith; fit = All-nil IsLevel; known = All-nil (λ job. job < length (names_of_tasks set)) };
-  grid = tt;
-  energy = tt;
-}
+expansion_fits set are = only_jobs (names_of_tasks set) (jobs_of_tasks set) (named_jobs set are)
 
 -- # The text is read
 
@@ -163,21 +154,15 @@ expansion_is_read set text are said =
 
 -- # The laws
 
--- a run that is done was no refusal
-done_not_refused : Done ≡ Refused → ⊥
-done_not_refused same = absurd cc
-
+-- an answer that is done is to tasks that were read
 of_reading : (input text : List ℕ) (read : Result TaskSet (Fault TaskReason)) → task_reading input ≡ read → AnswersTasks read text Done → HoldsExpansion input text
 of_reading input text (Ok set) is answer = (set, is, expansion_is_read set text (tasks_keep input set is) answer.said)
 of_reading input text (Err fault) is answer = absurd (done_not_refused answer.ended)
 
-of_input : (input text : List ℕ) (long : Bool) → UnlessTooLong long (AnswersTasks (task_reading input)) text Done → HoldsExpansion input text
-of_input input text true answers = absurd (done_not_refused answers.ended)
-of_input input text false answers = of_reading input text (task_reading input) refl answers
-
 -- the law: what `expand` writes is read as a document with just the jobs
 pub expansions_are_read : ExpansionsAreRead
-expansions_are_read input text answers = of_input input text (is_too_long input) answers
+expansions_are_read input text answers =
+    of_reading input text (task_reading input) refl (not_too_long (AnswersTasks (task_reading input)) text Done (is_too_long input) done_not_refused answers)
 
 -- where a level is told, the tasks fill the horizon and one has work
 record IsTold (set : TaskSet) (work long : ℕ) : Type 0 where

@@ -1,5 +1,5 @@
 -- What is read keeps the limits: each line that is read brings a document within them to another.
-use Rattle.std.proofs.Common.{◌≡◌, ℕ, ◌+◌, ◌-◌, ◌*◌, ◌/◌, ◌<◌, ◌≤◌, true, false, nat_le, nat_lt, ◌==◌, List, [], ◌∷◌, ◌++◌, length, take, Some, None, Result, Ok, Err, refl, sym, ap, subst, ◌∙◌, arith, inl, eqb-true}
+use Rattle.std.proofs.Common.{◌≡◌, ℕ, ◌+◌, ◌-◌, ◌*◌, ◌/◌, ◌<◌, ◌≤◌, true, false, nat_le, nat_lt, ◌==◌, List, [], ◌∷◌, ◌++◌, length, take, Some, None, Ok, refl, sym, ap, subst, ◌∙◌, arith, inl}
 use Rattle.std.specs.Prelude.{if◌then◌else◌}
 use Rattle.std.specs.List.{All, list_all, filter_map, position, slice_index_or}
 use Rattle.std.specs.Str.{bytes_eq}
@@ -8,7 +8,6 @@ use Rattle.std.proofs.lemmas.Bool.{leb-true, ltb-true}
 use Rattle.std.proofs.lemmas.List.{length_push, take_all}
 use Rattle.std.proofs.lemmas.List.Elements.{All-nil, All-cons, All-push, All-head}
 use Rattle.yds_model.specs.declared.limits.TheConstants.{MAX_JOBS, MAX_TIME, MAX_WORK, MAX_RUN_SPEED, MAX_POINTS, MAX_POINT_SPEED, MAX_POINT_POWER, MAX_GAPS, MAX_SLOTS, MAX_SLOT_WORK, MAX_LEVELS, MAX_LEVEL_WORK, MAX_LEVEL_LENGTH, MAX_PIECES, MAX_MEMBERS, MAX_TICKS, MAX_DENOMINATOR, MAX_GRID, MAX_ROUNDED, MAX_ENERGY}
-use Rattle.yds_model.specs.declared.reason.Reason.{Reason}
 use Rattle.yds_model.specs.declared.reason.Reason.TheVariants as reasons
 use Rattle.yds_model.specs.Job.{Job, IsJob}
 use Rattle.yds_model.specs.Scale.{of_parts}
@@ -19,13 +18,13 @@ use Rattle.yds_model.specs.Table.{Point, hull_multiple}
 use Rattle.yds_model.specs.Document.{Document, Grid, no_document}
 use Rattle.yds_model.specs.Lines.{Line, Field, lines_of, fields_of}
 use Rattle.yds_model.specs.Spelling.{is_name}
-use Rattle.yds_model.specs.Entry.{Entry, JobEntry, PointEntry, SlotEntry, LevelEntry, PieceEntry, MemberEntry, TicksEntry, GridEntry, EnergyEntry, name_said, point_said, slot_said, piece_said, member_said, ticks_said, grid_said, energy_said, is_level, first_of_them, document_said}
-use Rattle.yds_model.specs.Fields.{Spot, Fault, ◌>>=◌, demand, field_at, on_line}
+use Rattle.yds_model.specs.Entry.{Entry, JobEntry, PointEntry, SlotEntry, LevelEntry, PieceEntry, MemberEntry, TicksEntry, GridEntry, EnergyEntry, name_said, point_said, slot_said, piece_said, member_said, ticks_said, grid_said, energy_said, is_level, document_said}
+use Rattle.yds_model.specs.Fields.{◌>>=◌, demand, field_at}
 use Rattle.yds_model.specs.Reading.{Kind, JobLine, PointLine, SlotLine, LevelLine, PieceLine, MemberLine, TicksLine, RunLine, GridLine, EnergyLine, may_follow, has_room, number_in, fraction_in, new_name, known_job, are_alike, fits_grain, follows_points, read_job, read_point, read_slot, read_level, read_piece, read_member, read_ticks, read_run_at, read_grid, read_energy, read_kind, read_fields, read_line, live_lines, read_after}
-use Rattle.yds_model.specs.Within.{IsFraction, IsDocument, AreLevelsOf, IsPoint, IsSlot, IsPiece, IsLevel, IsGrid}
+use Rattle.yds_model.specs.Within.{IsFraction, IsDocument, AreLevelsOf, IsPoint, IsSlot, IsPiece, IsLevel, IsGrid, AreNamedJobs}
 use Rattle.yds_texts.specs.RoundTrip.{ReadIsWithinLimits, CanonicalTextIsRead}
 use Rattle.yds_model.proofs.Said.{Says, says_other, none_said, more_said, with_job, says-job, with_point, says-point, with_slot, says-slot, with_levels, empty_level, says-level, with_entry, IsOfLevels, says-last, with_grid, says-grid, with_energy, says-energy, said-ticks, levels_counted}
-use Rattle.yds_texts.proofs.Inverse.{demand_ok, one_step, two_steps, four_steps, entry_made, number_ok, fraction_ok, name_ok, known_ok, fields_ok}
+use Rattle.yds_texts.proofs.Inverse.{demand_ok, one_step, two_steps, four_steps, entry_made, number_ok, fraction_ok, name_ok, known_ok, fields_ok, no_first, on_line_ok, read_of, lines_keep}
 use Rattle.yds_texts.proofs.Grown.{jobs_more, points_more, slots_more, slots_of_more, levels_of_more, levels_more, last_level_more, alike_from_test, parts_fit}
 use Rattle.yds_model.proofs.Fractions.{parts_alike}
 use Rattle.yds_texts.proofs.RoundTrip.{printed_is_read}
@@ -78,14 +77,11 @@ job_within entries d fields entry read room is =
     let new : position (λ other. bytes_eq other parts.0) d.names ≡ None = subst (λ names. position (λ other. bytes_eq other parts.0) names ≡ None) names named.1 in
     let more : length d.names ≤ length (d.names ++ parts.0 ∷ []) = omega (arith, length_push d.names parts.0) in
     subst (λ entry. IsSaid (entries ++ entry ∷ [])) made
-    (no_ticks entries (JobEntry parts.0 job) d (with_job parts.0 job d) read refl (says-job entries parts.0 job d read.says) (record {
-      jobs = jobs_more d.names d.jobs parts.0 job read.fits.jobs few named.0 new fits;
-      points = read.fits.points;
-      slots = slots_of_more (length d.names) (length (d.names ++ parts.0 ∷ [])) d.slots more read.fits.slots;
-      levels = levels_of_more (length d.names) (length (d.names ++ parts.0 ∷ [])) d.levels more read.fits.levels;
-      grid = read.fits.grid;
-      energy = read.fits.energy;
-    }))
+    (no_ticks entries (JobEntry parts.0 job) d (with_job parts.0 job d) read refl (says-job entries parts.0 job d read.says) (assumption (
+      jobs_more d.names d.jobs parts.0 job read.fits.jobs few named.0 new fits,
+      slots_of_more (length d.names) (length (d.names ++ parts.0 ∷ [])) d.slots more read.fits.slots,
+      levels_of_more (length d.names) (length (d.names ++ parts.0 ∷ [])) d.levels more read.fits.levels,
+    )))
 
 -- a point's line
 point_within : (entries : List Entry) (d : Document) (fields : List Field) (entry : Entry) → IsRead entries d → has_room PointLine entries ≡ true →
@@ -104,24 +100,16 @@ point_within entries d fields entry read room is =
     (λ rising coarse. Ok (PointEntry point)) entry parts.4 in
     let made : PointEntry point ≡ entry = entry_made (PointEntry point) entry last.4 in
     let points : filter_map point_said entries ≡ d.points = ap (λ (d : Document). d.points) read.says.said in
-    let fits : IsPoint point = record {
-      speed_in_range = (number_ok 0 MAX_POINT_SPEED (field_at fields 1) parts.0 parts.2).1;
-      power_in_range = (number_ok 0 MAX_POINT_POWER (field_at fields 2) parts.1 parts.3).1;
-    } in
+    let fits : IsPoint point =
+    assumption (number_ok 0 MAX_POINT_SPEED (field_at fields 1) parts.0 parts.2, number_ok 0 MAX_POINT_POWER (field_at fields 2) parts.1 parts.3) in
     let few : length d.points < MAX_POINTS = omega (arith, ltb-true (length (filter_map point_said entries)) MAX_POINTS room, ap {B = ℕ} length points) in
     let follows : follows_points d.points point.speed column ≡ Ok last.0 = subst (λ points. follows_points points parts.0 column ≡ Ok last.0) points last.2 in
     let gaps : hull_multiple (filter_map point_said entries ++ point ∷ []) ≤ MAX_GAPS =
     leb-true (hull_multiple (filter_map point_said entries ++ point ∷ [])) MAX_GAPS
     (demand_ok (nat_le (hull_multiple (filter_map point_said entries ++ point ∷ [])) MAX_GAPS) (field_at fields 1).column reasons.GapsTooFine last.1 last.3) in
     subst (λ entry. IsSaid (entries ++ entry ∷ [])) made
-    (no_ticks entries (PointEntry point) d (with_point point d) read refl (says-point entries point d read.says) (record {
-      jobs = read.fits.jobs;
-      points = points_more d.points point column last.0 read.fits.points few fits follows (subst (λ points. hull_multiple (points ++ point ∷ []) ≤ MAX_GAPS) points gaps);
-      slots = read.fits.slots;
-      levels = read.fits.levels;
-      grid = read.fits.grid;
-      energy = read.fits.energy;
-    }))
+    (no_ticks entries (PointEntry point) d (with_point point d) read refl (says-point entries point d read.says)
+    (assumption (points_more d.points point column last.0 read.fits.points few fits follows (subst (λ points. hull_multiple (points ++ point ∷ []) ≤ MAX_GAPS) points gaps))))
 
 -- a slot, of a slot's line or of a run's
 one_slot : (entries : List Entry) (d : Document) (slot : WrittenSlot) → IsRead entries d → IsSlot slot → slot.job < length (filter_map name_said entries) →
@@ -131,14 +119,8 @@ one_slot entries d slot read fits known alike room =
     let slots : filter_map slot_said entries ≡ d.slots = ap (λ (d : Document). d.slots) read.says.said in
     let grain : list_all (are_alike slot.work) (filter_map (λ other. if other.job == slot.job then Some other.work else None) d.slots) ≡ true =
     subst (λ slots. list_all (are_alike slot.work) (filter_map (λ other. if other.job == slot.job then Some other.work else None) slots) ≡ true) slots alike in
-    no_ticks entries (SlotEntry slot) d (with_slot slot d) read refl (says-slot entries slot d read.says) (record {
-      jobs = read.fits.jobs;
-      points = read.fits.points;
-      slots = slots_more (length d.names) d.slots slot read.fits.slots (omega (arith, room, ap {B = ℕ} length slots)) fits (omega (arith, known, ap {B = ℕ} length names)) grain;
-      levels = read.fits.levels;
-      grid = read.fits.grid;
-      energy = read.fits.energy;
-    })
+    no_ticks entries (SlotEntry slot) d (with_slot slot d) read refl (says-slot entries slot d read.says)
+    (assumption (slots_more (length d.names) d.slots slot read.fits.slots (omega (arith, room, ap {B = ℕ} length slots)) fits (omega (arith, known, ap {B = ℕ} length names)) grain))
 
 -- a slot's line
 slot_within : (entries : List Entry) (d : Document) (fields : List Field) (entry : Entry) → IsRead entries d → has_room SlotLine entries ≡ true →
@@ -206,14 +188,7 @@ run_within entries d fields entry ticks read grain_of_time room is =
 levels_within : (entries : List Entry) (d : Document) (levels : List Level) (entry : Entry) → IsRead entries d → ticks_said entry ≡ None →
     Says (entries ++ entry ∷ []) (with_levels levels d) → AreLevelsOf (length d.names) levels → IsSaid (entries ++ entry ∷ [])
 levels_within entries d levels entry read none says fits =
-    no_ticks entries entry d (with_levels levels d) read none says (record {
-      jobs = read.fits.jobs;
-      points = read.fits.points;
-      slots = read.fits.slots;
-      levels = fits;
-      grid = read.fits.grid;
-      energy = read.fits.energy;
-    })
+    no_ticks entries entry d (with_levels levels d) read none says (assumption fits)
 
 -- as many levels are said as the document has
 levels_are : (entries : List Entry) (d : Document) → IsRead entries d → length (filter_map (λ entry. if is_level entry then Some entry else None) entries) ≡ length d.levels
@@ -272,10 +247,7 @@ piece_within : (entries : List Entry) (d : Document) (fields : List Field) (entr
 piece_within entries d fields entry read after room is =
     let parts = two_steps (number_in 0 MAX_TIME (field_at fields 1)) (number_in 0 MAX_TIME (field_at fields 2)) (λ from to. Ok (PieceEntry (record { from = from; to = to }))) entry is in
     let piece : Piece = record { from = parts.0; to = parts.1 } in
-    let fits : IsPiece piece = record {
-      from_in_range = (number_ok 0 MAX_TIME (field_at fields 1) parts.0 parts.2).1;
-      to_in_range = (number_ok 0 MAX_TIME (field_at fields 2) parts.1 parts.3).1;
-    } in
+    let fits : IsPiece piece = assumption (number_ok 0 MAX_TIME (field_at fields 1) parts.0 parts.2, number_ok 0 MAX_TIME (field_at fields 2) parts.1 parts.3) in
     let kind : IsOfLevels (PieceEntry piece) = record { names = refl; jobs = refl; points = refl; slots = refl; grid = refl; energy = refl } in
     let members : filter_map member_said entries ≡ all_members d.levels = read.says.members in
     subst (λ entry. IsSaid (entries ++ entry ∷ [])) (entry_made (PieceEntry piece) entry parts.4)
@@ -313,11 +285,6 @@ ticks_within entries d fields entry read is =
       };
     })
 
--- where no line of a kind stands, none is the first
-no_first : {X : Type 0} (xs : List X) → (length xs == 0) ≡ true → first_of_them xs ≡ None
-no_first [] none = refl
-no_first (x ∷ xs) none = let long : length (x ∷ xs) ≡ 0 = eqb-true (length (x ∷ xs)) 0 none in absurd (omega arith)
-
 -- the grid's line
 grid_within : (entries : List Entry) (d : Document) (fields : List Field) (entry : Entry) → IsRead entries d → may_follow GridLine entries ≡ true →
     read_grid fields ≡ Ok entry → IsSaid (entries ++ entry ∷ [])
@@ -328,14 +295,7 @@ grid_within entries d fields entry read first is =
     let fits : IsGrid grid = record { some = one.0; grid_in_range = one.1; rounded_in_range = (number_ok 0 MAX_ROUNDED (field_at fields 2) parts.1 parts.3).1 } in
     let none : d.grid ≡ None = sym (ap (λ (d : Document). d.grid) read.says.said) ∙ no_first (filter_map grid_said entries) first in
     subst (λ entry. IsSaid (entries ++ entry ∷ [])) (entry_made (GridEntry grid) entry parts.4)
-    (no_ticks entries (GridEntry grid) d (with_grid grid d) read refl (says-grid entries grid d none read.says) (record {
-      jobs = read.fits.jobs;
-      points = read.fits.points;
-      slots = read.fits.slots;
-      levels = read.fits.levels;
-      grid = fits;
-      energy = read.fits.energy;
-    }))
+    (no_ticks entries (GridEntry grid) d (with_grid grid d) read refl (says-grid entries grid d none read.says) (assumption fits))
 
 -- the energy's line
 energy_within : (entries : List Entry) (d : Document) (fields : List Field) (entry : Entry) → IsRead entries d → may_follow EnergyLine entries ≡ true →
@@ -345,14 +305,7 @@ energy_within entries d fields entry read first is =
     let fits : IsFraction MAX_ENERGY parts.0 = fraction_ok MAX_ENERGY (field_at fields 1) parts.0 parts.1 in
     let none : d.energy ≡ None = sym (ap (λ (d : Document). d.energy) read.says.said) ∙ no_first (filter_map energy_said entries) first in
     subst (λ entry. IsSaid (entries ++ entry ∷ [])) (entry_made (EnergyEntry parts.0) entry parts.2)
-    (no_ticks entries (EnergyEntry parts.0) d (with_energy parts.0 d) read refl (says-energy entries parts.0 d none read.says) (record {
-      jobs = read.fits.jobs;
-      points = read.fits.points;
-      slots = read.fits.slots;
-      levels = read.fits.levels;
-      grid = read.fits.grid;
-      energy = fits;
-    }))
+    (no_ticks entries (EnergyEntry parts.0) d (with_energy parts.0 d) read refl (says-energy entries parts.0 d none read.says) (assumption fits))
 
 -- so a line of each kind keeps the limits
 kind_within : (kind : Kind) (entries : List Entry) (d : Document) (fields : List Field) (entry : Entry) → IsRead entries d → may_follow kind entries ≡ true → has_room kind entries ≡ true →
@@ -376,33 +329,22 @@ line_within : (entries : List Entry) (d : Document) (line : Line) (entry : Entry
 line_within entries d line entry read is =
     let parts = fields_ok entries (fields_of line.text) entry (on_line_ok line.number (read_fields entries (fields_of line.text)) entry is) in
     kind_within parts.0 entries d (fields_of line.text) entry read parts.1 parts.2 parts.3
-  where
-    -- what succeeds with its line's number succeeds without it
-    on_line_ok : (number : ℕ) (read : Result Entry (Spot Reason)) (entry : Entry) → on_line number read ≡ Ok entry → read ≡ Ok entry
-    on_line_ok number (Ok made) entry is = let same : made ≡ entry = cc in ap Ok same
-    on_line_ok number (Err spot) entry is = absurd (cc)
-
--- the lines after a line that was read, or its fault
-abbrev read_on : List Entry → List Line → Result Entry (Fault Reason) → Result (List Entry) (Fault Reason)
-read_on earlier lines read = elim read [ Ok entry ↦ read_after (earlier ++ entry ∷ []) lines | Err fault ↦ Err fault ]
-
--- so the line was read, and the lines after it
-read_first : (earlier : List Entry) (lines : List Line) (entries : List Entry) (read : Result Entry (Fault Reason)) →
-    read_on earlier lines read ≡ Ok entries → (entry : Entry) × (read ≡ Ok entry) × (read_after (earlier ++ entry ∷ []) lines ≡ Ok entries)
-read_first earlier lines entries (Ok entry) is = (entry, refl, is)
-read_first earlier lines entries (Err fault) is = absurd (cc)
-
--- so lines that are read one after another keep them
-lines_within : (earlier : List Entry) (lines : List Line) (entries : List Entry) → IsSaid earlier → read_after earlier lines ≡ Ok entries → IsSaid entries
-lines_within earlier [] entries said is = let same : earlier ≡ entries = cc in subst IsSaid same said
-lines_within earlier (line ∷ lines) entries said is =
-    let first = read_first earlier lines entries (read_line earlier line) is in
-    lines_within (earlier ++ first.0 ∷ []) lines entries (line_within earlier said.document line first.0 said.is first.1) first.2
 
 -- without points the multiple of the gaps is within its limit
 no_gaps : (points : List Point) → points ≡ [] → hull_multiple points ≤ MAX_GAPS
 no_gaps [] none = omega arith
 no_gaps (point ∷ points) none = absurd (cc)
+
+-- a document of jobs alone, with their names, is within the limits
+pub only_jobs : (names : List (List ℕ)) (jobs : List Job) → AreNamedJobs names jobs → IsDocument (record no_document { names = names; jobs = jobs })
+only_jobs names jobs are = record {
+  jobs = are;
+  points = record { few = omega arith; fit = All-nil IsPoint; table = inl refl; gaps_in_range = λ n. no_gaps (take n []) (take_all n [] (omega arith)) };
+  slots = record { few = omega arith; fit = All-nil IsSlot; known = All-nil (λ slot. slot.job < length names); grains = λ i j i_within j_within same. absurd (omega (arith, i_within)) };
+  levels = record { few = omega arith; few_pieces = omega arith; few_members = omega arith; fit = All-nil IsLevel; known = All-nil (λ job. job < length names) };
+  grid = tt;
+  energy = tt;
+}
 
 -- no lines say an empty document, which is within the limits
 no_lines : IsSaid []
@@ -410,33 +352,26 @@ no_lines = record {
   document = no_document;
   is = record {
     says = record { said = refl; pieces = refl; members = refl };
-    fits = record {
-      jobs = record { one_name_each = refl; few = omega arith; names_fit = All-nil (λ name. is_name name ≡ true); different = λ i j i_within j_within same. absurd (omega arith); jobs_fit = All-nil IsJob };
-      points = record { few = omega arith; fit = All-nil IsPoint; table = inl refl; gaps_in_range = λ n. no_gaps (take n []) (take_all n [] (omega arith)) };
-      slots = record { few = omega arith; fit = All-nil IsSlot; known = All-nil (λ slot. slot.job < 0); grains = λ i j i_within j_within same. absurd (omega arith) };
-      levels = record { few = omega arith; few_pieces = omega arith; few_members = omega arith; fit = All-nil IsLevel; known = All-nil (λ job. job < 0) };
-      grid = tt;
-      energy = tt;
-    };
+    fits = only_jobs [] [] (record {
+      one_name_each = refl;
+      few = omega arith;
+      names_fit = All-nil (λ name. is_name name ≡ true);
+      different = λ i j i_within j_within same. absurd (omega arith);
+      jobs_fit = All-nil IsJob;
+    });
     ticks = All-nil IsTicks;
   };
 }
 
--- the document of entries, or the fault that came in their place
-abbrev document_of : Result (List Entry) (Fault Reason) → Result Document (Fault Reason)
-document_of read = elim read [ Ok entries ↦ Ok (document_said entries) | Err fault ↦ Err fault ]
-
--- a document that is read is what some entries say
-document_read : (read : Result (List Entry) (Fault Reason)) (d : Document) → document_of read ≡ Ok d → (entries : List Entry) × (read ≡ Ok entries) × (document_said entries ≡ d)
-document_read (Ok entries) d is = (entries, refl, cc)
-document_read (Err fault) d is = absurd (cc)
-
 -- the law: a document that is read is within the limits
 pub read_is_within_limits : ReadIsWithinLimits
 read_is_within_limits bytes d is =
-    let all = document_read (read_after [] (live_lines (lines_of bytes))) d is in
-    let said = lines_within [] (live_lines (lines_of bytes)) all.0 no_lines all.1 in
-    subst IsDocument (sym said.is.says.said ∙ all.2) said.is.fits
+    let lines = live_lines (lines_of bytes) in
+    let all = read_of (λ entries. Ok (document_said entries)) (read_after [] lines) d is in
+    let said = lines_keep read_line read_after IsSaid (λ earlier. refl) (λ earlier line lines. refl) (λ earlier line entry said. line_within earlier said.document line entry said.is)
+    [] lines all.0 no_lines all.1 in
+    let same : document_said all.0 ≡ d = cc all.2 in
+    subst IsDocument (sym said.is.says.said ∙ same) said.is.fits
 
 -- the law: its canonical text is read as the document
 pub canonical_text_is_read : CanonicalTextIsRead

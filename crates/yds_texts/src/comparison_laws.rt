@@ -4,11 +4,13 @@ ghost use Rattle.yds_texts.specs.CompareText.{ComparedAsRounded, ComparedIsTooSl
 
 /// `compare` and `round` answer an input with the same status, and where they are done the plan's energy that the one tells is
 /// the energy that the other tells.
+#[tactic(auto, using(crate::proofs::CompareText::compared_as_rounded))]
 pub fn compared_as_rounded()
     ensures { ComparedAsRounded }
 {}
 
 /// In each text of `compare` the energy of a policy, where it is told, isn't less than the plan's.
+#[tactic(auto, using(crate::proofs::CompareText::compared_plan_is_cheapest))]
 pub fn compared_plan_is_cheapest()
     ensures { ComparedPlanIsCheapest }
 {}

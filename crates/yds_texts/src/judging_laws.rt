@@ -10,6 +10,7 @@ pub fn judgements_tell_proper()
 
 /// `audit` is done and says `feasible` exactly where the document's slots are feasible, and says no exactly where they
 /// aren't. With `--points` it is so where each also runs at the speed of a point.
+#[tactic(auto, using(crate::proofs::JudgedText::verdicts_tell_feasible))]
 pub fn verdicts_tell_feasible()
     ensures { VerdictsTellFeasible }
 {}

@@ -2,7 +2,7 @@
 use Rattle.std.proofs.Common.{◌≡◌, ◌≢◌, ℕ, zero, suc, ◌+◌, ◌*◌, ◌<◌, ◌≤◌, List, [], ◌∷◌, ◌++◌, ◌∙◌, length, get_or, refl, sym, subst, arith, inl, inr, ap, ap₂, true, false, Some, None}
 use Rattle.std.specs.Prelude.{Bool, Option, ◌&&◌, ◌==◌, cond, nat_le, sum_by, filter}
 use Rattle.std.specs.List.{All, AllZip}
-use Rattle.std.proofs.lemmas.Bool.{cases_eq, cases_lt, eq-eqb, le-leb, lt-leb, ne_eqb}
+use Rattle.std.proofs.lemmas.Bool.{cases_eq, cases_lt, eq-eqb, le-leb, lt-leb, ne_eqb, and_right}
 use Rattle.std.proofs.lemmas.List.{append-nil, map-append, get_or-map, length-map}
 use Rattle.std.proofs.lemmas.List.Elements.{All-nil, All-tail, All-map, All-weaker, filter-append}
 use Rattle.std.proofs.lemmas.List.Sums.{sum_by-cons}
@@ -15,10 +15,10 @@ use Rattle.yds_model.specs.Event.{LiesIn}
 use Rattle.yds_model.specs.Plan.{IsOver}
 use Rattle.yds_model.specs.Policy.{slots_in, FillsAtSpeed, ServesCapacity}
 use Rattle.yds_model.proofs.Lists.{All-front, All-back, All-flat}
-use Rattle.yds_model.proofs.Runs.{run_earlier}
+use Rattle.yds_model.proofs.Runs.{run_earlier, run_joined}
 use Rattle.yds_model.proofs.Filters.{filter_all, filter_none}
 use Rattle.yds_slots.proofs.Parts.{of_parts_over}
-use Rattle.yds_events.specs.Stretch.{IsStretch, no_stretch, length_of}
+use Rattle.yds_events.specs.Stretch.{no_stretch, length_of}
 use Rattle.yds_events.proofs.InOrder.{later_start}
 use Rattle.yds_timetable.specs.declared.pace.Pace.{Pace}
 use Rattle.yds_timetable.specs.Shares.{JobShare, total_units, units_given}
@@ -127,19 +127,7 @@ paced_work grain scale None stretch shares is has divided = omega (arith, ap (λ
 paced_work grain scale (Some pace) stretch shares fills has divided =
     ap (λ g. g * sum_by (λ slot. slot.work) (slots_at scale (slots_from pace stretch.from 0 shares))) (sym has) ∙ slots_work pace stretch.from scale 0 shares divided
 
-stretch_is : (pace : Option Pace) (stretch : Piece) (shares : List JobShare) → IsFilledAt pace stretch shares → IsStretch stretch
-stretch_is None stretch shares is = is.0
-stretch_is (Some pace) stretch shares fills = fills.own.is_stretch
-
 -- # Stretch after stretch
-
--- slots that run one after another, and others after them
-run_append : (start time : ℕ) (slots more : List WholeSlot) → RunFrom start slots → start ≤ time → All (λ slot. slot.to ≤ time) slots → RunFrom time more →
-    RunFrom start (slots ++ more)
-run_append start time [] [] run before ends after = tt
-run_append start time [] (slot ∷ more) run before ends after = (omega (arith, before, after.0), after.1, after.2)
-run_append start time (slot ∷ slots) more run before ends after =
-    (run.0, run.1, run_append slot.to time slots more run.2 (ends 0 slot (omega arith)) (All-tail (λ s. s.to ≤ time) slot slots ends) after)
 
 -- what runs one after another, by two places
 run_at : (start : ℕ) (slots : List WholeSlot) (j : ℕ) → RunFrom start slots → j < length slots → start ≤ (slot_at slots j).from
@@ -164,9 +152,8 @@ rows_run scale positive start (row ∷ rows) order are divided =
     let to : row.stretch.from * scale ≤ row.stretch.to * scale =
     mul-le-mul_right scale (let forward : row.stretch.from ≤ row.stretch.to = omega (arith, order.1) in forward) in
     rw (map-append (slot_at_scale scale) (row_slots row) (slots_of rows))
-    (run_append (start * scale) (row.stretch.to * scale) (slots_at scale (row_slots row)) (slots_at scale (slots_of rows))
+    (run_joined (start * scale) (row.stretch.to * scale) (slots_at scale (row_slots row)) (slots_at scale (slots_of rows)) (omega (arith, from, to))
     (run_earlier (start * scale) (row.stretch.from * scale) (slots_at scale (row_slots row)) from (paced_run scale positive row.pace row.stretch row.shares is mine))
-    (omega (arith, from, to))
     (All-weaker (Stays scale row.stretch) (λ slot. slot.to ≤ row.stretch.to * scale) (λ slot stays. stays.lies_in.to) (slots_at scale (row_slots row))
     (stays_at row is scale positive mine))
     (rows_run scale positive row.stretch.to rows order.2 (All-tail IsRow row rows are) (All-back (IsDivided scale) (row_slots row) (slots_of rows) divided)))
@@ -198,10 +185,6 @@ one_row_passes test scale (row ∷ rows) (suc k) within none own =
     ∙ ap₂ (λ (xs ys : List WholeSlot). xs ++ ys) (none 0 (omega arith) (λ is. omega (arith, is)))
     (one_row_passes test scale rows k (omega arith) (λ j below other. none (suc j) (omega arith) (λ is. other (omega (arith, is)))) own)
 
-and_not : (a b : Bool) → b ≡ false → (a && b) ≡ false
-and_not true b second = second
-and_not false b second = refl
-
 module _ (rows : List Row) (order : PiecesFrom 0 (stretches_of rows)) (are : All IsRow rows) (scale : ℕ) (is : IsScale scale (slots_of rows)) where
   row_is : (k : ℕ) → k < length rows → IsRow (row_at rows k)
   row_is k within = are k no_row within
@@ -226,7 +209,7 @@ module _ (rows : List Row) (order : PiecesFrom 0 (stretches_of rows)) (are : All
         | inl earlier ↦ rw (lt-leb ((row_at rows k).stretch.from * scale) slot.from (omega (arith, before j k earlier within, stays.lies_in.to, stays.forward))) refl
         | inr later ↦
             let after : k < j = omega (arith, later, other) in
-            and_not (nat_le ((row_at rows k).stretch.from * scale) slot.from) _
+            and_right (nat_le ((row_at rows k).stretch.from * scale) slot.from) _
             (lt-leb slot.to ((row_at rows k).stretch.to * scale) (omega (arith, before k j after below, stays.lies_in.from, stays.forward)))
       ]) (slots_at scale (row_slots (row_at rows j))) (stays_at (row_at rows j) (row_is j below) scale is.positive (divided_at j below)))
 

@@ -1,5 +1,0 @@
-use Rattle.yds_energy.proofs.PlansEnergy.{plans_cost_least_on_points as law}
-use Rattle.yds_energy.proofs.energy_laws.plans_cost_least_on_points.Goals as goal
-
-pub returns : goal.returns
-returns c = law

@@ -1,5 +1,0 @@
-use Rattle.yds_model.proofs.Fractions.{order_of_values as law}
-use Rattle.yds_laws.proofs.scale_laws.order_is_of_values.Goals as goal
-
-pub returns : goal.returns
-returns c = law
