@@ -16,7 +16,7 @@ use Rattle.yds_admit.specs.Pieces.{went, IsGreatest, IsCutting, IsCutInto}
 use Rattle.yds_model.proofs.Confined.{part_within}
 use Rattle.yds_admit.proofs.Sweep.{no_more, attained}
 
-yes : (place q x : ℕ) → place ≤ q → cond (nat_le place q) x 0 ≡ x
+pub yes : (place q x : ℕ) → place ≤ q → cond (nat_le place q) x 0 ≡ x
 yes place q x most = ap {B = ℕ} (λ b. cond b x 0) (le-leb place q most)
 
 no : (place q x : ℕ) → q < place → cond (nat_le place q) x 0 ≡ 0

@@ -1,25 +1,24 @@
 -- What is idle between the times, jobs that take it, and what a cut leaves of it.
-use Rattle.std.proofs.Common.{◌≡◌, ℕ, zero, suc, ◌+◌, ◌-◌, ◌*◌, ◌<◌, ◌≤◌, List, [], ◌∷◌, ◌++◌, length, get_or, take, drop, set, replicate, ◌∙◌, subst, arith, inl, inr, ap, cond, nat_le, get_or-set_same, get_or-set_other}
+use Rattle.std.proofs.Common.{◌≡◌, ℕ, zero, suc, ◌+◌, ◌-◌, ◌*◌, ◌<◌, ◌≤◌, List, [], ◌∷◌, ◌++◌, length, get_or, take, drop, set, ◌∙◌, subst, arith, inl, inr, ap, cond, nat_le, get_or-set_same, get_or-set_other}
 use Rattle.std.specs.List.{All, sum_by}
 use Rattle.std.specs.List.Sorted.{IsNonDecreasing}
 use Rattle.std.proofs.lemmas.Bool.{cases_lt, cases_eq, le-leb, lt-leb}
-use Rattle.std.proofs.lemmas.List.{get_or_default, get_or-replicate, length-replicate, get_or_past, drop_all, append-nil, take_all}
+use Rattle.std.proofs.lemmas.List.{get_or_default, drop_all, append-nil, take_all}
 use Rattle.std.proofs.lemmas.List.Sums.{sum_by_push}
 use Rattle.std.proofs.Math.Nat.{mul-sub, mul-le-mul_left}
 use Rattle.yds_model.specs.Job.{Job, IsJob, job_at}
-use Rattle.yds_edf.proofs.Sums.{sum_below_same, sum_below_zero}
+use Rattle.yds_edf.proofs.Sums.{sum_below_same}
 use Rattle.yds_laws.specs.AdmissionLaws.{HasRoom}
 use Rattle.yds_model.specs.Confined.{work_within}
 use Rattle.yds_admit.specs.Chain.{IsFalling, due_work}
 use Rattle.yds_admit.specs.Board.{AreGaps}
-use Rattle.yds_admit.specs.Pieces.{went, IsCutting, ArePieces, AreDue}
-use Rattle.yds_admit.specs.Idle.{HasIdle, IsTaken, IsCleared, IsRest, idle_before}
+use Rattle.yds_admit.specs.Pieces.{went, IsCount, IsCutting, AreDue}
+use Rattle.yds_admit.specs.Idle.{HasIdle, IsTaken, IsTakenFrom, Fits, idle_before}
 use Rattle.yds_model.proofs.Confined.{part_within, part_inside, part_early, part_late}
 use Rattle.yds_admit.proofs.Overfull.{jobs_work, any_of_all}
 use Rattle.yds_admit.proofs.Sweep.{step_is}
 use Rattle.yds_admit.proofs.Cutting.{next_went}
-use Rattle.yds_admit.proofs.Least.{work_of_first, room_to, less_between}
-use Rattle.yds_model.proofs.Lists.{All-last}
+use Rattle.yds_admit.proofs.Least.{work_of_first, first_at_most, room_to}
 
 -- # All of a vector was lent
 
@@ -92,7 +91,7 @@ fewer_more old new less a (suc more) =
     let e : a + suc more ≡ suc (a + more) = omega arith in
     omega (arith, fewer_more old new less a more, ap (λ k. idle_before new k) e, ap (λ k. idle_before old k) e, less (a + more))
 
-fewer_between : (old new : List ℕ) → ((q : ℕ) → get_or new q 0 ≤ get_or old q 0) → (a b : ℕ) → a ≤ b →
+pub fewer_between : (old new : List ℕ) → ((q : ℕ) → get_or new q 0 ≤ get_or old q 0) → (a b : ℕ) → a ≤ b →
     idle_before new b + idle_before old a ≤ idle_before new a + idle_before old b
 fewer_between old new less a b forward =
     let e : a + (b - a) ≡ b = omega (arith, forward) in
@@ -110,7 +109,7 @@ nothing_more idle a (suc more) none =
       ap (λ k. idle_before idle k) e,
     )
 
-nothing_between : (idle : List ℕ) (a b : ℕ) → a ≤ b → ((q : ℕ) → a ≤ q → q < b → get_or idle q 0 ≡ 0) → idle_before idle b ≡ idle_before idle a
+pub nothing_between : (idle : List ℕ) (a b : ℕ) → a ≤ b → ((q : ℕ) → a ≤ q → q < b → get_or idle q 0 ≡ 0) → idle_before idle b ≡ idle_before idle a
 nothing_between idle a b forward none =
     let e : a + (b - a) ≡ b = omega (arith, forward) in
     omega (arith, nothing_more idle a (b - a) (λ q behind less. none q behind (omega (arith, less, e))), ap (λ k. idle_before idle k) e)
@@ -199,48 +198,37 @@ module _ (top : ℕ) (times : List ℕ) (jobs : List Job) (old : List ℕ) (risi
   pub has_more : HasIdle top times (jobs ++ row ∷ []) new
   has_more = has_with top times jobs old rising has row end new within is_end taken.as_long taken.less holds
 
--- one that takes all that is idle before its deadline, as far back as it needs
-module _ (top : ℕ) (times : List ℕ) (jobs : List Job) (old : List ℕ) (rising : IsNonDecreasing times) (has : HasIdle top times jobs old) (row : Job) (end : ℕ) (new : List ℕ)
-    (cleared : IsCleared old new end row.work) (within : end < length times) (is_end : get_or times end 0 ≡ row.deadline)
-    (far : (from b : ℕ) → from ≤ row.release → end ≤ b → b < length times →
-    work_within jobs from (get_or times b 0) + row.work + idle_before old b ≤ top * (get_or times b 0 - from) + idle_before old end) where
-  cleared_less : (q : ℕ) → get_or new q 0 ≤ get_or old q 0
-  cleared_less q = elim (cases_lt q cleared.place) [
-    | inl less ↦ omega (arith, cleared.early q less)
-    | inr more ↦ elim (cases_lt q end) [
-      | inl soon ↦ omega (arith, cleared.none q more soon)
-      | inr later ↦ omega (arith, cleared.late q later)
-    ]
-  ]
+-- what is idle before a place where no gap before it changed
+pub same_before : (old new : List ℕ) (place : ℕ) → ((q : ℕ) → q < place → get_or new q 0 ≡ get_or old q 0) → idle_before new place ≡ idle_before old place
+same_before old new place same = sum_below_same place (λ k. get_or new k 0) (λ k. get_or old k 0) same
 
-  cleared_early : (q : ℕ) → q ≤ cleared.place → idle_before new q ≡ idle_before old q
-  cleared_early q most = sum_below_same q (λ k. get_or new k 0) (λ k. get_or old k 0) (λ k below. cleared.early k (omega (arith, below, most)))
-
-  cleared_holds : (from a b : ℕ) → end ≤ b → b < length times → a ≤ b → from ≤ row.release → from ≤ get_or times a 0 →
+-- one that takes what is idle before its deadline, as far back as it needs
+module _ (top : ℕ) (times : List ℕ) (jobs : List Job) (old : List ℕ) (rising : IsNonDecreasing times) (has : HasIdle top times jobs old) (row : Job) (end : ℕ) (new : List ℕ) (after : ℕ)
+    (taken : IsTakenFrom old new end row.work after) (within : end < length times) (is_end : get_or times end 0 ≡ row.deadline)
+    (fits : (from : ℕ) → from ≤ row.release → Fits top times jobs row end old from) where
+  holds_before : (from a b : ℕ) → end ≤ b → b < length times → a ≤ b → from ≤ row.release → from ≤ get_or times a 0 →
       work_within jobs from (get_or times b 0) + row.work + idle_before new b ≤ top * (get_or times b 0 - from) + idle_before new a
-  cleared_holds from a b later below forward counts ahead = elim (cases_lt a cleared.place) [
+  holds_before from a b later below forward counts ahead = elim (cases_lt a after) [
     | inl less ↦ omega (
       arith,
       has.room from a b forward below ahead,
-      cleared.enough (omega (arith, less)),
-      cleared_early a (omega (arith, less)),
-      cleared_early cleared.place (omega arith),
-      nothing_between new cleared.place end cleared.most cleared.none,
-      fewer_between old new cleared_less end b later,
+      taken.sum (omega (arith, less)),
+      same_before old new a (λ q under. taken.early q (omega (arith, under, less))),
+      fewer_between old new taken.less end b later,
     )
     | inr more ↦ elim (cases_lt a end) [
       | inl soon ↦ omega (
         arith,
-        far from b counts later below,
-        nothing_between new a end (omega (arith, soon)) (λ q behind less. cleared.none q (omega (arith, behind, more)) less),
-        fewer_between old new cleared_less end b later,
+        fits from counts b later below,
+        nothing_between new a end (omega (arith, soon)) (λ q behind less. taken.none q (omega (arith, behind, more)) less),
+        fewer_between old new taken.less end b later,
       )
-      | inr behind ↦ omega (arith, far from b counts later below, later_idle old end a behind, fewer_between old new cleared_less a b forward)
+      | inr behind ↦ omega (arith, fits from counts b later below, later_idle old end a behind, fewer_between old new taken.less a b forward)
     ]
   ]
 
-  pub has_cleared : HasIdle top times (jobs ++ row ∷ []) new
-  has_cleared = has_with top times jobs old rising has row end new within is_end cleared.as_long cleared_less cleared_holds
+  pub has_before : HasIdle top times (jobs ++ row ∷ []) new
+  has_before = has_with top times jobs old rising has row end new within is_end taken.as_long taken.less holds_before
 
 -- # Room
 
@@ -259,22 +247,6 @@ idle_room top times jobs idle due has from to full =
       subst (λ (end : ℕ). work_within jobs from end + idle_before idle b ≤ top * (end - from) + idle_before idle b) is
           (has.room from b b (omega arith) there.1 (omega (arith, is, full.forward))),
     ))
-
--- none is idle
-pub none_idle : (top : ℕ) (times : List ℕ) (jobs : List Job) (n : ℕ) → n + 1 ≡ length times → All IsJob jobs → HasRoom top jobs → HasIdle top times jobs (replicate n 0)
-none_idle top times jobs n long are room = record {
-  as_long = omega (arith, length-replicate {A = ℕ} n 0, long);
-  room = λ from a b forward below ahead. omega (
-    arith,
-    room_to top jobs are room from (get_or times b 0),
-    sum_below_zero b (λ k. get_or (replicate n 0) k 0) (λ k less. nothing n k),
-  );
-} where
-  nothing : (n k : ℕ) → ◌≡◌ {A = ℕ} (get_or (replicate n 0) k 0) 0
-  nothing n k = elim (cases_lt k n) [
-    | inl below ↦ get_or-replicate n k 0 0 below
-    | inr past ↦ get_or_past (replicate n 0) k 0 (omega (arith, past, length-replicate {A = ℕ} n 0))
-  ]
 
 -- jobs with the same sums
 pub same_idle : (top : ℕ) (times : List ℕ) (jobs others : List Job) (idle : List ℕ) → ((g : Job → ℕ) → sum_by g others ≡ sum_by g jobs) → HasIdle top times others idle →
@@ -328,7 +300,7 @@ more_units jobs places n (suc more) q =
     ]
 
 -- so many of the first k pieces are released at a time or later
-count_from : (jobs : List Job) → IsFalling jobs → (from k : ℕ) → k ≤ length jobs →
+pub count_from : (jobs : List Job) → IsFalling jobs → (from k : ℕ) → k ≤ length jobs →
     (n : ℕ) × (n ≤ k) × ((i : ℕ) → i < n → from ≤ (job_at jobs i).release) × ((i : ℕ) → n ≤ i → i < k → (job_at jobs i).release < from)
 count_from jobs falling from zero within = (0, omega arith, λ i below. absurd (omega (arith, below)), λ i behind below. absurd (omega (arith, below)))
 count_from jobs falling from (suc k) within =
@@ -411,6 +383,40 @@ module _ (top : ℕ) (times full : List ℕ) (all jobs : List Job) (places gaps 
         ap reach e,
       )
 
+  -- the jobs that are released at a time or later want no more than their pieces have before a place, and the top speed does after it beside what is left
+  pub left_most : (from n a b : ℕ) → IsCount jobs n from → a ≤ b → b < length times →
+      work_within all from (get_or times b 0) + top * get_or times a 0 + idle_before gaps b ≤ went n jobs places a + top * get_or times b 0 + idle_before gaps a
+  left_most from n a b count forward below =
+      let time : ℕ = get_or times b 0 in
+      let e : a + (b - a) ≡ b = omega (arith, forward) in
+      let within : b ≤ m = omega (arith, below, long) in
+      omega (
+        arith,
+        same from time,
+        work_of_first jobs n from time count.within count.early count.late,
+        (cutting.greatest n count.within b within).all b (omega arith) within,
+        units_between n a (b - a) count.within (omega (arith, e, within)),
+        ap (λ k. went n jobs places k) e,
+        ap (λ k. idle_before gaps k) e,
+        ap reach e,
+      )
+
+  -- and by some later time no less
+  pub left_tight : (n from q : ℕ) → n ≤ length jobs → ((i : ℕ) → i < n → from ≤ (job_at jobs i).release) → q < length times →
+      (p : ℕ) × (q ≤ p) × (p < length times) × (went n jobs places q + top * get_or times p 0 ≤ work_within all from (get_or times p 0) + top * get_or times q 0)
+  left_tight n from q few early below =
+      let greatest = cutting.greatest n few q (omega (arith, below, long)) in (
+        greatest.at,
+        greatest.later,
+        omega (arith, greatest.within, long),
+        omega (
+          arith,
+          greatest.exact,
+          first_at_most jobs n from (get_or times greatest.at 0) few early,
+          same from (get_or times greatest.at 0),
+        ),
+      )
+
   pub left_idle : HasIdle top times all gaps
   left_idle = record {
     as_long = long;
@@ -451,42 +457,3 @@ module _ (top : ℕ) (times full : List ℕ) (all jobs : List Job) (places gaps 
   is_rest first (suc q) within =
       let e : q + 1 ≡ suc q = omega arith in
       omega (arith, is_rest first q (omega (arith, within)), step q (omega (arith, within)), next_idle gaps q, ap done e, ap reach e, ap (λ k. idle_before gaps k) e)
-
--- With one job more that leaves no interval overfull, an interval that holds its window leaves all that is idle after its deadline.
-pub far_idle : (top : ℕ) (times : List ℕ) (all jobs : List Job) (places used idle : List ℕ) (m : ℕ) → length times ≡ m + 1 → ArePieces top times all jobs places used →
-    IsRest top times idle used → (row : Job) (end : ℕ) → end ≤ m → get_or times end 0 ≡ row.deadline → IsNonDecreasing times → All IsJob (all ++ row ∷ []) → HasRoom top (all ++ row ∷ []) →
-    (from b : ℕ) → from ≤ row.release → end ≤ b → b < length times →
-    work_within all from (get_or times b 0) + row.work + idle_before idle b ≤ top * (get_or times b 0 - from) + idle_before idle end
-far_idle top times all jobs places used idle m long pieces rest row end short is_end rising are room from b counts later below =
-    let count = count_from jobs pieces.falling from (length jobs) (omega arith) in
-    let n : ℕ = count.0 in
-    let time : ℕ = get_or times b 0 in
-    let near = pieces.greatest m n long count.1 end short in
-    let to : ℕ = get_or times near.at 0 in
-    let due : row.deadline ≤ to = omega (arith, is_end, rising end near.at 0 near.later (omega (arith, near.within, long))) in
-    let window = (All-last IsJob all row are).has_window in
-    let e : n + (length jobs - n) ≡ length jobs = omega (arith, count.1) in
-    omega (
-      arith,
-      pieces.same from time,
-      work_of_first jobs n from time count.1 count.2 count.3,
-      (pieces.greatest m n long count.1 b (omega (arith, below, long))).all b (omega arith) (omega (arith, below, long)),
-      less_between jobs places end b later n (length jobs - n),
-      ap (λ k. went k jobs places end) e,
-      ap (λ k. went k jobs places b) e,
-      pieces.used_is end (omega (arith, short, long)),
-      pieces.used_is b below,
-      rest end (omega (arith, short, long)),
-      rest b below,
-      near.exact,
-      pieces.same from to,
-      work_of_first jobs n from to count.1 count.2 count.3,
-      room_to top (all ++ row ∷ []) are room from to,
-      sum_by_push (part_within from to) all row,
-      part_inside from to row counts due,
-      ap (λ t. top * t) is_end,
-      mul-sub top to from,
-      mul-sub top time from,
-      mul-le-mul_left top (let forward : from ≤ to = omega (arith, counts, window, due) in forward),
-      mul-le-mul_left top (let ahead : from ≤ time = omega (arith, counts, window, is_end, rising end b 0 later below) in ahead),
-    )

@@ -1,10 +1,11 @@
 -- What a cut of the admitted jobs leaves of a board's gaps.
 use Rattle.std.proofs.Common.{◌≡◌, ℕ, ◌+◌, ◌*◌, ◌<◌, ◌≤◌, List, length, map, get_or, ◌∙◌, arith, sym, false}
 use Rattle.std.specs.List.{All, filter, sum_by}
-use Rattle.std.proofs.lemmas.List.{length-map}
 use Rattle.std.proofs.lemmas.List.Elements.{All-map, All-filter}
+use Rattle.std.proofs.lemmas.List.{length-map}
 use Rattle.std.proofs.lemmas.List.FromFn.{length-range_with_len}
-use Rattle.std.proofs.lemmas.List.Sums.{length-filter, count_by-le-length}
+use Rattle.std.proofs.lemmas.List.Sums.{sum_by-le, length-filter, count_by-le-length}
+use Rattle.std.proofs.Math.Nat.{mul-le-mul_right}
 use Rattle.std.proofs.lemmas.List.Sorted.{sum_by-IsPermutation, length_permutation}
 use Rattle.yds_model.specs.declared.limits.TheConstants.{MAX_JOBS, MAX_WORK}
 use Rattle.yds_model.specs.Job.{Job, IsJob, no_job, job_at}
@@ -16,13 +17,13 @@ use Rattle.yds_admit.specs.declared.board.Board.{Board}
 use Rattle.yds_admit.specs.declared.board.Spot.{Spot}
 use Rattle.yds_admit.specs.declared.state.State.{State}
 use Rattle.yds_admit.specs.Board.{falling_jobs, if_marked}
-use Rattle.yds_admit.specs.Idle.{HasIdle, IsRest, idle_before}
-use Rattle.yds_admit.specs.Pieces.{went, IsCutting, AreCut, ArePieces}
-use Rattle.yds_admit.specs.State.{IsState}
+use Rattle.yds_admit.specs.Idle.{HasIdle, idle_before}
+use Rattle.yds_admit.specs.Pieces.{went, IsCutting, AreCut, AreBounds, AreUsed, AreExact}
 use Rattle.yds_admit.proofs.Cutting.{went_fits}
-use Rattle.yds_admit.proofs.Idleness.{full_before, is_rest, left_idle, less_left, same_idle}
-use Rattle.yds_admit.proofs.Made.{all_made, same_pieces}
-use Rattle.yds_admit.proofs.Newly.{room_same}
+use Rattle.yds_admit.specs.State.{IsState}
+use Rattle.yds_model.proofs.Confined.{part_within}
+use Rattle.yds_admit.proofs.Idleness.{full_before, is_rest, less_left, left_idle, left_most, left_tight, same_idle}
+use Rattle.yds_admit.proofs.Newly.{any_same, room_same}
 
 module _ (board : Board) (state : State) (is : IsState board state) where
   abbrev spots : List Spot
@@ -83,6 +84,9 @@ module _ (board : Board) (state : State) (is : IsState board state) where
     left_has_idle = same_idle board.top times state.jobs.items all left sums
         (left_idle board.top times full all jobs places left cutting is.on.are_gaps cut.same cut.falling are room is.on.are_times.rising long)
 
+    all_few : sum_by (λ job. job.work) all ≤ length all * MAX_WORK
+    all_few = sum_by-le (λ (job : Job). job.work) MAX_WORK all (λ k d below. (are k d below).work_in_range)
+
     -- what is left before a place, with the units that went before it, is all that the gaps had
     left_is : (q : ℕ) → q ≤ length full → idle_before left q + went (length jobs) jobs places q ≡ idle_before full q
     left_is q within = omega (
@@ -93,17 +97,41 @@ module _ (board : Board) (state : State) (is : IsState board state) where
 
     -- that is little
     pub left_few : (q : ℕ) → q ≤ length full → idle_before full q ≤ idle_before left q + MAX_JOBS * MAX_WORK
-    left_few q within = omega (arith, left_is q within, went_fits (length jobs) jobs places q (omega arith) (omega (arith, cut.few, few)))
+    left_few q within = omega (arith, left_is q within, went_fits (length jobs) jobs places q (omega arith) (omega (arith, cut.total, all_few, mul-le-mul_right MAX_WORK few)))
 
-    module _ (used : List ℕ) (used_long : length used ≡ length full + 1) (each : (q : ℕ) → q ≤ length full → idle_before left q + get_or used q 0 ≡ idle_before full q) where
-      -- with the units before each of the times these are the pieces of the admitted jobs
-      pub left_pieces : ArePieces board.top times state.jobs.items jobs places used
-      left_pieces = same_pieces board.top times state.jobs.items all jobs places used sums
-          (all_made board.top times all jobs places left used few long cut cutting (omega (arith, used_long, is.on.are_gaps.as_long))
-          (λ q below. let within : q ≤ length full = omega (arith, below, is.on.are_gaps.as_long) in omega (arith, each q within, left_is q within)))
+    -- the units before each of the times
+    pub left_used : (used : List ℕ) → length used ≡ length full + 1 → ((q : ℕ) → q ≤ length full → idle_before left q + get_or used q 0 ≡ idle_before full q) → AreUsed times jobs places used
+    left_used used used_long each = record {
+      used_as_long = omega (arith, used_long, is.on.are_gaps.as_long);
+      each = λ q below. let within : q ≤ length full = omega (arith, below, is.on.are_gaps.as_long) in omega (arith, each q within, left_is q within);
+    }
 
-      -- and what is left is the rest
-      pub left_rest : IsRest board.top times left used
-      left_rest q below =
-          let within : q ≤ length full = omega (arith, below, is.on.are_gaps.as_long) in
-          omega (arith, each q within, full_before board.top times full is.on.are_gaps is.on.are_times.first q within)
+    -- the pieces bound what the jobs want
+    pub left_bounds : AreBounds board.top times state.jobs.items jobs places left
+    left_bounds = record {
+      as_long = cutting.as_long;
+      falling = cut.falling;
+      few = omega (
+        arith,
+        cut.total,
+        sums (λ job. job.work),
+        sum_by-le (λ (job : Job). job.work) MAX_WORK state.jobs.items (λ k d below. (is.decided.are k d below).work_in_range),
+      );
+      kept = λ from some. cut.kept from (any_same (λ job. job.release) from state.jobs.items all sums some);
+      known = λ from some. any_same (λ job. job.release) from all state.jobs.items (λ g. sym (sums g)) (cut.known from some);
+      most = λ from n a b count forward below. omega (
+        arith,
+        left_most board.top times full all jobs places left cutting is.on.are_gaps cut.same cut.falling are room is.on.are_times.rising long from n a b count forward below,
+        sums (part_within from (get_or times b 0)),
+      );
+    }
+
+    -- and no less
+    pub left_exact : AreExact board.top times state.jobs.items jobs places left
+    left_exact = record {
+      rest = λ q below.
+          is_rest board.top times full all jobs places left cutting is.on.are_gaps cut.same cut.falling are room is.on.are_times.rising long is.on.are_times.first q (omega (arith, below, long));
+      tight = λ n from q few early below.
+          let found = left_tight board.top times full all jobs places left cutting is.on.are_gaps cut.same cut.falling are room is.on.are_times.rising long n from q few early below in
+          (found.0, found.1, found.2, omega (arith, found.3, sums (part_within from (get_or times found.0 0))));
+    }

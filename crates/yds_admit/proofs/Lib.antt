@@ -16,3 +16,4 @@ pub mod Least
 pub mod Idleness
 pub mod Next
 pub mod Left
+pub mod Bounds

@@ -5,16 +5,14 @@ use Rattle.std.proofs.lemmas.Bool.{cases_lt}
 use Rattle.std.proofs.lemmas.List.{get_or_append_left, get_or-append_right, get_or_default, get_or_push, length-append, length_push, map-append}
 use Rattle.std.proofs.lemmas.List.Elements.{filter_more}
 use Rattle.std.proofs.lemmas.List.Sums.{sum_by-append, sum_by_push}
-use Rattle.yds_model.specs.declared.limits.TheConstants.{MAX_JOBS, MAX_WORK}
 use Rattle.yds_model.specs.Job.{Job, no_job, job_at}
 use Rattle.yds_model.proofs.Lists.{Any-append_left}
 use Rattle.yds_admit.specs.declared.board.Spot.{Spot}
 use Rattle.yds_admit.specs.Board.{falling_jobs}
 use Rattle.yds_model.specs.Confined.{work_within}
-use Rattle.yds_admit.specs.Pieces.{IsGreatest, IsCutting, IsCutInto, AreCut, ArePieces, went}
+use Rattle.yds_admit.specs.Pieces.{IsCutInto, AreCut}
 use Rattle.yds_model.proofs.Confined.{part_within}
 use Rattle.yds_admit.proofs.Fitting.{no_spot, spot_at}
-use Rattle.yds_admit.proofs.Newly.{any_same}
 use Rattle.yds_admit.proofs.Cutting.{added}
 
 -- the marked jobs of one spot more
@@ -31,7 +29,7 @@ falling_more rows marks spots n below is =
 pub none_made : AreCut [] []
 none_made = record {
   falling = λ i j order below. absurd (omega arith);
-  few = omega arith;
+  total = refl;
   same = λ from to. refl;
   kept = λ from some. absurd (omega (arith, some.2));
   known = λ from some. absurd (omega (arith, some.2));
@@ -59,20 +57,19 @@ module _ (job : Job) (old new : List Job) (into : IsCutInto job old new) where
   ]
 
   -- one job more is cut, which isn't released after the pieces before
-  pub one_made : (all : List Job) → job.work ≤ MAX_WORK → AreCut all old → ((i : ℕ) → i < length old → job.release ≤ (job_at old i).release) → AreCut (all ++ job ∷ []) new
-  one_made all light made later = record {
+  pub one_made : (all : List Job) → AreCut all old → ((i : ℕ) → i < length old → job.release ≤ (job_at old i).release) → AreCut (all ++ job ∷ []) new
+  one_made all made later = record {
     falling = λ i j order below. elim (cases_lt j (length old)) [
       | inl early ↦ omega (arith, made.falling i j order early, front i (omega (arith, order, early)), front j early)
       | inr late ↦ omega (arith, back j late below, none_before job.release (omega arith) later i (omega (arith, order, below)))
     ];
-    few = omega (
+    total = omega (
       arith,
       ap (λ (jobs : List Job). sum_by (λ (one : Job). one.work) jobs) into.is,
       sum_by-append (λ (one : Job). one.work) old into.more,
       into.work,
-      made.few,
-      light,
-      length_push all job,
+      made.total,
+      sum_by_push (λ (one : Job). one.work) all job,
     );
     same = λ from to. omega (
       arith,
@@ -108,36 +105,3 @@ module _ (job : Job) (old new : List Job) (into : IsCutInto job old new) where
   } where
     read : (jobs : List Job) (from : ℕ) (some : Any (λ (one : Job). one.release ≡ from) jobs) → (job_at jobs some.0).release ≡ from
     read jobs from some = ap (λ (one : Job). one.release) (get_or_default jobs some.0 no_job some.1 some.2 ∙ some.3) ∙ some.4
-
--- all are cut, and the units before each of the times are known
-pub all_made : (top : ℕ) (times : List ℕ) (all jobs : List Job) (places gaps used : List ℕ) → length all ≤ MAX_JOBS → length gaps + 1 ≡ length times → AreCut all jobs →
-    IsCutting top times jobs places gaps → length used ≡ length times → ((q : ℕ) → q < length times → get_or used q 0 ≡ went (length jobs) jobs places q) →
-    ArePieces top times all jobs places used
-all_made top times all jobs places gaps used few long made cutting used_long used_is = record {
-  as_long = cutting.as_long;
-  used_as_long = used_long;
-  used_is = used_is;
-  falling = made.falling;
-  few = omega (arith, made.few, few);
-  same = made.same;
-  kept = made.kept;
-  known = made.known;
-  greatest = λ m k is few_pieces q below.
-      let e : length gaps ≡ m = omega (arith, long, is) in
-      subst (λ (count : ℕ). IsGreatest top times count k jobs places q) e (cutting.greatest k few_pieces q (omega (arith, below, e)));
-}
-
--- the pieces of jobs with the same sums
-pub same_pieces : (top : ℕ) (times : List ℕ) (all others jobs : List Job) (places used : List ℕ) → ((g : Job → ℕ) → sum_by g others ≡ sum_by g all) →
-    ArePieces top times others jobs places used → ArePieces top times all jobs places used
-same_pieces top times all others jobs places used same pieces = record {
-  as_long = pieces.as_long;
-  used_as_long = pieces.used_as_long;
-  used_is = pieces.used_is;
-  falling = pieces.falling;
-  few = pieces.few;
-  same = λ from to. pieces.same from to ∙ same (part_within from to);
-  kept = λ from some. pieces.kept from (any_same (λ job. job.release) from all others same some);
-  known = λ from some. any_same (λ job. job.release) from others all (λ g. sym (same g)) (pieces.known from some);
-  greatest = pieces.greatest;
-}

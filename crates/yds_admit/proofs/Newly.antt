@@ -13,8 +13,8 @@ use Rattle.yds_model.proofs.Lists.{All-front, All-last}
 use Rattle.yds_laws.specs.AdmissionLaws.{HasRoom}
 use Rattle.yds_laws.proofs.Served.{room_from, confined_sum, confined_term}
 use Rattle.yds_model.specs.Confined.{work_within}
-use Rattle.yds_admit.specs.Interval.{HasRoomFrom, IsFirstFrom, IsFirstWith}
-use Rattle.yds_admit.specs.Chain.{HasRoomOver, IsLeastFrom, NoFrom}
+use Rattle.yds_admit.specs.Interval.{IsFirstFrom, IsFirstWith}
+use Rattle.yds_admit.specs.Chain.{HasRoomOver}
 use Rattle.yds_model.proofs.Confined.{part_within, part_early, part_late}
 use Rattle.yds_admit.proofs.Overfull.{any_of_all, number_of_any, jobs_work}
 
@@ -113,14 +113,11 @@ module _ (top : ℕ) (jobs : List Job) (row : Job) (are : All IsJob (jobs ++ row
     ]
   ]
 
-  -- where there is no release from which one has too much
-  pub has_room : NoFrom top row.deadline (jobs ++ row ∷ []) → HasRoom top (jobs ++ row ∷ [])
-  has_room none from to full = no_overfull from to (none from) full
-
-  -- no overfull interval begins before the least release of one
-  pub none_before : (from : ℕ) → IsLeastFrom top row.deadline (jobs ++ row ∷ []) from → (other_from other_to : ℕ) → other_from < from →
-      IsOverfull (jobs ++ row ∷ []) top (numbers_of (jobs ++ row ∷ [])) other_from other_to → ⊥
-  none_before from least other_from other_to less full = no_overfull other_from other_to (λ ahead begins. least.earlier other_from less begins) full
+  -- no overfull interval begins before a release, from each earlier one of which there is room over the deadline
+  pub none_before : (from : ℕ) →
+      ((other : ℕ) → other < from → Any (λ (job : Job). job.release ≡ other) (jobs ++ row ∷ []) → HasRoomOver top row.deadline (jobs ++ row ∷ []) other) →
+      (other_from other_to : ℕ) → other_from < from → IsOverfull (jobs ++ row ∷ []) top (numbers_of (jobs ++ row ∷ [])) other_from other_to → ⊥
+  none_before from earlier other_from other_to less full = no_overfull other_from other_to (λ ahead begins. earlier other_from less begins) full
 
 -- # The first of all overfull intervals
 
@@ -160,17 +157,6 @@ module _ (top : ℕ) (all by_deadline : List Job) (deadlines : IsPermutation all
     });
     all = found.all ∙ same_work start to ∙ ap (λ begin. work_within all begin to) (sym found.begins);
   }
-
-  -- there is one from a release that has too much over a deadline
-  pub is_found : (due from : ℕ) → IsLeastFrom top due all from → HasRoomFrom top by_deadline from → ⊥
-  is_found due from least fits = omega (arith, least.too_much, same_work from least.to, fits least.to (omega (arith, least.ahead, least.beyond)))
-
--- none begins before the earliest release
-pub none_earlier : (top : ℕ) (all : List Job) (from : ℕ) → All (λ (job : Job). from ≤ job.release) all → (other_from other_to : ℕ) → other_from < from →
-    IsOverfull all top (numbers_of all) other_from other_to → ⊥
-none_earlier top all from earliest other_from other_to less full =
-    let other = any_of_all (λ job. job.release ≡ other_from) all full.is_release in
-    omega (arith, less, ap (λ (job : Job). job.release) other.3, other.4, earliest other.0 other.1 other.2)
 
 -- what an option holds, told otherwise
 pub MatchOption-then : {T : Type 0} (some : Option T) {A B : Type 0} {P Q : T → Type 0} → MatchOption some A P → (A → B) → ((x : T) → P x → Q x) → MatchOption some B Q

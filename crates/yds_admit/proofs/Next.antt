@@ -5,25 +5,14 @@ use Rattle.std.proofs.lemmas.List.{get_or_default}
 use Rattle.std.proofs.lemmas.List.Elements.{All-push}
 use Rattle.yds_model.specs.Job.{Job, IsJob, no_job}
 use Rattle.yds_admit.specs.declared.board.Board.{Board}
-use Rattle.yds_admit.specs.declared.pieces.Pieces.{Pieces}
 use Rattle.yds_admit.specs.declared.state.State.{State}
-use Rattle.yds_admit.specs.Pieces.{AreDue, ArePieces, ArePiecesOf}
+use Rattle.yds_admit.specs.Pieces.{AreDue}
 use Rattle.yds_admit.specs.State.{IsState, next_job}
 use Rattle.yds_admit.proofs.Times.{all_due}
 
 -- the deadlines of the admitted jobs are among the times
 pub jobs_due : (board : Board) (state : State) → IsState board state → AreDue board.times.items state.jobs.items
 jobs_due board state is = all_due board.rows.now state.jobs.items board.times.items is.on.are_times is.marked.marked.known is.decided.are
-
--- pieces of the admitted jobs
-pub jobs_pieces : (board : Board) (state : State) (pieces : Pieces) → IsState board state →
-    ArePieces board.top board.times.items state.jobs.items pieces.jobs.items pieces.places.items pieces.used.items → ArePiecesOf board.top board.times.items state.jobs.items pieces
-jobs_pieces board state pieces is cut = record {
-  cut = cut;
-  due = jobs_due board state is;
-  are = is.decided.are;
-  room = is.decided.room;
-}
 
 module _ (board : Board) (state : State) (is : IsState board state) (more : state.next < length board.rows.now) where
   abbrev with_next : List Job

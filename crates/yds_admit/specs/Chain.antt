@@ -54,18 +54,6 @@ pub record Takes (old : List ℕ) (place units : ℕ) (new : List ℕ) (at left 
 abbrev pub HasRoomOver : ℕ → ℕ → List Job → ℕ → Type 0
 HasRoomOver top due jobs from = (to : ℕ) → due ≤ to → (due < to → Any (λ job. job.deadline ≡ to) jobs) → work_within jobs from to ≤ top * (to - from)
 
--- the least release before `due` from which it doesn't, where there is one
-pub record IsLeastFrom (top due : ℕ) (jobs : List Job) (from : ℕ) : Type 0 where
-  pub ahead : from < due
-  pub is_release : Any (λ job. job.release ≡ from) jobs
-  pub to : ℕ
-  pub beyond : due ≤ to
-  pub too_much : top * (to - from) < work_within jobs from to
-  pub earlier : (other : ℕ) → other < from → Any (λ job. job.release ≡ other) jobs → HasRoomOver top due jobs other
-
-abbrev pub NoFrom : ℕ → ℕ → List Job → Type 0
-NoFrom top due jobs = (from : ℕ) → from < due → Any (λ job. job.release ≡ from) jobs → HasRoomOver top due jobs from
-
 -- Each place has a link to a place no later, between which and it nothing is left of the gaps.
 pub record AreLinks (gaps links : List ℕ) : Type 0 where
   pub as_long : length links ≡ length gaps + 1

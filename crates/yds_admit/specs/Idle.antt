@@ -23,16 +23,21 @@ pub record IsTaken (old new : List ℕ) (begin end units : ℕ) : Type 0 where
   pub late : (q : ℕ) → end ≤ q → slice_index new q ≡ slice_index old q
   pub sum : idle_before new end + units ≡ idle_before old end
 
--- nothing is left idle from some place up to `end`: before it, where there is any, so many units or more were idle from there
-pub record IsCleared (old new : List ℕ) (end units : ℕ) : Type 0 where
+-- so many units were taken from what is idle before `end`: from the gap before the place `after` and later ones, or all that was idle where `after` is 0
+pub record IsTakenFrom (old new : List ℕ) (end units after : ℕ) : Type 0 where
   pub as_long : length new ≡ length old
-  pub place : ℕ
-  pub most : place ≤ end
-  pub early : (q : ℕ) → q < place → slice_index new q ≡ slice_index old q
-  pub none : (q : ℕ) → place ≤ q → q < end → slice_index new q ≡ 0
+  pub less : (q : ℕ) → slice_index new q ≤ slice_index old q
+  pub early : (q : ℕ) → q + 1 < after → slice_index new q ≡ slice_index old q
+  pub none : (q : ℕ) → after ≤ q → q < end → slice_index new q ≡ 0
   pub late : (q : ℕ) → end ≤ q → slice_index new q ≡ slice_index old q
-  pub enough : 1 ≤ place → idle_before old place + units ≤ idle_before old end
+  pub sum : 1 ≤ after → idle_before new end + units ≡ idle_before old end
 
--- what is idle before each time is all that the top speed does by then, less what is used
-abbrev pub IsRest : ℕ → List ℕ → List ℕ → List ℕ → Type 0
-IsRest top times idle used = (q : ℕ) → q < length times → idle_before idle q + slice_index used q ≡ top * slice_index times q
+-- so many units are idle from this place up to `end`
+pub record IsIdleFrom (idle : List ℕ) (end units place : ℕ) : Type 0 where
+  pub order : place ≤ end
+  pub enough : idle_before idle place + units ≤ idle_before idle end
+
+-- With one job more, whose deadline has the place `end`, an interval from this time on that holds its window leaves all that is idle after its deadline.
+abbrev pub Fits : ℕ → List ℕ → List Job → Job → ℕ → List ℕ → ℕ → Type 0
+Fits top times jobs row end idle from = (b : ℕ) → end ≤ b → b < length times →
+    work_within jobs from (slice_index times b) + row.work + idle_before idle b ≤ top * (slice_index times b - from) + idle_before idle end

@@ -1,5 +1,5 @@
 -- Intervals of time and the work of jobs whose windows lie in them.
-use Rattle.std.specs.Prelude.{◌≡◌, ℕ, ◌-◌, ◌*◌, ◌<◌, ◌≤◌, ◌&&◌, nat_le, if◌then◌else◌, List, sum_by}
+use Rattle.std.specs.Prelude.{◌≡◌, ℕ, ◌-◌, ◌*◌, ◌<◌, ◌≤◌, List}
 use Rattle.std.specs.List.{Any}
 use Rattle.yds_model.specs.Job.{Job}
 use Rattle.yds_model.specs.Confined.{work_within}

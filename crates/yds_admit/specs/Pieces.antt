@@ -1,13 +1,13 @@
 -- Jobs cut into pieces, each of which takes room in one gap between rising times.
-use Rattle.std.specs.Prelude.{◌≡◌, ℕ, ◌+◌, ◌*◌, ◌<◌, ◌≤◌, ◌++◌, nat_le, if◌then◌else◌, List, length, take, slice_index, sum_by}
+use Rattle.std.specs.Prelude.{◌≡◌, ℕ, ◌+◌, ◌-◌, ◌*◌, ◌<◌, ◌≤◌, ◌++◌, ◌∷◌, [], nat_le, if◌then◌else◌, List, length, insert, take, slice_index, sum_by}
 use Rattle.std.specs.List.{All, Any, Contains}
 use Rattle.yds_model.specs.declared.limits.TheConstants.{MAX_JOBS, MAX_WORK}
-use Rattle.yds_model.specs.Job.{Job, IsJob, job_at}
-use Rattle.yds_laws.specs.AdmissionLaws.{HasRoom}
+use Rattle.yds_model.specs.Job.{Job, job_at}
 use Rattle.yds_edf.specs.Pending.{sum_below}
 use Rattle.yds_admit.specs.declared.pieces.Pieces.{Pieces}
 use Rattle.yds_model.specs.Confined.{work_within}
 use Rattle.yds_admit.specs.Chain.{IsFalling, IsChain, due_work}
+use Rattle.yds_admit.specs.Idle.{Fits, HasIdle, idle_before}
 
 -- each job's deadline is one of the times
 abbrev pub AreDue : List ℕ → List Job → Type 0
@@ -25,6 +25,12 @@ pub record IsGreatest (top : ℕ) (times : List ℕ) (m n : ℕ) (jobs : List Jo
   pub later : q ≤ at
   pub within : at ≤ m
   pub exact : due_work (take n jobs) (slice_index times at) + top * slice_index times q ≡ went n jobs places q + top * slice_index times at
+
+-- so many of the first ones are released at a time or later, and no others
+pub record IsCount (jobs : List Job) (n from : ℕ) : Type 0 where
+  pub within : n ≤ length jobs
+  pub early : (i : ℕ) → i < n → from ≤ (job_at jobs i).release
+  pub late : (i : ℕ) → n ≤ i → i < length jobs → (job_at jobs i).release < from
 
 -- pieces, and what they left of the gaps
 pub record IsCutting (top : ℕ) (times : List ℕ) (jobs : List Job) (places gaps : List ℕ) : Type 0 where
@@ -44,39 +50,60 @@ pub record IsCutInto (job : Job) (old new : List Job) : Type 0 where
 -- the pieces of all these jobs
 pub record AreCut (all jobs : List Job) : Type 0 where
   pub falling : IsFalling jobs
-  pub few : sum_by (λ job. job.work) jobs ≤ length all * MAX_WORK
+  pub total : sum_by (λ job. job.work) jobs ≡ sum_by (λ job. job.work) all
   pub same : (from to : ℕ) → work_within jobs from to ≡ work_within all from to
   pub kept : (from : ℕ) → Any (λ job. job.release ≡ from) all → Any (λ job. job.release ≡ from) jobs
   pub known : (from : ℕ) → Any (λ job. job.release ≡ from) jobs → Any (λ job. job.release ≡ from) all
 
--- the pieces of jobs, and the units that take room before each of the times
-pub record ArePieces (top : ℕ) (times : List ℕ) (all jobs : List Job) (places used : List ℕ) : Type 0 where
+-- Pieces of jobs by falling releases, and what is idle beside them. The pieces that are released at a time or later have no fewer units before a
+-- place than the jobs released then want by a later place, beyond what the top speed does in between, less what is idle there.
+pub record AreBounds (top : ℕ) (times : List ℕ) (all jobs : List Job) (places idle : List ℕ) : Type 0 where
   pub as_long : length places ≡ length jobs
-  pub used_as_long : length used ≡ length times
   pub falling : IsFalling jobs
-  pub few : sum_by (λ job. job.work) jobs ≤ MAX_JOBS * MAX_WORK
-  pub same : (from to : ℕ) → work_within jobs from to ≡ work_within all from to
+  pub few : sum_by (λ job. job.work) jobs ≤ length all * MAX_WORK
   pub kept : (from : ℕ) → Any (λ job. job.release ≡ from) all → Any (λ job. job.release ≡ from) jobs
   pub known : (from : ℕ) → Any (λ job. job.release ≡ from) jobs → Any (λ job. job.release ≡ from) all
-  pub greatest : (m n : ℕ) → length times ≡ m + 1 → n ≤ length jobs → (q : ℕ) → q ≤ m → IsGreatest top times m n jobs places q
-  pub used_is : (q : ℕ) → q < length times → slice_index used q ≡ went (length jobs) jobs places q
+  pub most : (from n a b : ℕ) → IsCount jobs n from → a ≤ b → b < length times →
+      work_within all from (slice_index times b) + top * slice_index times a + idle_before idle b
+      ≤ went n jobs places a + top * slice_index times b + idle_before idle a
 
--- the pieces of jobs that leave no interval overfull, with their deadlines among the times
-pub record ArePiecesOf (top : ℕ) (times : List ℕ) (all : List Job) (pieces : Pieces) : Type 0 where
-  pub cut : ArePieces top times all pieces.jobs.items pieces.places.items pieces.used.items
-  pub due : AreDue times all
-  pub are : All IsJob all
-  pub room : HasRoom top all
+-- They have no more: all that is not idle before a place is theirs, and the jobs want as much by some later place.
+pub record AreExact (top : ℕ) (times : List ℕ) (all jobs : List Job) (places idle : List ℕ) : Type 0 where
+  pub rest : (q : ℕ) → q < length times → idle_before idle q + went (length jobs) jobs places q ≡ top * slice_index times q
+  pub tight : (n from q : ℕ) → n ≤ length jobs → ((i : ℕ) → i < n → from ≤ (job_at jobs i).release) → q < length times →
+      (p : ℕ) × (q ≤ p) × (p < length times)
+      × (went n jobs places q + top * slice_index times p ≤ work_within all from (slice_index times p) + top * slice_index times q)
 
--- From a place before a job's release up to its deadline, which has the place `end`, enough is idle for it: what the top speed does by a
--- place, less the units before it, is idle before it.
-pub record HasIdleFrom (top : ℕ) (times used : List ℕ) (row : Job) (end place : ℕ) : Type 0 where
-  pub ahead : place < end
-  pub before : slice_index times place < row.release
-  pub enough : top * slice_index times place + slice_index used end + row.work ≤ top * row.deadline + slice_index used place
+-- the units of all pieces before each of the times
+pub record AreUsed (times : List ℕ) (jobs : List Job) (places used : List ℕ) : Type 0 where
+  pub used_as_long : length used ≡ length times
+  pub each : (q : ℕ) → q < length times → slice_index used q ≡ went (length jobs) jobs places q
 
--- this release isn't after such a place
-pub record IsBehindIdle (top : ℕ) (times used : List ℕ) (row : Job) (end release : ℕ) : Type 0 where
-  pub place : ℕ
-  pub idle : HasIdleFrom top times used row end place
-  pub released : release ≤ slice_index times place
+-- so many units were added at a place and each later one
+pub record AreMore (old new : List ℕ) (place units : ℕ) : Type 0 where
+  pub as_long : length new ≡ length old
+  pub each : (q : ℕ) → q < length old → slice_index new q ≡ slice_index old q + (if nat_le place q then units else 0)
+
+-- pieces of few jobs, with their deadlines among the times, and what they leave idle
+pub record AreBoundsOf (top : ℕ) (times : List ℕ) (all : List Job) (pieces : Pieces) (idle : List ℕ) : Type 0 where
+  pub bounds : AreBounds top times all pieces.jobs.items pieces.places.items idle
+  pub few : length all ≤ MAX_JOBS
+  pub has_idle : HasIdle top times all idle
+  pub used : AreUsed times pieces.jobs.items pieces.places.items pieces.used.items
+
+-- one job more stands among pieces, as one with this place
+pub record IsAdded (jobs : List Job) (places : List ℕ) (row : Job) (place : ℕ) (new_jobs : List Job) (new_places : List ℕ) : Type 0 where
+  pub number : ℕ
+  pub count : IsCount jobs number row.release
+  pub jobs_are : new_jobs ≡ insert jobs number row
+  pub places_are : new_places ≡ insert places number place
+
+-- no interval from a release before this one is overfull with one job more
+pub record IsLeastBound (top : ℕ) (times : List ℕ) (all : List Job) (row : Job) (end : ℕ) (idle : List ℕ) (from : ℕ) : Type 0 where
+  pub until : from ≤ row.release
+  pub is_release : Any (λ job. job.release ≡ from) (all ++ row ∷ [])
+  pub earlier : (other : ℕ) → other < from → Any (λ job. job.release ≡ other) (all ++ row ∷ []) → Fits top times all row end idle other
+
+-- with one job more some interval from this time on has more work than the top speed does there
+abbrev pub HasTooMuch : ℕ → List Job → Job → ℕ → Type 0
+HasTooMuch top all row from = (to : ℕ) × (from < to) × (top * (to - from) < work_within (all ++ row ∷ []) from to)

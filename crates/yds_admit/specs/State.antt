@@ -36,7 +36,7 @@ pub record IsState (board : Board) (state : State) : Type 0 where
   pub within : state.next ≤ length board.rows.now
   pub decided : Decided board.rows.now board.top state.next state.taken.items state.jobs.items state.refused.items
   pub marked : IsMarked board.rows.now state.next state.marks.items state.jobs.items
-  pub ordered : AreOrdered state.jobs.items state.by_deadline.items state.earliest
+  pub ordered : AreOrdered state.jobs.items state.by_deadline.items
 
 -- the next job
 abbrev pub next_job : Board → State → Job

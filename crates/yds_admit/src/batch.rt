@@ -12,7 +12,7 @@ use std::alloc::Global;
 use yds_model::Memory;
 
 /// Batches of at most so many jobs are decided one by one.
-pub(crate) const SHORT_BATCH: usize = 8;
+pub(crate) const SHORT_BATCH: usize = 32;
 
 /// Admits the longest of the next batches of this length, half of it, a quarter and so on that leaves no interval overfull beside
 /// the admitted jobs. Answers how many jobs it has: 0 where only a short batch is left to try.

@@ -1,16 +1,16 @@
-ghost use Rattle.std.specs.Prelude.{◌≡◌, ◌+◌, ◌<◌, ◌++◌, ◌∷◌, [], true, false, IfOk, IfSome, MatchOption, length};
-ghost use Rattle.yds_laws.specs.AdmissionLaws.{HasRoom};
-ghost use Rattle.yds_admit.specs.Interval.{IsFirstWith};
-ghost use Rattle.yds_admit.specs.declared.pieces.Pieces.{Pieces};
-ghost use Rattle.yds_admit.specs.Pieces.{ArePieces};
+ghost use Rattle.std.specs.Prelude.{◌≡◌, ℕ, ◌+◌, ◌<◌, ◌≤◌, ◌++◌, ◌∷◌, [], true, None, IfOk, IfSome, MatchOption, List, length, slice_index};
+ghost use Rattle.yds_admit.specs.Interval.{HasRoomFrom, IsFirstWith};
+ghost use Rattle.yds_admit.specs.Chain.{IsEnd};
+ghost use Rattle.yds_admit.specs.Idle.{Fits, IsIdleFrom};
+ghost use Rattle.yds_admit.specs.Pieces.{IsLeastBound};
 ghost use Rattle.yds_admit.specs.State.{IsState, next_job};
-ghost use Rattle.yds_admit.specs.Room.{IsRoom, IsCutOn};
+ghost use Rattle.yds_admit.specs.Room.{IsRoom};
 
 use crate::board::Board;
-use crate::idle::{clear_idle, take_idle};
+use crate::idle::{idle_place, take_before, take_between};
 use crate::interval::{Overfull, overfull_from};
-use crate::pieces::{Pieces, least_from_pieces};
-use crate::room::{Room, cut_admitted};
+use crate::pieces::least_from_pieces;
+use crate::room::Room;
 use crate::state::State;
 use std::alloc::Global;
 use yds_model::Memory;
@@ -29,128 +29,105 @@ pub(crate) fn decide_next(
     ensures next { IfOk result (λ _. state.new.next ≡ state.old.next + 1) }
     ensures room { IfOk result (λ _. IsRoom board.now state.new.jobs.items room.new) }
 {
-    if take_idle_next(board, state, room)? {
-        return Ok(true);
+    if let Some(admitted) = settle_next(board, state, room)? {
+        return Ok(admitted);
     }
-    if let Some(pieces) = &room.pieces {
-        let overfull = overfull_by_pieces(board, state, pieces);
-        return settle_next(board, state, room, overfull);
-    }
-    if refuse_from_start(board, state)? {
-        return Ok(false);
-    }
-    let (pieces, idle) = cut_admitted(alloc, board, state)?;
-    room.idle = idle;
-    if take_idle_next(board, state, room)? {
-        return Ok(true);
-    }
-    let overfull = overfull_by_pieces(board, state, &pieces);
-    room.pieces = Some(pieces);
-    settle_next(board, state, room, overfull)
+    // The pieces of jobs that were admitted since the cut say too much.
+    *room = Room::new(alloc, board, state)?;
+    let Some(admitted) = settle_next(board, state, room)? else {
+        unreachable!()
+    };
+    Ok(admitted)
 }
 
-/// Admits the next job if enough is idle in its window. Answers whether it did.
-fn take_idle_next(board: &Board, state: &mut State, room: &mut Room) -> Result<bool, Memory>
+/// The same, where what is known is enough for it: else nothing is answered, and nothing changed. It is enough where no job was admitted
+/// since the cut.
+fn settle_next(board: &Board, state: &mut State, room: &mut Room) -> Result<Option<bool>, Memory>
     requires state { IsState board.now state.old }
     requires more { state.old.next < length board.now.rows.now }
     requires room { IsRoom board.now state.old.jobs.items room.old }
     ensures state { IfOk result (λ _. IsState board.now state.new) }
-    ensures next { IfOk result (λ admitted. admitted ≡ true → state.new.next ≡ state.old.next + 1) }
+    ensures next { IfOk result (λ settled. IfSome settled (λ _. state.new.next ≡ state.old.next + 1)) }
     ensures room { IfOk result (λ _. IsRoom board.now state.new.jobs.items room.new) }
-    ensures kept { IfOk result (λ admitted. admitted ≡ false → state.new ≡ state.old) }
-    ensures idle { IfOk result (λ admitted. admitted ≡ false → room.new.idle.items ≡ room.old.idle.items) }
+    ensures kept { IfOk result (λ settled. settled ≡ None → state.new ≡ state.old) }
+    ensures known { room.old.fresh ≡ true → IfOk result (λ settled. settled ≡ None → ⊥) }
 {
     let row = state.next_row(board);
     let end = state.next_end(board);
-    if !take_idle(&mut room.idle, row, &board.times, end) {
-        return Ok(false);
+    let near = idle_place(&room.idle, end, u64::from(row.work));
+    if let Some(begin) = near {
+        if row.release <= board.times[begin] {
+            admit_inside(board, state, room, begin, end)?;
+            return Ok(Some(true));
+        }
     }
-    room.pieces = None;
-    state.admit_next(board)?;
-    Ok(true)
-}
-
-/// Refuses the next job if an interval from the earliest release of all is overfull with it. Answers whether it did.
-fn refuse_from_start(board: &Board, state: &mut State) -> Result<bool, Memory>
-    requires state { IsState board.now state.old }
-    requires more { state.old.next < length board.now.rows.now }
-    ensures state { IfOk result (λ _. IsState board.now state.new) }
-    ensures next { IfOk result (λ refused. refused ≡ true → state.new.next ≡ state.old.next + 1) }
-    ensures jobs { IfOk result (λ _. state.new.jobs.items ≡ state.old.jobs.items) }
-    ensures kept { IfOk result (λ refused. refused ≡ false → state.new ≡ state.old) }
-{
-    let Some(overfull) = overfull_from_start(board, state) else {
-        return Ok(false);
+    let Some(from) = least_from_pieces(&room.pieces, board, row, end, near) else {
+        admit_beside(board, state, room, end)?;
+        return Ok(Some(true));
+    };
+    let Some(overfull) = first_overfull(board, state, from) else {
+        return Ok(None);
     };
     state.refuse_next(overfull)?;
-    Ok(true)
+    Ok(Some(false))
 }
 
-/// The first overfull interval of the admitted jobs and the next one, if one begins at the earliest release of all.
-fn overfull_from_start(board: &Board, state: &State) -> Option<Overfull>
-    requires state { IsState board.now state.now }
-    requires more { state.now.next < length board.now.rows.now }
-    ensures { IfSome result (λ overfull. IsFirstWith board.now.top (state.now.jobs.items ++ next_job board.now state.now ∷ [])
-        overfull.from overfull.to overfull.work) }
-{
-    let row = state.next_row(board);
-    overfull_from(
-        &state.by_deadline,
-        row,
-        state.earliest.min(row.release),
-        board.top,
-    )
-}
-
-/// Refuses the next job for the first interval that is overfull with it, or admits it where there is none. Answers whether it was admitted.
-fn settle_next(
+/// Admits the next job where so much is idle from one place up to that of its deadline, inside its window, as it takes.
+fn admit_inside(
     board: &Board,
     state: &mut State,
     room: &mut Room,
-    overfull: Option<Overfull>,
-) -> Result<bool, Memory>
+    begin: usize,
+    end: usize,
+) -> Result<(), Memory>
     requires state { IsState board.now state.old }
     requires more { state.old.next < length board.now.rows.now }
     requires room { IsRoom board.now state.old.jobs.items room.old }
-    requires cut { (pieces : Pieces) × IsCutOn board.now state.old.jobs.items pieces room.old.idle.items }
-    requires overfull { MatchOption overfull
-        (HasRoom board.now.top (state.old.jobs.items ++ next_job board.now state.old ∷ []))
-        (λ first. IsFirstWith board.now.top (state.old.jobs.items ++ next_job board.now state.old ∷ []) first.from first.to first.work) }
+    requires end { IsEnd board.now.times.items (next_job board.now state.old).deadline end }
+    requires idle { IsIdleFrom room.old.idle.items end (next_job board.now state.old).work begin }
+    requires inside { (next_job board.now state.old).release ≤ slice_index board.now.times.items begin }
     ensures state { IfOk result (λ _. IsState board.now state.new) }
     ensures next { IfOk result (λ _. state.new.next ≡ state.old.next + 1) }
     ensures room { IfOk result (λ _. IsRoom board.now state.new.jobs.items room.new) }
 {
-    match overfull {
-        None => {
-            // The job may take what is idle before its release too.
-            let row = state.next_row(board);
-            let end = state.next_end(board);
-            clear_idle(&mut room.idle, end, u64::from(row.work));
-            room.pieces = None;
-            state.admit_next(board)?;
-            Ok(true)
-        }
-        Some(overfull) => {
-            state.refuse_next(overfull)?;
-            Ok(false)
-        }
-    }
+    let row = state.next_row(board);
+    take_between(&mut room.idle, begin, end, u64::from(row.work));
+    room.pieces.add(row, begin + 1)?;
+    room.fresh = false;
+    state.admit_next(board)?;
+    Ok(())
 }
 
-/// The first overfull interval of the admitted jobs and the next one, where there is one. It is found over the pieces of the admitted
-/// jobs. Alone they leave none overfull: so it begins before the next one's deadline, and ends then or later.
-fn overfull_by_pieces(board: &Board, state: &State, pieces: &Pieces) -> Option<Overfull>
-    requires state { IsState board.now state.now }
-    requires more { state.now.next < length board.now.rows.now }
-    requires pieces { ArePieces board.now.top board.now.times.items state.now.jobs.items pieces.now.jobs.items pieces.now.places.items pieces.now.used.items }
-    ensures { MatchOption result
-        (HasRoom board.now.top (state.now.jobs.items ++ next_job board.now state.now ∷ []))
-        (λ overfull. IsFirstWith board.now.top (state.now.jobs.items ++ next_job board.now state.now ∷ []) overfull.from overfull.to overfull.work) }
+/// Admits the next job, with which no interval from its release or before is overfull, nor from there to a later deadline if all that is
+/// idle after its own is taken too.
+fn admit_beside(board: &Board, state: &mut State, room: &mut Room, end: usize) -> Result<(), Memory>
+    requires state { IsState board.now state.old }
+    requires more { state.old.next < length board.now.rows.now }
+    requires room { IsRoom board.now state.old.jobs.items room.old }
+    requires end { IsEnd board.now.times.items (next_job board.now state.old).deadline end }
+    requires fits { (from : ℕ) → from ≤ (next_job board.now state.old).release →
+        Fits board.now.top board.now.times.items state.old.jobs.items (next_job board.now state.old) end room.old.idle.items from }
+    ensures state { IfOk result (λ _. IsState board.now state.new) }
+    ensures next { IfOk result (λ _. state.new.next ≡ state.old.next + 1) }
+    ensures room { IfOk result (λ _. IsRoom board.now state.new.jobs.items room.new) }
 {
     let row = state.next_row(board);
-    let end = state.next_end(board);
-    let Some(from) = least_from_pieces(pieces, &board.times, row, end, board.top) else {
-        return None;
-    };
-    overfull_from(&state.by_deadline, row, from, board.top)
+    // The job may take what is idle before its release too.
+    let place = take_before(&mut room.idle, end, u64::from(row.work));
+    room.pieces.add(row, place)?;
+    room.fresh = false;
+    state.admit_next(board)?;
+    Ok(())
+}
+
+/// The first overfull interval of the admitted jobs and the next one, if one begins at this time. None begins before.
+fn first_overfull(board: &Board, state: &State, from: u32) -> Option<Overfull>
+    requires state { IsState board.now state.now }
+    requires more { state.now.next < length board.now.rows.now }
+    requires least { (end : ℕ) × (idle : List ℕ) × IsEnd board.now.times.items (next_job board.now state.now).deadline end
+        × IsLeastBound board.now.top board.now.times.items state.now.jobs.items (next_job board.now state.now) end idle from }
+    ensures { MatchOption result (HasRoomFrom board.now.top (state.now.jobs.items ++ next_job board.now state.now ∷ []) from)
+        (λ overfull. IsFirstWith board.now.top (state.now.jobs.items ++ next_job board.now state.now ∷ []) overfull.from overfull.to overfull.work) }
+{
+    overfull_from(&state.by_deadline, state.next_row(board), from, board.top)
 }

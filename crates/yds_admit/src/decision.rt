@@ -56,7 +56,7 @@ fn one_by_one(alloc: Global, board: &Board, state: &mut State) -> Result<usize, 
     ensures more { IfOk result (λ _. state.old.next < state.new.next) }
     ensures short { IfOk result (λ wanted. wanted ≤ 2 * SHORT_BATCH) }
 {
-    let mut room = Room::unknown(alloc, board)?;
+    let mut room = Room::new(alloc, board, state)?;
     let mut admitted = 0;
     while state.next < board.rows.len() && admitted < SHORT_BATCH {
         if decide_next(alloc, board, state, &mut room)? {

@@ -1,20 +1,21 @@
-ghost use Rattle.std.specs.Prelude.{◌≡◌, ℕ, ◌+◌, ◌*◌, ◌<◌, ◌≤◌, ◌++◌, ◌∷◌, [], List, IfOk, MatchOption, length, slice_index};
-ghost use Rattle.std.specs.List.Sorted.{IsNonDecreasing};
+ghost use Rattle.std.specs.Prelude.{◌≡◌, ℕ, ◌+◌, ◌*◌, ◌<◌, ◌≤◌, All, List, IfOk, IfSome, MatchOption, length, slice_index};
 ghost use Rattle.yds_admit.specs.Board.{IsBoard, falling_jobs};
 ghost use Rattle.yds_model.specs.declared.limits.TheConstants.{MAX_WORK};
 ghost use Rattle.yds_model.specs.Job.{Job};
-ghost use Rattle.yds_admit.specs.Chain.{IsPlace, AreLinks, NoFrom, IsLeastFrom};
-ghost use Rattle.yds_admit.specs.Idle.{idle_before};
-ghost use Rattle.yds_admit.specs.Pieces.{IsCutting, IsCutInto, AreCut, ArePiecesOf};
+ghost use Rattle.yds_admit.specs.Chain.{IsFalling, IsPlace, IsEnd, AreLinks};
+ghost use Rattle.yds_admit.specs.Idle.{Fits, IsIdleFrom, idle_before};
+ghost use Rattle.yds_admit.specs.Pieces.{IsCutting, IsCutInto, AreCut, IsAdded, AreMore, AreBoundsOf, IsLeastBound, AreExact, HasTooMuch};
 
 use crate::board::Board;
 use crate::chain::{last_open, own_links};
-use crate::nearby::{count_near, units_near};
+use crate::nearby::{earliest, units_before};
+use crate::standing::released_from;
 use std::alloc::Global;
-use yds_model::limits::{MAX_JOBS, MAX_TOP};
+use yds_model::limits::MAX_JOBS;
 use yds_model::{JobRow, Memory};
 
-/// Jobs cut into pieces, by falling releases. The units of a piece take room in one gap between the deadlines.
+/// Jobs cut into pieces, by falling releases. The units of a piece take room in one gap between the deadlines. A job that is admitted
+/// later is one piece more, with the place of its earliest gap.
 #[derive(Drop)]
 pub(crate) struct Pieces {
     /// A job's window with some of its work.
@@ -23,6 +24,34 @@ pub(crate) struct Pieces {
     pub(crate) places: Vec<usize>,
     /// The units that take room before each of the times.
     pub(crate) used: Vec<u64>,
+}
+
+impl Pieces {
+    /// Puts one job more among them, as one piece with this place.
+    pub(crate) fn add(&mut self, row: &JobRow, place: usize) -> Result<(), Memory>
+        requires falling { IsFalling self.old.jobs.items }
+        requires as_long { length self.old.places.items ≡ length self.old.jobs.items }
+        requires few { All (λ units. units ≤ MAX_JOBS * MAX_WORK) self.old.used.items }
+        ensures added { IfOk result (λ _. IsAdded self.old.jobs.items self.old.places.items row.now place self.new.jobs.items self.new.places.items) }
+        ensures used { IfOk result (λ _. AreMore self.old.used.items self.new.used.items place row.now.work) }
+    {
+        let number = released_from(&self.jobs, row.release);
+        self.jobs.insert(number, *row)?;
+        self.places.insert(number, place)?;
+        add_from(&mut self.used, place, u64::from(row.work));
+        Ok(())
+    }
+}
+
+/// Adds so many units at this place and each later one.
+fn add_from(used: &mut [u64], place: usize, units: u64)
+    requires few { All (λ units. units ≤ MAX_JOBS * MAX_WORK) used.old }
+    requires little { units ≤ MAX_WORK }
+    ensures { AreMore used.old used.new place units }
+{
+    for later in place..used.len() {
+        used[later] += units;
+    }
 }
 
 /// Cuts each marked job, by falling releases: its units take the room that is left in the gaps, from its own deadline backwards.
@@ -115,30 +144,35 @@ fn cut(
     Ok(())
 }
 
-/// The least release up to one more job's of an interval that ends at its deadline or later and has more work than the top speed does
-/// there, if there is one. Without the job there is none. Its deadline has the place `end` among the times.
+/// The least release up to one more job's from which the pieces leave it too little room, if there is one: no interval from an earlier
+/// release is overfull with it. Its deadline has the place `end` among the times. From the place `near` on enough is idle for it.
 pub(crate) fn least_from_pieces(
     pieces: &Pieces,
-    times: &[u32],
+    board: &Board,
     row: &JobRow,
     end: usize,
-    top: u32,
+    near: Option<usize>,
 ) -> Option<u32>
-    requires top_in_range { top ≤ MAX_TOP }
-    requires pieces { (all : List Job) × ArePiecesOf top times.now all pieces.now }
-    requires within { end < length times.now }
-    requires end { slice_index times.now end ≡ row.now.deadline }
-    requires rising { IsNonDecreasing times.now }
-    ensures { (all : List Job) → ArePiecesOf top times.now all pieces.now →
-        MatchOption result (NoFrom top row.now.deadline (all ++ row.now ∷ [])) (IsLeastFrom top row.now.deadline (all ++ row.now ∷ [])) }
+    requires board { IsBoard board.now }
+    requires end { IsEnd board.now.times.items row.now.deadline end }
+    requires pieces { (all : List Job) × (idle : List ℕ) × AreBoundsOf board.now.top board.now.times.items all pieces.now idle }
+    requires near { IfSome near (λ place. place ≤ end) }
+    ensures { (all : List Job) (idle : List ℕ) → AreBoundsOf board.now.top board.now.times.items all pieces.now idle →
+        MatchOption near (idle_before idle end < row.now.work) (IsIdleFrom idle end row.now.work) → MatchOption result
+        ((from : ℕ) → from ≤ row.now.release → Fits board.now.top board.now.times.items all row.now end idle from)
+        (λ from. IsLeastBound board.now.top board.now.times.items all row.now end idle from
+        × (AreExact board.now.top board.now.times.items all pieces.now.jobs.items pieces.now.places.items idle → HasTooMuch board.now.top all row.now from)) }
 {
-    let room = u64::from(top) * u64::from(row.deadline);
+    let room = u64::from(board.top) * u64::from(row.deadline);
+    let Some(behind) = near else {
+        return Some(earliest(pieces, row));
+    };
     // Any other piece is too early: enough is idle between its release and the job's deadline.
-    let mut count = count_near(pieces, times, row, end, top);
-    let mut wanted = u64::from(row.work) + units_near(pieces, count, end, row.deadline);
+    let mut count = released_from(&pieces.jobs, board.times[behind] + 1);
+    let mut wanted = u64::from(row.work) + units_before(pieces, count, end);
     while count > 0 && pieces.jobs[count - 1].release < row.release {
         let piece = &pieces.jobs[count - 1];
-        if wanted + u64::from(top) * u64::from(piece.release) > room {
+        if wanted + u64::from(board.top) * u64::from(piece.release) > room {
             return Some(piece.release);
         }
         if pieces.places[count - 1] <= end {
@@ -146,7 +180,7 @@ pub(crate) fn least_from_pieces(
         }
         count -= 1;
     }
-    if wanted + u64::from(top) * u64::from(row.release) > room {
+    if wanted + u64::from(board.top) * u64::from(row.release) > room {
         return Some(row.release);
     }
     None

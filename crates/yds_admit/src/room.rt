@@ -1,9 +1,6 @@
-ghost use Rattle.std.specs.Prelude.{IfOk, List, All};
-ghost use Rattle.yds_model.specs.Job.{Job, IsJob};
-ghost use Rattle.yds_laws.specs.AdmissionLaws.{HasRoom};
-ghost use Rattle.yds_admit.specs.Board.{IsBoard};
+ghost use Rattle.std.specs.Prelude.{◌≡◌, true, IfOk};
 ghost use Rattle.yds_admit.specs.State.{IsState};
-ghost use Rattle.yds_admit.specs.Room.{IsRoom, HasIdleOn, IsCutOn};
+ghost use Rattle.yds_admit.specs.Room.{IsRoom};
 
 use crate::board::Board;
 use crate::pieces::{Pieces, cut_each, used_before};
@@ -16,34 +13,25 @@ use yds_model::Memory;
 pub(crate) struct Room {
     /// What is idle in each of the gaps between the times.
     pub(crate) idle: Vec<u64>,
-    /// The pieces of the admitted jobs, while they are known.
-    pub(crate) pieces: Option<Pieces>,
+    /// The pieces of the admitted jobs.
+    pub(crate) pieces: Pieces,
+    /// Whether all of them were cut together: no job was admitted since.
+    pub(crate) fresh: bool,
 }
 
 impl Room {
-    /// Nothing is known: none is said to be idle.
-    pub(crate) fn unknown(alloc: Global, board: &Board) -> Result<Room, Memory>
-        requires { IsBoard board.now }
-        ensures { IfOk result (λ room. (jobs : List Job) → All IsJob jobs → HasRoom board.now.top jobs → IsRoom board.now jobs room) }
+    /// The pieces of the admitted jobs, and what they leave idle.
+    pub(crate) fn new(alloc: Global, board: &Board, state: &State) -> Result<Room, Memory>
+        requires { IsState board.now state.now }
+        ensures room { IfOk result (IsRoom board.now state.now.jobs.items) }
+        ensures fresh { IfOk result (λ room. room.fresh ≡ true) }
     {
+        let (mut pieces, idle) = cut_each(alloc, board, &state.marks)?;
+        pieces.used = used_before(alloc, &board.gaps, &idle)?;
         Ok(Room {
-            idle: vec![in alloc; 0u64; board.gaps.len()]?,
-            pieces: None,
+            idle,
+            pieces,
+            fresh: true,
         })
     }
-}
-
-/// The pieces of the admitted jobs, and what they leave idle.
-pub(crate) fn cut_admitted(
-    alloc: Global,
-    board: &Board,
-    state: &State,
-) -> Result<(Pieces, Vec<u64>), Memory>
-    requires { IsState board.now state.now }
-    ensures idle { IfOk result (λ cut. HasIdleOn board.now state.now.jobs.items cut.1.items) }
-    ensures cut { IfOk result (λ cut. IsCutOn board.now state.now.jobs.items cut.0 cut.1.items) }
-{
-    let (mut pieces, idle) = cut_each(alloc, board, &state.marks)?;
-    pieces.used = used_before(alloc, &board.gaps, &idle)?;
-    Ok((pieces, idle))
 }

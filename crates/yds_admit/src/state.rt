@@ -12,7 +12,6 @@ use crate::interval::{Overfull, sort_by_deadline};
 use crate::refusal::Refusal;
 use crate::standing::deadline_place;
 use std::alloc::Global;
-use yds_model::limits::MAX_TIME;
 use yds_model::{JobRow, Memory};
 
 /// What is decided of the first jobs of a board.
@@ -30,8 +29,6 @@ pub(crate) struct State {
     pub(crate) marks: Vec<bool>,
     /// The admitted jobs by rising deadlines.
     pub(crate) by_deadline: Vec<JobRow>,
-    /// The earliest release of the admitted jobs, or the greatest time where there is none.
-    pub(crate) earliest: u32,
 }
 
 impl State {
@@ -48,7 +45,6 @@ impl State {
             refused: Vec::new(alloc),
             marks: vec![in alloc; false; board.rows.len()]?,
             by_deadline: Vec::new(alloc),
-            earliest: MAX_TIME,
         })
     }
 
@@ -91,7 +87,6 @@ impl State {
             self.taken.push(number as u32)?;
             self.jobs.push(*row)?;
             self.by_deadline.push(*row)?;
-            self.earliest = self.earliest.min(row.release);
         }
         // Sorting takes little where most are in order already.
         sort_by_deadline(&mut self.by_deadline)?;
@@ -115,7 +110,6 @@ impl State {
         self.taken.push(number as u32)?;
         self.jobs.push(*row)?;
         self.by_deadline.insert(place, *row)?;
-        self.earliest = self.earliest.min(row.release);
         self.marks[number] = true;
         self.next = number + 1;
         Ok(())

@@ -57,7 +57,7 @@ loop-spot-preserved c =
           held.cutting;
       links = c.in_ok-cut.ensures.links;
       made = subst (λ (some : List Job). AreCut some new) (sym (falling_more rows c.args.marks.now spots n below (rw c.deref-spot-items.ensures.value at c.if-not-marks-spot.false)))
-          (one_made job old new into (falling_jobs rows c.args.marks.now (take n spots)) (valid.are spot.number no_job here.known).work_in_range held.made
+          (one_made job old new into (falling_jobs rows c.args.marks.now (take n spots)) held.made
           (λ i less. omega (arith, held.later n (omega arith) below i less, here.release)));
       later = λ k from within. none_before job old new into (spot_at spots k).release (omega (arith, valid.falling n k no_spot (omega (arith, from)) within, here.release))
           (held.later k (omega (arith, from)) within);

@@ -1,132 +1,56 @@
-use Rattle.std.proofs.Common.{◌≡◌, ℕ, ◌+◌, ◌-◌, ◌*◌, ◌<◌, ◌≤◌, length, get_or, ◌∙◌, sym, arith, ap, inl, inr, cond}
-use Rattle.std.proofs.lemmas.Bool.{cases_eq, le-leb, lt-leb}
-use Rattle.std.proofs.lemmas.List.{get_or_default, get_or_read}
-use Rattle.std.proofs.Math.Nat.{mul-le-mul_left}
+use Rattle.std.proofs.Common.{◌≡◌, ℕ, ◌+◌, ◌-◌, ◌*◌, ◌<◌, ◌≤◌, ◌⊎◌, List, length, get_or, ◌∙◌, sym, arith, ap, inl, inr, cond}
+use Rattle.std.specs.List.{Any}
+use Rattle.std.proofs.lemmas.Bool.{cases_eq, cases_lt, le-leb, lt-leb}
+use Rattle.std.proofs.lemmas.List.{get_or_read}
+use Rattle.std.proofs.Math.Nat.{mul-le-mul_left, mul-le-mul_right}
+use Rattle.yds_model.specs.declared.limits.TheConstants.{MAX_JOBS, MAX_WORK}
 use Rattle.yds_model.specs.Job.{Job, no_job, job_at}
-use Rattle.yds_admit.specs.Pieces.{went}
+use Rattle.yds_admit.specs.declared.pieces.Pieces.{Pieces}
+use Rattle.yds_admit.specs.Idle.{IsIdleFrom, idle_before}
+use Rattle.yds_admit.specs.Pieces.{went, IsCount, AreBoundsOf}
 use Rattle.yds_admit.proofs.Cutting.{went_fits, next_went}
-use Rattle.yds_admit.proofs.Least.{HasTooMuch, one_more, none_near, behind_leaves, none_found, some_found}
+use Rattle.yds_admit.proofs.Bounds.{any_at, one_more, fits_all, fits_idle, fits_earlier, least_piece, too_much, none_sooner, all_too_much}
 use Rattle.yds_admit.proofs.pieces.least_from_pieces.Goals as goal
 use Rattle.yds_admit.proofs.pieces.least_from_pieces.Goals.{then-index-end, else-index-end, then-loop-count-test+else-index-row, else-loop-count-test}
 
-pub count_near-count-requires-clause-few : goal.count_near-count-requires-clause-few
-count_near-count-requires-clause-few c k d below =
-    let pieces = c.args.pieces.now in
-    let used = pieces.used.items in
-    omega (
-      arith,
-      get_or_default used k d 0 below,
-      c.requires.pieces.1.cut.used_is k (omega (arith, below, c.requires.pieces.1.cut.used_as_long)),
-      went_fits (length pieces.jobs.items) pieces.jobs.items pieces.places.items k (omega arith) c.requires.pieces.1.cut.few,
-    )
+-- their units fit
+few_units : (top : ℕ) (times : List ℕ) (all : List Job) (pieces : Pieces) (idle : List ℕ) → AreBoundsOf top times all pieces idle → (n q : ℕ) → n ≤ length pieces.jobs.items →
+    went n pieces.jobs.items pieces.places.items q ≤ MAX_JOBS * MAX_WORK
+few_units top times all pieces idle of n q within =
+    went_fits n pieces.jobs.items pieces.places.items q within (omega (arith, of.bounds.few, mul-le-mul_right MAX_WORK of.few))
 
 pub overflow_add-wanted : goal.overflow_add-wanted
 overflow_add-wanted c =
-    let pieces = c.args.pieces.now in
+    let of = c.requires.pieces.2 in
     omega (
       arith,
       c.from-3.ensures,
       c.row.invariant.work_in_range,
-      c.units_near.ensures.3,
-      went_fits c.count_near-count.result pieces.jobs.items pieces.places.items c.args.end c.count_near-count.ensures.within c.requires.pieces.1.cut.few,
+      c.units_before.ensures,
+      few_units _ _ _ c.args.pieces.now _ of c.released_from-count.result c.args.end (rw c.deref.ensures.value at c.released_from-count.ensures.within),
     )
 
 pub loop-count-init : goal.loop-count-init
 loop-count-init c =
-    let top : ℕ = c.args.top in
-    let times = c.args.times.now in
-    let all = c.requires.pieces.0 in
-    let of = c.requires.pieces.1 in
-    let pieces = c.args.pieces.now in
-    let jobs = pieces.jobs.items in
-    let places = pieces.places.items in
-    let row : Job = c.args.row.now in
-    let end : ℕ = c.args.end in
-    let m : ℕ = length times - 1 in
-    let long : length times ≡ m + 1 = omega (arith, c.requires.within) in
-    let short : end ≤ m = omega (arith, c.requires.within) in
-    let units = c.units_near.ensures in
-    let deadline = ap (λ (job : Job). job.deadline) c.row.view_is in
-    let first : ℕ = units.0 in
-    let none = none_near top times all jobs places pieces.used.items m long of.cut c.requires.rising of.are of.room row end short c.requires.end
-    first (omega (arith, units.1, c.count_near-count.ensures.within)) (λ i less. omega (arith, units.2 i less, deadline)) in
+    let times = c.args.board.now.times.items in
+    let near : c.in-Some.behind ≤ c.args.end = rw c.in-Some.is at c.requires.near in
+    let time = get_or_read times c.in-Some.behind c.index.result.now (omega (arith, near, c.requires.end.within)) c.index.ensures 0 in
     record {
-      within = c.count_near-count.ensures.within;
-      wanted = omega (arith, units.3, none, c.from-3.ensures, ap (λ (job : Job). job.work) c.row.view_is);
-      late = λ i behind below. let there = c.count_near-count.ensures.behind i behind below in omega (arith, there.released, there.idle.before);
-      leaves = λ k behind below.
-          behind_leaves top times all jobs places pieces.used.items m long of.cut c.requires.rising of.are of.room row end short c.requires.end k below
-          (c.count_near-count.ensures.behind k behind below);
-    }
-
-pub overflow_add-wanted-in-loop-count : goal.overflow_add-wanted-in-loop-count
-overflow_add-wanted-in-loop-count c = omega (
-  arith,
-  c.loop-count.invariant.wanted,
-  went_fits c.loop-count.count c.args.pieces.now.jobs.items c.args.pieces.now.places.items c.args.end c.loop-count.invariant.within c.requires.pieces.1.cut.few,
-  ap (λ (job : Job). job.work) c.row.view_is,
-  c.row.invariant.work_in_range,
-  mul-le-mul_left c.from-in-loop-count.result (let few : c.from-in-loop-count-2.result ≤ 1000000000 = omega (arith, c.from-in-loop-count-2.ensures, c.piece.invariant.has_window, c.piece.invariant.time_in_range) in few),
-  c.from-in-loop-count.ensures,
-  c.requires.top_in_range,
-)
-
-pub returns-then-wanted-from : goal.returns-then-wanted-from
-returns-then-wanted-from c all of =
-    let top : ℕ = c.args.top in
-    let times = c.args.times.now in
-    let pieces = c.args.pieces.now in
-    let jobs = pieces.jobs.items in
-    let row : Job = c.args.row.now in
-    let count : ℕ = c.loop-count.count in
-    let n : ℕ = count - 1 in
-    let held = c.loop-count.invariant in
-    let below : n < length jobs = omega (arith, held.within, c.loop-count-test.true) in
-    let release : c.piece.inside.release ≡ (job_at jobs n).release =
-    ap (λ (job : Job). job.release) (c.piece.view_is ∙ get_or_read jobs n c.index-piece.result.now below c.index-piece.ensures no_job) in
-    let seen : c.behind-pieces.inside.release ≡ (job_at jobs n).release =
-    ap (λ (job : Job). job.release) (c.behind-pieces.view_is ∙ get_or_read jobs n c.index.result.now below c.index.ensures no_job) in
-    let own = ap (λ (job : Job). job.release) c.row.view_is in
-    let much : HasTooMuch top jobs pieces.places.items row c.args.end count c.piece.inside.release = record {
-      within = held.within;
-      early = λ i less. omega (arith, release, of.cut.falling i n (omega (arith, less)) below);
-      ahead = omega (arith, release, seen, own, c.if-index-row.true);
-      is_release = inr (n, job_at jobs n, below, get_or_default jobs n (job_at jobs n) no_job below, sym release);
-      much = omega (
+      within = omega arith;
+      wanted = omega (arith, c.units_before.ensures, c.from-3.ensures, ap (λ (job : Job). job.work) c.row.view_is);
+      late = λ outside i behind below. omega (
         arith,
-        held.wanted,
-        ap (λ (job : Job). top * job.deadline) c.row.view_is,
-        rw (c.from.ensures, c.from-2.ensures, c.from-in-loop-count.ensures, c.from-in-loop-count-2.ensures) at c.if-wanted-from.true,
+        (rw c.deref.ensures.value at c.released_from-count.ensures.late) i behind below,
+        time,
+        outside,
+        ap (λ (job : Job). job.release) c.row.view_is,
       );
-    } in
-    some_found top times all jobs pieces.places.items pieces.used.items row c.args.end (length times - 1) (omega (arith, c.requires.within)) of.cut
-    (omega (arith, c.requires.within)) c.requires.end c.requires.rising of.due
-    (omega (arith, own, ap (λ (job : Job). job.deadline) c.row.view_is, c.row.invariant.has_window)) count c.piece.inside.release much held.leaves
-
-pub overflow_sub-wanted : goal.overflow_sub-wanted
-overflow_sub-wanted c =
-    let jobs = c.args.pieces.now.jobs.items in
-    let places = c.args.pieces.now.places.items in
-    let end : ℕ = c.args.end in
-    let n : ℕ = c.loop-count.count - 1 in
-    let next : n + 1 ≡ c.loop-count.count = omega (arith, c.loop-count-test.true) in
-    let below : n < length jobs = omega (arith, c.loop-count.invariant.within, next) in
-    let work : c.piece.inside.work ≡ (job_at jobs n).work =
-    ap (λ (job : Job). job.work) (c.piece.view_is ∙ get_or_read jobs n c.index-piece.result.now below c.index-piece.ensures no_job) in
-    let place = get_or_read places n c.index-in-loop-count.result.now (omega (arith, below, c.requires.pieces.1.cut.as_long)) c.index-in-loop-count.ensures 0 in
-    omega (
-      arith,
-      c.loop-count.invariant.wanted,
-      ap (λ k. went k jobs places end) next,
-      next_went n jobs places end,
-      ap {B = ℕ} (λ b. cond b (job_at jobs n).work 0) (le-leb (get_or places n 0) end (omega (arith, place, c.if-index-end.true))),
-      c.from-wanted.ensures,
-      work,
-    )
+      leaves = λ k behind below. absurd (omega (arith, behind, below));
+    }
 
 pub loop-count-preserved : goal.loop-count-preserved
 loop-count-preserved c =
-    let top : ℕ = c.args.top in
+    let top : ℕ = c.args.board.now.top in
     let pieces = c.args.pieces.now in
     let jobs = pieces.jobs.items in
     let places = pieces.places.items in
@@ -135,14 +59,14 @@ loop-count-preserved c =
     let n : ℕ = c.loop-count.count - 1 in
     let held = c.loop-count.invariant in
     let next : n + 1 ≡ c.loop-count.count = omega (arith, c.loop-count-test.true) in
-    let below : n < length jobs = omega (arith, held.within, next) in
+    let below : n < length jobs = omega (arith, held.within, next, (rw c.deref.ensures.value at c.released_from-count.ensures.within)) in
     let is = c.piece.view_is ∙ get_or_read jobs n c.index-piece.result.now below c.index-piece.ensures no_job in
     let release : c.piece.inside.release ≡ (job_at jobs n).release = ap (λ (job : Job). job.release) is in
     let work : c.piece.inside.work ≡ (job_at jobs n).work = ap (λ (job : Job). job.work) is in
     let seen : c.behind-pieces.inside.release ≡ (job_at jobs n).release =
-    ap (λ (job : Job). job.release) (c.behind-pieces.view_is ∙ get_or_read jobs n c.index.result.now below c.index.ensures no_job) in
+    ap (λ (job : Job). job.release) (c.behind-pieces.view_is ∙ get_or_read jobs n c.index-in-loop-count.result.now below c.index-in-loop-count.ensures no_job) in
     let own = ap (λ (job : Job). job.release) c.row.view_is in
-    let place = get_or_read places n c.index-in-loop-count.result.now (omega (arith, below, c.requires.pieces.1.cut.as_long)) c.index-in-loop-count.ensures 0 in
+    let place = get_or_read places n c.index-in-loop-count-2.result.now (omega (arith, below, c.requires.pieces.2.bounds.as_long)) c.index-in-loop-count-2.ensures 0 in
     let count = ap (λ k. went k jobs places end) next in
     record {
       within = omega (arith, held.within);
@@ -166,11 +90,11 @@ loop-count-preserved c =
           ap {B = ℕ} (λ b. cond b (job_at jobs n).work 0) (lt-leb (get_or places n 0) end (omega (arith, place, w.if-index-end.false))),
         )
       ];
-      late = λ i behind short. elim (cases_eq i n) [
+      late = λ outside i behind short. elim (cases_eq i n) [
         | inl same ↦ omega (arith, seen, own, c.if-index-row.true, ap (λ j. (job_at jobs j).release) same)
-        | inr other ↦ held.late i (omega (arith, behind, other, next)) short
+        | inr other ↦ held.late outside i (omega (arith, behind, other, next)) short
       ];
-      leaves = one_more top jobs places row end n (λ k behind short. held.leaves k (omega (arith, behind, next)) short)
+      leaves = one_more top jobs places row end n c.released_from-count.result (λ k behind short. held.leaves k (omega (arith, behind, next)) short)
           (omega (
             arith,
             held.wanted,
@@ -181,87 +105,237 @@ loop-count-preserved c =
           ));
     }
 
+pub overflow_add-wanted-in-loop-count : goal.overflow_add-wanted-in-loop-count
+overflow_add-wanted-in-loop-count c = omega (
+  arith,
+  c.loop-count.invariant.wanted,
+  few_units _ _ _ c.args.pieces.now _ c.requires.pieces.2 c.loop-count.count c.args.end (omega (arith, c.loop-count.invariant.within, (rw c.deref.ensures.value at c.released_from-count.ensures.within))),
+  ap (λ (job : Job). job.work) c.row.view_is,
+  c.row.invariant.work_in_range,
+  mul-le-mul_left c.from-in-loop-count.result (let few : c.from-in-loop-count-2.result ≤ 1000000000 = omega (arith, c.from-in-loop-count-2.ensures, c.piece.invariant.has_window, c.piece.invariant.time_in_range) in few),
+  c.from-in-loop-count.ensures,
+  c.requires.board.top_in_range,
+)
+
+pub overflow_sub-wanted : goal.overflow_sub-wanted
+overflow_sub-wanted c =
+    let jobs = c.args.pieces.now.jobs.items in
+    let places = c.args.pieces.now.places.items in
+    let end : ℕ = c.args.end in
+    let n : ℕ = c.loop-count.count - 1 in
+    let next : n + 1 ≡ c.loop-count.count = omega (arith, c.loop-count-test.true) in
+    let below : n < length jobs = omega (arith, c.loop-count.invariant.within, next, (rw c.deref.ensures.value at c.released_from-count.ensures.within)) in
+    let work : c.piece.inside.work ≡ (job_at jobs n).work =
+    ap (λ (job : Job). job.work) (c.piece.view_is ∙ get_or_read jobs n c.index-piece.result.now below c.index-piece.ensures no_job) in
+    let place = get_or_read places n c.index-in-loop-count-2.result.now (omega (arith, below, c.requires.pieces.2.bounds.as_long)) c.index-in-loop-count-2.ensures 0 in
+    omega (
+      arith,
+      c.loop-count.invariant.wanted,
+      ap (λ k. went k jobs places end) next,
+      next_went n jobs places end,
+      ap {B = ℕ} (λ b. cond b (job_at jobs n).work 0) (le-leb (get_or places n 0) end (omega (arith, place, c.if-index-end.true))),
+      c.from-wanted.ensures,
+      work,
+    )
+
 pub overflow_add-wanted-2 : goal.overflow_add-wanted-2
 overflow_add-wanted-2 c = omega (
   arith,
   c.loop-count.invariant.wanted,
-  went_fits c.loop-count.count c.args.pieces.now.jobs.items c.args.pieces.now.places.items c.args.end c.loop-count.invariant.within c.requires.pieces.1.cut.few,
+  few_units _ _ _ c.args.pieces.now _ c.requires.pieces.2 c.loop-count.count c.args.end (omega (arith, c.loop-count.invariant.within, (rw c.deref.ensures.value at c.released_from-count.ensures.within))),
   ap (λ (job : Job). job.work) c.row.view_is,
   c.row.invariant.work_in_range,
   mul-le-mul_left c.from-4.result (let few : c.from-5.result ≤ 1000000000 = omega (arith, c.from-5.ensures, c.row.invariant.has_window, c.row.invariant.time_in_range) in few),
   c.from-4.ensures,
-  c.requires.top_in_range,
+  c.requires.board.top_in_range,
 )
 
-pub returns-then-wanted-from-2 : goal.returns-then-wanted-from-2
-returns-then-wanted-from-2 c all of =
-    let top : ℕ = c.args.top in
-    let times = c.args.times.now in
-    let pieces = c.args.pieces.now in
-    let jobs = pieces.jobs.items in
+pub overflow_add-index : goal.overflow_add-index
+overflow_add-index c =
+    let times = c.args.board.now.times.items in
+    let near : c.in-Some.behind ≤ c.args.end = rw c.in-Some.is at c.requires.near in
+    let time = get_or_read times c.in-Some.behind c.index.result.now (omega (arith, near, c.requires.end.within)) c.index.ensures 0 in
+    omega (
+      arith,
+      time,
+      c.requires.board.are_times.rising c.in-Some.behind c.args.end 0 near c.requires.end.within,
+      c.requires.end.there,
+      ap (λ (job : Job). job.deadline) c.row.view_is,
+      c.row.invariant.time_in_range,
+    )
+
+-- those that are released after the place behind which enough is idle
+after_near : (jobs : List Job) (times : List ℕ) (behind time m : ℕ) → behind < length times → time ≡ get_or times behind 0 → m ≤ length jobs →
+    ((k : ℕ) → k < m → time + 1 ≤ (job_at jobs k).release) → ((k : ℕ) → m ≤ k → k < length jobs → (job_at jobs k).release < time + 1) → IsCount jobs m (get_or times behind 0 + 1)
+after_near jobs times behind time m below is within early late = record {
+  within = within;
+  early = λ i less. omega (arith, early i less, is);
+  late = λ i from short. omega (arith, late i from short, is);
+}
+
+pub returns-in_default : goal.returns-in_default
+returns-in_default c all idle of near =
+    let top : ℕ = c.args.board.now.top in
+    let times = c.args.board.now.times.items in
+    let rising = c.requires.board.are_times.rising in
+    let jobs = c.args.pieces.now.jobs.items in
+    let places = c.args.pieces.now.places.items in
     let row : Job = c.args.row.now in
+    let end : ℕ = c.args.end in
+    let from : ℕ = c.earliest.result in
+    let little : idle_before idle end < row.work = rw c.in_default.is at near in
+    let window : row.release < row.deadline =
+    omega (arith, ap (λ (job : Job). job.release) c.row.view_is, ap (λ (job : Job). job.deadline) c.row.view_is, c.row.invariant.has_window) in
+    let until : from ≤ row.release = c.earliest.ensures.own in
+    let released : (i : ℕ) → i < length jobs → from ≤ (job_at jobs i).release = λ i below.
+    omega (
+      arith,
+      of.bounds.falling i (length jobs - 1) (omega (arith, below)) (omega (arith, below)),
+      c.earliest.ensures.last (length jobs - 1) (omega (arith, below)),
+    ) in
+    let is : (row.release ≡ from) ⊎ Any (λ (job : Job). job.release ≡ from) jobs = elim c.earliest.ensures.one [
+      | inl own ↦ inl (sym own)
+      | inr piece ↦ inr (any_at jobs from piece.0 piece.1 (sym piece.2))
+    ] in (
+      least_piece top times rising all jobs places idle of.bounds row end c.requires.end window from until is
+          (none_sooner top times rising all jobs places idle of.bounds row end c.requires.end window from released until),
+      λ exact. all_too_much top times rising all jobs places idle of.bounds row end c.requires.end window exact little from released until,
+    )
+
+pub returns-then-wanted-from : goal.returns-then-wanted-from
+returns-then-wanted-from c all idle of near =
+    let top : ℕ = c.args.board.now.top in
+    let times = c.args.board.now.times.items in
+    let rising = c.requires.board.are_times.rising in
+    let jobs = c.args.pieces.now.jobs.items in
+    let places = c.args.pieces.now.places.items in
+    let row : Job = c.args.row.now in
+    let end : ℕ = c.args.end in
+    let behind : ℕ = c.in-Some.behind in
+    let m : ℕ = c.released_from-count.result in
+    let few = rw c.deref.ensures.value at c.released_from-count.ensures.within in
+    let close : behind ≤ end = rw c.in-Some.is at c.requires.near in
+    let there : behind < length times = omega (arith, close, c.requires.end.within) in
+    let early = after_near jobs times behind c.index.result.now m there (get_or_read times behind c.index.result.now there c.index.ensures 0) few
+    (rw c.deref.ensures.value at c.released_from-count.ensures.early) (rw c.deref.ensures.value at c.released_from-count.ensures.late) in
+    let enough : IsIdleFrom idle end row.work behind = rw c.in-Some.is at near in
+    let count : ℕ = c.loop-count.count in
+    let n : ℕ = count - 1 in
+    let held = c.loop-count.invariant in
+    let below : n < length jobs = omega (arith, held.within, c.loop-count-test.true, few) in
+    let release : c.piece.inside.release ≡ (job_at jobs n).release =
+    ap (λ (job : Job). job.release) (c.piece.view_is ∙ get_or_read jobs n c.index-piece.result.now below c.index-piece.ensures no_job) in
+    let seen : c.behind-pieces.inside.release ≡ (job_at jobs n).release =
+    ap (λ (job : Job). job.release) (c.behind-pieces.view_is ∙ get_or_read jobs n c.index-in-loop-count.result.now below c.index-in-loop-count.ensures no_job) in
+    let own = ap (λ (job : Job). job.release) c.row.view_is in
+    let window : row.release < row.deadline = omega (arith, own, ap (λ (job : Job). job.deadline) c.row.view_is, c.row.invariant.has_window) in
+    let from : ℕ = c.piece.inside.release in
+    let within : count ≤ length jobs = omega (arith, held.within, few) in
+    let released : (i : ℕ) → i < count → from ≤ (job_at jobs i).release = λ i less. omega (arith, release, of.bounds.falling i n (omega (arith, less)) below) in
+    let until : from ≤ row.release = omega (arith, release, seen, own, c.if-index-row.true) in
+    let much : top * row.deadline < row.work + went count jobs places end + top * from = omega (
+      arith,
+      held.wanted,
+      ap (λ (job : Job). top * job.deadline) c.row.view_is,
+      rw (c.from.ensures, c.from-2.ensures, c.from-in-loop-count.ensures, c.from-in-loop-count-2.ensures) at c.if-wanted-from.true,
+    ) in (
+      least_piece top times rising all jobs places idle of.bounds row end c.requires.end window from until (inr (any_at jobs from n below (sym release)))
+          (fits_earlier top times rising all jobs places idle of.bounds row end c.requires.end window of.has_idle behind enough m early count from within released until held.leaves),
+      λ exact. too_much top times rising all jobs places idle of.bounds row end c.requires.end window exact count from within released until much,
+    )
+
+pub returns-then-wanted-from-2 : goal.returns-then-wanted-from-2
+returns-then-wanted-from-2 c all idle of near =
+    let top : ℕ = c.args.board.now.top in
+    let times = c.args.board.now.times.items in
+    let rising = c.requires.board.are_times.rising in
+    let jobs = c.args.pieces.now.jobs.items in
+    let places = c.args.pieces.now.places.items in
+    let row : Job = c.args.row.now in
+    let end : ℕ = c.args.end in
+    let behind : ℕ = c.in-Some.behind in
+    let m : ℕ = c.released_from-count.result in
+    let few = rw c.deref.ensures.value at c.released_from-count.ensures.within in
+    let close : behind ≤ end = rw c.in-Some.is at c.requires.near in
+    let there : behind < length times = omega (arith, close, c.requires.end.within) in
+    let early = after_near jobs times behind c.index.result.now m there (get_or_read times behind c.index.result.now there c.index.ensures 0) few
+    (rw c.deref.ensures.value at c.released_from-count.ensures.early) (rw c.deref.ensures.value at c.released_from-count.ensures.late) in
+    let enough : IsIdleFrom idle end row.work behind = rw c.in-Some.is at near in
     let count : ℕ = c.loop-count.count in
     let n : ℕ = count - 1 in
     let held = c.loop-count.invariant in
     let own = ap (λ (job : Job). job.release) c.row.view_is in
-    let early : (i : ℕ) → i < count → c.row.inside.release ≤ (job_at jobs i).release = λ i less. elim c.loop-count-test.branch [
+    let window : row.release < row.deadline = omega (arith, own, ap (λ (job : Job). job.deadline) c.row.view_is, c.row.invariant.has_window) in
+    let within : count ≤ length jobs = omega (arith, held.within, few) in
+    let from : ℕ = c.row.inside.release in
+    let released : (i : ℕ) → i < count → from ≤ (job_at jobs i).release = λ i less. elim c.loop-count-test.branch [
       | then-loop-count-test+else-index-row w ↦
-          let below : n < length jobs = omega (arith, held.within, w.loop-count-test.true) in
+          let below : n < length jobs = omega (arith, within, w.loop-count-test.true) in
           omega (
             arith,
             w.if-index-row.false,
-            ap (λ (job : Job). job.release) (w.behind-pieces.view_is ∙ get_or_read jobs n w.index.result.now below w.index.ensures no_job),
-            of.cut.falling i n (omega (arith, less)) below,
+            ap (λ (job : Job). job.release) (w.behind-pieces.view_is ∙ get_or_read jobs n w.index-in-loop-count.result.now below w.index-in-loop-count.ensures no_job),
+            of.bounds.falling i n (omega (arith, less)) below,
           )
       | else-loop-count-test w ↦ absurd (omega (arith, less, w.loop-count-test.false))
     ] in
-    let much : HasTooMuch top jobs pieces.places.items row c.args.end count c.row.inside.release = record {
-      within = held.within;
-      early = early;
-      ahead = omega (arith, own);
-      is_release = inl own;
-      much = omega (
-        arith,
-        held.wanted,
-        ap (λ (job : Job). top * job.deadline) c.row.view_is,
-        rw (c.from.ensures, c.from-2.ensures, c.from-4.ensures, c.from-5.ensures) at c.if-wanted-from-2.true,
-      );
-    } in
-    some_found top times all jobs pieces.places.items pieces.used.items row c.args.end (length times - 1) (omega (arith, c.requires.within)) of.cut
-    (omega (arith, c.requires.within)) c.requires.end c.requires.rising of.due
-    (omega (arith, own, ap (λ (job : Job). job.deadline) c.row.view_is, c.row.invariant.has_window)) count c.row.inside.release much held.leaves
+    let until : from ≤ row.release = omega (arith, own) in
+    let much : top * row.deadline < row.work + went count jobs places end + top * from = omega (
+      arith,
+      held.wanted,
+      ap (λ (job : Job). top * job.deadline) c.row.view_is,
+      rw (c.from.ensures, c.from-2.ensures, c.from-4.ensures, c.from-5.ensures) at c.if-wanted-from-2.true,
+    ) in (
+      least_piece top times rising all jobs places idle of.bounds row end c.requires.end window from until (inl (sym own))
+          (fits_earlier top times rising all jobs places idle of.bounds row end c.requires.end window of.has_idle behind enough m early count from within released until held.leaves),
+      λ exact. too_much top times rising all jobs places idle of.bounds row end c.requires.end window exact count from within released until much,
+    )
 
 pub returns : goal.returns
-returns c all of =
-    let top : ℕ = c.args.top in
-    let times = c.args.times.now in
-    let pieces = c.args.pieces.now in
-    let jobs = pieces.jobs.items in
+returns c all idle of near =
+    let top : ℕ = c.args.board.now.top in
+    let times = c.args.board.now.times.items in
+    let rising = c.requires.board.are_times.rising in
+    let jobs = c.args.pieces.now.jobs.items in
+    let places = c.args.pieces.now.places.items in
     let row : Job = c.args.row.now in
+    let end : ℕ = c.args.end in
+    let behind : ℕ = c.in-Some.behind in
+    let m : ℕ = c.released_from-count.result in
+    let few = rw c.deref.ensures.value at c.released_from-count.ensures.within in
+    let close : behind ≤ end = rw c.in-Some.is at c.requires.near in
+    let there : behind < length times = omega (arith, close, c.requires.end.within) in
+    let early = after_near jobs times behind c.index.result.now m there (get_or_read times behind c.index.result.now there c.index.ensures 0) few
+    (rw c.deref.ensures.value at c.released_from-count.ensures.early) (rw c.deref.ensures.value at c.released_from-count.ensures.late) in
+    let enough : IsIdleFrom idle end row.work behind = rw c.in-Some.is at near in
     let count : ℕ = c.loop-count.count in
     let n : ℕ = count - 1 in
     let held = c.loop-count.invariant in
     let own = ap (λ (job : Job). job.release) c.row.view_is in
-    let early : (i : ℕ) → i < count → row.release ≤ (job_at jobs i).release = λ i less. elim c.loop-count-test.branch [
+    let window : row.release < row.deadline = omega (arith, own, ap (λ (job : Job). job.deadline) c.row.view_is, c.row.invariant.has_window) in
+    let within : count ≤ length jobs = omega (arith, held.within, few) in
+    let released : (i : ℕ) → i < count → row.release ≤ (job_at jobs i).release = λ i less. elim c.loop-count-test.branch [
       | then-loop-count-test+else-index-row w ↦
-          let below : n < length jobs = omega (arith, held.within, w.loop-count-test.true) in
+          let below : n < length jobs = omega (arith, within, w.loop-count-test.true) in
           omega (
             arith,
             own,
             w.if-index-row.false,
-            ap (λ (job : Job). job.release) (w.behind-pieces.view_is ∙ get_or_read jobs n w.index.result.now below w.index.ensures no_job),
-            of.cut.falling i n (omega (arith, less)) below,
+            ap (λ (job : Job). job.release) (w.behind-pieces.view_is ∙ get_or_read jobs n w.index-in-loop-count.result.now below w.index-in-loop-count.ensures no_job),
+            of.bounds.falling i n (omega (arith, less)) below,
           )
       | else-loop-count-test w ↦ absurd (omega (arith, less, w.loop-count-test.false))
     ] in
-    none_found top times all jobs pieces.places.items pieces.used.items row c.args.end (length times - 1) (omega (arith, c.requires.within)) of.cut
-    (omega (arith, c.requires.within)) c.requires.end c.requires.rising of.due
-    (omega (arith, own, ap (λ (job : Job). job.deadline) c.row.view_is, c.row.invariant.has_window)) of.are of.room count held.within early held.late
-    (omega (
-      arith,
-      held.wanted,
-      ap (λ (job : Job). top * job.release) c.row.view_is,
-      ap (λ (job : Job). top * job.deadline) c.row.view_is,
-      rw (c.from.ensures, c.from-2.ensures, c.from-4.ensures, c.from-5.ensures) at c.if-wanted-from-2.false,
-    ))
-    held.leaves
+    elim (cases_lt (get_or times behind 0) row.release) [
+      | inr inside ↦ λ from until. fits_idle top times rising all jobs places idle of.bounds row end c.requires.end window of.has_idle behind enough m early from (omega (arith, inside, until))
+      | inl outside ↦ fits_all top times rising all jobs places idle of.bounds row end c.requires.end window of.has_idle behind enough m early count
+          (record { within = within; early = released; late = held.late outside })
+          (omega (
+            arith,
+            held.wanted,
+            ap (λ (job : Job). top * job.release) c.row.view_is,
+            ap (λ (job : Job). top * job.deadline) c.row.view_is,
+            rw (c.from.ensures, c.from-2.ensures, c.from-4.ensures, c.from-5.ensures) at c.if-wanted-from-2.false,
+          ))
+          held.leaves
+    ]

@@ -1,5 +1,5 @@
-use Rattle.std.proofs.Common.{◌∷◌, [], ◌++◌, ◌∙◌, sym, arith, subst}
-use Rattle.yds_model.specs.Job.{Job}
+use Rattle.std.proofs.Common.{◌∷◌, [], ◌++◌, sym, arith, subst}
+use Rattle.yds_model.specs.Job.{Job, IsJob, no_job}
 use Rattle.yds_laws.specs.AdmissionLaws.{HasRoom}
 use Rattle.yds_admit.proofs.Deciding.{takes}
 use Rattle.yds_admit.proofs.Ordered.{ordered_more}
@@ -11,9 +11,9 @@ returns-clause-state c =
     let board = c.args.board.now in
     let rows = board.rows.now in
     let old = c.args.self.now in
-    let row : Job = record { release = c.row.inside.release; deadline = c.row.inside.deadline; work = c.row.inside.work } in
-    let is = c.row.view_is ∙ c.next_row-row.ensures in
-    let is_job = c.row.invariant in
+    let row : Job = c.next_row-row.result.now in
+    let is = c.next_row-row.ensures in
+    let is_job = subst IsJob (sym is) (c.requires.state.on.are old.next no_job c.requires.more) in
     record {
       on = c.requires.state.on;
       within = omega (arith, c.requires.more);
@@ -22,7 +22,6 @@ returns-clause-state c =
           is_job (subst (λ (one : Job). HasRoom board.top (old.jobs.items ++ one ∷ [])) (sym is) c.requires.room));
       marked = rw c.in_ok-push-2.ensures.items (one_more rows old.marks.items old.jobs.items old.next row c.requires.more is c.requires.state.marked);
       ordered = rw (c.in_ok-push-2.ensures.items, c.in_ok-insert.ensures.items)
-          (ordered_more old.jobs.items old.by_deadline.items old.earliest c.deadline_place-place.result c.min-self.result row c.requires.state.ordered is_job
-          c.min-self.ensures
-          (rw (c.deref.ensures.value, ← c.row.view_is) at c.deadline_place-place.ensures.rising));
+          (ordered_more old.jobs.items old.by_deadline.items c.deadline_place-place.result row c.requires.state.ordered
+          (rw c.deref.ensures.value at c.deadline_place-place.ensures.rising));
     }

@@ -1,26 +1,23 @@
-use Rattle.std.proofs.Common.{◌≡◌, ℕ, ◌∷◌, ◌++◌, [], List, ◌<◌, length, ◌∙◌, take, drop, sym, subst, ap, arith}
+use Rattle.std.proofs.Common.{◌≡◌, ℕ, ◌∷◌, ◌++◌, [], List, ◌<◌, length, get_or, ◌∙◌, take, drop, sym, subst, ap, arith}
 use Rattle.std.proofs.lemmas.List.{get_or_default, append-nil, drop_all, length-take-le}
 use Rattle.yds_admit.specs.Board.{IsMarked}
 use Rattle.yds_admit.specs.State.{Decided}
 use Rattle.yds_model.specs.Job.{Job, no_job, job_at}
 use Rattle.std.proofs.lemmas.List.Sorted.{IsPermutation-append_left, IsPermutation-trans}
-use Rattle.yds_admit.proofs.Ordered.{earliest_more}
 use Rattle.yds_admit.proofs.Deciding.{takes_first}
 use Rattle.yds_admit.proofs.state.State.admit_until.Goals as goal
 
 pub loop-number-preserved : goal.loop-number-preserved
 loop-number-preserved c =
     let rows = c.args.board.now.rows.now in
-    let row : Job = record { release = c.row.inside.release; deadline = c.row.inside.deadline; work = c.row.inside.work } in
+    let row : Job = get_or rows c.loop-number.number c.index-board-number.result in
     let below : c.loop-number.number < length rows = omega (arith, c.loop-number-test.true, c.requires.within) in
-    let is : row ≡ job_at rows c.loop-number.number = c.row.view_is ∙ get_or_default rows c.loop-number.number c.index-board-number.result no_job below in
+    let is : row ≡ job_at rows c.loop-number.number = get_or_default rows c.loop-number.number c.index-board-number.result no_job below in
     let first = takes_first rows c.args.board.now.top c.loop-number.number c.args.last c.loop-number.self.taken.items c.loop-number.self.jobs.items c.loop-number.self.refused.items
-    _ c.requires.state.on.some_top c.loop-number-test.true c.requires.within c.loop-number.invariant.decided c.loop-number.invariant.whole c.requires.room row is c.row.invariant in
+    _ c.requires.state.on.some_top c.loop-number-test.true c.requires.within c.loop-number.invariant.decided c.loop-number.invariant.whole c.requires.room row is (c.requires.state.on.are c.loop-number.number c.index-board-number.result below) in
     record {
       decided = rw (c.in_ok-push.ensures.items, c.in_ok-push-2.ensures.items) first.0;
       whole = rw c.in_ok-push-2.ensures.items first.1;
-      releases = rw c.in_ok-push-2.ensures.items
-          (earliest_more c.loop-number.self.jobs.items row c.loop-number.self.earliest c.min-self.result c.loop-number.invariant.releases c.row.invariant c.min-self.ensures);
       deadlines = rw (c.in_ok-push-2.ensures.items, c.in_ok-push-3.ensures.items) (IsPermutation-append_left (row ∷ []) _ _ c.loop-number.invariant.deadlines);
     }
 
@@ -42,6 +39,5 @@ returns-clause-state c =
       ordered = record {
         deadlines = IsPermutation-trans state.jobs.items state.by_deadline.items c.sort_by_deadline.new.jobs.items held.deadlines c.in_ok-sort_by_deadline.ensures.same;
         rising = c.in_ok-sort_by_deadline.ensures.rising;
-        releases = held.releases;
       };
     }

@@ -1,8 +1,7 @@
-use Rattle.std.proofs.Common.{ℕ, ◌≡◌, ◌≤◌, false, arith, [], length, inl, inr, replicate, get_or}
+use Rattle.std.proofs.Common.{ℕ, ◌≡◌, false, arith, [], length, inl, inr, replicate, get_or}
 use Rattle.std.proofs.lemmas.Bool.{cases_lt}
 use Rattle.std.proofs.lemmas.List.{get_or-replicate, length-replicate, get_or_past}
 use Rattle.std.proofs.lemmas.List.Sorted.{IsPermutation-refl}
-use Rattle.std.proofs.lemmas.List.Elements.{All-nil}
 use Rattle.yds_admit.proofs.Deciding.{begun}
 use Rattle.yds_admit.proofs.Marks.{none_marked}
 use Rattle.yds_admit.proofs.state.State.new.Goals as goal
@@ -26,9 +25,5 @@ returns-clause-state c =
       ordered = rw (c.new-2.ensures.items, c.new-4.ensures.items) (record {
         deadlines = IsPermutation-refl [];
         rising = λ i j d order below. absurd (omega arith);
-        releases = record {
-          least = All-nil (λ job. 1000000000 ≤ job.release);
-          known = λ before. absurd (omega arith);
-        };
       });
     }
