@@ -9,7 +9,7 @@ use Rattle.yds_model.specs.Level.{Level}
 use Rattle.yds_model.specs.Table.{Point}
 use Rattle.yds_model.specs.Document.{Grid}
 use Rattle.yds_model.specs.Entry.{Entry, JobEntry, PointEntry, SlotEntry, LevelEntry, PieceEntry, MemberEntry, TicksEntry, GridEntry, EnergyEntry, ticks_said, is_level}
-use Rattle.yds_model.proofs.Said.{Says, IsOfLevels, says_other, said-ticks, says-job, says-point, says-slot, says-level, says-last, says-grid, says-energy, with_entry, more_said, none_said}
+use Rattle.yds_model.proofs.Said.{Says, IsOfLevels, of_piece, of_member, says_other, said-ticks, says-job, says-point, says-slot, says-level, says-last, says-grid, says-energy, with_entry, more_said, none_said}
 use Rattle.yds_certificate.specs.Certificate.{with_last}
 use Rattle.yds_certificate.specs.Level.{with_piece, with_member}
 use Rattle.yds_instance.specs.Named.{Named}
@@ -92,12 +92,12 @@ pub holds_piece : (d : Draft) (levels : List Level) (piece : Piece) → 1 ≤ le
     → Takes d (record d { certificate = levels; pieces = d.pieces + 1 }) (PieceEntry piece)
 holds_piece d levels piece some more = λ es holds.
     held_levels d (record d { certificate = levels; pieces = d.pieces + 1 }) es (PieceEntry piece) _ refl refl holds refl more
-    (last_says d es (PieceEntry piece) (with_piece piece) some refl (record { names = refl; jobs = refl; points = refl; slots = refl; grid = refl; energy = refl })
+    (last_says d es (PieceEntry piece) (with_piece piece) some refl (of_piece piece)
     (λ level. ap (λ (l : List ℕ). record { work = level.work; length = level.length; pieces = level.pieces ++ piece ∷ []; members = l }) (append-nil level.members)) holds)
 
 pub holds_member : (d : Draft) (levels : List Level) (job : ℕ) → 1 ≤ length d.certificate → levels ≡ with_last (with_member job) d.certificate
     → Takes d (record d { certificate = levels; members = d.members + 1 }) (MemberEntry job)
 holds_member d levels job some more = λ es holds.
     held_levels d (record d { certificate = levels; members = d.members + 1 }) es (MemberEntry job) _ refl refl holds refl more
-    (last_says d es (MemberEntry job) (with_member job) some refl (record { names = refl; jobs = refl; points = refl; slots = refl; grid = refl; energy = refl })
+    (last_says d es (MemberEntry job) (with_member job) some refl (of_member job)
     (λ level. ap (λ (l : List Piece). record { work = level.work; length = level.length; pieces = l; members = level.members ++ job ∷ [] }) (append-nil level.pieces)) holds)

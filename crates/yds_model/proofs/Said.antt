@@ -9,10 +9,11 @@ use Rattle.std.proofs.lemmas.List.Sums.{take_while-cons}
 use Rattle.yds_model.specs.Job.{Job}
 use Rattle.yds_model.specs.Scale.{Fraction}
 use Rattle.yds_model.specs.Slot.{WrittenSlot}
+use Rattle.yds_model.specs.Piece.{Piece}
 use Rattle.yds_model.specs.Level.{Level, all_pieces, all_members}
 use Rattle.yds_model.specs.Table.{Point}
 use Rattle.yds_model.specs.Document.{Document, Grid}
-use Rattle.yds_model.specs.Entry.{Entry, JobEntry, PointEntry, SlotEntry, LevelEntry, TicksEntry, GridEntry, EnergyEntry, name_said, job_said, point_said, slot_said, piece_said, member_said, grid_said, energy_said, first_of_them, is_level, until_level, levels_said, document_said}
+use Rattle.yds_model.specs.Entry.{Entry, JobEntry, PointEntry, SlotEntry, LevelEntry, PieceEntry, MemberEntry, TicksEntry, GridEntry, EnergyEntry, name_said, job_said, point_said, slot_said, piece_said, member_said, grid_said, energy_said, first_of_them, is_level, until_level, levels_said, document_said}
 
 -- ---- the lists
 
@@ -283,6 +284,16 @@ pub record IsOfLevels (entry : Entry) : Type 0 where
   pub grid : grid_said entry ≡ None
   pub energy : energy_said entry ≡ None
 
+-- as the line of a level, of a piece and of a member
+of_level : (work length : ℕ) → IsOfLevels (LevelEntry work length)
+of_level work length = record { names = refl; jobs = refl; points = refl; slots = refl; grid = refl; energy = refl }
+
+pub of_piece : (piece : Piece) → IsOfLevels (PieceEntry piece)
+of_piece piece = record { names = refl; jobs = refl; points = refl; slots = refl; grid = refl; energy = refl }
+
+pub of_member : (job : ℕ) → IsOfLevels (MemberEntry job)
+of_member job = record { names = refl; jobs = refl; points = refl; slots = refl; grid = refl; energy = refl }
+
 -- so what is said with it differs in the levels alone
 said-levels : (entries : List Entry) (entry : Entry) (levels : List Level) → IsOfLevels entry → levels_said (entries ++ entry ∷ []) ≡ levels →
     document_said (entries ++ entry ∷ []) ≡ with_levels levels (document_said entries)
@@ -297,9 +308,8 @@ says-level entries work length d says =
     let levels : List Level = d.levels ++ empty_level work length ∷ [] in
     let are : levels_said (entries ++ entry ∷ []) ≡ levels =
     levels_said-level entries work length ∙ ap (λ (d : Document). d.levels ++ empty_level work length ∷ []) says.said in
-    let kind : IsOfLevels entry = record { names = refl; jobs = refl; points = refl; slots = refl; grid = refl; energy = refl } in
     record {
-      said = said-levels entries entry levels kind are ∙ ap (with_levels levels) says.said;
+      said = said-levels entries entry levels (of_level work length) are ∙ ap (with_levels levels) says.said;
       pieces = none_said piece_said entries entry refl ∙ says.pieces ∙ sym (append-nil (all_pieces d.levels)) ∙ flat_map_more (λ level. level.pieces) [] d.levels (empty_level work length);
       members = none_said member_said entries entry refl ∙ says.members ∙ sym (append-nil (all_members d.levels)) ∙ flat_map_more (λ level. level.members) [] d.levels (empty_level work length);
     }

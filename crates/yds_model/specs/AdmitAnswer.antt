@@ -1,24 +1,21 @@
 -- The answer of `admit`: a document of the admitted jobs with their slots, and after it a comment for each refused job.
-use Rattle.std.specs.Prelude.{◌≡◌, ℕ, List, [], ◌∷◌, ◌++◌, codes, decimal, map, None}
+use Rattle.std.specs.Prelude.{◌≡◌, ℕ, List, [], ◌∷◌, ◌++◌, codes, decimal, map}
 use Rattle.std.specs.List.{flat_map}
 use Rattle.yds_model.specs.declared.status.Status.{Status}
 use Rattle.yds_model.specs.declared.status.Status.TheVariants as statuses
 use Rattle.yds_model.specs.Slot.{WrittenSlot}
-use Rattle.yds_model.specs.Document.{Document, name_at}
+use Rattle.yds_model.specs.Document.{Document, no_document, name_at}
 use Rattle.yds_model.specs.Text.{line}
 use Rattle.yds_model.specs.Within.{IsTextOf}
 use Rattle.yds_model.specs.Admission.{Refusal, jobs_with, IsAdmission, IsAdmittedRun}
 
 -- the taken jobs and the points, with these slots, whose jobs are places among the taken ones
 abbrev pub with_taken : Document → List ℕ → List WrittenSlot → Document
-with_taken document taken slots = record {
+with_taken document taken slots = record no_document {
   names = map (name_at document.names) taken;
   jobs = jobs_with document.jobs taken;
   points = document.points;
   slots = slots;
-  levels = [];
-  grid = None;
-  energy = None;
 }
 
 abbrev pub refusal_comment : Document → ℕ → Refusal → List ℕ

@@ -24,7 +24,7 @@ use Rattle.yds_model.specs.Within.{IsFraction, IsDocument, IsPoint, IsSlot, IsLe
 use Rattle.yds_model.specs.Audit.{AreInGrain}
 use Rattle.yds_model.specs.Scale.{AreAlike}
 use Rattle.yds_texts.specs.RoundTrip.{JobsAndSlotsAreRead, PrintedIsRead}
-use Rattle.yds_model.proofs.Said.{Says, with_job, says-job, says-point, says-slot, says-level, IsOfLevels, says-last, says-grid, says-energy, none_first}
+use Rattle.yds_model.proofs.Said.{Says, with_job, says-job, says-point, says-slot, says-level, of_piece, of_member, says-last, says-grid, says-energy, none_first}
 use Rattle.yds_texts.proofs.Brought.{Brings, Brings-nil, Brings-append, Brings-line, Brings-each, read_whole}
 use Rattle.yds_texts.proofs.JobNames.{name_new, name_known}
 use Rattle.yds_texts.proofs.KindsRead.{job_texts, job_words, job_read, point_texts, point_words, point_read, follows_front, slot_texts, slot_words, slot_read, grain_test, level_texts, level_words, level_read, piece_texts, piece_words, piece_read, member_texts, member_words, member_read, grid_texts, grid_words, grid_read, energy_texts, energy_words, energy_read}
@@ -222,7 +222,7 @@ piece_brought d fits before level after is front piece back here =
     let some : 0 < length (levels_said earlier) = omega (arith, ap {B = ℕ} length levels, length-append before (so_far ∷ [])) in
     let pieces : filter_map piece_said earlier ≡ all_pieces before ++ front = says.pieces ∙ sym (flat_map_more (λ level. level.pieces) [] before so_far) in
     let room : length (filter_map piece_said earlier) < MAX_PIECES = omega (arith, ap {B = ℕ} length pieces, few) in
-    let kind : IsOfLevels (PieceEntry piece) = record { names = refl; jobs = refl; points = refl; slots = refl; grid = refl; energy = refl } in (
+    let kind = of_piece piece in (
       PieceEntry piece,
       piece_read earlier piece piece_fits some room,
       says-last earlier before so_far (PieceEntry piece) (within_level d before level front []) refl kind refl says,
@@ -249,7 +249,7 @@ member_brought d fits before level after is front member back here =
     let room : length (filter_map member_said earlier) < MAX_MEMBERS = omega (arith, ap {B = ℕ} length members, few) in
     let number : job_named earlier name ≡ Some member =
     ap (λ (d : Document). position (λ other. bytes_eq other name) d.names) says.said ∙ name_known d.names member fits.jobs.different known in
-    let kind : IsOfLevels (MemberEntry member) = record { names = refl; jobs = refl; points = refl; slots = refl; grid = refl; energy = refl } in
+    let kind = of_member member in
     let said : Says (earlier ++ MemberEntry member ∷ []) (within_level d before level (level.pieces ++ []) (front ++ member ∷ [])) =
     says-last earlier before so_far (MemberEntry member) (within_level d before level level.pieces front) refl kind refl says in (
       MemberEntry member,

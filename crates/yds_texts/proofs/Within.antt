@@ -23,7 +23,7 @@ use Rattle.yds_model.specs.Fields.{◌>>=◌, demand, field_at}
 use Rattle.yds_model.specs.Reading.{Kind, JobLine, PointLine, SlotLine, LevelLine, PieceLine, MemberLine, TicksLine, RunLine, GridLine, EnergyLine, may_follow, has_room, number_in, fraction_in, new_name, known_job, are_alike, fits_grain, follows_points, read_job, read_point, read_slot, read_level, read_piece, read_member, read_ticks, read_run_at, read_grid, read_energy, read_kind, read_fields, read_line, live_lines, read_after}
 use Rattle.yds_model.specs.Within.{IsFraction, IsDocument, AreLevelsOf, IsPoint, IsSlot, IsPiece, IsLevel, IsGrid, AreNamedJobs}
 use Rattle.yds_texts.specs.RoundTrip.{ReadIsWithinLimits, CanonicalTextIsRead}
-use Rattle.yds_model.proofs.Said.{Says, says_other, none_said, more_said, with_job, says-job, with_point, says-point, with_slot, says-slot, with_levels, empty_level, says-level, with_entry, IsOfLevels, says-last, with_grid, says-grid, with_energy, says-energy, said-ticks, levels_counted}
+use Rattle.yds_model.proofs.Said.{Says, says_other, none_said, more_said, with_job, says-job, with_point, says-point, with_slot, says-slot, with_levels, empty_level, says-level, with_entry, IsOfLevels, of_piece, of_member, says-last, with_grid, says-grid, with_energy, says-energy, said-ticks, levels_counted}
 use Rattle.yds_texts.proofs.Inverse.{demand_ok, one_step, two_steps, four_steps, entry_made, number_ok, fraction_ok, name_ok, known_ok, fields_ok, no_first, on_line_ok, read_of, lines_keep}
 use Rattle.yds_texts.proofs.Grown.{jobs_more, points_more, slots_more, slots_of_more, levels_of_more, levels_more, last_level_more, alike_from_test, parts_fit}
 use Rattle.yds_model.proofs.Fractions.{parts_alike}
@@ -248,7 +248,7 @@ piece_within entries d fields entry read after room is =
     let parts = two_steps (number_in 0 MAX_TIME (field_at fields 1)) (number_in 0 MAX_TIME (field_at fields 2)) (λ from to. Ok (PieceEntry (record { from = from; to = to }))) entry is in
     let piece : Piece = record { from = parts.0; to = parts.1 } in
     let fits : IsPiece piece = assumption (number_ok 0 MAX_TIME (field_at fields 1) parts.0 parts.2, number_ok 0 MAX_TIME (field_at fields 2) parts.1 parts.3) in
-    let kind : IsOfLevels (PieceEntry piece) = record { names = refl; jobs = refl; points = refl; slots = refl; grid = refl; energy = refl } in
+    let kind = of_piece piece in
     let members : filter_map member_said entries ≡ all_members d.levels = read.says.members in
     subst (λ entry. IsSaid (entries ++ entry ∷ [])) (entry_made (PieceEntry piece) entry parts.4)
     (last_within entries d (PieceEntry piece) read (some_level entries d read after) refl kind refl (All-cons IsPiece piece [] fits (All-nil IsPiece)) (All-nil (λ job. job < length d.names))
@@ -262,7 +262,7 @@ member_within entries d fields entry read after room is =
     let parts = one_step (known_job entries (field_at fields 1)) (λ job. Ok (MemberEntry job)) entry is in
     let names : filter_map name_said entries ≡ d.names = ap (λ (d : Document). d.names) read.says.said in
     let known : parts.0 < length d.names = omega (arith, known_ok entries (field_at fields 1) parts.0 parts.1, ap {B = ℕ} length names) in
-    let kind : IsOfLevels (MemberEntry parts.0) = record { names = refl; jobs = refl; points = refl; slots = refl; grid = refl; energy = refl } in
+    let kind = of_member parts.0 in
     let pieces : filter_map piece_said entries ≡ all_pieces d.levels = read.says.pieces in
     subst (λ entry. IsSaid (entries ++ entry ∷ [])) (entry_made (MemberEntry parts.0) entry parts.2)
     (last_within entries d (MemberEntry parts.0) read (some_level entries d read after) refl kind refl (All-nil IsPiece)
