@@ -1,9 +1,7 @@
 -- The definitions of admission, tried on the worked rows of `admit`, on intervals that are and aren't the first to be overfull, and on
 -- answers that take or refuse the wrong job.
-use Rattle.std.proofs.Common.{◌≡◌, ℕ, ◌*◌, ◌-◌, List, [], ◌∷◌, map, refl, arith, inl, inr}
-use Rattle.std.specs.Prelude.{codes}
+use Rattle.std.proofs.Common.{◌≡◌, ℕ, ◌*◌, ◌-◌, List, [], ◌∷◌, map, refl, arith, inl, inr, codes, Contains}
 use Rattle.std.specs.Fmt.{digits}
-use Rattle.std.specs.List.{Contains}
 use Rattle.std.proofs.lemmas.List.Elements.{All-from_recursion}
 use Rattle.yds_model.specs.declared.status.Status.TheVariants.{Done, Refused}
 use Rattle.yds_model.specs.Job.{Job, job_at}

@@ -1,7 +1,6 @@
 -- What schedules spend on the operating points, and the answer of `compare`, tried on its worked rows: a from 0 to 3 with work 2 and b from
 -- 1 to 2 with work 1, on the grid 6.
-use Rattle.std.proofs.Common.{◌≡◌, ℕ, ◌+◌, ◌*◌, ◌<◌, ◌≤◌, List, [], ◌∷◌, length, map, refl, ap, arith, inl, inr, true, false}
-use Rattle.std.specs.Prelude.{codes}
+use Rattle.std.proofs.Common.{◌≡◌, ℕ, ◌+◌, ◌*◌, ◌<◌, ◌≤◌, List, [], ◌∷◌, length, map, refl, ap, arith, inl, inr, true, false, codes}
 use Rattle.std.specs.Fmt.{digits}
 use Rattle.yds_model.specs.declared.status.Status.TheVariants.{Done, No, Refused}
 use Rattle.yds_model.specs.Job.{Job}

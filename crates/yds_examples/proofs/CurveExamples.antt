@@ -1,8 +1,6 @@
 -- The least excess above a speed and the curve of it, tried on the plan of three nested jobs: a from 0 to 12 with work 4, b from 2 to 10
 -- with work 8, c from 4 to 6 with work 6.
-use Rattle.std.proofs.Common.{◌≡◌, ℕ, ◌+◌, ◌*◌, ◌<◌, ◌≤◌, List, [], ◌∷◌, refl, arith}
-use Rattle.std.specs.Prelude.{codes, true}
-use Rattle.std.specs.List.{All}
+use Rattle.std.proofs.Common.{◌≡◌, ℕ, ◌+◌, ◌*◌, ◌<◌, ◌≤◌, List, [], ◌∷◌, refl, arith, codes, true, All}
 use Rattle.std.specs.Fmt.{digits}
 use Rattle.yds_model.specs.declared.status.Status.TheVariants.{Done}
 use Rattle.yds_model.specs.Numbers.{AreDifferent}

@@ -1,7 +1,5 @@
 -- The report as JSON, tried on the plan of three nested jobs.
-use Rattle.std.proofs.Common.{◌≡◌, [], ◌∷◌, refl, ap, arith}
-use Rattle.std.specs.Prelude.{codes}
-use Rattle.std.specs.List.{slice_index_or}
+use Rattle.std.proofs.Common.{◌≡◌, [], ◌∷◌, refl, ap, arith, codes, slice_index_or}
 use Rattle.std.specs.Fmt.{digits}
 use Rattle.yds_model.specs.declared.status.Status.TheVariants.{Done}
 use Rattle.yds_model.specs.JsonAnswer.{level_json, report_json}

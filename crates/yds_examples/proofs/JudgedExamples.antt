@@ -1,7 +1,6 @@
 -- What the answers of `audit` are worth, tried on a job from 0 to 4 of work 2 and a slot, with points and without. What those of `check`
 -- are worth is tried on the plan of three jobs.
-use Rattle.std.proofs.Common.{◌≡◌, ℕ, List, Some, [], ◌∷◌, Ok, refl, subst}
-use Rattle.std.specs.Prelude.{codes}
+use Rattle.std.proofs.Common.{◌≡◌, ℕ, List, Some, [], ◌∷◌, Ok, refl, subst, codes}
 use Rattle.yds_model.specs.declared.status.Status.{Status}
 use Rattle.yds_model.specs.declared.status.Status.TheVariants.{Done, No}
 use Rattle.yds_model.specs.Job.{Job}

@@ -1,6 +1,5 @@
 -- The answer of `plan` to the document of three nested jobs, as a fact of the one relation; what follows of it; and a text that is none.
-use Rattle.std.proofs.Common.{◌≡◌, ℕ, List, [], ◌∷◌, length, Ok, refl, sym, ap, subst, arith, inl}
-use Rattle.std.specs.Prelude.{codes}
+use Rattle.std.proofs.Common.{◌≡◌, ℕ, List, [], ◌∷◌, length, Ok, refl, sym, ap, subst, arith, inl, codes}
 use Rattle.std.specs.Fmt.{digits}
 use Rattle.yds_model.specs.declared.status.Status.{Status}
 use Rattle.yds_model.specs.declared.status.Status.TheVariants.{Done, No}

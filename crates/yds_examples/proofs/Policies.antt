@@ -1,7 +1,5 @@
 -- The two policies, tried on small runs of each, on the grids 1 and 6: at a scale of their slots, and at each.
-use Rattle.std.proofs.Common.{◌≡◌, ℕ, zero, suc, ◌-◌, ◌*◌, ◌/◌, ◌≤◌, List, [], ◌∷◌, map, refl, ap, subst, arith, inl, inr}
-use Rattle.std.specs.Prelude.{count_by}
-use Rattle.std.specs.List.{All, Contains}
+use Rattle.std.proofs.Common.{◌≡◌, ℕ, zero, suc, ◌-◌, ◌*◌, ◌/◌, ◌≤◌, List, [], ◌∷◌, map, refl, ap, subst, arith, inl, inr, count_by, All, Contains}
 use Rattle.yds_model.specs.Job.{Job}
 use Rattle.yds_model.specs.Scale.{Fraction, of_whole, of_parts}
 use Rattle.yds_model.specs.Slot.{WrittenSlot, AtEachScale, IsScale, slots_at, written_slot_at}

@@ -1,6 +1,5 @@
 -- The definitions of reading and printing, tried on documents whose answer is known.
-use Rattle.std.proofs.Common.{◌≡◌, [], ◌∷◌, refl}
-use Rattle.std.specs.Prelude.{codes, Ok, Err}
+use Rattle.std.proofs.Common.{◌≡◌, [], ◌∷◌, refl, codes, Ok, Err}
 use Rattle.yds_model.specs.declared.reason.Reason.TheVariants.{FieldCount, BadNumber, MixedEnds, DuplicateName, MixedGrain, GapsTooFine, OutOfRange}
 use Rattle.yds_model.specs.Reading.{reading}
 use Rattle.yds_model.specs.Text.{canonical_text}

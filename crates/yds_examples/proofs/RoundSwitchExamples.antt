@@ -1,9 +1,6 @@
 -- Rounding, tried where the switch from one point to the other falls between two jobs: a with work 2 and b with work 5, both from 0
 -- to 3, on the points of the speeds 0, 2 and 4, whose powers are 0, 1 and 3. And changes of it that are refused.
-use Rattle.std.proofs.Common.{◌≡◌, ◌==◌, ℕ, zero, suc, ◌+◌, ◌-◌, ◌*◌, ◌<◌, List, [], ◌∷◌, ◌++◌, map, refl, sym, ap, subst, ◌∙◌, arith, inl, inr, append_assoc, true}
-use Rattle.std.specs.Prelude.{cond}
-use Rattle.std.specs.List.{Any}
-use Rattle.std.proofs.lemmas.List.{append-nil}
+use Rattle.std.proofs.Common.{◌≡◌, ◌==◌, ℕ, zero, suc, ◌+◌, ◌-◌, ◌*◌, ◌<◌, List, [], ◌∷◌, ◌++◌, map, refl, sym, ap, subst, ◌∙◌, arith, inl, inr, append_assoc, true, cond, Any, append-nil}
 use Rattle.yds_model.specs.Numbers.{AreDifferent}
 use Rattle.std.proofs.lemmas.Bool.Decides.{nat_tests}
 use Rattle.yds_model.specs.Job.{Job}

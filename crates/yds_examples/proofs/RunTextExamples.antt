@@ -1,7 +1,5 @@
 -- What the texts of `avr` and `oa` are worth, tried on runs that never round, and on one that does and says that it doesn't.
-use Rattle.std.proofs.Common.{◌≡◌, ℕ, zero, suc, ◌-◌, ◌*◌, ◌≤◌, List, [], ◌∷◌, length, Ok, refl, sym, subst, arith, inl, inr}
-use Rattle.std.specs.Prelude.{codes, MatchOption}
-use Rattle.std.specs.List.{Any}
+use Rattle.std.proofs.Common.{◌≡◌, ℕ, zero, suc, ◌-◌, ◌*◌, ◌≤◌, List, [], ◌∷◌, length, Ok, refl, sym, subst, arith, inl, inr, codes, MatchOption, Any}
 use Rattle.std.specs.Fmt.{digits}
 use Rattle.yds_model.specs.declared.limits.TheConstants.{MAX_INPUT}
 use Rattle.yds_model.specs.Job.{Job}

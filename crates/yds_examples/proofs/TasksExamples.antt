@@ -1,6 +1,5 @@
 -- The definitions of periodic tasks, tried on the worked rows of `expand` and on lines that are refused.
-use Rattle.std.proofs.Common.{◌≡◌, ℕ, ◌++◌, List, [], ◌∷◌, refl}
-use Rattle.std.specs.Prelude.{codes, replicate, Option, Result, Ok, Err, Some, None}
+use Rattle.std.proofs.Common.{◌≡◌, ℕ, ◌++◌, List, [], ◌∷◌, refl, codes, replicate, Option, Result, Ok, Err, Some, None}
 use Rattle.std.specs.Fmt.{digits}
 use Rattle.yds_model.specs.declared.task_reason.TaskReason.{TaskReason}
 use Rattle.yds_model.specs.declared.task_reason.TaskReason.TheVariants.{UnknownKind, Misplaced, FieldCount, BadName, DuplicateName, BadNumber, OutOfRange, TooManyJobs}

@@ -1,6 +1,5 @@
 -- Tests of what is said of levels: the conditions of a proper certificate, verdicts and judgements, and the conditions of a plan.
-use Rattle.std.proofs.Common.{◌≡◌, ℕ, ◌+◌, ◌*◌, ◌<◌, ◌≤◌, List, [], ◌∷◌, length, take, true, zero, suc, Option, Some, None, Bool, false, refl, subst, arith}
-use Rattle.std.specs.List.{All, Contains}
+use Rattle.std.proofs.Common.{◌≡◌, ℕ, ◌+◌, ◌*◌, ◌<◌, ◌≤◌, List, [], ◌∷◌, length, take, true, zero, suc, Option, Some, None, Bool, false, refl, subst, arith, All, Contains, ◌≢◌, Decides}
 use Rattle.yds_model.specs.Numbers.{Each}
 use Rattle.yds_model.specs.Job.{Job, job_at}
 use Rattle.yds_model.specs.Slot.{WrittenSlot, IsScale, slots_at, written_slot_at}
@@ -14,8 +13,6 @@ use Rattle.yds_energy.proofs.RunScale.{served_free}
 use Rattle.yds_laws.proofs.Judgements.{judgement_is_exact}
 use Rattle.yds_examples.proofs.Tests.{Test, tests, proved, test_le, test_each, test_before, test_between, test_grid, test_implied, test_contains, test_both, test_all, test_any, test_like, test_never}
 use Rattle.yds_examples.proofs.TestedSchedules.{is_scale, are_slots, served_in_stretches}
-use Rattle.std.specs.Prelude.{◌≢◌}
-use Rattle.std.specs.Bool.{Decides}
 use Rattle.yds_model.specs.Scale.{IsLess}
 use Rattle.yds_model.specs.Table.{Point}
 use Rattle.yds_model.specs.Audit.{Verdict, Feasible, Backward, Overlap, Early, Late, OffPoint, WrongWork, RunsAt, IsOnTable, IsAfterOthers, Stands, ComesTo, AllStand, IsVerdict}

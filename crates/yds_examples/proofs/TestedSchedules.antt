@@ -1,9 +1,8 @@
 -- Tests of what is said of schedules: scales, feasible, earliest deadline first, served in stretches, the run of a policy.
-use Rattle.std.proofs.Common.{◌≡◌, ℕ, zero, suc, ◌-◌, ◌*◌, List, [], ◌∷◌, ◌++◌, true, false}
+use Rattle.std.proofs.Common.{◌≡◌, ℕ, zero, suc, ◌-◌, ◌*◌, List, [], ◌∷◌, ◌++◌, true, false, All}
 use Rattle.yds_model.specs.Job.{Job, job_at}
 use Rattle.yds_model.specs.Slot.{WrittenSlot, WholeSlot, IsDivided, IsScale, IsSolid, slots_at, work_given, slot_at, written_slot_at}
 use Rattle.yds_model.specs.Scale.{AreAlike}
-use Rattle.std.specs.List.{All}
 use Rattle.yds_model.specs.Feasible.{RunFrom, IsInWindow, IsFeasibleAt, IsFeasible}
 use Rattle.yds_model.specs.Piece.{Piece}
 use Rattle.yds_model.specs.Event.{stretches, LiesIn, IsUncut}

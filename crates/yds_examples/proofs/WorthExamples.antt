@@ -1,6 +1,5 @@
 -- What the answers of `curve` and `admit` are worth, tried on three nested jobs and on a refused one: what meets each record, and near misses.
-use Rattle.std.proofs.Common.{◌≡◌, ℕ, ◌*◌, List, [], ◌∷◌, subst, arith}
-use Rattle.std.specs.Prelude.{codes}
+use Rattle.std.proofs.Common.{◌≡◌, ℕ, ◌*◌, List, [], ◌∷◌, subst, arith, codes}
 use Rattle.yds_model.specs.Scale.{Fraction, numerator, of_whole}
 use Rattle.yds_model.specs.Document.{Document}
 use Rattle.yds_model.specs.Curve.{IsLeastExcess}

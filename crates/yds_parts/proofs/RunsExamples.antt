@@ -1,7 +1,6 @@
 -- What parts spend and how policies serve them, tried on a job from 0 to 2 and one from 5 to 7, each of work 2, and on near misses whose
 -- windows overlap by one unit of time.
-use Rattle.std.proofs.Common.{◌≡◌, ℕ, zero, suc, ◌+◌, List, [], ◌∷◌, ◌++◌, refl, ap, arith}
-use Rattle.std.specs.Prelude.{count_by}
+use Rattle.std.proofs.Common.{◌≡◌, ℕ, zero, suc, ◌+◌, List, [], ◌∷◌, ◌++◌, refl, ap, arith, count_by}
 use Rattle.yds_model.specs.Job.{Job}
 use Rattle.yds_model.specs.Slot.{WholeSlot}
 use Rattle.yds_model.specs.Piece.{Piece}

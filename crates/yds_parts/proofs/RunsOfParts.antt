@@ -1,9 +1,8 @@
 -- Runs of both policies on a grid: those of both parts, one after another, are one of all jobs.
-use Rattle.std.proofs.Common.{◌≡◌, ℕ, length, ◌+◌, ◌-◌, ◌*◌, ◌<◌, ◌≤◌, Bool, false, min, max, List, [], ◌∷◌, ◌++◌, map, get_or, refl, sym, ap, subst, ◌∙◌, arith}
+use Rattle.std.proofs.Common.{◌≡◌, ℕ, length, ◌+◌, ◌-◌, ◌*◌, ◌<◌, ◌≤◌, Bool, false, min, max, List, [], ◌∷◌, ◌++◌, map, get_or, refl, sym, ap, subst, ◌∙◌, arith, append-nil}
 use Rattle.std.specs.Prelude.{sum_by, count_by, fold, cond, nat_le, nat_lt, ◌==◌, ◌&&◌, not}
 use Rattle.std.specs.List.{All, Contains, filter, list_any, list_all}
 use Rattle.std.proofs.lemmas.Bool.{lt-leb, le-ltb}
-use Rattle.std.proofs.lemmas.List.{append-nil}
 use Rattle.std.proofs.lemmas.List.Elements.{filter-append, All-from_get_or, All-append, Contains-append_left, Contains-append_right, All-map}
 use Rattle.std.proofs.lemmas.List.Sums.{sum_by-append}
 use Rattle.std.proofs.Math.Bool.{false-and, and-false}
