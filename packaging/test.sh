@@ -3,7 +3,8 @@
 #
 #   sh packaging/test.sh [SUITE ..]      Debian's bookworm (12) and trixie (13) without one
 #
-# For each suite debootstrap makes a root of the base system alone, once, in build/roots. There the package is installed
+# For each suite debootstrap makes a root of the base system alone, in ROOTS, where it is kept for the next time, or else in a folder that
+# goes when the test ends. (The toolchain refuses links, so it isn't in build.) There the package is installed
 # with apt, the commands of README.md and the rows of `make check` are answered by the installed program, and the package is
 # removed: then every file outside the package manager's own folders has to be as it was. The static program answers the
 # rows in a root that has nothing but itself. Two builds in two folders have to be the same bytes.
@@ -59,7 +60,7 @@ readme() {
 }
 
 try_suite() {
-	suite=$1 root=$here/build/roots/$1
+	suite=$1 root=${ROOTS:-$work/roots}/$1
 	if [ ! -f "$root.done" ]; then
 		rm -rf "$root"
 		mkdir -p "$root"
