@@ -17,7 +17,6 @@ want debootstrap debootstrap chroot coreutils dpkg-deb dpkg git git
 [ "$(id -u)" = 0 ] || die "chroot and debootstrap want root"
 [ -x $program ] || die "$program isn't there; make builds it"
 MIRROR=${MIRROR:-http://deb.debian.org/debian}
-here=$(pwd)
 work=$(mktemp -d) || exit 1
 trap 'rm -rf "$work"' EXIT
 passed=0
