@@ -11,14 +11,15 @@
 . "$(dirname "$0")/common.sh"
 CC=${CC:-cc}
 
-if [ "$LINK" != dynamic ] && command -v "$CC" >/dev/null 2>&1; then
-	if static $program 2>build/link.log; then
-		echo "Linked $program by $("$CC" --version | head -n 1), static."
-		exit
-	fi
-	why="$CC could not link a static one (build/link.log)"
+if [ "$LINK" = dynamic ]; then
+	why="LINK=dynamic asks for it"
+elif ! command -v "$CC" >/dev/null 2>&1; then
+	why="the C compiler '$CC' isn't here (Debian: gcc and libc6-dev)"
+elif static $program 2>build/link.log; then
+	echo "Linked $program by $("$CC" --version | head -n 1), static."
+	exit
 else
-	why="no C compiler was asked to link a static one"
+	why="'$CC' could not link a static one, as build/link.log says (Debian: gcc and libc6-dev)"
 fi
 cp build/yds_cli-dynamic $program || exit 1
 echo "$program is the toolchain's dynamic program: $why."
