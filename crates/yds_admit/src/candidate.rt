@@ -54,7 +54,7 @@ fn settle_next(board: &Board, state: &mut State, room: &mut Room) -> Result<Opti
 {
     let row = state.next_row(board);
     let end = state.next_end(board);
-    let near = idle_place(&room.idle, end, u64::from(row.work));
+    let near = idle_place(&room.idle, &mut room.links, end, u64::from(row.work));
     if let Some(begin) = near {
         if row.release <= board.times[begin] {
             admit_inside(board, state, room, begin, end)?;
@@ -91,7 +91,13 @@ fn admit_inside(
     ensures room { IfOk result (λ _. IsRoom board.now state.new.jobs.items room.new) }
 {
     let row = state.next_row(board);
-    take_between(&mut room.idle, begin, end, u64::from(row.work));
+    take_between(
+        &mut room.idle,
+        &mut room.links,
+        begin,
+        end,
+        u64::from(row.work),
+    );
     room.pieces.add(row, begin + 1)?;
     room.fresh = false;
     state.admit_next(board)?;
@@ -113,7 +119,7 @@ fn admit_beside(board: &Board, state: &mut State, room: &mut Room, end: usize) -
 {
     let row = state.next_row(board);
     // The job may take what is idle before its release too.
-    let place = take_before(&mut room.idle, end, u64::from(row.work));
+    let place = take_before(&mut room.idle, &mut room.links, end, u64::from(row.work));
     room.pieces.add(row, place)?;
     room.fresh = false;
     state.admit_next(board)?;

@@ -1,10 +1,15 @@
-ghost use Rattle.std.specs.Prelude.{◌≡◌, ◌+◌, ◌<◌, ◌≤◌, length, MatchOption};
+ghost use Rattle.std.specs.Prelude.{◌≡◌, ℕ, ◌+◌, ◌-◌, ◌<◌, ◌≤◌, List, length, slice_index, slice_set, min, MatchOption};
+ghost use Rattle.yds_admit.specs.Chain.{AreLinks, AreEmpty};
 ghost use Rattle.yds_admit.specs.Idle.{IsIdleFrom, IsTaken, IsTakenFrom, idle_before};
 
+use crate::chain::last_open;
+
 /// The last place from which so many units are idle up to `end`, if there is one.
-pub(crate) fn idle_place(idle: &[u64], end: usize, units: u64) -> Option<usize>
-    requires { end ≤ length idle.now }
-    ensures { MatchOption result (idle_before idle.now end < units) (IsIdleFrom idle.now end units) }
+pub(crate) fn idle_place(idle: &[u64], links: &mut [usize], end: usize, units: u64) -> Option<usize>
+    requires within { end ≤ length idle.now }
+    requires links { AreLinks idle.now links.old }
+    ensures place { MatchOption result (idle_before idle.now end < units) (IsIdleFrom idle.now end units) }
+    ensures links { AreLinks idle.now links.new }
 {
     let mut wanted = units;
     let mut place = end;
@@ -12,42 +17,76 @@ pub(crate) fn idle_place(idle: &[u64], end: usize, units: u64) -> Option<usize>
         if place == 0 {
             return None;
         }
-        place -= 1;
+        place = last_idle(links, place);
         wanted -= wanted.min(idle[place]);
     }
     Some(place)
 }
 
 /// Takes so many units from what is idle between two places, from the last gap on.
-pub(crate) fn take_between(idle: &mut [u64], begin: usize, end: usize, units: u64)
+pub(crate) fn take_between(
+    idle: &mut [u64],
+    links: &mut [usize],
+    begin: usize,
+    end: usize,
+    units: u64,
+)
     requires order { begin ≤ end }
     requires within { end ≤ length idle.old }
     requires enough { idle_before idle.old begin + units ≤ idle_before idle.old end }
-    ensures { IsTaken idle.old idle.new begin end units }
+    requires links { AreLinks idle.old links.old }
+    ensures taken { IsTaken idle.old idle.new begin end units }
+    ensures links { AreLinks idle.new links.new }
 {
     let mut left = units;
     let mut place = end;
     while left > 0 && place > begin {
-        place -= 1;
-        let taken = left.min(idle[place]);
-        idle[place] -= taken;
-        left -= taken;
+        place = last_idle(links, place);
+        left -= take_part(idle, links, place, left);
     }
 }
 
 /// Takes so many units from what is idle before `end`, or all of it where that is less. Answers the place after the earliest gap from which
 /// units were taken, or 0 where they were too few.
-pub(crate) fn take_before(idle: &mut [u64], end: usize, units: u64) -> usize
-    requires { end ≤ length idle.old }
-    ensures { IsTakenFrom idle.old idle.new end units result }
+pub(crate) fn take_before(idle: &mut [u64], links: &mut [usize], end: usize, units: u64) -> usize
+    requires within { end ≤ length idle.old }
+    requires links { AreLinks idle.old links.old }
+    ensures taken { IsTakenFrom idle.old idle.new end units result }
+    ensures links { AreLinks idle.new links.new }
 {
     let mut left = units;
     let mut place = end;
     while left > 0 && place > 0 {
-        place -= 1;
-        let taken = left.min(idle[place]);
-        idle[place] -= taken;
-        left -= taken;
+        place = last_idle(links, place);
+        left -= take_part(idle, links, place, left);
     }
     if left > 0 { 0 } else { place + 1 }
+}
+
+/// The last gap before a place of which something is idle, or the first gap. The links get shorter.
+fn last_idle(links: &mut [usize], place: usize) -> usize
+    requires some { 0 < place }
+    requires known { place < length links.old }
+    requires back { (p : ℕ) → p < length links.old → slice_index links.old p ≤ p }
+    ensures before { result < place }
+    ensures kept { (idle : List ℕ) → AreLinks idle links.old → AreLinks idle links.new }
+    ensures empty { (idle : List ℕ) → AreLinks idle links.old → AreEmpty idle (result + 1) place }
+{
+    last_open(links, place).max(1) - 1
+}
+
+/// Takes so many units from what is idle in one gap, or all of it where that is less. Answers how many.
+fn take_part(idle: &mut [u64], links: &mut [usize], gap: usize, units: u64) -> u64
+    requires within { gap < length idle.old }
+    requires links { AreLinks idle.old links.old }
+    ensures taken { result ≡ min units (slice_index idle.old gap) }
+    ensures idle { idle.new ≡ slice_set idle.old gap (slice_index idle.old gap - result) }
+    ensures links { AreLinks idle.new links.new }
+{
+    let taken = units.min(idle[gap]);
+    idle[gap] -= taken;
+    if idle[gap] == 0 {
+        links[gap + 1] = gap;
+    }
+    taken
 }

@@ -55,23 +55,24 @@ fn add_from(used: &mut [u64], place: usize, units: u64)
 }
 
 /// Cuts each marked job, by falling releases: its units take the room that is left in the gaps, from its own deadline backwards.
-/// Answers what is left of them too. What is used before the times isn't known yet.
+/// Answers what is left of them too, with links over those of which nothing is left. What is used before the times isn't known yet.
 #[inline(never)]
 pub(crate) fn cut_each(
     alloc: Global,
     board: &Board,
     marks: &[bool],
-) -> Result<(Pieces, Vec<u64>), Memory>
+) -> Result<(Pieces, Vec<u64>, Vec<usize>), Memory>
     requires board { IsBoard board.now }
     requires marks { length marks.now ≡ length board.now.rows.now }
     ensures cutting { IfOk result (λ cut. IsCutting board.now.top board.now.times.items cut.0.jobs.items cut.0.places.items cut.1.items) }
     ensures cut { IfOk result (λ cut. AreCut (falling_jobs board.now.rows.now marks.now board.now.spots.items) cut.0.jobs.items) }
     ensures as_long { IfOk result (λ cut. length cut.1.items ≡ length board.now.gaps.items) }
+    ensures links { IfOk result (λ cut. AreLinks cut.1.items cut.2.items) }
 {
     let mut left = Vec::from_slice(alloc, &board.gaps)?;
     let rest = left.as_mut_slice();
-    let mut links = own_links(alloc, board.times.len())?;
-    let links = links.as_mut_slice();
+    let mut last = own_links(alloc, board.times.len())?;
+    let links = last.as_mut_slice();
     let mut pieces = Pieces {
         jobs: Vec::with_capacity(alloc, board.rows.len())?,
         places: Vec::with_capacity(alloc, board.rows.len())?,
@@ -83,7 +84,7 @@ pub(crate) fn cut_each(
         }
         cut(rest, links, &mut pieces, &board.rows[spot.number], spot.end)?;
     }
-    Ok((pieces, left))
+    Ok((pieces, left, last))
 }
 
 /// The units that were taken from the gaps before each of the times: the gaps less what is left of them.

@@ -13,6 +13,8 @@ use yds_model::Memory;
 pub(crate) struct Room {
     /// What is idle in each of the gaps between the times.
     pub(crate) idle: Vec<u64>,
+    /// Links over the gaps of which nothing is idle.
+    pub(crate) links: Vec<usize>,
     /// The pieces of the admitted jobs.
     pub(crate) pieces: Pieces,
     /// Whether all of them were cut together: no job was admitted since.
@@ -26,10 +28,11 @@ impl Room {
         ensures room { IfOk result (IsRoom board.now state.now.jobs.items) }
         ensures fresh { IfOk result (λ room. room.fresh ≡ true) }
     {
-        let (mut pieces, idle) = cut_each(alloc, board, &state.marks)?;
+        let (mut pieces, idle, links) = cut_each(alloc, board, &state.marks)?;
         pieces.used = used_before(alloc, &board.gaps, &idle)?;
         Ok(Room {
             idle,
+            links,
             pieces,
             fresh: true,
         })

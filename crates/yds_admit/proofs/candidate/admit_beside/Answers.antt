@@ -25,7 +25,7 @@ admit_next-requires-clause-room c =
     let work : c.from.result ≡ row.work = c.from.ensures ∙ ap (λ (job : Job). job.work) (c.row.view_is ∙ c.next_row-row.ensures) in
     let new = c.take_before-place.new.idle in
     let taken = subst (λ (units : ℕ). IsTakenFrom room.idle.items new end units place) work
-    (subst (λ (some : List ℕ). IsTakenFrom some new end c.from.result place) c.deref_mut.ensures.value c.take_before-place.ensures) in
+    (subst (λ (some : List ℕ). IsTakenFrom some new end c.from.result place) c.deref_mut.ensures.value c.take_before-place.ensures.taken) in
     let idle = has_before top times jobs room.idle.items rising c.requires.room.has_idle row end new place taken c.requires.end.within c.requires.end.there c.requires.fits in
     idle_room top times (jobs ++ row ∷ []) new (next_due board state c.requires.state c.requires.more) idle
 
@@ -45,7 +45,7 @@ returns-clause-room c =
     let work : c.from.result ≡ row.work = c.from.ensures ∙ ap (λ (job : Job). job.work) (c.row.view_is ∙ c.next_row-row.ensures) in
     let new = c.take_before-place.new.idle in
     let taken = subst (λ (units : ℕ). IsTakenFrom room.idle.items new end units place) work
-    (subst (λ (some : List ℕ). IsTakenFrom some new end c.from.result place) c.deref_mut.ensures.value c.take_before-place.ensures) in
+    (subst (λ (some : List ℕ). IsTakenFrom some new end c.from.result place) c.deref_mut.ensures.value c.take_before-place.ensures.taken) in
     let idle = has_before top times jobs room.idle.items rising c.requires.room.has_idle row end new place taken c.requires.end.within c.requires.end.there c.requires.fits in
     let old_pieces = room.pieces in
     let new_pieces = c.add.new.self in
@@ -54,9 +54,12 @@ returns-clause-room c =
     top times jobs room.idle.items new c.requires.room.bounds end c.requires.end is_job.work_in_range taken.less (before_gain room.idle.items new end row.work place taken) in
     let more = subst (λ (one : Job). AreMore old_pieces.used.items new_pieces.used.items place one.work) c.next_row-row.ensures c.in_ok-add.ensures.used in
     let whole = lent room.idle.len room.idle.items new room.idle.ok.0 taken.as_long in
+    let leads = lent room.links.len room.links.items c.take_before-place.new.links room.links.ok.0
+    (omega (arith, c.take_before-place.ensures.links.as_long, taken.as_long, c.requires.room.links.as_long)) in
     record {
       has_idle = subst (HasIdle top times c.admit_next.new.self.jobs.items) (sym whole)
           (subst (λ (some : List Job). HasIdle top times some new) (sym c.in_ok-admit_next.ensures.jobs) idle);
+      links = rw (whole, leads) c.take_before-place.ensures.links;
       bounds = subst (AreBounds top times c.admit_next.new.self.jobs.items new_pieces.jobs.items new_pieces.places.items) (sym whole)
           (subst (λ (some : List Job). AreBounds top times some new_pieces.jobs.items new_pieces.places.items new) (sym c.in_ok-admit_next.ensures.jobs) bounds);
       used = used_added times old_pieces.jobs.items old_pieces.places.items old_pieces.used.items row place new_pieces.jobs.items new_pieces.places.items new_pieces.used.items

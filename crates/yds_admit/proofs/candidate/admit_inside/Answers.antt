@@ -25,7 +25,7 @@ admit_next-requires-clause-room c =
     let work : c.from.result ≡ row.work = c.from.ensures ∙ ap (λ (job : Job). job.work) (c.row.view_is ∙ c.next_row-row.ensures) in
     let new = c.take_between.new.idle in
     let taken = subst (λ (units : ℕ). IsTaken room.idle.items new begin end units) work
-    (subst (λ (some : List ℕ). IsTaken some new begin end c.from.result) c.deref_mut.ensures.value c.take_between.ensures) in
+    (subst (λ (some : List ℕ). IsTaken some new begin end c.from.result) c.deref_mut.ensures.value c.take_between.ensures.taken) in
     let idle = has_more top times jobs room.idle.items rising c.requires.room.has_idle row begin end new taken c.requires.idle.order c.requires.end.within c.requires.end.there
     (λ less. c.requires.inside) is_job.has_window in
     idle_room top times (jobs ++ row ∷ []) new (next_due board state c.requires.state c.requires.more) idle
@@ -46,7 +46,7 @@ returns-clause-room c =
     let work : c.from.result ≡ row.work = c.from.ensures ∙ ap (λ (job : Job). job.work) (c.row.view_is ∙ c.next_row-row.ensures) in
     let new = c.take_between.new.idle in
     let taken = subst (λ (units : ℕ). IsTaken room.idle.items new begin end units) work
-    (subst (λ (some : List ℕ). IsTaken some new begin end c.from.result) c.deref_mut.ensures.value c.take_between.ensures) in
+    (subst (λ (some : List ℕ). IsTaken some new begin end c.from.result) c.deref_mut.ensures.value c.take_between.ensures.taken) in
     let idle = has_more top times jobs room.idle.items rising c.requires.room.has_idle row begin end new taken c.requires.idle.order c.requires.end.within c.requires.end.there
     (λ less. c.requires.inside) is_job.has_window in
     let old_pieces = room.pieces in
@@ -56,9 +56,12 @@ returns-clause-room c =
     top times jobs room.idle.items new c.requires.room.bounds end c.requires.end is_job.work_in_range taken.less (taken_gain room.idle.items new begin end row.work taken) in
     let more = subst (λ (one : Job). AreMore old_pieces.used.items new_pieces.used.items (begin + 1) one.work) c.next_row-row.ensures c.in_ok-add.ensures.used in
     let whole = lent room.idle.len room.idle.items new room.idle.ok.0 taken.as_long in
+    let leads = lent room.links.len room.links.items c.take_between.new.links room.links.ok.0
+    (omega (arith, c.take_between.ensures.links.as_long, taken.as_long, c.requires.room.links.as_long)) in
     record {
       has_idle = subst (HasIdle top times c.admit_next.new.self.jobs.items) (sym whole)
           (subst (λ (some : List Job). HasIdle top times some new) (sym c.in_ok-admit_next.ensures.jobs) idle);
+      links = rw (whole, leads) c.take_between.ensures.links;
       bounds = subst (AreBounds top times c.admit_next.new.self.jobs.items new_pieces.jobs.items new_pieces.places.items) (sym whole)
           (subst (λ (some : List Job). AreBounds top times some new_pieces.jobs.items new_pieces.places.items new) (sym c.in_ok-admit_next.ensures.jobs) bounds);
       used = used_added times old_pieces.jobs.items old_pieces.places.items old_pieces.used.items row (begin + 1) new_pieces.jobs.items new_pieces.places.items new_pieces.used.items

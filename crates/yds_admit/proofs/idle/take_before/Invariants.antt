@@ -1,4 +1,5 @@
 use Rattle.std.proofs.Common.{◌≡◌, ℕ, ◌+◌, ◌<◌, ◌≤◌, get_or}
+use Rattle.yds_admit.specs.Chain.{AreLinks}
 use Rattle.yds_admit.specs.Idle.{idle_before}
 use Rattle.yds_admit.proofs.idle.take_before.Given as goal
 
@@ -11,6 +12,7 @@ invariant-loop-left l = record {
   empty : 0 < l.left → (q : ℕ) → l.place ≤ q → q < l.end → get_or l.idle q 0 ≡ 0;
   late : (q : ℕ) → l.end ≤ q → get_or l.idle q 0 ≡ get_or l.fn.idle q 0;
   sum : idle_before l.idle l.end + l.units ≡ idle_before l.fn.idle l.end + l.left;
+  links : AreLinks l.idle l.links;
 }
 
 abbrev pub decreases-loop-left : goal.decreases-loop-left

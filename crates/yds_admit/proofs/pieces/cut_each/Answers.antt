@@ -17,7 +17,7 @@ loop-spot-init c =
     record {
       cutting = rw (c.in_ok-with_capacity.ensures.items, c.in_ok-with_capacity-2.ensures.items, c.as_mut_slice-rest.ensures.value, c.in_ok-left.ensures.items, c.deref.ensures.value)
           (none_cut board.top board.times.items board.gaps.items gaps);
-      links = rw (c.as_mut_slice-rest.ensures.value, c.in_ok-left.ensures.items, c.deref.ensures.value, c.as_mut_slice-links.ensures.value, c.in_ok-links.ensures)
+      links = rw (c.as_mut_slice-rest.ensures.value, c.in_ok-left.ensures.items, c.deref.ensures.value, c.as_mut_slice-links.ensures.value, c.in_ok-last.ensures)
           (own_are board.gaps.items c.len.result (omega (arith, gaps.as_long, c.len.ensures)));
       made = rw c.in_ok-with_capacity.ensures.items none_made;
       later = rw c.in_ok-with_capacity.ensures.items (λ k from below i less. absurd (omega (arith, less)));
