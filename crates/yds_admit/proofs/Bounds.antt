@@ -16,7 +16,7 @@ use Rattle.yds_model.proofs.Confined.{part_within, part_inside, part_early, part
 use Rattle.yds_admit.specs.Chain.{IsFalling, IsEnd, HasRoomOver}
 use Rattle.yds_admit.specs.Pieces.{went, AreDue, IsCount, AreBounds, AreExact, AreUsed, AreMore, IsAdded, IsLeastBound, HasTooMuch}
 use Rattle.yds_admit.specs.Idle.{HasIdle, IsIdleFrom, IsTaken, IsTakenFrom, Fits, idle_before}
-use Rattle.yds_admit.proofs.Cutting.{next_went, went_fits, yes}
+use Rattle.yds_admit.proofs.Cutting.{next_went, went_fits, went_grows, yes}
 use Rattle.yds_admit.proofs.Idleness.{fewer_between, later_idle, same_before, count_from}
 use Rattle.yds_admit.proofs.Least.{at_most, time_of}
 
@@ -304,6 +304,18 @@ module _ (top : ℕ) (jobs : List Job) (places : List ℕ) (row : Job) (end : �
   one_more n m others leaves k behind below = elim (cases_eq k n) [
     | inl same ↦ subst (λ j. LeavesRoom (j + 1) (job_at jobs j).release) (sym same) leaves
     | inr other ↦ others k (omega (arith, behind, other)) below
+  ]
+
+  -- So do those from the n-th on, if the n-th does, which is released last, with all units of the others.
+  pub many_more : IsFalling jobs → (n count m : ℕ) → count ≤ length jobs → AllLeaveRoom count m → LeavesRoom count (job_at jobs n).release → AllLeaveRoom n m
+  many_more falling n count m within others leaves k behind below = elim (cases_lt k count) [
+    | inr later ↦ others k later below
+    | inl less ↦ omega (
+      arith,
+      leaves,
+      went_grows (k + 1) count jobs places end (omega (arith, less)),
+      mul-le-mul_left top (falling n k behind (omega (arith, less, within))),
+    )
   ]
 
 module _ (top : ℕ) (times : List ℕ) (rising : IsNonDecreasing times) (all jobs : List Job) (places idle : List ℕ) (bounds : AreBounds top times all jobs places idle) (row : Job) (end : ℕ)

@@ -66,6 +66,16 @@ pub next_went : (n : ℕ) (jobs : List Job) (places : List ℕ) (q : ℕ) →
     went (n + 1) jobs places q ≡ went n jobs places q + cond (nat_le (get_or places n 0) q) (job_at jobs n).work 0
 next_went n jobs places q = next_term n (λ k. cond (nat_le (get_or places k 0) q) (job_at jobs k).work 0)
 
+-- more pieces have no fewer units
+fewer_went : (n more : ℕ) (jobs : List Job) (places : List ℕ) (q : ℕ) → went n jobs places q ≤ went (n + more) jobs places q
+fewer_went n zero jobs places q = let e : n + zero ≡ n = omega arith in omega (arith, ap (λ k. went k jobs places q) e)
+fewer_went n (suc more) jobs places q =
+    let e : n + suc more ≡ n + more + 1 = omega arith in
+    omega (arith, fewer_went n more jobs places q, next_went (n + more) jobs places q, ap (λ k. went k jobs places q) e)
+
+pub went_grows : (n m : ℕ) (jobs : List Job) (places : List ℕ) (q : ℕ) → n ≤ m → went n jobs places q ≤ went m jobs places q
+went_grows n m jobs places q order = let e : n + (m - n) ≡ m = omega (arith, order) in omega (arith, fewer_went n (m - n) jobs places q, ap (λ k. went k jobs places q) e)
+
 -- at most the work of the first n pieces
 pub went_most : (n : ℕ) (jobs : List Job) (places : List ℕ) (q : ℕ) → n ≤ length jobs → went n jobs places q ≤ sum_by (λ job. job.work) (take n jobs)
 went_most zero jobs places q within = omega arith

@@ -8,11 +8,14 @@ ghost use Rattle.yds_admit.specs.Pieces.{IsCutting, IsCutInto, AreCut, IsAdded, 
 
 use crate::board::Board;
 use crate::chain::{last_open, own_links};
-use crate::nearby::{earliest, units_before};
+use crate::nearby::{earliest, units_before, units_between};
 use crate::standing::released_from;
 use std::alloc::Global;
 use yds_model::limits::MAX_JOBS;
 use yds_model::{JobRow, Memory};
+
+/// Of so many pieces it is tried first whether they leave room together.
+const BLOCK: usize = 16;
 
 /// Jobs cut into pieces, by falling releases. The units of a piece take room in one gap between the deadlines. A job that is admitted
 /// later is one piece more, with the place of its earliest gap.
@@ -171,7 +174,16 @@ pub(crate) fn least_from_pieces(
     // Any other piece is too early: enough is idle between its release and the job's deadline.
     let mut count = released_from(&pieces.jobs, board.times[behind] + 1);
     let mut wanted = u64::from(row.work) + units_before(pieces, count, end);
-    while count > 0 && pieces.jobs[count - 1].release < row.release {
+    let until = released_from(&pieces.jobs, row.release).min(count);
+    while count > until {
+        let first = count - BLOCK.min(count - until);
+        let latest = &pieces.jobs[first];
+        if wanted + u64::from(board.top) * u64::from(latest.release) <= room {
+            // The others of the block are released no later, with no more units.
+            wanted -= units_between(pieces, first, count, end);
+            count = first;
+            continue;
+        }
         let piece = &pieces.jobs[count - 1];
         if wanted + u64::from(board.top) * u64::from(piece.release) > room {
             return Some(piece.release);

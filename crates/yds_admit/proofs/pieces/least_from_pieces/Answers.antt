@@ -1,6 +1,6 @@
 use Rattle.std.proofs.Common.{◌≡◌, ℕ, ◌+◌, ◌-◌, ◌*◌, ◌<◌, ◌≤◌, ◌⊎◌, List, length, get_or, ◌∙◌, sym, arith, ap, inl, inr, cond}
 use Rattle.std.specs.List.{Any}
-use Rattle.std.proofs.lemmas.Bool.{cases_eq, cases_lt, le-leb, lt-leb}
+use Rattle.std.proofs.lemmas.Bool.{cases_lt, le-leb, lt-leb}
 use Rattle.std.proofs.lemmas.List.{get_or_read}
 use Rattle.std.proofs.Math.Nat.{mul-le-mul_left, mul-le-mul_right}
 use Rattle.yds_model.specs.declared.limits.TheConstants.{MAX_JOBS, MAX_WORK}
@@ -9,9 +9,9 @@ use Rattle.yds_admit.specs.declared.pieces.Pieces.{Pieces}
 use Rattle.yds_admit.specs.Idle.{IsIdleFrom, idle_before}
 use Rattle.yds_admit.specs.Pieces.{went, IsCount, AreBoundsOf}
 use Rattle.yds_admit.proofs.Cutting.{went_fits, next_went}
-use Rattle.yds_admit.proofs.Bounds.{any_at, one_more, fits_all, fits_idle, fits_earlier, least_piece, too_much, none_sooner, all_too_much}
+use Rattle.yds_admit.proofs.Bounds.{any_at, one_more, many_more, fits_all, fits_idle, fits_earlier, least_piece, too_much, none_sooner, all_too_much}
 use Rattle.yds_admit.proofs.pieces.least_from_pieces.Goals as goal
-use Rattle.yds_admit.proofs.pieces.least_from_pieces.Goals.{then-index-end, else-index-end, then-loop-count-test+else-index-row, else-loop-count-test}
+use Rattle.yds_admit.proofs.pieces.least_from_pieces.Goals.{then-index-end, else-index-end}
 
 -- their units fit
 few_units : (top : ℕ) (times : List ℕ) (all : List Job) (pieces : Pieces) (idle : List ℕ) → AreBoundsOf top times all pieces idle → (n q : ℕ) → n ≤ length pieces.jobs.items →
@@ -31,21 +31,39 @@ overflow_add-wanted c =
     )
 
 pub loop-count-init : goal.loop-count-init
-loop-count-init c =
-    let times = c.args.board.now.times.items in
-    let near : c.in-Some.behind ≤ c.args.end = rw c.in-Some.is at c.requires.near in
-    let time = get_or_read times c.in-Some.behind c.index.result.now (omega (arith, near, c.requires.end.within)) c.index.ensures 0 in
+loop-count-init c = record {
+  from = omega (arith, c.min-until.ensures);
+  within = omega arith;
+  wanted = omega (arith, c.units_before.ensures, c.from-3.ensures, ap (λ (job : Job). job.work) c.row.view_is);
+  leaves = λ k behind below. absurd (omega (arith, behind, below));
+}
+
+pub loop-count-preserved-then-wanted-from : goal.loop-count-preserved-then-wanted-from
+loop-count-preserved-then-wanted-from c =
+    let top : ℕ = c.args.board.now.top in
+    let jobs = c.args.pieces.now.jobs.items in
+    let places = c.args.pieces.now.places.items in
+    let end : ℕ = c.args.end in
+    let row : Job = c.args.row.now in
+    let count : ℕ = c.loop-count.count in
+    let n : ℕ = count - c.min.result in
+    let held = c.loop-count.invariant in
+    let within : count ≤ length jobs = omega (arith, held.within, (rw c.deref.ensures.value at c.released_from-count.ensures.within)) in
+    let below : n < length jobs = omega (arith, within, c.min.ensures, c.loop-count-test.true) in
+    let release : c.latest.inside.release ≡ (job_at jobs n).release =
+    ap (λ (job : Job). job.release) (c.latest.view_is ∙ get_or_read jobs n c.index-latest.result.now below c.index-latest.ensures no_job) in
     record {
-      within = omega arith;
-      wanted = omega (arith, c.units_before.ensures, c.from-3.ensures, ap (λ (job : Job). job.work) c.row.view_is);
-      late = λ outside i behind below. omega (
-        arith,
-        (rw c.deref.ensures.value at c.released_from-count.ensures.late) i behind below,
-        time,
-        outside,
-        ap (λ (job : Job). job.release) c.row.view_is,
-      );
-      leaves = λ k behind below. absurd (omega (arith, behind, below));
+      from = omega (arith, c.min.ensures, c.loop-count-test.true);
+      within = omega (arith, held.within);
+      wanted = omega (arith, held.wanted, c.units_between-wanted.ensures);
+      leaves = many_more top jobs places row end c.requires.pieces.2.bounds.falling n count c.released_from-count.result within held.leaves
+          (omega (
+            arith,
+            held.wanted,
+            ap (λ k. top * k) release,
+            ap (λ (job : Job). top * job.deadline) c.row.view_is,
+            rw (c.from.ensures, c.from-2.ensures, c.from-in-loop-count.ensures, c.from-in-loop-count-2.ensures) at c.if-wanted-from.true,
+          ));
     }
 
 pub loop-count-preserved : goal.loop-count-preserved
@@ -63,12 +81,10 @@ loop-count-preserved c =
     let is = c.piece.view_is ∙ get_or_read jobs n c.index-piece.result.now below c.index-piece.ensures no_job in
     let release : c.piece.inside.release ≡ (job_at jobs n).release = ap (λ (job : Job). job.release) is in
     let work : c.piece.inside.work ≡ (job_at jobs n).work = ap (λ (job : Job). job.work) is in
-    let seen : c.behind-pieces.inside.release ≡ (job_at jobs n).release =
-    ap (λ (job : Job). job.release) (c.behind-pieces.view_is ∙ get_or_read jobs n c.index-in-loop-count.result.now below c.index-in-loop-count.ensures no_job) in
-    let own = ap (λ (job : Job). job.release) c.row.view_is in
-    let place = get_or_read places n c.index-in-loop-count-2.result.now (omega (arith, below, c.requires.pieces.2.bounds.as_long)) c.index-in-loop-count-2.ensures 0 in
+    let place = get_or_read places n c.index-in-loop-count.result.now (omega (arith, below, c.requires.pieces.2.bounds.as_long)) c.index-in-loop-count.ensures 0 in
     let count = ap (λ k. went k jobs places end) next in
     record {
+      from = omega (arith, c.loop-count-test.true);
       within = omega (arith, held.within);
       wanted = elim c.if-index-end.branch [
         | then-index-end w ↦ omega (
@@ -90,10 +106,6 @@ loop-count-preserved c =
           ap {B = ℕ} (λ b. cond b (job_at jobs n).work 0) (lt-leb (get_or places n 0) end (omega (arith, place, w.if-index-end.false))),
         )
       ];
-      late = λ outside i behind short. elim (cases_eq i n) [
-        | inl same ↦ omega (arith, seen, own, c.if-index-row.true, ap (λ j. (job_at jobs j).release) same)
-        | inr other ↦ held.late outside i (omega (arith, behind, other, next)) short
-      ];
       leaves = one_more top jobs places row end n c.released_from-count.result (λ k behind short. held.leaves k (omega (arith, behind, next)) short)
           (omega (
             arith,
@@ -101,7 +113,7 @@ loop-count-preserved c =
             count,
             ap (λ k. top * k) release,
             ap (λ (job : Job). top * job.deadline) c.row.view_is,
-            rw (c.from.ensures, c.from-2.ensures, c.from-in-loop-count.ensures, c.from-in-loop-count-2.ensures) at c.if-wanted-from.false,
+            rw (c.from.ensures, c.from-2.ensures, c.from-in-loop-count-3.ensures, c.from-in-loop-count-4.ensures) at c.if-wanted-from-2.false,
           ));
     }
 
@@ -112,13 +124,28 @@ overflow_add-wanted-in-loop-count c = omega (
   few_units _ _ _ c.args.pieces.now _ c.requires.pieces.2 c.loop-count.count c.args.end (omega (arith, c.loop-count.invariant.within, (rw c.deref.ensures.value at c.released_from-count.ensures.within))),
   ap (λ (job : Job). job.work) c.row.view_is,
   c.row.invariant.work_in_range,
-  mul-le-mul_left c.from-in-loop-count.result (let few : c.from-in-loop-count-2.result ≤ 1000000000 = omega (arith, c.from-in-loop-count-2.ensures, c.piece.invariant.has_window, c.piece.invariant.time_in_range) in few),
+  mul-le-mul_left c.from-in-loop-count.result (let few : c.from-in-loop-count-2.result ≤ 1000000000 = omega (arith, c.from-in-loop-count-2.ensures, c.latest.invariant.has_window, c.latest.invariant.time_in_range) in few),
   c.from-in-loop-count.ensures,
   c.requires.board.top_in_range,
 )
 
+pub overflow_add-wanted-in-loop-count-2 : goal.overflow_add-wanted-in-loop-count-2
+overflow_add-wanted-in-loop-count-2 c = omega (
+  arith,
+  c.loop-count.invariant.wanted,
+  few_units _ _ _ c.args.pieces.now _ c.requires.pieces.2 c.loop-count.count c.args.end (omega (arith, c.loop-count.invariant.within, (rw c.deref.ensures.value at c.released_from-count.ensures.within))),
+  ap (λ (job : Job). job.work) c.row.view_is,
+  c.row.invariant.work_in_range,
+  mul-le-mul_left c.from-in-loop-count-3.result (let few : c.from-in-loop-count-4.result ≤ 1000000000 = omega (arith, c.from-in-loop-count-4.ensures, c.piece.invariant.has_window, c.piece.invariant.time_in_range) in few),
+  c.from-in-loop-count-3.ensures,
+  c.requires.board.top_in_range,
+)
+
 pub overflow_sub-wanted : goal.overflow_sub-wanted
-overflow_sub-wanted c =
+overflow_sub-wanted c = omega (arith, c.loop-count.invariant.wanted, c.units_between-wanted.ensures)
+
+pub overflow_sub-wanted-then-index-end : goal.overflow_sub-wanted-then-index-end
+overflow_sub-wanted-then-index-end c =
     let jobs = c.args.pieces.now.jobs.items in
     let places = c.args.pieces.now.places.items in
     let end : ℕ = c.args.end in
@@ -127,7 +154,7 @@ overflow_sub-wanted c =
     let below : n < length jobs = omega (arith, c.loop-count.invariant.within, next, (rw c.deref.ensures.value at c.released_from-count.ensures.within)) in
     let work : c.piece.inside.work ≡ (job_at jobs n).work =
     ap (λ (job : Job). job.work) (c.piece.view_is ∙ get_or_read jobs n c.index-piece.result.now below c.index-piece.ensures no_job) in
-    let place = get_or_read places n c.index-in-loop-count-2.result.now (omega (arith, below, c.requires.pieces.2.bounds.as_long)) c.index-in-loop-count-2.ensures 0 in
+    let place = get_or_read places n c.index-in-loop-count.result.now (omega (arith, below, c.requires.pieces.2.bounds.as_long)) c.index-in-loop-count.ensures 0 in
     omega (
       arith,
       c.loop-count.invariant.wanted,
@@ -202,8 +229,8 @@ returns-in_default c all idle of near =
       λ exact. all_too_much top times rising all jobs places idle of.bounds row end c.requires.end window exact little from released until,
     )
 
-pub returns-then-wanted-from : goal.returns-then-wanted-from
-returns-then-wanted-from c all idle of near =
+pub returns-then-wanted-from-2 : goal.returns-then-wanted-from-2
+returns-then-wanted-from-2 c all idle of near =
     let top : ℕ = c.args.board.now.top in
     let times = c.args.board.now.times.items in
     let rising = c.requires.board.are_times.rising in
@@ -225,27 +252,26 @@ returns-then-wanted-from c all idle of near =
     let below : n < length jobs = omega (arith, held.within, c.loop-count-test.true, few) in
     let release : c.piece.inside.release ≡ (job_at jobs n).release =
     ap (λ (job : Job). job.release) (c.piece.view_is ∙ get_or_read jobs n c.index-piece.result.now below c.index-piece.ensures no_job) in
-    let seen : c.behind-pieces.inside.release ≡ (job_at jobs n).release =
-    ap (λ (job : Job). job.release) (c.behind-pieces.view_is ∙ get_or_read jobs n c.index-in-loop-count.result.now below c.index-in-loop-count.ensures no_job) in
+    let soon = (rw c.deref-2.ensures.value at c.released_from.ensures.late) n (omega (arith, held.from, held.within, c.min-until.ensures, c.loop-count-test.true)) below in
     let own = ap (λ (job : Job). job.release) c.row.view_is in
     let window : row.release < row.deadline = omega (arith, own, ap (λ (job : Job). job.deadline) c.row.view_is, c.row.invariant.has_window) in
     let from : ℕ = c.piece.inside.release in
     let within : count ≤ length jobs = omega (arith, held.within, few) in
     let released : (i : ℕ) → i < count → from ≤ (job_at jobs i).release = λ i less. omega (arith, release, of.bounds.falling i n (omega (arith, less)) below) in
-    let until : from ≤ row.release = omega (arith, release, seen, own, c.if-index-row.true) in
+    let until : from ≤ row.release = omega (arith, release, soon, own) in
     let much : top * row.deadline < row.work + went count jobs places end + top * from = omega (
       arith,
       held.wanted,
       ap (λ (job : Job). top * job.deadline) c.row.view_is,
-      rw (c.from.ensures, c.from-2.ensures, c.from-in-loop-count.ensures, c.from-in-loop-count-2.ensures) at c.if-wanted-from.true,
+      rw (c.from.ensures, c.from-2.ensures, c.from-in-loop-count-3.ensures, c.from-in-loop-count-4.ensures) at c.if-wanted-from-2.true,
     ) in (
       least_piece top times rising all jobs places idle of.bounds row end c.requires.end window from until (inr (any_at jobs from n below (sym release)))
           (fits_earlier top times rising all jobs places idle of.bounds row end c.requires.end window of.has_idle behind enough m early count from within released until held.leaves),
       λ exact. too_much top times rising all jobs places idle of.bounds row end c.requires.end window exact count from within released until much,
     )
 
-pub returns-then-wanted-from-2 : goal.returns-then-wanted-from-2
-returns-then-wanted-from-2 c all idle of near =
+pub returns-then-wanted-from-3 : goal.returns-then-wanted-from-3
+returns-then-wanted-from-3 c all idle of near =
     let top : ℕ = c.args.board.now.top in
     let times = c.args.board.now.times.items in
     let rising = c.requires.board.are_times.rising in
@@ -262,29 +288,19 @@ returns-then-wanted-from-2 c all idle of near =
     (rw c.deref.ensures.value at c.released_from-count.ensures.early) (rw c.deref.ensures.value at c.released_from-count.ensures.late) in
     let enough : IsIdleFrom idle end row.work behind = rw c.in-Some.is at near in
     let count : ℕ = c.loop-count.count in
-    let n : ℕ = count - 1 in
     let held = c.loop-count.invariant in
     let own = ap (λ (job : Job). job.release) c.row.view_is in
     let window : row.release < row.deadline = omega (arith, own, ap (λ (job : Job). job.deadline) c.row.view_is, c.row.invariant.has_window) in
     let within : count ≤ length jobs = omega (arith, held.within, few) in
     let from : ℕ = c.row.inside.release in
-    let released : (i : ℕ) → i < count → from ≤ (job_at jobs i).release = λ i less. elim c.loop-count-test.branch [
-      | then-loop-count-test+else-index-row w ↦
-          let below : n < length jobs = omega (arith, within, w.loop-count-test.true) in
-          omega (
-            arith,
-            w.if-index-row.false,
-            ap (λ (job : Job). job.release) (w.behind-pieces.view_is ∙ get_or_read jobs n w.index-in-loop-count.result.now below w.index-in-loop-count.ensures no_job),
-            of.bounds.falling i n (omega (arith, less)) below,
-          )
-      | else-loop-count-test w ↦ absurd (omega (arith, less, w.loop-count-test.false))
-    ] in
+    let released : (i : ℕ) → i < count → from ≤ (job_at jobs i).release = λ i less.
+    (rw c.deref-2.ensures.value at c.released_from.ensures.early) i (omega (arith, less, c.min-until.ensures, c.loop-count-test.false)) in
     let until : from ≤ row.release = omega (arith, own) in
     let much : top * row.deadline < row.work + went count jobs places end + top * from = omega (
       arith,
       held.wanted,
       ap (λ (job : Job). top * job.deadline) c.row.view_is,
-      rw (c.from.ensures, c.from-2.ensures, c.from-4.ensures, c.from-5.ensures) at c.if-wanted-from-2.true,
+      rw (c.from.ensures, c.from-2.ensures, c.from-4.ensures, c.from-5.ensures) at c.if-wanted-from-3.true,
     ) in (
       least_piece top times rising all jobs places idle of.bounds row end c.requires.end window from until (inl (sym own))
           (fits_earlier top times rising all jobs places idle of.bounds row end c.requires.end window of.has_idle behind enough m early count from within released until held.leaves),
@@ -309,33 +325,27 @@ returns c all idle of near =
     (rw c.deref.ensures.value at c.released_from-count.ensures.early) (rw c.deref.ensures.value at c.released_from-count.ensures.late) in
     let enough : IsIdleFrom idle end row.work behind = rw c.in-Some.is at near in
     let count : ℕ = c.loop-count.count in
-    let n : ℕ = count - 1 in
     let held = c.loop-count.invariant in
     let own = ap (λ (job : Job). job.release) c.row.view_is in
     let window : row.release < row.deadline = omega (arith, own, ap (λ (job : Job). job.deadline) c.row.view_is, c.row.invariant.has_window) in
     let within : count ≤ length jobs = omega (arith, held.within, few) in
-    let released : (i : ℕ) → i < count → row.release ≤ (job_at jobs i).release = λ i less. elim c.loop-count-test.branch [
-      | then-loop-count-test+else-index-row w ↦
-          let below : n < length jobs = omega (arith, within, w.loop-count-test.true) in
-          omega (
-            arith,
-            own,
-            w.if-index-row.false,
-            ap (λ (job : Job). job.release) (w.behind-pieces.view_is ∙ get_or_read jobs n w.index-in-loop-count.result.now below w.index-in-loop-count.ensures no_job),
-            of.bounds.falling i n (omega (arith, less)) below,
-          )
-      | else-loop-count-test w ↦ absurd (omega (arith, less, w.loop-count-test.false))
+    let released : (i : ℕ) → i < count → row.release ≤ (job_at jobs i).release = λ i less.
+    omega (arith, own, (rw c.deref-2.ensures.value at c.released_from.ensures.early) i (omega (arith, less, c.min-until.ensures, c.loop-count-test.false))) in
+    let late : get_or times behind 0 < row.release → (i : ℕ) → count ≤ i → i < length jobs → (job_at jobs i).release < row.release = λ outside i from below.
+    elim (cases_lt i c.released_from.result) [
+      | inr later ↦ omega (arith, own, (rw c.deref-2.ensures.value at c.released_from.ensures.late) i later below)
+      | inl sooner ↦ omega (arith, outside, early.late i (omega (arith, from, sooner, held.from, c.min-until.ensures)) below)
     ] in
     elim (cases_lt (get_or times behind 0) row.release) [
       | inr inside ↦ λ from until. fits_idle top times rising all jobs places idle of.bounds row end c.requires.end window of.has_idle behind enough m early from (omega (arith, inside, until))
       | inl outside ↦ fits_all top times rising all jobs places idle of.bounds row end c.requires.end window of.has_idle behind enough m early count
-          (record { within = within; early = released; late = held.late outside })
+          (record { within = within; early = released; late = late outside })
           (omega (
             arith,
             held.wanted,
             ap (λ (job : Job). top * job.release) c.row.view_is,
             ap (λ (job : Job). top * job.deadline) c.row.view_is,
-            rw (c.from.ensures, c.from-2.ensures, c.from-4.ensures, c.from-5.ensures) at c.if-wanted-from-2.false,
+            rw (c.from.ensures, c.from-2.ensures, c.from-4.ensures, c.from-5.ensures) at c.if-wanted-from-3.false,
           ))
           held.leaves
     ]
