@@ -1,5 +1,5 @@
 -- The work of jobs whose windows lie in an interval, job by job, and where it first is too much.
-use Rattle.std.proofs.Common.{◌≡◌, ℕ, ◌+◌, ◌-◌, ◌*◌, ◌<◌, ◌≤◌, List, [], ◌∷◌, ◌++◌, length, get_or, take, drop, ◌∙◌, refl, sym, subst, arith, inl, inr, ap}
+use Rattle.std.proofs.Common.{◌≡◌, ℕ, ◌+◌, ◌-◌, ◌*◌, ◌<◌, ◌≤◌, List, [], ◌∷◌, ◌++◌, length, get_or, take, drop, ◌∙◌, sym, arith, inl, inr, ap}
 use Rattle.std.specs.List.{All, Any, sum_by}
 use Rattle.std.specs.List.Sorted.{IsNonDecreasingBy}
 use Rattle.std.proofs.lemmas.Bool.{cases_lt, cases_eq}
@@ -79,16 +79,7 @@ module _ (top : ℕ) (jobs : List Job) (row : Job) (from : ℕ) (until : from �
   pub begun : (own released to place : ℕ) → own ≡ row.work → to ≡ row.deadline → place ≤ length jobs → released ≡ released_work (take place jobs) from →
       released ≤ place * MAX_WORK → own ≤ MAX_WORK → ((k : ℕ) → k < place → (job_at jobs k).deadline ≤ to) →
       ((k : ℕ) → place ≤ k → k < length jobs → to ≤ (job_at jobs k).deadline) → HasRoomFrom top jobs from → Counted top jobs row from (own + released) to place
-  begun own released to place own_is to_is within is few light early late alone = record {
-    within = within;
-    sum = omega (arith, is, own_is);
-    few = omega (arith, few, light);
-    is_deadline = (length jobs, row, omega (arith, length_push jobs row), get_or_push jobs row row (length jobs) refl, sym to_is);
-    own = omega (arith, to_is);
-    due = early;
-    later = late;
-    room = λ other ahead soon. omega (arith, alone other ahead, sum_by_push (part_within from other) jobs row, part_late from other row (omega (arith, soon, to_is)));
-  }
+  begun own released to place own_is to_is within is few light early late alone = grind (arith, get_or_push, length_push, part_late, part_within, sum_by_push)
 
   module _ (work to i : ℕ) (counted : Counted top jobs row from work to i) where
     -- the work in an interval that ends before the others are due
@@ -106,64 +97,23 @@ module _ (top : ℕ) (jobs : List Job) (row : Job) (from : ℕ) (until : from �
     -- such an interval has room if the one to `to` has
     fits : (other : ℕ) → work ≤ top * (to - from) → to ≤ other → ((k : ℕ) → i ≤ k → k < length jobs → other < (job_at jobs k).deadline) →
         work_within (jobs ++ row ∷ []) from other ≤ top * (other - from)
-    fits other room most late = omega (
-      arith,
-      exact other most late,
-      room,
-      mul-le-mul_left top (let longer : to - from ≤ other - from = omega (arith, most) in longer),
-    )
+    fits other room most late = grind (arith, exact, mul-le-mul_left)
 
     -- the next deadline, where there was room up to this one
     pub moved : IsNonDecreasingBy (λ (job : Job). job.deadline) jobs → i < length jobs → to < (job_at jobs i).deadline → work ≤ top * (to - from) →
         Counted top jobs row from work (job_at jobs i).deadline i
-    moved rising below more room = record {
-      within = counted.within;
-      sum = counted.sum;
-      few = counted.few;
-      is_deadline = (i, job_at jobs i, omega (arith, below, length_push jobs row), get_or_append_left jobs (row ∷ []) (job_at jobs i) i below ∙ get_or_default jobs i (job_at jobs i) no_job below, refl);
-      own = omega (arith, counted.own, more);
-      due = λ k less. omega (arith, counted.due k less, more);
-      later = λ k behind short. rising i k no_job behind short;
-      room = λ other ahead soon. elim (cases_lt other to) [
-        | inl less ↦ counted.room other ahead less
-        | inr most ↦ fits other room most (λ k behind short. omega (arith, soon, rising i k no_job behind short))
-      ];
-    }
+    moved rising below more room = grind (arith, cases_lt, fits, get_or_append_left, get_or_default, length_push)
 
     -- one job more that is due by then
     pub added : i < length jobs → (job_at jobs i).deadline ≤ to → (more : ℕ) → more ≡ part_released from (job_at jobs i) → more ≤ MAX_WORK →
         Counted top jobs row from (work + more) to (i + 1)
-    added below soon more is few = record {
-      within = omega (arith, below);
-      sum = omega (arith, counted.sum, more_released jobs from i below, is);
-      few = omega (arith, counted.few, few);
-      is_deadline = counted.is_deadline;
-      own = counted.own;
-      due = λ k less. elim (cases_eq k i) [
-        | inl same ↦ subst (λ j. (job_at jobs j).deadline ≤ to) (sym same) soon
-        | inr other ↦ counted.due k (omega (arith, less, other))
-      ];
-      later = λ k behind short. counted.later k (omega (arith, behind)) short;
-      room = counted.room;
-    }
+    added below soon more is few = grind (arith, cases_eq, more_released)
 
     -- the first interval without room
     pub first_from : from < row.deadline → top * (to - from) < work → ((k : ℕ) → i ≤ k → k < length jobs → to < (job_at jobs k).deadline) →
         IsFirstFrom top (jobs ++ row ∷ []) from from to work
-    first_from ahead much late = record {
-      begins = refl;
-      ends = record {
-        forward = omega (arith, ahead, counted.own);
-        is_deadline = counted.is_deadline;
-        too_much = omega (arith, exact to (omega arith) late, much);
-        first = counted.room;
-      };
-      all = sym (exact to (omega arith) late);
-    }
+    first_from ahead much late = grind (arith, exact)
 
     -- there is none
     pub none_found : length jobs ≤ i → work ≤ top * (to - from) → HasRoomFrom top (jobs ++ row ∷ []) from
-    none_found all room other ahead = elim (cases_lt other to) [
-      | inl less ↦ counted.room other ahead less
-      | inr most ↦ fits other room most (λ k behind short. absurd (omega (arith, behind, short, all)))
-    ]
+    none_found all room other ahead = grind (arith, cases_lt, fits)

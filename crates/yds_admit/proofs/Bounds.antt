@@ -31,10 +31,7 @@ any_at jobs from i below is = (i, job_at jobs i, below, get_or_default jobs i (j
 -- the last of jobs, or the others
 with_last : (all : List Job) (row : Job) (from : ℕ) → Any (λ (job : Job). job.release ≡ from) (all ++ row ∷ []) →
     Any (λ (job : Job). job.release ≡ from) all ⊎ (row.release ≡ from)
-with_last all row from some = elim (cases_lt some.0 (length all)) [
-  | inl known ↦ inl (some.0, some.1, known, sym (get_or_append_left all (row ∷ []) some.1 some.0 known) ∙ some.3, some.4)
-  | inr last ↦ inr (ap (λ (job : Job). job.release) (sym (get_or_push all row some.1 some.0 (omega (arith, last, some.2, length_push all row))) ∙ some.3) ∙ some.4)
-]
+with_last all row from some = grind (arith, cases_lt, get_or_append_left, get_or_push, length_push)
 
 last_of_all : (all : List Job) (row : Job) → Any (λ (job : Job). job.release ≡ row.release) (all ++ row ∷ [])
 last_of_all all row = (length all, row, omega (arith, length_push all row), get_or_push all row row (length all) refl, refl)
@@ -101,12 +98,7 @@ module _ (jobs : List Job) (places : List ℕ) (row : Job) (place number : ℕ) 
       ]
 
   went_front : (n q : ℕ) → n ≤ number → went n with_job with_place q ≡ went n jobs places q
-  went_front n q few =
-      sum_below_same n (λ k. cond (nat_le (get_or with_place k 0) q) (job_at with_job k).work 0) (λ k. cond (nat_le (get_or places k 0) q) (job_at jobs k).work 0)
-      (λ k below. rw (
-        get_or-insert_below places number place 0 k (omega (arith, below, few)) (omega (arith, count.within, long)),
-        get_or-insert_below jobs number row no_job k (omega (arith, below, few)) count.within,
-      ) refl)
+  went_front n q few = grind (arith, get_or-insert_below, nat_le, sum_below_same)
 
   went_back : (more q : ℕ) → went (number + 1 + more) with_job with_place q ≡ went (number + more) jobs places q + cond (nat_le place q) row.work 0
   went_back zero q =
@@ -262,22 +254,13 @@ module _ (jobs : List Job) (places : List ℕ) (row : Job) (place number : ℕ) 
 -- they fit
 pub few_used : (times : List ℕ) (all jobs : List Job) (places used : List ℕ) → length all ≤ MAX_JOBS → sum_by (λ job. job.work) jobs ≤ length all * MAX_WORK → AreUsed times jobs places used →
     All (λ units. units ≤ MAX_JOBS * MAX_WORK) used
-few_used times all jobs places used few works are k d below = omega (
-  arith,
-  get_or_default used k d 0 below,
-  are.each k (omega (arith, below, are.used_as_long)),
-  went_fits (length jobs) jobs places k (omega arith) (omega (arith, works, mul-le-mul_right MAX_WORK few)),
-)
+few_used times all jobs places used few works are k d below = grind (arith, get_or_default, mul-le-mul_right, went_fits)
 
 -- the units before each of the times with what was added
 pub used_added : (times : List ℕ) (jobs : List Job) (places used : List ℕ) (row : Job) (place : ℕ) (new_jobs : List Job) (new_places new_used : List ℕ) →
     length places ≡ length jobs → IsAdded jobs places row place new_jobs new_places → AreUsed times jobs places used → AreMore used new_used place row.work →
     AreUsed times new_jobs new_places new_used
-used_added times jobs places used row place new_jobs new_places new_used long added before more = record {
-  used_as_long = omega (arith, more.as_long, before.used_as_long);
-  each = λ q below. rw (added.jobs_are, added.places_are)
-      (omega (arith, more.each q (omega (arith, below, before.used_as_long)), before.each q below, all_more jobs places row place added.number long added.count q));
-}
+used_added times jobs places used row place new_jobs new_places new_used long added before more = grind (arith, all_more)
 
 -- the same of what was added
 pub bounds_added : (jobs : List Job) (places : List ℕ) (row : Job) (place : ℕ) (new_jobs : List Job) (new_places : List ℕ) → IsAdded jobs places row place new_jobs new_places →
@@ -301,22 +284,11 @@ module _ (top : ℕ) (jobs : List Job) (places : List ℕ) (row : Job) (end : �
   AllLeaveRoom n m = (k : ℕ) → n ≤ k → k < m → LeavesRoom (k + 1) (job_at jobs k).release
 
   pub one_more : (n m : ℕ) → AllLeaveRoom (n + 1) m → LeavesRoom (n + 1) (job_at jobs n).release → AllLeaveRoom n m
-  one_more n m others leaves k behind below = elim (cases_eq k n) [
-    | inl same ↦ subst (λ j. LeavesRoom (j + 1) (job_at jobs j).release) (sym same) leaves
-    | inr other ↦ others k (omega (arith, behind, other)) below
-  ]
+  one_more n m others leaves k behind below = grind (arith, cases_eq)
 
   -- So do those from the n-th on, if the n-th does, which is released last, with all units of the others.
   pub many_more : IsFalling jobs → (n count m : ℕ) → count ≤ length jobs → AllLeaveRoom count m → LeavesRoom count (job_at jobs n).release → AllLeaveRoom n m
-  many_more falling n count m within others leaves k behind below = elim (cases_lt k count) [
-    | inr later ↦ others k later below
-    | inl less ↦ omega (
-      arith,
-      leaves,
-      went_grows (k + 1) count jobs places end (omega (arith, less)),
-      mul-le-mul_left top (falling n k behind (omega (arith, less, within))),
-    )
-  ]
+  many_more falling n count m within others leaves k behind below = grind (arith, cases_lt, mul-le-mul_left, went_grows)
 
 module _ (top : ℕ) (times : List ℕ) (rising : IsNonDecreasing times) (all jobs : List Job) (places idle : List ℕ) (bounds : AreBounds top times all jobs places idle) (row : Job) (end : ℕ)
     (is_end : IsEnd times row.deadline end) (window : row.release < row.deadline) where
@@ -327,17 +299,7 @@ module _ (top : ℕ) (times : List ℕ) (rising : IsNonDecreasing times) (all jo
   Leaves = LeavesRoom top jobs places row end
 
   fits_leaves : (n from : ℕ) → IsCount jobs n from → from ≤ row.release → Leaves n from → FitsFrom from
-  fits_leaves n from count until leaves b later below =
-      let time : ℕ = get_or times b 0 in
-      let ahead : from ≤ time = omega (arith, until, window, is_end.there, rising end b 0 later below) in
-      omega (
-        arith,
-        bounds.most from n end b count later below,
-        leaves,
-        ap (λ t. top * t) is_end.there,
-        mul-sub top time from,
-        mul-le-mul_left top ahead,
-      )
+  fits_leaves n from count until leaves b later below = grind (arith, mul-le-mul_left, mul-sub)
 
   module _ (has : HasIdle top times all idle) (near : ℕ) (enough : IsIdleFrom idle end row.work near) (m : ℕ) (early : IsCount jobs m (get_or times near 0 + 1)) where
     pub fits_idle : (from : ℕ) → from ≤ get_or times near 0 → FitsFrom from

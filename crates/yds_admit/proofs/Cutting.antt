@@ -51,12 +51,7 @@ greatest_of top times jobs places gaps m n whole count chain q within =
 -- the first n pieces stay the same
 same_went : (n : ℕ) (jobs : List Job) (places : List ℕ) (job : Job) (place q : ℕ) → n ≤ length jobs → length places ≡ length jobs →
     went n (jobs ++ job ∷ []) (places ++ place ∷ []) q ≡ went n jobs places q
-same_went n jobs places job place q few long =
-    sum_below_same n (λ k. cond (nat_le (get_or (places ++ place ∷ []) k 0) q) (job_at (jobs ++ job ∷ []) k).work 0) (λ k. cond (nat_le (get_or places k 0) q) (job_at jobs k).work 0)
-    (λ k below. rw (
-      get_or_append_left places (place ∷ []) 0 k (omega (arith, below, few, long)),
-      get_or_append_left jobs (job ∷ []) no_job k (omega (arith, below, few)),
-    ) refl)
+same_went n jobs places job place q few long = grind (arith, get_or_append_left, nat_le, sum_below_same)
 
 next_term : (n : ℕ) (f : ℕ → ℕ) → sum_below (n + 1) f ≡ sum_below n f + f n
 next_term n f = let e : n + 1 ≡ suc n = omega arith in ap (λ k. sum_below k f) e
@@ -100,12 +95,7 @@ went_fits n jobs places q within few = omega (arith, went_most n jobs places q w
 
 more_went : (jobs : List Job) (places : List ℕ) (job : Job) (place q : ℕ) → length places ≡ length jobs →
     went (length jobs + 1) (jobs ++ job ∷ []) (places ++ place ∷ []) q ≡ went (length jobs) jobs places q + cond (nat_le place q) job.work 0
-more_went jobs places job place q long =
-    let n : ℕ = length jobs in
-    let f : ℕ → ℕ = λ k. cond (nat_le (get_or (places ++ place ∷ []) k 0) q) (job_at (jobs ++ job ∷ []) k).work 0 in
-    let next : sum_below (n + 1) f ≡ sum_below n f + f n = next_term n f in
-    let last : f n ≡ cond (nat_le place q) job.work 0 = rw (get_or_push places place 0 n (omega (arith, long)), get_or_push jobs job no_job n refl) refl in
-    omega (arith, next, last, same_went n jobs places job place q (omega arith) long)
+more_went jobs places job place q long = grind (arith, get_or_push, nat_le, next_term, same_went)
 
 -- a piece of a job whose deadline has the place `end`
 module _ (top : ℕ) (times : List ℕ) (jobs : List Job) (places gaps new : List ℕ) (cutting : IsCutting top times jobs places gaps) (job : Job) (end place : ℕ)
@@ -117,13 +107,7 @@ module _ (top : ℕ) (times : List ℕ) (jobs : List Job) (places gaps new : Lis
   m = length gaps
 
   more_due : (q : ℕ) → q ≤ m → due_work (jobs ++ job ∷ []) (get_or times q 0) ≡ due_work jobs (get_or times q 0) + cond (nat_le end q) job.work 0
-  more_due q below =
-      let time : ℕ = get_or times q 0 in
-      sum_by_push (λ (one : Job). cond (nat_le one.deadline time) one.work 0) jobs job
-      ∙ ap (λ k. due_work jobs time + k) (elim (cases_lt q end) [
-        | inl less ↦ no job.deadline time job.work (early q less) ∙ sym (no end q job.work less)
-        | inr most ↦ yes job.deadline time job.work (late q most below) ∙ sym (yes end q job.work most)
-      ])
+  more_due q below = grind (arith, cases_lt, nat_le, no, sum_by_push, yes)
 
   chained : IsChain m (λ q. top * get_or times q 0) (λ q. due_work (jobs ++ job ∷ []) (get_or times q 0))
       (λ q. went (length (jobs ++ job ∷ [])) (jobs ++ job ∷ []) (places ++ place ∷ []) q) new 0 0
@@ -225,12 +209,7 @@ pub record IsCutSoFar (job : Job) (old new : List Job) (left : ℕ) : Type 0 whe
   pub work : sum_by (λ piece. piece.work) more + left ≡ job.work
 
 pub none_yet : (job : Job) (old : List Job) → IsCutSoFar job old old job.work
-none_yet job old = record {
-  more = [];
-  is = sym (append-nil old);
-  windows = All-nil (λ piece. (piece.release ≡ job.release) × (piece.deadline ≡ job.deadline));
-  work = omega arith;
-}
+none_yet job old = grind (arith, All-nil, append-nil)
 
 pub cut_more : (job : Job) (old new : List Job) (left units : ℕ) (piece : Job) → IsCutSoFar job old new left → units ≤ left → piece.release ≡ job.release →
     piece.deadline ≡ job.deadline → piece.work ≡ units → IsCutSoFar job old (new ++ piece ∷ []) (left - units)

@@ -14,15 +14,7 @@ use Rattle.yds_admit.specs.State.{IsDecision, Decided}
 use Rattle.yds_admit.proofs.Overfull.{numbers_work, first_numbers, room_front}
 
 pub begun : (rows : List Job) (top : ℕ) → Decided rows top 0 [] [] []
-begun rows top = record {
-  same = refl;
-  few = omega arith;
-  are = All-nil IsJob;
-  room = λ from to full. absurd (omega (arith, full.is_release.2));
-  taken_known = All-nil (λ number. number < 0);
-  refused_known = All-nil (λ (refusal : Refusal). refusal.job < 0);
-  goes_on = λ later others rest. rest;
-}
+begun rows top = grind (arith, All-nil)
 
 module _ (rows : List Job) (top i : ℕ) (taken : List ℕ) (jobs : List Job) (refused : List Refusal) (some_top : 1 ≤ top)
     (within : i < length rows) (decided : Decided rows top i taken jobs refused) (row : Job) (is : row ≡ job_at rows i) (is_job : IsJob row) where
@@ -109,11 +101,4 @@ all_decided rows top i taken jobs refused all decided =
 -- the same of what is decided, where the last ones are numbered below the number of jobs
 pub is_decision : (rows : List Job) (top i : ℕ) (taken : List ℕ) (jobs : List Job) (refused : List Refusal) → length rows ≤ i → i ≤ length rows →
     Decided rows top i taken jobs refused → IsDecision rows top taken jobs refused
-is_decision rows top i taken jobs refused all within decided = record {
-  admission = all_decided rows top i taken jobs refused all decided;
-  jobs_are = decided.same;
-  room = decided.room;
-  few = omega (arith, decided.few);
-  taken_known = λ k d below. omega (arith, decided.taken_known k d below);
-  refused_known = λ k d below. omega (arith, decided.refused_known k d below);
-}
+is_decision rows top i taken jobs refused all within decided = grind (arith, all_decided)

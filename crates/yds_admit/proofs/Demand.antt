@@ -23,15 +23,7 @@ use Rattle.yds_admit.proofs.Overfull.{jobs_work}
 -- a step from one event point to the next
 steps : (top next here begin from to : ℕ) → to ≡ next → from ≡ here → begin ≤ from →
     top * (next - begin) ≤ top * (here - begin) + top * (to - from)
-steps top next here begin from to is_next is_here before = omega (
-  arith,
-  mul-sub top next begin,
-  mul-sub top here begin,
-  mul-sub top to from,
-  ap (λ n. top * n) is_next,
-  ap (λ n. top * n) is_here,
-  mul-le-mul_left top before,
-)
+steps top next here begin from to is_next is_here before = grind (arith, mul-le-mul_left, mul-sub)
 
 module _ (top : ℕ) (jobs : List Job) (first last : ℕ) (first_known : first < length jobs) (last_known : last < length jobs) where
   abbrev point : ℕ → ℕ

@@ -83,13 +83,7 @@ module _ (board : Board) (valid : IsBoard board) (marks : List Bool) (m : ℕ) (
   is_spot k below = valid.are_spots.each k no_spot below
 
   pub falls : IsFalling all
-  falls i j order below = omega (
-    arith,
-    as_many,
-    valid.falling i j no_spot order (omega (arith, below, as_many)),
-    ap (λ (job : Job). job.release) (masked_at i no_job (omega (arith, order, below, as_many))),
-    ap (λ (job : Job). job.release) (masked_at j no_job (omega (arith, below, as_many))),
-  )
+  falls i j order below = grind (arith, as_many, masked_at)
 
   pub are_times : AreTimes 0 all times
   are_times = record {
@@ -133,17 +127,7 @@ module _ (board : Board) (valid : IsBoard board) (marks : List Bool) (m : ℕ) (
 
   -- a spot's place of its release isn't after that of one before it
   begins_later : (n k : ℕ) → n ≤ k → k < length spots → (spot_at spots k).begin ≤ (spot_at spots n).begin
-  begins_later n k order below = elim (cases_lt (spot_at spots n).begin (spot_at spots k).begin) [
-    | inr most ↦ most
-    | inl more ↦
-        let here = is_spot k below in
-        absurd (omega (
-          arith,
-          (is_spot n (omega (arith, order, below))).after (spot_at spots k).begin more (omega (arith, here.in_order, here.within)),
-          valid.falling n k no_spot order below,
-          here.until,
-        ))
-  ]
+  begins_later n k order below = grind (arith, cases_lt, is_spot)
 
   module _ (n : ℕ) (within : n < length spots) (gaps new : List ℕ) (walking : Walking top times full spots marks m n gaps)
       (takes : Takes gaps (spot_at spots n).end (if_marked marks (λ k. (spot_at spots n).work) (spot_at spots n).number) new 0 0)

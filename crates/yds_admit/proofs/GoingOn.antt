@@ -1,5 +1,5 @@
 -- Units that go on before gaps, one gap after another.
-use Rattle.std.proofs.Common.{◌≡◌, ℕ, suc, ◌+◌, ◌-◌, ◌<◌, ◌≤◌, ◌⊎◌, min, List, length, get_or, set, ◌∙◌, refl, sym, arith, inl, inr, ap, cond, ◌==◌, get_or-set_same, get_or-set_other, length-set}
+use Rattle.std.proofs.Common.{◌≡◌, ℕ, suc, ◌+◌, ◌-◌, ◌<◌, ◌≤◌, ◌⊎◌, min, List, length, get_or, set, ◌∙◌, sym, arith, inl, inr, ap, cond, ◌==◌, get_or-set_same, get_or-set_other, length-set}
 use Rattle.std.proofs.lemmas.Bool.{cases_eq, eq-eqb, ne_eqb}
 use Rattle.yds_admit.specs.Chain.{IsChain, Takes}
 
@@ -26,54 +26,7 @@ module _ (m : ℕ) (reach due_by before : ℕ → ℕ) (gaps : List ℕ) (at lef
   other_gap q other = get_or-set_other gaps at q (get_or gaps at 0 - taken) 0 other
 
   goes_on : IsChain m reach due_by gone_on (set gaps at (get_or gaps at 0 - taken)) at (left - taken)
-  goes_on = record {
-    as_long = length-set gaps at (get_or gaps at 0 - taken) ∙ chain.as_long;
-    steps = λ q below. elim (cases_eq q at) [
-      | inl same ↦ omega (
-        arith,
-        is,
-        chain.steps q below,
-        here (q + 1) (suc at) left (omega (arith, same)),
-        here q at (left - taken) same,
-        elsewhere (q + 1) at (left - taken) (λ e. omega (arith, e, same)),
-        next_gap,
-        ap (λ n. get_or (set gaps at (get_or gaps at 0 - taken)) n 0) same,
-        ap (λ n. get_or gaps n 0) same,
-      )
-      | inr other ↦ elim (cases_eq (q + 1) at) [
-        | inl follows ↦ omega (
-          arith,
-          chain.steps q below,
-          elsewhere (q + 1) (suc at) left (λ e. omega (arith, e, follows)),
-          elsewhere q at (left - taken) other,
-          here (q + 1) at (left - taken) follows,
-          other_gap q other,
-        )
-        | inr apart ↦ omega (
-          arith,
-          chain.steps q below,
-          elsewhere (q + 1) (suc at) left (λ e. other (omega (arith, e))),
-          elsewhere q at (left - taken) other,
-          elsewhere (q + 1) at (left - taken) apart,
-          other_gap q other,
-        )
-      ]
-    ];
-    most = λ q below. omega (arith, chain.most q below);
-    exact = λ q below some. elim (cases_eq q at) [
-      | inl same ↦ omega (
-        arith,
-        is,
-        some,
-        next_gap,
-        ap (λ n. get_or (set gaps at (get_or gaps at 0 - taken)) n 0) same,
-        here q at (left - taken) same,
-        chain.exact q below (omega (arith, some, next_gap, ap (λ n. get_or (set gaps at (get_or gaps at 0 - taken)) n 0) same, ap (λ n. get_or gaps n 0) same)),
-      )
-      | inr other ↦ omega (arith, elsewhere q at (left - taken) other, chain.exact q below (omega (arith, some, other_gap q other)))
-    ];
-    last = omega (arith, chain.last, elsewhere m at (left - taken) (λ e. omega (arith, e, within)));
-  }
+  goes_on = grind (arith, cases_eq, elsewhere, here, length-set, next_gap, other_gap, set)
 
 none_stays : (at left q : ℕ) → (left ≡ 0) ⊎ (at ≡ 0) → 1 ≤ q → cond (q == at) left 0 ≡ 0
 none_stays at left q (inl none) some = ap {B = ℕ} (λ n. cond (q == at) n 0) none ∙ nothing_there q at
@@ -86,33 +39,15 @@ first_gets at left (inr first) = here at 0 left first
 -- none goes on any more, or there is no gap more
 pub ended : (m : ℕ) (reach due_by before : ℕ → ℕ) (gaps : List ℕ) (at left rest : ℕ) → IsChain m reach due_by before gaps at left →
     (left ≡ 0) ⊎ (at ≡ 0) → IsChain m reach due_by before gaps 0 rest
-ended m reach due_by before gaps at left rest chain over = record {
-  as_long = chain.as_long;
-  steps = λ q below. omega (
-    arith,
-    chain.steps q below,
-    elsewhere (q + 1) 0 rest (λ e. omega (arith, e)),
-    none_stays at left (q + 1) over (omega arith),
-  );
-  most = chain.most;
-  exact = chain.exact;
-  last = chain.last;
-}
+ended m reach due_by before gaps at left rest chain over = grind (arith, elsewhere)
 
 either_way : (at x : ℕ) → cond (0 == at) x 0 ≡ cond (at == 0) x 0
-either_way at x = elim (cases_eq at 0) [
-  | inl first ↦ here 0 at x (sym first) ∙ sym (here at 0 x first)
-  | inr later ↦ elsewhere 0 at x (λ e. later (sym e)) ∙ sym (elsewhere at 0 x later)
-]
+either_way at x = grind (arith, cases_eq, elsewhere, here)
 
 -- # Taking units from the gaps before a place
 
 pub none_taken : (gaps : List ℕ) (place units : ℕ) → Takes gaps place units gaps place units
-none_taken gaps place units = record {
-  as_long = refl;
-  within = omega arith;
-  chain = λ m reach due_by before chain. (before, chain, refl);
-}
+none_taken gaps place units = grind (arith)
 
 pub some_taken : (old new : List ℕ) (place units at left taken : ℕ) → Takes old place units new (suc at) left → at < length old →
     taken ≡ min left (get_or new at 0) → Takes old place units (set new at (get_or new at 0 - taken)) at (left - taken)

@@ -24,9 +24,7 @@ use Rattle.yds_admit.proofs.Least.{work_of_first, first_at_most, room_to}
 
 -- what it holds then
 pub lent : (len : ℕ) (items new : List ℕ) → len ≡ length items → length new ≡ length items → take len (new ++ drop (length new) items) ≡ new
-lent len items new is as_long =
-    ap (λ (rest : List ℕ). take len (new ++ rest)) (drop_all (length new) items (omega (arith, as_long)))
-    ∙ (ap (λ (some : List ℕ). take len some) (append-nil new) ∙ take_all len new (omega (arith, is, as_long)))
+lent len items new is as_long = grind (arith, append-nil, drop_all, take_all)
 
 -- # Sums of what is idle
 
@@ -122,41 +120,13 @@ module _ (top : ℕ) (times : List ℕ) (jobs : List Job) (old : List ℕ) (risi
     (holds : (from a b : ℕ) → end ≤ b → b < length times → a ≤ b → from ≤ row.release → from ≤ get_or times a 0 →
     work_within jobs from (get_or times b 0) + row.work + idle_before new b ≤ top * (get_or times b 0 - from) + idle_before new a) where
   has_with : HasIdle top times (jobs ++ row ∷ []) new
-  has_with = record {
-    as_long = omega (arith, as_long, has.as_long);
-    room = λ from a b forward below ahead.
-        let time : ℕ = get_or times b 0 in
-        let added = sum_by_push (part_within from time) jobs row in
-        elim (cases_lt row.release from) [
-          | inl early ↦ omega (arith, added, part_early from time row early, has.room from a b forward below ahead, fewer_between old new less a b forward)
-          | inr counts ↦ elim (cases_lt time row.deadline) [
-            | inl soon ↦ omega (arith, added, part_late from time row soon, has.room from a b forward below ahead, fewer_between old new less a b forward)
-            | inr due ↦ elim (cases_lt b end) [
-              | inr later ↦ omega (arith, added, part_inside from time row counts due, holds from a b later below forward counts ahead)
-              | inl sooner ↦
-                  let same : time ≡ get_or times end 0 = omega (arith, due, is_end, rising b end 0 (omega (arith, sooner)) within) in
-                  omega (
-                    arith,
-                    added,
-                    part_inside from time row counts due,
-                    holds from a end (omega arith) within (omega (arith, forward, sooner)) counts ahead,
-                    ap (λ t. work_within jobs from t) same,
-                    ap (λ t. top * (t - from)) same,
-                    later_idle new b end (omega (arith, sooner)),
-                  )
-            ]
-          ]
-        ];
-  }
+  has_with = grind (arith, cases_lt, fewer_between, later_idle, part_early, part_inside, part_late, part_within, sum_by_push)
 
 module _ (top : ℕ) (times : List ℕ) (jobs : List Job) (old : List ℕ) (rising : IsNonDecreasing times) (has : HasIdle top times jobs old) (row : Job) (begin end : ℕ) (new : List ℕ)
     (taken : IsTaken old new begin end row.work) (order : begin ≤ end) (within : end < length times) (is_end : get_or times end 0 ≡ row.deadline)
     (first : begin < end → row.release ≤ get_or times begin 0) (window : row.release < row.deadline) where
   released : row.release ≤ get_or times begin 0
-  released = elim (cases_lt begin end) [
-    | inl less ↦ first less
-    | inr most ↦ let same : begin ≡ end = omega (arith, most, order) in omega (arith, ap (λ q. get_or times q 0) same, is_end, window)
-  ]
+  released = grind (arith, cases_lt)
 
   same_early : (q : ℕ) → q ≤ begin → idle_before new q ≡ idle_before old q
   same_early q most = sum_below_same q (λ k. get_or new k 0) (λ k. get_or old k 0) (λ k below. taken.early k (omega (arith, below, most)))

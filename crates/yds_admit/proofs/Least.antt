@@ -108,13 +108,7 @@ module _ (top : ℕ) (all : List Job) (are : All IsJob all) (room : HasRoom top 
 module _ (times : List ℕ) (all : List Job) (row : Job) (end m : ℕ) (long : length times ≡ m + 1) (short : end ≤ m) (is_end : get_or times end 0 ≡ row.deadline)
     (rising : IsNonDecreasing times) (due : AreDue times all) where
   pub at_most : (from to : ℕ) → part_within from to row ≤ row.work
-  at_most from to = elim (cases_lt row.release from) [
-    | inl less ↦ omega (arith, part_early from to row less)
-    | inr first ↦ elim (cases_lt to row.deadline) [
-      | inl more ↦ omega (arith, part_late from to row more)
-      | inr within ↦ omega (arith, part_inside from to row first within)
-    ]
-  ]
+  at_most from to = grind (arith, cases_lt, part_early, part_inside, part_late)
 
   -- a deadline of the jobs that isn't before the job's own is one of the later times
   pub time_of : (to : ℕ) → row.deadline ≤ to → (row.deadline < to → Any (λ (job : Job). job.deadline ≡ to) (all ++ row ∷ [])) →

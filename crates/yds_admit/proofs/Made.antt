@@ -27,13 +27,7 @@ falling_more rows marks spots n below is =
 
 -- no job is cut yet
 pub none_made : AreCut [] []
-none_made = record {
-  falling = λ i j order below. absurd (omega arith);
-  total = refl;
-  same = λ from to. refl;
-  kept = λ from some. absurd (omega (arith, some.2));
-  known = λ from some. absurd (omega (arith, some.2));
-}
+none_made = grind (arith)
 
 -- the pieces of one job more come after the others
 module _ (job : Job) (old new : List Job) (into : IsCutInto job old new) where
@@ -44,17 +38,11 @@ module _ (job : Job) (old new : List Job) (into : IsCutInto job old new) where
   front i below = ap (λ (jobs : List Job). (job_at jobs i).release) into.is ∙ ap (λ (one : Job). one.release) (get_or_append_left old into.more no_job i below)
 
   back : (i : ℕ) → length old ≤ i → i < length new → (job_at new i).release ≡ job.release
-  back i from below =
-      ap (λ (jobs : List Job). (job_at jobs i).release) into.is
-      ∙ ap (λ (one : Job). one.release) (get_or-append_right old into.more (length old) i no_job refl from)
-      ∙ (into.windows (i - length old) no_job (omega (arith, from, below, long))).0
+  back i from below = grind (arith, get_or-append_right, long)
 
   -- none of the pieces is released before a time
   pub none_before : (time : ℕ) → time ≤ job.release → ((i : ℕ) → i < length old → time ≤ (job_at old i).release) → (i : ℕ) → i < length new → time ≤ (job_at new i).release
-  none_before time own others i below = elim (cases_lt i (length old)) [
-    | inl early ↦ omega (arith, front i early, others i early)
-    | inr late ↦ omega (arith, back i late below, own)
-  ]
+  none_before time own others i below = grind (arith, back, cases_lt, front)
 
   -- one job more is cut, which isn't released after the pieces before
   pub one_made : (all : List Job) → AreCut all old → ((i : ℕ) → i < length old → job.release ≤ (job_at old i).release) → AreCut (all ++ job ∷ []) new

@@ -28,16 +28,7 @@ not_marked marks f i is = ap {B = ℕ} (λ b. cond b (f i) 0) is
 
 -- no job is marked
 pub none_marked : (rows : List Job) (marks : List Bool) → length marks ≡ length rows → NoneFrom marks 0 → IsMarked rows 0 marks []
-none_marked rows marks long none = record {
-  as_long = long;
-  marked = record {
-    sums = λ f. numbers_sum rows (if_marked marks (λ number. f (job_at rows number)))
-        ∙ sum_below_zero (length rows) (if_marked marks (λ number. f (job_at rows number)))
-        (λ k below. not_marked marks (λ number. f (job_at rows number)) k (none k (omega arith)));
-    known = All-nil (λ job. Any (λ one. one ≡ job) rows);
-  };
-  none = none;
-}
+none_marked rows marks long none = grind (arith, All-nil, not_marked, numbers_sum, sum_below_zero)
 
 -- one that was not marked
 pub one_marked : (rows : List Job) (marks : List Bool) (jobs : List Job) (i : ℕ) (row : Job) → length marks ≡ length rows → i < length rows → row ≡ job_at rows i →
@@ -88,8 +79,4 @@ numbers_more n =
 
 -- a refused job is not marked
 pub later_none : (rows : List Job) (marks : List Bool) (jobs : List Job) (i : ℕ) → IsMarked rows i marks jobs → IsMarked rows (i + 1) marks jobs
-later_none rows marks jobs i marked = record {
-  as_long = marked.as_long;
-  marked = marked.marked;
-  none = λ number from. marked.none number (omega (arith, from));
-}
+later_none rows marks jobs i marked = grind (arith)

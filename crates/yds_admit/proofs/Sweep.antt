@@ -52,11 +52,7 @@ module _ (m : ℕ) (reach due_by done : ℕ → ℕ) (gaps : List ℕ) (chain : 
   ]
 
 at_first : (place x : ℕ) → cond (nat_le place 0) x 0 ≡ cond (place == 0) x 0
-at_first place x = elim (cases_eq place 0) [
-  | inl first ↦ ap {B = ℕ} (λ b. cond b x 0) (le-leb place 0 (omega (arith, first))) ∙ sym (ap {B = ℕ} (λ b. cond b x 0) (eq-eqb place 0 first))
-  | inr later ↦ ap {B = ℕ} (λ b. cond b x 0) (lt-leb place 0 (elim (cases_lt 0 place) [ inl some ↦ some | inr none ↦ absurd (later (omega (arith, none))) ]))
-      ∙ sym (ap {B = ℕ} (λ b. cond b x 0) (ne_eqb place 0 later))
-]
+at_first place x = grind (arith, cases_eq, cases_lt, eq-eqb, le-leb, lt-leb, ne_eqb)
 
 -- # The walk
 
@@ -74,49 +70,11 @@ module _ (top due : ℕ) (jobs : List Job) (times : List ℕ) (m : ℕ) (long : 
       (early : (q : ℕ) → q < place → get_or times q 0 < job.deadline) (late : (q : ℕ) → place ≤ q → q < length times → job.deadline ≤ get_or times q 0) where
     -- what one more job adds to what is due
     more_due : (q : ℕ) → q ≤ m → due_units top due jobs times m (n + 1) q ≡ due_units top due jobs times m n q + cond (nat_le place q) job.work 0
-    more_due q below =
-        let time : ℕ = get_or times q 0 in
-        sum_by_more (λ (one : Job). cond (nat_le one.deadline time) one.work 0) jobs n no_job within
-        ∙ ap (λ k. due_units top due jobs times m n q + k) (ap (λ (one : Job). cond (nat_le one.deadline time) one.work 0) (sym is)
-        ∙ elim (cases_lt q place) [
-          | inl before ↦ ap {B = ℕ} (λ b. cond b job.work 0) (lt-leb job.deadline time (early q before)) ∙ sym (ap {B = ℕ} (λ b. cond b job.work 0) (lt-leb place q before))
-          | inr after ↦ ap {B = ℕ} (λ b. cond b job.work 0) (le-leb job.deadline time (late q after (omega (arith, long, below))))
-              ∙ sym (ap {B = ℕ} (λ b. cond b job.work 0) (le-leb place q after))
-        ])
+    more_due q below = grind (arith, cases_lt, le-leb, lt-leb, nat_le, sum_by_more)
 
     loaded : (done : ℕ → ℕ) (gaps : List ℕ) → IsChain m (reach top due jobs times m) (due_units top due jobs times m n) done gaps 0 0 →
         IsChain m (reach top due jobs times m) (due_units top due jobs times m (n + 1)) (λ q. done q + cond (nat_le place q) job.work 0) gaps place job.work
-    loaded done gaps chain = record {
-      as_long = chain.as_long;
-      steps = λ q below. elim (cases_lt (q + 1) place) [
-        | inl before ↦ omega (
-          arith,
-          step_is m (reach top due jobs times m) (due_units top due jobs times m n) done gaps chain q below,
-          ap {B = ℕ} (λ b. cond b job.work 0) (lt-leb place q (omega (arith, before))),
-          ap {B = ℕ} (λ b. cond b job.work 0) (lt-leb place (q + 1) before),
-          ap {B = ℕ} (λ b. cond b job.work 0) (ne_eqb (q + 1) place (λ e. omega (arith, e, before))),
-        )
-        | inr after ↦ elim (cases_eq (q + 1) place) [
-          | inl same ↦ omega (
-            arith,
-            step_is m (reach top due jobs times m) (due_units top due jobs times m n) done gaps chain q below,
-            ap {B = ℕ} (λ b. cond b job.work 0) (lt-leb place q (omega (arith, same))),
-            ap {B = ℕ} (λ b. cond b job.work 0) (le-leb place (q + 1) after),
-            ap {B = ℕ} (λ b. cond b job.work 0) (eq-eqb (q + 1) place same),
-          )
-          | inr other ↦ omega (
-            arith,
-            step_is m (reach top due jobs times m) (due_units top due jobs times m n) done gaps chain q below,
-            ap {B = ℕ} (λ b. cond b job.work 0) (le-leb place q (omega (arith, after, other))),
-            ap {B = ℕ} (λ b. cond b job.work 0) (le-leb place (q + 1) after),
-            ap {B = ℕ} (λ b. cond b job.work 0) (ne_eqb (q + 1) place other),
-          )
-        ]
-      ];
-      most = λ q below. omega (arith, more_due q below, chain.most q below);
-      exact = λ q below some. omega (arith, more_due q (omega arith), chain.exact q below some);
-      last = omega (arith, more_due m (omega arith), chain.last);
-    }
+    loaded done gaps chain = grind (arith, cases_eq, cases_lt, eq-eqb, le-leb, lt-leb, more_due, ne_eqb, step_is)
 
     -- the chain after its units went on
     pub record Passed (new : List ℕ) (passed : ℕ) : Type 0 where

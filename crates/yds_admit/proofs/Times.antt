@@ -1,5 +1,5 @@
 -- The times of a chain, deadline by deadline.
-use Rattle.std.proofs.Common.{◌≡◌, ℕ, ◌+◌, ◌-◌, ◌*◌, ◌<◌, ◌≤◌, List, [], ◌∷◌, ◌++◌, length, get_or, take, ◌∙◌, refl, subst, arith, inl, inr, ap}
+use Rattle.std.proofs.Common.{◌≡◌, ℕ, ◌+◌, ◌-◌, ◌*◌, ◌<◌, ◌≤◌, List, [], ◌∷◌, ◌++◌, length, get_or, take, ◌∙◌, subst, arith, ap}
 use Rattle.std.specs.List.{All, Any, Contains}
 use Rattle.std.specs.List.Sorted.{IsPermutation, IsNonDecreasing, IsNonDecreasingBy}
 use Rattle.std.proofs.lemmas.List.Sorted.{All-permutation}
@@ -22,15 +22,7 @@ pub record TimesUpTo (jobs : List Job) (i : ℕ) (times : List ℕ) (last : ℕ)
   pub all : All (λ job. 0 < job.deadline → Contains times job.deadline) (take i jobs)
 
 pub begun : (jobs : List Job) → TimesUpTo jobs 0 (0 ∷ []) 0
-begun jobs = record {
-  some = omega arith;
-  first = refl;
-  rising = λ i j d order within. (let k : i ≡ j = omega (arith, within, order) in omega (arith, ap (λ n. get_or (0 ∷ []) n d) k));
-  most = All-cons (λ time. time ≤ 0) 0 [] (omega arith) (All-nil (λ time. time ≤ 0));
-  known = Contains-push [] 0;
-  before = λ j behind within. omega arith;
-  all = All-nil (λ job. 0 < job.deadline → Contains (0 ∷ []) job.deadline);
-}
+begun jobs = grind (arith, All-cons, All-nil, Contains-push)
 
 module _ (jobs : List Job) (i : ℕ) (times : List ℕ) (last : ℕ) (rising : IsNonDecreasingBy (λ (job : Job). job.deadline) jobs) (within : i < length jobs)
     (up_to : TimesUpTo jobs i times last) (deadline : ℕ) (is : deadline ≡ (job_at jobs i).deadline) where
@@ -50,30 +42,7 @@ module _ (jobs : List Job) (i : ℕ) (times : List ℕ) (last : ℕ) (rising : I
       }
 
   pushed_rising : last < deadline → IsNonDecreasing (times ++ deadline ∷ [])
-  pushed_rising later k j d order below = elim (cases_lt j (length times)) [
-    | inl front ↦ omega (
-      arith,
-      up_to.rising k j d order front,
-      get_or_append_left times (deadline ∷ []) d k (omega (arith, front, order)),
-      get_or_append_left times (deadline ∷ []) d j front,
-    )
-    | inr past ↦
-        let at : length times ≡ j = omega (arith, below, length_push times deadline, past) in
-        elim (cases_lt k (length times)) [
-          | inl front ↦ omega (
-            arith,
-            get_or_append_left times (deadline ∷ []) d k front,
-            get_or_push times deadline d j at,
-            up_to.most k d front,
-            later,
-          )
-          | inr same ↦ omega (
-            arith,
-            get_or_push times deadline d j at,
-            get_or_push times deadline d k (omega (arith, same, order, at)),
-          )
-        ]
-  ]
+  pushed_rising later k j d order below = grind (arith, cases_lt, get_or_append_left, get_or_push, length_push)
 
   -- a new one
   pub added : last < deadline → TimesUpTo jobs (i + 1) (times ++ deadline ∷ []) deadline
@@ -90,12 +59,7 @@ module _ (jobs : List Job) (i : ℕ) (times : List ℕ) (last : ℕ) (rising : I
   }
 
 pub are_times : (jobs : List Job) (i : ℕ) (times : List ℕ) (last : ℕ) → length jobs ≤ i → TimesUpTo jobs i times last → AreTimes 0 jobs times
-are_times jobs i times last all up_to = record {
-  some = up_to.some;
-  first = up_to.first;
-  rising = up_to.rising;
-  all = subst (λ (some : List Job). All (λ job. 0 < job.deadline → Contains times job.deadline) some) (take_all i jobs all) up_to.all;
-}
+are_times jobs i times last all up_to = grind (arith, take_all)
 
 -- # The gaps between the times
 
@@ -103,21 +67,7 @@ pub gap_pushed : (top : ℕ) (times gaps : List ℕ) (next product : ℕ) → 1 
     product ≡ top * (get_or times next 0 - get_or times (next - 1) 0) → get_or times (next - 1) 0 ≤ get_or times next 0 →
     ((q : ℕ) → q + 1 < next → get_or gaps q 0 + top * get_or times q 0 ≡ top * get_or times (q + 1) 0) →
     (q : ℕ) → q + 1 < next + 1 → get_or (gaps ++ product ∷ []) q 0 + top * get_or times q 0 ≡ top * get_or times (q + 1) 0
-gap_pushed top times gaps next product some long is rising each q below = elim (cases_lt q (length gaps)) [
-  | inl front ↦ omega (arith, get_or_append_left gaps (product ∷ []) 0 q front, each q (omega (arith, front, long)))
-  | inr last ↦
-      let here : q ≡ next - 1 = omega (arith, last, below, long) in
-      let there : q + 1 ≡ next = omega (arith, here, some) in
-      omega (
-        arith,
-        get_or_push gaps product 0 q (omega (arith, here, long)),
-        is,
-        mul-sub top (get_or times next 0) (get_or times (next - 1) 0),
-        mul-le-mul_left top rising,
-        ap (λ n. top * get_or times n 0) here,
-        ap (λ n. top * get_or times n 0) there,
-      )
-]
+gap_pushed top times gaps next product some long is rising each q below = grind (arith, cases_lt, get_or_append_left, get_or_push, mul-le-mul_left, mul-sub)
 
 -- the times of jobs in another order
 pub same_times : (due : ℕ) (jobs others : List Job) (times : List ℕ) → IsPermutation others jobs → AreTimes due others times → AreTimes due jobs times
@@ -131,22 +81,13 @@ same_times due jobs others times same are = record {
 -- the first place of one of the times
 module _ (times : List ℕ) (time place : ℕ) (rising : IsNonDecreasing times) (known : Contains times time) (is : IsPlace times time place) where
   not_after : place ≤ known.0
-  not_after = elim (cases_lt known.0 place) [
-    | inr most ↦ most
-    | inl less ↦ absurd (omega (arith, is.before known.0 less, get_or_default times known.0 0 time known.1, known.2))
-  ]
+  not_after = grind (arith, cases_lt, get_or_default)
 
   pub place_known : place < length times
   place_known = omega (arith, not_after, known.1)
 
   pub time_there : get_or times place 0 ≡ time
-  time_there = omega (
-    arith,
-    is.after place (omega arith) place_known,
-    rising place known.0 0 not_after known.1,
-    get_or_default times known.0 0 time known.1,
-    known.2,
-  )
+  time_there = grind (arith, get_or_default, not_after, place_known)
 
 -- the deadlines of some of the jobs are among the times
 pub all_due : (rows jobs : List Job) (times : List ℕ) → AreTimes 0 rows times → All (λ job. Any (λ one. one ≡ job) rows) jobs → All IsJob jobs → AreDue times jobs

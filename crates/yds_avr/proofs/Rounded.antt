@@ -47,12 +47,7 @@ module _ (rest length window fraction : ℕ) (some : 1 ≤ window) (in_range : w
   most = le_of_mul-le-mul_right {k = window} (omega (arith, mul-le-mul_right length low, up_enough (rest * length) window some)) (omega (arith, some))
 
   pub product_up : (fraction * length + 18446744073709551615) / 18446744073709551616 ≡ up
-  product_up =
-      let least : up ≤ (fraction * length + 18446744073709551615) / 18446744073709551616 =
-      (le-div_iff_mul-le {k = 18446744073709551616} {x = up} {y = fraction * length + 18446744073709551615} (omega arith)).1 enough in
-      let greatest : (fraction * length + 18446744073709551615) / 18446744073709551616 < up + 1 =
-      (div-lt_iff_lt-mul {k = 18446744073709551616} {x = fraction * length + 18446744073709551615} {y = up + 1} (omega arith)).1 (omega (arith, most)) in
-      omega (arith, least, greatest)
+  product_up = grind (arith, div-lt_iff_lt-mul, enough, le-div_iff_mul-le, most)
 
 -- the whole units apart
 pub whole_apart : (whole rest length window : ℕ) → 1 ≤ window → div_up ((whole * window + rest) * length) window ≡ whole * length + div_up (rest * length) window
@@ -64,10 +59,7 @@ whole_apart whole rest length window some =
 
 -- whole where the number that is rounded up is that times the divisor
 up_whole : (x y : ℕ) → 1 ≤ y → x % y ≡ 0 → div_up x y * y ≡ x
-up_whole x y some none =
-    let whole : x / y * y ≡ x = omega (arith, div-add-mod x y, none) in
-    let most : div_up x y ≤ x / y = up_most x y (x / y) some (omega (arith, whole)) in
-    omega (arith, up_enough x y some, mul-le-mul_right y most, whole)
+up_whole x y some none = grind (arith, div-add-mod, most, mul-le-mul_right, up_enough, up_most)
 
 rest_none : (x y : ℕ) → 1 ≤ y → (div_up x y * y == x) ≡ (x % y == 0)
 rest_none x y some = elim (cases_eq (x % y) 0) [
@@ -89,20 +81,14 @@ module _ (rate : Rate) (is : IsRate rate) (length : ℕ) (within : length ≤ wi
   -- a rest of the job's units
   pub rest_told : (fraction other : ℕ) → fraction ≡ rate.fraction → other ≡ length →
       (fraction * other + 18446744073709551615) / 18446744073709551616 ≡ div_up (rate.rest * length) (window_length rate)
-  rest_told fraction other fraction_is other_is =
-      ap (λ n. (n * other + 18446744073709551615) / 18446744073709551616) fraction_is
-      ∙ ap (λ n. (rate.fraction * n + 18446744073709551615) / 18446744073709551616) other_is
-      ∙ product_up rate.rest length (window_length rate) rate.fraction some_window (omega (arith, is.time_in_range)) within is.fraction_is
+  rest_told fraction other fraction_is other_is = grind (arith, product_up, some_window)
 
   pub rest_few : div_up (rate.rest * length) (window_length rate) ≤ rate.rest
   rest_few = up_most (rate.rest * length) (window_length rate) rate.rest some_window (mul-le-mul_left rate.rest within)
 
   pub rest_rounds : (rest window : ℕ) → rest ≡ div_up (rate.rest * length) (window_length rate) → window ≡ window_length rate →
       not (rest * window == rate.rest * length) ≡ not (rate.rest * length % window_length rate == 0)
-  rest_rounds rest window rest_is window_is =
-      ap (λ n. not (n * window == rate.rest * length)) rest_is
-      ∙ ap (λ n. not (div_up (rate.rest * length) (window_length rate) * n == rate.rest * length)) window_is
-      ∙ ap not (rest_none (rate.rest * length) (window_length rate) some_window)
+  rest_rounds rest window rest_is window_is = grind (arith, rest_none, some_window)
 
 -- # A live job's part
 

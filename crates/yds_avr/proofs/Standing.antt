@@ -9,7 +9,7 @@ use Rattle.std.proofs.lemmas.Bool.{cases_lt, cases_Bool, le-leb, lt-leb, lt-ltb,
 use Rattle.std.proofs.lemmas.List.{take-append-drop, get_or-take, get_or-drop, get_or_append_left, length-append, length-take, length-drop, append_assoc, append-nil, length-map}
 use Rattle.std.proofs.lemmas.List.Sums.{sum_by-cons, sum_by-le}
 use Rattle.std.proofs.lemmas.List.Elements.{filter-append, All-from_get_or, All-cons, All-append, All-take, All-map, All-weaker}
-use Rattle.std.proofs.lemmas.List.Sorted.{All-permutation, IsPermutation-trans, IsPermutation-append_left, IsPermutation-middle, IsNonDecreasingBy-insert, IsNonDecreasingBy-take, length_permutation, sum_by_pushed, sum_by-IsPermutation, list_any-IsPermutation}
+use Rattle.std.proofs.lemmas.List.Sorted.{All-permutation, IsPermutation-trans, IsPermutation-append_left, IsPermutation-middle, IsNonDecreasingBy-insert, length_permutation, sum_by_pushed, sum_by-IsPermutation, list_any-IsPermutation}
 use Rattle.yds_model.specs.declared.limits.TheConstants.{MAX_GRID, MAX_JOBS, MAX_TIME}
 use Rattle.yds_model.specs.Job.{Job, IsJob}
 use Rattle.yds_model.specs.Piece.{Piece}
@@ -66,19 +66,7 @@ falls_by live are rising i j d order within = omega (arith, rising i j d order w
 
 pub stands_later : (order live : List Rate) (arrived whole capacity time later : ℕ) → IsRoster order live arrived whole capacity time → time ≤ later →
     IsRoster order live arrived whole capacity later
-stands_later order live arrived whole capacity time later so after = record {
-  parts = record {
-    within = so.parts.within;
-    rising = so.parts.rising;
-    together = so.parts.together;
-    room = so.parts.room;
-    over = so.parts.over;
-    same = so.parts.same;
-    come = λ k d less. omega (arith, so.parts.come k d less, after);
-    done = λ k d less. omega (arith, so.parts.done k d less, after);
-  };
-  falling = so.falling;
-}
+stands_later order live arrived whole capacity time later so after = grind (arith)
 
 module _ (order live : List Rate) (arrived whole capacity time : ℕ) (so : AreParts order live arrived whole capacity time) where
   -- what is said of all is said of the live ones
@@ -178,10 +166,7 @@ module _ (order live : List Rate) (arrived whole capacity time : ℕ) (so : AreP
 -- # What has a part of a stretch
 
 over_not_live : (stretch : Piece) (rate : Rate) → rate.deadline ≤ stretch.from → rate_live stretch rate ≡ false
-over_not_live stretch rate over = elim (cases_lt stretch.from rate.release) [
-  | inl early ↦ rw (lt-leb rate.release stretch.from early) refl
-  | inr released ↦ rw (le-leb rate.release stretch.from released, le-ltb stretch.from rate.deadline over) refl
-]
+over_not_live stretch rate over = grind (arith, cases_lt, le-leb, le-ltb, lt-leb)
 
 coming_not_live : (stretch : Piece) (rate : Rate) → stretch.from < rate.release → rate_live stretch rate ≡ false
 coming_not_live stretch rate early = rw (lt-leb rate.release stretch.from early) refl
@@ -195,10 +180,7 @@ any_filter p f (x ∷ xs) = elim (cases_Bool (p x)) [
 ]
 
 together_permuted : (rates order : List Rate) (stretch : Piece) → IsPermutation rates order → rates_together rates stretch ≡ rates_together order stretch
-together_permuted rates order stretch same =
-    sum_by-filter (rate_live stretch) (rate_term stretch) rates
-    ∙ sym (sum_by-IsPermutation (λ rate. cond (rate_live stretch rate) (rate_term stretch rate) 0) rates order same)
-    ∙ sym (sum_by-filter (rate_live stretch) (rate_term stretch) order)
+together_permuted rates order stretch same = grind (arith, sum_by-IsPermutation, sum_by-filter)
 
 rounds_permuted : (rates order : List Rate) (stretch : Piece) → IsPermutation rates order → some_rounds rates stretch ≡ some_rounds order stretch
 rounds_permuted rates order stretch same =
@@ -248,13 +230,7 @@ some_same grid stretch jobs =
     ∙ sym (any_filter (is_live stretch) (rounds_term grid stretch) jobs)
 
 is_rate : (grid : ℕ) → grid ≤ MAX_GRID → (job : Job) → IsJob job → IsRate (rate_of grid job)
-is_rate grid in_range job is = record {
-  has_window = is.has_window;
-  time_in_range = is.time_in_range;
-  less = mod-lt (grid * job.work) (omega (arith, is.has_window));
-  fraction_is = refl;
-  few = omega (arith, units_same grid job, mul-le-mul_left grid is.work_in_range, in_range);
-}
+is_rate grid in_range job is = grind (arith, mod-lt, mul-le-mul_left, units_same)
 
 are_rates : (grid : ℕ) (jobs : List Job) → grid ≤ MAX_GRID → All IsJob jobs → All IsRate (rates_of grid jobs)
 are_rates grid jobs in_range are = All-map IsRate (rate_of grid) jobs (All-weaker IsJob (λ job. IsRate (rate_of grid job)) (is_rate grid in_range) jobs are)

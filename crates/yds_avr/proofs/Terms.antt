@@ -10,7 +10,7 @@ use Rattle.yds_model.specs.Job.{Job, IsJob, no_job, job_at}
 use Rattle.yds_model.specs.Piece.{Piece}
 use Rattle.yds_model.specs.Confined.{window_is_within, work_within}
 use Rattle.yds_model.specs.Event.{event_points, stretches}
-use Rattle.yds_model.specs.AverageRate.{is_live, term_numerator, term_of, terms_of, average_rate_rounds, IsAverageRateRun}
+use Rattle.yds_model.specs.AverageRate.{is_live, term_of, terms_of, average_rate_rounds, IsAverageRateRun}
 use Rattle.yds_model.specs.Slot.{WrittenSlot}
 use Rattle.yds_model.specs.Comparison.{stretch_at}
 use Rattle.yds_model.proofs.Filters.{sum_by-filter}
@@ -88,10 +88,7 @@ module _ (jobs : List Job) (j : ℕ) (known : j < length jobs) (is : IsJob (job_
     live_term k = cond (is_live (stretch_at jobs k) job) (term_of grid (stretch_at jobs k) job) 0
 
     term_enough : (k : ℕ) → grid * job.work * live_length k ≤ (job.deadline - job.release) * live_term k
-    term_enough k = elim (cases_Bool (is_live (stretch_at jobs k) job)) [
-      | inl live ↦ rw live (omega (arith, up_enough (term_numerator grid (stretch_at jobs k) job) (job.deadline - job.release) (omega (arith, is.has_window))))
-      | inr not_now ↦ rw not_now (omega arith)
-    ]
+    term_enough k = grind (arith, cases_Bool, up_enough)
 
     pub terms_enough : units_wanted jobs grid j ≤ sum_below (length (stretches jobs)) live_term
     terms_enough =
@@ -114,15 +111,7 @@ terms_numbered jobs grid stretch =
 
 -- what is live at its start begins no earlier and is due later
 live_from : (stretch : Piece) (job : Job) → is_live stretch job ≡ true → (job.release ≤ stretch.from) × (stretch.from < job.deadline)
-live_from stretch job live = elim (cases_lt stretch.from job.release) [
-  | inl early ↦ let not_live : is_live stretch job ≡ false = rw (lt-leb job.release stretch.from early) refl in absurd (true≢false (sym live ∙ not_live))
-  | inr released ↦ elim (cases_lt stretch.from job.deadline) [
-    | inl due ↦ (released, due)
-    | inr over ↦
-        let not_live : is_live stretch job ≡ false = rw (le-leb job.release stretch.from released, le-ltb stretch.from job.deadline over) refl in
-        absurd (true≢false (sym live ∙ not_live))
-  ]
-]
+live_from stretch job live = grind (arith, cases_lt, le-leb, le-ltb, lt-leb, true≢false)
 
 module _ (jobs : List Job) (grid : ℕ) (are : All IsJob jobs) (from to : ℕ) where
   abbrev confined : ℕ → Bool

@@ -32,10 +32,7 @@ end_pushed pieces piece =
     subst P (sym last) (ap (λ (x : Piece). x.to) (get_or-append_seam pieces piece [] no_piece))
 
 pub one_covered : (piece : Piece) (time : ℕ) → Covers (piece ∷ []) time ↔ IsInPiece time piece
-one_covered piece time = (
-  λ found. elim ((Covers-cons piece [] time).0 found) [ inl here ↦ here | inr none ↦ absurd (omega (arith, none.2)) ],
-  λ here. (Covers-cons piece [] time).1 (inl here),
-)
+one_covered piece time = grind (arith, Covers-cons)
 
 pub pushed : (pieces : List Piece) (piece : Piece) → AreSeparate pieces → (1 ≤ length pieces → end_of pieces < piece.from) → piece.from < piece.to → IsPiece piece →
     IsExtended pieces (pieces ++ piece ∷ []) piece
@@ -54,10 +51,7 @@ pushed pieces piece separate after forward limit = record {
 -- # A piece that touches the last one
 
 pub apart_from : (pieces : List Piece) (piece : Piece) → end_of pieces ≤ piece.from → ¬ (Touches pieces piece) → 1 ≤ length pieces → end_of pieces < piece.from
-apart_from pieces piece after apart some = elim (cases_lt (end_of pieces) piece.from) [
-  | inl before ↦ before
-  | inr not_before ↦ absurd (apart (record { some = some; meets = omega arith }))
-]
+apart_from pieces piece after apart some = grind (arith, cases_lt)
 
 abbrev extend_last : ℕ → List Piece → List Piece
 extend_last to [] = []

@@ -46,13 +46,7 @@ apart_passes one other (inl before) = and_right _ _ (le-ltb other.from one.to be
 apart_passes one other (inr after) = and_left _ _ (le-ltb one.from other.to after)
 
 apart_of : (one other : Piece) → other.from < other.to → one.from ≤ other.from → overlaps one other ≡ false → one.to ≤ other.from
-apart_of one other forward order none = elim (cases_lt other.from one.to) [
-  | inl before ↦
-      let both : overlaps one other ≡ true =
-      ap (λ (x : Bool). x && nat_lt other.from one.to) (lt-ltb one.from other.to (omega arith)) ∙ ap (λ (x : Bool). true && x) (lt-ltb other.from one.to before) in
-      absurd (false≢true (sym none ∙ both))
-  | inr not_before ↦ not_before
-]
+apart_of one other forward order none = grind (arith, cases_lt, false≢true, lt-ltb)
 
 later_begin : (start : ℕ) (pieces : List Piece) → PiecesFrom start pieces → AllByRecursion (λ piece. start ≤ piece.from) pieces
 later_begin start [] run = tt
@@ -149,10 +143,7 @@ not_counted number (x ∷ xs) none =
     )
 
 eqb_both : (x y : ℕ) → eqb x y ≡ eqb y x
-eqb_both x y = elim (cases_eq x y) [
-  | inl same ↦ eq-eqb x y same ∙ sym (eq-eqb y x (sym same))
-  | inr other ↦ ne_eqb x y other ∙ sym (ne_eqb y x (λ same. other (sym same)))
-]
+eqb_both x y = grind (arith, cases_eq, eq-eqb, ne_eqb)
 
 -- rising members of both lists, of which none stands in both, rise once they are sorted
 pub sorted_members : (first second sorted : List ℕ) → IsStrictlyIncreasing first → IsStrictlyIncreasing second → All (λ number. count number first ≡ 0) second →

@@ -16,11 +16,7 @@ pub record Walked (placed : List Placed) (levels end i : ℕ) : Type 0 where
   pub apart : (time : ℕ) → holding levels time (take i placed) ≤ 1
 
 pub walk_begins : (placed : List Placed) (levels : ℕ) → Walked placed levels 0 0
-walk_begins placed levels = record {
-  ended = λ j before low. absurd (omega (arith, before));
-  last = λ some. absurd (omega (arith, some));
-  apart = λ time. omega arith;
-}
+walk_begins placed levels = grind (arith)
 
 -- a piece of a later level is passed by
 pub walked_by : (placed : List Placed) (levels end i : ℕ) → i < length placed → levels ≤ (placed_at placed i).level → Walked placed levels end i →

@@ -6,9 +6,7 @@ use Rattle.std.proofs.lemmas.List.Sums.{sum_by-cons, get_or-le-sum_by, sum_by_mo
 
 -- one that passes is counted
 pub counted_at : {X : Type 0} (p : X → Bool) (xs : List X) (i : ℕ) (d : X) → i < length xs → p (get_or xs i d) ≡ true → 1 ≤ count_by p xs
-counted_at p xs i d within passes =
-    let part = get_or-le-sum_by (λ x. cond (p x) 1 0) xs i d within in
-    rw passes at part
+counted_at p xs i d within passes = grind (arith, get_or-le-sum_by)
 
 -- where some are counted, one passes
 pub counted_where : {X : Type 0} (p : X → Bool) (xs : List X) (d : X) → 1 ≤ count_by p xs →

@@ -1,5 +1,5 @@
 -- Where jobs stand when one more member is met.
-use Rattle.std.proofs.Common.{◌≡◌, ◌≢◌, ℕ, ◌+◌, ◌<◌, ◌==◌, List, [], ◌∷◌, ◌++◌, length, get_or, set, take, ap, sym, ◌∙◌, arith, inl, inr, cond, append_assoc, add-zero, add-one, length-set, get_or-set_same, get_or-set_other}
+use Rattle.std.proofs.Common.{◌≡◌, ◌≢◌, ℕ, ◌+◌, ◌<◌, List, [], ◌∷◌, ◌++◌, length, get_or, set, take, ap, sym, ◌∙◌, arith, inl, inr, append_assoc, add-zero, add-one, length-set, get_or-set_same, get_or-set_other}
 use Rattle.std.proofs.lemmas.List.{take_more}
 use Rattle.std.proofs.lemmas.List.Sums.{sum_by_push}
 use Rattle.std.proofs.lemmas.Bool.{cases_eq, ne_eqb}
@@ -12,9 +12,7 @@ use Rattle.yds_checker.specs.Home.{IsHome, home_at, AreHomes}
 
 -- and another isn't
 pub count-other : (job x : ℕ) (members : List ℕ) → job ≢ x → count job (members ++ x ∷ []) ≡ count job members
-count-other job x members other =
-    sum_by_push (λ other. cond (job == other) 1 0) members x
-    ∙ (ap {B = ℕ} (λ b. count job members + cond b 1 0) (ne_eqb job x other) ∙ add-zero (count job members))
+count-other job x members other = grind (arith, add-zero, ne_eqb, sum_by_push)
 
 -- where a job stands depends on how often it is counted
 home_same : (levels : List Level) (members more : List ℕ) (job : ℕ) (home : Home) → count job more ≡ count job members →

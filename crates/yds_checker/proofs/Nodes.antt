@@ -1,5 +1,5 @@
 -- Nodes of which each is the greater of the two below it.
-use Rattle.std.proofs.Common.{◌≡◌, ◌≢◌, ℕ, ◌+◌, ◌-◌, ◌*◌, ◌/◌, ◌%◌, ◌<◌, ◌≤◌, List, [], ◌∷◌, ◌++◌, length, max, min, set, arith, inl, inr, subst, sym, get_or-set_other, get_or-set_same}
+use Rattle.std.proofs.Common.{◌≡◌, ℕ, ◌+◌, ◌-◌, ◌*◌, ◌/◌, ◌%◌, ◌<◌, ◌≤◌, List, [], ◌∷◌, ◌++◌, length, max, min, set, arith, inl, inr, subst, sym, get_or-set_other, get_or-set_same}
 use Rattle.std.specs.Prelude.{slice_index}
 use Rattle.std.proofs.lemmas.Bool.{cases_lt}
 use Rattle.std.proofs.lemmas.List.{get_or_append_left, get_or_push}
@@ -36,12 +36,7 @@ within_below nodes leaves left right bound raised some order few first last abov
 -- and back
 pub within_above : (nodes : List ℕ) (leaves left right bound : ℕ) → AreRaised nodes leaves → 1 ≤ left → left < right → right ≤ length nodes →
     AreWithin nodes left right bound → AreWithin nodes ((left + 1) / 2) (right / 2) bound
-within_above nodes leaves left right bound raised some order few all k from to =
-    let size = raised.size in
-    let great = raised.greater k (omega arith) (omega arith) in
-    let one = all (2 * k) (omega arith) (omega arith) in
-    let other = all (2 * k + 1) (omega arith) (omega arith) in
-    omega (arith, great, one, other)
+within_above nodes leaves left right bound raised some order few all k from to = grind (arith)
 
 -- one node more is the greater of the two below it
 pub raised_more : (nodes : List ℕ) (leaves k high : ℕ) → length nodes ≡ leaves + leaves → 1 ≤ k → k < leaves →
@@ -49,18 +44,7 @@ pub raised_more : (nodes : List ℕ) (leaves k high : ℕ) → length nodes ≡ 
     ((j : ℕ) → k + 1 ≤ j → 1 ≤ j → j < leaves → slice_index nodes j ≡ max (slice_index nodes (2 * j)) (slice_index nodes (2 * j + 1))) →
     (j : ℕ) → k ≤ j → 1 ≤ j → j < leaves →
     slice_index (set nodes k high) j ≡ max (slice_index (set nodes k high) (2 * j)) (slice_index (set nodes k high) (2 * j + 1))
-raised_more nodes leaves k high size some within is done j from positive to =
-    let left : 2 * j ≢ k = omega arith in
-    let right : 2 * j + 1 ≢ k = omega arith in
-    rw (get_or-set_other nodes k (2 * j) high 0 left, get_or-set_other nodes k (2 * j + 1) high 0 right) (elim (cases_lt k j) [
-      | inl later ↦
-          let other : j ≢ k = omega arith in
-          rw (get_or-set_other nodes k j high 0 other) (done j (omega arith) positive to)
-      | inr here ↦
-          let same : j ≡ k = omega arith in
-          let inside : k < length nodes = omega arith in
-          rw same (rw (get_or-set_same nodes k high 0 inside) is)
-    ])
+raised_more nodes leaves k high size some within is done j from positive to = grind (arith, cases_lt, get_or-set_other, get_or-set_same)
 
 -- half a number, rounded up
 pub half_up : (n : ℕ) → n / 2 + min 1 (n % 2) ≡ (n + 1) / 2

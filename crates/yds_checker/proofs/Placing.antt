@@ -20,13 +20,7 @@ placed_in level piece = record { from = piece.from; to = piece.to; level = level
 
 -- no piece is placed yet
 pub none_placed : (placed : List Placed) (level : ℕ) → PlacesMore placed placed [] level
-none_placed placed level = record {
-  each = λ levels low each. each;
-  same = λ levels time. elim (cases_Bool (nat_lt level levels)) [
-    | inl so ↦ rw so (omega arith)
-    | inr not_so ↦ rw not_so (omega arith)
-  ];
-}
+none_placed placed level = grind (arith, cases_Bool)
 
 -- the next piece of a level
 pub next_placed : (level : ℕ) (old now : List Placed) (pieces : List Piece) (i : ℕ) (piece : Piece) → i < length pieces → piece ≡ get_or pieces i piece →

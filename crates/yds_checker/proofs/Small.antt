@@ -1,11 +1,11 @@
 -- Of slots that stand, a slot's work is at most its job's.
-use Rattle.std.proofs.Common.{◌≡◌, ℕ, ◌+◌, ◌*◌, ◌/◌, ◌<◌, ◌≤◌, ◌==◌, List, length, sym, refl, arith, None, cond}
+use Rattle.std.proofs.Common.{◌≡◌, ℕ, ◌+◌, ◌*◌, ◌/◌, ◌<◌, ◌≤◌, List, length, sym, arith, None}
 use Rattle.std.proofs.lemmas.List.{length-map}
 use Rattle.std.proofs.lemmas.List.Sums.{get_or-le-sum_by}
 use Rattle.std.proofs.lemmas.Bool.{eq-eqb}
 use Rattle.std.proofs.Math.Nat.{le_of_mul-le-mul_right}
 use Rattle.yds_model.specs.Job.{Job, job_at}
-use Rattle.yds_model.specs.Slot.{WrittenSlot, WholeSlot, no_slot, slot_at, work_given, no_written_slot, slot_at_scale, slots_at, written_slot_at}
+use Rattle.yds_model.specs.Slot.{WrittenSlot, WholeSlot, slot_at, work_given, no_written_slot, slot_at_scale, slots_at, written_slot_at}
 use Rattle.yds_model.specs.Audit.{AllStand, AreSlots}
 use Rattle.yds_model.proofs.Scale.{scale_exists}
 use Rattle.yds_model.proofs.Runs.{slot_read}
@@ -13,10 +13,7 @@ use Rattle.yds_model.proofs.Verdicts.{stand_is_feasible}
 
 -- a slot's work at a scale is at most what its job is given
 one_given : (slots : List WholeSlot) (i : ℕ) (slot : WholeSlot) → i < length slots → slot ≡ slot_at slots i → slot.work ≤ work_given slots slot.job
-one_given slots i slot within is =
-    let part = get_or-le-sum_by (λ (one : WholeSlot). cond (slot.job == one.job) one.work 0) slots i no_slot within in
-    let read = rw (← is) at part in
-    rw (eq-eqb slot.job slot.job refl) at read
+one_given slots i slot within is = grind (arith, eq-eqb, get_or-le-sum_by)
 
 -- a whole part times the scale is at most the value
 whole_small : (whole more work scale : ℕ) → 1 ≤ scale → whole * scale + more ≤ work * scale → whole ≤ work

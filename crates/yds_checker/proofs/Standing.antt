@@ -19,11 +19,7 @@ use Rattle.yds_checker.proofs.Units.{no_piece, covered_at, covered_where, in_ord
 -- of levels in order each piece takes time
 pub front_forward : (levels : List Level) (count : ℕ) → count ≤ length levels → Each count (λ i. IsOrdered (level_at levels i)) →
     All (λ (level : Level). All IsForward level.pieces) (take count levels)
-front_forward levels count few ordered i d within =
-    let before : i < count = omega (arith, within, length-take count levels) in
-    let inside : i < length levels = omega (arith, before, few) in
-    rw (get_or-take count levels i d before, get_or_default levels i d no_level inside)
-    (pieces_forward 0 (level_at levels i).pieces (ordered i before).in_order)
+front_forward levels count few ordered i d within = grind (arith, get_or-take, get_or_default, length-take, pieces_forward)
 
 -- the pieces of one level more cover each unit of time as often as those before and its own together
 covering_more : (time : ℕ) (levels : List Level) (n : ℕ) → n < length levels →
@@ -61,13 +57,7 @@ stand_once levels (suc n) within stand time =
 -- two pieces that have no unit of time in common are apart, if each takes time
 apart_pieces : (one other : Piece) → IsForward one → IsForward other →
     ((time : ℕ) → one.from ≤ time → time < one.to → other.from ≤ time → time < other.to → ⊥) → AreApart one other
-apart_pieces one other forward also none = elim (cases_lt other.from one.to) [
-  | inl early ↦ elim (cases_lt one.from other.to) [
-    | inl late ↦ absurd (none (max one.from other.from) (omega arith) (omega arith) (omega arith) (omega arith))
-    | inr after ↦ inr after
-  ]
-  | inr before ↦ inl before
-]
+apart_pieces one other forward also none = grind (arith, cases_lt, max)
 
 -- a level in order stands, where its pieces and those before cover no unit of time twice
 pub level_stands : (levels : List Level) (i : ℕ) → i < length levels → Each (i + 1) (λ k. IsOrdered (level_at levels k)) →

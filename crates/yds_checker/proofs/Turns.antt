@@ -32,31 +32,17 @@ run_in_turn levels placed run = record {
 
 -- a place up to another has no later end
 ends_rise_at : (placed : List Placed) (i j : ℕ) → AreInTurn placed → i ≤ j → j < length placed → (placed_at placed i).to ≤ (placed_at placed j).to
-ends_rise_at placed i j turn order within = elim (cases_lt i j) [
-  | inl before ↦ omega (arith, turn.later i j before within, turn.forward j within)
-  | inr same ↦
-      let one : i ≡ j = omega arith in
-      rw one (omega arith)
-]
+ends_rise_at placed i j turn order within = grind (arith, cases_lt)
 
 starts_rise_at : (placed : List Placed) (i j : ℕ) → AreInTurn placed → i ≤ j → j < length placed → (placed_at placed i).from ≤ (placed_at placed j).from
-starts_rise_at placed i j turn order within = elim (cases_lt i j) [
-  | inl before ↦ omega (arith, turn.later i j before within, turn.forward i (omega arith))
-  | inr same ↦
-      let one : i ≡ j = omega arith in
-      rw one (omega arith)
-]
+starts_rise_at placed i j turn order within = grind (arith, cases_lt)
 
 -- so those that have ended stand in front, and those that have begun
 pub ends_partition : (placed : List Placed) (time : ℕ) → AreInTurn placed → IsPartitionedBy (λ piece. nat_le piece.to time) placed
-ends_partition placed time turn =
-    IsPartitionedBy-leb (λ (piece : Placed). piece.to) placed time (λ i j d order within.
-    rw (get_or_default placed i d no_placed (omega arith), get_or_default placed j d no_placed within) (ends_rise_at placed i j turn order within))
+ends_partition placed time turn = grind (arith, IsPartitionedBy-leb, ends_rise_at, get_or_default)
 
 pub starts_partition : (placed : List Placed) (time : ℕ) → AreInTurn placed → IsPartitionedBy (λ piece. nat_lt piece.from time) placed
-starts_partition placed time turn =
-    IsPartitionedBy-ltb (λ (piece : Placed). piece.from) placed time (λ i j d order within.
-    rw (get_or_default placed i d no_placed (omega arith), get_or_default placed j d no_placed within) (starts_rise_at placed i j turn order within))
+starts_partition placed time turn = grind (arith, IsPartitionedBy-ltb, get_or_default, starts_rise_at)
 
 -- what a search for a window finds: the first piece that hasn't ended by its start, and the first that hasn't begun by its end
 pub record Around (placed : List Placed) (from to first end : ℕ) : Type 0 where
@@ -69,22 +55,11 @@ pub record Around (placed : List Placed) (from to first end : ℕ) : Type 0 wher
 pub around_found : (placed : List Placed) (from to first end : ℕ) → end ≤ length placed →
     IsPartitionPoint (λ piece. nat_le piece.to from ≡ true) (λ piece. nat_le piece.to from ≡ false) placed first →
     IsPartitionPoint (λ piece. nat_lt piece.from to ≡ true) (λ piece. nat_lt piece.from to ≡ false) placed end → Around placed from to first end
-around_found placed from to first end bound ended begun = record {
-  bound = bound;
-  ended = λ i before within. leb-true (placed_at placed i).to from (ended.0 i no_placed (omega arith) before);
-  lasts = λ i after within. leb-false (placed_at placed i).to from (ended.1 i no_placed after within);
-  begun = λ i before within. ltb-true (placed_at placed i).from to (begun.0 i no_placed (omega arith) before);
-  begins = λ i after within. ltb-false (placed_at placed i).from to (begun.1 i no_placed after within);
-}
+around_found placed from to first end bound ended begun = grind (arith, leb-false, leb-true, ltb-false, ltb-true)
 
 -- each of pieces that are joined is of the level or of an earlier one
 low_in : (placed : List Placed) (level first end i : ℕ) → first ≤ i → i < end → AreJoined placed level first end → (placed_at placed i).level < level + 1
-low_in placed level first end i after before joined = elim (cases_lt i (end - 1)) [
-  | inl inside ↦ omega (arith, (joined.joins i after inside).low)
-  | inr reached ↦
-      let last : i ≡ end - 1 = omega arith in
-      rw last (omega (arith, joined.last))
-]
+low_in placed level first end i after before joined = grind (arith, cases_lt)
 
 -- pieces that are joined hold each unit of time from the start up to the end of one of them
 joined_hold : (placed : List Placed) (level from first end n : ℕ) → first + n < end → end ≤ length placed → (placed_at placed first).from ≤ from →

@@ -24,15 +24,11 @@ abbrev pub Holds : ℕ → ℕ → Placed → Type 0
 Holds levels time piece = (piece.level < levels) × ((piece.from ≤ time) × (time < piece.to))
 
 pub holds_decides : (levels time : ℕ) (piece : Placed) → Decides (nat_lt piece.level levels && has_unit time piece.from piece.to) (Holds levels time piece)
-holds_decides levels time piece =
-    Decides-and (nat_lt piece.level levels) (has_unit time piece.from piece.to) (Decides-ltb piece.level levels)
-    (unit_decides time piece.from piece.to)
+holds_decides levels time piece = grind (arith, Decides-and, Decides-ltb, unit_decides)
 
 -- a unit of time in a piece is counted
 pub held_at : (levels time i : ℕ) (placed : List Placed) → i < length placed → Holds levels time (placed_at placed i) → 1 ≤ holding levels time placed
-held_at levels time i placed within holds =
-    counted_at (λ (piece : Placed). nat_lt piece.level levels && has_unit time piece.from piece.to) placed i no_placed within
-    ((holds_decides levels time (placed_at placed i)).1 holds)
+held_at levels time i placed within holds = grind (arith, counted_at, holds_decides)
 
 -- one that is counted lies in a piece
 pub held_where : (levels time : ℕ) (placed : List Placed) → 1 ≤ holding levels time placed →
@@ -44,9 +40,7 @@ held_where levels time placed some =
 -- in two pieces it is counted twice
 pub held_twice : (levels time i j : ℕ) (placed : List Placed) → i < j → j < length placed → Holds levels time (placed_at placed i) →
     Holds levels time (placed_at placed j) → 2 ≤ holding levels time placed
-held_twice levels time i j placed order within first second =
-    counted_twice (λ (piece : Placed). nat_lt piece.level levels && has_unit time piece.from piece.to) placed i j no_placed order within
-    ((holds_decides levels time (placed_at placed i)).1 first) ((holds_decides levels time (placed_at placed j)).1 second)
+held_twice levels time i j placed order within first second = grind (arith, counted_twice, holds_decides)
 
 -- in none it isn't counted
 pub unheld : (levels time : ℕ) (placed : List Placed) → ((i : ℕ) → i < length placed → Holds levels time (placed_at placed i) → ⊥) →
@@ -57,17 +51,7 @@ unheld levels time placed none =
 
 -- of the pieces of fewer levels no more hold it
 pub held_in_fewer : (few many time : ℕ) (placed : List Placed) → few ≤ many → holding few time placed ≤ holding many time placed
-held_in_fewer few many time placed less =
-    sum_by-le-sum_by (λ (piece : Placed). cond (nat_lt piece.level few && has_unit time piece.from piece.to) 1 0)
-    (λ (piece : Placed). cond (nat_lt piece.level many && has_unit time piece.from piece.to) 1 0) placed
-    (λ (piece : Placed). elim (cases_Bool (nat_lt piece.level few && has_unit time piece.from piece.to)) [
-      | inl so ↦
-          let holds = (holds_decides few time piece).0 so in
-          let also : Holds many time piece = (omega (arith, holds.0, less), holds.1) in
-          let passes = (holds_decides many time piece).1 also in
-          rw (so, passes) (omega arith)
-      | inr not_so ↦ rw not_so (omega arith)
-    ])
+held_in_fewer few many time placed less = grind (arith, cases_Bool, holds_decides, sum_by-le-sum_by)
 
 pub apart_in_fewer : (few many : ℕ) (placed : List Placed) → few ≤ many → AreApartBelow many placed → AreApartBelow few placed
 apart_in_fewer few many placed less apart time = omega (arith, held_in_fewer few many time placed less, apart time)
@@ -79,9 +63,7 @@ apart_in_none placed time = omega (arith, unheld 0 time placed (λ i within hold
 -- the same of pieces without levels
 pub covered_at : (time i : ℕ) (pieces : List Piece) (d : Piece) → i < length pieces → (get_or pieces i d).from ≤ time → time < (get_or pieces i d).to →
     1 ≤ covering time pieces
-covered_at time i pieces d within begun before =
-    counted_at (λ (piece : Piece). has_unit time piece.from piece.to) pieces i d within
-    ((unit_decides time (get_or pieces i d).from (get_or pieces i d).to).1 (begun, before))
+covered_at time i pieces d within begun before = grind (arith, counted_at, unit_decides)
 
 pub covered_where : (time : ℕ) (pieces : List Piece) → 1 ≤ covering time pieces →
     (i : ℕ) × (i < length pieces) × ((get_or pieces i no_piece).from ≤ time) × (time < (get_or pieces i no_piece).to)

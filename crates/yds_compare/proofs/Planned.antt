@@ -198,11 +198,7 @@ module _ (jobs : List Job) (planned : List WrittenSlot) (levels : List Level) (p
 
   -- the loads of the levels
   loads_long : (time : ℕ) → time_of_loads points (level_loads levels time) speed ≡ sum_by cost levels + (time - sum_by (λ level. level.length) levels) * idle_part
-  loads_long time =
-      let term : Load → ℕ = λ load. at load.time load.work in
-      let rest : Load = record { time = time - sum_by (λ level. level.length) levels; work = 0 } in
-      sum_by-append term (map level_load levels) (rest ∷ [])
-      ∙ ap₂ (λ a b. a + b) (sum_by-map level_load term levels) (sum_by-cons term rest [] ∙ omega (arith, idle_at rest.time))
+  loads_long time = grind (arith, ap₂, idle_at, sum_by-append, sum_by-cons, sum_by-map)
 
   pub plan_as_long : 1 * all_time_at jobs points scale (slots_at scale planned) speed
       ≡ scale * time_of_loads points (level_loads levels (sum_by length_of (stretches jobs))) speed
@@ -228,12 +224,4 @@ levels_held points levels time slow =
 
 -- and they are together as long as the time
 pub level_times : (levels : List Level) (time : ℕ) → sum_by (λ level. level.length) levels ≤ time → sum_by (λ load. load.time) (level_loads levels time) ≡ time
-level_times levels time fits =
-    let rest : Load = record { time = time - sum_by (λ level. level.length) levels; work = 0 } in
-    omega (
-      arith,
-      sum_by-append (λ (load : Load). load.time) (map level_load levels) (rest ∷ []),
-      sum_by-map level_load (λ (load : Load). load.time) levels,
-      sum_by-cons (λ (load : Load). load.time) rest [],
-      fits,
-    )
+level_times levels time fits = grind (arith, sum_by-append, sum_by-cons, sum_by-map)

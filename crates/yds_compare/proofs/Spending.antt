@@ -1,5 +1,5 @@
 -- What loads spend, by the shares of each.
-use Rattle.std.proofs.Common.{◌≡◌, ℕ, ◌+◌, ◌*◌, ◌/◌, ◌%◌, ◌<◌, ◌≤◌, List, [], ◌∷◌, ◌++◌, length, get_or, take, refl, sym, ap, ap₂, ◌∙◌, arith}
+use Rattle.std.proofs.Common.{◌≡◌, ℕ, ◌+◌, ◌*◌, ◌/◌, ◌<◌, ◌≤◌, List, [], ◌∷◌, ◌++◌, length, get_or, take, refl, sym, ap, ap₂, ◌∙◌, arith}
 use Rattle.std.specs.Prelude.{sum_by}
 use Rattle.std.specs.List.{All, AllZip}
 use Rattle.std.proofs.lemmas.List.{take_more}
@@ -68,23 +68,11 @@ module _ (points : List Point) (unit : ℕ) (loads : List Load) (shares : List S
   pub next_within : ArePoints points → (all : List Point) → all ≡ points → (i : ℕ) (point : Point) → i < length all → point ≡ get_or all i point → (parts next : ℕ) →
       parts ≡ sum_by (λ point. point.power * time_of_loads points loads point.speed) (take i all) → next ≡ point.power * time_of_loads points loads point.speed →
       parts + next ≤ MAX_POINTS * (MAX_POINT_POWER * (MAX_TIME * (unit * hull_multiple points)))
-  next_within are all same i point within is parts next so_far here =
-      let term : Point → ℕ = λ point. point.power * time_of_loads points loads point.speed in
-      omega (
-        arith,
-        so_far,
-        here,
-        ap term is,
-        sum_by_more_le term all i point within,
-        ap (sum_by term) same,
-        energy_within are,
-      )
+  next_within are all same i point within is parts next so_far here = grind (arith, energy_within, sum_by_more_le)
 
 -- parts of at most so many units have a whole part of at most so many
 pub whole_within : (parts most den : ℕ) → 1 ≤ den → parts ≤ most * den → parts / den ≤ most
-whole_within parts most den some within =
-    let whole : parts / den * den + parts % den ≡ parts = omega arith in
-    le_of_mul-le-mul_right {k = den} (omega (arith, whole, within)) some
+whole_within parts most den some within = grind (arith, le_of_mul-le-mul_right)
 
 -- so many parts are few enough
 pub den_within : (unit multiple : ℕ) → unit ≤ MAX_GRID → multiple ≤ MAX_GAPS → unit * multiple ≤ MAX_GRID * MAX_GAPS

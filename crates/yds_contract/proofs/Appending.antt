@@ -1,11 +1,11 @@
 -- Removed stretches, one put after another, each with the removed time before it.
-use Rattle.std.proofs.Common.{◌≡◌, ℕ, ◌+◌, ◌-◌, ◌<◌, List, [], ◌∷◌, ◌++◌, ◌∙◌, length, take, ap, sym, inl, inr, arith}
+use Rattle.std.proofs.Common.{◌≡◌, ℕ, ◌+◌, ◌-◌, ◌<◌, List, [], ◌∷◌, ◌++◌, ◌∙◌, length, take, ap, sym, arith}
 use Rattle.std.proofs.lemmas.Bool.{cases_lt}
 use Rattle.std.proofs.lemmas.List.{get_or_append_left, get_or_push, length_push, map_push, take_all, take_at, take-append-le, take_more}
 use Rattle.std.proofs.lemmas.List.Sums.{sum_by_push}
 use Rattle.yds_model.specs.Piece.{Piece, total_length}
 use Rattle.yds_contract.specs.declared.removed.Removed.{Removed}
-use Rattle.yds_contract.specs.Removed.{removed_at, no_removed, stretch_of, removed_stretches, AreSummed}
+use Rattle.yds_contract.specs.Removed.{removed_at, removed_stretches, AreSummed}
 use Rattle.yds_contract.specs.Removing.{IsAppended}
 use Rattle.yds_contract.proofs.Cells.{piece_at}
 use Rattle.yds_contract.proofs.Kept.{count, stretch_at}
@@ -28,20 +28,4 @@ total_by_last removed summed some =
 -- one stretch more, with all that is removed before it
 pub appended : (removed : List Removed) (from to before : ℕ) → AreSummed removed → before ≡ total_length (removed_stretches removed) →
     IsAppended removed (record { from = from; to = to }) (removed ++ record { from = from; to = to; before = before } ∷ [])
-appended removed from to before summed is =
-    let next : Removed = record { from = from; to = to; before = before } in
-    let stretches : removed_stretches (removed ++ next ∷ []) ≡ removed_stretches removed ++ stretch_of next ∷ [] = map_push stretch_of removed next in
-    record {
-      stretches = stretches;
-      summed = λ i within. elim (cases_lt i (length removed)) [
-        | inl inside ↦
-            ap (λ (r : Removed). r.before) (get_or_append_left removed (next ∷ []) no_removed i inside)
-            ∙ summed i inside
-            ∙ ap (λ (ps : List Piece). total_length ps) (sym (take-append-le i (removed_stretches removed) (stretch_of next ∷ []) (omega (arith, count removed))) ∙ ap (λ (ps : List Piece). take i ps) (sym stretches))
-        | inr last ↦
-            let here : length removed ≡ i = omega (arith, length_push removed next) in
-            ap (λ (r : Removed). r.before) (get_or_push removed next no_removed i here)
-            ∙ is
-            ∙ ap (λ (ps : List Piece). total_length ps) (sym (take_at (removed_stretches removed) (stretch_of next ∷ []) i (count removed ∙ here)) ∙ ap (λ (ps : List Piece). take i ps) (sym stretches))
-      ];
-    }
+appended removed from to before summed is = grind (arith, cases_lt, count, get_or_append_left, get_or_push, length_push, map_push, take-append-le, take_at)

@@ -30,10 +30,7 @@ data Stands (from to time : ℕ) : Type 0 where
   outside : (time ≤ from) ⊎ (to ≤ time) → Stands from to time
 
 stands : (from to time : ℕ) → Stands from to time
-stands from to time = elim (cases_lt from time) [
-  | inr early ↦ outside (inl early)
-  | inl after ↦ elim (cases_lt time to) [ inl before ↦ inside after before | inr late ↦ outside (inr late) ]
-]
+stands from to time = grind (arith, cases_lt)
 
 cut_run : (start from to : ℕ) (times : List ℕ) (rest : List Piece) → start ≤ from → from < to → PiecesFrom to rest → PiecesFrom start (cut_between from to times ++ rest)
 cut_run start from to [] rest first forward later = (first, forward, later)
@@ -211,20 +208,14 @@ kept_range p (time ∷ times) (suc first) (suc last) order within before inside_
 
 -- rising times are parted by a time
 rises_by : (times : List ℕ) → IsStrictlyIncreasing times → IsNonDecreasingBy (λ (time : ℕ). time) times
-rises_by times rise i j d before within = elim (cases_eq i j) [
-  | inl same ↦ omega (arith, ap (λ (k : ℕ). get_or times k d) same)
-  | inr other ↦ omega (arith, AllPairs-from_increasing times rise i j d (omega arith) within)
-]
+rises_by times rise i j d before within = grind (arith, AllPairs-from_increasing, cases_eq)
 
 pub parted_upto : (times : List ℕ) (time : ℕ) → IsStrictlyIncreasing times → IsPartitionedBy (λ (t : ℕ). nat_le t time) times
 parted_upto times time rise = IsPartitionedBy-leb (λ (t : ℕ). t) times time (rises_by times rise)
 
 -- counts up to two times stand in their order
 pub counts_rise : (times : List ℕ) (after upto first last : ℕ) → after ≤ upto → AreUpto times after first → AreUpto times upto last → first ≤ last
-counts_rise times after upto first last forward one other = elim (cases_lt last first) [
-  | inl less ↦ absurd (omega (arith, one.before last less, other.after last (omega arith) (omega (arith, one.within, less)), forward))
-  | inr more ↦ more
-]
+counts_rise times after upto first last forward one other = grind (arith, cases_lt)
 
 -- the times between them are those that lie between
 pub between_counts : (times : List ℕ) (after upto first last : ℕ) → after ≤ upto → AreUpto times after first → AreUpto times upto last →
@@ -239,21 +230,7 @@ between_counts times after upto first last forward one other =
 -- a time that isn't after the span's begin, in whole time units, or is after its last part, isn't strictly inside it
 pub not_inside : (parts from to time : ℕ) → 1 ≤ parts → from < to → comes_between (from / parts) ((to - 1) / parts) time ≡ false →
     (time * parts ≤ from) ⊎ (to ≤ time * parts)
-not_inside parts from to time some forward off = elim (cases_lt (from / parts) time) [
-  | inr early ↦ inl (omega (arith, mul-le-mul_right parts early, some))
-  | inl later ↦ elim (cases_lt ((to - 1) / parts) time) [
-    | inl past ↦
-        let next : (to - 1) / parts + 1 ≤ time = omega (arith, past) in
-        inr (omega (arith, mul-le-mul_right parts next, some, forward))
-    | inr within ↦ absurd (both_ways (comes_between (from / parts) ((to - 1) / parts) time) off
-        (and_from (nat_lt (from / parts) time) (nat_le time ((to - 1) / parts)) (lt-ltb (from / parts) time later) (le-leb time ((to - 1) / parts) within)))
-  ]
-]
+not_inside parts from to time some forward off = grind (arith, and_from, both_ways, cases_lt, le-leb, lt-ltb, mul-le-mul_right)
 
 pub units_forward : (parts from to : ℕ) → 1 ≤ parts → from < to → from / parts ≤ (to - 1) / parts
-units_forward parts from to some forward = elim (cases_lt ((to - 1) / parts) (from / parts)) [
-  | inr more ↦ more
-  | inl less ↦
-      let next : (to - 1) / parts + 1 ≤ from / parts = omega (arith, less) in
-      absurd (omega (arith, mul-le-mul_right parts next, some, forward))
-]
+units_forward parts from to some forward = grind (arith, cases_lt, mul-le-mul_right)

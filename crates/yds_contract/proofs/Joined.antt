@@ -40,10 +40,7 @@ data Lies (from to : ℕ) (first : Piece) : Type 0 where
   after : from ≤ first.from → to < first.from → Lies from to first
 
 lies : (from to : ℕ) (first : Piece) → Lies from to first
-lies from to first = elim (cases_lt first.from from) [
-  | inl less ↦ before less
-  | inr more ↦ elim (cases_lt to first.from) [ inl beyond ↦ after more beyond | inr within ↦ inside more within ]
-]
+lies from to first = grind (arith, cases_lt)
 
 -- one that lies before all others stays as it is
 joined_first : (from to : ℕ) (rest : List Piece) → from < to → AreApartFrom (suc to) rest → joined from to rest ≡ record { from = from; to = to } ∷ rest

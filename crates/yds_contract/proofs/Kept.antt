@@ -48,12 +48,7 @@ nothing_before removed time kept early = none_begun 0 time (removed_stretches re
 pub before_by : (removed : List Removed) (time k : ℕ) → IsContraction removed → k < length removed → (removed_at removed k).from < time →
     (suc k < length removed → time ≤ (removed_at removed (suc k)).from) →
     removed_before (removed_stretches removed) time ≡ (removed_at removed k).before + (min time (removed_at removed k).to - (removed_at removed k).from)
-before_by removed time k kept within begun next =
-    let last = last_begun 0 time k (removed_stretches removed) kept.apart (omega (arith, count removed)) (omega (arith, from_at removed k within, begun))
-    (λ more. let inside : suc k < length removed = omega (arith, count removed) in omega (arith, next inside, from_at removed (suc k) inside)) in
-    let same : min time (piece_at (removed_stretches removed) k).to - (piece_at (removed_stretches removed) k).from ≡ min time (removed_at removed k).to - (removed_at removed k).from =
-    ap (λ (piece : Piece). min time piece.to - piece.from) (stretch_at removed k within) in
-    omega (arith, last, same, kept.summed k within)
+before_by removed time k kept within begun next = grind (arith, count, from_at, last_begun, min, piece_at, stretch_at)
 
 -- the same, by the number of those that begin before it
 pub before_begun : (removed : List Removed) (time begun : ℕ) → IsContraction removed → AreBegun removed time begun → 1 ≤ begun →
@@ -70,10 +65,7 @@ few_removed removed time kept = omega (arith, few_before 0 time (removed_stretch
 -- what an end in contracted time leaves for all that is removed
 pub end_fits : (removed : List Removed) (end : ℕ) → IsContraction removed → 1 ≤ end → end ≤ place (removed_stretches removed) MAX_TIME →
     end + total_length (removed_stretches removed) ≤ MAX_TIME
-end_fits removed end kept some within = omega (
-  arith,
-  whole_before 0 MAX_TIME (removed_stretches removed) kept.apart (All-weaker IsPiece (λ (piece : Piece). piece.to ≤ MAX_TIME) (λ piece fits. fits.to_in_range) (removed_stretches removed) kept.in_range),
-)
+end_fits removed end kept some within = grind (arith, All-weaker, whole_before)
 
 -- a walk over the gaps between the first i stretches
 pub record Walked (most start end : ℕ) (removed : List Piece) (i from before : ℕ) (pieces : List Piece) : Type 0 where

@@ -1,6 +1,6 @@
 -- The pieces of real time between two places are what isn't removed and has a place there.
 use Rattle.std.proofs.Common.{◌≡◌, ℕ, suc, ◌+◌, ◌-◌, ◌<◌, ◌≤◌, ◌⊎◌, min, max, List, [], ◌∷◌, ◌++◌, ◌∙◌, subst, inl, inr, arith}
-use Rattle.std.specs.Prelude.{◌↔◌, nat_lt}
+use Rattle.std.specs.Prelude.{◌↔◌}
 use Rattle.std.proofs.lemmas.Bool.{cases_lt, cond-true, cond-false, lt-ltb, le-ltb}
 use Rattle.std.proofs.lemmas.List.{append-nil}
 use Rattle.std.proofs.lemmas.List.Sums.{sum_by-append}
@@ -12,10 +12,7 @@ use Rattle.yds_contract.proofs.Cells.{none_covered, apart_weaker, covered_later,
 
 -- one piece, or none
 pub clipped_cases : (from to : ℕ) → ((from < to) × (clipped from to ≡ record { from = from; to = to } ∷ [])) ⊎ ((to ≤ from) × (clipped from to ≡ []))
-clipped_cases from to = elim (cases_lt from to) [
-  | inl some ↦ inl (some, cond-true (nat_lt from to) (record { from = from; to = to } ∷ []) [] (lt-ltb from to some))
-  | inr none ↦ inr (none, cond-false (nat_lt from to) (record { from = from; to = to } ∷ []) [] (le-ltb from to none))
-]
+clipped_cases from to = grind (arith, cases_lt, cond-false, cond-true, le-ltb, lt-ltb)
 
 -- it covers just the time between
 covers_clipped : (from to time : ℕ) → Covers (clipped from to) time ↔ ((from ≤ time) × (time < to))
@@ -29,16 +26,10 @@ covers_clipped from to time = elim (clipped_cases from to) [
 
 -- a piece before others that begin later
 apart_clipped : (start from to later : ℕ) (pieces : List Piece) → start ≤ from → start ≤ later → to < later → AreApartFrom later pieces → AreApartFrom start (clipped from to ++ pieces)
-apart_clipped start from to later pieces first second before apart = elim (clipped_cases from to) [
-  | inl (some, is) ↦ rw is (first, some, apart_weaker (suc to) later pieces (omega arith) apart)
-  | inr (none, is) ↦ rw is (apart_weaker start later pieces second apart)
-]
+apart_clipped start from to later pieces first second before apart = grind (arith, apart_weaker, clipped_cases)
 
 length_clipped : (from to : ℕ) → total_length (clipped from to) ≡ to - from
-length_clipped from to = elim (clipped_cases from to) [
-  | inl (some, is) ↦ rw is (omega arith)
-  | inr (none, is) ↦ rw is (omega arith)
-]
+length_clipped from to = grind (arith, clipped_cases)
 
 -- what isn't removed and has a place between the two, where so much is removed before these stretches
 abbrev IsBetween : ℕ → ℕ → ℕ → List Piece → ℕ → Type 0

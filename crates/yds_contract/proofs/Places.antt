@@ -100,10 +100,4 @@ place_removes start end removed changed apart forward removes (suc time) =
 -- some time is left between two places that don't both lie in the interval
 pub window_left : (start end from to : ℕ) → start < end → from < to → (start ≤ from → to ≤ end → ⊥) →
     min from start + (from - end) < min to start + (to - end)
-window_left start end from to forward window outside = elim (cases_lt from start) [
-  | inl before ↦ omega arith
-  | inr within ↦ elim (cases_lt end to) [
-    | inl after ↦ omega arith
-    | inr inside ↦ absurd (outside within inside)
-  ]
-]
+window_left start end from to forward window outside = grind (arith, cases_lt)

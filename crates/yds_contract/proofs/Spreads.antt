@@ -1,5 +1,5 @@
 -- Slots over spans that are cut at events.
-use Rattle.std.proofs.Common.{◌≡◌, ℕ, suc, ◌+◌, ◌-◌, ◌*◌, ◌/◌, ◌%◌, ◌<◌, ◌≤◌, ◌⊎◌, List, [], ◌∷◌, ◌++◌, ◌∙◌, length, get_or, take, drop, map, min, max, ap, sym, subst, inl, inr, add-one, arith, refl}
+use Rattle.std.proofs.Common.{◌≡◌, ℕ, suc, ◌+◌, ◌-◌, ◌*◌, ◌/◌, ◌<◌, ◌≤◌, ◌⊎◌, List, [], ◌∷◌, ◌++◌, ◌∙◌, length, get_or, take, drop, map, min, max, ap, sym, subst, inl, inr, add-one, arith, refl}
 use Rattle.std.specs.List.{All}
 use Rattle.std.specs.Int.{◌∣◌}
 use Rattle.std.specs.List.Sorted.{IsStrictlyIncreasing}
@@ -35,9 +35,7 @@ parts_back parts n some =
     eq_of_mul-eq-mul_right parts some (at_scale parts (of_parts n parts)) n (of_parts_at parts n parts divides)
 
 span_back : (job : ℕ) (speed : Quotient) (span : Piece) → 1 ≤ speed.num → span_of speed.num (slot_over job speed span) ≡ span
-span_back job speed span some =
-    ap (λ (n : ℕ). let p : Piece = record { from = n; to = at_scale speed.num (of_parts span.to speed.num) } in p) (parts_back speed.num span.from some)
-    ∙ ap (λ (n : ℕ). let p : Piece = record { from = span.from; to = n } in p) (parts_back speed.num span.to some)
+span_back job speed span some = grind (arith, parts_back)
 
 spans_back : (job : ℕ) (speed : Quotient) (spans : List Piece) → 1 ≤ speed.num → spans_of speed.num (map (slot_over job speed) spans) ≡ spans
 spans_back job speed [] some = refl
@@ -111,10 +109,7 @@ cut_kept speed job before start to times i from time slots within is outside so_
 }
 
 clipped_limit : (most from to : ℕ) → to ≤ most → All (λ piece. piece.to ≤ most) (clipped from to)
-clipped_limit most from to fits = elim (clipped_cases from to) [
-  | inl (some, is) ↦ subst (All (λ (p : Piece). p.to ≤ most)) (sym is) (All-cons (λ (p : Piece). p.to ≤ most) (record { from = from; to = to }) [] fits (All-nil (λ (p : Piece). p.to ≤ most)))
-  | inr (none, is) ↦ subst (All (λ (p : Piece). p.to ≤ most)) (sym is) (All-nil (λ (p : Piece). p.to ≤ most))
-]
+clipped_limit most from to fits = grind (arith, All-cons, All-nil, clipped_cases)
 
 -- no piece ends later than what leaves room for all that is removed
 pub pieces_limit : (most start end from before : ℕ) (removed : List Piece) → end + before + total_length removed ≤ most → All (λ piece. piece.to ≤ most) (pieces_after start end from before removed)
@@ -135,10 +130,7 @@ less_work short long den some less = (le-div_iff_mul-le some).1 (omega (arith, d
 
 -- the whole part of so many parts
 of_parts_whole : (p den : ℕ) → (of_parts p den).whole ≡ p / den
-of_parts_whole p den = elim (cases_eq (p % den) 0) [
-  | inl none ↦ rw (eq-eqb (p % den) 0 none) refl
-  | inr other ↦ rw (ne_eqb (p % den) 0 other) refl
-]
+of_parts_whole p den = grind (arith, cases_eq, eq-eqb, ne_eqb)
 
 -- a part of a slot's time has no more work than the slot
 work_within : (long short den most : ℕ) (work : Fraction) → 1 ≤ den → work ≡ of_parts long den → work.whole ≤ most → short ≤ long → short / den ≤ most
@@ -148,11 +140,7 @@ work_within long short den most work some is fits less =
 -- the spans that are found in parts
 pub spans_same : (removed : List Piece) (parts start end p s e : ℕ) (spans : List Piece) → p ≡ parts → s ≡ start → e ≡ end →
     spans ≡ pieces_after s e 0 0 (map (piece_in_parts p) removed) → spans ≡ pieces_after start end 0 0 (map (piece_in_parts parts) removed)
-spans_same removed parts start end p s e spans same_p same_s same_e is =
-    is
-    ∙ ap (λ (n : ℕ). pieces_after s e 0 0 (map (piece_in_parts n) removed)) same_p
-    ∙ ap (λ (n : ℕ). pieces_after n e 0 0 (map (piece_in_parts parts) removed)) same_s
-    ∙ ap (λ (n : ℕ). pieces_after start n 0 0 (map (piece_in_parts parts) removed)) same_e
+spans_same removed parts start end p s e spans same_p same_s same_e is = grind (arith)
 
 pub spans_found : (removed : List Piece) (parts start end : ℕ) (spans : List Piece) → AreApartFrom 0 removed → 1 ≤ parts →
     spans ≡ pieces_after start end 0 0 (map (piece_in_parts parts) removed) → ArePieces (map (piece_in_parts parts) removed) start end spans

@@ -1,5 +1,5 @@
 -- A text that is put into a sink in parts, each of the lines of some items; and the lines of a part, from the last to the first.
-use Rattle.std.proofs.Common.{◌≡◌, ℕ, suc, ◌-◌, ◌<◌, ◌≤◌, List, [], ◌∷◌, ◌++◌, ◌∙◌, ap, sym, subst, append_assoc, Option, Result, Ok, Err, IsErr, refl, length, take, drop, get_or, drop-cons, take-append-drop, arith}
+use Rattle.std.proofs.Common.{◌≡◌, ℕ, ◌-◌, ◌≤◌, List, [], ◌∷◌, ◌++◌, ◌∙◌, ap, sym, subst, append_assoc, Option, Result, Ok, Err, IsErr, refl, length, take, drop, get_or, drop-cons, take-append-drop, arith}
 use Rattle.std.specs.Prelude.{flat_map}
 use Rattle.std.specs.List.{All}
 use Rattle.std.proofs.lemmas.Grind.{flat_map-append}
@@ -63,8 +63,4 @@ all_of_others P xs n is all = subst (All P) (sym is) (All-drop P n xs all)
 -- the lines of the item before stand before those of the items from a place on
 pub lines_before : {X : Type 0} (lines : X → List ℕ) (xs : List X) (place : ℕ) (d x : X) → 1 ≤ place → place ≤ length xs → get_or xs (place - 1) d ≡ x
     → lines x ++ flat_map lines (drop place xs) ≡ flat_map lines (drop (place - 1) xs)
-lines_before lines xs place d x some within item =
-    let back : suc (place - 1) ≡ place = omega arith in
-    let inside : place - 1 < length xs = omega arith in
-    ap (λ y. lines y ++ flat_map lines (drop place xs)) (sym item) ∙ ap (λ p. lines (get_or xs (place - 1) d) ++ flat_map lines (drop p xs)) (sym back)
-    ∙ sym (ap (flat_map lines) (drop-cons xs (place - 1) d inside))
+lines_before lines xs place d x some within item = grind (arith, drop-cons)

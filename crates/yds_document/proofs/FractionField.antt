@@ -1,6 +1,6 @@
 -- A fraction that a field spells is within its limit.
 use Rattle.std.proofs.Common.{◌≡◌, ℕ, ◌≤◌, Bool, true, false, List, Result, Ok, Err, refl, sym, ap, arith}
-use Rattle.std.specs.Prelude.{nat_le, ◌&&◌, if◌then◌else◌}
+use Rattle.std.specs.Prelude.{◌&&◌, if◌then◌else◌}
 use Rattle.std.proofs.lemmas.Bool.{leb-true}
 use Rattle.std.specs.Str.Parse.{digits_value}
 use Rattle.yds_model.specs.declared.number_fault.NumberFault.{NumberFault}
@@ -21,9 +21,7 @@ kept_parts true false few less none x y is = cc
 kept_parts false some few less none x y is = cc
 
 kept_within : (most : ℕ) (x y : Fraction) → kept most x ≡ Ok y → y.whole ≤ most
-kept_within most x y is =
-    let parts = kept_parts (nat_le x.whole most) _ _ _ _ x y is in
-    omega (arith, leb-true x.whole most parts.0, parts.1)
+kept_within most x y is = grind (arith, leb-true)
 
 within_by : (number mixed : Bool) (most : ℕ) (one two y : Fraction) → (if number then kept most one else (if mixed then kept most two else Err faults.BadNumber)) ≡ Ok y → y.whole ≤ most
 within_by true mixed most one two y is = kept_within most one y is

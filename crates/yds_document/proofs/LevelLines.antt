@@ -25,8 +25,4 @@ line_total-drop (level ∷ levels) (suc place) = omega (arith, line_total-drop l
 -- the lines from the place before on
 pub line_total-before : (levels : List Level) (place : ℕ) (level : Level) → 1 ≤ place → place ≤ length levels → level ≡ get_or levels (place - 1) level
     → line_total (drop (place - 1) levels) ≡ line_count level + line_total (drop place levels)
-line_total-before levels place level some within is =
-    let back : suc (place - 1) ≡ place = omega arith in
-    let inside : place - 1 < length levels = omega arith in
-    ap line_total (drop-cons levels (place - 1) level inside) ∙ ap (λ l. line_count l + line_total (drop (suc (place - 1)) levels)) (sym is)
-    ∙ ap (λ p. line_count level + line_total (drop p levels)) back
+line_total-before levels place level some within is = grind (arith, drop-cons)

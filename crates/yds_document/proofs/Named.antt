@@ -1,5 +1,5 @@
 -- Jobs with their names.
-use Rattle.std.proofs.Common.{◌≡◌, ℕ, ◌<◌, ◌≤◌, arith, List, [], get_or, length, ◌∙◌, ap, sym}
+use Rattle.std.proofs.Common.{◌≡◌, ℕ, ◌<◌, ◌≤◌, arith, List, [], get_or, length, ap}
 use Rattle.std.specs.List.{zip}
 use Rattle.std.proofs.lemmas.Slice.Zip.{get_or-zip, length-zip}
 use Rattle.yds_model.specs.Job.{Job}
@@ -8,11 +8,7 @@ use Rattle.yds_model.specs.Document.{name_at}
 -- the name and the row of a job, as they are read from the rows
 pub named_at : (names : List (List ℕ)) (jobs rows : List Job) (i : ℕ) (name : List ℕ) (job : Job) → length names ≡ length jobs → rows ≡ jobs → i < length rows
     → name ≡ name_at names i → job ≡ get_or rows i job → get_or (zip names jobs) i ([], job) ≡ (name, job)
-named_at names jobs rows i name job same are within is_name is_job =
-    let here : i < length jobs = omega (arith, ap length are) in
-    let named : i < length names = omega arith in
-    get_or-zip names jobs i ([], job) named here ∙ ap (λ n. (n, get_or jobs i job)) (sym is_name)
-    ∙ ap (λ j. (name, j)) (ap (λ l. get_or l i job) (sym are) ∙ sym is_job)
+named_at names jobs rows i name job same are within is_name is_job = grind (arith, get_or-zip)
 
 pub named_within : (names : List (List ℕ)) (jobs rows : List Job) (i : ℕ) → length names ≡ length jobs → rows ≡ jobs → i < length rows → i < length (zip names jobs)
 named_within names jobs rows i same are within = omega (arith, length-zip names jobs, ap length are)

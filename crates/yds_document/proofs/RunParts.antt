@@ -1,6 +1,6 @@
 -- Fractions in parts of one tick.
-use Rattle.std.proofs.Common.{◌≡◌, ℕ, ◌*◌, ◌/◌, ◌%◌, ◌≤◌, ◌⊎◌, inl, inr, Bool, true, false, refl, sym, ap, ◌∙◌, arith}
-use Rattle.std.specs.Prelude.{◌==◌, if◌then◌else◌}
+use Rattle.std.proofs.Common.{◌≡◌, ℕ, ◌*◌, ◌/◌, ◌≤◌, ◌⊎◌, inl, inr, Bool, true, false, refl, arith}
+use Rattle.std.specs.Prelude.{if◌then◌else◌}
 use Rattle.std.proofs.Math.Nat.{div-le_of_le-mul}
 use Rattle.yds_model.specs.declared.limits.TheConstants.{MAX_TIME}
 use Rattle.yds_model.specs.Scale.{Fraction, AreAlike, of_whole, of_parts}
@@ -10,19 +10,7 @@ den_of true a b c den = inl refl
 den_of false a b c den = inr refl
 
 pub parts_alike : (x y : Fraction) (p q den : ℕ) → x ≡ of_parts p den → y ≡ of_parts q den → AreAlike x y
-parts_alike x y p q den is other =
-    let one = den_of (p % den == 0) (p / den) (p / den) (p % den) den in
-    let two = den_of (q % den == 0) (q / den) (q / den) (q % den) den in
-    elim one [
-      | inl plain ↦ inr (inl (ap (λ f. f.den) is ∙ plain))
-      | inr mine ↦ elim two [
-        | inl plain ↦ inr (inr (ap (λ f. f.den) other ∙ plain))
-        | inr yours ↦ inl (ap (λ f. f.den) is ∙ mine ∙ sym (ap (λ f. f.den) other ∙ yours))
-      ]
-    ]
+parts_alike x y p q den is other = grind (arith)
 
 pub tick_within : (whole tick ticks : ℕ) → whole ≡ tick / ticks → tick ≤ MAX_TIME * ticks → whole ≤ MAX_TIME
-tick_within whole tick ticks is within =
-    let below : tick ≤ ticks * MAX_TIME = omega arith in
-    let fits : tick / ticks ≤ MAX_TIME = div-le_of_le-mul ticks below in
-    omega arith
+tick_within whole tick ticks is within = grind (arith, div-le_of_le-mul)

@@ -1,9 +1,9 @@
 -- Whether a work is alike with each earlier work of its job: it goes by the job's grain.
-use Rattle.std.proofs.Common.{◌≡◌, ℕ, zero, suc, ◌<◌, ◌≤◌, ◌⊎◌, inl, inr, List, [], ◌∷◌, length, refl, sym, ap, ◌∙◌, arith, Bool, true, false, eqb-true}
+use Rattle.std.proofs.Common.{◌≡◌, ℕ, zero, suc, ◌<◌, ◌⊎◌, inl, inr, List, [], ◌∷◌, length, refl, sym, ap, ◌∙◌, arith, Bool, true, false, eqb-true}
 use Rattle.std.specs.Prelude.{◌==◌, ◌||◌}
 use Rattle.std.proofs.lemmas.Bool.{cases_Bool, eq-eqb, true≢false, false≢true}
 use Rattle.yds_model.specs.Scale.{Fraction}
-use Rattle.yds_model.specs.Slot.{WrittenSlot, written_slot_at, no_written_slot, IsSolid}
+use Rattle.yds_model.specs.Slot.{WrittenSlot, written_slot_at}
 use Rattle.yds_model.specs.Audit.{AreSlots, grain_of}
 use Rattle.yds_model.proofs.Grain.{grain_takes}
 use Rattle.yds_slots.proofs.Grains.{grain_found}
@@ -13,18 +13,7 @@ use Rattle.yds_document.specs.Slot.{fits_among, fits_test, FitsGrainOf}
 
 in_grain : (jobs : ℕ) (slots : List WrittenSlot) (k : ℕ) → AreSlots jobs slots → k < length slots
     → ((written_slot_at slots k).work.den ≡ 1) ⊎ ((written_slot_at slots k).work.den ≡ grain_of slots (written_slot_at slots k).job)
-in_grain jobs slots k are within =
-    let job = (written_slot_at slots k).job in
-    let covered : (written_slot_at slots k).work.den ≤ grain_of slots job = grain_takes job 1 slots k no_written_slot within refl in
-    let solid : IsSolid (written_slot_at slots k) = are.solid k no_written_slot within in
-    elim (grain_found slots job) [
-      | inl plain ↦ inl (omega (arith, solid.work))
-      | inr found ↦ elim (are.alike k found.0 within found.1 (sym found.2.0)) [
-        | inl same ↦ inr (same ∙ sym found.2.1)
-        | inr (inl whole) ↦ inl whole
-        | inr (inr other) ↦ inl (omega (arith, solid.work, found.2.1))
-      ]
-    ]
+in_grain jobs slots k are within = grind (arith, grain_found, grain_takes)
 
 -- # The test
 

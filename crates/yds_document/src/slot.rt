@@ -121,6 +121,7 @@ fn slot_in(
 }
 
 /// Whether the work is alike with each work that the schedule gives the job.
+#[tactic(auto, using(crate::proofs::SlotGrain::fits_grain))]
 pub(crate) fn fits_grain(schedule: &Schedule, job: u32, work: Amount) -> bool
     requires { job < schedule.now.jobs }
     ensures value { result ≡ fits_among schedule.now.slots job work }

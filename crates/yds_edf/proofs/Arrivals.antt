@@ -1,5 +1,5 @@
 -- What an engine keeps as jobs arrive: their units come to their places.
-use Rattle.std.proofs.Common.{◌≡◌, ℕ, ◌+◌, ◌-◌, ◌*◌, ◌<◌, ◌≤◌, true, List, length, set, slice_index, slice_index_or, ◌∙◌, refl, sym, arith, inl, inr, ap, cond, length-set}
+use Rattle.std.proofs.Common.{rules, ◌≡◌, ℕ, ◌+◌, ◌-◌, ◌*◌, ◌<◌, ◌≤◌, true, List, length, set, slice_index, slice_index_or, ◌∙◌, sym, arith, inl, inr, ap, cond, length-set}
 use Rattle.std.specs.Prelude.{nat_lt, Option, Some, None}
 use Rattle.std.specs.List.Sorted.{IsNonDecreasingBy}
 use Rattle.std.proofs.lemmas.Bool.{cases_lt, cases_eq, lt-ltb, le-ltb, lt-leb, le-leb, leb-true, true≢false}
@@ -66,12 +66,7 @@ module _ {tied : TiedQueue} {arrivals : List Due} {arrived : ℕ} {pending : Pen
   ]
 
   pub one_arrived : AreArrived tied arrivals (arrived + 1) (record pending { units = units })
-  one_arrived = record {
-    ranked = ranked_with jobs.ranked units (length-set pending.units at (units_left tied.queue next));
-    same = jobs.same;
-    rising = jobs.rising;
-    placed = placed_next;
-  }
+  one_arrived = grind (arith, length-set, placed_next, ranked_with)
 
 -- what `arrive` reads of the next job: its entry, its row, the units that it was served, and those that are left of it
 module _ {tied : TiedQueue} {arrivals : List Due} {arrived : ℕ} {pending : PendingJobs} (kept : IsTiedQueue tied) (jobs : AreArrived tied arrivals arrived pending)
@@ -86,28 +81,14 @@ module _ {tied : TiedQueue} {arrivals : List Due} {arrived : ℕ} {pending : Pen
   job_known = (omega (arith, job_read, next_known jobs inside), omega (arith, job_read, next_known jobs inside, kept.served))
 
   pub place_read : (due.job < length pending.places.items) × (slice_index pending.places.items due.job < length pending.units)
-  place_read = (
-    omega (
-      arith,
-      job_known,
-      jobs.ranked.all_places,
-      all_placed tied.queue.jobs tied.ties pending.order.items jobs.ranked.order.same,
-    ),
-    omega (arith, ap (slice_index pending.places.items) job_read, place_known jobs inside),
-  )
+  place_read = search (arith, rules, all_placed, job_known, job_read, place_known, slice_index)
 
   module _ {row : Job} {now : ℕ} (row_is : row ≡ slice_index_or tied.queue.jobs due.job row) (now_is : now ≡ slice_index_or tied.queue.served due.job now) where
     left_read : row.work * tied.queue.grain - now ≡ units_left tied.queue due.job
-    left_read =
-        let row_at = get_or_read tied.queue.jobs due.job row job_known.0 row_is no_job in
-        let now_at = get_or_read tied.queue.served due.job now job_known.1 now_is 0 in
-        rw (row_at, now_at) refl
+    left_read = grind (arith, get_or_read, job_known)
 
     pub now_within : now ≤ row.work * tied.queue.grain
-    now_within =
-        let row_at = get_or_read tied.queue.jobs due.job row job_known.0 row_is no_job in
-        let now_at = get_or_read tied.queue.served due.job now job_known.1 now_is 0 in
-        rw (row_at, now_at) (kept.within due.job job_known.0)
+    now_within = grind (arith, get_or_read, job_known)
 
     pub arrived_read : (left : ℕ) (new : PendingJobs) → left ≡ row.work * tied.queue.grain - now →
         new ≡ record pending { units = set pending.units (slice_index pending.places.items due.job) left } → AreArrived tied arrivals (arrived + 1) new
@@ -117,9 +98,4 @@ module _ {tied : TiedQueue} {arrivals : List Due} {arrived : ℕ} {pending : Pen
 pub all_come : (time : ℕ) (arrivals : List Due) (arrived : ℕ) → IsNonDecreasingBy (λ due. due.release) arrivals → arrived ≤ length arrivals →
     ((k : ℕ) → k < arrived → (due_at arrivals k).release ≤ time) →
     (arrived < length arrivals → time < (due_at arrivals arrived).release) → HaveArrived (Some time) arrivals arrived
-all_come time arrivals arrived rising within before next = record {
-  within = within;
-  before = λ k less. le-leb (due_at arrivals k).release time (before k less);
-  after = λ k most less. lt-leb (due_at arrivals k).release time
-      (omega (arith, rising arrived k no_due most less, next (omega (arith, most, less))));
-}
+all_come time arrivals arrived rising within before next = grind (arith, le-leb, lt-leb)

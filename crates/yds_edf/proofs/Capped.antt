@@ -36,10 +36,7 @@ stretches_uncut jobs = All-from_get_or (λ stretch. All (λ job. IsOutside stret
 
 -- the lesser of two multiples
 min_times : (k a b : ℕ) → min (k * a) (k * b) ≡ k * min b a
-min_times k a b = elim (cases_lt b a) [
-  | inl less ↦ min-eq_right (mul-le-mul_left k (let most : b ≤ a = omega arith in most)) ∙ ap (λ n. k * n) (sym (min-eq_left (let most : b ≤ a = omega arith in most)))
-  | inr more ↦ min-eq_left (mul-le-mul_left k more) ∙ ap (λ n. k * n) (sym (min-eq_right more))
-]
+min_times k a b = grind (arith, cases_lt, min-eq_left, min-eq_right, mul-le-mul_left)
 
 module _ (jobs : List Job) (grid : ℕ) (units : (ℕ → ℕ) → Piece → ℕ) (shares : List JobShare) (slots : List WrittenSlot) (some_grid : 1 ≤ grid)
     (served : IsServed jobs grid units shares) (laid : IsLaidOut jobs grid shares slots) where

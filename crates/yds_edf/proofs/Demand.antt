@@ -34,10 +34,7 @@ not_first : (a b c d x : ℕ) → b < a → cond (nat_le a b && nat_le c d) x 0 
 not_first a b c d x less = rw (lt-leb a b less) refl
 
 not_second : (a b c d x : ℕ) → d < c → cond (nat_le a b && nat_le c d) x 0 ≡ 0
-not_second a b c d x less = elim (cases_lt b a) [
-  | inl other ↦ not_first a b c d x other
-  | inr first ↦ rw (le-leb a b first, lt-leb c d less) refl
-]
+not_second a b c d x less = grind (arith, cases_lt, le-leb, lt-leb, not_first)
 
 -- and where one does
 one : (c d x : ℕ) → c ≤ d → cond (nat_le c d) x 0 ≡ x
@@ -60,10 +57,7 @@ abbrev pub confined_units : List Job → ℕ → ℕ → ℕ → ℕ
 confined_units jobs grain from to = sum_below (length jobs) (confined_term jobs grain from to)
 
 term_units : (grain from to : ℕ) (job : Job) → cond (window_is_within from to job) (job.work * grain) 0 ≡ grain * part_within from to job
-term_units grain from to job = elim (cases_Bool (window_is_within from to job)) [
-  | inl holds ↦ rw holds (mul_comm job.work grain)
-  | inr fails ↦ rw fails (omega arith)
-]
+term_units grain from to job = grind (arith, cases_Bool, mul_comm)
 
 -- they are so many to a unit of work
 pub confined_is : (jobs : List Job) (grain from to : ℕ) → confined_units jobs grain from to ≡ grain * work_within jobs from to
@@ -157,33 +151,16 @@ next_capacity stretches capacities i time within ends = omega (
 same_capacity : (stretches : List Piece) (capacities : List ℕ) (i time : ℕ) → i < length stretches →
     time < (nth_stretch stretches i).to →
     capacity_from stretches capacities i time ≡ capacity_from stretches capacities (suc i) time
-same_capacity stretches capacities i time within later =
-    sum_below_same (length stretches) (coming_term stretches capacities i time) (coming_term stretches capacities (suc i) time)
-    (λ k below. elim (cases_order k i) [
-      | inl same ↦ rw same (not_second i i _ _ _ later ∙ sym (not_second (suc i) i _ _ _ later))
-      | inr (inl before) ↦ not_first i k _ _ _ before ∙ sym (not_first (suc i) k _ _ _ (omega (arith, before)))
-      | inr (inr after) ↦ rw (le-leb i k (omega (arith, after)), le-leb (suc i) k after) refl
-    ])
+same_capacity stretches capacities i time within later = grind (arith, cases_order, le-leb, not_first, not_second, sum_below_same)
 
 -- before the first stretch no more is left than is wanted
 left_first : (jobs : List Job) (grain : ℕ) (shares : List JobShare) (time : ℕ) →
     left_due jobs grain shares 0 time ≤ confined_units jobs grain 0 time
-left_first jobs grain shares time =
-    sum_below_at_most (length jobs) (left_term jobs grain shares 0 time) (confined_term jobs grain 0 time)
-    (λ number within. elim (cases_lt time (job_at jobs number).deadline) [
-      | inl later ↦ omega (arith, not_one (job_at jobs number).deadline time (left_of jobs grain shares 0 number) later)
-      | inr due ↦ omega (
-        arith,
-        one (job_at jobs number).deadline time (left_of jobs grain shares 0 number) due,
-        both 0 (job_at jobs number).release (job_at jobs number).deadline time (units_wanted jobs grain number) (omega arith) due,
-      )
-    ])
+left_first jobs grain shares time = grind (arith, both, cases_lt, not_one, one, sum_below_at_most)
 
 capacity_first : (stretches : List Piece) (capacities : List ℕ) (time : ℕ) →
     capacity_between stretches capacities 0 time ≤ capacity_from stretches capacities 0 time
-capacity_first stretches capacities time =
-    sum_below_at_most (length stretches) (between_term stretches capacities 0 time) (coming_term stretches capacities 0 time)
-    (λ k within. rw (le-leb 0 (nth_stretch stretches k).from (omega arith), le-leb 0 k (omega arith)) (omega arith))
+capacity_first stretches capacities time = grind (arith, le-leb, sum_below_at_most)
 
 -- a job of which no share is given gets no units
 pub none_given : (shares : List JobShare) (number : ℕ) → All (λ share. number ≢ share.job) shares → units_given shares number ≡ 0
@@ -197,10 +174,7 @@ module _ (jobs : List Job) (tie : ℕ → ℕ) (grain : ℕ) (stretches : List P
     IsServing jobs tie (pending_at_start jobs grain stretches shares i) (capacity_at capacities i) (shares_in shares i)))
   where
     pending_left : (i number : ℕ) → pending_at_start jobs grain stretches shares i number ≤ left_of jobs grain shares i number
-    pending_left i number = elim (cases_Bool (nat_le (job_at jobs number).release (nth_stretch stretches i).from)) [
-      | inl arrived ↦ rw arrived (omega arith)
-      | inr not_yet ↦ rw not_yet (omega arith)
-    ]
+    pending_left i number = grind (arith, cases_Bool)
 
     -- all that is left of a job that has arrived is pending
     arrived_left : (i number : ℕ) → (job_at jobs number).release ≤ (nth_stretch stretches i).from →
@@ -221,20 +195,12 @@ module _ (jobs : List Job) (tie : ℕ → ℕ) (grain : ℕ) (stretches : List P
 
     next_left : (i number : ℕ) → i < length stretches → number < length jobs →
         left_of jobs grain shares (suc i) number + units_given (shares_in shares i) number ≡ left_of jobs grain shares i number
-    next_left i number here within = omega (
-      arith,
-      given_next shares i number,
-      (serving i here).within number within,
-      pending_left i number,
-    )
+    next_left i number here within = grind (arith, given_next, pending_left)
 
     next_term : (i time number : ℕ) → i < length stretches → number < length jobs →
         left_term jobs grain shares (suc i) time number + given_term jobs shares i time number
         ≡ left_term jobs grain shares i time number
-    next_term i time number here within = elim (cases_lt time (job_at jobs number).deadline) [
-      | inl later ↦ rw (lt-leb (job_at jobs number).deadline time later) refl
-      | inr due ↦ rw (le-leb (job_at jobs number).deadline time due) (next_left i number here within)
-    ]
+    next_term i time number here within = grind (arith, cases_lt, le-leb, lt-leb, next_left)
 
     next_due : (i time : ℕ) → i < length stretches →
         left_due jobs grain shares (suc i) time + sum_below (length jobs) (given_term jobs shares i time)
@@ -277,48 +243,11 @@ module _ (jobs : List Job) (tie : ℕ → ℕ) (grain : ℕ) (stretches : List P
         ((number : ℕ) → number < length jobs → (job_at jobs number).deadline ≤ time →
         pending_at_start jobs grain stretches shares i number ≤ units_given (shares_in shares i) number) →
         left_due jobs grain shares (suc i) time ≤ confined_units jobs grain (nth_stretch stretches i).to time
-    idle i time here none =
-        sum_below_at_most (length jobs) (left_term jobs grain shares (suc i) time)
-        (confined_term jobs grain (nth_stretch stretches i).to time)
-        (λ number within. elim (cases_lt time (job_at jobs number).deadline) [
-          | inl later ↦ omega (arith, not_one (job_at jobs number).deadline time (left_of jobs grain shares (suc i) number) later)
-          | inr due ↦ elim (cases_lt (nth_stretch stretches i).from (job_at jobs number).release) [
-            | inl after ↦ omega (
-              arith,
-              one (job_at jobs number).deadline time (left_of jobs grain shares (suc i) number) due,
-              both (nth_stretch stretches i).to (job_at jobs number).release (job_at jobs number).deadline time
-                  (units_wanted jobs grain number)
-                  (elim ((uncut i no_stretch here) number no_job within).0 [
-                    | inl before ↦ absurd (omega (arith, before, after))
-                    | inr beyond ↦ beyond
-                  ]) due,
-            )
-            | inr arrived ↦ omega (
-              arith,
-              one (job_at jobs number).deadline time (left_of jobs grain shares (suc i) number) due,
-              next_left i number here within,
-              arrived_left i number arrived,
-              none number within due,
-            )
-          ]
-        ])
+    idle i time here none = grind (arith, arrived_left, both, cases_lt, next_left, not_one, one, sum_below_at_most)
 
     later_capacity : (i time : ℕ) → i < length stretches →
         capacity_between stretches capacities (nth_stretch stretches i).to time ≤ capacity_from stretches capacities (suc i) time
-    later_capacity i time here =
-        sum_below_at_most (length stretches) (between_term stretches capacities (nth_stretch stretches i).to time)
-        (coming_term stretches capacities (suc i) time)
-        (λ k within. elim (cases_lt i k) [
-          | inl after ↦ elim (cases_lt (nth_stretch stretches k).from (nth_stretch stretches i).to) [
-            | inl before ↦ omega (arith, not_first (nth_stretch stretches i).to (nth_stretch stretches k).from (nth_stretch stretches k).to time (capacity_at capacities k) before)
-            | inr beyond ↦ rw (le-leb (nth_stretch stretches i).to (nth_stretch stretches k).from beyond, le-leb (suc i) k after) (omega arith)
-          ]
-          | inr before ↦ omega (
-            arith,
-            not_first (nth_stretch stretches i).to (nth_stretch stretches k).from (nth_stretch stretches k).to time (capacity_at capacities k)
-                (omega (arith, starts_rise k i stretches order before here, has_length 0 i stretches order here)),
-          )
-        ])
+    later_capacity i time here = grind (arith, cases_lt, has_length, le-leb, not_first, starts_rise, sum_below_at_most)
 
     -- what is left of the jobs due by a deadline is at most the capacity that is left before it
     bounded : (last i : ℕ) → last < length jobs → i ≤ length stretches →

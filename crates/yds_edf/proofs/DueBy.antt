@@ -1,9 +1,9 @@
 -- The pending units of the jobs that are due by a time, summed job by job.
-use Rattle.std.proofs.Common.{◌≡◌, ℕ, suc, ◌+◌, ◌-◌, ◌*◌, ◌<◌, ◌≤◌, length, slice_index_or, ◌∙◌, refl, arith, inl, inr, ap, cond, add-one}
+use Rattle.std.proofs.Common.{◌≡◌, ℕ, suc, ◌+◌, ◌-◌, ◌*◌, ◌<◌, ◌≤◌, length, slice_index_or, arith, cond, add-one}
 use Rattle.std.specs.Prelude.{nat_le}
 use Rattle.std.proofs.lemmas.Bool.{cases_Bool, le-leb, lt-leb}
 use Rattle.std.proofs.lemmas.List.{get_or_read}
-use Rattle.yds_model.specs.Job.{Job, no_job, job_at}
+use Rattle.yds_model.specs.Job.{Job, job_at}
 use Rattle.yds_edf.specs.Pending.{sum_below, is_within, units_wanted}
 use Rattle.yds_edf.specs.Queue.{JobQueue, pending_in, all_pending}
 use Rattle.yds_edf.specs.Engine.{TiedQueue, IsTiedQueue}
@@ -18,13 +18,7 @@ abbrev pub due_of : JobQueue → ℕ → ℕ → ℕ
 due_of queue time number = cond (nat_le (job_at queue.jobs number).deadline time) (pending_in queue number) 0
 
 due_within : (queue : JobQueue) (time number : ℕ) → due_of queue time number ≤ units_wanted queue.jobs queue.grain number
-due_within queue time number = elim (cases_Bool (nat_le (job_at queue.jobs number).deadline time)) [
-  | inr late ↦ rw late (omega arith)
-  | inl due ↦ rw due (elim (cases_Bool (is_within queue.time (job_at queue.jobs number).release)) [
-    | inl arrived ↦ rw arrived (omega arith)
-    | inr not_yet ↦ rw not_yet (omega arith)
-  ])
-]
+due_within queue time number = grind (arith, cases_Bool)
 
 -- with one job more the sum is within 64 bits
 pub due_fits : (tied : TiedQueue) (time number : ℕ) → IsTiedQueue tied → number < length tied.queue.jobs →
@@ -42,24 +36,17 @@ pub pending_read : (queue : JobQueue) (number : ℕ) (row : Job) (now pending : 
     number < length queue.served → row ≡ slice_index_or queue.jobs number row → now ≡ slice_index_or queue.served number now →
     pending ≡ cond (is_within queue.time row.release) (row.work * queue.grain - now) 0 →
     pending ≡ pending_in queue number
-pending_read queue number row now pending known served row_is now_is is =
-    let row_at = get_or_read queue.jobs number row known row_is no_job in
-    let now_at = get_or_read queue.served number now served now_is 0 in
-    is ∙ rw (row_at, now_at) refl
+pending_read queue number row now pending known served row_is now_is is = grind (arith, get_or_read)
 
 -- a job that is due by the time counts, and one that isn't doesn't
 pub due_read : (queue : JobQueue) (time number : ℕ) (row : Job) (deadline : ℕ) → number < length queue.jobs →
     row ≡ slice_index_or queue.jobs number row → deadline ≡ row.deadline → deadline ≤ time →
     due_of queue time number ≡ pending_in queue number
-due_read queue time number row deadline known row_is is due =
-    let row_at = get_or_read queue.jobs number row known row_is no_job in
-    rw (le-leb (job_at queue.jobs number).deadline time (omega (arith, due, is, ap (λ (job : Job). job.deadline) row_at))) refl
+due_read queue time number row deadline known row_is is due = grind (arith, get_or_read, le-leb)
 
 pub not_due_read : (queue : JobQueue) (time number : ℕ) (row : Job) (deadline : ℕ) → number < length queue.jobs →
     row ≡ slice_index_or queue.jobs number row → deadline ≡ row.deadline → time < deadline → due_of queue time number ≡ 0
-not_due_read queue time number row deadline known row_is is late =
-    let row_at = get_or_read queue.jobs number row known row_is no_job in
-    rw (lt-leb (job_at queue.jobs number).deadline time (omega (arith, late, is, ap (λ (job : Job). job.deadline) row_at))) refl
+not_due_read queue time number row deadline known row_is is late = grind (arith, get_or_read, lt-leb)
 
 -- the sum with one job more
 pub sum_more : (n : ℕ) (f : ℕ → ℕ) (units more : ℕ) → units ≡ sum_below n f → more ≡ f n → units + more ≡ sum_below (n + 1) f
@@ -71,11 +58,7 @@ sum_no_more n f units sum term = rw add-one (omega (arith, sum, term))
 -- no more is pending of a job than the greatest work
 pub pending_bound : (tied : TiedQueue) (number : ℕ) → IsTiedQueue tied → number < length tied.queue.jobs →
     pending_in tied.queue number ≤ MAX_WORK * tied.queue.grain
-pending_bound tied number kept within = omega (
-  arith,
-  pending_wanted tied.queue number,
-  mul-le-mul_right tied.queue.grain (kept.jobs number no_job within).work_in_range,
-)
+pending_bound tied number kept within = grind (arith, mul-le-mul_right, pending_wanted)
 
 -- and of all jobs together than that of the greatest number of jobs
 pub all_pending_bound : (tied : TiedQueue) → IsTiedQueue tied → all_pending tied.queue ≤ MAX_JOBS * (MAX_WORK * tied.queue.grain)

@@ -27,14 +27,7 @@ use Rattle.yds_edf.proofs.Demand.{in_window, in_full}
 serving_same : (jobs : List Job) (tie pending other : ℕ → ℕ) (capacity : ℕ) (shares : List JobShare) →
     ((number : ℕ) → number < length jobs → pending number ≡ other number) →
     IsServing jobs tie pending capacity shares → IsServing jobs tie other capacity shares
-serving_same jobs tie pending other capacity shares same serves = record {
-  known = serves.known;
-  some = serves.some;
-  in_order = serves.in_order;
-  within = λ number there. omega (arith, same number there, serves.within number there);
-  total = serves.total ∙ ap (min capacity) (sum_below_same (length jobs) pending other same);
-  earliest = λ number there less. serves.earliest number there (omega (arith, same number there, less));
-}
+serving_same jobs tie pending other capacity shares same serves = grind (arith, min, sum_below_same)
 
 -- the first stretches have been filled
 pub record Filling (jobs : List Job) (ties : List ℕ) (grain : ℕ) (stretches : List Piece) (capacities : List ℕ) (i : ℕ)

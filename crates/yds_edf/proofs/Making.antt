@@ -1,5 +1,5 @@
 -- How an engine is made: nobody has arrived, and nothing is served.
-use Rattle.std.proofs.Common.{◌≡◌, ℕ, ◌≤◌, List, length, slice_index, replicate, ◌∙◌, refl, arith, ap}
+use Rattle.std.proofs.Common.{◌≡◌, ℕ, ◌≤◌, List, length, slice_index, replicate, arith}
 use Rattle.std.specs.Prelude.{All}
 use Rattle.std.specs.List.Sorted.{IsPermutation, IsNonDecreasingBy}
 use Rattle.std.proofs.lemmas.Bool.{le-ltb}
@@ -9,7 +9,7 @@ use Rattle.yds_model.specs.Job.{Job, IsJob}
 use Rattle.yds_edf.specs.declared.order.Due.{Due}
 use Rattle.yds_edf.specs.declared.pending.PendingJobs.{PendingJobs}
 use Rattle.yds_edf.specs.declared.limits.TheConstants.{MAX_GRAIN}
-use Rattle.yds_edf.specs.Order.{due_jobs, due_at}
+use Rattle.yds_edf.specs.Order.{due_jobs}
 use Rattle.yds_edf.specs.Serving.{AreTies}
 use Rattle.yds_edf.specs.Queue.{new_queue}
 use Rattle.yds_edf.specs.Ranked.{AreRanked}
@@ -20,23 +20,4 @@ pub made : (jobs : List Job) (ties : List ℕ) (grain : ℕ) (arrivals : List Du
     length jobs ≤ MAX_JOBS → 1 ≤ grain → grain ≤ MAX_GRAIN → length ties ≡ length jobs → AreTies ties →
     IsPermutation (due_jobs jobs ties) arrivals → IsNonDecreasingBy (λ due. due.release) arrivals → AreRanked jobs ties pending →
     pending.units ≡ replicate (length jobs) 0 → IsEngine (record { queue = new_queue jobs grain; ties = ties }) arrivals 0 pending
-made jobs ties grain arrivals pending are few some small as_many apart same rising ranked none = record {
-  kept = record {
-    few = few;
-    jobs = are;
-    some_grain = some;
-    grain_in_range = small;
-    ties = as_many;
-    different = λ i j first second. apart i j (omega (arith, first, as_many)) (omega (arith, second, as_many));
-    served = length-replicate (length jobs) 0;
-    within = λ number within. omega (arith, none_at (length jobs) number);
-  };
-  jobs = record {
-    ranked = ranked;
-    same = same;
-    rising = rising;
-    placed = λ k within. rw (le-ltb k 0 (omega arith)) (ap (λ (units : List ℕ). slice_index units (slice_index pending.places.items (due_at arrivals k).job)) none
-        ∙ none_at (length jobs) (slice_index pending.places.items (due_at arrivals k).job));
-  };
-  come = record { within = omega arith; before = λ k less. absurd (omega (arith, less)); after = λ k most less. refl };
-}
+made jobs ties grain arrivals pending are few some small as_many apart same rising ranked none = grind (arith, le-ltb, length-replicate, none_at, slice_index)

@@ -1,6 +1,6 @@
 -- The shares in a stretch and in the stretches before it, as shares are added.
-use Rattle.std.proofs.Common.{◌≡◌, ℕ, suc, ◌+◌, ◌<◌, List, [], ◌∷◌, ◌++◌, ◌∙◌, refl, sym, arith, inl, inr, ap, length, get_or, cond, ◌≤◌}
-use Rattle.std.specs.Prelude.{◌==◌, nat_lt, filter, All}
+use Rattle.std.proofs.Common.{◌≡◌, ℕ, suc, ◌+◌, ◌<◌, List, [], ◌∷◌, ◌++◌, refl, sym, arith, inl, inr, length, get_or, ◌≤◌}
+use Rattle.std.specs.Prelude.{All}
 use Rattle.std.proofs.lemmas.List.{append-nil}
 use Rattle.std.proofs.lemmas.List.Sums.{sum_by-cons, get_or-le-sum_by}
 use Rattle.std.proofs.lemmas.List.Elements.{filter-append}
@@ -12,33 +12,17 @@ module _ (shares part : List JobShare) (i : ℕ) (earlier : All (λ share. share
     (here : All (λ share. share.stretch ≡ i) part) where
   -- what is added is the stretch's, and what was there is what is before it
   pub in_added : shares_in (shares ++ part) i ≡ part
-  in_added = filter-append (λ share. i == share.stretch) shares part
-      ∙ ap (λ xs. xs ++ filter (λ share. i == share.stretch) part)
-      (filter_none (λ share. i == share.stretch) shares
-      (λ k d within. ne_eqb i _ (λ is. omega (arith, is, earlier k d within))))
-      ∙ filter_all (λ share. i == share.stretch) part (λ k d within. eq-eqb i _ (sym (here k d within)))
+  in_added = grind (arith, eq-eqb, filter-append, filter_all, filter_none, ne_eqb)
 
   pub before_added : shares_before (shares ++ part) i ≡ shares
-  before_added = filter-append (λ share. nat_lt share.stretch i) shares part
-      ∙ ap (λ xs. xs ++ filter (λ share. nat_lt share.stretch i) part)
-      (filter_all (λ share. nat_lt share.stretch i) shares (λ k d within. lt-ltb _ i (earlier k d within)))
-      ∙ ap (λ ys. shares ++ ys)
-      (filter_none (λ share. nat_lt share.stretch i) part (λ k d within. le-ltb _ i (omega (arith, here k d within))))
-      ∙ append-nil shares
+  before_added = grind (arith, append-nil, filter-append, filter_all, filter_none, le-ltb, lt-ltb)
 
   -- earlier stretches stay as they were
   pub in_kept : (k : ℕ) → k < i → shares_in (shares ++ part) k ≡ shares_in shares k
-  in_kept k less = filter-append (λ share. k == share.stretch) shares part
-      ∙ ap (λ ys. shares_in shares k ++ ys)
-      (filter_none (λ share. k == share.stretch) part
-      (λ j d within. ne_eqb k _ (λ is. omega (arith, is, here j d within, less))))
-      ∙ append-nil (shares_in shares k)
+  in_kept k less = grind (arith, append-nil, filter-append, filter_none, ne_eqb)
 
   pub before_kept : (k : ℕ) → k < i → shares_before (shares ++ part) k ≡ shares_before shares k
-  before_kept k less = filter-append (λ share. nat_lt share.stretch k) shares part
-      ∙ ap (λ ys. shares_before shares k ++ ys)
-      (filter_none (λ share. nat_lt share.stretch k) part (λ j d within. le-ltb _ k (omega (arith, here j d within, less))))
-      ∙ append-nil (shares_before shares k)
+  before_kept k less = grind (arith, append-nil, filter-append, filter_none, le-ltb)
 
 -- before the next stretch stand the shares before this one and those in it
 pub given_next : (shares : List JobShare) (i job : ℕ) →
@@ -56,9 +40,4 @@ given_next (share ∷ shares) i job = elim (cases_order share.stretch i) [
 -- a job gets at least what one of its shares has
 pub share_given : (shares : List JobShare) (k : ℕ) (share : JobShare) → k < length shares →
     (get_or shares k share).units ≤ units_given shares (get_or shares k share).job
-share_given shares k share within = omega (
-  arith,
-  get_or-le-sum_by (λ (other : JobShare). cond ((get_or shares k share).job == other.job) other.units 0) shares k share within,
-  ap {B = ℕ} (λ b. cond b (get_or shares k share).units 0)
-      (eq-eqb (get_or shares k share).job (get_or shares k share).job refl),
-)
+share_given shares k share within = grind (arith, eq-eqb, get_or-le-sum_by)

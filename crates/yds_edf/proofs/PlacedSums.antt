@@ -1,5 +1,5 @@
 -- Units at places, summed before a place and in blocks.
-use Rattle.std.proofs.Common.{◌≡◌, ℕ, zero, suc, ◌+◌, ◌-◌, ◌*◌, ◌/◌, ◌%◌, ◌<◌, ◌≤◌, List, length, set, replicate, slice_index, slice_index_or, refl, ◌∙◌, ap, arith, inl, inr, add-one, min}
+use Rattle.std.proofs.Common.{rules, ◌≡◌, ℕ, zero, suc, ◌+◌, ◌-◌, ◌*◌, ◌/◌, ◌%◌, ◌<◌, ◌≤◌, List, length, set, replicate, slice_index, slice_index_or, refl, ◌∙◌, ap, arith, inl, inr, add-one, min}
 use Rattle.std.specs.Prelude.{All}
 use Rattle.std.proofs.lemmas.Bool.{cases_lt, cases_eq}
 use Rattle.std.proofs.lemmas.List.{get_or-replicate, length-replicate, get_or-set_same, get_or-set_other, length-set}
@@ -19,10 +19,7 @@ pub before_rises : (units : List ℕ) (place other : ℕ) → place ≤ other �
 before_rises units place other = sum_below_front place other (slice_index units)
 
 pub none_at : (count place : ℕ) → slice_index (replicate {A = ℕ} count 0) place ≡ 0
-none_at count place = elim (cases_lt place count) [
-  | inl within ↦ get_or-replicate count place 0 0 within
-  | inr beyond ↦ get_or-eq_default (replicate count 0) 0 (omega (arith, beyond, length-replicate {A = ℕ} count 0))
-]
+none_at count place = grind (arith, cases_lt, get_or-eq_default, get_or-replicate, length-replicate, replicate)
 
 pub none_before : (count place : ℕ) → units_before (replicate count 0) place ≡ 0
 none_before count place = sum_below_zero place (slice_index (replicate count 0)) (λ k within. none_at count k)
@@ -77,21 +74,10 @@ module _ (units : List ℕ) (place more : ℕ) (known : place < length units) wh
 -- # Blocks
 
 block_of : (place : ℕ) → (place / 8 * 8 ≤ place) × (place < place / 8 * 8 + 8)
-block_of place =
-    let whole = div-add-mod place 8 in
-    let rest : place % 8 < 8 = mod-lt place (omega arith) in
-    (omega (arith, whole, rest), omega (arith, whole, rest))
+block_of place = grind (arith, div-add-mod, mod-lt)
 
 pub none_in_blocks : (count : ℕ) → AreBlocks (replicate count 0) (replicate (count / 8 + 1) 0)
-none_in_blocks count = record {
-  each = λ block within. omega (
-    arith,
-    none_before count (block * 8),
-    none_before count (block * 8 + 8),
-    none_at (count / 8 + 1) block,
-  );
-  all = omega (arith, length-replicate {A = ℕ} count 0, length-replicate {A = ℕ} (count / 8 + 1) 0, (block_of count).1);
-}
+none_in_blocks count = grind (arith, block_of, length-replicate, none_at, none_before)
 
 pub small_in_range : (count : ℕ) → All (λ n. n ≤ 1000000000000000) (replicate {A = ℕ} count 0)
 small_in_range count k d within = omega (arith, get_or-replicate count k 0 d (omega (arith, within, length-replicate {A = ℕ} count 0)))
@@ -114,20 +100,11 @@ before_block units sums blocks (suc block) = elim (cases_lt block (length sums))
 
 module _ (units sums : List ℕ) (blocks : AreBlocks units sums) (place : ℕ) (known : place < length units) where
   pub block_known : place / 8 < length sums
-  block_known = elim (cases_lt (place / 8) (length sums)) [
-    | inl within ↦ within
-    | inr beyond ↦ absurd (omega (arith, blocks.all, known, beyond, (block_of place).0))
-  ]
+  block_known = grind (arith, block_of, cases_lt)
 
   -- the units at a place are some of its block's
   pub block_has : slice_index units place ≤ slice_index sums (place / 8)
-  block_has = omega (
-    arith,
-    blocks.each (place / 8) block_known,
-    before_rises units (place / 8 * 8) place (block_of place).0,
-    before_rises units (place + 1) (place / 8 * 8 + 8) (omega (arith, (block_of place).1)),
-    one_place_more units place,
-  )
+  block_has = grind (arith, before_rises, block_known, block_of, one_place_more)
 
   pub block_few : HaveFewUnits units → slice_index sums (place / 8) ≤ 4000000000000000000
   block_few few = omega (arith, blocks.each (place / 8) block_known, few (place / 8 * 8 + 8))
@@ -135,44 +112,10 @@ module _ (units sums : List ℕ) (blocks : AreBlocks units sums) (place : ℕ) (
   module _ (more sum : ℕ) (is : sum ≡ slice_index sums (place / 8) - slice_index units place + more) where
     each_block : (block : ℕ) → block < length sums →
         units_before (set units place more) (block * 8) + slice_index (set sums (place / 8) sum) block ≡ units_before (set units place more) (block * 8 + 8)
-    each_block block within = elim (cases_eq block (place / 8)) [
-      | inl same ↦
-          rw same (omega (
-            arith,
-            is,
-            block_has,
-            blocks.each (place / 8) block_known,
-            get_or-set_same sums (place / 8) sum 0 block_known,
-            before_stays units place more known (place / 8 * 8) (block_of place).0,
-            before_changes units place more known (place / 8 * 8 + 8) (block_of place).1,
-          ))
-      | inr other ↦
-          let stays = get_or-set_other sums (place / 8) block sum 0 other in
-          elim (cases_lt place (block * 8)) [
-            | inl sooner ↦ omega (
-              arith,
-              stays,
-              blocks.each block within,
-              before_changes units place more known (block * 8) sooner,
-              before_changes units place more known (block * 8 + 8) (omega (arith, sooner)),
-            )
-            | inr upto ↦
-                let later : block * 8 + 8 ≤ place = omega (arith, upto, other, (block_of place).0, (block_of place).1) in
-                omega (
-                  arith,
-                  stays,
-                  blocks.each block within,
-                  before_stays units place more known (block * 8) upto,
-                  before_stays units place more known (block * 8 + 8) later,
-                )
-          ]
-    ]
+    each_block block within = grind (arith, before_changes, before_stays, block_has, block_known, block_of, cases_eq, cases_lt, get_or-set_other, get_or-set_same)
 
     pub blocks_set : AreBlocks (set units place more) (set sums (place / 8) sum)
-    blocks_set = record {
-      each = λ block within. each_block block (omega (arith, within, length-set sums (place / 8) sum));
-      all = omega (arith, blocks.all, length-set units place more, length-set sums (place / 8) sum);
-    }
+    blocks_set = grind (arith, each_block, length-set)
 
 -- the units of one place are some of all
 pub place_has : (units : List ℕ) (place : ℕ) → place < length units → slice_index units place ≤ units_before units (length units)
@@ -200,15 +143,7 @@ module _ {units blocks groups : List ℕ} {total start : ℕ} (summed : AreSumme
   pub summed_set : (more block group all : ℕ) → more ≤ 1000000000000000 → block ≡ slice_index blocks (place / 8) - slice_index units place + more →
       group ≡ slice_index groups (place / 8 / 8) - slice_index units place + more → all ≡ total - slice_index units place + more →
       AreSummed (set units place more) (set blocks (place / 8) block) (set groups (place / 8 / 8) group) all (min start place)
-  summed_set more block group all in_range block_is group_is all_is = record {
-    few = omega (arith, summed.few, length-set units place more);
-    in_range = All-set (λ n. n ≤ 1000000000000000) units place more in_range summed.in_range;
-    in_blocks = blocks_set units blocks summed.in_blocks place known more block block_is;
-    in_groups = blocks_set blocks groups summed.in_groups (place / 8) in_block block group (omega (arith, block_is, group_is, sums_have));
-    all = rw (length-set units place more)
-        (omega (arith, all_is, summed.all, place_has units place known, before_changes units place more known (length units) known));
-    none = omega (arith, before_stays units place more known (min start place) (omega arith), before_rises units (min start place) start (omega arith), summed.none);
-  }
+  summed_set more block group all in_range block_is group_is all_is = search (arith, rules, All-set, before_changes, before_rises, before_stays, blocks_set, in_block, length-set, min, place_has, sums_have)
 
   -- what is read of the place, its block and the block of blocks
   module _ {old : ℕ} (old_is : old ≡ slice_index_or units place old) where
@@ -241,10 +176,7 @@ module _ {units blocks groups : List ℕ} {total start : ℕ} (summed : AreSumme
 
 -- where some have units, a place with none before it is one of them
 pub place_left : (units : List ℕ) (place : ℕ) → 1 ≤ units_before units (length units) → units_before units place ≡ 0 → place < length units
-place_left units place some none = elim (cases_lt place (length units)) [
-  | inl within ↦ within
-  | inr beyond ↦ absurd (omega (arith, some, none, before_rises units (length units) place beyond))
-]
+place_left units place some none = grind (arith, before_rises, cases_lt)
 
 -- where all are counted there are none from here on
 pub none_left : (units : List ℕ) (start place so_far : ℕ) → place ≤ length units → units_before units start + so_far ≡ units_before units place →
@@ -254,16 +186,7 @@ none_left units start place so_far within sum all = omega (arith, sum, all, befo
 -- a whole block
 pub whole_block : (units sums : List ℕ) → AreBlocks units sums → (start end : ℕ) → start % 8 ≡ 0 → end ≡ start + 8 → start < length units →
     units_before units start + slice_index sums (start / 8) ≡ units_before units end
-whole_block units sums blocks start end begins ends within =
-    let at : start / 8 * 8 ≡ start = omega (arith, div-add-mod start 8, begins) in
-    let known = block_known units sums blocks start within in
-    omega (
-      arith,
-      blocks.each (start / 8) known,
-      ap (units_before units) at,
-      ap (λ n. units_before units (n + 8)) at,
-      ap (units_before units) ends,
-    )
+whole_block units sums blocks start end begins ends within = grind (arith, block_known, div-add-mod)
 
 -- a whole block of blocks
 pub whole_group : {units blocks groups : List ℕ} {total start : ℕ} → AreSummed units blocks groups total start → (from end : ℕ) → from % 64 ≡ 0 → end ≡ from + 64 →

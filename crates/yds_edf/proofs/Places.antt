@@ -1,5 +1,5 @@
 -- The place of each job in an order of all jobs.
-use Rattle.std.proofs.Common.{◌≡◌, ℕ, suc, ◌+◌, ◌<◌, List, length, set, get_or, map, slice_index, ◌∙◌, refl, sym, subst, ap, arith, inl, inr, cond}
+use Rattle.std.proofs.Common.{◌≡◌, ℕ, suc, ◌+◌, ◌<◌, List, length, set, get_or, map, slice_index, ◌∙◌, refl, sym, subst, ap, arith, cond}
 use Rattle.std.specs.Prelude.{◌==◌, All, Contains}
 use Rattle.std.specs.List.{range_with_len}
 use Rattle.std.specs.List.Sorted.{IsPermutation, IsNonDecreasingBy}
@@ -79,56 +79,26 @@ module _ (jobs : List Job) (ties : List ℕ) (order : List Due) (same : IsPermut
       )
 
   pub apart : (one other : ℕ) → one < length order → other < length order → (due_at order one).job ≡ (due_at order other).job → one ≡ other
-  apart one other first second both = elim (cases_eq one other) [
-    | inl is ↦ is
-    | inr differ ↦ elim (cases_lt one other) [
-      | inl before ↦ absurd (apart_before one other before second both)
-      | inr after ↦ absurd (apart_before other one (omega (arith, differ, after)) first (sym both))
-    ]
-  ]
+  apart one other first second both = grind (arith, apart_before, cases_eq, cases_lt)
 
   -- # By deadline and tie
 
   module _ (small : All (λ tie. tie < 4294967296) ties) (all_tied : length ties ≡ length jobs) (rising : IsNonDecreasingBy place_in_order order) where
     small_tie : (place : ℕ) (d : Due) → place < length order → (get_or order place d).tie < 4294967296
-    small_tie place d within =
-        let entry = all_due place d within in
-        omega (arith, entry.tie, small (get_or order place d).job 0 (omega (arith, entry.known, all_tied)))
+    small_tie place d within = grind (arith, all_due)
 
     pub deadlines_rise : IsNonDecreasingBy (λ due. due.deadline) order
     deadlines_rise i j d upto within = omega (arith, rising i j d upto within, small_tie j d within)
 
     pub in_turn : AreTies ties → (place other : ℕ) → place < other → other < length order →
         IsDueBefore jobs (slice_index ties) (due_at order place).job (due_at order other).job
-    in_turn told place other before within =
-        let one = entry_at place (omega (arith, before, within)) in
-        let two = entry_at other within in
-        let rise = rising place other no_due (omega (arith, before)) within in
-        let tie = small_tie place no_due (omega (arith, before, within)) in
-        elim (cases_lt (due_at order place).deadline (due_at order other).deadline) [
-          | inl less ↦ inl (omega (arith, less, one.deadline, two.deadline))
-          | inr not_less ↦
-              let deadlines = deadlines_rise place other no_due (omega (arith, before)) within in
-              let differ : slice_index ties (due_at order place).job ≡ slice_index ties (due_at order other).job → ⊥ = λ is.
-              let both = told (due_at order place).job (due_at order other).job (omega (arith, one.known, all_tied)) (omega (arith, two.known, all_tied)) is in
-              omega (arith, before, apart place other (omega (arith, before, within)) within both) in
-              inr (
-                omega (arith, deadlines, not_less, one.deadline, two.deadline),
-                omega (arith, rise, deadlines, not_less, one.tie, two.tie, differ),
-              )
-        ]
+    in_turn told place other before within = grind (arith, apart, cases_lt, deadlines_rise, entry_at, slice_index, small_tie)
 
   -- # Their places are told
 
   pub one_place_more : (places : List ℕ) (end job : ℕ) → length places ≡ length jobs →
       end < length order → job ≡ (due_at order end).job → ArePlacesTo order places end → ArePlacesTo order (set places job end) (end + 1)
-  one_place_more places end job long here is before place within = elim (cases_eq place end) [
-    | inl last ↦ ap (λ n. slice_index (set places job end) n) (let at : (due_at order place).job ≡ job = ap (λ p. (due_at order p).job) last ∙ sym is in at)
-        ∙ get_or-set_same places job end 0 (omega (arith, long, is, (entry_at end here).known)) ∙ sym last
-    | inr other ↦ get_or-set_other places job (due_at order place).job end 0
-        (λ both. other (apart place end (omega (arith, within, here)) here (both ∙ is)))
-        ∙ before place (omega (arith, within, other))
-  ]
+  one_place_more places end job long here is before place within = grind (arith, apart, cases_eq, entry_at, get_or-set_other, get_or-set_same, set, slice_index)
 
 module _ {jobs : List Job} {ties : List ℕ} {pending : PendingJobs} (ranked : AreRanked jobs ties pending) where
   -- each job has its place
@@ -149,10 +119,4 @@ module _ {jobs : List Job} {ties : List ℕ} {pending : PendingJobs} (ranked : A
 -- other units leave their places as they are
 pub ranked_with : {jobs : List Job} {ties : List ℕ} {pending : PendingJobs} → AreRanked jobs ties pending → (units : List ℕ) → length units ≡ length pending.units →
     AreRanked jobs ties (record pending { units = units })
-ranked_with ranked units long = record {
-  order = ranked.order;
-  in_turn = ranked.in_turn;
-  places = ranked.places;
-  all_places = ranked.all_places;
-  all_units = long ∙ ranked.all_units;
-}
+ranked_with ranked units long = grind (arith, in_turn)

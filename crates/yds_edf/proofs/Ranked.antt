@@ -7,7 +7,6 @@ use Rattle.yds_edf.specs.declared.order.Due.{Due}
 use Rattle.yds_edf.specs.declared.pending.PendingJobs.{PendingJobs}
 use Rattle.yds_edf.specs.Blocks.{units_before, IsFirstPlace}
 use Rattle.yds_edf.specs.Order.{due_at}
-use Rattle.yds_edf.specs.Pending.{has_arrived}
 use Rattle.yds_edf.specs.Serving.{IsDueBefore}
 use Rattle.yds_edf.specs.Queue.{pending_in, all_pending, units_left}
 use Rattle.yds_edf.specs.Ranked.{IsFresh, ArePendingIn}
@@ -49,10 +48,7 @@ module _ {tied : TiedQueue} {arrivals : List Due} {arrived : ℕ} {pending : Pen
 
   -- what is pending of a job of which some units are is what is left of it
   pub pending_is_left : (job : ℕ) → 1 ≤ pending_in tied.queue job → pending_in tied.queue job ≡ units_left tied.queue job
-  pending_is_left job some = elim (cases_Bool (has_arrived tied.queue.time (job_at tied.queue.jobs job))) [
-    | inl arrived ↦ rw arrived refl
-    | inr not_yet ↦ let none : pending_in tied.queue job ≡ 0 = rw not_yet refl in absurd (omega (arith, some, none))
-  ]
+  pending_is_left job some = grind (arith, cases_Bool)
 
   -- the job at the first place with units is due first among those with pending units
   pub first_is_due : (place : ℕ) → IsFirstPlace pending.units place → (other : ℕ) → other < length tied.queue.jobs → 1 ≤ pending_in tied.queue other →

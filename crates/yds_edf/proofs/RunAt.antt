@@ -1,6 +1,6 @@
 -- A run of a policy at a scale. What is pending when a stretch begins is what its shares tell, and each stretch serves what the
 -- policy sets. Where each share lies in its job's window and every job is served, the slots are a run by the definition.
-use Rattle.std.proofs.Common.{◌≡◌, ℕ, zero, suc, ◌+◌, ◌-◌, ◌*◌, ◌<◌, ◌≤◌, ◌⊎◌, List, [], length, ◌∙◌, refl, sym, subst, arith, inl, inr, ap}
+use Rattle.std.proofs.Common.{rules, ◌≡◌, ℕ, zero, suc, ◌+◌, ◌-◌, ◌*◌, ◌<◌, ◌≤◌, ◌⊎◌, List, [], length, ◌∙◌, refl, sym, subst, arith, inl, inr, ap}
 use Rattle.std.specs.Prelude.{nat_le, All, AllPairs, filter}
 use Rattle.std.specs.List.{Contains}
 use Rattle.std.proofs.lemmas.Bool.{cases_lt, cases_Bool, le-leb}
@@ -152,20 +152,10 @@ module _ (jobs : List Job) (grid : ℕ) (units : (ℕ → ℕ) → Piece → ℕ
 
     -- no slot lies in a stretch after its own, nor in one before it
     not_later : (i q : ℕ) → i < length shares → q < length (stretches jobs) → LiesIn scale (slot_at at_scale_slots i) (stretch_at jobs q) → q ≤ (share_at shares i).stretch
-    not_later i q within known lies = elim (cases_lt (share_at shares i).stretch q) [
-      | inr below ↦ below
-      | inl above ↦
-          let here = stands i within in
-          absurd (omega (arith, here.forward, here.to, lies.from, mul-le-mul_right scale (stretch_order jobs (share_at shares i).stretch q above known)))
-    ]
+    not_later i q within known lies = grind (arith, cases_lt, mul-le-mul_right, stands, stretch_order)
 
     not_earlier : (i q : ℕ) → i < length shares → q < length (stretches jobs) → LiesIn scale (slot_at at_scale_slots i) (stretch_at jobs q) → (share_at shares i).stretch ≤ q
-    not_earlier i q within known lies = elim (cases_lt q (share_at shares i).stretch) [
-      | inr below ↦ below
-      | inl above ↦
-          let here = stands i within in
-          absurd (omega (arith, here.forward, here.from, lies.to, mul-le-mul_right scale (stretch_order jobs q (share_at shares i).stretch above here.share_is.within)))
-    ]
+    not_earlier i q within known lies = grind (arith, cases_lt, mul-le-mul_right, stands, stretch_order)
 
     follows : (i j : ℕ) → i < j → j < length shares → Follows jobs scale (slot_at at_scale_slots i) (slot_at at_scale_slots j)
     follows i j order within =
@@ -214,11 +204,7 @@ module _ (jobs : List Job) (grid : ℕ) (units : (ℕ → ℕ) → Piece → ℕ
     each_slot P each = All-from_get_or P at_scale_slots no_slot (λ i within. each i (omega (arith, within, as_many)))
 
     feasible : IsFeasibleAt jobs scale at_scale_slots
-    feasible = record {
-      one_at_a_time = one_at_a_time jobs grid shares slots laid scale is;
-      in_windows = each_slot (IsInWindow jobs scale) window;
-      served = job_served;
-    }
+    feasible = search (arith, rules, each_slot, job_served, one_at_a_time, window)
 
     served_in_stretches : IsServedInStretches jobs scale at_scale_slots
     served_in_stretches = record {

@@ -1,5 +1,5 @@
 -- The loop over the stretches: what a run has come to, and that in the end it is a run of the policy.
-use Rattle.std.proofs.Common.{◌≡◌, ℕ, suc, take, get_or, ap₂, None, ◌/◌, ◌+◌, ◌-◌, ◌*◌, ◌<◌, ◌≤◌, min, List, [], ◌∷◌, ◌++◌, length, slice_index, ◌∙◌, refl, sym, subst, arith, inl, inr, ap, cond, true, false, add-one}
+use Rattle.std.proofs.Common.{rules, ◌≡◌, ℕ, suc, take, get_or, ap₂, None, ◌/◌, ◌+◌, ◌-◌, ◌*◌, ◌<◌, ◌≤◌, min, List, [], ◌∷◌, ◌++◌, length, slice_index, ◌∙◌, refl, sym, subst, arith, inl, inr, ap, cond, true, false, add-one}
 use Rattle.std.specs.Prelude.{Bool, ◌==◌, All, AllPairs, Some, Option, MatchOption}
 use Rattle.std.specs.List.{Contains}
 use Rattle.std.specs.Int.{from_bool}
@@ -13,7 +13,7 @@ use Rattle.std.proofs.lemmas.List.Sums.{sum_by-append, sum_by-cons}
 use Rattle.yds_model.specs.declared.limits.TheConstants.{MAX_GRID, MAX_JOBS, MAX_SLOT_WORK, MAX_WORK}
 use Rattle.yds_model.specs.Numbers.{Each}
 use Rattle.yds_model.specs.Divisor.{common_divisor}
-use Rattle.yds_model.specs.Job.{Job, no_job, job_at}
+use Rattle.yds_model.specs.Job.{Job}
 use Rattle.yds_model.specs.Piece.{Piece}
 use Rattle.yds_model.specs.Event.{stretches}
 use Rattle.yds_model.specs.Audit.{HasSpeed}
@@ -26,7 +26,7 @@ use Rattle.yds_events.specs.Stretch.{IsStretch, no_stretch, length_of}
 use Rattle.yds_events.proofs.Neighbours.{stretches_run, few_stretches}
 use Rattle.yds_events.proofs.InOrder.{starts_rise}
 use Rattle.yds_timetable.specs.Shares.{JobShare, units_given, total_units, shares_in}
-use Rattle.yds_edf.specs.Pending.{sum_below, units_wanted, pending_of_job, is_within}
+use Rattle.yds_edf.specs.Pending.{sum_below, pending_of_job}
 use Rattle.yds_edf.specs.Serving.{IsServing}
 use Rattle.yds_edf.specs.Queue.{JobQueue, new_queue, IsNoEarlier, pending_in, units_left, unfinished, Adds, IsTold, Serves}
 use Rattle.yds_timetable.specs.declared.pace.Pace.{Pace}
@@ -88,23 +88,12 @@ begun jobs grid units = record {
 }
 
 pub none_tabled : (jobs : List Job) (grid : ℕ) → Tabled jobs grid 0 []
-none_tabled jobs grid = record {
-  stretches_are = refl;
-  filled = All-nil IsRow;
-  grains = All-nil (λ row. HasGrain grid row.pace);
-  lowest = All-nil (λ row. IsLowest row.pace row.stretch row.shares);
-  numbered = λ k within. absurd (omega arith);
-}
+none_tabled jobs grid = grind (arith, All-nil)
 
 -- # What a policy is told
 
 pub seen_none : (keeps : JobQueue → Type 0) (queue : JobQueue) → keeps queue → Seen keeps queue []
-seen_none keeps queue kept = record {
-  before = queue;
-  kept = kept;
-  known = All-nil (λ share. share.job < length queue.jobs);
-  adds = record { jobs = refl; grain = refl; time = refl; as_long = refl; served = λ number within. omega arith };
-}
+seen_none keeps queue kept = grind (arith, All-nil)
 
 pub seen_next : (keeps : JobQueue → Type 0) (started new : JobQueue) (number set : ℕ) (shares : List JobShare) → keeps started →
     Serves started new number set shares → Seen keeps new shares
@@ -134,44 +123,26 @@ seen_told keeps queue started from shares seen later starts =
 same_pending : (jobs : List Job) (grid : ℕ) (time : Option ℕ) (served other : ℕ → ℕ) →
     ((number : ℕ) → number < length jobs → served number ≡ other number) →
     pending_of_job jobs grid time served ≡ pending_of_job jobs grid time other
-same_pending jobs grid time served other same =
-    let each : (number : ℕ) → pending_of_job jobs grid time served number ≡ pending_of_job jobs grid time other number =
-    λ number. elim (cases_lt number (length jobs)) [
-      | inl known ↦ ap (λ n. cond (is_within time (job_at jobs number).release) (units_wanted jobs grid number - n) 0) (same number known)
-      | inr beyond ↦
-          let none : job_at jobs number ≡ no_job = get_or-eq_default jobs no_job beyond in
-          let nothing : (n : ℕ) → units_wanted jobs grid number - n ≡ 0 = λ n. omega (arith, ap (λ (job : Job). job.work * grid) none) in
-          ap (λ n. cond (is_within time (job_at jobs number).release) n 0) (nothing (served number) ∙ sym (nothing (other number)))
-    ] in
-    λ i number. each number i
+same_pending jobs grid time served other same = grind (arith, cases_lt, get_or-eq_default)
 
 module _ (jobs : List Job) (grid : ℕ) (i : ℕ) (now : JobQueue) (shares : List JobShare) (known : All (λ share. share.stretch < i) shares)
     (given : Each (length jobs) (λ number. slice_index now.served number ≡ units_given shares number)) where
   -- what the queue holds is what the shares before have left, also once the stretch's own are there
   pub pending_now : (part : List JobShare) → All (λ share. share.stretch ≡ i) part →
       pending_of_job jobs grid (Some (stretch_at jobs i).from) (slice_index now.served) ≡ pending_before jobs grid (shares ++ part) i
-  pending_now part here =
-      same_pending jobs grid (Some (stretch_at jobs i).from) (slice_index now.served) (units_given shares) given
-      ∙ ap (λ (some : List JobShare). pending_of_job jobs grid (Some (stretch_at jobs i).from) (units_given some)) (sym (before_added shares part i known here))
+  pending_now part here = search (arith, rules, before_added, same_pending, slice_index)
 
 -- what a policy tells of the stretch is told of that
 pub told_of : {X : Type 0} (tells : List Job → ℕ → (ℕ → ℕ) → Piece → X) (jobs : List Job) (grid i : ℕ) (now started : JobQueue) (stretch : Piece) (x : X) →
     now.jobs ≡ jobs → now.grain ≡ grid → stretch ≡ stretch_at jobs i → started ≡ record now { time = Some stretch.from } →
     x ≡ tells started.jobs started.grain (pending_in started) stretch →
     x ≡ tells jobs grid (pending_of_job jobs grid (Some (stretch_at jobs i).from) (slice_index now.served)) (stretch_at jobs i)
-told_of tells jobs grid i now started stretch x same_jobs same_grain is starts told =
-    told
-    ∙ ap (λ (queue : JobQueue). tells queue.jobs queue.grain (pending_in queue) stretch) starts
-    ∙ ap (λ (piece : Piece). tells now.jobs now.grain (pending_in (record now { time = Some piece.from })) piece) is
-    ∙ ap (λ (js : List Job). tells js now.grain (pending_of_job js now.grain (Some (stretch_at jobs i).from) (slice_index now.served)) (stretch_at jobs i)) same_jobs
-    ∙ ap (λ (g : ℕ). tells jobs g (pending_of_job jobs g (Some (stretch_at jobs i).from) (slice_index now.served)) (stretch_at jobs i)) same_grain
+told_of tells jobs grid i now started stretch x same_jobs same_grain is starts told = grind (arith, slice_index)
 
 -- and it is served from there
 pub served_from : (jobs : List Job) (i set : ℕ) (now started new : JobQueue) (stretch : Piece) (part : List JobShare) → stretch ≡ stretch_at jobs i →
     started ≡ record now { time = Some stretch.from } → Serves started new i set part → Serves (record now { time = Some (stretch_at jobs i).from }) new i set part
-served_from jobs i set now started new stretch part is starts serves =
-    subst (λ (piece : Piece). Serves (record now { time = Some piece.from }) new i set part) is
-    (subst (λ (queue : JobQueue). Serves queue new i set part) starts serves)
+served_from jobs i set now started new stretch part is starts serves = grind (arith)
 
 -- # One stretch more
 
@@ -201,9 +172,7 @@ module _ (jobs : List Job) (grid : ℕ) (units : (ℕ → ℕ) → Piece → ℕ
       (subst (λ (g : ℕ). IsServing now.jobs by_number (pending_in (queue now.jobs g)) set part) running.same_grain serves.serving)
 
   serving_set : IsServing jobs by_number (pending_before jobs grid (shares ++ part) i) (units (pending_before jobs grid (shares ++ part) i) (stretch_at jobs i)) part
-  serving_set =
-      subst (λ (pending : ℕ → ℕ). IsServing jobs by_number pending (units pending (stretch_at jobs i)) part) held_is
-      (subst (λ (n : ℕ). IsServing jobs by_number held n part) set_is serving_here)
+  serving_set = grind (arith, held_is, serving_here)
 
   -- what is pending before an earlier stretch stays as it was
   pub pending_kept : (k : ℕ) → k < i → pending_before jobs grid shares k ≡ pending_before jobs grid (shares ++ part) k

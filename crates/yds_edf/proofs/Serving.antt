@@ -1,16 +1,16 @@
 -- Serving a stretch job by job: what has been served so far, and that it is what the stretch serves in the end.
-use Rattle.std.proofs.Common.{◌≡◌, ◌≢◌, ℕ, ◌+◌, ◌-◌, ◌<◌, ◌≤◌, ◌⊎◌, min, List, [], ◌∷◌, ◌++◌, length, get_or, slice_index, ◌∙◌, refl, sym, subst, arith, inl, inr, ap, cond, length-set, ◌*◌}
-use Rattle.std.specs.Prelude.{◌==◌, All, AllPairs}
+use Rattle.std.proofs.Common.{◌≡◌, ◌≢◌, ℕ, ◌+◌, ◌-◌, ◌<◌, ◌≤◌, ◌⊎◌, min, List, [], ◌∷◌, ◌++◌, length, get_or, slice_index, ◌∙◌, refl, sym, subst, arith, inl, inr, ap, length-set, ◌*◌}
+use Rattle.std.specs.Prelude.{All, AllPairs}
 use Rattle.std.proofs.lemmas.List.{length-append}
 use Rattle.std.proofs.lemmas.List.Sums.{sum_by_push}
 use Rattle.std.proofs.lemmas.List.Elements.{All-push, All-nil, All-cons, All-get_or}
 use Rattle.std.proofs.lemmas.Bool.{cases_eq, cases_Bool, eq-eqb, ne_eqb}
 use Rattle.std.proofs.Math.Nat.{mul-le-mul_right}
 use Rattle.yds_model.specs.declared.limits.TheConstants.{MAX_WORK}
-use Rattle.yds_model.specs.Job.{Job, no_job, job_at}
+use Rattle.yds_model.specs.Job.{Job}
 use Rattle.yds_model.proofs.Lists.{AllPairs-append}
 use Rattle.yds_timetable.specs.Shares.{JobShare, units_given, total_units}
-use Rattle.yds_edf.specs.Pending.{sum_below, has_arrived, units_wanted}
+use Rattle.yds_edf.specs.Pending.{sum_below, units_wanted}
 use Rattle.yds_edf.specs.Serving.{IsDueBefore}
 use Rattle.yds_edf.specs.Queue.{JobQueue, pending_in, all_pending, units_left, unfinished, Adds, Serves}
 use Rattle.yds_edf.specs.Engine.{TiedQueue, IsTiedQueue, with_served, ServesFirst, ServesTied}
@@ -41,52 +41,25 @@ pub record Progress (start now : TiedQueue) (stretch capacity room : ℕ) (share
   pub finishing : length shares + unfinished_of (length start.queue.jobs) now.queue ≤ unfinished start.queue + 1
 
 pub begin : (start : TiedQueue) (stretch capacity : ℕ) → IsTiedQueue start → Progress start start stretch capacity capacity []
-begin start stretch capacity kept = record {
-  ties = refl;
-  adds = record { jobs = refl; grain = refl; time = refl; as_long = refl; served = λ number within. omega arith };
-  as_long = kept.served;
-  in_stretch = All-nil (λ share. share.stretch ≡ stretch);
-  known = All-nil (λ share. share.job < length start.queue.jobs);
-  some = All-nil (λ share. 1 ≤ share.units);
-  in_order = λ i j d order within. absurd (omega arith);
-  given = λ number within. omega arith;
-  total = omega arith;
-  finished = λ room k d within. absurd (omega arith);
-  earliest = λ number known some k d within. absurd (omega arith);
-  few = λ room. omega arith;
-  finishing = omega arith;
-}
+begin start stretch capacity kept = grind (arith, All-nil)
 
 -- the units pending of a job, once one was served so many more
 pending_here : (tied : TiedQueue) (job units : ℕ) → job < length tied.queue.served → 1 ≤ pending_in tied.queue job →
     units ≤ pending_in tied.queue job →
     units + pending_in (with_served tied job units).queue job ≡ pending_in tied.queue job
-pending_here tied job units within some enough = elim (cases_Bool (has_arrived tied.queue.time (job_at tied.queue.jobs job))) [
-  | inl arrived ↦
-      let here = changed_here tied.queue.served job (slice_index tied.queue.served job + units) within in
-      rw (arrived, here) (omega (arith, rw arrived at enough))
-  | inr not_yet ↦ absurd (omega (arith, rw not_yet at some))
-]
+pending_here tied job units within some enough = grind (arith, cases_Bool, changed_here, slice_index)
 
 -- no more is pending than is wanted
 pub pending_wanted : (queue : JobQueue) (number : ℕ) → pending_in queue number ≤ units_wanted queue.jobs queue.grain number
-pending_wanted queue number = elim (cases_Bool (has_arrived queue.time (job_at queue.jobs number))) [
-  | inl arrived ↦ rw arrived (omega arith)
-  | inr not_yet ↦ rw not_yet (omega arith)
-]
+pending_wanted queue number = grind (arith, cases_Bool)
 
 -- all that is left of a job of which units are pending is pending
 some_pending : (queue : JobQueue) (number : ℕ) → 1 ≤ pending_in queue number → pending_in queue number ≡ units_left queue number
-some_pending queue number some = elim (cases_Bool (has_arrived queue.time (job_at queue.jobs number))) [
-  | inl arrived ↦ rw arrived refl
-  | inr not_yet ↦ absurd (omega (arith, rw not_yet at some))
-]
+some_pending queue number some = grind (arith, cases_Bool)
 
 left_here : (tied : TiedQueue) (job units : ℕ) → job < length tied.queue.served → units ≤ units_left tied.queue job →
     units + units_left (with_served tied job units).queue job ≡ units_left tied.queue job
-left_here tied job units within enough =
-    let here = changed_here tied.queue.served job (slice_index tied.queue.served job + units) within in
-    rw here (omega (arith, enough))
+left_here tied job units within enough = grind (arith, changed_here, slice_index)
 
 left_elsewhere : (tied : TiedQueue) (job units number : ℕ) → number ≢ job →
     units_left (with_served tied job units).queue number ≡ units_left tied.queue number
@@ -101,19 +74,11 @@ pending_elsewhere tied job units number other =
 -- one share more gives its job its units
 given_here : (shares : List JobShare) (share : JobShare) (number : ℕ) → number ≡ share.job →
     units_given (shares ++ share ∷ []) number ≡ units_given shares number + share.units
-given_here shares share number is = omega (
-  arith,
-  sum_by_push (λ (s : JobShare). cond (number == s.job) s.units 0) shares share,
-  ap {B = ℕ} (λ b. cond b share.units 0) (eq-eqb number share.job is),
-)
+given_here shares share number is = grind (arith, eq-eqb, sum_by_push)
 
 given_elsewhere : (shares : List JobShare) (share : JobShare) (number : ℕ) → number ≢ share.job →
     units_given (shares ++ share ∷ []) number ≡ units_given shares number
-given_elsewhere shares share number other = omega (
-  arith,
-  sum_by_push (λ (s : JobShare). cond (number == s.job) s.units 0) shares share,
-  ap {B = ℕ} (λ b. cond b share.units 0) (ne_eqb number share.job other),
-)
+given_elsewhere shares share number other = grind (arith, ne_eqb, sum_by_push)
 
 -- the next job is served
 module _ (start now : TiedQueue) (stretch capacity room : ℕ) (shares : List JobShare)
@@ -131,17 +96,11 @@ module _ (start now : TiedQueue) (stretch capacity room : ℕ) (shares : List Jo
   elsewhere number other = pending_elsewhere now job units number other
 
   no_more : (number : ℕ) → pending_in (with_served now job units).queue number ≤ pending_in now.queue number
-  no_more number = elim (cases_eq number job) [
-    | inl is ↦ rw is (omega (arith, here))
-    | inr other ↦ omega (arith, elsewhere number other)
-  ]
+  no_more number = grind (arith, cases_eq, elsewhere, here)
 
   -- a job that was served before is finished, so it is another
   pub before_it : All (λ earlier. IsDueBefore start.queue.jobs (slice_index start.ties) earlier.job job) shares
-  before_it k d within = elim (progress.earliest job known (omega (arith, some, lesser)) k d within) [
-    | inl is ↦ absurd (omega (arith, some, lesser, rw is at (progress.finished room_left k d within)))
-    | inr before ↦ before
-  ]
+  before_it k d within = grind (arith)
 
   all_left : pending_in now.queue job ≡ units_left now.queue job
   all_left = some_pending now.queue job (omega (arith, some, lesser))
@@ -244,10 +203,7 @@ module _ {start now new : TiedQueue} {stretch capacity room : ℕ} {shares : Lis
 
   first_there : (other : ℕ) → other < length start.queue.jobs → 1 ≤ pending_in now.queue other →
       (job ≡ other) ⊎ IsDueBefore start.queue.jobs (slice_index start.ties) job other
-  first_there other within pending =
-      subst (λ jobs. (job ≡ other) ⊎ IsDueBefore jobs (slice_index start.ties) job other) progress.adds.jobs
-      (subst (λ ties. (job ≡ other) ⊎ IsDueBefore now.queue.jobs (slice_index ties) job other) progress.ties
-      (serves.first other (omega (arith, within, ap (λ (jobs : List Job). length jobs) progress.adds.jobs)) pending))
+  first_there other within pending = grind (arith, slice_index)
 
   pub next_fits : length shares < length start.queue.jobs
   next_fits = share_fits start now stretch capacity room shares progress room_left job units known_there serves.some serves.lesser first_there
@@ -325,13 +281,4 @@ by_number old new stretch capacity shares numbers serves =
 -- no share is of more units than the greatest work has
 pub works : (old new : TiedQueue) (stretch capacity : ℕ) (shares : List JobShare) → IsTiedQueue old →
     ServesTied old new stretch capacity shares → All (λ share. share.units ≤ MAX_WORK * old.queue.grain) shares
-works old new stretch capacity shares kept serves = λ k d within.
-    let job = (get_or shares k d).job in
-    let known = serves.serving.known k d within in
-    omega (
-      arith,
-      share_given shares k d within,
-      serves.serving.within job known,
-      pending_wanted old.queue job,
-      mul-le-mul_right old.queue.grain (kept.jobs job no_job known).work_in_range,
-    )
+works old new stretch capacity shares kept serves = grind (arith, mul-le-mul_right, pending_wanted, share_given)

@@ -169,22 +169,7 @@ filtered_work jobs grid scale test among agree (share ∷ shares) (slot ∷ slot
 -- which slots have ended when a stretch begins
 ended_by : (jobs : List Job) (grid scale k : ℕ) → k < length (stretches jobs) → (share : JobShare) (slot : WholeSlot) → Stands jobs grid scale share slot →
     nat_le slot.to ((stretch_at jobs k).from * scale) ≡ nat_lt share.stretch k
-ended_by jobs grid scale k within share slot stands = elim (cases_lt share.stretch k) [
-  | inl earlier ↦
-      le-leb slot.to ((stretch_at jobs k).from * scale)
-      (omega (arith, stands.to, mul-le-mul_right scale (stretch_order jobs share.stretch k earlier within)))
-      ∙ sym (lt-ltb share.stretch k earlier)
-  | inr later ↦
-      lt-leb slot.to ((stretch_at jobs k).from * scale)
-      (elim (cases_eq share.stretch k) [
-        | inl same ↦ omega (arith, stands.forward, stands.from, ap (λ i. (stretch_at jobs i).from * scale) same)
-        | inr other ↦
-            let before = stretch_order jobs k share.stretch (omega (arith, later, other)) stands.share_is.within in
-            let long = stretch_forward jobs k within in
-            omega (arith, stands.forward, stands.from, mul-le-mul_right scale before, mul-le-mul_right scale (let most : (stretch_at jobs k).from ≤ (stretch_at jobs k).to = omega (arith, long) in most))
-      ])
-      ∙ sym (le-ltb share.stretch k later)
-]
+ended_by jobs grid scale k within share slot stands = grind (arith, cases_eq, cases_lt, le-leb, le-ltb, lt-leb, lt-ltb, mul-le-mul_right, stretch_forward, stretch_order)
 
 module _ (jobs : List Job) (grid : ℕ) (units : (ℕ → ℕ) → Piece → ℕ) (shares : List JobShare) (slots : List WrittenSlot)
     (served : IsServed jobs grid units shares) (laid : IsLaidOut jobs grid shares slots) (scale : ℕ) (is : IsScale scale slots) where

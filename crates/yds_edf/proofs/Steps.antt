@@ -1,5 +1,5 @@
 -- What serving the job at the first place with units keeps of an engine.
-use Rattle.std.proofs.Common.{◌≡◌, ◌≢◌, ℕ, ◌+◌, ◌-◌, ◌<◌, ◌≤◌, min, List, length, set, slice_index, slice_index_or, slice_set, ◌∙◌, refl, sym, arith, inl, inr, ap, cond, length-set, get_or-set_other, get_or-set_same}
+use Rattle.std.proofs.Common.{rules, ◌≡◌, ◌≢◌, ℕ, ◌+◌, ◌-◌, ◌<◌, ◌≤◌, min, List, length, set, slice_index, slice_index_or, slice_set, ◌∙◌, refl, sym, arith, inl, inr, ap, cond, length-set, get_or-set_other, get_or-set_same}
 use Rattle.std.specs.Prelude.{nat_lt}
 use Rattle.std.proofs.lemmas.Bool.{cases_eq, cases_lt, lt-ltb, le-ltb}
 use Rattle.std.proofs.lemmas.List.{get_or_read}
@@ -8,7 +8,7 @@ use Rattle.yds_model.specs.Job.{no_job}
 use Rattle.yds_edf.specs.declared.order.Due.{Due}
 use Rattle.yds_edf.specs.declared.pending.PendingJobs.{PendingJobs}
 use Rattle.yds_edf.specs.Blocks.{IsFirstPlace}
-use Rattle.yds_edf.specs.Order.{no_due, due_at}
+use Rattle.yds_edf.specs.Order.{due_at}
 use Rattle.yds_edf.specs.Pending.{units_wanted}
 use Rattle.yds_edf.specs.Queue.{pending_in, units_left}
 use Rattle.yds_edf.specs.Engine.{TiedQueue, IsTiedQueue, IsEngine, with_served, ServesFirst}
@@ -34,9 +34,7 @@ module _ {tied : TiedQueue} {arrivals : List Due} {arrived : ℕ} {pending : Pen
   job_known = (entry_at tied.queue.jobs tied.ties pending.order.items engine.jobs.ranked.order.same place within).known
 
   pub job_read : (due : Due) → due ≡ slice_index_or pending.order.items place due → (due.job ≡ job) × (due.job < length tied.queue.served)
-  job_read due is =
-      let same : due.job ≡ job = ap (λ (due : Due). due.job) (get_or_read pending.order.items place due within is no_due) in
-      (same, omega (arith, same, job_known, engine.kept.served))
+  job_read due is = grind (arith, get_or_read, job_known, within)
 
   -- the units at the place are what is pending of its job, and all that is left of it
   pub is_pending : slice_index pending.units place ≡ pending_in tied.queue job
@@ -50,34 +48,14 @@ module _ {tied : TiedQueue} {arrivals : List Due} {arrived : ℕ} {pending : Pen
     units = set pending.units place (slice_index pending.units place - more)
 
     left_here : units_left (with_served tied job more).queue job ≡ slice_index pending.units place - more
-    left_here = omega (
-      arith,
-      is_left,
-      changed_here tied.queue.served job (slice_index tied.queue.served job + more) (omega (arith, job_known, engine.kept.served)),
-    )
+    left_here = grind (arith, changed_here, is_left, job_known, slice_index)
 
     left_elsewhere : (number : ℕ) → number ≢ job → units_left (with_served tied job more).queue number ≡ units_left tied.queue number
     left_elsewhere number other =
         ap (λ n. units_wanted tied.queue.jobs tied.queue.grain number - n) (changed_elsewhere tied.queue.served job number _ other)
 
     kept_after : IsTiedQueue (with_served tied job more)
-    kept_after = record {
-      few = engine.kept.few;
-      jobs = engine.kept.jobs;
-      some_grain = engine.kept.some_grain;
-      grain_in_range = engine.kept.grain_in_range;
-      ties = engine.kept.ties;
-      different = engine.kept.different;
-      served = length-set _ _ _ ∙ engine.kept.served;
-      within = λ number known. elim (cases_eq number job) [
-        | inl same ↦ rw (
-          same,
-          changed_here tied.queue.served job (slice_index tied.queue.served job + more) (omega (arith, job_known, engine.kept.served)),
-        )
-            (omega (arith, enough, is_left, engine.kept.within job job_known))
-        | inr other ↦ rw (changed_elsewhere tied.queue.served job number (slice_index tied.queue.served job + more) other) (engine.kept.within number known)
-      ];
-    }
+    kept_after = grind (arith, cases_eq, changed_elsewhere, changed_here, is_left, job_known, length-set, slice_index, within)
 
     placed_after : (k : ℕ) → k < length arrivals →
         slice_index units (slice_index pending.places.items (due_at arrivals k).job)
@@ -103,25 +81,10 @@ module _ {tied : TiedQueue} {arrivals : List Due} {arrived : ℕ} {pending : Pen
         ]
 
     pub served_some : IsEngine (with_served tied job more) arrivals arrived (record pending { units = units })
-    served_some = record {
-      kept = kept_after;
-      jobs = record {
-        ranked = ranked_with engine.jobs.ranked units (length-set pending.units place (slice_index pending.units place - more));
-        same = engine.jobs.same;
-        rising = engine.jobs.rising;
-        placed = placed_after;
-      };
-      come = engine.come;
-    }
+    served_some = grind (arith, kept_after, length-set, placed_after, ranked_with, slice_index)
 
   pub serves_first : (room more : ℕ) → 1 ≤ room → more ≡ min (slice_index pending.units place) room → ServesFirst tied (with_served tied job more) room job more
-  serves_first room more some is = record {
-    known = job_known;
-    some = omega (arith, is, some, first.some);
-    lesser = omega (arith, is, is_pending);
-    first = first_is_due engine place first;
-    after = refl;
-  }
+  serves_first room more some is = search (arith, rules, first_is_due, is_pending, job_known)
 
 -- what `serve_first` reads: the entry at the place, the units there, how many of them are served, and those that the job was served
 -- before; and the units that it leaves

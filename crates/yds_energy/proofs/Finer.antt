@@ -1,5 +1,5 @@
 -- Numbers and slots in parts that are k times as fine, and the one law of scale for all that is said of slots.
-use Rattle.std.proofs.Common.{◌≡◌, ◌⊎◌, ℕ, ◌-◌, ◌*◌, ◌<◌, ◌≤◌, List, [], ◌∷◌, map, min, refl, sym, ap, arith, inl, inr, Bool, true, false, cond, if◌then◌else◌, nat_le, nat_lt, ◌==◌, ◌↔◌, filter}
+use Rattle.std.proofs.Common.{◌≡◌, ◌⊎◌, ℕ, ◌-◌, ◌*◌, ◌<◌, ◌≤◌, List, [], ◌∷◌, map, min, refl, sym, arith, Bool, true, false, cond, if◌then◌else◌, nat_le, nat_lt, ◌==◌, ◌↔◌, filter}
 use Rattle.std.proofs.lemmas.Bool.{cases_order}
 use Rattle.std.proofs.lemmas.Bool.Decides.{nat_tests}
 use Rattle.std.proofs.Math.Nat.{one-mul, mul-sub, mul-lt-mul_of_pos_left}
@@ -12,11 +12,7 @@ use Rattle.yds_model.proofs.Scale.{finer, finer_slots, IsKept, one_scale_of}
 
 -- k times two numbers are in the order that the numbers are in
 pub order_of_multiples : (k x y : ℕ) → 1 ≤ k → ((x < y) × (k * x < k * y)) ⊎ (((x ≡ y) × (k * x ≡ k * y)) ⊎ ((y < x) × (k * y < k * x)))
-order_of_multiples k x y some = elim (cases_order x y) [
-  | inl same ↦ inr (inl (same, ap (λ n. k * n) same))
-  | inr (inl less) ↦ inl (less, mul-lt-mul_of_pos_left less some)
-  | inr (inr more) ↦ inr (inr (more, mul-lt-mul_of_pos_left more some))
-]
+order_of_multiples k x y some = grind (arith, cases_order, mul-lt-mul_of_pos_left)
 
 -- k as a factor
 module _ (k : ℕ) where
@@ -106,12 +102,7 @@ IsFreeOfScale P = (a b scale : ℕ) (slots : List WholeSlot) → 1 ≤ a → 1 �
 
 -- so it says the same of written slots at a scale and at a multiple
 free_kept : (P : ℕ → List WholeSlot → Type 0) → IsFreeOfScale P → (slots : List WrittenSlot) → IsKept slots P
-free_kept P free slots scale k is some =
-    let whole : List WholeSlot = slots_at scale slots in
-    rw (finer_slots k scale slots is) (
-      λ at. free 1 k scale whole (omega arith) some is.positive (simp (one-mul, same_parts) at),
-      λ at. simp (one-mul, same_parts) at (free k 1 scale whole some (omega arith) is.positive at),
-    )
+free_kept P free slots scale k is some = grind (arith, finer_slots, one-mul)
 
 -- The law: what is free of scale, and is said of written slots at one of their scales, is said at each.
 pub each_scale_of : (P : ℕ → List WholeSlot → Type 0) → IsFreeOfScale P → (slots : List WrittenSlot) (scale : ℕ) → IsScale scale slots →

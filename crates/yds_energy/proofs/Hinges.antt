@@ -1,5 +1,5 @@
 -- The energy of one slot, by a convex table: the number of the first line, and what each later point adds above its speed.
-use Rattle.std.proofs.Common.{◌≡◌, ℕ, ◌+◌, ◌-◌, ◌*◌, ◌<◌, ◌≤◌, List, [], ◌∷◌, refl, arith, inl, inr, ap, ◌∙◌, ℤ, pos, ◌*ℤ◌, fold, mul-le-mul_left, mul-le-mul_right}
+use Rattle.std.proofs.Common.{◌≡◌, ℕ, ◌+◌, ◌-◌, ◌*◌, ◌<◌, ◌≤◌, List, [], ◌∷◌, refl, arith, ap, ◌∙◌, ℤ, pos, ◌*ℤ◌, fold, mul-le-mul_left, mul-le-mul_right}
 use Rattle.std.specs.Int.{int_max}
 use Rattle.std.proofs.lemmas.Bool.{cases_lt}
 use Rattle.yds_model.specs.Table.{Point, AreRising, IsConvex, IsOnOrBelow, gaps_of}
@@ -53,12 +53,7 @@ turned low high next power low_power next_power g d c time work first second ben
 later_gains : (low high next : Point) (time work : ℕ) → low.speed < high.speed → high.speed < next.speed → IsOnOrBelow low next high →
     (high.speed - low.speed) * gains high next time work + (next.speed - high.speed) * losses low high time work + turn low high next * (high.speed * time)
     ≡ (high.speed - low.speed) * losses high next time work + (next.speed - high.speed) * gains low high time work + turn low high next * work
-later_gains low high next time work first second convex =
-    let g : ℕ = high.speed - low.speed in
-    let d : ℕ = next.speed - high.speed in
-    let whole : next.speed - low.speed ≡ g + d = omega arith in
-    turned low.speed high.speed next.speed high.power low.power next.power g d (turn low high next) time work (omega arith) (omega arith)
-    (omega (arith, convex, ap (λ n. high.power * n) whole))
+later_gains low high next time work first second convex = grind (arith, turned, ℕ)
 
 -- # All lines
 
@@ -89,18 +84,7 @@ no_hinges before low high (next ∷ points) time work rising slow =
 joined : (a b c d above weight work edge : ℕ) (x y : ℤ) → c + b + weight * edge ≡ d + a + weight * work →
     IsDifference a b x → IsDifference (c + above) d y → (work ≤ edge → above ≡ 0) →
     IsDifference (a + (weight * (1 * work - edge) + above)) b (int_max x y)
-joined a b c d above weight work edge x y meet first rest low = elim (cases_lt edge work) [
-  | inl beyond ↦
-      let whole : edge + (1 * work - edge) ≡ work = omega (arith, beyond) in
-      let steeper = ap (λ n. weight * n) whole in
-      omega (arith, steeper, meet, difference_second a b (c + above) d x y first rest (omega (arith, steeper, meet)))
-  | inr within ↦
-      let none : 1 * work - edge ≡ 0 = omega (arith, within) in
-      let flat = ap (λ n. weight * n) none in
-      let nothing : above ≡ 0 = low within in
-      let less : weight * work ≤ weight * edge = mul-le-mul_left weight within in
-      omega (arith, flat, nothing, difference_first a b (c + above) d x y first rest (omega (arith, nothing, meet, less)))
-]
+joined a b c d above weight work edge x y meet first rest low = grind (arith, cases_lt, difference_first, difference_second, mul-le-mul_left)
 
 -- the meeting of two lines, times the other gaps
 meeting : (k g d c gains losses next_gains next_losses work edge front back : ℕ) → front ≡ k * d → back ≡ k * g →

@@ -108,10 +108,7 @@ lines_at_least points k (slot ∷ slots) within =
 
 -- a bound that is times a gap
 pub cancel_gap : (gap a b cost : ℕ) (z : ℤ) → 0 < gap → IsAtLeast a b gap z → a ≡ b + gap * cost → IsAtLeast cost 0 1 z
-cancel_gap gap a b cost z some least is =
-    let less : gap * (cost + down z) ≤ gap * up z = omega (arith, least, is) in
-    let bound : cost + down z ≤ up z = le_of_mul-le-mul_left {k = gap} less some in
-    omega (arith, bound)
+cancel_gap gap a b cost z some least is = grind (arith, le_of_mul-le-mul_left)
 
 -- at the lower end of a line
 low_end : (all p r low high time : ℕ) → low < high →

@@ -10,12 +10,7 @@ use Rattle.yds_energy.proofs.OneEnergy.{places_rise, read_point, one_point}
 
 -- no point is slower than an earlier one
 places_order : (points : List Point) (i j : ℕ) → AreRising points → i ≤ j → j < length points → (point_at points i).speed ≤ (point_at points j).speed
-places_order points i j rising order within = elim (cases_lt i j) [
-  | inl less ↦ omega (arith, places_rise points i j rising less within)
-  | inr more ↦
-      let same : i ≡ j = omega (arith, order, more) in
-      omega (arith, ap (λ n. (point_at points n).speed) same)
-]
+places_order points i j rising order within = grind (arith, cases_lt, places_rise)
 
 -- a level between two neighbours has no point's speed
 not_between : (hull : List Point) (level : Level) (low high point : Point) → AreRising hull → AreNeighbours hull level low high → Contains hull point →
@@ -37,12 +32,7 @@ not_between hull level low high point rising around has at =
 -- the neighbours around a level's speed come not before others around it
 not_before : (hull : List Point) (level : Level) (low high other_low other_high : Point) → AreRising hull → (around : AreNeighbours hull level low high) →
     (others : AreNeighbours hull level other_low other_high) → around.place < others.place → ⊥
-not_before hull level low high other_low other_high rising around others before =
-    let high_speed = ap (λ (x : Point). x.speed) around.is_high in
-    let low_speed = ap (λ (x : Point). x.speed) others.is_low in
-    let slower : high.speed ≤ other_low.speed =
-    omega (arith, high_speed, low_speed, places_order hull (around.place + 1) others.place rising (omega (arith, before)) (omega (arith, others.within))) in
-    omega (arith, mul-le-mul_right level.length slower, around.below_high, others.above_low)
+not_before hull level low high other_low other_high rising around others before = grind (arith, mul-le-mul_right, places_order)
 
 -- so they are the same
 one_place : (hull : List Point) (level : Level) (low high other_low other_high : Point) → AreRising hull → (around : AreNeighbours hull level low high) →

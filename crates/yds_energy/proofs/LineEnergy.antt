@@ -11,15 +11,11 @@ use Rattle.yds_energy.proofs.Hinges.{product-cons}
 
 -- a multiple of a number is at most that of the greater of it and another
 times_first : (n : ℕ) (x y : ℤ) → (pos n *ℤ x) ≤ℤ (pos n *ℤ int_max x y)
-times_first n x y =
-    let order : up x + down (int_max x y) ≤ up (int_max x y) + down x = omega (arith, clamps) in
-    omega (arith, ints, mul-le-mul_left n order)
+times_first n x y = grind (arith, clamps, ints, mul-le-mul_left)
 
 -- and so is what is at most a multiple of the other
 times_second : (n : ℕ) (x y z : ℤ) → z ≤ℤ (pos n *ℤ y) → z ≤ℤ (pos n *ℤ int_max x y)
-times_second n x y z under =
-    let order : up y + down (int_max x y) ≤ up (int_max x y) + down y = omega (arith, clamps) in
-    omega (arith, ints, under, mul-le-mul_left n order)
+times_second n x y z under = grind (arith, clamps, ints, mul-le-mul_left)
 
 -- the product of all gaps is that of the others, times its own
 own_gap : (all gap others : ℕ) (line : ℤ) → all ≡ gap * others → (pos all *ℤ line) ≤ℤ (pos gap *ℤ (pos others *ℤ line))

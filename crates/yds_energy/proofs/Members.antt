@@ -4,7 +4,7 @@ use Rattle.std.specs.List.{All}
 use Rattle.std.proofs.lemmas.List.Sums.{get_or-le-sum_by}
 use Rattle.yds_model.specs.Numbers.{count}
 use Rattle.yds_model.specs.Slot.{WholeSlot, work_given}
-use Rattle.yds_model.proofs.Sums.{sum_by_same, sum_by_zero}
+use Rattle.yds_model.proofs.Sums.{sum_by_same}
 use Rattle.yds_laws.proofs.Group.{group}
 use Rattle.yds_model.proofs.Horizon.{work_by_jobs}
 
@@ -13,11 +13,6 @@ pub group_once : (f : WholeSlot → ℕ) (members : List ℕ) (slots : List Whol
     group f members slots ≡ sum_by f slots
 group_once f members slots once =
     sum_by_same (λ slot. count slot.job members * f slot) f slots (λ k d inside. omega (arith, ap (λ n. n * f (get_or slots k d)) (once k d inside)))
-
--- and those whose jobs aren't counted none
-pub group_none : (f : WholeSlot → ℕ) (members : List ℕ) (slots : List WholeSlot) → All (λ slot. count slot.job members ≡ 0) slots → group f members slots ≡ 0
-group_none f members slots none =
-    sum_by_zero (λ slot. count slot.job members * f slot) slots (λ k d inside. omega (arith, ap (λ n. n * f (get_or slots k d)) (none k d inside)))
 
 -- slots that give each job the same do the same work
 pub same_work : (slots others : List WholeSlot) → ((job : ℕ) → work_given slots job ≡ work_given others job) →

@@ -37,14 +37,7 @@ scale_joined scale slots others one other = record {
 
 -- a multiple of a scale is one
 pub scale_times : (scale k : ℕ) (slots : List WrittenSlot) → 1 ≤ k → IsScale scale slots → IsScale (scale * k) slots
-scale_times scale k slots some is = record {
-  positive = mul-pos is.positive some;
-  divided = All-weaker (IsDivided scale) (IsDivided (scale * k)) (λ slot divided. record {
-    from = dvd-mul_right_of_dvd slot.from.den divided.from k;
-    to = dvd-mul_right_of_dvd slot.to.den divided.to k;
-    work = dvd-mul_right_of_dvd slot.work.den divided.work k;
-  }) slots is.divided;
-}
+scale_times scale k slots some is = grind (arith, All-weaker, dvd-mul_right_of_dvd, mul-pos)
 
 -- # Parts of a plan
 

@@ -1,5 +1,5 @@
 -- The energy of written schedules that are least, and so of plans: at most that of every feasible schedule.
-use Rattle.std.proofs.Common.{◌≤◌, List, [], ◌∷◌, ◌++◌, length, sym, arith, ap, ◌∙◌}
+use Rattle.std.proofs.Common.{List, ◌++◌, arith}
 use Rattle.std.proofs.lemmas.List.Elements.{All-append}
 use Rattle.yds_model.specs.Slot.{IsSolid, slots_at}
 use Rattle.yds_model.specs.Table.{Point, IsTable, IsHullOf}
@@ -29,19 +29,9 @@ pub plans_cost_least : PlansCostLeast
 plans_cost_least jobs slots levels points scale others plan table convex is feasible =
     least_is_cheapest jobs points scale (slots_at scale slots) others table convex ((plans_are_least jobs slots levels plan).0.holds scale is) feasible
 
--- the hull of a table is a table
-hull_some : (points hull : List Point) → IsTable points → IsHullOf points hull → 1 ≤ length hull
-hull_some [] [] table is_hull = table.some
-hull_some (point ∷ points) [] table is_hull = absurd is_hull.part
-hull_some points (low ∷ hull) table is_hull = omega arith
-
 -- with a first point, idle, and rising
 pub hull_table : (points hull : List Point) → IsTable points → IsHullOf points hull → IsTable hull
-hull_table points hull table is_hull = record {
-  some = hull_some points hull table is_hull;
-  idle = ap (λ (x : Point). x.speed) (sym (hull_first points hull is_hull)) ∙ table.idle;
-  rising = hull_rising points hull table.rising is_hull;
-}
+hull_table points hull table is_hull = grind (arith, hull_first, hull_rising)
 
 -- by the hull the plan costs at most what the other schedule does, and that spends at least as much on the points
 pub plans_cost_least_on_points : PlansCostLeastOnPoints

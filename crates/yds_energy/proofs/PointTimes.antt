@@ -21,10 +21,7 @@ use Rattle.yds_energy.proofs.OneEnergy.{rising_tail, places_rise, one_point}
 
 -- the first of more than one point isn't the last
 top_later : (low high : Point) (points : List Point) → top_of (low ∷ high ∷ points) ≡ top_of (high ∷ points)
-top_later low high points =
-    let longer : suc (suc (length points)) - 1 ≡ suc (length points) = omega arith in
-    let shorter : suc (length points) - 1 ≡ length points = omega arith in
-    ap (λ n. (point_at (low ∷ high ∷ points) n).speed) longer ∙ sym (ap (λ n. (point_at (high ∷ points) n).speed) shorter)
+top_later low high points = grind (arith)
 
 -- from a point on, the hull ends where the points do
 goes_top : (low : Point) (points hull : List Point) → GoesOn low points hull → top_of (low ∷ points) ≡ top_of (low ∷ hull)

@@ -33,9 +33,7 @@ gaps_positive (low ∷ high ∷ points) rising =
 
 -- what is at most another by the hull is so without its gaps
 without_gaps : (all mine others : ℕ) (energy : ℤ) → 1 ≤ all → energy ≡ pos (all * mine) → energy ≤ℤ pos (all * others) → mine ≤ others
-without_gaps all mine others energy some is most =
-    let less : all * mine ≤ all * others = omega (arith, ints, is, most) in
-    le_of_mul-le-mul_left {k = all} less some
+without_gaps all mine others energy some is most = grind (arith, ints, le_of_mul-le-mul_left)
 
 -- from a common scale to the other schedule's
 from_common : (num den mine spent fine scale : ℕ) → 1 ≤ fine → mine * den ≡ num * (fine * scale) → mine ≤ fine * spent → num * scale ≤ spent * den

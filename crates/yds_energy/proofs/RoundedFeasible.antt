@@ -65,27 +65,11 @@ pub record IsOpen (jobs : List Job) (stretch : Piece) (number : ℕ) : Type 0 wh
 -- a slot that takes time in the stretch and lies in its job's window is of a job that may run in all of it
 pub slot_open : (jobs : List Job) (stretch : Piece) (scale : ℕ) (slot : WholeSlot) → IsBetweenEvents jobs stretch → IsInWindow jobs scale slot →
     slot.from < slot.to → LiesIn scale slot stretch → IsOpen jobs stretch slot.job
-slot_open jobs stretch scale slot between window takes lies =
-    let number = slot.job in
-    record {
-      known = window.known;
-      released = elim (between.release number window.known) [
-        | inl before ↦ before
-        | inr after ↦ absurd (omega (arith, mul-le-mul_right scale after, window.released, takes, lies.to))
-      ];
-      due = elim (between.deadline number window.known) [
-        | inl before ↦ absurd (omega (arith, mul-le-mul_right scale before, window.due, takes, lies.from))
-        | inr after ↦ after
-      ];
-    }
+slot_open jobs stretch scale slot between window takes lies = grind (arith, mul-le-mul_right)
 
 -- and a slot of such a job in the stretch lies in the job's window
 open_slot : (jobs : List Job) (stretch : Piece) (scale : ℕ) (slot : WholeSlot) → IsOpen jobs stretch slot.job → LiesIn scale slot stretch → IsInWindow jobs scale slot
-open_slot jobs stretch scale slot is lies = record {
-  known = is.known;
-  released = omega (arith, mul-le-mul_right scale is.released, lies.from);
-  due = omega (arith, mul-le-mul_right scale is.due, lies.to);
-}
+open_slot jobs stretch scale slot is lies = grind (arith, mul-le-mul_right)
 
 -- a written slot that lies in the stretch does so at a scale
 lies_at_scale : (scale : ℕ) (slot : WrittenSlot) (stretch : Piece) → 1 ≤ scale → IsDivided scale slot → LiesWritten slot stretch →
@@ -114,21 +98,11 @@ pub record RunsInStretch (jobs : List Job) (scale : ℕ) (stretch : Piece) (plan
 -- the slots of a plan that lie in it do so
 stretch_kept : (jobs : List Job) (levels : List Level) (scale : ℕ) (stretch : Piece) (slots : List WholeSlot) → IsPartOfPlan jobs levels slots scale →
     All (λ slot. LiesIn scale slot stretch) slots → RunsInStretch jobs scale stretch slots slots
-stretch_kept jobs levels scale stretch slots part lies = record {
-  order = run_later 0 (stretch.from * scale) slots part.order (λ k d within. (lies k d within).from);
-  ends = λ k d within. (lies k d within).to;
-  windows = part.windows;
-  same_work = λ job. refl;
-}
+stretch_kept jobs levels scale stretch slots part lies = grind (arith, run_later)
 
 -- the time at the faster point is at most the stretch
 switch_within : (time long work low high all : ℕ) → low * long < work → work < high * long → time * (long * (high - low)) ≡ (work - low * long) * all → time ≤ all
-switch_within time long work low high all above below is =
-    let rises : low < high = lt_of_mul-lt-mul_right long (omega (arith, above, below)) in
-    let gap : long * (high - low) ≡ long * high - long * low = mul-sub long high low in
-    let more : work - low * long ≤ long * (high - low) = omega (arith, gap, above, below) in
-    let some : 0 < long * (high - low) = omega (arith, more, above) in
-    le_of_mul-le-mul_right {k = long * (high - low)} (omega (arith, is, mul-le-mul_right all more)) some
+switch_within time long work low high all above below is = grind (arith, le_of_mul-le-mul_right, lt_of_mul-lt-mul_right, mul-le-mul_right, mul-sub)
 
 -- so the switch comes within the stretch
 pub time_within : (scale : ℕ) (level : Level) (low high : Point) (stretch : Piece) (planned fast slow : List WholeSlot) → low.speed * level.length < level.work →

@@ -128,20 +128,11 @@ pub record IsCost (points hull : List Point) (scale : ℕ) (stretch : Piece) (he
 
 -- in plain numbers: an empty one
 empty_is : (gaps multiple power time cost : ℕ) → cost ≡ power * (time * multiple) → gaps * cost + multiple * 0 ≡ multiple * 0 + multiple * (gaps * (power * (time - 0)))
-empty_is gaps multiple power time cost is =
-    let left : time - 0 ≡ time = omega arith in
-    omega (arith, ap (λ n. gaps * n) is, ap (λ n. multiple * (gaps * (power * n))) left)
+empty_is gaps multiple power time cost is = grind (arith)
 
 empty_cost : (points : List Point) (low : Point) (hull : List Point) (scale : ℕ) (stretch : Piece) → AreRising points → AreRising (low ∷ hull) → Contains points low →
     IsCost points (low ∷ hull) scale stretch []
-empty_cost points low hull scale stretch rising rises has =
-    let time : ℕ = (stretch.to - stretch.from) * scale in
-    let multiple : ℕ = multiple_of_all (gaps_of (low ∷ hull)) in
-    record {
-      short = omega arith;
-      cost = empty_is (product (gaps_of (low ∷ hull))) multiple low.power time (point_energy points multiple time 0 (low ∷ hull))
-          (idle_energy points low hull multiple time rising rises has);
-    }
+empty_cost points low hull scale stretch rising rises has = grind (arith, empty_is, idle_energy, point_energy, ℕ)
 
 -- the energies of slots by a table of one point
 only_ups : (only : Point) (slots : List WholeSlot) → ups (only ∷ []) slots ≡ only.power * busy slots

@@ -78,11 +78,7 @@ all_hold_free jobs points a b scale slots some more positive at = λ i other wit
 -- the first for which it isn't,
 pub first_failure_free : (jobs : List Job) (points : List Point) (n place : ℕ) →
     IsFreeOfScale (λ scale whole. IsFirstFailure n (λ i. HoldsStretch points scale whole (stretch_at jobs i)) place)
-first_failure_free jobs points n place a b scale slots some more positive at = record {
-  within = at.within;
-  before = λ i below. holds_free points (stretch_at jobs i) a b scale slots some more positive (at.before i below);
-  fails = λ holds. at.fails (holds_free points (stretch_at jobs place) b a scale slots more some positive holds);
-}
+first_failure_free jobs points n place a b scale slots some more positive at = grind (arith, holds_free)
 
 -- and the units that it serves.
 pub units_free : (grid units : ℕ) (stretch : Piece) → IsFreeOfScale (λ scale whole. units * scale ≡ grid * work_in scale stretch whole)

@@ -22,9 +22,7 @@ lies scale stretch slot = nat_le (stretch.from * scale) slot.from && nat_le slot
 
 -- a slot that passes lies there
 pub lies_told : (scale : ℕ) (stretch : Piece) (slot : WholeSlot) → lies scale stretch slot ≡ true → LiesIn scale slot stretch
-lies_told scale stretch slot passes =
-    let both = and_parts _ _ passes in
-    record { from = leb-true _ _ both.0; to = leb-true _ _ both.1 }
+lies_told scale stretch slot passes = grind (arith, and_parts, leb-true)
 
 -- and one that lies there passes
 pub lies_passes : (scale : ℕ) (stretch : Piece) (slot : WholeSlot) → LiesIn scale slot stretch → lies scale stretch slot ≡ true
@@ -73,10 +71,7 @@ part_once scale n start slot (stretch ∷ stretches) run takes there = elim (cas
 -- one slot more in a stretch
 in_more : (f : WholeSlot → ℕ) (scale : ℕ) (slot : WholeSlot) (slots : List WholeSlot) (stretch : Piece) →
     sum_by f (slots_in scale stretch (slot ∷ slots)) ≡ part scale slot (f slot) stretch + sum_by f (slots_in scale stretch slots)
-in_more f scale slot slots stretch = elim (cases_Bool (lies scale stretch slot)) [
-  | inl passes ↦ rw passes (sum_by-cons f slot (slots_in scale stretch slots))
-  | inr fails ↦ rw fails (omega arith)
-]
+in_more f scale slot slots stretch = grind (arith, cases_Bool, sum_by-cons)
 
 -- So a sum over the slots is that over the stretches of those in each.
 pub sum_in_stretches : (f : WholeSlot → ℕ) (scale start : ℕ) (stretches : List Piece) (slots : List WholeSlot) → PiecesFrom start stretches →

@@ -24,9 +24,7 @@ within_none top slots within =
 
 -- and slots that do nothing above a speed stay at or below it
 pub none_within : (top : ℕ) (slots : List WholeSlot) → excess top 1 slots ≡ 0 → All (IsWithinTop top) slots
-none_within top slots none k d inside =
-    let part = get_or-le-sum_by (λ (slot : WholeSlot). 1 * slot.work - top * (slot.to - slot.from)) slots k d inside in
-    omega (arith, part, none)
+none_within top slots none k d inside = grind (arith, get_or-le-sum_by)
 
 -- a level of a plan that is faster than a speed shows that no feasible schedule stays at or below it
 unserved : (top : ℕ) (jobs : List Job) (slots : List WrittenSlot) (levels : List Level) (k : ℕ) (level : Level) → IsPlan jobs slots levels → k < length levels →

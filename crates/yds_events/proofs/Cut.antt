@@ -1,6 +1,6 @@
 -- How sorted keys cut time: a time more behind others, and the places of the keys' times.
-use Rattle.std.proofs.Common.{◌≡◌, ℕ, suc, ◌+◌, ◌-◌, ◌<◌, ◌≤◌, List, [], ◌∷◌, ◌++◌, length, get_or, set, map, take, ◌∙◌, refl, sym, ap, inl, inr, arith}
-use Rattle.std.specs.Prelude.{◌==◌, Bool, true, false, cond, nat_lt}
+use Rattle.std.proofs.Common.{◌≡◌, ℕ, ◌+◌, ◌-◌, ◌<◌, ◌≤◌, List, [], ◌∷◌, ◌++◌, length, get_or, set, map, take, ◌∙◌, refl, sym, ap, inl, inr, arith}
+use Rattle.std.specs.Prelude.{◌==◌, Bool, true, false, cond}
 use Rattle.std.specs.List.{All, dedup, dedup_from}
 use Rattle.std.proofs.lemmas.Bool.{cases_Bool, cases_eq, and_parts, lt-ltb, ltb-true, eqb-true}
 use Rattle.std.proofs.lemmas.List.{get_or_append_left, get_or_default, get_or_push, get_or-set_same, get_or-set_other, length_push, map_more}
@@ -15,25 +15,7 @@ pub record Added (times : List ℕ) (time : ℕ) (more : List ℕ) : Type 0 wher
   pub few : length more ≤ length times + 1
 
 pub added : (times : List ℕ) (time : ℕ) → Added times time (with_end times time)
-added times time = elim (cases_Bool (ends_with times time)) [
-  | inl ends ↦
-      let parts = and_parts (nat_lt 0 (length times)) (time == get_or times (length times - 1) 0) ends in
-      rw ends (record {
-        last = record {
-          within = omega (arith, ltb-true 0 (length times) parts.0);
-          is = sym (eqb-true time (get_or times (length times - 1) 0) parts.1);
-        };
-        kept = λ other place at. at;
-        few = omega arith;
-      })
-  | inr new ↦
-      let count = length_push times time in
-      rw new (record {
-        last = record { within = omega (arith, count); is = get_or_push times time 0 (length (times ++ time ∷ []) - 1) (omega (arith, count)) };
-        kept = λ other place at. record { within = omega (arith, at.within, count); is = get_or_append_left times (time ∷ []) 0 place at.within ∙ at.is };
-        few = omega (arith, count);
-      })
-]
+added times time = grind (arith, and_parts, cases_Bool, eqb-true, get_or_append_left, get_or_push, length_push, ltb-true)
 
 -- # What stays without repeats
 
@@ -43,10 +25,7 @@ cond_after first false xs ys = refl
 
 -- a time before others
 same_end : (first next time : ℕ) (times : List ℕ) → ends_with (first ∷ next ∷ times) time ≡ ends_with (next ∷ times) time
-same_end first next time times =
-    let one : length (next ∷ times) - 1 ≡ length times = omega arith in
-    let two : length (first ∷ next ∷ times) - 1 ≡ suc (length times) = omega arith in
-    rw (one, two, lt-ltb 0 (length (next ∷ times)) (omega arith), lt-ltb 0 (length (first ∷ next ∷ times)) (omega arith)) refl
+same_end first next time times = grind (arith, lt-ltb)
 
 last_cons : (first : ℕ) (times : List ℕ) (time : ℕ) → 1 ≤ length times → first ∷ with_end times time ≡ with_end (first ∷ times) time
 last_cons first [] time some = absurd (omega arith)

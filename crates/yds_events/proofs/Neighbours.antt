@@ -1,6 +1,6 @@
 -- The stretches of jobs: each is from an event point to the next, so they follow one another and no release or deadline lies
 -- inside one.
-use Rattle.std.proofs.Common.{◌≡◌, ℕ, zero, suc, ◌+◌, ◌*◌, ◌<◌, ◌≤◌, List, [], ◌∷◌, length, get_or, ◌∙◌, refl, ap, inl, inr, arith, add-one}
+use Rattle.std.proofs.Common.{◌≡◌, ℕ, zero, suc, ◌+◌, ◌*◌, ◌<◌, ◌≤◌, List, [], ◌∷◌, length, get_or, refl, ap, inl, inr, arith, add-one}
 use Rattle.std.specs.List.{All, flat_map}
 use Rattle.std.proofs.lemmas.List.{get_or_read}
 use Rattle.std.proofs.lemmas.Bool.{cases_lt}
@@ -143,7 +143,4 @@ stretch_with jobs j time known from below =
 -- a stretch that is read from the list of them
 pub stretch_read : (jobs : List Job) (timeline : List Piece) (k : ℕ) (read seen : Piece) → timeline ≡ stretches jobs → k < length (stretches jobs) →
     read ≡ get_or timeline k read → seen ≡ read → seen ≡ stretch_at jobs k
-stretch_read jobs timeline k read seen are within is view =
-    view
-    ∙ get_or_read timeline k read (omega (arith, within, ap (λ (pieces : List Piece). length pieces) are)) is no_stretch
-    ∙ ap (λ (pieces : List Piece). get_or pieces k no_stretch) are
+stretch_read jobs timeline k read seen are within is view = grind (arith, get_or_read)

@@ -1,5 +1,5 @@
 -- The jobs in order of deadline: those whose deadlines sorted keys have.
-use Rattle.std.proofs.Common.{◌≡◌, ℕ, ◌+◌, ◌*◌, ◌%◌, ◌<◌, ◌≤◌, ◌⊎◌, List, ◌∙◌, length, get_or, map, true, ap, inl, inr, arith}
+use Rattle.std.proofs.Common.{◌≡◌, ℕ, ◌+◌, ◌*◌, ◌%◌, ◌<◌, ◌≤◌, ◌⊎◌, List, ◌∙◌, length, get_or, map, true, ap, arith}
 use Rattle.std.specs.List.{All, filter}
 use Rattle.std.proofs.lemmas.Bool.{cases_lt, eq-eqb, eqb-true}
 use Rattle.std.proofs.lemmas.List.{get_or-map, get_or_default, length-map}
@@ -32,10 +32,7 @@ due jobs key is odd =
 -- keys in order are jobs in order
 keys_precede : (deadline j deadline' j' : ℕ) → deadline * 4294967296 + (2 * j + 1) < deadline' * 4294967296 + (2 * j' + 1) → 2 * j + 1 < 4294967296 → 2 * j' + 1 < 4294967296 →
     (deadline < deadline') ⊎ ((deadline ≡ deadline') × (j ≤ j'))
-keys_precede deadline j deadline' j' before small small' = elim (cases_lt deadline deadline') [
-  | inl less ↦ inl less
-  | inr more ↦ inr (omega arith, omega arith)
-]
+keys_precede deadline j deadline' j' before small small' = grind (arith, cases_lt)
 
 pub keys_order : (jobs : List Job) (keys order : List ℕ) → AreKeys (ends_of jobs) keys → order ≡ map job_of_key (filter is_deadline keys) → IsOrder jobs order
 keys_order jobs keys order are is =

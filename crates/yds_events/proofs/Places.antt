@@ -2,7 +2,7 @@
 use Rattle.std.proofs.Common.{◌≡◌, ℕ, ◌+◌, ◌*◌, ◌/◌, ◌<◌, List, length, get_or, map, arith, ap}
 use Rattle.std.specs.List.{All, range_with_len}
 use Rattle.std.proofs.lemmas.List.FromFn.{length-map-range_with_len, get_or-map-range_with_len}
-use Rattle.yds_model.specs.Job.{Job, IsJob, job_at, no_job}
+use Rattle.yds_model.specs.Job.{Job, IsJob, job_at}
 use Rattle.yds_model.specs.Event.{event_points}
 use Rattle.yds_events.specs.declared.window.Window.{Window}
 use Rattle.yds_events.specs.Keys.{ends_of, IsAt, ArePlaces, window_from}
@@ -18,44 +18,7 @@ record IsWindowOf (jobs : List Job) (job : Job) (window : Window) : Type 0 where
 -- each job's window is found
 windows_found : (jobs : List Job) (windows : List Window) → All IsJob jobs → length windows ≡ length jobs →
     ((j : ℕ) → j < length jobs → IsWindowOf jobs (job_at jobs j) (window_at windows j)) → AreWindows jobs windows
-windows_found jobs windows are count found = record {
-  all = count;
-  some = λ j known.
-      let window = found j known in
-      place_before jobs (window_at windows j).first (window_at windows j).end window.first.within
-      (omega (arith, window.first.is, window.end.is, (are j no_job known).has_window));
-  inside = λ j known. omega (arith, (found j known).end.within, count_stretches jobs (omega arith));
-  ends = λ i j known known' before.
-      place_not_after jobs (window_at windows i).end (window_at windows j).end (found i known).end.within
-      (omega (arith, (found i known).end.is, (found j known').end.is, before));
-  are = λ j k known within.
-      let window = found j known in
-      let next = stretch_next jobs k within in
-      let begins = stretch_begins jobs k within in
-      let ends = stretch_ends jobs k within in (
-        (λ inside. record {
-          released = omega (
-            arith,
-            begins,
-            window.first.is,
-            not_later jobs (window_at windows j).first k inside.from (omega (arith, next)),
-          );
-          due = omega (
-            arith,
-            ends,
-            window.end.is,
-            not_later jobs (k + 1) (window_at windows j).end (omega (arith, inside.upto)) window.end.within,
-          );
-        }),
-        (λ lies. record {
-          from = place_not_after jobs (window_at windows j).first k window.first.within (omega (arith, lies.released, begins, window.first.is));
-          upto = omega (
-            arith,
-            place_not_after jobs (k + 1) (window_at windows j).end next (omega (arith, lies.due, ends, window.end.is)),
-          );
-        }),
-      );
-}
+windows_found jobs windows are count found = grind (arith, count_stretches, not_later, place_before, place_not_after, stretch_begins, stretch_ends, stretch_next)
 
 -- from the places of their releases and deadlines among the event points
 pub windows_placed : (jobs : List Job) (points places : List ℕ) (windows : List Window) → All IsJob jobs → points ≡ event_points jobs →

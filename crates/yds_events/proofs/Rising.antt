@@ -26,11 +26,7 @@ with_time-cons : (time first : ℕ) (times : List ℕ) →
     ((time ≡ first) × (with_time time (first ∷ times) ≡ first ∷ times))
     ⊎ (((time < first) × (with_time time (first ∷ times) ≡ time ∷ first ∷ times))
     ⊎ ((first < time) × (with_time time (first ∷ times) ≡ first ∷ with_time time times)))
-with_time-cons time first times = elim (cases_order time first) [
-  | inl same ↦ inl (same, rw (le-ltb time first (omega arith), eq-eqb time first same) refl)
-  | inr (inl less) ↦ inr (inl (less, rw (lt-ltb time first less) refl))
-  | inr (inr more) ↦ inr (inr (more, rw (le-ltb time first (omega arith), ne_eqb time first (omega arith)) refl))
-]
+with_time-cons time first times = grind (arith, cases_order, eq-eqb, le-ltb, lt-ltb, ne_eqb)
 
 -- # They rise
 

@@ -1,5 +1,5 @@
 -- The event points of jobs: they rise, have each release and each deadline, and are at most two a job.
-use Rattle.std.proofs.Common.{◌≡◌, ℕ, zero, suc, ◌+◌, ◌*◌, ◌<◌, ◌≤◌, List, [], ◌∷◌, length, get_or, ◌∙◌, refl, ap, inl, inr, arith}
+use Rattle.std.proofs.Common.{◌≡◌, ℕ, zero, suc, ◌+◌, ◌*◌, ◌<◌, ◌≤◌, List, [], ◌∷◌, length, get_or, ◌∙◌, refl, arith}
 use Rattle.std.specs.List.{All}
 use Rattle.std.proofs.lemmas.List.{get_or_default}
 use Rattle.std.proofs.lemmas.Bool.{cases_lt, cases_eq}
@@ -17,25 +17,16 @@ times_rise jobs i j before within = rises_at 0 (event_points jobs) i j (rises_ti
 
 pub not_later : (jobs : List Job) (i j : ℕ) → i ≤ j → j < length (event_points jobs) →
     get_or (event_points jobs) i 0 ≤ get_or (event_points jobs) j 0
-not_later jobs i j before within = elim (cases_eq i j) [
-  | inl same ↦ omega (arith, ap (λ k. get_or (event_points jobs) k 0) same)
-  | inr other ↦ omega (arith, times_rise jobs i j (omega arith) within)
-]
+not_later jobs i j before within = grind (arith, cases_eq, times_rise)
 
 -- so places go by times
 pub place_before : (jobs : List Job) (i j : ℕ) → i < length (event_points jobs) →
     get_or (event_points jobs) i 0 < get_or (event_points jobs) j 0 → i < j
-place_before jobs i j within less = elim (cases_lt i j) [
-  | inl before ↦ before
-  | inr after ↦ absurd (omega (arith, not_later jobs j i after within, less))
-]
+place_before jobs i j within less = grind (arith, cases_lt, not_later)
 
 pub place_not_after : (jobs : List Job) (i j : ℕ) → i < length (event_points jobs) →
     get_or (event_points jobs) i 0 ≤ get_or (event_points jobs) j 0 → i ≤ j
-place_not_after jobs i j within most = elim (cases_lt j i) [
-  | inr before ↦ before
-  | inl after ↦ absurd (omega (arith, times_rise jobs j i after within, most))
-]
+place_not_after jobs i j within most = grind (arith, cases_lt, times_rise)
 
 -- where the jobs' releases and deadlines stand
 pub length_ends : (jobs : List Job) → length (ends_of jobs) ≡ 2 * length jobs

@@ -233,9 +233,7 @@ after_second = proved (test_each (λ place. test_implied (test_eq (stretch_at jo
 
 -- The stretch before holds 6 units and serves 4, so it isn't told, whatever units are,
 not_before : (units : ℕ) → IsSide jobs slow 6 average (TooSlowFor units 0 1) → ⊥
-not_before units side =
-    let first = side.first.holds 30 average_scale in
-    first_of_stretches side.place first.within (ap (λ (stretch : Piece). stretch.from) side.is_stretch) first.fails
+not_before units side = grind (arith, average_scale, first_of_stretches)
 
 -- nor is the one after, though it serves 7 units too: it isn't the first.
 not_after : IsSide jobs slow 6 available (TooSlowFor 7 2 3) → ⊥

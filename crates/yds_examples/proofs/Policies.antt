@@ -1,13 +1,11 @@
 -- The two policies, tried on small runs of each, on the grids 1 and 6: at a scale of their slots, and at each.
-use Rattle.std.proofs.Common.{◌≡◌, ℕ, zero, suc, ◌-◌, ◌*◌, ◌/◌, ◌≤◌, List, [], ◌∷◌, map, refl, ap, subst, arith, inl, inr, count_by, All, Contains}
+use Rattle.std.proofs.Common.{◌≡◌, ℕ, zero, suc, ◌-◌, ◌*◌, ◌≤◌, List, [], ◌∷◌, map, refl, ap, arith, inl, inr, count_by, All, Contains}
 use Rattle.yds_model.specs.Job.{Job}
 use Rattle.yds_model.specs.Scale.{Fraction, of_whole, of_parts}
 use Rattle.yds_model.specs.Slot.{WrittenSlot, AtEachScale, IsScale, slots_at, written_slot_at}
 use Rattle.yds_model.specs.Feasible.{IsFeasible}
 use Rattle.yds_model.specs.Piece.{Piece}
 use Rattle.yds_model.specs.Event.{stretches}
-use Rattle.yds_model.specs.Divisor.{common_divisor}
-use Rattle.yds_model.specs.Plan.{IsOver}
 use Rattle.yds_model.specs.Policy.{IsRunAt, HasRunDenominators}
 use Rattle.yds_model.specs.AverageRate.{average_rate, average_rate_rounds, IsAverageRateRun}
 use Rattle.yds_model.specs.OptimalAvailable.{optimal_available, optimal_available_rounds, IsOptimalAvailableRun}
@@ -252,9 +250,4 @@ over_14 = record { whole = 1; num = 12; den = 14 }
 
 -- is refused: in lowest terms the units ask for the denominator 7
 other_denominators : HasRunDenominators available_jobs 6 (record { job = 1; from = of_whole 1; to = over_14; work = of_whole 1 }) → ⊥
-other_denominators has =
-    let long : ℕ = has.stretch.to - has.stretch.from in
-    let both = seven_units has.stretch has.units has.is_stretch has.lies.from has.lies.to has.speed in
-    refuted {P = IsOver 7 over_14} (hlevel tests) refl
-    (subst (λ (n : ℕ). IsOver (7 / common_divisor 7 n) over_14) both.1
-    (subst (λ (n : ℕ). IsOver (n / common_divisor n long) over_14) both.0 has.to))
+other_denominators has = grind (arith, refuted, tests)

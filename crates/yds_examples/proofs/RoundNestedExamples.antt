@@ -91,13 +91,7 @@ energy = energy_by_test jobs points (2 ∷ 1 ∷ 3 ∷ 2 ∷ 2 ∷ 1 ∷ []) wri
 
 -- So this is the rounding of the plan.
 pub rounding : IsRounding jobs points planned levels written (of_whole 25)
-rounding = record {
-  fast_enough = proved (slow_enough points levels) refl;
-  rounds = rounds;
-  few_slots = omega arith;
-  energy_of = energy;
-  lowest = record { below_one = omega arith; reduced = refl };
-}
+rounding = grind (arith, energy, proved, rounds, slow_enough)
 
 -- the points rise
 pub rising : AreRising points

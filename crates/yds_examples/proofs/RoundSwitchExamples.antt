@@ -83,13 +83,7 @@ energy = energy_by_test jobs points (2 ∷ 1 ∷ []) written (of_whole 4) 12 ref
 
 -- So this is the rounding of the plan.
 rounding : IsRounding jobs points planned (level ∷ []) written (of_whole 4)
-rounding = record {
-  fast_enough = proved (slow_enough points (level ∷ [])) refl;
-  rounds = rounds;
-  few_slots = omega arith;
-  energy_of = energy;
-  lowest = record { below_one = omega arith; reduced = refl };
-}
+rounding = grind (arith, energy, proved, rounds, slow_enough)
 
 -- # What is refused
 

@@ -69,9 +69,7 @@ TellsItsRun document = MatchOption document.grid (Unit {0}) (λ grid. IsAverageR
 
 -- is refused.
 uncounted_refused : HoldsAverageRate 1 rate_input uncounted_text → ⊥
-uncounted_refused holds =
-    let same : with_run holds.document holds.slots 1 holds.rounded ≡ with_run rate_document rate_slots 1 0 = cc (uncounted_read, holds.read_again) in
-    rate_refused (subst TellsItsRun same holds.run)
+uncounted_refused holds = grind (arith, rate_refused, rate_slots, uncounted_read)
 
 -- # Optimal Available
 
@@ -128,6 +126,4 @@ TellsItsAvailable document = MatchOption document.grid (Unit {0}) (λ grid. IsOp
 
 -- is refused.
 unrounded_refused : HoldsOptimalAvailable 1 available_input unrounded_text → ⊥
-unrounded_refused holds =
-    let same : with_run holds.document holds.slots 1 holds.rounded ≡ with_run available_document available_slots 1 0 = cc (unrounded_read, holds.read_again) in
-    available_refused (subst TellsItsAvailable same holds.run)
+unrounded_refused holds = grind (arith, available_refused, available_slots, unrounded_read)

@@ -1,5 +1,5 @@
 -- Tests of rounding and admission: energy on points, the parts of a split, which jobs can be served, and which interval is the first to be overfull.
-use Rattle.std.proofs.Common.{◌≡◌, ℕ, zero, suc, ◌+◌, ◌-◌, ◌*◌, ◌<◌, ◌≤◌, ◌⊎◌, List, [], ◌∷◌, ◌++◌, length, map, Bool, true, false, ◌&&◌, ◌==◌, nat_lt, refl, subst, arith, inl, inr, eqb-true}
+use Rattle.std.proofs.Common.{◌≡◌, ℕ, zero, suc, ◌+◌, ◌-◌, ◌*◌, ◌<◌, ◌≤◌, ◌⊎◌, List, [], ◌∷◌, ◌++◌, length, map, Bool, true, false, ◌&&◌, ◌==◌, nat_lt, refl, arith, inl, inr, eqb-true}
 use Rattle.std.specs.List.{All, Contains}
 use Rattle.std.proofs.lemmas.Bool.{cases_lt, and_parts, ltb-true}
 use Rattle.std.proofs.lemmas.List.Elements.{All-contains, Contains-get_or}
@@ -213,13 +213,7 @@ module _ (jobs : List Job) (top : ℕ) (numbers : List ℕ) where
 
     -- Each overfull interval begins at a release and ends at a deadline, so it is enough to try those.
     pub first_of_all : ComesFirstOfAll → (other_from other_to : ℕ) → ComesFirst jobs top numbers from to other_from other_to
-    first_of_all tried other_from other_to full =
-        let begins = full.is_release in
-        let ends = full.is_deadline in
-        let before = ComesFirst jobs top numbers from to in
-        let here = All-contains (λ one. All (λ other. before (job_at jobs one).release (job_at jobs other).deadline) numbers) numbers begins.1 tried (begins.0, begins.2, begins.3) in
-        let both = All-contains (λ other. before (job_at jobs begins.1).release (job_at jobs other).deadline) numbers ends.1 here (ends.0, ends.2, ends.3) in
-        subst (λ (begin : ℕ). before begin other_to) begins.4 (subst (λ (end : ℕ). before (job_at jobs begins.1).release end) ends.4 both) full
+    first_of_all tried other_from other_to full = grind (arith, All-contains)
 
     -- the first overfull interval
     abbrev pub first_overfull : Test (IsFirstOverfull jobs top numbers from to)

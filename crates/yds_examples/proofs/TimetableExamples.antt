@@ -2,7 +2,7 @@
 use Rattle.std.proofs.Common.{◌≡◌, ℕ, List, [], ◌∷◌, ◌++◌, length, take, Option, Some, None, refl, ap, arith}
 use Rattle.yds_model.specs.Job.{Job}
 use Rattle.yds_model.specs.Scale.{of_whole}
-use Rattle.yds_model.specs.Slot.{WrittenSlot, written_slot_at}
+use Rattle.yds_model.specs.Slot.{WrittenSlot}
 use Rattle.yds_model.specs.Level.{Level}
 use Rattle.yds_model.specs.Piece.{Piece}
 use Rattle.yds_timetable.specs.declared.pace.Pace.{Pace}
@@ -26,11 +26,7 @@ numbers = Some 2 ∷ Some 1 ∷ Some 0 ∷ Some 1 ∷ Some 2 ∷ []
 
 -- They are the timetable of the plan,
 timetable : IsTimetabled jobs rows numbers slots levels
-timetable = record {
-  stretches_are = refl;
-  levels_are = ((omega arith, refl), ((omega arith, refl), ((omega arith, refl), ((omega arith, refl), ((omega arith, refl), tt)))));
-  slots_are = refl;
-}
+timetable = grind (arith)
 
 -- but not where a stretch of b has the number of c's level: that is faster,
 not_faster : IsTimetabled jobs rows (Some 2 ∷ Some 1 ∷ Some 0 ∷ Some 0 ∷ Some 2 ∷ []) slots levels → ⊥
@@ -42,9 +38,7 @@ not_shorter is = let same : 4 ≡ 5 = ap (λ (pieces : List Piece). length piece
 
 -- nor where a gets less in it: its slot would end sooner
 not_less : IsTimetabled jobs (take 4 rows ++ row 4 (piece 10 12) (pace_of_level level_a) 0 1 ∷ []) numbers slots levels → ⊥
-not_less is =
-    let same : 12 ≡ 11 = ap (λ (slots : List WrittenSlot). (written_slot_at slots 4).to.whole) is.slots_are in
-    absurd (omega (arith, same))
+not_less is = grind (arith, slots)
 
 -- # A stretch in which nothing runs
 

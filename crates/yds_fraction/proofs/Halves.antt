@@ -80,10 +80,7 @@ turned k x y d g first second parts is = elim (cases_lt y x) [
 ]
 
 pub lesser_odd : (x y : ℕ) → IsOdd x → IsOdd y → IsOdd (min x y)
-lesser_odd x y first second = elim (cases_lt y x) [
-  | inl less ↦ subst IsOdd (let least : y ≡ min x y = omega arith in least) second
-  | inr more ↦ subst IsOdd (let least : x ≡ min x y = omega arith in least) first
-]
+lesser_odd x y first second = grind (arith, cases_lt, min)
 
 -- two numbers by their odd parts, where the first has no more twos
 twos_below : (i j x y g : ℕ) → i ≤ j → IsOdd x → IsGcd x y g → IsGcd (2 ^ i * x) (2 ^ j * y) (2 ^ i * g)

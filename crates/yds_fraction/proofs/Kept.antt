@@ -8,9 +8,4 @@ pub some_parts : (most : ℕ) {x : Fraction} → IsFraction most x → 1 ≤ x.d
 some_parts most kept = let below = kept.below_one in omega arith
 
 pub IsFraction-within : (most least : ℕ) (x : Fraction) → IsFraction most x → x.whole ≤ least → IsFraction least x
-IsFraction-within most least x kept within = record {
-  whole_in_range = within;
-  below_one = kept.below_one;
-  den_in_range = kept.den_in_range;
-  whole_is_plain = kept.whole_is_plain;
-}
+IsFraction-within most least x kept within = grind (arith)

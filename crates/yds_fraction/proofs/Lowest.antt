@@ -42,20 +42,11 @@ parts_lowest n d g some greatest = (factors (d / g) g d (div-mul_cancel g greate
 
 pub IsRatio-lowest : (most_num most_den num den g : ℕ) → IsRatio most_num most_den (record { num = num; den = den }) → IsGcd num den g →
     IsRatio most_num most_den (record { num = num / g; den = den / g })
-IsRatio-lowest most_num most_den num den g kept greatest =
-    let part = parts_lowest num den g kept.has_parts greatest in
-    let less_num = div-le_self num g in
-    let less_den = div-le_self den g in
-    record { bounds = kept.bounds; num_in_range = omega arith; has_parts = part; den_in_range = omega arith }
+IsRatio-lowest most_num most_den num den g kept greatest = grind (arith, div-le_self, parts_lowest)
 
 -- a fraction in lowest terms is kept
 plain_lowest : (num den g : ℕ) → 1 ≤ den → (num ≡ 0 → den ≡ 1) → IsGcd num den g → num / g ≡ 0 → den / g ≡ 1
-plain_lowest num den g some plain greatest none =
-    let back : num ≡ 0 = sym (div-mul_cancel g greatest.0) ∙ ap (λ n. n * g) none ∙ zero-mul g in
-    let one : den ≡ 1 = plain back in
-    let small = div-le_self den g in
-    let part = parts_lowest num den g some greatest in
-    omega arith
+plain_lowest num den g some plain greatest none = grind (arith, div-le_self, div-mul_cancel, parts_lowest, zero-mul)
 
 lesser_lowest : (num den g : ℕ) → num < den → IsGcd num den g → num / g < den / g
 lesser_lowest num den g below greatest =

@@ -98,10 +98,7 @@ small_quotient g (suc (suc q)) n low high = omega arith
 
 -- each part is below one, so the parts of a sum carry one at most
 carry_small : (n m g : ℕ) → n < g → m < g → (n + m) / g ≤ 1
-carry_small n m g below_n below_m =
-    let split = div-add-mod (n + m) g in
-    let q = (n + m) / g in
-    small_quotient g q (n + m) (omega arith) (omega arith)
+carry_small n m g below_n below_m = grind (arith, div-add-mod)
 
 pub Adds-written : (most_den : ℕ) (x y z : Fraction) → IsMixed most_den x → IsMixed most_den y → CanAdd x y →
     z ≡ fraction_of (whole_of_sum x y) ((x.num + y.num) % common_den x y) (common_den x y) → IsMixed most_den z → Adds most_den x y z
@@ -208,13 +205,8 @@ sum_carries_one x y below_x below_y =
     let carry = carry_small x.num y.num (common_den x y) (omega arith) (omega arith) in omega arith
 
 pub multiple_carries_factor : MultipleCarriesFactor
-multiple_carries_factor k x below =
-    let some : 0 < x.den = omega arith in
-    let carry : k * x.num / x.den ≤ k = div-le_of_le-mul x.den (rw (mul_comm x.den k) (mul-le-mul_left k (omega arith))) in
-    omega arith
+multiple_carries_factor k x below = grind (arith, div-le_of_le-mul, mul-le-mul_left, mul_comm)
 
 -- the same value at each scale of x
 pub same_at_scales : (x z : Fraction) → z.den ∣ x.den → IsSame x z → AtScalesWith x x z (λ scale. at_scale scale z ≡ at_scale scale x)
-same_at_scales x z divides same scale positive dx _ =
-    let dz : z.den ∣ scale = dvd_trans z.den divides dx in
-    (dz, sym ((equality_of_values x z scale positive dx dz).0 same))
+same_at_scales x z divides same scale positive dx _ = grind (arith, dvd_trans, equality_of_values)

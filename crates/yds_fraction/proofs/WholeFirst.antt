@@ -15,10 +15,7 @@ use Rattle.yds_fraction.specs.Mixed.{IsMixed, AtScales}
 
 -- the lesser whole part is below by one at least
 lesser_whole : (w n d v m e : ℕ) → n < d → 1 ≤ e → w < v → (w * d + n) * e < (v * e + m) * d
-lesser_whole w n d v m e below some lesser =
-    let parts_below : n * e < d * e = mul-lt-mul_of_pos_right below some in
-    let whole : (w + 1) * (d * e) ≤ v * (d * e) = mul-le-mul_right (d * e) (omega arith) in
-    omega arith
+lesser_whole w n d v m e below some lesser = grind (arith, mul-le-mul_right, mul-lt-mul_of_pos_right)
 
 MatchOrdering-whole_first : (w n d v m e : ℕ) → n < d → m < e → (whole rest : Ordering) →
     MatchOrdering whole (w < v) (w ≡ v) (v < w) → MatchOrdering rest (n * e < m * d) (n * e ≡ m * d) (m * d < n * e) →

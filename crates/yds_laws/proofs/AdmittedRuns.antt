@@ -1,6 +1,6 @@
 -- No slot of the admitted jobs' schedule is faster than the top speed: a stretch that serves something is filled at one speed, by which
 -- it serves at most what the top speed does there.
-use Rattle.std.proofs.Common.{◌≡◌, ℕ, zero, suc, ◌-◌, ◌*◌, ◌<◌, ◌≤◌, List, [], ◌∷◌, length, get_or, subst, arith, inl, inr, ap, true, ◌&&◌, nat_le}
+use Rattle.std.proofs.Common.{◌≡◌, ℕ, zero, suc, ◌-◌, ◌*◌, ◌<◌, ◌≤◌, List, [], ◌∷◌, length, get_or, subst, arith, ap, true, ◌&&◌, nat_le}
 use Rattle.std.specs.List.{All, Contains}
 use Rattle.std.proofs.lemmas.Bool.{le-leb, and_from, cases_lt}
 use Rattle.std.proofs.lemmas.List.Elements.{All-nil, All-cons, All-contains, Contains-get_or}
@@ -22,10 +22,7 @@ in_stretch scale slot stretch lies =
     (le-leb slot.to (stretch.to * scale) lies.to)
 
 some_length : (scale : ℕ) (slot : WholeSlot) (stretch : Piece) → LiesIn scale slot stretch → slot.from < slot.to → 1 ≤ stretch.to - stretch.from
-some_length scale slot stretch lies forward = elim (cases_lt stretch.from stretch.to) [
-  | inl less ↦ omega arith
-  | inr more ↦ absurd (omega (arith, lies.from, lies.to, forward, mul-le-mul_right scale more))
-]
+some_length scale slot stretch lies forward = grind (arith, cases_lt, mul-le-mul_right)
 
 -- slots that fill a stretch at a speed each have it
 fill_speed : (capacity per from to : ℕ) (slots : List WholeSlot) → FillsAtSpeed capacity per from to slots →

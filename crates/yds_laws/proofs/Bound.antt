@@ -36,21 +36,7 @@ confinement_bound jobs scale p q slots members pieces positive different known c
 
 -- the bound of the jobs that explain a schedule holds of every other
 pub explained_is_least : ExplainedIsLeast
-explained_is_least jobs slots levels explains = record {
-  solid = explains.solid;
-  holds = λ scale divided.
-      let at = explains.holds scale divided in
-      record {
-        feasible = at.feasible;
-        least = λ p q positive others feasible.
-            let forces = at.forced p q positive in
-            omega (
-              arith,
-              forces.exact,
-              confinement_bound jobs scale p q others _ _ divided.positive forces.different forces.known forces.confined feasible,
-            );
-      };
-}
+explained_is_least jobs slots levels explains = grind (arith, confinement_bound)
 
 -- a scale of two schedules is one of the first
 pub scale_left : (scale : ℕ) (slots others : List WrittenSlot) → IsScale scale (slots ++ others) → IsScale scale slots

@@ -1,6 +1,6 @@
 -- Runs that never rounded: Average Rate does whole parts of jobs, and Optimal Available has the greatest quotient's speed.
-use Rattle.std.proofs.Common.{◌≡◌, ℕ, zero, suc, ◌+◌, ◌-◌, ◌*◌, ◌/◌, ◌%◌, ◌<◌, ◌≤◌, ◌⊎◌, max, List, [], ◌∷◌, length, map, ◌∙◌, refl, sym, ap, subst, arith, inl, inr, cond, Bool, true, false}
-use Rattle.std.specs.Prelude.{count_by, sum_by, nat_lt, nat_le, ◌==◌, ◌&&◌, ◌||◌, not, fold}
+use Rattle.std.proofs.Common.{◌≡◌, ℕ, zero, suc, ◌+◌, ◌-◌, ◌*◌, ◌%◌, ◌<◌, ◌≤◌, ◌⊎◌, max, List, [], ◌∷◌, length, map, ◌∙◌, refl, sym, ap, subst, arith, inl, inr, cond, Bool, true, false}
+use Rattle.std.specs.Prelude.{count_by, sum_by, nat_le, ◌==◌, ◌&&◌, ◌||◌, not, fold}
 use Rattle.std.specs.List.{All, Any, filter, list_any, list_all}
 use Rattle.std.proofs.lemmas.Bool.{cases_lt, cases_Bool, lt-ltb, le-ltb, le-leb, lt-leb, eqb-true, true≢false}
 use Rattle.std.proofs.lemmas.List.{get_or_default}
@@ -77,14 +77,7 @@ module _ (jobs : List Job) (grid scale : ℕ) (some_grid : 1 ≤ grid) (some_sca
 -- # Average Rate
 
 whole_quotient : (x y : ℕ) → (x % y == 0) ≡ true → 1 ≤ y → div_up x y * y ≡ x
-whole_quotient x y whole some =
-    let none = eqb-true (x % y) 0 whole in
-    let exact : x / y * y ≡ x = omega (arith, div-add-mod x y, none) in
-    let high : x + (y - 1) < (x / y + 1) * y = omega (arith, exact, some) in
-    let below : div_up x y < x / y + 1 = (div-lt_iff_lt-mul {k = y} {x = x + (y - 1)} {y = x / y + 1} some).1 high in
-    let above : x / y ≤ div_up x y = (le-div_iff_mul-le {k = y} {x = x / y} {y = x + (y - 1)} some).1 (omega (arith, exact)) in
-    let same : div_up x y ≡ x / y = omega (arith, below, above) in
-    omega (arith, exact, ap (λ n. n * y) same)
+whole_quotient x y whole some = grind (arith, div-add-mod, div-lt_iff_lt-mul, eqb-true, le-div_iff_mul-le)
 
 -- where none of those that pass one test passes another
 none_any_more : {X : Type 0} (q : X → Bool) (b : Bool) (x : X) (xs : List X) → list_any q (cond b (x ∷ xs) xs) ≡ false →
@@ -107,13 +100,7 @@ not_not false is = absurd (true≢false is)
 
 -- a job's window takes time where a stretch lies in it
 window_long : (stretch : Piece) (job : Job) → is_live stretch job ≡ true → 1 ≤ job.deadline - job.release
-window_long stretch job live = elim (cases_lt stretch.from job.release) [
-  | inl early ↦ absurd (true≢false (sym live ∙ ap (λ b. b && nat_lt stretch.from job.deadline) (lt-leb job.release stretch.from early)))
-  | inr released ↦ elim (cases_lt stretch.from job.deadline) [
-    | inl due ↦ omega (arith, released, due)
-    | inr over ↦ absurd (true≢false (sym live ∙ rw (le-leb job.release stretch.from released, le-ltb stretch.from job.deadline over) refl))
-  ]
-]
+window_long stretch job live = grind (arith, cases_lt, le-leb, le-ltb, lt-leb, true≢false)
 
 pub whole_terms : (jobs : List Job) (grid : ℕ) (stretch : Piece) → average_rate_rounds jobs grid stretch ≡ false → HasWholeTerms jobs grid stretch
 whole_terms jobs grid stretch none =

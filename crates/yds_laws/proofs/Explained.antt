@@ -1,6 +1,6 @@
 -- A proper certificate explains its schedule.
-use Rattle.std.proofs.Common.{◌≡◌, ℕ, ◌-◌, ◌*◌, ◌<◌, ◌≤◌, ◌==◌, List, length, get_or, take, drop, refl, arith, inl, inr, ap, eq-eqb}
-use Rattle.std.specs.Prelude.{cond, if◌then◌else◌, nat_lt}
+use Rattle.std.proofs.Common.{◌≡◌, ℕ, ◌-◌, ◌*◌, ◌<◌, ◌≤◌, ◌==◌, List, length, get_or, take, drop, arith, inl, inr, ap, eq-eqb}
+use Rattle.std.specs.Prelude.{cond, nat_lt}
 use Rattle.std.specs.List.{All, prefix_len}
 use Rattle.std.proofs.lemmas.List.{take-append-drop, length-map}
 use Rattle.std.proofs.lemmas.List.Concat.{flat_map-append}
@@ -36,10 +36,7 @@ front_count levels n number =
 -- one of a job's slots has at most the job's work
 slot_within : (slots : List WholeSlot) (k : ℕ) (d : WholeSlot) → k < length slots →
     (get_or slots k d).work ≤ work_given slots (get_or slots k d).job
-slot_within slots k d within =
-    let slot = get_or slots k d in
-    let part = get_or-le-sum_by (λ (one : WholeSlot). if slot.job == one.job then one.work else 0) slots k d within in
-    omega (arith, part, ap (λ b. if b then slot.work else 0) (eq-eqb slot.job slot.job refl))
+slot_within slots k d within = grind (arith, eq-eqb, get_or-le-sum_by)
 
 -- a slot of a job of no work does nothing above a speed, however often it is counted
 no_term : (p q work time given wanted scale often : ℕ) → work ≤ given → given ≡ wanted * scale → wanted < 1 →

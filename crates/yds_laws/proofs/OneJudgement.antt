@@ -86,14 +86,7 @@ module _ (jobs : List Job) (slots : List WrittenSlot) (levels : List Level) wher
   -- the judgement of a failure after the slots
   first_told : (stage place : ℕ) → SlotsHold jobs slots → Each stage Stage → IsFirstFailure (places stage) (Test stage) place →
       IsTold (told stage place Feasible)
-  first_told stage place holds stages failure = record {
-    stage = stage;
-    place = place;
-    verdict = Feasible;
-    is = refl;
-    first = record { stages = stages; within = failure.within; before = failure.before; fails = failure.fails };
-    is_verdict = holds;
-  }
+  first_told stage place holds stages failure = grind (arith)
 
   -- each judgement that is so
   judgement_told : (judgement : Judgement) → IsJudgement jobs slots levels judgement → IsTold judgement

@@ -111,18 +111,12 @@ pub begins_outside : (jobs : List Job) (from to number : ℕ) → (job_at jobs n
 begins_outside jobs from to number before = rw (lt-leb from (job_at jobs number).release before) refl
 
 pub ends_outside : (jobs : List Job) (from to number : ℕ) → to < (job_at jobs number).deadline → confined_term jobs from to number ≡ 0
-ends_outside jobs from to number after = elim (cases_lt (job_at jobs number).release from) [
-  | inl before ↦ begins_outside jobs from to number before
-  | inr first ↦ rw (le-leb from (job_at jobs number).release first, lt-leb (job_at jobs number).deadline to after) refl
-]
+ends_outside jobs from to number after = grind (arith, begins_outside, cases_lt, le-leb, lt-leb)
 
 -- # Room in any interval that ends at a deadline
 
 not_equal : (a b : ℕ) → a < suc b → (a == b) ≡ false → a < b
-not_equal a b less other = elim (cases_eq a b) [
-  | inl same ↦ absurd (true≢false (sym (eq-eqb a b same) ∙ other))
-  | inr differ ↦ elim (cases_lt a b) [ inl before ↦ before | inr after ↦ absurd (differ (omega arith)) ]
-]
+not_equal a b less other = grind (arith, cases_eq, cases_lt, eq-eqb, true≢false)
 
 shorter : (to from : ℕ) → to - suc from ≤ to - from
 shorter to from = omega arith
@@ -265,16 +259,10 @@ least_of (suc n) test key = elim (cases_Bool (test n)) [
 ]
 
 comes_after : (top q x release : ℕ) → top * q ≤ x → x < release * top → suc q ≤ release
-comes_after top q x release before after = elim (cases_lt q release) [
-  | inl less ↦ less
-  | inr more ↦ absurd (omega (arith, mul-le-mul_left top more))
-]
+comes_after top q x release before after = grind (arith, cases_lt, mul-le-mul_left)
 
 done : (given work begin x : ℕ) → begin ≤ x → (nat_le begin x && nat_lt given work) ≡ false → work ≤ given
-done given work begin x released none = elim (cases_lt given work) [
-  | inl less ↦ absurd (true≢false (sym (and_from (nat_le begin x) (nat_lt given work) (le-leb begin x released) (lt-ltb given work less)) ∙ none))
-  | inr all ↦ all
-]
+done given work begin x released none = grind (arith, and_from, cases_lt, le-leb, lt-ltb, nat_le, nat_lt, true≢false)
 
 -- the whole unit of time that a part of time lies in
 cell : (top x : ℕ) → 1 ≤ top → (q : ℕ) × (top * q ≤ x) × (x < top * q + top)
@@ -391,15 +379,7 @@ module _ (top : ℕ) (jobs : List Job) (some : 1 ≤ top) (are : All IsJob jobs)
         )
 
     no_later : (time i : ℕ) → left_term jobs (with_one now.given job) time i ≤ left_term jobs now.given time i
-    no_later time i = elim (cases_lt time (job_at jobs i).deadline) [
-      | inl later ↦ omega (arith, left_none jobs (with_one now.given job) time i later)
-      | inr due ↦ omega (
-        arith,
-        left_is jobs (with_one now.given job) time i due,
-        left_is jobs now.given time i due,
-        no_more (i == job) (now.given i) (job_at jobs i).work,
-      )
-    ]
+    no_later time i = grind (arith, cases_lt, left_is, left_none)
 
     bound_next : (last : ℕ) → last < length jobs →
         left_due jobs (with_one now.given job) (job_at jobs last).deadline ≤ (job_at jobs last).deadline * top - suc x

@@ -1,5 +1,5 @@
 -- How much work of periodic tasks is confined to pieces of time, where the jobs of each task follow one another without a gap.
-use Rattle.std.proofs.Common.{◌≡◌, ℕ, zero, suc, ◌+◌, ◌-◌, ◌*◌, ◌/◌, ◌%◌, ◌<◌, ◌≤◌, ◌==◌, ◌&&◌, true, List, [], ◌∷◌, ◌++◌, length, get_or, map, refl, ap, ◌∙◌, subst, append_assoc, arith, eqb-true}
+use Rattle.std.proofs.Common.{◌≡◌, ℕ, zero, suc, ◌+◌, ◌-◌, ◌*◌, ◌/◌, ◌%◌, ◌<◌, ◌≤◌, ◌==◌, true, List, [], ◌∷◌, ◌++◌, length, get_or, map, refl, ap, ◌∙◌, subst, append_assoc, arith, eqb-true}
 use Rattle.std.specs.Prelude.{if◌then◌else◌}
 use Rattle.std.specs.List.{All, sum_by, flat_map, list_all, range_with_len}
 use Rattle.std.proofs.Math.Nat.{div-add-mod, mul-div_cancel, mul-le-mul_left}
@@ -15,7 +15,7 @@ use Rattle.yds_model.specs.Job.{Job, no_job, job_at, work_of}
 use Rattle.yds_model.specs.Slot.{WholeSlot, work_given}
 use Rattle.yds_model.specs.Feasible.{RunFrom, IsInWindow}
 use Rattle.yds_model.specs.Piece.{Piece, IsConfined, total_length}
-use Rattle.yds_model.specs.Tasks.{Task, TaskSet, nth_job, count_of_jobs, numbers_of_jobs, fills_horizon, horizon_of, jobs_of_tasks}
+use Rattle.yds_model.specs.Tasks.{Task, TaskSet, nth_job, count_of_jobs, numbers_of_jobs, fills_horizon, jobs_of_tasks}
 use Rattle.yds_model.specs.TaskReading.{count_of_all}
 use Rattle.yds_model.proofs.Sums.{sum_by_same, sum_by-mul}
 use Rattle.yds_model.proofs.Horizon.{part_own, part_other}
@@ -42,10 +42,7 @@ works_of_task horizon task =
 
 -- there are as many jobs as the tasks have together
 pub jobs_counted : (set : TaskSet) → length (jobs_of_tasks set) ≡ count_of_all set
-jobs_counted set =
-    length-flat_map (jobs_of_task (horizon_of set)) set.tasks
-    ∙ sum_by_same (λ task. length (jobs_of_task (horizon_of set) task)) (count_of_jobs (horizon_of set)) set.tasks
-    (λ i d within. length-map-range_with_len (nth_job (get_or set.tasks i d)) 0 (count_of_jobs (horizon_of set) (get_or set.tasks i d)))
+jobs_counted set = grind (arith, length-flat_map, length-map-range_with_len, sum_by_same)
 
 -- what it means that a task fills the horizon
 record Fills (horizon : ℕ) (task : Task) : Type 0 where
@@ -54,10 +51,7 @@ record Fills (horizon : ℕ) (task : Task) : Type 0 where
   divides : horizon % task.period ≡ 0
 
 fills : (horizon : ℕ) (task : Task) → fills_horizon horizon task ≡ true → Fills horizon task
-fills horizon task is =
-    let parts = and_parts ((task.offset == 0) && (task.deadline == task.period)) (horizon % task.period == 0) is in
-    let front = and_parts (task.offset == 0) (task.deadline == task.period) parts.0 in
-    record { no_offset = eqb-true task.offset 0 front.0; due_at_period = eqb-true task.deadline task.period front.1; divides = eqb-true (horizon % task.period) 0 parts.1 }
+fills horizon task is = grind (arith, and_parts, eqb-true)
 
 -- where n periods are the horizon, the quotient of what is left after one of them tells n
 count_by_periods : (horizon period n : ℕ) → 1 ≤ period → period * n ≡ horizon → 1 ≤ horizon → (period ≤ horizon) × ((horizon - period) / period + 1 ≡ n)

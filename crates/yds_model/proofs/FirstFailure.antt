@@ -1,5 +1,5 @@
 -- The first failure of tests is one: of stages that are tried in order, and of each stage's places.
-use Rattle.std.proofs.Common.{◌≡◌, ℕ, suc, ◌<◌, subst, arith, inl, inr}
+use Rattle.std.proofs.Common.{◌≡◌, ℕ, suc, ◌<◌, arith}
 use Rattle.std.proofs.lemmas.Bool.{cases_lt}
 use Rattle.yds_model.specs.Numbers.{Each}
 
@@ -9,20 +9,11 @@ each_none P i within = absurd (omega arith)
 
 -- one place more
 pub each_more : (P : ℕ → Type 0) (n : ℕ) → Each n P → P n → Each (suc n) P
-each_more P n each last i within = elim (cases_lt i n) [
-  | inl below ↦ each i below
-  | inr above ↦ subst P (omega arith) last
-]
+each_more P n each last i within = grind (arith, cases_lt)
 
 -- two numbers below which all hold, and at which it fails, are equal
 pub first_is_one : (P : ℕ → Type 0) (i j : ℕ) → Each i P → (P i → ⊥) → Each j P → (P j → ⊥) → i ≡ j
-first_is_one P i j below_i fails_i below_j fails_j = elim (cases_lt i j) [
-  | inl less ↦ absurd (fails_i (below_j i less))
-  | inr within ↦ elim (cases_lt j i) [
-    | inl more ↦ absurd (fails_j (below_i j more))
-    | inr above ↦ omega arith
-  ]
-]
+first_is_one P i j below_i fails_i below_j fails_j = grind (arith, cases_lt)
 
 -- the stages before this one hold, and this is its first place that fails
 pub record IsFirst (places : ℕ → ℕ) (Test : ℕ → ℕ → Type 0) (stage place : ℕ) : Type 0 where
@@ -33,12 +24,8 @@ pub record IsFirst (places : ℕ → ℕ) (Test : ℕ → ℕ → Type 0) (stage
 
 -- two first failures are of one stage
 pub one_stage : (places : ℕ → ℕ) (Test : ℕ → ℕ → Type 0) (s p t q : ℕ) → IsFirst places Test s p → IsFirst places Test t q → s ≡ t
-one_stage places Test s p t q one other =
-    first_is_one (λ s. Each (places s) (Test s)) s t one.stages (λ all. one.fails (all p one.within)) other.stages
-    (λ all. other.fails (all q other.within))
+one_stage places Test s p t q one other = grind (arith, first_is_one)
 
 -- and at one place of it
 pub one_place : (places : ℕ → ℕ) (Test : ℕ → ℕ → Type 0) (s p t q : ℕ) → IsFirst places Test s p → IsFirst places Test t q → p ≡ q
-one_place places Test s p t q one other =
-    let same = one_stage places Test s p t q one other in
-    first_is_one (Test s) p q one.before one.fails (rw same other.before) (rw same other.fails)
+one_place places Test s p t q one other = grind (arith, first_is_one, one_stage)

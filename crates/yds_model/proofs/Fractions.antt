@@ -1,10 +1,10 @@
 -- What order, equality, sum and multiple of fractions say of their values at a scale.
-use Rattle.std.proofs.Common.{◌≡◌, ℕ, zero, suc, ◌+◌, ◌*◌, ◌/◌, ◌%◌, ◌<◌, ◌≤◌, ◌⊎◌, ◌==◌, ap, sym, ◌∙◌, arith, inl, inr, refl, mul_right_comm}
+use Rattle.std.proofs.Common.{◌≡◌, ℕ, zero, suc, ◌+◌, ◌*◌, ◌/◌, ◌<◌, ◌≤◌, ◌⊎◌, ap, arith, mul_right_comm}
 use Rattle.std.specs.Prelude.{◌↔◌}
 use Rattle.std.specs.Int.{◌∣◌}
 use Rattle.std.proofs.Math.Nat.{div-mul_cancel, mul-pos, mul-lt-mul_of_pos_right, lt_of_mul-lt-mul_right, eq_of_mul-eq-mul_right, le_of_mul-le-mul_right, mul-le-mul_right}
 use Rattle.std.proofs.lemmas.Bool.{cases_lt, cases_Bool}
-use Rattle.yds_model.specs.Scale.{Fraction, at_scale, numerator, of_parts, AreAlike, IsLess, IsAtMost}
+use Rattle.yds_model.specs.Scale.{Fraction, at_scale, numerator, of_parts, AreAlike, IsAtMost}
 use Rattle.yds_model.specs.ScaleLaws.{OrderIsOfValues, EqualityIsOfValues, SumIsOfValues, MultipleIsOfValues, OrderIsTransitive, EqualityIsTransitive, OrderAgreesWithEquality}
 
 -- both factors of a product that isn't 0 are at least 1
@@ -27,17 +27,11 @@ value-den scale x divides = scaled x.whole x.num x.den (scale / x.den) scale (di
 
 -- numbers that are tied to two others by positive factors are ordered as those are
 pub tied_order : (a b k s u v : ℕ) → 1 ≤ s → 1 ≤ k → u * k ≡ a * s → v * k ≡ b * s → (a < b ↔ (u < v))
-tied_order a b k s u v some_s some_k e f = (
-  λ below. lt_of_mul-lt-mul_right k (rw (e, f) (mul-lt-mul_of_pos_right below some_s)),
-  λ below. lt_of_mul-lt-mul_right s (rw (← e, ← f) (mul-lt-mul_of_pos_right below some_k)),
-)
+tied_order a b k s u v some_s some_k e f = grind (arith, lt_of_mul-lt-mul_right, mul-lt-mul_of_pos_right)
 
 -- and are equal as those are
 pub tied_equality : (a b k s u v : ℕ) → 1 ≤ s → 1 ≤ k → u * k ≡ a * s → v * k ≡ b * s → (a ≡ b ↔ (u ≡ v))
-tied_equality a b k s u v some_s some_k e f = (
-  λ same. eq_of_mul-eq-mul_right k some_k u v (e ∙ ap (λ n. n * s) same ∙ sym f),
-  λ same. eq_of_mul-eq-mul_right s some_s a b (sym e ∙ ap (λ n. n * k) same ∙ f),
-)
+tied_equality a b k s u v some_s some_k e f = grind (arith, eq_of_mul-eq-mul_right)
 
 -- equations times a factor
 times : (u d a s e : ℕ) → u * d ≡ a * s → u * (d * e) ≡ a * e * s
@@ -133,31 +127,12 @@ order_agrees x y z dx dy dz same =
 -- what is at most another is so at each common scale
 pub at_most_of_values : (x y : Fraction) (scale : ℕ) → 1 ≤ scale → x.den ∣ scale → y.den ∣ scale →
     (IsAtMost x y ↔ (at_scale scale x ≤ at_scale scale y))
-at_most_of_values x y scale positive dx dy =
-    let order = order_of_values y x scale positive dy dx in (
-      λ most. elim (cases_lt (at_scale scale y) (at_scale scale x)) [
-        | inl less ↦ let below : IsLess y x = order.1 less in absurd (omega arith)
-        | inr within ↦ within
-      ],
-      λ most. elim (cases_lt (numerator y * x.den) (numerator x * y.den)) [
-        | inl less ↦ let below : at_scale scale y < at_scale scale x = order.0 less in absurd (omega arith)
-        | inr within ↦ within
-      ],
-    )
+at_most_of_values x y scale positive dx dy = grind (arith, cases_lt, order_of_values)
 
 -- the denominator of parts is 1 or the one that is given
 pub parts_den : (parts den : ℕ) → ((of_parts parts den).den ≡ 1) ⊎ ((of_parts parts den).den ≡ den)
-parts_den parts den = elim (cases_Bool (parts % den == 0)) [
-  | inl none ↦ inl (rw none refl)
-  | inr other ↦ inr (rw other refl)
-]
+parts_den parts den = grind (arith, cases_Bool)
 
 -- so any two of one denominator are alike
 pub parts_alike : (one other den : ℕ) → AreAlike (of_parts one den) (of_parts other den)
-parts_alike one other den = elim (parts_den one den) [
-  | inl plain ↦ inr (inl plain)
-  | inr first ↦ elim (parts_den other den) [
-    | inl plain ↦ inr (inr plain)
-    | inr second ↦ inl (first ∙ sym second)
-  ]
-]
+parts_alike one other den = grind (arith, parts_den)

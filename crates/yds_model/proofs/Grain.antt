@@ -114,10 +114,7 @@ part_scaled u n den grain parts scale e f = omega (arith, ap (λ k. k * parts) e
 -- of the slots of a job alone
 part_of_job : (a b u v grain scale : ℕ) → (b ≡ a → grain * u ≡ scale * v) →
     grain * (if a == b then u else 0) ≡ scale * (if b == a then v else 0)
-part_of_job a b u v grain scale same = elim (cases_eq a b) [
-  | inl is ↦ rw (eq-eqb a b is, eq-eqb b a (sym is)) (same (sym is))
-  | inr other ↦ rw (ne_eqb a b other, ne_eqb b a (λ e. other (sym e))) (omega arith)
-]
+part_of_job a b u v grain scale same = grind (arith, cases_eq, eq-eqb, ne_eqb)
 
 -- summed over the slots
 parts_scaled : (scale grain job : ℕ) (slots : List WrittenSlot) → AllByRecursion (IsDivided scale) slots →

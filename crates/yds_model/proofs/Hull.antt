@@ -4,7 +4,7 @@ use Rattle.std.specs.List.{All, AllByRecursion}
 use Rattle.std.proofs.lemmas.List.Elements.{All-cons, All-from_recursion}
 use Rattle.yds_model.specs.HullLaws.{HullIsLowest}
 use Rattle.std.proofs.Math.Nat.{mul-add, add-mul, mul-le-mul_left, mul-le-mul_right, le_of_mul-le-mul_left, le_of_mul-le-mul_right}
-use Rattle.yds_model.specs.Table.{Point, no_point, point_at, AreRising, IsOnOrBelow, IsAbove, IsConvex, GoesOn, IsHullOf, IsAround, interpolated}
+use Rattle.yds_model.specs.Table.{Point, point_at, AreRising, IsOnOrBelow, IsAbove, IsConvex, GoesOn, IsHullOf, IsAround, interpolated}
 
 -- # Slopes and turns, by products without a difference
 
@@ -31,10 +31,7 @@ flatter_below low high mid from to below =
 
 -- where it is above, the line from it on is flatter than the whole one, and the line up to it steeper
 pub flatter_above : (low high mid : Point) → low.speed ≤ mid.speed → mid.speed ≤ high.speed → IsAbove low high mid → IsFlatter mid high low high × IsFlatter low high low mid
-flatter_above low high mid from to above = (
-  omega (arith, times_gap mid.power low.speed high.speed (omega arith), times_gap low.power mid.speed high.speed to, times_gap high.power low.speed mid.speed from),
-  omega (arith, times_gap mid.power low.speed high.speed (omega arith), times_gap low.power mid.speed high.speed to, times_gap high.power low.speed mid.speed from),
-)
+flatter_above low high mid from to above = grind (arith, times_gap)
 
 -- `IsFlatter` by the gaps between the speeds, of which products can be cancelled
 abbrev ByGaps : Point → Point → Point → Point → Type 0
@@ -293,15 +290,7 @@ lowest : (point : Point) (points : List Point) (low high : Point) (hull : List P
     IsAround p q (point_at (low ∷ high ∷ hull) k) (point_at (high ∷ hull) k) →
     interpolated p q (point_at (low ∷ high ∷ hull) k) (point_at (high ∷ hull) k) * ((point_at (point ∷ points) j).speed - (point_at (point ∷ points) i).speed)
     ≤ interpolated p q (point_at (point ∷ points) i) (point_at (point ∷ points) j) * ((point_at (high ∷ hull) k).speed - (point_at (low ∷ high ∷ hull) k).speed)
-lowest point points low high hull p q i j k rises first goes convex some before within around inside edge =
-    let l : Point = point_at (low ∷ high ∷ hull) k in
-    let h : Point = point_at (high ∷ hull) k in
-    let over : All (IsOver l h) (point ∷ points) = edge_over point points low high hull k rises first goes convex inside in
-    let line : l.speed < h.speed = neighbours_rise low (high ∷ hull) k (hull_rises low points (high ∷ hull) low.speed rises goes) inside in
-    let order : (point_at (point ∷ points) i).speed * q ≤ (point_at (point ∷ points) j).speed * q = omega arith in
-    between p q (point_at (point ∷ points) i) (point_at (point ∷ points) j) l h
-    (le_of_mul-le-mul_right order some) (omega arith)
-    (over i no_point (omega arith)) (over j no_point (omega arith)) around edge
+lowest point points low high hull p q i j k rises first goes convex some before within around inside edge = grind (arith, between, edge_over, le_of_mul-le-mul_right)
 
 -- the law: the hull's line is at most the line between any two points
 pub hull_is_lowest : HullIsLowest

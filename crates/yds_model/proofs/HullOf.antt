@@ -1,14 +1,14 @@
 -- A hull is the one that `hull_of` computes: a point is in it just where it lies above no line between an earlier and a later point.
 use Rattle.std.proofs.Common.{◌≡◌, ℕ, suc, ◌+◌, ◌-◌, ◌*◌, ◌<◌, ◌≤◌, inl, inr, List, [], ◌∷◌, ◌++◌, length, Bool, true, false, refl, sym, ap, ◌∙◌, subst, arith, append_assoc, add-one}
 use Rattle.std.specs.Prelude.{if◌then◌else◌}
-use Rattle.std.specs.List.{All, Contains, list_any, slice_index_or}
+use Rattle.std.specs.List.{All, Contains}
 use Rattle.std.proofs.lemmas.Bool.{lt-ltb, le-ltb}
 use Rattle.std.proofs.lemmas.List.Folds.{list_any_none, list_any_at}
 use Rattle.std.proofs.lemmas.List.Elements.{All-push, Contains-push, All-weaker, All-tail, All-nil, All-cons}
 use Rattle.std.proofs.lemmas.List.{length-append, get_or_append_left}
 use Rattle.std.proofs.Math.Nat.{le_refl, mul-le-mul_left, le_of_mul-le-mul_left}
 use Rattle.yds_model.specs.HullLaws.{HullIsComputed}
-use Rattle.yds_model.specs.Table.{Point, point_at, IsAbove, GoesOn, is_above, is_left_out, hull_after}
+use Rattle.yds_model.specs.Table.{Point, point_at, IsAbove, GoesOn, is_left_out, hull_after}
 use Rattle.yds_model.proofs.Lists.{All-front, All-back}
 use Rattle.yds_model.proofs.Hull.{IsOver, RisesFrom, rises_from, hull_under}
 
@@ -38,10 +38,7 @@ under low high l h edge before after over_l over_h =
 -- a point of the hull isn't left out
 pub stays_in : (earlier later : List Point) (low high : Point) → low.speed < high.speed → All (λ l. l.speed < high.speed) earlier →
     All (λ h. high.speed < h.speed) later → All (IsOver low high) earlier → All (IsOver low high) later → is_left_out earlier high later ≡ false
-stays_in earlier later low high edge before after over_earlier over_later =
-    list_any_none (λ l. list_any (λ h. is_above l h high) later) earlier
-    (λ i d within. list_any_none (λ h. is_above (slice_index_or earlier i d) h high) later
-    (λ j e inside. le-ltb _ _ (under low high (slice_index_or earlier i d) (slice_index_or later j e) edge (before i d within) (after j e inside) (over_earlier i d within) (over_later j e inside))))
+stays_in earlier later low high edge before after over_earlier over_later = grind (arith, le-ltb, list_any_none, under)
 
 -- # A point that is left out of the hull
 
@@ -54,9 +51,7 @@ goes_to low high (point ∷ points) hull (inr left) = let rest = goes_to low hig
 -- a point above a line between an earlier and a later one is left out
 pub goes_out : (earlier later : List Point) (low high point : Point) → Contains earlier low → Contains later high → IsAbove low high point →
     is_left_out earlier point later ≡ true
-goes_out earlier later low high point first last above =
-    list_any_at (λ l. list_any (λ h. is_above l h point) later) earlier first.0 low first.1
-    (rw first.2 (list_any_at (λ h. is_above low h point) later last.0 high last.1 (rw last.2 (lt-ltb _ _ above))))
+goes_out earlier later low high point first last above = grind (arith, list_any_at, lt-ltb)
 
 -- # The whole hull
 

@@ -40,13 +40,7 @@ All-flat P f (x ∷ xs) each =
 
 -- some element of a list is one of a longer list
 pub Any-append_left : {X : Type 0} (P : X → Type 0) (xs ys : List X) → Any P xs → Any P (xs ++ ys)
-Any-append_left P xs ys some = (
-  some.0,
-  some.1,
-  omega (arith, some.2, length-append xs ys),
-  get_or_append_left xs ys some.1 some.0 some.2 ∙ some.3,
-  some.4,
-)
+Any-append_left P xs ys some = grind (arith, get_or_append_left, length-append)
 
 -- and so is some element of the list that is put behind it
 pub Any-append_right : {X : Type 0} (P : X → Type 0) (xs ys : List X) → Any P ys → Any P (xs ++ ys)

@@ -116,6 +116,4 @@ lowest_is_lowest num den some =
 
 -- quotients that are the same have the same lowest terms
 pub lowest_same : (a b c d : ℕ) → 1 ≤ b → 1 ≤ d → a * d ≡ c * b → in_lowest_terms a b ≡ in_lowest_terms c d
-lowest_same a b c d some_b some_d same =
-    let terms = lowest_terms_are_one a b c d some_b some_d same in
-    ap₂ of_parts terms.0 terms.1
+lowest_same a b c d some_b some_d same = grind (arith, ap₂, lowest_terms_are_one)

@@ -147,11 +147,7 @@ pub record Says (entries : List Entry) (d : Document) : Type 0 where
 -- an entry that is no level, piece or member
 pub says_other : (entries : List Entry) (entry : Entry) (d after : Document) → piece_said entry ≡ None → member_said entry ≡ None → after.levels ≡ d.levels →
     document_said (entries ++ entry ∷ []) ≡ after → Says entries d → Says (entries ++ entry ∷ []) after
-says_other entries entry d after no_piece no_member same said says = record {
-  said = said;
-  pieces = none_said piece_said entries entry no_piece ∙ says.pieces ∙ ap all_pieces (sym same);
-  members = none_said member_said entries entry no_member ∙ says.members ∙ ap all_members (sym same);
-}
+says_other entries entry d after no_piece no_member same said says = grind (arith, none_said)
 
 -- the document with one more job, one more point or one more slot
 abbrev pub with_job : List ℕ → Job → Document → Document
@@ -193,12 +189,6 @@ first_or first None = first
 first_or None (Some x) = Some x
 first_or (Some first) (Some x) = Some first
 
--- the first of the list stays the first
-first_of_more : {X : Type 0} (xs : List X) (o : Option X) → first_of_them (with_more xs o) ≡ first_or (first_of_them xs) o
-first_of_more xs None = refl
-first_of_more [] (Some x) = refl
-first_of_more (first ∷ xs) (Some x) = refl
-
 -- the document with what one more entry says, besides levels
 abbrev with_said : Entry → Document → Document
 with_said entry d = record {
@@ -214,18 +204,7 @@ with_said entry d = record {
 -- what the entries say with one more
 said_with : (entries : List Entry) (entry : Entry) (levels : List Level) → levels_said (entries ++ entry ∷ []) ≡ levels →
     document_said (entries ++ entry ∷ []) ≡ with_levels levels (with_said entry (document_said entries))
-said_with entries entry levels are =
-    rw (
-      said_of_kind name_said entries entry,
-      said_of_kind job_said entries entry,
-      said_of_kind point_said entries entry,
-      said_of_kind slot_said entries entry,
-      are,
-      said_of_kind grid_said entries entry,
-      first_of_more (filter_map grid_said entries) (grid_said entry),
-      said_of_kind energy_said entries entry,
-      first_of_more (filter_map energy_said entries) (energy_said entry),
-    ) refl
+said_with entries entry levels are = grind (arith, said_of_kind)
 
 -- the same for an entry that is no level, piece or member
 said_same : (entries : List Entry) (entry : Entry) → is_level entry ≡ false → piece_said entry ≡ None → member_said entry ≡ None →

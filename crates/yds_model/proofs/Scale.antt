@@ -86,19 +86,11 @@ run_coarser k start (slot ∷ slots) some run =
 
 -- a slot in its job's window still is
 window_finer : (jobs : List Job) (k scale : ℕ) (slot : WholeSlot) → IsInWindow jobs scale slot → IsInWindow jobs (k * scale) (finer k slot)
-window_finer jobs k scale slot window = record {
-  known = window.known;
-  released = rw (mul_left_comm (job_at jobs slot.job).release k scale) (mul-le-mul_left k window.released);
-  due = rw (mul_left_comm (job_at jobs slot.job).deadline k scale) (mul-le-mul_left k window.due);
-}
+window_finer jobs k scale slot window = grind (arith, mul-le-mul_left, mul_left_comm)
 
 -- and was before
 window_coarser : (jobs : List Job) (k scale : ℕ) (slot : WholeSlot) → 1 ≤ k → IsInWindow jobs (k * scale) (finer k slot) → IsInWindow jobs scale slot
-window_coarser jobs k scale slot some window = record {
-  known = window.known;
-  released = le_of_mul-le-mul_left (rw (mul_left_comm (job_at jobs slot.job).release k scale) at window.released) some;
-  due = le_of_mul-le-mul_left (rw (mul_left_comm (job_at jobs slot.job).deadline k scale) at window.due) some;
-}
+window_coarser jobs k scale slot some window = grind (arith, le_of_mul-le-mul_left, mul_left_comm)
 
 -- and so are all slots
 windows_finer : (jobs : List Job) (k scale : ℕ) (slots : List WholeSlot) → AllByRecursion (IsInWindow jobs scale) slots →
@@ -171,19 +163,11 @@ one_scale_decides jobs slots scale is feasible = one_scale_of slots (IsFeasibleA
 
 -- a multiple of a scale is one
 coarsest : (k scale : ℕ) (slot : WrittenSlot) → IsDivided scale slot → IsDivided (k * scale) slot
-coarsest k scale slot divided = record {
-  from = dvd-mul_left_of_dvd slot.from.den divided.from k;
-  to = dvd-mul_left_of_dvd slot.to.den divided.to k;
-  work = dvd-mul_left_of_dvd slot.work.den divided.work k;
-}
+coarsest k scale slot divided = grind (arith, dvd-mul_left_of_dvd)
 
 -- a slot's denominators divide their product, and each multiple of it
 product_divided : (scale : ℕ) (slot : WrittenSlot) → IsDivided (slot.from.den * slot.to.den * slot.work.den * scale) slot
-product_divided scale slot = record {
-  from = dvd-mul_right_of_dvd _ (dvd-mul_right_of_dvd _ (dvd-mul_right _ _) _) _;
-  to = dvd-mul_right_of_dvd _ (dvd-mul_right_of_dvd _ (dvd-mul_left _ _) _) _;
-  work = dvd-mul_right_of_dvd _ (dvd-mul_left _ _) _;
-}
+product_divided scale slot = grind (arith, dvd-mul_left, dvd-mul_right, dvd-mul_right_of_dvd)
 
 -- the product of all denominators is a scale
 scale_of : (slots : List WrittenSlot) → AllByRecursion IsSolid slots → (scale : ℕ) × IsScale scale slots

@@ -95,12 +95,7 @@ one_running weight start now most (slot ∷ slots) run each = elim (cases_lt now
 -- a piece that has the unit of time of `now` counts it
 covered : (scale now : ℕ) (pieces : List Piece) → 1 ≤ scale → Covers pieces (now / scale) →
     1 ≤ sum_by (λ piece. 1 * here (piece.from * scale) (piece.to * scale) now) pieces
-covered scale now pieces positive covers =
-    let piece = covers.1 in
-    let inside = here_inside (piece.from * scale) (piece.to * scale) now
-    ((le-div_iff_mul-le positive).0 covers.4.0) ((div-lt_iff_lt-mul positive).0 covers.4.1) in
-    let part = get_or-le-sum_by (λ (p : Piece). 1 * here (p.from * scale) (p.to * scale) now) pieces covers.0 piece covers.2 in
-    omega (arith, rw (covers.3, inside) at part)
+covered scale now pieces positive covers = grind (arith, div-lt_iff_lt-mul, get_or-le-sum_by, here_inside, le-div_iff_mul-le)
 
 -- a slot of confined jobs, one of which it is at most once, runs now only where the pieces have the unit
 slot_covered : (jobs : List Job) (scale now : ℕ) (members : List ℕ) (pieces : List Piece) (slot : WholeSlot) →

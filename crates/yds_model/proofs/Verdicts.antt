@@ -38,17 +38,12 @@ module _ (jobs : List Job) (table : Option (List Point)) (slots : List WrittenSl
   -- a slot that stands is one of a feasible schedule
   forward_at_scale : (i : ℕ) → i < length slots → Stands jobs table slots i →
       (slot_at_scale scale (written_slot_at slots i)).from < (slot_at_scale scale (written_slot_at slots i)).to
-  forward_at_scale i within stands =
-      let divided = divided_at i within in
-      (order_of_values (written_slot_at slots i).from (written_slot_at slots i).to scale is.positive divided.from divided.to).0 stands.forward
+  forward_at_scale i within stands = grind (arith, divided_at, order_of_values)
 
   -- it begins after the one before it
   after_at_scale : (i : ℕ) → suc i < length slots → Stands jobs table slots (suc i) →
       (slot_at_scale scale (written_slot_at slots i)).to ≤ (slot_at_scale scale (written_slot_at slots (suc i))).from
-  after_at_scale i within stands =
-      let earlier : IsDivided scale (written_slot_at slots i) = divided_at i (omega arith) in
-      (at_most_of_values (written_slot_at slots i).to (written_slot_at slots (suc i)).from scale is.positive earlier.to
-      (divided_at (suc i) within).from).0 (stands.after i (omega arith))
+  after_at_scale i within stands = grind (arith, at_most_of_values, divided_at)
 
   -- within its job's window
   window_at_scale : (i : ℕ) → i < length slots → Stands jobs table slots i →

@@ -1,7 +1,7 @@
 -- A run of Optimal Available: by each event point every job that is due by then is served in full, and what the code asks of a
 -- stretch is what the definition asks.
 use Rattle.std.proofs.Common.{◌≡◌, ℕ, zero, suc, ◌-◌, ◌*◌, ◌<◌, ◌≤◌, max, List, length, get_or, map, ◌∙◌, refl, sym, subst, ap, arith, inl, inr, cond, true, false, add-one, mul_assoc}
-use Rattle.std.specs.Prelude.{Bool, nat_le, nat_lt, ◌==◌, ◌&&◌, not, All, sum_by, filter, fold, Result, Ok, Err, IfOk, OnOk}
+use Rattle.std.specs.Prelude.{Bool, nat_le, nat_lt, ◌==◌, ◌&&◌, not, All, sum_by, filter, Result, Ok, Err, IfOk, OnOk}
 use Rattle.std.specs.List.{list_all}
 use Rattle.std.proofs.lemmas.Bool.{cases_lt, cases_eq, cases_Bool, le-leb, lt-leb, lt-ltb, le-ltb, eq-eqb, ne_eqb, and_left, and_right, and_from}
 use Rattle.std.proofs.lemmas.List.Elements.{All-filter, All-weaker, Contains-get_or, filter_agree}
@@ -12,7 +12,7 @@ use Rattle.yds_model.specs.Job.{Job, IsJob, no_job, job_at}
 use Rattle.yds_model.specs.Slot.{WrittenSlot, IsScale, slots_at}
 use Rattle.yds_model.specs.Piece.{Piece}
 use Rattle.yds_model.specs.Event.{event_points, stretches}
-use Rattle.yds_model.specs.Policy.{div_up, pending_at, numbers_of}
+use Rattle.yds_model.specs.Policy.{pending_at, numbers_of}
 use Rattle.yds_model.specs.OptimalAvailable.{pending_jobs, due_units, pending_deadlines, asked, units_asked, optimal_available, optimal_available_rounds, IsOptimalAvailableRun}
 use Rattle.yds_model.specs.Comparison.{stretch_at}
 use Rattle.yds_model.proofs.Sums.{sum_by-mul, sum_by_same}
@@ -46,34 +46,23 @@ due_term jobs pending stretch time job =
 
 due_numbered : (jobs : List Job) (pending : ℕ → ℕ) (stretch : Piece) (time : ℕ) →
     due_by jobs pending stretch time ≡ sum_below (length jobs) (due_term jobs pending stretch time)
-due_numbered jobs pending stretch time =
-    sum_by-filter (λ job. nat_le (job_at jobs job).deadline time) pending (waiting jobs pending stretch)
-    ∙ sum_numbers (is_waiting jobs pending stretch) (λ job. cond (nat_le (job_at jobs job).deadline time) (pending job) 0) (length jobs)
+due_numbered jobs pending stretch time = grind (arith, sum_by-filter, sum_numbers)
 
 at_most : (b : Bool) (n m : ℕ) → n ≤ m → cond b n 0 ≤ m
 at_most true n m few = few
 at_most false n m few = omega arith
 
 due_most : (jobs : List Job) (pending : ℕ → ℕ) (stretch : Piece) (time : ℕ) → due_by jobs pending stretch time ≤ sum_below (length jobs) pending
-due_most jobs pending stretch time = omega (
-  arith,
-  due_numbered jobs pending stretch time,
-  sum_below_at_most (length jobs) (due_term jobs pending stretch time) pending
-      (λ job known. at_most (is_waiting jobs pending stretch job) _ (pending job) (at_most (nat_le (job_at jobs job).deadline time) (pending job) (pending job) (omega arith))),
-)
+due_most jobs pending stretch time = grind (arith, due_numbered, sum_below_at_most)
 
 -- a deadline that isn't before the stretch's end asks at most what is due by it, and the end itself just that
 asks_due : (jobs : List Job) (pending : ℕ → ℕ) (stretch : Piece) (deadline : ℕ) → stretch.from < stretch.to → stretch.to ≤ deadline →
     asked_by jobs pending stretch deadline ≤ due_by jobs pending stretch deadline
-asks_due jobs pending stretch deadline long upto =
-    up_most (due_by jobs pending stretch deadline * (stretch.to - stretch.from)) (deadline - stretch.from) (due_by jobs pending stretch deadline) (omega (arith, long, upto))
-    (mul-le-mul_left (due_by jobs pending stretch deadline) (omega (arith, upto)))
+asks_due jobs pending stretch deadline long upto = grind (arith, mul-le-mul_left, up_most)
 
 end_asks : (jobs : List Job) (pending : ℕ → ℕ) (stretch : Piece) → stretch.from < stretch.to →
     due_by jobs pending stretch stretch.to ≤ asked_by jobs pending stretch stretch.to
-end_asks jobs pending stretch long =
-    le_of_mul-le-mul_right {k = stretch.to - stretch.from}
-    (up_enough (due_by jobs pending stretch stretch.to * (stretch.to - stretch.from)) (stretch.to - stretch.from) (omega (arith, long))) (omega (arith, long))
+end_asks jobs pending stretch long = grind (arith, le_of_mul-le-mul_right, up_enough)
 
 module _ (jobs : List Job) (grid : ℕ) (some_grid : 1 ≤ grid) (are : All IsJob jobs) (shares : List JobShare)
     (served : IsServed jobs grid (most_asked jobs) shares) where
@@ -84,10 +73,7 @@ module _ (jobs : List Job) (grid : ℕ) (some_grid : 1 ≤ grid) (are : All IsJo
   given k number = units_given (shares_before shares k) number
 
   held_left : (k number : ℕ) → held k number ≤ units_wanted jobs grid number - given k number
-  held_left k number = elim (cases_Bool (nat_le (job_at jobs number).release (stretch_at jobs k).from)) [
-    | inl arrived ↦ rw arrived (omega arith)
-    | inr not_yet ↦ rw not_yet (omega arith)
-  ]
+  held_left k number = grind (arith, cases_Bool)
 
   arrived_left : (k number : ℕ) → (job_at jobs number).release ≤ (stretch_at jobs k).from → held k number ≡ units_wanted jobs grid number - given k number
   arrived_left k number arrived = rw (le-leb (job_at jobs number).release (stretch_at jobs k).from arrived) refl
@@ -110,10 +96,7 @@ module _ (jobs : List Job) (grid : ℕ) (some_grid : 1 ≤ grid) (are : All IsJo
     end = (stretch_at jobs k).to
 
     waits_here : (number : ℕ) → number < length jobs → 1 ≤ held k number → is_waiting jobs (held k) (stretch_at jobs k) number ≡ true
-    waits_here number known some = waits_is jobs (held k) (stretch_at jobs k) number some (elim (cases_lt (stretch_at jobs k).from (job_at jobs number).deadline) [
-      | inl later ↦ later
-      | inr over ↦ absurd (omega (arith, some, held_left k number, done number known over))
-    ])
+    waits_here number known some = grind (arith, cases_lt, held_left, waits_is)
 
     none_left : (number : ℕ) → number < length jobs → (job_at jobs number).deadline ≡ end → held k number ≤ units_given (shares_in shares k) number
     none_left number known due = elim (cases_lt (units_given (shares_in shares k) number) (held k number)) [
@@ -305,12 +288,7 @@ module _ (jobs : List Job) (grid : ℕ) (some_grid : 1 ≤ grid) (are : All IsJo
     same_deadlines = ap (map (λ job. (job_at jobs job).deadline)) same_jobs
 
     waiting_term : (job : ℕ) → is_waiting jobs (held k) st job ≡ true → grid * left_at job ≡ scale * held k job
-    waiting_term job waits =
-        let some = (waits_for jobs (held k) st job waits).0 in
-        elim (cases_Bool (nat_le (job_at jobs job).release st.from)) [
-          | inl arrived ↦ arrived_term job arrived
-          | inr not_yet ↦ absurd (omega (arith, mul-pos is.positive some, early_term job not_yet))
-        ]
+    waiting_term job waits = grind (arith, arrived_term, cases_Bool, early_term, mul-pos, waits_for)
 
     same_due : (deadline : ℕ) → due_units jobs grid scale (slots_at scale slots) st deadline ≡ scale * due_by jobs (held k) st deadline
     same_due deadline =
@@ -325,25 +303,16 @@ module _ (jobs : List Job) (grid : ℕ) (some_grid : 1 ≤ grid) (are : All IsJo
         ∙ sum_by-mul scale (held k) xs
 
     same_asked : (deadline : ℕ) → asked jobs grid scale (slots_at scale slots) st deadline ≡ asked_by jobs (held k) st deadline
-    same_asked deadline =
-        ap (λ n. div_up (n * (st.to - st.from)) (scale * (deadline - st.from))) (same_due deadline)
-        ∙ ap (λ n. div_up n (scale * (deadline - st.from))) (mul_assoc scale (due_by jobs (held k) st deadline) (st.to - st.from))
-        ∙ rounded_up_same scale is.positive (due_by jobs (held k) st deadline * (st.to - st.from)) (deadline - st.from)
+    same_asked deadline = grind (arith, mul_assoc, rounded_up_same, same_due)
 
     same_most : units_asked jobs grid scale (slots_at scale slots) st ≡ most_asked jobs (held k) st
-    same_most =
-        let functions : asked jobs grid scale (slots_at scale slots) st ≡ asked_by jobs (held k) st = λ i deadline. same_asked deadline i in
-        ap (λ f. fold max 0 (map f (pending_deadlines jobs scale (slots_at scale slots) st))) functions
-        ∙ ap (λ xs. fold max 0 (map (asked_by jobs (held k) st) xs)) same_deadlines
+    same_most = grind (arith, max, same_asked, same_deadlines)
 
     pub capacity_is : optimal_available jobs grid scale (slots_at scale slots) st ≡ scale * total_units (shares_in shares k)
     capacity_is = ap (λ n. scale * n) (same_most ∙ sym (total_asked k here))
 
     eq_scaled : (a b : ℕ) → (scale * a == scale * b) ≡ (a == b)
-    eq_scaled a b = elim (cases_eq a b) [
-      | inl same ↦ eq-eqb (scale * a) (scale * b) (ap (λ n. scale * n) same) ∙ sym (eq-eqb a b same)
-      | inr other ↦ ne_eqb (scale * a) (scale * b) (λ both. other (eq_of_mul-eq-mul_left scale is.positive a b both)) ∙ sym (ne_eqb a b other)
-    ]
+    eq_scaled a b = grind (arith, cases_eq, eq-eqb, eq_of_mul-eq-mul_left, ne_eqb)
 
     abbrev short : ℕ → ℕ → Bool
     short most deadline = not (due_by jobs (held k) st deadline * (st.to - st.from) == most * (deadline - st.from))

@@ -1,7 +1,6 @@
 -- The greatest quotient by places is the greatest of all that deadlines ask.
 use Rattle.std.proofs.Common.{◌≡◌, ℕ, zero, suc, ◌+◌, ◌-◌, ◌*◌, ◌<◌, ◌≤◌, List, length, slice_index, ◌∙◌, refl, sym, subst, ap, arith, inl, inr, add-one}
 use Rattle.std.specs.List.Sorted.{IsNonDecreasingBy}
-use Rattle.std.specs.Prelude.{nat_le, nat_lt}
 use Rattle.std.proofs.lemmas.Bool.{cases_lt, cases_eq, le-leb, lt-leb, lt-ltb, le-ltb}
 use Rattle.std.proofs.Math.Nat.{mul-le-mul_left, le_of_mul-le-mul_left}
 use Rattle.yds_model.specs.Numbers.{Each}
@@ -72,20 +71,10 @@ module _ (jobs : List Job) (pending : PendingJobs) (units : ℕ → ℕ) (stretc
 
   module _ (deadline cut : ℕ) (is : IsCut order deadline (length order) cut) where
     weight_over : (place : ℕ) → place < start → weight deadline place ≡ 0
-    weight_over place less = elim (cases_lt deadline (due_at order place).deadline) [
-      | inl later ↦ rw (lt-leb (due_at order place).deadline deadline later) refl
-      | inr upto ↦ elim (after.before place less) [
-        | inl over ↦ rw (le-leb (due_at order place).deadline deadline upto, le-ltb stretch.from (due_at order place).deadline over) refl
-        | inr none ↦ rw (sym (fresh place (omega (arith, less, after.within))) ∙ none)
-            (nothing_of (nat_le (due_at order place).deadline deadline) (nat_lt stretch.from (due_at order place).deadline))
-      ]
-    ]
+    weight_over place less = grind (arith, cases_lt, le-leb, le-ltb, lt-leb, nothing_of)
 
     weight_due : (place : ℕ) → start ≤ place → place < cut → weight deadline place ≡ slice_index pending.units place
-    weight_due place most less =
-        let known : place < length order = omega (arith, less, is.within) in
-        rw (le-leb (due_at order place).deadline deadline (is.before place less), lt-ltb stretch.from (due_at order place).deadline (after.after place most known))
-        (sym (fresh place known))
+    weight_due place most less = grind (arith, le-leb, lt-ltb)
 
     weight_later : (place : ℕ) → cut ≤ place → place < length order → weight deadline place ≡ 0
     weight_later place most less = rw (lt-leb (due_at order place).deadline deadline (is.after place most less)) refl

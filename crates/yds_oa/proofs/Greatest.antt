@@ -38,16 +38,10 @@ fold_below a most (x ∷ xs) first all = fold_below (max a x) most xs (omega (ar
 
 -- a whole quotient and one that isn't, rounded up
 up_whole : (x y : ℕ) → 1 ≤ y → x % y ≡ 0 → div_up x y * y ≡ x
-up_whole x y some none =
-    let whole : x / y * y ≡ x = omega (arith, div-add-mod x y, none) in
-    let most : div_up x y ≤ x / y = up_most x y (x / y) some (omega (arith, whole)) in
-    omega (arith, up_enough x y some, mul-le-mul_right y most, whole)
+up_whole x y some none = grind (arith, div-add-mod, mul-le-mul_right, up_enough, up_most)
 
 up_more : (x y : ℕ) → 1 ≤ y → (x % y ≡ 0 → ⊥) → x < div_up x y * y
-up_more x y some rest = elim (cases_eq x (div_up x y * y)) [
-  | inl same ↦ absurd (rest (ap (λ n. n % y) same ∙ mod-eq-zero_of_dvd y (dvd-mul_left y (div_up x y))))
-  | inr other ↦ omega (arith, other, up_enough x y some)
-]
+up_more x y some rest = grind (arith, cases_eq, dvd-mul_left, mod-eq-zero_of_dvd, up_enough)
 
 -- a waiting job's deadline asks at most the greatest number
 pub asks_at_most : (jobs : List Job) (pending : ℕ → ℕ) (stretch : Piece) (job : ℕ) → job < length jobs → is_waiting jobs pending stretch job ≡ true →
@@ -93,15 +87,7 @@ module _ (jobs : List Job) (pending : ℕ → ℕ) (stretch : Piece) (units time
   -- the deadline of the greatest quotient asks as much
   asked_there : (job : ℕ) → time ≡ (job_at jobs job).deadline - stretch.from → units ≤ due_by jobs pending stretch (job_at jobs job).deadline →
       most ≤ asked_by jobs pending stretch (job_at jobs job).deadline
-  asked_there job until due =
-      let deadline = (job_at jobs job).deadline in
-      up_most (units * span) time (asked_by jobs pending stretch deadline) is.some_time
-      (omega (
-        arith,
-        mul-le-mul_right span due,
-        up_enough (due_by jobs pending stretch deadline * span) (deadline - stretch.from) (omega (arith, until, is.some_time)),
-        ap (λ n. asked_by jobs pending stretch deadline * n) until,
-      ))
+  asked_there job until due = grind (arith, mul-le-mul_right, up_enough, up_most)
 
   -- what holds of each waiting deadline
   each_deadline : (P : ℕ → Type 0) → ((job : ℕ) → is_waiting jobs pending stretch job ≡ true → P (job_at jobs job).deadline) →
@@ -149,49 +135,15 @@ module _ (jobs : List Job) (pending : ℕ → ℕ) (stretch : Piece) (units time
       rounds_by ∙ rw (lt-ltb 0 most some, list_all-from_AllPass is_short (deadlines jobs pending stretch) all) refl
 
   whole : (units * span) % time ≡ 0 → most_rounds jobs pending stretch ≡ false
-  whole none =
-      let exact = up_whole (units * span) time is.some_time none in
-      elim (cases_lt 0 most) [
-        | inr nothing ↦ rounds_by ∙ rw (le-ltb 0 most nothing) refl
-        | inl some ↦ elim is.attained [
-          | inl no_units ↦
-              let nothing : most ≤ 0 = up_most (units * span) time 0 is.some_time (omega (arith, ap (λ n. n * span) no_units)) in
-              absurd (omega (arith, some, nothing))
-          | inr of ↦
-              let deadline = (job_at jobs of.job).deadline in
-              let later = (waits_for jobs pending stretch of.job of.waits).1 in
-              let place = deadline_place jobs pending stretch of.job of.known of.waits in
-              let most_then : due_by jobs pending stretch deadline * span ≤ most * (deadline - stretch.from) =
-              le_of_mul-le-mul_right {k = time} (omega (
-                arith,
-                mul-le-mul_right span (is.upper deadline later),
-                mul-le-mul_right (deadline - stretch.from) enough,
-              )) is.some_time in
-              let same : due_by jobs pending stretch deadline * span ≡ most * (deadline - stretch.from) =
-              omega (arith, most_then, mul-le-mul_right span of.due, exact, ap (λ n. most * n) of.until) in
-              let fails : is_short (get_or (deadlines jobs pending stretch) place.0 0) ≡ false =
-              rw (place.2, eq-eqb (due_by jobs pending stretch deadline * span) (most * (deadline - stretch.from)) same) refl in
-              rounds_by
-              ∙ rw (lt-ltb 0 most some, list_all_at is_short (deadlines jobs pending stretch) place.0 0 place.1 fails) refl
-        ]
-      ]
+  whole none = grind (arith, cases_lt, deadline_place, enough, eq-eqb, le-ltb, le_of_mul-le-mul_right, list_all_at, lt-ltb, mul-le-mul_right, rounds_by, up_most, up_whole, waits_for)
 
   pub rounds_is : most_rounds jobs pending stretch ≡ not ((units * span) % time == 0)
-  rounds_is = elim (cases_eq ((units * span) % time) 0) [
-    | inl none ↦ whole none ∙ rw (eq-eqb ((units * span) % time) 0 none) refl
-    | inr rest ↦ not_whole rest ∙ rw (ne_eqb ((units * span) % time) 0 rest) refl
-  ]
+  rounds_is = grind (arith, cases_eq, eq-eqb, ne_eqb, not_whole, whole)
 
 -- the greatest quotient's deadline isn't before the stretch's end
 pub length_within : (jobs : List Job) (pending : ℕ → ℕ) (k units time : ℕ) → k < length (stretches jobs) →
     IsGreatest jobs pending (stretch_at jobs k) units time → units * ((stretch_at jobs k).to - (stretch_at jobs k).from) ≤ units * time
-length_within jobs pending k units time within is = elim is.attained [
-  | inl none ↦ omega (arith, ap (λ n. n * ((stretch_at jobs k).to - (stretch_at jobs k).from)) none)
-  | inr of ↦ elim (deadline_outside jobs of.job k of.known within) [
-    | inl over ↦ absurd (omega (arith, over, (waits_for jobs pending (stretch_at jobs k) of.job of.waits).1))
-    | inr upto ↦ mul-le-mul_left units (omega (arith, upto, of.until))
-  ]
-]
+length_within jobs pending k units time within is = grind (arith, deadline_outside, mul-le-mul_left, waits_for)
 
 -- what the code computes of it
 pub units_told : (jobs : List Job) (pending : ℕ → ℕ) (stretch : Piece) (units time u l t : ℕ) → IsGreatest jobs pending stretch units time →

@@ -1,5 +1,5 @@
 -- The waiting jobs, and the units that are due, in order of numbers and in order of deadlines.
-use Rattle.std.proofs.Common.{◌≡◌, ℕ, ◌<◌, ◌≤◌, List, length, get_or, ◌∙◌, refl, sym, ap, arith, inl, inr, cond, true, false}
+use Rattle.std.proofs.Common.{◌≡◌, ℕ, ◌<◌, ◌≤◌, List, length, get_or, ◌∙◌, refl, sym, arith, cond, true, false}
 use Rattle.std.specs.Prelude.{Bool, nat_le, nat_lt, ◌&&◌, All, Contains, sum_by}
 use Rattle.std.specs.List.Sorted.{IsPermutation}
 use Rattle.std.proofs.lemmas.Bool.{cases_lt, lt-ltb, le-ltb, true≢false}
@@ -24,13 +24,7 @@ waits_is jobs pending stretch job some later = rw (lt-ltb 0 (pending job) some, 
 
 pub waits_for : (jobs : List Job) (pending : ℕ → ℕ) (stretch : Piece) (job : ℕ) → is_waiting jobs pending stretch job ≡ true →
     (1 ≤ pending job) × (stretch.from < (job_at jobs job).deadline)
-waits_for jobs pending stretch job waits = elim (cases_lt 0 (pending job)) [
-  | inr none ↦ absurd (true≢false (sym waits ∙ rw (le-ltb 0 (pending job) none) refl))
-  | inl some ↦ elim (cases_lt stretch.from (job_at jobs job).deadline) [
-    | inl later ↦ (some, later)
-    | inr over ↦ absurd (true≢false (sym waits ∙ rw (lt-ltb 0 (pending job) some, le-ltb stretch.from (job_at jobs job).deadline over) refl))
-  ]
-]
+waits_for jobs pending stretch job waits = grind (arith, cases_lt, le-ltb, lt-ltb, true≢false)
 
 -- a job is among the waiting ones exactly where it waits
 pub stands_waiting : (jobs : List Job) (pending : ℕ → ℕ) (stretch : Piece) (job : ℕ) → job < length jobs → is_waiting jobs pending stretch job ≡ true →
@@ -51,12 +45,7 @@ each_known jobs pending stretch = All-filter (is_waiting jobs pending stretch) (
 -- the place of a waiting job's deadline among the deadlines
 pub deadline_place : (jobs : List Job) (pending : ℕ → ℕ) (stretch : Piece) (job : ℕ) → job < length jobs → is_waiting jobs pending stretch job ≡ true →
     (k : ℕ) × (k < length (deadlines jobs pending stretch)) × (get_or (deadlines jobs pending stretch) k 0 ≡ (job_at jobs job).deadline)
-deadline_place jobs pending stretch job known waits =
-    let there = stands_waiting jobs pending stretch job known waits in (
-      there.0,
-      omega (arith, there.1, length-map (waiting jobs pending stretch) (λ job. (job_at jobs job).deadline)),
-      get_or-map (λ job. (job_at jobs job).deadline) (waiting jobs pending stretch) there.0 job 0 there.1 ∙ ap (λ j. (job_at jobs j).deadline) there.2,
-    )
+deadline_place jobs pending stretch job known waits = grind (arith, get_or-map, length-map, stands_waiting)
 
 -- # The jobs in order of deadlines
 
@@ -77,10 +66,7 @@ nothing_of true false = refl
 nothing_of false other = refl
 
 one : (n : ℕ) (later soon : Bool) → ◌≡◌ {A = ℕ} (cond (nat_lt 0 n && later) (cond soon n 0) 0) (cond soon (cond later n 0) 0)
-one n later soon = elim (cases_lt 0 n) [
-  | inl some ↦ rw (lt-ltb 0 n some) (turned n later soon)
-  | inr none ↦ let nothing : n ≡ 0 = omega arith in rw nothing (sym (nothing_of soon later))
-]
+one n later soon = grind (arith, cases_lt, lt-ltb)
 
 -- the units that are due by a deadline, summed in that order
 pub due_in_order : (jobs : List Job) (pending : ℕ → ℕ) (stretch : Piece) (ties : List ℕ) (order : List Due) → IsPermutation (due_jobs jobs ties) order → (deadline : ℕ) →

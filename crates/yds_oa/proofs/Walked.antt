@@ -20,11 +20,7 @@ none_there units start place none less = omega (arith, none, sum_below_term star
 pub due_behind : (pending : PendingJobs) (from start : ℕ) → AreInOrder pending → start ≤ length pending.order.items →
     ((place : ℕ) → place < start → ((due_at pending.order.items place).deadline ≤ from) ⊎ (slice_index pending.units place ≡ 0)) →
     (start < length pending.order.items → from < (due_at pending.order.items start).deadline) → AreDueAfter pending from start
-due_behind pending from start are within before next = record {
-  within = within;
-  before = before;
-  after = λ place most less. omega (arith, are.rising start place no_due most less, next (omega (arith, most, less)));
-}
+due_behind pending from start are within before next = grind (arith)
 
 -- one place more is looked at
 module _ (pending : PendingJobs) (from start place units : ℕ) (old new one : Quotient) (after : AreDueAfter pending from start) (past : start ≤ place)
@@ -46,14 +42,7 @@ module _ (pending : PendingJobs) (from start place units : ℕ) (old new one : Q
   still_some (inr other) = omega (arith, after.after place past known, time_is, ap (λ (q : Quotient). q.time) other)
 
   here_at_most : IsNotGreater pending from start new place
-  here_at_most =
-      let more : units_before pending.units (place + 1) - units_before pending.units start ≡ one.units = omega (arith, sum, units_is) in
-      omega (
-        arith,
-        second,
-        ap (λ n. n * new.time) more,
-        ap (λ n. new.units * n) time_is,
-      )
+  here_at_most = grind (arith)
 
   pub one_further : IsGreatestWithin pending from start (place + 1) new
   one_further = record {
@@ -70,18 +59,7 @@ module _ (pending : PendingJobs) (from start place units : ℕ) (old new one : Q
 pub passed_over : (pending : PendingJobs) (from start place end units : ℕ) (best : Quotient) → AreInOrder pending → start ≤ place → end ≤ length pending.order.items →
     units_before pending.units start + units ≡ units_before pending.units end → units * best.time ≤ best.units * ((due_at pending.order.items place).deadline - from) →
     IsGreatestWithin pending from start place best → IsGreatestWithin pending from start end best
-passed_over pending from start place end units best are past within sum most before = record {
-  some_time = before.some_time;
-  attained = before.attained;
-  upper = λ p first less. elim (cases_lt p place) [
-    | inl earlier ↦ before.upper p first earlier
-    | inr later ↦
-        let fewer : units_before pending.units (p + 1) - units_before pending.units start ≤ units = omega (arith, before_rises pending.units (p + 1) end (omega (arith, less)), sum) in
-        let longer : (due_at pending.order.items place).deadline - from ≤ (due_at pending.order.items p).deadline - from =
-        omega (arith, are.rising place p no_due later (omega (arith, less, within))) in
-        omega (arith, most, mul-le-mul_right best.time fewer, mul-le-mul_left best.units longer)
-  ];
-}
+passed_over pending from start place end units best are past within sum most before = grind (arith, before_rises, cases_lt, mul-le-mul_left, mul-le-mul_right)
 
 -- none is looked at yet
 pub none_within : (pending : PendingJobs) (from start : ℕ) (guess : Quotient) → 1 ≤ guess.time → IsQuotientAmong pending from start guess → IsGreatestWithin pending from start start guess
@@ -109,9 +87,7 @@ at_last pending walk are is more = elim (cases_lt walk.start walk.place) [
 -- a walk is over at the end of the places, or where it has counted all units
 walked_to_end : (pending : PendingJobs) (walk : Walk) → IsWalk pending walk → length pending.order.items ≤ walk.place →
     IsGreatestWithin pending walk.from walk.start (length pending.order.items) walk.greatest
-walked_to_end pending walk is past =
-    let end : walk.place ≡ length pending.order.items = omega (arith, past, is.within) in
-    subst (λ (end : ℕ). IsGreatestWithin pending walk.from walk.start end walk.greatest) end is.greatest
+walked_to_end pending walk is past = grind (arith)
 
 pub walked_through : (pending : PendingJobs) (walk : Walk) → AreInOrder pending → IsWalk pending walk →
     (length pending.order.items ≤ walk.place) ⊎ (units_before pending.units (length pending.units) ≤ walk.units) →

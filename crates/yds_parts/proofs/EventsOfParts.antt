@@ -1,5 +1,5 @@
 -- The event points of both parts are those of each, and the stretches are those of each and at most one between them.
-use Rattle.std.proofs.Common.{◌≡◌, ℕ, suc, ◌<◌, ◌≤◌, ◌==◌, List, [], ◌∷◌, ◌++◌, length, get_or, refl, sym, ap, subst, ◌∙◌, inl, inr, arith, if◌then◌else◌, All, flat_map}
+use Rattle.std.proofs.Common.{rules, ◌≡◌, ℕ, suc, ◌<◌, ◌≤◌, ◌==◌, List, [], ◌∷◌, ◌++◌, length, get_or, refl, sym, ap, subst, ◌∙◌, inl, inr, arith, if◌then◌else◌, All, flat_map}
 use Rattle.std.proofs.lemmas.Bool.{cases_eq, cases_lt, cases_order, lt-ltb, le-ltb, eq-eqb, ne_eqb}
 use Rattle.std.proofs.lemmas.List.Elements.{All-nil, All-cons, All-head, All-tail}
 use Rattle.yds_model.specs.Job.{Job, job_at}
@@ -65,15 +65,11 @@ joined_begins time (other ∷ times) later = (joined (other ∷ times) later, re
 
 -- a time before the first of them, and the first itself
 joined_with_before : (time first : ℕ) (times later : List ℕ) → time < first → with_time time (joined (first ∷ times) later) ≡ time ∷ joined (first ∷ times) later
-joined_with_before time first times later less =
-    let begins = joined_begins first times later in
-    rw begins.1 (with_before time first begins.0 less)
+joined_with_before time first times later less = search (arith, rules, with_before)
 
 -- the first is there already
 joined_with_first : (first : ℕ) (times later : List ℕ) → with_time first (joined (first ∷ times) later) ≡ joined (first ∷ times) later
-joined_with_first first times later =
-    let begins = joined_begins first times later in
-    rw begins.1 (with_same first begins.0)
+joined_with_first first times later = search (arith, rules, with_same)
 
 -- a time that isn't after the later ones
 with_later : (time : ℕ) (later : List ℕ) → All (λ next. time ≤ next) later → with_time time later ≡ joined (time ∷ []) later

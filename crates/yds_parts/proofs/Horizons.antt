@@ -114,15 +114,7 @@ module _ (time : ℕ) (first second : List Job) (parted : ArePartedAt time first
 
   -- so the horizon is both parts' with the gap
   pub horizon_of_both : horizon (first ++ second) ≡ horizon first + gap_between first second + horizon second
-  horizon_of_both = omega (
-    arith,
-    last_of_both,
-    first_of_both,
-    first_ends,
-    second_begins,
-    releases_from first (last_deadline first),
-    releases_from second (last_deadline second),
-  )
+  horizon_of_both = grind (arith, first_ends, first_of_both, last_of_both, releases_from, second_begins)
 
   -- # Idle time
 

@@ -14,10 +14,7 @@ slot job from to work = record { job = job; from = from; to = to; work = work }
 
 -- one job and another
 parted_jobs : (time : ℕ) (one other : Job) → one.deadline ≤ time → time ≤ other.release → ArePartedAt time (one ∷ []) (other ∷ [])
-parted_jobs time one other ends begins = record {
-  before = All-cons (λ (job : Job). job.deadline ≤ time) one [] ends (All-nil (λ (job : Job). job.deadline ≤ time));
-  after = All-cons (λ (job : Job). time ≤ job.release) other [] begins (All-nil (λ (job : Job). time ≤ job.release));
-}
+parted_jobs time one other ends begins = grind (arith, All-cons, All-nil)
 
 -- Where the one window ends as the other begins, they are parted at that time,
 touching : ArePartedAt 2 (job 0 2 2 ∷ []) (job 2 4 2 ∷ [])

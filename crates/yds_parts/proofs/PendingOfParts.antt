@@ -1,5 +1,5 @@
 -- What is pending of both parts is what is pending of each, and from the cut on nothing of the first.
-use Rattle.std.proofs.Common.{◌≡◌, ℕ, zero, suc, ◌+◌, ◌-◌, ◌*◌, ◌<◌, ◌≤◌, Bool, List, [], ◌∷◌, ◌++◌, length, map, get_or, refl, ap, ◌∙◌, arith, sum_by, nat_le, nat_lt, ◌&&◌, mul-le-mul_right}
+use Rattle.std.proofs.Common.{rules, ◌≡◌, ℕ, zero, suc, ◌+◌, ◌-◌, ◌*◌, ◌<◌, ◌≤◌, Bool, List, [], ◌∷◌, ◌++◌, length, map, get_or, refl, ap, ◌∙◌, arith, sum_by, nat_le, nat_lt, ◌&&◌, mul-le-mul_right}
 use Rattle.std.specs.List.{All, filter, range_with_len}
 use Rattle.std.proofs.lemmas.Bool.{le-leb, lt-leb}
 use Rattle.std.proofs.lemmas.List.{map-append, length-append}
@@ -15,7 +15,7 @@ use Rattle.yds_model.specs.Policy.{pending_at, numbers_of, pending_units}
 use Rattle.yds_model.specs.OptimalAvailable.{pending_jobs, due_units, pending_deadlines}
 use Rattle.yds_model.proofs.Sums.{sum_by_same, sum_by_zero, sum_by-map}
 use Rattle.yds_model.proofs.Filters.{filter_none, filter_all}
-use Rattle.yds_parts.specs.Parts.{ArePartedAt, moved, together_at}
+use Rattle.yds_parts.specs.Parts.{ArePartedAt, together_at}
 use Rattle.yds_parts.proofs.TwoParts.{first_job, second_job, only_first, only_second}
 use Rattle.yds_parts.proofs.EventsOfParts.{IsGap, EndsBy, BeginsFrom}
 use Rattle.yds_parts.proofs.StretchesOfParts.{filter_made}
@@ -52,9 +52,7 @@ numbers_joined first second =
 
 -- each number is of a job
 numbers_known : (jobs : List Job) → All (λ number. number < length jobs) (numbers_of jobs)
-numbers_known jobs k d within =
-    let below : k < length jobs = omega (arith, within, length-range_with_len 0 (length jobs)) in
-    omega (arith, below, get_or-range_with_len 0 (length jobs) k d below)
+numbers_known jobs k d within = search (arith, rules, get_or-range_with_len, length-range_with_len)
 
 -- tests that agree on a list
 filter_agree_on : {X : Type 0} (p q : X → Bool) (xs : List X) → All (λ x. p x ≡ q x) xs → filter p xs ≡ filter q xs
@@ -86,13 +84,7 @@ numbers_kept first second test one other agree also =
 -- and a sum over such numbers
 sum_kept : (n m : ℕ) (f one other : ℕ → ℕ) (front back : List ℕ) → All (λ j. j < n) front → All (λ k. k < m) back → ((j : ℕ) → j < n → f j ≡ one j) →
     ((k : ℕ) → k < m → f (n + k) ≡ other k) → sum_by f (front ++ map (λ k. n + k) back) ≡ sum_by one front + sum_by other back
-sum_kept n m f one other front back known also same moved_same = omega (
-  arith,
-  sum_by-append f front (map (λ k. n + k) back),
-  sum_by_same f one front (λ k d within. same (get_or front k d) (known k d within)),
-  sum_by-map (λ k. n + k) f back,
-  sum_by_same (λ k. f (n + k)) other back (λ k d within. moved_same (get_or back k d) (also k d within)),
-)
+sum_kept n m f one other front back known also same moved_same = grind (arith, sum_by-append, sum_by-map, sum_by_same)
 
 -- # Pending work
 
@@ -110,9 +102,7 @@ module _ (time scale : ℕ) (first second : List Job) (parted : ArePartedAt time
 
   -- what ends by a time, of both parts
   done_together : (at : ℕ) → filter (is_done at) all ≡ together_at first (filter (is_done at) slots) (filter (is_done at) others)
-  done_together at =
-      filter-append (is_done at) slots (map (moved (length first)) others)
-      ∙ ap (λ (rest : List WholeSlot). filter (is_done at) slots ++ rest) (filter_made (moved (length first)) (is_done at) (is_done at) others (λ k d within. refl))
+  done_together at = search (arith, rules, filter-append, filter_made)
 
   -- of a first job as much is pending as in its part
   pending_first : (at j : ℕ) → j < length first → pending_at jobs scale all at j ≡ pending_at first scale slots at j
@@ -154,13 +144,7 @@ module _ (time scale : ℕ) (first second : List Job) (parted : ArePartedAt time
 
   -- when the windows of the first jobs are over, nothing of them is pending
   pending_over : (at j : ℕ) → IsAfter at → j < length first → pending_at first scale slots at j ≡ 0
-  pending_over at j over known =
-      let done : filter (is_done at) slots ≡ slots = filter_all (is_done at) slots (λ k d within.
-      let window = one.in_windows k d within in
-      let due = window.due in
-      let ended = mul-le-mul_right scale (over (get_or slots k d).job window.known) in
-      le-leb (get_or slots k d).to (at * scale) (omega (arith, due, ended))) in
-      omega (arith, ap (λ (some : List WholeSlot). work_given some j) done, one.served j known)
+  pending_over at j over known = grind (arith, filter_all, le-leb, mul-le-mul_right)
 
   -- # Average Rate's pending units
 
@@ -193,9 +177,7 @@ module _ (time scale : ℕ) (first second : List Job) (parted : ArePartedAt time
 
   -- before their releases no second job is released
   none_released : (at : ℕ) → IsBefore at → filter (is_released second at) (numbers_of second) ≡ []
-  none_released at before =
-      filter_none (is_released second at) (numbers_of second)
-      (λ k d within. lt-leb (job_at second (get_or (numbers_of second) k d)).release at (before (get_or (numbers_of second) k d) (numbers_known second k d within)))
+  none_released at before = search (arith, rules, filter_none, lt-leb, numbers_known)
 
   -- so none of their units is pending
   pub second_units_none : (grid : ℕ) (stretch : Piece) → IsBefore stretch.from → pending_units second grid scale others stretch ≡ 0
@@ -285,17 +267,8 @@ module _ (time scale : ℕ) (first second : List Job) (parted : ArePartedAt time
 
   -- before their releases no second job waits
   pub none_waiting_second : (stretch : Piece) → IsBefore stretch.from → pending_jobs second scale others stretch ≡ []
-  none_waiting_second stretch before =
-      filter_none (waits second others stretch.from) (numbers_of second) (λ k d within.
-      let number = get_or (numbers_of second) k d in
-      ap (λ b. b && nat_lt 0 (pending_at second scale others stretch.from number))
-      (lt-leb (job_at second number).release stretch.from (before number (numbers_known second k d within)))
-      ∙ false-and (nat_lt 0 (pending_at second scale others stretch.from number)))
+  none_waiting_second stretch before = grind (arith, false-and, filter_none, lt-leb, nat_lt, numbers_known)
 
   -- and after their windows no first one
   pub none_waiting_first : (stretch : Piece) → IsAfter stretch.from → pending_jobs first scale slots stretch ≡ []
-  none_waiting_first stretch over =
-      filter_none (waits first slots stretch.from) (numbers_of first) (λ k d within.
-      let number = get_or (numbers_of first) k d in
-      ap (λ n. nat_le (job_at first number).release stretch.from && nat_lt 0 n) (pending_over stretch.from number over (numbers_known first k d within))
-      ∙ and-false (nat_le (job_at first number).release stretch.from))
+  none_waiting_first stretch over = grind (arith, and-false, filter_none, nat_le, nat_lt, numbers_known, pending_over)

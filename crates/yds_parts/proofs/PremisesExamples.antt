@@ -1,18 +1,18 @@
 -- The premises of the laws are met: a job from 0 to 2 and one from 5 to 7, each of work 2, with a slot that fills the window.
-use Rattle.std.proofs.Common.{◌≡◌, ℕ, zero, suc, ◌*◌, ◌<◌, ◌≤◌, List, [], ◌∷◌, ◌++◌, refl, sym, subst, arith, inr, All, Any}
+use Rattle.std.proofs.Common.{rules, ◌≡◌, ℕ, zero, suc, ◌<◌, ◌≤◌, List, [], ◌∷◌, ◌++◌, refl, sym, subst, arith, inr, All, Any}
 use Rattle.std.proofs.lemmas.List.Elements.{All-cons, All-nil}
 use Rattle.std.proofs.Math.Nat.{one-dvd}
-use Rattle.yds_model.specs.Job.{Job, job_at}
+use Rattle.yds_model.specs.Job.{Job}
 use Rattle.yds_model.specs.Scale.{of_whole}
-use Rattle.yds_model.specs.Slot.{WrittenSlot, WholeSlot, IsDivided, IsScale, work_given}
+use Rattle.yds_model.specs.Slot.{WrittenSlot, WholeSlot, IsScale}
 use Rattle.yds_model.specs.Piece.{Piece}
 use Rattle.yds_model.specs.Table.{IsTable}
-use Rattle.yds_model.specs.Feasible.{IsInWindow, IsFeasibleAt}
+use Rattle.yds_model.specs.Feasible.{IsFeasibleAt}
 use Rattle.yds_model.specs.EarliestFirst.{ComesFirst}
 use Rattle.yds_model.specs.Event.{stretches, LiesIn, IsUncut}
 use Rattle.yds_model.specs.Policy.{ServesCapacity, IsRunAt}
-use Rattle.yds_model.specs.AverageRate.{average_rate, IsAverageRateRun}
-use Rattle.yds_model.specs.OptimalAvailable.{optimal_available, IsOptimalAvailableRun}
+use Rattle.yds_model.specs.AverageRate.{IsAverageRateRun}
+use Rattle.yds_model.specs.OptimalAvailable.{IsOptimalAvailableRun}
 use Rattle.yds_energy.proofs.Finer.{each_scale_of}
 use Rattle.yds_energy.proofs.RunScale.{average_rate_run_free, optimal_available_run_free, optimal_available_rounds_free}
 use Rattle.yds_parts.specs.Parts.{slots_in_turn, WindowsAreForward}
@@ -31,16 +31,7 @@ full from to work = slot 0 from to work ∷ []
 
 -- it is feasible
 alone_feasible : (from to work : ℕ) → from < to → IsFeasibleAt (alone from to work) 1 (full from to work)
-alone_feasible from to work takes = record {
-  one_at_a_time = (omega arith, takes, tt);
-  in_windows = All-cons (IsInWindow (alone from to work) 1) (slot 0 from to work) [] (record { known = omega arith; released = omega arith; due = omega arith })
-      (All-nil (IsInWindow (alone from to work) 1));
-  served = served;
-}
-  where
-    served : (number : ℕ) → number < 1 → work_given (full from to work) number ≡ (job_at (alone from to work) number).work * 1
-    served zero within = omega arith
-    served (suc number) within = absurd (omega (arith, within))
+alone_feasible from to work takes = grind (arith, All-cons, All-nil, slot)
 
 -- and a run of each policy that serves so much
 alone_run : (from to work : ℕ) (capacity : Piece → ℕ) → from < to → 1 ≤ work → stretches (alone from to work) ≡ stretch from to ∷ [] →
@@ -72,11 +63,7 @@ written from to work = record { job = 0; from = of_whole from; to = of_whole to;
 
 -- 1 is a scale of it
 written_scale : (from to work : ℕ) → IsScale 1 (written from to work)
-written_scale from to work = record {
-  positive = omega arith;
-  divided = All-cons (IsDivided 1) (record { job = 0; from = of_whole from; to = of_whole to; work = of_whole work }) []
-      (record { from = one-dvd 1; to = one-dvd 1; work = one-dvd 1 }) (All-nil (IsDivided 1));
-}
+written_scale from to work = search (arith, rules, All-cons, All-nil, job, one-dvd)
 
 -- its window isn't empty
 has_window : (release deadline work : ℕ) → release < deadline → WindowsAreForward (alone release deadline work)
@@ -87,15 +74,7 @@ has_window release deadline work window =
 
 -- both parts have jobs and a feasible schedule
 scheduled : AreScheduled 4 1 one other slots others
-scheduled = record {
-  parted = apart;
-  some = omega arith;
-  some_later = omega arith;
-  first_windows = has_window 0 2 2 (omega arith);
-  second_windows = has_window 5 7 2 (omega arith);
-  feasible = alone_feasible 0 2 2 (omega arith);
-  later_feasible = alone_feasible 5 7 2 (omega arith);
-}
+scheduled = grind (arith, alone_feasible, apart, has_window)
 
 -- and the points are a table
 table : IsTable points
@@ -105,18 +84,10 @@ table = record { some = omega arith; idle = refl; rising = (omega arith, (omega 
 
 -- each part has a run that rounds nowhere
 first_rate : IsAverageRateRun one 1 0 (written 0 2 2)
-first_rate = record {
-  run = each_scale_of _ (average_rate_run_free one 1) (written 0 2 2) 1 (written_scale 0 2 2)
-      (alone_run 0 2 2 (average_rate one 1 1 slots) (omega arith) (omega arith) refl (refl, refl, refl));
-  rounds = refl;
-}
+first_rate = grind (arith, alone_run, average_rate_run_free, each_scale_of, one, slots, written_scale)
 
 second_rate : IsAverageRateRun other 1 0 (written 5 7 2)
-second_rate = record {
-  run = each_scale_of _ (average_rate_run_free other 1) (written 5 7 2) 1 (written_scale 5 7 2)
-      (alone_run 5 7 2 (average_rate other 1 1 others) (omega arith) (omega arith) refl (refl, refl, refl));
-  rounds = refl;
-}
+second_rate = grind (arith, alone_run, average_rate_run_free, each_scale_of, other, others, written_scale)
 
 -- so both together are its run of both jobs
 rate_of_both : IsAverageRateRun (one ++ other) 1 0 (slots_in_turn one (written 0 2 2) (written 5 7 2))
@@ -127,18 +98,10 @@ rate_of_both =
 
 -- so it is here
 first_available : IsOptimalAvailableRun one 1 0 (written 0 2 2)
-first_available = record {
-  run = each_scale_of _ (optimal_available_run_free one 1) (written 0 2 2) 1 (written_scale 0 2 2)
-      (alone_run 0 2 2 (optimal_available one 1 1 slots) (omega arith) (omega arith) refl (refl, refl, refl));
-  rounds = each_scale_of _ (optimal_available_rounds_free one 1 0) (written 0 2 2) 1 (written_scale 0 2 2) refl;
-}
+first_available = grind (arith, alone_run, each_scale_of, one, optimal_available_rounds_free, optimal_available_run_free, slots, written_scale)
 
 second_available : IsOptimalAvailableRun other 1 0 (written 5 7 2)
-second_available = record {
-  run = each_scale_of _ (optimal_available_run_free other 1) (written 5 7 2) 1 (written_scale 5 7 2)
-      (alone_run 5 7 2 (optimal_available other 1 1 others) (omega arith) (omega arith) refl (refl, refl, refl));
-  rounds = each_scale_of _ (optimal_available_rounds_free other 1 0) (written 5 7 2) 1 (written_scale 5 7 2) refl;
-}
+second_available = grind (arith, alone_run, each_scale_of, optimal_available_rounds_free, optimal_available_run_free, other, others, written_scale)
 
 -- and of both together
 available_of_both : IsOptimalAvailableRun (one ++ other) 1 0 (slots_in_turn one (written 0 2 2) (written 5 7 2))

@@ -1,7 +1,7 @@
 -- Runs of both policies on a grid: those of both parts, one after another, are one of all jobs.
-use Rattle.std.proofs.Common.{◌≡◌, ℕ, length, ◌+◌, ◌-◌, ◌*◌, ◌<◌, ◌≤◌, Bool, false, min, max, List, [], ◌∷◌, ◌++◌, map, get_or, refl, sym, ap, subst, ◌∙◌, arith, append-nil}
-use Rattle.std.specs.Prelude.{sum_by, count_by, fold, cond, nat_le, nat_lt, ◌==◌, ◌&&◌, not}
-use Rattle.std.specs.List.{All, Contains, filter, list_any, list_all}
+use Rattle.std.proofs.Common.{rules, ◌≡◌, ℕ, length, ◌+◌, ◌-◌, ◌*◌, ◌<◌, ◌≤◌, Bool, false, min, max, List, [], ◌∷◌, ◌++◌, map, refl, sym, ap, subst, ◌∙◌, arith, append-nil}
+use Rattle.std.specs.Prelude.{sum_by, count_by, fold, cond}
+use Rattle.std.specs.List.{All, Contains, filter, list_any}
 use Rattle.std.proofs.lemmas.Bool.{lt-leb, le-ltb}
 use Rattle.std.proofs.lemmas.List.Elements.{filter-append, All-from_get_or, All-append, Contains-append_left, Contains-append_right, All-map}
 use Rattle.std.proofs.lemmas.List.Sums.{sum_by-append}
@@ -12,7 +12,7 @@ use Rattle.yds_model.specs.Slot.{WholeSlot, slots_at}
 use Rattle.yds_model.specs.Piece.{Piece}
 use Rattle.yds_model.specs.Feasible.{IsFeasibleAt}
 use Rattle.yds_model.specs.Event.{stretches}
-use Rattle.yds_model.specs.Policy.{div_up, pending_at, pending_units, IsRunAt, HasRunDenominators}
+use Rattle.yds_model.specs.Policy.{div_up, pending_units, IsRunAt, HasRunDenominators}
 use Rattle.yds_model.specs.AverageRate.{is_live, term_of, terms_of, average_rate, rounds_term, average_rate_rounds}
 use Rattle.yds_model.specs.OptimalAvailable.{pending_jobs, due_units, pending_deadlines, asked, units_asked, optimal_available, optimal_available_rounds}
 use Rattle.yds_model.proofs.Sums.{sum_by_same}
@@ -59,32 +59,19 @@ counts_together time first second parted windows later_windows p earlier after i
 
 module _ (time : ℕ) (first second : List Job) (parted : ArePartedAt time first second) where
   none_live_second : (stretch : Piece) → All (λ job. stretch.from < job.release) second → filter (is_live stretch) second ≡ []
-  none_live_second stretch before =
-      filter_none (is_live stretch) second (λ k d within.
-      let job = get_or second k d in
-      ap (λ b. b && nat_lt stretch.from job.deadline) (lt-leb job.release stretch.from (before k d within)) ∙ false-and (nat_lt stretch.from job.deadline))
+  none_live_second stretch before = grind (arith, false-and, filter_none, lt-leb)
 
   -- no first job is live after its window
   none_live_first : (stretch : Piece) → All (λ job. job.deadline ≤ stretch.from) first → filter (is_live stretch) first ≡ []
-  none_live_first stretch over =
-      filter_none (is_live stretch) first (λ k d within.
-      let job = get_or first k d in
-      ap (λ b. nat_le job.release stretch.from && b) (le-ltb stretch.from job.deadline (over k d within)) ∙ and-false (nat_le job.release stretch.from))
+  none_live_first stretch over = grind (arith, and-false, filter_none, le-ltb)
 
   -- in a stretch of the first jobs they alone are live
   live_first : (stretch : Piece) → EndsBy time stretch → filter (is_live stretch) (first ++ second) ≡ filter (is_live stretch) first
-  live_first stretch ends =
-      filter-append (is_live stretch) first second
-      ∙ ap (λ (rest : List Job). filter (is_live stretch) first ++ rest)
-      (none_live_second stretch (λ k d within. let ahead = parted.after k d within in omega (arith, ahead, ends.ends, ends.forward)))
-      ∙ append-nil (filter (is_live stretch) first)
+  live_first stretch ends = grind (arith, append-nil, filter-append, none_live_second)
 
   -- in one of the second they are
   live_second : (stretch : Piece) → BeginsFrom time stretch → filter (is_live stretch) (first ++ second) ≡ filter (is_live stretch) second
-  live_second stretch begins =
-      filter-append (is_live stretch) first second
-      ∙ ap (λ (front : List Job). front ++ filter (is_live stretch) second)
-      (none_live_first stretch (λ k d within. let ended = parted.before k d within in omega (arith, ended, begins.begins)))
+  live_second stretch begins = grind (arith, filter-append, none_live_first)
 
   -- and between none is
   live_gap : (stretch : Piece) → IsGap first second stretch → filter (is_live stretch) (first ++ second) ≡ []
@@ -128,10 +115,7 @@ module _ (time : ℕ) (first second : List Job) (parted : ArePartedAt time first
 
     -- and between nothing is
     rate_gap : (stretch : Piece) → IsGap first second stretch → average_rate jobs grid scale all stretch ≡ 0
-    rate_gap stretch gap = omega (
-      arith,
-      ap (λ (live : List Job). scale * sum_by (term_of grid stretch) live) (live_gap stretch gap),
-    )
+    rate_gap stretch gap = grind (arith, live_gap)
 
     -- # Optimal Available: what a stretch serves
 
@@ -156,12 +140,7 @@ module _ (time : ℕ) (first second : List Job) (parted : ArePartedAt time first
     -- a part of which nothing waits has nothing due
     nothing_due : (part : List Job) (its : List WholeSlot) (stretch : Piece) (deadline : ℕ) → pending_jobs part scale its stretch ≡ [] →
         due_units part grid scale its stretch deadline ≡ 0
-    nothing_due part its stretch deadline none =
-        omega (
-          arith,
-          ap (λ (some : List ℕ). grid * sum_by (λ job. pending_at part scale its stretch.from job)
-              (filter (λ job. nat_le (job_at part job).deadline deadline) some)) none,
-        )
+    nothing_due part its stretch deadline none = grind (arith)
 
     abbrev deadlines_of : List Job → List ℕ → List ℕ
     deadlines_of part numbers = map (λ number. (job_at part number).deadline) numbers
@@ -221,15 +200,11 @@ module _ (time : ℕ) (first second : List Job) (parted : ArePartedAt time first
 
     -- in a stretch of the first jobs as much is served as in their part
     available_first : (stretch : Piece) → EndsBy time stretch → optimal_available jobs grid scale all stretch ≡ optimal_available first grid scale slots stretch
-    available_first stretch ends =
-        let none = waits_first stretch ends in
-        ap (λ n. scale * n) (asks_same first slots stretch (deadlines_first stretch none) (λ deadline. due_first stretch deadline none))
+    available_first stretch ends = search (arith, rules, asks_same, deadlines_first, due_first, waits_first)
 
     -- so it is in one of the second
     available_second : (stretch : Piece) → BeginsFrom time stretch → optimal_available jobs grid scale all stretch ≡ optimal_available second grid scale others stretch
-    available_second stretch begins =
-        let none = waits_second stretch begins in
-        ap (λ n. scale * n) (asks_same second others stretch (deadlines_second stretch none) (λ deadline. due_second stretch deadline none))
+    available_second stretch begins = search (arith, rules, asks_same, deadlines_second, due_second, waits_second)
 
     -- and between nothing is
     available_gap : (stretch : Piece) → IsGap first second stretch → optimal_available jobs grid scale all stretch ≡ 0
@@ -237,22 +212,16 @@ module _ (time : ℕ) (first second : List Job) (parted : ArePartedAt time first
 
     -- it rounds where the part does
     rounds_first : (stretch : Piece) → EndsBy time stretch → optimal_available_rounds jobs grid scale all stretch ≡ optimal_available_rounds first grid scale slots stretch
-    rounds_first stretch ends =
-        let none = waits_first stretch ends in
-        rounds_same first slots stretch (deadlines_first stretch none) (λ deadline. due_first stretch deadline none)
+    rounds_first stretch ends = search (arith, rules, deadlines_first, due_first, rounds_same, waits_first)
 
     -- so it is in one of the second
     rounds_second : (stretch : Piece) → BeginsFrom time stretch →
         optimal_available_rounds jobs grid scale all stretch ≡ optimal_available_rounds second grid scale others stretch
-    rounds_second stretch begins =
-        let none = waits_second stretch begins in
-        rounds_same second others stretch (deadlines_second stretch none) (λ deadline. due_second stretch deadline none)
+    rounds_second stretch begins = search (arith, rules, deadlines_second, due_second, rounds_same, waits_second)
 
     -- and between it rounds nowhere
     rounds_gap : (stretch : Piece) → IsGap first second stretch → optimal_available_rounds jobs grid scale all stretch ≡ false
-    rounds_gap stretch gap =
-        ap (λ n. nat_lt 0 n && list_all (λ deadline. not (due_units jobs grid scale all stretch deadline * (stretch.to - stretch.from)
-        == units_asked jobs grid scale all stretch * (scale * (deadline - stretch.from)))) (pending_deadlines jobs scale all stretch)) (none_asked stretch gap)
+    rounds_gap stretch gap = search (arith, rules, none_asked)
 
 -- # The laws
 

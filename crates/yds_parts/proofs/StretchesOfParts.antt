@@ -1,5 +1,5 @@
 -- The slots in a stretch of one part are that part's, and in the stretch between the parts there are none.
-use Rattle.std.proofs.Common.{◌≡◌, ℕ, ◌*◌, ◌<◌, ◌≤◌, ◌⊎◌, Bool, List, [], ◌∷◌, ◌++◌, length, map, get_or, refl, ap, ◌∙◌, arith, inl, inr, All, filter, append-nil, mul-le-mul_right}
+use Rattle.std.proofs.Common.{rules, ◌≡◌, ℕ, ◌*◌, ◌<◌, ◌≤◌, ◌⊎◌, Bool, List, [], ◌∷◌, ◌++◌, length, map, refl, ap, ◌∙◌, arith, inl, inr, All, filter, append-nil, mul-le-mul_right}
 use Rattle.std.proofs.lemmas.Bool.{cases_Bool}
 use Rattle.std.proofs.lemmas.List.Elements.{All-head, All-tail, All-append, filter-append, All-map}
 use Rattle.yds_model.specs.Job.{Job}
@@ -42,10 +42,7 @@ beside_apart scale stretch slot (takes, inr after) is = absurd (omega (arith, ta
 
 -- so slots beside a stretch leave it empty
 none_beside : (scale : ℕ) (stretch : Piece) (slots : List WholeSlot) → All (IsBeside scale stretch) slots → slots_in scale stretch slots ≡ []
-none_beside scale stretch slots beside = filter_none (lies scale stretch) slots (λ k d within. elim (cases_Bool (lies scale stretch (get_or slots k d))) [
-  | inl passes ↦ absurd (beside_apart scale stretch (get_or slots k d) (beside k d within) (lies_told scale stretch (get_or slots k d) passes))
-  | inr fails ↦ fails
-])
+none_beside scale stretch slots beside = grind (arith, cases_Bool, filter_none, lies, lies_told)
 
 -- # The two parts
 
@@ -56,31 +53,17 @@ module _ (time scale : ℕ) (first second : List Job) (parted : ArePartedAt time
 
   -- the first jobs' slots lie beside the stretch between and those of the second jobs
   pub first_before_gap : (stretch : Piece) → IsGap first second stretch → All (IsBeside scale stretch) slots
-  first_before_gap stretch gap k d within =
-      let window = one.in_windows k d within in
-      let due = window.due in
-      let ended = mul-le-mul_right scale (gap.ended (get_or slots k d).job window.known) in
-      (run_forward 0 slots one.one_at_a_time k d within, inl (omega (arith, due, ended)))
+  first_before_gap stretch gap k d within = grind (arith, mul-le-mul_right, run_forward)
 
   pub first_before_second : (stretch : Piece) → BeginsFrom time stretch → All (IsBeside scale stretch) slots
-  first_before_second stretch begins k d within =
-      let ends = ends_by time scale first second parted (get_or slots k d) (one.in_windows k d within) in
-      let later = mul-le-mul_right scale begins.begins in
-      (run_forward 0 slots one.one_at_a_time k d within, inl (omega (arith, ends, later)))
+  first_before_second stretch begins k d within = grind (arith, ends_by, mul-le-mul_right, run_forward)
 
   -- and those of the second beside the stretch between and those of the first
   pub second_after_gap : (stretch : Piece) → IsGap first second stretch → All (IsBeside scale stretch) others
-  second_after_gap stretch gap k d within =
-      let window = other.in_windows k d within in
-      let released = window.released in
-      let ahead = mul-le-mul_right scale (gap.ahead (get_or others k d).job window.known) in
-      (run_forward 0 others other.one_at_a_time k d within, inr (omega (arith, released, ahead)))
+  second_after_gap stretch gap k d within = grind (arith, mul-le-mul_right, run_forward)
 
   pub second_after_first : (stretch : Piece) → EndsBy time stretch → All (IsBeside scale stretch) others
-  second_after_first stretch ends k d within =
-      let begins = begins_from time scale first second parted (get_or others k d) (other.in_windows k d within) in
-      let earlier = mul-le-mul_right scale ends.ends in
-      (run_forward 0 others other.one_at_a_time k d within, inr (omega (arith, begins, earlier)))
+  second_after_first stretch ends k d within = grind (arith, begins_from, mul-le-mul_right, run_forward)
 
   -- the second jobs' slots, with their numbers moved
   abbrev later : List WholeSlot
@@ -105,6 +88,4 @@ module _ (time scale : ℕ) (first second : List Job) (parted : ArePartedAt time
 
   -- and between there are none
   pub in_gap : (stretch : Piece) → IsGap first second stretch → slots_in scale stretch all ≡ []
-  in_gap stretch gap =
-      none_beside scale stretch all
-      (All-append (IsBeside scale stretch) slots later (first_before_gap stretch gap) (moved_beside stretch (second_after_gap stretch gap)))
+  in_gap stretch gap = search (arith, rules, All-append, first_before_gap, moved_beside, none_beside, second_after_gap)

@@ -82,32 +82,16 @@ module _ (time scale : ℕ) (first second : List Job) (parted : ArePartedAt time
 
   -- a window of the one is one of the other
   first_window : (slot : WholeSlot) → slot.job < n → IsInWindow first scale slot → IsInWindow jobs scale slot
-  first_window slot known is = record {
-    known = omega (arith, known, length-append first second);
-    released = subst (λ (job : Job). job.release * scale ≤ slot.from) (sym (first_job slot.job known)) is.released;
-    due = subst (λ (job : Job). slot.to ≤ job.deadline * scale) (sym (first_job slot.job known)) is.due;
-  }
+  first_window slot known is = grind (arith, first_job, length-append)
 
   first_window_back : (slot : WholeSlot) → slot.job < n → IsInWindow jobs scale slot → IsInWindow first scale slot
-  first_window_back slot known is = record {
-    known = known;
-    released = subst (λ (job : Job). job.release * scale ≤ slot.from) (first_job slot.job known) is.released;
-    due = subst (λ (job : Job). slot.to ≤ job.deadline * scale) (first_job slot.job known) is.due;
-  }
+  first_window_back slot known is = grind (arith, first_job)
 
   second_window : (slot : WholeSlot) → IsInWindow second scale slot → IsInWindow jobs scale (moved n slot)
-  second_window slot is = record {
-    known = omega (arith, is.known, length-append first second);
-    released = subst (λ (job : Job). job.release * scale ≤ slot.from) (sym (second_job slot.job)) is.released;
-    due = subst (λ (job : Job). slot.to ≤ job.deadline * scale) (sym (second_job slot.job)) is.due;
-  }
+  second_window slot is = grind (arith, length-append, second_job)
 
   second_window_back : (slot : WholeSlot) → IsInWindow jobs scale (moved n slot) → IsInWindow second scale slot
-  second_window_back slot is = record {
-    known = omega (arith, is.known, length-append first second);
-    released = subst (λ (job : Job). job.release * scale ≤ slot.from) (second_job slot.job) is.released;
-    due = subst (λ (job : Job). slot.to ≤ job.deadline * scale) (second_job slot.job) is.due;
-  }
+  second_window_back slot is = grind (arith, length-append, second_job)
 
   -- slots of the first jobs end by the cut, and those of the second begin at it or later
   pub ends_by : (slot : WholeSlot) → IsInWindow first scale slot → slot.to ≤ time * scale

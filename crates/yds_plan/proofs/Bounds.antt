@@ -7,7 +7,7 @@ use Rattle.std.proofs.lemmas.List.Elements.{All-head, All-tail, All-from_get_or}
 use Rattle.std.proofs.lemmas.List.FromFn.{length-range_with_len}
 use Rattle.std.proofs.Math.Nat.{mul-le-mul_right}
 use Rattle.yds_model.specs.declared.limits.TheConstants.{MAX_JOBS, MAX_TIME, MAX_WORK}
-use Rattle.yds_model.specs.Job.{Job, IsJob, no_job, job_at}
+use Rattle.yds_model.specs.Job.{Job, IsJob, job_at}
 use Rattle.yds_model.specs.Piece.{Piece, PiecesFrom, total_length}
 use Rattle.yds_model.specs.Event.{stretches}
 use Rattle.yds_model.proofs.Sums.{sum_by-mul, sum_by_same, sum_by_at_most}
@@ -64,9 +64,7 @@ scaled_cond false v most h = omega arith
 
 module _ (jobs : List Job) (all : All IsJob jobs) where
   work_at_most : All (λ j. (job_at jobs j).work ≤ MAX_WORK) (range_with_len 0 (length jobs))
-  work_at_most k d within =
-      let at = in_range (length jobs) k d within in
-      rw (at.1) (all k no_job at.0).work_in_range
+  work_at_most k d within = grind (arith, in_range)
 
   pub all_work : sum_by (λ j. (job_at jobs j).work) (range_with_len 0 (length jobs)) ≤ length jobs * MAX_WORK
   all_work =
@@ -141,12 +139,4 @@ module _ (jobs : List Job) (all : All IsJob jobs) where
         )
 
     pub groups_within : length jobs ≤ MAX_JOBS → AreGroupsWithin found.groups
-    groups_within few =
-        let most : length jobs * MAX_WORK ≤ MAX_JOBS * MAX_WORK = mul-le-mul_right MAX_WORK few in
-        record {
-          some_work = is.some_work;
-          some_length = is.some_length;
-          work_in_range = omega (arith, groups_work);
-          length_in_range = omega (arith, groups_length);
-          few = omega (arith, few_groups);
-        }
+    groups_within few = grind (arith, few_groups, groups_length, groups_work, mul-le-mul_right)

@@ -101,13 +101,7 @@ module _ (timeline : List Piece) (found : Found) where
       cc (ap (λ ks. merged (map (nth_stretch timeline) ks)) (filter_leaves (λ stretch. stretch_level stretch == l) k (ne_eqb (stretch_level k) l other)))
 
   stretch_here : (j k l : ℕ) → stretch_level k ≡ l → extended_level (nth_stretch timeline k) (draft timeline found j k l) ≡ draft timeline found j (k + 1) l
-  stretch_here j k l same =
-      let ks = filter (λ stretch. stretch_level stretch == l) (range_with_len 0 k) in
-      let pieces : extended (merged (map (nth_stretch timeline) ks)) (nth_stretch timeline k)
-      ≡ merged (map (nth_stretch timeline) (filter (λ stretch. stretch_level stretch == l) (range_with_len 0 (k + 1)))) =
-      sym (merged_more (map (nth_stretch timeline) ks) (nth_stretch timeline k)) ∙ ap merged (sym (map-append (nth_stretch timeline) ks (k ∷ [])))
-      ∙ ap (λ some. merged (map (nth_stretch timeline) some)) (sym (filter_takes (λ stretch. stretch_level stretch == l) k (eq-eqb (stretch_level k) l same))) in
-      cc pieces
+  stretch_here j k l same = grind (arith, eq-eqb, filter_takes, map-append, merged_more)
 
   draft_there : (j k l : ℕ) → l < count_of_levels → level_at (drafts timeline found j k) l ≡ draft timeline found j k l
   draft_there j k l known = get_or-map-range_with_len (draft timeline found j k) 0 count_of_levels l l no_level known (omega arith)
@@ -162,9 +156,7 @@ module _ (timeline : List Piece) (found : Found) where
 
   number_is : (numbers : List ℕ) (place number : ℕ) → AreNumbers numbers → place < length numbers → number ≡ get_or numbers place number →
       number ≡ level_of found.groups place
-  number_is numbers place number are within read =
-      read ∙ ap (λ some. get_or some place number) are ∙ get_or-map-range_with_len (level_of found.groups) 0 (length found.groups) place place number
-      (omega (arith, numbers_length numbers are)) (omega arith)
+  number_is numbers place number are within read = grind (arith, get_or-map-range_with_len, numbers_length)
 
   pub number_within : (j k place number : ℕ) (numbers : List ℕ) (levels : List Level) → AreNumbers numbers → levels ≡ drafts timeline found j k →
       place < length numbers → number ≡ get_or numbers place number → number < length levels
@@ -174,11 +166,7 @@ module _ (timeline : List Piece) (found : Found) where
   pub member_step : (j k place number : ℕ) (numbers : List ℕ) (levels next : List Level) → AreNumbers numbers → levels ≡ drafts timeline found j k →
       place ≡ group_of found.group_of_job j → place < length numbers → number ≡ get_or numbers place number →
       next ≡ set levels number (with_member j (level_at levels number)) → next ≡ drafts timeline found (j + 1) k
-  member_step j k place number numbers levels next are before is_place within read after =
-      let is = number_is numbers place number are within read ∙ ap (level_of found.groups) is_place in
-      after ∙ ap (λ some. set some number (with_member j (level_at some number))) before
-      ∙ ap (λ l. set (drafts timeline found j k) l (with_member j (level_at (drafts timeline found j k) l))) is
-      ∙ member_added j k (omega (arith, numbers_length numbers are))
+  member_step j k place number numbers levels next are before is_place within read after = grind (arith, member_added, number_is, numbers_length, set)
 
   pub member_skip : (j k place : ℕ) (numbers : List ℕ) (levels : List Level) → AreNumbers numbers → levels ≡ drafts timeline found j k →
       place ≡ group_of found.group_of_job j → length numbers ≤ place → levels ≡ drafts timeline found (j + 1) k
@@ -189,12 +177,7 @@ module _ (timeline : List Piece) (found : Found) where
       levels ≡ drafts timeline found j k → place ≡ group_of found.group_of_stretch k → place < length numbers →
       number ≡ get_or numbers place number → piece ≡ nth_stretch timeline k →
       next ≡ set levels number (extended_level piece (level_at levels number)) → next ≡ drafts timeline found j (k + 1)
-  piece_step j k place number piece numbers levels next are before is_place within read is_piece after =
-      let is = number_is numbers place number are within read ∙ ap (level_of found.groups) is_place in
-      after ∙ ap (λ some. set some number (extended_level piece (level_at some number))) before
-      ∙ ap (λ one. set (drafts timeline found j k) number (extended_level one (level_at (drafts timeline found j k) number))) is_piece
-      ∙ ap (λ l. set (drafts timeline found j k) l (extended_level (nth_stretch timeline k) (level_at (drafts timeline found j k) l))) is
-      ∙ piece_added j k (omega (arith, numbers_length numbers are))
+  piece_step j k place number piece numbers levels next are before is_place within read is_piece after = grind (arith, number_is, numbers_length, piece_added, set)
 
   pub piece_skip : (j k place : ℕ) (numbers : List ℕ) (levels : List Level) → AreNumbers numbers → levels ≡ drafts timeline found j k →
       place ≡ group_of found.group_of_stretch k → length numbers ≤ place → levels ≡ drafts timeline found j (k + 1)

@@ -206,9 +206,7 @@ module _ (groups : List Group) where
   parting (suc i) parts = omega (arith, ap {B = ℕ} (λ b. cond b 1 0) (not-false (slows_after groups i) parts))
 
   pub among_more : (f : Group → ℕ) (i l : ℕ) → among f groups (i + 1) l ≡ among f groups i l + cond (level_of groups i == l) (f (group_at groups i)) 0
-  among_more f i l =
-      ap (sum_by (λ k. cond (level_of groups k == l) (f (group_at groups k)) 0)) (range_more i)
-      ∙ sum_by_push (λ k. cond (level_of groups k == l) (f (group_at groups k)) 0) (range_with_len 0 i) i
+  among_more f i l = grind (arith, range_more, sum_by_push)
 
   among_none : (f : Group → ℕ) (i l : ℕ) → levels_among groups i ≤ l → among f groups i l ≡ 0
   among_none f i l past =
@@ -329,11 +327,7 @@ pub record IsDrafted (groups : List Group) (i : ℕ) (levels : List Level) (numb
 pub levels_next : (items : List Struct) (i : ℕ) (d : Struct) (levels next : List Level) (numbers : List ℕ) (joins : Bool) →
     i < length items → IsDrafted (map group_view items) i levels numbers → joins ≡ joins_before (map group_view items) i →
     next ≡ with_group levels joins (group_view (get_or items i d)) → next ≡ empty_levels (map group_view items) (i + 1)
-levels_next items i d levels next numbers joins within drafted is_joins is_next =
-    let groups = map group_view items in
-    is_next ∙ ap (λ some. with_group some joins (group_view (get_or items i d))) drafted.drafts
-    ∙ ap (λ b. with_group (empty_levels groups i) b (group_view (get_or items i d))) is_joins
-    ∙ ap (with_group (empty_levels groups i) (joins_before groups i)) (sym (view_at items i d within)) ∙ draft_step groups i
+levels_next items i d levels next numbers joins within drafted is_joins is_next = grind (arith, draft_step, view_at)
 
 pub count_next : (groups : List Group) (i : ℕ) (levels : List Level) → levels ≡ empty_levels groups (i + 1) → length levels ≡ level_of groups i + 1
 count_next groups i levels is = ap length is ∙ empty_length groups (i + 1) ∙ ap (levels_among groups) (add-one i)

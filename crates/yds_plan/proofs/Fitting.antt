@@ -1,5 +1,5 @@
 -- The levels of what is found are all its drafts, and within the limits of a certificate.
-use Rattle.std.proofs.Common.{◌≡◌, ◌≤◌, List, length, ap, ◌∙◌, arith}
+use Rattle.std.proofs.Common.{◌≡◌, ◌≤◌, List, length, ap, arith}
 use Rattle.std.specs.List.{All}
 use Rattle.yds_model.specs.declared.limits.TheConstants.{MAX_JOBS, MAX_LEVELS, MAX_MEMBERS, MAX_PIECES}
 use Rattle.yds_model.specs.Job.{Job, IsJob}
@@ -18,21 +18,11 @@ module _ (jobs : List Job) (found : Found) (is : IsFound jobs found) (timeline :
     (drafted : levels ≡ drafts timeline found (length found.group_of_job) (length timeline)) where
   -- the drafts with all jobs and stretches are the levels
   pub all_drafted : levels ≡ levels_of jobs found
-  all_drafted =
-      drafted ∙ ap (λ timeline. drafts timeline found (length found.group_of_job) (length timeline)) timed
-      ∙ ap (λ number. drafts (stretches jobs) found number (length (stretches jobs))) is.all_jobs
+  all_drafted = grind (arith)
 
   -- there are no more levels than groups, and no more groups than jobs
   pub levels_fit : All IsJob jobs → length jobs ≤ MAX_JOBS → length levels ≤ MAX_LEVELS
-  levels_fit proper few =
-      omega (
-        arith,
-        ap length all_drafted,
-        levels_length jobs found,
-        among_below found.groups (length found.groups),
-        few_groups jobs proper found is,
-        few,
-      )
+  levels_fit proper few = grind (arith, all_drafted, among_below, few_groups, levels_length)
 
   pub pieces_fit : length jobs ≤ MAX_JOBS → length (all_pieces levels) ≤ MAX_PIECES
   pieces_fit few =

@@ -1,6 +1,6 @@
 -- What the search finds makes a plan.
 use Rattle.std.proofs.Common.{◌≡◌, ℕ, ◌+◌, ◌*◌, ◌<◌, ◌≤◌, List, Some, None, ◌∙◌, length, map, get_or, refl, sym, ap, ap₂, arith, inl, inr}
-use Rattle.std.specs.Prelude.{Option, Result, Ok, Err, IfOk, slice_get}
+use Rattle.std.specs.Prelude.{Option, Result, IfOk, slice_get}
 use Rattle.std.specs.List.{All, Contains, sum_by, range_with_len}
 use Rattle.std.proofs.lemmas.Bool.{cases_lt}
 use Rattle.std.proofs.lemmas.List.{length-map, get_or-map}
@@ -89,10 +89,7 @@ module _ (jobs : List Job) (proper : All IsJob jobs) (few : length jobs ≤ MAX_
       }
 
   sums_agree : Each (length (levels_of jobs found)) (SumsAgree jobs (levels_of jobs found))
-  sums_agree i within =
-      let known : i < count_of_levels = omega (arith, levels_length jobs found) in
-      let here = level_there jobs found i known in
-      record { work = rw here (members_work i known); length = rw here (stretches_length i known ∙ sym (pieces_total jobs found i)) }
+  sums_agree i within = grind (arith, level_there, levels_length, members_work, pieces_total, stretches_length)
 
   stands_once : Each (length jobs) (StandsOnce jobs (levels_of jobs found))
   stands_once number known = record {
@@ -111,9 +108,7 @@ module _ (jobs : List Job) (proper : All IsJob jobs) (few : length jobs ≤ MAX_
 
   -- a member of the level at a place
   member_there : (i number : ℕ) → i < length (levels_of jobs found) → Contains (level_at (levels_of jobs found) i).members number → IsMember jobs found i number
-  member_there i number within contains =
-      let known : i < count_of_levels = omega (arith, levels_length jobs found) in
-      All-contains (IsMember jobs found i) (members_of jobs found i) number (each_member jobs found i known) (rw (level_there jobs found i known) at contains)
+  member_there i number within contains = grind (arith, All-contains, each_member, level_there, levels_length)
 
   windows_covered : Each (length jobs) (IsWindowCovered jobs (levels_of jobs found))
   windows_covered number known i within contains time from below =
@@ -165,10 +160,7 @@ module _ (jobs : List Job) (proper : All IsJob jobs) (few : length jobs ≤ MAX_
     unnumbered g past = slice_get_past numbers g (omega (arith, past, ap (λ (some : List ℕ). length some) are, length-map-range_with_len (level_of found.groups) 0 (length found.groups)))
 
     runs_at : (k : ℕ) → RunsAtLevel (levels_of jobs found) (slice_get (map pace_of_group found.groups) (group_of found.group_of_stretch k)) (slice_get numbers (group_of found.group_of_stretch k))
-    runs_at k = elim (cases_lt (group_of found.group_of_stretch k) (length found.groups)) [
-      | inl grouped ↦ rw (paced jobs found is k grouped, numbered (group_of found.group_of_stretch k) grouped) (level_pace (group_of found.group_of_stretch k) grouped)
-      | inr past ↦ rw (unpaced jobs found is k past, unnumbered (group_of found.group_of_stretch k) past) tt
-    ]
+    runs_at k = grind (arith, cases_lt, level_pace, numbered, paced, unnumbered, unpaced)
 
     found_timetabled : IsTimetabled jobs (rows_found jobs found) stretch_levels (laid_slots jobs found) (levels_of jobs found)
     found_timetabled = record {
@@ -271,15 +263,8 @@ module _ (jobs : List Job) (proper : All IsJob jobs) (few : length jobs ≤ MAX_
 pub found_makes_plan : (jobs : List Job) → All IsJob jobs → length jobs ≤ MAX_JOBS → (found : Found) → IsFound jobs found → IsPlan jobs (laid_slots jobs found) (levels_of jobs found)
 found_makes_plan = makes_plan
 
--- two facts of a result's value make a third
-both_ok : {T E : Type 0} (P Q R : T → Type 0) → ((x : T) → P x → Q x → R x) → (r : Result T E) → IfOk r P → IfOk r Q → IfOk r R
-both_ok P Q R join (Ok x) first second = join x first second
-both_ok P Q R join (Err e) first second = tt
-
 -- slots and levels that are those of what was found make a plan
 pub laid_plan : {T E : Type 0} (jobs : List Job) → All IsJob jobs → length jobs ≤ MAX_JOBS → (found : Found) (schedule : T → WrittenSchedule) (levels : T → List Level) (r : Result T E) →
     IsFound jobs found → IfOk r (λ x. schedule x ≡ record { jobs = length jobs; slots = laid_slots jobs found }) →
     IfOk r (λ x. levels x ≡ levels_of jobs found) → IfOk r (λ x. IsPlan jobs (schedule x).slots (levels x))
-laid_plan jobs proper few found schedule levels r is laid certified =
-    both_ok (λ x. schedule x ≡ record { jobs = length jobs; slots = laid_slots jobs found }) (λ x. levels x ≡ levels_of jobs found)
-    (λ x. IsPlan jobs (schedule x).slots (levels x)) (λ x one other. rw (one, other) (found_makes_plan jobs proper few found is)) r laid certified
+laid_plan jobs proper few found schedule levels r is laid certified = grind (arith, found_makes_plan)

@@ -30,10 +30,7 @@ use Rattle.yds_events.proofs.Neighbours.{stretch_order}
 -- a level's number is that of a group's place
 pub place_in_level : (groups : List Group) (g l : ℕ) → level_of_place groups g ≡ l → l < levels_among groups (length groups) →
     (g < length groups) × (level_of groups g ≡ l)
-place_in_level groups g l is known = elim (cases_lt g (length groups)) [
-  | inl within ↦ (within, sym (ap (λ b. cond b (level_of groups g) (length groups)) (lt-ltb g (length groups) within)) ∙ is)
-  | inr past ↦ absurd (omega (arith, is, ap (λ b. cond b (level_of groups g) (length groups)) (le-ltb g (length groups) past), among_below groups (length groups)))
-]
+place_in_level groups g l is known = grind (arith, among_below, cases_lt, le-ltb, lt-ltb)
 
 pub place_level : (groups : List Group) (g : ℕ) → g < length groups → level_of_place groups g ≡ level_of groups g
 place_level groups g within = ap (λ b. cond b (level_of groups g) (length groups)) (lt-ltb g (length groups) within)
@@ -48,10 +45,7 @@ cond_none true = refl
 cond_none false = refl
 
 level_of_its_group : (groups : List Group) (l g i v : ℕ) → cond (level_of groups i == l) (cond (g == i) v 0) 0 ≡ cond (g == i) (cond (level_of groups g == l) v 0) 0
-level_of_its_group groups l g i v = elim (cases_eq g i) [
-  | inl same ↦ rw (← same) (rw (is_here g g v refl, is_here g g (cond (level_of groups g == l) v 0) refl) refl)
-  | inr other ↦ rw (not_here g i v other, not_here g i (cond (level_of groups g == l) v 0) other) (cond_none (level_of groups i == l))
-]
+level_of_its_group groups l g i v = grind (arith, cases_eq, is_here, not_here)
 
 place_value : (groups : List Group) (l g v : ℕ) → l < levels_among groups (length groups) →
     cond (nat_lt g (length groups)) (cond (level_of groups g == l) v 0) 0 ≡ cond (level_of_place groups g == l) v 0
@@ -167,10 +161,7 @@ member_at_most_once jobs found number =
     )
 
 mine_alone : (m v : ℕ) (key : ℕ → ℕ) (number j : ℕ) → key number < m → cond (nat_lt (key j) m) (cond (number == j) v 0) 0 ≡ cond (number == j) v 0
-mine_alone m v key number j below = elim (cases_eq number j) [
-  | inl same ↦ ap (λ b. cond b (cond (number == j) v 0) 0) (lt-ltb (key j) m (rw same at below))
-  | inr other ↦ rw (not_here number j v other) (cond_none (nat_lt (key j) m))
-]
+mine_alone m v key number j below = grind (arith, cases_eq, lt-ltb, not_here)
 
 pub member_once : (jobs : List Job) (found : Found) (number : ℕ) → number < length jobs →
     level_of_place found.groups (group_of found.group_of_job number) < levels_among found.groups (length found.groups) →
@@ -200,9 +191,7 @@ few_members jobs found =
 -- the pieces of the first levels, one level after another
 pub pieces_joined : (jobs : List Job) (found : Found) (i : ℕ) → i ≤ levels_among found.groups (length found.groups) →
     all_pieces (take i (levels_of jobs found)) ≡ flat_map (λ l. (level_numbered jobs found l).pieces) (range_with_len 0 i)
-pieces_joined jobs found i within =
-    ap all_pieces (take-map-range_with_len (level_numbered jobs found) 0 (levels_among found.groups (length found.groups)) i within)
-    ∙ flat_map-map (λ level. level.pieces) (level_numbered jobs found) (range_with_len 0 i)
+pieces_joined jobs found i within = grind (arith, flat_map-map, take-map-range_with_len)
 
 -- each of some pieces is apart from each of others, and the other way round
 abbrev pub AllApart : List Piece → List Piece → Type 0
@@ -248,11 +237,7 @@ module _ (jobs : List Job) (found : Found) where
       )
 
   stretches_apart : (j k : ℕ) → j < length (stretches jobs) → k < length (stretches jobs) → (j ≡ k → ⊥) → AreApart (stretch_at jobs j) (stretch_at jobs k)
-  stretches_apart j k known_j known_k other = elim (cases_order j k) [
-    | inl same ↦ absurd (other same)
-    | inr (inl below) ↦ inl (stretch_order jobs j k below known_k)
-    | inr (inr above) ↦ inr (stretch_order jobs k j above known_j)
-  ]
+  stretches_apart j k known_j known_k other = grind (arith, cases_order, stretch_order)
 
   single_apart : (l other : ℕ) → (l ≡ other → ⊥) → AllApart (single l) (single other)
   single_apart l other differ =

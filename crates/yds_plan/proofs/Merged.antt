@@ -1,5 +1,5 @@
 -- Pieces of which those that touch are one: they keep what the single pieces have.
-use Rattle.std.proofs.Common.{◌≡◌, ℕ, zero, suc, ◌+◌, ◌<◌, ◌≤◌, List, [], ◌∷◌, length, map, refl, arith, ◌-◌, ◌==◌, ◌⊎◌, get_or, inl, inr, Bool, true, false}
+use Rattle.std.proofs.Common.{◌≡◌, ℕ, zero, suc, ◌+◌, ◌<◌, ◌≤◌, List, [], ◌∷◌, length, map, refl, arith, ◌-◌, ◌⊎◌, get_or, inl, inr, Bool, true, false}
 use Rattle.std.specs.List.{All, AllPairs, Any, flat_map, range_with_len, filter}
 use Rattle.std.proofs.lemmas.List.Elements.{All-nil, All-append, All-cons, All-head, All-tail}
 use Rattle.yds_model.proofs.Lists.{AllPairs-append, Any-append_left, Any-append_right}
@@ -56,9 +56,7 @@ some_of_blocks P f n i below some = let same : 0 + i ≡ i = omega arith in any_
 merge_cases : (P : List Piece → Type 0) (piece next : Piece) (pieces : List Piece) →
     (piece.to ≡ next.from → P (record { from = piece.from; to = next.to } ∷ pieces)) →
     ((piece.to ≡ next.from → ⊥) → P (piece ∷ next ∷ pieces)) → P (merge piece (next ∷ pieces))
-merge_cases P piece next pieces touch apart =
-    cond_both (piece.to == next.from) (record { from = piece.from; to = next.to } ∷ pieces) (piece ∷ next ∷ pieces) P
-    (λ same. touch (eqb-true piece.to next.from same)) (λ other. apart (eqb-false piece.to next.from other))
+merge_cases P piece next pieces touch apart = grind (arith, cond_both, eqb-false, eqb-true)
 
 merge_run : (low : ℕ) (piece : Piece) (pieces : List Piece) → low ≤ piece.from → piece.from < piece.to → PiecesFrom piece.to pieces → PiecesFrom low (merge piece pieces)
 merge_run low piece [] from forward run = (from, forward, tt)

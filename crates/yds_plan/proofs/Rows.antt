@@ -1,6 +1,6 @@
 -- The timetable of what is found: each stretch is filled at its group's pace, or idle, and each slot stands beside its share.
 use Rattle.std.proofs.Common.{◌≡◌, ℕ, ◌+◌, ◌*◌, ◌<◌, ◌≤◌, ◌==◌, ◌⊎◌, List, [], Some, None, ◌∙◌, length, map, get_or, sym, refl, ap, ap₂, subst, arith, inl, inr}
-use Rattle.std.specs.Prelude.{Option, cond, slice_get, option_map}
+use Rattle.std.specs.Prelude.{Option, slice_get, option_map}
 use Rattle.std.specs.List.{All, AllPairs, AllZip, Contains, filter, flat_map, sum_by, range_with_len}
 use Rattle.std.proofs.lemmas.Bool.{cases_eq, cases_lt, eq-eqb, eqb-true, ne_eqb}
 use Rattle.std.proofs.lemmas.List.{get_or_default, length-map, nil_from_length}
@@ -10,8 +10,8 @@ use Rattle.std.proofs.lemmas.List.Folds.{flat_map-map}
 use Rattle.std.proofs.lemmas.List.Kept.{AllPairs-filter}
 use Rattle.std.proofs.lemmas.List.Sums.{get_or-le-sum_by}
 use Rattle.std.proofs.Math.Nat.{div-le_self, mul-le-mul_left, mul-le-mul_right}
-use Rattle.yds_model.specs.declared.limits.TheConstants.{MAX_JOBS, MAX_SLOT_WORK, MAX_TIME, MAX_WORK}
-use Rattle.yds_model.specs.Job.{Job, IsJob, no_job, job_at}
+use Rattle.yds_model.specs.declared.limits.TheConstants.{MAX_JOBS, MAX_SLOT_WORK, MAX_WORK}
+use Rattle.yds_model.specs.Job.{Job, IsJob, job_at}
 use Rattle.yds_model.specs.Slot.{WrittenSlot}
 use Rattle.yds_model.specs.Piece.{Piece}
 use Rattle.yds_model.specs.Divisor.{common_divisor}
@@ -26,9 +26,9 @@ use Rattle.yds_events.specs.Stretch.{IsStretch}
 use Rattle.yds_events.specs.Window.{length_at}
 use Rattle.yds_events.proofs.Neighbours.{few_stretches, stretch_forward, stretch_in_range}
 use Rattle.yds_timetable.specs.declared.pace.Pace.{Pace}
-use Rattle.yds_timetable.specs.Shares.{JobShare, no_share, share_at, total_units, shares_in, units_given}
+use Rattle.yds_timetable.specs.Shares.{JobShare, no_share, total_units, shares_in, units_given}
 use Rattle.yds_timetable.specs.Pace.{slot_of, IsPaceOf, Fills}
-use Rattle.yds_timetable.specs.Timetable.{Row, rows_of, row_slots, shares_of, slots_at_pace, IsFilledAt, IsRow}
+use Rattle.yds_timetable.specs.Timetable.{Row, rows_of, row_slots, shares_of, slots_at_pace, IsRow}
 use Rattle.yds_timetable.specs.Room.{CanLay}
 use Rattle.yds_timetable.proofs.Lists.{AllZip-flat, AllZip-weaker, all_second, length_zipped}
 use Rattle.yds_timetable.proofs.Paces.{each_pair}
@@ -41,10 +41,7 @@ use Rattle.yds_plan.proofs.Bounds.{group_work, group_length}
 
 -- a test of two numbers, the other way round
 same_test : (a b : ℕ) → (a == b) ≡ (b == a)
-same_test a b = elim (cases_eq a b) [
-  | inl same ↦ eq-eqb a b same ∙ sym (eq-eqb b a (sym same))
-  | inr other ↦ ne_eqb a b other ∙ sym (ne_eqb b a (λ same. other (sym same)))
-]
+same_test a b = grind (arith, cases_eq, eq-eqb, ne_eqb)
 
 by_stretch : (shares : List JobShare) (k : ℕ) → shares_in shares k ≡ filter (λ share. share.stretch == k) shares
 by_stretch shares k = filter_agree (λ (share : JobShare). k == share.stretch) (λ share. share.stretch == k) (λ share. same_test k share.stretch) shares
@@ -114,19 +111,13 @@ module _ (jobs : List Job) (found : Found) (is : IsFound jobs found) where
   length_sorted = sym (count_all (sorted_shares jobs found)) ∙ sums_sorted (λ share. 1) ∙ count_all found.shares
 
   pub units_sorted : (job : ℕ) → units_given (sorted_shares jobs found) job ≡ units_of_job found.shares job
-  units_sorted job =
-      sums_sorted (λ share. cond (job == share.job) share.units 0)
-      ∙ sum_by_same (λ share. cond (job == share.job) share.units 0) (λ share. cond (share.job == job) share.units 0) found.shares
-      (λ i d within. ap {B = ℕ} (λ b. cond b (get_or found.shares i d).units 0) (same_test job (get_or found.shares i d).job))
+  units_sorted job = grind (arith, same_test, sum_by_same, sums_sorted)
 
   -- # Paces
 
   -- a job that is in a group has work
   pub has_work : (j : ℕ) → j < length jobs → group_of found.group_of_job j < length found.groups → 1 ≤ (job_at jobs j).work
-  has_work j known grouped = elim (cases_lt (job_at jobs j).work 1) [
-    | inl none ↦ absurd (omega (arith, is.idle j known (omega arith)))
-    | inr some ↦ some
-  ]
+  has_work j known grouped = grind (arith, cases_lt)
 
   pub terms : (g : ℕ) → g < length found.groups → Lowest (group_at found.groups g).work (group_at found.groups g).length
   terms g known = lowest (group_at found.groups g).work (group_at found.groups g).length (is.some_work g known) (is.some_length g known)
@@ -160,29 +151,13 @@ module _ (jobs : List Job) (found : Found) (is : IsFound jobs found) where
     HasFewUnits share = share.units ≤ per_work (group_at found.groups (group_of found.group_of_job share.job)) * MAX_WORK
 
     units_at_most : All HasFewUnits found.shares
-    units_at_most =
-        All-from_get_or HasFewUnits found.shares no_share (λ x within.
-        let share = share_at found.shares x in
-        let part = get_or-le-sum_by (λ (one : JobShare). cond (one.job == share.job) one.units 0) found.shares x no_share within in
-        let mine = ap (λ b. cond b share.units 0) (eq-eqb share.job share.job refl) in
-        let facts = is.shares x no_share within in
-        let most : per_work (group_at found.groups (group_of found.group_of_job share.job)) * (job_at jobs share.job).work
-        ≤ per_work (group_at found.groups (group_of found.group_of_job share.job)) * MAX_WORK =
-        mul-le-mul_left _ (proper share.job no_job facts.known).work_in_range in
-        omega (arith, part, mine, is.served share.job facts.known (has_work share.job facts.known facts.grouped), most))
+    units_at_most = grind (arith, All-from_get_or, eq-eqb, get_or-le-sum_by, has_work, mul-le-mul_left)
 
     more_work : (q : ℕ) → q * MAX_WORK ≤ q * MAX_SLOT_WORK
     more_work q = let most : MAX_WORK ≤ MAX_SLOT_WORK = omega arith in mul-le-mul_left q most
 
     units_fit : (k : ℕ) → All (λ share. share.units ≤ per_work (group_there found k) * MAX_SLOT_WORK) (shares_in found.shares k)
-    units_fit k i d within =
-        let share = get_or (shares_in found.shares k) i d in
-        let there = all_there k i d within in
-        let facts = share_is share there.0 in
-        let same : share.units ≤ per_work (group_there found k) * MAX_WORK =
-        subst (λ (g : ℕ). share.units ≤ per_work (group_at found.groups g) * MAX_WORK) (sym facts.same_group ∙ ap (group_of found.group_of_stretch) there.1)
-        (All-contains HasFewUnits found.shares share units_at_most there.0) in
-        omega (arith, same, more_work (per_work (group_there found k)))
+    units_fit k i d within = grind (arith, All-contains, all_there, more_work, share_is, units_at_most)
 
     pub full : (k : ℕ) → k < length (stretches jobs) → is_grouped k → total_units (shares_in found.shares k) ≡ per_time (group_there found k) * length_at jobs k
     full k within grouped = ap total_units (by_stretch found.shares k) ∙ sum_by-filter (λ share. share.stretch == k) (λ share. share.units) found.shares
@@ -193,9 +168,7 @@ module _ (jobs : List Job) (found : Found) (is : IsFound jobs found) where
       is_stretch = record { has_length = stretch_forward jobs k within; time_in_range = stretch_in_range jobs k proper within }
 
       time_small : is_grouped k → per_time (group_there found k) ≤ MAX_JOBS * MAX_WORK
-      time_small grouped =
-          let work : length jobs * MAX_WORK ≤ MAX_JOBS * MAX_WORK = mul-le-mul_right MAX_WORK few in
-          omega (arith, div-le_self (group_there found k).work (common_divisor (group_there found k).work (group_there found k).length), group_work jobs proper found is (group_of found.group_of_stretch k) grouped, work)
+      time_small grouped = grind (arith, div-le_self, group_work, mul-le-mul_right)
 
       pub own : is_grouped k → IsPaceOf (pace_of_group (group_there found k)) (stretch_at jobs k) (total_units (shares_in found.shares k))
       own grouped =
@@ -212,23 +185,10 @@ module _ (jobs : List Job) (found : Found) (is : IsFound jobs found) where
           }
 
       pub fills : is_grouped k → Fills (pace_of_group (group_there found k)) (stretch_at jobs k) (shares_in found.shares k)
-      fills grouped = record {
-        own = own grouped;
-        some = λ i d inside. (share_is _ (all_there k i d inside).0).some;
-        works = units_fit k;
-        few = omega (
-          arith,
-          full k within grouped,
-          mul-le-mul_right (length_at jobs k) (time_small grouped),
-          mul-le-mul_left (MAX_JOBS * MAX_WORK) (let most : length_at jobs k ≤ MAX_TIME = omega (arith, is_stretch.time_in_range) in most),
-        );
-      }
+      fills grouped = grind (arith, all_there, full, is_stretch, mul-le-mul_left, mul-le-mul_right, own, share_is, time_small, units_fit)
 
       row_is : IsRow (row_found jobs found k)
-      row_is = elim (cases_lt (group_of found.group_of_stretch k) (length found.groups)) [
-        | inl grouped ↦ subst (λ (pace : Option Pace). IsFilledAt pace (stretch_at jobs k) (shares_in found.shares k)) (sym (paced k grouped)) (fills grouped)
-        | inr past ↦ subst (λ (pace : Option Pace). IsFilledAt pace (stretch_at jobs k) (shares_in found.shares k)) (sym (unpaced k past)) (is_stretch, no_shares k past)
-      ]
+      row_is = grind (arith, cases_lt, fills, is_stretch, no_shares, paced, unpaced)
 
       -- each slot stands beside its share
       abbrev IsNext : JobShare → WrittenSlot → Type 0
@@ -236,13 +196,7 @@ module _ (jobs : List Job) (found : Found) (is : IsFound jobs found) where
           × (slot ≡ slot_of (pace_of_group (group_there found k)) (stretch_at jobs k).from done share)
 
       laid : (share : JobShare) (slot : WrittenSlot) → Contains found.shares share × (share.stretch ≡ k) → IsNext share slot → IsLaid jobs found share slot
-      laid share slot there next = record {
-        there = there.0;
-        is_share = share_is share there.0;
-        done = next.0;
-        enough = subst (λ (i : ℕ). next.0 + share.units ≤ total_units (shares_in found.shares i)) (sym there.1) next.1;
-        slot_is = subst (λ (i : ℕ). slot ≡ slot_of (pace_of_group (group_there found i)) (stretch_at jobs i).from next.0 share) (sym there.1) next.2;
-      }
+      laid share slot there next = grind (arith, share_is)
 
       beside : AllZip (IsLaid jobs found) (shares_in found.shares k) (row_slots (row_found jobs found k))
       beside = elim (cases_lt (group_of found.group_of_stretch k) (length found.groups)) [
@@ -291,6 +245,4 @@ module _ (jobs : List Job) (found : Found) (is : IsFound jobs found) where
     -- rows of the same lists
     pub rows_made : (timeline : List Piece) (own_paces : List Pace) (places : List ℕ) (shares : List JobShare) → timeline ≡ stretches jobs →
         own_paces ≡ map pace_of_group found.groups → places ≡ found.group_of_stretch → shares ≡ found.shares → rows_of timeline own_paces places shares ≡ rows_found jobs found
-    rows_made timeline own_paces places shares same_timeline same_paces same_places same_shares =
-        ap₂ (λ (pieces : List Piece) (some : List Pace). rows_of pieces some places shares) same_timeline same_paces
-        ∙ ap₂ (λ (some : List ℕ) (more : List JobShare). rows_of (stretches jobs) (map pace_of_group found.groups) some more) same_places same_shares
+    rows_made timeline own_paces places shares same_timeline same_paces same_places same_shares = grind (arith, ap₂)

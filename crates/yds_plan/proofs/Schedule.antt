@@ -59,9 +59,7 @@ module _ (jobs : List Job) (found : Found) (is : IsFound jobs found) where
   earliest_of : (scale : ℕ) (one other : JobShare) (slot next : WholeSlot) → Stands jobs found scale one slot → Stands jobs found scale other next →
       group_of found.group_of_job other.job ≡ group_of found.group_of_job one.job → (job_at jobs other.job).release ≤ (stretch_at jobs one.stretch).from →
       one.stretch < other.stretch → ComesFirst jobs one.job other.job
-  earliest_of scale one other slot next here there same released order =
-      rw (← here.share_there, ← there.share_there) (is.earliest there.place here.place there.within here.within
-      (rw (here.share_there, there.share_there) same) (rw (here.share_there, there.share_there) released) (rw (here.share_there, there.share_there) order))
+  earliest_of scale one other slot next here there same released order = grind (arith)
 
   -- who runs in a stretch comes before those who run in a later one and are released
   first_of_two : (scale : ℕ) (one other : JobShare) (slot next : WholeSlot) → Stands jobs found scale one slot → Stands jobs found scale other next →
@@ -136,21 +134,11 @@ module _ (jobs : List Job) (found : Found) (is : IsFound jobs found) where
     -- a slot that lies in a stretch stands in no later one, nor in an earlier one
     not_later : (share : JobShare) (slot : WholeSlot) (q : ℕ) → q < length (stretches jobs) → Stands jobs found scale share slot →
         LiesIn scale slot (stretch_at jobs q) → q ≤ share.stretch
-    not_later share slot q known here lies = elim (cases_lt share.stretch q) [
-      | inl above ↦
-          let apart = mul-le-mul_right scale (stretch_order jobs share.stretch q above known) in
-          absurd (omega (arith, here.forward, here.to, lies.from))
-      | inr below ↦ below
-    ]
+    not_later share slot q known here lies = grind (arith, cases_lt, mul-le-mul_right, stretch_order)
 
     not_earlier : (share : JobShare) (slot : WholeSlot) (q : ℕ) → q < length (stretches jobs) → Stands jobs found scale share slot →
         LiesIn scale slot (stretch_at jobs q) → share.stretch ≤ q
-    not_earlier share slot q known here lies = elim (cases_lt q share.stretch) [
-      | inl above ↦
-          let apart = mul-le-mul_right scale (stretch_order jobs q share.stretch above here.is_share.known_stretch) in
-          absurd (omega (arith, here.forward, here.from, lies.to))
-      | inr below ↦ below
-    ]
+    not_earlier share slot q known here lies = grind (arith, cases_lt, mul-le-mul_right, stretch_order)
 
     follows : (one other : JobShare) (slot next : WholeSlot) → InOrder jobs one other → slot.to ≤ next.from → Stands jobs found scale one slot →
         Stands jobs found scale other next → Follows jobs scale slot next
@@ -255,12 +243,4 @@ module _ (jobs : List Job) (found : Found) (is : IsFound jobs found) where
           }
 
       uncut : (slot : WholeSlot) → StandsSomewhere slot → IsUncut jobs scale slot
-      uncut slot somewhere =
-          let share = somewhere.0 in
-          let here = somewhere.1 in (
-            share.stretch,
-            stretch_at jobs share.stretch,
-            here.is_share.known_stretch,
-            get_or_default (stretches jobs) share.stretch (stretch_at jobs share.stretch) no_stretch here.is_share.known_stretch,
-            record { from = here.from; to = here.to },
-          )
+      uncut slot somewhere = grind (arith, get_or_default)

@@ -1,12 +1,12 @@
 -- Texts that are put into a sink one after another.
-use Rattle.std.proofs.Common.{◌≡◌, ℕ, suc, ◌+◌, ◌<◌, ◌≤◌, List, [], ◌∷◌, ◌++◌, ◌∙◌, ap, subst, sym, append_assoc, Option, Result, Ok, Err, IsErr, refl, arith, length, take, drop, get_or, take_all, take-append-drop, drop-cons}
+use Rattle.std.proofs.Common.{◌≡◌, ℕ, suc, ◌+◌, ◌<◌, ◌≤◌, List, [], ◌∷◌, ◌++◌, ◌∙◌, ap, subst, sym, append_assoc, Option, Result, Ok, Err, IsErr, length, take, drop, get_or, take_all, take-append-drop, drop-cons}
 use Rattle.std.specs.Prelude.{flat_map}
 use Rattle.std.proofs.lemmas.Grind.{flat_map-append}
 use Rattle.std.proofs.lemmas.List.{take_more, append-nil}
 use Rattle.std.proofs.KnownBytes.{Appends-trans}
 use Rattle.std.specs.Io.KnownBytes.{Appends}
 use Rattle.yds_port.specs.Count.{Rose}
-use Rattle.yds_port.specs.Sink.{AppendsFront, Delivers, Puts}
+use Rattle.yds_port.specs.Sink.{AppendsFront, Puts}
 
 -- A text was put into a sink whole, with no fault.
 pub record PutsWhole {K : Type 0} (written : K → Option (List ℕ)) (flushed : K → Option ℕ) (flushes faults : K → ℕ) (text : List ℕ) (old new : K) : Type 0 where

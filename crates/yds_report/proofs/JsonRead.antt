@@ -122,10 +122,7 @@ levels_numbers (level ∷ levels) fit =
 
 -- and are read as what they are
 level_back : (level : Level) → IsLevel level → of_json (outline (level_value level)) ≡ Some (level_value level)
-level_back level one =
-    let small_length = one.length_in_range in
-    let small_work = one.work_in_range in
-    rw (number_of-decimal level.length (omega arith), number_of-decimal level.work (omega arith)) refl
+level_back level one = grind (arith, number_of-decimal)
 
 levels_back : (levels : List Level) → All IsLevel levels → of_items (items_outline (items_of (map level_value levels))) ≡ Some (items_of (map level_value levels))
 levels_back [] fit = refl
@@ -190,16 +187,7 @@ report_read jobs levels fit small =
 
 -- the numbers of jobs within their limits are small
 small_numbers : (jobs : List Job) (levels : List Level) → All IsJob jobs → length jobs ≤ MAX_JOBS → AreSmall jobs levels
-small_numbers jobs levels fit few =
-    let last = last_within jobs fit in
-    let works = works_few jobs fit in
-    record {
-      first = omega (arith, last, releases_from jobs (last_deadline jobs));
-      idle = omega (arith, last);
-      count = omega (arith, few);
-      last = omega (arith, last);
-      work = omega (arith, works, few);
-    }
+small_numbers jobs levels fit few = grind (arith, last_within, releases_from, works_few)
 
 -- the law of it
 pub reports_are_read : ReportsAreRead

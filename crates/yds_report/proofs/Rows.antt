@@ -1,5 +1,5 @@
 -- Levels with their numbers, from 1.
-use Rattle.std.proofs.Common.{◌≡◌, ℕ, ◌+◌, ◌<◌, ◌≤◌, List, get_or, length, ap, sym, ◌∙◌, arith}
+use Rattle.std.proofs.Common.{◌≡◌, ℕ, ◌+◌, ◌<◌, ◌≤◌, List, get_or, length, arith}
 use Rattle.std.specs.List.{enumerate_from}
 use Rattle.std.proofs.lemmas.List.FromFn.{length-enumerate_from, get_or-enumerate_from}
 use Rattle.yds_model.specs.Level.{Level}
@@ -7,9 +7,7 @@ use Rattle.yds_model.specs.Level.{Level}
 -- the number and the level at a place
 pub numbered_at : (levels : List Level) (i : ℕ) (level : Level) → i < length levels → level ≡ get_or levels i level
     → get_or (enumerate_from 1 levels) i (0, level) ≡ (i + 1, level)
-numbered_at levels i level within is =
-    let next : 1 + i ≡ i + 1 = omega arith in
-    get_or-enumerate_from 1 levels i (0, level) within ∙ ap (λ n. (n, get_or levels i level)) next ∙ ap (λ l. (i + 1, l)) (sym is)
+numbered_at levels i level within is = grind (arith, get_or-enumerate_from)
 
 pub numbered_within : (levels : List Level) (i : ℕ) → i < length levels → i < length (enumerate_from 1 levels)
 numbered_within levels i within = omega (arith, length-enumerate_from 1 levels)

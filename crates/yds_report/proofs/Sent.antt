@@ -1,5 +1,5 @@
 -- What the levels of a report send to a writer, one after another.
-use Rattle.std.proofs.Common.{◌≡◌, ℕ, suc, ◌+◌, ◌<◌, ◌≤◌, List, [], ◌∷◌, ◌++◌, length, map, drop, get_or, refl, sym, subst, add-one, Some, ap, ◌∙◌, arith}
+use Rattle.std.proofs.Common.{◌≡◌, ℕ, ◌+◌, ◌<◌, ◌≤◌, List, [], ◌∷◌, ◌++◌, length, map, drop, get_or, refl, sym, subst, add-one, Some, ap, ◌∙◌, arith}
 use Rattle.std.specs.List.{All}
 use Rattle.std.proofs.Math.Seq.{drop-cons}
 use Rattle.std.proofs.lemmas.List.{drop_all}
@@ -29,17 +29,11 @@ SendsFrom levels i old new = SendsItems (items_of (map level_value (drop i level
 -- a level, and then those after it
 pub sent_next : (levels : List Level) (i : ℕ) (level : Level) (old mid last : Log) → i < length levels → level ≡ get_or levels i level →
     SendsValue (level_value level) old mid → SendsFrom levels (i + 1) mid last → SendsFrom levels i old last
-sent_next levels i level old mid last within is one rest =
-    let P : List Level → Type 0 = λ some. SendsItems (items_of (map level_value some)) old last in
-    let V : Level → Type 0 = λ this. SendsValue (level_value this) old mid in
-    let F : ℕ → Type 0 = λ n. SendsFrom levels n mid last in
-    subst P (sym (drop-cons levels i level within)) (mid, subst V is one, subst F (add-one i) rest)
+sent_next levels i level old mid last within is one rest = grind (arith, add-one, drop-cons)
 
 -- at the end nothing but the end
 sent_end : (levels : List Level) (i : ℕ) (old last : Log) → length levels ≤ i → Logs old last seq_ends → SendsFrom levels i old last
-sent_end levels i old last beyond ended =
-    let P : List Level → Type 0 = λ some. SendsItems (items_of (map level_value some)) old last in
-    subst P (sym (drop_all i levels beyond)) ended
+sent_end levels i old last beyond ended = grind (arith, drop_all)
 
 -- all of them, between the marks of an array
 pub sent_all : (levels : List Level) (i : ℕ) (old begun here last : Log) → length levels ≤ i → Logs old begun (seq_begins (Some (length levels))) →

@@ -183,23 +183,14 @@ module _ (jobs : List Job) (points : List Point) (planned : List WrittenSlot) (l
       level_more = rw (written_is, slots_are) (more_by points (level_at levels n) (pace_at paces n).energy (pace_at paces n).split row.stretch row.shares pace_is)
 
     rounds : RoundsStretch (hull_of points) levels row.stretch (row_slots row) made
-    rounds = elim there [
-      | inl idle ↦ inl (none_planned idle.0, none_written idle.1)
-      | inr (n, is_number, is_level, at) ↦ level_rounds n is_number is_level at
-    ]
+    rounds = grind (arith, level_rounds, none_planned, none_written, there)
 
     keeps : All KeepsGrain made
-    keeps = elim there [
-      | inl idle ↦ subst (All KeepsGrain) (sym (none_written idle.1)) (All-nil KeepsGrain)
-      | inr (n, is_number, is_level, at) ↦ level_keeps n is_number is_level at
-    ]
+    keeps = grind (arith, All-nil, level_keeps, none_written, there)
 
     -- at most one slot more than the plan has
     more : length made ≤ length (row_slots row) + 1
-    more = elim there [
-      | inl idle ↦ omega (arith, ap (λ (slots : List WrittenSlot). length slots) (none_written idle.1))
-      | inr (n, is_number, is_level, at) ↦ level_more n is_number is_level at
-    ]
+    more = grind (arith, level_more, none_written, there)
 
     planned_next : length (slots_of (take (suc k) rows)) ≡ length (slots_of (take k rows)) + length (row_slots row)
     planned_next = omega (

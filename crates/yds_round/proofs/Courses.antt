@@ -44,18 +44,10 @@ module _ (speed grain den start scale first last before after held a b w : ℕ) 
       ))
 
   some_work : 1 ≤ w
-  some_work = elim (cases_lt w 1) [
-    | inr some ↦ some
-    | inl none ↦
-        let nothing : w ≡ 0 = omega (arith, none) in
-        absurd (omega (arith, works, ap (λ n. n * grain) nothing, mul-pos (let gap : 1 ≤ after - before = omega (arith, less) in gap) positive))
-  ]
+  some_work = grind (arith, cases_lt, mul-pos)
 
   pub piece_forward : a < b
-  piece_forward = elim (cases_lt a b) [
-    | inl forward ↦ forward
-    | inr late ↦ absurd (omega (arith, spent, some_work, mul-le-mul_right speed late))
-  ]
+  piece_forward = grind (arith, cases_lt, mul-le-mul_right, some_work, spent)
 
   pub piece_speed : w ≡ speed * (b - a)
   piece_speed =

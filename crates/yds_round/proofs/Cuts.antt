@@ -44,16 +44,10 @@ none_between course stretch job from to none =
 -- so what holds of that slot holds of all there
 pub all_between : (P : WrittenSlot → Type 0) (course : Course) (stretch : Piece) (job from to : ℕ) → (course.work from < course.work to → P (piece_between course stretch job from to)) →
     All P (slot_between course stretch job from to)
-all_between P course stretch job from to has = elim (cases_lt (course.work from) (course.work to)) [
-  | inl some ↦ rw (some_between course stretch job from to some) (All-cons P (piece_between course stretch job from to) [] (has some) (All-nil P))
-  | inr none ↦ rw (none_between course stretch job from to none) (All-nil P)
-]
+all_between P course stretch job from to has = grind (arith, All-cons, All-nil, cases_lt, none_between, some_between)
 
 pub few_between : (course : Course) (stretch : Piece) (job from to : ℕ) → length (slot_between course stretch job from to) ≤ 1
-few_between course stretch job from to = elim (cases_lt (course.work from) (course.work to)) [
-  | inl some ↦ rw (some_between course stretch job from to some) (omega arith)
-  | inr none ↦ rw (none_between course stretch job from to none) (omega arith)
-]
+few_between course stretch job from to = grind (arith, cases_lt, none_between, some_between)
 
 -- # The slots of a part
 

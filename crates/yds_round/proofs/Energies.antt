@@ -1,5 +1,5 @@
 -- What a rounded plan spends, as one fraction.
-use Rattle.std.proofs.Common.{◌≡◌, ℕ, ◌+◌, ◌-◌, ◌*◌, ◌/◌, ◌^◌, ◌<◌, ◌≤◌, sym, ap, arith}
+use Rattle.std.proofs.Common.{◌≡◌, ℕ, ◌+◌, ◌-◌, ◌*◌, ◌/◌, ◌^◌, ◌<◌, ◌≤◌, arith}
 use Rattle.std.specs.Int.{IsGcd}
 use Rattle.std.proofs.lemmas.Nat.Gcd.{same_from_IsGcd}
 use Rattle.std.proofs.Math.Nat.{mul-le-mul, mul-le-mul_right, div-le_of_le-mul}
@@ -16,33 +16,23 @@ module _ (spent busy long power multiple : ℕ) (few : spent ≤ MAX_POINT_POWER
     (fits : power ≤ MAX_POINT_POWER) where
   -- all of it is at most the greatest power over the horizon
   pub total_fits : spent + power * (long - busy) * multiple ≤ MAX_POINT_POWER * long * multiple
-  total_fits =
-      let parts : long ≡ busy + (long - busy) = omega (arith, within) in
-      omega (arith, few, mul-le-mul_right ((long - busy) * multiple) fits, ap (λ n. MAX_POINT_POWER * n * multiple) parts)
+  total_fits = grind (arith, mul-le-mul_right)
 
   -- so it fits
   pub total_small : long < 2 ^ 32 → multiple ≤ MAX_GAPS → spent + power * (long - busy) * multiple < 2 ^ 128
-  total_small short small =
-      let most : long ≤ 2 ^ 32 = omega (arith, short) in
-      omega (arith, total_fits, mul-le-mul most small)
+  total_small short small = grind (arith, mul-le-mul, total_fits)
 
   pub spent_small : long < 2 ^ 32 → multiple ≤ MAX_GAPS → spent < 2 ^ 128
   spent_small short small = omega (arith, total_small short small)
 
   -- and its whole part
   pub total_whole : long < 2 ^ 32 → (spent + power * (long - busy) * multiple) / multiple ≤ MAX_ENERGY
-  total_whole short = omega (
-    arith,
-    div-le_of_le-mul multiple {m = spent + power * (long - busy) * multiple} {n = MAX_POINT_POWER * long} (omega (arith, total_fits)),
-    short,
-  )
+  total_whole short = grind (arith, div-le_of_le-mul, total_fits)
 
 -- so many parts, reduced, are as many
 pub reduced_parts : (parts multiple : ℕ) (fraction reduced : Fraction) → fraction ≡ of_parts parts multiple → IsSame fraction reduced → 1 ≤ fraction.den →
     numerator reduced * multiple ≡ parts * reduced.den
-reduced_parts parts multiple fraction reduced is same some =
-    same_through (numerator reduced) (numerator fraction) parts reduced.den fraction.den multiple some (sym same)
-    (rw is (of_parts_value parts multiple))
+reduced_parts parts multiple fraction reduced is same some = grind (arith, of_parts_value, same_through)
 
 -- in lowest terms
 pub is_lowest : (most : ℕ) (x : Fraction) → IsFraction most x → IsGcd x.num x.den 1 → IsLowest x

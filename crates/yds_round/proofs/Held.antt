@@ -40,10 +40,7 @@ back_at Q scale slots all k d within =
 
 -- an element of the second of three lists
 in_middle : {X : Type 0} (front here rest : List X) (i : ℕ) (d : X) → i < length here → get_or (front ++ (here ++ rest)) (length front + i) d ≡ get_or here i d
-in_middle front here rest i d within =
-    let place : length front + i - length front ≡ i = omega arith in
-    get_or-append_right front (here ++ rest) (length front + i) d (omega arith) ∙ ap (λ n. get_or (here ++ rest) n d) place
-    ∙ get_or_append_left here rest d i within
+in_middle front here rest i d within = grind (arith, get_or-append_right, get_or_append_left)
 
 -- slots of different jobs
 apart_by : (slots : List WrittenSlot) → ((i j : ℕ) → i < j → j < length slots → (written_slot_at slots i).job ≡ (written_slot_at slots j).job → ⊥) →
@@ -74,9 +71,7 @@ pub record IsHeld (levels : List Level) (level : Level) (stretch : Piece) (share
 -- they are as much as the level does there
 pub units_held : (level : Level) (stretch : Piece) (shares : List JobShare) → Fills (pace_of_level level) stretch shares →
     total_units shares ≡ speed_num level * length_of stretch
-units_held level stretch shares fills =
-    let times : fills.own.times ≡ length_of stretch = omega (arith, fills.own.length_is) in
-    sym fills.own.units_is ∙ ap (λ n. speed_num level * n) times
+units_held level stretch shares fills = grind (arith)
 
 -- at a scale a slot takes time, and runs at the speed num/den
 record RunsAtSpeed (num den scale : ℕ) (slot : WrittenSlot) : Type 0 where

@@ -12,7 +12,7 @@ use Rattle.yds_model.specs.Piece.{Piece}
 use Rattle.yds_model.specs.Rounding.{jobs_in_turn}
 use Rattle.yds_model.proofs.Lists.{count-cons}
 use Rattle.yds_timetable.specs.declared.pace.Pace.{Pace}
-use Rattle.yds_timetable.specs.Shares.{JobShare, total_units}
+use Rattle.yds_timetable.specs.Shares.{JobShare}
 use Rattle.yds_timetable.specs.Pace.{slot_of, slots_from}
 use Rattle.yds_round.specs.declared.split.Split.{Split}
 use Rattle.yds_round.specs.Written.{Course, turn, fast_course, slow_course, slot_between, slots_after}
@@ -129,9 +129,7 @@ count_once (job ∷ jobs) apart number = elim (cases_eq number job) [
 module _ (split : Split) (stretch : Piece) (some_gap : 1 ≤ split.gap) where
   -- after the switch nothing runs at the faster point
   no_fast : (done : ℕ) (shares : List JobShare) → turn split stretch ≤ done * split.gap → slots_after (fast_course split stretch) stretch done shares ≡ []
-  no_fast done shares after =
-      none_after (fast_course split stretch) stretch done shares (done + total_units shares)
-      (λ from to begun order below. omega (arith, after, mul-le-mul_right split.gap begun, mul-le-mul_right split.gap order)) (omega arith)
+  no_fast done shares after = grind (arith, mul-le-mul_right, none_after)
 
   -- the three ways in which a slot lies to the switch
   more_done : (done units : ℕ) → 1 ≤ units → done * split.gap + 1 ≤ (done + units) * split.gap

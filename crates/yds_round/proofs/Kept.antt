@@ -1,5 +1,5 @@
 -- Slots of the plan that stay as they are.
-use Rattle.std.proofs.Common.{◌≡◌, ℕ, ◌+◌, ◌<◌, List, [], ◌∷◌, ◌++◌, length, get_or, take, sym, ap, ◌∙◌, subst, arith, append_assoc}
+use Rattle.std.proofs.Common.{◌≡◌, ℕ, ◌+◌, ◌<◌, List, [], ◌∷◌, ◌++◌, length, get_or, take, sym, ap, subst, arith, append_assoc}
 use Rattle.std.proofs.lemmas.List.{take_more, length-append, length-take}
 use Rattle.std.proofs.lemmas.List.Elements.{All-take}
 use Rattle.yds_model.specs.declared.limits.TheConstants.{MAX_SLOTS}
@@ -27,6 +27,4 @@ module _ (jobs : ℕ) (before planned : List WrittenSlot) (fits : CanKeep jobs b
   kept_room = omega (arith, fits.room, within, length-append before (take k planned), length-take k planned)
 
   pub kept_more : (before ++ take k planned) ++ slot ∷ [] ≡ before ++ take (k + 1) planned
-  kept_more =
-      append_assoc before (take k planned) (slot ∷ [])
-      ∙ ap (λ xs. before ++ xs) (ap (λ (s : WrittenSlot). take k planned ++ s ∷ []) is ∙ sym (take_more planned k slot within))
+  kept_more = grind (arith, append_assoc, take_more)

@@ -49,9 +49,7 @@ module _ (slow fast work long multiple low_power high_power : ℕ) (above : slow
 
 -- what a level spends fits
 pub small : (parts long multiple : ℕ) → parts ≤ MAX_POINT_POWER * long * multiple → long ≤ MAX_LEVEL_LENGTH → multiple < 2 ^ 64 → parts < 2 ^ 128
-small parts long multiple few long_fits multiple_fits =
-    let most : multiple ≤ 2 ^ 64 = omega (arith, multiple_fits) in
-    omega (arith, few, mul-le-mul long_fits most)
+small parts long multiple few long_fits multiple_fits = grind (arith, mul-le-mul)
 
 -- # The points around a speed
 

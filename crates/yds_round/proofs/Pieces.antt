@@ -1,7 +1,7 @@
 -- One slot of a stretch that is cut: within the limits.
 use Rattle.std.proofs.Common.{◌≡◌, ℕ, ◌+◌, ◌-◌, ◌*◌, ◌≤◌, min, max, arith}
 use Rattle.std.proofs.Math.Nat.{mul-le-mul_right}
-use Rattle.yds_model.specs.declared.limits.TheConstants.{MAX_DENOMINATOR, MAX_SLOT_WORK, MAX_TIME, MAX_WHOLE}
+use Rattle.yds_model.specs.declared.limits.TheConstants.{MAX_DENOMINATOR, MAX_SLOT_WORK, MAX_TIME}
 use Rattle.yds_model.specs.Scale.{Fraction}
 use Rattle.yds_model.specs.Piece.{Piece}
 use Rattle.yds_model.specs.Within.{IsFraction, IsSlot}
@@ -28,9 +28,4 @@ greatest_fits from to gap den most turn order few =
 pub piece_kept : (job : ℕ) (from to work : Fraction) (stretch : Piece) (first last den : ℕ) → from ≡ moment stretch first den → to ≡ moment stretch last den →
     IsFraction MAX_TIME from → IsFraction MAX_TIME to → IsMixed MAX_DENOMINATOR work → work.whole ≤ MAX_SLOT_WORK →
     IsSlot (record { job = job; from = from; to = to; work = work })
-piece_kept job from to work stretch first last den is_from is_to from_fits to_fits kept few = record {
-  from = from_fits;
-  to = to_fits;
-  work = IsFraction-within MAX_WHOLE MAX_SLOT_WORK work kept.fraction few;
-  ends_alike = rw (is_from, is_to) (parts_alike (stretch.from * den + first) (stretch.from * den + last) den);
-}
+piece_kept job from to work stretch first last den is_from is_to from_fits to_fits kept few = grind (arith, IsFraction-within, parts_alike)

@@ -1,12 +1,12 @@
 -- The times at which so many units of a stretch are done.
-use Rattle.std.proofs.Common.{◌≡◌, ℕ, ◌-◌, ◌*◌, ◌<◌, ◌≤◌, min, max, ap, ◌∙◌, arith}
+use Rattle.std.proofs.Common.{◌≡◌, ℕ, ◌-◌, ◌*◌, ◌<◌, ◌≤◌, min, max, arith}
 use Rattle.yds_model.specs.declared.limits.TheConstants.{MAX_DENOMINATOR, MAX_TIME, MAX_WHOLE}
 use Rattle.yds_model.specs.Scale.{Fraction}
 use Rattle.yds_model.specs.Within.{IsFraction}
 use Rattle.yds_fraction.specs.Mixed.{IsMixed}
 use Rattle.yds_fraction.proofs.Kept.{IsFraction-within}
 use Rattle.yds_round.specs.declared.cut.Cut.{Cut}
-use Rattle.yds_round.specs.Written.{all_units, surplus_of, turn, moment}
+use Rattle.yds_round.specs.Written.{all_units, turn, moment}
 use Rattle.yds_round.specs.Cut.{IsCut, IsReached}
 use Rattle.yds_round.proofs.Turns.{fast_before, fast_after, slow_before, slow_after}
 
@@ -18,35 +18,10 @@ time_kept time kept within = IsFraction-within MAX_WHOLE MAX_TIME time kept.frac
 pub reached_before : (cut : Cut) (units parts : ℕ) (time : Fraction) → IsCut cut → units ≤ all_units cut.split cut.stretch →
     units * cut.split.gap ≤ turn cut.split cut.stretch → parts ≡ units * cut.split.fast.step → time ≡ moment cut.stretch parts cut.split.fast.den →
     IsFraction MAX_TIME time → IsReached cut (record { units = units; fast = time; slow = cut.slow_start })
-reached_before cut units parts time is within below are time_is fits =
-    let split = cut.split in
-    let surplus = surplus_of split cut.stretch in
-    let first : parts ≡ min (units * split.fast.step) (surplus * split.fast.switch) = omega (arith, are, fast_before split cut.stretch is.kept units below) in
-    let second : cut.surplus * split.slow.switch ≡ max ((units - surplus) * split.slow.step) (surplus * split.slow.switch) =
-    omega (arith, slow_before split cut.stretch is.kept units below, ap (λ n. n * split.slow.switch) is.is_surplus) in
-    record {
-      within = within;
-      is_fast = time_is ∙ ap (λ n. moment cut.stretch n split.fast.den) first;
-      is_slow = is.is_start ∙ ap (λ n. moment cut.stretch n split.slow.den) second;
-      fast_in_range = fits;
-      slow_in_range = is.start_in_range;
-    }
+reached_before cut units parts time is within below are time_is fits = grind (arith, fast_before, max, min, slow_before)
 
 -- and after it
 pub reached_after : (cut : Cut) (units parts : ℕ) (time : Fraction) → IsCut cut → units ≤ all_units cut.split cut.stretch →
     turn cut.split cut.stretch < units * cut.split.gap → parts ≡ (units - cut.surplus) * cut.split.slow.step → time ≡ moment cut.stretch parts cut.split.slow.den →
     IsFraction MAX_TIME time → IsReached cut (record { units = units; fast = cut.fast_end; slow = time })
-reached_after cut units parts time is within above are time_is fits =
-    let split = cut.split in
-    let surplus = surplus_of split cut.stretch in
-    let first : cut.surplus * split.fast.switch ≡ min (units * split.fast.step) (surplus * split.fast.switch) =
-    omega (arith, fast_after split cut.stretch is.kept units (omega (arith, above)), ap (λ n. n * split.fast.switch) is.is_surplus) in
-    let second : parts ≡ max ((units - surplus) * split.slow.step) (surplus * split.slow.switch) =
-    omega (arith, are, slow_after split cut.stretch is.kept units within above, ap (λ n. (units - n) * split.slow.step) is.is_surplus) in
-    record {
-      within = within;
-      is_fast = is.is_end ∙ ap (λ n. moment cut.stretch n split.fast.den) first;
-      is_slow = time_is ∙ ap (λ n. moment cut.stretch n split.slow.den) second;
-      fast_in_range = is.end_in_range;
-      slow_in_range = fits;
-    }
+reached_after cut units parts time is within above are time_is fits = grind (arith, fast_after, max, min, slow_after)

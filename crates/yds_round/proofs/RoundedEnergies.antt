@@ -78,11 +78,7 @@ energy_by spent scale num den multiple all some costs parts =
     eq_of_mul-eq-mul_left multiple some (spent * den) (num * scale) (omega (arith, ap (λ n. n * den) costs, ap (λ n. n * scale) parts))
 
 pub slots_solid : (slots : List WrittenSlot) → All IsSlot slots → All IsSolid slots
-slots_solid slots each = All-weaker IsSlot IsSolid (λ slot kept. record {
-  from = some_parts _ kept.from;
-  to = some_parts _ kept.to;
-  work = some_parts _ kept.work;
-}) slots each
+slots_solid slots each = grind (arith, All-weaker, some_parts)
 
 -- so it is at each
 pub energy_is : (jobs : List Job) (points : List Point) (planned : List WrittenSlot) (levels : List Level) (paces : List Pace) (written : List WrittenSlot) (energy : Fraction) →

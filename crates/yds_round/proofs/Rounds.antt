@@ -57,10 +57,7 @@ dens_after level gap speed course stretch shares den grain = all_after (HasSplit
 -- the work of the level in the stretch, by its split
 all_of_level : (level : Level) (low high : Point) (split : Split) (stretch : Piece) → IsSplitOf level low high split →
     all_units split stretch ≡ speed_num level * length_of stretch
-all_of_level level low high split stretch is =
-    let over : split.surplus + split.low * split.den ≡ speed_num level =
-    ap (λ n. split.surplus + n * split.den) is.is_low ∙ ap (λ n. split.surplus + low.speed * n) is.is_den ∙ is.is_surplus in
-    ap (λ n. n * length_of stretch) over
+all_of_level level low high split stretch is = grind (arith)
 
 -- what a stretch serves, as the code meets it
 pub full_of : (level : Level) (low high : Point) (split : Split) (stretch : Piece) (shares : List JobShare) → IsSplitOf level low high split →

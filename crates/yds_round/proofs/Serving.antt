@@ -4,7 +4,7 @@ use Rattle.std.specs.List.{All}
 use Rattle.std.proofs.lemmas.List.{take_more, length-append, length-take}
 use Rattle.std.proofs.lemmas.List.Sums.{sum_by_push, sum_by_more_le}
 use Rattle.std.proofs.Math.Nat.{mul-le-mul}
-use Rattle.yds_model.specs.declared.limits.TheConstants.{MAX_SLOTS, MAX_SLOT_WORK, MAX_TIME}
+use Rattle.yds_model.specs.declared.limits.TheConstants.{MAX_SLOTS, MAX_SLOT_WORK}
 use Rattle.yds_model.specs.Slot.{WrittenSlot}
 use Rattle.yds_model.specs.Piece.{Piece}
 use Rattle.yds_slots.specs.Schedule.{WrittenSchedule}
@@ -26,19 +26,12 @@ pub record IsServed (cut : Cut) (before : WrittenSchedule) (shares : List JobSha
 
 -- the level's work in a stretch fits
 pub all_fit : (split : Split) (stretch : Piece) → IsSplit split → IsStretch stretch → all_units split stretch < 2 ^ 64
-all_fit split stretch kept lasts =
-    let long : stretch.to - stretch.from ≤ MAX_TIME = omega (arith, lasts.time_in_range) in
-    omega (arith, mul-le-mul kept.work_in_range long)
+all_fit split stretch kept lasts = grind (arith, mul-le-mul)
 
 -- there is room for two slots more
 pub room_for : (split : Split) (stretch : Piece) (before : List WrittenSlot) (shares : List JobShare) (k : ℕ) → k < length shares →
     length before + 2 * length shares ≤ MAX_SLOTS → length (before ++ cut_slots split stretch (take k shares)) + 2 ≤ MAX_SLOTS
-room_for split stretch before shares k within room = omega (
-  arith,
-  length-append before (cut_slots split stretch (take k shares)),
-  few_cut split stretch (take k shares),
-  length-take k shares,
-)
+room_for split stretch before shares k within room = grind (arith, few_cut, length-append, length-take)
 
 -- four lists, joined
 joined : {X : Type 0} (old made fast slow : List X) → ((old ++ made) ++ fast) ++ slow ≡ old ++ ((made ++ fast) ++ slow)
@@ -51,12 +44,7 @@ module _ (shares : List JobShare) (k : ℕ) (share default : JobShare) (within :
 
   -- its units and those before it are no more than the whole
   pub step_within : (done : ℕ) → done ≡ total_units (take k shares) → done + share.units ≤ total_units shares
-  step_within done sum = omega (
-    arith,
-    sum,
-    ap (λ (s : JobShare). s.units) is,
-    sum_by_more_le (λ (s : JobShare). s.units) shares k default within,
-  )
+  step_within done sum = grind (arith, sum_by_more_le)
 
   units_taken : (done : ℕ) → done ≡ total_units (take k shares) → done + share.units ≡ total_units (take (k + 1) shares)
   units_taken done sum = rw taken (omega (arith, sum, sum_by_push (λ (s : JobShare). s.units) (take k shares) share))

@@ -27,9 +27,7 @@ use Rattle.yds_round.proofs.InTurn.{AreApart, DoesWork, share_jobs, turns_cut, t
 
 -- nothing is done at first
 nothing_before : (surplus step : ℕ) → (0 - surplus) * step ≡ 0
-nothing_before surplus step =
-    let none : 0 - surplus ≡ 0 = omega arith in
-    ap (λ n. n * step) none ∙ omega arith
+nothing_before surplus step = grind (arith)
 
 module _ (split : Split) (stretch : Piece) (kept : IsSplit split) where
   -- # The two parts run at their points' speeds
@@ -62,13 +60,7 @@ module _ (split : Split) (stretch : Piece) (kept : IsSplit split) where
   some_high = omega (arith, kept.is_gap, kept.some_gap)
 
   fast_runs : (most : ℕ) → RunsAt (fast_course split stretch) split.high most 0
-  fast_runs most = record {
-    some_speed = some_high;
-    some_den = kept.fast.some;
-    some_grain = mul-pos kept.some_den kept.some_gap;
-    rises = fast_rises split stretch;
-    pace = λ units within. fast_pace units;
-  }
+  fast_runs most = grind (arith, fast_pace, fast_rises, mul-pos, some_high)
 
   slow_pace : 1 ≤ split.low → (units : ℕ) → units ≤ all_units split stretch →
       split.low * (split.den * split.gap) * max ((units - surplus_of split stretch) * split.slow.step) (surplus_of split stretch * split.slow.switch)
@@ -100,13 +92,7 @@ module _ (split : Split) (stretch : Piece) (kept : IsSplit split) where
   ]
 
   slow_runs : 1 ≤ split.low → RunsAt (slow_course split stretch) split.low (all_units split stretch) (split.gap * surplus_of split stretch * split.slow.den)
-  slow_runs some = record {
-    some_speed = some;
-    some_den = kept.slow.some;
-    some_grain = mul-pos kept.some_den kept.some_gap;
-    rises = slow_rises split stretch;
-    pace = slow_pace some;
-  }
+  slow_runs some = grind (arith, mul-pos, slow_pace, slow_rises)
 
   -- # The switch, in plain numbers at a scale
 
@@ -128,16 +114,10 @@ module _ (split : Split) (stretch : Piece) (kept : IsSplit split) where
   fast_last = omega (arith, fast_after split stretch kept (all_units split stretch) turned)
 
   slow_first : (slow_course split stretch).time 0 ≡ surplus_of split stretch * split.slow.switch
-  slow_first =
-      let none : (0 - surplus_of split stretch) * split.slow.step ≡ 0 = nothing_before (surplus_of split stretch) split.slow.step in
-      let time : max ((0 - surplus_of split stretch) * split.slow.step) (surplus_of split stretch * split.slow.switch) ≡ surplus_of split stretch * split.slow.switch =
-      omega (arith, none) in
-      time
+  slow_first = grind (arith, max, nothing_before)
 
   fast_first : (fast_course split stretch).time 0 ≡ 0
-  fast_first =
-      let time : min (0 * split.fast.step) (surplus_of split stretch * split.fast.switch) ≡ 0 = omega arith in
-      time
+  fast_first = grind (arith, min)
 
   slow_last : 1 ≤ split.low → (slow_course split stretch).time (all_units split stretch) ≡ split.slow.den * length_of stretch
   slow_last some =
@@ -196,15 +176,7 @@ module _ (split : Split) (stretch : Piece) (kept : IsSplit split) where
   -- where the slower point is the idle one nothing runs there
   pub no_slow : split.low ≡ 0 → (shares : List JobShare) → total_units shares ≡ all_units split stretch →
       slots_after (slow_course split stretch) stretch 0 shares ≡ []
-  no_slow idle shares full =
-      none_slow split stretch shares (omega (
-        arith,
-        ap (λ n. n * split.gap) full,
-        ap (λ n. n * split.gap) all_parts,
-        ap (λ n. n * (split.den * length_of stretch) * split.gap) idle,
-        ap (λ n. n * surplus_of split stretch) kept.is_gap,
-        ap (λ n. n * surplus_of split stretch) idle,
-      ))
+  no_slow idle shares full = grind (arith, all_parts, none_slow)
 
   runs_slow : (low scale switch : ℕ) (shares : List JobShare) → low ≡ split.low → 1 ≤ scale → stretch.from < stretch.to →
       total_units shares ≡ all_units split stretch →

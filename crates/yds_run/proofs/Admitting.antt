@@ -13,7 +13,7 @@ use Rattle.yds_model.specs.declared.status.Status.TheVariants as statuses
 use Rattle.yds_model.specs.Slot.{WrittenSlot}
 use Rattle.yds_model.specs.Document.{Document}
 use Rattle.yds_model.specs.Text.{canonical_text}
-use Rattle.yds_model.specs.Within.{IsDocument, IsTextOf}
+use Rattle.yds_model.specs.Within.{IsDocument}
 use Rattle.yds_model.specs.Admission.{Refusal, jobs_with, AdmitsAfter, IsAdmission, IsAdmittedRun}
 use Rattle.yds_model.specs.AdmitAnswer.{with_taken, refusal_comment, AdmitAnswer}
 

@@ -12,7 +12,7 @@ use Rattle.std.proofs.lemmas.Map.Steps.{length-le_from_distinct_below}
 use Rattle.std.proofs.lemmas.Map.Views.{Contains-from_any}
 use Rattle.std.proofs.lemmas.Simd.{map-map}
 use Rattle.std.proofs.lemmas.Bool.{cases_lt, lt-ltb, ltb-true, eqb-true, ne_eqb}
-use Rattle.yds_model.specs.Job.{Job, IsJob, job_at, no_job}
+use Rattle.yds_model.specs.Job.{Job, IsJob, job_at}
 use Rattle.yds_model.specs.Event.{stretches}
 use Rattle.yds_model.specs.Piece.{Piece}
 use Rattle.yds_events.specs.declared.window.Window.{Window}
@@ -22,7 +22,6 @@ use Rattle.yds_search.specs.declared.found.TheConstants.{NO_GROUP}
 use Rattle.yds_search.specs.declared.own.OwnJob.{OwnJob}
 use Rattle.yds_search.specs.declared.own.OwnStretch.{OwnStretch}
 use Rattle.yds_search.specs.declared.stack.Stack.{Stack}
-use Rattle.yds_search.specs.Found.{IsShare}
 use Rattle.yds_events.specs.Order.{Precedes, IsOrder}
 use Rattle.yds_search.specs.Own.{Part, stretch_numbers}
 use Rattle.yds_search.specs.Instance.{IsInstance}
@@ -85,11 +84,7 @@ begun_stretches timeline ends =
 
 -- a number is its own place in a range
 range_place : (m k : ℕ) → k ≤ m → IsPlace (range_with_len 0 m) k k
-range_place m k within = record {
-  within = omega (arith, length-range_with_len 0 m);
-  before = λ i before. omega (arith, get_or-range_with_len 0 m i 0 (omega arith));
-  from = λ i after upto. omega (arith, get_or-range_with_len 0 m i 0 (omega (arith, upto, length-range_with_len 0 m)));
-}
+range_place m k within = grind (arith, get_or-range_with_len, length-range_with_len)
 
 -- a stretch's place among those that are reached is how many before it are
 begun_place : (timeline : List Piece) (ends : List ℕ) (k : ℕ) → k ≤ length timeline → IsPlace (stretch_numbers (first_stretches timeline ends)) k (reached_before ends k)
@@ -114,26 +109,11 @@ order_few jobs order ordered = length-le_from_distinct_below order (length jobs)
 
 -- what stays the same is known from the beginning
 pub instance_is : (jobs : List Job) (windows : List Window) → length jobs ≤ 4000 → All IsJob jobs → AreWindows jobs windows → IsInstance jobs windows
-instance_is jobs windows few are windows_are = record {
-  few = few;
-  few_stretches = omega (arith, few_stretches jobs, few);
-  windows_are = windows_are;
-  work_small = λ j known. (are j no_job known).work_in_range;
-  length_some = stretch_long jobs;
-  length_small = λ k within. omega (arith, stretch_in_range jobs k are within);
-}
+instance_is jobs windows few are windows_are = grind (arith, few_stretches, stretch_in_range, stretch_long)
 
 -- nothing is finished
 nothing_finished : (jobs : List Job) (windows : List Window) → IsFinished jobs windows (nothing_found jobs)
-nothing_finished jobs windows = record {
-  groups = λ i within. absurd (omega arith);
-  order = λ i within. absurd (omega arith);
-  not_after = λ j k runs within. absurd (omega (arith, within));
-  shares = All-nil (λ share. IsShare jobs (nothing_found jobs) share);
-  served = λ j known within. absurd (omega (arith, within));
-  full = λ k known within. absurd (omega (arith, within));
-  together = λ x y d before within. absurd (omega (arith, within));
-}
+nothing_finished jobs windows = grind (arith, All-nil)
 
 -- the first part: the jobs with work, and the stretches in which one of them may run
 abbrev pub begun_part : List Job → List Window → List ℕ → List ℕ → List ℕ → Part
@@ -174,10 +154,7 @@ module _ (jobs : List Job) (windows : List Window) (order ends ranks : List ℕ)
 
   -- where a job may run the stretch is marked
   runs_marked : (j k : ℕ) → MayTake jobs windows j k → HasStretch part k
-  runs_marked j k runs =
-      let known : k < length (stretches jobs) = omega (arith, runs.inside.upto, are.windows_are.inside j runs.known) in
-      has_stretch k known
-      (reaches ends k ((window_at windows j).first, runs.inside.from, omega (arith, runs.inside.upto, farthest.most j runs.known runs.some)))
+  runs_marked j k runs = grind (arith, has_stretch, reaches)
 
   -- the rank is the place among the marked stretches, also of the number after the last one
   place : (k : ℕ) → k ≤ length (stretches jobs) → IsPlace (stretch_numbers part.stretches) k (get_or ranks k 0)
@@ -260,21 +237,7 @@ module _ (jobs : List Job) (windows : List Window) (order ends ranks : List ℕ)
   begun_search : (parts : List Part) → ((j : ℕ) → j < length jobs → 1 ≤ (job_at jobs j).work → HasOne (λ part. HasJob part j) parts) →
       ((j k : ℕ) → MayTake jobs windows j k → HasOne (λ part. HasStretch part k) parts) → AreWaiting jobs windows (nothing_found jobs) parts → IsLed windows [] parts →
       length (jobs_of parts) ≤ length jobs → length (own_stretches_of parts) ≤ length (stretches jobs) → IsSearch jobs windows (nothing_found jobs) parts
-  begun_search parts there runs waiting led few few' = record {
-    all_jobs = length-replicate (length jobs) NO_GROUP;
-    all_stretches = length-replicate (length (stretches jobs)) NO_GROUP;
-    idle = λ j known none. get_or-replicate (length jobs) j NO_GROUP 0 known;
-    with_work = λ j known some. inr (there j known some);
-    job = λ j known. inr (get_or-replicate (length jobs) j NO_GROUP 0 known);
-    stretch = λ k known. inr (get_or-replicate (length (stretches jobs)) k NO_GROUP 0 known);
-    covered = λ j k run. inr (runs j k run);
-    waiting = waiting;
-    led = led;
-    finished = nothing_finished jobs windows;
-    few = omega (arith, few, few');
-    few_jobs = few;
-    few_groups = omega (arith, few');
-  }
+  begun_search parts there runs waiting led few few' = grind (arith, few_jobs, get_or-replicate, length-replicate, nothing_finished)
 
   -- one part waits, where some job has work
   pub one_begun : (stack : Stack) → 1 ≤ length part.jobs → stack.jobs.items ≡ part.jobs → stack.stretches.items ≡ part.stretches → stack.sizes.items ≡ size_of part ∷ [] → IsBegun jobs stack

@@ -1,5 +1,5 @@
 -- The fastest part, which is taken off the stack, and the search after it is finished or split.
-use Rattle.std.proofs.Common.{Vec, Global, ◌≡◌, ℕ, Bool, true, false, ◌*◌, ◌^◌, ◌<◌, ◌≤◌, List, [], ◌∷◌, ◌++◌, ◌∙◌, length, map, get_or, sym, ap, subst, arith}
+use Rattle.std.proofs.Common.{◌≡◌, ℕ, Bool, true, false, ◌*◌, ◌^◌, ◌<◌, ◌≤◌, List, [], ◌∷◌, ◌++◌, ◌∙◌, length, map, sym, ap, subst, arith}
 use Rattle.std.specs.List.{All, sum_by}
 use Rattle.std.proofs.lemmas.List.{length-map, length-append, map_push}
 use Rattle.yds_model.specs.Job.{Job}
@@ -19,7 +19,7 @@ use Rattle.yds_search.specs.Fill.{IsPart}
 use Rattle.yds_search.specs.Closure.{AreMarksOf, AreClosing, AreRanks}
 use Rattle.yds_search.specs.Cells.{rooms_of, shared_of, lates_of, IsFilled}
 use Rattle.yds_search.specs.Own.{Part, HaveWindows, window_of, own_windows, wants_at, rooms_at, shares_by_number, full_shares, job_numbers, stretch_numbers}
-use Rattle.yds_search.specs.Stack.{AreLaid, AreLast, jobs_of, own_stretches_of, staying_part, moving_part}
+use Rattle.yds_search.specs.Stack.{AreLaid, AreLast, staying_part, moving_part}
 use Rattle.yds_search.specs.Waiting.{IsWaiting}
 use Rattle.yds_search.specs.Search.{IsSearch, IsLaidOut}
 use Rattle.yds_search.specs.Searching.{IsChosen, IsSearching}
@@ -30,9 +30,7 @@ use Rattle.yds_search.proofs.Laid.{last_part}
 
 -- a part by what it has
 pub same_part : (part : Part) (jobs : List OwnJob) (stretches : List OwnStretch) → jobs ≡ part.jobs → stretches ≡ part.stretches → part ≡ record { jobs = jobs; stretches = stretches }
-same_part part jobs stretches same same' =
-    ap (λ (xs : List OwnJob). let one : Part = record { jobs = xs; stretches = part.stretches } in one) (sym same)
-    ∙ ap (λ (xs : List OwnStretch). let one : Part = record { jobs = jobs; stretches = xs } in one) (sym same')
+same_part part jobs stretches same same' = grind (arith)
 
 -- the chosen part by what the stack answers of it
 abbrev pub chosen_as : (jobs : List Job) (size : Size) (search : Search) → IsChosen jobs size search → (own : Own) →
@@ -55,10 +53,7 @@ module _ (jobs : List Job) (size : Size) (search : Search) (x : IsChosen jobs si
 
   -- it has no more jobs and stretches than there are
   pub chosen_few : (length x.part.jobs ≤ 4000) × (length x.part.stretches ≤ 8000)
-  chosen_few = (
-    omega (arith, x.groups.few_jobs, length-append (jobs_of x.parts) x.part.jobs, x.instance.few),
-    omega (arith, x.groups.few_groups, length-append (own_stretches_of x.parts) x.part.stretches, x.instance.few_stretches),
-  )
+  chosen_few = grind (arith, length-append)
 
   -- and its jobs have places for their windows
   pub chosen_windows : HaveWindows (length x.part.stretches) x.part.jobs
@@ -70,10 +65,7 @@ module _ (jobs : List Job) (size : Size) (search : Search) (x : IsChosen jobs si
 
   -- its numbers are known to what is found
   pub chosen_known : All (λ own. own.job < length search.found.group_of_job.items) x.part.jobs × All (λ own. own.stretch < length search.found.group_of_stretch.items) x.part.stretches
-  chosen_known = (
-    (λ i d within. omega (arith, (chosen_waits.own_jobs i d within).known, x.groups.all_jobs)),
-    (λ i d within. omega (arith, (chosen_waits.own_stretches i d within).known, x.groups.all_stretches)),
-  )
+  chosen_known = grind (arith, chosen_waits)
 
   module _ (group : groups.Group) (work : group.work ≡ sum_by (λ own. own.work) x.part.jobs) (length_is : group.length ≡ sum_by (λ own. own.length) x.part.stretches) where
     pub chosen_some : (1 ≤ group.work) × (1 ≤ group.length)
@@ -164,18 +156,4 @@ module _ (jobs : List Job) (size : Size) (search : Search) (x : IsChosen jobs si
 -- the part on top of the stack is the fastest, when its size is taken off
 pub choose : (jobs : List Job) (size : Size) (search new : Search) → IsSearching jobs search → search.stack.sizes.items ≡ new.stack.sizes.items ++ size ∷ [] →
     new.stack.jobs ≡ search.stack.jobs → new.stack.stretches ≡ search.stack.stretches → new.found ≡ search.found → IsChosen jobs size new
-choose jobs size search new x sizes same same' found =
-    let cut = last_part x.parts new.stack.sizes.items size (sym x.laid.sizes ∙ sizes) in
-    record {
-      windows = x.windows;
-      parts = cut.0;
-      part = cut.1;
-      instance = x.instance;
-      groups = rw found (subst (IsSearch jobs x.windows (found_view search.found)) cut.2 x.groups);
-      last = record {
-        sizes = cut.3;
-        size_is = cut.4;
-        jobs = ap (λ (one : Vec OwnJob Global). one.items) same ∙ x.laid.jobs ∙ ap jobs_of cut.2;
-        stretches = ap (λ (one : Vec OwnStretch Global). one.items) same' ∙ x.laid.stretches ∙ ap own_stretches_of cut.2;
-      };
-    }
+choose jobs size search new x sizes same same' found = grind (arith, last_part)

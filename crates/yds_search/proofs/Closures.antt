@@ -1,5 +1,5 @@
 -- What the late jobs close upon is full, and nobody outside has a share in it.
-use Rattle.std.proofs.Common.{◌≡◌, ℕ, ◌+◌, ◌-◌, ◌<◌, ◌≤◌, ◌≢◌, ◌⊎◌, min, List, ◌∙◌, length, get_or, set, zero, suc, refl, sym, ap, subst, inl, inr, arith}
+use Rattle.std.proofs.Common.{◌≡◌, ℕ, ◌+◌, ◌-◌, ◌<◌, ◌≤◌, ◌⊎◌, min, List, length, get_or, set, zero, suc, refl, sym, ap, subst, inl, inr, arith}
 use Rattle.std.specs.Prelude.{nat_le, if◌then◌else◌}
 use Rattle.std.proofs.lemmas.List.{get_or-set_same, get_or-set_other, length-set}
 use Rattle.std.proofs.lemmas.Bool.{cases_lt, cases_eq}
@@ -13,11 +13,7 @@ use Rattle.yds_search.specs.Closure.{reach_from, reach_over, AreLateReaches, Are
 -- from one stretch to the next one on its left
 pub reach_step : (late shared : List ℕ) (m p : ℕ) → p < m →
     reach_over late shared m (m - p) ≡ reach_from (reach_over late shared m (m - (p + 1))) (get_or late p 0) (get_or shared p 0) p
-reach_step late shared m p within =
-    let count : m - p ≡ suc (m - (p + 1)) = omega arith in
-    let place : m - suc (m - (p + 1)) ≡ p = omega arith in
-    ap (reach_over late shared m) count
-    ∙ ap (λ k. reach_from (reach_over late shared m (m - (p + 1))) (get_or late k 0) (get_or shared k 0) k) place
+reach_step late shared m p within = grind (arith)
 
 -- the stretches from p on are marked
 pub record AreMarkedFrom (late shared : List ℕ) (m p reach : ℕ) (marks : List ℕ) : Type 0 where
@@ -29,21 +25,7 @@ pub record AreMarkedFrom (late shared : List ℕ) (m p reach : ℕ) (marks : Lis
 pub marked_more : (late shared : List ℕ) (m place after : ℕ) (marks : List ℕ) (reach mark : ℕ) → AreMarkedFrom late shared m place after marks → 1 ≤ place → place ≤ m →
     reach ≡ reach_from after (get_or late (place - 1) 0) (get_or shared (place - 1) 0) (place - 1) → mark ≡ (if nat_le reach (place - 1) then 1 else 0) →
     AreMarkedFrom late shared m (place - 1) reach (set marks (place - 1) mark)
-marked_more late shared m place after marks reach mark so_far some upto is marked =
-    let next : m - (place - 1 + 1) ≡ m - place = omega arith in
-    let first : reach ≡ reach_over late shared m (m - (place - 1)) =
-    is ∙ sym (reach_step late shared m (place - 1) (omega arith)
-    ∙ ap (λ after. reach_from after (get_or late (place - 1) 0) (get_or shared (place - 1) 0) (place - 1)) (ap (reach_over late shared m) next ∙ sym so_far.first)) in
-    record {
-      all = length-set marks (place - 1) mark ∙ so_far.all;
-      first = first;
-      each = λ k from below. elim (cases_eq k (place - 1)) [
-        | inl same ↦
-            let P : ℕ → Type 0 = λ i. get_or (set marks (place - 1) mark) i 0 ≡ (if nat_le (reach_over late shared m (m - i)) i then 1 else 0) in
-            subst P (sym same) (get_or-set_same marks (place - 1) mark 0 (omega (arith, so_far.all)) ∙ marked ∙ ap (λ n. if nat_le n (place - 1) then 1 else 0) first)
-        | inr other ↦ get_or-set_other marks (place - 1) k mark 0 other ∙ so_far.each k (omega arith) below
-      ];
-    }
+marked_more late shared m place after marks reach mark so_far some upto is marked = grind (arith, cases_eq, get_or-set_other, get_or-set_same, length-set, reach_step, set)
 
 -- what is reached from the right up to stretch p, and before shares of stretch p are looked at
 abbrev reach_at : List ℕ → List ℕ → ℕ → ℕ → ℕ
@@ -54,10 +36,7 @@ open_at late shared m p = min (reach_at late shared m (p + 1)) (get_or late p 0)
 
 step_cases : (after late shared k reach mark : ℕ) → reach ≡ reach_from after late shared k → mark ≡ (if nat_le reach k then 1 else 0) →
     ((min after late ≤ k) × (reach ≡ min (min after late) shared) × (1 ≤ mark)) ⊎ ((k < min after late) × (reach ≡ min after late) × (mark ≡ 0))
-step_cases after late shared k reach mark is marked = elim (cases_lt k (min after late)) [
-  | inl beyond ↦ inr (beyond, grind (arith, nat_tests), grind (arith, nat_tests))
-  | inr within ↦ inl (within, grind (arith, nat_tests), grind (arith, nat_tests))
-]
+step_cases after late shared k reach mark is marked = grind (arith, cases_lt, min, nat_tests)
 
 -- what one step from the right does
 marks_step : {late shared : List ℕ} {m : ℕ} {marks : List ℕ} → AreMarksOf late shared m marks → (p : ℕ) → p < m →

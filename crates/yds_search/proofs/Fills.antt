@@ -1,5 +1,5 @@
 -- The fill by place, share by share and job by job; full stretches are jumped over.
-use Rattle.std.proofs.Common.{◌≡◌, ℕ, ◌<◌, ◌≤◌, ◌+◌, ◌-◌, ◌≢◌, ◌==◌, ◌⊎◌, min, List, [], ◌∷◌, ◌++◌, ◌∙◌, length, get_or, set, take, refl, sym, ap, subst, inl, inr, arith}
+use Rattle.std.proofs.Common.{◌≡◌, ℕ, ◌<◌, ◌≤◌, ◌+◌, ◌-◌, ◌≢◌, ◌==◌, ◌⊎◌, min, List, [], ◌∷◌, ◌++◌, ◌∙◌, length, get_or, set, take, sym, ap, subst, inl, inr, arith}
 use Rattle.std.specs.Prelude.{cond, if◌then◌else◌, nat_lt}
 use Rattle.std.specs.List.{All}
 use Rattle.std.proofs.lemmas.List.{get_or-set_same, get_or-set_other, length-set, length_push, take_all}
@@ -53,18 +53,7 @@ taken_more windows m shares rooms share rest taken part room all ahead swept = r
 pub serve_begins : (windows : List Window) (job want : ℕ) (shares : List JobShare) (rooms : List ℕ) (place : ℕ) → AreTaken IsNotAfter windows (length rooms) shares rooms →
     All (λ share. share.job < job) shares → ((k : ℕ) → (window_at windows job).first ≤ k → k < place → get_or rooms k 0 ≡ 0) →
     IsServed windows job want shares rooms place want shares rooms
-serve_begins windows job want shares rooms place taken later full = record {
-  taken = taken;
-  all = λ i d within. omega (arith, later i d within);
-  ahead = λ i d within same. omega (arith, later i d within, same);
-  wanted = refl;
-  others = λ i other. refl;
-  same_length = refl;
-  room = λ k. refl;
-  swept = λ some. full;
-  kept = λ k i full. full;
-  few = omega arith;
-}
+serve_begins windows job want shares rooms place taken later full = grind (arith)
 
 -- the job goes on at another stretch, behind all its shares, where what lies between is full, or the job is done
 serve_moves : {windows : List Window} {job want : ℕ} {shares : List JobShare} {rooms : List ℕ} {next next' left : ℕ} {shares' : List JobShare} {rooms' : List ℕ} →
@@ -104,12 +93,7 @@ same_units job units = grind (arith, nat_tests)
 -- the room that was left, at the stretch of a share and at any other
 room_left : (rooms : List ℕ) (place k units : ℕ) → place < length rooms → units ≤ get_or rooms place 0 →
     (if place == k then units else 0) + get_or (set rooms place (get_or rooms place 0 - units)) k 0 ≡ get_or rooms k 0
-room_left rooms place k units within room = elim (cases_eq k place) [
-  | inl same ↦
-      let P : ℕ → Type 0 = λ i. (if place == i then units else 0) + get_or (set rooms place (get_or rooms place 0 - units)) i 0 ≡ get_or rooms i 0 in
-      subst P (sym same) (omega (arith, same_units place units, get_or-set_same rooms place (get_or rooms place 0 - units) 0 within, room))
-  | inr other ↦ omega (arith, own_units place k units other, get_or-set_other rooms place k (get_or rooms place 0 - units) 0 other)
-]
+room_left rooms place k units within room = grind (arith, cases_eq, get_or-set_other, get_or-set_same, own_units, same_units, set)
 
 all_taken : (left room units : ℕ) → units ≡ min left room → 1 ≤ left - units → room - units ≡ 0
 all_taken left room units is more = grind arith
@@ -221,12 +205,7 @@ fill_ends {windows} {wants} {rooms} {i} {shares} {wants'} {rooms'} windows_end e
 
 -- each number at its own place, one may go on from each stretch itself
 pub next_begins : (rooms numbers : List ℕ) (last : ℕ) → length rooms ≡ last → IsNumbers last numbers → IsNext rooms numbers
-next_begins rooms numbers last count are = record {
-  count = omega (arith, count, are.count);
-  forward = λ k within. omega (arith, are.each k (omega (arith, within, are.count)));
-  inside = λ k within. omega (arith, within, are.each k (omega (arith, within, are.count)));
-  full = λ k i within from upto. absurd (omega (arith, from, upto, are.each k (omega (arith, within, are.count))));
-}
+next_begins rooms numbers last count are = grind (arith)
 
 -- from a full stretch one may go on to where one may go on from the next one
 pub next_jumps : {rooms next : List ℕ} (place after : ℕ) → IsNext rooms next → place < length rooms → get_or rooms place 0 ≡ 0 → IsNextFrom rooms (place + 1) after (length next) →
@@ -258,23 +237,9 @@ next_jumps {rooms} {next} place after are within none from_next =
 -- rooms become no greater, so one may go on as before
 pub take_next : (rooms next : List ℕ) (job place left : ℕ) (shares : List JobShare) (left' : ℕ) (shares' : List JobShare) (rooms' : List ℕ) →
     IsNext rooms next → Takes job place left shares rooms left' shares' rooms' → IsNext rooms' next
-take_next rooms next job place left shares left' shares' rooms' are take = elim take [
-  | inl passed ↦ rw passed.3 are
-  | inr took ↦ rw took.6 (record {
-    count = omega (arith, are.count, length-set rooms place (get_or rooms place 0 - took.0));
-    forward = are.forward;
-    inside = are.inside;
-    full = λ k i in_range from upto.
-        let none = are.full k i in_range from upto in
-        get_or-set_other rooms place i (get_or rooms place 0 - took.0) 0 (λ same. omega (arith, ap (λ j. get_or rooms j 0) same, none, took.2)) ∙ none;
-  })
-]
+take_next rooms next job place left shares left' shares' rooms' are take = grind (arith, get_or-set_other, length-set)
 
 -- a stretch is full once a job has passed over it and still wants units
 pub take_fills : (job place left : ℕ) (shares : List JobShare) (rooms : List ℕ) (left' : ℕ) (shares' : List JobShare) (rooms' : List ℕ) →
     place < length rooms → Takes job place left shares rooms left' shares' rooms' → 1 ≤ left' → get_or rooms' place 0 ≡ 0
-take_fills job place left shares rooms left' shares' rooms' within take more = elim take [
-  | inl passed ↦ ap (λ (xs : List ℕ). get_or xs place 0) passed.3 ∙ passed.0 (omega (arith, passed.1))
-  | inr took ↦ ap (λ (xs : List ℕ). get_or xs place 0) took.6 ∙ get_or-set_same rooms place (get_or rooms place 0 - took.0) 0 within
-      ∙ all_taken left (get_or rooms place 0) took.0 took.3 (omega (arith, took.4))
-]
+take_fills job place left shares rooms left' shares' rooms' within take more = grind (arith, all_taken, get_or-set_same)

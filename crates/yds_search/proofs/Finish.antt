@@ -67,10 +67,7 @@ number_cases number xs group old new written free k = elim (one_or_none number x
 -- a finished group's members count as before
 same_chosen : {None One : Type 0} (old new group i value : ℕ) → (One × (old ≡ NO_GROUP) × (new ≡ group)) ⊎ (None × (new ≡ old)) → i < group → group < NO_GROUP →
     (if old == i then value else 0) ≡ (if new == i then value else 0)
-same_chosen old new group i value cases finished few = elim cases [
-  | inl mine ↦ part_other old i value (λ is. omega (arith, mine.1, is, finished, few)) ∙ sym (part_other new i value (λ is. omega (arith, mine.2, is, finished)))
-  | inr other ↦ ap (λ n. if n == i then value else 0) (sym other.1)
-]
+same_chosen old new group i value cases finished few = grind (arith, part_other)
 
 -- all that is known when a part is finished
 module _ (jobs : List Job) (windows : List Window) (found : Found) (part : Part) (parts : List Part) (are : IsInstance jobs windows) (search : IsSearch jobs windows found (part ∷ parts))
@@ -144,12 +141,7 @@ module _ (jobs : List Job) (windows : List Window) (found : Found) (part : Part)
   -- a fact of each group, from that of each one before and that of the new one
   each_group : (P : ℕ → Group → Type 0) → ((i : ℕ) → i < length found.groups → P i (group_at found.groups i)) →
       P (length found.groups) group → (i : ℕ) → i < length (found.groups ++ group ∷ []) → P i (group_at (found.groups ++ group ∷ []) i)
-  each_group P before here i within = elim (cases_lt i (length found.groups)) [
-    | inl old ↦ subst (P i) (sym (group_before i old)) (before i old)
-    | inr new ↦
-        let is : i ≡ length found.groups = omega (arith, within, new, count) in
-        subst (P i) (sym (group_here i is)) (subst (λ (n : ℕ). P n group) (sym is) here)
-  ]
+  each_group P before here i within = grind (arith, cases_lt, count, group_before, group_here)
 
   -- each group has work and length, those of its members
   all_groups : (i : ℕ) → i < length (found.groups ++ group ∷ []) → IsGroup jobs ended i (group_at (found.groups ++ group ∷ []) i)

@@ -1,5 +1,5 @@
 -- Sums over lists that are merged, over the numbers below n, and a sum that is split by a key.
-use Rattle.std.proofs.Common.{◌≡◌, ℕ, zero, suc, ◌+◌, ◌<◌, ◌≤◌, ◌==◌, List, [], ◌∷◌, ◌++◌, ◌∙◌, length, map, get_or, take, sym, refl, ap, arith, inl, inr, Bool, true, false, add-one}
+use Rattle.std.proofs.Common.{◌≡◌, ℕ, zero, suc, ◌+◌, ◌<◌, ◌≤◌, ◌==◌, List, [], ◌∷◌, ◌++◌, ◌∙◌, length, get_or, take, sym, refl, ap, arith, inl, inr, Bool, true, false, add-one}
 use Rattle.std.specs.Prelude.{cond, nat_lt}
 use Rattle.std.specs.List.{All, sum_by, filter, flat_map, range_with_len}
 use Rattle.std.proofs.lemmas.Bool.{cases_eq, cases_lt, ne_eqb, eq-eqb, lt-ltb, le-ltb}
@@ -23,14 +23,10 @@ sums_swap f (x ∷ xs) ys =
 
 -- facts about each number of a range
 pub All-range : (P : ℕ → Type 0) (a n : ℕ) → ((i : ℕ) → i < n → P (a + i)) → All P (range_with_len a n)
-All-range P a n each k d within =
-    let below : k < n = omega (arith, length-range_with_len a n) in
-    rw (get_or-range_with_len a n k d below) (each k below)
+All-range P a n each k d within = grind (arith, get_or-range_with_len, length-range_with_len)
 
 pub in_range : (n k d : ℕ) → k < length (range_with_len 0 n) → (k < n) × (get_or (range_with_len 0 n) k d ≡ k)
-in_range n k d within =
-    let below : k < n = omega (arith, length-range_with_len 0 n) in
-    (below, get_or-range_with_len 0 n k d below ∙ omega arith)
+in_range n k d within = grind (arith, get_or-range_with_len, length-range_with_len)
 
 pub not_here : (key k v : ℕ) → (key ≡ k → ⊥) → cond (key == k) v 0 ≡ 0
 not_here key k v other = ap (λ b. cond b v 0) (ne_eqb key k other)
@@ -74,9 +70,7 @@ split_sum key f n xs =
 -- where each key is below n, they are the whole sum
 pub split_all : {X : Type 0} (key : X → ℕ) (f : X → ℕ) (n : ℕ) (xs : List X) → All (λ x. key x < n) xs →
     sum_by (λ k. sum_by f (filter (λ x. key x == k) xs)) (range_with_len 0 n) ≡ sum_by f xs
-split_all key f n xs below =
-    split_sum key f n xs ∙ sum_by_same (λ x. cond (nat_lt (key x) n) (f x) 0) f xs
-    (λ i d within. ap (λ b. cond b (f (get_or xs i d)) 0) (lt-ltb (key (get_or xs i d)) n (below i d within)))
+split_all key f n xs below = grind (arith, lt-ltb, split_sum, sum_by_same)
 
 pub cond_at_most : (b : Bool) (v : ℕ) → cond b v 0 ≤ v
 cond_at_most true v = omega arith

@@ -1,10 +1,9 @@
 -- How the parts are laid on the stack, and how near the search's end is.
-use Rattle.std.proofs.Common.{◌≡◌, ℕ, ◌+◌, ◌-◌, ◌*◌, ◌<◌, ◌≤◌, List, [], ◌∷◌, ◌++◌, ◌∙◌, length, refl, sym, ap, arith}
+use Rattle.std.proofs.Common.{◌≡◌, ℕ, ◌+◌, ◌-◌, ◌*◌, ◌<◌, ◌≤◌, List, [], ◌∷◌, ◌++◌, length, refl, sym, ap, arith}
 use Rattle.std.specs.List.{All}
 use Rattle.std.proofs.lemmas.List.{length_push, length-append, same_from_push}
 use Rattle.yds_model.specs.Job.{Job}
 use Rattle.yds_events.specs.declared.window.Window.{Window}
-use Rattle.yds_search.specs.declared.own.OwnStretch.{OwnStretch}
 use Rattle.yds_search.specs.declared.stack.Size.{Size}
 use Rattle.yds_search.specs.declared.stack.Stack.{Stack}
 use Rattle.yds_search.specs.Found.{Found}
@@ -23,14 +22,7 @@ pub sizes_split : (parts : List Part) (part : Part) (marks ranks : List ℕ) (si
     length marks ≡ length part.stretches → size ≡ size_of part → sizes ≡ sizes_of parts → m ≡ length (staying_jobs ranks part.jobs) → n ≡ length (marked_with 0 marks part.stretches) →
     sizes' ≡ sizes ++ record { jobs = m; stretches = n } ∷ [] → sizes'' ≡ sizes' ++ record { jobs = size.jobs - m; stretches = size.stretches - n } ∷ [] →
     sizes'' ≡ sizes_of (moving_part marks ranks part ∷ staying_part marks ranks part ∷ parts)
-sizes_split parts part marks ranks size m n sizes sizes' sizes'' small all is are jobs stretches more more' =
-    let staying = size_is m n (staying_part marks ranks part) jobs stretches in
-    let moving = size_is (size.jobs - m) (size.stretches - n) (moving_part marks ranks part)
-    (omega (arith, jobs, ap (λ (one : Size). one.jobs) is, jobs_parted ranks part.jobs))
-    (omega (arith, stretches, ap (λ (one : Size). one.stretches) is, stretches_parted marks part.stretches small all)) in
-    more' ∙ ap (λ (xs : List Size). xs ++ record { jobs = size.jobs - m; stretches = size.stretches - n } ∷ [])
-    (more ∙ ap (λ (xs : List Size). xs ++ record { jobs = m; stretches = n } ∷ []) are ∙ ap (λ (one : Size). sizes_of parts ++ one ∷ []) staying)
-    ∙ ap (λ (one : Size). (sizes_of parts ++ size_of (staying_part marks ranks part) ∷ []) ++ one ∷ []) moving
+sizes_split parts part marks ranks size m n sizes sizes' sizes'' small all is are jobs stretches more more' = grind (arith, jobs_parted, size_is, stretches_parted)
 
 -- the part on top, by its size
 pub last_part : (parts : List Part) (sizes : List Size) (size : Size) → sizes_of parts ≡ sizes ++ size ∷ [] →
@@ -57,29 +49,10 @@ parts_few jobs windows found (part ∷ parts) waiting = omega (
 -- there are fewer stretches after a group is finished
 pub finish_nearer : (parts : List Part) (part : Part) (size : Size) (old new : Stack) → AreLast parts part size old → AreLaid parts new → 1 ≤ length part.stretches →
     2 * length new.stretches.items + length old.sizes.items + 1 < 2 * length old.stretches.items + length new.sizes.items
-finish_nearer parts part size old new last laid some = omega (
-  arith,
-  ap (λ (xs : List OwnStretch). length xs) last.stretches,
-  length-append (own_stretches_of parts) part.stretches,
-  ap (λ (xs : List OwnStretch). length xs) laid.stretches,
-  ap (λ (xs : List Size). length xs) last.sizes,
-  ap (λ (xs : List Size). length xs) laid.sizes,
-)
+finish_nearer parts part size old new last laid some = grind (arith, length-append)
 
 -- and more groups after one is split
 pub split_nearer : (parts : List Part) (part : Part) (size : Size) (old new : Stack) (marks ranks : List ℕ) → AreLast parts part size old →
     AreLaid (moving_part marks ranks part ∷ staying_part marks ranks part ∷ parts) new → All (λ mark. mark ≤ 1) marks → length marks ≡ length part.stretches →
     2 * length new.stretches.items + length old.sizes.items + 1 < 2 * length old.stretches.items + length new.sizes.items
-split_nearer parts part size old new marks ranks last laid small all = omega (
-  arith,
-  ap (λ (xs : List OwnStretch). length xs) last.stretches,
-  length-append (own_stretches_of parts) part.stretches,
-  ap (λ (xs : List OwnStretch). length xs) laid.stretches,
-  length-append (own_stretches_of parts ++ marked_with 0 marks part.stretches) (marked_with 1 marks part.stretches),
-  length-append (own_stretches_of parts) (marked_with 0 marks part.stretches),
-  stretches_parted marks part.stretches small all,
-  ap (λ (xs : List Size). length xs) last.sizes,
-  ap (λ (xs : List Size). length xs) laid.sizes,
-  length_push (sizes_of (staying_part marks ranks part ∷ parts)) (size_of (moving_part marks ranks part)),
-  length_push (sizes_of parts) (size_of (staying_part marks ranks part)),
-)
+split_nearer parts part size old new marks ranks last laid small all = grind (arith, length-append, length_push, stretches_parted)

@@ -1,5 +1,5 @@
 -- A part's stretches by their marks, and its jobs by what they meet: who is in either part, the sums, and the places.
-use Rattle.std.proofs.Common.{◌≡◌, ℕ, zero, suc, ◌+◌, ◌-◌, ◌<◌, ◌≤◌, ◌==◌, Bool, true, false, not, cond, List, [], ◌∷◌, ◌++◌, ◌∙◌, length, map, take, drop, sum, get_or, refl, sym, ap, subst, inl, inr, arith}
+use Rattle.std.proofs.Common.{◌≡◌, ℕ, zero, suc, ◌+◌, ◌-◌, ◌<◌, ◌≤◌, ◌==◌, Bool, true, false, cond, List, [], ◌∷◌, ◌++◌, ◌∙◌, length, map, take, drop, sum, get_or, refl, sym, ap, subst, inl, inr, arith}
 use Rattle.std.specs.List.{All, AllPairs, filter, sum_by}
 use Rattle.std.proofs.lemmas.Bool.{cases_lt, cond_both, eqb-true, eq-eqb}
 use Rattle.std.proofs.lemmas.List.{length-take, length-take-le, length-drop, length-append, length-map, get_or-take, get_or-drop, get_or-map, get_or_append_left, get_or-append_right}
@@ -13,7 +13,7 @@ use Rattle.yds_search.specs.declared.own.OwnJob.{OwnJob}
 use Rattle.yds_search.specs.declared.own.OwnStretch.{OwnStretch}
 use Rattle.yds_search.specs.Own.{stretch_numbers}
 use Rattle.yds_search.specs.Closure.{AreRanks}
-use Rattle.yds_search.specs.Stack.{moves, moving_jobs, staying_jobs, marked_with}
+use Rattle.yds_search.specs.Stack.{moving_jobs, staying_jobs, marked_with}
 use Rattle.yds_search.specs.Waiting.{HasOne}
 use Rattle.yds_search.proofs.KeySums.{count_all}
 use Rattle.yds_search.proofs.Members.{one_at, at_one, one_map, one_filter}
@@ -211,18 +211,8 @@ those_from q place jobs j one =
 -- each job stays or moves
 pub sum_jobs : (f : ℕ → ℕ) (ranks : List ℕ) (jobs : List OwnJob) →
     sum_by (λ own. f own.job) (staying_jobs ranks jobs) + sum_by (λ own. f own.job) (moving_jobs ranks jobs) ≡ sum_by (λ own. f own.job) jobs
-sum_jobs f ranks jobs = omega (
-  arith,
-  sum_by-map (placed (λ n. n - get_or ranks n 0)) (λ own. f own.job) (filter (λ own. not (moves ranks own)) jobs),
-  sum_by-map (placed (λ n. get_or ranks n 0)) (λ own. f own.job) (filter (moves ranks) jobs),
-  sum_by-filter_both (moves ranks) (λ own. not (moves ranks own)) (λ own. refl) (λ own. f own.job) jobs,
-)
+sum_jobs f ranks jobs = grind (arith, sum_by-filter_both, sum_by-map)
 
 -- as many as stay and move are all
 pub jobs_parted : (ranks : List ℕ) (jobs : List OwnJob) → length (staying_jobs ranks jobs) + length (moving_jobs ranks jobs) ≡ length jobs
-jobs_parted ranks jobs = omega (
-  arith,
-  length-map (filter (λ own. not (moves ranks own)) jobs) (placed (λ n. n - get_or ranks n 0)),
-  length-map (filter (moves ranks) jobs) (placed (λ n. get_or ranks n 0)),
-  length-filter_both (moves ranks) (λ own. not (moves ranks own)) (λ own. refl) jobs,
-)
+jobs_parted ranks jobs = grind (arith, length-filter_both, length-map)

@@ -91,13 +91,7 @@ apart_rest number x xs apart a b d before within = apart (suc a) (suc b) d (omeg
 
 -- so two with the same number are at one place
 pub same_place : {X : Type 0} (number : X → ℕ) (xs : List X) (a b : ℕ) (d : X) → AreApart number xs → a < length xs → b < length xs → number (get_or xs a d) ≡ number (get_or xs b d) → a ≡ b
-same_place number xs a b d apart within within' same = elim (cases_lt a b) [
-  | inl before ↦ absurd (apart a b d before within' same)
-  | inr after ↦ elim (cases_lt b a) [
-    | inl before ↦ absurd (apart b a d before within (sym same))
-    | inr least ↦ omega (arith, after, least)
-  ]
-]
+same_place number xs a b d apart within within' same = grind (arith, cases_lt)
 
 -- nothing counts where none has the number
 pub never : {X : Type 0} (number : X → ℕ) (xs : List X) (k value : ℕ) → (HasOne (λ x. number x ≡ k) xs → ⊥) → sum_by (λ x. if k == number x then value else 0) xs ≡ 0

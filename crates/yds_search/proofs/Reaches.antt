@@ -91,20 +91,7 @@ share_reached windows shares m reaches share so_far known small =
 -- what a job takes, by the room of the stretches
 pub take_rooms : (job first stretch left : ℕ) (shares : List JobShare) (cells : List Cell) (left' : ℕ) (shares' : List JobShare) (cells' : List Cell) →
     stretch < length cells → IsTake job first stretch left shares cells left' shares' cells' → Takes job stretch left shares (rooms_of cells) left' shares' (rooms_of cells')
-take_rooms job first stretch left shares cells left' shares' cells' within take =
-    let room : get_or (rooms_of cells) stretch 0 ≡ (cell_at cells stretch).room = get_or-map (λ cell. cell.room) cells stretch no_cell 0 within in
-    elim take [
-      | inl passed ↦ inl ((λ some. room ∙ passed.0 some), passed.1, passed.2, ap rooms_of passed.3)
-      | inr took ↦ inr (
-        took.0,
-        took.1,
-        omega (arith, room, took.2),
-        omega (arith, room, took.3),
-        took.4,
-        took.5,
-        ap rooms_of took.6 ∙ map-set (λ cell. cell.room) cells stretch (taken_cell (cell_at cells stretch) first took.0) ∙ ap (λ n. set (rooms_of cells) stretch (n - took.0)) (sym room),
-      )
-    ]
+take_rooms job first stretch left shares cells left' shares' cells' within take = grind (arith, get_or-map, map-set, set)
 
 -- who takes has a share, and reaches as far as its window
 pub take_reaches : (windows : List Window) (job first stretch left : ℕ) (shares : List JobShare) (cells : List Cell) (left' : ℕ) (shares' : List JobShare) (cells' : List Cell) →
@@ -124,10 +111,7 @@ take_reaches windows job first stretch left shares cells left' shares' cells' wi
 -- and is not late yet
 pub take_lates : (job first stretch left : ℕ) (shares : List JobShare) (cells : List Cell) (left' : ℕ) (shares' : List JobShare) (cells' : List Cell) →
     IsTake job first stretch left shares cells left' shares' cells' → lates_of cells' ≡ lates_of cells
-take_lates job first stretch left shares cells left' shares' cells' take = elim take [
-  | inl passed ↦ ap lates_of passed.3
-  | inr took ↦ ap lates_of took.6 ∙ map-set_same (λ cell. cell.late) cells stretch (taken_cell (cell_at cells stretch) first took.0) no_cell refl
-]
+take_lates job first stretch left shares cells left' shares' cells' take = grind (arith, map-set_same)
 
 -- so it goes on being served
 pub serving_takes : (windows : List Window) (job want : ℕ) (late : Bool) (kept shares : List JobShare) (cells : List Cell) (place left : ℕ) (kept' : List JobShare) (cells' : List Cell)

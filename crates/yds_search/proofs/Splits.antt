@@ -121,24 +121,15 @@ module _ (jobs : List Job) (windows : List Window) (found : Found) (part : Part)
 
   -- all stretches of who moves are marked
   moved_marks : (i p : ℕ) → i < length part.jobs → moves ranks (job_in i) ≡ true → IsIn (own_windows part.jobs) i p → get_or marks p 0 ≡ 1
-  moved_marks i p inside moving is_in = elim (move_cases i inside) [
-    | inl only ↦ only.1 p is_in
-    | inr free ↦ absurd (true≢false (sym moving ∙ free.0))
-  ]
+  moved_marks i p inside moving is_in = grind (arith, move_cases, true≢false)
 
   -- who stays has one without a mark
   stayed_bare : (i : ℕ) → i < length part.jobs → not (moves ranks (job_in i)) ≡ true → (p : ℕ) × (p < length part.stretches) × IsIn (own_windows part.jobs) i p × (get_or marks p 0 ≡ 0)
-  stayed_bare i inside staying = elim (move_cases i inside) [
-    | inl only ↦ absurd (true≢false (sym staying ∙ ap not only.0))
-    | inr free ↦ free.1
-  ]
+  stayed_bare i inside staying = grind (arith, move_cases, true≢false)
 
   -- who has only marked stretches moves
   confined : (i : ℕ) → i < length part.jobs → ((p : ℕ) → p < length part.stretches → IsIn (own_windows part.jobs) i p → IsMarked marks p) → moves ranks (job_in i) ≡ true
-  confined i inside marked = elim (move_cases i inside) [
-    | inl only ↦ only.0
-    | inr free ↦ let bare = free.1 in absurd (omega (arith, marked bare.0 bare.1 bare.2, bare.3))
-  ]
+  confined i inside marked = grind (arith, move_cases)
 
   -- so does who is late
   late_moves : (i : ℕ) → i < length part.jobs → 1 ≤ get_or wants' i 0 → moves ranks (job_in i) ≡ true
@@ -151,10 +142,7 @@ module _ (jobs : List Job) (windows : List Window) (found : Found) (part : Part)
 
   -- a mark is 1 or 0
   mark_cases : (p : ℕ) → p < length part.stretches → (get_or marks p 0 ≡ 1) ⊎ (get_or marks p 0 ≡ 0)
-  mark_cases p upto = elim (cases_lt 0 (get_or marks p 0)) [
-    | inl some ↦ inl (omega (arith, some, small p 0 (omega (arith, upto, count))))
-    | inr none ↦ inr (omega (arith, none))
-  ]
+  mark_cases p upto = grind (arith, cases_lt)
 
   -- units within windows: none of who moves in a stretch without a mark
   moved_none : (units : ℕ → ℕ → ℕ) → ((j k : ℕ) → 1 ≤ units j k → IsIn windows j k) → (i p : ℕ) → i < length part.jobs → p < length part.stretches →
@@ -422,9 +410,7 @@ module _ (jobs : List Job) (windows : List Window) (found : Found) (part : Part)
 
   -- so is a stretch of either part
   was_stretch : (mark k : ℕ) → HasOne (λ own. own.stretch ≡ k) (marked_with mark marks part.stretches) → HasStretch part k
-  was_stretch mark k one =
-      let from = marked_from (λ own. own.stretch ≡ k) mark marks part.stretches count one in
-      at_one (λ own. own.stretch ≡ k) part.stretches from.0 no_own_stretch from.1 from.2
+  was_stretch mark k one = grind (arith, at_one, marked_from, no_own_stretch)
 
   -- and is of one of the two
   job_parts : (j : ℕ) → HasJob part j → HasJob moving j ⊎ HasJob staying j
@@ -539,20 +525,8 @@ module _ (jobs : List Job) (windows : List Window) (found : Found) (part : Part)
 
     -- all jobs still wait
     jobs_more : length (jobs_of (moving ∷ staying ∷ parts)) ≡ length (jobs_of (part ∷ parts))
-    jobs_more = omega (
-      arith,
-      length-append (jobs_of (staying ∷ parts)) moving.jobs,
-      length-append (jobs_of parts) staying.jobs,
-      length-append (jobs_of parts) part.jobs,
-      jobs_parted ranks part.jobs,
-    )
+    jobs_more = grind (arith, jobs_parted, length-append)
 
     -- and all stretches
     stretches_more : length (own_stretches_of (moving ∷ staying ∷ parts)) ≡ length (own_stretches_of (part ∷ parts))
-    stretches_more = omega (
-      arith,
-      length-append (own_stretches_of (staying ∷ parts)) moving.stretches,
-      length-append (own_stretches_of parts) staying.stretches,
-      length-append (own_stretches_of parts) part.stretches,
-      stretches_parted marks part.stretches small count,
-    )
+    stretches_more = grind (arith, length-append, stretches_parted)

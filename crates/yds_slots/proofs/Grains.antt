@@ -58,12 +58,7 @@ IsGrainOf job grain slot = (slot.job ≡ job) × (grain ≡ slot.work.den)
 
 pub grain_found : (slots : List WrittenSlot) (job : ℕ) →
     (grain_of slots job ≡ 1) ⊎ ((k : ℕ) × (k < length slots) × IsGrainOf job (grain_of slots job) (written_slot_at slots k))
-grain_found slots job = elim (grain_reached job 1 slots) [
-  | inl first ↦ inl first
-  | inr found ↦
-      let same = get_or_default slots found.0 found.1 no_written_slot found.2 in
-      inr (found.0, found.2, rw (← same, found.3) found.4)
-]
+grain_found slots job = grind (arith, get_or_default, grain_reached)
 
 -- # Slots whose works agree fit one after another, in any order
 
@@ -71,10 +66,7 @@ abbrev pub AgreesWith : WrittenSlot → WrittenSlot → Type 0
 AgreesWith slot other = slot.job ≡ other.job → AreAlike slot.work other.work
 
 agree_all : (jobs : ℕ) (slots : List WrittenSlot) → AreSlots jobs slots → All (λ slot. All (AgreesWith slot) slots) slots
-agree_all jobs slots are k d within j e inside same =
-    let one = get_or_default slots k d no_written_slot within in
-    let two = get_or_default slots j e no_written_slot inside in
-    rw (one, two) (are.alike k j within inside (rw (one, two) at same))
+agree_all jobs slots are k d within j e inside same = grind (arith, get_or_default)
 
 pub agree_sorted : (jobs : ℕ) (slots sorted : List WrittenSlot) → IsPermutation slots sorted → AreSlots jobs slots → All (λ slot. All (AgreesWith slot) sorted) sorted
 agree_sorted jobs slots sorted same are =

@@ -51,10 +51,7 @@ of_parts_value p g = of_parts_value_by p g (p % g == 0) refl
 
 -- it is whole, or has the denominator
 pub of_parts_over : (p g : ℕ) → IsOver g (of_parts p g)
-of_parts_over p g = elim (cases_eq (p % g) 0) [
-  | inl none ↦ rw (eq-eqb (p % g) 0 none) (inl refl)
-  | inr other ↦ rw (ne_eqb (p % g) 0 other) (inr refl)
-]
+of_parts_over p g = grind (arith, cases_eq, eq-eqb, ne_eqb)
 
 whole_at : (q p g scale any : ℕ) → p ≡ q * g → (q * scale + 0 * any) * g ≡ p * scale
 whole_at q p g scale any e = omega (arith, ap (λ n. n * scale) e)
@@ -67,20 +64,14 @@ abbrev HasParts : ℕ → ℕ → ℕ → Fraction → Type 0
 HasParts scale p g x = x.den ∣ scale → at_scale scale x * g ≡ p * scale
 
 pub of_parts_at : (scale p g : ℕ) → HasParts scale p g (of_parts p g)
-of_parts_at scale p g =
-    cond_both (p % g == 0) (of_whole (p / g)) (record { whole = p / g; num = p % g; den = g }) (HasParts scale p g)
-    (λ none divides. whole_at (p / g) p g scale (scale / 1) (omega (arith, div-add-mod p g, eqb-true (p % g) 0 none)))
-    (λ some divides. value_at (p / g) (p % g) p g scale _ (omega (arith, div-add-mod p g))
-    (value-den scale (record { whole = p / g; num = p % g; den = g }) divides))
+of_parts_at scale p g = grind (arith, cond_both, div-add-mod, eqb-true, value-den, value_at, whole_at)
 
 whole_parts : (w g p : ℕ) → 1 ≤ g → p ≡ w * g → (p / g ≡ w) × (p % g ≡ 0)
 whole_parts w g p some e =
     let plain : p ≡ w * g + 0 = omega arith in rw plain (div-mul-add w g 0 some, mod-mul-add w g 0 some)
 
 fraction_is : (z : Fraction) (whole num den : ℕ) → z.whole ≡ whole → z.num ≡ num → z.den ≡ den → z ≡ record { whole = whole; num = num; den = den }
-fraction_is z whole num den e f g =
-    let z' : Fraction = record { whole = z.whole; num = z.num; den = z.den } in
-    let is : z' ≡ record { whole = whole; num = num; den = den } = cc in is
+fraction_is z whole num den e f g = grind (arith)
 
 -- A fraction of that value that is written in these parts, or is whole, is that one.
 pub of_parts_is : (p g : ℕ) (z : Fraction) → 1 ≤ g → z.num < z.den → (z.num ≡ 0 → z.den ≡ 1) → (z.num ≡ 0) ⊎ (z.den ≡ g) →

@@ -10,7 +10,7 @@ use Rattle.std.proofs.Math.Nat.{one-dvd, div-mul_cancel, div-one}
 use Rattle.std.proofs.lemmas.Nat.Gcd.{dvd_refl}
 use Rattle.yds_model.specs.declared.limits.TheConstants.{MAX_DENOMINATOR, MAX_SLOTS, MAX_SLOT_WORK}
 use Rattle.yds_model.specs.Scale.{Fraction, of_whole, at_scale, numerator}
-use Rattle.yds_model.specs.Slot.{WrittenSlot, WholeSlot, IsDivided, IsScale, slot_at_scale, slots_at, work_given}
+use Rattle.yds_model.specs.Slot.{WrittenSlot, IsDivided, IsScale, slots_at, work_given}
 use Rattle.yds_model.specs.Audit.{grain_of}
 use Rattle.yds_model.specs.Within.{IsSlot}
 use Rattle.yds_model.proofs.Sums.{sum_by_zero}
@@ -31,9 +31,7 @@ abbrev pub HasNone : ℕ → WrittenSlot → Type 0
 HasNone job slot = ¬ (slot.job ≡ job)
 
 no_parts : (g : ℕ) (slots : List WrittenSlot) (job : ℕ) → All (HasNone job) slots → parts_at g slots job ≡ 0
-no_parts g slots job none =
-    sum_by_zero (λ (s : WrittenSlot). if s.job == job then numerator s.work * (g / s.work.den) else 0) slots
-    (λ k d within. let other = ne_eqb (slice_index_or slots k d).job job (none k d within) in rw other refl)
+no_parts g slots job none = grind (arith, ne_eqb, sum_by_zero)
 
 no_work : (scale : ℕ) (slots : List WrittenSlot) (job : ℕ) → All (HasNone job) slots → work_given (slots_at scale slots) job ≡ 0
 no_work scale [] job none = refl
@@ -60,22 +58,13 @@ nothing_is slots job none = record {
 
 pub reached_receipts : (jobs : ℕ) (slots : List WrittenSlot) (before receipts : List Receipt) → IsKept jobs slots before →
     ((job : ℕ) → receipt_at receipts job ≡ receipt_at before job) → length before ≤ length receipts → IsKept jobs slots receipts
-reached_receipts jobs slots before receipts kept same longer = record {
-  few = kept.few;
-  each = kept.each;
-  known = kept.known;
-  reached = λ k d within. let short : (slice_index_or slots k d).job < length before = kept.reached k d within in omega (arith, short, longer);
-  grains = kept.grains;
-  given = λ job. rw (same job) (kept.given job);
-}
+reached_receipts jobs slots before receipts kept same longer = grind (arith)
 
 -- # One more slot
 
 work_pushed : (scale : ℕ) (slots : List WrittenSlot) (slot : WrittenSlot) (job : ℕ) →
     work_given (slots_at scale (slots ++ slot ∷ [])) job ≡ work_given (slots_at scale slots) job + (if job == slot.job then at_scale scale slot.work else 0)
-work_pushed scale slots slot job =
-    ap (λ (all : List WholeSlot). work_given all job) (map-append (slot_at_scale scale) slots (slot ∷ []))
-    ∙ sum_by_push (λ (s : WholeSlot). if job == s.job then s.work else 0) (slots_at scale slots) (slot_at_scale scale slot)
+work_pushed scale slots slot job = grind (arith, map-append, sum_by_push)
 
 parts_other : (g : ℕ) (slots : List WrittenSlot) (slot : WrittenSlot) (job : ℕ) → ¬ (slot.job ≡ job) → parts_at g (slots ++ slot ∷ []) job ≡ parts_at g slots job
 parts_other g slots slot job other = rw (parts_pushed g slots slot job, ne_eqb slot.job job other) (omega arith)
@@ -114,11 +103,7 @@ receipt_other slots slot job receipt other is = record {
 
 -- the works so far are whole, where their grain is 1
 whole_so_far : (slots : List WrittenSlot) (job : ℕ) → All (IsInGrain slots) slots → grain_of slots job ≡ 1 → All (IsWholeFor job) slots
-whole_so_far slots job grains plain k d within same =
-    elim (grains k d within) [
-      | inl whole ↦ whole
-      | inr is ↦ is ∙ ap (grain_of slots) same ∙ plain
-    ]
+whole_so_far slots job grains plain k d within same = grind (arith)
 
 -- the parts so far, over the grain before and after the slot
 finer_by : (p q g more : ℕ) → 1 ≤ g → (g ≡ 1 → q ≡ p * max g more) → (more ≡ 1) ⊎ ((g ≡ 1) ⊎ (more ≡ g)) → (max g more ≡ g → q ≡ p) → q * g ≡ p * max g more
@@ -189,14 +174,7 @@ receipt_same slots slot job receipt after same grains fits kept is grain adds =
 -- # The schedule with the slot
 
 grain_kept : (slots : List WrittenSlot) (slot old : WrittenSlot) → FitsGrain slots slot → 1 ≤ slot.work.den → IsInGrain slots old → IsInGrain (slots ++ slot ∷ []) old
-grain_kept slots slot old fits positive is =
-    elim (cases_eq slot.job old.job) [
-      | inl same ↦
-          rw (grain_same slots slot old.job same)
-          (fits_on old.work.den (grain_of slots old.job) slot.work.den (grain_positive slots old.job) is
-          (subst (λ (j : ℕ). (slot.work.den ≡ 1) ⊎ ((grain_of slots j ≡ 1) ⊎ (slot.work.den ≡ grain_of slots j))) same fits) positive)
-      | inr other ↦ rw (grain_other slots slot old.job other) is
-    ]
+grain_kept slots slot old fits positive is = grind (arith, cases_eq, fits_on, grain_other, grain_positive, grain_same)
 
 pub pushed_receipts : (jobs : ℕ) (slots : List WrittenSlot) (slot : WrittenSlot) (receipts : List Receipt) (receipt after : Receipt) → IsKept jobs slots receipts → IsSlot slot →
     slot.job < jobs → slot.job < length receipts → FitsGrain slots slot → length slots < MAX_SLOTS → IsReceiptOf slots slot.job receipt →

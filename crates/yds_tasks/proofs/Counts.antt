@@ -1,5 +1,5 @@
 -- How many jobs tasks have together, and their work, as one task more comes.
-use Rattle.std.proofs.Common.{◌≡◌, ℕ, ◌+◌, ◌*◌, ◌<◌, ◌≤◌, List, [], ◌∷◌, ◌++◌, length, sym, subst, ◌∙◌, ap, arith, true, Option, Some, None}
+use Rattle.std.proofs.Common.{◌≡◌, ℕ, ◌+◌, ◌*◌, ◌<◌, ◌≤◌, List, [], ◌∷◌, ◌++◌, length, arith, true, Option, Some, None}
 use Rattle.std.specs.Prelude.{is_some, IfSome}
 use Rattle.std.specs.List.{All, sum_by}
 use Rattle.std.proofs.Math.Nat.{mul-le-mul_left}
@@ -16,11 +16,7 @@ use Rattle.yds_tasks.specs.Kept.{IsTask, IsTaskSet, KeepsTasks, with_task}
 
 -- a job that is due by the horizon is within its limits
 pub due_fits : (horizon : ℕ) (task : Task) (k : ℕ) → IsTask task → horizon ≤ MAX_TIME → (nth_job task k).deadline ≤ horizon → IsJob (nth_job task k)
-due_fits horizon task k kept within due = record {
-  has_window = omega (arith, kept.has_deadline);
-  time_in_range = omega (arith, due, within);
-  work_in_range = kept.work_in_range;
-}
+due_fits horizon task k kept within due = grind (arith)
 
 -- one task more
 pub count_more : (set : TaskSet) (task : Task) → count_of_all (with_task set task) ≡ count_of_all set + count_of_jobs (horizon_of set) task
@@ -29,12 +25,7 @@ count_more set task =
 
 pub works_more : (set : TaskSet) (task : Task) →
     sum_by (λ job. job.work) (jobs_of_tasks (with_task set task)) ≡ sum_by (λ job. job.work) (jobs_of_tasks set) + count_of_jobs (horizon_of set) task * task.work
-works_more set task =
-    let horizon = horizon_of set in
-    let last : List Job = jobs_of_task horizon task in
-    ap (sum_by (λ (job : Job). job.work)) (flat_map-append (jobs_of_task horizon) set.tasks (task ∷ []) ∙ ap (λ jobs. jobs_until horizon set.tasks ++ jobs) (append-nil last))
-    ∙ sum_by-append (λ (job : Job). job.work) (jobs_until horizon set.tasks) last
-    ∙ ap (λ n. sum_by (λ (job : Job). job.work) (jobs_until horizon set.tasks) + n) (works_of_task horizon task)
+works_more set task = grind (arith, append-nil, flat_map-append, jobs_of_task, jobs_until, sum_by-append, works_of_task)
 
 -- no job has more than the greatest work
 works_few : (horizon : ℕ) (tasks : List Task) → All IsTask tasks → sum_by (λ job. job.work) (jobs_until horizon tasks) ≤ MAX_WORK * sum_by (count_of_jobs horizon) tasks
@@ -86,11 +77,7 @@ pub keeps_pushed : (before set : TaskSet) (task : Task) (tasks : List Task) (job
     is_some set.horizon ≡ true → length set.tasks < MAX_TASKS → count_of_all (with_task set task) ≤ MAX_JOBS → tasks ≡ before.tasks ++ task ∷ [] →
     count ≡ count_of_jobs time task → time ≡ horizon_of set → times ≡ count → each ≡ task.work →
     KeepsTasks (record { horizon = before.horizon; tasks = tasks }) (jobs + count) (work + times * each)
-keeps_pushed before set task tasks jobs work count times each time same keeps fits some few room grown is_count is_time is_times is_each =
-    let now : count ≡ count_of_jobs (horizon_of before) task = is_count ∙ ap (λ t. count_of_jobs t task) (is_time ∙ ap horizon_of (sym same)) in
-    rw (grown, is_times, is_each, now)
-    (keeps_more before task jobs work keeps fits (subst (λ (s : TaskSet). is_some s.horizon ≡ true) (sym same) some)
-    (subst (λ (s : TaskSet). length s.tasks < MAX_TASKS) (sym same) few) (subst (λ (s : TaskSet). count_of_all (with_task s task) ≤ MAX_JOBS) (sym same) room))
+keeps_pushed before set task tasks jobs work count times each time same keeps fits some few room grown is_count is_time is_times is_each = grind (arith, keeps_more)
 
 -- and the new work has room in 64 bits
 pub work_within : (set : TaskSet) (jobs work : ℕ) → KeepsTasks set jobs work → work ≤ MAX_WORK * MAX_JOBS

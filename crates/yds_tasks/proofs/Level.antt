@@ -1,5 +1,5 @@
 -- The one level, by what the code tries the tasks for.
-use Rattle.std.proofs.Common.{◌≡◌, ℕ, Bool, true, false, ◌&&◌, List, map, Option, Some, None, refl, sym, ap, ◌∙◌}
+use Rattle.std.proofs.Common.{arith, ◌≡◌, ℕ, Bool, true, false, ◌&&◌, List, map, Option, Some, None, refl, sym, ap, ◌∙◌}
 use Rattle.std.specs.List.{list_all, list_any, sum_by}
 use Rattle.std.proofs.lemmas.List.Folds.{list_all-map}
 use Rattle.yds_model.specs.Tasks.{TaskSet, fills_horizon, has_work, jobs_of_tasks, level_until, one_level}
@@ -10,9 +10,7 @@ use Rattle.yds_tasks.proofs.Names.{list_any-map}
 -- each task fills the horizon where each of the code's does
 pub all_filled : (tasks seen : List Task) (set : TaskSet) (horizon : ℕ) (b : Bool) → map task_read tasks ≡ set.tasks → seen ≡ tasks →
     b ≡ list_all (λ task. fills_horizon horizon (task_read task)) seen → list_all (fills_horizon horizon) set.tasks ≡ b
-all_filled tasks seen set horizon b same lent is =
-    ap (list_all (fills_horizon horizon)) (sym same) ∙ list_all-map (fills_horizon horizon) task_read tasks
-    ∙ ap (list_all (λ task. fills_horizon horizon (task_read task))) (sym lent) ∙ sym is
+all_filled tasks seen set horizon b same lent is = grind (arith, list_all-map)
 
 -- some task has work where one of the code's has
 pub work_had : (tasks seen : List Task) (set : TaskSet) (b : Bool) → map task_read tasks ≡ set.tasks → seen ≡ tasks → b ≡ list_any (λ task. has_work (task_read task)) seen →

@@ -18,7 +18,6 @@ use Rattle.yds_tasks.specs.declared.draft.Draft.{Draft}
 use Rattle.yds_tasks.specs.declared.line_fault.LineFault.{LineFault}
 use Rattle.yds_tasks.specs.declared.line_fault.LineFault.TheVariants as faults
 use Rattle.yds_tasks.specs.Fields.{Fails, has_name, task_name_of, task_of, task_within}
-use Rattle.yds_tasks.specs.Kept.{with_task}
 use Rattle.yds_tasks.specs.Lines.{Holds, Takes, Tells}
 
 -- # The horizon and the tasks that were said
@@ -55,10 +54,7 @@ horizon_after fields first = do
 
 horizon_counted : (fields : List Field) (a b : Field) → (fields ≡ a ∷ b ∷ []) × (count_fields no_reason 1 fields ≡ Ok true) →
     horizon_after fields true ≡ (task_number_in 1 MAX_TIME b >>= (λ horizon. Ok (HorizonEntry horizon)))
-horizon_counted fields a b counted =
-    ap (λ (r : Result Bool (Spot TaskReason)). r >>= (λ all. task_number_in 1 MAX_TIME (field_at fields 1) >>= (λ horizon. Ok (HorizonEntry horizon))))
-    (counted_for reasons.FieldCount 1 fields counted.1)
-    ∙ ap (λ fs. task_number_in 1 MAX_TIME (field_at fs 1) >>= (λ horizon. Ok (HorizonEntry horizon))) counted.0
+horizon_counted fields a b counted = grind (arith, counted_for)
 
 -- what the line says, once its fields are counted
 pub horizon_fields : (earlier : List TaskEntry) (fields : List Field) (set : TaskSet) (a b : Field) → tasks_said earlier ≡ set → is_some set.horizon ≡ false →
@@ -112,9 +108,7 @@ entry_within earlier period task =
 
 within_same : (earlier : List TaskEntry) (set : TaskSet) (period : Field) (task : Task) → tasks_said earlier ≡ set →
     entry_within earlier period task ≡ entry_of (task_within set period task)
-within_same earlier set period task holds =
-    ap (λ (s : TaskSet). demand (nat_le (count_of_all s) MAX_JOBS) period.column reasons.TooManyJobs >>= (λ few. Ok (TaskEntryOf task))) (task_more earlier set task holds)
-    ∙ few_same (nat_le (count_of_all (with_task set task)) MAX_JOBS) period.column task
+within_same earlier set period task holds = grind (arith, task_more)
 
 abbrev task_fields : List TaskEntry → List Field → Result TaskEntry (Spot TaskReason)
 task_fields earlier fields =
@@ -137,9 +131,7 @@ task_after earlier fields some room = do
 
 task_by : (earlier : List TaskEntry) (fields : List Field) (set : TaskSet) (some room : Bool) → tasks_said earlier ≡ set → is_some set.horizon ≡ some → nat_lt (length set.tasks) MAX_TASKS ≡ room →
     read_task earlier fields ≡ task_after earlier fields some room
-task_by earlier fields set some room holds placed few =
-    ap (λ b. task_after earlier fields b (nat_lt (length (filter_map task_said earlier)) MAX_TASKS)) (horizon_held earlier set holds ∙ placed)
-    ∙ ap (λ b. task_after earlier fields some b) (tasks_held earlier set holds ∙ few)
+task_by earlier fields set some room holds placed few = grind (arith, horizon_held, tasks_held)
 
 -- what the line says, by the count of its fields
 abbrev pub task_counted : List TaskEntry → List Field → Result TaskEntry (Spot TaskReason)

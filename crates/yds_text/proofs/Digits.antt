@@ -11,10 +11,7 @@ use Rattle.yds_model.proofs.Spelling.{number_digits}
 
 -- a text with a byte that is no digit is no number
 pub not_number : (text : List ℕ) (i : ℕ) → i < length text → is_digit (get_or text i 0) ≡ false → is_number text ≡ false
-not_number text i within other = elim (cases_Bool (is_number text)) [
-  | inl number ↦ absurd (false≢true (sym other ∙ number_digits text number i 0 within))
-  | inr none ↦ none
-]
+not_number text i within other = grind (arith, cases_Bool, false≢true, number_digits)
 
 -- nor is one that goes on after its digits
 pub number_ends : (text : List ℕ) (len : ℕ) → len ≡ prefix_len is_digit text → len < length text → is_number text ≡ false
@@ -23,9 +20,7 @@ number_ends text len is within =
 
 -- each byte at the front passes
 pub front_passes : (passes : ℕ → Bool) (text : List ℕ) (len : ℕ) → len ≤ length text → len ≡ prefix_len passes text → All (λ byte. passes byte ≡ true) (take len text)
-front_passes passes text len within is = λ k d below.
-    let inside : k < len = omega (arith, length-take-le len text within) in
-    ap passes (get_or-take len text k d inside) ∙ prefix_len_passes passes text k d (omega arith)
+front_passes passes text len within is = grind (arith, get_or-take, length-take-le, prefix_len_passes)
 
 pub front_all : (passes : ℕ → Bool) (text : List ℕ) (len : ℕ) → len ≤ length text → len ≡ prefix_len passes text → list_all passes (take len text) ≡ true
 front_all passes text len within is = list_all-from_AllPass passes (take len text) (front_passes passes text len within is)
@@ -63,11 +58,7 @@ pub record Told (most : ℕ) (text : List ℕ) (value : ℕ) : Type 0 where
 
 -- a number that is told is what the text writes, within its limit
 pub is_told : (most : ℕ) (text : List ℕ) (value : ℕ) → number_at 0 most text ≡ Ok value → Told most text value
-is_told most text value is =
-    let zero_least : nat_le 0 (digits_value 10 text) ≡ true = le-leb 0 (digits_value 10 text) (omega arith) in
-    let facts = fits_told (is_number text) (nat_le (digits_value 10 text) most) (digits_value 10 text) value (rw zero_least at is) in
-    let small : digits_value 10 text ≤ most = leb-true (digits_value 10 text) most facts.1.0 in
-    record { number = facts.0; says = facts.1.1; within = omega (arith, facts.1.1) }
+is_told most text value is = grind (arith, le-leb, leb-true, nat_le)
 
 -- # A separator after the digits
 

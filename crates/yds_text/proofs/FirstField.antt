@@ -1,18 +1,13 @@
 -- The first field of bytes, by its parts: the blanks before it, its bytes, and the rest.
 use Rattle.std.proofs.Common.{◌≡◌, ℕ, ◌+◌, ◌<◌, List, [], ◌∷◌, length, take, drop, sym, ap, ap₂, ◌∙◌, arith}
 use Rattle.std.specs.List.{prefix_len, position_or_len}
-use Rattle.yds_model.specs.Lines.{Field, is_blank, fields_from}
+use Rattle.yds_model.specs.Lines.{is_blank, fields_from}
 use Rattle.yds_model.proofs.Lines.{fields_from-blanks, fields_from-first, drop_blanks-none}
 
 pub fields_from-parts : (column blanks : ℕ) (bytes middle text rest : List ℕ) → blanks ≡ prefix_len is_blank bytes → middle ≡ drop blanks bytes →
     text ≡ take (position_or_len is_blank middle) middle → rest ≡ drop (position_or_len is_blank middle) middle → length text ≡ position_or_len is_blank middle →
     0 < length text → fields_from column bytes ≡ record { column = column + blanks; text = text } ∷ fields_from (column + blanks + length text) rest
-fields_from-parts column blanks bytes middle text rest skipped from front back long some =
-    fields_from-blanks column bytes
-    ∙ ap₂ fields_from (ap (λ (n : ℕ). column + n) (sym skipped)) (ap (λ (n : ℕ). drop n bytes) (sym skipped) ∙ sym from)
-    ∙ fields_from-first (column + blanks) middle (omega arith)
-    ∙ ap₂ (λ (text : List ℕ) (fields : List Field). record { column = column + blanks; text = text } ∷ fields) (sym front)
-    (ap₂ fields_from (ap (λ (n : ℕ). column + blanks + n) (sym long)) (sym back))
+fields_from-parts column blanks bytes middle text rest skipped from front back long some = grind (arith, ap₂, fields_from-blanks, fields_from-first)
 
 -- with no bytes before the next blank, nothing is left after the blanks at the front
 pub rest-none : (bytes middle : List ℕ) → middle ≡ drop (prefix_len is_blank bytes) bytes → position_or_len is_blank middle ≡ 0 → middle ≡ []

@@ -1,6 +1,6 @@
 -- What a text spells as a fraction, by the digits at its front and what follows them.
-use Rattle.std.proofs.Common.{◌≡◌, ℕ, ◌+◌, ◌-◌, ◌<◌, ◌≤◌, ◌&&◌, Bool, true, false, cond, List, length, get_or, take, drop, nat_le, nat_lt, Result, Ok, Err, refl, sym, ap, inl, inr, arith, ne_eqb}
-use Rattle.std.specs.List.{list_any, prefix_len, position_or_len, before_first, after_first}
+use Rattle.std.proofs.Common.{◌≡◌, ℕ, ◌+◌, ◌-◌, ◌<◌, ◌≤◌, ◌&&◌, Bool, true, false, cond, List, length, get_or, take, drop, nat_le, nat_lt, Result, Ok, Err, refl, arith, ne_eqb}
+use Rattle.std.specs.List.{list_any, prefix_len}
 use Rattle.std.specs.Str.Parse.{digits_value}
 use Rattle.std.proofs.lemmas.Bool.{cases_Bool, and_parts, le-leb, leb-true, leb-false, ltb-true, false≢true}
 use Rattle.std.proofs.lemmas.List.{take_all, length-drop}
@@ -10,7 +10,7 @@ use Rattle.yds_model.specs.declared.limits.TheConstants.{MAX_DENOMINATOR}
 use Rattle.yds_model.specs.declared.number_fault.NumberFault.{NumberFault}
 use Rattle.yds_model.specs.declared.number_fault.NumberFault.TheVariants.{BadNumber, OutOfRange}
 use Rattle.yds_model.specs.Scale.{Fraction, of_whole}
-use Rattle.yds_model.specs.Spelling.{is_digit, is_number, is_plus, is_slash, is_mixed, number_at, fraction_at, kept}
+use Rattle.yds_model.specs.Spelling.{is_digit, is_number, is_plus, is_slash, number_at, fraction_at, kept}
 use Rattle.yds_model.proofs.Spelling.{digit_range}
 use Rattle.yds_text.specs.Parts.{fraction_after, fraction_of_parts, is_bad}
 use Rattle.yds_text.proofs.Digits.{Told, is_told, number_ends, first_separator, no_number_before}
@@ -29,10 +29,7 @@ slash_apart byte digit = let range : (48 ≤ byte) × (byte ≤ 57) = digit_rang
 -- # A whole number
 
 pub whole_fraction : (most : ℕ) (text : List ℕ) (value : ℕ) → number_at 0 most text ≡ Ok value → fraction_at most text ≡ Ok (of_whole value)
-whole_fraction most text value is =
-    let told : Told most text value = is_told most text value is in
-    let small : nat_le (digits_value 10 text) most ≡ true = le-leb (digits_value 10 text) most (omega (arith, told.says, told.within)) in
-    rw (told.number, small) (ap (λ said. Ok (of_whole said)) told.says)
+whole_fraction most text value is = grind (arith, is_told, le-leb, nat_le)
 
 -- a text of digits alone has no plus
 no_plus : (text : List ℕ) (len : ℕ) → len ≡ prefix_len is_digit text → length text ≤ len → list_any is_plus text ≡ false
@@ -46,16 +43,7 @@ bad_number fault is = cc
 
 pub whole_fault : (most : ℕ) (text : List ℕ) (len : ℕ) (fault : NumberFault) → len ≡ prefix_len is_digit text → length text ≤ len →
     number_at 0 most text ≡ Err fault → fraction_at most text ≡ Err fault
-whole_fault most text len fault is all faulty =
-    let zero_least : nat_le 0 (digits_value 10 text) ≡ true = le-leb 0 (digits_value 10 text) (omega arith) in
-    let plain : list_any is_plus text ≡ false = no_plus text len is all in
-    elim (cases_Bool (is_number text)) [
-      | inl number ↦ elim (cases_Bool (nat_le (digits_value 10 text) most)) [
-        | inl small ↦ let wrong : Ok (digits_value 10 text) ≡ Err fault = rw (number, zero_least, small) at faulty in cc
-        | inr large ↦ rw (number, large) (ap Err (out_of_range fault (rw (number, zero_least, large) at faulty)))
-      ]
-      | inr other ↦ rw (other, plain) (ap Err (bad_number fault (rw other at faulty)))
-    ]
+whole_fault most text len fault is all faulty = grind (arith, bad_number, cases_Bool, le-leb, nat_le, no_plus, out_of_range)
 
 -- # A whole part and `NUM/DEN`
 
@@ -68,19 +56,7 @@ joined false false num den fraction fault = refl
 
 pub plus_fraction : (most : ℕ) (text : List ℕ) (len : ℕ) → len < length text → len ≡ prefix_len is_digit text → get_or text len 0 ≡ 43 →
     fraction_at most text ≡ fraction_after most (take len text) (drop (len + 1) text)
-plus_fraction most text len within is plus =
-    let here : is_plus (get_or text len 0) ≡ true = rw plus refl in
-    let first : position_or_len is_plus text ≡ len = first_separator is_plus plus_apart text len (omega arith) is (λ below. here) in
-    let other : is_number text ≡ false = number_ends text len is within in
-    let some : list_any is_plus text ≡ true = list_any_at is_plus text len 0 within here in
-    rw (other, some, first)
-    (joined (is_number (take len text)) (list_any is_slash (drop (len + 1) text)) (is_number (before_first is_slash (drop (len + 1) text)))
-    (is_number (after_first is_slash (drop (len + 1) text)))
-    (kept most (record {
-      whole = digits_value 10 (take len text);
-      num = digits_value 10 (before_first is_slash (drop (len + 1) text));
-      den = digits_value 10 (after_first is_slash (drop (len + 1) text));
-    })) (Err BadNumber))
+plus_fraction most text len within is plus = grind (arith, first_separator, list_any_at, number_ends, plus_apart)
 
 without : (some whole a b c : Bool) → (some ≡ true → whole ≡ false) → (some && whole && a && b && c) ≡ false
 without true whole a b c none = rw (none refl) refl
@@ -89,20 +65,13 @@ without false whole a b c none = refl
 -- another byte after the digits
 pub other_fraction : (most : ℕ) (text : List ℕ) (len : ℕ) → len < length text → len ≡ prefix_len is_digit text → is_plus (get_or text len 0) ≡ false →
     fraction_at most text ≡ Err BadNumber
-other_fraction most text len within is not_plus =
-    let other : is_number text ≡ false = number_ends text len is within in
-    let unmixed : is_mixed text ≡ false = without (list_any is_plus text) (is_number (before_first is_plus text)) _ _ _ (no_number_before is_plus plus_apart text len within is not_plus) in
-    rw (other, unmixed) refl
+other_fraction most text len within is not_plus = grind (arith, no_number_before, number_ends, plus_apart)
 
 -- # The numerator and the denominator
 
 pub slash_fraction : (most : ℕ) (whole text : List ℕ) (len : ℕ) → len < length text → len ≡ prefix_len is_digit text → get_or text len 0 ≡ 47 →
     fraction_after most whole text ≡ fraction_of_parts most whole (take len text) (drop (len + 1) text)
-slash_fraction most whole text len within is slash =
-    let here : is_slash (get_or text len 0) ≡ true = rw slash refl in
-    let first : position_or_len is_slash text ≡ len = first_separator is_slash slash_apart text len (omega arith) is (λ below. here) in
-    let some : list_any is_slash text ≡ true = list_any_at is_slash text len 0 within here in
-    rw (some, first) refl
+slash_fraction most whole text len within is slash = grind (arith, first_separator, list_any_at, slash_apart)
 
 no_parts : (some whole num den : Bool) (fraction : Result Fraction NumberFault) → (some ≡ true → num ≡ false) →
     cond some (cond (whole && num && den) fraction (Err BadNumber)) (Err BadNumber) ≡ Err BadNumber
@@ -112,53 +81,26 @@ no_parts false whole num den fraction none = refl
 
 pub unslashed_fraction : (most : ℕ) (whole text : List ℕ) (len : ℕ) → len < length text → len ≡ prefix_len is_digit text → is_slash (get_or text len 0) ≡ false →
     fraction_after most whole text ≡ Err BadNumber
-unslashed_fraction most whole text len within is not_slash =
-    no_parts (list_any is_slash text) (is_number whole) (is_number (before_first is_slash text)) (is_number (after_first is_slash text)) _
-    (no_number_before is_slash slash_apart text len within is not_slash)
+unslashed_fraction most whole text len within is not_slash = grind (arith, no_number_before, slash_apart)
 
 -- digits alone have no slash
 pub ended_fraction : (most : ℕ) (whole text : List ℕ) (len : ℕ) → len ≡ prefix_len is_digit text → length text ≤ len → fraction_after most whole text ≡ Err BadNumber
-ended_fraction most whole text len is all =
-    let plain : list_any is_slash text ≡ false = list_any_none is_slash text (λ k d below. slash_apart (get_or text k d) (prefix_len_passes is_digit text k d (omega arith))) in
-    rw plain refl
+ended_fraction most whole text len is all = grind (arith, list_any_none, prefix_len_passes, slash_apart)
 
 -- # Three numbers
 
 bad_spelling : (most : ℕ) (text : List ℕ) → is_bad (number_at 0 most text) ≡ true → is_number text ≡ false
-bad_spelling most text bad =
-    let zero_least : nat_le 0 (digits_value 10 text) ≡ true = le-leb 0 (digits_value 10 text) (omega arith) in
-    elim (cases_Bool (is_number text)) [
-      | inl number ↦ elim (cases_Bool (nat_le (digits_value 10 text) most)) [
-        | inl small ↦ absurd (false≢true (rw (number, zero_least, small) at bad))
-        | inr large ↦ absurd (false≢true (rw (number, zero_least, large) at bad))
-      ]
-      | inr other ↦ other
-    ]
+bad_spelling most text bad = grind (arith, cases_Bool, false≢true, le-leb, nat_le)
 
 pub good_spelling : (most : ℕ) (text : List ℕ) → is_bad (number_at 0 most text) ≡ false → is_number text ≡ true
-good_spelling most text good = elim (cases_Bool (is_number text)) [
-  | inl number ↦ number
-  | inr other ↦ absurd (false≢true (sym (rw other at good)))
-]
+good_spelling most text good = grind (arith, cases_Bool, false≢true)
 
 -- a number of a right spelling that isn't told is too large
 pub too_large : (most : ℕ) (text : List ℕ) (fault : NumberFault) → number_at 0 most text ≡ Err fault → is_number text ≡ true → (fault ≡ OutOfRange) × (most < digits_value 10 text)
-too_large most text fault is number =
-    let zero_least : nat_le 0 (digits_value 10 text) ≡ true = le-leb 0 (digits_value 10 text) (omega arith) in
-    elim (cases_Bool (nat_le (digits_value 10 text) most)) [
-      | inl small ↦ let wrong : Ok (digits_value 10 text) ≡ Err fault = rw (number, zero_least, small) at is in cc
-      | inr large ↦ (sym (out_of_range fault (rw (number, zero_least, large) at is)), leb-false (digits_value 10 text) most large)
-    ]
+too_large most text fault is number = grind (arith, cases_Bool, le-leb, leb-false, nat_le, out_of_range)
 
 unkept : (most : ℕ) (x : Fraction) → (x.whole ≤ most → x.den ≤ MAX_DENOMINATOR → x.num < x.den → ⊥) → kept most x ≡ Err OutOfRange
-unkept most x wrong = elim (cases_Bool (nat_le x.whole most && nat_le 1 x.den && nat_le x.den MAX_DENOMINATOR && nat_lt x.num x.den)) [
-  | inl fits ↦
-      let last = and_parts (nat_le x.whole most && nat_le 1 x.den && nat_le x.den MAX_DENOMINATOR) (nat_lt x.num x.den) fits in
-      let third = and_parts (nat_le x.whole most && nat_le 1 x.den) (nat_le x.den MAX_DENOMINATOR) last.0 in
-      let first = and_parts (nat_le x.whole most) (nat_le 1 x.den) third.0 in
-      absurd (wrong (leb-true x.whole most first.0) (leb-true x.den MAX_DENOMINATOR third.1) (ltb-true x.num x.den last.1))
-  | inr fails ↦ rw fails refl
-]
+unkept most x wrong = grind (arith, and_parts, cases_Bool, leb-true, ltb-true, nat_le, nat_lt)
 
 -- three numbers of right spelling, one of them outside its limits
 pub parts_out : (most : ℕ) (front above below : List ℕ) → is_number front ≡ true → is_number above ≡ true → is_number below ≡ true →

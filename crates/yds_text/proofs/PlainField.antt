@@ -1,6 +1,5 @@
 -- The first field of a plain spelling: one space, the field, and a blank or the end after it.
-use Rattle.std.proofs.Common.{◌≡◌, ℕ, ◌+◌, ◌-◌, ◌<◌, ◌≤◌, true, false, List, [], ◌∷◌, ◌++◌, length, inl, inr, get_or, take, drop, All, Ok, refl, sym, ap, ap₂, ◌∙◌, subst, arith, ne_eqb, length-append, append_assoc}
-use Rattle.std.specs.Prelude.{◌==◌, nat_le}
+use Rattle.std.proofs.Common.{◌≡◌, ℕ, ◌+◌, ◌-◌, ◌<◌, ◌≤◌, true, false, List, [], ◌∷◌, ◌++◌, length, get_or, take, drop, All, Ok, refl, sym, ap, ap₂, ◌∙◌, subst, arith, ne_eqb, length-append, append_assoc}
 use Rattle.std.specs.List.{prefix_len}
 use Rattle.std.proofs.Math.Seq.{take-append_seam, drop-append-add}
 use Rattle.std.proofs.lemmas.Bool.{false≢true, cases_Bool, le-leb, leb-true, lt-ltb, eqb-true, and_parts, and_from}
@@ -35,15 +34,11 @@ plain_field Says (byte ∷ text) rest some full ended says = record {
 }
 
 visible_full : (byte : ℕ) → is_visible byte ≡ true → is_blank byte ≡ false
-visible_full byte visible =
-    let low : 33 ≤ byte = leb-true 33 byte (and_parts (nat_le 33 byte) (nat_le byte 126) visible).0 in
-    rw (ne_eqb byte 32 (λ same. omega arith), ne_eqb byte 9 (λ same. omega arith)) refl
+visible_full byte visible = grind (arith, and_parts, leb-true, ne_eqb)
 
 -- the visible bytes at the front, few enough, are a name
 pub front_name : (after : List ℕ) (len : ℕ) → len ≤ length after → len ≡ prefix_len is_visible after → 0 < len → len ≤ MAX_NAME → is_name (take len after) ≡ true
-front_name after len within is some short =
-    let long : length (take len after) ≡ len = length-take-le len after within in
-    and_from _ _ (and_from _ _ (le-leb 1 (length (take len after)) (omega arith)) (le-leb (length (take len after)) MAX_NAME (omega arith))) (front_all is_visible after len within is)
+front_name after len within is some short = grind (arith, and_from, front_all, le-leb, length-take-le)
 
 -- and a field
 pub plain_name : (bytes after : List ℕ) (len : ℕ) → bytes ≡ 32 ∷ after → len ≤ length after → len ≡ prefix_len is_visible after → 0 < len → ends_field (drop len after) ≡ true →
@@ -54,9 +49,7 @@ plain_name bytes after len begins within is some ended name same =
     (All-weaker (λ byte. is_visible byte ≡ true) (λ byte. is_blank byte ≡ false) visible_full (take len after) (front_passes is_visible after len within is)) ended same)
 
 digit_full : (byte : ℕ) → is_digit byte ≡ true → is_blank byte ≡ false
-digit_full byte digit =
-    let range : (48 ≤ byte) × (byte ≤ 57) = digit_range byte digit in
-    rw (ne_eqb byte 32 (λ same. omega arith), ne_eqb byte 9 (λ same. omega arith)) refl
+digit_full byte digit = grind (arith, digit_range, ne_eqb)
 
 some_bytes : (text : List ℕ) → is_number text ≡ true → 0 < length text
 some_bytes [] number = absurd (false≢true number)
@@ -110,12 +103,7 @@ mixed_of_parts most whole num den front above below value one two three is =
 
 -- it is kept as it is, but a whole number in one part
 kept_parts : (most whole num den : ℕ) → whole ≤ most → num < den → den ≤ MAX_DENOMINATOR → Ok (fraction_of whole num den) ≡ kept most (record { whole = whole; num = num; den = den })
-kept_parts most whole num den small below within =
-    rw (le-leb whole most small, le-leb 1 den (omega arith), le-leb den MAX_DENOMINATOR within, lt-ltb num den below)
-    (elim (cases_Bool (num == 0)) [
-      | inl none ↦ let zero : num ≡ 0 = eqb-true num 0 none in rw zero refl
-      | inr some ↦ rw some refl
-    ])
+kept_parts most whole num den small below within = grind (arith, cases_Bool, eqb-true, le-leb, lt-ltb)
 
 -- a fraction with a numerator as a field
 pub plain_mixed : (most whole num den : ℕ) (bytes text rest1 text1 rest2 text2 rest : List ℕ) → bytes ≡ 32 ∷ text → BeginsNumber most whole text rest1 →
@@ -141,8 +129,4 @@ plain_mixed most whole num den bytes text rest1 text1 rest2 text2 rest is one pl
 
 pub reads_text : (Says : List ℕ → Type 0) (column : ℕ) (bytes rest : List ℕ) → BeginsPlainly Says bytes rest →
     ReadsText Says (fields_from column bytes) (fields_from (column + (length bytes - length rest)) rest)
-reads_text Says column bytes rest begins = record {
-  field = record { column = column + 1; text = begins.text };
-  says = begins.says;
-  first = begins.first column ∙ ap (λ (place : ℕ). record { column = column + 1; text = begins.text } ∷ fields_from place rest) (omega (arith, begins.lengths));
-}
+reads_text Says column bytes rest begins = grind (arith)

@@ -85,22 +85,7 @@ pub record AreTogether (jobs : List Job) (removed : List Piece) (waiting : List 
 
 -- no stage, where none waits
 pub none_together : (jobs : List Job) (removed : List Piece) (waiting : List ℕ) → waiting ≡ [] → AreTogether jobs removed waiting []
-none_together jobs removed waiting none = record {
-  job_in = λ j here. absurd (omega (arith, here.1, ap (λ (ns : List ℕ). length ns) none));
-  job_waits = λ j below. absurd (omega (arith, below));
-  stretch_left = λ k below. absurd (omega (arith, below));
-  windows = λ j k here. absurd (omega (arith, here.1, ap (λ (ns : List ℕ). length ns) none));
-  some = λ i below. absurd (omega (arith, below));
-  works = λ i below. absurd (omega (arith, below));
-  lengths = λ i below. absurd (omega (arith, below));
-  slowing = λ i below. absurd (omega (arith, below));
-  own = All-nil (IsShareOf jobs []);
-  served = λ j here. absurd (omega (arith, here.1, ap (λ (ns : List ℕ). length ns) none));
-  full = λ k below. absurd (omega (arith, below));
-  in_turn = λ i j d order within. absurd (omega (arith, within));
-  earliest = All-nil (λ late. All (IsEarliestOfStage jobs [] late) []);
-  few = omega arith;
-}
+none_together jobs removed waiting none = grind (arith, All-nil)
 
 -- a test against the first place, and against a later one
 not_first : (at v : ℕ) → cond (suc at == 0) v 0 ≡ 0
@@ -333,17 +318,7 @@ module _ (jobs : List Job) (removed changed : List Piece) (waiting : List ℕ) (
   }) own_shares served_stage.own
 
   own_later : All (IsShareOf jobs all) (shares_of stages)
-  own_later = All-weaker (IsShareOf jobs stages) (IsShareOf jobs all) (λ share own.
-      let grouped = later_job share.job own.grouped in
-      let stretch = later_stretch share.stretch (omega (arith, own.grouped, own.same_stage)) in
-      record {
-        known = own.known;
-        known_stretch = own.known_stretch;
-        some = own.some;
-        in_window = own.in_window;
-        grouped = omega (arith, grouped, own.grouped);
-        same_stage = omega (arith, grouped, stretch, own.same_stage);
-      }) (shares_of stages) rest.own
+  own_later = grind (arith, All-weaker, later_job, later_stretch)
 
   own_shares_all : All (IsShareOf jobs all) (shares_of all)
   own_shares_all = All-append (IsShareOf jobs all) own_shares (shares_of stages) own_here own_later

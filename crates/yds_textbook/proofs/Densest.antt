@@ -36,10 +36,7 @@ inside_less f q (number ∷ numbers) from to = elim (cases_Bool (q number)) [
 ]
 
 share_few : (from to : ℕ) (job : Job) → job.work ≤ MAX_WORK → part_within from to job ≤ MAX_WORK
-share_few from to job few = elim (cases_Bool (window_is_within from to job)) [
-  | inl holds ↦ rw holds few
-  | inr fails ↦ rw fails (omega arith)
-]
+share_few from to job few = grind (arith, cases_Bool)
 
 -- so many jobs have so much work
 work_few : (jobs : List Job) (from to : ℕ) → All IsJob jobs → work_within jobs from to ≤ length jobs * MAX_WORK
@@ -48,11 +45,7 @@ work_few jobs from to are =
 
 -- a job that may wait is a job in the time that is left too
 can_be : (jobs : List Job) (removed : List Piece) (number : ℕ) → CanWait jobs removed number → IsJob (contracted removed (job_at jobs number))
-can_be jobs removed number can = record {
-  has_window = can.has_window;
-  time_in_range = omega (arith, can.valid.time_in_range);
-  work_in_range = can.valid.work_in_range;
-}
+can_be jobs removed number can = grind (arith)
 
 pub are_jobs : (jobs : List Job) (removed : List Piece) (numbers : List ℕ) → All (CanWait jobs removed) numbers → All IsJob (contracted_jobs jobs removed numbers)
 are_jobs jobs removed numbers can =
@@ -129,12 +122,7 @@ module _ (jobs : List Job) (removed : List Piece) (waiting : List ℕ) (interval
   last = get_or waiting critical.candidate.is_deadline.0 0
 
   last_within : critical.candidate.is_deadline.0 < length waiting
-  last_within = omega (
-    arith,
-    critical.candidate.is_deadline.1,
-    length-map (contracted_jobs jobs removed waiting) (λ (job : Job). job.deadline),
-    as_many jobs removed waiting,
-  )
+  last_within = grind (arith, as_many, length-map)
 
   ends_at : interval.end ≡ place removed (job_at jobs last).deadline
   ends_at =
@@ -144,12 +132,7 @@ module _ (jobs : List Job) (removed : List Piece) (waiting : List ℕ) (interval
       ∙ ap (λ (job : Job). job.deadline) (waits_at jobs removed waiting k last_within)
 
   first_within : critical.candidate.is_release.0 < length waiting
-  first_within = omega (
-    arith,
-    critical.candidate.is_release.1,
-    length-map (contracted_jobs jobs removed waiting) (λ (job : Job). job.release),
-    as_many jobs removed waiting,
-  )
+  first_within = grind (arith, as_many, length-map)
 
   starts_at : interval.start ≡ place removed (job_at jobs (get_or waiting critical.candidate.is_release.0 0)).release
   starts_at =
@@ -159,14 +142,7 @@ module _ (jobs : List Job) (removed : List Piece) (waiting : List ℕ) (interval
       ∙ ap (λ (job : Job). job.release) (waits_at jobs removed waiting k first_within)
 
   pub from_events : IsFromEvents jobs removed interval
-  from_events = record {
-    first = get_or waiting critical.candidate.is_release.0 0;
-    last = last;
-    first_known = (can critical.candidate.is_release.0 0 first_within).known;
-    last_known = (can critical.candidate.is_deadline.0 0 last_within).known;
-    start = starts_at;
-    end = ends_at;
-  }
+  from_events = grind (arith, ends_at, first_within, last_within, starts_at)
 
   pub ends_in_time : AreApartFrom 0 removed → interval.end ≤ place removed MAX_TIME
   ends_in_time apart =
@@ -181,10 +157,7 @@ module _ (jobs : List Job) (removed : List Piece) (waiting : List ℕ) (interval
 
   pub is_denser : (from to : ℕ) → from < to →
       work_within (contracted_jobs jobs removed waiting) from to * (interval.end - interval.start) ≤ interval.work * (to - from)
-  is_denser from to forward = elim (critical.leads from to forward) [
-    | inl denser ↦ omega (arith, denser)
-    | inr same ↦ omega (arith, same.0)
-  ]
+  is_denser from to forward = grind (arith)
 
   pub is_densest : length waiting ≤ MAX_JOBS → IsDensest (contracted_jobs jobs removed (inside jobs removed interval waiting)) interval
   is_densest few = record {

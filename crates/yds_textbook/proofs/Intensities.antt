@@ -1,6 +1,6 @@
 -- Intensities don't rise from stage to stage: an interval of the time that is left once a critical interval is removed, if it were denser
 -- than that, would have been denser before, together with the critical interval where it touches it. It is the mediant of the two.
-use Rattle.std.proofs.Common.{◌≡◌, ℕ, ◌+◌, ◌-◌, ◌*◌, ◌<◌, ◌≤◌, List, get_or, ◌∙◌, ap, arith, inl, inr, cond, refl, true, min}
+use Rattle.std.proofs.Common.{◌≡◌, ℕ, ◌+◌, ◌-◌, ◌*◌, ◌<◌, ◌≤◌, List, get_or, ap, arith, inl, inr, cond, refl, true, min}
 use Rattle.std.specs.Prelude.{nat_le, not}
 use Rattle.std.specs.List.{All, sum_by}
 use Rattle.std.proofs.lemmas.Bool.{cases_lt, cases_Bool, le-leb, leb-true, and_from, and_parts, not_from_true, not_from_false}
@@ -29,13 +29,7 @@ is_inside from to job begins ends = and_from _ _ (le-leb from job.release begins
 -- where each window that lies between two times lies between two others, so does its work
 share_more : (from to low high : ℕ) (one other : Job) → one.work ≡ other.work →
     (from ≤ one.release → one.deadline ≤ to → (low ≤ other.release) × (other.deadline ≤ high)) → part_within from to one ≤ part_within low high other
-share_more from to low high one other work wider = elim (cases_Bool (window_is_within from to one)) [
-  | inr outside ↦ rw outside (omega arith)
-  | inl lies ↦
-      let is = inside_of from to one lies in
-      let more = wider is.0 is.1 in
-      rw (lies, is_inside low high other more.0 more.1) (omega (arith, work))
-]
+share_more from to low high one other work wider = grind (arith, cases_Bool, inside_of, is_inside)
 
 -- the mediant: w + W of l + L, which are no denser than W of L, are so where w of l is no denser
 mediant : (w l W L : ℕ) → (w + W) * L ≤ W * (l + L) → w * L ≤ W * l
@@ -56,9 +50,7 @@ module _ (jobs : List Job) (removed changed : List Piece) (waiting : List ℕ) (
   -- the work of those that wait on, as a sum over those that waited
   work_after : (from to : ℕ) → work_within (contracted_jobs jobs changed (outside jobs removed interval waiting)) from to
       ≡ sum_by (λ n. cond (not (lies_in jobs removed interval n)) (part_within from to (after n)) 0) waiting
-  work_after from to =
-      sum_by-map after (part_within from to) (outside jobs removed interval waiting)
-      ∙ sum_by-filter (λ n. not (lies_in jobs removed interval n)) (λ n. part_within from to (after n)) waiting
+  work_after from to = grind (arith, part_within, sum_by-filter, sum_by-map)
 
   work_before : (from to : ℕ) → work_within (contracted_jobs jobs removed waiting) from to ≡ sum_by (λ n. part_within from to (before n)) waiting
   work_before from to = sum_by-map before (part_within from to) waiting

@@ -1,5 +1,5 @@
 -- Shares by their stretches, and sums that are equal term by term.
-use Rattle.std.proofs.Common.{◌≡◌, ℕ, zero, suc, ◌+◌, ◌<◌, ◌≤◌, ◌==◌, List, [], ◌∷◌, length, get_or, sym, ap, arith, inl, inr, cond, refl, subst}
+use Rattle.std.proofs.Common.{◌≡◌, ℕ, zero, suc, ◌+◌, ◌<◌, ◌≤◌, ◌==◌, List, [], ◌∷◌, length, get_or, sym, arith, inl, inr, cond, refl, subst}
 use Rattle.std.specs.Prelude.{Bool, nat_lt, filter}
 use Rattle.std.specs.List.{All, AllPairs, sum_by, range_with_len}
 use Rattle.std.proofs.lemmas.Bool.{cases_lt, cases_Bool, cases_order, eq-eqb, ne_eqb, lt-ltb, le-ltb}
@@ -47,9 +47,7 @@ pairs_of_key R key k (x ∷ xs) pairs (suc i) (suc j) d order within one other =
 
 -- the numbers of a range rise
 pub range_rises : (n : ℕ) → AllPairs (λ (x y : ℕ). x < y) (range_with_len 0 n)
-range_rises n i j d order within =
-    let below : j < n = omega (arith, length-range_with_len 0 n) in
-    omega (arith, get_or-range_with_len 0 n i d (omega arith), get_or-range_with_len 0 n j d below, order)
+range_rises n i j d order within = grind (arith, get_or-range_with_len, length-range_with_len)
 
 -- where numbers differ by pairs, a number stands at one place
 pub one_place : (R : ℕ → ℕ → Type 0) → ((x y : ℕ) → R x y → x ≡ y → ⊥) → (numbers : List ℕ) (x y : ℕ) → AllPairs R numbers → x < length numbers → y < length numbers →
@@ -65,23 +63,11 @@ one_place R differ numbers x y pairs one other same = elim (cases_order x y) [
 -- numbers that rise keep the order of their places
 pub place_order : (numbers : List ℕ) (x y : ℕ) → AllPairs (λ (a b : ℕ). a < b) numbers → x < length numbers → y < length numbers →
     get_or numbers x 0 < get_or numbers y 0 → x < y
-place_order numbers x y pairs one other less = elim (cases_order x y) [
-  | inl is ↦ absurd (omega (arith, ap (λ n. get_or numbers n 0) is, less))
-  | inr apart ↦ elim apart [
-    | inl before ↦ before
-    | inr after ↦ absurd (omega (arith, pairs y x 0 after one, less))
-  ]
-]
+place_order numbers x y pairs one other less = grind (arith, cases_order)
 
 -- a share's units in the stretches before one, in it and after it
 parts_of : (i s v : ℕ) → cond (nat_lt s i) v 0 + cond (i == s) v 0 + cond (nat_lt i s) v 0 ≡ v
-parts_of i s v = elim (cases_order i s) [
-  | inl same ↦ rw (le-ltb s i (omega (arith, same)), eq-eqb i s same, le-ltb i s (omega (arith, same))) (omega arith)
-  | inr apart ↦ elim apart [
-    | inl before ↦ rw (le-ltb s i (omega (arith, before)), ne_eqb i s (λ is. omega (arith, is, before)), lt-ltb i s before) (omega arith)
-    | inr after ↦ rw (lt-ltb s i after, ne_eqb i s (λ is. omega (arith, is, after)), le-ltb i s (omega (arith, after))) (omega arith)
-  ]
-]
+parts_of i s v = grind (arith, cases_order, eq-eqb, le-ltb, lt-ltb, ne_eqb)
 
 -- a job that gets units in a later stretch has got fewer by the end of this one
 pub fewer_before : (shares : List JobShare) (i x : ℕ) (d : JobShare) → x < length shares → i < (get_or shares x d).stretch →
@@ -109,10 +95,4 @@ fewer_before shares i x d within later =
 
 -- the numbers of a range tell jobs of the same deadline apart
 pub range_ties : (n : ℕ) → AreTies (range_with_len 0 n)
-range_ties n i j first second same =
-    omega (
-      arith,
-      get_or-range_with_len 0 n i 0 (omega (arith, first, length-range_with_len 0 n)),
-      get_or-range_with_len 0 n j 0 (omega (arith, second, length-range_with_len 0 n)),
-      same,
-    )
+range_ties n i j first second same = grind (arith, get_or-range_with_len, length-range_with_len)

@@ -1,13 +1,12 @@
 -- The stretches of an interval in the time that is left: they follow one another, no job's window ends inside one, and they serve what the
 -- jobs inside the interval demand.
 use Rattle.std.proofs.Common.{◌≡◌, ℕ, zero, suc, ◌+◌, ◌-◌, ◌*◌, ◌<◌, ◌≤◌, List, length, get_or, map, ◌∙◌, sym, ap, arith, inl, inr, cond, true}
-use Rattle.std.specs.Prelude.{Bool, nat_le, nat_lt, ◌&&◌, filter}
+use Rattle.std.specs.Prelude.{Bool, nat_le, ◌&&◌, filter}
 use Rattle.std.specs.List.{All, range_with_len}
 use Rattle.std.proofs.lemmas.Bool.{cases_lt, cases_Bool, le-leb, lt-ltb, ltb-true, leb-true, and_from, and_parts}
 use Rattle.std.proofs.lemmas.List.{get_or-map}
 use Rattle.std.proofs.lemmas.List.Elements.{All-map, All-filter, filter_passes}
-use Rattle.std.proofs.Math.Nat.{mul_comm}
-use Rattle.yds_model.specs.Job.{Job, no_job, job_at}
+use Rattle.yds_model.specs.Job.{Job, job_at}
 use Rattle.yds_model.specs.Scale.{Quotient}
 use Rattle.yds_model.specs.Piece.{Piece, PiecesFrom}
 use Rattle.yds_model.specs.Event.{stretches}
@@ -38,11 +37,7 @@ pub record LiesInside (jobs : List Job) (removed : List Piece) (interval : Inter
 
 pub lies_inside : (jobs : List Job) (removed : List Piece) (interval : Interval) (k : ℕ) → stretch_lies_in (stretches jobs) removed interval k ≡ true →
     LiesInside jobs removed interval k
-lies_inside jobs removed interval k lies =
-    let parts = and_parts (nat_lt (place removed (stretch_at jobs k).from) (place removed (stretch_at jobs k).to))
-    (nat_le interval.start (place removed (stretch_at jobs k).from) && nat_le (place removed (stretch_at jobs k).to) interval.end) lies in
-    let ends = and_parts (nat_le interval.start (place removed (stretch_at jobs k).from)) (nat_le (place removed (stretch_at jobs k).to) interval.end) parts.1 in
-    record { left = ltb-true _ _ parts.0; from = leb-true _ _ ends.0; to = leb-true _ _ ends.1 }
+lies_inside jobs removed interval k lies = grind (arith, and_parts, leb-true, ltb-true)
 
 pub lies_from : (jobs : List Job) (removed : List Piece) (interval : Interval) (k : ℕ) → LiesInside jobs removed interval k →
     stretch_lies_in (stretches jobs) removed interval k ≡ true
@@ -106,20 +101,7 @@ module _ (jobs : List Job) (removed : List Piece) (apart : AreApartFrom 0 remove
 
     one_more : (k : ℕ) → k < length (stretches jobs) → speed.num * cond (stretch_lies_in (stretches jobs) removed between k) (length_at jobs k) 0
         ≤ cond (stretch_lies_in (stretches jobs) removed interval k) (served (contracted_stretch removed (stretch_at jobs k))) 0
-    one_more k known = elim (cases_Bool (stretch_lies_in (stretches jobs) removed between k)) [
-      | inr outside ↦ rw outside (omega arith)
-      | inl lies ↦
-          let inside = lies_inside jobs removed between k lies in
-          let also : stretch_lies_in (stretches jobs) removed interval k ≡ true =
-          lies_from jobs removed interval k (record { left = inside.left; from = omega (arith, inside.from, from); to = omega (arith, inside.to, to) }) in
-          let counts : (nat_le between.start (place removed (stretch_at jobs k).from) && nat_le (place removed (stretch_at jobs k).to) between.end) ≡ true =
-          and_from _ _ (le-leb _ _ inside.from) (le-leb _ _ inside.to) in
-          let long : place removed (stretch_at jobs k).to - place removed (stretch_at jobs k).from ≡ length_at jobs k = elim (whole k known) [
-            | inl gone ↦ absurd (omega (arith, gone, inside.left))
-            | inr all ↦ omega (arith, all)
-          ] in
-          rw (lies, also, counts) (omega (arith, ap (λ n. speed.num * n) long))
-    ]
+    one_more k known = grind (arith, and_from, cases_Bool, le-leb, lies_from, lies_inside)
 
     served_is : capacity_between left (map (capacity_of speed) left) between.start between.end
         ≡ sum_below (length (stretches jobs)) (λ k. cond (stretch_lies_in (stretches jobs) removed interval k) (served (contracted_stretch removed (stretch_at jobs k))) 0)

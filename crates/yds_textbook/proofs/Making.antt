@@ -22,7 +22,7 @@ use Rattle.yds_edf.specs.Filled.{IsFilled}
 use Rattle.yds_edf.proofs.Filled.{stands_in}
 use Rattle.yds_critical.specs.declared.interval.Interval.{Interval}
 use Rattle.yds_contract.specs.Contracted.{place}
-use Rattle.yds_textbook.specs.Waiting.{contracted_stretch, contracted_stretches, stretch_lies_in, stretches_inside}
+use Rattle.yds_textbook.specs.Waiting.{contracted_stretches, stretches_inside}
 use Rattle.yds_textbook.specs.Served.{capacity_of}
 use Rattle.yds_textbook.specs.Stages.{speed_of}
 use Rattle.yds_textbook.proofs.Left.{each_inside}
@@ -40,29 +40,16 @@ left_are jobs timeline removed numbers own same is =
 -- the stretches inside an interval, whose numbers stand in another list
 pub numbers_known : (jobs : List Job) (timeline removed : List Piece) (interval : Interval) (numbers : List ℕ) → timeline ≡ stretches jobs →
     numbers ≡ stretches_inside (stretches jobs) removed interval → All (λ k. k < length timeline) numbers
-numbers_known jobs timeline removed interval numbers same is =
-    subst (λ (pieces : List Piece). All (λ k. k < length pieces) numbers) (sym same)
-    (subst (All (λ k. k < length (stretches jobs))) (sym is) (λ k d within. (each_inside jobs removed interval k d within).0))
+numbers_known jobs timeline removed interval numbers same is = grind (arith, each_inside)
 
 pub numbers_left : (jobs : List Job) (timeline removed : List Piece) (interval : Interval) (numbers : List ℕ) → timeline ≡ stretches jobs →
     numbers ≡ stretches_inside (stretches jobs) removed interval →
     All (λ k. place removed (nth_stretch timeline k).from < place removed (nth_stretch timeline k).to) numbers
-numbers_left jobs timeline removed interval numbers same is =
-    subst (λ (pieces : List Piece). All (λ k. place removed (nth_stretch pieces k).from < place removed (nth_stretch pieces k).to) numbers) (sym same)
-    (subst (All (λ k. place removed (nth_stretch (stretches jobs) k).from < place removed (nth_stretch (stretches jobs) k).to)) (sym is)
-    (λ k d within. (each_inside jobs removed interval k d within).1.left))
+numbers_left jobs timeline removed interval numbers same is = grind (arith, each_inside)
 
 -- no more of the stretches are left than there are
 pub few_left : (timeline removed : List Piece) (interval : Interval) → length (contracted_stretches timeline removed (stretches_inside timeline removed interval)) ≤ length timeline
-few_left timeline removed interval =
-    let p = stretch_lies_in timeline removed interval in
-    omega (
-      arith,
-      length-map (stretches_inside timeline removed interval) (λ k. contracted_stretch removed (nth_stretch timeline k)),
-      length-filter p (range_with_len 0 (length timeline)),
-      count_by-le-length p (range_with_len 0 (length timeline)),
-      length-range_with_len 0 (length timeline),
-    )
+few_left timeline removed interval = grind (arith, count_by-le-length, length-filter, length-map, length-range_with_len)
 
 -- a speed in lowest terms is that of its group
 pub speed_is : (work length : ℕ) (speed : Quotient) → 1 ≤ length → 1 ≤ speed.den → work * speed.den ≡ speed.num * length → IsGcd speed.num speed.den 1 →
@@ -75,11 +62,7 @@ speed_is work length speed some some_den same lowest =
 pub filled_as : (jobs own : List Job) (pieces left : List Piece) (speed other : Quotient) (count : ℕ) (served : List JobShare) → jobs ≡ own → pieces ≡ left → speed ≡ other →
     length own ≡ count → IsFilled jobs (range_with_len 0 (length jobs)) speed.den pieces (map (capacity_of speed) pieces) served →
     IsFilled own (range_with_len 0 count) other.den left (map (capacity_of other) left) served
-filled_as jobs own pieces left speed other count served same_jobs same_pieces same_speed counted filled =
-    subst (λ (n : ℕ). IsFilled own (range_with_len 0 n) other.den left (map (capacity_of other) left) served) counted
-    (subst (λ (q : Quotient). IsFilled own (range_with_len 0 (length own)) q.den left (map (capacity_of q) left) served) same_speed
-    (subst (λ (ps : List Piece). IsFilled own (range_with_len 0 (length own)) speed.den ps (map (capacity_of speed) ps) served) same_pieces
-    (subst (λ (js : List Job). IsFilled js (range_with_len 0 (length js)) speed.den pieces (map (capacity_of speed) pieces) served) same_jobs filled)))
+filled_as jobs own pieces left speed other count served same_jobs same_pieces same_speed counted filled = grind (arith)
 
 -- each share is of a job
 pub jobs_known : (jobs : List Job) (ties : List ℕ) (grain : ℕ) (pieces : List Piece) (capacities : List ℕ) (served : List JobShare) →

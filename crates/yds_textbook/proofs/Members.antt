@@ -1,5 +1,5 @@
 -- Numbers among others, and the first stage that has one.
-use Rattle.std.proofs.Common.{◌≡◌, ℕ, zero, suc, ◌+◌, ◌<◌, ◌≤◌, ◌==◌, List, [], ◌∷◌, length, get_or, ◌∙◌, sym, ap, arith, inl, inr, cond, refl, true, false, subst}
+use Rattle.std.proofs.Common.{◌≡◌, ℕ, zero, suc, ◌+◌, ◌<◌, ◌≤◌, ◌==◌, List, [], ◌∷◌, length, get_or, ◌∙◌, sym, ap, arith, cond, refl, true, false}
 use Rattle.std.specs.Prelude.{Bool, ◌||◌, filter}
 use Rattle.std.specs.List.{All, AllPairs, Contains, sum_by, position_or_len}
 use Rattle.std.proofs.lemmas.Bool.{cases_eq, eq-eqb, ne_eqb, eqb-true, false_from_ne_true}
@@ -14,10 +14,7 @@ use Rattle.yds_textbook.specs.Together.{stands_among}
 
 -- the test finds just the numbers that stand there
 pub stands_there : (numbers : List ℕ) (n : ℕ) → stands_among numbers n ≡ true → Contains numbers n
-stands_there numbers n stands =
-    let found = Any-from_list_any (λ (other : ℕ). other == n) numbers stands in
-    let is : found.1 ≡ n = eqb-true found.1 n found.4 in
-    (found.0, found.2, subst (λ (x : ℕ). get_or numbers found.0 x ≡ x) is found.3)
+stands_there numbers n stands = grind (arith, Any-from_list_any, eqb-true)
 
 pub stands_if : (numbers : List ℕ) (n : ℕ) → Contains numbers n → stands_among numbers n ≡ true
 stands_if numbers n here = list_any_at (λ (other : ℕ). other == n) numbers here.0 n here.1 (eq-eqb (get_or numbers here.0 n) n here.2)
@@ -53,12 +50,7 @@ two_places f (x ∷ xs) (suc i) (suc j) d order within = omega (arith, sum_by-co
 
 -- the number at the head, or one of the rest
 head_or_rest : (f : ℕ → ℕ) (x j : ℕ) (rest : Bool) → (x ≡ j → rest ≡ true → ⊥) → cond ((x == j) || rest) (f j) 0 ≡ cond (x == j) (f x) 0 + cond rest (f j) 0
-head_or_rest f x j rest once = elim (cases_eq x j) [
-  | inl same ↦
-      let none : rest ≡ false = false_from_ne_true rest (once same) in
-      rw (eq-eqb x j same, none) (omega (arith, ap f same))
-  | inr other ↦ rw (ne_eqb x j other) (omega arith)
-]
+head_or_rest f x j rest once = grind (arith, cases_eq, eq-eqb, false_from_ne_true, ne_eqb)
 
 -- a sum over all numbers of what some of them have is their sum, where none stands twice
 pub sum_of_some : (R : ℕ → ℕ → Type 0) → ((x y : ℕ) → R x y → x ≡ y → ⊥) → (f : ℕ → ℕ) (n : ℕ) (numbers : List ℕ) → AllPairs R numbers → All (λ x. x < n) numbers →
@@ -82,10 +74,7 @@ sum_of_some R differ f n (x ∷ xs) pairs below =
 -- a search goes on where an element fails the test, and ends at the first that passes, or after all
 pub fails_more : {X : Type 0} (p : X → Bool) (xs : List X) (i : ℕ) (x : X) → i < length xs → x ≡ get_or xs i x → p x ≡ false →
     ((k : ℕ) (d : X) → k < i → p (get_or xs k d) ≡ false) → (k : ℕ) (d : X) → k < i + 1 → p (get_or xs k d) ≡ false
-fails_more p xs i x within is fails before k d below = elim (place_cases k i below) [
-  | inl less ↦ before k d less
-  | inr same ↦ ap (λ n. p (get_or xs n d)) same ∙ ap p (sym (get_or_read xs i x within is d)) ∙ fails
-]
+fails_more p xs i x within is fails before k d below = grind (arith, get_or_read, place_cases)
 
 pub passes_here : {X : Type 0} (p : X → Bool) (xs : List X) (i : ℕ) (x : X) → i < length xs → x ≡ get_or xs i x → p x ≡ true →
     ((k : ℕ) (d : X) → k < i → p (get_or xs k d) ≡ false) → i ≡ position_or_len p xs

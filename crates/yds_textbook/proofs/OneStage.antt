@@ -147,25 +147,11 @@ module _ (jobs : List Job) (removed : List Piece) (interval : Interval) (waiting
   -- in window
   released : (x i : ℕ) → x < length members → i < length numbers → (job_at own_jobs x).release ≤ (nth_stretch own_stretches i).from →
       (job_at jobs (get_or members x 0)).release ≤ (stretch_at jobs (get_or numbers i 0)).from
-  released x i member number before =
-      let inside = numbers_inside i 0 number in
-      let begins : place removed (job_at jobs (get_or members x 0)).release ≤ place removed (stretch_at jobs (get_or numbers i 0)).from =
-      omega (arith, before, ap (λ (job : Job). job.release) (own_job x member), ap (λ (piece : Piece). piece.from) (own_stretch i number)) in
-      elim (release_outside jobs (get_or members x 0) (get_or numbers i 0) (members_wait x 0 member).known inside.0) [
-        | inl early ↦ early
-        | inr late ↦ absurd (omega (arith, begins, inside.1.left, place_rises (stretch_at jobs (get_or numbers i 0)).to (job_at jobs (get_or members x 0)).release removed apart late))
-      ]
+  released x i member number before = grind (arith, members_wait, numbers_inside, own_job, own_stretch, place_rises, release_outside)
 
   due : (x i : ℕ) → x < length members → i < length numbers → (nth_stretch own_stretches i).to ≤ (job_at own_jobs x).deadline →
       (stretch_at jobs (get_or numbers i 0)).to ≤ (job_at jobs (get_or members x 0)).deadline
-  due x i member number after =
-      let inside = numbers_inside i 0 number in
-      let ends : place removed (stretch_at jobs (get_or numbers i 0)).to ≤ place removed (job_at jobs (get_or members x 0)).deadline =
-      omega (arith, after, ap (λ (job : Job). job.deadline) (own_job x member), ap (λ (piece : Piece). piece.to) (own_stretch i number)) in
-      elim (deadline_outside jobs (get_or members x 0) (get_or numbers i 0) (members_wait x 0 member).known inside.0) [
-        | inl early ↦ absurd (omega (arith, ends, inside.1.left, place_rises (job_at jobs (get_or members x 0)).deadline (stretch_at jobs (get_or numbers i 0)).from removed apart early))
-        | inr late ↦ late
-      ]
+  due x i member number after = grind (arith, deadline_outside, members_wait, numbers_inside, own_job, own_stretch, place_rises)
 
   abbrev by_number : JobShare → JobShare
   by_number = share_of_members members numbers
@@ -183,16 +169,7 @@ module _ (jobs : List Job) (removed : List Piece) (interval : Interval) (waiting
 
   -- units of a job
   units_are : (x : ℕ) → x < length members → units_of_job (map by_number given) (get_or members x 0) ≡ units_given given x
-  units_are x within =
-      sum_by-map by_number (λ (s : JobShare). cond (s.job == get_or members x 0) s.units 0) given
-      ∙ sum_by_same (λ (s : JobShare). cond (get_or members s.job 0 == get_or members x 0) s.units 0) (λ s. cond (x == s.job) s.units 0) given
-      (λ k d here. elim (cases_eq x (get_or given k d).job) [
-        | inl same ↦ rw (eq-eqb x (get_or given k d).job same, eq-eqb (get_or members (get_or given k d).job 0) (get_or members x 0) (sym (ap (λ n. get_or members n 0) same))) refl
-        | inr other ↦ rw (
-          ne_eqb x (get_or given k d).job other,
-          ne_eqb (get_or members (get_or given k d).job 0) (get_or members x 0) (λ same. other (sym (one_member (get_or given k d).job x (of_members k d here) within same))),
-        ) refl
-      ])
+  units_are x within = grind (arith, cases_eq, eq-eqb, ne_eqb, of_members, one_member, sum_by-map, sum_by_same)
 
   all_served : (j : ℕ) → Contains members j → units_of_job (map by_number given) j ≡ per_work group * (job_at jobs j).work
   all_served j here =
@@ -204,29 +181,14 @@ module _ (jobs : List Job) (removed : List Piece) (interval : Interval) (waiting
 
   -- units in a stretch
   units_in : (i : ℕ) → i < length numbers → units_in_stretch (map by_number given) (get_or numbers i 0) ≡ total_units (shares_in given i)
-  units_in i within =
-      sum_by-map by_number (λ (s : JobShare). cond (s.stretch == get_or numbers i 0) s.units 0) given
-      ∙ sum_by_same (λ (s : JobShare). cond (get_or numbers s.stretch 0 == get_or numbers i 0) s.units 0) (λ s. cond (i == s.stretch) s.units 0) given
-      (λ k d here. elim (cases_eq i (get_or given k d).stretch) [
-        | inl same ↦ rw (eq-eqb i (get_or given k d).stretch same, eq-eqb (get_or numbers (get_or given k d).stretch 0) (get_or numbers i 0) (sym (ap (λ n. get_or numbers n 0) same))) refl
-        | inr other ↦ rw (
-          ne_eqb i (get_or given k d).stretch other,
-          ne_eqb (get_or numbers (get_or given k d).stretch 0) (get_or numbers i 0) (λ same. other (sym (one_number (get_or given k d).stretch i (in_stretches k d here) within same))),
-        ) refl
-      ])
-      ∙ sym (sum_by-filter (λ (s : JobShare). i == s.stretch) (λ s. s.units) given)
+  units_in i within = grind (arith, cases_eq, eq-eqb, in_stretches, ne_eqb, one_number, sum_by-filter, sum_by-map, sum_by_same)
 
   -- the stage's jobs have the interval's work, and its stretches have the interval's length
   pub members_work : work_of jobs members ≡ interval.work
-  members_work =
-      ap (λ (ns : List ℕ). work_of jobs ns) is.members
-      ∙ sum_by-filter (lies_in jobs removed interval) (λ n. (job_at jobs n).work) waiting
-      ∙ sym (critical.candidate.is_work ∙ sum_by-map (λ n. contracted removed (job_at jobs n)) (part_within interval.start interval.end) waiting)
+  members_work = grind (arith, part_within, sum_by-filter, sum_by-map)
 
   pub lengths_inside : sum_below (length (stretches jobs)) (λ k. cond (stretch_lies_in (stretches jobs) removed interval k) (length_at jobs k) 0) ≡ interval.end - interval.start
-  lengths_inside =
-      let ends = from_events jobs removed waiting interval can critical in
-      sym (lengths_between jobs removed apart interval ends.first ends.last ends.first_known ends.last_known whole ends.start ends.end)
+  lengths_inside = grind (arith, from_events, lengths_between)
 
   lengths_left : sum_by length_of own_stretches ≡ interval.end - interval.start
   lengths_left =

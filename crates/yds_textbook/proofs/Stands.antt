@@ -1,6 +1,6 @@
 -- What holds between two stages, once some time is removed and some jobs wait.
-use Rattle.std.proofs.Common.{◌≡◌, ℕ, ◌+◌, ◌-◌, ◌<◌, ◌≤◌, ◌⊎◌, List, [], ◌∷◌, length, get_or, ◌∙◌, sym, ap, arith, inl, inr, cond, refl, true, false, subst, min}
-use Rattle.std.specs.Prelude.{nat_lt, nat_le, not, filter, ◌==◌}
+use Rattle.std.proofs.Common.{◌≡◌, ℕ, ◌+◌, ◌-◌, ◌<◌, ◌≤◌, List, [], ◌∷◌, length, get_or, ◌∙◌, sym, ap, arith, cond, refl, true, false, subst, min}
+use Rattle.std.specs.Prelude.{nat_lt, not, filter, ◌==◌}
 use Rattle.std.specs.List.{All, AllPairs, sum_by}
 use Rattle.std.proofs.lemmas.Bool.{leb-true, and_parts, eq-eqb, both_ways, false_from_ne_true}
 use Rattle.std.proofs.lemmas.List.{get_or_default}
@@ -116,38 +116,15 @@ module _ (jobs : List Job) (removed changed : List Piece) (waiting : List ℕ) (
       omega (arith, left, place_after (stretch_at jobs k).from, place_after (stretch_at jobs k).to, critical.candidate.forward)
 
   pub left_outside : (k : ℕ) → IsLeft jobs changed k → stretch_lies_in (stretches jobs) removed interval k ≡ false
-  left_outside k left = false_from_ne_true (stretch_lies_in (stretches jobs) removed interval k) (λ lies.
-      let inside = lies_inside jobs removed interval k lies in
-      omega (arith, left, inside.from, inside.to, inside.left, place_after (stretch_at jobs k).from, place_after (stretch_at jobs k).to))
+  left_outside k left = grind (arith, false_from_ne_true, lies_inside, place_after)
 
   pub stays_left : (k : ℕ) → k < length (stretches jobs) → IsLeft jobs removed k → stretch_lies_in (stretches jobs) removed interval k ≡ false → IsLeft jobs changed k
-  stays_left k known left outside =
-      let ends = from_events jobs removed waiting interval is.can_wait critical in
-      let from = place removed (stretch_at jobs k).from in
-      let to = place removed (stretch_at jobs k).to in
-      let begins : (interval.start ≤ from) ⊎ (to ≤ interval.start) =
-      subst (λ (t : ℕ). (t ≤ from) ⊎ (to ≤ t)) (sym ends.start) (release_stays jobs removed is.apart ends.first k ends.first_known known) in
-      let closes : (interval.end ≤ from) ⊎ (to ≤ interval.end) =
-      subst (λ (t : ℕ). (t ≤ from) ⊎ (to ≤ t)) (sym ends.end) (deadline_stays jobs removed is.apart ends.last k ends.last_known known) in
-      elim begins [
-        | inr early ↦ omega (arith, left, early, critical.candidate.forward, place_after (stretch_at jobs k).from, place_after (stretch_at jobs k).to)
-        | inl from_start ↦ elim closes [
-          | inl late ↦ omega (arith, left, late, critical.candidate.forward, place_after (stretch_at jobs k).from, place_after (stretch_at jobs k).to)
-          | inr to_end ↦ absurd (both_ways (stretch_lies_in (stretches jobs) removed interval k) outside
-              (lies_from jobs removed interval k (record { left = left; from = from_start; to = to_end })))
-        ]
-      ]
+  stays_left k known left outside = grind (arith, both_ways, deadline_stays, from_events, lies_from, place_after, release_stays)
 
   -- Each stretch that is left of the window of a job inside the interval lies in the interval.
   pub window_in_interval : (j k : ℕ) → lies_in jobs removed interval j ≡ true → IsInWindow jobs j k → IsLeft jobs removed k →
       stretch_lies_in (stretches jobs) removed interval k ≡ true
-  window_in_interval j k lies window left =
-      let parts = and_parts (nat_le interval.start (place removed (job_at jobs j).release)) (nat_le (place removed (job_at jobs j).deadline) interval.end) lies in
-      lies_from jobs removed interval k (record {
-        left = left;
-        from = omega (arith, leb-true _ _ parts.0, place_rises (job_at jobs j).release (stretch_at jobs k).from removed is.apart window.released);
-        to = omega (arith, leb-true _ _ parts.1, place_rises (stretch_at jobs k).to (job_at jobs j).deadline removed is.apart window.due);
-      })
+  window_in_interval j k lies window left = grind (arith, and_parts, leb-true, lies_from, place_rises)
 
 -- there are no more stages than jobs that wait
 pub few_stages : (jobs : List Job) (removed : List Piece) (waiting : List ℕ) (stages : List Stage) → IsBetween jobs removed waiting → AreStages jobs removed waiting stages →

@@ -1,5 +1,5 @@
 -- The theorem of Yao, Demers and Shenker: the stages of the textbook's way make a plan.
-use Rattle.std.proofs.Common.{◌≡◌, ℕ, ◌-◌, ◌*◌, ◌<◌, ◌≤◌, ◌==◌, List, [], ◌∷◌, length, get_or, ◌∙◌, sym, ap, arith, inl, inr, cond, refl, true, false, subst}
+use Rattle.std.proofs.Common.{◌≡◌, ℕ, ◌-◌, ◌*◌, ◌<◌, ◌≤◌, ◌==◌, List, [], ◌∷◌, length, ◌∙◌, sym, ap, arith, inl, inr, cond, refl, true, false, subst}
 use Rattle.std.specs.Prelude.{Bool, nat_lt, filter}
 use Rattle.std.specs.List.{All, Contains}
 use Rattle.std.proofs.lemmas.Bool.{cases_lt, le-leb, leb-true}
@@ -16,7 +16,7 @@ use Rattle.yds_model.proofs.Filters.{contains_filter}
 use Rattle.yds_events.specs.Window.{length_at}
 use Rattle.yds_events.proofs.Neighbours.{stretch_forward}
 use Rattle.yds_timetable.specs.Shares.{no_share, share_at}
-use Rattle.yds_search.specs.Found.{Group, Found, IsShare, IsFound, group_of, group_at, per_work, per_time}
+use Rattle.yds_search.specs.Found.{Found, IsShare, IsFound, group_of, group_at, per_work, per_time}
 use Rattle.yds_search.specs.Views.{group_view}
 use Rattle.yds_search.proofs.KeySums.{over_same}
 use Rattle.yds_edf.proofs.Sums.{sum_below_bound}
@@ -32,7 +32,7 @@ use Rattle.yds_textbook.proofs.Starting.{few_wait}
 use Rattle.yds_textbook.proofs.Members.{kept_from}
 use Rattle.yds_textbook.proofs.Intensities.{intensities_dont_rise}
 use Rattle.yds_textbook.proofs.Stands.{IsBetween, IsLeft, between_at_first, all_can_wait, between_next, few_stages}
-use Rattle.yds_textbook.proofs.AllStages.{IsShareOf, AreTogether, none_together, one_more_together}
+use Rattle.yds_textbook.proofs.AllStages.{AreTogether, none_together, one_more_together}
 
 slower_by : (a b c d work length first long : ℕ) → a ≡ work → b ≡ length → c ≡ first → d ≡ long → work * long ≤ first * length → a * d ≤ c * b
 slower_by a b c d work length first long e f g h slower = rw (e, f, g, h) slower
@@ -43,18 +43,7 @@ next_slower : (jobs : List Job) (removed changed : List Piece) (waiting : List �
     Removes removed interval.start interval.end changed → AreStages jobs changed (outside jobs removed interval waiting) stages →
     (next : Stage) (more : List Stage) → stages ≡ next ∷ more →
     (group_view next.group).work * (group_view stage.group).length ≤ (group_view stage.group).work * (group_view next.group).length
-next_slower jobs removed changed waiting interval stage stages between critical is removes rest next more same =
-    let are : AreStages jobs changed (outside jobs removed interval waiting) (next ∷ more) =
-    subst (AreStages jobs changed (outside jobs removed interval waiting)) same rest in
-    let later : Interval = are.0 in
-    let own = are.2 in
-    let slower = intensities_dont_rise jobs removed changed waiting interval between.apart between.can_wait critical removes later.start later.end own.candidate.forward in
-    let work : (group_view next.group).work ≡ later.work = ap (λ (g : Group). g.work) are.3.group in
-    let length : (group_view next.group).length ≡ later.end - later.start = ap (λ (g : Group). g.length) are.3.group in
-    let first : (group_view stage.group).work ≡ interval.work = ap (λ (g : Group). g.work) is.group in
-    let long : (group_view stage.group).length ≡ interval.end - interval.start = ap (λ (g : Group). g.length) is.group in
-    slower_by (group_view next.group).work (group_view next.group).length (group_view stage.group).work (group_view stage.group).length _ (later.end - later.start)
-    interval.work (interval.end - interval.start) (work ∙ own.candidate.is_work) length first long slower
+next_slower jobs removed changed waiting interval stage stages between critical is removes rest next more same = grind (arith, intensities_dont_rise, slower_by)
 
 -- all stages together
 pub all_together : (jobs : List Job) (removed : List Piece) (waiting : List ℕ) (stages : List Stage) → IsBetween jobs removed waiting →
@@ -99,16 +88,7 @@ module _ (jobs : List Job) (order : List ℕ) (stages : List Stage) (are_jobs : 
   stretch_group k known = get_or-map-range_with_len (stage_of_stretch stages) 0 (length (stretches jobs)) k k 0 known (omega arith)
 
   all_shares : All (IsShare jobs found) found.shares
-  all_shares k d within =
-      let own : IsShareOf jobs stages (get_or found.shares k d) = together.own k d within in
-      record {
-        known = own.known;
-        known_stretch = own.known_stretch;
-        some = own.some;
-        in_window = own.in_window;
-        grouped = omega (arith, job_group (get_or found.shares k d).job own.known, own.grouped, count);
-        same_group = stretch_group (get_or found.shares k d).stretch own.known_stretch ∙ own.same_stage ∙ sym (job_group (get_or found.shares k d).job own.known);
-      }
+  all_shares k d within = grind (arith, count, job_group, stretch_group, together)
 
   -- The stages, together, are groups of jobs and stretches as the planner's search finds them.
   pub stages_are_found : IsFound jobs found

@@ -48,14 +48,7 @@ either_fits true one other first second = first
 either_fits false one other first second = second
 
 word_fits : (word : List ℕ) → TopFits (request_of_word word)
-word_fits word =
-    either_fits (bytes_eq word (codes "plan")) _ _ tt
-    (either_fits (bytes_eq word (codes "round")) _ _ tt
-    (either_fits (bytes_eq word (codes "check")) _ _ tt
-    (either_fits (bytes_eq word (codes "audit")) _ _ tt
-    (either_fits (bytes_eq word (codes "report")) _ _ tt
-    (either_fits (bytes_eq word (codes "expand")) _ _ tt
-    (either_fits (bytes_eq word (codes "curve")) _ _ tt tt))))))
+word_fits word = grind (arith)
 
 top_fits : (text : List ℕ) (read : Result ℕ NumberFault) → number_at 1 MAX_TOP text ≡ read → TopFits (request_of_top read)
 top_fits text (Ok top) is = (number_at_ok 1 MAX_TOP text top is).1
@@ -167,19 +160,7 @@ comment_texts document top refusal =
 
 comment_words : (document : Document) (top : ℕ) (refusal : Refusal) → is_name (name_at document.names refusal.job) ≡ true → top ≤ MAX_TOP →
     IsSmall (length document.jobs) refusal → AllByRecursion IsWord (comment_texts document top refusal)
-comment_words document top refusal named within small = assumption (
-  name_word (codes "#") refl,
-  name_word (codes "refuse") refl,
-  name_word (name_at document.names refusal.job) named,
-  name_word (codes "from") refl,
-  decimal_word refusal.from (omega (arith, small.from)),
-  name_word (codes "to") refl,
-  decimal_word refusal.to (omega (arith, small.to)),
-  name_word (codes "work") refl,
-  decimal_word refusal.work (omega (arith, small.work)),
-  name_word (codes "top") refl,
-  decimal_word top (omega (arith, within)),
-)
+comment_words document top refusal named within small = grind (arith, decimal_word, name_word)
 
 comment_short : (document : Document) (top : ℕ) (refusal : Refusal) → length (name_at document.names refusal.job) ≤ MAX_NAME → top ≤ MAX_TOP →
     IsSmall (length document.jobs) refusal → length (refusal_comment document top refusal) ≤ 140

@@ -1,11 +1,10 @@
 -- The answer to an input that isn't refused, and what `audit` answers to a text that is read as a document.
-use Rattle.std.proofs.Common.{◌≡◌, ℕ, ◌*◌, ◌≤◌, Bool, true, false, List, [], ◌∷◌, length, Some, Result, Ok, Err, refl, ap, subst, ◌∙◌, arith, codes, le-ltb}
+use Rattle.std.proofs.Common.{◌≡◌, ℕ, ◌*◌, ◌≤◌, Bool, true, false, List, [], ◌∷◌, length, Some, Result, Ok, Err, refl, arith, codes, le-ltb}
 use Rattle.std.proofs.lemmas.List.Elements.{All-weaker}
 use Rattle.yds_model.specs.declared.limits.TheConstants.{MAX_INPUT, MAX_JOBS}
 use Rattle.yds_model.specs.declared.reason.Reason.{Reason}
 use Rattle.yds_model.specs.declared.status.Status.{Status}
 use Rattle.yds_model.specs.declared.status.Status.TheVariants.{Done, No, Refused}
-use Rattle.yds_model.specs.Slot.{WrittenSlot, IsSolid}
 use Rattle.yds_model.specs.Level.{all_pieces, all_members}
 use Rattle.yds_model.specs.Table.{Point}
 use Rattle.yds_model.specs.Feasible.{IsFeasible}
@@ -13,7 +12,7 @@ use Rattle.yds_model.specs.Audit.{AreSlots, Feasible}
 use Rattle.yds_model.specs.Document.{Document}
 use Rattle.yds_model.specs.Fields.{Fault}
 use Rattle.yds_model.specs.Reading.{reading}
-use Rattle.yds_model.specs.Within.{IsDocument, IsSlot, IsTextOf}
+use Rattle.yds_model.specs.Within.{IsDocument, IsTextOf}
 use Rattle.yds_model.specs.Request.{Question, AskAudit, OfDocument}
 use Rattle.yds_model.specs.Answer.{OnPoints, AnswersQuestion, AnswersReading, UnlessTooLong, is_too_long, AnswersRequest}
 use Rattle.yds_model.proofs.Verdicts.{verdict_is_exact}
@@ -74,22 +73,13 @@ pub record IsReadAs (document : Document) (text : List ℕ) : Type 0 where
 -- the text of a document of few parts is one
 pub text_read : (document : Document) (text : List ℕ) → IsTextOf document text → length document.slots ≤ 5 * MAX_JOBS → length document.levels ≤ MAX_JOBS →
     length (all_pieces document.levels) ≤ 3 * MAX_JOBS → length (all_members document.levels) ≤ MAX_JOBS → IsReadAs document text
-text_read document text said few_slots few_levels few_pieces few_members = record {
-  short = omega (arith, ap length said.written, text_is_short document said.possible few_slots few_levels few_pieces few_members);
-  read_again = ap reading said.written ∙ printed_is_read document said.possible;
-}
+text_read document text said few_slots few_levels few_pieces few_members = grind (arith, printed_is_read, text_is_short)
 
 -- # What `audit` answers
 
 -- the slots of a document within the limits are as the auditor wants them
 pub slots_agree : (document : Document) → IsDocument document → AreSlots (length document.jobs) document.slots
-slots_agree document fits =
-    subst (λ count. AreSlots count document.slots) fits.jobs.one_name_each
-    (record { solid = All-weaker IsSlot IsSolid solid document.slots fits.slots.fit; known = fits.slots.known; alike = fits.slots.grains })
-  where
-    -- a slot within the limits has denominators of at least 1
-    solid : (slot : WrittenSlot) → IsSlot slot → IsSolid slot
-    solid slot is = record { from = omega (arith, is.from.below_one); to = omega (arith, is.to.below_one); work = omega (arith, is.work.below_one) }
+slots_agree document fits = grind (arith, All-weaker)
 
 -- the answer to a text that is short and read as a document
 pub answers_document : (question : Question) (text told : List ℕ) (document : Document) → length text ≤ MAX_INPUT → reading text ≡ Ok document →

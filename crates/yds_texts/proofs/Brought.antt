@@ -26,10 +26,7 @@ visible_full byte visible =
 
 -- so a word is a field without a blank in it
 word_full : (text : List ℕ) → IsWord text → IsFull text
-word_full text word = record {
-  some = word.some;
-  full = All-weaker (λ byte. 33 ≤ byte) (λ byte. is_blank byte ≡ false) visible_full text word.visible;
-}
+word_full text word = grind (arith, All-weaker, visible_full)
 
 -- and so are words
 words_full : (texts : List (List ℕ)) → AllByRecursion IsWord texts → AllByRecursion IsFull texts

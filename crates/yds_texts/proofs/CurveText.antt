@@ -4,7 +4,7 @@ use Rattle.yds_model.specs.Request.{AskCurve}
 use Rattle.yds_model.specs.declared.status.Status.TheVariants.{Done}
 use Rattle.std.proofs.lemmas.List.Elements.{All-from_get_or}
 use Rattle.std.proofs.lemmas.Bool.{cases_lt}
-use Rattle.std.proofs.Common.{inl, inr, ◌≡◌, ℕ, zero, suc, ◌+◌, ◌-◌, ◌*◌, ◌<◌, ◌≤◌, List, length, get_or, reverse, refl, sym, ap, subst, ◌∙◌, arith, add-one, add-zero, ◌⊎◌}
+use Rattle.std.proofs.Common.{◌≡◌, ℕ, zero, suc, ◌+◌, ◌-◌, ◌*◌, ◌<◌, ◌≤◌, List, length, get_or, reverse, refl, sym, ap, subst, ◌∙◌, arith, add-one, add-zero, ◌⊎◌}
 use Rattle.std.proofs.lemmas.List.{get_or-map, get_or-reverse, length-map, length-reverse}
 use Rattle.std.proofs.Math.Nat.{le_refl, mul-le-mul_right, mul-lt-mul_of_pos_right, lt_of_mul-lt-mul_right, le_of_mul-le-mul_right}
 use Rattle.yds_model.specs.Job.{Job}
@@ -122,10 +122,7 @@ module _ (jobs : List Job) (slots : List WrittenSlot) (levels : List Level) (pla
 
   -- both its numbers are in lowest terms
   lowest_at : (i : ℕ) → i < suc (length levels) → IsLowest (speed_at breaks i) × IsLowest (bend_at breaks i).excess
-  lowest_at i within = (
-    subst IsLowest (sym (speed_is i within)) (lowest_is_lowest (num_at levels i) (den_at levels i) (some_den i within)),
-    subst IsLowest (sym (excess_is i within)) (lowest_is_lowest _ (den_at levels i) (some_den i within)),
-  )
+  lowest_at i within = grind (arith, excess_is, lowest_is_lowest, speed_is)
 
   -- breaks at places that don't fall
   at_most_later : (i j : ℕ) → i ≤ j → j < suc (length levels) → IsAtMost (speed_at breaks i) (speed_at breaks j)
@@ -157,10 +154,7 @@ module _ (jobs : List Job) (slots : List WrittenSlot) (levels : List Level) (pla
   -- between two neighbours no break lies
   beside : (i k : ℕ) → i + 1 < suc (length levels) → k < suc (length levels) →
       IsNotAbove (as_quotient (speed_at breaks i)) (speed_at breaks k) ⊎ IsNotBelow (as_quotient (speed_at breaks (i + 1))) (speed_at breaks k)
-  beside i k within known = elim (cases_lt i k) [
-    | inl after ↦ inr (at_most_later (i + 1) k (omega (arith, after)) known)
-    | inr before ↦ inl (at_most_later k i before (omega (arith, within)))
-  ]
+  beside i k within known = grind (arith, at_most_later, cases_lt)
 
   goes_straight : (i : ℕ) (speed : Fraction) → i + 1 < suc (length levels) → 1 ≤ speed.den → IsAtMost (speed_at breaks i) speed →
       IsAtMost speed (speed_at breaks (i + 1)) → GoesStraight jobs (bend_at breaks i) (bend_at breaks (i + 1)) speed

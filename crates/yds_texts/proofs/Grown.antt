@@ -1,7 +1,7 @@
 -- The parts of a document stay within the limits as one more job, point, slot, level, piece or member comes.
-use Rattle.std.proofs.Common.{◌≡◌, ℕ, ◌+◌, ◌/◌, ◌%◌, ◌<◌, ◌≤◌, ◌⊎◌, Bool, true, false, nat_lt, ◌==◌, List, [], ◌∷◌, ◌++◌, length, Some, None, Ok, refl, sym, ap, subst, ◌∙◌, arith, inl, inr, eqb-true, append-nil}
+use Rattle.std.proofs.Common.{◌≡◌, ℕ, ◌+◌, ◌/◌, ◌<◌, ◌≤◌, ◌⊎◌, Bool, true, false, nat_lt, ◌==◌, List, [], ◌∷◌, ◌++◌, length, Some, None, Ok, refl, sym, subst, ◌∙◌, arith, inl, inr, eqb-true, append-nil}
 use Rattle.std.specs.Prelude.{if◌then◌else◌}
-use Rattle.std.specs.List.{All, list_all, filter_map, position, position_or_len}
+use Rattle.std.specs.List.{All, list_all, filter_map, position}
 use Rattle.std.specs.Str.{bytes_eq}
 use Rattle.std.proofs.Math.Nat.{mod-lt}
 use Rattle.std.proofs.lemmas.Bool.{and_parts, ltb-true, ltb-false, cases_lt, cases_eq, cases_Bool, eq-eqb, ne_eqb, false≢true, eqb-false}
@@ -13,7 +13,7 @@ use Rattle.yds_model.specs.declared.limits.TheConstants.{MAX_JOBS, MAX_POINTS, M
 use Rattle.yds_model.specs.declared.reason.Reason.TheVariants as reasons
 use Rattle.yds_model.specs.Job.{Job, IsJob}
 use Rattle.yds_model.specs.Scale.{Fraction, of_parts}
-use Rattle.yds_model.specs.Slot.{WrittenSlot, no_written_slot, written_slot_at}
+use Rattle.yds_model.specs.Slot.{WrittenSlot}
 use Rattle.yds_model.specs.Level.{Level, all_pieces, all_members}
 use Rattle.yds_model.specs.Table.{Point, point_at, AreRising, IsTable, hull_multiple}
 use Rattle.yds_model.specs.Document.{name_at}
@@ -36,27 +36,11 @@ chosen false n none = refl
 
 -- a name without a number is none of the others
 other_name : (names : List (List ℕ)) (name : List ℕ) (i : ℕ) → position (λ other. bytes_eq other name) names ≡ None → i < length names → name_at names i ≡ name → ⊥
-other_name names name i none within is =
-    let end : length names ≤ position_or_len (λ other. bytes_eq other name) names =
-    ltb-false (position_or_len (λ other. bytes_eq other name) names) (length names) (chosen (nat_lt (position_or_len (λ other. bytes_eq other name) names) (length names)) (position_or_len (λ other. bytes_eq other name) names) none) in
-    let fails : bytes_eq (name_at names i) name ≡ false = fails_before_first (λ other. bytes_eq other name) names i [] (omega (arith, end, within)) in
-    false≢true (sym fails ∙ (bytes_eq-Decides (name_at names i) name).1 is)
+other_name names name i none within is = grind (arith, bytes_eq-Decides, fails_before_first, false≢true, ltb-false, nat_lt)
 
 -- so it is different from them
 different_more : (names : List (List ℕ)) (name : List ℕ) → AreDifferentNames names → position (λ other. bytes_eq other name) names ≡ None → AreDifferentNames (names ++ name ∷ [])
-different_more names name different none i j i_within j_within same =
-    let last : name_at (names ++ name ∷ []) (length names) ≡ name = get_or_push names name [] (length names) refl in
-    let earlier : (k : ℕ) → k < length names → name_at (names ++ name ∷ []) k ≡ name_at names k = λ k within. get_or_append_left names (name ∷ []) [] k within in
-    elim (place_cases i (length names) (omega (arith, i_within, length_push names name))) [
-      | inl i_less ↦ elim (place_cases j (length names) (omega (arith, j_within, length_push names name))) [
-        | inl j_less ↦ different i j i_less j_less (sym (earlier i i_less) ∙ same ∙ earlier j j_less)
-        | inr j_last ↦ absurd (other_name names name i none i_less (sym (earlier i i_less) ∙ same ∙ ap (name_at (names ++ name ∷ [])) j_last ∙ last))
-      ]
-      | inr i_last ↦ elim (place_cases j (length names) (omega (arith, j_within, length_push names name))) [
-        | inl j_less ↦ absurd (other_name names name j none j_less (sym (earlier j j_less) ∙ sym same ∙ ap (name_at (names ++ name ∷ [])) i_last ∙ last))
-        | inr j_last ↦ i_last ∙ sym j_last
-      ]
-    ]
+different_more names name different none i j i_within j_within same = grind (arith, get_or_append_left, get_or_push, length_push, other_name, place_cases)
 
 -- jobs with their names stay within the limits with one more
 pub jobs_more : (names : List (List ℕ)) (jobs : List Job) (name : List ℕ) (job : Job) → AreNamedJobs names jobs → length names < MAX_JOBS → is_name name ≡ true →
@@ -105,31 +89,11 @@ points_more points point column follows are room fits rises gaps = record {
 
 -- parts of one time unit are a fraction within its limits, and any two are alike
 pub parts_fit : (most parts den : ℕ) → 1 ≤ den → den ≤ MAX_DENOMINATOR → parts / den ≤ most → IsFraction most (of_parts parts den)
-parts_fit most parts den some in_range within = elim (cases_Bool (parts % den == 0)) [
-  | inl none ↦ rw none (whole_fits most (parts / den) within)
-  | inr other ↦ rw other (record {
-    whole_in_range = within;
-    below_one = mod-lt parts some;
-    den_in_range = in_range;
-    whole_is_plain = λ none. absurd (eqb-false (parts % den) 0 other none);
-  })
-]
+parts_fit most parts den some in_range within = grind (arith, cases_Bool, eqb-false, mod-lt, whole_fits)
 
 -- works that pass the test of it are alike
 pub alike_from_test : (x y : Fraction) → are_alike x y ≡ true → AreAlike x y
-alike_from_test x y alike = elim (cases_Bool (x.den == y.den)) [
-  | inl same ↦ inl (eqb-true x.den y.den same)
-  | inr differ ↦ elim (cases_Bool (x.den == 1)) [
-    | inl plain ↦ inr (inl (eqb-true x.den 1 plain))
-    | inr parts ↦ inr (inr (eqb-true y.den 1 (rw (differ, parts) at alike)))
-  ]
-]
-
--- each is alike with the other
-alike_both : (x y : Fraction) → AreAlike x y → AreAlike y x
-alike_both x y (inl same) = inl (sym same)
-alike_both x y (inr (inl plain)) = inr (inr plain)
-alike_both x y (inr (inr plain)) = inr (inl plain)
+alike_from_test x y alike = grind (arith, cases_Bool, eqb-true)
 
 -- the work is alike with the works of its job so far
 grain_alike : (job : ℕ) (work : Fraction) (slots : List WrittenSlot) →
@@ -148,33 +112,7 @@ grain_alike job work (slot ∷ slots) alike = elim (cases_eq slot.job job) [
 -- works of one job stay alike with one more
 grains_more : (slots : List WrittenSlot) (slot : WrittenSlot) → AreInGrain slots → All (λ other. other.job ≡ slot.job → AreAlike slot.work other.work) slots →
     AreInGrain (slots ++ slot ∷ [])
-grains_more slots slot grains alike i j i_within j_within same =
-    let last : written_slot_at (slots ++ slot ∷ []) (length slots) ≡ slot = get_or_push slots slot no_written_slot (length slots) refl in
-    let earlier : (k : ℕ) → k < length slots → written_slot_at (slots ++ slot ∷ []) k ≡ written_slot_at slots k =
-    λ k within. get_or_append_left slots (slot ∷ []) no_written_slot k within in
-    elim (place_cases i (length slots) (omega (arith, i_within, length_push slots slot))) [
-      | inl i_less ↦ elim (place_cases j (length slots) (omega (arith, j_within, length_push slots slot))) [
-        | inl j_less ↦ moved_alike (sym (earlier i i_less)) (sym (earlier j j_less))
-            (grains i j i_less j_less (ap (λ slot. slot.job) (sym (earlier i i_less)) ∙ same ∙ ap (λ slot. slot.job) (earlier j j_less)))
-        | inr j_last ↦
-            let here : written_slot_at (slots ++ slot ∷ []) j ≡ slot = ap (written_slot_at (slots ++ slot ∷ [])) j_last ∙ last in
-            moved_alike (sym (earlier i i_less)) (sym here)
-            (alike_both slot.work (written_slot_at slots i).work (alike i no_written_slot i_less (ap (λ slot. slot.job) (sym (earlier i i_less)) ∙ same ∙ ap (λ slot. slot.job) here)))
-      ]
-      | inr i_last ↦
-          let here : written_slot_at (slots ++ slot ∷ []) i ≡ slot = ap (written_slot_at (slots ++ slot ∷ [])) i_last ∙ last in
-          elim (place_cases j (length slots) (omega (arith, j_within, length_push slots slot))) [
-            | inl j_less ↦ moved_alike (sym here) (sym (earlier j j_less))
-                (alike j no_written_slot j_less (ap (λ slot. slot.job) (sym (earlier j j_less)) ∙ sym same ∙ ap (λ slot. slot.job) here))
-            | inr j_last ↦
-                let there : written_slot_at (slots ++ slot ∷ []) j ≡ slot = ap (written_slot_at (slots ++ slot ∷ [])) j_last ∙ last in
-                moved_alike (sym here) (sym there) (inl refl)
-          ]
-    ]
-  where
-    -- equal slots have works that are alike in the same way
-    moved_alike : {a b c d : WrittenSlot} → a ≡ c → b ≡ d → AreAlike a.work b.work → AreAlike c.work d.work
-    moved_alike {a} {b} {c} {d} first second alike = subst (λ slot. AreAlike c.work slot.work) second (subst (λ slot. AreAlike slot.work b.work) first alike)
+grains_more slots slot grains alike i j i_within j_within same = grind (arith, get_or_append_left, get_or_push, length_push, place_cases)
 
 -- slots stay within the limits with one more
 pub slots_more : (count : ℕ) (slots : List WrittenSlot) (slot : WrittenSlot) → AreSlotsOf count slots → length slots < MAX_SLOTS → IsSlot slot → slot.job < count →

@@ -1,11 +1,10 @@
 -- What a step of reading says where it succeeds.
-use Rattle.std.proofs.Common.{◌≡◌, ℕ, ◌<◌, ◌≤◌, Bool, true, false, ◌==◌, ◌&&◌, nat_le, nat_lt, List, [], ◌∷◌, ◌++◌, length, Option, Some, None, Result, Ok, Err, refl, sym, ap, subst, ◌∙◌, arith, inl, inr, is_none, eqb-true}
+use Rattle.std.proofs.Common.{◌≡◌, ℕ, ◌<◌, ◌≤◌, Bool, true, false, ◌==◌, nat_le, nat_lt, List, [], ◌∷◌, ◌++◌, length, Option, Some, None, Result, Ok, Err, refl, sym, ap, subst, ◌∙◌, arith, inl, inr, is_none, eqb-true}
 use Rattle.std.specs.Str.Parse.{digits_value}
 use Rattle.std.specs.Str.{bytes_eq}
 use Rattle.std.specs.List.{filter_map}
 use Rattle.std.proofs.lemmas.List.Quantifiers.{position-Some}
 use Rattle.std.proofs.lemmas.Bool.{and_parts, leb-true, ltb-true, cases_Bool, eqb-false}
-use Rattle.yds_model.specs.declared.limits.TheConstants.{MAX_DENOMINATOR}
 use Rattle.yds_model.specs.declared.number_fault.NumberFault.{NumberFault}
 use Rattle.yds_model.specs.declared.number_fault.NumberFault.TheVariants as faults
 use Rattle.yds_model.specs.declared.reason.Reason.{Reason}
@@ -46,10 +45,7 @@ two_steps (Err spot) n after entry is = absurd (cc)
 pub four_steps : {R X A B C D : Type 0} (m : Result A (Spot R)) (n : Result B (Spot R)) (o : Result C (Spot R)) (p : Result D (Spot R)) (after : A → B → C → D → Result X (Spot R)) (entry : X) →
     (m >>= (λ a. n >>= (λ b. o >>= (λ c. p >>= (λ d. after a b c d))))) ≡ Ok entry →
     (a : A) × (b : B) × (c : C) × (d : D) × (m ≡ Ok a) × (n ≡ Ok b) × (o ≡ Ok c) × (p ≡ Ok d) × (after a b c d ≡ Ok entry)
-four_steps m n o p after entry is =
-    let front = two_steps m n (λ a b. o >>= (λ c. p >>= (λ d. after a b c d))) entry is in
-    let back = two_steps o p (after front.0 front.1) entry front.4 in
-    (front.0, front.1, back.0, back.1, front.2, front.3, back.2, back.3, back.4)
+four_steps m n o p after entry is = grind (arith)
 
 -- what was made is the entry
 pub entry_made : (made entry : Entry) → Gives Entry (Spot Reason) (Ok made) entry → made ≡ entry
@@ -64,18 +60,7 @@ in_field_ok reason_of field (Err fault) x is = absurd (cc)
 
 -- a number that is read lies within its limits
 pub number_at_ok : (least most : ℕ) (text : List ℕ) (x : ℕ) → number_at least most text ≡ Ok x → (least ≤ x) × (x ≤ most)
-number_at_ok least most text x is =
-    elim (cases_Bool (is_number text)) [
-      | inl number ↦ elim (cases_Bool (nat_le least (digits_value 10 text) && nat_le (digits_value 10 text) most)) [
-        | inl within ↦
-            let made : Gives ℕ NumberFault (Ok (digits_value 10 text)) x = rw (number, within) at is in
-            let same : digits_value 10 text ≡ x = cc in
-            let parts = and_parts (nat_le least (digits_value 10 text)) (nat_le (digits_value 10 text) most) within in
-            (omega (arith, leb-true least (digits_value 10 text) parts.0, same), omega (arith, leb-true (digits_value 10 text) most parts.1, same))
-        | inr outside ↦ let failed : Gives ℕ NumberFault (Err faults.OutOfRange) x = rw (number, outside) at is in absurd (cc)
-      ]
-      | inr other ↦ let failed : Gives ℕ NumberFault (Err faults.BadNumber) x = rw other at is in absurd (cc)
-    ]
+number_at_ok least most text x is = grind (arith, and_parts, cases_Bool, leb-true, nat_le)
 
 -- and so does one that a field gives
 pub number_ok : (least most : ℕ) (field : Field) (x : ℕ) → number_in least most field ≡ Ok x → (least ≤ x) × (x ≤ most)
@@ -87,30 +72,7 @@ whole_fits most whole within = record { whole_in_range = within; below_one = ome
 
 -- a fraction that is kept is within its limits
 kept_ok : (most : ℕ) (y x : Fraction) → kept most y ≡ Ok x → IsFraction most x
-kept_ok most y x is =
-    elim (cases_Bool (nat_le y.whole most && nat_le 1 y.den && nat_le y.den MAX_DENOMINATOR && nat_lt y.num y.den)) [
-      | inl fits ↦
-          let below = and_parts _ _ fits in
-          let den = and_parts _ _ below.0 in
-          let whole = and_parts _ _ den.0 in
-          let within : y.whole ≤ most = leb-true y.whole most whole.0 in
-          elim (cases_Bool (y.num == 0)) [
-            | inl none ↦
-                let made : Gives Fraction NumberFault (Ok (of_whole y.whole)) x = rw (fits, none) at is in
-                let same : of_whole y.whole ≡ x = cc in
-                subst (IsFraction most) same (whole_fits most y.whole within)
-            | inr some ↦
-                let made : Gives Fraction NumberFault (Ok y) x = rw (fits, some) at is in
-                let same : y ≡ x = cc in
-                subst (IsFraction most) same (record {
-                  whole_in_range = within;
-                  below_one = ltb-true y.num y.den below.1;
-                  den_in_range = leb-true y.den MAX_DENOMINATOR den.1;
-                  whole_is_plain = λ none. absurd (eqb-false y.num 0 some none);
-                })
-          ]
-      | inr outside ↦ let failed : Gives Fraction NumberFault (Err faults.OutOfRange) x = rw outside at is in absurd (cc)
-    ]
+kept_ok most y x is = grind (arith, and_parts, cases_Bool, eqb-false, leb-true, ltb-true, nat_le, nat_lt, whole_fits)
 
 -- so one that is read is
 fraction_at_ok : (most : ℕ) (text : List ℕ) (x : Fraction) → fraction_at most text ≡ Ok x → IsFraction most x

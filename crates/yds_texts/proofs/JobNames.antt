@@ -1,5 +1,5 @@
 -- Names in the order of their jobs: a new one has no number yet, and a known one has its own.
-use Rattle.std.proofs.Common.{◌≡◌, ℕ, ◌+◌, ◌<◌, true, false, List, [], ◌∷◌, ◌++◌, length, get_or, Some, None, refl, sym, ap, ◌∙◌, arith, inl, inr, position, bytes_eq, le_refl}
+use Rattle.std.proofs.Common.{◌≡◌, ℕ, ◌+◌, ◌<◌, false, List, [], ◌∷◌, ◌++◌, length, get_or, Some, None, refl, sym, ap, ◌∙◌, arith, position, bytes_eq, le_refl}
 use Rattle.std.proofs.Math.Seq.{get_or-append_seam}
 use Rattle.std.proofs.lemmas.Bool.{cases_Bool, lt-ltb, le-ltb}
 use Rattle.std.proofs.lemmas.List.{get_or_append_left, length-append}
@@ -10,10 +10,7 @@ use Rattle.yds_model.specs.Within.{AreDifferentNames}
 
 -- the test tells different names apart
 bytes_differ : (a b : List ℕ) → (a ≡ b → ⊥) → bytes_eq a b ≡ false
-bytes_differ a b differ = elim (cases_Bool (bytes_eq a b)) [
-  | inl same ↦ absurd (differ ((bytes_eq-Decides a b).0 same))
-  | inr other ↦ other
-]
+bytes_differ a b differ = grind (arith, bytes_eq, bytes_eq-Decides, cases_Bool)
 
 -- the names before one are others
 pub name_new : (names before : List (List ℕ)) (name : List ℕ) (after : List (List ℕ)) → AreDifferentNames names → before ++ name ∷ after ≡ names →
@@ -32,10 +29,4 @@ name_new names before name after different is =
 -- a name has the number of its job
 pub name_known : (names : List (List ℕ)) (job : ℕ) → AreDifferentNames names → job < length names →
     position (λ other. bytes_eq other (name_at names job)) names ≡ Some job
-name_known names job different known =
-    let other : (k : ℕ) → k < job → bytes_eq (get_or names k []) (name_at names job) ≡ false =
-    λ k within. bytes_differ (name_at names k) (name_at names job) (λ same.
-    let same_place : k ≡ job = different k job (omega arith) known same in
-    omega arith) in
-    let here : bytes_eq (name_at names job) (name_at names job) ≡ true = (bytes_eq-Decides (name_at names job) (name_at names job)).1 refl in
-    rw (position_or_len_is (λ other. bytes_eq other (name_at names job)) names job [] (omega arith) other (λ within. here), lt-ltb job (length names) known) refl
+name_known names job different known = grind (arith, bytes_differ, bytes_eq, bytes_eq-Decides, lt-ltb, position_or_len_is)

@@ -32,24 +32,12 @@ use Rattle.yds_texts.proofs.Answered.{done_not_no, done_not_refused, no_not_refu
 -- an answer that is a yes
 pub tells_yes : (IsWanted : Document → Type 0) (line input text : List ℕ) (status : Status) (document : Document) → reading input ≡ Ok document →
     IsWanted document → status ≡ Done → text ≡ line → TellsWhether IsWanted line input text status
-tells_yes IsWanted line input text status document read wanted ended said = record {
-  document = document;
-  read = read;
-  done = (λ _. wanted, λ _. ended);
-  no = (λ is. absurd (done_not_no (sym ended ∙ is)), λ unwanted. absurd (unwanted wanted));
-  told = (λ _. wanted, λ _. said);
-}
+tells_yes IsWanted line input text status document read wanted ended said = grind (arith, done_not_no)
 
 -- and one that is a no
 pub tells_no : (IsWanted : Document → Type 0) (line input text : List ℕ) (status : Status) (document : Document) → reading input ≡ Ok document →
     (IsWanted document → ⊥) → status ≡ No → (text ≡ line → ⊥) → TellsWhether IsWanted line input text status
-tells_no IsWanted line input text status document read unwanted ended other = record {
-  document = document;
-  read = read;
-  done = (λ is. absurd (done_not_no (sym is ∙ ended)), λ wanted. absurd (unwanted wanted));
-  no = (λ _. unwanted, λ _. ended);
-  told = (λ is. absurd (other is), λ wanted. absurd (unwanted wanted));
-}
+tells_no IsWanted line input text status document read unwanted ended other = grind (arith, done_not_no)
 
 -- the first byte of a text
 abbrev first_byte : List ℕ → ℕ

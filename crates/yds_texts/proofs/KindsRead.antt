@@ -3,7 +3,7 @@ use Rattle.std.proofs.Common.{◌≡◌, ℕ, ◌^◌, ◌<◌, ◌≤◌, true,
 use Rattle.std.specs.List.{All, AllByRecursion, filter_map, list_all}
 use Rattle.std.proofs.lemmas.Bool.{lt-ltb, le-leb, cases_eq, ne_eqb, and_from}
 use Rattle.std.proofs.lemmas.List.Elements.{All-head, All-tail}
-use Rattle.yds_model.specs.declared.limits.TheConstants.{MAX_JOBS, MAX_TIME, MAX_WORK, MAX_POINTS, MAX_POINT_SPEED, MAX_POINT_POWER, MAX_GAPS, MAX_SLOTS, MAX_SLOT_WORK, MAX_LEVELS, MAX_LEVEL_WORK, MAX_LEVEL_LENGTH, MAX_PIECES, MAX_MEMBERS, MAX_GRID, MAX_ROUNDED, MAX_ENERGY}
+use Rattle.yds_model.specs.declared.limits.TheConstants.{MAX_JOBS, MAX_TIME, MAX_POINTS, MAX_POINT_SPEED, MAX_POINT_POWER, MAX_GAPS, MAX_SLOTS, MAX_SLOT_WORK, MAX_LEVELS, MAX_PIECES, MAX_MEMBERS, MAX_ENERGY}
 use Rattle.yds_model.specs.Job.{Job, IsJob}
 use Rattle.yds_model.specs.Scale.{Fraction}
 use Rattle.yds_model.specs.Slot.{WrittenSlot}
@@ -38,24 +38,11 @@ job_texts name job = codes "job" ∷ name ∷ decimal job.release ∷ decimal jo
 -- they are read as the job
 pub job_read : (earlier : List Entry) (name : List ℕ) (job : Job) → IsJob job → is_name name ≡ true → job_named earlier name ≡ None →
     length (filter_map name_said earlier) < MAX_JOBS → read_fields earlier (spaced 1 (job_texts name job)) ≡ Ok (JobEntry name job)
-job_read earlier name job fits named new room =
-    rw (
-      lt-ltb (length (filter_map name_said earlier)) MAX_JOBS room,
-      named,
-      new,
-      number_at-decimal 0 MAX_TIME job.release (omega (arith, fits.has_window, fits.time_in_range)) (omega arith) (omega (arith, fits.has_window, fits.time_in_range)),
-      number_at-decimal 0 MAX_TIME job.deadline (omega (arith, fits.time_in_range)) (omega arith) fits.time_in_range,
-      number_at-decimal 0 MAX_WORK job.work (omega (arith, fits.work_in_range)) (omega arith) fits.work_in_range,
-      lt-ltb job.release job.deadline fits.has_window,
-    ) refl
+job_read earlier name job fits named new room = grind (arith, lt-ltb, number_at-decimal)
 
 -- and each is a word
 pub job_words : (name : List ℕ) (job : Job) → is_name name ≡ true → IsJob job → AllByRecursion IsWord (job_texts name job)
-job_words name job named fits =
-    let release : IsWord (decimal job.release) = decimal_word job.release (omega (arith, fits.has_window, fits.time_in_range)) in
-    let deadline : IsWord (decimal job.deadline) = decimal_word job.deadline (omega (arith, fits.time_in_range)) in
-    let work : IsWord (decimal job.work) = decimal_word job.work (omega (arith, fits.work_in_range)) in
-    (name_word (codes "job") refl, (name_word name named, (release, (deadline, (work, tt)))))
+job_words name job named fits = grind (arith, codes, decimal, decimal_word, name_word)
 
 -- ---- slots
 
@@ -80,17 +67,7 @@ slot_texts name slot = codes "slot" ∷ name ∷ fraction_text slot.from ∷ fra
 pub slot_read : (earlier : List Entry) (name : List ℕ) (slot : WrittenSlot) → IsSlot slot → is_name name ≡ true → job_named earlier name ≡ Some slot.job →
     fits_grain earlier slot.job slot.work ≡ true → length (filter_map slot_said earlier) < MAX_SLOTS →
     read_fields earlier (spaced 1 (slot_texts name slot)) ≡ Ok (SlotEntry slot)
-slot_read earlier name slot fits named known grain room =
-    rw (
-      lt-ltb (length (filter_map slot_said earlier)) MAX_SLOTS room,
-      named,
-      known,
-      fraction_read MAX_TIME slot.from (omega arith) fits.from,
-      fraction_read MAX_TIME slot.to (omega arith) fits.to,
-      fraction_read MAX_SLOT_WORK slot.work (omega arith) fits.work,
-      alike_test slot.from slot.to fits.ends_alike,
-      grain,
-    ) refl
+slot_read earlier name slot fits named known grain room = grind (arith, alike_test, fraction_read, lt-ltb)
 
 -- and each is a word
 pub slot_words : (name : List ℕ) (slot : WrittenSlot) → is_name name ≡ true → IsSlot slot → AllByRecursion IsWord (slot_texts name slot)
@@ -146,13 +123,7 @@ level_texts level = codes "level" ∷ decimal level.work ∷ decimal level.lengt
 -- they are read as the level's work and length
 pub level_read : (earlier : List Entry) (level : Level) → IsLevel level → length (levels_said earlier) < MAX_LEVELS →
     read_fields earlier (spaced 1 (level_texts level)) ≡ Ok (LevelEntry level.work level.length)
-level_read earlier level fits room =
-    rw (
-      levels_counted earlier,
-      lt-ltb (length (levels_said earlier)) MAX_LEVELS room,
-      number_at-decimal 1 MAX_LEVEL_WORK level.work (omega (arith, fits.work_in_range)) fits.has_work fits.work_in_range,
-      number_at-decimal 1 MAX_LEVEL_LENGTH level.length (omega (arith, fits.length_in_range)) fits.has_length fits.length_in_range,
-    ) refl
+level_read earlier level fits room = grind (arith, levels_counted, lt-ltb, number_at-decimal)
 
 -- and each is a word
 pub level_words : (level : Level) → IsLevel level → AllByRecursion IsWord (level_texts level)
@@ -166,14 +137,7 @@ piece_texts piece = codes "piece" ∷ decimal piece.from ∷ decimal piece.to �
 -- they are read as the piece
 pub piece_read : (earlier : List Entry) (piece : Piece) → IsPiece piece → 0 < length (levels_said earlier) → length (filter_map piece_said earlier) < MAX_PIECES →
     read_fields earlier (spaced 1 (piece_texts piece)) ≡ Ok (PieceEntry piece)
-piece_read earlier piece fits some room =
-    rw (
-      levels_counted earlier,
-      lt-ltb 0 (length (levels_said earlier)) some,
-      lt-ltb (length (filter_map piece_said earlier)) MAX_PIECES room,
-      number_at-decimal 0 MAX_TIME piece.from (omega (arith, fits.from_in_range)) (omega arith) fits.from_in_range,
-      number_at-decimal 0 MAX_TIME piece.to (omega (arith, fits.to_in_range)) (omega arith) fits.to_in_range,
-    ) refl
+piece_read earlier piece fits some room = grind (arith, levels_counted, lt-ltb, number_at-decimal)
 
 -- and each is a word
 pub piece_words : (piece : Piece) → IsPiece piece → AllByRecursion IsWord (piece_texts piece)
@@ -188,14 +152,7 @@ member_texts name = codes "member" ∷ name ∷ []
 pub member_read : (earlier : List Entry) (name : List ℕ) (job : ℕ) → is_name name ≡ true → job_named earlier name ≡ Some job →
     0 < length (levels_said earlier) → length (filter_map member_said earlier) < MAX_MEMBERS →
     read_fields earlier (spaced 1 (member_texts name)) ≡ Ok (MemberEntry job)
-member_read earlier name job named known some room =
-    rw (
-      levels_counted earlier,
-      lt-ltb 0 (length (levels_said earlier)) some,
-      lt-ltb (length (filter_map member_said earlier)) MAX_MEMBERS room,
-      named,
-      known,
-    ) refl
+member_read earlier name job named known some room = grind (arith, levels_counted, lt-ltb)
 
 -- and each is a word
 pub member_words : (name : List ℕ) → is_name name ≡ true → AllByRecursion IsWord (member_texts name)
@@ -210,12 +167,7 @@ grid_texts grid = codes "grid" ∷ decimal grid.grid ∷ decimal grid.rounded �
 -- they are read as the grid
 pub grid_read : (earlier : List Entry) (grid : Grid) → IsGrid grid → filter_map grid_said earlier ≡ [] →
     read_fields earlier (spaced 1 (grid_texts grid)) ≡ Ok (GridEntry grid)
-grid_read earlier grid fits none =
-    rw (
-      none,
-      number_at-decimal 1 MAX_GRID grid.grid (omega (arith, fits.grid_in_range)) fits.some fits.grid_in_range,
-      number_at-decimal 0 MAX_ROUNDED grid.rounded (omega (arith, fits.rounded_in_range)) (omega arith) fits.rounded_in_range,
-    ) refl
+grid_read earlier grid fits none = grind (arith, number_at-decimal)
 
 -- and each is a word
 pub grid_words : (grid : Grid) → IsGrid grid → AllByRecursion IsWord (grid_texts grid)

@@ -1,5 +1,5 @@
 -- What is printed of a number, a fraction or a name is a word, and is read back.
-use Rattle.std.proofs.Common.{◌≡◌, ℕ, ◌+◌, ◌<◌, ◌≤◌, ◌^◌, Bool, true, false, ◌==◌, ◌&&◌, nat_le, List, [], ◌∷◌, ◌++◌, length, take, drop, Ok, All, decimal, refl, sym, ap, ◌∙◌, arith, inl, inr, eqb-true, append_assoc}
+use Rattle.std.proofs.Common.{◌≡◌, ℕ, ◌+◌, ◌<◌, ◌≤◌, ◌^◌, Bool, true, false, ◌==◌, nat_le, List, [], ◌∷◌, ◌++◌, length, take, drop, Ok, All, decimal, refl, sym, ap, ◌∙◌, arith, inl, inr, eqb-true, append_assoc}
 use Rattle.std.specs.Prelude.{codes}
 use Rattle.std.specs.List.{list_all, list_any, position_or_len, before_first, after_first}
 use Rattle.std.proofs.Math.Bool.{or-true}
@@ -8,7 +8,6 @@ use Rattle.std.proofs.lemmas.Bool.{and_parts, leb-true, le-leb, lt-ltb, cases_Bo
 use Rattle.std.proofs.lemmas.Fmt.{decimal_nonempty}
 use Rattle.std.proofs.lemmas.List.{length-append}
 use Rattle.std.proofs.lemmas.List.Elements.{All-nil, All-cons, All-head, All-tail, All-weaker, All-append}
-use Rattle.yds_model.specs.declared.limits.TheConstants.{MAX_DENOMINATOR}
 use Rattle.yds_model.specs.Scale.{Fraction, of_whole}
 use Rattle.yds_model.specs.Spelling.{is_digit, is_number, is_plus, is_slash, kept, fraction_at, is_visible, is_name}
 use Rattle.yds_model.specs.Text.{fraction_text}
@@ -83,10 +82,7 @@ no_number front rest = elim (cases_Bool (is_number (front ++ 43 ∷ rest))) [
 -- the text of a fraction that isn't whole
 mixed_text : (whole num den : ℕ) →
     decimal whole ++ codes "+" ++ decimal num ++ codes "/" ++ decimal den ≡ decimal whole ++ (43 ∷ (decimal num ++ 47 ∷ decimal den))
-mixed_text whole num den =
-    append_assoc (decimal whole ++ codes "+" ++ decimal num) (codes "/") (decimal den)
-    ∙ append_assoc (decimal whole ++ codes "+") (decimal num) (47 ∷ decimal den)
-    ∙ append_assoc (decimal whole) (codes "+") (decimal num ++ 47 ∷ decimal den)
+mixed_text whole num den = grind (arith, append_assoc, decimal)
 
 -- a fraction within its limits is kept as it is
 plain_fraction : (most : ℕ) (x : Fraction) → IsFraction most x → x.num ≡ 0 → of_whole x.whole ≡ x
@@ -96,17 +92,7 @@ plain_fraction most x fits none =
 
 -- so reading changes nothing of it
 kept_same : (most : ℕ) (x : Fraction) → IsFraction most x → kept most x ≡ Ok x
-kept_same most x fits =
-    rw (
-      le-leb x.whole most fits.whole_in_range,
-      le-leb 1 x.den (omega (arith, fits.below_one)),
-      le-leb x.den MAX_DENOMINATOR fits.den_in_range,
-      lt-ltb x.num x.den fits.below_one,
-    )
-    (elim (cases_Bool (x.num == 0)) [
-      | inl none ↦ rw none (ap Ok (plain_fraction most x fits (eqb-true x.num 0 none)))
-      | inr some ↦ rw some refl
-    ])
+kept_same most x fits = grind (arith, cases_Bool, eqb-true, le-leb, lt-ltb, plain_fraction)
 
 -- so is what is printed of it, read back
 whole_read : (most : ℕ) (x : Fraction) → most < 2 ^ 64 → IsFraction most x → x.num ≡ 0 → fraction_at most (decimal x.whole) ≡ Ok x
@@ -140,10 +126,7 @@ mixed_read most x small fits =
 
 -- and so is each fraction
 pub fraction_read : (most : ℕ) (x : Fraction) → most < 2 ^ 64 → IsFraction most x → fraction_at most (fraction_text x) ≡ Ok x
-fraction_read most x small fits = elim (cases_Bool (x.num == 0)) [
-  | inl none ↦ rw none (whole_read most x small fits (eqb-true x.num 0 none))
-  | inr some ↦ rw some (ap (fraction_at most) (mixed_text x.whole x.num x.den) ∙ mixed_read most x small fits)
-]
+fraction_read most x small fits = grind (arith, cases_Bool, eqb-true, mixed_read, mixed_text, whole_read)
 
 -- what is printed of it is a word
 pub fraction_word : (most : ℕ) (x : Fraction) → most < 2 ^ 64 → IsFraction most x → IsWord (fraction_text x)

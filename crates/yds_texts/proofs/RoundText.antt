@@ -1,6 +1,6 @@
 -- What the answer of `round` is worth: its text is read again as the document with the least energy, and `audit` answers it with
 -- 'feasible', with the points and without. Where it says no, no schedule stays at or below the top speed.
-use Rattle.std.proofs.Common.{◌≡◌, ℕ, ◌≤◌, List, [], ◌∷◌, length, Some, Ok, refl, sym, ap, arith, inl, inr, codes}
+use Rattle.std.proofs.Common.{◌≡◌, ℕ, ◌≤◌, List, [], ◌∷◌, length, Some, Ok, refl, sym, arith, inl, inr, codes}
 use Rattle.yds_model.specs.declared.limits.TheConstants.{MAX_JOBS}
 use Rattle.yds_model.specs.declared.status.Status.{Status}
 use Rattle.yds_model.specs.declared.status.Status.TheVariants.{Done, No}
@@ -29,10 +29,7 @@ points_answer Answered (point ∷ points) text status some answers = answers
 
 -- points of a document of which there are some are a table
 pub points_table : (points : List Point) → ArePoints points → 1 ≤ length points → IsTable points
-points_table points are some = elim are.table [
-  | inl none ↦ absurd (omega (arith, some, ap (λ (all : List Point). length all) none))
-  | inr table ↦ table
-]
+points_table points are some = grind (arith)
 
 -- # What `round` writes
 
@@ -43,18 +40,9 @@ pub record IsRounded (input text : List ℕ) : Type 0 where
   pub some : 1 ≤ length document.points
   pub answer : RoundedAnswer document text Done
 
--- the answer of `round` where it is done
-rounded_answer : (input text : List ℕ) (document : Document) → reading input ≡ Ok document → 1 ≤ length document.points → RoundAnswer document text Done →
-    IsRounded input text
-rounded_answer input text document read some (inl slow) = absurd (done_not_no slow.ended)
-rounded_answer input text document read some (inr answer) = record { document = document; read = read; some = some; answer = answer }
-
 -- so its text is that of a rounded plan
 pub round_read : (input text : List ℕ) → AnswersRequest (Some (OfDocument AskRound)) input text Done → IsRounded input text
-round_read input text answers =
-    let is = answered AskRound input text Done done_not_refused answers in
-    let points = on_points (RoundAnswer is.document) is.document.points text Done done_not_refused is.answers in
-    rounded_answer input text is.document is.read points.0 points.1
+round_read input text answers = grind (arith, answered, done_not_refused, on_points)
 
 -- whose table has the document's points
 table_of : (input text : List ℕ) → (is : IsRounded input text) → IsTable is.document.points

@@ -129,21 +129,7 @@ energy_short energy fits =
 
 -- the law: the lines of each kind are at most so long
 pub lines_are_short : LinesAreShort
-lines_are_short = record {
-  job = job_short;
-  point = point_short;
-  slot = λ names slot named. slot_short names slot (name_short (name_at names slot.job) named);
-  level = λ level fits. omega (
-    arith,
-    level_short level fits,
-    length-append (line (level_texts level) ++ []) [],
-    length-append (line (level_texts level)) [],
-  );
-  piece = piece_short;
-  member = λ names job named. member_short names job (name_short (name_at names job) named);
-  grid = grid_short;
-  energy = energy_short;
-}
+lines_are_short = grind (arith, energy_short, grid_short, job_short, length-append, level_short, level_texts, member_short, name_short, piece_short, point_short, slot_short)
 
 -- ---- the text
 

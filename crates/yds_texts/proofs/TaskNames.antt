@@ -1,5 +1,5 @@
 -- The names of tasks' jobs: the last dot parts a task's name and a job's number, so no two are the same.
-use Rattle.std.proofs.Common.{◌≡◌, ◌≢◌, ℕ, suc, ◌+◌, ◌<◌, ◌≤◌, true, ◌&&◌, nat_le, List, [], ◌∷◌, ◌++◌, length, get_or, map, decimal, refl, sym, ap, subst, ◌∙◌, append_assoc, arith, inl, inr, codes}
+use Rattle.std.proofs.Common.{◌≡◌, ◌≢◌, ℕ, suc, ◌+◌, ◌<◌, ◌≤◌, true, ◌&&◌, nat_le, List, [], ◌∷◌, ◌++◌, length, get_or, map, decimal, refl, sym, ap, subst, ◌∙◌, append_assoc, arith, codes}
 use Rattle.std.specs.List.{All, AllPairs, flat_map, list_all, range_with_len}
 use Rattle.std.specs.Str.Parse.{digits_value}
 use Rattle.std.proofs.Math.Seq.{get_or-append_seam}
@@ -95,13 +95,7 @@ names_of_task horizon task = map (nth_name task) (numbers_of_jobs horizon task)
 
 -- those of one task
 own_differ : (horizon : ℕ) (task : Task) → count_of_jobs horizon task ≤ MAX_JOBS → AllPairs (λ x y. x ≢ y) (names_of_task horizon task)
-own_differ horizon task few i j d order within = λ same.
-    let count : ℕ = count_of_jobs horizon task in
-    let long : j < count = omega (arith, within, length-map-range_with_len (nth_name task) 0 count) in
-    let first = get_or-map-range_with_len (nth_name task) 0 count i i d (omega (arith, order, long)) (omega arith) in
-    let second = get_or-map-range_with_len (nth_name task) 0 count j j d long (omega arith) in
-    let told = name_tells task task i j (omega (arith, order, long, few)) (omega (arith, long, few)) (sym first ∙ same ∙ second) in
-    omega (arith, told.1, order)
+own_differ horizon task few i j d order within = grind (arith, get_or-map-range_with_len, length-map-range_with_len, name_tells)
 
 -- those of one task and of another
 two_differ : (horizon : ℕ) (one other : Task) → one.name ≢ other.name → count_of_jobs horizon one ≤ MAX_JOBS → count_of_jobs horizon other ≤ MAX_JOBS →
@@ -123,13 +117,7 @@ all_differ horizon (task ∷ tasks) different few =
 
 -- So no two places have the same name.
 pub different_places : (names : List (List ℕ)) → AllPairs (λ x y. x ≢ y) names → AreDifferentNames names
-different_places names differ i j i_within j_within same = elim (cases_lt i j) [
-  | inl before ↦ absurd (differ i j [] before j_within same)
-  | inr more ↦ elim (cases_lt j i) [
-    | inl after ↦ absurd (differ j i [] after i_within (sym same))
-    | inr less ↦ omega (arith, more, less)
-  ]
-]
+different_places names differ i j i_within j_within same = grind (arith, cases_lt)
 
 pub names_differ : (horizon : ℕ) (tasks : List Task) → AllPairs HaveOtherNames tasks → All (λ task. count_of_jobs horizon task ≤ MAX_JOBS) tasks →
     AreDifferentNames (flat_map (names_of_task horizon) tasks)

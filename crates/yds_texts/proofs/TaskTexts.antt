@@ -56,11 +56,7 @@ job_ends : (horizon : ℕ) (task : Task) (k : ℕ) → IsTask task → k < count
 job_ends horizon task k kept below = (task_jobs_end_in_time horizon task k kept.has_period).0 below
 
 job_fits : (horizon : ℕ) (task : Task) (k : ℕ) → IsTask task → horizon ≤ MAX_TIME → k < count_of_jobs horizon task → IsJob (nth_job task k)
-job_fits horizon task k kept within below = record {
-  has_window = omega (arith, kept.has_deadline);
-  time_in_range = omega (arith, within, job_ends horizon task k kept below);
-  work_in_range = kept.work_in_range;
-}
+job_fits horizon task k kept within below = grind (arith, job_ends)
 
 -- what holds of each job of each task
 All-jobs : (P : Job → Type 0) (horizon : ℕ) (tasks : List Task) → All IsTask tasks → ((task : Task) (k : ℕ) → IsTask task → k < count_of_jobs horizon task → P (nth_job task k)) → All P (jobs_until horizon tasks)
@@ -70,10 +66,7 @@ All-jobs P horizon tasks kept each =
 
 -- there are as many names as jobs
 names_counted : (set : TaskSet) → length (names_of_tasks set) ≡ count_of_all set
-names_counted set =
-    length-flat_map (names_of_task (horizon_of set)) set.tasks
-    ∙ sum_by_same (λ task. length (names_of_task (horizon_of set) task)) (count_of_jobs (horizon_of set)) set.tasks
-    (λ i d within. length-map-range_with_len (nth_name (get_or set.tasks i d)) 0 (count_of_jobs (horizon_of set) (get_or set.tasks i d)))
+names_counted set = grind (arith, length-flat_map, length-map-range_with_len, names_of_task, sum_by_same)
 
 named_jobs : (set : TaskSet) → AreTasks set → AreNamedJobs (names_of_tasks set) (jobs_of_tasks set)
 named_jobs set are =

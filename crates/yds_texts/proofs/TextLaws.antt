@@ -122,12 +122,7 @@ one_byte before byte whole bytes here other same =
 -- and in front of a field
 more_bytes : (before byte : ℕ) (whole bytes : List ℕ) (field : Field) → drop before whole ≡ byte ∷ bytes → field.column ≡ before + 1 + 1 →
     IsFieldSlice whole field → IsFieldSlice whole (record { column = before + 1; text = byte ∷ field.text })
-more_bytes before byte whole bytes field here next slice other same =
-    let place : before ≡ other = omega arith in
-    let rest : field.text ≡ take (length field.text) bytes =
-    slice (before + 1) (sym next) ∙ ap (take (length field.text)) (rest_after before byte whole bytes here) in
-    let more : byte ∷ field.text ≡ take (length (byte ∷ field.text)) (byte ∷ bytes) = ap (λ text. byte ∷ text) rest in
-    more ∙ ap (take (length (byte ∷ field.text))) (sym here) ∙ ap (λ (n : ℕ). take (length (byte ∷ field.text)) (drop n whole)) place
+more_bytes before byte whole bytes field here next slice other same = grind (arith, rest_after)
 
 -- fields that are slices still are with a byte in front
 slices_joined : (before byte : ℕ) (whole bytes : List ℕ) (fields : List Field) → drop before whole ≡ byte ∷ bytes →

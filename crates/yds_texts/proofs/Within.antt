@@ -1,5 +1,5 @@
 -- What is read keeps the limits: each line that is read brings a document within them to another.
-use Rattle.std.proofs.Common.{◌≡◌, ℕ, ◌+◌, ◌-◌, ◌*◌, ◌/◌, ◌<◌, ◌≤◌, true, false, nat_le, nat_lt, ◌==◌, List, [], ◌∷◌, ◌++◌, length, take, Some, None, Ok, refl, sym, ap, subst, ◌∙◌, arith, inl}
+use Rattle.std.proofs.Common.{◌≡◌, ℕ, ◌+◌, ◌-◌, ◌*◌, ◌/◌, ◌<◌, ◌≤◌, true, false, nat_le, nat_lt, ◌==◌, List, [], ◌∷◌, ◌++◌, length, Some, None, Ok, refl, sym, ap, subst, ◌∙◌, arith}
 use Rattle.std.specs.Prelude.{if◌then◌else◌}
 use Rattle.std.specs.List.{All, list_all, filter_map, position, slice_index_or}
 use Rattle.std.specs.Str.{bytes_eq}
@@ -17,7 +17,6 @@ use Rattle.yds_model.specs.Level.{Level, all_pieces, all_members}
 use Rattle.yds_model.specs.Table.{Point, hull_multiple}
 use Rattle.yds_model.specs.Document.{Document, Grid, no_document}
 use Rattle.yds_model.specs.Lines.{Line, Field, lines_of, fields_of}
-use Rattle.yds_model.specs.Spelling.{is_name}
 use Rattle.yds_model.specs.Entry.{Entry, JobEntry, PointEntry, SlotEntry, LevelEntry, PieceEntry, MemberEntry, TicksEntry, GridEntry, EnergyEntry, name_said, point_said, slot_said, piece_said, member_said, ticks_said, grid_said, energy_said, is_level, document_said}
 use Rattle.yds_model.specs.Fields.{◌>>=◌, demand, field_at}
 use Rattle.yds_model.specs.Reading.{Kind, JobLine, PointLine, SlotLine, LevelLine, PieceLine, MemberLine, TicksLine, RunLine, GridLine, EnergyLine, may_follow, has_room, number_in, fraction_in, new_name, known_job, are_alike, fits_grain, follows_points, read_job, read_point, read_slot, read_level, read_piece, read_member, read_ticks, read_run_at, read_grid, read_energy, read_kind, read_fields, read_line, live_lines, read_after}
@@ -337,31 +336,11 @@ no_gaps (point ∷ points) none = absurd (cc)
 
 -- a document of jobs alone, with their names, is within the limits
 pub only_jobs : (names : List (List ℕ)) (jobs : List Job) → AreNamedJobs names jobs → IsDocument (record no_document { names = names; jobs = jobs })
-only_jobs names jobs are = record {
-  jobs = are;
-  points = record { few = omega arith; fit = All-nil IsPoint; table = inl refl; gaps_in_range = λ n. no_gaps (take n []) (take_all n [] (omega arith)) };
-  slots = record { few = omega arith; fit = All-nil IsSlot; known = All-nil (λ slot. slot.job < length names); grains = λ i j i_within j_within same. absurd (omega (arith, i_within)) };
-  levels = record { few = omega arith; few_pieces = omega arith; few_members = omega arith; fit = All-nil IsLevel; known = All-nil (λ job. job < length names) };
-  grid = tt;
-  energy = tt;
-}
+only_jobs names jobs are = grind (arith, All-nil, take_all)
 
 -- no lines say an empty document, which is within the limits
 no_lines : IsSaid []
-no_lines = record {
-  document = no_document;
-  is = record {
-    says = record { said = refl; pieces = refl; members = refl };
-    fits = only_jobs [] [] (record {
-      one_name_each = refl;
-      few = omega arith;
-      names_fit = All-nil (λ name. is_name name ≡ true);
-      different = λ i j i_within j_within same. absurd (omega arith);
-      jobs_fit = All-nil IsJob;
-    });
-    ticks = All-nil IsTicks;
-  };
-}
+no_lines = grind (arith, All-nil, only_jobs)
 
 -- the law: a document that is read is within the limits
 pub read_is_within_limits : ReadIsWithinLimits

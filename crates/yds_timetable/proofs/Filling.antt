@@ -1,5 +1,5 @@
 -- Share by share and stretch by stretch: the next slots are within their limits, and then they stand last.
-use Rattle.std.proofs.Common.{◌≡◌, ℕ, ◌+◌, ◌*◌, ◌/◌, ◌%◌, ◌<◌, ◌≤◌, List, [], ◌∷◌, ◌++◌, ◌∙◌, length, get_or, take, drop, sym, refl, ap, ap₂, subst, arith, Some, None, add-one}
+use Rattle.std.proofs.Common.{◌≡◌, ℕ, ◌+◌, ◌*◌, ◌<◌, ◌≤◌, List, [], ◌∷◌, ◌++◌, ◌∙◌, length, get_or, take, drop, sym, refl, ap, ap₂, subst, arith, Some, None, add-one}
 use Rattle.std.specs.Prelude.{Option}
 use Rattle.std.specs.List.{All}
 use Rattle.std.proofs.lemmas.List.{append_assoc, length-append, take_more, take-append-drop, length-take-le}
@@ -8,7 +8,7 @@ use Rattle.std.proofs.lemmas.List.Folds.{length-flat_map-take}
 use Rattle.std.proofs.lemmas.List.Sums.{sum_by-cons, sum_by_push, sum_by_more_le}
 use Rattle.std.proofs.lemmas.List.Elements.{All-nil, All-cons, All-append}
 use Rattle.std.proofs.lemmas.Nat.Gcd.{mod-eq-zero_of_dvd}
-use Rattle.std.proofs.Math.Nat.{mul-le-mul_right, le_of_mul-le-mul_right, dvd-mul_left, mul-div_cancel, mul-add-div_right, mul-add-mod_self_right, div-le_of_le-mul}
+use Rattle.std.proofs.Math.Nat.{mul-le-mul_right, le_of_mul-le-mul_right, dvd-mul_left, mul-div_cancel}
 use Rattle.std.proofs.lemmas.Bool.{eq-eqb}
 use Rattle.yds_model.specs.declared.limits.TheConstants.{MAX_SLOTS, MAX_TIME, MAX_SLOT_WORK, MAX_WHOLE}
 use Rattle.yds_model.specs.Scale.{Fraction, of_whole, of_parts}
@@ -18,8 +18,6 @@ use Rattle.yds_model.specs.Plan.{IsOver}
 use Rattle.yds_events.specs.Stretch.{no_stretch}
 use Rattle.yds_model.specs.Within.{IsFraction}
 use Rattle.yds_model.proofs.Lists.{All-front, All-back, flat_map-take}
-use Rattle.yds_fraction.specs.Mixed.{fraction_of}
-use Rattle.yds_fraction.proofs.Lowest.{fraction_of_parts}
 use Rattle.yds_fraction.proofs.Kept.{IsFraction-within}
 use Rattle.yds_slots.specs.Schedule.{FitsGrain}
 use Rattle.yds_timetable.specs.declared.limits.TheConstants.{MAX_UNITS}
@@ -34,15 +32,11 @@ use Rattle.yds_timetable.proofs.Grains.{fits_over}
 
 -- a whole number of wholes
 pub whole_parts : (n den : ℕ) → 1 ≤ den → of_parts (n * den) den ≡ of_whole n
-whole_parts n den some =
-    let rest : (n * den) % den ≡ 0 = mod-eq-zero_of_dvd den (dvd-mul_left den n) in
-    rw (eq-eqb ((n * den) % den) 0 rest) (ap of_whole (mul-div_cancel n some))
+whole_parts n den some = grind (arith, dvd-mul_left, eq-eqb, mod-eq-zero_of_dvd, mul-div_cancel)
 
 -- nothing is done yet
 pub time_begins : (pace : Pace) (start : ℕ) → 1 ≤ pace.units → time_after pace start 0 ≡ of_whole start
-time_begins pace start some =
-    let whole : start * pace.units + 0 * pace.time ≡ start * pace.units = omega arith in
-    ap (λ n. of_parts n pace.units) whole ∙ whole_parts start pace.units some
+time_begins pace start some = grind (arith, whole_parts)
 
 -- the slots of shares, and of others after them
 slots_after : (pace : Pace) (start done : ℕ) (shares more : List JobShare) →
@@ -72,11 +66,7 @@ pub record IsReached (pace : Pace) (start : ℕ) (shares : List JobShare) (done 
 
 pub reached_none : (pace : Pace) (start : ℕ) (shares : List JobShare) (from : Fraction) → CanRun pace start shares → from ≡ of_whole start →
     IsFraction MAX_WHOLE from → IsReached pace start [] 0 from
-reached_none pace start shares from can is kept = record {
-  units = refl;
-  is = is ∙ sym (time_begins pace start can.some_units);
-  kept = IsFraction-within MAX_WHOLE MAX_TIME from kept (rw is (le_of_mul-le-mul_right {k = pace.units} (let ends = can.ends in omega arith) can.some_units));
-}
+reached_none pace start shares from can is kept = grind (arith, IsFraction-within, le_of_mul-le-mul_right, time_begins)
 
 -- the next of the shares
 pub record IsNext (pace : Pace) (start : ℕ) (shares : List JobShare) (i : ℕ) (share : JobShare) (done : ℕ) (from : Fraction) : Type 0 where
@@ -89,25 +79,13 @@ pub record IsNext (pace : Pace) (start : ℕ) (shares : List JobShare) (i : ℕ)
 module _ (pace : Pace) (start : ℕ) (shares : List JobShare) (i : ℕ) (share : JobShare) (done : ℕ) (from : Fraction)
     (next : IsNext pace start shares i share done from) where
   here : total_units (take i shares) + share.units ≤ total_units shares
-  here = omega (
-    arith,
-    ap (λ (s : JobShare). s.units) next.is,
-    sum_by_more_le (λ (s : JobShare). s.units) shares i next.default next.within,
-  )
+  here = grind (arith, sum_by_more_le)
 
   taken : take (i + 1) shares ≡ take i shares ++ share ∷ []
   taken = take_more shares i next.default next.within ∙ ap (λ s. take i shares ++ s ∷ []) (sym next.is)
 
   pub can_reach : CanReach pace start done share.units
-  can_reach = record {
-    some_units = next.can.some_units;
-    units_in_range = next.can.units_in_range;
-    some_grain = next.can.some_grain;
-    grain_in_range = next.can.grain_in_range;
-    ends = omega (arith, next.can.ends, mul-le-mul_right pace.time here, ap (λ n. n * pace.time) next.reached.units);
-    few_units = omega (arith, here, next.reached.units, next.can.few_units);
-    work = subst (λ (s : JobShare). s.units ≤ pace.grain * MAX_SLOT_WORK) (sym next.is) (next.can.works i next.default next.within);
-  }
+  can_reach = grind (arith, here, mul-le-mul_right)
 
   -- what holds of those before it and of itself
   pub all_next : (P : JobShare → Type 0) → All P (take i shares) → P share → All P (take (i + 1) shares)
@@ -115,17 +93,11 @@ module _ (pace : Pace) (start : ℕ) (shares : List JobShare) (i : ℕ) (share :
 
   -- its slot comes last
   pub slots_next : slots_from pace start 0 (take (i + 1) shares) ≡ slots_from pace start 0 (take i shares) ++ slot_of pace start done share ∷ []
-  slots_next =
-      ap (slots_from pace start 0) taken ∙ slots_first pace start (take i shares) (share ∷ [])
-      ∙ ap (λ n. slots_from pace start 0 (take i shares) ++ slot_of pace start n share ∷ []) (sym next.reached.units)
+  slots_next = grind (arith, slots_first, taken)
 
   pub reached_next : (slot : WrittenSlot) (units : ℕ) → slot ≡ slot_of pace start done share → units ≡ share.units → IsFraction MAX_TIME slot.to →
       IsReached pace start (take (i + 1) shares) (done + units) slot.to
-  reached_next slot units slot_is same kept = record {
-    units = omega (arith, same, next.reached.units, ap total_units taken, sum_by_push (λ (one : JobShare). one.units) (take i shares) share);
-    is = ap (λ (one : WrittenSlot). one.to) slot_is ∙ ap (λ n. time_after pace start (done + n)) (sym same);
-    kept = kept;
-  }
+  reached_next slot units slot_is same kept = grind (arith, sum_by_push, taken)
 
   -- and it can stand after others
   module _ (jobs : ℕ) (slots now : List WrittenSlot) (can : CanFollow jobs slots pace start shares) (laid : now ≡ slots ++ slots_from pace start 0 (take i shares)) where
@@ -158,10 +130,7 @@ module _ (pace : Pace) (start : ℕ) (shares : List JobShare) (i : ℕ) (share :
         (All-back Over now (slot_of pace start done share ∷ []) front 0 slot (omega arith)))
 
     pub laid_next : (slot : WrittenSlot) → slot ≡ slot_of pace start done share → now ++ slot ∷ [] ≡ slots ++ slots_from pace start 0 (take (i + 1) shares)
-    laid_next slot slot_is =
-        ap₂ (λ (xs : List WrittenSlot) one. xs ++ one ∷ []) laid slot_is
-        ∙ append_assoc slots (slots_from pace start 0 (take i shares)) (slot_of pace start done share ∷ [])
-        ∙ ap (λ xs. slots ++ xs) (sym slots_next)
+    laid_next slot slot_is = grind (arith, append_assoc, ap₂, slots_next)
 
 -- # One stretch more
 

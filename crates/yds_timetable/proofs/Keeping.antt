@@ -48,12 +48,7 @@ module _ (paces added : List Pace) (shares more : List JobShare) where
       (rows_stay rows (All-tail (IsKeptRow paces shares) kept rows are))
 
   kept_stay : (kept : KeptRow) → IsKeptRow paces shares kept → IsKeptRow (paces ++ added) (shares ++ more) kept
-  kept_stay kept is = record {
-    forward = is.forward;
-    within = omega (arith, is.within, length-append shares more);
-    placed = place_stays kept.pace is.placed;
-    is_row = subst IsRow (sym (row_stays kept is)) is.is_row;
-  }
+  kept_stay kept is = grind (arith, length-append, row_stays)
 
   all_stay : (rows : List KeptRow) → AreKept paces shares rows → AreKept (paces ++ added) (shares ++ more) rows
   all_stay rows are k d within = kept_stay _ (are k d within)
@@ -74,9 +69,7 @@ module _ (paces now : List Pace) (pace : Option Pace) (place : Option ℕ) (shar
 
   module _ (kept : KeptRow) (is_place : kept.pace ≡ place) (begins : kept.first ≡ length shares) (ends : kept.end ≡ length (shares ++ more)) where
     row_last : row_kept now (shares ++ more) kept ≡ record { stretch = kept.stretch; pace = pace; shares = more }
-    row_last = ap₂ (λ a b. record { stretch = kept.stretch; pace = pace_kept now kept.pace; shares = slice_range (shares ++ more) a b }) begins ends
-        ∙ ap₂ (λ (one : Option Pace) (own : List JobShare). record { stretch = kept.stretch; pace = one; shares = own })
-        (ap (pace_kept now) is_place ∙ keeps.there) (part_last shares more)
+    row_last = grind (arith, ap₂, part_last)
 
     pub kept_more : (rows : List KeptRow) → AreKept paces shares rows → IsRow (record { stretch = kept.stretch; pace = pace; shares = more }) →
         AreKept now (shares ++ more) (rows ++ kept ∷ [])
@@ -91,9 +84,7 @@ module _ (paces now : List Pace) (pace : Option Pace) (place : Option ℕ) (shar
 
     pub rows_more : (rows : List KeptRow) → AreKept paces shares rows →
         rows_kept now (shares ++ more) (rows ++ kept ∷ []) ≡ rows_kept paces shares rows ++ record { stretch = kept.stretch; pace = pace; shares = more } ∷ []
-    rows_more rows are =
-        map-append (row_kept now (shares ++ more)) rows (kept ∷ [])
-        ∙ ap₂ (λ (front : List Row) (row : Row). front ++ row ∷ []) (rows_stay_now rows are) row_last
+    rows_more rows are = grind (arith, ap₂, map-append, row_last, rows_stay_now)
 
 pub on_err : {T E P : Type 0} (r : Result T E) → P → OnErr r P
 on_err (Ok x) holds = tt

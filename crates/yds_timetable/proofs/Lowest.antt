@@ -37,13 +37,7 @@ lowest_is units stretch grain is some some_grain grain_in_range in_range =
 pub lowest_fills : (units : ℕ) (stretch : Piece) (grain : ℕ) (shares : List JobShare) → IsStretch stretch → 1 ≤ units → units ≡ total_units shares →
     1 ≤ grain → grain ≤ MAX_DENOMINATOR → units ≤ MAX_DENOMINATOR → All (λ share. 1 ≤ share.units) shares →
     All (λ share. share.units ≤ grain * MAX_SLOT_WORK) shares → Fills (lowest_pace units stretch grain) stretch shares
-lowest_fills units stretch grain shares is some total some_grain grain_in_range in_range each works = record {
-  own = subst (IsPaceOf (lowest_pace units stretch grain) stretch) total
-      (lowest_is units stretch grain is some some_grain grain_in_range (omega (arith, in_range, div-le_self units (common_divisor units (length_of stretch)))));
-  some = each;
-  works = works;
-  few = omega (arith, total, in_range);
-}
+lowest_fills units stretch grain shares is some total some_grain grain_in_range in_range each works = grind (arith, div-le_self, lowest_is)
 
 -- a stretch serves its pace's units as often as it has the pace's time
 pub units_read : (row : Row) (pace : Pace) (length : ℕ) → row.pace ≡ Some pace → IsRow row → length ≡ length_of row.stretch →

@@ -1,5 +1,4 @@
-use Rattle.std.proofs.Common.{arith}
-use Rattle.std.proofs.lemmas.List.{take_all, get_or_read}
+use Rattle.std.proofs.lemmas.List.{get_or_read}
 use Rattle.std.proofs.lemmas.List.Elements.{All-more}
 use Rattle.yds_model.specs.Level.{no_level}
 use Rattle.yds_model.specs.Within.{IsLevel}
@@ -9,6 +8,3 @@ pub loop-level-preserved : goal.loop-level-preserved
 loop-level-preserved c = All-more IsLevel c.args.levels.now c.loop-level.level-index no_level c.loop-level-test.true c.loop-level.invariant
     (rw (← get_or_read c.args.levels.now c.loop-level.level-index c.level-item.result c.loop-level-test.true c.level-item.is no_level, ← c.level.view_is)
     c.level.invariant)
-
-pub returns : goal.returns
-returns c = rw (take_all c.loop-level.level-index c.args.levels.now (omega (arith, c.loop-level-test.false))) at c.loop-level.invariant

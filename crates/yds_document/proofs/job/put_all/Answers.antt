@@ -1,4 +1,4 @@
-use Rattle.std.proofs.Common.{◌≡◌, ◌-◌, ◌<◌, ◌≤◌, ◌++◌, [], arith, length, ap, ◌∙◌, append_assoc}
+use Rattle.std.proofs.Common.{◌-◌, ◌<◌, ◌≤◌, ◌++◌, [], arith, length, ap, ◌∙◌, append_assoc}
 use Rattle.std.specs.List.{zip}
 use Rattle.yds_model.specs.Text.{job_line}
 use Rattle.yds_document.specs.Job.{job_lines_from}
@@ -23,8 +23,3 @@ loop-job-preserved c =
       omega (arith, c.put.ensures.short),
       omega arith,
     )
-
-pub returns : goal.returns
-returns c =
-    let first : c.loop-job.job ≡ c.args.from = omega arith in
-    c.loop-job.invariant.0 ∙ ap (λ place. job_lines_from place c.args.instance.now) first

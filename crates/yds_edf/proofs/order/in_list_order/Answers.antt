@@ -1,4 +1,4 @@
-use Rattle.std.proofs.Common.{◌≡◌, ◌∙◌, ◌++◌, ◌∷◌, [], List, length, map, slice_index, sym, subst, ap, arith, below_more}
+use Rattle.std.proofs.Common.{◌∙◌, ◌++◌, ◌∷◌, [], List, map, slice_index, sym, subst, ap, arith, below_more}
 use Rattle.std.specs.List.{range_with_len}
 use Rattle.std.proofs.lemmas.List.{get_or_read}
 use Rattle.std.proofs.lemmas.List.FromFn.{map-range_with_len_more}
@@ -24,8 +24,3 @@ loop-number-preserved c =
 pub returns-clause-jobs : goal.returns-clause-jobs
 returns-clause-jobs c = All-from_get_or IsJob c.args.rows.now no_job
     (λ number within. c.loop-number.invariant.jobs number (omega (arith, within, c.loop-number-test.false)))
-
-pub returns-clause-order : goal.returns-clause-order
-returns-clause-order c =
-    let all : c.loop-number.number ≡ length c.args.rows.now = omega (arith, c.loop-number-test.false) in
-    c.loop-number.invariant.order ∙ ap (λ n. map (due_job c.args.rows.now c.args.ties.now) (range_with_len 0 n)) all

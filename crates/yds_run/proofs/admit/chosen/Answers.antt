@@ -1,4 +1,4 @@
-use Rattle.std.proofs.Common.{◌≡◌, ℕ, ◌<◌, List, length, map, take, ap, ◌∙◌, arith}
+use Rattle.std.proofs.Common.{ℕ, List, length, map, take, ap, ◌∙◌, arith}
 use Rattle.std.proofs.lemmas.List.{length-map, length-take-le}
 use Rattle.yds_model.specs.Job.{job_at}
 use Rattle.yds_model.specs.Document.{name_at}

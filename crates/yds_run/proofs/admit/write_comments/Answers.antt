@@ -1,6 +1,5 @@
-use Rattle.std.proofs.Common.{List, ◌∙◌, sym, ap, subst}
+use Rattle.std.proofs.Common.{◌∙◌, sym, ap}
 use Rattle.std.specs.List.{flat_map}
-use Rattle.yds_model.specs.Admission.{Refusal}
 use Rattle.yds_port.proofs.Putting.{item_put, item_failed, all_put, puts_text}
 use Rattle.yds_run.specs.Admit.{comment_text}
 use Rattle.yds_run.proofs.admit.write_comments.Goals as goal

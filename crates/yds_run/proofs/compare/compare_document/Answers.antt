@@ -1,4 +1,4 @@
-use Rattle.std.proofs.Common.{◌≡◌, ◌≤◌, List, length, sym, ap, subst, ◌∙◌, Ok, Err}
+use Rattle.std.proofs.Common.{◌≤◌, List, length, sym, ap, subst}
 use Rattle.yds_model.specs.Job.{Job}
 use Rattle.yds_model.specs.Plan.{IsPlan}
 use Rattle.yds_model.specs.Table.{Point}

@@ -1,7 +1,6 @@
-use Rattle.std.proofs.Common.{◌≡◌, ◌<◌, ◌≤◌, ◌∙◌, ◌∷◌, [], List, length, get_or, sym, ap, subst, arith, inl, inr, true, false}
+use Rattle.std.proofs.Common.{◌≡◌, ◌<◌, ◌∙◌, ◌∷◌, [], List, length, get_or, ap, arith, inl, inr, true, false}
 use Rattle.std.specs.Prelude.{codes, decimal}
 use Rattle.std.specs.List.{zip}
-use Rattle.yds_model.specs.Scale.{Fraction}
 use Rattle.yds_model.specs.Table.{Point}
 use Rattle.yds_model.specs.Text.{line, fraction_text}
 use Rattle.yds_port.proofs.Putting.{item_put, item_failed, all_put}

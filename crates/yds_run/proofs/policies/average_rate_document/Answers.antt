@@ -1,7 +1,6 @@
-use Rattle.std.proofs.Common.{◌≡◌, List, ap, subst, sym, refl}
+use Rattle.std.proofs.Common.{List, ap, subst, refl}
 use Rattle.std.specs.List.{All}
 use Rattle.yds_model.specs.Job.{Job}
-use Rattle.yds_model.specs.Document.{Document}
 use Rattle.yds_model.specs.Text.{canonical_text}
 use Rattle.yds_model.specs.Within.{IsDocument}
 use Rattle.yds_model.specs.Policy.{HasRunDenominators}

@@ -1,17 +1,6 @@
-use Rattle.std.proofs.Common.{◌≡◌, ◌+◌, ◌*◌, ◌-◌, ◌^◌, ◌≤◌, ℕ, drop, take, get_or, true, arith, rules}
-use Rattle.std.specs.Char.{digit_value}
-use Rattle.std.specs.List.{prefix_len}
-use Rattle.std.specs.Str.Parse.{digits_value}
+use Rattle.std.proofs.Common.{◌-◌, ◌^◌, ◌≤◌, arith}
 use Rattle.std.proofs.Math.Nat.{pow-le-pow_right}
-use Rattle.std.proofs.lemmas.Grind.{common_steps, pow_more}
-use Rattle.std.proofs.lemmas.Int.Digits.{digits_value_more}
-use Rattle.std.proofs.lemmas.List.Sums.{prefix_len-drop_yes}
-use Rattle.yds_model.specs.Spelling.{is_digit}
-use Rattle.yds_model.proofs.Spelling.{digit_range}
 use Rattle.yds_text.proofs.spelling.few_digits.Goals as goal
-
-digit_says : (byte : ℕ) → 48 ≤ byte → byte ≤ 57 → digit_value byte ≡ byte - 48
-digit_says byte low high = grind (arith, common_steps)
 
 pub overflow_mul-value : goal.overflow_mul-value
 overflow_mul-value c =
@@ -22,18 +11,3 @@ pub overflow_add-value : goal.overflow_add-value
 overflow_add-value c =
     let few : 10 ^ c.loop-index.index ≤ 10 ^ 18 = pow-le-pow_right {n = 10} (omega arith) {i = c.loop-index.index} {j = 18} (omega arith) in
     omega (arith, c.loop-index.invariant.below)
-
-pub loop-index-preserved : goal.loop-index-preserved
-loop-index-preserved c =
-    let digit : is_digit (get_or c.args.text.now c.loop-index.index 0) ≡ true = first_of (search rules, grind (arith, common_steps)) in
-    let range = digit_range (get_or c.args.text.now c.loop-index.index 0) digit in
-    let counted : prefix_len is_digit (drop c.loop-index.index c.args.text.now) ≡ 1 + prefix_len is_digit (drop (c.loop-index.index + 1) c.args.text.now) =
-    prefix_len-drop_yes is_digit c.args.text.now c.loop-index.index 0 (omega arith) digit in
-    let more : digits_value 10 (take (c.loop-index.index + 1) c.args.text.now) ≡ digits_value 10 (take c.loop-index.index c.args.text.now) * 10 + digit_value (get_or c.args.text.now c.loop-index.index 0) =
-    digits_value_more 10 c.args.text.now c.loop-index.index (omega arith) in
-    let says : digit_value (get_or c.args.text.now c.loop-index.index 0) ≡ get_or c.args.text.now c.loop-index.index 0 - 48 = digit_says (get_or c.args.text.now c.loop-index.index 0) range.0 range.1 in
-    record {
-      count = omega arith;
-      value = omega (arith, c.from.ensures);
-      below = omega (arith, c.from.ensures, c.loop-index.invariant.below, pow_more 10 c.loop-index.index);
-    }

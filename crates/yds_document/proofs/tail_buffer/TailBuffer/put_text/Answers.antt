@@ -1,4 +1,4 @@
-use Rattle.std.proofs.Common.{◌≡◌, ◌+◌, ◌-◌, ◌≤◌, ◌++◌, ◌∙◌, length, drop, arith, ap, ap₂, sym, length-drop}
+use Rattle.std.proofs.Common.{◌+◌, ◌-◌, ◌≤◌, ◌++◌, ◌∙◌, length, drop, arith, ap, ap₂, sym}
 use Rattle.std.proofs.lemmas.List.{drop-drop, drop-append-le}
 use Rattle.yds_document.proofs.tail_buffer.TailBuffer.put_text.Goals as goal
 
@@ -9,9 +9,3 @@ returns-clause-bytes g c =
     let within : c.front.inside.start ≤ length bytes = omega arith in
     sym (drop-drop c.front.inside.start written.result written.new.bytes) ∙ ap (drop c.front.inside.start) written.ensures.written
     ∙ drop-append-le c.front.inside.start bytes (drop c.self.inside.start c.self.inside.bytes) within ∙ ap₂ (λ front text. front ++ text) c.front.view_is c.self.view_is
-
-pub returns-clause-short : goal.returns-clause-short
-returns-clause-short g c =
-    let written = c.write_before-start in
-    let len : length c.args.self.now ≡ length c.self.inside.bytes - c.self.inside.start = sym (ap length c.self.view_is) ∙ length-drop c.self.inside.start c.self.inside.bytes in
-    omega (arith, length-drop (written.result + c.front.inside.start) written.new.bytes)

@@ -6,13 +6,6 @@ use Rattle.yds_oa.proofs.Chosen.{is_greatest}
 use Rattle.yds_oa.proofs.Greatest.{units_told, rounds_told, units_few}
 use Rattle.yds_oa.proofs.optimal_available.OptimalAvailablePolicy.set.Goals as goal
 
-pub greatest_quotient-greatest-requires : goal.greatest_quotient-greatest-requires
-greatest_quotient-greatest-requires c = record {
-  rising = c.in_order.ensures.order.rising;
-  all_units = c.in_order.ensures.all_units;
-  few = c.in_order.ensures.order.few;
-}
-
 pub overflow_cast-result : goal.overflow_cast-result
 overflow_cast-result c =
     let jobs = c.args.queue.now.jobs in
