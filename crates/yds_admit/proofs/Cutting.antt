@@ -1,19 +1,11 @@
 -- One piece more, and what the pieces before a place say of the work that is due.
-use Rattle.std.proofs.Common.{◌≡◌, ℕ, zero, suc, ◌+◌, ◌-◌, ◌*◌, ◌<◌, ◌≤◌, List, [], ◌∷◌, ◌++◌, length, get_or, take, ◌∙◌, refl, sym, subst, arith, inl, inr, ap, cond, nat_le, ◌&&◌, Bool, true, false, append_assoc}
-use Rattle.std.specs.List.{All, sum_by}
-use Rattle.std.proofs.lemmas.Bool.{cases_lt, cases_eq, le-leb, lt-leb, ne_eqb}
-use Rattle.std.proofs.lemmas.List.{get_or_append_left, get_or_push, length_push, take_all, take-append-le, append-nil}
-use Rattle.std.proofs.lemmas.List.Elements.{All-nil, All-push}
-use Rattle.std.proofs.lemmas.List.Sums.{sum_by_push, sum_by_more, sum_by-take-drop}
+use Rattle.yds_model.proofs.Common.{◌≡◌, ℕ, zero, suc, ◌+◌, ◌-◌, ◌*◌, ◌<◌, ◌≤◌, List, [], ◌∷◌, ◌++◌, length, get_or, take, ◌∙◌, refl, sym, subst, arith, inl, inr, ap, cond, nat_le, ◌&&◌, Bool, true, false, append_assoc, All, sum_by, cases_lt, cases_eq, le-leb, lt-leb, ne_eqb, get_or_append_left, get_or_push, length_push, take_all, take-append-le, append-nil, All-nil, All-push, sum_by_push, sum_by_more, sum_by-take-drop, Job, no_job, job_at, sum_by_same, sum_by_zero, part_within}
 use Rattle.yds_model.specs.declared.limits.TheConstants.{MAX_JOBS, MAX_WORK}
-use Rattle.yds_model.specs.Job.{Job, no_job, job_at}
-use Rattle.yds_model.proofs.Sums.{sum_by_same, sum_by_zero}
 use Rattle.yds_edf.specs.Pending.{sum_below}
 use Rattle.yds_edf.proofs.Sums.{sum_below_same}
 use Rattle.yds_admit.specs.Chain.{IsChain, due_work, AreEmpty}
 use Rattle.yds_admit.specs.Board.{AreGaps}
 use Rattle.yds_admit.specs.Pieces.{went, IsGreatest, IsCutting, IsCutInto}
-use Rattle.yds_model.proofs.Confined.{part_within}
 use Rattle.yds_admit.proofs.Sweep.{no_more, attained}
 
 pub yes : (place q x : ℕ) → place ≤ q → cond (nat_le place q) x 0 ≡ x

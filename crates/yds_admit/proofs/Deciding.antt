@@ -1,15 +1,7 @@
 -- Deciding job by job: what has been decided of the first jobs, and that it goes on as the definition says.
-use Rattle.std.proofs.Common.{◌≡◌, ℕ, ◌+◌, take, ◌<◌, ◌≤◌, List, [], ◌∷◌, ◌++◌, length, get_or, drop, ◌∙◌, refl, sym, subst, arith, inl, inr, ap, append_assoc}
-use Rattle.std.specs.List.{All}
-use Rattle.std.proofs.lemmas.List.{map-append, append-nil, get_or-take, length-take-le, drop_more, drop_all, length_push}
-use Rattle.std.proofs.lemmas.List.Elements.{All-nil, All-push}
-use Rattle.std.proofs.lemmas.List.FromFn.{get_or-range_with_len, length-range_with_len}
-use Rattle.yds_model.specs.Job.{Job, IsJob, no_job, job_at}
-use Rattle.yds_model.specs.Policy.{numbers_of}
-use Rattle.yds_model.specs.Admission.{CanServe, jobs_with, IsFirstOverfull, Refusal, IsRefusal, AdmitsAfter, IsAdmission}
+use Rattle.yds_model.proofs.Common.{◌≡◌, ℕ, ◌+◌, take, ◌<◌, ◌≤◌, List, [], ◌∷◌, ◌++◌, length, get_or, drop, ◌∙◌, refl, sym, subst, arith, inl, inr, ap, append_assoc, All, map-append, append-nil, get_or-take, length-take-le, drop_more, drop_all, length_push, All-nil, All-push, get_or-range_with_len, length-range_with_len, Job, IsJob, no_job, job_at, numbers_of, CanServe, jobs_with, IsFirstOverfull, Refusal, IsRefusal, AdmitsAfter, IsAdmission, work_within}
 use Rattle.yds_laws.specs.AdmissionLaws.{HasRoom}
 use Rattle.yds_laws.proofs.Served.{served_where_room}
-use Rattle.yds_model.specs.Confined.{work_within}
 use Rattle.yds_admit.specs.State.{IsDecision, Decided}
 use Rattle.yds_admit.proofs.Overfull.{numbers_work, first_numbers, room_front}
 

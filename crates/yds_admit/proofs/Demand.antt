@@ -1,14 +1,5 @@
 -- The demand of jobs that leave no interval overfull is within what the stretches serve at the top speed.
-use Rattle.std.proofs.Common.{◌≡◌, ℕ, zero, suc, ◌+◌, ◌-◌, ◌*◌, ◌<◌, ◌≤◌, List, length, get_or, map, arith, inl, inr, ap, cond, add-one}
-use Rattle.std.specs.Prelude.{nat_le, ◌&&◌}
-use Rattle.std.specs.List.{All}
-use Rattle.std.proofs.lemmas.Bool.{cases_lt, le-leb}
-use Rattle.std.proofs.lemmas.List.{get_or-map}
-use Rattle.std.proofs.Math.Nat.{mul-sub, mul-le-mul_left}
-use Rattle.yds_model.specs.Job.{Job, IsJob, job_at}
-use Rattle.yds_model.specs.Event.{event_points, stretches}
-use Rattle.yds_model.specs.Comparison.{stretch_at}
-use Rattle.yds_model.specs.Policy.{numbers_of}
+use Rattle.yds_model.proofs.Common.{◌≡◌, ℕ, zero, suc, ◌+◌, ◌-◌, ◌*◌, ◌<◌, ◌≤◌, List, length, get_or, map, arith, inl, inr, ap, cond, add-one, nat_le, ◌&&◌, All, cases_lt, le-leb, get_or-map, mul-sub, mul-le-mul_left, Job, IsJob, job_at, event_points, stretches, stretch_at, numbers_of}
 use Rattle.yds_events.specs.Stretch.{no_stretch}
 use Rattle.yds_events.proofs.Times.{release_at, deadline_at, not_later}
 use Rattle.yds_events.proofs.Neighbours.{count_stretches, stretch_begins, stretch_ends}

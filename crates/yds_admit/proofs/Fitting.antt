@@ -1,21 +1,10 @@
 -- The walk by falling releases over all deadlines: marked jobs that each find their room after their release leave no interval overfull.
-use Rattle.std.proofs.Common.{◌≡◌, ℕ, ◌+◌, ◌-◌, ◌*◌, ◌<◌, ◌≤◌, Bool, true, false, List, length, get_or, map, take, ◌∙◌, refl, sym, subst, arith, inl, inr, ap, cond, nat_le, ◌&&◌, ◌==◌}
-use Rattle.std.specs.List.{Any}
-use Rattle.std.proofs.lemmas.Bool.{cases_lt, cases_eq}
-use Rattle.std.proofs.lemmas.List.{get_or-map, get_or_default, length-map}
-use Rattle.std.proofs.lemmas.List.Sorted.{sum_by-IsPermutation, Contains-permutation, IsPermutation-refl}
-use Rattle.std.proofs.lemmas.List.FromFn.{get_or-range_with_len, length-range_with_len}
-use Rattle.std.proofs.Math.Nat.{mul-sub, mul-le-mul_left}
-use Rattle.yds_model.specs.Job.{Job, no_job, job_at}
-use Rattle.yds_model.specs.Policy.{numbers_of}
-use Rattle.yds_model.proofs.Sums.{sum_by_same, sum_by-map}
+use Rattle.yds_model.proofs.Common.{◌≡◌, ℕ, ◌+◌, ◌-◌, ◌*◌, ◌<◌, ◌≤◌, Bool, true, false, List, length, get_or, map, take, ◌∙◌, refl, sym, subst, arith, inl, inr, ap, cond, nat_le, ◌&&◌, ◌==◌, Any, cases_lt, cases_eq, get_or-map, get_or_default, length-map, sum_by-IsPermutation, Contains-permutation, IsPermutation-refl, get_or-range_with_len, length-range_with_len, mul-sub, mul-le-mul_left, Job, no_job, job_at, numbers_of, sum_by_same, sum_by-map, work_within, part_within}
 use Rattle.yds_laws.specs.AdmissionLaws.{HasRoom}
 use Rattle.yds_admit.specs.declared.board.Board.{Board}
 use Rattle.yds_admit.specs.declared.board.Spot.{Spot}
-use Rattle.yds_model.specs.Confined.{work_within}
 use Rattle.yds_admit.specs.Chain.{IsFalling, AreTimes, due_work, IsChain, Takes}
 use Rattle.yds_admit.specs.Board.{IsSpot, IsBoard, AreMarked, if_marked}
-use Rattle.yds_model.proofs.Confined.{part_within}
 use Rattle.yds_admit.proofs.Overfull.{jobs_work, any_of_all}
 use Rattle.yds_admit.proofs.Sweep.{reach, due_units, no_more, none_before, step_is, goes_through, last_with, work_of_front}
 

@@ -1,6 +1,5 @@
 -- Units that go on before gaps, one gap after another.
-use Rattle.std.proofs.Common.{◌≡◌, ℕ, suc, ◌+◌, ◌-◌, ◌<◌, ◌≤◌, ◌⊎◌, min, List, length, get_or, set, ◌∙◌, sym, arith, inl, inr, ap, cond, ◌==◌, get_or-set_same, get_or-set_other, length-set}
-use Rattle.std.proofs.lemmas.Bool.{cases_eq, eq-eqb, ne_eqb}
+use Rattle.yds_model.proofs.Common.{◌≡◌, ℕ, suc, ◌+◌, ◌-◌, ◌<◌, ◌≤◌, ◌⊎◌, min, List, length, get_or, set, ◌∙◌, sym, arith, inl, inr, ap, cond, ◌==◌, get_or-set_same, get_or-set_other, length-set, cases_eq, eq-eqb, ne_eqb}
 use Rattle.yds_admit.specs.Chain.{IsChain, Takes}
 
 -- a number at one place alone

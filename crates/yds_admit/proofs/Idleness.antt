@@ -1,20 +1,11 @@
 -- What is idle between the times, jobs that take it, and what a cut leaves of it.
-use Rattle.std.proofs.Common.{◌≡◌, ℕ, zero, suc, ◌+◌, ◌-◌, ◌*◌, ◌<◌, ◌≤◌, List, [], ◌∷◌, ◌++◌, length, get_or, take, drop, set, ◌∙◌, subst, arith, inl, inr, ap, cond, nat_le, get_or-set_same, get_or-set_other}
-use Rattle.std.specs.List.{All, sum_by}
-use Rattle.std.specs.List.Sorted.{IsNonDecreasing}
-use Rattle.std.proofs.lemmas.Bool.{cases_lt, cases_eq, le-leb, lt-leb}
-use Rattle.std.proofs.lemmas.List.{get_or_default, drop_all, append-nil, take_all}
-use Rattle.std.proofs.lemmas.List.Sums.{sum_by_push}
-use Rattle.std.proofs.Math.Nat.{mul-sub, mul-le-mul_left}
-use Rattle.yds_model.specs.Job.{Job, IsJob, job_at}
+use Rattle.yds_model.proofs.Common.{◌≡◌, ℕ, zero, suc, ◌+◌, ◌-◌, ◌*◌, ◌<◌, ◌≤◌, List, [], ◌∷◌, ◌++◌, length, get_or, take, drop, set, ◌∙◌, subst, arith, inl, inr, ap, cond, nat_le, get_or-set_same, get_or-set_other, All, sum_by, IsNonDecreasing, cases_lt, cases_eq, le-leb, lt-leb, get_or_default, drop_all, append-nil, take_all, sum_by_push, mul-sub, mul-le-mul_left, Job, IsJob, job_at, work_within, part_within, part_inside, part_early, part_late}
 use Rattle.yds_edf.proofs.Sums.{sum_below_same}
 use Rattle.yds_laws.specs.AdmissionLaws.{HasRoom}
-use Rattle.yds_model.specs.Confined.{work_within}
 use Rattle.yds_admit.specs.Chain.{IsFalling, due_work}
 use Rattle.yds_admit.specs.Board.{AreGaps}
 use Rattle.yds_admit.specs.Pieces.{went, IsCount, IsCutting, AreDue}
 use Rattle.yds_admit.specs.Idle.{HasIdle, IsTaken, IsTakenFrom, Fits, idle_before}
-use Rattle.yds_model.proofs.Confined.{part_within, part_inside, part_early, part_late}
 use Rattle.yds_admit.proofs.Overfull.{jobs_work, any_of_all}
 use Rattle.yds_admit.proofs.Sweep.{step_is}
 use Rattle.yds_admit.proofs.Cutting.{next_went}

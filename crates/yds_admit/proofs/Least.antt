@@ -1,23 +1,10 @@
 -- The work in an interval, of jobs by falling releases and of jobs that leave none overfull.
-use Rattle.std.proofs.Common.{◌≡◌, ℕ, zero, suc, ◌+◌, ◌-◌, ◌*◌, ◌<◌, ◌≤◌, List, [], ◌∷◌, ◌++◌, length, get_or, take, drop, ◌∙◌, sym, subst, arith, inl, inr, ap, cond, nat_le, ◌==◌}
-use Rattle.std.specs.List.{All, Any, sum_by}
-use Rattle.std.specs.List.Sorted.{IsPermutation, IsNonDecreasing}
-use Rattle.std.proofs.lemmas.Bool.{cases_lt, eqb-true, eqb-false}
-use Rattle.std.proofs.lemmas.List.{get_or_default, get_or-take, get_or-drop, get_or_append_left, get_or_push, length-take-le, length-drop, length_push}
-use Rattle.std.proofs.lemmas.List.Sums.{sum_by-take-drop}
-use Rattle.std.proofs.lemmas.List.Sorted.{sum_by-IsPermutation}
-use Rattle.std.proofs.Math.Nat.{mul-le-mul_left}
-use Rattle.yds_model.specs.Job.{Job, IsJob, no_job, job_at}
-use Rattle.yds_model.specs.Policy.{numbers_of}
-use Rattle.yds_model.proofs.Sums.{sum_by_same, sum_by_zero}
-use Rattle.yds_model.proofs.Filters.{found_or_none}
-use Rattle.yds_model.specs.Confined.{work_within}
+use Rattle.yds_model.proofs.Common.{◌≡◌, ℕ, zero, suc, ◌+◌, ◌-◌, ◌*◌, ◌<◌, ◌≤◌, List, [], ◌∷◌, ◌++◌, length, get_or, take, drop, ◌∙◌, sym, subst, arith, inl, inr, ap, cond, nat_le, ◌==◌, All, Any, sum_by, IsPermutation, IsNonDecreasing, cases_lt, eqb-true, eqb-false, get_or_default, get_or-take, get_or-drop, get_or_append_left, get_or_push, length-take-le, length-drop, length_push, sum_by-take-drop, sum_by-IsPermutation, mul-le-mul_left, Job, IsJob, no_job, job_at, numbers_of, sum_by_same, sum_by_zero, found_or_none, work_within, part_within, part_inside, part_early, part_late}
 use Rattle.yds_admit.specs.Interval.{HasRoomFrom}
 use Rattle.yds_admit.specs.Chain.{due_work}
 use Rattle.yds_admit.specs.Pieces.{AreDue}
 use Rattle.yds_laws.specs.AdmissionLaws.{HasRoom}
 use Rattle.yds_laws.proofs.Served.{room_from, confined_sum}
-use Rattle.yds_model.proofs.Confined.{part_within, part_inside, part_early, part_late}
 use Rattle.yds_admit.proofs.Overfull.{jobs_work}
 use Rattle.yds_admit.proofs.Sweep.{released_all}
 

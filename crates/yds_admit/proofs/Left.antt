@@ -1,17 +1,6 @@
 -- What a cut of the admitted jobs leaves of a board's gaps.
-use Rattle.std.proofs.Common.{◌≡◌, ℕ, ◌+◌, ◌*◌, ◌<◌, ◌≤◌, List, length, map, get_or, ◌∙◌, arith, sym, false}
-use Rattle.std.specs.List.{All, filter, sum_by}
-use Rattle.std.proofs.lemmas.List.Elements.{All-map, All-filter}
-use Rattle.std.proofs.lemmas.List.{length-map}
-use Rattle.std.proofs.lemmas.List.FromFn.{length-range_with_len}
-use Rattle.std.proofs.lemmas.List.Sums.{sum_by-le, length-filter, count_by-le-length}
-use Rattle.std.proofs.Math.Nat.{mul-le-mul_right}
-use Rattle.std.proofs.lemmas.List.Sorted.{sum_by-IsPermutation, length_permutation}
+use Rattle.yds_model.proofs.Common.{◌≡◌, ℕ, ◌+◌, ◌*◌, ◌<◌, ◌≤◌, List, length, map, get_or, ◌∙◌, arith, sym, false, All, filter, sum_by, All-map, All-filter, length-map, length-range_with_len, sum_by-le, length-filter, count_by-le-length, mul-le-mul_right, sum_by-IsPermutation, length_permutation, Job, IsJob, no_job, job_at, numbers_of, sum_by-map, sum_by-filter, part_within}
 use Rattle.yds_model.specs.declared.limits.TheConstants.{MAX_JOBS, MAX_WORK}
-use Rattle.yds_model.specs.Job.{Job, IsJob, no_job, job_at}
-use Rattle.yds_model.specs.Policy.{numbers_of}
-use Rattle.yds_model.proofs.Sums.{sum_by-map}
-use Rattle.yds_model.proofs.Filters.{sum_by-filter}
 use Rattle.yds_laws.specs.AdmissionLaws.{HasRoom}
 use Rattle.yds_admit.specs.declared.board.Board.{Board}
 use Rattle.yds_admit.specs.declared.board.Spot.{Spot}
@@ -21,7 +10,6 @@ use Rattle.yds_admit.specs.Idle.{HasIdle, idle_before}
 use Rattle.yds_admit.specs.Pieces.{went, IsCutting, AreCut, AreBounds, AreUsed, AreExact}
 use Rattle.yds_admit.proofs.Cutting.{went_fits}
 use Rattle.yds_admit.specs.State.{IsState}
-use Rattle.yds_model.proofs.Confined.{part_within}
 use Rattle.yds_admit.proofs.Idleness.{full_before, is_rest, less_left, left_idle, left_most, left_tight, same_idle}
 use Rattle.yds_admit.proofs.Newly.{any_same, room_same}
 

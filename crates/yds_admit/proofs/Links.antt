@@ -1,9 +1,5 @@
 -- Links between places, over gaps of which nothing is left.
-use Rattle.std.proofs.Common.{◌≡◌, ℕ, zero, suc, ◌+◌, ◌-◌, ◌<◌, ◌≤◌, List, length, get_or, set, ◌∙◌, subst, arith, ap, get_or-set_same, get_or-set_other, length-set}
-use Rattle.std.specs.List.{range_with_len}
-use Rattle.std.proofs.lemmas.Bool.{cases_lt, cases_eq}
-use Rattle.std.proofs.lemmas.List.{set-get_or}
-use Rattle.std.proofs.lemmas.List.FromFn.{get_or-range_with_len, length-range_with_len}
+use Rattle.yds_model.proofs.Common.{◌≡◌, ℕ, zero, suc, ◌+◌, ◌-◌, ◌<◌, ◌≤◌, List, length, get_or, set, ◌∙◌, subst, arith, ap, get_or-set_same, get_or-set_other, length-set, range_with_len, cases_lt, cases_eq, set-get_or, get_or-range_with_len, length-range_with_len}
 use Rattle.yds_admit.specs.Chain.{Takes, AreLinks, AreEmpty}
 use Rattle.yds_admit.proofs.GoingOn.{some_taken}
 

@@ -1,17 +1,8 @@
 -- The pieces of jobs, job by job.
-use Rattle.std.proofs.Common.{◌≡◌, ℕ, ◌+◌, ◌-◌, ◌<◌, ◌≤◌, List, [], ◌∷◌, ◌++◌, Bool, true, false, if◌then◌else◌, map, take, length, get_or, ◌∙◌, refl, sym, subst, arith, inl, inr, ap}
-use Rattle.std.specs.List.{Any, filter, sum_by}
-use Rattle.std.proofs.lemmas.Bool.{cases_lt}
-use Rattle.std.proofs.lemmas.List.{get_or_append_left, get_or-append_right, get_or_default, get_or_push, length-append, length_push, map-append}
-use Rattle.std.proofs.lemmas.List.Elements.{filter_more}
-use Rattle.std.proofs.lemmas.List.Sums.{sum_by-append, sum_by_push}
-use Rattle.yds_model.specs.Job.{Job, no_job, job_at}
-use Rattle.yds_model.proofs.Lists.{Any-append_left}
+use Rattle.yds_model.proofs.Common.{◌≡◌, ℕ, ◌+◌, ◌-◌, ◌<◌, ◌≤◌, List, [], ◌∷◌, ◌++◌, Bool, true, false, if◌then◌else◌, map, take, length, get_or, ◌∙◌, refl, sym, subst, arith, inl, inr, ap, Any, filter, sum_by, cases_lt, get_or_append_left, get_or-append_right, get_or_default, get_or_push, length-append, length_push, map-append, filter_more, sum_by-append, sum_by_push, Job, no_job, job_at, Any-append_left, work_within, part_within}
 use Rattle.yds_admit.specs.declared.board.Spot.{Spot}
 use Rattle.yds_admit.specs.Board.{falling_jobs}
-use Rattle.yds_model.specs.Confined.{work_within}
 use Rattle.yds_admit.specs.Pieces.{IsCutInto, AreCut}
-use Rattle.yds_model.proofs.Confined.{part_within}
 use Rattle.yds_admit.proofs.Fitting.{no_spot, spot_at}
 use Rattle.yds_admit.proofs.Cutting.{added}
 

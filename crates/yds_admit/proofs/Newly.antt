@@ -1,21 +1,9 @@
 -- One job more than jobs that leave no interval overfull: only an interval that begins before its deadline and ends then or later can be.
-use Rattle.std.proofs.Common.{◌≡◌, ℕ, suc, ◌-◌, ◌*◌, ◌<◌, ◌≤◌, ◌⊎◌, List, [], ◌∷◌, ◌++◌, Option, Some, None, MatchOption, length, ◌∙◌, refl, sym, subst, arith, inl, inr, ap, cond, ◌==◌, get_or}
-use Rattle.std.specs.List.{All, Any, sum_by}
-use Rattle.std.specs.List.Sorted.{IsPermutation}
-use Rattle.std.proofs.lemmas.Bool.{cases_lt, cases_eq, cases_order, eq-eqb, ne_eqb}
-use Rattle.std.proofs.lemmas.List.{get_or_default, get_or_append_left, get_or_push, length_push}
-use Rattle.std.proofs.lemmas.List.Sums.{sum_by_push, sum_by-cons, get_or-le-sum_by}
-use Rattle.std.proofs.lemmas.List.Sorted.{sum_by-IsPermutation}
-use Rattle.yds_model.specs.Job.{Job, IsJob, no_job, job_at}
-use Rattle.yds_model.specs.Policy.{numbers_of}
-use Rattle.yds_model.specs.Admission.{IsOverfull, IsFirstOverfull}
-use Rattle.yds_model.proofs.Lists.{All-front, All-last}
+use Rattle.yds_model.proofs.Common.{◌≡◌, ℕ, suc, ◌-◌, ◌*◌, ◌<◌, ◌≤◌, ◌⊎◌, List, [], ◌∷◌, ◌++◌, Option, Some, None, MatchOption, length, ◌∙◌, refl, sym, subst, arith, inl, inr, ap, cond, ◌==◌, get_or, All, Any, sum_by, IsPermutation, cases_lt, cases_eq, cases_order, eq-eqb, ne_eqb, get_or_default, get_or_append_left, get_or_push, length_push, sum_by_push, sum_by-cons, get_or-le-sum_by, sum_by-IsPermutation, Job, IsJob, no_job, job_at, numbers_of, IsOverfull, IsFirstOverfull, All-front, All-last, work_within, part_within, part_early, part_late}
 use Rattle.yds_laws.specs.AdmissionLaws.{HasRoom}
 use Rattle.yds_laws.proofs.Served.{room_from, confined_sum, confined_term}
-use Rattle.yds_model.specs.Confined.{work_within}
 use Rattle.yds_admit.specs.Interval.{IsFirstFrom, IsFirstWith}
 use Rattle.yds_admit.specs.Chain.{HasRoomOver}
-use Rattle.yds_model.proofs.Confined.{part_within, part_early, part_late}
 use Rattle.yds_admit.proofs.Overfull.{any_of_all, number_of_any, jobs_work}
 
 -- # Jobs with the same sums

@@ -1,9 +1,5 @@
 -- The next job of a state.
-use Rattle.std.proofs.Common.{◌≡◌, ◌<◌, List, [], ◌∷◌, ◌++◌, length, refl}
-use Rattle.std.specs.List.{All, Any}
-use Rattle.std.proofs.lemmas.List.{get_or_default}
-use Rattle.std.proofs.lemmas.List.Elements.{All-push}
-use Rattle.yds_model.specs.Job.{Job, IsJob, no_job}
+use Rattle.yds_model.proofs.Common.{◌≡◌, ◌<◌, List, [], ◌∷◌, ◌++◌, length, refl, All, Any, get_or_default, All-push, Job, IsJob, no_job}
 use Rattle.yds_admit.specs.declared.board.Board.{Board}
 use Rattle.yds_admit.specs.declared.state.State.{State}
 use Rattle.yds_admit.specs.Pieces.{AreDue}

@@ -1,8 +1,5 @@
 -- One job more among jobs that stand in an order.
-use Rattle.std.proofs.Common.{ℕ, List, [], ◌∷◌, ◌++◌, insert}
-use Rattle.std.specs.List.Sorted.{IsNonDecreasingBy}
-use Rattle.std.proofs.lemmas.List.Sorted.{IsPermutation-insert, IsPermutation-trans, IsPermutation-to_front, IsPermutation-append_left}
-use Rattle.yds_model.specs.Job.{Job}
+use Rattle.yds_model.proofs.Common.{ℕ, List, [], ◌∷◌, ◌++◌, insert, IsNonDecreasingBy, IsPermutation-insert, IsPermutation-trans, IsPermutation-to_front, IsPermutation-append_left, Job}
 use Rattle.yds_admit.specs.Orders.{AreOrdered}
 
 -- the order with one job more

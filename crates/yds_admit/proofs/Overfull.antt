@@ -1,18 +1,8 @@
 -- Overfull intervals of jobs, of their numbers, and of the jobs in another order.
-use Rattle.std.proofs.Common.{◌≡◌, ℕ, ◌<◌, List, ◌++◌, length, get_or, ◌∙◌, sym, subst, arith, ap}
-use Rattle.std.specs.List.{Any}
-use Rattle.std.proofs.lemmas.List.{get_or-map, get_or_default, length-map}
-use Rattle.std.proofs.lemmas.List.Sums.{sum_by-append}
-use Rattle.yds_model.specs.Job.{Job, job_at}
-use Rattle.yds_model.specs.Policy.{numbers_of}
-use Rattle.yds_model.specs.Admission.{jobs_with, confined_work, IsOverfull, IsFirstOverfull}
-use Rattle.yds_model.proofs.Lists.{Any-append_left}
-use Rattle.yds_model.proofs.Sums.{sum_by-map}
+use Rattle.yds_model.proofs.Common.{◌≡◌, ℕ, ◌<◌, List, ◌++◌, length, get_or, ◌∙◌, sym, subst, arith, ap, Any, get_or-map, get_or_default, length-map, sum_by-append, Job, job_at, numbers_of, jobs_with, confined_work, IsOverfull, IsFirstOverfull, Any-append_left, sum_by-map, work_within, part_within}
 use Rattle.yds_laws.specs.AdmissionLaws.{HasRoom}
 use Rattle.yds_laws.proofs.JobNumbers.{all_jobs}
 use Rattle.yds_laws.proofs.Served.{confined_sum}
-use Rattle.yds_model.specs.Confined.{work_within}
-use Rattle.yds_model.proofs.Confined.{part_within}
 
 -- # The work confined to an interval
 

@@ -1,15 +1,6 @@
 -- The walk by falling releases over a chain, and what it finds.
-use Rattle.std.proofs.Common.{◌≡◌, ℕ, zero, suc, ◌+◌, ◌*◌, ◌<◌, ◌≤◌, List, length, get_or, take, drop, ◌∙◌, refl, sym, arith, inl, inr, ap, cond, Bool, true, false, ◌==◌, nat_le}
-use Rattle.std.specs.List.{Any, sum_by}
-use Rattle.std.specs.List.Sorted.{IsPermutation}
-use Rattle.std.proofs.lemmas.Bool.{cases_lt, cases_eq, cases_Bool, eq-eqb, ne_eqb, le-leb, lt-leb, leb-true, leb-false, true≢false}
-use Rattle.std.proofs.lemmas.List.{get_or_default, get_or-take, get_or-drop, length-take-le, length-drop}
-use Rattle.std.proofs.lemmas.List.Sums.{sum_by_more, sum_by-take-drop}
-use Rattle.yds_model.specs.Job.{Job, no_job, job_at}
-use Rattle.yds_model.proofs.Sums.{sum_by_same, sum_by_zero}
-use Rattle.yds_model.specs.Confined.{work_within}
+use Rattle.yds_model.proofs.Common.{◌≡◌, ℕ, zero, suc, ◌+◌, ◌*◌, ◌<◌, ◌≤◌, List, length, get_or, take, drop, ◌∙◌, refl, sym, arith, inl, inr, ap, cond, Bool, true, false, ◌==◌, nat_le, Any, sum_by, IsPermutation, cases_lt, cases_eq, cases_Bool, eq-eqb, ne_eqb, le-leb, lt-leb, leb-true, leb-false, true≢false, get_or_default, get_or-take, get_or-drop, length-take-le, length-drop, sum_by_more, sum_by-take-drop, Job, no_job, job_at, sum_by_same, sum_by_zero, work_within, part_within, part_early}
 use Rattle.yds_admit.specs.Chain.{IsFalling, AreTimes, due_work, IsChain, Takes}
-use Rattle.yds_model.proofs.Confined.{part_within, part_early}
 use Rattle.yds_admit.proofs.GoingOn.{ended}
 
 -- # What a chain says of the units that went on before it

@@ -1,13 +1,5 @@
 -- The times of a chain, deadline by deadline.
-use Rattle.std.proofs.Common.{◌≡◌, ℕ, ◌+◌, ◌-◌, ◌*◌, ◌<◌, ◌≤◌, List, [], ◌∷◌, ◌++◌, length, get_or, take, ◌∙◌, subst, arith, ap}
-use Rattle.std.specs.List.{All, Any, Contains}
-use Rattle.std.specs.List.Sorted.{IsPermutation, IsNonDecreasing, IsNonDecreasingBy}
-use Rattle.std.proofs.lemmas.List.Sorted.{All-permutation}
-use Rattle.std.proofs.lemmas.Bool.{cases_lt}
-use Rattle.std.proofs.lemmas.List.{length_push, get_or_push, get_or_append_left, take_all, get_or_default}
-use Rattle.std.proofs.lemmas.List.Elements.{All-nil, All-cons, All-push, All-more, Contains-append_left, Contains-push}
-use Rattle.std.proofs.Math.Nat.{mul-sub, mul-le-mul_left}
-use Rattle.yds_model.specs.Job.{Job, IsJob, no_job, job_at}
+use Rattle.yds_model.proofs.Common.{◌≡◌, ℕ, ◌+◌, ◌-◌, ◌*◌, ◌<◌, ◌≤◌, List, [], ◌∷◌, ◌++◌, length, get_or, take, ◌∙◌, subst, arith, ap, All, Any, Contains, IsPermutation, IsNonDecreasing, IsNonDecreasingBy, All-permutation, cases_lt, length_push, get_or_push, get_or_append_left, take_all, get_or_default, All-nil, All-cons, All-push, All-more, Contains-append_left, Contains-push, mul-sub, mul-le-mul_left, Job, IsJob, no_job, job_at}
 use Rattle.yds_admit.specs.Chain.{AreTimes, IsPlace}
 use Rattle.yds_admit.specs.Pieces.{AreDue}
 

@@ -1,14 +1,5 @@
 -- What the program's verdict 'feasible' says.
-use Rattle.std.proofs.Common.{◌≡◌, List, length, subst, Option, Some, None, refl}
-use Rattle.std.specs.Prelude.{◌↔◌, MatchOption}
-use Rattle.std.specs.List.{All}
-use Rattle.yds_model.specs.Job.{Job}
-use Rattle.yds_model.specs.Slot.{WrittenSlot}
-use Rattle.yds_model.specs.Table.{Point}
-use Rattle.yds_model.specs.Feasible.{IsFeasible}
-use Rattle.yds_model.specs.Audit.{Feasible, IsVerdict, IsOnTable, AreSlots}
-use Rattle.yds_model.proofs.Verdicts.{verdict_is_exact, table_verdict_is_exact}
-use Rattle.yds_model.proofs.OneVerdict.{verdict_is_unique}
+use Rattle.yds_model.proofs.Common.{◌≡◌, List, length, subst, Option, Some, None, refl, ◌↔◌, MatchOption, All, Job, WrittenSlot, Point, IsFeasible, Feasible, IsVerdict, IsOnTable, AreSlots, verdict_is_exact, table_verdict_is_exact, verdict_is_unique}
 use Rattle.yds_audit.specs.declared.verdict.Verdict.{Verdict}
 use Rattle.yds_audit.specs.declared.verdict.Verdict.TheVariants as verdicts
 use Rattle.yds_audit.specs.Verdict.{verdict_view}

@@ -1,10 +1,5 @@
 -- What a slot and the one before it, as they are read, say of their places.
-use Rattle.std.proofs.Common.{◌≡◌, ℕ, ◌+◌, ◌-◌, ◌<◌, ◌≤◌, List, length, get_or, Bool, true, false, subst, arith}
-use Rattle.std.specs.Prelude.{MatchBool}
-use Rattle.std.proofs.lemmas.List.{get_or_read}
-use Rattle.yds_model.specs.Scale.{IsLess, IsAtMost}
-use Rattle.yds_model.specs.Slot.{WrittenSlot, no_written_slot, written_slot_at}
-use Rattle.yds_model.specs.Audit.{IsAfterOthers}
+use Rattle.yds_model.proofs.Common.{◌≡◌, ℕ, ◌+◌, ◌-◌, ◌<◌, ◌≤◌, List, length, get_or, Bool, true, false, subst, arith, MatchBool, get_or_read, IsLess, IsAtMost, WrittenSlot, no_written_slot, written_slot_at, IsAfterOthers}
 
 -- of two facts told by a test, each says more
 told_more : (b : Bool) (P Q R S : Type 0) → (P → R) → (Q → S) → MatchBool b P Q → MatchBool b R S

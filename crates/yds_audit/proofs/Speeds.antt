@@ -1,10 +1,5 @@
 -- A slot's speed by its work, and by the product of its length and the speed.
-use Rattle.std.proofs.Common.{◌≡◌, ℕ, ◌+◌, ◌-◌, ◌*◌, ◌≤◌, ap, arith}
-use Rattle.std.specs.Prelude.{◌↔◌}
-use Rattle.std.proofs.Math.Nat.{mul-sub, mul-pos}
-use Rattle.yds_model.specs.Scale.{Fraction, numerator, IsSum, IsSame, IsMultiple}
-use Rattle.yds_model.specs.Audit.{crossed_length}
-use Rattle.yds_model.proofs.Fractions.{tied_equality}
+use Rattle.yds_model.proofs.Common.{◌≡◌, ℕ, ◌+◌, ◌-◌, ◌*◌, ◌≤◌, ap, arith, ◌↔◌, mul-sub, mul-pos, Fraction, numerator, IsSum, IsSame, IsMultiple, crossed_length, tied_equality}
 
 -- the length's parts are those of the ends crossed
 length_crossed : (f fd t td d dd : ℕ) → t * (dd * fd) ≡ (d * fd + f * dd) * td → dd * (t * fd - f * td) ≡ d * (fd * td)

@@ -1,8 +1,5 @@
 -- A job's work together, and the work that it wants.
-use Rattle.std.proofs.Common.{◌≡◌, ℕ, ◌*◌, ◌/◌, ◌%◌, ◌≤◌, ◌==◌, Bool, true, false, arith, ap, refl, eqb-true}
-use Rattle.std.specs.Prelude.{◌↔◌, if◌then◌else◌}
-use Rattle.std.proofs.Math.Nat.{eq_of_mul-eq-mul_left}
-use Rattle.yds_model.specs.Scale.{of_whole, of_parts, IsSame}
+use Rattle.yds_model.proofs.Common.{◌≡◌, ℕ, ◌*◌, ◌/◌, ◌%◌, ◌≤◌, ◌==◌, Bool, true, false, arith, ap, refl, eqb-true, ◌↔◌, if◌then◌else◌, eq_of_mul-eq-mul_left, of_whole, of_parts, IsSame}
 
 -- parts that make a whole number, or leave some over
 parts_told : (b : Bool) (parts grain work : ℕ) → 1 ≤ grain → (parts % grain == 0) ≡ b →

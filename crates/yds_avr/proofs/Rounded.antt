@@ -1,11 +1,5 @@
 -- A quotient that is rounded up, by a product with a fraction that was rounded down.
-use Rattle.std.proofs.Common.{◌≡◌, ℕ, ◌+◌, ◌-◌, ◌*◌, ◌/◌, ◌%◌, ◌<◌, ◌≤◌, ◌∙◌, sym, ap, arith, inl, inr}
-use Rattle.std.specs.Prelude.{◌==◌, not}
-use Rattle.std.proofs.lemmas.Bool.{cases_lt, cases_eq, eq-eqb, ne_eqb}
-use Rattle.std.proofs.Math.Nat.{mul-le-mul_right, mul-le-mul_left, le_of_mul-le-mul_right, le-div_iff_mul-le, div-lt_iff_lt-mul, div-mul-le_self, lt-div-mul-add, div-add-mod, add-mul-div_right, mul-add-mod_self_right, dvd-mul_left}
-use Rattle.std.proofs.lemmas.Nat.Gcd.{mod-eq-zero_of_dvd}
-use Rattle.yds_model.specs.Policy.{div_up}
-use Rattle.yds_model.specs.Piece.{Piece}
+use Rattle.yds_model.proofs.Common.{◌≡◌, ℕ, ◌+◌, ◌-◌, ◌*◌, ◌/◌, ◌%◌, ◌<◌, ◌≤◌, ◌∙◌, sym, ap, arith, inl, inr, ◌==◌, not, cases_lt, cases_eq, eq-eqb, ne_eqb, mul-le-mul_right, mul-le-mul_left, le_of_mul-le-mul_right, le-div_iff_mul-le, div-lt_iff_lt-mul, div-mul-le_self, lt-div-mul-add, div-add-mod, add-mul-div_right, mul-add-mod_self_right, dvd-mul_left, mod-eq-zero_of_dvd, div_up, Piece}
 use Rattle.yds_avr.specs.declared.rate.Rate.{Rate}
 use Rattle.yds_events.specs.Stretch.{length_of}
 use Rattle.yds_avr.specs.Rate.{window_length, rate_units, rate_term, rate_rounds, IsRate, IsLive}

@@ -1,23 +1,6 @@
 -- The jobs in three parts, as time goes on: those that are over and those that are to come have no part of the stretch.
-use Rattle.std.proofs.Common.{◌≡◌, ℕ, ◌+◌, ◌-◌, ◌*◌, ◌%◌, ◌<◌, ◌≤◌, List, [], ◌∷◌, ◌++◌, length, get_or, take, drop, drop-cons, add-one, ◌∙◌, refl, sym, ap, subst, arith, inl, inr, cond, true, false}
-use Rattle.std.specs.Prelude.{Bool, ◌&&◌, ◌||◌, ◌==◌, not, nat_lt, nat_le, All, sum_by, filter, insert}
-use Rattle.std.specs.List.{list_any}
-use Rattle.std.specs.List.Sorted.{IsPermutation, IsNonDecreasingBy, IsPartitionedBy, IsPartitionPoint}
-use Rattle.std.proofs.Math.Nat.{mod-lt, mul-le-mul_left}
-use Rattle.std.proofs.lemmas.Nat.{div-add-mod'}
-use Rattle.std.proofs.lemmas.Bool.{cases_lt, cases_Bool, le-leb, lt-leb, lt-ltb, le-ltb, leb-true, leb-false}
-use Rattle.std.proofs.lemmas.List.{take-append-drop, get_or-take, get_or-drop, get_or_append_left, length-append, length-take, length-drop, append_assoc, append-nil, length-map}
-use Rattle.std.proofs.lemmas.List.Sums.{sum_by-cons, sum_by-le}
-use Rattle.std.proofs.lemmas.List.Elements.{filter-append, All-from_get_or, All-cons, All-append, All-take, All-map, All-weaker}
-use Rattle.std.proofs.lemmas.List.Sorted.{All-permutation, IsPermutation-trans, IsPermutation-append_left, IsPermutation-middle, IsNonDecreasingBy-insert, length_permutation, sum_by_pushed, sum_by-IsPermutation, list_any-IsPermutation}
+use Rattle.yds_model.proofs.Common.{◌≡◌, ℕ, ◌+◌, ◌-◌, ◌*◌, ◌%◌, ◌<◌, ◌≤◌, List, [], ◌∷◌, ◌++◌, length, get_or, take, drop, drop-cons, add-one, ◌∙◌, refl, sym, ap, subst, arith, inl, inr, cond, true, false, Bool, ◌&&◌, ◌||◌, ◌==◌, not, nat_lt, nat_le, All, sum_by, filter, insert, list_any, IsPermutation, IsNonDecreasingBy, IsPartitionedBy, IsPartitionPoint, mod-lt, mul-le-mul_left, div-add-mod', cases_lt, cases_Bool, le-leb, lt-leb, lt-ltb, le-ltb, leb-true, leb-false, take-append-drop, get_or-take, get_or-drop, get_or_append_left, length-append, length-take, length-drop, append_assoc, append-nil, length-map, sum_by-cons, sum_by-le, filter-append, All-from_get_or, All-cons, All-append, All-take, All-map, All-weaker, All-permutation, IsPermutation-trans, IsPermutation-append_left, IsPermutation-middle, IsNonDecreasingBy-insert, length_permutation, sum_by_pushed, sum_by-IsPermutation, list_any-IsPermutation, Job, IsJob, Piece, stretches, div_up, is_live, term_of, terms_of, rounds_term, average_rate_rounds, stretch_at, sum_by-filter, filter_none, filter_all}
 use Rattle.yds_model.specs.declared.limits.TheConstants.{MAX_GRID, MAX_JOBS, MAX_TIME}
-use Rattle.yds_model.specs.Job.{Job, IsJob}
-use Rattle.yds_model.specs.Piece.{Piece}
-use Rattle.yds_model.specs.Event.{stretches}
-use Rattle.yds_model.specs.Policy.{div_up}
-use Rattle.yds_model.specs.AverageRate.{is_live, term_of, terms_of, rounds_term, average_rate_rounds}
-use Rattle.yds_model.specs.Comparison.{stretch_at}
-use Rattle.yds_model.proofs.Filters.{sum_by-filter, filter_none, filter_all}
 use Rattle.yds_events.specs.Stretch.{IsOutside}
 use Rattle.yds_events.proofs.Neighbours.{stretch_begins, stretch_next}
 use Rattle.yds_events.proofs.Times.{not_later}

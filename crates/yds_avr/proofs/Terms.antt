@@ -1,19 +1,5 @@
 -- The live jobs' parts of the stretches: together they are at least the jobs' units, so no job is served too late.
-use Rattle.std.proofs.Common.{◌≡◌, ℕ, zero, suc, ◌-◌, ◌*◌, ◌<◌, ◌≤◌, min, List, length, get_or, map, ◌∙◌, refl, sym, ap, arith, inl, inr, cond, true, false, add-one}
-use Rattle.std.specs.Prelude.{Bool, nat_le, ◌&&◌, All}
-use Rattle.std.proofs.lemmas.Bool.{cases_lt, cases_Bool, le-leb, lt-leb, lt-ltb, le-ltb, true≢false}
-use Rattle.std.specs.Prelude.{Result, Ok, Err, IfOk, OnOk}
-use Rattle.std.proofs.lemmas.List.{get_or-map}
-use Rattle.std.proofs.lemmas.List.Elements.{All-from_get_or}
-use Rattle.std.proofs.Math.Nat.{le_of_mul-le-mul_right}
-use Rattle.yds_model.specs.Job.{Job, IsJob, no_job, job_at}
-use Rattle.yds_model.specs.Piece.{Piece}
-use Rattle.yds_model.specs.Confined.{window_is_within, work_within}
-use Rattle.yds_model.specs.Event.{event_points, stretches}
-use Rattle.yds_model.specs.AverageRate.{is_live, term_of, terms_of, average_rate_rounds, IsAverageRateRun}
-use Rattle.yds_model.specs.Slot.{WrittenSlot}
-use Rattle.yds_model.specs.Comparison.{stretch_at}
-use Rattle.yds_model.proofs.Filters.{sum_by-filter}
+use Rattle.yds_model.proofs.Common.{◌≡◌, ℕ, zero, suc, ◌-◌, ◌*◌, ◌<◌, ◌≤◌, min, List, length, get_or, map, ◌∙◌, refl, sym, ap, arith, inl, inr, cond, true, false, add-one, Bool, nat_le, ◌&&◌, All, cases_lt, cases_Bool, le-leb, lt-leb, lt-ltb, le-ltb, true≢false, Result, Ok, Err, IfOk, OnOk, get_or-map, All-from_get_or, le_of_mul-le-mul_right, Job, IsJob, no_job, job_at, Piece, window_is_within, work_within, event_points, stretches, is_live, term_of, terms_of, average_rate_rounds, IsAverageRateRun, WrittenSlot, stretch_at, sum_by-filter}
 use Rattle.yds_events.specs.Stretch.{no_stretch, length_of, IsOutside}
 use Rattle.yds_events.proofs.Times.{not_later, deadline_at, release_at}
 use Rattle.yds_events.proofs.Neighbours.{count_stretches, stretch_begins, stretch_ends, stretch_forward, release_outside, deadline_outside}

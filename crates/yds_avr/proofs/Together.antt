@@ -1,11 +1,5 @@
 -- The parts of the live jobs, gone through one by one.
-use Rattle.std.proofs.Common.{◌≡◌, ℕ, ◌+◌, ◌*◌, ◌%◌, ◌<◌, ◌≤◌, List, length, get_or, take, ◌∙◌, sym, ap, arith, true, false}
-use Rattle.std.specs.Prelude.{◌==◌, ◌||◌, not, All, sum_by}
-use Rattle.std.specs.List.{list_any}
-use Rattle.std.proofs.lemmas.List.Sums.{sum_by_more}
-use Rattle.std.proofs.lemmas.List.Folds.{list_any_more, list_any_at}
-use Rattle.yds_model.specs.Piece.{Piece}
-use Rattle.yds_model.specs.Policy.{div_up}
+use Rattle.yds_model.proofs.Common.{◌≡◌, ℕ, ◌+◌, ◌*◌, ◌%◌, ◌<◌, ◌≤◌, List, length, get_or, take, ◌∙◌, sym, ap, arith, true, false, ◌==◌, ◌||◌, not, All, sum_by, list_any, sum_by_more, list_any_more, list_any_at, Piece, div_up}
 use Rattle.yds_events.specs.Stretch.{length_of}
 use Rattle.yds_avr.specs.declared.rate.Rate.{Rate}
 use Rattle.yds_avr.specs.Rate.{window_length, rate_term, rate_rounds, IsLive}

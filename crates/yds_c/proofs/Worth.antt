@@ -1,9 +1,7 @@
 -- Each answer of the definitions is worth what is said of it.
-use Rattle.std.proofs.Common.{◌≡◌, ◌≢◌, ◌++◌, ℕ, List, [], Some, None, ap, refl, subst, sym, ◌∙◌}
+use Rattle.yds_model.proofs.Common.{◌≡◌, ◌≢◌, ◌++◌, ℕ, List, [], Some, None, ap, refl, subst, sym, ◌∙◌, AnswersRequest, Request}
 use Rattle.yds_model.specs.declared.status.Status.{Status}
 use Rattle.yds_model.specs.declared.status.Status.TheVariants as statuses
-use Rattle.yds_model.specs.Answer.{AnswersRequest}
-use Rattle.yds_model.specs.Request.{Request}
 use Rattle.yds_report.specs.JsonText.{HoldsReport}
 use Rattle.yds_texts.specs.AdmitText.{HoldsAdmission}
 use Rattle.yds_texts.specs.CompareText.{HoldsComparison}

@@ -1,7 +1,5 @@
 -- The time that pieces cover, piece by piece.
-use Rattle.std.proofs.Common.{ℕ, suc, zero, ◌⊎◌, inl, inr, List, [], ◌∷◌, ◌++◌, refl, sym, subst, arith}
-use Rattle.std.specs.Prelude.{◌↔◌}
-use Rattle.yds_model.specs.Piece.{Piece, Covers}
+use Rattle.yds_model.proofs.Common.{ℕ, suc, zero, ◌⊎◌, inl, inr, List, [], ◌∷◌, ◌++◌, refl, sym, subst, arith, ◌↔◌, Piece, Covers}
 use Rattle.yds_certificate.specs.Merging.{IsInPiece}
 
 covers_first : (piece : Piece) (pieces : List Piece) (time : ℕ) → Covers (piece ∷ pieces) time → IsInPiece time piece ⊎ Covers pieces time

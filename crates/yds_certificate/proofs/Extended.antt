@@ -1,14 +1,5 @@
 -- Pieces with one more after them.
-use Rattle.std.proofs.Common.{◌≡◌, ℕ, suc, ◌+◌, ◌-◌, ◌<◌, ◌≤◌, ◌⊎◌, inl, inr, List, [], ◌∷◌, ◌++◌, length, refl, sym, ap, ◌∙◌, subst, arith}
-use Rattle.std.specs.Prelude.{◌↔◌}
-use Rattle.std.specs.List.{slice_index_or, slice_set}
-use Rattle.std.proofs.lemmas.List.Sums.{sum_by-cons, sum_by_push}
-use Rattle.std.proofs.lemmas.List.{length-append, length-set}
-use Rattle.std.proofs.lemmas.Bool.{cases_lt}
-use Rattle.std.proofs.lemmas.List.Elements.{All-push, All-set}
-use Rattle.std.proofs.Math.Seq.{get_or-append_seam}
-use Rattle.yds_model.specs.Piece.{Piece, Covers, total_length}
-use Rattle.yds_model.specs.Within.{IsPiece}
+use Rattle.yds_model.proofs.Common.{◌≡◌, ℕ, suc, ◌+◌, ◌-◌, ◌<◌, ◌≤◌, ◌⊎◌, inl, inr, List, [], ◌∷◌, ◌++◌, length, refl, sym, ap, ◌∙◌, subst, arith, ◌↔◌, slice_index_or, slice_set, sum_by-cons, sum_by_push, length-append, length-set, cases_lt, All-push, All-set, get_or-append_seam, Piece, Covers, total_length, IsPiece}
 use Rattle.yds_certificate.specs.Merging.{AreSeparate, end_of, IsInPiece, Touches, IsExtended}
 use Rattle.yds_certificate.proofs.Cover.{Covers-cons, Covers-append}
 

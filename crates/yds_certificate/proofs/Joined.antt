@@ -1,9 +1,5 @@
 -- Pieces that lie one after another, with touching ones joined.
-use Rattle.std.proofs.Common.{◌≡◌, ℕ, suc, zero, ◌+◌, ◌-◌, ◌<◌, ◌≤◌, inl, inr, List, [], ◌∷◌, ◌++◌, length, take, sym, ap, ◌∙◌, subst, arith}
-use Rattle.std.specs.List.{slice_index_or}
-use Rattle.std.proofs.lemmas.List.Sums.{sum_by_push}
-use Rattle.std.proofs.lemmas.List.{length-append, take_more, take_all}
-use Rattle.yds_model.specs.Piece.{Piece, PiecesFrom}
+use Rattle.yds_model.proofs.Common.{◌≡◌, ℕ, suc, zero, ◌+◌, ◌-◌, ◌<◌, ◌≤◌, inl, inr, List, [], ◌∷◌, ◌++◌, length, take, sym, ap, ◌∙◌, subst, arith, slice_index_or, sum_by_push, length-append, take_more, take_all, Piece, PiecesFrom}
 use Rattle.yds_certificate.specs.Merging.{end_of, IsExtended, IsJoined}
 use Rattle.yds_certificate.proofs.Cover.{Covers-append}
 use Rattle.yds_certificate.proofs.Extended.{one_covered, end_pushed, end_cons}

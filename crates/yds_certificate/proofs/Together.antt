@@ -1,19 +1,5 @@
 -- The pieces and the members of two levels, together.
-use Rattle.std.proofs.Common.{◌≡◌, ℕ, suc, ◌+◌, ◌-◌, ◌<◌, ◌≤◌, inl, inr, List, [], ◌∷◌, ◌++◌, length, Bool, true, false, sym, ap, ◌∙◌, subst, arith}
-use Rattle.std.specs.Prelude.{◌↔◌, nat_lt, ◌&&◌, eqb, cond}
-use Rattle.std.specs.List.{All, AllByRecursion, IsDistinct, slice_index_or}
-use Rattle.std.specs.List.Sorted.{IsPermutation, IsNonDecreasing, IsNonDecreasingBy, IsStrictlyIncreasing}
-use Rattle.std.proofs.lemmas.Bool.{lt-ltb, le-ltb, ne_eqb, eq-eqb, cases_lt, cases_eq, false≢true, and_left, and_right}
-use Rattle.std.proofs.Math.Bool.{and_comm}
-use Rattle.std.proofs.lemmas.List.{length-append}
-use Rattle.std.proofs.lemmas.List.Elements.{All-tail, All-append, recursion_from_All, All-from_recursion}
-use Rattle.std.proofs.lemmas.List.Sorted.{All-permutation, sum_by-IsPermutation, length_permutation, Contains-permutation, IsPermutation-sym}
-use Rattle.std.proofs.lemmas.List.Sums.{sum_by-append, sum_by-cons}
-use Rattle.std.proofs.lemmas.Map.Keys.{IsDistinct-IsPermutation, IsStrictlyIncreasing-from_distinct}
-use Rattle.yds_model.specs.Numbers.{count}
-use Rattle.yds_model.specs.Piece.{Piece, IsForward, AreApart, PiecesFrom, Covers}
-use Rattle.yds_model.specs.Level.{Level}
-use Rattle.yds_model.proofs.Front.{pieces_forward}
+use Rattle.yds_model.proofs.Common.{◌≡◌, ℕ, suc, ◌+◌, ◌-◌, ◌<◌, ◌≤◌, inl, inr, List, [], ◌∷◌, ◌++◌, length, Bool, true, false, sym, ap, ◌∙◌, subst, arith, ◌↔◌, nat_lt, ◌&&◌, eqb, cond, All, AllByRecursion, IsDistinct, slice_index_or, IsPermutation, IsNonDecreasing, IsNonDecreasingBy, IsStrictlyIncreasing, lt-ltb, le-ltb, ne_eqb, eq-eqb, cases_lt, cases_eq, false≢true, and_left, and_right, and_comm, length-append, All-tail, All-append, recursion_from_All, All-from_recursion, All-permutation, sum_by-IsPermutation, length_permutation, Contains-permutation, IsPermutation-sym, sum_by-append, sum_by-cons, IsDistinct-IsPermutation, IsStrictlyIncreasing-from_distinct, count, Piece, IsForward, AreApart, PiecesFrom, Covers, Level, pieces_forward}
 use Rattle.yds_certificate.specs.Merging.{IsOrderly, IsNewTo, IsJoined, AreTogether}
 use Rattle.yds_certificate.proofs.Cover.{Covers-append}
 

@@ -1,20 +1,9 @@
 -- What the program's judgement 'accepted' says.
-use Rattle.std.proofs.Common.{◌≡◌, ◌<◌, ◌≤◌, List, length, subst, refl}
-use Rattle.std.specs.Prelude.{◌↔◌}
-use Rattle.std.specs.List.{All}
-use Rattle.std.proofs.lemmas.List.Elements.{All-weaker}
-use Rattle.yds_model.specs.Job.{Job}
-use Rattle.yds_model.specs.Slot.{WrittenSlot}
-use Rattle.yds_model.specs.Level.{Level}
-use Rattle.yds_model.specs.Excess.{IsLeast}
-use Rattle.yds_model.specs.Proper.{IsProper, AreLevels}
-use Rattle.yds_model.specs.Audit.{AreSlots}
-use Rattle.yds_model.specs.Judgement.{Accepted, IsJudgement}
+use Rattle.yds_model.proofs.Common.{◌≡◌, ◌<◌, ◌≤◌, List, length, subst, refl, ◌↔◌, All, All-weaker, Job, WrittenSlot, Level, IsLeast, IsProper, AreLevels, AreSlots, Accepted, IsJudgement, IsLevel}
 use Rattle.yds_laws.proofs.Bound.{explained_is_least}
 use Rattle.yds_laws.proofs.Explained.{proper_explains}
 use Rattle.yds_laws.proofs.Judgements.{judgement_is_exact}
 use Rattle.yds_laws.proofs.OneJudgement.{judgement_is_unique}
-use Rattle.yds_model.specs.Within.{IsLevel}
 use Rattle.yds_certificate.specs.Certificate.{IsCertificate}
 use Rattle.yds_checker.specs.declared.judgement.Judgement.{Judgement}
 use Rattle.yds_checker.specs.declared.judgement.Judgement.TheVariants as judgements

@@ -1,9 +1,5 @@
 -- Pieces in rising order of which no two overlap.
-use Rattle.std.proofs.Common.{◌≡◌, ℕ, zero, suc, ◌+◌, ◌<◌, ◌≤◌, ◌&&◌, cond, List, length, take, length-take, get_or-take, arith, inl, inr, refl}
-use Rattle.std.specs.Prelude.{nat_lt}
-use Rattle.std.specs.List.{All}
-use Rattle.std.proofs.lemmas.Bool.{cases_Bool, cases_lt}
-use Rattle.std.proofs.lemmas.List.Sums.{sum_by_more}
+use Rattle.yds_model.proofs.Common.{◌≡◌, ℕ, zero, suc, ◌+◌, ◌<◌, ◌≤◌, ◌&&◌, cond, List, length, take, length-take, get_or-take, arith, inl, inr, refl, nat_lt, All, cases_Bool, cases_lt, sum_by_more}
 use Rattle.yds_checker.specs.declared.placed.Placed.{Placed}
 use Rattle.yds_checker.specs.Placed.{has_unit, holding, AreApartBelow, AreByStart}
 use Rattle.yds_checker.specs.Heights.{no_placed, placed_at}

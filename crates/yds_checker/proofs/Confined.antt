@@ -1,11 +1,6 @@
 -- A job's window, and the pieces that hold it.
-use Rattle.std.proofs.Common.{◌≡◌, ℕ, ◌+◌, ◌<◌, ◌≤◌, List, length, take, Bool, arith}
-use Rattle.std.specs.Prelude.{◌↔◌, IsTrue}
+use Rattle.yds_model.proofs.Common.{◌≡◌, ℕ, ◌+◌, ◌<◌, ◌≤◌, List, length, take, Bool, arith, ◌↔◌, IsTrue, Job, job_at, IsConfined, Level, all_pieces, IsWindowCovered}
 use Rattle.yds_model.specs.declared.limits.TheConstants.{MAX_LEVELS}
-use Rattle.yds_model.specs.Job.{Job, job_at}
-use Rattle.yds_model.specs.Piece.{IsConfined}
-use Rattle.yds_model.specs.Level.{Level, all_pieces}
-use Rattle.yds_model.specs.Proper.{IsWindowCovered}
 use Rattle.yds_checker.specs.declared.home.Home.{Home}
 use Rattle.yds_checker.specs.declared.home.Home.TheVariants.{In}
 use Rattle.yds_checker.specs.declared.placed.Placed.{Placed}

@@ -1,11 +1,5 @@
 -- Where jobs stand when one more member is met.
-use Rattle.std.proofs.Common.{◌≡◌, ◌≢◌, ℕ, ◌+◌, ◌<◌, List, [], ◌∷◌, ◌++◌, length, get_or, set, take, ap, sym, ◌∙◌, arith, inl, inr, append_assoc, add-zero, add-one, length-set, get_or-set_same, get_or-set_other}
-use Rattle.std.proofs.lemmas.List.{take_more}
-use Rattle.std.proofs.lemmas.List.Sums.{sum_by_push}
-use Rattle.std.proofs.lemmas.Bool.{cases_eq, ne_eqb}
-use Rattle.yds_model.specs.Numbers.{count}
-use Rattle.yds_model.specs.Level.{Level, no_level, level_at, all_members}
-use Rattle.yds_model.proofs.Lists.{flat_map-take}
+use Rattle.yds_model.proofs.Common.{◌≡◌, ◌≢◌, ℕ, ◌+◌, ◌<◌, List, [], ◌∷◌, ◌++◌, length, get_or, set, take, ap, sym, ◌∙◌, arith, inl, inr, append_assoc, add-zero, add-one, length-set, get_or-set_same, get_or-set_other, take_more, sum_by_push, cases_eq, ne_eqb, count, Level, no_level, level_at, all_members, flat_map-take}
 use Rattle.yds_checker.specs.declared.home.Home.{Home}
 use Rattle.yds_checker.specs.declared.home.Home.TheVariants.{Nowhere, In, Often}
 use Rattle.yds_checker.specs.Home.{IsHome, home_at, AreHomes}

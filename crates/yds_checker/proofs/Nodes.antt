@@ -1,8 +1,5 @@
 -- Nodes of which each is the greater of the two below it.
-use Rattle.std.proofs.Common.{◌≡◌, ℕ, ◌+◌, ◌-◌, ◌*◌, ◌/◌, ◌%◌, ◌<◌, ◌≤◌, List, [], ◌∷◌, ◌++◌, length, max, min, set, arith, inl, inr, subst, sym, get_or-set_other, get_or-set_same}
-use Rattle.std.specs.Prelude.{slice_index}
-use Rattle.std.proofs.lemmas.Bool.{cases_lt}
-use Rattle.std.proofs.lemmas.List.{get_or_append_left, get_or_push}
+use Rattle.yds_model.proofs.Common.{◌≡◌, ℕ, ◌+◌, ◌-◌, ◌*◌, ◌/◌, ◌%◌, ◌<◌, ◌≤◌, List, [], ◌∷◌, ◌++◌, length, max, min, set, arith, inl, inr, subst, sym, get_or-set_other, get_or-set_same, slice_index, cases_lt, get_or_append_left, get_or_push}
 use Rattle.yds_checker.specs.declared.placed.Placed.{Placed}
 use Rattle.yds_checker.specs.Heights.{IsHeight, AreRaised, AreWithin}
 

@@ -1,10 +1,6 @@
 -- The parts of levels that are joined.
-use Rattle.std.proofs.Common.{◌≡◌, ℕ, ◌<◌, ◌≤◌, List, length, get_or, arith}
-use Rattle.std.specs.List.{flat_map}
-use Rattle.std.proofs.lemmas.List.Concat.{length-flat_map}
-use Rattle.std.proofs.lemmas.List.Sums.{get_or-le-sum_by}
+use Rattle.yds_model.proofs.Common.{◌≡◌, ℕ, ◌<◌, ◌≤◌, List, length, get_or, arith, flat_map, length-flat_map, get_or-le-sum_by, Level}
 use Rattle.yds_model.specs.declared.limits.TheConstants.{MAX_PIECES, MAX_MEMBERS}
-use Rattle.yds_model.specs.Level.{Level}
 use Rattle.yds_certificate.specs.Certificate.{IsCertificate}
 
 -- a part is no longer than all parts together

@@ -1,16 +1,5 @@
 -- The pieces of levels in one list.
-use Rattle.std.proofs.Common.{◌≡◌, ℕ, ◌+◌, ◌<◌, ◌≤◌, ◌&&◌, cond, List, [], ◌∷◌, ◌++◌, length, get_or, take, min, ap, sym, ◌∙◌, arith, inl, inr, add-one, length-take}
-use Rattle.std.specs.Prelude.{nat_lt}
-use Rattle.std.specs.List.{All}
-use Rattle.std.specs.List.Sorted.{IsPermutation}
-use Rattle.std.proofs.lemmas.List.{take_more, take-take}
-use Rattle.std.proofs.lemmas.List.Elements.{All-push}
-use Rattle.std.proofs.lemmas.List.Sorted.{All-permutation, sum_by-IsPermutation}
-use Rattle.std.proofs.lemmas.List.Sums.{sum_by_push, sum_by-append}
-use Rattle.std.proofs.lemmas.Bool.{cases_Bool, cases_lt, lt-ltb, le-ltb}
-use Rattle.yds_model.specs.Piece.{Piece, IsForward}
-use Rattle.yds_model.specs.Level.{Level, no_level, level_at, all_pieces}
-use Rattle.yds_model.proofs.Lists.{flat_map-take}
+use Rattle.yds_model.proofs.Common.{◌≡◌, ℕ, ◌+◌, ◌<◌, ◌≤◌, ◌&&◌, cond, List, [], ◌∷◌, ◌++◌, length, get_or, take, min, ap, sym, ◌∙◌, arith, inl, inr, add-one, length-take, nat_lt, All, IsPermutation, take_more, take-take, All-push, All-permutation, sum_by-IsPermutation, sum_by_push, sum_by-append, cases_Bool, cases_lt, lt-ltb, le-ltb, Piece, IsForward, Level, no_level, level_at, all_pieces, flat_map-take}
 use Rattle.yds_checker.specs.declared.placed.Placed.{Placed}
 use Rattle.yds_checker.specs.Placed.{has_unit, covering, holding, IsPlaced, PlacesMore, ArePlaced}
 

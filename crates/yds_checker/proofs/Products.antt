@@ -1,9 +1,5 @@
 -- A slot's speed and a level's: the work times the level's length, and the length times the level's work.
-use Rattle.std.proofs.Common.{◌≡◌, ℕ, ◌*◌, ◌≤◌, ap, arith}
-use Rattle.std.specs.Prelude.{◌↔◌}
-use Rattle.yds_model.specs.Scale.{Fraction, numerator, IsSum, IsSame, IsMultiple}
-use Rattle.yds_model.specs.Audit.{crossed_length}
-use Rattle.yds_model.proofs.Fractions.{tied_equality}
+use Rattle.yds_model.proofs.Common.{◌≡◌, ℕ, ◌*◌, ◌≤◌, ap, arith, ◌↔◌, Fraction, numerator, IsSum, IsSame, IsMultiple, crossed_length, tied_equality}
 use Rattle.yds_audit.proofs.Speeds.{speed_of_product}
 
 -- the first product's parts are the work's times the level's length

@@ -1,15 +1,5 @@
 -- Of slots that stand, a slot's work is at most its job's.
-use Rattle.std.proofs.Common.{◌≡◌, ℕ, ◌+◌, ◌*◌, ◌/◌, ◌<◌, ◌≤◌, List, length, sym, arith, None}
-use Rattle.std.proofs.lemmas.List.{length-map}
-use Rattle.std.proofs.lemmas.List.Sums.{get_or-le-sum_by}
-use Rattle.std.proofs.lemmas.Bool.{eq-eqb}
-use Rattle.std.proofs.Math.Nat.{le_of_mul-le-mul_right}
-use Rattle.yds_model.specs.Job.{Job, job_at}
-use Rattle.yds_model.specs.Slot.{WrittenSlot, WholeSlot, slot_at, work_given, no_written_slot, slot_at_scale, slots_at, written_slot_at}
-use Rattle.yds_model.specs.Audit.{AllStand, AreSlots}
-use Rattle.yds_model.proofs.Scale.{scale_exists}
-use Rattle.yds_model.proofs.Runs.{slot_read}
-use Rattle.yds_model.proofs.Verdicts.{stand_is_feasible}
+use Rattle.yds_model.proofs.Common.{◌≡◌, ℕ, ◌+◌, ◌*◌, ◌/◌, ◌<◌, ◌≤◌, List, length, sym, arith, None, length-map, get_or-le-sum_by, eq-eqb, le_of_mul-le-mul_right, Job, job_at, WrittenSlot, WholeSlot, slot_at, work_given, no_written_slot, slot_at_scale, slots_at, written_slot_at, AllStand, AreSlots, scale_exists, slot_read, stand_is_feasible}
 
 -- a slot's work at a scale is at most what its job is given
 one_given : (slots : List WholeSlot) (i : ℕ) (slot : WholeSlot) → i < length slots → slot ≡ slot_at slots i → slot.work ≤ work_given slots slot.job

@@ -1,11 +1,5 @@
 -- Pieces one after another, and what they cover.
-use Rattle.std.proofs.Common.{◌≡◌, ℕ, zero, suc, ◌+◌, ◌-◌, ◌<◌, ◌≤◌, true, false, List, length, arith, inl, inr}
-use Rattle.std.specs.Prelude.{◌↔◌, nat_le, nat_lt}
-use Rattle.std.specs.List.Sorted.{IsPartitionPoint, IsPartitionedBy}
-use Rattle.std.proofs.lemmas.Bool.{cases_lt, leb-true, leb-false, ltb-true, ltb-false}
-use Rattle.std.proofs.lemmas.List.{get_or_default}
-use Rattle.std.proofs.lemmas.List.Sorted.{IsPartitionedBy-leb, IsPartitionedBy-ltb}
-use Rattle.yds_model.specs.Level.{Level}
+use Rattle.yds_model.proofs.Common.{◌≡◌, ℕ, zero, suc, ◌+◌, ◌-◌, ◌<◌, ◌≤◌, true, false, List, length, arith, inl, inr, ◌↔◌, nat_le, nat_lt, IsPartitionPoint, IsPartitionedBy, cases_lt, leb-true, leb-false, ltb-true, ltb-false, get_or_default, IsPartitionedBy-leb, IsPartitionedBy-ltb, Level}
 use Rattle.yds_checker.specs.declared.placed.Placed.{Placed}
 use Rattle.yds_checker.specs.Placed.{holding}
 use Rattle.yds_model.specs.declared.limits.TheConstants.{MAX_LEVELS}

@@ -1,12 +1,5 @@
 -- Units of time in pieces.
-use Rattle.std.proofs.Common.{◌≡◌, ℕ, ◌<◌, ◌≤◌, ◌&&◌, cond, List, [], ◌∷◌, length, get_or, ap, arith, inl, inr, refl}
-use Rattle.std.specs.Prelude.{◌↔◌, nat_le, nat_lt}
-use Rattle.std.specs.Bool.{Decides}
-use Rattle.std.proofs.lemmas.Bool.{cases_Bool, leb-true, le-leb}
-use Rattle.std.proofs.lemmas.Bool.Decides.{Decides-and, Decides-ltb}
-use Rattle.std.proofs.lemmas.List.{get_or_default}
-use Rattle.std.proofs.lemmas.List.Sums.{sum_by-cons, sum_by-le-sum_by}
-use Rattle.yds_model.specs.Piece.{Piece, PiecesFrom, Covers}
+use Rattle.yds_model.proofs.Common.{◌≡◌, ℕ, ◌<◌, ◌≤◌, ◌&&◌, cond, List, [], ◌∷◌, length, get_or, ap, arith, inl, inr, refl, ◌↔◌, nat_le, nat_lt, Decides, cases_Bool, leb-true, le-leb, Decides-and, Decides-ltb, get_or_default, sum_by-cons, sum_by-le-sum_by, Piece, PiecesFrom, Covers}
 use Rattle.yds_checker.specs.declared.placed.Placed.{Placed}
 use Rattle.yds_checker.specs.Placed.{has_unit, covering, holding, AreApartBelow}
 use Rattle.yds_checker.specs.Heights.{no_placed, placed_at}

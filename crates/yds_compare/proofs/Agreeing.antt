@@ -1,11 +1,5 @@
 -- What loads spend is what slots spend at a scale, where they take as long at each point.
-use Rattle.std.proofs.Common.{◌≡◌, ℕ, ◌*◌, ◌≤◌, List, map, get_or, sym, ap, ◌∙◌, mul_left_comm}
-use Rattle.std.proofs.Math.Path.{fun_ext}
-use Rattle.yds_model.specs.Job.{Job}
-use Rattle.yds_model.specs.Slot.{WholeSlot}
-use Rattle.yds_model.specs.Table.{Point}
-use Rattle.yds_model.specs.Comparison.{Spent, IsSpentAt, all_time_at, all_energy}
-use Rattle.yds_model.proofs.Sums.{sum_by-mul, sum_by_same}
+use Rattle.yds_model.proofs.Common.{◌≡◌, ℕ, ◌*◌, ◌≤◌, List, map, get_or, sym, ap, ◌∙◌, mul_left_comm, fun_ext, Job, WholeSlot, Point, Spent, IsSpentAt, all_time_at, all_energy, sum_by-mul, sum_by_same}
 use Rattle.yds_energy.proofs.SpentScale.{parts_same}
 use Rattle.yds_compare.specs.declared.load.Load.{Load}
 use Rattle.yds_compare.specs.Spent.{time_of_loads, energy_of_loads, IsSpentOn}

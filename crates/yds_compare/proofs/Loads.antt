@@ -1,11 +1,5 @@
 -- How long stretches are together.
-use Rattle.std.proofs.Common.{ℕ, zero, suc, ◌+◌, ◌<◌, ◌≤◌, List, [], ◌∷◌, length, take, get_or, sym, subst, arith}
-use Rattle.std.specs.Prelude.{sum_by}
-use Rattle.std.specs.List.{All}
-use Rattle.std.proofs.lemmas.List.{take_more}
-use Rattle.std.proofs.lemmas.List.Elements.{All-nil, All-cons, All-tail, All-append}
-use Rattle.std.proofs.lemmas.List.Sums.{sum_by-cons}
-use Rattle.yds_model.specs.Piece.{Piece, PiecesFrom}
+use Rattle.yds_model.proofs.Common.{ℕ, zero, suc, ◌+◌, ◌<◌, ◌≤◌, List, [], ◌∷◌, length, take, get_or, sym, subst, arith, sum_by, All, take_more, All-nil, All-cons, All-tail, All-append, sum_by-cons, Piece, PiecesFrom}
 use Rattle.yds_events.specs.Stretch.{length_of}
 
 -- the first pieces are in order

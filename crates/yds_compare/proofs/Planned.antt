@@ -1,25 +1,5 @@
 -- What a plan's slots take at each point, stretch by stretch, is what its levels take, and the time outside them.
-use Rattle.std.proofs.Common.{◌≡◌, ℕ, ◌+◌, ◌-◌, ◌*◌, ◌<◌, ◌≤◌, ◌==◌, List, [], ◌∷◌, length, map, get_or, sym, ap, ap₂, subst, ◌∙◌, arith, inl, inr}
-use Rattle.std.specs.Prelude.{sum_by, if◌then◌else◌}
-use Rattle.std.specs.List.{All, Contains}
-use Rattle.std.proofs.lemmas.List.{length-map, get_or-map}
-use Rattle.std.proofs.lemmas.List.Elements.{All-nil, All-cons, All-append, All-tail, All-filter, All-map, All-from_get_or}
-use Rattle.std.proofs.lemmas.List.Sums.{sum_by-cons, sum_by-append, sum-map}
-use Rattle.std.proofs.lemmas.Bool.{cases_lt}
-use Rattle.std.proofs.Math.Nat.{mul-pos, eq_of_mul-eq-mul_left, eq_of_mul-eq-mul_right, le_of_mul-le-mul_left}
-use Rattle.yds_model.specs.Job.{Job}
-use Rattle.yds_model.specs.Slot.{WrittenSlot, WholeSlot, IsScale, slots_at}
-use Rattle.yds_model.specs.Piece.{Piece}
-use Rattle.yds_model.specs.Level.{Level, no_level, level_at}
-use Rattle.yds_model.specs.Plan.{IsPlan}
-use Rattle.yds_model.specs.Table.{Point, point_at, AreRising, hull_of, hull_multiple}
-use Rattle.yds_model.specs.Rounding.{top_of, IsTooFast}
-use Rattle.yds_model.specs.Energy.{busy}
-use Rattle.yds_model.specs.Event.{stretches}
-use Rattle.yds_model.specs.Policy.{slots_in}
-use Rattle.yds_model.specs.Comparison.{time_at, all_time_at, stretch_at}
-use Rattle.yds_model.proofs.Runs.{run_forward}
-use Rattle.yds_model.proofs.Sums.{sum_by-map}
+use Rattle.yds_model.proofs.Common.{◌≡◌, ℕ, ◌+◌, ◌-◌, ◌*◌, ◌<◌, ◌≤◌, ◌==◌, List, [], ◌∷◌, length, map, get_or, sym, ap, ap₂, subst, ◌∙◌, arith, inl, inr, sum_by, if◌then◌else◌, All, Contains, length-map, get_or-map, All-nil, All-cons, All-append, All-tail, All-filter, All-map, All-from_get_or, sum_by-cons, sum_by-append, sum-map, cases_lt, mul-pos, eq_of_mul-eq-mul_left, eq_of_mul-eq-mul_right, le_of_mul-le-mul_left, Job, WrittenSlot, WholeSlot, IsScale, slots_at, Piece, Level, no_level, level_at, IsPlan, Point, point_at, AreRising, hull_of, hull_multiple, top_of, IsTooFast, busy, stretches, slots_in, time_at, all_time_at, stretch_at, run_forward, sum_by-map, given_split}
 use Rattle.yds_events.specs.Stretch.{length_of}
 use Rattle.yds_events.proofs.Neighbours.{stretches_run, stretch_forward}
 use Rattle.yds_energy.proofs.LevelTimes.{levels_long, plan_busy}
@@ -33,7 +13,6 @@ use Rattle.yds_energy.proofs.StretchSlots.{lies, sum_in_stretches}
 use Rattle.yds_energy.proofs.PointTimes.{idle_time}
 use Rattle.yds_energy.proofs.RoundedRuns.{HasRate, rate_together}
 use Rattle.yds_energy.proofs.LevelsEnergy.{all_lengths, lengths_positive, rate, rate_member, rates_together, level_rates}
-use Rattle.yds_model.proofs.Scale.{given_split}
 
 -- A plan on a hull of rising points, at a scale and a speed.
 module _ (jobs : List Job) (planned : List WrittenSlot) (levels : List Level) (points : List Point) (plan : IsPlan jobs planned levels)

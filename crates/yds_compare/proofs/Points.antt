@@ -1,13 +1,5 @@
 -- How long a load runs at the points of a hull.
-use Rattle.std.proofs.Common.{◌≡◌, ℕ, zero, suc, ◌+◌, ◌-◌, ◌*◌, ◌/◌, ◌<◌, ◌≤◌, ◌==◌, Bool, true, false, List, [], ◌∷◌, length, refl, sym, ap, subst, ◌∙◌, arith}
-use Rattle.std.specs.Prelude.{nat_le, if◌then◌else◌}
-use Rattle.std.specs.List.{slice_index_or}
-use Rattle.std.specs.Int.{◌∣◌}
-use Rattle.std.proofs.lemmas.Bool.{lt-leb, le-leb}
-use Rattle.std.proofs.lemmas.List.{get_or_read}
-use Rattle.std.proofs.Math.Nat.{div-mul_cancel, mul-le-mul_right}
-use Rattle.yds_model.specs.Table.{Point, no_point, point_at, AreRising, hull_of, hull_multiple}
-use Rattle.yds_model.specs.Comparison.{time_at}
+use Rattle.yds_model.proofs.Common.{◌≡◌, ℕ, zero, suc, ◌+◌, ◌-◌, ◌*◌, ◌/◌, ◌<◌, ◌≤◌, ◌==◌, Bool, true, false, List, [], ◌∷◌, length, refl, sym, ap, subst, ◌∙◌, arith, nat_le, if◌then◌else◌, slice_index_or, ◌∣◌, lt-leb, le-leb, get_or_read, div-mul_cancel, mul-le-mul_right, Point, no_point, point_at, AreRising, hull_of, hull_multiple, time_at}
 use Rattle.yds_energy.proofs.OneEnergy.{places_rise}
 use Rattle.yds_energy.proofs.PointTimes.{gap_divides, pair_time, idle_time}
 use Rattle.yds_compare.specs.declared.load.Load.{Load}

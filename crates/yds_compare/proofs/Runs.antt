@@ -1,19 +1,5 @@
 -- What a run on a grid does in each stretch.
-use Rattle.std.proofs.Common.{◌≡◌, ℕ, ◌-◌, ◌*◌, ◌<◌, ◌≤◌, List, [], ◌∷◌, length, sym, ap, ap₂, subst, ◌∙◌, arith}
-use Rattle.std.specs.Prelude.{sum_by}
-use Rattle.std.specs.List.{All}
-use Rattle.std.proofs.lemmas.List.{length-map, get_or-map}
-use Rattle.std.proofs.lemmas.List.Elements.{All-tail, All-from_get_or}
-use Rattle.std.proofs.lemmas.List.Sums.{sum_by-cons}
-use Rattle.std.proofs.Math.Nat.{mul-le-mul_left, le_of_mul-le-mul_left}
-use Rattle.yds_model.specs.Numbers.{IsFirstFailure}
-use Rattle.yds_model.specs.Job.{Job}
-use Rattle.yds_model.specs.Slot.{WholeSlot, IsScale, IsSolid, slots_at}
-use Rattle.yds_model.specs.Piece.{Piece}
-use Rattle.yds_model.specs.Table.{Point, hull_of, hull_multiple}
-use Rattle.yds_model.specs.Event.{stretches}
-use Rattle.yds_model.specs.Rounding.{top_of}
-use Rattle.yds_model.specs.Comparison.{work_in, time_at, HoldsStretch, stretch_at, Spent, HoldsAll, IsTooSlowFor}
+use Rattle.yds_model.proofs.Common.{◌≡◌, ℕ, ◌-◌, ◌*◌, ◌<◌, ◌≤◌, List, [], ◌∷◌, length, sym, ap, ap₂, subst, ◌∙◌, arith, sum_by, All, length-map, get_or-map, All-tail, All-from_get_or, sum_by-cons, mul-le-mul_left, le_of_mul-le-mul_left, IsFirstFailure, Job, WholeSlot, IsScale, IsSolid, slots_at, Piece, Point, hull_of, hull_multiple, stretches, top_of, work_in, time_at, HoldsStretch, stretch_at, Spent, HoldsAll, IsTooSlowFor}
 use Rattle.yds_events.specs.Stretch.{length_of}
 use Rattle.yds_timetable.specs.Timetable.{Row, row_at, stretches_of, slots_of}
 use Rattle.yds_timetable.proofs.Rows.{no_row, rows_solid, row_work}

@@ -1,9 +1,5 @@
 -- Removed stretches, one put after another, each with the removed time before it.
-use Rattle.std.proofs.Common.{◌≡◌, ℕ, ◌+◌, ◌-◌, ◌<◌, List, [], ◌∷◌, ◌++◌, ◌∙◌, length, take, ap, sym, arith}
-use Rattle.std.proofs.lemmas.Bool.{cases_lt}
-use Rattle.std.proofs.lemmas.List.{get_or_append_left, get_or_push, length_push, map_push, take_all, take_at, take-append-le, take_more}
-use Rattle.std.proofs.lemmas.List.Sums.{sum_by_push}
-use Rattle.yds_model.specs.Piece.{Piece, total_length}
+use Rattle.yds_model.proofs.Common.{◌≡◌, ℕ, ◌+◌, ◌-◌, ◌<◌, List, [], ◌∷◌, ◌++◌, ◌∙◌, length, take, ap, sym, arith, cases_lt, get_or_append_left, get_or_push, length_push, map_push, take_all, take_at, take-append-le, take_more, sum_by_push, Piece, total_length}
 use Rattle.yds_contract.specs.declared.removed.Removed.{Removed}
 use Rattle.yds_contract.specs.Removed.{removed_at, removed_stretches, AreSummed}
 use Rattle.yds_contract.specs.Removing.{IsAppended}

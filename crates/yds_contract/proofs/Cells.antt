@@ -1,10 +1,5 @@
 -- Units of time before, in and after removed stretches, and how much is removed before a time.
-use Rattle.std.proofs.Common.{◌≡◌, ℕ, zero, suc, ◌+◌, ◌-◌, ◌<◌, ◌≤◌, min, List, [], ◌∷◌, length, get_or, take, inl, inr, arith, refl}
-use Rattle.std.specs.List.{All}
-use Rattle.std.proofs.lemmas.Bool.{cases_lt}
-use Rattle.std.proofs.lemmas.List.Elements.{All-tail}
-use Rattle.std.proofs.lemmas.List.Sums.{sum_by-cons}
-use Rattle.yds_model.specs.Piece.{Piece, Covers, total_length}
+use Rattle.yds_model.proofs.Common.{◌≡◌, ℕ, zero, suc, ◌+◌, ◌-◌, ◌<◌, ◌≤◌, min, List, [], ◌∷◌, length, get_or, take, inl, inr, arith, refl, All, cases_lt, All-tail, sum_by-cons, Piece, Covers, total_length}
 use Rattle.yds_certificate.proofs.Cover.{Covers-cons}
 use Rattle.yds_contract.specs.Contracted.{AreApartFrom, removed_before}
 

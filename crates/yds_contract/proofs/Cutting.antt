@@ -1,14 +1,5 @@
 -- Spans that are cut at times are the same time, in pieces that have no time strictly inside and meet at times alone.
-use Rattle.std.proofs.Common.{◌≡◌, ℕ, zero, suc, ◌-◌, ◌*◌, ◌<◌, ◌≤◌, ◌⊎◌, List, [], ◌∷◌, ◌++◌, ◌∙◌, length, get_or, map, take, drop, cond, true, false, ap, sym, subst, inl, inr, arith, refl}
-use Rattle.std.specs.Prelude.{◌↔◌, ◌/◌, ◌+◌, Bool, nat_lt, nat_le, ◌&&◌, filter}
-use Rattle.std.specs.List.{All, Contains}
-use Rattle.std.proofs.lemmas.Bool.{cases_lt, cases_Bool, cases_eq, le-leb, lt-leb, both_ways, cond-true, cond-false, lt-ltb, le-ltb, and_from, and_left, and_right}
-use Rattle.std.specs.List.Sorted.{IsStrictlyIncreasing, IsNonDecreasingBy, IsPartitionedBy}
-use Rattle.std.proofs.Math.Nat.{mul-le-mul_right}
-use Rattle.std.proofs.lemmas.List.Kept.{AllPairs-from_increasing}
-use Rattle.std.proofs.lemmas.List.Sorted.{IsPartitionedBy-leb}
-use Rattle.std.proofs.lemmas.List.Elements.{All-cons, All-nil, All-append, All-weaker}
-use Rattle.yds_model.specs.Piece.{Piece, PiecesFrom, Covers}
+use Rattle.yds_model.proofs.Common.{◌≡◌, ℕ, zero, suc, ◌-◌, ◌*◌, ◌<◌, ◌≤◌, ◌⊎◌, List, [], ◌∷◌, ◌++◌, ◌∙◌, length, get_or, map, take, drop, cond, true, false, ap, sym, subst, inl, inr, arith, refl, ◌↔◌, ◌/◌, ◌+◌, Bool, nat_lt, nat_le, ◌&&◌, filter, All, Contains, cases_lt, cases_Bool, cases_eq, le-leb, lt-leb, both_ways, cond-true, cond-false, lt-ltb, le-ltb, and_from, and_left, and_right, IsStrictlyIncreasing, IsNonDecreasingBy, IsPartitionedBy, mul-le-mul_right, AllPairs-from_increasing, IsPartitionedBy-leb, All-cons, All-nil, All-append, All-weaker, Piece, PiecesFrom, Covers}
 use Rattle.yds_certificate.proofs.Cover.{Covers-cons, Covers-append}
 use Rattle.yds_contract.specs.Contracted.{AreApartFrom}
 use Rattle.yds_contract.specs.Spread.{MeetsOnlyAt, MeetOnlyAt, IsUncutAt}

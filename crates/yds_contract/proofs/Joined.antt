@@ -1,11 +1,5 @@
 -- Removed stretches with one more, which those that touch it or lie inside it join.
-use Rattle.std.proofs.Common.{◌≡◌, ℕ, suc, ◌+◌, ◌-◌, ◌<◌, ◌≤◌, ◌⊎◌, List, [], ◌∷◌, ◌∙◌, ap, sym, subst, inl, inr, arith, refl}
-use Rattle.std.specs.Prelude.{◌↔◌, nat_lt, nat_le, if◌then◌else◌}
-use Rattle.std.specs.List.{All}
-use Rattle.std.proofs.lemmas.Bool.{cases_lt, cond-true, cond-false, lt-ltb, le-ltb, le-leb, lt-leb}
-use Rattle.std.proofs.lemmas.List.Sums.{sum_by-cons}
-use Rattle.std.proofs.lemmas.List.Elements.{All-cons, All-nil, All-head, All-tail}
-use Rattle.yds_model.specs.Piece.{Piece, Covers, total_length}
+use Rattle.yds_model.proofs.Common.{◌≡◌, ℕ, suc, ◌+◌, ◌-◌, ◌<◌, ◌≤◌, ◌⊎◌, List, [], ◌∷◌, ◌∙◌, ap, sym, subst, inl, inr, arith, refl, ◌↔◌, nat_lt, nat_le, if◌then◌else◌, All, cases_lt, cond-true, cond-false, lt-ltb, le-ltb, le-leb, lt-leb, sum_by-cons, All-cons, All-nil, All-head, All-tail, Piece, Covers, total_length}
 use Rattle.yds_certificate.proofs.Cover.{Covers-cons}
 use Rattle.yds_contract.specs.Contracted.{AreApartFrom, removed_before, Removes}
 use Rattle.yds_contract.proofs.Cells.{none_covered, apart_weaker, covered_later, none_before, first_before, rest_before, few_before}

@@ -1,13 +1,6 @@
 -- A walk over removed stretches that joins one more to them.
-use Rattle.std.proofs.Common.{◌≡◌, ℕ, suc, ◌+◌, ◌-◌, ◌<◌, ◌≤◌, List, [], ◌∷◌, ◌++◌, ◌∙◌, length, get_or, drop, ap, sym, subst, arith}
-use Rattle.std.specs.List.{All}
-use Rattle.std.proofs.lemmas.List.{append_assoc, at_drop_more, at_drop_all}
-use Rattle.std.proofs.lemmas.List.Elements.{All-cons, All-nil}
-use Rattle.std.proofs.lemmas.List.Sums.{sum_by-append}
-use Rattle.yds_model.proofs.Lists.{All-front, All-back}
+use Rattle.yds_model.proofs.Common.{◌≡◌, ℕ, suc, ◌+◌, ◌-◌, ◌<◌, ◌≤◌, List, [], ◌∷◌, ◌++◌, ◌∙◌, length, get_or, drop, ap, sym, subst, arith, All, append_assoc, at_drop_more, at_drop_all, All-cons, All-nil, sum_by-append, All-front, All-back, Piece, IsForward, total_length, IsPiece}
 use Rattle.yds_model.specs.declared.limits.TheConstants.{MAX_TIME}
-use Rattle.yds_model.specs.Piece.{Piece, IsForward, total_length}
-use Rattle.yds_model.specs.Within.{IsPiece}
 use Rattle.yds_contract.specs.declared.removed.Removed.{Removed}
 use Rattle.yds_contract.specs.Contracted.{AreApartFrom, place, Removes}
 use Rattle.yds_contract.specs.Removed.{removed_stretches, AreSummed, IsContraction}

@@ -1,10 +1,5 @@
 -- The pieces of real time between two places are what isn't removed and has a place there.
-use Rattle.std.proofs.Common.{◌≡◌, ℕ, suc, ◌+◌, ◌-◌, ◌<◌, ◌≤◌, ◌⊎◌, min, max, List, [], ◌∷◌, ◌++◌, ◌∙◌, subst, inl, inr, arith}
-use Rattle.std.specs.Prelude.{◌↔◌}
-use Rattle.std.proofs.lemmas.Bool.{cases_lt, cond-true, cond-false, lt-ltb, le-ltb}
-use Rattle.std.proofs.lemmas.List.{append-nil}
-use Rattle.std.proofs.lemmas.List.Sums.{sum_by-append}
-use Rattle.yds_model.specs.Piece.{Piece, Covers, total_length}
+use Rattle.yds_model.proofs.Common.{◌≡◌, ℕ, suc, ◌+◌, ◌-◌, ◌<◌, ◌≤◌, ◌⊎◌, min, max, List, [], ◌∷◌, ◌++◌, ◌∙◌, subst, inl, inr, arith, ◌↔◌, cases_lt, cond-true, cond-false, lt-ltb, le-ltb, append-nil, sum_by-append, Piece, Covers, total_length}
 use Rattle.yds_certificate.proofs.Cover.{Covers-cons, Covers-append}
 use Rattle.yds_contract.specs.Contracted.{AreApartFrom, removed_before, ArePieces}
 use Rattle.yds_contract.specs.Clipped.{clipped, pieces_after}

@@ -1,7 +1,5 @@
 -- A place in contracted time once an interval of it is removed besides.
-use Rattle.std.proofs.Common.{◌≡◌, ℕ, zero, suc, ◌+◌, ◌-◌, ◌<◌, ◌≤◌, ◌⊎◌, min, List, [], ◌∷◌, inl, inr, arith, refl, subst, le_refl}
-use Rattle.std.proofs.lemmas.Bool.{cases_lt}
-use Rattle.yds_model.specs.Piece.{Piece, Covers}
+use Rattle.yds_model.proofs.Common.{◌≡◌, ℕ, zero, suc, ◌+◌, ◌-◌, ◌<◌, ◌≤◌, ◌⊎◌, min, List, [], ◌∷◌, inl, inr, arith, refl, subst, le_refl, cases_lt, Piece, Covers}
 use Rattle.yds_certificate.proofs.Cover.{Covers-cons}
 use Rattle.yds_contract.specs.Contracted.{AreApartFrom, removed_before, place, Removes}
 use Rattle.yds_contract.proofs.Cells.{none_covered, covered_later, first_before, rest_before, few_before}

@@ -1,7 +1,5 @@
 -- One of two intervals goes before the other, and what goes before one that goes before a third goes before that.
-use Rattle.std.proofs.Common.{◌≡◌, ℕ, ◌-◌, ◌*◌, ◌<◌, ◌≤◌, ◌⊎◌, inl, inr, sym, ap, refl, arith}
-use Rattle.std.proofs.lemmas.Bool.{cases_lt, cases_order}
-use Rattle.std.proofs.Math.Nat.{lt_of_mul-lt-mul_right, eq_of_mul-eq-mul_right, mul-le-mul_right, mul-lt-mul_of_pos_right}
+use Rattle.yds_model.proofs.Common.{◌≡◌, ℕ, ◌-◌, ◌*◌, ◌<◌, ◌≤◌, ◌⊎◌, inl, inr, sym, ap, refl, arith, cases_lt, cases_order, lt_of_mul-lt-mul_right, eq_of_mul-eq-mul_right, mul-le-mul_right, mul-lt-mul_of_pos_right}
 use Rattle.yds_critical.specs.declared.interval.Interval.{Interval}
 use Rattle.yds_critical.specs.Leading.{Leads, IsEarlier}
 use Rattle.yds_critical.specs.Choice.{TakesTime}

@@ -1,17 +1,7 @@
 -- The best interval of those seen so far, and of all.
-use Rattle.std.proofs.Common.{◌≡◌, ℕ, ◌+◌, ◌-◌, ◌*◌, ◌<◌, ◌≤◌, ◌∙◌, List, Option, Some, None, length, map, inl, inr, sym, ap, subst, refl, arith}
-use Rattle.std.specs.Prelude.{IfSome}
-use Rattle.std.specs.List.{All, Contains}
-use Rattle.std.proofs.lemmas.Bool.{cases_lt, cases_eq}
-use Rattle.std.proofs.lemmas.List.{get_or-map, length-map, get_or_default, nil_from_length}
-use Rattle.std.proofs.lemmas.List.Sums.{get_or-le-sum_by}
-use Rattle.std.proofs.Math.Nat.{mul-pos, mul-lt-mul_of_pos_left}
-use Rattle.yds_model.specs.Job.{Job, IsJob, job_at, no_job}
-use Rattle.yds_model.proofs.Lists.{place_cases}
+use Rattle.yds_model.proofs.Common.{◌≡◌, ℕ, ◌+◌, ◌-◌, ◌*◌, ◌<◌, ◌≤◌, ◌∙◌, List, Option, Some, None, length, map, inl, inr, sym, ap, subst, refl, arith, IfSome, All, Contains, cases_lt, cases_eq, get_or-map, length-map, get_or_default, nil_from_length, get_or-le-sum_by, mul-pos, mul-lt-mul_of_pos_left, Job, IsJob, job_at, no_job, place_cases, work_within, part_within, part_inside}
 use Rattle.yds_intensity.specs.declared.sweeping.Sum.{Sum}
-use Rattle.yds_model.specs.Confined.{work_within}
 use Rattle.yds_intensity.specs.Sums.{AreSums, sum_at, no_sum}
-use Rattle.yds_model.proofs.Confined.{part_within, part_inside}
 use Rattle.yds_critical.specs.declared.interval.Interval.{Interval}
 use Rattle.yds_critical.specs.Leading.{Leads}
 use Rattle.yds_critical.specs.Critical.{IsCandidate, IsCriticalOf}

@@ -1,13 +1,5 @@
 -- An interval shrinks to a release and a deadline, and loses none of the work confined to it.
-use Rattle.std.proofs.Common.{◌≡◌, ℕ, zero, suc, ◌-◌, ◌<◌, ◌≤◌, ◌≢◌, ◌⊎◌, List, [], ◌∷◌, ◌∙◌, get_or, map, inl, inr, sym, subst, refl, arith}
-use Rattle.std.specs.List.{All, Contains}
-use Rattle.std.proofs.lemmas.Bool.{cases_lt, cases_eq}
-use Rattle.std.proofs.lemmas.List.Elements.{All-cons, All-nil}
-use Rattle.std.proofs.lemmas.List.{get_or-map, length-map}
-use Rattle.yds_model.specs.Job.{Job, IsJob}
-use Rattle.yds_model.proofs.Sums.{sum_by_same, sum_by_zero}
-use Rattle.yds_model.specs.Confined.{work_within}
-use Rattle.yds_model.proofs.Confined.{part_within, part_inside, part_early, part_late}
+use Rattle.yds_model.proofs.Common.{◌≡◌, ℕ, zero, suc, ◌-◌, ◌<◌, ◌≤◌, ◌≢◌, ◌⊎◌, List, [], ◌∷◌, ◌∙◌, get_or, map, inl, inr, sym, subst, refl, arith, All, Contains, cases_lt, cases_eq, All-cons, All-nil, get_or-map, length-map, Job, IsJob, sum_by_same, sum_by_zero, work_within, part_within, part_inside, part_early, part_late}
 
 -- a number stands in a list or differs from each
 stands_or_not : (numbers : List ℕ) (number : ℕ) → Contains numbers number ⊎ All (λ other. other ≢ number) numbers

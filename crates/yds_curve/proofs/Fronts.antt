@@ -1,16 +1,5 @@
 -- Sums of fronts of levels, and breaks gathered from the fastest level on.
-use Rattle.std.proofs.Common.{◌≡◌, ℕ, ◌+◌, ◌-◌, ◌*◌, ◌/◌, ◌<◌, ◌≤◌, List, [], ◌∷◌, ◌++◌, length, get_or, take, map, reverse, ap, ap₂, sym, subst, ◌∙◌, refl, arith}
-use Rattle.std.specs.Prelude.{sum_by, nat_lt}
-use Rattle.std.proofs.lemmas.List.{map-append, reverse-append, get_or_read, take_more, take_all, length-take-le}
-use Rattle.std.proofs.lemmas.List.Sums.{prefix_len-le-length}
-use Rattle.std.proofs.lemmas.Grind.{reverse_onto}
-use Rattle.std.proofs.Math.Nat.{div-le_of_le-mul}
-use Rattle.yds_model.specs.Numbers.{Each}
-use Rattle.yds_model.specs.Scale.{Fraction}
-use Rattle.yds_model.specs.Level.{Level, no_level, level_at, levels_above}
-use Rattle.yds_model.specs.Divisor.{in_lowest_terms}
-use Rattle.yds_model.specs.Plan.{IsSlower}
-use Rattle.yds_model.specs.Curve.{Break, break_at, breaks_of}
+use Rattle.yds_model.proofs.Common.{◌≡◌, ℕ, ◌+◌, ◌-◌, ◌*◌, ◌/◌, ◌<◌, ◌≤◌, List, [], ◌∷◌, ◌++◌, length, get_or, take, map, reverse, ap, ap₂, sym, subst, ◌∙◌, refl, arith, sum_by, nat_lt, map-append, reverse-append, get_or_read, take_more, take_all, length-take-le, prefix_len-le-length, reverse_onto, div-le_of_le-mul, Each, Fraction, Level, no_level, level_at, levels_above, in_lowest_terms, IsSlower, Break, break_at, breaks_of}
 use Rattle.yds_certificate.specs.Certificate.{IsCertificate}
 use Rattle.yds_laws.proofs.Curve.{AreFalling, are_falling}
 use Rattle.yds_laws.proofs.LeastAbove.{level_excess, zero_excess}

@@ -1,10 +1,5 @@
 -- A text that is put into a sink in parts, each of the lines of some items; and the lines of a part, from the last to the first.
-use Rattle.std.proofs.Common.{◌≡◌, ℕ, ◌-◌, ◌≤◌, List, [], ◌∷◌, ◌++◌, ◌∙◌, ap, sym, subst, append_assoc, Option, Result, Ok, Err, IsErr, refl, length, take, drop, get_or, drop-cons, take-append-drop, arith}
-use Rattle.std.specs.Prelude.{flat_map}
-use Rattle.std.specs.List.{All}
-use Rattle.std.proofs.lemmas.Grind.{flat_map-append}
-use Rattle.std.proofs.lemmas.List.{append-nil}
-use Rattle.std.proofs.lemmas.List.Elements.{All-drop}
+use Rattle.yds_model.proofs.Common.{◌≡◌, ℕ, ◌-◌, ◌≤◌, List, [], ◌∷◌, ◌++◌, ◌∙◌, ap, sym, subst, append_assoc, Option, Result, Ok, Err, IsErr, refl, length, take, drop, get_or, drop-cons, take-append-drop, arith, flat_map, All, flat_map-append, append-nil, All-drop}
 use Rattle.yds_port.specs.Sink.{Puts}
 use Rattle.yds_port.proofs.Putting.{PutsWhole, puts_whole, puts_done, puts_text, puts_failed, puts_front, puts_after, whole_after}
 

@@ -1,12 +1,7 @@
 -- A fraction that a field spells is within its limit.
-use Rattle.std.proofs.Common.{◌≡◌, ℕ, ◌≤◌, Bool, true, false, List, Result, Ok, Err, refl, sym, ap, arith}
-use Rattle.std.specs.Prelude.{◌&&◌, if◌then◌else◌}
-use Rattle.std.proofs.lemmas.Bool.{leb-true}
-use Rattle.std.specs.Str.Parse.{digits_value}
+use Rattle.yds_model.proofs.Common.{◌≡◌, ℕ, ◌≤◌, Bool, true, false, List, Result, Ok, Err, refl, sym, ap, arith, ◌&&◌, if◌then◌else◌, leb-true, digits_value, Fraction, of_whole, kept, fraction_at, is_number, is_mixed, mixed_of}
 use Rattle.yds_model.specs.declared.number_fault.NumberFault.{NumberFault}
 use Rattle.yds_model.specs.declared.number_fault.NumberFault.TheVariants as faults
-use Rattle.yds_model.specs.Scale.{Fraction, of_whole}
-use Rattle.yds_model.specs.Spelling.{kept, fraction_at, is_number, is_mixed, mixed_of}
 
 abbrev kept_one : Bool → Fraction → Result Fraction NumberFault
 kept_one none x = Ok (if none then of_whole x.whole else x)

@@ -1,15 +1,6 @@
 -- What a draft holds after one more entry.
-use Rattle.std.proofs.Common.{◌≡◌, ℕ, false, ◌+◌, ◌≤◌, List, [], ◌∷◌, ◌++◌, length, Option, Some, None, refl, sym, ap, ◌∙◌, subst}
-use Rattle.std.proofs.lemmas.List.{append-nil}
-use Rattle.yds_model.specs.Job.{Job}
-use Rattle.yds_model.specs.Scale.{Fraction}
-use Rattle.yds_model.specs.Slot.{WrittenSlot}
-use Rattle.yds_model.specs.Piece.{Piece}
-use Rattle.yds_model.specs.Level.{Level}
-use Rattle.yds_model.specs.Table.{Point}
-use Rattle.yds_model.specs.Document.{Grid}
-use Rattle.yds_model.specs.Entry.{Entry, JobEntry, PointEntry, SlotEntry, LevelEntry, PieceEntry, MemberEntry, TicksEntry, GridEntry, EnergyEntry, ticks_said, is_level}
-use Rattle.yds_model.proofs.Said.{Says, IsOfLevels, of_piece, of_member, says_other, said-ticks, says-job, says-point, says-slot, says-level, says-last, says-grid, says-energy, with_entry, more_said, none_said}
+use Rattle.yds_model.proofs.Common.{◌≡◌, ℕ, false, ◌+◌, ◌≤◌, List, [], ◌∷◌, ◌++◌, length, Option, Some, None, refl, sym, ap, ◌∙◌, subst, append-nil, Job, Fraction, WrittenSlot, Piece, Level, Point, Grid, Entry, JobEntry, PointEntry, SlotEntry, LevelEntry, PieceEntry, MemberEntry, TicksEntry, GridEntry, EnergyEntry, ticks_said, is_level, IsOfLevels, of_piece, of_member, says_other, said-ticks, says-job, says-point, says-slot, says-level, says-last, says-grid, says-energy, with_entry, more_said, none_said}
+use Rattle.yds_model.proofs.Said.{Says}
 use Rattle.yds_certificate.specs.Certificate.{with_last}
 use Rattle.yds_certificate.specs.Level.{with_piece, with_member}
 use Rattle.yds_instance.specs.Named.{Named}

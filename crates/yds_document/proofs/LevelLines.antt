@@ -1,7 +1,5 @@
 -- How many lines the levels before a place and from it on have.
-use Rattle.std.proofs.Common.{◌≡◌, ℕ, zero, suc, ◌+◌, ◌-◌, ◌<◌, ◌≤◌, List, [], ◌∷◌, ◌++◌, ◌∙◌, ap, sym, arith, length, take, drop, get_or, drop-cons}
-use Rattle.std.proofs.lemmas.List.{take_more}
-use Rattle.yds_model.specs.Level.{Level}
+use Rattle.yds_model.proofs.Common.{◌≡◌, ℕ, zero, suc, ◌+◌, ◌-◌, ◌<◌, ◌≤◌, List, [], ◌∷◌, ◌++◌, ◌∙◌, ap, sym, arith, length, take, drop, get_or, drop-cons, take_more, Level}
 use Rattle.yds_document.specs.Level.{line_count, line_total}
 
 line_total-push : (levels : List Level) (level : Level) → line_total (levels ++ level ∷ []) ≡ line_total levels + line_count level

@@ -1,9 +1,5 @@
 -- Jobs with their names.
-use Rattle.std.proofs.Common.{◌≡◌, ℕ, ◌<◌, ◌≤◌, arith, List, [], get_or, length, ap}
-use Rattle.std.specs.List.{zip}
-use Rattle.std.proofs.lemmas.Slice.Zip.{get_or-zip, length-zip}
-use Rattle.yds_model.specs.Job.{Job}
-use Rattle.yds_model.specs.Document.{name_at}
+use Rattle.yds_model.proofs.Common.{◌≡◌, ℕ, ◌<◌, ◌≤◌, arith, List, [], get_or, length, ap, zip, get_or-zip, length-zip, Job, name_at}
 
 -- the name and the row of a job, as they are read from the rows
 pub named_at : (names : List (List ℕ)) (jobs rows : List Job) (i : ℕ) (name : List ℕ) (job : Job) → length names ≡ length jobs → rows ≡ jobs → i < length rows

@@ -1,17 +1,8 @@
 -- Where a line may stand, by what the draft holds.
-use Rattle.std.proofs.Common.{◌≡◌, ℕ, List, [], ◌∷◌, length, Option, Some, None, Bool, true, false, Result, Err, refl, sym, ap, ◌∙◌, subst, arith, eqb-true, inl, inr}
-use Rattle.std.specs.Prelude.{is_some, is_none, nat_lt, ◌==◌, if◌then◌else◌}
-use Rattle.std.specs.List.{filter_map}
-use Rattle.yds_model.specs.Document.{Document}
-use Rattle.yds_model.specs.Entry.{Entry, grid_said, energy_said, first_of_them, is_level}
-use Rattle.std.proofs.lemmas.Bool.{cases_Bool}
-use Rattle.yds_model.specs.Lines.{Field}
+use Rattle.yds_model.proofs.Common.{◌≡◌, ℕ, List, [], ◌∷◌, length, Option, Some, None, Bool, true, false, Result, Err, refl, sym, ap, ◌∙◌, subst, arith, eqb-true, inl, inr, is_some, is_none, nat_lt, ◌==◌, if◌then◌else◌, filter_map, Document, Entry, grid_said, energy_said, first_of_them, is_level, cases_Bool, Field, Spot, ◌>>=◌, demand, refuse, field_at, Kind, may_follow, has_room, kind_of, read_fields, levels_counted}
 use Rattle.yds_model.specs.declared.limits.TheConstants.{MAX_JOBS, MAX_POINTS, MAX_SLOTS, MAX_LEVELS, MAX_PIECES, MAX_MEMBERS}
 use Rattle.yds_model.specs.declared.reason.Reason.{Reason}
 use Rattle.yds_model.specs.declared.reason.Reason.TheVariants as reasons
-use Rattle.yds_model.specs.Fields.{Spot, ◌>>=◌, demand, refuse, field_at}
-use Rattle.yds_model.specs.Reading.{Kind, may_follow, has_room, kind_of, read_fields}
-use Rattle.yds_model.proofs.Said.{levels_counted}
 use Rattle.yds_document.specs.declared.draft.Draft.{Draft}
 use Rattle.yds_document.specs.declared.line_fault.LineFault.{LineFault}
 use Rattle.yds_document.specs.declared.line_fault.LineFault.TheVariants as faults

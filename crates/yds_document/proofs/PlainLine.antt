@@ -1,18 +1,8 @@
 -- What the fields of a line say where they were read in one pass.
-use Rattle.std.proofs.Common.{◌≡◌, ℕ, ◌<◌, ◌*◌, ◌-◌, ◌/◌, Bool, true, false, List, [], ◌∷◌, None, Result, Ok, refl, sym, ap, ◌∙◌}
-use Rattle.std.specs.Prelude.{nat_lt, nat_le}
-use Rattle.std.specs.Option.{unwrap_or}
-use Rattle.std.proofs.lemmas.Bool.{lt-ltb}
+use Rattle.yds_model.proofs.Common.{◌≡◌, ℕ, ◌<◌, ◌*◌, ◌-◌, ◌/◌, Bool, true, false, List, [], ◌∷◌, None, Result, Ok, refl, sym, ap, ◌∙◌, nat_lt, nat_le, unwrap_or, lt-ltb, Field, Entry, JobEntry, SlotEntry, MemberEntry, Spot, ◌>>=◌, demand, count_fields, SlotLine, RunLine, are_alike, fraction_in, Fraction, of_parts, WrittenSlot, is_name, number_at, fraction_at}
 use Rattle.yds_model.specs.declared.limits.TheConstants.{MAX_TIME, MAX_WORK, MAX_SLOT_WORK, MAX_RUN_SPEED}
-use Rattle.yds_model.specs.Lines.{Field}
-use Rattle.yds_model.specs.Entry.{Entry, JobEntry, SlotEntry, MemberEntry}
 use Rattle.yds_model.specs.declared.reason.Reason.{Reason}
 use Rattle.yds_model.specs.declared.reason.Reason.TheVariants as reasons
-use Rattle.yds_model.specs.Fields.{Spot, ◌>>=◌, demand, count_fields}
-use Rattle.yds_model.specs.Reading.{SlotLine, RunLine, are_alike, fraction_in}
-use Rattle.yds_model.specs.Scale.{Fraction, of_parts}
-use Rattle.yds_model.specs.Slot.{WrittenSlot}
-use Rattle.yds_model.specs.Spelling.{is_name, number_at, fraction_at}
 use Rattle.yds_instance.specs.Named.{number_of}
 use Rattle.yds_text.specs.Count.{no_reason}
 use Rattle.yds_text.specs.Plain.{ReadsText}

@@ -1,13 +1,7 @@
 -- Whether a point may stand after those of a table.
-use Rattle.std.proofs.Common.{◌≡◌, ℕ, suc, ◌-◌, ◌<◌, ◌≤◌, List, [], ◌∷◌, ◌++◌, length, Bool, true, false, Ok, refl, ap, subst, arith, lt-ltb, inl, inr}
-use Rattle.std.specs.Prelude.{nat_lt, nat_le, if◌then◌else◌}
-use Rattle.std.proofs.Math.Seq.{take-length}
-use Rattle.std.proofs.lemmas.Bool.{le-leb, leb-true, ltb-true, cases_Bool}
+use Rattle.yds_model.proofs.Common.{◌≡◌, ℕ, suc, ◌-◌, ◌<◌, ◌≤◌, List, [], ◌∷◌, ◌++◌, length, Bool, true, false, Ok, refl, ap, subst, arith, lt-ltb, inl, inr, nat_lt, nat_le, if◌then◌else◌, take-length, le-leb, leb-true, ltb-true, cases_Bool, Point, point_at, AreRising, hull_multiple, PointEntry, refuse}
 use Rattle.yds_model.specs.declared.limits.TheConstants.{MAX_GAPS}
 use Rattle.yds_model.specs.declared.reason.Reason.TheVariants as reasons
-use Rattle.yds_model.specs.Table.{Point, point_at, AreRising, hull_multiple}
-use Rattle.yds_model.specs.Entry.{PointEntry}
-use Rattle.yds_model.specs.Fields.{refuse}
 use Rattle.yds_table.specs.Table.{IsPointTable, last_of}
 use Rattle.yds_table.specs.Fault.{IsCause}
 use Rattle.yds_table.specs.declared.fault.TableFault.{TableFault}

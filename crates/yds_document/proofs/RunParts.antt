@@ -1,9 +1,6 @@
 -- Fractions in parts of one tick.
-use Rattle.std.proofs.Common.{◌≡◌, ℕ, ◌*◌, ◌/◌, ◌≤◌, ◌⊎◌, inl, inr, Bool, true, false, refl, arith}
-use Rattle.std.specs.Prelude.{if◌then◌else◌}
-use Rattle.std.proofs.Math.Nat.{div-le_of_le-mul}
+use Rattle.yds_model.proofs.Common.{◌≡◌, ℕ, ◌*◌, ◌/◌, ◌≤◌, ◌⊎◌, inl, inr, Bool, true, false, refl, arith, if◌then◌else◌, div-le_of_le-mul, Fraction, AreAlike, of_whole, of_parts}
 use Rattle.yds_model.specs.declared.limits.TheConstants.{MAX_TIME}
-use Rattle.yds_model.specs.Scale.{Fraction, AreAlike, of_whole, of_parts}
 
 den_of : (whole : Bool) (a b c den : ℕ) → ((if whole then of_whole a else record { whole = b; num = c; den = den }).den ≡ 1) ⊎ ((if whole then of_whole a else record { whole = b; num = c; den = den }).den ≡ den)
 den_of true a b c den = inl refl

@@ -1,11 +1,5 @@
 -- Whether a work is alike with each earlier work of its job: it goes by the job's grain.
-use Rattle.std.proofs.Common.{◌≡◌, ℕ, zero, suc, ◌<◌, ◌⊎◌, inl, inr, List, [], ◌∷◌, length, refl, sym, ap, ◌∙◌, arith, Bool, true, false, eqb-true}
-use Rattle.std.specs.Prelude.{◌==◌, ◌||◌}
-use Rattle.std.proofs.lemmas.Bool.{cases_Bool, eq-eqb, true≢false, false≢true}
-use Rattle.yds_model.specs.Scale.{Fraction}
-use Rattle.yds_model.specs.Slot.{WrittenSlot, written_slot_at}
-use Rattle.yds_model.specs.Audit.{AreSlots, grain_of}
-use Rattle.yds_model.proofs.Grain.{grain_takes}
+use Rattle.yds_model.proofs.Common.{◌≡◌, ℕ, zero, suc, ◌<◌, ◌⊎◌, inl, inr, List, [], ◌∷◌, length, refl, sym, ap, ◌∙◌, arith, Bool, true, false, eqb-true, ◌==◌, ◌||◌, cases_Bool, eq-eqb, true≢false, false≢true, Fraction, WrittenSlot, written_slot_at, AreSlots, grain_of, grain_takes}
 use Rattle.yds_slots.proofs.Grains.{grain_found}
 use Rattle.yds_document.specs.Slot.{fits_among, fits_test, FitsGrainOf}
 

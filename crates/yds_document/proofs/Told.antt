@@ -1,16 +1,8 @@
 -- What a line is told to say, from the count of its fields and from the fields.
-use Rattle.std.proofs.Common.{◌≡◌, ℕ, List, [], ◌∷◌, Bool, true, Option, Some, None, Result, Ok, Err, sym, ap, ◌∙◌, subst}
-use Rattle.std.specs.Option.{unwrap_or}
-use Rattle.std.specs.List.{filter_map, slice_index_or}
+use Rattle.yds_model.proofs.Common.{◌≡◌, ℕ, List, [], ◌∷◌, Bool, true, Option, Some, None, Result, Ok, Err, sym, ap, ◌∙◌, subst, unwrap_or, filter_map, slice_index_or, Point, Field, Document, Entry, point_said, ticks_said, Spot, ◌>>=◌, count_fields, Kind, JobLine, PointLine, SlotLine, RunLine, number_in, fields_wanted, read_kind}
 use Rattle.yds_model.specs.declared.reason.Reason.{Reason}
 use Rattle.yds_model.specs.declared.reason.Reason.TheVariants as reasons
 use Rattle.yds_model.specs.declared.limits.TheConstants.{MAX_POINT_SPEED, MAX_POINT_POWER}
-use Rattle.yds_model.specs.Table.{Point}
-use Rattle.yds_model.specs.Lines.{Field}
-use Rattle.yds_model.specs.Document.{Document}
-use Rattle.yds_model.specs.Entry.{Entry, point_said, ticks_said}
-use Rattle.yds_model.specs.Fields.{Spot, ◌>>=◌, count_fields}
-use Rattle.yds_model.specs.Reading.{Kind, JobLine, PointLine, SlotLine, RunLine, number_in, fields_wanted, read_kind}
 use Rattle.yds_document.specs.declared.draft.Draft.{Draft}
 use Rattle.yds_document.specs.declared.line_fault.LineFault.{LineFault}
 use Rattle.yds_document.specs.declared.line_fault.LineFault.TheVariants.{At, Memory}

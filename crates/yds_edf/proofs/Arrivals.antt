@@ -1,11 +1,5 @@
 -- What an engine keeps as jobs arrive: their units come to their places.
-use Rattle.std.proofs.Common.{rules, ◌≡◌, ℕ, ◌+◌, ◌-◌, ◌*◌, ◌<◌, ◌≤◌, true, List, length, set, slice_index, slice_index_or, ◌∙◌, sym, arith, inl, inr, ap, cond, length-set}
-use Rattle.std.specs.Prelude.{nat_lt, Option, Some, None}
-use Rattle.std.specs.List.Sorted.{IsNonDecreasingBy}
-use Rattle.std.proofs.lemmas.Bool.{cases_lt, cases_eq, lt-ltb, le-ltb, lt-leb, le-leb, leb-true, true≢false}
-use Rattle.std.proofs.Math.Nat.{mul-le-mul}
-use Rattle.std.proofs.lemmas.List.{get_or_read}
-use Rattle.yds_model.specs.Job.{Job, no_job}
+use Rattle.yds_model.proofs.Common.{rules, ◌≡◌, ℕ, ◌+◌, ◌-◌, ◌*◌, ◌<◌, ◌≤◌, true, List, length, set, slice_index, slice_index_or, ◌∙◌, sym, arith, inl, inr, ap, cond, length-set, nat_lt, Option, Some, None, IsNonDecreasingBy, cases_lt, cases_eq, lt-ltb, le-ltb, lt-leb, le-leb, leb-true, true≢false, mul-le-mul, get_or_read, Job, no_job}
 use Rattle.yds_edf.specs.declared.order.Due.{Due}
 use Rattle.yds_edf.specs.declared.pending.PendingJobs.{PendingJobs}
 use Rattle.yds_edf.specs.Order.{no_due, due_at}

@@ -1,18 +1,5 @@
 -- Policies whose units don't depend on what is pending: a stretch serves them, or all that is pending.
-use Rattle.std.proofs.Common.{◌≡◌, ℕ, ◌*◌, ◌<◌, ◌≤◌, min, List, length, get_or, map, ◌∙◌, sym, subst, ap, arith, inl, inr, cond}
-use Rattle.std.specs.Prelude.{Bool, nat_le, All}
-use Rattle.std.proofs.lemmas.Bool.{cases_lt, cases_Bool}
-use Rattle.std.proofs.lemmas.List.{get_or-map}
-use Rattle.std.proofs.lemmas.List.Elements.{All-from_get_or, All-contains, Contains-get_or}
-use Rattle.std.proofs.Math.Nat.{mul-le-mul_left, min-eq_left, min-eq_right}
-use Rattle.yds_model.specs.Numbers.{Each}
-use Rattle.yds_model.specs.Job.{Job, IsJob, no_job, job_at}
-use Rattle.yds_model.specs.Slot.{WrittenSlot, IsScale, AtEachScale, slots_at}
-use Rattle.yds_model.specs.Piece.{Piece}
-use Rattle.yds_model.specs.Event.{stretches}
-use Rattle.yds_model.specs.Policy.{pending_at, pending_units, IsRunAt}
-use Rattle.yds_model.specs.Comparison.{stretch_at}
-use Rattle.yds_model.specs.Within.{AreSlotsOf}
+use Rattle.yds_model.proofs.Common.{◌≡◌, ℕ, ◌*◌, ◌<◌, ◌≤◌, min, List, length, get_or, map, ◌∙◌, sym, subst, ap, arith, inl, inr, cond, Bool, nat_le, All, cases_lt, cases_Bool, get_or-map, All-from_get_or, All-contains, Contains-get_or, mul-le-mul_left, min-eq_left, min-eq_right, Each, Job, IsJob, no_job, job_at, WrittenSlot, IsScale, AtEachScale, slots_at, Piece, stretches, pending_at, pending_units, IsRunAt, stretch_at, AreSlotsOf}
 use Rattle.yds_events.specs.Stretch.{no_stretch, IsOutside}
 use Rattle.yds_events.proofs.Neighbours.{stretches_run, release_outside, deadline_outside}
 use Rattle.yds_timetable.specs.Shares.{JobShare, units_given, total_units, shares_in}

@@ -1,16 +1,11 @@
 -- The pending units of the jobs that are due by a time, summed job by job.
-use Rattle.std.proofs.Common.{◌≡◌, ℕ, suc, ◌+◌, ◌-◌, ◌*◌, ◌<◌, ◌≤◌, length, slice_index_or, arith, cond, add-one}
-use Rattle.std.specs.Prelude.{nat_le}
-use Rattle.std.proofs.lemmas.Bool.{cases_Bool, le-leb, lt-leb}
-use Rattle.std.proofs.lemmas.List.{get_or_read}
-use Rattle.yds_model.specs.Job.{Job, job_at}
+use Rattle.yds_model.proofs.Common.{◌≡◌, ℕ, suc, ◌+◌, ◌-◌, ◌*◌, ◌<◌, ◌≤◌, length, slice_index_or, arith, cond, add-one, nat_le, cases_Bool, le-leb, lt-leb, get_or_read, Job, job_at, mul-le-mul_right}
 use Rattle.yds_edf.specs.Pending.{sum_below, is_within, units_wanted}
 use Rattle.yds_edf.specs.Queue.{JobQueue, pending_in, all_pending}
 use Rattle.yds_edf.specs.Engine.{TiedQueue, IsTiedQueue}
 use Rattle.yds_edf.proofs.Sums.{sum_below_front, sum_below_at_most, sum_below_bound}
 use Rattle.yds_edf.proofs.Arrivals.{wanted_bound}
 use Rattle.yds_edf.proofs.Serving.{pending_wanted}
-use Rattle.std.proofs.Math.Nat.{mul-le-mul_right}
 use Rattle.yds_model.specs.declared.limits.TheConstants.{MAX_JOBS, MAX_WORK}
 
 -- the units of a job that count by a time

@@ -1,15 +1,5 @@
 -- Filling stretches one by one: what has been filled so far, and that in the end all is.
-use Rattle.std.proofs.Common.{◌≡◌, ℕ, suc, ◌+◌, ◌-◌, ◌<◌, ◌≤◌, min, List, [], ◌++◌, length, get_or, slice_index, ◌∙◌, refl, sym, subst, arith, inl, inr, ap, cond, add-one}
-use Rattle.std.specs.Prelude.{◌==◌, nat_le, All, AllPairs, Contains, Some}
-use Rattle.std.proofs.lemmas.List.Elements.{All-nil, All-append, All-contains, Contains-get_or}
-use Rattle.std.proofs.lemmas.List.Sums.{sum_by-append}
-use Rattle.std.proofs.lemmas.List.{get_or-replicate, length-append}
-use Rattle.std.proofs.lemmas.Bool.{cases_eq, eq-eqb}
-use Rattle.yds_model.specs.Numbers.{Each}
-use Rattle.yds_model.specs.Job.{Job, IsJob, job_at}
-use Rattle.yds_model.specs.Piece.{Piece, PiecesFrom}
-use Rattle.yds_model.proofs.Lists.{AllPairs-append}
-use Rattle.yds_model.proofs.Filters.{contains_filter}
+use Rattle.yds_model.proofs.Common.{◌≡◌, ℕ, suc, ◌+◌, ◌-◌, ◌<◌, ◌≤◌, min, List, [], ◌++◌, length, get_or, slice_index, ◌∙◌, refl, sym, subst, arith, inl, inr, ap, cond, add-one, ◌==◌, nat_le, All, AllPairs, Contains, Some, All-nil, All-append, All-contains, Contains-get_or, sum_by-append, get_or-replicate, length-append, cases_eq, eq-eqb, Each, Job, IsJob, job_at, Piece, PiecesFrom, AllPairs-append, contains_filter}
 use Rattle.yds_timetable.specs.Shares.{JobShare, units_given, shares_in}
 use Rattle.yds_edf.specs.Pending.{units_wanted, pending_of_job}
 use Rattle.yds_edf.specs.Serving.{IsServing}

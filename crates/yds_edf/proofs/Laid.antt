@@ -1,11 +1,5 @@
 -- The slots of shares that take at most a stretch's capacity.
-use Rattle.std.proofs.Common.{◌≡◌, ℕ, ◌+◌, ◌*◌, ◌≤◌, List, subst, ap, ◌∙◌, arith}
-use Rattle.std.specs.List.{All}
-use Rattle.std.proofs.Math.Nat.{eq_of_mul-eq-mul_left}
-use Rattle.yds_model.specs.Scale.{at_scale, of_whole}
-use Rattle.yds_model.specs.Slot.{slots_at}
-use Rattle.yds_model.specs.Piece.{Piece}
-use Rattle.yds_model.specs.Policy.{FillsAtSpeed}
+use Rattle.yds_model.proofs.Common.{◌≡◌, ℕ, ◌+◌, ◌*◌, ◌≤◌, List, subst, ap, ◌∙◌, arith, All, eq_of_mul-eq-mul_left, at_scale, of_whole, slots_at, Piece, FillsAtSpeed}
 use Rattle.yds_slots.proofs.Parts.{of_parts_over}
 use Rattle.yds_events.specs.Stretch.{length_of}
 use Rattle.yds_timetable.specs.Shares.{JobShare, total_units}

@@ -1,11 +1,6 @@
 -- How an engine is made: nobody has arrived, and nothing is served.
-use Rattle.std.proofs.Common.{◌≡◌, ℕ, ◌≤◌, List, length, slice_index, replicate, arith}
-use Rattle.std.specs.Prelude.{All}
-use Rattle.std.specs.List.Sorted.{IsPermutation, IsNonDecreasingBy}
-use Rattle.std.proofs.lemmas.Bool.{le-ltb}
-use Rattle.std.proofs.lemmas.List.{length-replicate}
+use Rattle.yds_model.proofs.Common.{◌≡◌, ℕ, ◌≤◌, List, length, slice_index, replicate, arith, All, IsPermutation, IsNonDecreasingBy, le-ltb, length-replicate, Job, IsJob}
 use Rattle.yds_model.specs.declared.limits.TheConstants.{MAX_JOBS}
-use Rattle.yds_model.specs.Job.{Job, IsJob}
 use Rattle.yds_edf.specs.declared.order.Due.{Due}
 use Rattle.yds_edf.specs.declared.pending.PendingJobs.{PendingJobs}
 use Rattle.yds_edf.specs.declared.limits.TheConstants.{MAX_GRAIN}

@@ -1,9 +1,5 @@
 -- Sums over the numbers of jobs, as the definitions write them and as sums below a number.
-use Rattle.std.proofs.Common.{◌≡◌, ℕ, zero, suc, ◌+◌, ◌*◌, List, [], ◌∷◌, length, get_or, ◌∙◌, refl, sym, ap, arith, cond}
-use Rattle.std.specs.Prelude.{Bool, sum_by, filter}
-use Rattle.std.specs.List.{range_with_len}
-use Rattle.std.proofs.lemmas.List.Sums.{sum_by-cons}
-use Rattle.yds_model.proofs.Filters.{filter_step}
+use Rattle.yds_model.proofs.Common.{◌≡◌, ℕ, zero, suc, ◌+◌, ◌*◌, List, [], ◌∷◌, length, get_or, ◌∙◌, refl, sym, ap, arith, cond, Bool, sum_by, filter, range_with_len, sum_by-cons, filter_step}
 use Rattle.yds_edf.specs.Pending.{sum_below}
 use Rattle.yds_edf.proofs.Sums.{sum_below_same, sum_below_zero, sum_below-add}
 

@@ -1,11 +1,5 @@
 -- The shares in a stretch and in the stretches before it, as shares are added.
-use Rattle.std.proofs.Common.{◌≡◌, ℕ, suc, ◌+◌, ◌<◌, List, [], ◌∷◌, ◌++◌, refl, sym, arith, inl, inr, length, get_or, ◌≤◌}
-use Rattle.std.specs.Prelude.{All}
-use Rattle.std.proofs.lemmas.List.{append-nil}
-use Rattle.std.proofs.lemmas.List.Sums.{sum_by-cons, get_or-le-sum_by}
-use Rattle.std.proofs.lemmas.List.Elements.{filter-append}
-use Rattle.std.proofs.lemmas.Bool.{cases_order, lt-ltb, le-ltb, eq-eqb, ne_eqb}
-use Rattle.yds_model.proofs.Filters.{filter_all, filter_none}
+use Rattle.yds_model.proofs.Common.{◌≡◌, ℕ, suc, ◌+◌, ◌<◌, List, [], ◌∷◌, ◌++◌, refl, sym, arith, inl, inr, length, get_or, ◌≤◌, All, append-nil, sum_by-cons, get_or-le-sum_by, filter-append, cases_order, lt-ltb, le-ltb, eq-eqb, ne_eqb, filter_all, filter_none}
 use Rattle.yds_timetable.specs.Shares.{JobShare, units_given, shares_in, shares_before}
 
 module _ (shares part : List JobShare) (i : ℕ) (earlier : All (λ share. share.stretch < i) shares)

@@ -1,15 +1,5 @@
 -- The place of each job in an order of all jobs.
-use Rattle.std.proofs.Common.{◌≡◌, ℕ, suc, ◌+◌, ◌<◌, List, length, set, get_or, map, slice_index, ◌∙◌, refl, sym, subst, ap, arith, cond}
-use Rattle.std.specs.Prelude.{◌==◌, All, Contains}
-use Rattle.std.specs.List.{range_with_len}
-use Rattle.std.specs.List.Sorted.{IsPermutation, IsNonDecreasingBy}
-use Rattle.std.proofs.lemmas.Bool.{cases_lt, cases_eq, eq-eqb}
-use Rattle.std.proofs.lemmas.List.{get_or_default, get_or-set_same, get_or-set_other}
-use Rattle.std.proofs.lemmas.List.Sorted.{sum_by-IsPermutation, Contains-permutation, All-permutation, length_permutation}
-use Rattle.std.proofs.lemmas.List.FromFn.{length-range_with_len, get_or-range_with_len, length-map-range_with_len, get_or-map-range_with_len}
-use Rattle.yds_model.specs.Job.{Job}
-use Rattle.yds_model.specs.Policy.{numbers_of}
-use Rattle.yds_model.proofs.Sums.{sum_by-map}
+use Rattle.yds_model.proofs.Common.{◌≡◌, ℕ, suc, ◌+◌, ◌<◌, List, length, set, get_or, map, slice_index, ◌∙◌, refl, sym, subst, ap, arith, cond, ◌==◌, All, Contains, range_with_len, IsPermutation, IsNonDecreasingBy, cases_lt, cases_eq, eq-eqb, get_or_default, get_or-set_same, get_or-set_other, sum_by-IsPermutation, Contains-permutation, All-permutation, length_permutation, length-range_with_len, get_or-range_with_len, length-map-range_with_len, get_or-map-range_with_len, Job, numbers_of, sum_by-map}
 use Rattle.yds_edf.specs.Pending.{sum_below}
 use Rattle.yds_edf.specs.Serving.{IsDueBefore, AreTies}
 use Rattle.yds_edf.specs.declared.order.Due.{Due}

@@ -1,7 +1,5 @@
 -- Quotients rounded up.
-use Rattle.std.proofs.Common.{ℕ, ◌-◌, ◌*◌, ◌≤◌, arith}
-use Rattle.std.proofs.Math.Nat.{div-lt_iff_lt-mul}
-use Rattle.yds_model.specs.Policy.{div_up}
+use Rattle.yds_model.proofs.Common.{ℕ, ◌-◌, ◌*◌, ◌≤◌, arith, div-lt_iff_lt-mul, div_up}
 
 -- so many times the divisor are enough,
 pub up_enough : (x y : ℕ) → 1 ≤ y → x ≤ div_up x y * y

@@ -1,8 +1,5 @@
 -- What an engine's places say of its jobs: how much of each is pending, and which of them is due first.
-use Rattle.std.proofs.Common.{◌≡◌, ℕ, ◌<◌, ◌≤◌, ◌⊎◌, List, length, slice_index, ◌∙◌, refl, sym, subst, arith, inl, inr, ap, cond}
-use Rattle.std.specs.Prelude.{nat_lt}
-use Rattle.std.proofs.lemmas.Bool.{cases_lt, cases_order, cases_Bool, lt-ltb, le-ltb}
-use Rattle.yds_model.specs.Job.{job_at}
+use Rattle.yds_model.proofs.Common.{◌≡◌, ℕ, ◌<◌, ◌≤◌, ◌⊎◌, List, length, slice_index, ◌∙◌, refl, sym, subst, arith, inl, inr, ap, cond, nat_lt, cases_lt, cases_order, cases_Bool, lt-ltb, le-ltb, job_at}
 use Rattle.yds_edf.specs.declared.order.Due.{Due}
 use Rattle.yds_edf.specs.declared.pending.PendingJobs.{PendingJobs}
 use Rattle.yds_edf.specs.Blocks.{units_before, IsFirstPlace}

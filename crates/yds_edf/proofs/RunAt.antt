@@ -1,22 +1,6 @@
 -- A run of a policy at a scale. What is pending when a stretch begins is what its shares tell, and each stretch serves what the
 -- policy sets. Where each share lies in its job's window and every job is served, the slots are a run by the definition.
-use Rattle.std.proofs.Common.{rules, ◌≡◌, ℕ, zero, suc, ◌+◌, ◌-◌, ◌*◌, ◌<◌, ◌≤◌, ◌⊎◌, List, [], length, ◌∙◌, refl, sym, subst, arith, inl, inr, ap}
-use Rattle.std.specs.Prelude.{nat_le, All, AllPairs, filter}
-use Rattle.std.specs.List.{Contains}
-use Rattle.std.proofs.lemmas.Bool.{cases_lt, cases_Bool, le-leb}
-use Rattle.std.proofs.lemmas.List.{get_or_default}
-use Rattle.std.proofs.lemmas.List.Elements.{All-contains, All-from_get_or, Contains-get_or}
-use Rattle.std.proofs.Math.Nat.{mul-le-mul_right, mul-sub, mul-pos, eq_of_mul-eq-mul_left}
-use Rattle.yds_model.specs.Numbers.{Each}
-use Rattle.yds_model.specs.Job.{Job, job_at}
-use Rattle.yds_model.specs.Slot.{WrittenSlot, WholeSlot, no_slot, IsScale, slots_at, slot_at, work_given}
-use Rattle.yds_model.specs.Piece.{Piece}
-use Rattle.yds_model.specs.Feasible.{IsInWindow, IsFeasibleAt}
-use Rattle.yds_model.specs.Event.{stretches, LiesIn, IsUncut}
-use Rattle.yds_model.specs.EarliestFirst.{ComesFirst}
-use Rattle.yds_model.specs.Plan.{IsServedInStretches}
-use Rattle.yds_model.specs.Policy.{pending_at, ServesCapacity, IsRunAt}
-use Rattle.yds_model.specs.Comparison.{stretch_at}
+use Rattle.yds_model.proofs.Common.{rules, ◌≡◌, ℕ, zero, suc, ◌+◌, ◌-◌, ◌*◌, ◌<◌, ◌≤◌, ◌⊎◌, List, [], length, ◌∙◌, refl, sym, subst, arith, inl, inr, ap, nat_le, All, AllPairs, filter, Contains, cases_lt, cases_Bool, le-leb, get_or_default, All-contains, All-from_get_or, Contains-get_or, mul-le-mul_right, mul-sub, mul-pos, eq_of_mul-eq-mul_left, Each, Job, job_at, WrittenSlot, WholeSlot, no_slot, IsScale, slots_at, slot_at, work_given, Piece, IsInWindow, IsFeasibleAt, stretches, LiesIn, IsUncut, ComesFirst, IsServedInStretches, pending_at, ServesCapacity, IsRunAt, stretch_at}
 use Rattle.yds_events.specs.Stretch.{no_stretch}
 use Rattle.yds_events.proofs.Neighbours.{stretch_order, release_outside, few_stretches}
 use Rattle.yds_events.proofs.Following.{Follows, Works, earliest_after}

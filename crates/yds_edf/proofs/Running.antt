@@ -1,26 +1,7 @@
 -- The loop over the stretches: what a run has come to, and that in the end it is a run of the policy.
-use Rattle.std.proofs.Common.{rules, ◌≡◌, ℕ, suc, take, get_or, ap₂, None, ◌/◌, ◌+◌, ◌-◌, ◌*◌, ◌<◌, ◌≤◌, min, List, [], ◌∷◌, ◌++◌, length, slice_index, ◌∙◌, refl, sym, subst, arith, inl, inr, ap, cond, true, false, add-one}
-use Rattle.std.specs.Prelude.{Bool, ◌==◌, All, AllPairs, Some, Option, MatchOption}
-use Rattle.std.specs.List.{Contains}
-use Rattle.std.specs.Int.{from_bool}
-use Rattle.std.proofs.lemmas.Bool.{cases_lt, cases_eq}
-use Rattle.std.proofs.lemmas.List.{get_or-replicate, get_or-map, get_or_append_left, get_or_at, length-append, length-map, length-take-le, append-nil, map-append, take_all, take_more}
-use Rattle.std.proofs.lemmas.List.Concat.{flat_map-append}
-use Rattle.std.proofs.Math.ListN.{get_or-eq_default}
-use Rattle.std.proofs.lemmas.List.Elements.{All-nil, All-cons, All-append, All-weaker, All-contains, Contains-get_or}
-use Rattle.std.proofs.Math.Nat.{le_refl}
-use Rattle.std.proofs.lemmas.List.Sums.{sum_by-append, sum_by-cons}
+use Rattle.yds_model.proofs.Common.{rules, ◌≡◌, ℕ, suc, take, get_or, ap₂, None, ◌/◌, ◌+◌, ◌-◌, ◌*◌, ◌<◌, ◌≤◌, min, List, [], ◌∷◌, ◌++◌, length, slice_index, ◌∙◌, refl, sym, subst, arith, inl, inr, ap, cond, true, false, add-one, Bool, ◌==◌, All, AllPairs, Some, Option, MatchOption, Contains, from_bool, cases_lt, cases_eq, get_or-replicate, get_or-map, get_or_append_left, get_or_at, length-append, length-map, length-take-le, append-nil, map-append, take_all, take_more, flat_map-append, get_or-eq_default, All-nil, All-cons, All-append, All-weaker, All-contains, Contains-get_or, le_refl, sum_by-append, sum_by-cons, Each, common_divisor, Job, Piece, stretches, HasSpeed, HasRunDenominators, stretch_at, AllPairs-append, All-flat}
 use Rattle.yds_model.specs.declared.limits.TheConstants.{MAX_GRID, MAX_JOBS, MAX_SLOT_WORK, MAX_WORK}
-use Rattle.yds_model.specs.Numbers.{Each}
-use Rattle.yds_model.specs.Divisor.{common_divisor}
-use Rattle.yds_model.specs.Job.{Job}
-use Rattle.yds_model.specs.Piece.{Piece}
-use Rattle.yds_model.specs.Event.{stretches}
-use Rattle.yds_model.specs.Audit.{HasSpeed}
 use Rattle.yds_model.specs.Plan.{IsOver}
-use Rattle.yds_model.specs.Policy.{HasRunDenominators}
-use Rattle.yds_model.specs.Comparison.{stretch_at}
-use Rattle.yds_model.proofs.Lists.{AllPairs-append, All-flat}
 use Rattle.yds_slots.proofs.Parts.{of_parts_over}
 use Rattle.yds_events.specs.Stretch.{IsStretch, no_stretch, length_of}
 use Rattle.yds_events.proofs.Neighbours.{stretches_run, few_stretches}

@@ -1,14 +1,6 @@
 -- Serving a stretch job by job: what has been served so far, and that it is what the stretch serves in the end.
-use Rattle.std.proofs.Common.{◌≡◌, ◌≢◌, ℕ, ◌+◌, ◌-◌, ◌<◌, ◌≤◌, ◌⊎◌, min, List, [], ◌∷◌, ◌++◌, length, get_or, slice_index, ◌∙◌, refl, sym, subst, arith, inl, inr, ap, length-set, ◌*◌}
-use Rattle.std.specs.Prelude.{All, AllPairs}
-use Rattle.std.proofs.lemmas.List.{length-append}
-use Rattle.std.proofs.lemmas.List.Sums.{sum_by_push}
-use Rattle.std.proofs.lemmas.List.Elements.{All-push, All-nil, All-cons, All-get_or}
-use Rattle.std.proofs.lemmas.Bool.{cases_eq, cases_Bool, eq-eqb, ne_eqb}
-use Rattle.std.proofs.Math.Nat.{mul-le-mul_right}
+use Rattle.yds_model.proofs.Common.{◌≡◌, ◌≢◌, ℕ, ◌+◌, ◌-◌, ◌<◌, ◌≤◌, ◌⊎◌, min, List, [], ◌∷◌, ◌++◌, length, get_or, slice_index, ◌∙◌, refl, sym, subst, arith, inl, inr, ap, length-set, ◌*◌, All, AllPairs, length-append, sum_by_push, All-push, All-nil, All-cons, All-get_or, cases_eq, cases_Bool, eq-eqb, ne_eqb, mul-le-mul_right, Job, AllPairs-append}
 use Rattle.yds_model.specs.declared.limits.TheConstants.{MAX_WORK}
-use Rattle.yds_model.specs.Job.{Job}
-use Rattle.yds_model.proofs.Lists.{AllPairs-append}
 use Rattle.yds_timetable.specs.Shares.{JobShare, units_given, total_units}
 use Rattle.yds_edf.specs.Pending.{sum_below, units_wanted}
 use Rattle.yds_edf.specs.Serving.{IsDueBefore}

@@ -1,21 +1,5 @@
 -- The slots of a run at a scale, each beside its share.
-use Rattle.std.proofs.Common.{◌≡◌, ℕ, ◌*◌, ◌<◌, ◌≤◌, List, [], ◌∷◌, length, get_or, ◌∙◌, sym, subst, arith, inl, inr, ap, cond, true, false}
-use Rattle.std.specs.Prelude.{Bool, ◌==◌, nat_le, nat_lt, All, filter}
-use Rattle.std.specs.List.{AllZip}
-use Rattle.std.specs.Int.{◌∣◌}
-use Rattle.std.proofs.lemmas.Bool.{cases_lt, cases_eq, le-leb, lt-leb, lt-ltb, le-ltb, eq-eqb, ne_eqb, eqb-true}
-use Rattle.std.proofs.lemmas.List.{length-map, get_or-map}
-use Rattle.std.proofs.lemmas.List.Elements.{All-head, All-tail, All-contains, Contains-get_or, filter_passes}
-use Rattle.std.proofs.lemmas.List.Sums.{sum_by-cons}
-use Rattle.std.proofs.Math.Nat.{mul-le-mul_right, mul-add}
-use Rattle.yds_model.specs.Job.{Job}
-use Rattle.yds_model.specs.Scale.{Fraction, at_scale}
-use Rattle.yds_model.specs.Slot.{WrittenSlot, WholeSlot, IsDivided, IsScale, IsSolid, slot_at_scale, slots_at, work_given}
-use Rattle.yds_model.specs.Piece.{Piece, PiecesFrom}
-use Rattle.yds_model.specs.Feasible.{RunFrom}
-use Rattle.yds_model.specs.Event.{stretches}
-use Rattle.yds_model.specs.Comparison.{stretch_at}
-use Rattle.yds_model.proofs.Runs.{run_forward}
+use Rattle.yds_model.proofs.Common.{◌≡◌, ℕ, ◌*◌, ◌<◌, ◌≤◌, List, [], ◌∷◌, length, get_or, ◌∙◌, sym, subst, arith, inl, inr, ap, cond, true, false, Bool, ◌==◌, nat_le, nat_lt, All, filter, AllZip, ◌∣◌, cases_lt, cases_eq, le-leb, lt-leb, lt-ltb, le-ltb, eq-eqb, ne_eqb, eqb-true, length-map, get_or-map, All-head, All-tail, All-contains, Contains-get_or, filter_passes, sum_by-cons, mul-le-mul_right, mul-add, Job, Fraction, at_scale, WrittenSlot, WholeSlot, IsDivided, IsScale, IsSolid, slot_at_scale, slots_at, work_given, Piece, PiecesFrom, RunFrom, stretches, stretch_at, run_forward}
 use Rattle.yds_slots.proofs.Parts.{of_parts_at}
 use Rattle.yds_events.specs.Stretch.{no_stretch}
 use Rattle.yds_events.proofs.Neighbours.{stretch_order, stretch_forward, stretches_run}

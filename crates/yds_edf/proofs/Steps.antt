@@ -1,10 +1,5 @@
 -- What serving the job at the first place with units keeps of an engine.
-use Rattle.std.proofs.Common.{rules, ◌≡◌, ◌≢◌, ℕ, ◌+◌, ◌-◌, ◌<◌, ◌≤◌, min, List, length, set, slice_index, slice_index_or, slice_set, ◌∙◌, refl, sym, arith, inl, inr, ap, cond, length-set, get_or-set_other, get_or-set_same}
-use Rattle.std.specs.Prelude.{nat_lt}
-use Rattle.std.proofs.lemmas.Bool.{cases_eq, cases_lt, lt-ltb, le-ltb}
-use Rattle.std.proofs.lemmas.List.{get_or_read}
-use Rattle.std.proofs.Math.Nat.{mul-le-mul}
-use Rattle.yds_model.specs.Job.{no_job}
+use Rattle.yds_model.proofs.Common.{rules, ◌≡◌, ◌≢◌, ℕ, ◌+◌, ◌-◌, ◌<◌, ◌≤◌, min, List, length, set, slice_index, slice_index_or, slice_set, ◌∙◌, refl, sym, arith, inl, inr, ap, cond, length-set, get_or-set_other, get_or-set_same, nat_lt, cases_eq, cases_lt, lt-ltb, le-ltb, get_or_read, mul-le-mul, no_job}
 use Rattle.yds_edf.specs.declared.order.Due.{Due}
 use Rattle.yds_edf.specs.declared.pending.PendingJobs.{PendingJobs}
 use Rattle.yds_edf.specs.Blocks.{IsFirstPlace}

@@ -1,9 +1,5 @@
 -- Sums over the numbers below n, and sums over a list, grouped by such numbers.
-use Rattle.std.proofs.Common.{◌≡◌, ◌≢◌, ℕ, zero, suc, ◌+◌, ◌*◌, ◌<◌, ◌≤◌, List, [], ◌∷◌, refl, arith, inl, inr, ap, cond}
-use Rattle.std.specs.Prelude.{◌==◌, sum_by, All}
-use Rattle.std.proofs.lemmas.List.Sums.{sum_by-cons}
-use Rattle.std.proofs.lemmas.List.Elements.{All-head, All-tail}
-use Rattle.std.proofs.lemmas.Bool.{cases_eq, eq-eqb, ne_eqb}
+use Rattle.yds_model.proofs.Common.{◌≡◌, ◌≢◌, ℕ, zero, suc, ◌+◌, ◌*◌, ◌<◌, ◌≤◌, List, [], ◌∷◌, refl, arith, inl, inr, ap, cond, ◌==◌, sum_by, All, sum_by-cons, All-head, All-tail, cases_eq, eq-eqb, ne_eqb}
 use Rattle.yds_edf.specs.Pending.{sum_below}
 
 pub sum_below_same : (n : ℕ) (f g : ℕ → ℕ) → ((k : ℕ) → k < n → f k ≡ g k) → sum_below n f ≡ sum_below n g

@@ -1,33 +1,9 @@
 -- What a plan spends on the points: the energy of its rounded slots, and no more than the run of any policy.
-use Rattle.std.proofs.Common.{◌≡◌, ℕ, ◌-◌, ◌*◌, ◌/◌, ◌<◌, ◌≤◌, List, [], ◌∷◌, ◌++◌, get_or, sym, ap, ap₂, subst, ◌∙◌, arith, inl, inr, sum_by, All}
-use Rattle.std.proofs.lemmas.List.Elements.{All-append, All-weaker}
-use Rattle.std.proofs.Math.Nat.{mul-pos, mul-le-mul_right, div-mul_cancel, le_of_mul-le-mul_right}
-use Rattle.yds_model.specs.Job.{Job, IsJob}
-use Rattle.yds_model.specs.Scale.{Fraction, numerator, of_parts, IsAtMost}
-use Rattle.yds_model.specs.Slot.{WrittenSlot, WholeSlot, IsSolid, IsScale, slots_at}
-use Rattle.yds_model.specs.Piece.{Piece}
-use Rattle.yds_model.specs.Level.{Level}
-use Rattle.yds_model.specs.Excess.{excess}
-use Rattle.yds_model.specs.Plan.{IsPlan}
-use Rattle.yds_model.specs.Divisor.{common_divisor, multiple_of_all, in_lowest_terms}
-use Rattle.yds_model.specs.Table.{Point, AreRising, IsTable, hull_of, hull_multiple, gaps_of}
-use Rattle.yds_model.specs.Event.{stretches}
-use Rattle.yds_model.specs.Policy.{slots_in, IsRunAt}
-use Rattle.yds_model.specs.Rounding.{top_of, IsTooFast}
-use Rattle.yds_model.specs.Comparison.{all_energy, HoldsStretch}
-use Rattle.yds_model.specs.Admission.{CanServe}
-use Rattle.yds_model.proofs.Divisor.{divisor_is_greatest, lowest_terms_are_one}
-use Rattle.yds_model.proofs.Front.{pieces_forward}
-use Rattle.yds_model.proofs.HullExists.{hull_exists}
-use Rattle.yds_model.proofs.Runs.{run_forward}
-use Rattle.yds_model.proofs.Scale.{scale_exists}
-use Rattle.yds_model.proofs.Sums.{sum_by_zero}
+use Rattle.yds_model.proofs.Common.{◌≡◌, ℕ, ◌-◌, ◌*◌, ◌/◌, ◌<◌, ◌≤◌, List, [], ◌∷◌, ◌++◌, get_or, sym, ap, ap₂, subst, ◌∙◌, arith, inl, inr, sum_by, All, All-append, All-weaker, mul-pos, mul-le-mul_right, div-mul_cancel, le_of_mul-le-mul_right, Job, IsJob, Fraction, numerator, of_parts, IsAtMost, WrittenSlot, WholeSlot, IsSolid, IsScale, slots_at, Piece, Level, excess, IsPlan, common_divisor, multiple_of_all, in_lowest_terms, Point, AreRising, IsTable, hull_of, hull_multiple, gaps_of, stretches, slots_in, IsRunAt, top_of, IsTooFast, all_energy, HoldsStretch, CanServe, divisor_is_greatest, lowest_terms_are_one, pieces_forward, hull_exists, run_forward, scale_exists, sum_by_zero, lowest_value, lowest_is, factors}
 use Rattle.yds_events.proofs.Neighbours.{stretches_run}
 use Rattle.yds_energy.specs.ComparisonLaws.{PlanSpendsItsRounding, PlanSpendsLeast}
 use Rattle.yds_laws.proofs.Bound.{scale_left, scale_right}
 use Rattle.yds_energy.proofs.EvenStretches.{run_even, plan_even, plan_holds, held_at}
-use Rattle.yds_model.proofs.LowestTerms.{lowest_value, lowest_is}
-use Rattle.yds_model.proofs.Fractions.{factors}
 use Rattle.yds_energy.proofs.PlansEnergy.{plans_cost_least, hull_table}
 use Rattle.yds_energy.proofs.RoundedEnergy.{rounded_attains_the_hull}
 use Rattle.yds_energy.proofs.RoundedRuns.{all_work}

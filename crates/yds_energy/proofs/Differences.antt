@@ -1,10 +1,6 @@
 -- Signed numbers as differences of two naturals, and the greatest and the sum of a list of them.
-use Rattle.std.proofs.Common.{◌≡◌, ℕ, ◌+◌, ◌*◌, ◌≤◌, List, [], ◌∷◌, refl, ap, ◌∙◌, arith, ℤ, pos, ◌+ℤ◌, ◌-ℤ◌, ◌*ℤ◌, ◌≤ℤ◌, map, fold, sum_by}
-use Rattle.std.specs.Int.{int_max}
-use Rattle.std.proofs.lemmas.Int.{ints, clamps}
-use Rattle.std.proofs.lemmas.List.Sums.{sum_by-cons}
+use Rattle.yds_model.proofs.Common.{◌≡◌, ℕ, ◌+◌, ◌*◌, ◌≤◌, List, [], ◌∷◌, refl, ap, ◌∙◌, arith, ℤ, pos, ◌+ℤ◌, ◌-ℤ◌, ◌*ℤ◌, ◌≤ℤ◌, map, fold, sum_by, int_max, ints, clamps, sum_by-cons, greatest, total}
 use borrow.Author.Differences.{up, down}
-use Rattle.yds_model.specs.Energy.{greatest, total}
 
 -- the signed number is a - b
 abbrev pub IsDifference : ℕ → ℕ → ℤ → Type 0

@@ -1,18 +1,9 @@
 -- The energy of feasible schedules by a convex table: what they share, and excesses above the points' speeds.
-use Rattle.std.proofs.Common.{◌≡◌, ℕ, ◌+◌, ◌-◌, ◌*◌, ◌≤◌, List, [], ◌∷◌, refl, arith, ap, sum_by, mul-le-mul_left}
-use Rattle.std.proofs.lemmas.Int.{ints}
-use Rattle.yds_model.specs.Job.{Job}
-use Rattle.yds_model.specs.Slot.{WholeSlot}
-use Rattle.yds_model.specs.Feasible.{IsFeasibleAt}
-use Rattle.yds_model.specs.Excess.{excess, IsLeastAt}
-use Rattle.yds_model.specs.Table.{Point, AreRising, IsConvex, gaps_of}
-use Rattle.yds_model.specs.Energy.{horizon, busy, idle, product, interpolated_power, interpolated_energy}
+use Rattle.yds_model.proofs.Common.{◌≡◌, ℕ, ◌+◌, ◌-◌, ◌*◌, ◌≤◌, List, [], ◌∷◌, refl, arith, ap, sum_by, mul-le-mul_left, ints, Job, WholeSlot, IsFeasibleAt, excess, IsLeastAt, Point, AreRising, IsConvex, gaps_of, horizon, busy, idle, product, interpolated_power, interpolated_energy, sum_by-add, sum_by-mul, sum_by_zero, same_work, busy_and_idle}
 use Rattle.yds_energy.specs.EnergyLaws.{LeastIsCheapest}
-use Rattle.yds_model.proofs.Sums.{sum_by-add, sum_by-mul, sum_by_zero}
 use Rattle.yds_energy.proofs.Differences.{IsDifference, difference_at_most, total_is}
 use Rattle.yds_energy.proofs.Hinges.{gains, losses, turn, hinges, lines_are, product-cons}
 use Rattle.yds_energy.proofs.RoundedRuns.{all_work}
-use Rattle.yds_model.proofs.Horizon.{same_work, busy_and_idle}
 
 -- how long the slot takes
 abbrev time_of : WholeSlot → ℕ

@@ -1,12 +1,5 @@
 -- Numbers and slots in parts that are k times as fine, and the one law of scale for all that is said of slots.
-use Rattle.std.proofs.Common.{◌≡◌, ◌⊎◌, ℕ, ◌-◌, ◌*◌, ◌<◌, ◌≤◌, List, [], ◌∷◌, map, min, refl, sym, arith, Bool, true, false, cond, if◌then◌else◌, nat_le, nat_lt, ◌==◌, ◌↔◌, filter}
-use Rattle.std.proofs.lemmas.Bool.{cases_order}
-use Rattle.std.proofs.lemmas.Bool.Decides.{nat_tests}
-use Rattle.std.proofs.Math.Nat.{one-mul, mul-sub, mul-lt-mul_of_pos_left}
-use Rattle.yds_model.specs.Slot.{WrittenSlot, WholeSlot, IsScale, AtEachScale, slots_at}
-use Rattle.yds_model.specs.Piece.{Piece}
-use Rattle.yds_model.specs.Policy.{slots_in}
-use Rattle.yds_model.proofs.Scale.{finer, finer_slots, IsKept, one_scale_of}
+use Rattle.yds_model.proofs.Common.{◌≡◌, ◌⊎◌, ℕ, ◌-◌, ◌*◌, ◌<◌, ◌≤◌, List, [], ◌∷◌, map, min, refl, sym, arith, Bool, true, false, cond, if◌then◌else◌, nat_le, nat_lt, ◌==◌, ◌↔◌, filter, cases_order, nat_tests, one-mul, mul-sub, mul-lt-mul_of_pos_left, WrittenSlot, WholeSlot, IsScale, AtEachScale, slots_at, Piece, slots_in, finer, finer_slots, IsKept, one_scale_of}
 
 -- # Numbers
 

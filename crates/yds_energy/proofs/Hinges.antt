@@ -1,9 +1,6 @@
 -- The energy of one slot, by a convex table: the number of the first line, and what each later point adds above its speed.
-use Rattle.std.proofs.Common.{◌≡◌, ℕ, ◌+◌, ◌-◌, ◌*◌, ◌<◌, ◌≤◌, List, [], ◌∷◌, refl, arith, ap, ◌∙◌, ℤ, pos, ◌*ℤ◌, fold, mul-le-mul_left, mul-le-mul_right}
-use Rattle.std.specs.Int.{int_max}
-use Rattle.std.proofs.lemmas.Bool.{cases_lt}
-use Rattle.yds_model.specs.Table.{Point, AreRising, IsConvex, IsOnOrBelow, gaps_of}
-use Rattle.yds_model.specs.Energy.{product, on_line, on_lines, greatest}
+use Rattle.yds_model.proofs.Common.{◌≡◌, ℕ, ◌+◌, ◌-◌, ◌*◌, ◌<◌, ◌≤◌, List, [], ◌∷◌, refl, arith, ap, ◌∙◌, ℤ, pos, ◌*ℤ◌, fold, mul-le-mul_left, mul-le-mul_right, int_max, cases_lt, Point, AreRising, IsConvex, IsOnOrBelow, gaps_of, product, on_lines, greatest}
+use Rattle.yds_model.specs.Energy.{on_line}
 use Rattle.yds_energy.proofs.Differences.{fold_from, IsDifference, difference_of, difference_times, difference_plus, difference_first, difference_second, greatest-cons}
 
 -- the product of a list with one factor more is that factor times it

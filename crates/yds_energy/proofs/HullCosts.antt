@@ -1,14 +1,7 @@
 -- What slots cost at the points of a table and between two neighbours is at most the energy that is interpolated.
-use Rattle.std.proofs.Common.{◌≡◌, ℕ, zero, suc, ◌+◌, ◌-◌, ◌*◌, ◌<◌, ◌≤◌, List, [], ◌∷◌, length, map, refl, ap, subst, arith, inl, inr, ℤ, ◌+ℤ◌, All, Contains}
-use Rattle.std.proofs.lemmas.Bool.{cases_lt}
-use Rattle.std.proofs.lemmas.Int.{ints}
-use Rattle.std.proofs.lemmas.List.Elements.{All-nil, All-cons, All-weaker, All-contains}
-use Rattle.std.proofs.lemmas.List.Sums.{sum_by-cons}
-use Rattle.std.proofs.Math.Nat.{le_of_mul-le-mul_left}
+use Rattle.yds_model.proofs.Common.{◌≡◌, ℕ, zero, suc, ◌+◌, ◌-◌, ◌*◌, ◌<◌, ◌≤◌, List, [], ◌∷◌, length, map, refl, ap, subst, arith, inl, inr, ℤ, ◌+ℤ◌, All, Contains, cases_lt, ints, All-nil, All-cons, All-weaker, All-contains, sum_by-cons, le_of_mul-le-mul_left, WholeSlot, Point, point_at, AreRising, GoesOn, IsHullOf, gaps_of, busy, product, interpolated_power, total}
 use borrow.Author.Differences.{up, down}
-use Rattle.yds_model.specs.Slot.{WholeSlot}
-use Rattle.yds_model.specs.Table.{Point, point_at, AreRising, GoesOn, IsHullOf, gaps_of}
-use Rattle.yds_model.specs.Energy.{busy, product, on_line, interpolated_power, total}
+use Rattle.yds_model.specs.Energy.{on_line}
 use Rattle.yds_energy.proofs.Differences.{difference_times, total-cons}
 use Rattle.yds_energy.proofs.Hinges.{gains, losses, line_is}
 use Rattle.yds_energy.proofs.LineEnergy.{lines_are_at_most_energy}

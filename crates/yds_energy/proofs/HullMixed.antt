@@ -1,10 +1,6 @@
 -- What a hull gives at a speed between two of its points is at most what the line between them says.
-use Rattle.std.proofs.Common.{◌≡◌, ℕ, ◌+◌, ◌-◌, ◌*◌, ◌<◌, ◌≤◌, List, [], ◌∷◌, length, arith, ap, Contains}
-use Rattle.std.proofs.lemmas.Int.{ints}
-use Rattle.std.proofs.Math.Nat.{mul-sub, mul-le-mul_left}
+use Rattle.yds_model.proofs.Common.{◌≡◌, ℕ, ◌+◌, ◌-◌, ◌*◌, ◌<◌, ◌≤◌, List, [], ◌∷◌, length, arith, ap, Contains, ints, mul-sub, mul-le-mul_left, Point, AreRising, IsConvex, IsHullOf, gaps_of, product, interpolated_power}
 use borrow.Author.Differences.{up, down}
-use Rattle.yds_model.specs.Table.{Point, AreRising, IsConvex, IsHullOf, gaps_of}
-use Rattle.yds_model.specs.Energy.{product, interpolated_power}
 use Rattle.yds_energy.proofs.Hinges.{gains, losses, hinges, lines_are}
 use Rattle.yds_energy.proofs.HullEnergy.{hull_rising, slot_under}
 

@@ -1,10 +1,5 @@
 -- A level has one cost: its speed is that of one point of the hull, or lies between two neighbours and no others.
-use Rattle.std.proofs.Common.{◌≡◌, ℕ, ◌+◌, ◌-◌, ◌*◌, ◌<◌, ◌≤◌, List, length, sym, ap, subst, ◌∙◌, arith, inl, inr, Contains}
-use Rattle.std.proofs.lemmas.Bool.{cases_lt}
-use Rattle.std.proofs.Math.Nat.{mul-le-mul_right, eq_of_mul-eq-mul_right}
-use Rattle.yds_model.specs.Level.{Level}
-use Rattle.yds_model.specs.Table.{Point, point_at, AreRising}
-use Rattle.yds_model.specs.Rounding.{HasPointSpeed, AreNeighbours}
+use Rattle.yds_model.proofs.Common.{◌≡◌, ℕ, ◌+◌, ◌-◌, ◌*◌, ◌<◌, ◌≤◌, List, length, sym, ap, subst, ◌∙◌, arith, inl, inr, Contains, cases_lt, mul-le-mul_right, eq_of_mul-eq-mul_right, Level, Point, point_at, AreRising, HasPointSpeed, AreNeighbours}
 use Rattle.yds_energy.specs.RoundingLaws.{IsLevelCost}
 use Rattle.yds_energy.proofs.OneEnergy.{places_rise, read_point, one_point}
 

@@ -1,13 +1,5 @@
 -- What a stretch of a level spends, rounded: the level's cost, by the stretch's share of the level's length.
-use Rattle.std.proofs.Common.{◌≡◌, ◌⊎◌, ℕ, ◌+◌, ◌-◌, ◌*◌, ◌<◌, ◌≤◌, List, ◌++◌, get_or, refl, sym, ap, subst, ◌∙◌, arith, inl, inr, All, Any, Contains}
-use Rattle.std.proofs.Math.Nat.{mul-sub, eq_of_mul-eq-mul_right}
-use Rattle.yds_model.specs.Job.{Job}
-use Rattle.yds_model.specs.Slot.{WholeSlot}
-use Rattle.yds_model.specs.Piece.{Piece}
-use Rattle.yds_model.specs.Level.{Level}
-use Rattle.yds_model.specs.Table.{Point, point_at, AreRising, IsTable, IsHullOf}
-use Rattle.yds_model.specs.Energy.{busy, SpendsAtPoints}
-use Rattle.yds_model.specs.Rounding.{HasPointSpeed, AreNeighbours}
+use Rattle.yds_model.proofs.Common.{◌≡◌, ◌⊎◌, ℕ, ◌+◌, ◌-◌, ◌*◌, ◌<◌, ◌≤◌, List, ◌++◌, get_or, refl, sym, ap, subst, ◌∙◌, arith, inl, inr, All, Any, Contains, mul-sub, eq_of_mul-eq-mul_right, Job, WholeSlot, Piece, Level, Point, point_at, AreRising, IsTable, IsHullOf, busy, SpendsAtPoints, HasPointSpeed, AreNeighbours}
 use Rattle.yds_energy.specs.RoundingLaws.{IsLevelCost}
 use Rattle.yds_energy.proofs.HullCosts.{hull_in}
 use Rattle.yds_energy.proofs.LevelCosts.{cost_at_point, cost_between}

@@ -1,15 +1,5 @@
 -- How long a plan's slots run: those of a level as long as the level, and all together at most the horizon.
-use Rattle.std.proofs.Common.{◌≡◌, ℕ, ◌-◌, ◌*◌, ◌≤◌, List, [], ◌∷◌, get_or, sym, ap, ◌∙◌, arith, sum_by, All}
-use Rattle.std.proofs.lemmas.List.Elements.{All-tail}
-use Rattle.std.proofs.lemmas.List.Sums.{sum_by-cons}
-use Rattle.std.proofs.Math.Nat.{le_of_mul-le-mul_left}
-use Rattle.yds_model.specs.Job.{Job}
-use Rattle.yds_model.specs.Slot.{WrittenSlot, WholeSlot, IsScale, slots_at}
-use Rattle.yds_model.specs.Level.{Level, all_members}
-use Rattle.yds_model.specs.Plan.{IsPlan}
-use Rattle.yds_model.specs.Energy.{busy, horizon}
-use Rattle.yds_model.proofs.Horizon.{busy_and_idle}
-use Rattle.yds_model.proofs.Scale.{scale_exists}
+use Rattle.yds_model.proofs.Common.{◌≡◌, ℕ, ◌-◌, ◌*◌, ◌≤◌, List, [], ◌∷◌, get_or, sym, ap, ◌∙◌, arith, sum_by, All, All-tail, sum_by-cons, le_of_mul-le-mul_left, Job, WrittenSlot, WholeSlot, IsScale, slots_at, Level, all_members, IsPlan, busy, horizon, busy_and_idle, scale_exists}
 use Rattle.yds_energy.specs.RoundingLaws.{LevelsFitTheHorizon}
 use Rattle.yds_laws.proofs.Group.{group, group-nil, group-append}
 use Rattle.yds_laws.proofs.Exact.{level_time}

@@ -1,22 +1,5 @@
 -- What the rounded slots of a plan spend: those of a level what the level costs, and all together what the levels do.
-use Rattle.std.proofs.Common.{◌≡◌, ℕ, zero, suc, ◌+◌, ◌-◌, ◌*◌, ◌<◌, ◌≤◌, List, [], ◌∷◌, ◌++◌, length, get_or, refl, sym, ap, subst, arith, inl, inr, sum, sum_by, ◌⊎◌, ◌∙◌, le-leb, nat_le, All, Any, Contains, filter}
-use Rattle.std.specs.List.{All, AllZip, Contains}
-use Rattle.std.proofs.lemmas.List.Elements.{All-head, All-tail, All-contains, filter-append}
-use Rattle.std.proofs.lemmas.List.Sums.{sum_by-cons, sum_by-append}
-use Rattle.std.proofs.Math.Nat.{mul-pos, eq_of_mul-eq-mul_left, eq_of_mul-eq-mul_right}
-use Rattle.yds_model.specs.Numbers.{count}
-use Rattle.yds_model.specs.Job.{Job}
-use Rattle.yds_model.specs.Slot.{WrittenSlot, WholeSlot, IsScale, slots_at}
-use Rattle.yds_model.specs.Piece.{Piece}
-use Rattle.yds_model.specs.Level.{Level, level_at, all_members}
-use Rattle.yds_model.specs.Plan.{IsPlan}
-use Rattle.yds_model.specs.Table.{Point, point_at, AreRising, IsTable, IsHullOf, hull_of}
-use Rattle.yds_model.specs.Energy.{busy, idle, horizon, SpendsAtPoints}
-use Rattle.yds_model.specs.Event.{stretches}
-use Rattle.yds_model.specs.Rounding.{RoundsStretches, HasPointSpeed}
-use Rattle.yds_model.proofs.Sums.{sum_by-add, sum_by-mul, sum_by_zero, sum_by_same}
-use Rattle.yds_model.proofs.Horizon.{busy_and_idle}
-use Rattle.yds_model.proofs.HullExists.{hull_exists}
+use Rattle.yds_model.proofs.Common.{◌≡◌, ℕ, zero, suc, ◌+◌, ◌-◌, ◌*◌, ◌<◌, ◌≤◌, List, [], ◌∷◌, ◌++◌, length, get_or, refl, sym, ap, subst, arith, inl, inr, sum, sum_by, ◌⊎◌, ◌∙◌, le-leb, nat_le, All, Any, Contains, filter, AllZip, All-head, All-tail, All-contains, filter-append, sum_by-cons, sum_by-append, mul-pos, eq_of_mul-eq-mul_left, eq_of_mul-eq-mul_right, count, Job, WrittenSlot, WholeSlot, IsScale, slots_at, Piece, Level, level_at, all_members, IsPlan, Point, point_at, AreRising, IsTable, IsHullOf, hull_of, busy, idle, horizon, SpendsAtPoints, stretches, RoundsStretches, HasPointSpeed, sum_by-add, sum_by-mul, sum_by_zero, sum_by_same, busy_and_idle, hull_exists, cases_eq, cases_lt, counted_contains, member_counted, level_count, count_joined, contained_counted}
 use Rattle.yds_energy.specs.RoundingLaws.{IsLevelCost, RoundedCostsItsLevels, member_slots, RoundedCostsItsLevel}
 use Rattle.yds_laws.proofs.Bound.{scale_left, scale_right}
 use Rattle.yds_energy.proofs.HullEnergy.{hull_rising}
@@ -25,9 +8,7 @@ use Rattle.yds_energy.proofs.LevelShares.{stretch_share}
 use Rattle.yds_energy.proofs.PlanParts.{IsPartOfPlan, level_found}
 use Rattle.yds_energy.proofs.RoundedFeasible.{RoundsAt, rounds_fold, written_feasible, SplitsAt, same_jobs}
 use Rattle.yds_energy.proofs.RoundedEnergy.{spends_joined}
-use Rattle.std.proofs.lemmas.Bool.{cases_eq, cases_lt}
-use Rattle.yds_model.proofs.Lists.{counted_contains}
-use Rattle.yds_model.proofs.Counted.{member_counted, level_count, one_level, count_joined, contained_counted}
+use Rattle.yds_model.proofs.Counted.{one_level}
 
 -- # Rates
 

@@ -1,10 +1,7 @@
 -- Each line between neighbours of a table, against the greatest of all.
-use Rattle.std.proofs.Common.{◌≡◌, ℕ, zero, suc, ◌+◌, ◌-◌, ◌*◌, ◌<◌, ◌≤◌, List, [], ◌∷◌, length, refl, subst, arith, ap, add-one, ℤ, pos, ◌*ℤ◌, ◌≤ℤ◌, mul-le-mul_left}
-use Rattle.std.specs.Int.{int_max}
-use Rattle.std.proofs.lemmas.Int.{ints, clamps}
+use Rattle.yds_model.proofs.Common.{◌≡◌, ℕ, zero, suc, ◌+◌, ◌-◌, ◌*◌, ◌<◌, ◌≤◌, List, [], ◌∷◌, length, refl, subst, arith, ap, add-one, ℤ, pos, ◌*ℤ◌, ◌≤ℤ◌, mul-le-mul_left, int_max, ints, clamps, Point, point_at, gaps_of, product, on_lines, greatest}
 use borrow.Author.Differences.{up, down}
-use Rattle.yds_model.specs.Table.{Point, point_at, gaps_of}
-use Rattle.yds_model.specs.Energy.{product, on_line, on_lines, greatest}
+use Rattle.yds_model.specs.Energy.{on_line}
 use Rattle.yds_energy.specs.EnergyLaws.{LinesAreAtMostEnergy}
 use Rattle.yds_energy.proofs.Differences.{difference_times, difference_at_most, at_most_in_turn, greatest-cons}
 use Rattle.yds_energy.proofs.Hinges.{product-cons}

@@ -1,12 +1,6 @@
 -- The slots of the jobs that are counted in a list, and the work of all slots.
-use Rattle.std.proofs.Common.{◌≡◌, ℕ, suc, ◌+◌, ◌*◌, ◌<◌, List, length, get_or, ap, arith, sum_by}
-use Rattle.std.specs.List.{All}
-use Rattle.std.proofs.lemmas.List.Sums.{get_or-le-sum_by}
-use Rattle.yds_model.specs.Numbers.{count}
-use Rattle.yds_model.specs.Slot.{WholeSlot, work_given}
-use Rattle.yds_model.proofs.Sums.{sum_by_same}
+use Rattle.yds_model.proofs.Common.{◌≡◌, ℕ, suc, ◌+◌, ◌*◌, ◌<◌, List, length, get_or, ap, arith, sum_by, All, get_or-le-sum_by, count, WholeSlot, work_given, sum_by_same, work_by_jobs}
 use Rattle.yds_laws.proofs.Group.{group}
-use Rattle.yds_model.proofs.Horizon.{work_by_jobs}
 
 -- slots whose jobs are counted once are all of a group
 pub group_once : (f : WholeSlot → ℕ) (members : List ℕ) (slots : List WholeSlot) → All (λ slot. count slot.job members ≡ 1) slots →

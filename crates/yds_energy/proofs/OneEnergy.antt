@@ -1,17 +1,6 @@
 -- A feasible schedule has one energy on the points of a table, since each slot's speed is that of one point.
-use Rattle.std.proofs.Common.{◌≡◌, ℕ, zero, suc, ◌-◌, ◌*◌, ◌<◌, List, [], ◌∷◌, length, sym, ap, ◌∙◌, arith, inl, inr, Contains}
-use Rattle.std.proofs.lemmas.Bool.{cases_lt}
-use Rattle.std.proofs.lemmas.List.{get_or_default}
-use Rattle.std.proofs.Math.Nat.{eq_of_mul-eq-mul_right}
-use Rattle.yds_model.specs.Scale.{numerator}
-use Rattle.yds_model.specs.Slot.{WholeSlot, slots_at}
-use Rattle.yds_model.specs.Feasible.{RunFrom}
-use Rattle.yds_model.specs.Table.{Point, no_point, point_at, AreRising}
-use Rattle.yds_model.specs.Energy.{SpendsAtPoints}
+use Rattle.yds_model.proofs.Common.{◌≡◌, ℕ, zero, suc, ◌-◌, ◌*◌, ◌<◌, List, [], ◌∷◌, length, sym, ap, ◌∙◌, arith, inl, inr, Contains, cases_lt, get_or_default, eq_of_mul-eq-mul_right, numerator, WholeSlot, slots_at, RunFrom, Point, no_point, point_at, AreRising, SpendsAtPoints, rises_from, later_rise, scale_exists}
 use Rattle.yds_energy.specs.RoundingLaws.{EnergyIsOne}
-use Rattle.yds_model.proofs.Hull.{rises_from}
-use Rattle.yds_model.proofs.HullOf.{later_rise}
-use Rattle.yds_model.proofs.Scale.{scale_exists}
 
 -- # One point for a speed
 

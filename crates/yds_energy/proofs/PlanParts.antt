@@ -1,16 +1,5 @@
 -- Parts of a plan's slots, at a scale: each has what the whole has.
-use Rattle.std.proofs.Common.{◌≡◌, ℕ, ◌-◌, ◌*◌, ◌+◌, ◌≤◌, ◌==◌, List, [], ◌∷◌, ◌++◌, sym, subst, ◌∙◌, arith, if◌then◌else◌, All, Contains}
-use Rattle.std.proofs.lemmas.List.{map-append, get_or_default, length-map}
-use Rattle.std.proofs.lemmas.List.Elements.{All-append, All-weaker, All-from_get_or}
-use Rattle.std.proofs.lemmas.List.Sums.{sum_by-append}
-use Rattle.std.proofs.Math.Nat.{mul-pos, dvd-mul_right_of_dvd}
-use Rattle.yds_model.specs.Job.{Job}
-use Rattle.yds_model.specs.Slot.{WrittenSlot, WholeSlot, IsDivided, IsScale, slot_at_scale, slots_at, slot_at, no_slot, work_given}
-use Rattle.yds_model.specs.Feasible.{RunFrom, IsInWindow}
-use Rattle.yds_model.specs.Level.{Level, level_at, no_level}
-use Rattle.yds_model.specs.Plan.{IsPlan}
-use Rattle.yds_model.proofs.Lists.{All-front, All-back}
-use Rattle.yds_model.proofs.Runs.{run_earlier}
+use Rattle.yds_model.proofs.Common.{◌≡◌, ℕ, ◌-◌, ◌*◌, ◌+◌, ◌≤◌, ◌==◌, List, [], ◌∷◌, ◌++◌, sym, subst, ◌∙◌, arith, if◌then◌else◌, All, Contains, map-append, get_or_default, length-map, All-append, All-weaker, All-from_get_or, sum_by-append, mul-pos, dvd-mul_right_of_dvd, Job, WrittenSlot, WholeSlot, IsDivided, IsScale, slot_at_scale, slots_at, slot_at, no_slot, work_given, RunFrom, IsInWindow, Level, level_at, no_level, IsPlan, All-front, All-back, run_earlier}
 
 -- # Slots in order
 

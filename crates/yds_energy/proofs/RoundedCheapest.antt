@@ -1,19 +1,5 @@
 -- The energy of the rounded slots of a plan is the least of all feasible schedules on the table's points.
-use Rattle.std.proofs.Common.{◌≡◌, ℕ, zero, suc, ◌-◌, ◌*◌, ◌<◌, ◌≤◌, List, [], ◌∷◌, ◌++◌, map, ap, arith, refl, ℤ, pos, ◌≤ℤ◌}
-use Rattle.std.proofs.lemmas.Int.{ints}
-use Rattle.std.proofs.lemmas.List.Elements.{All-append}
-use Rattle.std.proofs.Math.Nat.{mul-pos, mul-le-mul_right, le_of_mul-le-mul_left, le_of_mul-le-mul_right}
-use Rattle.yds_model.specs.Job.{Job}
-use Rattle.yds_model.specs.Scale.{Fraction, numerator}
-use Rattle.yds_model.specs.Slot.{WrittenSlot, WholeSlot, IsSolid, slots_at}
-use Rattle.yds_model.specs.Feasible.{IsFeasibleAt}
-use Rattle.yds_model.specs.Level.{Level}
-use Rattle.yds_model.specs.Plan.{IsPlan}
-use Rattle.yds_model.specs.Table.{Point, AreRising, IsTable, hull_of, gaps_of}
-use Rattle.yds_model.specs.Energy.{product, IsEnergyOnPoints}
-use Rattle.yds_model.specs.Rounding.{IsRounding}
-use Rattle.yds_model.proofs.HullExists.{hull_exists}
-use Rattle.yds_model.proofs.Scale.{scale_exists, finer, feasible_finer}
+use Rattle.yds_model.proofs.Common.{◌≡◌, ℕ, zero, suc, ◌-◌, ◌*◌, ◌<◌, ◌≤◌, List, [], ◌∷◌, ◌++◌, map, ap, arith, refl, ℤ, pos, ◌≤ℤ◌, ints, All-append, mul-pos, mul-le-mul_right, le_of_mul-le-mul_left, le_of_mul-le-mul_right, Job, Fraction, numerator, WrittenSlot, WholeSlot, IsSolid, slots_at, IsFeasibleAt, Level, IsPlan, Point, AreRising, IsTable, hull_of, gaps_of, product, IsEnergyOnPoints, IsRounding, hull_exists, scale_exists, finer, feasible_finer}
 use Rattle.yds_energy.specs.RoundingLaws.{RoundedIsCheapest}
 use Rattle.yds_laws.proofs.Bound.{scale_left, scale_right}
 use Rattle.yds_energy.proofs.Hinges.{product-cons}

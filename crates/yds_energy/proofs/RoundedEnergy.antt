@@ -1,20 +1,5 @@
 -- What the rounded slots of a plan spend on a table's points: the energy of the plan's schedule by the lower hull.
-use Rattle.std.proofs.Common.{◌≡◌, ℕ, ◌+◌, ◌-◌, ◌*◌, ◌<◌, ◌≤◌, List, [], ◌∷◌, ◌++◌, length, get_or, map, refl, sym, ap, subst, ◌∙◌, arith, inl, inr, ℤ, pos, ◌+ℤ◌, ◌≤ℤ◌, All, Contains}
-use Rattle.std.proofs.lemmas.Int.{ints}
-use Rattle.std.proofs.lemmas.List.Elements.{All-head, All-tail, All-contains, Contains-get_or}
-use Rattle.std.proofs.lemmas.List.Sums.{sum_by-cons, sum_by-append}
-use Rattle.std.proofs.Math.Nat.{mul-sub, mul-le-mul_right, lt_of_mul-lt-mul_right, eq_of_mul-eq-mul_left, eq_of_mul-eq-mul_right}
-use Rattle.yds_model.specs.Job.{Job}
-use Rattle.yds_model.specs.Slot.{WrittenSlot, WholeSlot, IsScale, slots_at}
-use Rattle.yds_model.specs.Piece.{Piece}
-use Rattle.yds_model.specs.Level.{Level}
-use Rattle.yds_model.specs.Plan.{IsPlan}
-use Rattle.yds_model.specs.Table.{Point, no_point, point_at, AreRising, IsTable, IsHullOf, hull_of, gaps_of}
-use Rattle.yds_model.specs.Energy.{busy, idle, horizon, product, total, interpolated_energy, SpendsAtPoints}
-use Rattle.yds_model.specs.Event.{stretches}
-use Rattle.yds_model.specs.Rounding.{AreNeighbours, IsSplitAt, RoundsStretches}
-use Rattle.yds_model.proofs.Horizon.{busy_and_idle}
-use Rattle.yds_model.proofs.HullExists.{hull_exists}
+use Rattle.yds_model.proofs.Common.{◌≡◌, ℕ, ◌+◌, ◌-◌, ◌*◌, ◌<◌, ◌≤◌, List, [], ◌∷◌, ◌++◌, length, get_or, map, refl, sym, ap, subst, ◌∙◌, arith, inl, inr, ℤ, pos, ◌+ℤ◌, ◌≤ℤ◌, All, Contains, ints, All-head, All-tail, All-contains, Contains-get_or, sum_by-cons, sum_by-append, mul-sub, mul-le-mul_right, lt_of_mul-lt-mul_right, eq_of_mul-eq-mul_left, eq_of_mul-eq-mul_right, Job, WrittenSlot, WholeSlot, IsScale, slots_at, Piece, Level, IsPlan, Point, no_point, point_at, AreRising, IsTable, IsHullOf, hull_of, gaps_of, busy, idle, horizon, product, total, interpolated_energy, SpendsAtPoints, stretches, AreNeighbours, IsSplitAt, RoundsStretches, busy_and_idle, hull_exists}
 use Rattle.yds_energy.specs.RoundingLaws.{RoundedAttainsTheHull}
 use Rattle.yds_laws.proofs.Bound.{scale_left, scale_right}
 use Rattle.yds_energy.proofs.Differences.{total-cons}

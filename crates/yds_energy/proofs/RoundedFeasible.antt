@@ -1,23 +1,6 @@
 -- The slots of a plan, rounded to a table's points, are a feasible schedule on them: stretch by stretch.
-use Rattle.std.proofs.Common.{◌≡◌, ◌⊎◌, ℕ, ◌+◌, ◌-◌, ◌*◌, ◌<◌, ◌≤◌, ◌==◌, List, [], ◌∷◌, ◌++◌, length, get_or, refl, sym, ap, subst, ◌∙◌, arith, inl, inr, eqb-true, ◌↔◌}
-use Rattle.std.specs.List.{All, AllByRecursion, Any, Contains}
-use Rattle.std.proofs.lemmas.Bool.{cases_Bool}
-use Rattle.std.proofs.lemmas.List.{map-append}
-use Rattle.std.proofs.lemmas.List.Elements.{All-nil, All-head, All-tail, All-append, All-map, All-weaker, All-from_get_or, All-from_recursion, recursion_from_All}
-use Rattle.std.proofs.Math.Nat.{one-dvd, mul-sub, mul-le-mul_right, le_of_mul-le-mul_right, lt_of_mul-lt-mul_right}
-use Rattle.yds_model.specs.Job.{Job, job_at}
-use Rattle.yds_model.specs.Scale.{of_whole}
-use Rattle.yds_model.specs.Slot.{WrittenSlot, WholeSlot, IsDivided, IsScale, slot_at_scale, slots_at, work_given}
-use Rattle.yds_model.specs.Feasible.{RunFrom, IsInWindow, IsFeasibleAt}
-use Rattle.yds_model.specs.Piece.{Piece, PiecesFrom}
-use Rattle.yds_model.specs.Level.{Level}
-use Rattle.yds_model.specs.Plan.{IsPlan}
-use Rattle.yds_model.specs.Table.{Point}
-use Rattle.yds_model.specs.Event.{stretches, LiesIn, LiesWritten}
-use Rattle.yds_model.specs.Rounding.{HasPointSpeed, AreNeighbours, jobs_in_turn, IsSplitAt, RoundsStretch, RoundsStretches}
+use Rattle.yds_model.proofs.Common.{◌≡◌, ◌⊎◌, ℕ, ◌+◌, ◌-◌, ◌*◌, ◌<◌, ◌≤◌, ◌==◌, List, [], ◌∷◌, ◌++◌, length, get_or, refl, sym, ap, subst, ◌∙◌, arith, inl, inr, eqb-true, ◌↔◌, All, AllByRecursion, Any, Contains, cases_Bool, map-append, All-nil, All-head, All-tail, All-append, All-map, All-weaker, All-from_get_or, All-from_recursion, recursion_from_All, one-dvd, mul-sub, mul-le-mul_right, le_of_mul-le-mul_right, lt_of_mul-lt-mul_right, Job, job_at, of_whole, WrittenSlot, WholeSlot, IsDivided, IsScale, slot_at_scale, slots_at, work_given, RunFrom, IsInWindow, IsFeasibleAt, Piece, PiecesFrom, Level, IsPlan, Point, stretches, LiesIn, LiesWritten, HasPointSpeed, AreNeighbours, jobs_in_turn, IsSplitAt, RoundsStretch, RoundsStretches, at_most_of_values, run_forward, run_earlier, run_later, run_joined}
 use Rattle.yds_events.specs.Stretch.{no_stretch, IsOutside}
-use Rattle.yds_model.proofs.Fractions.{at_most_of_values}
-use Rattle.yds_model.proofs.Runs.{run_forward, run_earlier, run_later, run_joined}
 use Rattle.yds_events.proofs.Neighbours.{stretches_run, release_outside, deadline_outside}
 use Rattle.yds_laws.proofs.Bound.{scale_left, scale_right}
 use Rattle.yds_energy.proofs.RoundedRuns.{runs_order, runs_within, runs_on_order}

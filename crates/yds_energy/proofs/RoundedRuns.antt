@@ -1,12 +1,5 @@
 -- Slots that run without a gap at one point's speed: their time, their work, what they spend, and that they are in order.
-use Rattle.std.proofs.Common.{◌≡◌, ℕ, zero, suc, ◌+◌, ◌-◌, ◌*◌, ◌≤◌, List, [], ◌∷◌, ap, arith, All, Contains, sum_by}
-use Rattle.std.proofs.lemmas.List.Elements.{All-nil, All-cons, All-tail, All-weaker}
-use Rattle.std.proofs.lemmas.List.Sums.{sum_by-cons}
-use Rattle.yds_model.specs.Slot.{WholeSlot}
-use Rattle.yds_model.specs.Feasible.{RunFrom}
-use Rattle.yds_model.specs.Table.{Point}
-use Rattle.yds_model.specs.Energy.{busy, SpendsAtPoints}
-use Rattle.yds_model.specs.Rounding.{RunsAtPoint, RunsOn}
+use Rattle.yds_model.proofs.Common.{◌≡◌, ℕ, zero, suc, ◌+◌, ◌-◌, ◌*◌, ◌≤◌, List, [], ◌∷◌, ap, arith, All, Contains, sum_by, All-nil, All-cons, All-tail, All-weaker, sum_by-cons, WholeSlot, RunFrom, Point, busy, SpendsAtPoints, RunsAtPoint, RunsOn}
 
 -- the work of all slots together
 abbrev pub all_work : List WholeSlot → ℕ

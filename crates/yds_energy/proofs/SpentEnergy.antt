@@ -1,28 +1,7 @@
 -- What a schedule spends on a table's points, stretch by stretch, is its energy by the table's lower hull, where each stretch is empty or
 -- full of slots of one speed.
-use Rattle.std.proofs.Common.{◌≡◌, ℕ, suc, ◌+◌, ◌-◌, ◌*◌, ◌<◌, ◌≤◌, ◌⊎◌, List, [], ◌∷◌, length, get_or, map, refl, sym, ap, subst, ◌∙◌, arith, inl, inr, add-one, sum_by, ℤ, pos, ◌+ℤ◌, ◌≤ℤ◌}
-use Rattle.std.specs.List.{All, Contains}
-use Rattle.std.proofs.lemmas.Int.{ints}
-use Rattle.std.proofs.lemmas.List.Elements.{All-tail, Contains-get_or}
-use Rattle.std.proofs.lemmas.List.Sums.{sum_by-cons}
-use Rattle.std.proofs.Math.Nat.{mul-add, mul-pos, mul-le-mul_left, le_of_mul-le-mul_left, le_of_mul-le-mul_right, eq_of_mul-eq-mul_left}
+use Rattle.yds_model.proofs.Common.{◌≡◌, ℕ, suc, ◌+◌, ◌-◌, ◌*◌, ◌<◌, ◌≤◌, ◌⊎◌, List, [], ◌∷◌, length, get_or, map, refl, sym, ap, subst, ◌∙◌, arith, inl, inr, add-one, sum_by, ℤ, pos, ◌+ℤ◌, ◌≤ℤ◌, All, Contains, ints, All-tail, Contains-get_or, sum_by-cons, mul-add, mul-pos, mul-le-mul_left, le_of_mul-le-mul_left, le_of_mul-le-mul_right, eq_of_mul-eq-mul_left, Job, WholeSlot, Piece, IsFeasibleAt, multiple_of_all, Point, no_point, point_at, AreRising, IsTable, IsHullOf, hull_of, hull_multiple, gaps_of, busy, idle, horizon, product, total, interpolated_energy, stretches, IsUncut, slots_in, top_of, work_in, time_at, all_energy, HoldsStretch, pieces_forward, busy_and_idle, hull_exists, run_forward, sum_by-add, sum_by-mul, sum_by_zero}
 use borrow.Author.Differences.{up, down}
-use Rattle.yds_model.specs.Job.{Job}
-use Rattle.yds_model.specs.Slot.{WholeSlot}
-use Rattle.yds_model.specs.Piece.{Piece}
-use Rattle.yds_model.specs.Feasible.{IsFeasibleAt}
-use Rattle.yds_model.specs.Divisor.{multiple_of_all}
-use Rattle.yds_model.specs.Table.{Point, no_point, point_at, AreRising, IsTable, IsHullOf, hull_of, hull_multiple, gaps_of}
-use Rattle.yds_model.specs.Energy.{busy, idle, horizon, product, total, interpolated_energy}
-use Rattle.yds_model.specs.Event.{stretches, IsUncut}
-use Rattle.yds_model.specs.Policy.{slots_in}
-use Rattle.yds_model.specs.Rounding.{top_of}
-use Rattle.yds_model.specs.Comparison.{work_in, time_at, all_energy, HoldsStretch}
-use Rattle.yds_model.proofs.Front.{pieces_forward}
-use Rattle.yds_model.proofs.Horizon.{busy_and_idle}
-use Rattle.yds_model.proofs.HullExists.{hull_exists}
-use Rattle.yds_model.proofs.Runs.{run_forward}
-use Rattle.yds_model.proofs.Sums.{sum_by-add, sum_by-mul, sum_by_zero}
 use Rattle.yds_events.specs.Stretch.{length_of}
 use Rattle.yds_events.proofs.Neighbours.{stretches_run}
 use Rattle.yds_energy.proofs.Differences.{total_is}

@@ -1,18 +1,6 @@
 -- The slots of a schedule by the stretches that they lie in: each is in one, and those in a stretch stand between those before it and
 -- those after it.
-use Rattle.std.proofs.Common.{◌≡◌, ℕ, ◌+◌, ◌*◌, ◌<◌, ◌≤◌, ◌⊎◌, Bool, true, false, List, [], ◌∷◌, ◌++◌, zero, suc, refl, sym, ap, ◌∙◌, arith, inl, inr, leb-true, sum_by, nat_le, ◌&&◌, if◌then◌else◌}
-use Rattle.std.specs.List.{All, Any}
-use Rattle.std.specs.Cmp.Derive.{both_true}
-use Rattle.std.proofs.Math.Nat.{mul-le-mul_right}
-use Rattle.std.proofs.lemmas.Bool.{cases_Bool, and_parts, and_left, and_right, le-leb, lt-leb}
-use Rattle.std.proofs.lemmas.List.Elements.{All-nil, All-cons, All-tail}
-use Rattle.std.proofs.lemmas.List.Sums.{sum_by-cons}
-use Rattle.yds_model.specs.Slot.{WholeSlot}
-use Rattle.yds_model.specs.Piece.{Piece, PiecesFrom}
-use Rattle.yds_model.specs.Feasible.{RunFrom}
-use Rattle.yds_model.specs.Event.{LiesIn}
-use Rattle.yds_model.specs.Policy.{slots_in}
-use Rattle.yds_model.proofs.Sums.{sum_by-add, sum_by_zero}
+use Rattle.yds_model.proofs.Common.{◌≡◌, ℕ, ◌+◌, ◌*◌, ◌<◌, ◌≤◌, ◌⊎◌, Bool, true, false, List, [], ◌∷◌, ◌++◌, zero, suc, refl, sym, ap, ◌∙◌, arith, inl, inr, leb-true, sum_by, nat_le, ◌&&◌, if◌then◌else◌, All, Any, both_true, mul-le-mul_right, cases_Bool, and_parts, and_left, and_right, le-leb, lt-leb, All-nil, All-cons, All-tail, sum_by-cons, WholeSlot, Piece, PiecesFrom, RunFrom, LiesIn, slots_in, sum_by-add, sum_by_zero}
 
 -- # Whether a slot lies in a stretch
 

@@ -1,11 +1,5 @@
 -- The stretches of jobs are together as long as the horizon.
-use Rattle.std.proofs.Common.{◌≡◌, ℕ, suc, ◌+◌, ◌-◌, ◌<◌, ◌≤◌, ◌⊎◌, min, max, List, [], ◌∷◌, length, get_or, refl, sym, ap, ◌∙◌, arith, inl, inr, sum_by, All, flat_map, fold}
-use Rattle.std.proofs.lemmas.List.Elements.{All-nil, All-cons, All-head, All-tail, All-from_get_or}
-use Rattle.std.proofs.lemmas.List.Sums.{sum_by-cons}
-use Rattle.yds_model.specs.Job.{Job, no_job, job_at}
-use Rattle.yds_model.specs.Energy.{first_release, last_deadline, horizon}
-use Rattle.yds_model.specs.Event.{event_points, neighbours, stretches}
-use Rattle.yds_model.proofs.Horizon.{deadlines_below, releases_above}
+use Rattle.yds_model.proofs.Common.{◌≡◌, ℕ, suc, ◌+◌, ◌-◌, ◌<◌, ◌≤◌, ◌⊎◌, min, max, List, [], ◌∷◌, length, get_or, refl, sym, ap, ◌∙◌, arith, inl, inr, sum_by, All, flat_map, fold, All-nil, All-cons, All-head, All-tail, All-from_get_or, sum_by-cons, Job, no_job, job_at, first_release, last_deadline, horizon, event_points, neighbours, stretches, deadlines_below, releases_above}
 use Rattle.yds_events.specs.Stretch.{length_of}
 use Rattle.yds_events.proofs.Rising.{Rises, rises_times, rising_all}
 use Rattle.yds_events.proofs.Times.{not_later, release_at, deadline_at}

@@ -1,17 +1,5 @@
 -- A table is too slow for a plan's first level exactly where no feasible schedule stays at or below its top speed.
-use Rattle.std.proofs.Common.{◌≡◌, ℕ, ◌-◌, ◌*◌, ◌<◌, List, [], ◌∷◌, length, get_or, map, ap, arith, inl, inr, All, mul-pos}
-use Rattle.std.proofs.lemmas.Bool.{cases_lt}
-use Rattle.std.proofs.lemmas.List.Sums.{get_or-le-sum_by}
-use Rattle.yds_model.specs.Job.{Job}
-use Rattle.yds_model.specs.Slot.{WrittenSlot, WholeSlot, slots_at}
-use Rattle.yds_model.specs.Excess.{excess}
-use Rattle.yds_model.specs.Level.{Level}
-use Rattle.yds_model.specs.Plan.{IsPlan}
-use Rattle.yds_model.specs.Table.{Point}
-use Rattle.yds_model.specs.Rounding.{top_of, IsTooFast}
-use Rattle.yds_model.specs.Admission.{IsWithinTop, CanServe}
-use Rattle.yds_model.proofs.Sums.{sum_by_zero}
-use Rattle.yds_model.proofs.Scale.{scale_exists, finer, finer_excess, feasible_finer}
+use Rattle.yds_model.proofs.Common.{◌≡◌, ℕ, ◌-◌, ◌*◌, ◌<◌, List, [], ◌∷◌, length, get_or, map, ap, arith, inl, inr, All, mul-pos, cases_lt, get_or-le-sum_by, Job, WrittenSlot, WholeSlot, slots_at, excess, Level, IsPlan, Point, top_of, IsTooFast, IsWithinTop, CanServe, sum_by_zero, scale_exists, finer, finer_excess, feasible_finer}
 use Rattle.yds_energy.specs.RoundingLaws.{TooSlowIsExact}
 use Rattle.yds_energy.proofs.PlanParts.{scale_times}
 use Rattle.yds_laws.proofs.Curve.{curve, IsSlowFirst, curve_slow}

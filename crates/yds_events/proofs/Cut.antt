@@ -1,10 +1,5 @@
 -- How sorted keys cut time: a time more behind others, and the places of the keys' times.
-use Rattle.std.proofs.Common.{◌≡◌, ℕ, ◌+◌, ◌-◌, ◌<◌, ◌≤◌, List, [], ◌∷◌, ◌++◌, length, get_or, set, map, take, ◌∙◌, refl, sym, ap, inl, inr, arith}
-use Rattle.std.specs.Prelude.{◌==◌, Bool, true, false, cond}
-use Rattle.std.specs.List.{All, dedup, dedup_from}
-use Rattle.std.proofs.lemmas.Bool.{cases_Bool, cases_eq, and_parts, lt-ltb, ltb-true, eqb-true}
-use Rattle.std.proofs.lemmas.List.{get_or_append_left, get_or_default, get_or_push, get_or-set_same, get_or-set_other, length_push, map_more}
-use Rattle.yds_model.proofs.Lists.{place_cases}
+use Rattle.yds_model.proofs.Common.{◌≡◌, ℕ, ◌+◌, ◌-◌, ◌<◌, ◌≤◌, List, [], ◌∷◌, ◌++◌, length, get_or, set, map, take, ◌∙◌, refl, sym, ap, inl, inr, arith, ◌==◌, Bool, true, false, cond, All, dedup, dedup_from, cases_Bool, cases_eq, and_parts, lt-ltb, ltb-true, eqb-true, get_or_append_left, get_or_default, get_or_push, get_or-set_same, get_or-set_other, length_push, map_more, place_cases}
 use Rattle.yds_events.specs.Keys.{key_of, time_of_key, number_of_key, AreKeys, IsAt, ArePlaces, ends_with, with_end}
 use Rattle.yds_events.proofs.Keys.{IsKey, key_is, as_many, key_at}
 

@@ -1,16 +1,5 @@
 -- Slots of which each follows those before it: they run one at a time, and by the earliest deadline.
-use Rattle.std.proofs.Common.{◌≡◌, ℕ, zero, suc, ◌*◌, ◌<◌, ◌≤◌, ◌==◌, List, [], ◌∷◌, ◌++◌, ◌∙◌, length, sym, refl, ap, arith, inl, inr}
-use Rattle.std.specs.Prelude.{cond}
-use Rattle.std.specs.List.{All, AllPairs}
-use Rattle.std.proofs.lemmas.Bool.{cases_eq, eq-eqb, ne_eqb}
-use Rattle.std.proofs.lemmas.List.{append_assoc}
-use Rattle.std.proofs.lemmas.List.Sums.{sum_by-cons, sum_by-append}
-use Rattle.std.proofs.lemmas.List.Elements.{All-head, All-tail}
-use Rattle.yds_model.specs.Job.{Job, job_at}
-use Rattle.yds_model.specs.Slot.{WholeSlot, slot_at, work_given}
-use Rattle.yds_model.specs.Feasible.{RunFrom}
-use Rattle.yds_model.specs.Event.{LiesIn, stretches}
-use Rattle.yds_model.specs.EarliestFirst.{ComesFirst, EarliestAfter}
+use Rattle.yds_model.proofs.Common.{◌≡◌, ℕ, zero, suc, ◌*◌, ◌<◌, ◌≤◌, ◌==◌, List, [], ◌∷◌, ◌++◌, ◌∙◌, length, sym, refl, ap, arith, inl, inr, cond, All, AllPairs, cases_eq, eq-eqb, ne_eqb, append_assoc, sum_by-cons, sum_by-append, All-head, All-tail, Job, job_at, WholeSlot, slot_at, work_given, RunFrom, LiesIn, stretches, ComesFirst, EarliestAfter}
 
 -- what a slot and a later one are to each other
 pub record Follows (jobs : List Job) (scale : ℕ) (one other : WholeSlot) : Type 0 where

@@ -1,7 +1,5 @@
 -- Stretches that lie one after another, by their places.
-use Rattle.std.proofs.Common.{ℕ, zero, suc, ◌<◌, ◌≤◌, List, [], ◌∷◌, length, inl, inr, arith}
-use Rattle.std.proofs.lemmas.Bool.{cases_eq}
-use Rattle.yds_model.specs.Piece.{Piece, PiecesFrom}
+use Rattle.yds_model.proofs.Common.{ℕ, zero, suc, ◌<◌, ◌≤◌, List, [], ◌∷◌, length, inl, inr, arith, cases_eq, Piece, PiecesFrom}
 use Rattle.yds_events.specs.Stretch.{nth_stretch}
 
 from_start : (start i : ℕ) (stretches : List Piece) → PiecesFrom start stretches → i < length stretches →

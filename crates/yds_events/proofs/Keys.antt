@@ -1,18 +1,5 @@
 -- Sorted keys of times: what their times are without repeats, and where each number's key stands.
-use Rattle.std.proofs.Common.{◌≡◌, ℕ, ◌+◌, ◌*◌, ◌<◌, ◌≤◌, ◌==◌, List, length, get_or, map, ◌∙◌, false, sym, ap, subst, arith}
-use Rattle.std.specs.List.{All, Contains, dedup, range_with_len}
-use Rattle.std.specs.List.Sorted.{IsPermutation, IsStrictlyIncreasing}
-use Rattle.std.specs.Ordering.{nat_cmp, is_lt}
-use Rattle.std.proofs.lemmas.Bool.{ne_eqb}
-use Rattle.std.proofs.lemmas.Bool.Decides.{nat_tests}
-use Rattle.std.proofs.lemmas.Cmp.{nat_eq_equiv}
-use Rattle.std.proofs.lemmas.List.{get_or-map, length-map}
-use Rattle.std.proofs.lemmas.List.Elements.{All-map}
-use Rattle.std.proofs.lemmas.List.FromFn.{length-range_with_len, get_or-range_with_len, length-map-range_with_len, get_or-map-range_with_len, fill_by_all}
-use Rattle.std.proofs.lemmas.List.Sorted.{IsPermutation-map, All-permutation, Contains-permutation, length_permutation}
-use Rattle.std.proofs.lemmas.Map.Keys.{IsDistinct-from_apart, IsDistinct-IsPermutation, IsStrictlyIncreasing-from_distinct}
-use Rattle.std.proofs.lemmas.Simd.{map-map}
-use Rattle.yds_model.specs.Event.{rising_times}
+use Rattle.yds_model.proofs.Common.{◌≡◌, ℕ, ◌+◌, ◌*◌, ◌<◌, ◌≤◌, ◌==◌, List, length, get_or, map, ◌∙◌, false, sym, ap, subst, arith, All, Contains, dedup, range_with_len, IsPermutation, IsStrictlyIncreasing, nat_cmp, is_lt, ne_eqb, nat_tests, nat_eq_equiv, get_or-map, length-map, All-map, length-range_with_len, get_or-range_with_len, length-map-range_with_len, get_or-map-range_with_len, fill_by_all, IsPermutation-map, All-permutation, Contains-permutation, length_permutation, IsDistinct-from_apart, IsDistinct-IsPermutation, IsStrictlyIncreasing-from_distinct, map-map, rising_times}
 use Rattle.yds_events.specs.Keys.{key_of, time_of_key, number_of_key, AreKeys}
 use Rattle.yds_events.proofs.Rising.{sorted_times}
 

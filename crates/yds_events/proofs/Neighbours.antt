@@ -1,15 +1,8 @@
 -- The stretches of jobs: each is from an event point to the next, so they follow one another and no release or deadline lies
 -- inside one.
-use Rattle.std.proofs.Common.{◌≡◌, ℕ, zero, suc, ◌+◌, ◌*◌, ◌<◌, ◌≤◌, List, [], ◌∷◌, length, get_or, refl, ap, inl, inr, arith, add-one}
-use Rattle.std.specs.List.{All, flat_map}
-use Rattle.std.proofs.lemmas.List.{get_or_read}
-use Rattle.std.proofs.lemmas.Bool.{cases_lt}
+use Rattle.yds_model.proofs.Common.{◌≡◌, ℕ, zero, suc, ◌+◌, ◌*◌, ◌<◌, ◌≤◌, List, [], ◌∷◌, length, get_or, refl, ap, inl, inr, arith, add-one, All, flat_map, get_or_read, cases_lt, Job, IsJob, job_at, Piece, PiecesFrom, event_points, neighbours, stretches, stretch_at}
 use Rattle.yds_model.specs.declared.limits.TheConstants.{MAX_TIME}
-use Rattle.yds_model.specs.Job.{Job, IsJob, job_at}
-use Rattle.yds_model.specs.Piece.{Piece, PiecesFrom}
-use Rattle.yds_model.specs.Event.{event_points, neighbours, stretches}
 use Rattle.yds_events.specs.Stretch.{no_stretch, IsOutside}
-use Rattle.yds_model.specs.Comparison.{stretch_at}
 use Rattle.yds_events.specs.Window.{length_at}
 use Rattle.yds_events.proofs.InOrder.{has_length, later_start}
 use Rattle.yds_events.proofs.Rising.{Rises, rises_times}

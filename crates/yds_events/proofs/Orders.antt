@@ -1,12 +1,5 @@
 -- The jobs in order of deadline: those whose deadlines sorted keys have.
-use Rattle.std.proofs.Common.{◌≡◌, ℕ, ◌+◌, ◌*◌, ◌%◌, ◌<◌, ◌≤◌, ◌⊎◌, List, ◌∙◌, length, get_or, map, true, ap, arith}
-use Rattle.std.specs.List.{All, filter}
-use Rattle.std.proofs.lemmas.Bool.{cases_lt, eq-eqb, eqb-true}
-use Rattle.std.proofs.lemmas.List.{get_or-map, get_or_default, length-map}
-use Rattle.std.proofs.lemmas.List.Elements.{All-filter, filter_passes}
-use Rattle.std.proofs.lemmas.List.Kept.{AllPairs-from_increasing, IsStrictlyIncreasing-filter}
-use Rattle.yds_model.specs.Job.{Job, job_at}
-use Rattle.yds_model.proofs.Filters.{contains_filter}
+use Rattle.yds_model.proofs.Common.{◌≡◌, ℕ, ◌+◌, ◌*◌, ◌%◌, ◌<◌, ◌≤◌, ◌⊎◌, List, ◌∙◌, length, get_or, map, true, ap, arith, All, filter, cases_lt, eq-eqb, eqb-true, get_or-map, get_or_default, length-map, All-filter, filter_passes, AllPairs-from_increasing, IsStrictlyIncreasing-filter, Job, job_at, contains_filter}
 use Rattle.yds_events.specs.Keys.{ends_of, key_of, time_of_key, number_of_key, is_deadline, job_of_key, AreKeys}
 use Rattle.yds_events.specs.Order.{IsOrder}
 use Rattle.yds_events.proofs.Keys.{IsKey, all_keys, key_at, strictly}

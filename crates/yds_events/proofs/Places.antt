@@ -1,9 +1,5 @@
 -- Windows are found by the places of releases and deadlines among the event points.
-use Rattle.std.proofs.Common.{◌≡◌, ℕ, ◌+◌, ◌*◌, ◌/◌, ◌<◌, List, length, get_or, map, arith, ap}
-use Rattle.std.specs.List.{All, range_with_len}
-use Rattle.std.proofs.lemmas.List.FromFn.{length-map-range_with_len, get_or-map-range_with_len}
-use Rattle.yds_model.specs.Job.{Job, IsJob, job_at}
-use Rattle.yds_model.specs.Event.{event_points}
+use Rattle.yds_model.proofs.Common.{◌≡◌, ℕ, ◌+◌, ◌*◌, ◌/◌, ◌<◌, List, length, get_or, map, arith, ap, All, range_with_len, length-map-range_with_len, get_or-map-range_with_len, Job, IsJob, job_at, event_points}
 use Rattle.yds_events.specs.declared.window.Window.{Window}
 use Rattle.yds_events.specs.Keys.{ends_of, IsAt, ArePlaces, window_from}
 use Rattle.yds_events.specs.Window.{no_window, window_at, AreWindows}

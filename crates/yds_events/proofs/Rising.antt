@@ -1,15 +1,5 @@
 -- Times that rise, each later than the one before it: the event points do, and such a list is known by what stands in it.
-use Rattle.std.proofs.Common.{◌≡◌, ℕ, zero, suc, ◌+◌, ◌<◌, ◌≤◌, ◌⊎◌, List, [], ◌∷◌, length, get_or, refl, sym, ◌∙◌, inl, inr, arith}
-use Rattle.std.specs.Prelude.{◌==◌}
-use Rattle.std.specs.List.{All, Contains, dedup}
-use Rattle.std.specs.List.Sorted.{IsPermutation, IsSorted}
-use Rattle.std.specs.Ordering.{nat_cmp}
-use Rattle.std.proofs.lemmas.Bool.{cases_order, lt-ltb, le-ltb, eq-eqb, ne_eqb}
-use Rattle.std.proofs.lemmas.List.Elements.{All-cons, All-head, All-tail}
-use Rattle.std.proofs.lemmas.List.Kept.{Contains-dedup_nat, Contains-from_dedup, AllPairs-from_increasing}
-use Rattle.std.proofs.lemmas.List.Sorted.{Contains-permutation, IsPermutation-sym}
-use Rattle.std.proofs.lemmas.Map.Keys.{IsStrictlyIncreasing-dedup}
-use Rattle.yds_model.specs.Event.{with_time, rising_times}
+use Rattle.yds_model.proofs.Common.{◌≡◌, ℕ, zero, suc, ◌+◌, ◌<◌, ◌≤◌, ◌⊎◌, List, [], ◌∷◌, length, get_or, refl, sym, ◌∙◌, inl, inr, arith, ◌==◌, All, Contains, dedup, IsPermutation, IsSorted, nat_cmp, cases_order, lt-ltb, le-ltb, eq-eqb, ne_eqb, All-cons, All-head, All-tail, Contains-dedup_nat, Contains-from_dedup, AllPairs-from_increasing, Contains-permutation, IsPermutation-sym, IsStrictlyIncreasing-dedup, with_time, rising_times}
 
 -- the times rise, from this one on
 abbrev pub Rises : ℕ → List ℕ → Type 0

@@ -1,21 +1,7 @@
 -- The definitions of admission, tried on the worked rows of `admit`, on intervals that are and aren't the first to be overfull, and on
 -- answers that take or refuse the wrong job.
-use Rattle.std.proofs.Common.{◌≡◌, ℕ, ◌*◌, ◌-◌, List, [], ◌∷◌, map, refl, arith, inl, inr, codes, Contains}
-use Rattle.std.specs.Fmt.{digits}
-use Rattle.std.proofs.lemmas.List.Elements.{All-from_recursion}
+use Rattle.yds_model.proofs.Common.{◌≡◌, ℕ, ◌*◌, ◌-◌, List, [], ◌∷◌, map, refl, arith, inl, inr, codes, Contains, digits, All-from_recursion, Job, job_at, of_whole, WrittenSlot, WholeSlot, IsScale, slots_at, Piece, stretches, LiesWritten, HasSpeed, Document, no_document, IsTextOf, IsRunAt, HasRunDenominators, CanServe, jobs_with, IsOverfull, IsFirstOverfull, Refusal, IsRefusal, AdmitsAfter, IsAdmission, top_capacity, IsAdmittedRun, with_taken, Answers}
 use Rattle.yds_model.specs.declared.status.Status.TheVariants.{Done, Refused}
-use Rattle.yds_model.specs.Job.{Job, job_at}
-use Rattle.yds_model.specs.Scale.{of_whole}
-use Rattle.yds_model.specs.Slot.{WrittenSlot, WholeSlot, IsScale, slots_at}
-use Rattle.yds_model.specs.Piece.{Piece}
-use Rattle.yds_model.specs.Event.{stretches, LiesWritten}
-use Rattle.yds_model.specs.Audit.{HasSpeed}
-use Rattle.yds_model.specs.Document.{Document, no_document}
-use Rattle.yds_model.specs.Within.{IsTextOf}
-use Rattle.yds_model.specs.Policy.{IsRunAt, HasRunDenominators}
-use Rattle.yds_model.specs.Admission.{CanServe, jobs_with, IsOverfull, IsFirstOverfull, Refusal, IsRefusal, AdmitsAfter, IsAdmission, top_capacity, IsAdmittedRun}
-use Rattle.yds_model.specs.AdmitAnswer.{with_taken}
-use Rattle.yds_model.specs.Answer.{Answers}
 use Rattle.yds_examples.proofs.Tests.{proved, refuted, test_eq, test_any}
 use Rattle.yds_examples.proofs.TestedSchedules.{is_scale, run_at}
 use Rattle.yds_examples.proofs.TestedRounding.{can_serve, cant_serve, overfull, first_overfull}

@@ -1,20 +1,5 @@
 -- What the answer of `compare` is worth, tried on its worked row, and on a text that tells Average Rate less energy than the plan.
-use Rattle.std.proofs.Common.{◌≡◌, ◌≢◌, ℕ, zero, suc, ◌+◌, ◌*◌, ◌/◌, ◌%◌, ◌≤◌, ◌==◌, Bool, true, false, List, [], ◌∷◌, ◌++◌, length, get_or, drop, decimal, refl, sym, ap, subst, ◌∙◌, arith, append_assoc, inl, inr, Ok, eqb-true}
-use Rattle.std.specs.Prelude.{codes, if◌then◌else◌}
-use Rattle.std.specs.Fmt.{digits, digits_onto, digit_glyph}
-use Rattle.std.specs.List.{All, zip, flat_map}
-use Rattle.std.proofs.lemmas.Bool.{cases_lt, ne_eqb}
-use Rattle.std.proofs.lemmas.Fmt.{decimal_digit}
-use Rattle.std.proofs.lemmas.List.{get_or_append_left}
-use Rattle.std.proofs.lemmas.List.Elements.{All-nil, All-cons}
-use Rattle.std.proofs.Math.Nat.{mul-pos}
-use Rattle.yds_model.specs.Scale.{Fraction, numerator}
-use Rattle.yds_model.specs.Table.{Point}
-use Rattle.yds_model.specs.CompareAnswer.{spent_lines, side_lines, rounded_line}
-use Rattle.yds_model.specs.Text.{line, fraction_text}
-use Rattle.yds_model.specs.Document.{Document, no_document}
-use Rattle.yds_model.specs.Reading.{reading}
-use Rattle.yds_model.specs.Comparison.{Spent, Side, Spends, TooSlowFor}
+use Rattle.yds_model.proofs.Common.{◌≡◌, ◌≢◌, ℕ, zero, suc, ◌+◌, ◌*◌, ◌/◌, ◌%◌, ◌≤◌, ◌==◌, Bool, true, false, List, [], ◌∷◌, ◌++◌, length, get_or, drop, decimal, refl, sym, ap, subst, ◌∙◌, arith, append_assoc, inl, inr, Ok, eqb-true, codes, if◌then◌else◌, digits, digits_onto, digit_glyph, All, zip, flat_map, cases_lt, ne_eqb, decimal_digit, get_or_append_left, All-nil, All-cons, mul-pos, Fraction, numerator, Point, spent_lines, side_lines, rounded_line, line, fraction_text, Document, no_document, reading, Spent, Side, Spends, TooSlowFor}
 use Rattle.yds_texts.specs.CompareText.{CostsNoLess, IsToldSide, HoldsComparison}
 use Rattle.yds_texts.proofs.CompareText.{comparison_holds}
 use Rattle.yds_examples.proofs.ComparisonExamples.{answer}

@@ -1,9 +1,5 @@
 -- Earliest deadline first, tried where a schedule that is feasible isn't so.
-use Rattle.std.proofs.Common.{ℕ, List, [], ◌∷◌, refl}
-use Rattle.yds_model.specs.Job.{Job}
-use Rattle.yds_model.specs.Slot.{WholeSlot}
-use Rattle.yds_model.specs.Feasible.{IsFeasibleAt}
-use Rattle.yds_model.specs.EarliestFirst.{IsEarliestFirst}
+use Rattle.yds_model.proofs.Common.{ℕ, List, [], ◌∷◌, refl, Job, WholeSlot, IsFeasibleAt, IsEarliestFirst}
 use Rattle.yds_examples.proofs.Tests.{proved, refuted}
 use Rattle.yds_examples.proofs.TestedSchedules.{feasible_at, earliest_first}
 

@@ -1,9 +1,5 @@
 -- The definitions of energy, tried on schedules whose energy is known by hand.
-use Rattle.std.proofs.Common.{◌≡◌, ◌+◌, ◌*◌, List, [], ◌∷◌, refl, pos, negsuc}
-use Rattle.yds_model.specs.Job.{Job}
-use Rattle.yds_model.specs.Slot.{WholeSlot}
-use Rattle.yds_model.specs.Table.{Point}
-use Rattle.yds_model.specs.Energy.{idle, interpolated_power, interpolated_energy}
+use Rattle.yds_model.proofs.Common.{◌≡◌, ◌+◌, ◌*◌, List, [], ◌∷◌, refl, pos, negsuc, Job, WholeSlot, Point, idle, interpolated_power, interpolated_energy}
 
 -- the first job from 0 to 10 with work 10, the second from 4 to 6 with work 6
 abbrev jobs : List Job

@@ -1,12 +1,5 @@
 -- The one form of a plan where two jobs have the same speed: x from 0 to 2 and y from 2 to 4, each with work 2.
-use Rattle.std.proofs.Common.{List, [], ◌∷◌, refl, arith}
-use Rattle.yds_model.specs.Job.{Job}
-use Rattle.yds_model.specs.Scale.{of_whole}
-use Rattle.yds_model.specs.Slot.{WrittenSlot}
-use Rattle.yds_model.specs.Feasible.{IsFeasible}
-use Rattle.yds_model.specs.Level.{Level, no_level}
-use Rattle.yds_model.specs.Proper.{IsProper}
-use Rattle.yds_model.specs.Plan.{IsPlan}
+use Rattle.yds_model.proofs.Common.{List, [], ◌∷◌, refl, arith, Job, of_whole, WrittenSlot, IsFeasible, Level, no_level, IsProper, IsPlan}
 use Rattle.yds_examples.proofs.Tests.{refuted}
 use Rattle.yds_examples.proofs.TestedSchedules.{feasible_by_test}
 use Rattle.yds_examples.proofs.TestedPlans.{slower, proper_by_test, served_by_test, plan_by_test}

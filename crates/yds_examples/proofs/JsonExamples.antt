@@ -1,9 +1,6 @@
 -- The report as JSON, tried on the plan of three nested jobs.
-use Rattle.std.proofs.Common.{◌≡◌, [], ◌∷◌, refl, ap, arith, codes, slice_index_or}
-use Rattle.std.specs.Fmt.{digits}
+use Rattle.yds_model.proofs.Common.{◌≡◌, [], ◌∷◌, refl, ap, arith, codes, slice_index_or, digits, level_json, report_json, Answers}
 use Rattle.yds_model.specs.declared.status.Status.TheVariants.{Done}
-use Rattle.yds_model.specs.JsonAnswer.{level_json, report_json}
-use Rattle.yds_model.specs.Answer.{Answers}
 use Rattle.yds_examples.proofs.PlanRowExamples.{possible}
 use Rattle.yds_examples.proofs.ThreeJobs.{jobs, slots, levels, level_b, plan}
 

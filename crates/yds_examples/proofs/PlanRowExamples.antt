@@ -1,17 +1,7 @@
 -- The answer of `plan` to the document of three nested jobs, as a fact of the one relation; what follows of it; and a text that is none.
-use Rattle.std.proofs.Common.{◌≡◌, ℕ, List, [], ◌∷◌, length, Ok, refl, sym, ap, subst, arith, inl, codes}
-use Rattle.std.specs.Fmt.{digits}
+use Rattle.yds_model.proofs.Common.{◌≡◌, ℕ, List, [], ◌∷◌, length, Ok, refl, sym, ap, subst, arith, inl, codes, digits, Document, no_document, Job, IsProper, IsPlan, canonical_text, reading, IsDocument, with_plan, Answers}
 use Rattle.yds_model.specs.declared.status.Status.{Status}
 use Rattle.yds_model.specs.declared.status.Status.TheVariants.{Done, No}
-use Rattle.yds_model.specs.Document.{Document, no_document}
-use Rattle.yds_model.specs.Job.{Job}
-use Rattle.yds_model.specs.Proper.{IsProper}
-use Rattle.yds_model.specs.Plan.{IsPlan}
-use Rattle.yds_model.specs.Text.{canonical_text}
-use Rattle.yds_model.specs.Reading.{reading}
-use Rattle.yds_model.specs.Within.{IsDocument}
-use Rattle.yds_model.specs.PlanAnswer.{with_plan}
-use Rattle.yds_model.specs.Answer.{Answers}
 use Rattle.yds_texts.specs.PlanText.{HoldsHeadline}
 use Rattle.yds_texts.specs.JudgedText.{IsCertified, HoldsJudgement}
 use Rattle.yds_texts.proofs.Within.{read_is_within_limits}

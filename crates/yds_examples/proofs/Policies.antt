@@ -1,15 +1,5 @@
 -- The two policies, tried on small runs of each, on the grids 1 and 6: at a scale of their slots, and at each.
-use Rattle.std.proofs.Common.{◌≡◌, ℕ, zero, suc, ◌-◌, ◌*◌, ◌≤◌, List, [], ◌∷◌, map, refl, ap, arith, inl, inr, count_by, All, Contains}
-use Rattle.yds_model.specs.Job.{Job}
-use Rattle.yds_model.specs.Scale.{Fraction, of_whole, of_parts}
-use Rattle.yds_model.specs.Slot.{WrittenSlot, AtEachScale, IsScale, slots_at, written_slot_at}
-use Rattle.yds_model.specs.Feasible.{IsFeasible}
-use Rattle.yds_model.specs.Piece.{Piece}
-use Rattle.yds_model.specs.Event.{stretches}
-use Rattle.yds_model.specs.Policy.{IsRunAt, HasRunDenominators}
-use Rattle.yds_model.specs.AverageRate.{average_rate, average_rate_rounds, IsAverageRateRun}
-use Rattle.yds_model.specs.OptimalAvailable.{optimal_available, optimal_available_rounds, IsOptimalAvailableRun}
-use Rattle.yds_model.specs.Comparison.{work_in}
+use Rattle.yds_model.proofs.Common.{◌≡◌, ℕ, zero, suc, ◌-◌, ◌*◌, ◌≤◌, List, [], ◌∷◌, map, refl, ap, arith, inl, inr, count_by, All, Contains, Job, Fraction, of_whole, of_parts, WrittenSlot, AtEachScale, IsScale, slots_at, written_slot_at, IsFeasible, Piece, stretches, IsRunAt, HasRunDenominators, average_rate, average_rate_rounds, IsAverageRateRun, optimal_available, optimal_available_rounds, IsOptimalAvailableRun, work_in}
 use Rattle.yds_events.specs.Stretch.{no_stretch}
 use Rattle.yds_laws.specs.RunLaws.{DoesItsTerms}
 use Rattle.yds_laws.proofs.ExactRates.{average_rate_is_exact}

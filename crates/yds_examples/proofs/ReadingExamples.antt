@@ -1,10 +1,6 @@
 -- The definitions of reading and printing, tried on documents whose answer is known.
-use Rattle.std.proofs.Common.{◌≡◌, [], ◌∷◌, refl, codes, Ok, Err}
+use Rattle.yds_model.proofs.Common.{◌≡◌, [], ◌∷◌, refl, codes, Ok, Err, reading, canonical_text, digits, no_document}
 use Rattle.yds_model.specs.declared.reason.Reason.TheVariants.{FieldCount, BadNumber, MixedEnds, DuplicateName, MixedGrain, GapsTooFine, OutOfRange}
-use Rattle.yds_model.specs.Reading.{reading}
-use Rattle.yds_model.specs.Text.{canonical_text}
-use Rattle.std.specs.Fmt.{digits}
-use Rattle.yds_model.specs.Document.{no_document}
 
 -- a field is missing: the fault stands one past the last byte of the last field
 field_missing : reading (codes "job a 0 4") ≡ Err (record { line = 1; column = 10; reason = FieldCount })

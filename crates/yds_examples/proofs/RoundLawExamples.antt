@@ -1,19 +1,6 @@
 -- The laws of rounding at the two nested jobs: what they say of the rounded plan and of the answer of `round`, and what they rule out.
-use Rattle.std.proofs.Common.{◌≡◌, ℕ, List, [], ◌∷◌, Ok, refl, ap, subst, ◌∙◌, arith, inl, inr, codes, MatchOption}
-use Rattle.std.specs.Fmt.{digits}
+use Rattle.yds_model.proofs.Common.{◌≡◌, ℕ, List, [], ◌∷◌, Ok, refl, ap, subst, ◌∙◌, arith, inl, inr, codes, MatchOption, digits, Job, of_whole, WholeSlot, IsPlan, Point, IsTable, hull_of, top_of, IsEnergyOf, CanServe, Document, no_document, canonical_text, reading, IsDocument, Answers}
 use Rattle.yds_model.specs.declared.status.Status.TheVariants.{Done, No}
-use Rattle.yds_model.specs.Job.{Job}
-use Rattle.yds_model.specs.Scale.{of_whole}
-use Rattle.yds_model.specs.Slot.{WholeSlot}
-use Rattle.yds_model.specs.Plan.{IsPlan}
-use Rattle.yds_model.specs.Table.{Point, IsTable, hull_of}
-use Rattle.yds_model.specs.Rounding.{top_of, IsEnergyOf}
-use Rattle.yds_model.specs.Admission.{CanServe}
-use Rattle.yds_model.specs.Document.{Document, no_document}
-use Rattle.yds_model.specs.Text.{canonical_text}
-use Rattle.yds_model.specs.Reading.{reading}
-use Rattle.yds_model.specs.Within.{IsDocument}
-use Rattle.yds_model.specs.Answer.{Answers}
 use Rattle.yds_energy.specs.RoundingLaws.{IsFeasibleOnPoints, IsLevelCost, IsLeastEnergy}
 use Rattle.yds_texts.specs.RoundText.{with_energy, HoldsLeastEnergy, too_slow_line, HoldsTooSlow}
 use Rattle.yds_laws.proofs.Plans.{plans_have_the_same_levels}

@@ -1,16 +1,6 @@
 -- Rounding, tried on the plan of two nested jobs: a from 0 to 10 with work 10, b from 4 to 6 with work 6, on the points of the speeds
 -- 0, 1, 2 and 4, whose powers are 0, 1, 3 and 10. Each level's speed lies between two points, and all numbers are whole.
-use Rattle.std.proofs.Common.{◌≡◌, ℕ, ◌-◌, ◌*◌, List, [], ◌∷◌, refl, arith, Contains}
-use Rattle.std.proofs.lemmas.Bool.Decides.{nat_tests}
-use Rattle.yds_model.specs.Job.{Job}
-use Rattle.yds_model.specs.Scale.{Fraction, of_whole}
-use Rattle.yds_model.specs.Slot.{WrittenSlot}
-use Rattle.yds_model.specs.Feasible.{IsFeasible}
-use Rattle.yds_model.specs.Level.{Level}
-use Rattle.yds_model.specs.Proper.{IsProper}
-use Rattle.yds_model.specs.Table.{Point, AreRising, hull_of}
-use Rattle.yds_model.specs.Event.{stretches}
-use Rattle.yds_model.specs.Rounding.{SplitsStretch, RoundsStretches, IsEnergyOf, IsRounding}
+use Rattle.yds_model.proofs.Common.{◌≡◌, ℕ, ◌-◌, ◌*◌, List, [], ◌∷◌, refl, arith, Contains, nat_tests, Job, Fraction, of_whole, WrittenSlot, IsFeasible, Level, IsProper, Point, AreRising, hull_of, stretches, SplitsStretch, RoundsStretches, IsEnergyOf, IsRounding}
 use Rattle.yds_energy.proofs.OneEnergy.{energy_is_one}
 use Rattle.yds_examples.proofs.Tests.{proved, refuted, test_eq, test_any}
 use Rattle.yds_examples.proofs.TestedSchedules.{is_scale, feasible_by_test}

@@ -1,19 +1,6 @@
 -- Rounding, tried where the switch from one point to the other falls between two jobs: a with work 2 and b with work 5, both from 0
 -- to 3, on the points of the speeds 0, 2 and 4, whose powers are 0, 1 and 3. And changes of it that are refused.
-use Rattle.std.proofs.Common.{◌≡◌, ◌==◌, ℕ, zero, suc, ◌+◌, ◌-◌, ◌*◌, ◌<◌, List, [], ◌∷◌, ◌++◌, map, refl, sym, ap, subst, ◌∙◌, arith, inl, inr, append_assoc, true, cond, Any, append-nil}
-use Rattle.yds_model.specs.Numbers.{AreDifferent}
-use Rattle.std.proofs.lemmas.Bool.Decides.{nat_tests}
-use Rattle.yds_model.specs.Job.{Job}
-use Rattle.yds_model.specs.Scale.{Fraction, of_whole}
-use Rattle.yds_model.specs.Slot.{WrittenSlot, IsScale, slot_at_scale, slots_at}
-use Rattle.yds_model.specs.Feasible.{IsFeasible}
-use Rattle.yds_model.specs.Piece.{Piece}
-use Rattle.yds_model.specs.Level.{Level}
-use Rattle.yds_model.specs.Proper.{IsProper}
-use Rattle.yds_model.specs.Table.{Point, point_at, hull_of}
-use Rattle.yds_model.specs.Event.{stretches}
-use Rattle.yds_model.specs.Rounding.{HasPointSpeed, AreNeighbours, RunsAtPoint, HasSplitDenominators, IsSplitAt, SplitsStretch, RoundsStretches, IsEnergyOf, IsRounding}
-use Rattle.yds_model.proofs.Lists.{count-cons}
+use Rattle.yds_model.proofs.Common.{◌≡◌, ◌==◌, ℕ, zero, suc, ◌+◌, ◌-◌, ◌*◌, ◌<◌, List, [], ◌∷◌, ◌++◌, map, refl, sym, ap, subst, ◌∙◌, arith, inl, inr, append_assoc, true, cond, Any, append-nil, AreDifferent, nat_tests, Job, Fraction, of_whole, WrittenSlot, IsScale, slot_at_scale, slots_at, IsFeasible, Piece, Level, IsProper, Point, point_at, hull_of, stretches, HasPointSpeed, AreNeighbours, RunsAtPoint, HasSplitDenominators, IsSplitAt, SplitsStretch, RoundsStretches, IsEnergyOf, IsRounding, count-cons}
 use Rattle.yds_examples.proofs.Tests.{proved, refuted, test_eq, test_any}
 use Rattle.yds_examples.proofs.TestedSchedules.{is_scale, feasible_by_test}
 use Rattle.yds_examples.proofs.TestedPlans.{proper_by_test}

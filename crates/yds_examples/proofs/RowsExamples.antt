@@ -1,16 +1,7 @@
 -- Whole answers by the one relation of words, input, text and status: the worked rows of `audit` and `check`, and refusals.
-use Rattle.std.proofs.Common.{◌≡◌, ℕ, List, [], ◌∷◌, None, true, refl, codes}
-use Rattle.std.specs.Fmt.{digits}
+use Rattle.yds_model.proofs.Common.{◌≡◌, ℕ, List, [], ◌∷◌, None, true, refl, codes, digits, of_whole, line, Document, Verdict, Feasible, Backward, Overlap, Early, Late, WrongWork, IsVerdict, Judgement, Accepted, Slots, Pieces, Members, Sums, Order, Window, Speed, IsJudgement, verdict_words, verdict_status, AuditAnswer, judgement_words, judgement_status, CheckAnswer, usage_line, Answers}
 use Rattle.yds_model.specs.declared.status.Status.{Status}
 use Rattle.yds_model.specs.declared.status.Status.TheVariants as statuses
-use Rattle.yds_model.specs.Scale.{of_whole}
-use Rattle.yds_model.specs.Text.{line}
-use Rattle.yds_model.specs.Document.{Document}
-use Rattle.yds_model.specs.Audit.{Verdict, Feasible, Backward, Overlap, Early, Late, WrongWork, IsVerdict}
-use Rattle.yds_model.specs.Judgement.{Judgement, Accepted, Slots, Pieces, Members, Sums, Order, Window, Speed, IsJudgement}
-use Rattle.yds_model.specs.AuditAnswer.{verdict_words, verdict_status, AuditAnswer, judgement_words, judgement_status, CheckAnswer}
-use Rattle.yds_model.specs.Request.{usage_line}
-use Rattle.yds_model.specs.Answer.{Answers}
 use Rattle.yds_laws.proofs.AnsweredOnce.{audit_and_check_answer_once}
 use Rattle.yds_examples.proofs.Tests.{Test, tests, proved, refuted, test_numbers}
 use Rattle.yds_examples.proofs.TestedPlans.{is_verdict, is_judgement}

@@ -1,16 +1,6 @@
 -- What the texts of `avr` and `oa` are worth, tried on runs that never round, and on one that does and says that it doesn't.
-use Rattle.std.proofs.Common.{◌≡◌, ℕ, zero, suc, ◌-◌, ◌*◌, ◌≤◌, List, [], ◌∷◌, length, Ok, refl, sym, subst, arith, inl, inr, codes, MatchOption, Any}
-use Rattle.std.specs.Fmt.{digits}
+use Rattle.yds_model.proofs.Common.{◌≡◌, ℕ, zero, suc, ◌-◌, ◌*◌, ◌≤◌, List, [], ◌∷◌, length, Ok, refl, sym, subst, arith, inl, inr, codes, MatchOption, Any, digits, Job, WrittenSlot, slots_at, IsFeasible, canonical_text, Piece, Document, no_document, reading, IsAverageRateRun, due_units, IsOptimalAvailableRun}
 use Rattle.yds_model.specs.declared.limits.TheConstants.{MAX_INPUT}
-use Rattle.yds_model.specs.Job.{Job}
-use Rattle.yds_model.specs.Slot.{WrittenSlot, slots_at}
-use Rattle.yds_model.specs.Feasible.{IsFeasible}
-use Rattle.yds_model.specs.Text.{canonical_text}
-use Rattle.yds_model.specs.Piece.{Piece}
-use Rattle.yds_model.specs.Document.{Document, no_document}
-use Rattle.yds_model.specs.Reading.{reading}
-use Rattle.yds_model.specs.AverageRate.{IsAverageRateRun}
-use Rattle.yds_model.specs.OptimalAvailable.{due_units, IsOptimalAvailableRun}
 use Rattle.yds_laws.specs.RunLaws.{IsExactAverageRate, IsExactOptimalAvailable}
 use Rattle.yds_laws.proofs.ExactRuns.{optimal_available_is_exact}
 use Rattle.yds_texts.specs.RunText.{with_run, ReadRun, HoldsAverageRate, HoldsOptimalAvailable}

@@ -1,14 +1,9 @@
 -- The definitions of periodic tasks, tried on the worked rows of `expand` and on lines that are refused.
-use Rattle.std.proofs.Common.{◌≡◌, ℕ, ◌++◌, List, [], ◌∷◌, refl, codes, replicate, Option, Result, Ok, Err, Some, None}
-use Rattle.std.specs.Fmt.{digits}
+use Rattle.yds_model.proofs.Common.{◌≡◌, ℕ, ◌++◌, List, [], ◌∷◌, refl, codes, replicate, Option, Result, Ok, Err, Some, None, digits, Fault, TaskSet, Task, count_of_jobs, task_reading, expansion_text, Answers}
 use Rattle.yds_model.specs.declared.task_reason.TaskReason.{TaskReason}
 use Rattle.yds_model.specs.declared.task_reason.TaskReason.TheVariants.{UnknownKind, Misplaced, FieldCount, BadName, DuplicateName, BadNumber, OutOfRange, TooManyJobs}
-use Rattle.yds_model.specs.Fields.{Fault}
-use Rattle.yds_model.specs.Tasks.{TaskSet, Task, count_of_jobs, one_level}
-use Rattle.yds_model.specs.TaskReading.{task_reading}
-use Rattle.yds_model.specs.ExpandAnswer.{expansion_text}
+use Rattle.yds_model.specs.Tasks.{one_level}
 use Rattle.yds_model.specs.declared.status.Status.TheVariants.{Done, Refused}
-use Rattle.yds_model.specs.Answer.{Answers}
 
 abbrev task : List ℕ → ℕ → ℕ → ℕ → ℕ → Task
 task name offset period deadline work = record { name = name; offset = offset; period = period; deadline = deadline; work = work }

@@ -1,21 +1,10 @@
 -- Tests of what is said of levels: the conditions of a proper certificate, verdicts and judgements, and the conditions of a plan.
-use Rattle.std.proofs.Common.{◌≡◌, ℕ, ◌+◌, ◌*◌, ◌<◌, ◌≤◌, List, [], ◌∷◌, length, take, true, zero, suc, Option, Some, None, Bool, false, refl, subst, arith, All, Contains, ◌≢◌, Decides}
-use Rattle.yds_model.specs.Numbers.{Each}
-use Rattle.yds_model.specs.Job.{Job, job_at}
-use Rattle.yds_model.specs.Slot.{WrittenSlot, IsScale, slots_at, written_slot_at}
-use Rattle.yds_model.specs.Piece.{Piece, AreApart, PiecesFrom, IsConfined}
-use Rattle.yds_model.specs.Level.{Level, level_at, all_members, all_pieces}
-use Rattle.yds_model.specs.Proper.{PiecesStand, StandsOnce, SumsAgree, IsNotFaster, IsWindowCovered, AreLevels, IsProper}
-use Rattle.yds_model.specs.Plan.{IsServedInStretches, IsPlan, IsSlower, DontTouch, Rise, HasLevelDenominators}
-use Rattle.yds_model.specs.Judgement.{HasWrittenSpeed, Judgement, Accepted, Slots, Pieces, Members, Sums, Order, Window, Speed, IsJudgement}
+use Rattle.yds_model.proofs.Common.{◌≡◌, ℕ, ◌+◌, ◌*◌, ◌<◌, ◌≤◌, List, [], ◌∷◌, length, take, true, zero, suc, Option, Some, None, Bool, false, refl, subst, arith, All, Contains, ◌≢◌, Decides, Each, Job, job_at, WrittenSlot, IsScale, slots_at, written_slot_at, Piece, AreApart, PiecesFrom, IsConfined, Level, level_at, all_members, all_pieces, PiecesStand, StandsOnce, SumsAgree, IsNotFaster, IsWindowCovered, AreLevels, IsProper, IsServedInStretches, IsPlan, IsSlower, DontTouch, Rise, HasLevelDenominators, HasWrittenSpeed, Judgement, Accepted, Slots, Pieces, Members, Sums, Order, Window, Speed, IsJudgement, IsLess, Point, Verdict, Feasible, Backward, Overlap, Early, Late, OffPoint, WrongWork, RunsAt, IsOnTable, IsAfterOthers, Stands, ComesTo, AllStand, IsVerdict}
 use Rattle.yds_energy.proofs.Finer.{each_scale_of}
 use Rattle.yds_energy.proofs.RunScale.{served_free}
 use Rattle.yds_laws.proofs.Judgements.{judgement_is_exact}
 use Rattle.yds_examples.proofs.Tests.{Test, tests, proved, test_le, test_each, test_before, test_between, test_grid, test_implied, test_contains, test_both, test_all, test_any, test_like, test_never}
 use Rattle.yds_examples.proofs.TestedSchedules.{is_scale, are_slots, served_in_stretches}
-use Rattle.yds_model.specs.Scale.{IsLess}
-use Rattle.yds_model.specs.Table.{Point}
-use Rattle.yds_model.specs.Audit.{Verdict, Feasible, Backward, Overlap, Early, Late, OffPoint, WrongWork, RunsAt, IsOnTable, IsAfterOthers, Stands, ComesTo, AllStand, IsVerdict}
 
 -- # The conditions of a proper certificate
 

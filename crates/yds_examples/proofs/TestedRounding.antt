@@ -1,20 +1,5 @@
 -- Tests of rounding and admission: energy on points, the parts of a split, which jobs can be served, and which interval is the first to be overfull.
-use Rattle.std.proofs.Common.{◌≡◌, ℕ, zero, suc, ◌+◌, ◌-◌, ◌*◌, ◌<◌, ◌≤◌, ◌⊎◌, List, [], ◌∷◌, ◌++◌, length, map, Bool, true, false, ◌&&◌, ◌==◌, nat_lt, refl, arith, inl, inr, eqb-true}
-use Rattle.std.specs.List.{All, Contains}
-use Rattle.std.proofs.lemmas.Bool.{cases_lt, and_parts, ltb-true}
-use Rattle.std.proofs.lemmas.List.Elements.{All-contains, Contains-get_or}
-use Rattle.yds_model.specs.Numbers.{count, AreDifferent}
-use Rattle.yds_model.specs.Job.{Job, job_at, work_of}
-use Rattle.yds_model.specs.Scale.{Fraction, numerator}
-use Rattle.yds_model.specs.Slot.{WrittenSlot, WholeSlot, slots_at, work_given}
-use Rattle.yds_model.specs.Piece.{Piece}
-use Rattle.yds_model.specs.Level.{Level}
-use Rattle.yds_model.specs.Table.{Point, no_point, point_at}
-use Rattle.yds_model.specs.Energy.{idle, SpendsAtPoints}
-use Rattle.yds_model.specs.Event.{LiesWritten}
-use Rattle.yds_model.specs.Rounding.{top_of, IsTooFast, jobs_in_turn, RunsAtPoint, RunsOn, HasSplitDenominators, AreNeighbours, SplitsStretch, RoundsStretches, IsEnergyOf}
-use Rattle.yds_model.specs.Admission.{IsWithinTop, CanServe, IsOverfull, IsFirstOverfull}
-use Rattle.yds_model.proofs.Lists.{counted_contains}
+use Rattle.yds_model.proofs.Common.{◌≡◌, ℕ, zero, suc, ◌+◌, ◌-◌, ◌*◌, ◌<◌, ◌≤◌, ◌⊎◌, List, [], ◌∷◌, ◌++◌, length, map, Bool, true, false, ◌&&◌, ◌==◌, nat_lt, refl, arith, inl, inr, eqb-true, All, Contains, cases_lt, and_parts, ltb-true, All-contains, Contains-get_or, count, AreDifferent, Job, job_at, work_of, Fraction, numerator, WrittenSlot, WholeSlot, slots_at, work_given, Piece, Level, Point, no_point, point_at, idle, SpendsAtPoints, LiesWritten, top_of, IsTooFast, jobs_in_turn, RunsAtPoint, RunsOn, HasSplitDenominators, AreNeighbours, SplitsStretch, RoundsStretches, IsEnergyOf, IsWithinTop, CanServe, IsOverfull, IsFirstOverfull, counted_contains}
 use Rattle.yds_laws.proofs.Bound.{served_at_speed}
 use Rattle.yds_energy.proofs.RoundingScale.{one_scale_decides_energy, one_scale_decides_split}
 use Rattle.yds_examples.proofs.Tests.{Test, tests, proved, test_never, test_le, test_like, test_both, test_implied, test_all}

@@ -1,16 +1,5 @@
 -- Tests of what is said of schedules: scales, feasible, earliest deadline first, served in stretches, the run of a policy.
-use Rattle.std.proofs.Common.{◌≡◌, ℕ, zero, suc, ◌-◌, ◌*◌, List, [], ◌∷◌, ◌++◌, true, false, All}
-use Rattle.yds_model.specs.Job.{Job, job_at}
-use Rattle.yds_model.specs.Slot.{WrittenSlot, WholeSlot, IsDivided, IsScale, IsSolid, slots_at, work_given, slot_at, written_slot_at}
-use Rattle.yds_model.specs.Scale.{AreAlike}
-use Rattle.yds_model.specs.Feasible.{RunFrom, IsInWindow, IsFeasibleAt, IsFeasible}
-use Rattle.yds_model.specs.Piece.{Piece}
-use Rattle.yds_model.specs.Event.{stretches, LiesIn, IsUncut}
-use Rattle.yds_model.specs.EarliestFirst.{ComesFirst, MayRun, IsFirstDue, EarliestAfter, IsEarliestFirst}
-use Rattle.yds_model.specs.Plan.{IsServedInStretches}
-use Rattle.yds_model.specs.Policy.{slots_in, FillsAtSpeed, ServesCapacity, IsRunAt}
-use Rattle.yds_model.specs.Audit.{AreSlots}
-use Rattle.yds_model.proofs.Scale.{one_scale_decides}
+use Rattle.yds_model.proofs.Common.{◌≡◌, ℕ, zero, suc, ◌-◌, ◌*◌, List, [], ◌∷◌, ◌++◌, true, false, All, Job, job_at, WrittenSlot, WholeSlot, IsDivided, IsScale, IsSolid, slots_at, work_given, slot_at, written_slot_at, AreAlike, RunFrom, IsInWindow, IsFeasibleAt, IsFeasible, Piece, stretches, LiesIn, IsUncut, ComesFirst, MayRun, IsFirstDue, EarliestAfter, IsEarliestFirst, IsServedInStretches, slots_in, FillsAtSpeed, ServesCapacity, IsRunAt, AreSlots, one_scale_decides}
 use Rattle.yds_examples.proofs.Tests.{Test, tests, proved, refuted, test_never, test_eq, test_implied, test_each, test_grid, test_ordered}
 
 -- # Written slots

@@ -1,16 +1,5 @@
 -- Tests: a truth value that decides a statement. `hlevel` puts the test of a record together from those of its fields.
-use Rattle.std.proofs.Common.{◌≡◌, ℕ, zero, suc, ◌+◌, ◌%◌, ◌<◌, ◌≤◌, ◌⊎◌, List, [], ◌∷◌, length, get_or, Bool, true, false, ◌&&◌, ◌||◌, ◌==◌, nat_le, refl, sym, subst, inl, inr, arith, eqb-true, eq-eqb, ap}
-use Rattle.std.specs.Prelude.{not}
-use Rattle.std.specs.Bool.{Decides}
-use Rattle.std.specs.Int.{◌∣◌}
-use Rattle.std.specs.List.{All, Any, Contains, list_all}
-use Rattle.std.specs.Str.{bytes_eq}
-use Rattle.std.proofs.lemmas.Slice.Eq.{bytes_eq-Decides}
-use Rattle.std.proofs.lemmas.Bool.{leb-true, le-leb, true≢false}
-use Rattle.std.proofs.lemmas.Bool.Decides.{not_from_Decides, Decides-like, Decides-and, Decides-or, Decides-by_and, Decides-below_and}
-use Rattle.std.proofs.lemmas.Nat.Gcd.{dvd_of_mod-eq-zero, mod-eq-zero_of_dvd}
-use Rattle.yds_model.specs.Numbers.{Each}
-use Rattle.yds_model.specs.Scale.{Fraction}
+use Rattle.yds_model.proofs.Common.{◌≡◌, ℕ, zero, suc, ◌+◌, ◌%◌, ◌<◌, ◌≤◌, ◌⊎◌, List, [], ◌∷◌, length, get_or, Bool, true, false, ◌&&◌, ◌||◌, ◌==◌, nat_le, refl, sym, subst, inl, inr, arith, eqb-true, eq-eqb, ap, not, Decides, ◌∣◌, All, Any, Contains, list_all, bytes_eq, bytes_eq-Decides, leb-true, le-leb, true≢false, not_from_Decides, Decides-like, Decides-and, Decides-or, Decides-by_and, Decides-below_and, dvd_of_mod-eq-zero, mod-eq-zero_of_dvd, Each, Fraction}
 
 -- a truth value that is true exactly where P holds
 pub record Test (P : Type 0) : Type 0 where

@@ -1,19 +1,6 @@
 -- The definitions of schedules, certificates and plans, tried on the plan of three nested jobs: a from 0 to 12 with work 4, b from 2
 -- to 10 with work 8, c from 4 to 6 with work 6. Its slots and levels meet them.
-use Rattle.std.proofs.Common.{◌≡◌, ℕ, List, [], ◌∷◌, refl, arith}
-use Rattle.yds_model.specs.Job.{Job}
-use Rattle.yds_model.specs.Scale.{Fraction, of_whole}
-use Rattle.yds_model.specs.Slot.{WrittenSlot, IsScale, slots_at, work_given}
-use Rattle.yds_model.specs.Feasible.{IsFeasibleAt, IsFeasible}
-use Rattle.yds_model.specs.EarliestFirst.{IsEarliestFirst}
-use Rattle.yds_model.specs.Excess.{excess, IsLeast}
-use Rattle.yds_model.specs.Piece.{Piece}
-use Rattle.yds_model.specs.Level.{Level, levels_above}
-use Rattle.yds_model.specs.Explains.{Forces, Explains}
-use Rattle.yds_model.specs.Proper.{IsProper}
-use Rattle.yds_model.specs.Plan.{IsPlan}
-use Rattle.yds_model.specs.Audit.{AreSlots, given_of}
-use Rattle.yds_model.specs.Judgement.{Accepted, IsJudgement}
+use Rattle.yds_model.proofs.Common.{◌≡◌, ℕ, List, [], ◌∷◌, refl, arith, Job, Fraction, of_whole, WrittenSlot, IsScale, slots_at, work_given, IsFeasibleAt, IsFeasible, IsEarliestFirst, excess, IsLeast, Piece, Level, levels_above, Forces, Explains, IsProper, IsPlan, AreSlots, given_of, Accepted, IsJudgement}
 use Rattle.yds_laws.proofs.Judgements.{judgement_is_exact}
 use Rattle.yds_laws.proofs.Plans.{plans_are_least}
 use Rattle.yds_energy.specs.EnergyLaws.{IsCheapest}

@@ -1,21 +1,6 @@
 -- Small changes of the plan of three jobs, each of which breaks one thing that is said of it.
-use Rattle.std.proofs.Common.{◌≡◌, ℕ, ◌*◌, List, [], ◌∷◌, ◌++◌, refl, arith, pos, ◌≤ℤ◌}
-use Rattle.std.proofs.lemmas.Int.{ints}
-use Rattle.std.proofs.Math.Nat.{eq-zero_of_zero-dvd}
-use Rattle.yds_model.specs.Job.{job_at}
-use Rattle.yds_model.specs.Scale.{of_whole}
-use Rattle.yds_model.specs.Slot.{WrittenSlot, IsScale, slots_at, no_written_slot}
-use Rattle.yds_model.specs.Feasible.{IsFeasible}
-use Rattle.yds_model.specs.Excess.{excess, IsLeast}
-use Rattle.yds_model.specs.Piece.{IsConfined}
-use Rattle.yds_model.specs.Level.{Level}
-use Rattle.yds_model.specs.Explains.{Forces, Explains}
-use Rattle.yds_model.specs.Proper.{IsNotFaster, IsProper}
-use Rattle.yds_model.specs.Plan.{IsPlan}
-use Rattle.yds_model.specs.Table.{Point, IsTable, IsConvex}
-use Rattle.yds_model.specs.Energy.{interpolated_energy}
+use Rattle.yds_model.proofs.Common.{◌≡◌, ℕ, ◌*◌, List, [], ◌∷◌, ◌++◌, refl, arith, pos, ◌≤ℤ◌, ints, eq-zero_of_zero-dvd, job_at, of_whole, WrittenSlot, IsScale, slots_at, no_written_slot, IsFeasible, excess, IsLeast, IsConfined, Level, Forces, Explains, IsNotFaster, IsProper, IsPlan, Point, IsTable, IsConvex, interpolated_energy, Order, IsJudgement, HasWrittenSpeed}
 use Rattle.yds_energy.specs.EnergyLaws.{IsCheapest}
-use Rattle.yds_model.specs.Judgement.{Order, IsJudgement, HasWrittenSpeed}
 use Rattle.yds_examples.proofs.Tests.{proved, refuted}
 use Rattle.yds_examples.proofs.TestedSchedules.{is_scale, feasible_by_test, not_feasible_by_test, served_in_stretches}
 use Rattle.yds_examples.proofs.TestedPlans.{pieces_stand, not_faster, window_covered, confined, written_speed, proper_by_test, is_judgement}

@@ -1,10 +1,6 @@
 -- The definitions of a timeline, tried on the three nested jobs: a from 0 to 12, b from 2 to 10, c from 4 to 6. Their event points cut time
 -- into five stretches.
-use Rattle.std.proofs.Common.{◌≡◌, ℕ, suc, ◌<◌, List, [], ◌∷◌, length, refl, ◌∙◌}
-use Rattle.std.specs.Prelude.{slice_index, ◌↔◌}
-use Rattle.std.proofs.lemmas.List.{get_or_default}
-use Rattle.yds_model.specs.Job.{Job, job_at}
-use Rattle.yds_model.specs.Event.{stretches}
+use Rattle.yds_model.proofs.Common.{◌≡◌, ℕ, suc, ◌<◌, List, [], ◌∷◌, length, refl, ◌∙◌, slice_index, ◌↔◌, get_or_default, Job, job_at, stretches}
 use Rattle.yds_events.specs.declared.window.Window.{Window}
 use Rattle.yds_events.specs.Order.{Precedes, IsOrder}
 use Rattle.yds_events.specs.Window.{window_at, IsIn, IsInWindow, AreWindows}

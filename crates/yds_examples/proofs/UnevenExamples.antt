@@ -1,13 +1,6 @@
 -- What `IsSpent` says of slots that don't fill their stretch at one speed: a job from 0 to 2 of work 3 that does all its work from 0 to 1. It
 -- isn't what they take on the points.
-use Rattle.std.proofs.Common.{List, [], ◌∷◌, refl, arith}
-use Rattle.yds_model.specs.Job.{Job}
-use Rattle.yds_model.specs.Scale.{of_whole}
-use Rattle.yds_model.specs.Slot.{WrittenSlot, IsScale}
-use Rattle.yds_model.specs.Feasible.{IsFeasible}
-use Rattle.yds_model.specs.Table.{Point}
-use Rattle.yds_model.specs.Rounding.{IsEnergyOf}
-use Rattle.yds_model.specs.Comparison.{Spent, IsSpent}
+use Rattle.yds_model.proofs.Common.{List, [], ◌∷◌, refl, arith, Job, of_whole, WrittenSlot, IsScale, IsFeasible, Point, IsEnergyOf, Spent, IsSpent}
 use Rattle.yds_energy.proofs.Finer.{each_scale_of}
 use Rattle.yds_energy.proofs.SpentScale.{spent_free}
 use Rattle.yds_examples.proofs.Tests.{proved}

@@ -1,9 +1,5 @@
 -- What the answers of `curve` and `admit` are worth, tried on three nested jobs and on a refused one: what meets each record, and near misses.
-use Rattle.std.proofs.Common.{◌≡◌, ℕ, ◌*◌, List, [], ◌∷◌, subst, arith, codes}
-use Rattle.yds_model.specs.Scale.{Fraction, numerator, of_whole}
-use Rattle.yds_model.specs.Document.{Document}
-use Rattle.yds_model.specs.Curve.{IsLeastExcess}
-use Rattle.yds_model.specs.Slot.{slots_at}
+use Rattle.yds_model.proofs.Common.{◌≡◌, ℕ, ◌*◌, List, [], ◌∷◌, subst, arith, codes, Fraction, numerator, of_whole, Document, IsLeastExcess, slots_at}
 use Rattle.yds_laws.specs.AdmissionLaws.{IsForced}
 use Rattle.yds_laws.proofs.Forced.{refusals_are_forced}
 use Rattle.yds_texts.specs.CurveText.{LeastCurve, HoldsCurve}

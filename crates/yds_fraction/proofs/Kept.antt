@@ -1,7 +1,5 @@
 -- What a kept fraction gives: at least one part, and the same record under another limit of its whole part.
-use Rattle.std.proofs.Common.{ℕ, ◌≤◌, arith}
-use Rattle.yds_model.specs.Scale.{Fraction}
-use Rattle.yds_model.specs.Within.{IsFraction}
+use Rattle.yds_model.proofs.Common.{ℕ, ◌≤◌, arith, Fraction, IsFraction}
 
 -- a denominator above a numerator is at least 1
 pub some_parts : (most : ℕ) {x : Fraction} → IsFraction most x → 1 ≤ x.den

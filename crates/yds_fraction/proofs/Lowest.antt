@@ -1,14 +1,5 @@
 -- Two numbers over their greatest common divisor.
-use Rattle.std.proofs.Common.{◌≡◌, ℕ, ◌+◌, ◌*◌, ◌/◌, ◌%◌, ◌<◌, ◌≤◌, ap, ap₂, subst, sym, ◌∙◌, refl, arith, Bool, true, false, eqb-true}
-use Rattle.std.specs.Prelude.{◌==◌, if◌then◌else◌}
-use Rattle.std.specs.Int.{◌∣◌, IsGcd}
-use Rattle.std.proofs.lemmas.Nat.Gcd.{same_from_IsGcd}
-use Rattle.std.proofs.Math.Nat.{div-one, div-mul_cancel, div-le_self, one-dvd, mul-dvd-mul_left, dvd_of_mul-dvd-mul_left, dvd-mul_right, zero-mul, lt_of_mul-lt-mul_right, eq_of_mul-eq-mul_left, mul-add-div_right, mul-add-mod_self_right}
-use Rattle.yds_model.specs.Divisor.{common_divisor, in_lowest_terms}
-use Rattle.yds_model.specs.Scale.{Fraction, Quotient, numerator, of_whole, of_parts, IsSame}
-use Rattle.yds_model.proofs.Divisor.{divisor_is_greatest, lowest_terms_are_one}
-use Rattle.yds_model.proofs.LowestTerms.{parts_value, lowest_is as in_lowest, lowest_same}
-use Rattle.yds_model.proofs.Fractions.{factors, den_positive}
+use Rattle.yds_model.proofs.Common.{◌≡◌, ℕ, ◌+◌, ◌*◌, ◌/◌, ◌%◌, ◌<◌, ◌≤◌, ap, ap₂, subst, sym, ◌∙◌, refl, arith, Bool, true, false, eqb-true, ◌==◌, if◌then◌else◌, ◌∣◌, IsGcd, same_from_IsGcd, div-one, div-mul_cancel, div-le_self, one-dvd, mul-dvd-mul_left, dvd_of_mul-dvd-mul_left, dvd-mul_right, zero-mul, lt_of_mul-lt-mul_right, eq_of_mul-eq-mul_left, mul-add-div_right, mul-add-mod_self_right, common_divisor, in_lowest_terms, Fraction, Quotient, numerator, of_whole, of_parts, IsSame, divisor_is_greatest, lowest_terms_are_one, parts_value, lowest_is as in_lowest, lowest_same, factors, den_positive}
 use Rattle.yds_fraction.specs.Ratio.{IsRatio}
 use Rattle.yds_fraction.proofs.Kept.{some_parts}
 use Rattle.yds_fraction.specs.Mixed.{IsMixed, fraction_of}

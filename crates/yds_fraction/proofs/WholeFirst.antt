@@ -1,14 +1,5 @@
 -- Whole parts first, and then the parts below one, is the order of the values.
-use Rattle.std.proofs.Common.{◌≡◌, ℕ, ◌+◌, ◌*◌, ◌<◌, ◌≤◌, ap, sym, ◌∙◌, refl, arith}
-use Rattle.std.specs.declared.cmp.Ordering.{Ordering}
-use Rattle.std.specs.declared.cmp.Ordering.TheVariants.{Less, Equal, Greater}
-use Rattle.std.specs.Ordering.{MatchOrdering, nat_cmp, ordering_then}
-use Rattle.std.specs.Int.{◌∣◌}
-use Rattle.yds_model.proofs.Fractions.{order_of_values, equality_of_values}
-use Rattle.std.specs.Cmp.{nat_cmp_is}
-use Rattle.std.proofs.lemmas.Cmp.{ranked}
-use Rattle.std.proofs.Math.Nat.{mul-le-mul_right, mul-lt-mul_of_pos_right}
-use Rattle.yds_model.specs.Scale.{Fraction, Quotient, at_scale, numerator, IsLess, IsSame, IsLessQuotient, IsSameQuotient}
+use Rattle.yds_model.proofs.Common.{◌≡◌, ℕ, ◌+◌, ◌*◌, ◌<◌, ◌≤◌, ap, sym, ◌∙◌, refl, arith, Ordering, Less, Equal, Greater, MatchOrdering, nat_cmp, ordering_then, ◌∣◌, order_of_values, equality_of_values, nat_cmp_is, ranked, mul-le-mul_right, mul-lt-mul_of_pos_right, Fraction, Quotient, at_scale, numerator, IsLess, IsSame, IsLessQuotient, IsSameQuotient}
 use Rattle.yds_fraction.specs.Order.{parts, quotient_cmp, fraction_cmp, OrderOfQuotients, OrderOfFractions}
 use Rattle.yds_fraction.proofs.Kept.{some_parts}
 use Rattle.yds_fraction.specs.Mixed.{IsMixed, AtScales}

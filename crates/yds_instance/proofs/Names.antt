@@ -1,22 +1,7 @@
 -- The number of a name, and what an instance keeps as a job with a new name comes.
-use Rattle.std.proofs.Common.{Bor, ⊎_elim, ◌≡◌, ℕ, ◌+◌, ◌<◌, ◌≤◌, Bool, true, false, cond, not, List, [], ◌∷◌, ◌++◌, Option, Some, None, length, ltb, refl, sym, ap, ◌∙◌, inl, inr, arith, subst, map}
-use Rattle.std.specs.List.{Contains, list_any, slice_index_or, prefix_len, position_or_len, position}
-use Rattle.std.specs.Option.{MatchOption}
-use Rattle.std.specs.Str.{bytes_eq}
-use Rattle.std.proofs.lemmas.Grind.{common_steps}
-use Rattle.std.proofs.lemmas.Bool.{cases_Bool, false≢true, ltb-false}
-use Rattle.std.proofs.lemmas.Slice.Eq.{bytes_eq-Decides}
-use Rattle.std.proofs.lemmas.List.{length-map, get_or-map, length_push, get_or_push, get_or_append_left}
-use Rattle.std.proofs.lemmas.List.Sums.{fails_before_first}
-use Rattle.std.proofs.lemmas.List.Quantifiers.{position-Some}
-use Rattle.std.proofs.lemmas.List.Elements.{All-push}
-use Rattle.yds_model.specs.Job.{Job, IsJob}
+use Rattle.yds_model.proofs.Common.{Bor, ⊎_elim, ◌≡◌, ℕ, ◌+◌, ◌<◌, ◌≤◌, Bool, true, false, cond, not, List, [], ◌∷◌, ◌++◌, Option, Some, None, length, ltb, refl, sym, ap, ◌∙◌, inl, inr, arith, subst, map, Contains, list_any, slice_index_or, prefix_len, position_or_len, position, MatchOption, bytes_eq, common_steps, cases_Bool, false≢true, ltb-false, bytes_eq-Decides, length-map, get_or-map, length_push, get_or_push, get_or_append_left, fails_before_first, position-Some, All-push, Job, IsJob, AreDifferentNames, AreNamedJobs, name_at, is_name, place_cases}
 use Rattle.yds_model.specs.declared.limits.TheConstants.{MAX_JOBS}
-use Rattle.yds_model.specs.Within.{AreDifferentNames, AreNamedJobs}
 use Rattle.yds_instance.specs.Named.{Named, number_of}
-use Rattle.yds_model.specs.Document.{name_at}
-use Rattle.yds_model.specs.Spelling.{is_name}
-use Rattle.yds_model.proofs.Lists.{place_cases}
 
 -- # The number of a name
 

@@ -1,16 +1,5 @@
 -- Rows sorted by their deadlines.
-use Rattle.std.proofs.Common.{◌≡◌, ℕ, zero, suc, ◌+◌, ◌<◌, ◌≤◌, false, List, [], ◌∷◌, ◌∙◌, length, get_or, map, refl, sym, ap, subst, inl, inr, add-one, arith}
-use Rattle.std.specs.List.{All}
-use Rattle.std.specs.Ordering.{nat_cmp, is_lt}
-use Rattle.std.specs.List.Sorted.{IsPermutation, IsNonDecreasingBy, IsSortedByKey, IsStableByKey}
-use Rattle.std.proofs.lemmas.List.{get_or-map, length-map}
-use Rattle.std.proofs.lemmas.List.FromFn.{length-map-range_with_len, get_or-map-range_with_len}
-use Rattle.std.proofs.lemmas.List.Elements.{All-map}
-use Rattle.std.proofs.lemmas.List.Sorted.{IsPermutation-map, All-permutation, ties_still_rise}
-use Rattle.std.proofs.lemmas.Bool.{cases_lt}
-use Rattle.std.proofs.lemmas.Bool.Decides.{nat_tests}
-use Rattle.yds_model.specs.Job.{Job, job_at}
-use Rattle.yds_model.specs.Policy.{numbers_of}
+use Rattle.yds_model.proofs.Common.{◌≡◌, ℕ, zero, suc, ◌+◌, ◌<◌, ◌≤◌, false, List, [], ◌∷◌, ◌∙◌, length, get_or, map, refl, sym, ap, subst, inl, inr, add-one, arith, All, nat_cmp, is_lt, IsPermutation, IsNonDecreasingBy, IsSortedByKey, IsStableByKey, get_or-map, length-map, length-map-range_with_len, get_or-map-range_with_len, All-map, IsPermutation-map, All-permutation, ties_still_rise, cases_lt, nat_tests, Job, job_at, numbers_of}
 use Rattle.yds_intensity.specs.declared.deadline_order.Due.{Due}
 use Rattle.yds_intensity.specs.Due.{due_of}
 use Rattle.yds_intensity.specs.Order.{IsDeadlineOrder}

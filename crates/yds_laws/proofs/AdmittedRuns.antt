@@ -1,17 +1,6 @@
 -- No slot of the admitted jobs' schedule is faster than the top speed: a stretch that serves something is filled at one speed, by which
 -- it serves at most what the top speed does there.
-use Rattle.std.proofs.Common.{◌≡◌, ℕ, zero, suc, ◌-◌, ◌*◌, ◌<◌, ◌≤◌, List, [], ◌∷◌, length, get_or, subst, arith, ap, true, ◌&&◌, nat_le}
-use Rattle.std.specs.List.{All, Contains}
-use Rattle.std.proofs.lemmas.Bool.{le-leb, and_from, cases_lt}
-use Rattle.std.proofs.lemmas.List.Elements.{All-nil, All-cons, All-contains, Contains-get_or}
-use Rattle.std.proofs.Math.Nat.{mul-le-mul_right, le_of_mul-le-mul_right, mul-pos}
-use Rattle.yds_model.specs.Slot.{WholeSlot, slots_at}
-use Rattle.yds_model.specs.Piece.{Piece}
-use Rattle.yds_model.specs.Event.{LiesIn}
-use Rattle.yds_model.specs.Policy.{slots_in, FillsAtSpeed, ServesCapacity}
-use Rattle.yds_model.specs.Admission.{IsWithinTop, top_capacity}
-use Rattle.yds_model.proofs.Runs.{run_forward}
-use Rattle.yds_model.proofs.Filters.{contains_filter}
+use Rattle.yds_model.proofs.Common.{◌≡◌, ℕ, zero, suc, ◌-◌, ◌*◌, ◌<◌, ◌≤◌, List, [], ◌∷◌, length, get_or, subst, arith, ap, true, ◌&&◌, nat_le, All, Contains, le-leb, and_from, cases_lt, All-nil, All-cons, All-contains, Contains-get_or, mul-le-mul_right, le_of_mul-le-mul_right, mul-pos, WholeSlot, slots_at, Piece, LiesIn, slots_in, FillsAtSpeed, ServesCapacity, IsWithinTop, top_capacity, run_forward, contains_filter}
 use Rattle.yds_laws.specs.AdmissionLaws.{AdmittedRunsAreWithinTop}
 
 -- a slot that lies in a stretch takes some of its time, and is one of those that do

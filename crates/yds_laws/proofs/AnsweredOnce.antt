@@ -1,17 +1,9 @@
 -- The answers of `audit` and of `check` are the only ones, since verdicts and judgements are.
-use Rattle.std.proofs.Common.{◌≡◌, ℕ, List, [], ◌∷◌, Some, None, Option, Result, Ok, Err, Bool, true, false, sym, ap, ◌∙◌}
+use Rattle.yds_model.proofs.Common.{◌≡◌, ℕ, List, [], ◌∷◌, Some, None, Option, Result, Ok, Err, Bool, true, false, sym, ap, ◌∙◌, Point, line, Document, Fault, reading, AuditAnswer, CheckAnswer, verdict_words, verdict_status, judgement_words, judgement_status, Question, AskAudit, AskAuditOnPoints, AskCheck, OnPoints, AnswersQuestion, AnswersReading, UnlessTooLong, is_too_long, verdict_is_unique}
 use Rattle.yds_model.specs.declared.reason.Reason.{Reason}
 use Rattle.yds_model.specs.declared.status.Status.{Status}
-use Rattle.yds_model.specs.Table.{Point}
-use Rattle.yds_model.specs.Text.{line}
-use Rattle.yds_model.specs.Document.{Document}
-use Rattle.yds_model.specs.Fields.{Fault}
-use Rattle.yds_model.specs.Reading.{reading}
-use Rattle.yds_model.specs.AuditAnswer.{AuditAnswer, CheckAnswer, verdict_words, verdict_status, judgement_words, judgement_status}
-use Rattle.yds_model.specs.Request.{Question, AskAudit, AskAuditOnPoints, AskCheck}
-use Rattle.yds_model.specs.Answer.{Says, OnPoints, AnswersQuestion, AnswersReading, UnlessTooLong, is_too_long}
+use Rattle.yds_model.specs.Answer.{Says}
 use Rattle.yds_laws.specs.AnswerLaws.{AuditAndCheckAnswerOnce}
-use Rattle.yds_model.proofs.OneVerdict.{verdict_is_unique}
 use Rattle.yds_laws.proofs.OneJudgement.{judgement_is_unique}
 
 -- there is at most one text and status of which this is so

@@ -1,14 +1,6 @@
 -- The confinement bound, and what follows for a schedule that is explained, against each other schedule.
-use Rattle.std.proofs.Common.{ℕ, ◌+◌, ◌-◌, ◌*◌, ◌≤◌, List, [], ◌∷◌, ◌++◌, length, get_or, refl, arith, ap}
-use Rattle.std.proofs.lemmas.List.{take_at, drop_at}
-use Rattle.std.proofs.lemmas.List.Elements.{All-take, All-drop}
-use Rattle.std.proofs.Math.Nat.{mul-le-mul_left, le_of_mul-le-mul_left}
-use Rattle.yds_model.specs.Numbers.{count}
-use Rattle.yds_model.specs.Slot.{WholeSlot, WrittenSlot, IsDivided, IsScale, slots_at}
-use Rattle.yds_model.specs.Piece.{Piece}
+use Rattle.yds_model.proofs.Common.{ℕ, ◌+◌, ◌-◌, ◌*◌, ◌≤◌, List, [], ◌∷◌, ◌++◌, length, get_or, refl, arith, ap, take_at, drop_at, All-take, All-drop, mul-le-mul_left, le_of_mul-le-mul_left, count, WholeSlot, WrittenSlot, IsDivided, IsScale, slots_at, Piece, sum_by-add, sum_by-mul, sum_by_at_most, sum_by_zero, time_within}
 use Rattle.yds_laws.specs.Laws.{ConfinementBound, ExplainedIsLeast, LeastAmongWritten, ServedAtSpeed}
-use Rattle.yds_model.proofs.Sums.{sum_by-add, sum_by-mul, sum_by_at_most, sum_by_zero}
-use Rattle.yds_model.proofs.Time.{time_within}
 use Rattle.yds_laws.proofs.Group.{work_served}
 
 -- what a slot does above a speed, and what it does at that speed, is at least its work

@@ -1,16 +1,5 @@
 -- What levels do above each speed, together, tells their works and lengths where their speeds fall.
-use Rattle.std.proofs.Common.{◌≡◌, ℕ, zero, suc, ◌+◌, ◌-◌, ◌*◌, ◌<◌, ◌≤◌, List, [], ◌∷◌, length, ap, sym, ◌∙◌, refl, arith, inl, inr}
-use Rattle.std.specs.Prelude.{sum_by}
-use Rattle.std.specs.List.{All}
-use Rattle.std.proofs.lemmas.List.Sums.{sum_by-cons, sum_by-append}
-use Rattle.std.proofs.lemmas.List.Elements.{All-tail}
-use Rattle.std.proofs.lemmas.Bool.{cases_lt}
-use Rattle.std.proofs.Math.Nat.{mul-sub, mul-pos, mul-le-mul_left, mul-le-mul_right, mul-lt-mul_of_pos_right, le_of_mul-le-mul_right, lt_of_mul-lt-mul_right, eq_of_mul-eq-mul_left, le_refl}
-use Rattle.yds_model.specs.Numbers.{Each}
-use Rattle.yds_model.specs.Job.{Job, job_at, work_of}
-use Rattle.yds_model.specs.Piece.{Piece, total_length}
-use Rattle.yds_model.specs.Level.{Level, level_at, all_members, all_pieces, levels_above}
-use Rattle.yds_model.specs.Plan.{IsSlower}
+use Rattle.yds_model.proofs.Common.{◌≡◌, ℕ, zero, suc, ◌+◌, ◌-◌, ◌*◌, ◌<◌, ◌≤◌, List, [], ◌∷◌, length, ap, sym, ◌∙◌, refl, arith, inl, inr, sum_by, All, sum_by-cons, sum_by-append, All-tail, cases_lt, mul-sub, mul-pos, mul-le-mul_left, mul-le-mul_right, mul-lt-mul_of_pos_right, le_of_mul-le-mul_right, lt_of_mul-lt-mul_right, eq_of_mul-eq-mul_left, le_refl, Each, Job, job_at, work_of, Piece, total_length, Level, level_at, all_members, all_pieces, levels_above, IsSlower}
 use Rattle.yds_laws.proofs.Exact.{above_fast, above_slow}
 
 -- q times the work that the levels do above the speed p/q

@@ -1,25 +1,9 @@
 -- The curve of a plan's levels goes in a straight line between two speeds with no break between them.
-use Rattle.std.proofs.Common.{◌≡◌, ℕ, ◌+◌, ◌-◌, ◌*◌, ◌/◌, ◌≤◌, ◌⊎◌, List, [], ◌∷◌, length, get_or, map, reverse, ap, subst, ◌∙◌, arith, inl, inr}
-use Rattle.std.specs.List.{All}
-use Rattle.std.proofs.lemmas.List.{get_or-map, get_or-reverse, length-map, length-reverse}
-use Rattle.std.proofs.lemmas.List.Sums.{sum_by-cons}
-use Rattle.std.proofs.lemmas.List.Elements.{All-tail}
-use Rattle.std.proofs.Math.Nat.{mul-le-mul_right, le_of_mul-le-mul_right}
-use Rattle.yds_model.specs.Job.{Job}
-use Rattle.yds_model.specs.Scale.{Fraction, Quotient, numerator, of_whole, of_parts}
-use Rattle.yds_model.specs.Slot.{WrittenSlot}
-use Rattle.yds_model.specs.Level.{Level}
-use Rattle.yds_model.specs.Divisor.{in_lowest_terms, common_divisor}
-use Rattle.yds_model.proofs.Divisor.{lowest_terms_are_one}
-use Rattle.yds_model.specs.Plan.{IsPlan}
-use Rattle.yds_model.specs.Curve.{least_above, Break, break_at, breaks_of}
-use Rattle.yds_model.proofs.Sums.{sum_by_zero}
+use Rattle.yds_model.proofs.Common.{◌≡◌, ℕ, ◌+◌, ◌-◌, ◌*◌, ◌/◌, ◌≤◌, ◌⊎◌, List, [], ◌∷◌, length, get_or, map, reverse, ap, subst, ◌∙◌, arith, inl, inr, All, get_or-map, get_or-reverse, length-map, length-reverse, sum_by-cons, All-tail, mul-le-mul_right, le_of_mul-le-mul_right, Job, Fraction, Quotient, numerator, of_whole, of_parts, WrittenSlot, Level, in_lowest_terms, common_divisor, lowest_terms_are_one, IsPlan, least_above, Break, break_at, breaks_of, sum_by_zero, HasValue, lowest_value, at_most_still}
 use Rattle.yds_laws.specs.CurveLaws.{IsNotAbove, IsNotBelow, IsBetween, excess_of, way, IsOnLine, CurveIsStraight}
-use Rattle.yds_model.proofs.LowestTerms.{HasValue, lowest_value}
 use Rattle.yds_laws.proofs.Curve.{curve}
 use Rattle.yds_laws.proofs.Plans.{plan_falls}
 use Rattle.yds_laws.proofs.LeastAbove.{above_curve}
-use Rattle.yds_model.proofs.Fractions.{at_most_still}
 
 -- # One level
 

@@ -1,21 +1,6 @@
 -- The excess of slots that have their levels' speeds: just what the levels above the speed force.
-use Rattle.std.proofs.Common.{◌≡◌, ℕ, suc, ◌+◌, ◌-◌, ◌*◌, ◌<◌, ◌≤◌, List, [], ◌∷◌, ◌∙◌, length, get_or, arith, inl, inr, ap}
-use Rattle.std.specs.Prelude.{cond, nat_lt}
-use Rattle.std.specs.List.{All}
-use Rattle.std.proofs.lemmas.List.Sums.{sum_by-append, take_while-cons}
-use Rattle.std.proofs.lemmas.List.Elements.{All-tail}
-use Rattle.std.proofs.lemmas.Bool.{cases_lt, lt-ltb, le-ltb}
-use Rattle.std.proofs.Math.Nat.{mul-add, mul-le-mul_right, le_of_mul-le-mul_right, eq_of_mul-eq-mul_left}
-use Rattle.yds_model.specs.Numbers.{count, Each}
-use Rattle.yds_model.specs.Job.{Job, job_at, work_of}
-use Rattle.yds_model.specs.Slot.{WholeSlot, work_given}
-use Rattle.yds_model.specs.Piece.{Piece, total_length}
-use Rattle.yds_model.specs.Level.{Level, all_members, all_pieces, levels_above}
-use Rattle.yds_model.specs.Proper.{IsNotFaster}
-use Rattle.yds_model.proofs.Sums.{sum_by-add, sum_by-mul, sum_by_same, sum_by_zero}
-use Rattle.yds_model.proofs.Time.{none_times}
+use Rattle.yds_model.proofs.Common.{◌≡◌, ℕ, suc, ◌+◌, ◌-◌, ◌*◌, ◌<◌, ◌≤◌, List, [], ◌∷◌, ◌∙◌, length, get_or, arith, inl, inr, ap, cond, nat_lt, All, sum_by-append, take_while-cons, All-tail, cases_lt, lt-ltb, le-ltb, mul-add, mul-le-mul_right, le_of_mul-le-mul_right, eq_of_mul-eq-mul_left, count, Each, Job, job_at, work_of, WholeSlot, work_given, Piece, total_length, Level, all_members, all_pieces, levels_above, IsNotFaster, sum_by-add, sum_by-mul, sum_by_same, sum_by_zero, none_times, at_most_still}
 use Rattle.yds_laws.proofs.Group.{group, group-nil, group-append, work_served}
-use Rattle.yds_model.proofs.Fractions.{at_most_still}
 
 -- the slot has the level's speed, if its job is a member
 abbrev pub FitsSlot : Level → WholeSlot → Type 0

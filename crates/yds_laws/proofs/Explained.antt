@@ -1,26 +1,8 @@
 -- A proper certificate explains its schedule.
-use Rattle.std.proofs.Common.{◌≡◌, ℕ, ◌-◌, ◌*◌, ◌<◌, ◌≤◌, ◌==◌, List, length, get_or, take, drop, arith, inl, inr, ap, eq-eqb}
-use Rattle.std.specs.Prelude.{cond, nat_lt}
-use Rattle.std.specs.List.{All, prefix_len}
-use Rattle.std.proofs.lemmas.List.{take-append-drop, length-map}
-use Rattle.std.proofs.lemmas.List.Concat.{flat_map-append}
-use Rattle.std.proofs.lemmas.List.Sums.{sum_by-append, get_or-le-sum_by, prefix_len-le-length}
-use Rattle.std.proofs.lemmas.List.Elements.{All-contains, All-from_get_or}
-use Rattle.std.proofs.lemmas.Bool.{cases_lt}
-use Rattle.yds_model.specs.Numbers.{count, AreDifferent, Each}
-use Rattle.yds_model.specs.Job.{Job, job_at}
-use Rattle.yds_model.specs.Slot.{WholeSlot, no_slot, slots_at, slot_at, slot_at_scale, work_given}
-use Rattle.yds_model.specs.Feasible.{IsFeasibleAt}
-use Rattle.yds_model.specs.Excess.{excess}
-use Rattle.yds_model.specs.Level.{Level, no_level, level_at, all_members}
-use Rattle.yds_model.specs.Explains.{ExplainsAt}
-use Rattle.yds_model.specs.Proper.{PiecesStand, StandsOnce, SumsAgree, IsNotFaster, IsWindowCovered, HasLevelSpeed, AreLevels}
+use Rattle.yds_model.proofs.Common.{◌≡◌, ℕ, ◌-◌, ◌*◌, ◌<◌, ◌≤◌, ◌==◌, List, length, get_or, take, drop, arith, inl, inr, ap, eq-eqb, cond, nat_lt, All, prefix_len, take-append-drop, length-map, flat_map-append, sum_by-append, get_or-le-sum_by, prefix_len-le-length, All-contains, All-from_get_or, cases_lt, count, AreDifferent, Each, Job, job_at, WholeSlot, no_slot, slots_at, slot_at, slot_at_scale, work_given, IsFeasibleAt, excess, Level, no_level, level_at, all_members, ExplainsAt, PiecesStand, StandsOnce, SumsAgree, IsNotFaster, IsWindowCovered, HasLevelSpeed, AreLevels, sum_by_same, counted_contains, front_at}
 use Rattle.yds_laws.specs.Laws.{ProperExplains}
-use Rattle.yds_model.proofs.Sums.{sum_by_same}
-use Rattle.yds_model.proofs.Lists.{counted_contains}
 use Rattle.yds_laws.proofs.Group.{group}
 use Rattle.yds_laws.proofs.Exact.{Fits, FitsSlot, term, exact_levels}
-use Rattle.yds_model.proofs.Front.{front_at}
 
 -- a number stands in a front of the levels at most as often as in all
 front_count : (levels : List Level) (n number : ℕ) →

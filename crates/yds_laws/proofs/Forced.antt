@@ -1,19 +1,8 @@
 -- A refused job is refused since with it the work of some jobs is more than the top speed does in an interval that all of them have to keep.
-use Rattle.std.proofs.Common.{◌≡◌, ℕ, ◌-◌, ◌*◌, ◌<◌, ◌≤◌, List, [], ◌∷◌, ◌++◌, length, get_or, cond, ◌==◌, sym, ap, subst, ◌∙◌, arith, append_assoc, inl, inr, Bool, ◌*◌, ◌⊎◌}
-use Rattle.std.specs.List.{All, Contains, filter}
-use Rattle.std.proofs.lemmas.List.{get_or_default, get_or-map, get_or_append_left, length-append, length-map}
-use Rattle.std.proofs.lemmas.List.Elements.{All-nil, All-cons, All-append, All-filter, filter_passes}
-use Rattle.std.proofs.lemmas.List.Sums.{sum_by-append}
-use Rattle.yds_model.specs.Job.{Job, no_job, job_at, work_of}
-use Rattle.yds_model.specs.Policy.{numbers_of}
-use Rattle.yds_model.proofs.Lists.{count-cons}
-use Rattle.yds_model.proofs.Sums.{sum_by_at_most, sum_by-map}
-use Rattle.yds_model.proofs.Filters.{sum_by-filter}
+use Rattle.yds_model.proofs.Common.{◌≡◌, ℕ, ◌-◌, ◌*◌, ◌<◌, ◌≤◌, List, [], ◌∷◌, ◌++◌, length, get_or, cond, ◌==◌, sym, ap, subst, ◌∙◌, arith, append_assoc, inl, inr, Bool, ◌⊎◌, All, Contains, filter, get_or_default, get_or-map, get_or_append_left, length-append, length-map, All-nil, All-cons, All-append, All-filter, filter_passes, sum_by-append, Job, no_job, job_at, work_of, numbers_of, count-cons, sum_by_at_most, sum_by-map, sum_by-filter, AreDifferent, CanServe, jobs_with, lies_within, Refusal, IsRefusal, AdmitsAfter}
 use Rattle.yds_laws.proofs.Bound.{served_at_speed}
 use Rattle.yds_laws.proofs.JobNumbers.{sum_by_number}
 use Rattle.yds_laws.proofs.Served.{all_numbers, counted_once, cond_less, lies}
-use Rattle.yds_model.specs.Numbers.{AreDifferent}
-use Rattle.yds_model.specs.Admission.{CanServe, jobs_with, lies_within, Refusal, IsRefusal, AdmitsAfter}
 use Rattle.yds_laws.specs.AdmissionLaws.{IsForced, RefusalsAreForced}
 
 -- # Different numbers

@@ -1,17 +1,6 @@
 -- Sums over the slots of a group of jobs. Each slot is weighed by how often its job stands in the group, so that such a
 -- sum is one of its members' sums, and no slot has to be looked for.
-use Rattle.std.proofs.Common.{◌≡◌, ℕ, ◌+◌, ◌*◌, ◌<◌, ◌≤◌, ◌==◌, List, [], ◌∷◌, ◌++◌, ◌∙◌, length, get_or, arith, ap}
-use Rattle.std.specs.Prelude.{cond, if◌then◌else◌}
-use Rattle.std.specs.List.{All, sum_by}
-use Rattle.std.proofs.lemmas.List.Sums.{sum_by-cons, sum_by-append}
-use Rattle.std.proofs.lemmas.List.Elements.{All-tail}
-use Rattle.std.proofs.lemmas.Bool.Decides.{nat_tests}
-use Rattle.std.proofs.Math.Nat.{add-mul}
-use Rattle.yds_model.specs.Numbers.{AreDifferent, count}
-use Rattle.yds_model.specs.Job.{Job, job_at, work_of}
-use Rattle.yds_model.specs.Slot.{WholeSlot, work_given}
-use Rattle.yds_model.proofs.Sums.{sum_by-add, sum_by_same, sum_by_at_most, sum_by_zero}
-use Rattle.yds_model.proofs.Lists.{count-cons}
+use Rattle.yds_model.proofs.Common.{◌≡◌, ℕ, ◌+◌, ◌*◌, ◌<◌, ◌≤◌, ◌==◌, List, [], ◌∷◌, ◌++◌, ◌∙◌, length, get_or, arith, ap, cond, if◌then◌else◌, All, sum_by, sum_by-cons, sum_by-append, All-tail, nat_tests, add-mul, AreDifferent, count, Job, job_at, work_of, WholeSlot, work_given, sum_by-add, sum_by_same, sum_by_at_most, sum_by_zero, count-cons}
 
 -- the sum over the slots of a group's jobs
 abbrev pub group : (WholeSlot → ℕ) → List ℕ → List WholeSlot → ℕ

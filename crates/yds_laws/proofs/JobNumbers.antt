@@ -1,12 +1,5 @@
 -- Jobs by their numbers: the jobs with all numbers are the jobs, so a sum over them is one over their numbers.
-use Rattle.std.proofs.Common.{◌≡◌, ℕ, ◌<◌, List, length, get_or, ◌∙◌, sym, arith, ap}
-use Rattle.std.specs.List.{sum_by}
-use Rattle.std.proofs.lemmas.List.{same_lists, get_or-map, get_or_default, length-map}
-use Rattle.std.proofs.lemmas.List.FromFn.{get_or-range_with_len, length-range_with_len}
-use Rattle.yds_model.specs.Job.{Job, no_job, job_at}
-use Rattle.yds_model.specs.Policy.{numbers_of}
-use Rattle.yds_model.specs.Admission.{jobs_with}
-use Rattle.yds_model.proofs.Sums.{sum_by-map}
+use Rattle.yds_model.proofs.Common.{◌≡◌, ℕ, ◌<◌, List, length, get_or, ◌∙◌, sym, arith, ap, sum_by, same_lists, get_or-map, get_or_default, length-map, get_or-range_with_len, length-range_with_len, Job, no_job, job_at, numbers_of, jobs_with, sum_by-map}
 
 -- the jobs with the numbers of all jobs are the jobs
 pub all_jobs : (jobs : List Job) → jobs_with jobs (numbers_of jobs) ≡ jobs

@@ -1,19 +1,6 @@
 -- What the judgement 'accepted' says: that the certificate is proper.
-use Rattle.std.proofs.Common.{◌≡◌, ℕ, ◌-◌, ◌*◌, ◌<◌, ◌≤◌, List, length, ap, subst, sym, arith}
-use Rattle.std.specs.Prelude.{◌↔◌}
-use Rattle.std.specs.List.{Contains}
-use Rattle.std.proofs.Math.Nat.{mul-sub, mul-pos}
-use Rattle.yds_model.specs.Scale.{at_scale, numerator}
-use Rattle.yds_model.specs.Slot.{WrittenSlot, WholeSlot, IsDivided, IsScale, slots_at, no_written_slot, written_slot_at}
-use Rattle.yds_model.specs.Level.{Level, level_at}
-use Rattle.yds_model.specs.Proper.{HasLevelSpeed}
-use Rattle.yds_model.specs.Audit.{crossed_length}
-use Rattle.yds_model.specs.Judgement.{HasWrittenSpeed}
+use Rattle.yds_model.proofs.Common.{◌≡◌, ℕ, ◌-◌, ◌*◌, ◌<◌, ◌≤◌, List, length, ap, subst, sym, arith, ◌↔◌, Contains, mul-sub, mul-pos, at_scale, numerator, WrittenSlot, WholeSlot, IsDivided, IsScale, slots_at, no_written_slot, written_slot_at, Level, level_at, HasLevelSpeed, crossed_length, HasWrittenSpeed, den_positive, value-den, multiple_over, tied_equality, scale_exists, slot_read, verdict_is_exact}
 use Rattle.yds_laws.specs.Laws.{JudgementIsExact}
-use Rattle.yds_model.proofs.Fractions.{den_positive, value-den, multiple_over, tied_equality}
-use Rattle.yds_model.proofs.Scale.{scale_exists}
-use Rattle.yds_model.proofs.Runs.{slot_read}
-use Rattle.yds_model.proofs.Verdicts.{verdict_is_exact}
 
 -- a slot's length at a scale, over the denominators `d` and `e` of its ends `u` and `v`
 crossed_scaled : (u v a b d e scale : ℕ) → u * d ≡ a * scale → v * e ≡ b * scale → (v - u) * (d * e) ≡ (b * d - a * e) * scale

@@ -1,21 +1,6 @@
 -- What a plan's levels do above a speed is the least excess above it, and goes in a straight line between speeds that no level lies between.
-use Rattle.std.proofs.Common.{◌≡◌, ℕ, zero, suc, ◌+◌, ◌-◌, ◌*◌, ◌<◌, ◌≤◌, List, [], ◌∷◌, length, take, ap, sym, subst, ◌∙◌, refl, arith, inl, inr}
-use Rattle.std.specs.Prelude.{sum_by}
-use Rattle.std.proofs.lemmas.List.Sums.{sum_by-cons}
-use Rattle.std.proofs.lemmas.Bool.{cases_lt}
-use Rattle.std.proofs.Math.Nat.{le_refl, mul-le-mul_right, mul-lt-mul_of_pos_right, lt_of_mul-lt-mul_right}
-use Rattle.yds_model.specs.Job.{Job}
-use Rattle.yds_model.specs.Slot.{WrittenSlot, WholeSlot, slots_at}
-use Rattle.yds_model.specs.Feasible.{IsFeasibleAt}
-use Rattle.yds_model.specs.Excess.{excess}
-use Rattle.yds_model.specs.Level.{Level, level_at, levels_above, all_members, all_pieces}
-use Rattle.yds_model.specs.Divisor.{in_lowest_terms}
-use Rattle.yds_model.specs.Plan.{IsPlan}
-use Rattle.yds_model.specs.Curve.{least_above}
-use Rattle.yds_model.proofs.Sums.{sum_by_same}
-use Rattle.yds_model.proofs.Scale.{scale_exists}
+use Rattle.yds_model.proofs.Common.{◌≡◌, ℕ, zero, suc, ◌+◌, ◌-◌, ◌*◌, ◌<◌, ◌≤◌, List, [], ◌∷◌, length, take, ap, sym, subst, ◌∙◌, refl, arith, inl, inr, sum_by, sum_by-cons, cases_lt, le_refl, mul-le-mul_right, mul-lt-mul_of_pos_right, lt_of_mul-lt-mul_right, Job, WrittenSlot, WholeSlot, slots_at, IsFeasibleAt, excess, Level, level_at, levels_above, all_members, all_pieces, in_lowest_terms, IsPlan, least_above, sum_by_same, scale_exists, HasValue, lowest_value}
 use Rattle.yds_laws.specs.CurveLaws.{LevelsTellLeastExcess}
-use Rattle.yds_model.proofs.LowestTerms.{HasValue, lowest_value}
 use Rattle.yds_laws.proofs.Bound.{confinement_bound}
 use Rattle.yds_laws.proofs.Explained.{proper_explains}
 use Rattle.yds_laws.proofs.Curve.{curve, AreFalling, curve_slow, curve_above}

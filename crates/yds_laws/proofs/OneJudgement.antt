@@ -1,16 +1,6 @@
 -- Of jobs, slots and levels just one judgement is so.
-use Rattle.std.proofs.Common.{◌≡◌, ℕ, zero, suc, List, length, refl, arith, None}
-use Rattle.yds_model.specs.Numbers.{Each}
-use Rattle.yds_model.specs.Job.{Job}
-use Rattle.yds_model.specs.Slot.{WrittenSlot}
-use Rattle.yds_model.specs.Level.{Level}
-use Rattle.yds_model.specs.Proper.{PiecesStand, StandsOnce, SumsAgree, IsNotFaster, IsWindowCovered}
-use Rattle.yds_model.specs.Audit.{Verdict, Feasible, IsVerdict}
-use Rattle.yds_model.specs.Judgement.{Judgement, Accepted, Slots, Pieces, Members, Sums, Order, Window, Speed, HasWrittenSpeed, SlotsHold, PiecesHold, MembersHold, SumsHold, OrderHolds, WindowsHold, IsJudgement}
-use Rattle.yds_model.specs.Numbers.{IsFirstFailure}
+use Rattle.yds_model.proofs.Common.{◌≡◌, ℕ, zero, suc, List, length, refl, arith, None, Each, Job, WrittenSlot, Level, PiecesStand, StandsOnce, SumsAgree, IsNotFaster, IsWindowCovered, Verdict, Feasible, IsVerdict, Judgement, Accepted, Slots, Pieces, Members, Sums, Order, Window, Speed, HasWrittenSpeed, SlotsHold, PiecesHold, MembersHold, SumsHold, OrderHolds, WindowsHold, IsJudgement, IsFirstFailure, IsFirst, each_none, each_more, one_stage, one_place, verdict_is_unique}
 use Rattle.yds_laws.specs.Laws.{JudgementIsUnique}
-use Rattle.yds_model.proofs.FirstFailure.{IsFirst, each_none, each_more, one_stage, one_place}
-use Rattle.yds_model.proofs.OneVerdict.{verdict_is_unique}
 
 module _ (jobs : List Job) (slots : List WrittenSlot) (levels : List Level) where
   -- the conditions in the order in which they are tried, and then none

@@ -1,19 +1,8 @@
 -- What plans are: least, and of the same levels as each other plan of the jobs.
-use Rattle.std.proofs.Common.{◌≡◌, ℕ, ◌*◌, ◌≤◌, List, [], ◌∷◌, ◌++◌, refl, ap, arith}
-use Rattle.std.specs.List.{All}
-use Rattle.std.proofs.lemmas.List.Elements.{All-nil, All-cons, All-append, All-from_get_or}
-use Rattle.std.proofs.Math.Nat.{eq_of_mul-eq-mul_left}
-use Rattle.yds_model.specs.Job.{Job, job_at}
-use Rattle.yds_model.specs.Slot.{WrittenSlot, WholeSlot, IsScale, IsSolid, slot_at_scale, slots_at}
-use Rattle.yds_model.specs.Excess.{excess}
-use Rattle.yds_model.specs.Level.{Level, no_level}
-use Rattle.yds_model.specs.EarliestFirst.{EarliestAfter}
-use Rattle.yds_model.specs.Plan.{IsPlan}
+use Rattle.yds_model.proofs.Common.{◌≡◌, ℕ, ◌*◌, ◌≤◌, List, [], ◌∷◌, ◌++◌, refl, ap, arith, All, All-nil, All-cons, All-append, All-from_get_or, eq_of_mul-eq-mul_left, Job, job_at, WrittenSlot, WholeSlot, IsScale, IsSolid, slot_at_scale, slots_at, excess, Level, no_level, EarliestAfter, IsPlan, scale_exists, factors}
 use Rattle.yds_laws.specs.Laws.{PlansAreLeast, PlansHaveTheSameLevels, PlansServeWork}
 use Rattle.yds_laws.proofs.Bound.{explained_is_least, scale_left, scale_right}
 use Rattle.yds_laws.proofs.Explained.{proper_explains}
-use Rattle.yds_model.proofs.Scale.{scale_exists}
-use Rattle.yds_model.proofs.Fractions.{factors}
 use Rattle.yds_laws.proofs.Curve.{curve, AreFalling, are_falling, SumsUp, curve_above, DoTheSame, same_levels}
 
 -- a plan's certificate is proper, so it explains the schedule, which is least

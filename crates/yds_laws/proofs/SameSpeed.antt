@@ -1,18 +1,7 @@
 -- What is done above a speed is the same however the speed is written: p/q and r/s, where p * s ≡ r * q.
-use Rattle.std.proofs.Common.{◌≡◌, ℕ, ◌-◌, ◌*◌, ◌≤◌, List, ap, sym, ◌∙◌, arith}
-use Rattle.std.specs.Prelude.{sum_by}
-use Rattle.std.proofs.Math.Nat.{mul-sub, mul-le-mul_right, le_of_mul-le-mul_right, eq_of_mul-eq-mul_right}
-use Rattle.yds_model.specs.Job.{Job}
-use Rattle.yds_model.specs.Scale.{Fraction, numerator}
-use Rattle.yds_model.specs.Slot.{WholeSlot}
-use Rattle.yds_model.specs.Excess.{excess}
-use Rattle.yds_model.specs.Level.{Level}
-use Rattle.yds_model.specs.Divisor.{in_lowest_terms}
-use Rattle.yds_model.specs.Curve.{IsLeastExcess, least_above}
-use Rattle.yds_model.proofs.Sums.{sum_by-mul, sum_by_same}
+use Rattle.yds_model.proofs.Common.{◌≡◌, ℕ, ◌-◌, ◌*◌, ◌≤◌, List, ap, sym, ◌∙◌, arith, sum_by, mul-sub, mul-le-mul_right, le_of_mul-le-mul_right, eq_of_mul-eq-mul_right, Job, Fraction, numerator, WholeSlot, excess, Level, in_lowest_terms, IsLeastExcess, least_above, sum_by-mul, sum_by_same, lowest_same}
 use Rattle.yds_laws.proofs.Curve.{curve, AreFalling}
 use Rattle.yds_laws.proofs.LeastAbove.{above_curve}
-use Rattle.yds_model.proofs.LowestTerms.{lowest_same}
 
 -- of one work in one time
 one_above : (p q r s work time : ℕ) → p * s ≡ r * q → s * (q * work - p * time) ≡ q * (s * work - r * time)

@@ -3,22 +3,7 @@
 -- One way is the confinement bound. For the other, one unit of work runs after another at the top speed, earliest deadline first: at the
 -- scale of the top speed each takes one part of time. What is left of the jobs due by a time is always at most the room before it: a part
 -- of time either serves such a job, or none of them may run, and then all that is left of them comes later, where they have room.
-use Rattle.std.proofs.Common.{◌≡◌, ℕ, zero, suc, ◌+◌, ◌-◌, ◌*◌, ◌/◌, ◌<◌, ◌≤◌, ◌⊎◌, List, [], ◌∷◌, ◌++◌, length, get_or, ◌∙◌, refl, sym, subst, arith, inl, inr, ap, cond, Bool, true, false, ◌&&◌, ◌==◌, nat_lt, nat_le}
-use Rattle.std.specs.List.{All, Any, Contains, filter, range_with_len, sum_by}
-use Rattle.std.proofs.lemmas.Bool.{cases_lt, cases_eq, cases_Bool, ltb-true, leb-true, lt-leb, le-leb, lt-ltb, eq-eqb, eqb-true, ne_eqb, and_parts, and_from, true≢false}
-use Rattle.std.proofs.lemmas.List.Sums.{sum_by-cons, sum_by_push, get_or-le-sum_by}
-use Rattle.std.proofs.lemmas.List.Elements.{All-nil, All-tail, All-push, All-filter, filter_passes}
-use Rattle.std.proofs.lemmas.List.FromFn.{get_or-range_with_len, length-range_with_len}
-use Rattle.std.proofs.Math.Nat.{mul-sub, mul-le-mul_right, mul-le-mul_left}
-use Rattle.yds_model.specs.Numbers.{AreDifferent, count}
-use Rattle.yds_model.specs.Job.{Job, IsJob, no_job, job_at}
-use Rattle.yds_model.specs.Slot.{WholeSlot, work_given}
-use Rattle.yds_model.specs.Feasible.{RunFrom, IsInWindow}
-use Rattle.yds_model.specs.Policy.{numbers_of}
-use Rattle.yds_model.specs.Admission.{IsWithinTop, CanServe, lies_within, confined_work}
-use Rattle.yds_model.proofs.Sums.{sum_by_same, sum_by_at_most, sum_by_zero}
-use Rattle.yds_model.proofs.Lists.{count-cons}
-use Rattle.yds_model.proofs.Filters.{sum_by-filter, found_or_none}
+use Rattle.yds_model.proofs.Common.{◌≡◌, ℕ, zero, suc, ◌+◌, ◌-◌, ◌*◌, ◌/◌, ◌<◌, ◌≤◌, ◌⊎◌, List, [], ◌∷◌, ◌++◌, length, get_or, ◌∙◌, refl, sym, subst, arith, inl, inr, ap, cond, Bool, true, false, ◌&&◌, ◌==◌, nat_lt, nat_le, All, Any, Contains, filter, range_with_len, sum_by, cases_lt, cases_eq, cases_Bool, ltb-true, leb-true, lt-leb, le-leb, lt-ltb, eq-eqb, eqb-true, ne_eqb, and_parts, and_from, true≢false, sum_by-cons, sum_by_push, get_or-le-sum_by, All-nil, All-tail, All-push, All-filter, filter_passes, get_or-range_with_len, length-range_with_len, mul-sub, mul-le-mul_right, mul-le-mul_left, AreDifferent, count, Job, IsJob, no_job, job_at, WholeSlot, work_given, RunFrom, IsInWindow, numbers_of, IsWithinTop, CanServe, lies_within, confined_work, sum_by_same, sum_by_at_most, sum_by_zero, count-cons, sum_by-filter, found_or_none}
 use Rattle.yds_laws.specs.AdmissionLaws.{HasRoom, ServedWhereRoom}
 use Rattle.yds_laws.proofs.Bound.{served_at_speed}
 

@@ -1,25 +1,5 @@
 -- How much work of periodic tasks is confined to pieces of time, where the jobs of each task follow one another without a gap.
-use Rattle.std.proofs.Common.{◌≡◌, ℕ, zero, suc, ◌+◌, ◌-◌, ◌*◌, ◌/◌, ◌%◌, ◌<◌, ◌≤◌, ◌==◌, true, List, [], ◌∷◌, ◌++◌, length, get_or, map, refl, ap, ◌∙◌, subst, append_assoc, arith, eqb-true}
-use Rattle.std.specs.Prelude.{if◌then◌else◌}
-use Rattle.std.specs.List.{All, sum_by, flat_map, list_all, range_with_len}
-use Rattle.std.proofs.Math.Nat.{div-add-mod, mul-div_cancel, mul-le-mul_left}
-use Rattle.std.proofs.Math.Seq.{get_or-append_seam}
-use Rattle.std.proofs.lemmas.Bool.{and_parts, le-ltb}
-use Rattle.std.proofs.lemmas.List.{length-append, length_push}
-use Rattle.std.proofs.lemmas.List.Concat.{length-flat_map}
-use Rattle.std.proofs.lemmas.List.Elements.{All-nil, All-cons, All-head, All-tail}
-use Rattle.std.proofs.lemmas.List.Sums.{sum_by-cons, sum_by-append}
-use Rattle.std.proofs.lemmas.List.FromFn.{length-range_with_len, length-map-range_with_len}
-use Rattle.yds_model.specs.Numbers.{count as count_in, AreDifferent}
-use Rattle.yds_model.specs.Job.{Job, no_job, job_at, work_of}
-use Rattle.yds_model.specs.Slot.{WholeSlot, work_given}
-use Rattle.yds_model.specs.Feasible.{RunFrom, IsInWindow}
-use Rattle.yds_model.specs.Piece.{Piece, IsConfined, total_length}
-use Rattle.yds_model.specs.Tasks.{Task, TaskSet, nth_job, count_of_jobs, numbers_of_jobs, fills_horizon, jobs_of_tasks}
-use Rattle.yds_model.specs.TaskReading.{count_of_all}
-use Rattle.yds_model.proofs.Sums.{sum_by_same, sum_by-mul}
-use Rattle.yds_model.proofs.Horizon.{part_own, part_other}
-use Rattle.yds_model.proofs.Time.{time_within}
+use Rattle.yds_model.proofs.Common.{◌≡◌, ℕ, zero, suc, ◌+◌, ◌-◌, ◌*◌, ◌/◌, ◌%◌, ◌<◌, ◌≤◌, ◌==◌, true, List, [], ◌∷◌, ◌++◌, length, get_or, map, refl, ap, ◌∙◌, subst, append_assoc, arith, eqb-true, if◌then◌else◌, All, sum_by, flat_map, list_all, range_with_len, div-add-mod, mul-div_cancel, mul-le-mul_left, get_or-append_seam, and_parts, le-ltb, length-append, length_push, length-flat_map, All-nil, All-cons, All-head, All-tail, sum_by-cons, sum_by-append, length-range_with_len, length-map-range_with_len, count as count_in, AreDifferent, Job, no_job, job_at, work_of, WholeSlot, work_given, RunFrom, IsInWindow, Piece, IsConfined, total_length, Task, TaskSet, nth_job, count_of_jobs, numbers_of_jobs, fills_horizon, jobs_of_tasks, count_of_all, sum_by_same, sum_by-mul, part_own, part_other, time_within}
 use Rattle.yds_laws.proofs.Group.{group, work_served}
 
 -- # The jobs of one task

@@ -1,12 +1,5 @@
 -- What the lines of tasks said together, as one more line says something.
-use Rattle.std.proofs.Common.{◌≡◌, ℕ, List, [], ◌∷◌, ◌++◌, Some, None, ap, ◌∙◌}
-use Rattle.std.specs.List.{filter_map}
-use Rattle.std.proofs.lemmas.List.{append-nil}
-use Rattle.std.proofs.lemmas.List.Elements.{filter_map-append}
-use Rattle.yds_model.specs.Entry.{first_of_them}
-use Rattle.yds_model.specs.Tasks.{Task, TaskSet}
-use Rattle.yds_model.proofs.Said.{none_first}
-use Rattle.yds_model.specs.TaskReading.{TaskEntry, HorizonEntry, TaskEntryOf, horizon_said, task_said, tasks_said}
+use Rattle.yds_model.proofs.Common.{◌≡◌, ℕ, List, [], ◌∷◌, ◌++◌, Some, None, ap, ◌∙◌, filter_map, append-nil, filter_map-append, first_of_them, Task, TaskSet, none_first, TaskEntry, HorizonEntry, TaskEntryOf, horizon_said, task_said, tasks_said}
 
 -- the first line of a horizon
 pub horizon_more : (earlier : List TaskEntry) (set : TaskSet) (horizon : ℕ) → tasks_said earlier ≡ set → set.horizon ≡ None →

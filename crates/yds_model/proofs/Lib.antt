@@ -23,3 +23,4 @@ pub mod HullExists
 pub mod Spelling
 pub mod Said
 pub mod Counted
+pub mod Common

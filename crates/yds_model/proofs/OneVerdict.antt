@@ -18,14 +18,6 @@ module _ (jobs : List Job) (table : Option (List Point)) (slots : List WrittenSl
   Condition i (suc (suc (suc zero))) = IsAtMost (written_slot_at slots i).to (deadline_of jobs (written_slot_at slots i))
   Condition i (suc (suc (suc (suc kind)))) = IsOnTable table (written_slot_at slots i)
 
-  -- a slot that stands meets each
-  stand_meets : (i kind : ℕ) → Stands jobs table slots i → Condition i kind
-  stand_meets i zero stands = stands.forward
-  stand_meets i (suc zero) stands = stands.after
-  stand_meets i (suc (suc zero)) stands = stands.released
-  stand_meets i (suc (suc (suc zero))) stands = stands.due
-  stand_meets i (suc (suc (suc (suc kind)))) stands = stands.on_table
-
   -- slots stand, then jobs get their work; there is no third stage
   abbrev Test : ℕ → ℕ → Type 0
   Test zero = Stands jobs table slots

@@ -1,22 +1,6 @@
 -- A run of Optimal Available: by each event point every job that is due by then is served in full, and what the code asks of a
 -- stretch is what the definition asks.
-use Rattle.std.proofs.Common.{◌≡◌, ℕ, zero, suc, ◌-◌, ◌*◌, ◌<◌, ◌≤◌, max, List, length, get_or, map, ◌∙◌, refl, sym, subst, ap, arith, inl, inr, cond, true, false, add-one, mul_assoc}
-use Rattle.std.specs.Prelude.{Bool, nat_le, nat_lt, ◌==◌, ◌&&◌, not, All, sum_by, filter, Result, Ok, Err, IfOk, OnOk}
-use Rattle.std.specs.List.{list_all}
-use Rattle.std.proofs.lemmas.Bool.{cases_lt, cases_eq, cases_Bool, le-leb, lt-leb, lt-ltb, le-ltb, eq-eqb, ne_eqb, and_left, and_right, and_from}
-use Rattle.std.proofs.lemmas.List.Elements.{All-filter, All-weaker, Contains-get_or, filter_agree}
-use Rattle.std.proofs.Math.ListN.{get_or-eq_default}
-use Rattle.std.proofs.Math.Nat.{mul-le-mul_left, le_of_mul-le-mul_right, mul-pos, eq_of_mul-eq-mul_left}
-use Rattle.yds_model.specs.Numbers.{Each}
-use Rattle.yds_model.specs.Job.{Job, IsJob, no_job, job_at}
-use Rattle.yds_model.specs.Slot.{WrittenSlot, IsScale, slots_at}
-use Rattle.yds_model.specs.Piece.{Piece}
-use Rattle.yds_model.specs.Event.{event_points, stretches}
-use Rattle.yds_model.specs.Policy.{pending_at, numbers_of}
-use Rattle.yds_model.specs.OptimalAvailable.{pending_jobs, due_units, pending_deadlines, asked, units_asked, optimal_available, optimal_available_rounds, IsOptimalAvailableRun}
-use Rattle.yds_model.specs.Comparison.{stretch_at}
-use Rattle.yds_model.proofs.Sums.{sum_by-mul, sum_by_same}
-use Rattle.yds_model.proofs.Filters.{sum_by-filter}
+use Rattle.yds_model.proofs.Common.{◌≡◌, ℕ, zero, suc, ◌-◌, ◌*◌, ◌<◌, ◌≤◌, max, List, length, get_or, map, ◌∙◌, refl, sym, subst, ap, arith, inl, inr, cond, true, false, add-one, mul_assoc, Bool, nat_le, nat_lt, ◌==◌, ◌&&◌, not, All, sum_by, filter, Result, Ok, Err, IfOk, OnOk, list_all, cases_lt, cases_eq, cases_Bool, le-leb, lt-leb, lt-ltb, le-ltb, eq-eqb, ne_eqb, and_left, and_right, and_from, All-filter, All-weaker, Contains-get_or, filter_agree, get_or-eq_default, mul-le-mul_left, le_of_mul-le-mul_right, mul-pos, eq_of_mul-eq-mul_left, Each, Job, IsJob, no_job, job_at, WrittenSlot, IsScale, slots_at, Piece, event_points, stretches, pending_at, numbers_of, pending_jobs, due_units, pending_deadlines, asked, units_asked, optimal_available, optimal_available_rounds, IsOptimalAvailableRun, stretch_at, sum_by-mul, sum_by_same, sum_by-filter, rounded_up_same}
 use Rattle.yds_events.specs.Stretch.{no_stretch}
 use Rattle.yds_events.proofs.Times.{not_later, release_at, deadline_at}
 use Rattle.yds_events.proofs.Neighbours.{count_stretches, stretch_begins, stretch_ends, stretch_forward, release_outside, deadline_outside}
@@ -33,7 +17,6 @@ use Rattle.yds_edf.proofs.Filled.{stands_in}
 use Rattle.yds_edf.proofs.RunAt.{run_at}
 use Rattle.yds_edf.proofs.Standing.{all_shares, laid_solid}
 use Rattle.yds_edf.proofs.Capped.{pending_term}
-use Rattle.yds_model.proofs.RoundedUp.{rounded_up_same}
 use Rattle.yds_edf.proofs.Quotients.{up_enough, up_most}
 use Rattle.yds_oa.specs.Asked.{is_waiting, waiting, due_by, deadlines, asked_by, most_asked, most_rounds}
 use Rattle.yds_oa.proofs.Waiting.{waits_is, waits_for, each_waits}

@@ -1,11 +1,5 @@
 -- The greatest quotient by places is the greatest of all that deadlines ask.
-use Rattle.std.proofs.Common.{◌≡◌, ℕ, zero, suc, ◌+◌, ◌-◌, ◌*◌, ◌<◌, ◌≤◌, List, length, slice_index, ◌∙◌, refl, sym, subst, ap, arith, inl, inr, add-one}
-use Rattle.std.specs.List.Sorted.{IsNonDecreasingBy}
-use Rattle.std.proofs.lemmas.Bool.{cases_lt, cases_eq, le-leb, lt-leb, lt-ltb, le-ltb}
-use Rattle.std.proofs.Math.Nat.{mul-le-mul_left, le_of_mul-le-mul_left}
-use Rattle.yds_model.specs.Numbers.{Each}
-use Rattle.yds_model.specs.Job.{Job}
-use Rattle.yds_model.specs.Piece.{Piece}
+use Rattle.yds_model.proofs.Common.{◌≡◌, ℕ, zero, suc, ◌+◌, ◌-◌, ◌*◌, ◌<◌, ◌≤◌, List, length, slice_index, ◌∙◌, refl, sym, subst, ap, arith, inl, inr, add-one, IsNonDecreasingBy, cases_lt, cases_eq, le-leb, lt-leb, lt-ltb, le-ltb, mul-le-mul_left, le_of_mul-le-mul_left, Each, Job, Piece}
 use Rattle.yds_edf.specs.Pending.{sum_below}
 use Rattle.yds_edf.proofs.Sums.{sum_below_zero}
 use Rattle.yds_edf.proofs.Numbers.{sum_places}

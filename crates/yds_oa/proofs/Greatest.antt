@@ -1,19 +1,5 @@
 -- The greatest number that a deadline asks is the greatest quotient's, and it is rounded where that is.
-use Rattle.std.proofs.Common.{◌≡◌, ℕ, suc, ◌+◌, ◌-◌, ◌*◌, ◌/◌, ◌%◌, ◌<◌, ◌≤◌, max, List, [], ◌∷◌, length, get_or, map, ◌∙◌, refl, sym, ap, arith, inl, inr, true, false}
-use Rattle.std.specs.Prelude.{Bool, nat_lt, ◌==◌, ◌&&◌, not, All, fold}
-use Rattle.std.specs.List.{list_all}
-use Rattle.std.proofs.lemmas.Bool.{cases_lt, cases_eq, lt-ltb, le-ltb, eq-eqb, ne_eqb}
-use Rattle.std.proofs.lemmas.List.{get_or-map, length-map}
-use Rattle.std.proofs.lemmas.List.Elements.{All-nil, All-cons, All-map, All-weaker}
-use Rattle.std.proofs.lemmas.List.Sums.{list_all-from_AllPass}
-use Rattle.std.proofs.lemmas.List.Folds.{list_all_at}
-use Rattle.std.proofs.Math.Nat.{mul-le-mul_right, mul-le-mul_left, le_of_mul-le-mul_right, lt_of_mul-lt-mul_right, mul-lt-mul_of_pos_right, div-add-mod, dvd-mul_left}
-use Rattle.std.proofs.lemmas.Nat.Gcd.{mod-eq-zero_of_dvd}
-use Rattle.yds_model.specs.Job.{Job, job_at}
-use Rattle.yds_model.specs.Piece.{Piece}
-use Rattle.yds_model.specs.Policy.{div_up}
-use Rattle.yds_model.specs.Event.{stretches}
-use Rattle.yds_model.specs.Comparison.{stretch_at}
+use Rattle.yds_model.proofs.Common.{◌≡◌, ℕ, suc, ◌+◌, ◌-◌, ◌*◌, ◌/◌, ◌%◌, ◌<◌, ◌≤◌, max, List, [], ◌∷◌, length, get_or, map, ◌∙◌, refl, sym, ap, arith, inl, inr, true, false, Bool, nat_lt, ◌==◌, ◌&&◌, not, All, fold, list_all, cases_lt, cases_eq, lt-ltb, le-ltb, eq-eqb, ne_eqb, get_or-map, length-map, All-nil, All-cons, All-map, All-weaker, list_all-from_AllPass, list_all_at, mul-le-mul_right, mul-le-mul_left, le_of_mul-le-mul_right, lt_of_mul-lt-mul_right, mul-lt-mul_of_pos_right, div-add-mod, dvd-mul_left, mod-eq-zero_of_dvd, Job, job_at, Piece, div_up, stretches, stretch_at}
 use Rattle.yds_events.proofs.Neighbours.{deadline_outside}
 use Rattle.yds_edf.proofs.Quotients.{up_enough, up_most}
 use Rattle.yds_oa.specs.Asked.{is_waiting, waiting, due_by, deadlines, asked_by, most_asked, most_rounds}

@@ -1,17 +1,5 @@
 -- The waiting jobs, and the units that are due, in order of numbers and in order of deadlines.
-use Rattle.std.proofs.Common.{◌≡◌, ℕ, ◌<◌, ◌≤◌, List, length, get_or, ◌∙◌, refl, sym, arith, cond, true, false}
-use Rattle.std.specs.Prelude.{Bool, nat_le, nat_lt, ◌&&◌, All, Contains, sum_by}
-use Rattle.std.specs.List.Sorted.{IsPermutation}
-use Rattle.std.proofs.lemmas.Bool.{cases_lt, lt-ltb, le-ltb, true≢false}
-use Rattle.std.proofs.lemmas.List.{get_or-map, length-map}
-use Rattle.std.proofs.lemmas.List.FromFn.{length-range_with_len, get_or-range_with_len}
-use Rattle.std.proofs.lemmas.List.Sorted.{sum_by-IsPermutation}
-use Rattle.std.proofs.lemmas.List.Elements.{All-filter, filter_passes}
-use Rattle.yds_model.specs.Job.{Job, job_at}
-use Rattle.yds_model.specs.Piece.{Piece}
-use Rattle.yds_model.specs.Policy.{numbers_of}
-use Rattle.yds_model.proofs.Sums.{sum_by_same, sum_by-map}
-use Rattle.yds_model.proofs.Filters.{sum_by-filter, contains_filter}
+use Rattle.yds_model.proofs.Common.{◌≡◌, ℕ, ◌<◌, ◌≤◌, List, length, get_or, ◌∙◌, refl, sym, arith, cond, true, false, Bool, nat_le, nat_lt, ◌&&◌, All, Contains, sum_by, IsPermutation, cases_lt, lt-ltb, le-ltb, true≢false, get_or-map, length-map, length-range_with_len, get_or-range_with_len, sum_by-IsPermutation, All-filter, filter_passes, Job, job_at, Piece, numbers_of, sum_by_same, sum_by-map, sum_by-filter, contains_filter}
 use Rattle.yds_edf.specs.declared.order.Due.{Due}
 use Rattle.yds_edf.specs.Order.{due_job, due_jobs}
 use Rattle.yds_oa.specs.Asked.{is_waiting, waiting, due_by, deadlines}

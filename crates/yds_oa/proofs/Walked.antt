@@ -1,7 +1,5 @@
 -- A walk over places in order of deadlines, which keeps the greatest quotient, and passes over some places together.
-use Rattle.std.proofs.Common.{◌≡◌, ℕ, ◌+◌, ◌-◌, ◌*◌, ◌<◌, ◌≤◌, ◌⊎◌, List, length, slice_index, ◌∙◌, sym, subst, ap, arith, inl, inr}
-use Rattle.std.proofs.lemmas.Bool.{cases_lt, cases_eq}
-use Rattle.std.proofs.Math.Nat.{mul-le-mul_right, mul-le-mul_left}
+use Rattle.yds_model.proofs.Common.{◌≡◌, ℕ, ◌+◌, ◌-◌, ◌*◌, ◌<◌, ◌≤◌, ◌⊎◌, List, length, slice_index, ◌∙◌, sym, subst, ap, arith, inl, inr, cases_lt, cases_eq, mul-le-mul_right, mul-le-mul_left, at_most_still}
 use Rattle.yds_edf.specs.declared.pending.PendingJobs.{PendingJobs}
 use Rattle.yds_oa.specs.declared.quotient.Quotient.{Quotient}
 use Rattle.yds_edf.specs.Blocks.{units_before}
@@ -10,7 +8,6 @@ use Rattle.yds_oa.specs.declared.walk.Walk.{Walk}
 use Rattle.yds_oa.specs.Greatest.{AreInOrder, AreDueAfter, IsQuotientAmong, IsNotGreater, IsGreatestWithin, IsWalk}
 use Rattle.yds_edf.proofs.Sums.{sum_below_term}
 use Rattle.yds_edf.proofs.PlacedSums.{before_rises, none_left}
-use Rattle.yds_model.proofs.Fractions.{at_most_still}
 
 -- before a place with no units before it there are none
 pub none_there : (units : List ℕ) (start place : ℕ) → units_before units start ≡ 0 → place < start → slice_index units place ≡ 0

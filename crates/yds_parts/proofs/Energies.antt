@@ -1,9 +1,5 @@
 -- The energy of both parts, and of the time between them.
-use Rattle.std.proofs.Common.{◌≡◌, ℕ, ◌+◌, ◌-◌, ◌*◌, List, [], ◌∷◌, ◌++◌, length, map, refl, ap, ◌∙◌, arith, ℤ, pos, ◌+ℤ◌}
-use Rattle.std.proofs.lemmas.Int.{ints}
-use Rattle.yds_model.specs.Slot.{WholeSlot}
-use Rattle.yds_model.specs.Table.{Point, point_at, gaps_of}
-use Rattle.yds_model.specs.Energy.{product, interpolated_power, total, idle, SpendsAtPoints}
+use Rattle.yds_model.proofs.Common.{◌≡◌, ℕ, ◌+◌, ◌-◌, ◌*◌, List, [], ◌∷◌, ◌++◌, length, map, refl, ap, ◌∙◌, arith, ℤ, pos, ◌+ℤ◌, ints, WholeSlot, Point, point_at, gaps_of, product, interpolated_power, total, idle, SpendsAtPoints}
 use Rattle.yds_energy.proofs.RoundedEnergy.{total_joined, spends_joined}
 use Rattle.yds_parts.specs.Parts.{moved}
 use Rattle.yds_parts.specs.EnergyOfParts.{cost_between, EnergyOfParts, EnergyOnPointsOfParts}

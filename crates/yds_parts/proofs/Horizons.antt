@@ -1,12 +1,5 @@
 -- The horizon of all jobs is that of each part and the gap between them.
-use Rattle.std.proofs.Common.{◌≡◌, ℕ, ◌+◌, ◌-◌, ◌*◌, ◌<◌, ◌≤◌, min, max, List, [], ◌∷◌, ◌++◌, length, map, refl, sym, ap, ◌∙◌, arith, All, fold}
-use Rattle.std.proofs.lemmas.List.Elements.{All-head, All-tail}
-use Rattle.std.proofs.lemmas.List.Sums.{sum_by-cons, sum_by-append}
-use Rattle.yds_model.specs.Job.{Job}
-use Rattle.yds_model.specs.Slot.{WholeSlot}
-use Rattle.yds_model.specs.Feasible.{IsFeasibleAt}
-use Rattle.yds_model.specs.Energy.{last_deadline, first_release, horizon, busy, idle}
-use Rattle.yds_model.proofs.Horizon.{releases_from, busy_and_idle}
+use Rattle.yds_model.proofs.Common.{◌≡◌, ℕ, ◌+◌, ◌-◌, ◌*◌, ◌<◌, ◌≤◌, min, max, List, [], ◌∷◌, ◌++◌, length, map, refl, sym, ap, ◌∙◌, arith, All, fold, All-head, All-tail, sum_by-cons, sum_by-append, Job, WholeSlot, IsFeasibleAt, last_deadline, first_release, horizon, busy, idle, releases_from, busy_and_idle}
 use Rattle.yds_parts.specs.Parts.{ArePartedAt, moved, together_at, gap_between, WindowsAreForward}
 use Rattle.yds_parts.proofs.TwoParts.{feasible_together}
 

@@ -1,9 +1,5 @@
 -- Parts, tried on a job from 0 to 2 and one from 2 to 4 or later, each of work 2: what meets the laws' premises, and near misses.
-use Rattle.std.proofs.Common.{◌≡◌, ℕ, ◌≤◌, [], ◌∷◌, refl, arith}
-use Rattle.std.proofs.lemmas.List.Elements.{All-cons, All-nil}
-use Rattle.yds_model.specs.Job.{Job}
-use Rattle.yds_model.specs.Slot.{WholeSlot}
-use Rattle.yds_model.specs.Feasible.{RunFrom}
+use Rattle.yds_model.proofs.Common.{◌≡◌, ℕ, ◌≤◌, [], ◌∷◌, refl, arith, All-cons, All-nil, Job, WholeSlot, RunFrom}
 use Rattle.yds_parts.specs.Parts.{ArePartedAt, together_at, gap_between}
 
 abbrev pub job : ℕ → ℕ → ℕ → Job

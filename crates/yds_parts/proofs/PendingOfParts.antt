@@ -1,20 +1,5 @@
 -- What is pending of both parts is what is pending of each, and from the cut on nothing of the first.
-use Rattle.std.proofs.Common.{rules, ◌≡◌, ℕ, zero, suc, ◌+◌, ◌-◌, ◌*◌, ◌<◌, ◌≤◌, Bool, List, [], ◌∷◌, ◌++◌, length, map, get_or, refl, ap, ◌∙◌, arith, sum_by, nat_le, nat_lt, ◌&&◌, mul-le-mul_right}
-use Rattle.std.specs.List.{All, filter, range_with_len}
-use Rattle.std.proofs.lemmas.Bool.{le-leb, lt-leb}
-use Rattle.std.proofs.lemmas.List.{map-append, length-append}
-use Rattle.std.proofs.lemmas.List.Elements.{All-head, All-tail, All-filter, All-weaker, filter-append}
-use Rattle.std.proofs.lemmas.List.FromFn.{get_or-range_with_len, length-range_with_len}
-use Rattle.std.proofs.lemmas.List.Sums.{sum_by-append}
-use Rattle.std.proofs.Math.Bool.{false-and, and-false}
-use Rattle.yds_model.specs.Job.{Job, no_job, job_at}
-use Rattle.yds_model.specs.Slot.{WholeSlot, work_given}
-use Rattle.yds_model.specs.Piece.{Piece}
-use Rattle.yds_model.specs.Feasible.{IsFeasibleAt}
-use Rattle.yds_model.specs.Policy.{pending_at, numbers_of, pending_units}
-use Rattle.yds_model.specs.OptimalAvailable.{pending_jobs, due_units, pending_deadlines}
-use Rattle.yds_model.proofs.Sums.{sum_by_same, sum_by_zero, sum_by-map}
-use Rattle.yds_model.proofs.Filters.{filter_none, filter_all}
+use Rattle.yds_model.proofs.Common.{rules, ◌≡◌, ℕ, zero, suc, ◌+◌, ◌-◌, ◌*◌, ◌<◌, ◌≤◌, Bool, List, [], ◌∷◌, ◌++◌, length, map, get_or, refl, ap, ◌∙◌, arith, sum_by, nat_le, nat_lt, ◌&&◌, mul-le-mul_right, All, filter, range_with_len, le-leb, lt-leb, map-append, length-append, All-head, All-tail, All-filter, All-weaker, filter-append, get_or-range_with_len, length-range_with_len, sum_by-append, false-and, and-false, Job, no_job, job_at, WholeSlot, work_given, Piece, IsFeasibleAt, pending_at, numbers_of, pending_units, pending_jobs, due_units, pending_deadlines, sum_by_same, sum_by_zero, sum_by-map, filter_none, filter_all}
 use Rattle.yds_parts.specs.Parts.{ArePartedAt, together_at}
 use Rattle.yds_parts.proofs.TwoParts.{first_job, second_job, only_first, only_second}
 use Rattle.yds_parts.proofs.EventsOfParts.{IsGap, EndsBy, BeginsFrom}

@@ -1,18 +1,5 @@
 -- The premises of the laws are met: a job from 0 to 2 and one from 5 to 7, each of work 2, with a slot that fills the window.
-use Rattle.std.proofs.Common.{rules, ◌≡◌, ℕ, zero, suc, ◌<◌, ◌≤◌, List, [], ◌∷◌, ◌++◌, refl, sym, subst, arith, inr, All, Any}
-use Rattle.std.proofs.lemmas.List.Elements.{All-cons, All-nil}
-use Rattle.std.proofs.Math.Nat.{one-dvd}
-use Rattle.yds_model.specs.Job.{Job}
-use Rattle.yds_model.specs.Scale.{of_whole}
-use Rattle.yds_model.specs.Slot.{WrittenSlot, WholeSlot, IsScale}
-use Rattle.yds_model.specs.Piece.{Piece}
-use Rattle.yds_model.specs.Table.{IsTable}
-use Rattle.yds_model.specs.Feasible.{IsFeasibleAt}
-use Rattle.yds_model.specs.EarliestFirst.{ComesFirst}
-use Rattle.yds_model.specs.Event.{stretches, LiesIn, IsUncut}
-use Rattle.yds_model.specs.Policy.{ServesCapacity, IsRunAt}
-use Rattle.yds_model.specs.AverageRate.{IsAverageRateRun}
-use Rattle.yds_model.specs.OptimalAvailable.{IsOptimalAvailableRun}
+use Rattle.yds_model.proofs.Common.{rules, ◌≡◌, ℕ, zero, suc, ◌<◌, ◌≤◌, List, [], ◌∷◌, ◌++◌, refl, sym, subst, arith, inr, All, Any, All-cons, All-nil, one-dvd, Job, of_whole, WrittenSlot, WholeSlot, IsScale, Piece, IsTable, IsFeasibleAt, ComesFirst, stretches, LiesIn, IsUncut, ServesCapacity, IsRunAt, IsAverageRateRun, IsOptimalAvailableRun}
 use Rattle.yds_energy.proofs.Finer.{each_scale_of}
 use Rattle.yds_energy.proofs.RunScale.{average_rate_run_free, optimal_available_run_free, optimal_available_rounds_free}
 use Rattle.yds_parts.specs.Parts.{slots_in_turn, WindowsAreForward}

@@ -1,14 +1,6 @@
 -- What parts spend and how policies serve them, tried on a job from 0 to 2 and one from 5 to 7, each of work 2, and on near misses whose
 -- windows overlap by one unit of time.
-use Rattle.std.proofs.Common.{◌≡◌, ℕ, zero, suc, ◌+◌, List, [], ◌∷◌, ◌++◌, refl, ap, arith, count_by}
-use Rattle.yds_model.specs.Job.{Job}
-use Rattle.yds_model.specs.Slot.{WholeSlot}
-use Rattle.yds_model.specs.Piece.{Piece}
-use Rattle.yds_model.specs.Table.{Point}
-use Rattle.yds_model.specs.Event.{stretches, IsUncut}
-use Rattle.yds_model.specs.AverageRate.{average_rate, average_rate_rounds}
-use Rattle.yds_model.specs.OptimalAvailable.{optimal_available}
-use Rattle.yds_model.specs.Comparison.{all_time_at, all_energy}
+use Rattle.yds_model.proofs.Common.{◌≡◌, ℕ, zero, suc, ◌+◌, List, [], ◌∷◌, ◌++◌, refl, ap, arith, count_by, Job, WholeSlot, Piece, Point, stretches, IsUncut, average_rate, average_rate_rounds, optimal_available, all_time_at, all_energy}
 use Rattle.yds_parts.specs.Parts.{together_at}
 use Rattle.yds_parts.specs.EnergyOfParts.{cost_between}
 use Rattle.yds_parts.specs.SpentOfParts.{time_between}

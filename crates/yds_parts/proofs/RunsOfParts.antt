@@ -1,22 +1,5 @@
 -- Runs of both policies on a grid: those of both parts, one after another, are one of all jobs.
-use Rattle.std.proofs.Common.{rules, ◌≡◌, ℕ, length, ◌+◌, ◌-◌, ◌*◌, ◌<◌, ◌≤◌, Bool, false, min, max, List, [], ◌∷◌, ◌++◌, map, refl, sym, ap, subst, ◌∙◌, arith, append-nil}
-use Rattle.std.specs.Prelude.{sum_by, count_by, fold, cond}
-use Rattle.std.specs.List.{All, Contains, filter, list_any}
-use Rattle.std.proofs.lemmas.Bool.{lt-leb, le-ltb}
-use Rattle.std.proofs.lemmas.List.Elements.{filter-append, All-from_get_or, All-append, Contains-append_left, Contains-append_right, All-map}
-use Rattle.std.proofs.lemmas.List.Sums.{sum_by-append}
-use Rattle.std.proofs.Math.Bool.{false-and, and-false}
-use Rattle.std.proofs.Math.Path.{fun_ext}
-use Rattle.yds_model.specs.Job.{Job, no_job, job_at}
-use Rattle.yds_model.specs.Slot.{WholeSlot, slots_at}
-use Rattle.yds_model.specs.Piece.{Piece}
-use Rattle.yds_model.specs.Feasible.{IsFeasibleAt}
-use Rattle.yds_model.specs.Event.{stretches}
-use Rattle.yds_model.specs.Policy.{div_up, pending_units, IsRunAt, HasRunDenominators}
-use Rattle.yds_model.specs.AverageRate.{is_live, term_of, terms_of, average_rate, rounds_term, average_rate_rounds}
-use Rattle.yds_model.specs.OptimalAvailable.{pending_jobs, due_units, pending_deadlines, asked, units_asked, optimal_available, optimal_available_rounds}
-use Rattle.yds_model.proofs.Sums.{sum_by_same}
-use Rattle.yds_model.proofs.Filters.{filter_none}
+use Rattle.yds_model.proofs.Common.{rules, ◌≡◌, ℕ, length, ◌+◌, ◌-◌, ◌*◌, ◌<◌, ◌≤◌, Bool, false, min, max, List, [], ◌∷◌, ◌++◌, map, refl, sym, ap, subst, ◌∙◌, arith, append-nil, sum_by, count_by, fold, cond, All, Contains, filter, list_any, lt-leb, le-ltb, filter-append, All-from_get_or, All-append, Contains-append_left, Contains-append_right, All-map, sum_by-append, false-and, and-false, fun_ext, Job, no_job, job_at, WholeSlot, slots_at, Piece, IsFeasibleAt, stretches, div_up, pending_units, IsRunAt, HasRunDenominators, is_live, term_of, terms_of, average_rate, rounds_term, average_rate_rounds, pending_jobs, due_units, pending_deadlines, asked, units_asked, optimal_available, optimal_available_rounds, sum_by_same, filter_none}
 use Rattle.yds_parts.specs.Parts.{ArePartedAt, together_at, moved_written, WindowsAreForward}
 use Rattle.yds_parts.specs.RunsOfParts.{AverageRateOfParts, OptimalAvailableOfParts, RunDenominatorsOfParts}
 use Rattle.yds_parts.proofs.WrittenParts.{together_is, scale_of_first, scale_of_second, solid_of_both}

@@ -1,15 +1,5 @@
 -- The slots in a stretch of one part are that part's, and in the stretch between the parts there are none.
-use Rattle.std.proofs.Common.{rules, ◌≡◌, ℕ, ◌*◌, ◌<◌, ◌≤◌, ◌⊎◌, Bool, List, [], ◌∷◌, ◌++◌, length, map, refl, ap, ◌∙◌, arith, inl, inr, All, filter, append-nil, mul-le-mul_right}
-use Rattle.std.proofs.lemmas.Bool.{cases_Bool}
-use Rattle.std.proofs.lemmas.List.Elements.{All-head, All-tail, All-append, filter-append, All-map}
-use Rattle.yds_model.specs.Job.{Job}
-use Rattle.yds_model.specs.Slot.{WholeSlot}
-use Rattle.yds_model.specs.Piece.{Piece}
-use Rattle.yds_model.specs.Feasible.{IsFeasibleAt}
-use Rattle.yds_model.specs.Event.{LiesIn}
-use Rattle.yds_model.specs.Policy.{slots_in}
-use Rattle.yds_model.proofs.Runs.{run_forward}
-use Rattle.yds_model.proofs.Filters.{filter_none}
+use Rattle.yds_model.proofs.Common.{rules, ◌≡◌, ℕ, ◌*◌, ◌<◌, ◌≤◌, ◌⊎◌, Bool, List, [], ◌∷◌, ◌++◌, length, map, refl, ap, ◌∙◌, arith, inl, inr, All, filter, append-nil, mul-le-mul_right, cases_Bool, All-head, All-tail, All-append, filter-append, All-map, Job, WholeSlot, Piece, IsFeasibleAt, LiesIn, slots_in, run_forward, filter_none}
 use Rattle.yds_energy.proofs.StretchSlots.{lies, lies_told}
 use Rattle.yds_parts.specs.Parts.{ArePartedAt, moved, together_at}
 use Rattle.yds_parts.proofs.TwoParts.{ends_by, begins_from}

@@ -1,14 +1,5 @@
 -- Written schedules of both parts: feasible and least exactly where each part is.
-use Rattle.std.proofs.Common.{◌≡◌, ℕ, ◌*◌, ◌<◌, ◌≤◌, List, [], ◌∷◌, ◌++◌, length, map, refl, sym, ap, subst, ◌∙◌, arith, mul_comm, All}
-use Rattle.std.proofs.lemmas.List.{map-append}
-use Rattle.std.proofs.lemmas.List.Elements.{All-append, All-map}
-use Rattle.std.proofs.Math.Nat.{le_of_mul-le-mul_left}
-use Rattle.yds_model.specs.Job.{Job}
-use Rattle.yds_model.specs.Slot.{WrittenSlot, WholeSlot, IsDivided, IsScale, IsSolid, slot_at_scale, slots_at}
-use Rattle.yds_model.specs.Feasible.{IsFeasibleAt}
-use Rattle.yds_model.specs.Excess.{IsLeastAt}
-use Rattle.yds_model.proofs.Lists.{All-front, All-back}
-use Rattle.yds_model.proofs.Scale.{finer, finer_excess, excess_scaled, feasible_scaled, feasible_finer, one_scale_decides, scale_exists}
+use Rattle.yds_model.proofs.Common.{◌≡◌, ℕ, ◌*◌, ◌<◌, ◌≤◌, List, [], ◌∷◌, ◌++◌, length, map, refl, sym, ap, subst, ◌∙◌, arith, mul_comm, All, map-append, All-append, All-map, le_of_mul-le-mul_left, Job, WrittenSlot, WholeSlot, IsDivided, IsScale, IsSolid, slot_at_scale, slots_at, IsFeasibleAt, IsLeastAt, All-front, All-back, finer, finer_excess, excess_scaled, feasible_scaled, feasible_finer, one_scale_decides, scale_exists}
 use Rattle.yds_laws.proofs.Bound.{scale_left, scale_right}
 use Rattle.yds_energy.proofs.PlanParts.{scale_joined, scale_times}
 use Rattle.yds_parts.specs.Parts.{moved, moved_written, slots_in_turn, together_at, AreOf}

@@ -1,17 +1,6 @@
 -- What the groups have together is within the limits of levels.
-use Rattle.std.proofs.Common.{ℕ, ◌+◌, ◌-◌, ◌*◌, ◌<◌, ◌≤◌, ◌==◌, List, [], ◌∷◌, length, get_or, ap, arith, Bool, true, false}
-use Rattle.std.specs.Prelude.{cond}
-use Rattle.std.specs.List.{All, sum_by, filter, range_with_len}
-use Rattle.std.proofs.lemmas.List.Sums.{sum_by-cons, sum_by-le}
-use Rattle.std.proofs.lemmas.List.Elements.{All-head, All-tail, All-from_get_or}
-use Rattle.std.proofs.lemmas.List.FromFn.{length-range_with_len}
-use Rattle.std.proofs.Math.Nat.{mul-le-mul_right}
+use Rattle.yds_model.proofs.Common.{ℕ, ◌+◌, ◌-◌, ◌*◌, ◌<◌, ◌≤◌, ◌==◌, List, [], ◌∷◌, length, get_or, ap, arith, Bool, true, false, cond, All, sum_by, filter, range_with_len, sum_by-cons, sum_by-le, All-head, All-tail, All-from_get_or, length-range_with_len, mul-le-mul_right, Job, IsJob, job_at, Piece, PiecesFrom, total_length, stretches, sum_by-mul, sum_by_same, sum_by_at_most, sum_by-filter}
 use Rattle.yds_model.specs.declared.limits.TheConstants.{MAX_JOBS, MAX_TIME, MAX_WORK}
-use Rattle.yds_model.specs.Job.{Job, IsJob, job_at}
-use Rattle.yds_model.specs.Piece.{Piece, PiecesFrom, total_length}
-use Rattle.yds_model.specs.Event.{stretches}
-use Rattle.yds_model.proofs.Sums.{sum_by-mul, sum_by_same, sum_by_at_most}
-use Rattle.yds_model.proofs.Filters.{sum_by-filter}
 use Rattle.yds_search.specs.Found.{Group, Found, IsFound, no_group, group_of, group_at, work_of_group, length_of_group}
 use Rattle.yds_events.specs.Stretch.{no_stretch}
 use Rattle.yds_events.specs.Window.{length_at}

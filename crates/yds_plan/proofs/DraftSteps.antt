@@ -1,15 +1,7 @@
 -- One more job or stretch in the levels on the way.
-use Rattle.std.proofs.Common.{◌≡◌, ℕ, suc, ◌-◌, ◌==◌, List, [], ◌∷◌, ◌++◌, ◌∙◌, length, refl, ap, arith, inl, inr, Bool, true, false, ◌+◌, ◌<◌, ◌≤◌, map, get_or, set, sym}
-use Rattle.std.specs.Prelude.{cond}
-use Rattle.std.proofs.lemmas.Bool.{cases_Bool, lt-ltb, eq-eqb, ne_eqb}
-use Rattle.yds_model.specs.Piece.{Piece}
+use Rattle.yds_model.proofs.Common.{◌≡◌, ℕ, suc, ◌-◌, ◌==◌, List, [], ◌∷◌, ◌++◌, ◌∙◌, length, refl, ap, arith, inl, inr, Bool, true, false, ◌+◌, ◌<◌, ◌≤◌, map, get_or, set, sym, cond, cases_Bool, lt-ltb, eq-eqb, ne_eqb, Piece, filter, range_with_len, append-nil, map-append, get_or-map-range_with_len, length-map-range_with_len, Level, no_level, level_at, filter-range_with_len_more}
 use Rattle.yds_plan.specs.Laid.{merge, merged, level_of, levels_among, level_of_place}
 use Rattle.yds_plan.specs.Drafts.{touches_last, with_next, extended, draft, drafts, extended_level}
-use Rattle.std.specs.List.{filter, range_with_len}
-use Rattle.std.proofs.lemmas.List.{append-nil, map-append}
-use Rattle.std.proofs.lemmas.List.FromFn.{get_or-map-range_with_len, length-map-range_with_len}
-use Rattle.yds_model.specs.Level.{Level, no_level, level_at}
-use Rattle.yds_model.proofs.Filters.{filter-range_with_len_more}
 use Rattle.yds_certificate.specs.Level.{with_member}
 use Rattle.yds_search.specs.Found.{Found, group_of}
 use Rattle.yds_events.specs.Stretch.{nth_stretch}

@@ -1,22 +1,6 @@
 -- What the search finds makes a plan.
-use Rattle.std.proofs.Common.{◌≡◌, ℕ, ◌+◌, ◌*◌, ◌<◌, ◌≤◌, List, Some, None, ◌∙◌, length, map, get_or, refl, sym, ap, ap₂, arith, inl, inr}
-use Rattle.std.specs.Prelude.{Option, Result, IfOk, slice_get}
-use Rattle.std.specs.List.{All, Contains, sum_by, range_with_len}
-use Rattle.std.proofs.lemmas.Bool.{cases_lt}
-use Rattle.std.proofs.lemmas.List.{length-map, get_or-map}
-use Rattle.std.proofs.lemmas.List.FromFn.{length-map-range_with_len, get_or-map-range_with_len}
-use Rattle.std.proofs.lemmas.Option.{slice_get-get_or, slice_get_past}
-use Rattle.std.proofs.lemmas.List.Elements.{All-contains}
-use Rattle.yds_model.specs.Numbers.{Each}
-use Rattle.yds_model.specs.Job.{Job, IsJob, job_at, work_of}
+use Rattle.yds_model.proofs.Common.{◌≡◌, ℕ, ◌+◌, ◌*◌, ◌<◌, ◌≤◌, List, Some, None, ◌∙◌, length, map, get_or, refl, sym, ap, ap₂, arith, inl, inr, Option, Result, IfOk, slice_get, All, Contains, sum_by, range_with_len, cases_lt, length-map, get_or-map, length-map-range_with_len, get_or-map-range_with_len, slice_get-get_or, slice_get_past, All-contains, Each, Job, IsJob, job_at, work_of, WrittenSlot, no_slot, no_written_slot, IsSolid, IsScale, slots_at, written_slot_at, Level, level_at, all_members, PiecesStand, StandsOnce, SumsAgree, IsWindowCovered, HasLevelSpeed, AreLevels, stretches, IsSlower, DontTouch, Rise, HasLevelDenominators, IsPlan, speed_num, speed_den, same_through, lowest_terms_are_one, stretch_at}
 use Rattle.yds_model.specs.declared.limits.TheConstants.{MAX_JOBS}
-use Rattle.yds_model.specs.Slot.{WrittenSlot, no_slot, no_written_slot, IsSolid, IsScale, slots_at, written_slot_at}
-use Rattle.yds_model.specs.Level.{Level, level_at, all_members}
-use Rattle.yds_model.specs.Proper.{PiecesStand, StandsOnce, SumsAgree, IsWindowCovered, HasLevelSpeed, AreLevels}
-use Rattle.yds_model.specs.Event.{stretches}
-use Rattle.yds_model.specs.Plan.{IsSlower, DontTouch, Rise, HasLevelDenominators, IsPlan, speed_num, speed_den}
-use Rattle.yds_model.proofs.Fractions.{same_through}
-use Rattle.yds_model.proofs.Divisor.{lowest_terms_are_one}
 use Rattle.yds_slots.specs.Schedule.{WrittenSchedule}
 use Rattle.yds_timetable.specs.Shares.{JobShare, no_share}
 use Rattle.yds_timetable.specs.Timetable.{Row, slots_of}
@@ -24,7 +8,6 @@ use Rattle.yds_timetable.proofs.Lists.{all_second, zipped_at, zipped_by_places}
 use Rattle.yds_timetable.proofs.Rows.{no_row, rows_solid}
 use Rattle.yds_timetable.proofs.Made.{rows_stretches}
 use Rattle.yds_search.specs.Found.{Found, IsFound, group_of, group_at, per_time, per_work}
-use Rattle.yds_model.specs.Comparison.{stretch_at}
 use Rattle.yds_events.specs.Window.{length_at}
 use Rattle.yds_plan.specs.Laid.{level_of, levels_among, together, members_of, stretches_of_level, level_numbered, levels_of, pace_of_group, row_found, rows_found, laid_slots}
 use Rattle.yds_plan.specs.Timetabled.{pace_of_level, RunsAtLevel, IsTimetabled}

@@ -1,16 +1,5 @@
 -- Pieces of which those that touch are one: they keep what the single pieces have.
-use Rattle.std.proofs.Common.{◌≡◌, ℕ, zero, suc, ◌+◌, ◌<◌, ◌≤◌, List, [], ◌∷◌, length, map, refl, arith, ◌-◌, ◌⊎◌, get_or, inl, inr, Bool, true, false}
-use Rattle.std.specs.List.{All, AllPairs, Any, flat_map, range_with_len, filter}
-use Rattle.std.proofs.lemmas.List.Elements.{All-nil, All-append, All-cons, All-head, All-tail}
-use Rattle.yds_model.proofs.Lists.{AllPairs-append, Any-append_left, Any-append_right}
-use Rattle.std.specs.Prelude.{cond}
-use Rattle.std.proofs.lemmas.Bool.{cases_lt, cond_both, eqb-true, eqb-false, false≢true}
-use Rattle.std.proofs.lemmas.List.Sums.{sum_by-cons}
-use Rattle.yds_model.specs.Job.{Job}
-use Rattle.yds_model.specs.Piece.{Piece, AreApart, PiecesFrom, Covers, total_length}
-use Rattle.yds_model.specs.Plan.{DontTouch}
-use Rattle.yds_model.specs.Event.{stretches}
-use Rattle.yds_model.specs.Comparison.{stretch_at}
+use Rattle.yds_model.proofs.Common.{◌≡◌, ℕ, zero, suc, ◌+◌, ◌<◌, ◌≤◌, List, [], ◌∷◌, length, map, refl, arith, ◌-◌, ◌⊎◌, get_or, inl, inr, Bool, true, false, All, AllPairs, Any, flat_map, range_with_len, filter, All-nil, All-append, All-cons, All-head, All-tail, AllPairs-append, Any-append_left, Any-append_right, cond, cases_lt, cond_both, eqb-true, eqb-false, false≢true, sum_by-cons, Job, Piece, AreApart, PiecesFrom, Covers, total_length, DontTouch, stretches, stretch_at}
 use Rattle.yds_plan.specs.Laid.{merge, merged}
 use Rattle.yds_events.proofs.Neighbours.{stretch_forward, stretch_order}
 

@@ -1,26 +1,7 @@
 -- The timetable of what is found: each stretch is filled at its group's pace, or idle, and each slot stands beside its share.
-use Rattle.std.proofs.Common.{◌≡◌, ℕ, ◌+◌, ◌*◌, ◌<◌, ◌≤◌, ◌==◌, ◌⊎◌, List, [], Some, None, ◌∙◌, length, map, get_or, sym, refl, ap, ap₂, subst, arith, inl, inr}
-use Rattle.std.specs.Prelude.{Option, slice_get, option_map}
-use Rattle.std.specs.List.{All, AllPairs, AllZip, Contains, filter, flat_map, sum_by, range_with_len}
-use Rattle.std.proofs.lemmas.Bool.{cases_eq, cases_lt, eq-eqb, eqb-true, ne_eqb}
-use Rattle.std.proofs.lemmas.List.{get_or_default, length-map, nil_from_length}
-use Rattle.std.proofs.lemmas.Option.{slice_get-map, slice_get-get_or, slice_get_past}
-use Rattle.std.proofs.lemmas.List.Elements.{All-contains, All-contains_itself, All-filter, All-from_get_or, All-map, filter_agree, filter_passes}
-use Rattle.std.proofs.lemmas.List.Folds.{flat_map-map}
-use Rattle.std.proofs.lemmas.List.Kept.{AllPairs-filter}
-use Rattle.std.proofs.lemmas.List.Sums.{get_or-le-sum_by}
-use Rattle.std.proofs.Math.Nat.{div-le_self, mul-le-mul_left, mul-le-mul_right}
+use Rattle.yds_model.proofs.Common.{◌≡◌, ℕ, ◌+◌, ◌*◌, ◌<◌, ◌≤◌, ◌==◌, ◌⊎◌, List, [], Some, None, ◌∙◌, length, map, get_or, sym, refl, ap, ap₂, subst, arith, inl, inr, Option, slice_get, option_map, All, AllPairs, AllZip, Contains, filter, flat_map, sum_by, range_with_len, cases_eq, cases_lt, eq-eqb, eqb-true, ne_eqb, get_or_default, length-map, nil_from_length, slice_get-map, slice_get-get_or, slice_get_past, All-contains, All-contains_itself, All-filter, All-from_get_or, All-map, filter_agree, filter_passes, flat_map-map, AllPairs-filter, get_or-le-sum_by, div-le_self, mul-le-mul_left, mul-le-mul_right, Job, IsJob, job_at, WrittenSlot, Piece, common_divisor, stretches, ComesFirst, stretch_at, sum_by_same, sum_by-filter}
 use Rattle.yds_model.specs.declared.limits.TheConstants.{MAX_JOBS, MAX_SLOT_WORK, MAX_WORK}
-use Rattle.yds_model.specs.Job.{Job, IsJob, job_at}
-use Rattle.yds_model.specs.Slot.{WrittenSlot}
-use Rattle.yds_model.specs.Piece.{Piece}
-use Rattle.yds_model.specs.Divisor.{common_divisor}
-use Rattle.yds_model.specs.Event.{stretches}
-use Rattle.yds_model.specs.EarliestFirst.{ComesFirst}
-use Rattle.yds_model.specs.Comparison.{stretch_at}
 use Rattle.yds_model.specs.Plan.{IsOver}
-use Rattle.yds_model.proofs.Sums.{sum_by_same}
-use Rattle.yds_model.proofs.Filters.{sum_by-filter}
 use Rattle.yds_slots.proofs.Parts.{of_parts_over}
 use Rattle.yds_events.specs.Stretch.{IsStretch}
 use Rattle.yds_events.specs.Window.{length_at}

@@ -1,21 +1,6 @@
 -- The slots of what was found, at a scale: each lies in a stretch of its job's window, each follows those before it, and each job gets its work.
-use Rattle.std.proofs.Common.{◌≡◌, ℕ, zero, suc, ◌-◌, ◌*◌, ◌<◌, ◌≤◌, ◌==◌, List, [], ◌∷◌, ◌∙◌, length, sym, refl, ap, subst, arith, inl, inr}
-use Rattle.std.specs.Prelude.{cond}
-use Rattle.std.specs.List.{All, AllPairs, AllZip}
-use Rattle.std.proofs.Math.Nat.{mul-pos, mul-le-mul_right, eq_of_mul-eq-mul_left}
-use Rattle.std.proofs.lemmas.Bool.{cases_lt}
-use Rattle.std.proofs.lemmas.List.{get_or_default}
-use Rattle.std.proofs.lemmas.List.Elements.{All-from_get_or, All-head, All-tail, All-weaker}
-use Rattle.yds_model.specs.Job.{Job, IsJob, job_at}
+use Rattle.yds_model.proofs.Common.{◌≡◌, ℕ, zero, suc, ◌-◌, ◌*◌, ◌<◌, ◌≤◌, ◌==◌, List, [], ◌∷◌, ◌∙◌, length, sym, refl, ap, subst, arith, inl, inr, cond, All, AllPairs, AllZip, mul-pos, mul-le-mul_right, eq_of_mul-eq-mul_left, cases_lt, get_or_default, All-from_get_or, All-head, All-tail, All-weaker, Job, IsJob, job_at, ComesFirst, WrittenSlot, WholeSlot, no_slot, IsDivided, IsScale, slot_at_scale, slots_at, work_given, IsInWindow as IsSlotInWindow, IsFeasibleAt, RunFrom, Piece, PiecesFrom, LiesIn, IsUncut, stretches, IsServedInStretches, stretch_at, sum_by_zero}
 use Rattle.yds_model.specs.declared.limits.TheConstants.{MAX_JOBS}
-use Rattle.yds_model.specs.EarliestFirst.{ComesFirst}
-use Rattle.yds_model.specs.Slot.{WrittenSlot, WholeSlot, no_slot, IsDivided, IsScale, slot_at_scale, slots_at, work_given}
-use Rattle.yds_model.specs.Feasible.{IsInWindow as IsSlotInWindow, IsFeasibleAt, RunFrom}
-use Rattle.yds_model.specs.Piece.{Piece, PiecesFrom}
-use Rattle.yds_model.specs.Event.{LiesIn, IsUncut, stretches}
-use Rattle.yds_model.specs.Plan.{IsServedInStretches}
-use Rattle.yds_model.specs.Comparison.{stretch_at}
-use Rattle.yds_model.proofs.Sums.{sum_by_zero}
 use Rattle.yds_slots.proofs.Parts.{of_parts_at}
 use Rattle.yds_events.specs.Stretch.{no_stretch}
 use Rattle.yds_events.specs.Window.{length_at}

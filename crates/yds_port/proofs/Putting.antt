@@ -1,10 +1,6 @@
 -- Texts that are put into a sink one after another.
-use Rattle.std.proofs.Common.{◌≡◌, ℕ, suc, ◌+◌, ◌<◌, ◌≤◌, List, [], ◌∷◌, ◌++◌, ◌∙◌, ap, subst, sym, append_assoc, Option, Result, Ok, Err, IsErr, length, take, drop, get_or, take_all, take-append-drop, drop-cons}
-use Rattle.std.specs.Prelude.{flat_map}
-use Rattle.std.proofs.lemmas.Grind.{flat_map-append}
-use Rattle.std.proofs.lemmas.List.{take_more, append-nil}
+use Rattle.yds_model.proofs.Common.{◌≡◌, ℕ, suc, ◌+◌, ◌<◌, ◌≤◌, List, [], ◌∷◌, ◌++◌, ◌∙◌, ap, subst, sym, append_assoc, Option, Result, Ok, Err, IsErr, length, take, drop, get_or, take_all, take-append-drop, drop-cons, flat_map, flat_map-append, take_more, append-nil, Appends}
 use Rattle.std.proofs.KnownBytes.{Appends-trans}
-use Rattle.std.specs.Io.KnownBytes.{Appends}
 use Rattle.yds_port.specs.Count.{Rose}
 use Rattle.yds_port.specs.Sink.{AppendsFront, Puts}
 

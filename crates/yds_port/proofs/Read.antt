@@ -1,10 +1,6 @@
 -- What a read into the tail of a buffer adds to what was taken before.
-use Rattle.std.proofs.Common.{◌≡◌, ℕ, ◌+◌, List, ◌++◌, ◌∙◌, ap, sym, subst, take, drop, Some}
-use Rattle.std.proofs.Math.Seq.{take-add}
-use Rattle.std.proofs.lemmas.Simd.{chunk-drop}
+use Rattle.yds_model.proofs.Common.{◌≡◌, ℕ, ◌+◌, List, ◌++◌, ◌∙◌, ap, sym, subst, take, drop, Some, take-add, chunk-drop, Consumes, Option}
 use Rattle.std.proofs.KnownBytes.{Consumes-trans}
-use Rattle.std.specs.Io.KnownBytes.{Consumes}
-use Rattle.std.specs.declared.option.Option.{Option}
 
 -- the front of the buffer stayed, and the next n bytes of it are the next that were consumed
 pub Consumes-next : (a b c : Option (List ℕ)) (old new : List ℕ) (filled n : ℕ) → Consumes a b (take filled old)

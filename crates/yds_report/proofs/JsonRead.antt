@@ -1,5 +1,5 @@
 -- The text of a report is read with its line feed as it is without: after the last token a line feed is no token.
-use Rattle.std.proofs.Common.{◌≡◌, ℕ, ◌-◌, ◌^◌, ◌<◌, length, ◌≤◌, Bool, true, false, cond, ◌&&◌, List, [], ◌∷◌, ◌++◌, refl, sym, ap, ap₂, subst, ◌∙◌, append_assoc, append-nil, arith, map, Some, option_and_then}
+use Rattle.yds_model.proofs.Common.{◌≡◌, ℕ, ◌-◌, ◌^◌, ◌<◌, length, ◌≤◌, Bool, true, false, cond, ◌&&◌, List, [], ◌∷◌, ◌++◌, refl, sym, ap, ap₂, subst, ◌∙◌, append_assoc, append-nil, arith, map, Some, option_and_then, Job, IsJob, Level, sum_by, All, All-tail, IsLevel, first_release, last_deadline, horizon, report_json, last_within, releases_from, works_few}
 use Rattle.json.specs.Token.{Token, begin_object, end_object, begin_array, end_array, key, string, number, boolean, null, bad}
 use Rattle.json.specs.Word.{ends_word, word}
 use Rattle.json.specs.Lex.{token, comma, string_token, lex, between, fresh, punctuate, tokens}
@@ -19,15 +19,6 @@ use Rattle.serde_json.specs.View.{items_of}
 use Rattle.serde_json.specs.Written.{compact_text, outline, items_outline}
 use Rattle.serde_json.proofs.Texts.{print-outline}
 use Rattle.yds_model.specs.declared.limits.TheConstants.{MAX_JOBS}
-use Rattle.yds_model.specs.Job.{Job, IsJob}
-use Rattle.yds_model.specs.Level.{Level}
-use Rattle.std.specs.Prelude.{sum_by}
-use Rattle.std.specs.List.{All}
-use Rattle.std.proofs.lemmas.List.Elements.{All-tail}
-use Rattle.yds_model.specs.Within.{IsLevel}
-use Rattle.yds_model.specs.Energy.{first_release, last_deadline, horizon}
-use Rattle.yds_model.specs.JsonAnswer.{report_json}
-use Rattle.yds_model.proofs.Horizon.{last_within, releases_from, works_few}
 use Rattle.yds_report.proofs.JsonText.{report_text}
 use Rattle.yds_report.specs.JsonValue.{level_value, report_value, ReportsAreRead}
 

@@ -1,23 +1,9 @@
 -- The text that `serde_json` writes for the value of a report is the one of the definition.
-use Rattle.std.proofs.Common.{◌≡◌, ℕ, ◌-◌, ◌/◌, ◌%◌, ◌^◌, ◌<◌, List, [], ◌∷◌, ◌++◌, length, map, ap, sym, ◌∙◌, refl, arith, append_assoc, Bool, true, false}
-use Rattle.std.specs.Prelude.{codes, decimal, ◌==◌, if◌then◌else◌, sum_by}
-use Rattle.std.specs.List.{All, join_with_byte}
-use Rattle.std.proofs.lemmas.List.Elements.{All-tail, All-append, All-cons, All-nil}
+use Rattle.yds_model.proofs.Common.{◌≡◌, ℕ, ◌-◌, ◌/◌, ◌%◌, ◌^◌, ◌<◌, List, [], ◌∷◌, ◌++◌, length, map, ap, sym, ◌∙◌, refl, arith, append_assoc, Bool, true, false, codes, decimal, ◌==◌, if◌then◌else◌, sum_by, All, join_with_byte, All-tail, All-append, All-cons, All-nil, Job, of_whole, common_divisor, in_lowest_terms, first_release, last_deadline, horizon, div-le_self, mod-le, Level, IsLevel, speed_text, level_json, report_json, is_digit, decimal_digits}
 use Rattle.json.specs.Print.{escape_byte, escape}
 use Rattle.json.proofs.Printed.Strings.{escape_byte_plain}
 use Rattle.serde_json.specs.View.{items_of}
 use Rattle.serde_json.specs.Written.{compact_text, items_text, has_float, items_have_float}
-use Rattle.yds_model.specs.Job.{Job}
-use Rattle.yds_model.specs.Scale.{of_whole}
-use Rattle.yds_model.specs.Divisor.{common_divisor, in_lowest_terms}
-use Rattle.yds_model.specs.Energy.{first_release, last_deadline, horizon}
-use Rattle.std.proofs.Math.Nat.{div-le_self, mod-le}
-use Rattle.yds_model.specs.Level.{Level}
-use Rattle.yds_model.specs.Within.{IsLevel}
-use Rattle.yds_model.specs.ReportAnswer.{speed_text}
-use Rattle.yds_model.specs.JsonAnswer.{level_json, report_json}
-use Rattle.yds_model.specs.Spelling.{is_digit}
-use Rattle.yds_model.proofs.Spelling.{decimal_digits}
 use Rattle.yds_report.specs.JsonValue.{level_value, report_value}
 
 -- # Strings without escapes

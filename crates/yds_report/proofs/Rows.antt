@@ -1,8 +1,5 @@
 -- Levels with their numbers, from 1.
-use Rattle.std.proofs.Common.{◌≡◌, ℕ, ◌+◌, ◌<◌, ◌≤◌, List, get_or, length, arith}
-use Rattle.std.specs.List.{enumerate_from}
-use Rattle.std.proofs.lemmas.List.FromFn.{length-enumerate_from, get_or-enumerate_from}
-use Rattle.yds_model.specs.Level.{Level}
+use Rattle.yds_model.proofs.Common.{◌≡◌, ℕ, ◌+◌, ◌<◌, ◌≤◌, List, get_or, length, arith, enumerate_from, length-enumerate_from, get_or-enumerate_from, Level}
 
 -- the number and the level at a place
 pub numbered_at : (levels : List Level) (i : ℕ) (level : Level) → i < length levels → level ≡ get_or levels i level

@@ -1,8 +1,5 @@
 -- What the levels of a report send to a writer, one after another.
-use Rattle.std.proofs.Common.{◌≡◌, ℕ, ◌+◌, ◌<◌, ◌≤◌, List, [], ◌∷◌, ◌++◌, length, map, drop, get_or, refl, sym, subst, add-one, Some, ap, ◌∙◌, arith}
-use Rattle.std.specs.List.{All}
-use Rattle.std.proofs.Math.Seq.{drop-cons}
-use Rattle.std.proofs.lemmas.List.{drop_all}
+use Rattle.yds_model.proofs.Common.{◌≡◌, ℕ, ◌+◌, ◌<◌, ◌≤◌, List, [], ◌∷◌, ◌++◌, length, map, drop, get_or, refl, sym, subst, add-one, Some, ap, ◌∙◌, arith, All, drop-cons, drop_all, Job, report_json, Level, IsLevel}
 use Rattle.serde.specs.Event.{Log, Logs, seq_begins, seq_ends}
 use Rattle.serde_json.specs.Data.{Data, array}
 use Rattle.serde_json.specs.Events.{items_len, SendsValue, SendsItems}
@@ -10,10 +7,6 @@ use Rattle.serde_json.specs.Sent.{IsTextOf}
 use Rattle.serde_json.specs.View.{items_of}
 use Rattle.serde_json.specs.Written.{has_float, compact_text}
 use Rattle.serde_json.proofs.FreeTexts.{text_of_value}
-use Rattle.yds_model.specs.Job.{Job}
-use Rattle.yds_model.specs.JsonAnswer.{report_json}
-use Rattle.yds_model.specs.Level.{Level}
-use Rattle.yds_model.specs.Within.{IsLevel}
 use Rattle.yds_report.specs.JsonValue.{level_value, numbers_value, report_value}
 use Rattle.yds_report.proofs.JsonText.{no_float, report_text}
 

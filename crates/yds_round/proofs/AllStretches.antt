@@ -1,22 +1,6 @@
 -- A plan's timetable, rounded stretch by stretch.
-use Rattle.std.proofs.Common.{◌≡◌, ℕ, zero, suc, ◌+◌, ◌*◌, ◌<◌, ◌≤◌, ◌⊎◌, List, [], ◌∷◌, ◌++◌, length, get_or, take, drop, refl, sym, ap, ◌∙◌, subst, arith, inl, inr, append_assoc, add-one, Some, None}
-use Rattle.std.specs.Prelude.{Option}
-use Rattle.std.specs.List.{All, AllZip, Contains}
-use Rattle.std.proofs.lemmas.List.{append-nil, length-append, length-map, get_or-map, take_all, take_at, drop_at, take_more, take-append-drop}
-use Rattle.std.proofs.lemmas.List.Concat.{flat_map-append}
-use Rattle.std.proofs.lemmas.List.Elements.{All-nil, All-append, All-map}
-use Rattle.std.proofs.Math.Seq.{drop-cons}
+use Rattle.yds_model.proofs.Common.{◌≡◌, ℕ, zero, suc, ◌+◌, ◌*◌, ◌<◌, ◌≤◌, ◌⊎◌, List, [], ◌∷◌, ◌++◌, length, get_or, take, drop, refl, sym, ap, ◌∙◌, subst, arith, inl, inr, append_assoc, add-one, Some, None, Option, All, AllZip, Contains, append-nil, length-append, length-map, get_or-map, take_all, take_at, drop_at, take_more, take-append-drop, flat_map-append, All-nil, All-append, All-map, drop-cons, Job, WrittenSlot, IsScale, Piece, Level, no_level, level_at, Point, hull_of, stretches, LiesWritten, IsPlan, RoundsStretch, RoundsStretches, flat_map-take, scale_exists}
 use Rattle.yds_model.specs.declared.limits.TheConstants.{MAX_JOBS}
-use Rattle.yds_model.specs.Job.{Job}
-use Rattle.yds_model.specs.Slot.{WrittenSlot, IsScale}
-use Rattle.yds_model.specs.Piece.{Piece}
-use Rattle.yds_model.specs.Level.{Level, no_level, level_at}
-use Rattle.yds_model.specs.Table.{Point, hull_of}
-use Rattle.yds_model.specs.Event.{stretches, LiesWritten}
-use Rattle.yds_model.specs.Plan.{IsPlan}
-use Rattle.yds_model.specs.Rounding.{RoundsStretch, RoundsStretches}
-use Rattle.yds_model.proofs.Lists.{flat_map-take}
-use Rattle.yds_model.proofs.Scale.{scale_exists}
 use Rattle.yds_events.specs.Stretch.{no_stretch}
 use Rattle.yds_events.proofs.Neighbours.{few_stretches}
 use Rattle.yds_timetable.specs.declared.pace.Pace.{Pace as Speed}

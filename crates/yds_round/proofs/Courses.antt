@@ -1,15 +1,5 @@
 -- A part of a stretch that is cut, at a scale: its slots run at one point's speed without a gap.
-use Rattle.std.proofs.Common.{◌≡◌, ℕ, ◌+◌, ◌-◌, ◌*◌, ◌<◌, ◌≤◌, ◌==◌, List, [], ◌∷◌, ◌++◌, refl, sym, ap, ◌∙◌, subst, arith, inl, inr}
-use Rattle.std.specs.Prelude.{if◌then◌else◌}
-use Rattle.std.specs.List.{All}
-use Rattle.std.proofs.lemmas.Bool.{cases_lt}
-use Rattle.std.proofs.lemmas.Bool.Decides.{nat_tests}
-use Rattle.std.proofs.lemmas.List.Sums.{sum_by-cons}
-use Rattle.std.proofs.lemmas.List.Elements.{All-tail}
-use Rattle.std.proofs.Math.Nat.{mul-pos, mul-le-mul_right, eq_of_mul-eq-mul_right, eq_of_mul-eq-mul_left}
-use Rattle.yds_model.specs.Slot.{WrittenSlot, WholeSlot, IsDivided, slot_at_scale, slots_at, work_given}
-use Rattle.yds_model.specs.Piece.{Piece}
-use Rattle.yds_model.specs.Rounding.{RunsAtPoint}
+use Rattle.yds_model.proofs.Common.{◌≡◌, ℕ, ◌+◌, ◌-◌, ◌*◌, ◌<◌, ◌≤◌, ◌==◌, List, [], ◌∷◌, ◌++◌, refl, sym, ap, ◌∙◌, subst, arith, inl, inr, if◌then◌else◌, All, cases_lt, nat_tests, sum_by-cons, All-tail, mul-pos, mul-le-mul_right, eq_of_mul-eq-mul_right, eq_of_mul-eq-mul_left, WrittenSlot, WholeSlot, IsDivided, slot_at_scale, slots_at, work_given, Piece, RunsAtPoint}
 use Rattle.yds_slots.proofs.Parts.{of_parts_at}
 use Rattle.yds_timetable.specs.Shares.{JobShare, total_units}
 use Rattle.yds_round.specs.Written.{Course, slots_after}

@@ -1,15 +1,5 @@
 -- The slots of a stretch that is cut: those of one more share, their number and the grains of their jobs.
-use Rattle.std.proofs.Common.{◌≡◌, ℕ, ◌+◌, ◌-◌, ◌*◌, ◌<◌, ◌≤◌, ◌⊎◌, List, [], ◌∷◌, ◌++◌, length, refl, sym, ap, ◌∙◌, subst, arith, inl, inr, Bool, append_assoc}
-use Rattle.std.specs.Prelude.{if◌then◌else◌, Option, Some, None, IfSome}
-use Rattle.std.specs.List.{All}
-use Rattle.std.proofs.lemmas.Bool.{cases_lt, lt-ltb, le-ltb}
-use Rattle.std.proofs.lemmas.List.{append-nil, length-append}
-use Rattle.std.proofs.lemmas.List.Elements.{All-nil, All-cons, All-append}
-use Rattle.std.proofs.lemmas.List.Sums.{sum_by-cons}
-use Rattle.std.proofs.Math.Nat.{mul-le-mul_right}
-use Rattle.yds_model.specs.Scale.{of_parts}
-use Rattle.yds_model.specs.Slot.{WrittenSlot}
-use Rattle.yds_model.specs.Piece.{Piece}
+use Rattle.yds_model.proofs.Common.{◌≡◌, ℕ, ◌+◌, ◌-◌, ◌*◌, ◌<◌, ◌≤◌, ◌⊎◌, List, [], ◌∷◌, ◌++◌, length, refl, sym, ap, ◌∙◌, subst, arith, inl, inr, Bool, append_assoc, if◌then◌else◌, Option, Some, None, IfSome, All, cases_lt, lt-ltb, le-ltb, append-nil, length-append, All-nil, All-cons, All-append, sum_by-cons, mul-le-mul_right, of_parts, WrittenSlot, Piece}
 use Rattle.yds_model.specs.Plan.{IsOver}
 use Rattle.yds_slots.specs.Schedule.{FitsGrain}
 use Rattle.yds_slots.proofs.Parts.{of_parts_over}

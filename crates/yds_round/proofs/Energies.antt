@@ -1,14 +1,6 @@
 -- What a rounded plan spends, as one fraction.
-use Rattle.std.proofs.Common.{◌≡◌, ℕ, ◌+◌, ◌-◌, ◌*◌, ◌/◌, ◌^◌, ◌<◌, ◌≤◌, arith}
-use Rattle.std.specs.Int.{IsGcd}
-use Rattle.std.proofs.lemmas.Nat.Gcd.{same_from_IsGcd}
-use Rattle.std.proofs.Math.Nat.{mul-le-mul, mul-le-mul_right, div-le_of_le-mul}
+use Rattle.yds_model.proofs.Common.{◌≡◌, ℕ, ◌+◌, ◌-◌, ◌*◌, ◌/◌, ◌^◌, ◌<◌, ◌≤◌, arith, IsGcd, same_from_IsGcd, mul-le-mul, mul-le-mul_right, div-le_of_le-mul, Fraction, of_parts, numerator, IsSame, common_divisor, IsLowest, IsFraction, divisor_is_greatest, same_through}
 use Rattle.yds_model.specs.declared.limits.TheConstants.{MAX_ENERGY, MAX_GAPS, MAX_POINT_POWER}
-use Rattle.yds_model.specs.Scale.{Fraction, of_parts, numerator, IsSame}
-use Rattle.yds_model.specs.Divisor.{common_divisor, IsLowest}
-use Rattle.yds_model.specs.Within.{IsFraction}
-use Rattle.yds_model.proofs.Divisor.{divisor_is_greatest}
-use Rattle.yds_model.proofs.Fractions.{same_through}
 use Rattle.yds_slots.proofs.Parts.{of_parts_value}
 
 -- Levels that take so long together spend so much, and the horizon's other time has this power.

@@ -1,20 +1,5 @@
 -- What a plan's timetable has in one stretch: shares of members of one level, which fill it at the level's speed.
-use Rattle.std.proofs.Common.{◌≡◌, ℕ, suc, ◌+◌, ◌-◌, ◌*◌, ◌<◌, ◌≤◌, List, [], ◌∷◌, ◌++◌, length, get_or, take, drop, refl, sym, ap, ◌∙◌, subst, arith, Some}
-use Rattle.std.specs.Prelude.{Option}
-use Rattle.std.specs.List.{All, Contains}
-use Rattle.std.proofs.lemmas.List.{get_or-map, get_or_append_left, length-map, length-append, take-append-drop, take_all}
-use Rattle.std.proofs.lemmas.List.Concat.{flat_map-append}
-use Rattle.std.proofs.lemmas.List.Elements.{All-map, All-contains, All-from_get_or, Contains-get_or}
-use Rattle.std.proofs.Math.Nat.{mul-pos, eq_of_mul-eq-mul_right}
-use Rattle.std.proofs.Math.Seq.{drop-cons, get_or-append_right}
-use Rattle.yds_model.specs.Numbers.{count}
-use Rattle.yds_model.specs.Job.{Job}
-use Rattle.yds_model.specs.Slot.{WrittenSlot, WholeSlot, IsDivided, IsScale, no_slot, no_written_slot, slot_at, slot_at_scale, slots_at, written_slot_at}
-use Rattle.yds_model.specs.Piece.{Piece}
-use Rattle.yds_model.specs.Level.{Level, no_level, level_at, all_members}
-use Rattle.yds_model.specs.Divisor.{common_divisor}
-use Rattle.yds_model.specs.Event.{stretches, LiesIn, LiesWritten}
-use Rattle.yds_model.specs.Plan.{IsPlan, speed_num, speed_den}
+use Rattle.yds_model.proofs.Common.{◌≡◌, ℕ, suc, ◌+◌, ◌-◌, ◌*◌, ◌<◌, ◌≤◌, List, [], ◌∷◌, ◌++◌, length, get_or, take, drop, refl, sym, ap, ◌∙◌, subst, arith, Some, Option, All, Contains, get_or-map, get_or_append_left, length-map, length-append, take-append-drop, take_all, flat_map-append, All-map, All-contains, All-from_get_or, Contains-get_or, mul-pos, eq_of_mul-eq-mul_right, drop-cons, get_or-append_right, count, Job, WrittenSlot, WholeSlot, IsDivided, IsScale, no_slot, no_written_slot, slot_at, slot_at_scale, slots_at, written_slot_at, Piece, Level, no_level, level_at, all_members, common_divisor, stretches, LiesIn, LiesWritten, IsPlan, speed_num, speed_den}
 use Rattle.yds_energy.proofs.PlanParts.{HasSpeeds, plan_part}
 use Rattle.yds_energy.proofs.FullStretches.{planned_once, level_of_member}
 use Rattle.yds_events.specs.Stretch.{no_stretch, length_of}

@@ -1,16 +1,5 @@
 -- The jobs of a stretch that is cut come in the plan's order, each once in a part.
-use Rattle.std.proofs.Common.{◌≡◌, ℕ, ◌+◌, ◌*◌, ◌≤◌, List, [], ◌∷◌, ◌++◌, length, map, refl, sym, ap, ◌∙◌, subst, arith, inl, inr, Bool}
-use Rattle.std.specs.Prelude.{if◌then◌else◌, cond}
-use Rattle.std.specs.List.{All}
-use Rattle.std.proofs.lemmas.Bool.{cases_lt, cases_eq, eq-eqb, ne_eqb}
-use Rattle.std.proofs.lemmas.List.{length-append, length-map, get_or-map}
-use Rattle.std.proofs.lemmas.List.Elements.{All-nil, All-cons, All-tail, All-append, All-map}
-use Rattle.std.proofs.Math.Nat.{mul-le-mul_right, mul-pos}
-use Rattle.yds_model.specs.Numbers.{count, AreDifferent}
-use Rattle.yds_model.specs.Slot.{WrittenSlot, WholeSlot, slot_at_scale, slots_at}
-use Rattle.yds_model.specs.Piece.{Piece}
-use Rattle.yds_model.specs.Rounding.{jobs_in_turn}
-use Rattle.yds_model.proofs.Lists.{count-cons}
+use Rattle.yds_model.proofs.Common.{◌≡◌, ℕ, ◌+◌, ◌*◌, ◌≤◌, List, [], ◌∷◌, ◌++◌, length, map, refl, sym, ap, ◌∙◌, subst, arith, inl, inr, Bool, if◌then◌else◌, cond, All, cases_lt, cases_eq, eq-eqb, ne_eqb, length-append, length-map, get_or-map, All-nil, All-cons, All-tail, All-append, All-map, mul-le-mul_right, mul-pos, count, AreDifferent, WrittenSlot, WholeSlot, slot_at_scale, slots_at, Piece, jobs_in_turn, count-cons}
 use Rattle.yds_timetable.specs.declared.pace.Pace.{Pace}
 use Rattle.yds_timetable.specs.Shares.{JobShare}
 use Rattle.yds_timetable.specs.Pace.{slot_of, slots_from}

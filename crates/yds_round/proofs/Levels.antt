@@ -1,11 +1,5 @@
 -- Levels of different speeds: one that has a level's speed is that level.
-use Rattle.std.proofs.Common.{◌≡◌, ℕ, zero, suc, ◌*◌, ◌<◌, ◌≤◌, List, length, ap, arith, inl, inr}
-use Rattle.std.specs.List.{All}
-use Rattle.std.proofs.lemmas.Bool.{cases_lt, cases_eq}
-use Rattle.std.proofs.Math.Nat.{mul-lt-mul_of_pos_right, mul-le-mul_right, lt_of_mul-lt-mul_right, eq_of_mul-eq-mul_right}
-use Rattle.yds_model.specs.Numbers.{Each}
-use Rattle.yds_model.specs.Level.{Level, no_level, level_at}
-use Rattle.yds_model.specs.Plan.{IsSlower}
+use Rattle.yds_model.proofs.Common.{◌≡◌, ℕ, zero, suc, ◌*◌, ◌<◌, ◌≤◌, List, length, ap, arith, inl, inr, All, cases_lt, cases_eq, mul-lt-mul_of_pos_right, mul-le-mul_right, lt_of_mul-lt-mul_right, eq_of_mul-eq-mul_right, Each, Level, no_level, level_at, IsSlower}
 
 -- speeds by their parts: what is slower than a slower one is slower
 slower_on : (w l next long last over : ℕ) → 1 ≤ l → next * l < w * long → last * long < next * over → last * l < w * over

@@ -1,19 +1,11 @@
 -- How a level runs on the points of a table.
-use Rattle.std.proofs.Common.{◌≡◌, ℕ, ◌+◌, ◌-◌, ◌*◌, ◌/◌, ◌^◌, ◌<◌, ◌≤◌, List, [], ◌∷◌, sym, ap, ◌∙◌, subst, arith, inl, inr}
-use Rattle.std.specs.List.{AllZip}
-use Rattle.std.specs.Int.{◌∣◌}
-use Rattle.std.proofs.lemmas.List.Sums.{sum_by-cons}
-use Rattle.std.proofs.Math.Nat.{div-mul_cancel, mul-le-mul, mul-le-mul_right}
+use Rattle.yds_model.proofs.Common.{◌≡◌, ℕ, ◌+◌, ◌-◌, ◌*◌, ◌/◌, ◌^◌, ◌<◌, ◌≤◌, List, [], ◌∷◌, sym, ap, ◌∙◌, subst, arith, inl, inr, AllZip, ◌∣◌, sum_by-cons, div-mul_cancel, mul-le-mul, mul-le-mul_right, Level, Point, point_at, hull_of, hull_multiple, Quotient, Option, Some, None, sum_by}
 use Rattle.yds_model.specs.declared.limits.TheConstants.{MAX_LEVEL_LENGTH, MAX_POINT_POWER}
-use Rattle.yds_model.specs.Level.{Level}
-use Rattle.yds_model.specs.Table.{Point, point_at, hull_of, hull_multiple}
 use Rattle.yds_energy.proofs.PointTimes.{gap_divides}
 use Rattle.yds_round.specs.declared.pace.Pace.{Pace}
 use Rattle.yds_round.specs.declared.split.Split.{Split}
 use Rattle.yds_round.specs.Pace.{RunsAtOne, RunsAs, IsPaceOf}
 use Rattle.yds_table.specs.Around.{AreAround}
-use Rattle.yds_model.specs.Scale.{Quotient}
-use Rattle.std.specs.Prelude.{Option, Some, None, sum_by}
 
 -- # Between two points
 

@@ -1,10 +1,6 @@
 -- The numbers of a part: its speed and the gap over their greatest common divisor.
-use Rattle.std.proofs.Common.{◌≡◌, ℕ, ◌*◌, ◌/◌, ◌≤◌, ap, arith}
-use Rattle.std.proofs.Math.Nat.{mul-le-mul, mul-pos, div-mul_cancel, div-le_self}
+use Rattle.yds_model.proofs.Common.{◌≡◌, ℕ, ◌*◌, ◌/◌, ◌≤◌, ap, arith, mul-le-mul, mul-pos, div-mul_cancel, div-le_self, common_divisor, divisor_is_greatest, divisor_positive, factors}
 use Rattle.yds_model.specs.declared.limits.TheConstants.{MAX_LEVEL_LENGTH, MAX_POINT_SPEED}
-use Rattle.yds_model.specs.Divisor.{common_divisor}
-use Rattle.yds_model.proofs.Divisor.{divisor_is_greatest, divisor_positive}
-use Rattle.yds_model.proofs.Fractions.{factors}
 use Rattle.yds_round.specs.Part.{IsPart}
 
 -- the numbers over the definition's divisor

@@ -1,11 +1,6 @@
 -- One slot of a stretch that is cut: within the limits.
-use Rattle.std.proofs.Common.{◌≡◌, ℕ, ◌+◌, ◌-◌, ◌*◌, ◌≤◌, min, max, arith}
-use Rattle.std.proofs.Math.Nat.{mul-le-mul_right}
+use Rattle.yds_model.proofs.Common.{◌≡◌, ℕ, ◌+◌, ◌-◌, ◌*◌, ◌≤◌, min, max, arith, mul-le-mul_right, Fraction, Piece, IsFraction, IsSlot, parts_alike}
 use Rattle.yds_model.specs.declared.limits.TheConstants.{MAX_DENOMINATOR, MAX_SLOT_WORK, MAX_TIME}
-use Rattle.yds_model.specs.Scale.{Fraction}
-use Rattle.yds_model.specs.Piece.{Piece}
-use Rattle.yds_model.specs.Within.{IsFraction, IsSlot}
-use Rattle.yds_model.proofs.Fractions.{parts_alike}
 use Rattle.yds_fraction.specs.Mixed.{IsMixed}
 use Rattle.yds_fraction.proofs.Kept.{IsFraction-within}
 use Rattle.yds_round.specs.Written.{moment}

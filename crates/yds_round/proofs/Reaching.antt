@@ -1,8 +1,6 @@
 -- The times at which so many units of a stretch are done.
-use Rattle.std.proofs.Common.{◌≡◌, ℕ, ◌-◌, ◌*◌, ◌<◌, ◌≤◌, min, max, arith}
+use Rattle.yds_model.proofs.Common.{◌≡◌, ℕ, ◌-◌, ◌*◌, ◌<◌, ◌≤◌, min, max, arith, Fraction, IsFraction}
 use Rattle.yds_model.specs.declared.limits.TheConstants.{MAX_DENOMINATOR, MAX_TIME, MAX_WHOLE}
-use Rattle.yds_model.specs.Scale.{Fraction}
-use Rattle.yds_model.specs.Within.{IsFraction}
 use Rattle.yds_fraction.specs.Mixed.{IsMixed}
 use Rattle.yds_fraction.proofs.Kept.{IsFraction-within}
 use Rattle.yds_round.specs.declared.cut.Cut.{Cut}

@@ -1,21 +1,5 @@
 -- The energy of a plan that is rounded, by what its levels spend.
-use Rattle.std.proofs.Common.{◌≡◌, ℕ, zero, suc, ◌*◌, ◌<◌, ◌≤◌, List, [], ◌∷◌, ◌++◌, length, map, refl, ap, arith, inl, inr}
-use Rattle.std.specs.Prelude.{Option, Some, None, sum}
-use Rattle.std.specs.List.{All, AllZip, sum_by}
-use Rattle.std.proofs.lemmas.Bool.{cases_lt}
-use Rattle.std.proofs.lemmas.List.Elements.{All-append, All-from_get_or, All-weaker}
-use Rattle.std.proofs.lemmas.List.Sums.{sum_by-cons}
-use Rattle.std.proofs.Math.Nat.{mul-le-mul_right, le_of_mul-le-mul_right, eq_of_mul-eq-mul_left}
-use Rattle.yds_model.specs.Job.{Job}
-use Rattle.yds_model.specs.Scale.{Fraction, numerator}
-use Rattle.yds_model.specs.Slot.{WrittenSlot, IsSolid}
-use Rattle.yds_model.specs.Level.{Level, no_level, level_at}
-use Rattle.yds_model.specs.Table.{Point, IsTable, hull_of, hull_multiple}
-use Rattle.yds_model.specs.Event.{stretches}
-use Rattle.yds_model.specs.Plan.{IsPlan}
-use Rattle.yds_model.specs.Within.{IsSlot}
-use Rattle.yds_model.specs.Rounding.{top_of, IsTooFast, RoundsStretches, IsEnergyOf}
-use Rattle.yds_model.proofs.Scale.{scale_exists}
+use Rattle.yds_model.proofs.Common.{◌≡◌, ℕ, zero, suc, ◌*◌, ◌<◌, ◌≤◌, List, [], ◌∷◌, ◌++◌, length, map, refl, ap, arith, inl, inr, Option, Some, None, sum, All, AllZip, sum_by, cases_lt, All-append, All-from_get_or, All-weaker, sum_by-cons, mul-le-mul_right, le_of_mul-le-mul_right, eq_of_mul-eq-mul_left, Job, Fraction, numerator, WrittenSlot, IsSolid, Level, no_level, level_at, Point, IsTable, hull_of, hull_multiple, stretches, IsPlan, IsSlot, top_of, IsTooFast, RoundsStretches, IsEnergyOf, scale_exists}
 use Rattle.yds_fraction.proofs.Kept.{some_parts}
 use Rattle.yds_energy.specs.RoundingLaws.{IsLevelCost}
 use Rattle.yds_laws.proofs.Bound.{scale_right}

@@ -1,15 +1,5 @@
 -- A plan's slots at the paces of their levels, with what these spend, are a rounding of the plan.
-use Rattle.std.proofs.Common.{◌≡◌, ℕ, ◌*◌, ◌≤◌, List, length, sym, subst}
-use Rattle.std.specs.Prelude.{Option}
-use Rattle.std.specs.List.{All, AllZip}
-use Rattle.yds_model.specs.Job.{Job}
-use Rattle.yds_model.specs.Scale.{Fraction, numerator}
-use Rattle.yds_model.specs.Slot.{WrittenSlot, IsSolid}
-use Rattle.yds_model.specs.Level.{Level, level_at}
-use Rattle.yds_model.specs.Table.{Point, IsTable, hull_multiple}
-use Rattle.yds_model.specs.Divisor.{IsLowest}
-use Rattle.yds_model.specs.Plan.{IsPlan}
-use Rattle.yds_model.specs.Rounding.{IsTooFast, IsRounding}
+use Rattle.yds_model.proofs.Common.{◌≡◌, ℕ, ◌*◌, ◌≤◌, List, length, sym, subst, Option, All, AllZip, Job, Fraction, numerator, WrittenSlot, IsSolid, Level, level_at, Point, IsTable, hull_multiple, IsLowest, IsPlan, IsTooFast, IsRounding}
 use Rattle.yds_timetable.specs.Timetable.{Row, IsRow}
 use Rattle.yds_plan.specs.Timetabled.{IsTimetabled}
 use Rattle.yds_round.specs.declared.pace.Pace.{Pace}

@@ -1,20 +1,7 @@
 -- What is written for each stretch rounds what the plan has there, and can be put after what is written before.
-use Rattle.std.proofs.Common.{◌≡◌, ℕ, zero, suc, ◌+◌, ◌-◌, ◌*◌, ◌<◌, ◌≤◌, max, List, ◌++◌, length, refl, sym, ap, ◌∙◌, subst, arith, inl, inr}
-use Rattle.std.specs.Prelude.{Option, Some, None}
-use Rattle.std.specs.List.{All, Contains}
-use Rattle.std.proofs.lemmas.List.{length-append}
-use Rattle.std.proofs.lemmas.List.Elements.{All-nil, All-append}
-use Rattle.std.proofs.Math.Nat.{mul-pos}
+use Rattle.yds_model.proofs.Common.{◌≡◌, ℕ, zero, suc, ◌+◌, ◌-◌, ◌*◌, ◌<◌, ◌≤◌, max, List, ◌++◌, length, refl, sym, ap, ◌∙◌, subst, arith, inl, inr, Option, Some, None, All, Contains, length-append, All-nil, All-append, mul-pos, of_parts, WrittenSlot, IsSolid, Piece, Level, common_multiple, Point, hull_of, speed_num, speed_den, HasSplitDenominators, SplitsStretch, RoundsStretch, parts_den}
 use Rattle.yds_model.specs.declared.limits.TheConstants.{MAX_SLOTS, MAX_SLOT_WORK}
-use Rattle.yds_model.specs.Scale.{of_parts}
-use Rattle.yds_model.specs.Slot.{WrittenSlot, IsSolid}
-use Rattle.yds_model.specs.Piece.{Piece}
-use Rattle.yds_model.specs.Level.{Level}
-use Rattle.yds_model.specs.Divisor.{common_multiple}
-use Rattle.yds_model.specs.Table.{Point, hull_of}
-use Rattle.yds_model.specs.Plan.{IsOver, speed_num, speed_den}
-use Rattle.yds_model.specs.Rounding.{HasSplitDenominators, SplitsStretch, RoundsStretch}
-use Rattle.yds_model.proofs.Fractions.{parts_den}
+use Rattle.yds_model.specs.Plan.{IsOver}
 use Rattle.yds_events.specs.Stretch.{length_of}
 use Rattle.yds_laws.proofs.Bound.{scale_left, scale_right}
 use Rattle.yds_slots.proofs.Parts.{of_parts_over}

@@ -1,13 +1,5 @@
 -- What a stretch that is cut gives each job: as much as the plan.
-use Rattle.std.proofs.Common.{◌≡◌, ℕ, ◌+◌, ◌-◌, ◌*◌, ◌≤◌, ◌==◌, ◌∙◌, min, max, List, [], ◌∷◌, ap, sym, arith}
-use Rattle.std.specs.Prelude.{if◌then◌else◌}
-use Rattle.std.specs.List.{All}
-use Rattle.std.proofs.lemmas.Bool.Decides.{nat_tests}
-use Rattle.std.proofs.lemmas.List.Sums.{sum_by-cons}
-use Rattle.std.proofs.lemmas.List.Elements.{All-tail}
-use Rattle.std.proofs.Math.Nat.{eq_of_mul-eq-mul_right, mul-pos, mul-le-mul_right}
-use Rattle.yds_model.specs.Slot.{WholeSlot, IsDivided, slot_at_scale, slots_at, work_given}
-use Rattle.yds_model.specs.Piece.{Piece}
+use Rattle.yds_model.proofs.Common.{◌≡◌, ℕ, ◌+◌, ◌-◌, ◌*◌, ◌≤◌, ◌==◌, ◌∙◌, min, max, List, [], ◌∷◌, ap, sym, arith, if◌then◌else◌, All, nat_tests, sum_by-cons, All-tail, eq_of_mul-eq-mul_right, mul-pos, mul-le-mul_right, WholeSlot, IsDivided, slot_at_scale, slots_at, work_given, Piece}
 use Rattle.yds_slots.proofs.Parts.{of_parts_at}
 use Rattle.yds_timetable.specs.declared.pace.Pace.{Pace}
 use Rattle.yds_timetable.specs.Shares.{JobShare, units_given}

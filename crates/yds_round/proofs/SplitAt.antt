@@ -1,15 +1,5 @@
 -- A stretch that is cut is split as the definition says, at each scale.
-use Rattle.std.proofs.Common.{◌≡◌, ℕ, zero, suc, ◌+◌, ◌-◌, ◌*◌, ◌<◌, ◌≤◌, min, max, List, [], refl, sym, ap, ◌∙◌, subst, arith, inl, inr}
-use Rattle.std.specs.List.{All}
-use Rattle.std.proofs.lemmas.Bool.{cases_lt}
-use Rattle.std.proofs.Math.Nat.{mul-pos, mul-le-mul_right, le_of_mul-le-mul_right, eq_of_mul-eq-mul_right}
-use Rattle.yds_model.specs.Divisor.{common_divisor, common_multiple}
-use Rattle.yds_model.specs.Slot.{IsDivided, slots_at}
-use Rattle.yds_model.specs.Piece.{Piece}
-use Rattle.yds_model.specs.Level.{Level}
-use Rattle.yds_model.specs.Table.{Point}
-use Rattle.yds_model.specs.Plan.{speed_num}
-use Rattle.yds_model.specs.Rounding.{RunsAtPoint, RunsOn, IsSplitAt}
+use Rattle.yds_model.proofs.Common.{◌≡◌, ℕ, zero, suc, ◌+◌, ◌-◌, ◌*◌, ◌<◌, ◌≤◌, min, max, List, [], refl, sym, ap, ◌∙◌, subst, arith, inl, inr, All, cases_lt, mul-pos, mul-le-mul_right, le_of_mul-le-mul_right, eq_of_mul-eq-mul_right, common_divisor, common_multiple, IsDivided, slots_at, Piece, Level, Point, speed_num, RunsAtPoint, RunsOn, IsSplitAt}
 use Rattle.yds_energy.proofs.PlanParts.{given_joined}
 use Rattle.yds_events.specs.Stretch.{length_of}
 use Rattle.yds_timetable.specs.Shares.{JobShare, total_units}

@@ -1,12 +1,6 @@
 -- The numbers of a level whose speed lies between those of two points.
-use Rattle.std.proofs.Common.{◌≡◌, ℕ, ◌+◌, ◌-◌, ◌*◌, ◌/◌, ◌<◌, ◌≤◌, max, ap, arith}
-use Rattle.std.proofs.Math.Nat.{div-mul_cancel, div-le_self, lt_of_mul-lt-mul_right}
+use Rattle.yds_model.proofs.Common.{◌≡◌, ℕ, ◌+◌, ◌-◌, ◌*◌, ◌/◌, ◌<◌, ◌≤◌, max, ap, arith, div-mul_cancel, div-le_self, lt_of_mul-lt-mul_right, common_divisor, Level, Point, divisor_is_greatest, factors}
 use Rattle.yds_model.specs.declared.limits.TheConstants.{MAX_LEVEL_LENGTH, MAX_LEVEL_WORK, MAX_POINT_SPEED}
-use Rattle.yds_model.specs.Divisor.{common_divisor}
-use Rattle.yds_model.specs.Level.{Level}
-use Rattle.yds_model.specs.Table.{Point}
-use Rattle.yds_model.proofs.Divisor.{divisor_is_greatest}
-use Rattle.yds_model.proofs.Fractions.{factors}
 use Rattle.yds_round.specs.declared.part.Part.{Part}
 use Rattle.yds_round.specs.Part.{IsPart}
 use Rattle.yds_round.specs.Split.{IsSplitOf}

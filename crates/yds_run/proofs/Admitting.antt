@@ -1,21 +1,9 @@
 -- From an admission to the answer of `admit`.
-use Rattle.std.proofs.Common.{◌≡◌, ℕ, zero, suc, ◌+◌, ◌<◌, ◌≤◌, List, [], ◌∷◌, ◌++◌, length, get_or, take, map, Option, None, Some, refl, sym, ap, subst, ◌∙◌, arith, inl, inr}
-use Rattle.std.proofs.lemmas.List.{get_or-map, get_or-take, length-map, length-take-le}
-use Rattle.std.proofs.Math.Nat.{le_refl}
-use Rattle.std.specs.List.{All, flat_map, range_with_len}
-use Rattle.yds_model.specs.Job.{Job}
-use Rattle.yds_model.specs.Document.{name_at}
-use Rattle.yds_model.specs.Within.{AreDifferentNames}
+use Rattle.yds_model.proofs.Common.{◌≡◌, ℕ, zero, suc, ◌+◌, ◌<◌, ◌≤◌, List, [], ◌∷◌, ◌++◌, length, get_or, take, map, Option, None, Some, refl, sym, ap, subst, ◌∙◌, arith, inl, inr, get_or-map, get_or-take, length-map, length-take-le, le_refl, All, flat_map, range_with_len, Job, name_at, AreDifferentNames, WrittenSlot, Document, canonical_text, IsDocument, Refusal, jobs_with, AdmitsAfter, IsAdmission, IsAdmittedRun, with_taken, refusal_comment, AdmitAnswer}
 use Rattle.yds_instance.specs.Named.{number_of}
 use Rattle.yds_instance.proofs.Names.{has_name}
 use Rattle.yds_run.specs.Admit.{RiseFrom}
 use Rattle.yds_model.specs.declared.status.Status.TheVariants as statuses
-use Rattle.yds_model.specs.Slot.{WrittenSlot}
-use Rattle.yds_model.specs.Document.{Document}
-use Rattle.yds_model.specs.Text.{canonical_text}
-use Rattle.yds_model.specs.Within.{IsDocument}
-use Rattle.yds_model.specs.Admission.{Refusal, jobs_with, AdmitsAfter, IsAdmission, IsAdmittedRun}
-use Rattle.yds_model.specs.AdmitAnswer.{with_taken, refusal_comment, AdmitAnswer}
 
 pub admit_answered : (document : Document) (top : ℕ) (taken : List ℕ) (refused : List Refusal) (slots : List WrittenSlot) (shown : Document) →
     IsAdmission document.jobs top taken refused → IsAdmittedRun (jobs_with document.jobs taken) top slots → IsDocument shown →

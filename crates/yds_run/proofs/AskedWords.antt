@@ -1,8 +1,5 @@
 -- What words ask for.
-use Rattle.std.proofs.Common.{◌≡◌, ◌≤◌, length, arith, List, [], ◌∷◌, Option, Some, None, refl, ap, sym, ◌∙◌}
-use Rattle.std.specs.Prelude.{String}
-use Rattle.std.specs.declared.alloc.Global.{Global}
-use Rattle.yds_model.specs.Request.{Request}
+use Rattle.yds_model.proofs.Common.{◌≡◌, ◌≤◌, length, arith, List, [], ◌∷◌, Option, Some, None, refl, ap, sym, ◌∙◌, String, Global, Request}
 use Rattle.yds_run.specs.declared.command.Command.{Command}
 use Rattle.yds_run.specs.Words.{words_of, asked, request_view}
 

@@ -1,7 +1,5 @@
 -- The line of a comment, field by field.
-use Rattle.std.proofs.Common.{◌≡◌, ℕ, List, [], ◌∷◌, ◌++◌, ◌∙◌, sym, ap, append_assoc}
-use Rattle.std.proofs.lemmas.List.{append-nil}
-use Rattle.yds_model.specs.Text.{line}
+use Rattle.yds_model.proofs.Common.{◌≡◌, ℕ, List, [], ◌∷◌, ◌++◌, ◌∙◌, sym, ap, append_assoc, append-nil, line}
 use Rattle.yds_run.specs.VerdictLine.{spaced}
 use Rattle.yds_run.proofs.SpacedLine.{spaced_line}
 

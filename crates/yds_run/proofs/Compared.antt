@@ -1,19 +1,6 @@
 -- A comparison is answered by what the plan and the runs spend.
-use Rattle.std.proofs.Common.{◌≡◌, ℕ, ◌<◌, ◌≤◌, ◌⊎◌, List, [], ◌∷◌, ◌++◌, length, get_or, refl, sym, ap, ap₂, subst, ◌∙◌, append_assoc, arith, inl, inr}
-use Rattle.std.specs.Prelude.{codes}
+use Rattle.yds_model.proofs.Common.{◌≡◌, ℕ, ◌<◌, ◌≤◌, ◌⊎◌, List, [], ◌∷◌, ◌++◌, length, get_or, refl, sym, ap, ap₂, subst, ◌∙◌, append_assoc, arith, inl, inr, codes, Job, Document, WrittenSlot, Level, Point, line, IsPlan, IsAverageRateRun, IsOptimalAvailableRun, IsSpent, CompareAnswer, spent_lines, side_lines, rounded_line, OnPoints, zip, append-nil, length-zip, get_or-zip, Fraction}
 use Rattle.yds_model.specs.declared.status.Status.TheVariants as statuses
-use Rattle.yds_model.specs.Job.{Job}
-use Rattle.yds_model.specs.Document.{Document}
-use Rattle.yds_model.specs.Slot.{WrittenSlot}
-use Rattle.yds_model.specs.Level.{Level}
-use Rattle.yds_model.specs.Table.{Point}
-use Rattle.yds_model.specs.Text.{line}
-use Rattle.yds_model.specs.Plan.{IsPlan}
-use Rattle.yds_model.specs.AverageRate.{IsAverageRateRun}
-use Rattle.yds_model.specs.OptimalAvailable.{IsOptimalAvailableRun}
-use Rattle.yds_model.specs.Comparison.{IsSpent}
-use Rattle.yds_model.specs.CompareAnswer.{CompareAnswer, spent_lines, side_lines, rounded_line}
-use Rattle.yds_model.specs.Answer.{OnPoints}
 use Rattle.yds_round.specs.Fault.{HasFastLevel}
 use Rattle.yds_round.proofs.Faults.{fast_first}
 use Rattle.yds_round.proofs.RoundedEnergies.{all_slow}
@@ -23,10 +10,6 @@ use Rattle.yds_run.specs.Compare.{sides_text}
 use Rattle.yds_texts.proofs.RoundText.{points_answer}
 use Rattle.yds_run.proofs.Comments.{next_field}
 use Rattle.yds_run.proofs.SpacedLine.{spaced_line}
-use Rattle.std.specs.List.{zip}
-use Rattle.std.proofs.lemmas.List.{append-nil}
-use Rattle.std.proofs.lemmas.Slice.Zip.{length-zip, get_or-zip}
-use Rattle.yds_model.specs.Scale.{Fraction}
 
 -- what is known of the parts of a comparison is what its answer says
 abbrev pub Answers : Document → ℕ → List WrittenSlot → List Level → Comparison → List Job → List Point → Type 0

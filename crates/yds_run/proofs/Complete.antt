@@ -1,16 +1,8 @@
 -- From the bytes that were taken to all bytes of the input.
-use Rattle.std.proofs.Common.{◌≡◌, ◌⊎◌, ℕ, ◌+◌, ◌<◌, ◌≤◌, List, [], ◌++◌, length, Option, Some, None, refl, subst, sym, ap, ◌∙◌, arith, inl, inr, length-append, lt-ltb, le-ltb}
-use Rattle.std.specs.Prelude.{◌≢◌, IfSome}
-use Rattle.std.proofs.lemmas.List.{append-nil}
-use Rattle.std.specs.Io.KnownBytes.{Appends}
+use Rattle.yds_model.proofs.Common.{◌≡◌, ◌⊎◌, ℕ, ◌+◌, ◌<◌, ◌≤◌, List, [], ◌++◌, length, Option, Some, None, refl, subst, sym, ap, ◌∙◌, arith, inl, inr, length-append, lt-ltb, le-ltb, ◌≢◌, IfSome, append-nil, Appends, Question, Request, OfDocument, OfTasks, OfTrial, AnswersRequest, AnswersReading, AnswersTasks, UnlessTooLong, is_too_long, reading, task_reading, TrialAnswer}
 use Rattle.yds_model.specs.declared.limits.TheConstants.{MAX_INPUT}
 use Rattle.yds_model.specs.declared.status.Status.{Status}
 use Rattle.yds_model.specs.declared.status.Status.TheVariants as statuses
-use Rattle.yds_model.specs.Request.{Question, Request, OfDocument, OfTasks, OfTrial}
-use Rattle.yds_model.specs.Answer.{AnswersRequest, AnswersReading, AnswersTasks, UnlessTooLong, is_too_long}
-use Rattle.yds_model.specs.Reading.{reading}
-use Rattle.yds_model.specs.TaskReading.{task_reading}
-use Rattle.yds_model.specs.TrialAnswer.{TrialAnswer}
 use Rattle.yds_texts.specs.JudgedText.{IsJudged}
 use Rattle.yds_run.specs.Run.{IsWhole, Writes, WritesWhole, AnswersBytes, AnswersTaken, Outcome}
 

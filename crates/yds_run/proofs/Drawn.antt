@@ -1,9 +1,6 @@
 -- The jobs that a trial draws.
-use Rattle.std.proofs.Common.{◌≡◌, ℕ, zero, suc, ◌+◌, ◌-◌, ◌<◌, ◌≤◌, List, [], ◌∷◌, ◌++◌, length, ap, ◌∙◌, sym, append_assoc, refl, arith}
-use Rattle.std.proofs.lemmas.List.{append-nil}
+use Rattle.yds_model.proofs.Common.{◌≡◌, ℕ, zero, suc, ◌+◌, ◌-◌, ◌<◌, ◌≤◌, List, [], ◌∷◌, ◌++◌, length, ap, ◌∙◌, sym, append_assoc, refl, arith, append-nil, Job, next_state, drawn_job, drawn_jobs}
 use Rattle.yds_model.specs.declared.limits.TheConstants.{MAX_JOBS, MAX_TRIAL_JOBS}
-use Rattle.yds_model.specs.Job.{Job}
-use Rattle.yds_model.specs.TrialAnswer.{next_state, drawn_job, drawn_jobs}
 
 -- as many jobs are drawn as are asked for
 pub length-drawn_jobs : (n state : ℕ) → length (drawn_jobs n state) ≡ n

@@ -1,8 +1,6 @@
 -- What `report --json` writes is read as the report of a plan's levels.
-use Rattle.std.proofs.Common.{ℕ, List, Some}
+use Rattle.yds_model.proofs.Common.{ℕ, List, Some, AskReportAsJson, OfDocument, AnswersRequest}
 use Rattle.yds_model.specs.declared.status.Status.TheVariants.{Done}
-use Rattle.yds_model.specs.Request.{AskReportAsJson, OfDocument}
-use Rattle.yds_model.specs.Answer.{AnswersRequest}
 use Rattle.yds_texts.proofs.Answered.{answered, done_not_refused}
 use Rattle.yds_texts.proofs.Within.{read_is_within_limits}
 use Rattle.yds_report.specs.JsonText.{HoldsReport}

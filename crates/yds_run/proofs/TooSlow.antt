@@ -1,16 +1,6 @@
 -- A plan that is too fast for the points is answered by its first level.
-use Rattle.std.proofs.Common.{◌≡◌, ℕ, ◌≤◌, List, [], ◌∷◌, length, refl, ap, ◌∙◌, inl}
-use Rattle.std.specs.Prelude.{codes, decimal}
+use Rattle.yds_model.proofs.Common.{◌≡◌, ℕ, ◌≤◌, List, [], ◌∷◌, length, refl, ap, ◌∙◌, inl, codes, decimal, Document, WrittenSlot, Level, line, IsPlan, top_of, TooSlowAnswer, RoundAnswer, CompareAnswer, OnPoints}
 use Rattle.yds_model.specs.declared.status.Status.TheVariants as statuses
-use Rattle.yds_model.specs.Document.{Document}
-use Rattle.yds_model.specs.Slot.{WrittenSlot}
-use Rattle.yds_model.specs.Level.{Level}
-use Rattle.yds_model.specs.Text.{line}
-use Rattle.yds_model.specs.Plan.{IsPlan}
-use Rattle.yds_model.specs.Rounding.{top_of}
-use Rattle.yds_model.specs.RoundAnswer.{TooSlowAnswer, RoundAnswer}
-use Rattle.yds_model.specs.CompareAnswer.{CompareAnswer}
-use Rattle.yds_model.specs.Answer.{OnPoints}
 use Rattle.yds_texts.proofs.RoundText.{points_answer}
 use Rattle.yds_round.specs.declared.fault.RoundFault.TheVariants as faults
 use Rattle.yds_round.specs.Fault.{IsCauseOfRoundFault}

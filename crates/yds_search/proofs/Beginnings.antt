@@ -1,20 +1,5 @@
 -- How the search begins.
-use Rattle.std.proofs.Common.{◌≡◌, ℕ, ◌<◌, ◌≤◌, List, [], ◌∷◌, ◌++◌, ◌∙◌, ◌+◌, true, not, max, zero, suc, take, map, length, get_or, sym, ap, subst, inl, inr, refl, arith}
-use Rattle.std.specs.Prelude.{Bool, nat_lt, ◌==◌}
-use Rattle.std.specs.List.{All, filter, range_with_len}
-use Rattle.std.proofs.lemmas.List.{take_more, get_or-take, length-take, get_or_past, map-id, get_or_default, length-map, length-replicate, get_or-replicate, nil_from_length}
-use Rattle.std.proofs.lemmas.List.Elements.{All-nil, All-map, All-filter, All-contains, filter_passes}
-use Rattle.std.proofs.lemmas.List.Filters.{length-filter_both}
-use Rattle.std.proofs.lemmas.List.FromFn.{length-range_with_len, get_or-range_with_len, take-map-range_with_len, get_or-map-range_with_len}
-use Rattle.std.proofs.lemmas.List.Kept.{AllPairs-filter}
-use Rattle.std.proofs.lemmas.Map.Keys.{IsDistinct-from_apart}
-use Rattle.std.proofs.lemmas.Map.Steps.{length-le_from_distinct_below}
-use Rattle.std.proofs.lemmas.Map.Views.{Contains-from_any}
-use Rattle.std.proofs.lemmas.Simd.{map-map}
-use Rattle.std.proofs.lemmas.Bool.{cases_lt, lt-ltb, ltb-true, eqb-true, ne_eqb}
-use Rattle.yds_model.specs.Job.{Job, IsJob, job_at}
-use Rattle.yds_model.specs.Event.{stretches}
-use Rattle.yds_model.specs.Piece.{Piece}
+use Rattle.yds_model.proofs.Common.{◌≡◌, ℕ, ◌<◌, ◌≤◌, List, [], ◌∷◌, ◌++◌, ◌∙◌, ◌+◌, true, not, max, zero, suc, take, map, length, get_or, sym, ap, subst, inl, inr, refl, arith, Bool, nat_lt, ◌==◌, All, filter, range_with_len, take_more, get_or-take, length-take, get_or_past, map-id, get_or_default, length-map, length-replicate, get_or-replicate, nil_from_length, All-nil, All-map, All-filter, All-contains, filter_passes, length-filter_both, length-range_with_len, get_or-range_with_len, take-map-range_with_len, get_or-map-range_with_len, AllPairs-filter, IsDistinct-from_apart, length-le_from_distinct_below, Contains-from_any, map-map, cases_lt, lt-ltb, ltb-true, eqb-true, ne_eqb, Job, IsJob, job_at, stretches, Piece}
 use Rattle.yds_events.specs.declared.window.Window.{Window}
 use Rattle.yds_events.specs.Window.{window_at, IsIn, IsPlace, AreWindows}
 use Rattle.yds_events.proofs.Neighbours.{few_stretches, stretch_long, stretch_in_range}

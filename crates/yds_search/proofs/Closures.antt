@@ -1,9 +1,5 @@
 -- What the late jobs close upon is full, and nobody outside has a share in it.
-use Rattle.std.proofs.Common.{◌≡◌, ℕ, ◌+◌, ◌-◌, ◌<◌, ◌≤◌, ◌⊎◌, min, List, length, get_or, set, zero, suc, refl, sym, ap, subst, inl, inr, arith}
-use Rattle.std.specs.Prelude.{nat_le, if◌then◌else◌}
-use Rattle.std.proofs.lemmas.List.{get_or-set_same, get_or-set_other, length-set}
-use Rattle.std.proofs.lemmas.Bool.{cases_lt, cases_eq}
-use Rattle.std.proofs.lemmas.Bool.Decides.{nat_tests}
+use Rattle.yds_model.proofs.Common.{◌≡◌, ℕ, ◌+◌, ◌-◌, ◌<◌, ◌≤◌, ◌⊎◌, min, List, length, get_or, set, zero, suc, refl, sym, ap, subst, inl, inr, arith, nat_le, if◌then◌else◌, get_or-set_same, get_or-set_other, length-set, cases_lt, cases_eq, nat_tests}
 use Rattle.yds_events.specs.declared.window.Window.{Window}
 use Rattle.yds_events.specs.Window.{window_at}
 use Rattle.yds_timetable.specs.Shares.{JobShare, share_at, no_share}

@@ -1,9 +1,5 @@
 -- When no group waits any more, all has been found.
-use Rattle.std.proofs.Common.{◌≡◌, ℕ, ◌<◌, ◌≤◌, List, [], length, ap, sym, inl, inr, arith}
-use Rattle.std.proofs.lemmas.Bool.{cases_lt}
-use Rattle.yds_model.specs.Job.{Job, job_at}
-use Rattle.yds_model.specs.Event.{stretches}
-use Rattle.yds_model.specs.Comparison.{stretch_at}
+use Rattle.yds_model.proofs.Common.{◌≡◌, ℕ, ◌<◌, ◌≤◌, List, [], length, ap, sym, inl, inr, arith, cases_lt, Job, job_at, stretches, stretch_at}
 use Rattle.yds_events.specs.declared.window.Window.{Window}
 use Rattle.yds_events.specs.Window.{IsInWindow}
 use Rattle.yds_events.proofs.Neighbours.{stretch_forward, stretch_order}

@@ -1,18 +1,5 @@
 -- A part by place and by number: its windows, its work and length, and how it is filled.
-use Rattle.std.proofs.Common.{◌≡◌, ℕ, ◌+◌, ◌*◌, ◌^◌, ◌<◌, ◌≤◌, ◌==◌, List, [], ◌∷◌, ◌∙◌, length, map, get_or, refl, sym, ap, subst, inl, inr, arith}
-use Rattle.std.specs.Prelude.{if◌then◌else◌, nat_lt}
-use Rattle.std.specs.List.{All, sum_by}
-use Rattle.std.proofs.Math.Nat.{div-le_self}
-use Rattle.std.proofs.lemmas.Bool.{cases_lt, cases_eq}
-use Rattle.std.proofs.lemmas.List.{get_or-map, length-map}
-use Rattle.std.proofs.lemmas.List.Elements.{All-map, All-from_get_or}
-use Rattle.std.proofs.lemmas.List.Sums.{sum_by-le, sum_by-cons, get_or-le-sum_by, count_by-le-length}
-use Rattle.std.proofs.lemmas.Nat.{mul-le}
-use Rattle.yds_model.specs.Job.{Job, job_at}
-use Rattle.yds_model.specs.Divisor.{common_divisor}
-use Rattle.yds_model.specs.EarliestFirst.{ComesFirst}
-use Rattle.yds_model.proofs.Horizon.{part_own, part_other}
-use Rattle.yds_model.proofs.Sums.{sum_by_same, sum_by-mul, sum_by-map}
+use Rattle.yds_model.proofs.Common.{◌≡◌, ℕ, ◌+◌, ◌*◌, ◌^◌, ◌<◌, ◌≤◌, ◌==◌, List, [], ◌∷◌, ◌∙◌, length, map, get_or, refl, sym, ap, subst, inl, inr, arith, if◌then◌else◌, nat_lt, All, sum_by, div-le_self, cases_lt, cases_eq, get_or-map, length-map, All-map, All-from_get_or, sum_by-le, sum_by-cons, get_or-le-sum_by, count_by-le-length, mul-le, Job, job_at, common_divisor, ComesFirst, part_own, part_other, sum_by_same, sum_by-mul, sum_by-map}
 use Rattle.yds_events.specs.declared.window.Window.{Window}
 use Rattle.yds_events.specs.Window.{window_at, no_window, IsIn, IsPlace}
 use Rattle.yds_timetable.specs.Shares.{JobShare}

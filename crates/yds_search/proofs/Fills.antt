@@ -1,13 +1,5 @@
 -- The fill by place, share by share and job by job; full stretches are jumped over.
-use Rattle.std.proofs.Common.{◌≡◌, ℕ, ◌<◌, ◌≤◌, ◌+◌, ◌-◌, ◌≢◌, ◌==◌, ◌⊎◌, min, List, [], ◌∷◌, ◌++◌, ◌∙◌, length, get_or, set, take, sym, ap, subst, inl, inr, arith}
-use Rattle.std.specs.Prelude.{cond, if◌then◌else◌, nat_lt}
-use Rattle.std.specs.List.{All}
-use Rattle.std.proofs.lemmas.List.{get_or-set_same, get_or-set_other, length-set, length_push, take_all}
-use Rattle.std.proofs.lemmas.List.Elements.{All-push}
-use Rattle.std.proofs.lemmas.List.Quantifiers.{all_pairs_push}
-use Rattle.std.proofs.lemmas.List.Sums.{sum_by_push, sum_by-set, sum_by_more}
-use Rattle.std.proofs.lemmas.Bool.{cases_lt, cases_eq}
-use Rattle.std.proofs.lemmas.Bool.Decides.{nat_tests}
+use Rattle.yds_model.proofs.Common.{◌≡◌, ℕ, ◌<◌, ◌≤◌, ◌+◌, ◌-◌, ◌≢◌, ◌==◌, ◌⊎◌, min, List, [], ◌∷◌, ◌++◌, ◌∙◌, length, get_or, set, take, sym, ap, subst, inl, inr, arith, cond, if◌then◌else◌, nat_lt, All, get_or-set_same, get_or-set_other, length-set, length_push, take_all, All-push, all_pairs_push, sum_by_push, sum_by-set, sum_by_more, cases_lt, cases_eq, nat_tests}
 use Rattle.yds_events.specs.declared.window.Window.{Window}
 use Rattle.yds_events.specs.Window.{window_at, IsIn}
 use Rattle.yds_timetable.specs.Shares.{JobShare}

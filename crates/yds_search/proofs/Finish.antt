@@ -1,16 +1,5 @@
 -- A part without late jobs becomes a finished group.
-use Rattle.std.proofs.Common.{◌≡◌, ℕ, ◌+◌, ◌*◌, ◌<◌, ◌≤◌, ◌⊎◌, ◌==◌, List, [], ◌∷◌, ◌++◌, ◌∙◌, length, map, get_or, refl, sym, ap, subst, inl, inr, arith}
-use Rattle.std.specs.Prelude.{if◌then◌else◌}
-use Rattle.std.specs.List.{All, AllPairs, sum_by}
-use Rattle.std.proofs.Math.Nat.{le_of_mul-le-mul_left, mul-le-mul_right}
-use Rattle.std.proofs.lemmas.List.{length_push, length-append, get_or_append_left, get_or_push}
-use Rattle.std.proofs.lemmas.List.Elements.{All-append, All-tail}
-use Rattle.std.proofs.lemmas.List.Sums.{sum_by-append}
-use Rattle.std.proofs.lemmas.Bool.{cases_lt}
-use Rattle.yds_model.specs.Job.{Job, job_at}
-use Rattle.yds_model.specs.Event.{stretches}
-use Rattle.yds_model.proofs.Horizon.{part_other}
-use Rattle.yds_model.proofs.Sums.{sum_by_same, sum_by_at_most, sum_by-mul}
+use Rattle.yds_model.proofs.Common.{◌≡◌, ℕ, ◌+◌, ◌*◌, ◌<◌, ◌≤◌, ◌⊎◌, ◌==◌, List, [], ◌∷◌, ◌++◌, ◌∙◌, length, map, get_or, refl, sym, ap, subst, inl, inr, arith, if◌then◌else◌, All, AllPairs, sum_by, le_of_mul-le-mul_left, mul-le-mul_right, length_push, length-append, get_or_append_left, get_or_push, All-append, All-tail, sum_by-append, cases_lt, Job, job_at, stretches, part_other, sum_by_same, sum_by_at_most, sum_by-mul}
 use Rattle.yds_events.specs.declared.window.Window.{Window}
 use Rattle.yds_events.specs.Window.{length_at}
 use Rattle.yds_timetable.specs.Shares.{JobShare, no_share}

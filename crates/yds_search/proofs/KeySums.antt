@@ -1,13 +1,5 @@
 -- Sums over lists that are merged, over the numbers below n, and a sum that is split by a key.
-use Rattle.std.proofs.Common.{◌≡◌, ℕ, zero, suc, ◌+◌, ◌<◌, ◌≤◌, ◌==◌, List, [], ◌∷◌, ◌++◌, ◌∙◌, length, get_or, take, sym, refl, ap, arith, inl, inr, Bool, true, false, add-one}
-use Rattle.std.specs.Prelude.{cond, nat_lt}
-use Rattle.std.specs.List.{All, sum_by, filter, flat_map, range_with_len}
-use Rattle.std.proofs.lemmas.Bool.{cases_eq, cases_lt, ne_eqb, eq-eqb, lt-ltb, le-ltb}
-use Rattle.std.proofs.lemmas.List.Sums.{sum_by-cons, sum_by-append, sum_by_push, sum_by_more, sum_by-le-sum_by}
-use Rattle.std.proofs.lemmas.List.{map-id, take_all}
-use Rattle.std.proofs.lemmas.List.FromFn.{get_or-range_with_len, length-range_with_len, map-range_with_len_more}
-use Rattle.yds_model.proofs.Sums.{sum_by-add, sum_by_same, sum_by_zero}
-use Rattle.yds_model.proofs.Filters.{sum_by-filter}
+use Rattle.yds_model.proofs.Common.{◌≡◌, ℕ, zero, suc, ◌+◌, ◌<◌, ◌≤◌, ◌==◌, List, [], ◌∷◌, ◌++◌, ◌∙◌, length, get_or, take, sym, refl, ap, arith, inl, inr, Bool, true, false, add-one, cond, nat_lt, All, sum_by, filter, flat_map, range_with_len, cases_eq, cases_lt, ne_eqb, eq-eqb, lt-ltb, le-ltb, sum_by-cons, sum_by-append, sum_by_push, sum_by_more, sum_by-le-sum_by, map-id, take_all, get_or-range_with_len, length-range_with_len, map-range_with_len_more, sum_by-add, sum_by_same, sum_by_zero, sum_by-filter}
 
 pub sum_by-flat_map : {X Y : Type 0} (g : X → List Y) (f : Y → ℕ) (xs : List X) → sum_by f (flat_map g xs) ≡ sum_by (λ x. sum_by f (g x)) xs
 sum_by-flat_map g f [] = refl

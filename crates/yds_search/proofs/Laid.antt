@@ -1,8 +1,5 @@
 -- How the parts are laid on the stack, and how near the search's end is.
-use Rattle.std.proofs.Common.{◌≡◌, ℕ, ◌+◌, ◌-◌, ◌*◌, ◌<◌, ◌≤◌, List, [], ◌∷◌, ◌++◌, length, refl, sym, ap, arith}
-use Rattle.std.specs.List.{All}
-use Rattle.std.proofs.lemmas.List.{length_push, length-append, same_from_push}
-use Rattle.yds_model.specs.Job.{Job}
+use Rattle.yds_model.proofs.Common.{◌≡◌, ℕ, ◌+◌, ◌-◌, ◌*◌, ◌<◌, ◌≤◌, List, [], ◌∷◌, ◌++◌, length, refl, sym, ap, arith, All, length_push, length-append, same_from_push, Job}
 use Rattle.yds_events.specs.declared.window.Window.{Window}
 use Rattle.yds_search.specs.declared.stack.Size.{Size}
 use Rattle.yds_search.specs.declared.stack.Stack.{Stack}

@@ -1,9 +1,5 @@
 -- Two numbers in lowest terms.
-use Rattle.std.proofs.Common.{◌≡◌, ℕ, ◌*◌, ◌/◌, ◌≤◌}
-use Rattle.std.proofs.Math.Nat.{div-mul_cancel}
-use Rattle.yds_model.specs.Divisor.{common_divisor}
-use Rattle.yds_model.proofs.Divisor.{divisor_is_greatest}
-use Rattle.yds_model.proofs.Fractions.{factors}
+use Rattle.yds_model.proofs.Common.{◌≡◌, ℕ, ◌*◌, ◌/◌, ◌≤◌, div-mul_cancel, common_divisor, divisor_is_greatest, factors}
 
 -- the terms of a / b, where neither is 0
 pub record Lowest (a b : ℕ) : Type 0 where

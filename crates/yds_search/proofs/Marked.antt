@@ -1,13 +1,5 @@
 -- A part's stretches by their marks, and its jobs by what they meet: who is in either part, the sums, and the places.
-use Rattle.std.proofs.Common.{◌≡◌, ℕ, zero, suc, ◌+◌, ◌-◌, ◌<◌, ◌≤◌, ◌==◌, Bool, true, false, cond, List, [], ◌∷◌, ◌++◌, ◌∙◌, length, map, take, drop, sum, get_or, refl, sym, ap, subst, inl, inr, arith}
-use Rattle.std.specs.List.{All, AllPairs, filter, sum_by}
-use Rattle.std.proofs.lemmas.Bool.{cases_lt, cond_both, eqb-true, eq-eqb}
-use Rattle.std.proofs.lemmas.List.{length-take, length-take-le, length-drop, length-append, length-map, get_or-take, get_or-drop, get_or-map, get_or_append_left, get_or-append_right}
-use Rattle.std.proofs.lemmas.List.Elements.{All-nil, All-cons, All-tail, All-map, All-filter, All-from_get_or, All-take, filter_passes}
-use Rattle.std.proofs.lemmas.List.Filters.{length-filter_both, sum_by-filter_both}
-use Rattle.std.proofs.lemmas.List.Kept.{AllPairs-cons}
-use Rattle.std.proofs.lemmas.List.Sums.{sum_by-cons}
-use Rattle.yds_model.proofs.Sums.{sum_by-map}
+use Rattle.yds_model.proofs.Common.{◌≡◌, ℕ, zero, suc, ◌+◌, ◌-◌, ◌<◌, ◌≤◌, ◌==◌, Bool, true, false, cond, List, [], ◌∷◌, ◌++◌, ◌∙◌, length, map, take, drop, sum, get_or, refl, sym, ap, subst, inl, inr, arith, All, AllPairs, filter, sum_by, cases_lt, cond_both, eqb-true, eq-eqb, length-take, length-take-le, length-drop, length-append, length-map, get_or-take, get_or-drop, get_or-map, get_or_append_left, get_or-append_right, All-nil, All-cons, All-tail, All-map, All-filter, All-from_get_or, All-take, filter_passes, length-filter_both, sum_by-filter_both, AllPairs-cons, sum_by-cons, sum_by-map}
 use Rattle.yds_events.specs.Window.{IsPlace}
 use Rattle.yds_search.specs.declared.own.OwnJob.{OwnJob}
 use Rattle.yds_search.specs.declared.own.OwnStretch.{OwnStretch}

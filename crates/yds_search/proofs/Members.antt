@@ -1,13 +1,5 @@
 -- Lists of members, each with a number: whether one has a number, what counts once, and what is written at all their numbers.
-use Rattle.std.proofs.Common.{◌≡◌, ℕ, zero, suc, ◌+◌, ◌<◌, ◌≢◌, ◌⊎◌, ◌==◌, Bool, true, List, [], ◌∷◌, ◌++◌, ◌∙◌, length, map, get_or, set, refl, sym, ap, subst, inl, inr, arith}
-use Rattle.std.specs.Prelude.{if◌then◌else◌}
-use Rattle.std.specs.List.{All, AllPairs, filter, sum_by, range_with_len}
-use Rattle.std.proofs.lemmas.Bool.{cases_lt, cases_eq, cond_both}
-use Rattle.std.proofs.lemmas.List.{get_or-map, length-map, get_or-set_same, get_or-set_other, length-set}
-use Rattle.std.proofs.lemmas.List.Elements.{All-append, All-tail}
-use Rattle.std.proofs.lemmas.List.Kept.{AllPairs-cons}
-use Rattle.std.proofs.lemmas.List.Sums.{sum_by-cons}
-use Rattle.yds_model.proofs.Sums.{sum_by_same}
+use Rattle.yds_model.proofs.Common.{◌≡◌, ℕ, zero, suc, ◌+◌, ◌<◌, ◌≢◌, ◌⊎◌, ◌==◌, Bool, true, List, [], ◌∷◌, ◌++◌, ◌∙◌, length, map, get_or, set, refl, sym, ap, subst, inl, inr, arith, if◌then◌else◌, All, AllPairs, filter, sum_by, range_with_len, cases_lt, cases_eq, cond_both, get_or-map, length-map, get_or-set_same, get_or-set_other, length-set, All-append, All-tail, AllPairs-cons, sum_by-cons, sum_by_same}
 use Rattle.yds_search.specs.Found.{group_of}
 use Rattle.yds_search.specs.Numbers.{AreWritten}
 use Rattle.yds_search.specs.Waiting.{HasOne}

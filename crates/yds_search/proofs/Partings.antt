@@ -1,9 +1,5 @@
 -- A group's jobs as they are parted in place: who stays comes to the front, who moves is put aside.
-use Rattle.std.proofs.Common.{◌≡◌, ℕ, ◌+◌, ◌-◌, ◌<◌, ◌≤◌, ◌≢◌, ◌∙◌, true, false, List, [], ◌∷◌, ◌++◌, length, take, drop, set, get_or, ap, sym, eq-eqb, arith}
-use Rattle.std.specs.List.{All}
-use Rattle.std.proofs.lemmas.Bool.{ne_eqb}
-use Rattle.std.proofs.lemmas.List.{append_assoc, drop_more, take_more_set, drop-set-lt}
-use Rattle.std.proofs.lemmas.List.Elements.{All-head, All-rest}
+use Rattle.yds_model.proofs.Common.{◌≡◌, ℕ, ◌+◌, ◌-◌, ◌<◌, ◌≤◌, ◌≢◌, ◌∙◌, true, false, List, [], ◌∷◌, ◌++◌, length, take, drop, set, get_or, ap, sym, eq-eqb, arith, All, ne_eqb, append_assoc, drop_more, take_more_set, drop-set-lt, All-head, All-rest}
 use Rattle.yds_search.specs.declared.own.OwnJob.{OwnJob}
 use Rattle.yds_search.specs.Stack.{moves, moved, stayed, moving_jobs, staying_jobs}
 use Rattle.yds_search.proofs.Ranks.{IsRanked}

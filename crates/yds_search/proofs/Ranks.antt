@@ -1,10 +1,5 @@
 -- How many of the marks before a place are 1.
-use Rattle.std.proofs.Common.{◌≡◌, ℕ, zero, suc, ◌+◌, ◌-◌, ◌<◌, ◌≤◌, ◌∙◌, ◌⊎◌, inl, inr, Bool, List, length, take, drop, get_or, refl, ap, sym, subst, zero-add, add-zero, arith}
-use Rattle.std.specs.List.{All, filter}
-use Rattle.std.proofs.lemmas.Bool.{cases_lt}
-use Rattle.std.proofs.lemmas.List.{length-take, length-drop, length-append, take-append-drop, get_or-take, get_or-drop, get_or_default, get_or_append_left, get_or-append_right}
-use Rattle.std.proofs.lemmas.List.Elements.{All-filter, filter-append}
-use Rattle.std.proofs.lemmas.List.Sums.{sum_by_more}
+use Rattle.yds_model.proofs.Common.{◌≡◌, ℕ, zero, suc, ◌+◌, ◌-◌, ◌<◌, ◌≤◌, ◌∙◌, ◌⊎◌, inl, inr, Bool, List, length, take, drop, get_or, refl, ap, sym, subst, zero-add, add-zero, arith, All, filter, cases_lt, length-take, length-drop, length-append, take-append-drop, get_or-take, get_or-drop, get_or_default, get_or_append_left, get_or-append_right, All-filter, filter-append, sum_by_more}
 use Rattle.yds_events.specs.Window.{IsPlace}
 use Rattle.yds_search.specs.declared.own.OwnJob.{OwnJob}
 use Rattle.yds_search.specs.Own.{HaveWindows}

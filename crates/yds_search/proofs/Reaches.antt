@@ -1,9 +1,5 @@
 -- How far jobs reach to the left from each stretch, as a group is filled.
-use Rattle.std.proofs.Common.{◌≡◌, ℕ, ◌+◌, ◌-◌, ◌*◌, ◌<◌, ◌≤◌, ◌≢◌, min, Bool, true, false, List, [], ◌∷◌, ◌++◌, ◌∙◌, length, map, get_or, set, refl, sym, ap, subst, inl, inr, rules, arith}
-use Rattle.std.proofs.lemmas.List.{get_or-set_same, get_or-set_other, length-set, length_push, length-map, get_or-map, get_or_push, get_or_append_left, get_or_past, map-set}
-use Rattle.std.proofs.Math.Seq.{map-set_same}
-use Rattle.std.proofs.lemmas.Simd.{map-map}
-use Rattle.std.proofs.lemmas.Bool.{cases_lt, cases_eq}
+use Rattle.yds_model.proofs.Common.{◌≡◌, ℕ, ◌+◌, ◌-◌, ◌*◌, ◌<◌, ◌≤◌, ◌≢◌, min, Bool, true, false, List, [], ◌∷◌, ◌++◌, ◌∙◌, length, map, get_or, set, refl, sym, ap, subst, inl, inr, rules, arith, get_or-set_same, get_or-set_other, length-set, length_push, length-map, get_or-map, get_or_push, get_or_append_left, get_or_past, map-set, map-set_same, map-map, cases_lt, cases_eq}
 use Rattle.yds_events.specs.declared.window.Window.{Window}
 use Rattle.yds_events.specs.Window.{window_at, IsIn}
 use Rattle.yds_timetable.specs.Shares.{JobShare, share_at, no_share}

@@ -1,13 +1,5 @@
 -- Shares and the units that they sum up to.
-use Rattle.std.proofs.Common.{◌≡◌, ℕ, suc, ◌<◌, ◌≤◌, ◌==◌, List, [], ◌∷◌, ◌∙◌, length, get_or, inl, inr, arith}
-use Rattle.std.specs.Prelude.{if◌then◌else◌}
-use Rattle.std.specs.List.{All, filter, sum_by}
-use Rattle.std.proofs.lemmas.List.Elements.{All-filter, filter_passes}
-use Rattle.std.proofs.lemmas.List.Sums.{sum_by-cons}
-use Rattle.std.proofs.lemmas.Bool.{cases_lt, cases_eq, eqb-true}
-use Rattle.yds_model.proofs.Horizon.{part_other}
-use Rattle.yds_model.proofs.Sums.{sum_by_same}
-use Rattle.yds_model.proofs.Filters.{sum_by-filter}
+use Rattle.yds_model.proofs.Common.{◌≡◌, ℕ, suc, ◌<◌, ◌≤◌, ◌==◌, List, [], ◌∷◌, ◌∙◌, length, get_or, inl, inr, arith, if◌then◌else◌, All, filter, sum_by, All-filter, filter_passes, sum_by-cons, cases_lt, cases_eq, eqb-true, part_other, sum_by_same, sum_by-filter}
 use Rattle.yds_timetable.specs.Shares.{JobShare, share_at, no_share}
 use Rattle.yds_search.specs.Found.{units_of_job, units_in_stretch}
 use Rattle.yds_search.specs.Waiting.{HasOne}

@@ -1,12 +1,5 @@
 -- A part with late jobs is split in two: the faster part has what they close upon.
-use Rattle.std.proofs.Common.{◌≡◌, ℕ, ◌+◌, ◌-◌, ◌*◌, ◌<◌, ◌≤◌, ◌⊎◌, Bool, true, false, not, List, [], ◌∷◌, ◌∙◌, length, get_or, refl, sym, ap, subst, inl, inr, eq-eqb, arith}
-use Rattle.std.specs.List.{All, filter, sum_by}
-use Rattle.std.proofs.lemmas.Bool.{cases_lt, ne_eqb, true≢false, not_from_false}
-use Rattle.std.proofs.lemmas.List.{get_or-map, length-map, length-append}
-use Rattle.std.proofs.lemmas.List.Elements.{All-cons, All-weaker, All-map, All-from_get_or}
-use Rattle.std.proofs.lemmas.List.Kept.{AllPairs-filter}
-use Rattle.yds_model.specs.Job.{Job}
-use Rattle.yds_model.proofs.Sums.{sum_by_zero}
+use Rattle.yds_model.proofs.Common.{◌≡◌, ℕ, ◌+◌, ◌-◌, ◌*◌, ◌<◌, ◌≤◌, ◌⊎◌, Bool, true, false, not, List, [], ◌∷◌, ◌∙◌, length, get_or, refl, sym, ap, subst, inl, inr, eq-eqb, arith, All, filter, sum_by, cases_lt, ne_eqb, true≢false, not_from_false, get_or-map, length-map, length-append, All-cons, All-weaker, All-map, All-from_get_or, AllPairs-filter, Job, sum_by_zero}
 use Rattle.yds_events.specs.declared.window.Window.{Window}
 use Rattle.yds_events.specs.Window.{window_at, no_window, IsIn, IsPlace}
 use Rattle.yds_timetable.specs.Shares.{JobShare, share_at, no_share}

@@ -1,18 +1,6 @@
 -- The grain of a job: the denominator of its works that aren't whole.
-use Rattle.std.proofs.Common.{◌≡◌, ℕ, ◌<◌, ◌≤◌, ◌⊎◌, inl, inr, List, [], ◌∷◌, ◌++◌, length, take, max, refl, sym, ◌∙◌, arith}
-use Rattle.std.specs.Prelude.{◌==◌, if◌then◌else◌}
-use Rattle.std.specs.List.{All, fold, slice_index_or}
-use Rattle.std.specs.List.Sorted.{IsPermutation}
-use Rattle.std.proofs.lemmas.List.Sorted.{All-permutation}
-use Rattle.std.proofs.lemmas.Bool.{ne_eqb, eq-eqb}
-use Rattle.std.proofs.lemmas.List.Sums.{fold_push}
-use Rattle.std.proofs.lemmas.List.Elements.{All-tail, All-weaker}
-use Rattle.std.proofs.lemmas.List.{get_or_default, get_or-take, length-take}
+use Rattle.yds_model.proofs.Common.{◌≡◌, ℕ, ◌<◌, ◌≤◌, ◌⊎◌, inl, inr, List, [], ◌∷◌, ◌++◌, length, take, max, refl, sym, ◌∙◌, arith, ◌==◌, if◌then◌else◌, All, fold, slice_index_or, IsPermutation, All-permutation, ne_eqb, eq-eqb, fold_push, All-tail, All-weaker, get_or_default, get_or-take, length-take, WrittenSlot, written_slot_at, no_written_slot, AreSlots, grain_of, AreAlike, grain_reached}
 use Rattle.yds_slots.specs.Schedule.{FitsGrain}
-use Rattle.yds_model.specs.Slot.{WrittenSlot, written_slot_at, no_written_slot}
-use Rattle.yds_model.specs.Audit.{AreSlots, grain_of}
-use Rattle.yds_model.specs.Scale.{AreAlike}
-use Rattle.yds_model.proofs.Grain.{grain_reached}
 
 -- the grain after one more slot
 pub grain_pushed : (slots : List WrittenSlot) (slot : WrittenSlot) (job : ℕ) →

@@ -1,20 +1,6 @@
 -- Slots that run in order, and those of them that lie between two times.
-use Rattle.std.proofs.Common.{◌≡◌, ℕ, suc, zero, ◌+◌, ◌-◌, ◌*◌, ◌<◌, ◌≤◌, List, [], ◌∷◌, length, take, drop, Bool, true, false, ◌⊎◌, inl, inr, max, refl, sym, ap, ◌∙◌, arith, mul_right_comm}
-use Rattle.std.specs.Prelude.{nat_lt, nat_le, ◌↔◌, cond}
-use Rattle.std.specs.Int.{◌∣◌}
-use Rattle.std.specs.List.{All, slice_index_or, filter}
-use Rattle.std.specs.List.Sorted.{IsPartitionedBy, IsPartitionPoint}
-use Rattle.std.proofs.lemmas.Bool.{lt-ltb, le-ltb, ltb-true, ltb-false, leb-true, le-leb, cases_lt, and_left, and_right, and_from}
-use Rattle.std.proofs.lemmas.List.Elements.{All-nil, All-cons, All-weaker}
-use Rattle.std.proofs.lemmas.Bool.Decides.{leb_tells}
-use Rattle.std.proofs.Math.Nat.{le_refl, mul-le-mul_right}
-use Rattle.yds_model.specs.Scale.{Fraction, at_scale, numerator}
-use Rattle.yds_model.specs.Slot.{WrittenSlot, IsScale, IsSolid, slots_at}
-use Rattle.yds_model.proofs.Scale.{scale_exists}
-use Rattle.yds_model.specs.Within.{IsSlot}
+use Rattle.yds_model.proofs.Common.{◌≡◌, ℕ, suc, zero, ◌+◌, ◌-◌, ◌*◌, ◌<◌, ◌≤◌, List, [], ◌∷◌, length, take, drop, Bool, true, false, ◌⊎◌, inl, inr, max, refl, sym, ap, ◌∙◌, arith, mul_right_comm, nat_lt, nat_le, ◌↔◌, cond, ◌∣◌, All, slice_index_or, filter, IsPartitionedBy, IsPartitionPoint, lt-ltb, le-ltb, ltb-true, ltb-false, leb-true, le-leb, cases_lt, and_left, and_right, and_from, All-nil, All-cons, All-weaker, leb_tells, le_refl, mul-le-mul_right, Fraction, at_scale, numerator, WrittenSlot, IsScale, IsSolid, slots_at, scale_exists, IsSlot, RunFrom, value-den, tied_order, den_positive}
 use Rattle.yds_fraction.proofs.Kept.{some_parts}
-use Rattle.yds_model.specs.Feasible.{RunFrom}
-use Rattle.yds_model.proofs.Fractions.{value-den, tied_order, den_positive}
 use Rattle.yds_slots.specs.Between.{lies_between, begins_before, ends_by}
 
 -- the slots of a schedule have a scale

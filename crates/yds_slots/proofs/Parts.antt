@@ -1,17 +1,6 @@
 -- The works of a job together, in parts of its grain, and as one fraction.
-use Rattle.std.proofs.Common.{◌≡◌, ℕ, ◌+◌, ◌*◌, ◌/◌, ◌%◌, ◌<◌, ◌≤◌, ◌⊎◌, inl, inr, List, [], ◌∷◌, ◌++◌, refl, sym, ap, ◌∙◌, arith, Bool, true, false, eqb-true}
-use Rattle.std.specs.Prelude.{◌==◌, if◌then◌else◌, sum_by}
-use Rattle.std.specs.List.{All}
-use Rattle.std.specs.Int.{◌∣◌}
-use Rattle.std.proofs.lemmas.Bool.{cases_eq, cond_both, ne_eqb, eq-eqb}
-use Rattle.std.proofs.lemmas.Nat.{div-mul-add, mod-mul-add}
-use Rattle.std.proofs.Math.Nat.{div-one, div-add-mod, eq_of_mul-eq-mul_right, mul-pos}
-use Rattle.std.proofs.lemmas.List.Sums.{sum_by_push, sum_by-cons}
-use Rattle.std.proofs.lemmas.List.Elements.{All-tail}
-use Rattle.yds_model.specs.Scale.{Fraction, of_whole, of_parts, at_scale, numerator}
+use Rattle.yds_model.proofs.Common.{◌≡◌, ℕ, ◌+◌, ◌*◌, ◌/◌, ◌%◌, ◌<◌, ◌≤◌, ◌⊎◌, inl, inr, List, [], ◌∷◌, ◌++◌, refl, sym, ap, ◌∙◌, arith, Bool, true, false, eqb-true, ◌==◌, if◌then◌else◌, sum_by, All, ◌∣◌, cases_eq, cond_both, ne_eqb, eq-eqb, div-mul-add, mod-mul-add, div-one, div-add-mod, eq_of_mul-eq-mul_right, mul-pos, sum_by_push, sum_by-cons, All-tail, Fraction, of_whole, of_parts, at_scale, numerator, value-den, WrittenSlot}
 use Rattle.yds_model.specs.Plan.{IsOver}
-use Rattle.yds_model.proofs.Fractions.{value-den}
-use Rattle.yds_model.specs.Slot.{WrittenSlot}
 
 -- the works of the job together, in parts of one g-th
 abbrev pub parts_at : ℕ → List WrittenSlot → ℕ → ℕ

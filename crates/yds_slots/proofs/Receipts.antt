@@ -1,22 +1,6 @@
 -- What a schedule keeps, through each of its calls.
-use Rattle.std.proofs.Common.{◌≡◌, ℕ, ◌+◌, ◌-◌, ◌*◌, ◌/◌, ◌<◌, ◌≤◌, ◌⊎◌, inl, inr, List, [], ◌∷◌, ◌++◌, length, max, refl, sym, ap, ◌∙◌, subst, arith, Bool}
-use Rattle.std.specs.Prelude.{◌==◌, if◌then◌else◌}
-use Rattle.std.specs.List.{All, slice_index_or, slice_set}
-use Rattle.std.proofs.lemmas.Bool.{cases_eq, ne_eqb, eq-eqb}
-use Rattle.std.proofs.lemmas.List.{length-append, get_or-set_same, get_or-set_other, length-set, map-append}
-use Rattle.std.proofs.lemmas.List.Sums.{sum_by_push, sum_by-cons}
-use Rattle.std.proofs.lemmas.List.Elements.{All-push, All-tail}
-use Rattle.std.proofs.Math.Nat.{one-dvd, div-mul_cancel, div-one}
-use Rattle.std.proofs.lemmas.Nat.Gcd.{dvd_refl}
+use Rattle.yds_model.proofs.Common.{◌≡◌, ℕ, ◌+◌, ◌-◌, ◌*◌, ◌/◌, ◌<◌, ◌≤◌, ◌⊎◌, inl, inr, List, [], ◌∷◌, ◌++◌, length, max, refl, sym, ap, ◌∙◌, subst, arith, Bool, ◌==◌, if◌then◌else◌, All, slice_index_or, slice_set, cases_eq, ne_eqb, eq-eqb, length-append, get_or-set_same, get_or-set_other, length-set, map-append, sum_by_push, sum_by-cons, All-push, All-tail, one-dvd, div-mul_cancel, div-one, dvd_refl, Fraction, of_whole, at_scale, numerator, WrittenSlot, IsDivided, IsScale, slots_at, work_given, grain_of, IsSlot, sum_by_zero, grain_positive, parts_den, All-front, All-last}
 use Rattle.yds_model.specs.declared.limits.TheConstants.{MAX_DENOMINATOR, MAX_SLOTS, MAX_SLOT_WORK}
-use Rattle.yds_model.specs.Scale.{Fraction, of_whole, at_scale, numerator}
-use Rattle.yds_model.specs.Slot.{WrittenSlot, IsDivided, IsScale, slots_at, work_given}
-use Rattle.yds_model.specs.Audit.{grain_of}
-use Rattle.yds_model.specs.Within.{IsSlot}
-use Rattle.yds_model.proofs.Sums.{sum_by_zero}
-use Rattle.yds_model.proofs.Grain.{grain_positive}
-use Rattle.yds_model.proofs.Fractions.{parts_den}
-use Rattle.yds_model.proofs.Lists.{All-front, All-last}
 use Rattle.yds_fraction.specs.Mixed.{IsMixed, Adds, common_den}
 use Rattle.yds_fraction.proofs.Kept.{some_parts}
 use Rattle.yds_slots.specs.Received.{Receipt}

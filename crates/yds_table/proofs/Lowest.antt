@@ -1,12 +1,6 @@
 -- A table with one more point.
-use Rattle.std.proofs.Common.{◌≡◌, ℕ, ◌-◌, ◌<◌, ◌≤◌, inl, inr, List, [], ◌∷◌, ◌++◌, length, take, suc, ap, ◌∙◌, subst, arith}
-use Rattle.std.proofs.lemmas.Bool.{cases_lt}
-use Rattle.std.proofs.lemmas.List.{length-append, take_all, take-append-le, get_or_append_left}
-use Rattle.std.proofs.lemmas.List.Elements.{All-push}
+use Rattle.yds_model.proofs.Common.{◌≡◌, ℕ, ◌-◌, ◌<◌, ◌≤◌, inl, inr, List, [], ◌∷◌, ◌++◌, length, take, suc, ap, ◌∙◌, subst, arith, cases_lt, length-append, take_all, take-append-le, get_or_append_left, All-push, multiple_of_all, Point, no_point, point_at, AreRising, gaps_of, hull_multiple, IsTable, IsPoint, ArePoints}
 use Rattle.yds_model.specs.declared.limits.TheConstants.{MAX_POINTS, MAX_GAPS}
-use Rattle.yds_model.specs.Divisor.{multiple_of_all}
-use Rattle.yds_model.specs.Table.{Point, no_point, point_at, AreRising, gaps_of, hull_multiple, IsTable}
-use Rattle.yds_model.specs.Within.{IsPoint, ArePoints}
 use Rattle.yds_table.specs.Table.{IsPointTable, last_of}
 use Rattle.yds_table.specs.Gaps.{IsMultipleOf}
 use Rattle.yds_table.specs.Kept.{IsLowerHull, IsKept}

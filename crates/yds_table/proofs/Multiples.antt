@@ -1,15 +1,6 @@
 -- The least common multiple of the gaps between points of rising speed.
-use Rattle.std.proofs.Common.{◌≡◌, ℕ, ◌-◌, ◌*◌, ◌<◌, ◌≤◌, List, [], ◌∷◌, length, take, drop, refl, sym, ap, ◌∙◌, arith}
-use Rattle.std.specs.Prelude.{Option, Some, None, MatchOption}
-use Rattle.std.specs.List.{slice_index_or}
-use Rattle.std.proofs.lemmas.List.{take_all, length-drop}
-use Rattle.std.proofs.Math.Nat.{mul-pos, dvd-mul_left, dvd-mul_right}
-use Rattle.std.proofs.lemmas.Nat.Gcd.{le_of_dvd}
+use Rattle.yds_model.proofs.Common.{◌≡◌, ℕ, ◌-◌, ◌*◌, ◌<◌, ◌≤◌, List, [], ◌∷◌, length, take, drop, refl, sym, ap, ◌∙◌, arith, Option, Some, None, MatchOption, slice_index_or, take_all, length-drop, mul-pos, dvd-mul_left, dvd-mul_right, le_of_dvd, common_multiple, multiple_of_all, Point, AreRising, gaps_of, multiple_is_least, den_positive}
 use Rattle.yds_model.specs.declared.limits.TheConstants.{MAX_GAPS}
-use Rattle.yds_model.specs.Divisor.{common_multiple, multiple_of_all}
-use Rattle.yds_model.specs.Table.{Point, AreRising, gaps_of}
-use Rattle.yds_model.proofs.Divisor.{multiple_is_least}
-use Rattle.yds_model.proofs.Fractions.{den_positive}
 use Rattle.yds_table.specs.Gaps.{IsMultipleOf}
 
 multiple_some : (a b : ℕ) → 1 ≤ a → 1 ≤ b → 1 ≤ common_multiple a b

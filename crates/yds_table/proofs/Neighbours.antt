@@ -1,10 +1,5 @@
 -- The points of a hull around a speed.
-use Rattle.std.proofs.Common.{◌≡◌, ℕ, suc, zero, ◌+◌, ◌-◌, ◌*◌, ◌<◌, ◌≤◌, List, [], ◌∷◌, length, sym, ap, ◌∙◌, subst, arith}
-use Rattle.std.specs.List.{slice_index_or}
-use Rattle.std.proofs.lemmas.List.{get_or_read}
-use Rattle.std.proofs.Math.Nat.{le_refl, mul-le-mul_right}
-use Rattle.yds_model.specs.Scale.{Quotient}
-use Rattle.yds_model.specs.Table.{Point, no_point, point_at, AreRising}
+use Rattle.yds_model.proofs.Common.{◌≡◌, ℕ, suc, zero, ◌+◌, ◌-◌, ◌*◌, ◌<◌, ◌≤◌, List, [], ◌∷◌, length, sym, ap, ◌∙◌, subst, arith, slice_index_or, get_or_read, le_refl, mul-le-mul_right, Quotient, Point, no_point, point_at, AreRising}
 use Rattle.yds_table.specs.Table.{last_of}
 use Rattle.yds_table.specs.Around.{IsAboveTop, AreNeighbours, IsFirstAtLeast}
 

@@ -1,16 +1,6 @@
 -- How many jobs tasks have together, and their work, as one task more comes.
-use Rattle.std.proofs.Common.{◌≡◌, ℕ, ◌+◌, ◌*◌, ◌<◌, ◌≤◌, List, [], ◌∷◌, ◌++◌, length, arith, true, Option, Some, None}
-use Rattle.std.specs.Prelude.{is_some, IfSome}
-use Rattle.std.specs.List.{All, sum_by}
-use Rattle.std.proofs.Math.Nat.{mul-le-mul_left}
-use Rattle.std.proofs.lemmas.Grind.{flat_map-append}
-use Rattle.std.proofs.lemmas.List.{append-nil, length_push}
-use Rattle.std.proofs.lemmas.List.Elements.{All-head, All-tail, All-push}
-use Rattle.std.proofs.lemmas.List.Sums.{sum_by-cons, sum_by-append}
+use Rattle.yds_model.proofs.Common.{◌≡◌, ℕ, ◌+◌, ◌*◌, ◌<◌, ◌≤◌, List, [], ◌∷◌, ◌++◌, length, arith, true, Option, Some, None, is_some, IfSome, All, sum_by, mul-le-mul_left, flat_map-append, append-nil, length_push, All-head, All-tail, All-push, sum_by-cons, sum_by-append, Job, IsJob, Task, TaskSet, nth_job, count_of_jobs, horizon_of, jobs_of_tasks, count_of_all}
 use Rattle.yds_model.specs.declared.limits.TheConstants.{MAX_JOBS, MAX_TASKS, MAX_TIME, MAX_WORK}
-use Rattle.yds_model.specs.Job.{Job, IsJob}
-use Rattle.yds_model.specs.Tasks.{Task, TaskSet, nth_job, count_of_jobs, horizon_of, jobs_of_tasks}
-use Rattle.yds_model.specs.TaskReading.{count_of_all}
 use Rattle.yds_laws.proofs.TaskWork.{jobs_of_task, jobs_until, works_of_task}
 use Rattle.yds_tasks.specs.Kept.{IsTask, IsTaskSet, KeepsTasks, with_task}
 

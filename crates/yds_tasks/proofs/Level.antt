@@ -1,8 +1,6 @@
 -- The one level, by what the code tries the tasks for.
-use Rattle.std.proofs.Common.{arith, ◌≡◌, ℕ, Bool, true, false, ◌&&◌, List, map, Option, Some, None, refl, sym, ap, ◌∙◌}
-use Rattle.std.specs.List.{list_all, list_any, sum_by}
-use Rattle.std.proofs.lemmas.List.Folds.{list_all-map}
-use Rattle.yds_model.specs.Tasks.{TaskSet, fills_horizon, has_work, jobs_of_tasks, level_until, one_level}
+use Rattle.yds_model.proofs.Common.{arith, ◌≡◌, ℕ, Bool, true, false, ◌&&◌, List, map, Option, Some, None, refl, sym, ap, ◌∙◌, list_all, list_any, sum_by, list_all-map, TaskSet, fills_horizon, has_work, jobs_of_tasks, level_until}
+use Rattle.yds_model.specs.Tasks.{one_level}
 use Rattle.yds_tasks.specs.declared.task.Task.{Task}
 use Rattle.yds_tasks.specs.Read.{task_read}
 use Rattle.yds_tasks.proofs.Names.{list_any-map}

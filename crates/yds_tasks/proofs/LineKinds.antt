@@ -1,12 +1,7 @@
 -- A line is read as its kind says.
-use Rattle.std.proofs.Common.{◌≡◌, Bool, true, false, List, codes, Option, Some, None, Result, Err, refl}
-use Rattle.std.specs.Prelude.{if◌then◌else◌}
-use Rattle.std.specs.Str.{bytes_eq}
+use Rattle.yds_model.proofs.Common.{◌≡◌, Bool, true, false, List, codes, Option, Some, None, Result, Err, refl, if◌then◌else◌, bytes_eq, Field, Spot, field_at, TaskEntry, read_horizon, read_task, read_task_fields}
 use Rattle.yds_model.specs.declared.task_reason.TaskReason.{TaskReason}
 use Rattle.yds_model.specs.declared.task_reason.TaskReason.TheVariants as reasons
-use Rattle.yds_model.specs.Lines.{Field}
-use Rattle.yds_model.specs.Fields.{Spot, field_at}
-use Rattle.yds_model.specs.TaskReading.{TaskEntry, read_horizon, read_task, read_task_fields}
 use Rattle.yds_tasks.specs.declared.line_kind.LineKind.{LineKind}
 use Rattle.yds_tasks.specs.declared.line_kind.LineKind.TheVariants as kinds
 use Rattle.yds_tasks.specs.LineKinds.{line_kind_of}

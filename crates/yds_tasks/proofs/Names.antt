@@ -1,11 +1,6 @@
 -- The names of the tasks, by the set that is kept beside them.
-use Rattle.std.proofs.Common.{◌≡◌, ℕ, Bool, true, false, cond, ◌||◌, List, [], ◌∷◌, ◌++◌, map, refl, sym, ap, ◌∙◌, ⊎_elim}
-use Rattle.std.proofs.lemmas.Bool.{cases_Bool}
-use Rattle.std.specs.Borrow.{Bor}
-use Rattle.std.specs.List.{list_any}
-use Rattle.std.specs.Str.{bytes_eq}
+use Rattle.yds_model.proofs.Common.{◌≡◌, ℕ, Bool, true, false, cond, ◌||◌, List, [], ◌∷◌, ◌++◌, map, refl, sym, ap, ◌∙◌, ⊎_elim, cases_Bool, Bor, list_any, bytes_eq, Task, TaskSet}
 use Rattle.indexmap.specs.IndexSet.{IndexSet, Updates, contains_by}
-use Rattle.yds_model.specs.Tasks.{Task, TaskSet}
 use Rattle.yds_tasks.specs.Fields.{has_name}
 use Rattle.yds_tasks.specs.Kept.{with_task}
 

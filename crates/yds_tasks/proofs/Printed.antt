@@ -1,11 +1,5 @@
 -- The lines of a task's jobs one after another, and those of all tasks.
-use Rattle.std.proofs.Common.{◌≡◌, ℕ, refl, ◌<◌, ◌≤◌, List, [], ◌∷◌, ◌++◌, get_or, length, map, ◌∙◌, ap, sym, append_assoc, arith}
-use Rattle.std.specs.Prelude.{flat_map}
-use Rattle.std.proofs.lemmas.List.Folds.{flat_map-map}
-use Rattle.std.proofs.lemmas.List.FromFn.{length-range_with_len, get_or-range_with_len}
-use Rattle.yds_model.specs.Job.{Job}
-use Rattle.yds_model.specs.Tasks.{Task, TaskSet, nth_job, nth_name, count_of_jobs, numbers_of_jobs, horizon_of, jobs_of_tasks, names_of_tasks}
-use Rattle.yds_model.specs.Text.{job_lines}
+use Rattle.yds_model.proofs.Common.{◌≡◌, ℕ, refl, ◌<◌, ◌≤◌, List, [], ◌∷◌, ◌++◌, get_or, length, map, ◌∙◌, ap, sym, append_assoc, arith, flat_map, flat_map-map, length-range_with_len, get_or-range_with_len, Job, Task, TaskSet, nth_job, nth_name, count_of_jobs, numbers_of_jobs, horizon_of, jobs_of_tasks, names_of_tasks, job_lines}
 use Rattle.yds_tasks.specs.declared.task.Task.{Task as TaskRow}
 use Rattle.yds_tasks.specs.Printed.{nth_line, task_lines}
 use Rattle.yds_tasks.specs.Read.{task_read}

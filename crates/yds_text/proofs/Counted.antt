@@ -1,8 +1,5 @@
 -- A count of fields that is right is so whatever reason stands for a wrong one.
-use Rattle.std.proofs.Common.{◌≡◌, ℕ, ◌+◌, ◌-◌, List, length, Bool, true, false, Result, Ok, refl}
-use Rattle.std.specs.Prelude.{nat_lt, ◌==◌, if◌then◌else◌}
-use Rattle.yds_model.specs.Lines.{Field}
-use Rattle.yds_model.specs.Fields.{Spot, refuse, demand, field_at, past_end, count_fields}
+use Rattle.yds_model.proofs.Common.{◌≡◌, ℕ, ◌+◌, ◌-◌, List, length, Bool, true, false, Result, Ok, refl, nat_lt, ◌==◌, if◌then◌else◌, Field, Spot, refuse, demand, field_at, past_end, count_fields}
 use Rattle.yds_text.specs.Count.{no_reason}
 
 abbrev counted_by : {R : Type 0} → R → Bool → Bool → ℕ → ℕ → Result Bool (Spot R)

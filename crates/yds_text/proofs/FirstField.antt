@@ -1,8 +1,5 @@
 -- The first field of bytes, by its parts: the blanks before it, its bytes, and the rest.
-use Rattle.std.proofs.Common.{◌≡◌, ℕ, ◌+◌, ◌<◌, List, [], ◌∷◌, length, take, drop, sym, ap, ap₂, ◌∙◌, arith}
-use Rattle.std.specs.List.{prefix_len, position_or_len}
-use Rattle.yds_model.specs.Lines.{is_blank, fields_from}
-use Rattle.yds_model.proofs.Lines.{fields_from-blanks, fields_from-first, drop_blanks-none}
+use Rattle.yds_model.proofs.Common.{◌≡◌, ℕ, ◌+◌, ◌<◌, List, [], ◌∷◌, length, take, drop, sym, ap, ap₂, ◌∙◌, arith, prefix_len, position_or_len, is_blank, fields_from, fields_from-blanks, fields_from-first, drop_blanks-none}
 
 pub fields_from-parts : (column blanks : ℕ) (bytes middle text rest : List ℕ) → blanks ≡ prefix_len is_blank bytes → middle ≡ drop blanks bytes →
     text ≡ take (position_or_len is_blank middle) middle → rest ≡ drop (position_or_len is_blank middle) middle → length text ≡ position_or_len is_blank middle →

@@ -1,10 +1,6 @@
 -- The first line of bytes, by where their first line feed stands.
-use Rattle.std.proofs.Common.{◌≡◌, ◌≢◌, ℕ, ◌+◌, ◌<◌, ◌≤◌, List, [], ◌∷◌, ◌++◌, length, get_or, take, drop, All, sym, ap, ◌∙◌, arith, eq-eqb, eqb-true, take-append-drop, length-take-le, get_or-take, le_refl}
-use Rattle.std.proofs.lemmas.List.{drop_more, drop_all}
-use Rattle.std.proofs.lemmas.List.Elements.{All-from_get_or}
+use Rattle.yds_model.proofs.Common.{◌≡◌, ◌≢◌, ℕ, ◌+◌, ◌<◌, ◌≤◌, List, [], ◌∷◌, ◌++◌, length, get_or, take, drop, All, sym, ap, ◌∙◌, arith, eq-eqb, eqb-true, take-append-drop, length-take-le, get_or-take, le_refl, drop_more, drop_all, All-from_get_or, lines_from, lines_from-front, lines_from-last}
 use Rattle.memchr.specs.Find.{Nowhere, Passes, is_byte}
-use Rattle.yds_model.specs.Lines.{lines_from}
-use Rattle.yds_model.proofs.Lines.{lines_from-front, lines_from-last}
 
 no_feed_before : (bytes : List ℕ) (end : ℕ) → end ≤ length bytes → Nowhere (Passes (is_byte 10) bytes) 0 end →
     All (λ byte. byte ≢ 10) (take end bytes)

@@ -1,8 +1,5 @@
 -- Numbers by their first digits, and names as text.
-use Rattle.std.proofs.Common.{◌≡◌, ℕ, ◌≤◌, List, length, take, Option, Result, Ok, Err, MatchResult, IfNone, sym, subst, arith}
-use Rattle.std.specs.Result.{result_ok}
-use Rattle.std.specs.Str.Parse.{digits_value}
-use Rattle.std.proofs.lemmas.Str.Parse.{digits_value-take-le}
+use Rattle.yds_model.proofs.Common.{◌≡◌, ℕ, ◌≤◌, List, length, take, Option, Result, Ok, Err, MatchResult, IfNone, sym, subst, arith, result_ok, digits_value, digits_value-take-le}
 use Rattle.yds_text.proofs.Digits.{front_of_part}
 
 -- the first digits of a text write no more than all those at its front

@@ -1,21 +1,5 @@
 -- Stages together, one after another: what holds of those that follow holds with the one before them.
-use Rattle.std.proofs.Common.{◌≡◌, ℕ, zero, suc, ◌+◌, ◌*◌, ◌<◌, ◌≤◌, ◌⊎◌, ◌==◌, List, [], ◌∷◌, length, get_or, map, ◌∙◌, sym, ap, arith, inl, inr, cond, refl, true, false, subst}
-use Rattle.std.specs.Prelude.{Bool, nat_lt, not}
-use Rattle.std.specs.List.{All, AllPairs, Contains, flat_map, range_with_len}
-use Rattle.std.proofs.lemmas.Bool.{cases_Bool, cases_eq, eq-eqb, ne_eqb, both_ways, not-true, not_from_false, lt-ltb, ltb-true, false_from_ne_true}
-use Rattle.std.proofs.lemmas.List.{length-append}
-use Rattle.std.proofs.lemmas.List.Sums.{sum_by-append}
-use Rattle.std.proofs.lemmas.List.Kept.{AllPairs-filter}
-use Rattle.std.proofs.lemmas.List.FromFn.{length-range_with_len, get_or-range_with_len}
-use Rattle.std.proofs.lemmas.List.Filters.{length-filter_both}
-use Rattle.std.proofs.lemmas.List.Elements.{All-nil, All-append, All-weaker, All-contains, Contains-get_or}
-use Rattle.yds_model.specs.Job.{Job, job_at}
-use Rattle.yds_model.specs.Piece.{Piece}
-use Rattle.yds_model.specs.Event.{stretches}
-use Rattle.yds_model.specs.Comparison.{stretch_at}
-use Rattle.yds_model.proofs.Lists.{AllPairs-append}
-use Rattle.yds_model.proofs.Sums.{sum_by_zero}
-use Rattle.yds_model.proofs.Filters.{contains_filter}
+use Rattle.yds_model.proofs.Common.{◌≡◌, ℕ, zero, suc, ◌+◌, ◌*◌, ◌<◌, ◌≤◌, ◌⊎◌, ◌==◌, List, [], ◌∷◌, length, get_or, map, ◌∙◌, sym, ap, arith, inl, inr, cond, refl, true, false, subst, Bool, nat_lt, not, All, AllPairs, Contains, flat_map, range_with_len, cases_Bool, cases_eq, eq-eqb, ne_eqb, both_ways, not-true, not_from_false, lt-ltb, ltb-true, false_from_ne_true, length-append, sum_by-append, AllPairs-filter, length-range_with_len, get_or-range_with_len, length-filter_both, All-nil, All-append, All-weaker, All-contains, Contains-get_or, Job, job_at, Piece, stretches, stretch_at, AllPairs-append, sum_by_zero, contains_filter}
 use Rattle.yds_events.specs.Window.{length_at, IsInWindow}
 use Rattle.yds_timetable.specs.Shares.{JobShare}
 use Rattle.yds_search.specs.Found.{Group, group_at, per_time, per_work, units_of_job, units_in_stretch}

@@ -1,16 +1,6 @@
 -- Intensities don't rise from stage to stage: an interval of the time that is left once a critical interval is removed, if it were denser
 -- than that, would have been denser before, together with the critical interval where it touches it. It is the mediant of the two.
-use Rattle.std.proofs.Common.{◌≡◌, ℕ, ◌+◌, ◌-◌, ◌*◌, ◌<◌, ◌≤◌, List, get_or, ap, arith, inl, inr, cond, refl, true, min}
-use Rattle.std.specs.Prelude.{nat_le, not}
-use Rattle.std.specs.List.{All, sum_by}
-use Rattle.std.proofs.lemmas.Bool.{cases_lt, cases_Bool, le-leb, leb-true, and_from, and_parts, not_from_true, not_from_false}
-use Rattle.std.proofs.Math.Nat.{mul-le-mul_right}
-use Rattle.yds_model.specs.Job.{Job, job_at}
-use Rattle.yds_model.specs.Piece.{Piece}
-use Rattle.yds_model.proofs.Sums.{sum_by-add, sum_by_at_most, sum_by-map}
-use Rattle.yds_model.proofs.Filters.{sum_by-filter}
-use Rattle.yds_model.specs.Confined.{window_is_within, work_within}
-use Rattle.yds_model.proofs.Confined.{part_within}
+use Rattle.yds_model.proofs.Common.{◌≡◌, ℕ, ◌+◌, ◌-◌, ◌*◌, ◌<◌, ◌≤◌, List, get_or, ap, arith, inl, inr, cond, refl, true, min, nat_le, not, All, sum_by, cases_lt, cases_Bool, le-leb, leb-true, and_from, and_parts, not_from_true, not_from_false, mul-le-mul_right, Job, job_at, Piece, sum_by-add, sum_by_at_most, sum_by-map, sum_by-filter, window_is_within, work_within, part_within}
 use Rattle.yds_critical.specs.declared.interval.Interval.{Interval}
 use Rattle.yds_critical.specs.Critical.{IsCritical}
 use Rattle.yds_contract.specs.Contracted.{AreApartFrom, place, Removes}

@@ -1,13 +1,5 @@
 -- Shares by their stretches, and sums that are equal term by term.
-use Rattle.std.proofs.Common.{◌≡◌, ℕ, zero, suc, ◌+◌, ◌<◌, ◌≤◌, ◌==◌, List, [], ◌∷◌, length, get_or, sym, arith, inl, inr, cond, refl, subst}
-use Rattle.std.specs.Prelude.{Bool, nat_lt, filter}
-use Rattle.std.specs.List.{All, AllPairs, sum_by, range_with_len}
-use Rattle.std.proofs.lemmas.Bool.{cases_lt, cases_Bool, cases_order, eq-eqb, ne_eqb, lt-ltb, le-ltb}
-use Rattle.std.proofs.lemmas.List.Sums.{get_or-le-sum_by}
-use Rattle.std.proofs.lemmas.List.Elements.{All-contains, Contains-get_or}
-use Rattle.std.proofs.lemmas.List.FromFn.{length-range_with_len, get_or-range_with_len}
-use Rattle.yds_model.proofs.Sums.{sum_by-add, sum_by_at_most}
-use Rattle.yds_model.proofs.Filters.{sum_by-filter, contains_filter}
+use Rattle.yds_model.proofs.Common.{◌≡◌, ℕ, zero, suc, ◌+◌, ◌<◌, ◌≤◌, ◌==◌, List, [], ◌∷◌, length, get_or, sym, arith, inl, inr, cond, refl, subst, Bool, nat_lt, filter, All, AllPairs, sum_by, range_with_len, cases_lt, cases_Bool, cases_order, eq-eqb, ne_eqb, lt-ltb, le-ltb, get_or-le-sum_by, All-contains, Contains-get_or, length-range_with_len, get_or-range_with_len, sum_by-add, sum_by_at_most, sum_by-filter, contains_filter}
 use Rattle.yds_edf.specs.Serving.{AreTies}
 use Rattle.yds_edf.specs.Pending.{sum_below}
 use Rattle.yds_timetable.specs.Shares.{JobShare, units_given, shares_in, shares_before}

@@ -1,17 +1,6 @@
 -- The stretches of an interval in the time that is left: they follow one another, no job's window ends inside one, and they serve what the
 -- jobs inside the interval demand.
-use Rattle.std.proofs.Common.{◌≡◌, ℕ, zero, suc, ◌+◌, ◌-◌, ◌*◌, ◌<◌, ◌≤◌, List, length, get_or, map, ◌∙◌, sym, ap, arith, inl, inr, cond, true}
-use Rattle.std.specs.Prelude.{Bool, nat_le, ◌&&◌, filter}
-use Rattle.std.specs.List.{All, range_with_len}
-use Rattle.std.proofs.lemmas.Bool.{cases_lt, cases_Bool, le-leb, lt-ltb, ltb-true, leb-true, and_from, and_parts}
-use Rattle.std.proofs.lemmas.List.{get_or-map}
-use Rattle.std.proofs.lemmas.List.Elements.{All-map, All-filter, filter_passes}
-use Rattle.yds_model.specs.Job.{Job, job_at}
-use Rattle.yds_model.specs.Scale.{Quotient}
-use Rattle.yds_model.specs.Piece.{Piece, PiecesFrom}
-use Rattle.yds_model.specs.Event.{stretches}
-use Rattle.yds_model.specs.Comparison.{stretch_at}
-use Rattle.yds_model.proofs.Sums.{sum_by-map}
+use Rattle.yds_model.proofs.Common.{◌≡◌, ℕ, zero, suc, ◌+◌, ◌-◌, ◌*◌, ◌<◌, ◌≤◌, List, length, get_or, map, ◌∙◌, sym, ap, arith, inl, inr, cond, true, Bool, nat_le, ◌&&◌, filter, All, range_with_len, cases_lt, cases_Bool, le-leb, lt-ltb, ltb-true, leb-true, and_from, and_parts, get_or-map, All-map, All-filter, filter_passes, Job, job_at, Quotient, Piece, PiecesFrom, stretches, stretch_at, sum_by-map}
 use Rattle.yds_events.specs.Stretch.{IsOutside, no_stretch, nth_stretch}
 use Rattle.yds_events.specs.Window.{length_at}
 use Rattle.yds_events.proofs.Neighbours.{stretch_order}

@@ -1,16 +1,5 @@
 -- What a stage is made of, as it is read from lists that are known to be equal to others.
-use Rattle.std.proofs.Common.{◌≡◌, ℕ, ◌+◌, ◌*◌, ◌<◌, ◌≤◌, List, [], ◌∷◌, ◌++◌, length, get_or, map, take, add-one, ◌∙◌, sym, ap, arith, refl, subst}
-use Rattle.std.specs.Int.{IsGcd}
-use Rattle.std.specs.List.{All, range_with_len, flat_map}
-use Rattle.std.proofs.lemmas.List.{length-map, map-append, map_more}
-use Rattle.std.proofs.lemmas.List.Sums.{length-filter, count_by-le-length}
-use Rattle.std.proofs.lemmas.List.Elements.{All-contains, Contains-get_or}
-use Rattle.std.proofs.lemmas.List.FromFn.{length-range_with_len}
-use Rattle.yds_model.proofs.Lists.{flat_map-take}
-use Rattle.yds_model.specs.Job.{Job}
-use Rattle.yds_model.specs.Scale.{Quotient}
-use Rattle.yds_model.specs.Piece.{Piece}
-use Rattle.yds_model.specs.Event.{stretches}
+use Rattle.yds_model.proofs.Common.{◌≡◌, ℕ, ◌+◌, ◌*◌, ◌<◌, ◌≤◌, List, [], ◌∷◌, ◌++◌, length, get_or, map, take, add-one, ◌∙◌, sym, ap, arith, refl, subst, IsGcd, All, range_with_len, flat_map, length-map, map-append, map_more, length-filter, count_by-le-length, All-contains, Contains-get_or, length-range_with_len, flat_map-take, Job, Quotient, Piece, stretches}
 use Rattle.yds_events.specs.Stretch.{nth_stretch}
 use Rattle.yds_fraction.proofs.Lowest.{lowest_is}
 use Rattle.yds_search.specs.declared.found.Group as groups

@@ -1,20 +1,6 @@
 -- What a stage serves in the time that is left, in real time: each of its jobs gets all its units in its window, in stretches of the stage, and
 -- each of these stretches is full, earliest deadline first.
-use Rattle.std.proofs.Common.{◌≡◌, ℕ, ◌+◌, ◌-◌, ◌*◌, ◌<◌, ◌≤◌, ◌⊎◌, ◌==◌, List, length, get_or, map, ◌∙◌, sym, ap, arith, inl, inr, cond, refl, subst}
-use Rattle.std.specs.Prelude.{slice_index}
-use Rattle.std.specs.List.{All, AllPairs, Contains, range_with_len, sum_by}
-use Rattle.std.proofs.lemmas.Bool.{cases_lt, cases_eq, le-leb, eq-eqb, ne_eqb}
-use Rattle.std.proofs.lemmas.List.{get_or-map, length-map, get_or_default}
-use Rattle.std.proofs.lemmas.List.Kept.{AllPairs-filter}
-use Rattle.std.proofs.lemmas.List.Elements.{All-map, All-filter, All-contains, Contains-get_or}
-use Rattle.std.proofs.lemmas.List.FromFn.{get_or-range_with_len}
-use Rattle.yds_model.specs.Job.{Job, no_job, job_at, work_of}
-use Rattle.yds_model.specs.Piece.{Piece}
-use Rattle.yds_model.specs.Event.{stretches}
-use Rattle.yds_model.specs.EarliestFirst.{ComesFirst}
-use Rattle.yds_model.specs.Comparison.{stretch_at}
-use Rattle.yds_model.proofs.Sums.{sum_by_same, sum_by-map}
-use Rattle.yds_model.proofs.Filters.{sum_by-filter}
+use Rattle.yds_model.proofs.Common.{◌≡◌, ℕ, ◌+◌, ◌-◌, ◌*◌, ◌<◌, ◌≤◌, ◌⊎◌, ◌==◌, List, length, get_or, map, ◌∙◌, sym, ap, arith, inl, inr, cond, refl, subst, slice_index, All, AllPairs, Contains, range_with_len, sum_by, cases_lt, cases_eq, le-leb, eq-eqb, ne_eqb, get_or-map, length-map, get_or_default, AllPairs-filter, All-map, All-filter, All-contains, Contains-get_or, get_or-range_with_len, Job, no_job, job_at, work_of, Piece, stretches, ComesFirst, stretch_at, sum_by_same, sum_by-map, sum_by-filter, part_within}
 use Rattle.yds_events.specs.Stretch.{no_stretch, nth_stretch, length_of}
 use Rattle.yds_events.specs.Window.{length_at, IsInWindow}
 use Rattle.yds_events.proofs.Neighbours.{release_outside, deadline_outside}
@@ -29,7 +15,6 @@ use Rattle.yds_edf.specs.Demand.{capacity_at}
 use Rattle.yds_edf.proofs.Sums.{sum_below_same, sum_by_grouped}
 use Rattle.yds_edf.proofs.Numbers.{sum_below-mul, sum_places, sum_numbers}
 use Rattle.yds_edf.proofs.Filled.{stands_in}
-use Rattle.yds_model.proofs.Confined.{part_within}
 use Rattle.yds_critical.specs.declared.interval.Interval.{Interval}
 use Rattle.yds_critical.specs.Critical.{IsCritical}
 use Rattle.yds_contract.specs.Contracted.{AreApartFrom, place}

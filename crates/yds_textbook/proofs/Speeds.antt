@@ -1,8 +1,5 @@
 -- The intensity of an interval as a speed in lowest terms.
-use Rattle.std.proofs.Common.{◌≡◌, ℕ, ◌-◌, ◌*◌, ◌≤◌, List, arith, ap, subst}
-use Rattle.std.proofs.Math.Nat.{mul-le-mul_right, le_of_mul-le-mul_left}
-use Rattle.yds_model.specs.Job.{Job}
-use Rattle.yds_model.specs.Scale.{Quotient}
+use Rattle.yds_model.proofs.Common.{◌≡◌, ℕ, ◌-◌, ◌*◌, ◌≤◌, List, arith, ap, subst, mul-le-mul_right, le_of_mul-le-mul_left, Job, Quotient}
 use Rattle.yds_critical.specs.declared.interval.Interval.{Interval}
 use Rattle.yds_textbook.specs.Served.{IsFastEnough}
 use Rattle.yds_textbook.specs.Stages.{IsDensest}

@@ -1,18 +1,6 @@
 -- What holds between two stages, once some time is removed and some jobs wait.
-use Rattle.std.proofs.Common.{◌≡◌, ℕ, ◌+◌, ◌-◌, ◌<◌, ◌≤◌, List, [], ◌∷◌, length, get_or, ◌∙◌, sym, ap, arith, cond, refl, true, false, subst, min}
-use Rattle.std.specs.Prelude.{nat_lt, not, filter, ◌==◌}
-use Rattle.std.specs.List.{All, AllPairs, sum_by}
-use Rattle.std.proofs.lemmas.Bool.{leb-true, and_parts, eq-eqb, both_ways, false_from_ne_true}
-use Rattle.std.proofs.lemmas.List.{get_or_default}
-use Rattle.std.proofs.lemmas.List.Kept.{AllPairs-filter}
-use Rattle.std.proofs.lemmas.List.Sorted.{sum_by-IsPermutation}
-use Rattle.std.proofs.lemmas.List.Elements.{All-filter, filter_passes}
+use Rattle.yds_model.proofs.Common.{◌≡◌, ℕ, ◌+◌, ◌-◌, ◌<◌, ◌≤◌, List, [], ◌∷◌, length, get_or, ◌∙◌, sym, ap, arith, cond, refl, true, false, subst, min, nat_lt, not, filter, ◌==◌, All, AllPairs, sum_by, leb-true, and_parts, eq-eqb, both_ways, false_from_ne_true, get_or_default, AllPairs-filter, sum_by-IsPermutation, All-filter, filter_passes, Job, IsJob, no_job, job_at, Piece, stretches, numbers_of, stretch_at}
 use Rattle.yds_model.specs.declared.limits.TheConstants.{MAX_JOBS}
-use Rattle.yds_model.specs.Job.{Job, IsJob, no_job, job_at}
-use Rattle.yds_model.specs.Piece.{Piece}
-use Rattle.yds_model.specs.Event.{stretches}
-use Rattle.yds_model.specs.Policy.{numbers_of}
-use Rattle.yds_model.specs.Comparison.{stretch_at}
 use Rattle.yds_events.specs.Window.{IsInWindow}
 use Rattle.yds_search.proofs.KeySums.{inside_range}
 use Rattle.yds_edf.specs.Pending.{sum_below}

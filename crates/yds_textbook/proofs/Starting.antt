@@ -1,12 +1,5 @@
 -- The jobs that wait at first, one after another.
-use Rattle.std.proofs.Common.{◌≡◌, ℕ, ◌+◌, ◌<◌, ◌≤◌, List, [], ◌∷◌, ◌++◌, length, take, get_or, cond, ◌∙◌, refl, sym, subst, ap, arith, true, false}
-use Rattle.std.specs.Prelude.{Bool, filter, not}
-use Rattle.std.specs.List.{All}
-use Rattle.std.proofs.lemmas.Bool.{le-leb, lt-leb}
-use Rattle.std.proofs.lemmas.List.{append-nil}
-use Rattle.std.proofs.lemmas.List.Filters.{length-filter_both}
-use Rattle.std.proofs.lemmas.List.Elements.{All-append, All-cons, All-nil, filter_more}
-use Rattle.yds_model.specs.Job.{Job, IsJob, job_at}
+use Rattle.yds_model.proofs.Common.{◌≡◌, ℕ, ◌+◌, ◌<◌, ◌≤◌, List, [], ◌∷◌, ◌++◌, length, take, get_or, cond, ◌∙◌, refl, sym, subst, ap, arith, true, false, Bool, filter, not, All, le-leb, lt-leb, append-nil, length-filter_both, All-append, All-cons, All-nil, filter_more, Job, IsJob, job_at}
 use Rattle.yds_intensity.specs.Order.{IsDeadlineOrder}
 use Rattle.yds_intensity.proofs.Sweeps.{order_length}
 use Rattle.yds_textbook.specs.Waiting.{CanWait, job_has_work}

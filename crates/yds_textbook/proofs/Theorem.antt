@@ -1,18 +1,6 @@
 -- The theorem of Yao, Demers and Shenker: the stages of the textbook's way make a plan.
-use Rattle.std.proofs.Common.{◌≡◌, ℕ, ◌-◌, ◌*◌, ◌<◌, ◌≤◌, ◌==◌, List, [], ◌∷◌, length, ◌∙◌, sym, ap, arith, inl, inr, cond, refl, true, false, subst}
-use Rattle.std.specs.Prelude.{Bool, nat_lt, filter}
-use Rattle.std.specs.List.{All, Contains}
-use Rattle.std.proofs.lemmas.Bool.{cases_lt, le-leb, leb-true}
-use Rattle.std.proofs.lemmas.List.{length-map}
-use Rattle.std.proofs.lemmas.List.FromFn.{length-map-range_with_len, get_or-map-range_with_len, length-range_with_len, get_or-range_with_len}
-use Rattle.std.proofs.lemmas.List.Sorted.{Contains-permutation}
+use Rattle.yds_model.proofs.Common.{◌≡◌, ℕ, ◌-◌, ◌*◌, ◌<◌, ◌≤◌, ◌==◌, List, [], ◌∷◌, length, ◌∙◌, sym, ap, arith, inl, inr, cond, refl, true, false, subst, Bool, nat_lt, filter, All, Contains, cases_lt, le-leb, leb-true, length-map, length-map-range_with_len, get_or-map-range_with_len, length-range_with_len, get_or-range_with_len, Contains-permutation, Job, IsJob, job_at, Piece, stretches, numbers_of, stretch_at, contains_filter}
 use Rattle.yds_model.specs.declared.limits.TheConstants.{MAX_JOBS}
-use Rattle.yds_model.specs.Job.{Job, IsJob, job_at}
-use Rattle.yds_model.specs.Piece.{Piece}
-use Rattle.yds_model.specs.Event.{stretches}
-use Rattle.yds_model.specs.Policy.{numbers_of}
-use Rattle.yds_model.specs.Comparison.{stretch_at}
-use Rattle.yds_model.proofs.Filters.{contains_filter}
 use Rattle.yds_events.specs.Window.{length_at}
 use Rattle.yds_events.proofs.Neighbours.{stretch_forward}
 use Rattle.yds_timetable.specs.Shares.{no_share, share_at}

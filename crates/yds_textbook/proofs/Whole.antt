@@ -1,11 +1,5 @@
 -- Stretches in the time that is left: each is removed whole or left whole, and those that lie between two events fill the time between.
-use Rattle.std.proofs.Common.{◌≡◌, ℕ, zero, suc, ◌+◌, ◌-◌, ◌<◌, ◌≤◌, ◌⊎◌, List, [], length, get_or, sym, ap, arith, inl, inr, cond, add-one, min, subst}
-use Rattle.std.specs.Prelude.{nat_le, nat_lt, ◌&&◌}
-use Rattle.std.proofs.lemmas.Bool.{le-leb, lt-leb, lt-ltb, le-ltb}
-use Rattle.yds_model.specs.Job.{Job, job_at}
-use Rattle.yds_model.specs.Piece.{Piece}
-use Rattle.yds_model.specs.Event.{event_points, stretches}
-use Rattle.yds_model.specs.Comparison.{stretch_at}
+use Rattle.yds_model.proofs.Common.{◌≡◌, ℕ, zero, suc, ◌+◌, ◌-◌, ◌<◌, ◌≤◌, ◌⊎◌, List, [], length, get_or, sym, ap, arith, inl, inr, cond, add-one, min, subst, nat_le, nat_lt, ◌&&◌, le-leb, lt-leb, lt-ltb, le-ltb, Job, job_at, Piece, event_points, stretches, stretch_at}
 use Rattle.yds_events.specs.Stretch.{IsOutside}
 use Rattle.yds_events.specs.Window.{length_at}
 use Rattle.yds_events.proofs.Times.{release_at, deadline_at, not_later}

@@ -1,28 +1,9 @@
 -- What the answer of `admit` is worth: its text is read again as the document of the admitted jobs with their slots, and `audit`
 -- answers it with 'feasible'. The comments of the refused jobs are short, and bring nothing.
-use Rattle.std.proofs.Common.{◌≡◌, ℕ, zero, suc, ◌+◌, ◌*◌, ◌<◌, ◌≤◌, Bool, true, false, List, [], ◌∷◌, ◌++◌, length, decimal, Option, Some, Result, Ok, Err, refl, sym, ap, subst, ◌∙◌, arith, inl, inr}
-use Rattle.std.specs.Prelude.{codes, if◌then◌else◌}
-use Rattle.std.specs.Str.{bytes_eq}
-use Rattle.std.specs.List.{All, AllByRecursion, flat_map, filter}
-use Rattle.std.proofs.lemmas.Fmt.{length-decimal-le}
-use Rattle.std.proofs.lemmas.List.{length-append}
-use Rattle.std.proofs.lemmas.List.Elements.{All-nil, All-cons, All-head, All-tail, All-weaker}
-use Rattle.std.proofs.lemmas.List.FromFn.{length-range_with_len}
-use Rattle.std.proofs.lemmas.List.Sums.{sum_by-le, length-filter, count_by-le-length}
+use Rattle.yds_model.proofs.Common.{◌≡◌, ℕ, zero, suc, ◌+◌, ◌*◌, ◌<◌, ◌≤◌, Bool, true, false, List, [], ◌∷◌, ◌++◌, length, decimal, Option, Some, Result, Ok, Err, refl, sym, ap, subst, ◌∙◌, arith, inl, inr, codes, if◌then◌else◌, bytes_eq, All, AllByRecursion, flat_map, filter, length-decimal-le, length-append, All-nil, All-cons, All-head, All-tail, All-weaker, length-range_with_len, sum_by-le, length-filter, count_by-le-length, Job, IsJob, job_at, numbers_of, jobs_with, lies_within, confined_work, Refusal, IsRefusal, AdmitsAfter, top_capacity, with_taken, refusal_comment, AdmitAnswer, Document, name_at, no_document, canonical_text, is_name, number_at, reading, IsDocument, Request, AskAdmit, OfDocument, request_of_word, request_of_top, request_of_two, request_of_grid, request_of_trial, request_of_three, request_of, AnswersRequest}
 use Rattle.yds_model.specs.declared.limits.TheConstants.{MAX_JOBS, MAX_TIME, MAX_WORK, MAX_TOP, MAX_NAME}
 use Rattle.yds_model.specs.declared.number_fault.NumberFault.{NumberFault}
 use Rattle.yds_model.specs.declared.status.Status.TheVariants.{Done}
-use Rattle.yds_model.specs.Job.{Job, IsJob, job_at}
-use Rattle.yds_model.specs.Policy.{numbers_of}
-use Rattle.yds_model.specs.Admission.{jobs_with, lies_within, confined_work, Refusal, IsRefusal, AdmitsAfter, top_capacity}
-use Rattle.yds_model.specs.AdmitAnswer.{with_taken, refusal_comment, AdmitAnswer}
-use Rattle.yds_model.specs.Document.{Document, name_at, no_document}
-use Rattle.yds_model.specs.Text.{canonical_text}
-use Rattle.yds_model.specs.Spelling.{is_name, number_at}
-use Rattle.yds_model.specs.Reading.{reading}
-use Rattle.yds_model.specs.Within.{IsDocument}
-use Rattle.yds_model.specs.Request.{Request, AskAdmit, OfDocument, request_of_word, request_of_top, request_of_two, request_of_grid, request_of_trial, request_of_three, request_of}
-use Rattle.yds_model.specs.Answer.{AnswersRequest}
 use Rattle.yds_texts.specs.AdmitText.{ReadAdmission, HoldsAdmission, AdmissionsAreRead, AdmissionsAreFeasible}
 use Rattle.yds_laws.proofs.Forced.{refusals_are_forced}
 use Rattle.yds_laws.proofs.AdmittedRuns.{admitted_runs_within_top}

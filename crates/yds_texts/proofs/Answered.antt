@@ -1,21 +1,9 @@
 -- The answer to an input that isn't refused, and what `audit` answers to a text that is read as a document.
-use Rattle.std.proofs.Common.{◌≡◌, ℕ, ◌*◌, ◌≤◌, Bool, true, false, List, [], ◌∷◌, length, Some, Result, Ok, Err, refl, arith, codes, le-ltb}
-use Rattle.std.proofs.lemmas.List.Elements.{All-weaker}
+use Rattle.yds_model.proofs.Common.{◌≡◌, ℕ, ◌*◌, ◌≤◌, Bool, true, false, List, [], ◌∷◌, length, Some, Result, Ok, Err, refl, arith, codes, le-ltb, All-weaker, all_pieces, all_members, Point, IsFeasible, AreSlots, Feasible, Document, Fault, reading, IsDocument, IsTextOf, Question, AskAudit, OfDocument, OnPoints, AnswersQuestion, AnswersReading, UnlessTooLong, is_too_long, AnswersRequest, verdict_is_exact}
 use Rattle.yds_model.specs.declared.limits.TheConstants.{MAX_INPUT, MAX_JOBS}
 use Rattle.yds_model.specs.declared.reason.Reason.{Reason}
 use Rattle.yds_model.specs.declared.status.Status.{Status}
 use Rattle.yds_model.specs.declared.status.Status.TheVariants.{Done, No, Refused}
-use Rattle.yds_model.specs.Level.{all_pieces, all_members}
-use Rattle.yds_model.specs.Table.{Point}
-use Rattle.yds_model.specs.Feasible.{IsFeasible}
-use Rattle.yds_model.specs.Audit.{AreSlots, Feasible}
-use Rattle.yds_model.specs.Document.{Document}
-use Rattle.yds_model.specs.Fields.{Fault}
-use Rattle.yds_model.specs.Reading.{reading}
-use Rattle.yds_model.specs.Within.{IsDocument, IsTextOf}
-use Rattle.yds_model.specs.Request.{Question, AskAudit, OfDocument}
-use Rattle.yds_model.specs.Answer.{OnPoints, AnswersQuestion, AnswersReading, UnlessTooLong, is_too_long, AnswersRequest}
-use Rattle.yds_model.proofs.Verdicts.{verdict_is_exact}
 use Rattle.yds_texts.proofs.RoundTrip.{printed_is_read}
 use Rattle.yds_texts.proofs.Short.{text_is_short}
 use Rattle.yds_texts.proofs.Within.{read_is_within_limits}

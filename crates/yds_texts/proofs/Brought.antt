@@ -1,15 +1,5 @@
 -- Reading in parts: bytes that bring a document that was read so far to a longer one.
-use Rattle.std.proofs.Common.{◌≡◌, ◌≢◌, ℕ, ◌+◌, ◌<◌, ◌≤◌, true, false, ◌==◌, List, [], ◌∷◌, ◌++◌, length, map, Ok, refl, sym, ap, subst, ◌∙◌, arith, append-nil, append_assoc}
-use Rattle.std.specs.List.{All, AllByRecursion, join_with_byte, flat_map}
-use Rattle.std.proofs.lemmas.List.Elements.{All-weaker}
-use Rattle.std.proofs.lemmas.Bool.{or_from}
-use Rattle.std.proofs.Common.{ne_eqb}
-use Rattle.yds_model.specs.Document.{Document, no_document}
-use Rattle.yds_model.specs.Lines.{Line, Field, is_blank, lines_from, without_return, trimmed, fields_of, lines_of}
-use Rattle.yds_model.specs.Entry.{Entry}
-use Rattle.yds_model.specs.Reading.{read_fields, begins_comment, is_skipped, read_line, live_lines, read_after, reading}
-use Rattle.yds_model.specs.Text.{line}
-use Rattle.yds_model.proofs.Lines.{IsFull, spaced, fields_from-join, lines_from-written, without_return-none, All-join}
+use Rattle.yds_model.proofs.Common.{◌≡◌, ◌≢◌, ℕ, ◌+◌, ◌<◌, ◌≤◌, true, false, ◌==◌, List, [], ◌∷◌, ◌++◌, length, map, Ok, refl, sym, ap, subst, ◌∙◌, arith, append-nil, append_assoc, All, AllByRecursion, join_with_byte, flat_map, All-weaker, or_from, ne_eqb, Document, no_document, Line, Field, is_blank, lines_from, without_return, trimmed, fields_of, lines_of, Entry, read_fields, begins_comment, is_skipped, read_line, live_lines, read_after, reading, line, IsFull, spaced, fields_from-join, lines_from-written, without_return-none, All-join}
 use Rattle.yds_model.proofs.Said.{Says}
 
 -- ---- one line

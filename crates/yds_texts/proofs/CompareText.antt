@@ -1,33 +1,8 @@
 -- What the answer of `compare` is worth: it ends as `round` does and tells the same energy of a plan, and no policy's energy is less.
-use Rattle.yds_model.proofs.LowestTerms.{lowest_is_lowest}
-use Rattle.yds_model.proofs.Scale.{scale_exists}
-use Rattle.yds_model.specs.Divisor.{IsLowest}
-use Rattle.yds_model.specs.Job.{Job}
-use Rattle.std.proofs.lemmas.List.Elements.{All-map}
-use Rattle.std.proofs.lemmas.List.{length-map}
-use Rattle.std.proofs.Common.{◌≡◌, ℕ, ◌*◌, ◌≤◌, length, Bool, true, false, List, [], ◌∷◌, ◌++◌, Some, Result, Ok, Err, sym, ap, subst, ◌∙◌, append_assoc, inl, inr, mul-pos, codes, decimal}
-use Rattle.std.specs.List.{flat_map, zip, All}
+use Rattle.yds_model.proofs.Common.{lowest_is_lowest, scale_exists, IsLowest, Job, All-map, length-map, ◌≡◌, ℕ, ◌*◌, ◌≤◌, length, Bool, true, false, List, [], ◌∷◌, ◌++◌, Some, Result, Ok, Err, sym, ap, subst, ◌∙◌, append_assoc, inl, inr, mul-pos, codes, decimal, flat_map, zip, All, Fraction, WrittenSlot, WholeSlot, AtEachScale, slots_at, Piece, Point, IsTable, hull_multiple, IsPlan, IsRounding, IsRunAt, average_rate, optimal_available, Document, Fault, reading, line, fraction_text, canonical_text, Side, Spends, TooSlowFor, IsSide, Spent, IsSpent, in_parts, all_time_at, side_lines, rounded_line, ComparedAnswer, CompareAnswer, TooSlowAnswer, RoundedAnswer, RoundAnswer, AskRound, AskCompare, OfDocument, OnPoints, AnswersReading, UnlessTooLong, is_too_long, AnswersRequest}
 use Rattle.yds_model.specs.declared.reason.Reason.{Reason}
 use Rattle.yds_model.specs.declared.status.Status.{Status}
 use Rattle.yds_model.specs.declared.status.Status.TheVariants.{Done, No}
-use Rattle.yds_model.specs.Scale.{Fraction}
-use Rattle.yds_model.specs.Slot.{WrittenSlot, WholeSlot, AtEachScale, slots_at}
-use Rattle.yds_model.specs.Piece.{Piece}
-use Rattle.yds_model.specs.Table.{Point, IsTable, hull_multiple}
-use Rattle.yds_model.specs.Plan.{IsPlan}
-use Rattle.yds_model.specs.Rounding.{IsRounding}
-use Rattle.yds_model.specs.Policy.{IsRunAt}
-use Rattle.yds_model.specs.AverageRate.{average_rate}
-use Rattle.yds_model.specs.OptimalAvailable.{optimal_available}
-use Rattle.yds_model.specs.Document.{Document}
-use Rattle.yds_model.specs.Fields.{Fault}
-use Rattle.yds_model.specs.Reading.{reading}
-use Rattle.yds_model.specs.Text.{line, fraction_text, canonical_text}
-use Rattle.yds_model.specs.Comparison.{Side, Spends, TooSlowFor, IsSide, Spent, IsSpent, in_parts, all_time_at}
-use Rattle.yds_model.specs.CompareAnswer.{side_lines, rounded_line, ComparedAnswer, CompareAnswer}
-use Rattle.yds_model.specs.RoundAnswer.{TooSlowAnswer, RoundedAnswer, RoundAnswer}
-use Rattle.yds_model.specs.Request.{AskRound, AskCompare, OfDocument}
-use Rattle.yds_model.specs.Answer.{OnPoints, AnswersReading, UnlessTooLong, is_too_long, AnswersRequest}
 use Rattle.yds_texts.specs.CompareText.{plan_energy_line, TellOneEnergy, ComparedAsRounded, CostsNoLess, ComparedPlanIsCheapest, HoldsComparison, ComparedIsTooSlow, AreTold, IsToldSide}
 use Rattle.yds_texts.specs.RoundText.{with_energy}
 use Rattle.yds_energy.proofs.Compared.{plan_spends_its_rounding, plan_spends_least, hull_some_multiple}

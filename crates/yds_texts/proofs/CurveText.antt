@@ -1,27 +1,13 @@
 -- What the answer of `curve` is worth: at each of its breaks the least excess, and between two of them a straight line.
 use Rattle.yds_texts.proofs.Answered.{answered, done_not_refused}
-use Rattle.yds_model.specs.Request.{AskCurve}
+use Rattle.yds_model.proofs.Common.{AskCurve, All-from_get_or, cases_lt, ◌≡◌, ℕ, zero, suc, ◌+◌, ◌-◌, ◌*◌, ◌<◌, ◌≤◌, List, length, get_or, reverse, refl, sym, ap, subst, ◌∙◌, arith, add-one, add-zero, ◌⊎◌, get_or-map, get_or-reverse, length-map, length-reverse, le_refl, mul-le-mul_right, mul-lt-mul_of_pos_right, lt_of_mul-lt-mul_right, le_of_mul-le-mul_right, Job, Fraction, numerator, IsLess, IsAtMost, of_whole, WrittenSlot, Level, no_level, level_at, in_lowest_terms, IsLowest, IsPlan, IsLeastExcess, Break, break_at, breaks_of, least_above, HasValue, lowest_value, lowest_is_lowest, at_most_still}
 use Rattle.yds_model.specs.declared.status.Status.TheVariants.{Done}
-use Rattle.std.proofs.lemmas.List.Elements.{All-from_get_or}
-use Rattle.std.proofs.lemmas.Bool.{cases_lt}
-use Rattle.std.proofs.Common.{◌≡◌, ℕ, zero, suc, ◌+◌, ◌-◌, ◌*◌, ◌<◌, ◌≤◌, List, length, get_or, reverse, refl, sym, ap, subst, ◌∙◌, arith, add-one, add-zero, ◌⊎◌}
-use Rattle.std.proofs.lemmas.List.{get_or-map, get_or-reverse, length-map, length-reverse}
-use Rattle.std.proofs.Math.Nat.{le_refl, mul-le-mul_right, mul-lt-mul_of_pos_right, lt_of_mul-lt-mul_right, le_of_mul-le-mul_right}
-use Rattle.yds_model.specs.Job.{Job}
-use Rattle.yds_model.specs.Scale.{Fraction, numerator, IsLess, IsAtMost, of_whole}
-use Rattle.yds_model.specs.Slot.{WrittenSlot}
-use Rattle.yds_model.specs.Level.{Level, no_level, level_at}
-use Rattle.yds_model.specs.Divisor.{in_lowest_terms, IsLowest}
-use Rattle.yds_model.specs.Plan.{IsPlan}
-use Rattle.yds_model.specs.Curve.{IsLeastExcess, Break, break_at, breaks_of, least_above}
 use Rattle.yds_laws.specs.CurveLaws.{excess_of, IsNotAbove, IsOnLine, IsNotBelow}
 use Rattle.yds_laws.proofs.CurveLine.{curve_is_straight}
 use Rattle.yds_laws.proofs.LeastAbove.{levels_tell_least_excess}
-use Rattle.yds_model.proofs.LowestTerms.{HasValue, lowest_value, lowest_is_lowest}
 use Rattle.yds_laws.proofs.Plans.{plan_falls}
 use Rattle.yds_laws.proofs.SameSpeed.{least_same, above_same}
 use Rattle.yds_texts.specs.CurveText.{bend_at, speed_at, as_quotient, IsLeastAbove, GoesStraight, CurvesAreLeast, no_bend}
-use Rattle.yds_model.proofs.Fractions.{at_most_still}
 
 -- # Values
 

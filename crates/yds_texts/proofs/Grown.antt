@@ -1,30 +1,7 @@
 -- The parts of a document stay within the limits as one more job, point, slot, level, piece or member comes.
-use Rattle.std.proofs.Common.{◌≡◌, ℕ, ◌+◌, ◌/◌, ◌<◌, ◌≤◌, ◌⊎◌, Bool, true, false, nat_lt, ◌==◌, List, [], ◌∷◌, ◌++◌, length, Some, None, Ok, refl, sym, subst, ◌∙◌, arith, inl, inr, eqb-true, append-nil}
-use Rattle.std.specs.Prelude.{if◌then◌else◌}
-use Rattle.std.specs.List.{All, list_all, filter_map, position}
-use Rattle.std.specs.Str.{bytes_eq}
-use Rattle.std.proofs.Math.Nat.{mod-lt}
-use Rattle.std.proofs.lemmas.Bool.{and_parts, ltb-true, ltb-false, cases_lt, cases_eq, cases_Bool, eq-eqb, ne_eqb, false≢true, eqb-false}
-use Rattle.std.proofs.lemmas.Slice.Eq.{bytes_eq-Decides}
-use Rattle.std.proofs.lemmas.List.{length-append, length_push, get_or_push, get_or_append_left, take_all, take-append-le, flat_map_more}
-use Rattle.std.proofs.lemmas.List.Elements.{All-nil, All-cons, All-push, All-weaker, All-append}
-use Rattle.std.proofs.lemmas.List.Sums.{fails_before_first}
+use Rattle.yds_model.proofs.Common.{◌≡◌, ℕ, ◌+◌, ◌/◌, ◌<◌, ◌≤◌, ◌⊎◌, Bool, true, false, nat_lt, ◌==◌, List, [], ◌∷◌, ◌++◌, length, Some, None, Ok, refl, sym, subst, ◌∙◌, arith, inl, inr, eqb-true, append-nil, if◌then◌else◌, All, list_all, filter_map, position, bytes_eq, mod-lt, and_parts, ltb-true, ltb-false, cases_lt, cases_eq, cases_Bool, eq-eqb, ne_eqb, false≢true, eqb-false, bytes_eq-Decides, length-append, length_push, get_or_push, get_or_append_left, take_all, take-append-le, flat_map_more, All-nil, All-cons, All-push, All-weaker, All-append, fails_before_first, Job, IsJob, Fraction, of_parts, WrittenSlot, Level, all_pieces, all_members, Point, point_at, AreRising, IsTable, hull_multiple, name_at, is_name, Entry, piece_said, member_said, are_alike, follows_points, IsFraction, AreDifferentNames, IsPoint, IsSlot, IsPiece, IsLevel, AreNamedJobs, ArePoints, AreSlotsOf, AreLevelsOf, AreInGrain, AreAlike, place_cases, All-front, All-last, empty_level, with_entry, last_longer}
 use Rattle.yds_model.specs.declared.limits.TheConstants.{MAX_JOBS, MAX_POINTS, MAX_GAPS, MAX_DENOMINATOR, MAX_SLOTS, MAX_LEVELS, MAX_PIECES, MAX_MEMBERS}
 use Rattle.yds_model.specs.declared.reason.Reason.TheVariants as reasons
-use Rattle.yds_model.specs.Job.{Job, IsJob}
-use Rattle.yds_model.specs.Scale.{Fraction, of_parts}
-use Rattle.yds_model.specs.Slot.{WrittenSlot}
-use Rattle.yds_model.specs.Level.{Level, all_pieces, all_members}
-use Rattle.yds_model.specs.Table.{Point, point_at, AreRising, IsTable, hull_multiple}
-use Rattle.yds_model.specs.Document.{name_at}
-use Rattle.yds_model.specs.Spelling.{is_name}
-use Rattle.yds_model.specs.Entry.{Entry, piece_said, member_said}
-use Rattle.yds_model.specs.Reading.{are_alike, follows_points}
-use Rattle.yds_model.specs.Within.{IsFraction, AreDifferentNames, IsPoint, IsSlot, IsPiece, IsLevel, AreNamedJobs, ArePoints, AreSlotsOf, AreLevelsOf}
-use Rattle.yds_model.specs.Audit.{AreInGrain}
-use Rattle.yds_model.specs.Scale.{AreAlike}
-use Rattle.yds_model.proofs.Lists.{place_cases, All-front, All-last}
-use Rattle.yds_model.proofs.Said.{empty_level, with_entry, last_longer}
 use Rattle.yds_texts.proofs.Inverse.{demand_ok, whole_fits}
 
 -- ---- jobs

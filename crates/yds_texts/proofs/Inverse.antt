@@ -1,21 +1,10 @@
 -- What a step of reading says where it succeeds.
-use Rattle.std.proofs.Common.{◌≡◌, ℕ, ◌<◌, ◌≤◌, Bool, true, false, ◌==◌, nat_le, nat_lt, List, [], ◌∷◌, ◌++◌, length, Option, Some, None, Result, Ok, Err, refl, sym, ap, subst, ◌∙◌, arith, inl, inr, is_none, eqb-true}
-use Rattle.std.specs.Str.Parse.{digits_value}
-use Rattle.std.specs.Str.{bytes_eq}
-use Rattle.std.specs.List.{filter_map}
-use Rattle.std.proofs.lemmas.List.Quantifiers.{position-Some}
-use Rattle.std.proofs.lemmas.Bool.{and_parts, leb-true, ltb-true, cases_Bool, eqb-false}
+use Rattle.yds_model.proofs.Common.{◌≡◌, ℕ, ◌<◌, ◌≤◌, Bool, true, false, ◌==◌, nat_le, nat_lt, List, [], ◌∷◌, ◌++◌, length, Option, Some, None, Result, Ok, Err, refl, sym, ap, subst, ◌∙◌, arith, inl, inr, is_none, eqb-true, digits_value, bytes_eq, filter_map, position-Some, and_parts, leb-true, ltb-true, cases_Bool, eqb-false, Fraction, of_whole, Line, Field, is_number, is_mixed, mixed_of, kept, number_at, fraction_at, is_name, Entry, name_said, job_named, first_of_them, Spot, ◌>>=◌, refuse, demand, field_at, count_fields, in_field, Kind, kind_of, fields_wanted, may_follow, has_room, reason_of, number_in, fraction_in, new_name, known_job, read_kind, read_fields, IsFraction}
 use Rattle.yds_model.specs.declared.number_fault.NumberFault.{NumberFault}
 use Rattle.yds_model.specs.declared.number_fault.NumberFault.TheVariants as faults
 use Rattle.yds_model.specs.declared.reason.Reason.{Reason}
-use Rattle.yds_model.specs.Scale.{Fraction, of_whole}
-use Rattle.yds_model.specs.Lines.{Line, Field}
-use Rattle.yds_model.specs.Spelling.{is_number, is_mixed, mixed_of, kept, number_at, fraction_at, is_name}
 use Rattle.yds_model.specs.declared.reason.Reason.TheVariants as reasons
-use Rattle.yds_model.specs.Entry.{Entry, name_said, job_named, first_of_them}
-use Rattle.yds_model.specs.Fields.{Spot, ◌>>=◌, refuse, demand, field_at, count_fields, in_field, on_line}
-use Rattle.yds_model.specs.Reading.{Kind, kind_of, fields_wanted, may_follow, has_room, reason_of, number_in, fraction_in, new_name, known_job, read_kind, read_fields}
-use Rattle.yds_model.specs.Within.{IsFraction}
+use Rattle.yds_model.specs.Fields.{on_line}
 
 -- ---- steps one after another
 

@@ -1,12 +1,5 @@
 -- Names in the order of their jobs: a new one has no number yet, and a known one has its own.
-use Rattle.std.proofs.Common.{◌≡◌, ℕ, ◌+◌, ◌<◌, false, List, [], ◌∷◌, ◌++◌, length, get_or, Some, None, refl, sym, ap, ◌∙◌, arith, position, bytes_eq, le_refl}
-use Rattle.std.proofs.Math.Seq.{get_or-append_seam}
-use Rattle.std.proofs.lemmas.Bool.{cases_Bool, lt-ltb, le-ltb}
-use Rattle.std.proofs.lemmas.List.{get_or_append_left, length-append}
-use Rattle.std.proofs.lemmas.List.Sums.{position_or_len_is}
-use Rattle.std.proofs.lemmas.Slice.Eq.{bytes_eq-Decides}
-use Rattle.yds_model.specs.Document.{name_at}
-use Rattle.yds_model.specs.Within.{AreDifferentNames}
+use Rattle.yds_model.proofs.Common.{◌≡◌, ℕ, ◌+◌, ◌<◌, false, List, [], ◌∷◌, ◌++◌, length, get_or, Some, None, refl, sym, ap, ◌∙◌, arith, position, bytes_eq, le_refl, get_or-append_seam, cases_Bool, lt-ltb, le-ltb, get_or_append_left, length-append, position_or_len_is, bytes_eq-Decides, name_at, AreDifferentNames}
 
 -- the test tells different names apart
 bytes_differ : (a b : List ℕ) → (a ≡ b → ⊥) → bytes_eq a b ≡ false

@@ -1,24 +1,8 @@
 -- What the answers of `audit` and `check` are worth: a yes exactly where the document is as wanted, a no exactly where it isn't.
-use Rattle.std.proofs.Common.{◌≡◌, ℕ, ◌<◌, List, [], ◌∷◌, ◌++◌, length, get_or, Ok, refl, sym, ap, subst, ◌∙◌, arith, inl, inr, codes, ◌≤◌, ◌↔◌, Option, Some, None, All, take_at, drop_at}
-use Rattle.std.proofs.lemmas.List.Elements.{All-nil, All-cons, All-take, All-drop, All-weaker}
+use Rattle.yds_model.proofs.Common.{◌≡◌, ℕ, ◌<◌, List, [], ◌∷◌, ◌++◌, length, get_or, Ok, refl, sym, ap, subst, ◌∙◌, arith, inl, inr, codes, ◌≤◌, ◌↔◌, Option, Some, None, All, take_at, drop_at, All-nil, All-cons, All-take, All-drop, All-weaker, Job, WrittenSlot, Level, all_members, IsProper, AreLevels, Verdict, Feasible, Backward, Overlap, Early, Late, OffPoint, WrongWork, IsVerdict, Judgement, Accepted, Slots, IsJudgement, Document, Point, line, reading, IsLevel, IsDocument, AuditAnswer, verdict_words, verdict_status, judgement_words, judgement_status, AskCheck, AskAudit, AskAuditOnPoints, verdict_is_exact, table_verdict_is_exact, verdict_is_unique}
 use Rattle.yds_model.specs.declared.status.Status.{Status}
 use Rattle.yds_model.specs.declared.status.Status.TheVariants.{Done, No, Refused}
-use Rattle.yds_model.specs.Job.{Job}
-use Rattle.yds_model.specs.Slot.{WrittenSlot}
-use Rattle.yds_model.specs.Level.{Level, all_members}
-use Rattle.yds_model.specs.Proper.{IsProper, AreLevels}
-use Rattle.yds_model.specs.Audit.{Verdict, Feasible, Backward, Overlap, Early, Late, OffPoint, WrongWork, IsVerdict}
-use Rattle.yds_model.specs.Judgement.{Judgement, Accepted, Slots, IsJudgement}
-use Rattle.yds_model.specs.Document.{Document}
-use Rattle.yds_model.specs.Table.{Point}
-use Rattle.yds_model.specs.Text.{line}
-use Rattle.yds_model.specs.Reading.{reading}
-use Rattle.yds_model.specs.Within.{IsLevel, IsDocument}
-use Rattle.yds_model.specs.AuditAnswer.{AuditAnswer, verdict_words, verdict_status, judgement_words, judgement_status}
-use Rattle.yds_model.specs.Request.{AskCheck, AskAudit, AskAuditOnPoints}
 use Rattle.yds_texts.specs.JudgedText.{TellsWhether, IsCertified, AreBestSlots, IsServed, IsServedOnPoints, IsJudged, JudgementsTellProper, VerdictsTellFeasible}
-use Rattle.yds_model.proofs.Verdicts.{verdict_is_exact, table_verdict_is_exact}
-use Rattle.yds_model.proofs.OneVerdict.{verdict_is_unique}
 use Rattle.yds_laws.proofs.Bound.{explained_is_least}
 use Rattle.yds_laws.proofs.Explained.{proper_explains}
 use Rattle.yds_laws.proofs.Judgements.{judgement_is_exact}

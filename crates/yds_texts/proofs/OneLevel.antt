@@ -1,21 +1,5 @@
 -- Where the jobs of each task follow one another without a gap until the horizon, a plan has one level.
-use Rattle.std.proofs.Common.{◌≡◌, ℕ, ◌+◌, ◌-◌, ◌*◌, ◌<◌, ◌≤◌, true, List, [], ◌∷◌, length, get_or, refl, sym, ap, ◌∙◌, arith, inl, inr}
-use Rattle.std.specs.List.{All, sum_by, list_all, range_with_len}
-use Rattle.std.proofs.Math.Nat.{le_of_mul-le-mul_left, eq_of_mul-eq-mul_left, mul-le-mul_left, mul-sub}
-use Rattle.std.proofs.lemmas.Bool.{cases_lt}
-use Rattle.std.proofs.lemmas.List.Sums.{sum_by-cons, get_or-le-sum_by}
-use Rattle.yds_model.specs.Job.{Job, no_job, job_at}
-use Rattle.yds_model.specs.Slot.{WrittenSlot, WholeSlot, IsScale, slots_at}
-use Rattle.yds_model.specs.Feasible.{IsFeasibleAt}
-use Rattle.yds_model.specs.Excess.{excess}
-use Rattle.yds_model.specs.Energy.{horizon, busy}
-use Rattle.yds_model.specs.Piece.{Piece, IsConfined, total_length}
-use Rattle.yds_model.specs.Level.{Level}
-use Rattle.yds_model.specs.Plan.{IsPlan}
-use Rattle.yds_model.specs.Tasks.{Task, fills_horizon}
-use Rattle.yds_model.proofs.Horizon.{busy_and_idle, deadlines_within}
-use Rattle.yds_model.proofs.Scale.{scale_exists}
-use Rattle.yds_model.proofs.Sums.{sum_by-mul, sum_by_at_most, sum_by_zero}
+use Rattle.yds_model.proofs.Common.{◌≡◌, ℕ, ◌+◌, ◌-◌, ◌*◌, ◌<◌, ◌≤◌, true, List, [], ◌∷◌, length, get_or, refl, sym, ap, ◌∙◌, arith, inl, inr, All, sum_by, list_all, range_with_len, le_of_mul-le-mul_left, eq_of_mul-eq-mul_left, mul-le-mul_left, mul-sub, cases_lt, sum_by-cons, get_or-le-sum_by, Job, no_job, job_at, WrittenSlot, WholeSlot, IsScale, slots_at, IsFeasibleAt, excess, horizon, busy, Piece, IsConfined, total_length, Level, IsPlan, Task, fills_horizon, busy_and_idle, deadlines_within, scale_exists, sum_by-mul, sum_by_at_most, sum_by_zero}
 use Rattle.yds_texts.specs.TaskLaws.{IsOneLevel}
 use Rattle.yds_laws.proofs.Bound.{confinement_bound}
 use Rattle.yds_laws.proofs.Curve.{curve, AreFalling, DoTheSame, same_levels}

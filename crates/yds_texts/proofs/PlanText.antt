@@ -1,34 +1,9 @@
 -- What the answer of `plan` is worth: its text is read again as the document with its plan, `audit` answers it with
 -- 'feasible' and `check` with 'accepted'.
-use Rattle.std.proofs.Common.{◌≡◌, ℕ, ◌<◌, ◌≤◌, ◌==◌, List, [], ◌∷◌, length, get_or, Some, Ok, refl, ap, subst, arith, inl, inr, eq-eqb, eqb-true}
-use Rattle.std.specs.Prelude.{cond, codes, ◌≢◌}
-use Rattle.std.specs.List.{All, AllPairs}
-use Rattle.std.proofs.lemmas.Bool.{cases_lt}
-use Rattle.std.proofs.lemmas.Bool.Decides.{Decides-eqb}
-use Rattle.std.proofs.lemmas.List.{length-append}
-use Rattle.std.proofs.lemmas.List.Elements.{All-head, All-tail, All-from_get_or, All-contains}
-use Rattle.std.proofs.lemmas.List.Kept.{AllPairs-cons}
-use Rattle.std.proofs.lemmas.List.Sums.{get_or-le-sum_by}
-use Rattle.std.proofs.lemmas.Map.Made.{IsDistinct-from_AllPairs}
-use Rattle.std.proofs.lemmas.Map.Views.{Contains-from_any}
-use Rattle.std.proofs.lemmas.Map.Steps.{length-le_from_distinct_below}
+use Rattle.yds_model.proofs.Common.{◌≡◌, ℕ, ◌<◌, ◌≤◌, ◌==◌, List, [], ◌∷◌, length, get_or, Some, Ok, refl, ap, subst, arith, inl, inr, eq-eqb, eqb-true, cond, codes, ◌≢◌, All, AllPairs, cases_lt, Decides-eqb, length-append, All-head, All-tail, All-from_get_or, All-contains, AllPairs-cons, get_or-le-sum_by, IsDistinct-from_AllPairs, Contains-from_any, length-le_from_distinct_below, count, AreDifferent, Job, work_of, WrittenSlot, Level, level_at, no_level, all_members, IsProper, IsPlan, Accepted, Document, reading, IsTextOf, with_plan, AskPlan, AskCheck, OfDocument, AnswersRequest, count-cons, counted_contains}
 use Rattle.yds_model.specs.declared.limits.TheConstants.{MAX_INPUT, MAX_JOBS}
 use Rattle.yds_model.specs.declared.status.Status.TheVariants.{Done}
-use Rattle.yds_model.specs.Numbers.{count, AreDifferent}
-use Rattle.yds_model.specs.Job.{Job, work_of}
-use Rattle.yds_model.specs.Slot.{WrittenSlot}
-use Rattle.yds_model.specs.Level.{Level, level_at, no_level, all_members}
-use Rattle.yds_model.specs.Proper.{IsProper}
-use Rattle.yds_model.specs.Plan.{IsPlan}
-use Rattle.yds_model.specs.Judgement.{Accepted}
-use Rattle.yds_model.specs.Document.{Document}
-use Rattle.yds_model.specs.Reading.{reading}
-use Rattle.yds_model.specs.Within.{IsTextOf}
-use Rattle.yds_model.specs.PlanAnswer.{with_plan}
-use Rattle.yds_model.specs.Request.{AskPlan, AskCheck, OfDocument}
-use Rattle.yds_model.specs.Answer.{AnswersRequest}
 use Rattle.yds_texts.specs.PlanText.{PlansHoldTheHeadline, PlansAreFeasible, PlansAreAccepted}
-use Rattle.yds_model.proofs.Lists.{count-cons, counted_contains}
 use Rattle.yds_laws.proofs.Bound.{explained_is_least}
 use Rattle.yds_laws.proofs.Explained.{proper_explains}
 use Rattle.yds_energy.proofs.PlansEnergy.{least_is_cheapest_among_written}

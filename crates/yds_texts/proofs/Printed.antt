@@ -1,18 +1,5 @@
 -- What is printed of a number, a fraction or a name is a word, and is read back.
-use Rattle.std.proofs.Common.{◌≡◌, ℕ, ◌+◌, ◌<◌, ◌≤◌, ◌^◌, Bool, true, false, ◌==◌, nat_le, List, [], ◌∷◌, ◌++◌, length, take, drop, Ok, All, decimal, refl, sym, ap, ◌∙◌, arith, inl, inr, eqb-true, append_assoc}
-use Rattle.std.specs.Prelude.{codes}
-use Rattle.std.specs.List.{list_all, list_any, position_or_len, before_first, after_first}
-use Rattle.std.proofs.Math.Bool.{or-true}
-use Rattle.std.proofs.Math.Seq.{take-append_seam, drop-append-add}
-use Rattle.std.proofs.lemmas.Bool.{and_parts, leb-true, le-leb, lt-ltb, cases_Bool, false≢true}
-use Rattle.std.proofs.lemmas.Fmt.{decimal_nonempty}
-use Rattle.std.proofs.lemmas.List.{length-append}
-use Rattle.std.proofs.lemmas.List.Elements.{All-nil, All-cons, All-head, All-tail, All-weaker, All-append}
-use Rattle.yds_model.specs.Scale.{Fraction, of_whole}
-use Rattle.yds_model.specs.Spelling.{is_digit, is_number, is_plus, is_slash, kept, fraction_at, is_visible, is_name}
-use Rattle.yds_model.specs.Text.{fraction_text}
-use Rattle.yds_model.specs.Within.{IsFraction}
-use Rattle.yds_model.proofs.Spelling.{decimal_digits, decimal_none, digit_range, number_digits, is_number-decimal, digits_value-decimal}
+use Rattle.yds_model.proofs.Common.{◌≡◌, ℕ, ◌+◌, ◌<◌, ◌≤◌, ◌^◌, Bool, true, false, ◌==◌, nat_le, List, [], ◌∷◌, ◌++◌, length, take, drop, Ok, All, decimal, refl, sym, ap, ◌∙◌, arith, inl, inr, eqb-true, append_assoc, codes, list_all, list_any, position_or_len, before_first, after_first, or-true, take-append_seam, drop-append-add, and_parts, leb-true, le-leb, lt-ltb, cases_Bool, false≢true, decimal_nonempty, length-append, All-nil, All-cons, All-head, All-tail, All-weaker, All-append, Fraction, of_whole, is_digit, is_number, is_plus, is_slash, kept, fraction_at, is_visible, is_name, fraction_text, IsFraction, decimal_digits, decimal_none, digit_range, number_digits, is_number-decimal, digits_value-decimal}
 use Rattle.yds_texts.proofs.Brought.{IsWord}
 
 -- ---- words

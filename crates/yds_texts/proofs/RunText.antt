@@ -1,21 +1,7 @@
 -- What the answers of `avr` and `oa` are worth: their texts are read again as the document with the run, and `audit` answers them with
 -- 'feasible'.
-use Rattle.std.proofs.Common.{◌≡◌, ℕ, ◌*◌, ◌≤◌, List, length, Some, Ok, subst, arith}
-use Rattle.std.proofs.lemmas.List.{length-map}
+use Rattle.yds_model.proofs.Common.{◌≡◌, ℕ, ◌*◌, ◌≤◌, List, length, Some, Ok, subst, arith, length-map, Job, WrittenSlot, WholeSlot, AtEachScale, slot_at_scale, Piece, IsFeasible, IsRunAt, average_rate, IsAverageRateRun, optimal_available, IsOptimalAvailableRun, Document, reading, IsTextOf, AskAverageRate, AskOptimalAvailable, OfDocument, AnswersRequest, scale_exists}
 use Rattle.yds_model.specs.declared.status.Status.TheVariants.{Done}
-use Rattle.yds_model.specs.Job.{Job}
-use Rattle.yds_model.specs.Slot.{WrittenSlot, WholeSlot, AtEachScale, slot_at_scale}
-use Rattle.yds_model.specs.Piece.{Piece}
-use Rattle.yds_model.specs.Feasible.{IsFeasible}
-use Rattle.yds_model.specs.Policy.{IsRunAt}
-use Rattle.yds_model.specs.AverageRate.{average_rate, IsAverageRateRun}
-use Rattle.yds_model.specs.OptimalAvailable.{optimal_available, IsOptimalAvailableRun}
-use Rattle.yds_model.specs.Document.{Document}
-use Rattle.yds_model.specs.Reading.{reading}
-use Rattle.yds_model.specs.Within.{IsTextOf}
-use Rattle.yds_model.specs.Request.{AskAverageRate, AskOptimalAvailable, OfDocument}
-use Rattle.yds_model.specs.Answer.{AnswersRequest}
-use Rattle.yds_model.proofs.Scale.{scale_exists}
 use Rattle.yds_laws.specs.RunLaws.{IsExactAverageRate, IsExactOptimalAvailable}
 use Rattle.yds_laws.proofs.ExactRates.{average_rate_is_exact}
 use Rattle.yds_laws.proofs.ExactRuns.{optimal_available_is_exact}

@@ -1,6 +1,5 @@
 -- How many jobs a periodic task has.
-use Rattle.std.proofs.Common.{◌-◌, arith, le-div_iff_mul-le}
-use Rattle.std.proofs.lemmas.Bool.{cases_lt, lt-ltb, le-ltb}
+use Rattle.yds_model.proofs.Common.{◌-◌, arith, le-div_iff_mul-le, cases_lt, lt-ltb, le-ltb}
 use Rattle.yds_texts.specs.TaskLaws.{TaskJobsEndInTime}
 
 -- the law: by the quotient of the time that is left after the first job's deadline

@@ -1,21 +1,6 @@
 -- The names of tasks' jobs: the last dot parts a task's name and a job's number, so no two are the same.
-use Rattle.std.proofs.Common.{◌≡◌, ◌≢◌, ℕ, suc, ◌+◌, ◌<◌, ◌≤◌, true, ◌&&◌, nat_le, List, [], ◌∷◌, ◌++◌, length, get_or, map, decimal, refl, sym, ap, subst, ◌∙◌, append_assoc, arith, codes}
-use Rattle.std.specs.List.{All, AllPairs, flat_map, list_all, range_with_len}
-use Rattle.std.specs.Str.Parse.{digits_value}
-use Rattle.std.proofs.Math.Seq.{get_or-append_seam}
-use Rattle.std.proofs.lemmas.Bool.{and_parts, and_from, leb-true, le-leb, cases_lt}
-use Rattle.std.proofs.lemmas.Fmt.{length-decimal-le}
-use Rattle.std.proofs.lemmas.List.{length-append}
-use Rattle.std.proofs.lemmas.List.Elements.{All-head, All-tail}
-use Rattle.std.proofs.lemmas.List.Folds.{list_all-append}
-use Rattle.std.proofs.lemmas.List.FromFn.{get_or-map-range_with_len, length-map-range_with_len}
+use Rattle.yds_model.proofs.Common.{◌≡◌, ◌≢◌, ℕ, suc, ◌+◌, ◌<◌, ◌≤◌, true, ◌&&◌, nat_le, List, [], ◌∷◌, ◌++◌, length, get_or, map, decimal, refl, sym, ap, subst, ◌∙◌, append_assoc, arith, codes, All, AllPairs, flat_map, list_all, range_with_len, digits_value, get_or-append_seam, and_parts, and_from, leb-true, le-leb, cases_lt, length-decimal-le, length-append, All-head, All-tail, list_all-append, get_or-map-range_with_len, length-map-range_with_len, is_digit, is_visible, is_name, Task, nth_name, count_of_jobs, numbers_of_jobs, is_task_name, AreDifferentNames, AllPairs-append, All-flat, decimal_digits, decimal_without, digit_range, digits_value-decimal}
 use Rattle.yds_model.specs.declared.limits.TheConstants.{MAX_JOBS, MAX_NAME, MAX_TASK_NAME}
-use Rattle.yds_model.specs.Spelling.{is_digit, is_visible, is_name}
-use Rattle.yds_model.specs.Tasks.{Task, nth_name, count_of_jobs, numbers_of_jobs}
-use Rattle.yds_model.specs.TaskReading.{is_task_name}
-use Rattle.yds_model.specs.Within.{AreDifferentNames}
-use Rattle.yds_model.proofs.Lists.{AllPairs-append, All-flat}
-use Rattle.yds_model.proofs.Spelling.{decimal_digits, decimal_without, digit_range, digits_value-decimal}
 use Rattle.yds_texts.proofs.TaskLimits.{HaveOtherNames}
 
 -- # Lists over the numbers of jobs

@@ -1,31 +1,9 @@
 -- The text of the jobs of tasks that were read is read as a document with just these jobs; and their one level.
-use Rattle.std.proofs.Common.{◌≡◌, ℕ, ◌*◌, ◌<◌, ◌≤◌, zero, suc, ◌^◌, ◌&&◌, Bool, true, false, List, [], ◌∷◌, length, get_or, decimal, Option, Some, None, Result, Ok, Err, refl, sym, ap, subst, ◌∙◌, arith, inl, inr}
-use Rattle.std.specs.Prelude.{codes, if◌then◌else◌}
-use Rattle.std.specs.List.{All, AllByRecursion, list_all, list_any, sum_by}
-use Rattle.std.proofs.Math.Nat.{mul-pos}
-use Rattle.std.proofs.lemmas.Bool.{cases_Bool, and_parts, leb-true, false≢true}
-use Rattle.std.proofs.lemmas.Fmt.{length-decimal-le}
-use Rattle.std.proofs.lemmas.List.{length-append}
-use Rattle.std.proofs.lemmas.List.Concat.{length-flat_map}
-use Rattle.std.proofs.lemmas.List.Elements.{All-weaker, All-head, All-tail}
-use Rattle.std.proofs.lemmas.List.FromFn.{length-map-range_with_len}
-use Rattle.std.proofs.lemmas.List.Sums.{sum_by-append, get_or-le-sum_by}
+use Rattle.yds_model.proofs.Common.{◌≡◌, ℕ, ◌*◌, ◌<◌, ◌≤◌, zero, suc, ◌^◌, ◌&&◌, Bool, true, false, List, [], ◌∷◌, length, get_or, decimal, Option, Some, None, Result, Ok, Err, refl, sym, ap, subst, ◌∙◌, arith, inl, inr, codes, if◌then◌else◌, All, AllByRecursion, list_all, list_any, sum_by, mul-pos, cases_Bool, and_parts, leb-true, false≢true, length-decimal-le, length-append, length-flat_map, All-weaker, All-head, All-tail, length-map-range_with_len, sum_by-append, get_or-le-sum_by, Job, IsJob, Document, no_document, is_name, job_lines, Fault, reading, IsDocument, AreNamedJobs, IsPlan, Task, TaskSet, nth_job, nth_name, count_of_jobs, horizon_of, jobs_of_tasks, names_of_tasks, fills_horizon, has_work, level_until, count_of_all, task_reading, level_comment, expansion_text, AnswersTasks, is_too_long, sum_by_same, works_few, All-flat}
 use Rattle.yds_model.specs.declared.limits.TheConstants.{MAX_JOBS, MAX_TIME}
 use Rattle.yds_model.specs.declared.task_reason.TaskReason.{TaskReason}
 use Rattle.yds_model.specs.declared.status.Status.TheVariants.{Done}
-use Rattle.yds_model.specs.Job.{Job, IsJob}
-use Rattle.yds_model.specs.Document.{Document, no_document}
-use Rattle.yds_model.specs.Spelling.{is_name}
-use Rattle.yds_model.specs.Text.{job_lines}
-use Rattle.yds_model.specs.Fields.{Fault}
-use Rattle.yds_model.specs.Reading.{reading}
-use Rattle.yds_model.specs.Within.{IsDocument, AreNamedJobs}
-use Rattle.yds_model.specs.Plan.{IsPlan}
-use Rattle.yds_model.specs.Tasks.{Task, TaskSet, nth_job, nth_name, count_of_jobs, horizon_of, jobs_of_tasks, names_of_tasks, fills_horizon, has_work, level_until, one_level}
-use Rattle.yds_model.specs.TaskReading.{count_of_all, task_reading}
-use Rattle.yds_model.specs.ExpandAnswer.{level_comment, expansion_text}
-use Rattle.yds_model.specs.Answer.{AnswersTasks, is_too_long}
-use Rattle.yds_model.proofs.Sums.{sum_by_same}
+use Rattle.yds_model.specs.Tasks.{one_level}
 use Rattle.yds_texts.specs.TaskLaws.{jobs_document, IsExpansion, HoldsExpansion, ExpansionsAreRead, IsOneLevel, OneLevelIsPlanned}
 use Rattle.yds_texts.proofs.Brought.{IsWord, Brings, Brings-nil, Brings-append, Brings-comment, read_whole}
 use Rattle.yds_texts.proofs.OneLevel.{one_level_planned}
@@ -34,8 +12,6 @@ use Rattle.yds_texts.proofs.RoundTrip.{jobs_brought}
 use Rattle.yds_texts.proofs.Short.{jobs_short, line_length}
 use Rattle.yds_texts.proofs.TaskCounts.{task_jobs_end_in_time}
 use Rattle.yds_texts.proofs.TaskLimits.{IsTask, AreTasks, tasks_keep}
-use Rattle.yds_model.proofs.Horizon.{works_few}
-use Rattle.yds_model.proofs.Lists.{All-flat}
 use Rattle.yds_texts.proofs.TaskNames.{All-numbers, names_of_task, nth_name_fits, names_differ}
 use Rattle.yds_laws.proofs.TaskWork.{jobs_of_task, jobs_until, jobs_counted, works_of_task, count_fills}
 use Rattle.yds_texts.proofs.Answered.{done_not_refused, not_too_long}

@@ -1,9 +1,5 @@
 -- The laws of lines and fields: each is a slice, and begins beyond the one before.
-use Rattle.std.proofs.Common.{◌≡◌, ℕ, ◌+◌, ◌≤◌, ◌==◌, List, [], ◌∷◌, length, take, drop, refl, sym, ap, ◌∙◌, arith, inl, inr, eqb-true, drop-drop, take-take, map}
-use Rattle.std.specs.List.{AllByRecursion}
-use Rattle.std.proofs.lemmas.Bool.{cases_Bool, eqb-false}
-use Rattle.std.proofs.lemmas.List.Elements.{All-from_recursion}
-use Rattle.yds_model.specs.Lines.{Line, Field, in_front, lines_from, without_return, trimmed, is_blank, joined, fields_from}
+use Rattle.yds_model.proofs.Common.{◌≡◌, ℕ, ◌+◌, ◌≤◌, ◌==◌, List, [], ◌∷◌, length, take, drop, refl, sym, ap, ◌∙◌, arith, inl, inr, eqb-true, drop-drop, take-take, map, AllByRecursion, cases_Bool, eqb-false, All-from_recursion, Line, Field, in_front, lines_from, without_return, trimmed, is_blank, joined, fields_from}
 use Rattle.yds_texts.specs.TextLaws.{IsLineSlice, LinesRise, LinesAreSlices, IsFieldSlice, FieldsRise, FieldsAreSlices}
 
 -- one byte further in the whole

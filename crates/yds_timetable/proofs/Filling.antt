@@ -1,23 +1,8 @@
 -- Share by share and stretch by stretch: the next slots are within their limits, and then they stand last.
-use Rattle.std.proofs.Common.{◌≡◌, ℕ, ◌+◌, ◌*◌, ◌<◌, ◌≤◌, List, [], ◌∷◌, ◌++◌, ◌∙◌, length, get_or, take, drop, sym, refl, ap, ap₂, subst, arith, Some, None, add-one}
-use Rattle.std.specs.Prelude.{Option}
-use Rattle.std.specs.List.{All}
-use Rattle.std.proofs.lemmas.List.{append_assoc, length-append, take_more, take-append-drop, length-take-le}
-use Rattle.std.proofs.lemmas.List.Concat.{flat_map-append}
-use Rattle.std.proofs.lemmas.List.Folds.{length-flat_map-take}
-use Rattle.std.proofs.lemmas.List.Sums.{sum_by-cons, sum_by_push, sum_by_more_le}
-use Rattle.std.proofs.lemmas.List.Elements.{All-nil, All-cons, All-append}
-use Rattle.std.proofs.lemmas.Nat.Gcd.{mod-eq-zero_of_dvd}
-use Rattle.std.proofs.Math.Nat.{mul-le-mul_right, le_of_mul-le-mul_right, dvd-mul_left, mul-div_cancel}
-use Rattle.std.proofs.lemmas.Bool.{eq-eqb}
+use Rattle.yds_model.proofs.Common.{◌≡◌, ℕ, ◌+◌, ◌*◌, ◌<◌, ◌≤◌, List, [], ◌∷◌, ◌++◌, ◌∙◌, length, get_or, take, drop, sym, refl, ap, ap₂, subst, arith, Some, None, add-one, Option, All, append_assoc, length-append, take_more, take-append-drop, length-take-le, flat_map-append, length-flat_map-take, sum_by-cons, sum_by_push, sum_by_more_le, All-nil, All-cons, All-append, mod-eq-zero_of_dvd, mul-le-mul_right, le_of_mul-le-mul_right, dvd-mul_left, mul-div_cancel, eq-eqb, Fraction, of_whole, of_parts, WrittenSlot, Piece, IsFraction, All-front, All-back, flat_map-take}
 use Rattle.yds_model.specs.declared.limits.TheConstants.{MAX_SLOTS, MAX_TIME, MAX_SLOT_WORK, MAX_WHOLE}
-use Rattle.yds_model.specs.Scale.{Fraction, of_whole, of_parts}
-use Rattle.yds_model.specs.Slot.{WrittenSlot}
-use Rattle.yds_model.specs.Piece.{Piece}
 use Rattle.yds_model.specs.Plan.{IsOver}
 use Rattle.yds_events.specs.Stretch.{no_stretch}
-use Rattle.yds_model.specs.Within.{IsFraction}
-use Rattle.yds_model.proofs.Lists.{All-front, All-back, flat_map-take}
 use Rattle.yds_fraction.proofs.Kept.{IsFraction-within}
 use Rattle.yds_slots.specs.Schedule.{FitsGrain}
 use Rattle.yds_timetable.specs.declared.limits.TheConstants.{MAX_UNITS}

@@ -1,9 +1,6 @@
 -- Works over one denominator for each job fit the grain of their job.
-use Rattle.std.proofs.Common.{arith, ◌≡◌, ℕ, ◌⊎◌, List, ◌∙◌, get_or, sym, subst, inl, inr}
-use Rattle.std.specs.List.{All}
-use Rattle.yds_model.specs.Slot.{WrittenSlot}
+use Rattle.yds_model.proofs.Common.{arith, ◌≡◌, ℕ, ◌⊎◌, List, ◌∙◌, get_or, sym, subst, inl, inr, All, WrittenSlot, grain_reached}
 use Rattle.yds_model.specs.Plan.{IsOver}
-use Rattle.yds_model.proofs.Grain.{grain_reached}
 use Rattle.yds_slots.specs.Schedule.{FitsGrain}
 
 fits : (a b den : ℕ) → (a ≡ 1) ⊎ (a ≡ den) → (b ≡ 1) ⊎ (b ≡ den) → (a ≡ 1) ⊎ ((b ≡ 1) ⊎ (a ≡ b))

@@ -1,11 +1,5 @@
 -- One more stretch of a timetable: those before it keep their shares.
-use Rattle.std.proofs.Common.{◌≡◌, ℕ, ◌≤◌, Some, None, List, [], ◌∷◌, ◌++◌, length, drop, ap, ap₂, sym, subst, refl, ◌∙◌, arith}
-use Rattle.std.specs.Prelude.{Option, Result, Ok, Err, OnErr}
-use Rattle.std.specs.List.{slice_range}
-use Rattle.std.proofs.lemmas.List.{append-nil, get_or_append_left, take-append-le, drop_at, map-append, length-append}
-use Rattle.std.proofs.lemmas.Option.{slice_get-get_or}
-use Rattle.std.proofs.lemmas.List.Elements.{All-nil, All-cons, All-tail, All-append}
-use Rattle.std.proofs.lemmas.Slice.{between_is, between_to_end}
+use Rattle.yds_model.proofs.Common.{◌≡◌, ℕ, ◌≤◌, Some, None, List, [], ◌∷◌, ◌++◌, length, drop, ap, ap₂, sym, subst, refl, ◌∙◌, arith, Option, Result, Ok, Err, OnErr, slice_range, append-nil, get_or_append_left, take-append-le, drop_at, map-append, length-append, slice_get-get_or, All-nil, All-cons, All-tail, All-append, between_is, between_to_end}
 use Rattle.yds_timetable.specs.declared.pace.Pace.{Pace}
 use Rattle.yds_timetable.specs.declared.timetable.KeptRow.{KeptRow}
 use Rattle.yds_timetable.specs.Shares.{JobShare}

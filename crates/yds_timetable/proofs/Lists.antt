@@ -1,14 +1,5 @@
 -- Lists that are made of parts or of a range, and pairs of two lists.
-use Rattle.std.proofs.Common.{◌≡◌, ℕ, zero, suc, ◌<◌, List, [], ◌∷◌, ◌++◌, length, get_or, refl, sym, ◌∙◌, map, arith, Some, None, Bor}
-use Rattle.std.specs.Prelude.{Option, slice_get}
-use Rattle.std.specs.Slice.{IsItemAt}
-use Rattle.std.specs.Option.{option_copied}
-use Rattle.std.specs.List.{All, AllZip, flat_map, range_with_len}
-use Rattle.std.proofs.lemmas.List.Elements.{All-nil, All-cons, All-head, All-tail}
-use Rattle.std.proofs.lemmas.List.{ext_get_or}
-use Rattle.std.proofs.lemmas.Option.{slice_get_past, slice_get_read}
-use Rattle.std.proofs.lemmas.List.FromFn.{length-map-range_with_len, get_or-map-range_with_len}
-use Rattle.yds_model.proofs.Lists.{All-front, All-back}
+use Rattle.yds_model.proofs.Common.{◌≡◌, ℕ, zero, suc, ◌<◌, List, [], ◌∷◌, ◌++◌, length, get_or, refl, sym, ◌∙◌, map, arith, Some, None, Bor, Option, slice_get, IsItemAt, option_copied, All, AllZip, flat_map, range_with_len, All-nil, All-cons, All-head, All-tail, ext_get_or, slice_get_past, slice_get_read, length-map-range_with_len, get_or-map-range_with_len, All-front, All-back}
 
 -- what holds of all elements of the parts together holds of those of a part
 pub all_of_part : {X A : Type 0} (P : A → Type 0) (f : X → List A) (xs : List X) (k : ℕ) (d : X) → k < length xs → All P (flat_map f xs) → All P (f (get_or xs k d))

@@ -1,15 +1,5 @@
 -- The rows that are made of lists, as they are kept.
-use Rattle.std.proofs.Common.{ℕ, ◌≡◌, ◌<◌, Bool, true, false, List, None, length, map, ◌∙◌, refl, sym, ap₂, subst, arith}
-use Rattle.std.specs.Prelude.{Option, nat_lt, slice_get, slice_index}
-use Rattle.std.specs.Bool.{then_some}
-use Rattle.std.specs.List.{All, range_with_len}
-use Rattle.std.proofs.lemmas.List.{ext_get_or}
-use Rattle.std.proofs.lemmas.Bool.{ltb-true, ltb-false}
-use Rattle.std.proofs.lemmas.Option.{slice_get_past}
-use Rattle.std.proofs.lemmas.Simd.{map-map}
-use Rattle.std.proofs.lemmas.List.Elements.{All-from_get_or}
-use Rattle.std.proofs.lemmas.List.FromFn.{length-map-range_with_len, get_or-map-range_with_len}
-use Rattle.yds_model.specs.Piece.{Piece}
+use Rattle.yds_model.proofs.Common.{ℕ, ◌≡◌, ◌<◌, Bool, true, false, List, None, length, map, ◌∙◌, refl, sym, ap₂, subst, arith, Option, nat_lt, slice_get, slice_index, then_some, All, range_with_len, ext_get_or, ltb-true, ltb-false, slice_get_past, map-map, All-from_get_or, length-map-range_with_len, get_or-map-range_with_len, Piece}
 use Rattle.yds_events.specs.Stretch.{no_stretch, nth_stretch}
 use Rattle.yds_timetable.specs.declared.pace.Pace.{Pace}
 use Rattle.yds_timetable.specs.declared.timetable.KeptRow.{KeptRow}

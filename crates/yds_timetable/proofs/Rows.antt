@@ -1,22 +1,6 @@
 -- The slots of a timetable's stretches: they run one after another, and which of them lie in a stretch.
-use Rattle.std.proofs.Common.{◌≡◌, ◌≢◌, ℕ, zero, suc, ◌+◌, ◌*◌, ◌<◌, ◌≤◌, List, [], ◌∷◌, ◌++◌, ◌∙◌, length, get_or, refl, sym, subst, arith, inl, inr, ap, ap₂, true, false, Some, None}
-use Rattle.std.specs.Prelude.{Bool, Option, ◌&&◌, ◌==◌, cond, nat_le, sum_by, filter}
-use Rattle.std.specs.List.{All, AllZip}
-use Rattle.std.proofs.lemmas.Bool.{cases_eq, cases_lt, eq-eqb, le-leb, lt-leb, ne_eqb, and_right}
-use Rattle.std.proofs.lemmas.List.{append-nil, map-append, get_or-map, length-map}
-use Rattle.std.proofs.lemmas.List.Elements.{All-nil, All-tail, All-map, All-weaker, filter-append}
-use Rattle.std.proofs.lemmas.List.Sums.{sum_by-cons}
-use Rattle.std.proofs.Math.Nat.{mul-le-mul_right, mul-pos}
-use Rattle.yds_model.specs.Scale.{at_scale, of_whole}
-use Rattle.yds_model.specs.Slot.{WrittenSlot, WholeSlot, IsDivided, IsScale, IsSolid, slot_at, slot_at_scale, slots_at, work_given}
-use Rattle.yds_model.specs.Piece.{Piece, PiecesFrom}
-use Rattle.yds_model.specs.Feasible.{RunFrom}
-use Rattle.yds_model.specs.Event.{LiesIn}
+use Rattle.yds_model.proofs.Common.{◌≡◌, ◌≢◌, ℕ, zero, suc, ◌+◌, ◌*◌, ◌<◌, ◌≤◌, List, [], ◌∷◌, ◌++◌, ◌∙◌, length, get_or, refl, sym, subst, arith, inl, inr, ap, ap₂, true, false, Some, None, Bool, Option, ◌&&◌, ◌==◌, cond, nat_le, sum_by, filter, All, AllZip, cases_eq, cases_lt, eq-eqb, le-leb, lt-leb, ne_eqb, and_right, append-nil, map-append, get_or-map, length-map, All-nil, All-tail, All-map, All-weaker, filter-append, sum_by-cons, mul-le-mul_right, mul-pos, at_scale, of_whole, WrittenSlot, WholeSlot, IsDivided, IsScale, IsSolid, slot_at, slot_at_scale, slots_at, work_given, Piece, PiecesFrom, RunFrom, LiesIn, slots_in, FillsAtSpeed, ServesCapacity, All-front, All-back, All-flat, run_earlier, run_joined, filter_all, filter_none}
 use Rattle.yds_model.specs.Plan.{IsOver}
-use Rattle.yds_model.specs.Policy.{slots_in, FillsAtSpeed, ServesCapacity}
-use Rattle.yds_model.proofs.Lists.{All-front, All-back, All-flat}
-use Rattle.yds_model.proofs.Runs.{run_earlier, run_joined}
-use Rattle.yds_model.proofs.Filters.{filter_all, filter_none}
 use Rattle.yds_slots.proofs.Parts.{of_parts_over}
 use Rattle.yds_events.specs.Stretch.{no_stretch, length_of}
 use Rattle.yds_events.proofs.InOrder.{later_start}

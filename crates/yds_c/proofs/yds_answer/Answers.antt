@@ -1,4 +1,4 @@
-use Rattle.std.proofs.Common.{ap, subst, ◌∙◌}
+use Rattle.yds_model.proofs.Common.{ap, subst, ◌∙◌}
 use Rattle.yds_run.specs.Words.{words_of}
 use Rattle.yds_c.specs.Answered.{IsAnswer}
 use Rattle.yds_c.specs.Put.{IsPut}

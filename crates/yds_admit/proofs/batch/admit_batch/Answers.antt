@@ -1,5 +1,4 @@
-use Rattle.std.proofs.Common.{◌+◌, ◌++◌, take, drop, List, Bool, sym, arith, subst}
-use Rattle.yds_model.specs.Job.{Job}
+use Rattle.yds_model.proofs.Common.{◌+◌, ◌++◌, take, drop, List, Bool, sym, arith, subst, Job}
 use Rattle.yds_admit.specs.declared.state.State.{State}
 use Rattle.yds_admit.specs.Board.{IsMarked, AreMarked}
 use Rattle.yds_admit.specs.State.{IsState}

@@ -1,4 +1,4 @@
-use Rattle.std.proofs.Common.{◌≡◌, ◌+◌, ◌≤◌, length}
+use Rattle.yds_model.proofs.Common.{◌≡◌, ◌+◌, ◌≤◌, length}
 use Rattle.yds_admit.proofs.batch.admit_batch.Given as goal
 
 abbrev pub invariant-loop-count : goal.invariant-loop-count

@@ -1,4 +1,4 @@
-use Rattle.std.proofs.Common.{◌-◌, length}
+use Rattle.yds_model.proofs.Common.{◌-◌, length}
 use Rattle.yds_admit.specs.Chain.{AreLinks}
 use Rattle.yds_admit.proofs.Fitting.{Walking}
 use Rattle.yds_admit.proofs.batch.fit.Given as goal

@@ -1,6 +1,4 @@
-use Rattle.std.proofs.Common.{◌≡◌, ℕ, ◌+◌, List, [], ◌∷◌, ◌++◌, true, set, take, drop, ◌∙◌, refl, sym, subst, arith, ap, append_assoc}
-use Rattle.std.proofs.lemmas.List.{append-nil, drop_all, length-take-le}
-use Rattle.yds_model.specs.Job.{Job, job_at}
+use Rattle.yds_model.proofs.Common.{◌≡◌, ℕ, ◌+◌, List, [], ◌∷◌, ◌++◌, true, set, take, drop, ◌∙◌, refl, sym, subst, arith, ap, append_assoc, append-nil, drop_all, length-take-le, Job, job_at}
 use Rattle.yds_admit.specs.Board.{IsMarked}
 use Rattle.yds_admit.proofs.Marks.{one_more, run_more}
 use Rattle.yds_admit.proofs.batch.marked.Goals as goal

@@ -1,5 +1,4 @@
-use Rattle.std.proofs.Common.{List, ◌++◌, take, drop}
-use Rattle.yds_model.specs.Job.{Job}
+use Rattle.yds_model.proofs.Common.{List, ◌++◌, take, drop, Job}
 use Rattle.yds_admit.specs.Board.{IsMarked}
 use Rattle.yds_admit.proofs.batch.marked.Given as goal
 

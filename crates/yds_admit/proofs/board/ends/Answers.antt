@@ -1,9 +1,4 @@
-use Rattle.std.proofs.Common.{◌≡◌, ℕ, ◌∷◌, [], ◌++◌, get_or, ◌∙◌, sym, subst, arith, inl, inr, ap}
-use Rattle.std.specs.List.{All}
-use Rattle.std.proofs.lemmas.Bool.{cases_lt}
-use Rattle.std.proofs.lemmas.List.{get_or_read, get_or_append_left, get_or_push, length_push, take_all}
-use Rattle.std.proofs.lemmas.List.Elements.{All-more}
-use Rattle.yds_model.specs.Job.{Job, IsJob, no_job, job_at}
+use Rattle.yds_model.proofs.Common.{◌≡◌, ℕ, ◌∷◌, [], ◌++◌, get_or, ◌∙◌, sym, subst, arith, inl, inr, ap, All, cases_lt, get_or_read, get_or_append_left, get_or_push, length_push, take_all, All-more, Job, IsJob, no_job, job_at}
 use Rattle.yds_admit.specs.Chain.{IsPlace, IsEnd}
 use Rattle.yds_admit.proofs.Times.{place_known, time_there}
 use Rattle.yds_admit.proofs.board.ends.Goals as goal

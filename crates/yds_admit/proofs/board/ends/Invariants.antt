@@ -1,6 +1,4 @@
-use Rattle.std.proofs.Common.{◌≡◌, ℕ, ◌<◌, length, get_or, take}
-use Rattle.std.specs.List.{All}
-use Rattle.yds_model.specs.Job.{IsJob, job_at}
+use Rattle.yds_model.proofs.Common.{◌≡◌, ℕ, ◌<◌, length, get_or, take, All, IsJob, job_at}
 use Rattle.yds_admit.specs.Chain.{IsEnd}
 use Rattle.yds_admit.proofs.board.ends.Given as goal
 

@@ -1,8 +1,4 @@
-use Rattle.std.proofs.Common.{ℕ, ◌-◌, ◌<◌, ◌≤◌, List, length, get_or, arith, rules, inl, inr}
-use Rattle.std.specs.Prelude.{nat_le}
-use Rattle.std.proofs.lemmas.List.Sorted.{IsPartitionedBy-leb}
-use Rattle.std.proofs.lemmas.Fn.{always_returns_same}
-use Rattle.std.proofs.lemmas.Bool.{leb-true, leb-false, cases_lt}
+use Rattle.yds_model.proofs.Common.{ℕ, ◌-◌, ◌<◌, ◌≤◌, List, length, get_or, arith, rules, inl, inr, nat_le, IsPartitionedBy-leb, always_returns_same, leb-true, leb-false, cases_lt}
 use Rattle.yds_admit.proofs.board.last_until.Goals as goal
 
 one : (times : List ℕ) (time bound : ℕ) → 1 ≤ length times → get_or times 0 0 ≤ time →

@@ -1,8 +1,4 @@
-use Rattle.std.proofs.Common.{◌≡◌, ℕ, ◌<◌, ◌≤◌, ◌∷◌, [], List, length, get_or, ◌∙◌, sym, subst, arith, inl, inr, ap}
-use Rattle.std.proofs.lemmas.Bool.{cases_lt}
-use Rattle.std.proofs.lemmas.List.{get_or_read, map-append}
-use Rattle.std.proofs.lemmas.List.Elements.{All-push}
-use Rattle.yds_model.specs.Job.{Job, IsJob, no_job, job_at}
+use Rattle.yds_model.proofs.Common.{◌≡◌, ℕ, ◌<◌, ◌≤◌, ◌∷◌, [], List, length, get_or, ◌∙◌, sym, subst, arith, inl, inr, ap, cases_lt, get_or_read, map-append, All-push, Job, IsJob, no_job, job_at}
 use Rattle.yds_admit.specs.declared.board.Spot.{Spot}
 use Rattle.yds_admit.specs.Board.{IsSpot}
 use Rattle.yds_admit.specs.Chain.{AreTimes, IsEnd}

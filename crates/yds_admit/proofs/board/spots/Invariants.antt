@@ -1,5 +1,4 @@
-use Rattle.std.proofs.Common.{◌≡◌, map}
-use Rattle.std.specs.List.{All, range_with_len}
+use Rattle.yds_model.proofs.Common.{◌≡◌, map, All, range_with_len}
 use Rattle.yds_admit.specs.Board.{IsSpot}
 use Rattle.yds_admit.specs.declared.board.Spot.{Spot}
 use Rattle.yds_admit.proofs.board.spots.Given as goal

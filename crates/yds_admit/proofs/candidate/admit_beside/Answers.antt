@@ -1,6 +1,4 @@
-use Rattle.std.proofs.Common.{◌≡◌, ℕ, List, [], ◌∷◌, ◌++◌, ◌∙◌, sym, ap, subst, arith}
-use Rattle.std.proofs.lemmas.Bool.{false≢true}
-use Rattle.yds_model.specs.Job.{Job, no_job}
+use Rattle.yds_model.proofs.Common.{◌≡◌, ℕ, List, [], ◌∷◌, ◌++◌, ◌∙◌, sym, ap, subst, arith, false≢true, Job, no_job}
 use Rattle.yds_admit.specs.Idle.{HasIdle, IsTakenFrom}
 use Rattle.yds_admit.specs.Pieces.{AreBounds, AreMore, IsAdded}
 use Rattle.yds_admit.specs.State.{next_job}

@@ -1,7 +1,4 @@
-use Rattle.std.proofs.Common.{ℕ, ◌∷◌, ◌++◌, [], arith}
-use Rattle.std.proofs.lemmas.List.Sorted.{IsPermutation-append_left, All-permutation, length_permutation, sum_by-IsPermutation}
-use Rattle.yds_model.specs.Job.{Job, IsJob}
-use Rattle.yds_model.proofs.Confined.{part_within}
+use Rattle.yds_model.proofs.Common.{ℕ, ◌∷◌, ◌++◌, [], arith, IsPermutation-append_left, All-permutation, length_permutation, sum_by-IsPermutation, Job, IsJob, part_within}
 use Rattle.yds_admit.specs.State.{next_job}
 use Rattle.yds_admit.proofs.Bounds.{fits_over}
 use Rattle.yds_admit.proofs.Least.{room_alone}

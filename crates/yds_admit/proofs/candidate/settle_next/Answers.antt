@@ -1,4 +1,4 @@
-use Rattle.std.proofs.Common.{arith}
+use Rattle.yds_model.proofs.Common.{arith}
 use Rattle.yds_admit.proofs.Idleness.{lent}
 use Rattle.yds_admit.proofs.candidate.settle_next.Goals as goal
 

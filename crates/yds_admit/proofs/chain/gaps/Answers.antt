@@ -1,5 +1,4 @@
-use Rattle.std.proofs.Common.{◌-◌, ◌*◌, ◌∙◌, ap, arith}
-use Rattle.std.proofs.lemmas.List.{length_push}
+use Rattle.yds_model.proofs.Common.{◌-◌, ◌*◌, ◌∙◌, ap, arith, length_push}
 use Rattle.yds_admit.proofs.Times.{gap_pushed}
 use Rattle.yds_admit.proofs.chain.gaps.Goals as goal
 

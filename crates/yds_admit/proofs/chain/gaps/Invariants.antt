@@ -1,4 +1,4 @@
-use Rattle.std.proofs.Common.{◌≡◌, ℕ, ◌+◌, ◌*◌, ◌<◌, get_or, length}
+use Rattle.yds_model.proofs.Common.{◌≡◌, ℕ, ◌+◌, ◌*◌, ◌<◌, get_or, length}
 use Rattle.yds_admit.proofs.chain.gaps.Given as goal
 
 abbrev pub invariant-loop-next : goal.invariant-loop-next

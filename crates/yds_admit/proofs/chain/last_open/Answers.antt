@@ -1,4 +1,4 @@
-use Rattle.std.proofs.Common.{◌<◌, get_or, length, length-set, ◌∙◌, arith}
+use Rattle.yds_model.proofs.Common.{◌<◌, get_or, length, length-set, ◌∙◌, arith}
 use Rattle.yds_admit.proofs.Links.{shorter, still_back, emptier}
 use Rattle.yds_admit.proofs.chain.last_open.Goals as goal
 

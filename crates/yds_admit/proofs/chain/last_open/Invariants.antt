@@ -1,4 +1,4 @@
-use Rattle.std.proofs.Common.{◌≡◌, ℕ, ◌<◌, ◌≤◌, List, length, get_or}
+use Rattle.yds_model.proofs.Common.{◌≡◌, ℕ, ◌<◌, ◌≤◌, List, length, get_or}
 use Rattle.yds_admit.specs.Chain.{AreLinks, AreEmpty}
 use Rattle.yds_admit.proofs.chain.last_open.Given as goal
 

@@ -1,5 +1,4 @@
-use Rattle.std.proofs.Common.{arith, refl}
-use Rattle.std.proofs.lemmas.Iterator.{items_from_collect, YieldsList-from_range}
+use Rattle.yds_model.proofs.Common.{arith, refl, items_from_collect, YieldsList-from_range}
 use Rattle.yds_admit.proofs.chain.own_links.Goals as goal
 
 pub returns : goal.returns

@@ -1,5 +1,4 @@
-use Rattle.std.proofs.Common.{◌≡◌, ℕ, suc, ◌+◌, ◌-◌, ◌<◌, ◌∙◌, length, get_or, set, refl, subst, arith, inl, inr, get_or-set_same, get_or-set_other, length-set}
-use Rattle.std.proofs.lemmas.Bool.{cases_lt}
+use Rattle.yds_model.proofs.Common.{◌≡◌, ℕ, suc, ◌+◌, ◌-◌, ◌<◌, ◌∙◌, length, get_or, set, refl, subst, arith, inl, inr, get_or-set_same, get_or-set_other, length-set, cases_lt}
 use Rattle.yds_admit.specs.Chain.{Takes, AreLinks}
 use Rattle.yds_admit.proofs.GoingOn.{none_taken, some_taken, all_taken}
 use Rattle.yds_admit.proofs.Links.{less_left, linked, slides}

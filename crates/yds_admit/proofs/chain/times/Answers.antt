@@ -1,6 +1,4 @@
-use Rattle.std.proofs.Common.{◌∙◌, ap}
-use Rattle.std.proofs.lemmas.List.{get_or_read}
-use Rattle.yds_model.specs.Job.{Job, no_job}
+use Rattle.yds_model.proofs.Common.{◌∙◌, ap, get_or_read, Job, no_job}
 use Rattle.yds_admit.proofs.Times.{begun, passed, added, are_times}
 use Rattle.yds_admit.proofs.chain.times.Goals as goal
 use Rattle.yds_admit.proofs.chain.times.Goals.{then-last-job+in_ok-push-2, else-last-job}

@@ -1,4 +1,4 @@
-use Rattle.std.proofs.Common.{◌-◌, length}
+use Rattle.yds_model.proofs.Common.{◌-◌, length}
 use Rattle.yds_admit.specs.State.{IsState}
 use Rattle.yds_admit.proofs.decision.decide.Given as goal
 

@@ -1,4 +1,4 @@
-use Rattle.std.proofs.Common.{◌≡◌, ◌-◌, ◌≤◌, length}
+use Rattle.yds_model.proofs.Common.{◌≡◌, ◌-◌, ◌≤◌, length}
 use Rattle.yds_admit.specs.Room.{IsRoom}
 use Rattle.yds_admit.specs.State.{IsState}
 use Rattle.yds_admit.proofs.decision.one_by_one.Given as goal

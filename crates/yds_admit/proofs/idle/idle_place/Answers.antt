@@ -1,4 +1,4 @@
-use Rattle.std.proofs.Common.{◌≡◌, ℕ, ◌+◌, arith}
+use Rattle.yds_model.proofs.Common.{◌≡◌, ℕ, ◌+◌, arith}
 use Rattle.yds_admit.specs.Idle.{idle_before}
 use Rattle.yds_admit.proofs.Idleness.{next_idle, nothing_between}
 use Rattle.yds_admit.proofs.idle.idle_place.Goals as goal

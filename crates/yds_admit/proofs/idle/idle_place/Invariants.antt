@@ -1,4 +1,4 @@
-use Rattle.std.proofs.Common.{◌+◌, ◌<◌, ◌≤◌}
+use Rattle.yds_model.proofs.Common.{◌+◌, ◌<◌, ◌≤◌}
 use Rattle.yds_admit.specs.Chain.{AreLinks}
 use Rattle.yds_admit.specs.Idle.{idle_before}
 use Rattle.yds_admit.proofs.idle.idle_place.Given as goal

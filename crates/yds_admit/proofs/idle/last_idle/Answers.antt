@@ -1,4 +1,4 @@
-use Rattle.std.proofs.Common.{arith}
+use Rattle.yds_model.proofs.Common.{arith}
 use Rattle.yds_admit.proofs.idle.last_idle.Goals as goal
 
 pub returns-clause-kept : goal.returns-clause-kept

@@ -1,5 +1,4 @@
-use Rattle.std.proofs.Common.{◌≡◌, ℕ, ◌-◌, ◌<◌, length, get_or, set, ◌∙◌, arith, inl, inr, ap, get_or-set_same, get_or-set_other}
-use Rattle.std.proofs.lemmas.Bool.{cases_eq, cases_lt}
+use Rattle.yds_model.proofs.Common.{◌≡◌, ℕ, ◌-◌, ◌<◌, length, get_or, set, ◌∙◌, arith, inl, inr, ap, get_or-set_same, get_or-set_other, cases_eq, cases_lt}
 use Rattle.yds_admit.proofs.Idleness.{set_late}
 use Rattle.yds_admit.proofs.idle.take_before.Goals as goal
 

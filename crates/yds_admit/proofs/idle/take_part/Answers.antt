@@ -1,4 +1,4 @@
-use Rattle.std.proofs.Common.{ℕ, ◌-◌, get_or, set, arith, length-set}
+use Rattle.yds_model.proofs.Common.{ℕ, ◌-◌, get_or, set, arith, length-set}
 use Rattle.yds_admit.proofs.Links.{less_left, linked}
 use Rattle.yds_admit.proofs.idle.take_part.Goals as goal
 

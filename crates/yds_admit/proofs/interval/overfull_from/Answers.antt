@@ -1,7 +1,4 @@
-use Rattle.std.proofs.Common.{◌≡◌, ◌≤◌, ◌∙◌, sym, arith, ap, subst}
-use Rattle.std.proofs.lemmas.List.{get_or_read}
-use Rattle.yds_model.specs.Job.{Job, no_job, job_at}
-use Rattle.yds_model.proofs.Confined.{part_released}
+use Rattle.yds_model.proofs.Common.{◌≡◌, ◌≤◌, ◌∙◌, sym, arith, ap, subst, get_or_read, Job, no_job, job_at, part_released}
 use Rattle.yds_admit.proofs.Between.{Counted, begun, moved, added, first_from, none_found}
 use Rattle.yds_admit.proofs.interval.overfull_from.Goals as goal
 use Rattle.yds_admit.proofs.interval.overfull_from.Goals.{then-to-job+else-work-from, else-to-job}

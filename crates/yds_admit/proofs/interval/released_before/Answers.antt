@@ -1,5 +1,4 @@
-use Rattle.std.proofs.Common.{arith, sym}
-use Rattle.yds_model.specs.Job.{no_job}
+use Rattle.yds_model.proofs.Common.{arith, sym, no_job}
 use Rattle.yds_admit.proofs.Between.{none_released}
 use Rattle.yds_admit.proofs.interval.released_before.Goals as goal
 

@@ -1,6 +1,4 @@
-use Rattle.std.proofs.Common.{rules}
-use Rattle.std.proofs.lemmas.List.Sorted.{IsNonDecreasingBy-from_sort_by_key}
-use Rattle.yds_model.specs.Job.{Job}
+use Rattle.yds_model.proofs.Common.{rules, IsNonDecreasingBy-from_sort_by_key, Job}
 use Rattle.yds_admit.proofs.interval.sort_by_deadline.Goals as goal
 
 pub returns-clause-rising : goal.returns-clause-rising

@@ -1,4 +1,4 @@
-use Rattle.std.proofs.Common.{arith}
+use Rattle.yds_model.proofs.Common.{arith}
 use Rattle.yds_admit.proofs.Cutting.{went_fits}
 use Rattle.yds_admit.proofs.nearby.units_between.Goals as goal
 

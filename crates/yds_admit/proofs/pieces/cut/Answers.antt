@@ -1,6 +1,4 @@
-use Rattle.std.proofs.Common.{◌≡◌, ℕ, ◌+◌, ◌-◌, ◌<◌, ◌≤◌, ◌⊎◌, ◌∙◌, length, get_or, set, refl, subst, arith, inl, inr, ap, get_or-set_same, get_or-set_other, length-set}
-use Rattle.std.proofs.lemmas.Bool.{cases_lt, cases_eq}
-use Rattle.yds_model.specs.Job.{Job}
+use Rattle.yds_model.proofs.Common.{◌≡◌, ℕ, ◌+◌, ◌-◌, ◌<◌, ◌≤◌, ◌⊎◌, ◌∙◌, length, get_or, set, refl, subst, arith, inl, inr, ap, get_or-set_same, get_or-set_other, length-set, cases_lt, cases_eq, Job}
 use Rattle.yds_admit.specs.Chain.{AreLinks}
 use Rattle.yds_admit.proofs.Links.{less_left, linked}
 use Rattle.yds_admit.proofs.Cutting.{IsCutSoFar, none_yet, one_piece_more, cut_more, cut_last}

@@ -1,4 +1,4 @@
-use Rattle.std.proofs.Common.{◌≡◌, ℕ, ◌+◌, ◌≤◌, ◌⊎◌, List, length}
+use Rattle.yds_model.proofs.Common.{◌≡◌, ℕ, ◌+◌, ◌≤◌, ◌⊎◌, List, length}
 use Rattle.yds_admit.specs.Chain.{IsPlace, AreLinks, AreEmpty}
 use Rattle.yds_admit.specs.Pieces.{IsCutting}
 use Rattle.yds_admit.proofs.Cutting.{IsCutSoFar}

@@ -1,6 +1,4 @@
-use Rattle.std.proofs.Common.{◌≡◌, ℕ, ◌<◌, List, length, get_or, take, ◌∙◌, sym, subst, arith, ap}
-use Rattle.yds_model.specs.Job.{Job, no_job, job_at}
-use Rattle.std.proofs.lemmas.List.{get_or_default}
+use Rattle.yds_model.proofs.Common.{◌≡◌, ℕ, ◌<◌, List, length, get_or, take, ◌∙◌, sym, subst, arith, ap, Job, no_job, job_at, get_or_default}
 use Rattle.yds_admit.specs.declared.board.Spot.{Spot}
 use Rattle.yds_admit.specs.Board.{IsSpot, falling_jobs}
 use Rattle.yds_admit.specs.Pieces.{IsCutInto, AreCut}

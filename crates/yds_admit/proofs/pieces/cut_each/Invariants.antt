@@ -1,5 +1,4 @@
-use Rattle.std.proofs.Common.{ℕ, ◌<◌, ◌≤◌, length, take}
-use Rattle.yds_model.specs.Job.{job_at}
+use Rattle.yds_model.proofs.Common.{ℕ, ◌<◌, ◌≤◌, length, take, job_at}
 use Rattle.yds_admit.specs.Board.{falling_jobs}
 use Rattle.yds_admit.specs.Chain.{AreLinks}
 use Rattle.yds_admit.specs.Pieces.{IsCutting, AreCut}

@@ -1,4 +1,4 @@
-use Rattle.std.proofs.Common.{◌≡◌, ◌+◌, ◌≤◌}
+use Rattle.yds_model.proofs.Common.{◌≡◌, ◌+◌, ◌≤◌}
 use Rattle.yds_admit.specs.Pieces.{went}
 use Rattle.yds_admit.proofs.Bounds.{AllLeaveRoom}
 use Rattle.yds_admit.proofs.pieces.least_from_pieces.Given as goal

@@ -1,6 +1,4 @@
-use Rattle.std.proofs.Common.{◌≡◌, ℕ, ◌+◌, ◌-◌, ◌<◌, ◌∷◌, [], length, get_or, arith, inl, inr, subst}
-use Rattle.std.proofs.lemmas.Bool.{cases_lt}
-use Rattle.std.proofs.lemmas.List.{length_push, get_or_push, get_or_append_left}
+use Rattle.yds_model.proofs.Common.{◌≡◌, ℕ, ◌+◌, ◌-◌, ◌<◌, ◌∷◌, [], length, get_or, arith, inl, inr, subst, cases_lt, length_push, get_or_push, get_or_append_left}
 use Rattle.yds_admit.specs.Idle.{idle_before}
 use Rattle.yds_admit.proofs.Idleness.{next_idle}
 use Rattle.yds_admit.proofs.pieces.used_before.Goals as goal

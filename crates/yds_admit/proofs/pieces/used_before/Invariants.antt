@@ -1,4 +1,4 @@
-use Rattle.std.proofs.Common.{◌≡◌, ℕ, ◌+◌, ◌≤◌, length, get_or}
+use Rattle.yds_model.proofs.Common.{◌≡◌, ℕ, ◌+◌, ◌≤◌, length, get_or}
 use Rattle.yds_admit.specs.Idle.{idle_before}
 use Rattle.yds_admit.proofs.pieces.used_before.Given as goal
 

@@ -1,4 +1,4 @@
-use Rattle.std.proofs.Common.{arith, refl}
+use Rattle.yds_model.proofs.Common.{arith, refl}
 use Rattle.yds_edf.proofs.Capped.{capped_run}
 use Rattle.yds_admit.specs.Serving.{top_units}
 use Rattle.yds_admit.proofs.Demand.{within_capacity}

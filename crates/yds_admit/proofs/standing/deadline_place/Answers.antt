@@ -1,6 +1,4 @@
-use Rattle.std.proofs.Common.{arith, ap}
-use Rattle.std.proofs.lemmas.List.Sorted.{IsNonDecreasingBy-insert}
-use Rattle.yds_model.specs.Job.{Job}
+use Rattle.yds_model.proofs.Common.{arith, ap, IsNonDecreasingBy-insert, Job}
 use Rattle.yds_admit.proofs.standing.deadline_place.Goals as goal
 
 pub returns-clause-rising : goal.returns-clause-rising

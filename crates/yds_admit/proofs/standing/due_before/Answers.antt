@@ -1,9 +1,4 @@
-use Rattle.std.proofs.Common.{arith, rules}
-use Rattle.std.specs.Prelude.{nat_lt}
-use Rattle.std.proofs.lemmas.Fn.{always_returns_same}
-use Rattle.std.proofs.lemmas.Bool.{ltb-true, ltb-false}
-use Rattle.std.proofs.lemmas.List.Sorted.{IsPartitionedBy-ltb}
-use Rattle.yds_model.specs.Job.{Job}
+use Rattle.yds_model.proofs.Common.{arith, rules, nat_lt, always_returns_same, ltb-true, ltb-false, IsPartitionedBy-ltb, Job}
 use Rattle.yds_admit.proofs.standing.due_before.Goals as goal
 
 pub returns-clause-before : goal.returns-clause-before

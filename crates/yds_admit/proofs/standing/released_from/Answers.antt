@@ -1,10 +1,4 @@
-use Rattle.std.proofs.Common.{ℕ, List, get_or, arith, rules, ap}
-use Rattle.std.specs.Prelude.{nat_le}
-use Rattle.std.specs.List.Sorted.{IsPartitionedBy}
-use Rattle.std.proofs.lemmas.Fn.{always_returns_same}
-use Rattle.std.proofs.lemmas.Bool.{leb-true, leb-false, le-leb}
-use Rattle.std.proofs.lemmas.List.{get_or_default}
-use Rattle.yds_model.specs.Job.{Job, no_job}
+use Rattle.yds_model.proofs.Common.{ℕ, List, get_or, arith, rules, ap, nat_le, IsPartitionedBy, always_returns_same, leb-true, leb-false, le-leb, get_or_default, Job, no_job}
 use Rattle.yds_admit.specs.Chain.{IsFalling}
 use Rattle.yds_admit.proofs.standing.released_from.Goals as goal
 

@@ -1,5 +1,4 @@
-use Rattle.std.proofs.Common.{◌≡◌, rules}
-use Rattle.std.specs.Prelude.{option_copied}
+use Rattle.yds_model.proofs.Common.{◌≡◌, rules, option_copied}
 use Rattle.yds_audit.proofs.Feasible.{feasible_told}
 use Rattle.yds_audit.proofs.auditor.audit.Goals as goal
 

@@ -1,6 +1,4 @@
-use Rattle.std.proofs.Common.{option_copied}
-use Rattle.yds_model.specs.Numbers.{Each}
-use Rattle.yds_model.specs.Audit.{Stands}
+use Rattle.yds_model.proofs.Common.{option_copied, Each, Stands}
 use Rattle.yds_audit.proofs.auditor.first_wrong_slot.Given as goal
 
 abbrev pub invariant-loop-i : goal.invariant-loop-i

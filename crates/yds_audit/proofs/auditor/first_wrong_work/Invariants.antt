@@ -1,5 +1,4 @@
-use Rattle.yds_model.specs.Numbers.{Each}
-use Rattle.yds_model.specs.Audit.{GetsItsWork}
+use Rattle.yds_model.proofs.Common.{Each, GetsItsWork}
 use Rattle.yds_audit.proofs.auditor.first_wrong_work.Given as goal
 
 abbrev pub invariant-loop-i : goal.invariant-loop-i

@@ -1,5 +1,4 @@
-use Rattle.std.proofs.Common.{◌≡◌, take, false}
-use Rattle.std.specs.List.{list_any}
+use Rattle.yds_model.proofs.Common.{◌≡◌, take, false, list_any}
 use Rattle.yds_events.specs.Stretch.{length_of}
 use Rattle.yds_avr.specs.Rate.{rate_rounds}
 use Rattle.yds_avr.proofs.average_rate.is_rounded.Given as goal

@@ -1,4 +1,4 @@
-use Rattle.std.proofs.Common.{arith}
+use Rattle.yds_model.proofs.Common.{arith}
 use Rattle.yds_avr.proofs.Together.{this_one, sum_next, few_next}
 use Rattle.yds_avr.proofs.average_rate.units_of.Goals as goal
 

@@ -1,5 +1,4 @@
-use Rattle.std.proofs.Common.{◌≡◌, ◌+◌, ◌*◌, ◌≤◌, take}
-use Rattle.std.specs.Prelude.{sum_by}
+use Rattle.yds_model.proofs.Common.{◌≡◌, ◌+◌, ◌*◌, ◌≤◌, take, sum_by}
 use Rattle.yds_events.specs.Stretch.{length_of}
 use Rattle.yds_avr.specs.Rate.{rate_term}
 use Rattle.yds_avr.proofs.average_rate.units_of.Given as goal

@@ -1,5 +1,4 @@
-use Rattle.std.proofs.Common.{rules}
-use Rattle.std.proofs.lemmas.List.Sorted.{IsNonDecreasingBy-from_sort_by_key}
+use Rattle.yds_model.proofs.Common.{rules, IsNonDecreasingBy-from_sort_by_key}
 use Rattle.yds_avr.proofs.roster.by_release.Goals as goal
 
 pub returns-clause-rising : goal.returns-clause-rising

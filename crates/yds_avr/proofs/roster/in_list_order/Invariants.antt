@@ -1,4 +1,4 @@
-use Rattle.std.proofs.Common.{◌≡◌, take}
+use Rattle.yds_model.proofs.Common.{◌≡◌, take}
 use Rattle.yds_avr.specs.Roster.{rates_of}
 use Rattle.yds_avr.proofs.roster.in_list_order.Given as goal
 

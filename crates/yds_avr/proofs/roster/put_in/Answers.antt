@@ -1,8 +1,4 @@
-use Rattle.std.proofs.Common.{arith, rules, ap, length}
-use Rattle.std.specs.Prelude.{nat_le}
-use Rattle.std.proofs.lemmas.Fn.{always_returns_same}
-use Rattle.std.proofs.lemmas.List.Elements.{All-tail}
-use Rattle.std.proofs.lemmas.List.Sorted.{IsPermutation-insert}
+use Rattle.yds_model.proofs.Common.{arith, rules, ap, length, nat_le, always_returns_same, All-tail, IsPermutation-insert}
 use Rattle.yds_avr.specs.declared.rate.Rate.{Rate}
 use Rattle.yds_avr.specs.Rate.{IsRate}
 use Rattle.yds_avr.proofs.Standing.{falls_behind, goes_in}

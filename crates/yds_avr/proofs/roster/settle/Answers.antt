@@ -1,9 +1,4 @@
-use Rattle.std.proofs.Common.{◌-◌, ◌++◌, ◌∷◌, [], List, rules, sym, subst}
-use Rattle.std.proofs.lemmas.List.Elements.{All-cons}
-use Rattle.std.proofs.lemmas.List.Sorted.{IsNonDecreasingBy-from_sort_by_key, All-permutation, IsPermutation-push_more, IsPermutation-refl}
-use Rattle.std.specs.List.{All}
-use Rattle.std.specs.List.Sorted.{IsPermutation}
-use Rattle.yds_model.proofs.Lists.{All-front, All-last}
+use Rattle.yds_model.proofs.Common.{◌-◌, ◌++◌, ◌∷◌, [], List, rules, sym, subst, All-cons, IsNonDecreasingBy-from_sort_by_key, All-permutation, IsPermutation-push_more, IsPermutation-refl, All, IsPermutation, All-front, All-last}
 use Rattle.yds_avr.specs.declared.rate.Rate.{Rate}
 use Rattle.yds_avr.specs.Rate.{IsRate}
 use Rattle.yds_avr.proofs.Standing.{falls_by}

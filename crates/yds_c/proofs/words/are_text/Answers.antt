@@ -1,7 +1,4 @@
-use Rattle.std.proofs.Common.{sym, refl, Bor, List, ℕ}
-use Rattle.std.specs.Str.{IsUtf8}
-use Rattle.std.proofs.lemmas.List.{take_all}
-use Rattle.std.proofs.lemmas.List.Elements.{All-more, All-same}
+use Rattle.yds_model.proofs.Common.{sym, refl, Bor, List, ℕ, IsUtf8, take_all, All-more, All-same}
 use Rattle.yds_c.proofs.words.are_text.Goals as goal
 
 pub loop-word-preserved : goal.loop-word-preserved

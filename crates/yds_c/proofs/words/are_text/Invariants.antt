@@ -1,4 +1,4 @@
-use Rattle.std.proofs.Common.{take}
+use Rattle.yds_model.proofs.Common.{take}
 use Rattle.yds_c.specs.Given.{AreText}
 use Rattle.yds_c.proofs.words.are_text.Given as goal
 

@@ -1,4 +1,4 @@
-use Rattle.std.proofs.Common.{◌≡◌, take}
+use Rattle.yds_model.proofs.Common.{◌≡◌, take}
 use Rattle.yds_run.specs.Words.{words_of}
 use Rattle.yds_c.specs.Given.{bytes_of}
 use Rattle.yds_c.proofs.words.owned.Given as goal

@@ -1,7 +1,4 @@
-use Rattle.std.proofs.lemmas.List.{get_or_read}
-use Rattle.std.proofs.lemmas.List.Elements.{All-more}
-use Rattle.yds_model.specs.Level.{no_level}
-use Rattle.yds_model.specs.Within.{IsLevel}
+use Rattle.yds_model.proofs.Common.{get_or_read, All-more, no_level, IsLevel}
 use Rattle.yds_certificate.proofs.certificate.read_levels.Goals as goal
 
 pub loop-level-preserved : goal.loop-level-preserved

@@ -1,5 +1,4 @@
-use Rattle.std.proofs.Common.{ℕ}
-use Rattle.std.proofs.lemmas.List.Sorted.{IsNonDecreasingBy-from_sort}
+use Rattle.yds_model.proofs.Common.{ℕ, IsNonDecreasingBy-from_sort}
 use Rattle.yds_certificate.proofs.merging.in_order.Goals as goal
 
 pub returns-clause-rising : goal.returns-clause-rising

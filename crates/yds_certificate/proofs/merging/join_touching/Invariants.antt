@@ -1,4 +1,4 @@
-use Rattle.std.proofs.Common.{take}
+use Rattle.yds_model.proofs.Common.{take}
 use Rattle.yds_certificate.specs.Merging.{IsJoined}
 use Rattle.yds_certificate.proofs.merging.join_touching.Given as goal
 

@@ -1,5 +1,4 @@
-use Rattle.yds_model.specs.Level.{all_members}
-use Rattle.yds_model.specs.Judgement.{MembersHold, OrderHolds, WindowsHold}
+use Rattle.yds_model.proofs.Common.{all_members, MembersHold, OrderHolds, WindowsHold}
 use Rattle.yds_checker.specs.Home.{AreHomes, AreSettled}
 use Rattle.yds_checker.specs.Standing.{AreInRun}
 use Rattle.yds_checker.proofs.Turns.{run_in_turn}

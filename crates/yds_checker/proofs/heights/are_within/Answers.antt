@@ -1,5 +1,4 @@
-use Rattle.std.proofs.Common.{◌≡◌, ◌+◌, ◌-◌, ◌/◌, ◌∙◌, arith, refl}
-use Rattle.std.proofs.lemmas.Bool.{false≢true}
+use Rattle.yds_model.proofs.Common.{◌≡◌, ◌+◌, ◌-◌, ◌/◌, ◌∙◌, arith, refl, false≢true}
 use Rattle.yds_checker.proofs.Nodes.{within_below, within_above, half_up}
 use Rattle.yds_checker.proofs.heights.are_within.Goals as goal
 use Rattle.yds_checker.proofs.heights.are_within.Goals.{then-bound-nodes-via-then-bound-nodes, then-bound-nodes-via-else-bound-nodes+then-bound-nodes-2}

@@ -1,5 +1,4 @@
-use Rattle.std.proofs.Common.{ℕ, ◌≤◌, ◌-◌, length}
-use Rattle.std.specs.Prelude.{◌↔◌}
+use Rattle.yds_model.proofs.Common.{ℕ, ◌≤◌, ◌-◌, length, ◌↔◌}
 use Rattle.yds_checker.specs.Heights.{AreRaised, AreWithin}
 use Rattle.yds_checker.proofs.heights.are_within.Given as goal
 

@@ -1,5 +1,4 @@
-use Rattle.std.proofs.Common.{◌≡◌, ◌∙◌, ◌+◌, ◌++◌, take, drop, length, arith}
-use Rattle.std.proofs.lemmas.List.{take_at}
+use Rattle.yds_model.proofs.Common.{◌≡◌, ◌∙◌, ◌+◌, ◌++◌, take, drop, length, arith, take_at}
 use Rattle.yds_checker.proofs.heights.heights.Goals as goal
 
 pub returns : goal.returns

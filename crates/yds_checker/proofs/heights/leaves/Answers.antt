@@ -1,4 +1,4 @@
-use Rattle.std.proofs.Common.{length, arith}
+use Rattle.yds_model.proofs.Common.{length, arith}
 use Rattle.yds_checker.proofs.Nodes.{leaf_pushed}
 use Rattle.yds_checker.proofs.heights.leaves.Goals as goal
 

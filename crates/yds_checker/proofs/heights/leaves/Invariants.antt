@@ -1,5 +1,4 @@
-use Rattle.std.proofs.Common.{◌≡◌, ℕ, ◌<◌, ◌+◌, length}
-use Rattle.std.specs.Prelude.{slice_index}
+use Rattle.yds_model.proofs.Common.{◌≡◌, ℕ, ◌<◌, ◌+◌, length, slice_index}
 use Rattle.yds_checker.specs.Heights.{IsHeight}
 use Rattle.yds_checker.proofs.heights.leaves.Given as goal
 

@@ -1,5 +1,4 @@
-use Rattle.std.proofs.Common.{◌≡◌, ℕ, ◌<◌, ◌≤◌, ◌+◌, ◌*◌, max}
-use Rattle.std.specs.Prelude.{slice_index}
+use Rattle.yds_model.proofs.Common.{◌≡◌, ℕ, ◌<◌, ◌≤◌, ◌+◌, ◌*◌, max, slice_index}
 use Rattle.yds_checker.proofs.heights.raise.Given as goal
 
 abbrev pub invariant-loop-k : goal.invariant-loop-k

@@ -1,5 +1,4 @@
-use Rattle.std.proofs.Common.{◌≡◌, ◌<◌, ◌++◌, length, get_or, take, take_all, arith}
-use Rattle.std.proofs.lemmas.List.Elements.{Contains-get_or}
+use Rattle.yds_model.proofs.Common.{◌≡◌, ◌<◌, ◌++◌, length, get_or, take, take_all, arith, Contains-get_or}
 use Rattle.yds_checker.proofs.Homes.{homes_more}
 use Rattle.yds_checker.proofs.home.settle.Goals as goal
 

@@ -1,5 +1,4 @@
-use Rattle.std.proofs.Common.{◌≡◌, ℕ, ◌<◌, ◌++◌, List, length, take}
-use Rattle.yds_model.specs.Level.{Level, level_at}
+use Rattle.yds_model.proofs.Common.{◌≡◌, ℕ, ◌<◌, ◌++◌, List, length, take, Level, level_at}
 use Rattle.yds_checker.specs.Home.{AreHomes}
 use Rattle.yds_checker.proofs.home.settle.Given as goal
 

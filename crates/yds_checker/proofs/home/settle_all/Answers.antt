@@ -1,6 +1,4 @@
-use Rattle.std.proofs.Common.{◌≡◌, ◌∙◌, ap, sym, take}
-use Rattle.std.proofs.lemmas.List.{get_or_read}
-use Rattle.yds_model.specs.Level.{Level, no_level, level_at, all_members}
+use Rattle.yds_model.proofs.Common.{◌≡◌, ◌∙◌, ap, sym, take, get_or_read, Level, no_level, level_at, all_members}
 use Rattle.yds_checker.proofs.Homes.{homes_level}
 use Rattle.yds_checker.proofs.home.settle_all.Goals as goal
 

@@ -1,5 +1,4 @@
-use Rattle.std.proofs.Common.{[], take}
-use Rattle.yds_model.specs.Level.{all_members}
+use Rattle.yds_model.proofs.Common.{[], take, all_members}
 use Rattle.yds_checker.specs.Home.{AreHomes}
 use Rattle.yds_checker.proofs.home.settle_all.Given as goal
 

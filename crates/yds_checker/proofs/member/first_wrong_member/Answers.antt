@@ -1,5 +1,4 @@
-use Rattle.std.proofs.Common.{below_more, refl, arith}
-use Rattle.std.proofs.lemmas.Bool.{false≢true}
+use Rattle.yds_model.proofs.Common.{below_more, refl, arith, false≢true}
 use Rattle.yds_checker.proofs.member.first_wrong_member.Goals as goal
 
 pub returns-then-not-stands_once : goal.returns-then-not-stands_once

@@ -1,7 +1,4 @@
-use Rattle.std.proofs.Common.{List}
-use Rattle.yds_model.specs.Numbers.{Each}
-use Rattle.yds_model.specs.Level.{Level, all_members}
-use Rattle.yds_model.specs.Proper.{StandsOnce}
+use Rattle.yds_model.proofs.Common.{List, Each, Level, all_members, StandsOnce}
 use Rattle.yds_checker.specs.Home.{AreHomes}
 use Rattle.yds_checker.proofs.member.first_wrong_member.Given as goal
 

@@ -1,5 +1,4 @@
-use Rattle.yds_model.specs.Numbers.{Each}
-use Rattle.yds_model.specs.Proper.{IsNotFaster}
+use Rattle.yds_model.proofs.Common.{Each, IsNotFaster}
 use Rattle.yds_checker.proofs.order.first_faster.Given as goal
 
 abbrev pub invariant-loop-i : goal.invariant-loop-i

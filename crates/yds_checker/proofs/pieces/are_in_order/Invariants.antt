@@ -1,6 +1,4 @@
-use Rattle.std.proofs.Common.{drop}
-use Rattle.std.specs.Prelude.{◌↔◌}
-use Rattle.yds_model.specs.Piece.{PiecesFrom}
+use Rattle.yds_model.proofs.Common.{drop, ◌↔◌, PiecesFrom}
 use Rattle.yds_checker.proofs.pieces.are_in_order.Given as goal
 
 abbrev pub invariant-loop-piece : goal.invariant-loop-piece

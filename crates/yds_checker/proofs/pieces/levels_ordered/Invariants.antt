@@ -1,5 +1,4 @@
-use Rattle.yds_model.specs.Numbers.{Each}
-use Rattle.yds_model.specs.Level.{level_at}
+use Rattle.yds_model.proofs.Common.{Each, level_at}
 use Rattle.yds_checker.specs.Standing.{IsOrdered}
 use Rattle.yds_checker.proofs.pieces.levels_ordered.Given as goal
 

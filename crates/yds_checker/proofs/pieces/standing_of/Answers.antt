@@ -1,4 +1,4 @@
-use Rattle.std.proofs.Common.{arith}
+use Rattle.yds_model.proofs.Common.{arith}
 use Rattle.yds_checker.specs.Placed.{ArePlaced}
 use Rattle.yds_checker.proofs.Placing.{placed_of_front}
 use Rattle.yds_checker.proofs.Standing.{apart_stand, first_wrong, all_in_run}

@@ -1,4 +1,4 @@
-use Rattle.std.proofs.Common.{◌≡◌, take, take_all, refl}
+use Rattle.yds_model.proofs.Common.{◌≡◌, take, take_all, refl}
 use Rattle.yds_checker.proofs.Apart.{walked_by, walked_on}
 use Rattle.yds_checker.specs.Heights.{no_placed}
 use Rattle.yds_checker.proofs.placed.are_apart.Goals as goal

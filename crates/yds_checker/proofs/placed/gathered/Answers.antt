@@ -1,6 +1,4 @@
-use Rattle.std.proofs.Common.{◌≡◌, ◌∙◌, min, ap, arith}
-use Rattle.std.proofs.lemmas.List.{get_or_read}
-use Rattle.yds_model.specs.Level.{Level, no_level, level_at}
+use Rattle.yds_model.proofs.Common.{◌≡◌, ◌∙◌, min, ap, arith, get_or_read, Level, no_level, level_at}
 use Rattle.yds_checker.proofs.Placing.{next_gathered}
 use Rattle.yds_checker.proofs.placed.gathered.Goals as goal
 

@@ -1,5 +1,4 @@
-use Rattle.std.proofs.Common.{arith, refl}
-use Rattle.std.proofs.lemmas.Bool.{false≢true}
+use Rattle.yds_model.proofs.Common.{arith, refl, false≢true}
 use Rattle.yds_checker.proofs.Units.{apart_in_none}
 use Rattle.yds_checker.proofs.Apart.{some_level, next_not_apart}
 use Rattle.yds_checker.proofs.placed.levels_apart.Goals as goal

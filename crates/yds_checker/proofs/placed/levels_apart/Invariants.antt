@@ -1,4 +1,4 @@
-use Rattle.std.proofs.Common.{◌<◌, ◌≤◌, ◌-◌}
+use Rattle.yds_model.proofs.Common.{◌<◌, ◌≤◌, ◌-◌}
 use Rattle.yds_checker.specs.Placed.{AreApartBelow}
 use Rattle.yds_checker.proofs.placed.levels_apart.Given as goal
 

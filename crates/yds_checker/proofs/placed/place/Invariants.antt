@@ -1,4 +1,4 @@
-use Rattle.std.proofs.Common.{take}
+use Rattle.yds_model.proofs.Common.{take}
 use Rattle.yds_checker.specs.Placed.{PlacesMore}
 use Rattle.yds_checker.proofs.placed.place.Given as goal
 

@@ -1,5 +1,4 @@
-use Rattle.std.proofs.Common.{rules, length}
-use Rattle.std.proofs.lemmas.List.Sorted.{IsNonDecreasingBy-from_sort_by_key}
+use Rattle.yds_model.proofs.Common.{rules, length, IsNonDecreasingBy-from_sort_by_key}
 use Rattle.yds_checker.specs.declared.placed.Placed.{Placed}
 use Rattle.yds_checker.proofs.Placing.{sorted_placed}
 use Rattle.yds_checker.proofs.placed.placed_pieces.Goals as goal

@@ -1,6 +1,4 @@
-use Rattle.std.proofs.Common.{rules}
-use Rattle.std.specs.Prelude.{nat_lt}
-use Rattle.std.proofs.lemmas.List.Sorted.{IsPartitionPoint-from_clause}
+use Rattle.yds_model.proofs.Common.{rules, nat_lt, IsPartitionPoint-from_clause}
 use Rattle.yds_checker.specs.declared.placed.Placed.{Placed}
 use Rattle.yds_checker.proofs.Turns.{starts_partition}
 use Rattle.yds_checker.proofs.run.begun_before.Goals as goal

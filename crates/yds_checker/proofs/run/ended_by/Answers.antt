@@ -1,6 +1,4 @@
-use Rattle.std.proofs.Common.{rules}
-use Rattle.std.specs.Prelude.{nat_le}
-use Rattle.std.proofs.lemmas.List.Sorted.{IsPartitionPoint-from_clause}
+use Rattle.yds_model.proofs.Common.{rules, nat_le, IsPartitionPoint-from_clause}
 use Rattle.yds_checker.specs.declared.placed.Placed.{Placed}
 use Rattle.yds_checker.proofs.Turns.{ends_partition}
 use Rattle.yds_checker.proofs.run.ended_by.Goals as goal

@@ -1,5 +1,4 @@
-use Rattle.yds_model.specs.Numbers.{Each}
-use Rattle.yds_model.specs.Judgement.{HasWrittenSpeed}
+use Rattle.yds_model.proofs.Common.{Each, HasWrittenSpeed}
 use Rattle.yds_checker.proofs.speeds.first_wrong_speed.Given as goal
 
 abbrev pub invariant-loop-s : goal.invariant-loop-s

@@ -1,7 +1,4 @@
-use Rattle.std.proofs.Common.{◌≡◌, ◌<◌, ℕ, length, true, refl}
-use Rattle.std.proofs.lemmas.List.{get_or_read}
-use Rattle.yds_model.specs.Slot.{no_written_slot, written_slot_at}
-use Rattle.yds_model.specs.Level.{no_level, level_at}
+use Rattle.yds_model.proofs.Common.{◌≡◌, ◌<◌, ℕ, length, true, refl, get_or_read, no_written_slot, written_slot_at, no_level, level_at}
 use Rattle.yds_slots.specs.contracts.slot.Slot.{the_view as view_of}
 use Rattle.yds_checker.specs.Speed.{HasSpeedOf}
 use Rattle.yds_checker.specs.Home.{home_at}

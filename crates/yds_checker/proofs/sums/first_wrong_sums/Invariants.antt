@@ -1,5 +1,4 @@
-use Rattle.yds_model.specs.Numbers.{Each}
-use Rattle.yds_model.specs.Proper.{SumsAgree}
+use Rattle.yds_model.proofs.Common.{Each, SumsAgree}
 use Rattle.yds_checker.proofs.sums.first_wrong_sums.Given as goal
 
 abbrev pub invariant-loop-i : goal.invariant-loop-i

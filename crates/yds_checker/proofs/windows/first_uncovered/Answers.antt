@@ -1,5 +1,4 @@
-use Rattle.std.proofs.Common.{below_more, refl, arith}
-use Rattle.std.proofs.lemmas.Bool.{false≢true}
+use Rattle.yds_model.proofs.Common.{below_more, refl, arith, false≢true}
 use Rattle.yds_checker.proofs.windows.first_uncovered.Goals as goal
 
 pub returns-then-not-is_covered : goal.returns-then-not-is_covered

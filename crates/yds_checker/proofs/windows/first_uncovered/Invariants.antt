@@ -1,7 +1,4 @@
-use Rattle.std.proofs.Common.{List}
-use Rattle.yds_model.specs.Numbers.{Each}
-use Rattle.yds_model.specs.Level.{Level}
-use Rattle.yds_model.specs.Proper.{IsWindowCovered}
+use Rattle.yds_model.proofs.Common.{List, Each, Level, IsWindowCovered}
 use Rattle.yds_checker.specs.Home.{AreSettled}
 use Rattle.yds_checker.specs.Standing.{AreInRun}
 use Rattle.yds_checker.proofs.windows.first_uncovered.Given as goal

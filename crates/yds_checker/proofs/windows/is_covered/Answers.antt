@@ -1,8 +1,4 @@
-use Rattle.std.proofs.Common.{◌≡◌, ◌∙◌, ℕ, ◌+◌, take, true, refl, ap}
-use Rattle.std.proofs.lemmas.List.{get_or_read}
-use Rattle.yds_model.specs.Job.{Job, no_job, job_at}
-use Rattle.yds_model.specs.Piece.{IsConfined}
-use Rattle.yds_model.specs.Level.{all_pieces}
+use Rattle.yds_model.proofs.Common.{◌≡◌, ◌∙◌, ℕ, ◌+◌, take, true, refl, ap, get_or_read, Job, no_job, job_at, IsConfined, all_pieces}
 use Rattle.yds_checker.specs.Home.{home_at}
 use Rattle.yds_checker.proofs.OneHome.{fact_elsewhere}
 use Rattle.yds_checker.proofs.Confined.{window_told}

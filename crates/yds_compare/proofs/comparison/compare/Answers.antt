@@ -1,5 +1,4 @@
-use Rattle.std.proofs.Common.{◌∙◌, sym, subst, List}
-use Rattle.yds_model.specs.Piece.{Piece, PiecesFrom}
+use Rattle.yds_model.proofs.Common.{◌∙◌, sym, subst, List, Piece, PiecesFrom}
 use Rattle.yds_events.proofs.Neighbours.{stretches_run}
 use Rattle.yds_compare.proofs.comparison.compare.Goals as goal
 

@@ -1,9 +1,4 @@
-use Rattle.std.proofs.Common.{◌≡◌, ◌≤◌, ◌∙◌, List, length, ap, subst, arith}
-use Rattle.std.specs.Prelude.{sum_by}
-use Rattle.yds_model.specs.Slot.{slots_at}
-use Rattle.yds_model.specs.Table.{Point, AreRising, hull_of}
-use Rattle.yds_model.specs.Event.{stretches}
-use Rattle.yds_model.proofs.Scale.{scale_exists}
+use Rattle.yds_model.proofs.Common.{◌≡◌, ◌≤◌, ◌∙◌, List, length, ap, subst, arith, sum_by, slots_at, Point, AreRising, hull_of, stretches, scale_exists}
 use Rattle.yds_events.specs.Stretch.{length_of}
 use Rattle.yds_compare.specs.declared.load.Load.{Load}
 use Rattle.yds_compare.specs.Load.{level_loads}

@@ -1,4 +1,4 @@
-use Rattle.std.proofs.Common.{ℕ, ◌<◌}
+use Rattle.yds_model.proofs.Common.{ℕ, ◌<◌}
 use Rattle.yds_compare.specs.Load.{load_at, IsHeldAt}
 use Rattle.yds_compare.proofs.load.first_above.Given as goal
 

@@ -1,4 +1,4 @@
-use Rattle.std.proofs.Common.{◌≡◌, take}
+use Rattle.yds_model.proofs.Common.{◌≡◌, take}
 use Rattle.yds_compare.specs.Load.{loads_of}
 use Rattle.yds_compare.proofs.load.loads_of.Given as goal
 

@@ -1,4 +1,4 @@
-use Rattle.std.proofs.Common.{◌≡◌, take, map}
+use Rattle.yds_model.proofs.Common.{◌≡◌, take, map}
 use Rattle.yds_compare.specs.Load.{level_load}
 use Rattle.yds_compare.proofs.load.loads_of_levels.Given as goal
 

@@ -1,7 +1,5 @@
-use Rattle.std.proofs.Common.{◌≤◌, take, ap, subst, arith}
-use Rattle.std.proofs.lemmas.List.Sums.{sum_by_more}
+use Rattle.yds_model.proofs.Common.{◌≤◌, take, ap, subst, arith, sum_by_more, Piece}
 use Rattle.yds_model.specs.declared.limits.TheConstants.{MAX_TIME}
-use Rattle.yds_model.specs.Piece.{Piece}
 use Rattle.yds_events.specs.Stretch.{length_of}
 use Rattle.yds_compare.proofs.Loads.{pieces_front, length_within, all_more}
 use Rattle.yds_compare.proofs.load.total_length.Goals as goal

@@ -1,6 +1,4 @@
-use Rattle.std.proofs.Common.{◌≡◌, ◌≤◌, take}
-use Rattle.std.specs.Prelude.{sum_by}
-use Rattle.std.specs.List.{All}
+use Rattle.yds_model.proofs.Common.{◌≡◌, ◌≤◌, take, sum_by, All}
 use Rattle.yds_model.specs.declared.limits.TheConstants.{MAX_TIME}
 use Rattle.yds_events.specs.Stretch.{length_of}
 use Rattle.yds_compare.proofs.load.total_length.Given as goal

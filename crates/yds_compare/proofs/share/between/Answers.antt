@@ -1,5 +1,4 @@
-use Rattle.std.proofs.Common.{◌-◌, ◌*◌, ◌<◌, ◌≤◌, refl}
-use Rattle.std.specs.Int.{◌∣◌}
+use Rattle.yds_model.proofs.Common.{◌-◌, ◌*◌, ◌<◌, ◌≤◌, refl, ◌∣◌}
 use Rattle.yds_compare.proofs.Points.{fast_within}
 use Rattle.yds_compare.proofs.share.between.Goals as goal
 

@@ -1,5 +1,4 @@
-use Rattle.std.proofs.Common.{ℕ, ◌<◌}
-use Rattle.yds_model.specs.Table.{point_at}
+use Rattle.yds_model.proofs.Common.{ℕ, ◌<◌, point_at}
 use Rattle.yds_compare.specs.Share.{IsBelow}
 use Rattle.yds_compare.proofs.share.first_holding.Given as goal
 

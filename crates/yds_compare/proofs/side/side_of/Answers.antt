@@ -1,4 +1,4 @@
-use Rattle.std.proofs.Common.{◌≡◌, ap, ◌∙◌}
+use Rattle.yds_model.proofs.Common.{◌≡◌, ap, ◌∙◌}
 use Rattle.yds_compare.specs.Load.{loads_of}
 use Rattle.yds_compare.proofs.Runs.{spends}
 use Rattle.yds_compare.proofs.side.side_of.Goals as goal

@@ -1,6 +1,4 @@
-use Rattle.std.proofs.Common.{take}
-use Rattle.std.specs.List.{AllZip}
-use Rattle.yds_model.specs.Table.{hull_of, hull_multiple}
+use Rattle.yds_model.proofs.Common.{take, AllZip, hull_of, hull_multiple}
 use Rattle.yds_compare.specs.Share.{IsShareOf}
 use Rattle.yds_compare.proofs.spent.shares_of.Given as goal
 

@@ -1,13 +1,5 @@
-use Rattle.std.proofs.Common.{◌≡◌, ℕ, ◌*◌, ◌++◌, ◌∷◌, [], List, map, take, get_or, sym, ap, ap₂, ◌∙◌, arith}
-use Rattle.std.specs.Prelude.{sum_by}
-use Rattle.std.proofs.lemmas.List.{take_more, map-append}
-use Rattle.std.proofs.lemmas.List.Sums.{sum_by_more, sum_by-take-le}
-use Rattle.std.proofs.Math.Nat.{mul-pos}
+use Rattle.yds_model.proofs.Common.{◌≡◌, ℕ, ◌*◌, ◌++◌, ◌∷◌, [], List, map, take, get_or, sym, ap, ap₂, ◌∙◌, arith, sum_by, take_more, map-append, sum_by_more, sum_by-take-le, mul-pos, Fraction, Point, hull_of, hull_multiple, in_lowest_terms, in_parts}
 use Rattle.yds_model.specs.declared.limits.TheConstants.{MAX_TIME, MAX_POINTS, MAX_POINT_POWER}
-use Rattle.yds_model.specs.Scale.{Fraction}
-use Rattle.yds_model.specs.Table.{Point, hull_of, hull_multiple}
-use Rattle.yds_model.specs.Divisor.{in_lowest_terms}
-use Rattle.yds_model.specs.Comparison.{in_parts}
 use Rattle.yds_compare.specs.declared.share.Share.{Share}
 use Rattle.yds_compare.specs.Share.{time_share_at}
 use Rattle.yds_compare.specs.Spent.{time_of_loads}

@@ -1,6 +1,4 @@
-use Rattle.std.proofs.Common.{◌≡◌, ◌*◌, take, map}
-use Rattle.std.specs.Prelude.{sum_by}
-use Rattle.yds_model.specs.Comparison.{in_parts}
+use Rattle.yds_model.proofs.Common.{◌≡◌, ◌*◌, take, map, sum_by, in_parts}
 use Rattle.yds_compare.specs.Spent.{time_of_loads}
 use Rattle.yds_compare.proofs.spent.spend.Given as goal
 

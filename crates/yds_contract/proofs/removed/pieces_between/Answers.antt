@@ -1,4 +1,4 @@
-use Rattle.std.proofs.Common.{sym, arith}
+use Rattle.yds_model.proofs.Common.{sym, arith}
 use Rattle.yds_model.specs.declared.limits.TheConstants.{MAX_TIME}
 use Rattle.yds_contract.specs.Removed.{removed_at, stretch_of, removed_stretches}
 use Rattle.yds_contract.proofs.Kept.{count, stretch_at, end_fits, next_fits, walked_more, walked_all}

@@ -1,4 +1,4 @@
-use Rattle.std.proofs.Common.{◌-◌, sym, arith}
+use Rattle.yds_model.proofs.Common.{◌-◌, sym, arith}
 use Rattle.yds_contract.proofs.Kept.{nothing_before, before_begun, removed_forward, few_removed}
 use Rattle.yds_contract.proofs.removed.time_before.Goals as goal
 

@@ -1,5 +1,4 @@
-use Rattle.std.proofs.Common.{List, ◌∙◌, ap, sym, subst}
-use Rattle.yds_model.specs.Piece.{total_length}
+use Rattle.yds_model.proofs.Common.{List, ◌∙◌, ap, sym, subst, total_length}
 use Rattle.yds_contract.specs.declared.removed.Removed.{Removed}
 use Rattle.yds_contract.specs.Removed.{removed_stretches}
 use Rattle.yds_contract.specs.Removing.{IsAppended}

@@ -1,5 +1,4 @@
-use Rattle.std.proofs.Common.{length, ◌-◌, ◌<◌, ap, arith}
-use Rattle.yds_model.specs.Piece.{Piece}
+use Rattle.yds_model.proofs.Common.{length, ◌-◌, ◌<◌, ap, arith, Piece}
 use Rattle.yds_contract.proofs.Cells.{no_piece}
 use Rattle.yds_contract.proofs.Kept.{count, stretch_at}
 use Rattle.yds_contract.proofs.removing.total_removed.Goals as goal

@@ -1,5 +1,4 @@
-use Rattle.std.proofs.Common.{◌≡◌, ◌<◌, length, ap, sym, arith}
-use Rattle.yds_model.specs.Piece.{Piece}
+use Rattle.yds_model.proofs.Common.{◌≡◌, ◌<◌, length, ap, sym, arith, Piece}
 use Rattle.yds_contract.specs.Removed.{removed_at, stretch_of, removed_stretches}
 use Rattle.yds_contract.proofs.Kept.{count, stretch_at, removed_forward, ends_fit}
 use Rattle.yds_contract.proofs.Cells.{piece_at, no_piece}

@@ -1,7 +1,4 @@
-use Rattle.std.proofs.Common.{ℕ, arith, rules}
-use Rattle.std.specs.Prelude.{nat_le}
-use Rattle.std.proofs.lemmas.Fn.{always_returns_same}
-use Rattle.std.proofs.lemmas.Bool.{leb-true, leb-false}
+use Rattle.yds_model.proofs.Common.{ℕ, arith, rules, nat_le, always_returns_same, leb-true, leb-false}
 use Rattle.yds_contract.proofs.Cutting.{parted_upto}
 use Rattle.yds_contract.proofs.spreading.count_upto.Goals as goal
 

@@ -1,5 +1,4 @@
-use Rattle.std.proofs.Common.{◌≡◌, ◌*◌, ◌<◌, length, get_or, map, ap, sym, ◌∙◌, inl, inr, arith}
-use Rattle.std.proofs.lemmas.List.{get_or-map, length-map}
+use Rattle.yds_model.proofs.Common.{◌≡◌, ◌*◌, ◌<◌, length, get_or, map, ap, sym, ◌∙◌, inl, inr, arith, get_or-map, length-map}
 use Rattle.yds_contract.proofs.Spreads.{cut_more, cut_kept}
 use Rattle.yds_contract.proofs.spreading.cut.Goals as goal
 use Rattle.yds_contract.proofs.spreading.cut.Goals.{then-from-time+then-time-span+in_ok-push, else-from-time, else-from-time-via-then-from-time+else-time-span, else-from-time-via-else-from-time}

@@ -1,4 +1,4 @@
-use Rattle.std.proofs.Common.{◌*◌, map}
+use Rattle.yds_model.proofs.Common.{◌*◌, map}
 use Rattle.yds_contract.proofs.Spreads.{CutSoFar}
 use Rattle.yds_contract.proofs.spreading.cut.Given as goal
 

@@ -1,6 +1,4 @@
-use Rattle.std.proofs.Common.{ℕ, ◌-◌, ◌*◌, ◌/◌, List, ◌∙◌, map, ap, arith}
-use Rattle.std.specs.Prelude.{filter}
-use Rattle.yds_model.specs.Piece.{Piece}
+use Rattle.yds_model.proofs.Common.{ℕ, ◌-◌, ◌*◌, ◌/◌, List, ◌∙◌, map, ap, arith, filter, Piece}
 use Rattle.yds_contract.specs.Cut.{comes_between, cut_between}
 use Rattle.yds_contract.proofs.Cutting.{same_cuts, not_inside}
 use Rattle.yds_contract.proofs.spreading.events_inside.Goals as goal

@@ -1,7 +1,5 @@
-use Rattle.std.proofs.Common.{◌*◌, ◌≤◌, map, ap, sym, arith}
-use Rattle.std.proofs.Math.Nat.{mul-le-mul}
+use Rattle.yds_model.proofs.Common.{◌*◌, ◌≤◌, map, ap, sym, arith, mul-le-mul, Piece}
 use Rattle.yds_model.specs.declared.limits.TheConstants.{MAX_TIME}
-use Rattle.yds_model.specs.Piece.{Piece}
 use Rattle.yds_contract.specs.Removed.{removed_at, stretch_of, removed_stretches}
 use Rattle.yds_contract.specs.Spread.{piece_in_parts}
 use Rattle.yds_contract.proofs.Cells.{no_piece}

@@ -1,8 +1,5 @@
-use Rattle.std.proofs.Common.{◌≡◌, ℕ, ◌-◌, ◌*◌, ◌≤◌, List, ◌++◌, map, take, ap, sym, subst, ◌∙◌, arith}
-use Rattle.std.proofs.lemmas.List.{take_all}
+use Rattle.yds_model.proofs.Common.{◌≡◌, ℕ, ◌-◌, ◌*◌, ◌≤◌, List, ◌++◌, map, take, ap, sym, subst, ◌∙◌, arith, take_all, WrittenSlot, Piece}
 use Rattle.yds_model.specs.declared.limits.TheConstants.{MAX_TIME}
-use Rattle.yds_model.specs.Slot.{WrittenSlot}
-use Rattle.yds_model.specs.Piece.{Piece}
 use Rattle.yds_contract.specs.Removed.{removed_stretches}
 use Rattle.yds_contract.specs.Cut.{cut_between, cut_all}
 use Rattle.yds_contract.specs.Spread.{slot_over}

@@ -1,4 +1,4 @@
-use Rattle.std.proofs.Common.{◌≡◌, ◌*◌, map, take}
+use Rattle.yds_model.proofs.Common.{◌≡◌, ◌*◌, map, take}
 use Rattle.yds_contract.specs.Spread.{slot_over}
 use Rattle.yds_contract.specs.Cut.{cut_all}
 use Rattle.yds_contract.proofs.spreading.spread_over.Given as goal

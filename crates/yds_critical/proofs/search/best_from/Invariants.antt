@@ -1,4 +1,4 @@
-use Rattle.std.specs.Prelude.{IfSome}
+use Rattle.yds_model.proofs.Common.{IfSome}
 use Rattle.yds_critical.specs.Choice.{TakesTime, IsFoundAmong}
 use Rattle.yds_critical.proofs.search.best_from.Given as goal
 

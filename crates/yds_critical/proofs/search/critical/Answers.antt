@@ -1,6 +1,4 @@
-use Rattle.std.proofs.Common.{◌≡◌, ℕ, List, ap, sym, subst, ◌∙◌}
-use Rattle.std.proofs.lemmas.List.{get_or_read}
-use Rattle.yds_model.specs.Job.{Job, IsJob, job_at, no_job}
+use Rattle.yds_model.proofs.Common.{◌≡◌, ℕ, List, ap, sym, subst, ◌∙◌, get_or_read, Job, IsJob, job_at, no_job}
 use Rattle.yds_intensity.specs.declared.sweeping.Sum.{Sum}
 use Rattle.yds_intensity.specs.Sums.{AreSums}
 use Rattle.yds_critical.specs.Choice.{AreLater, IsFoundAmongAll}

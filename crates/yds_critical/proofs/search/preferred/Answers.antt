@@ -1,6 +1,4 @@
-use Rattle.std.proofs.Common.{Option, Some, sym, ◌∙◌, subst}
-use Rattle.std.specs.Prelude.{IfSome}
-use Rattle.std.proofs.lemmas.Bool.{false≢true}
+use Rattle.yds_model.proofs.Common.{Option, Some, sym, ◌∙◌, subst, IfSome, false≢true}
 use Rattle.yds_critical.specs.declared.interval.Interval.{Interval}
 use Rattle.yds_critical.specs.Choice.{TakesTime}
 use Rattle.yds_critical.proofs.Searching.{prefers_other}

@@ -1,8 +1,4 @@
-use Rattle.std.proofs.Common.{◌≡◌, ◌≤◌, ◌-◌, ◌*◌, ap, ap₂, subst, ◌∙◌, arith}
-use Rattle.yds_model.specs.Scale.{Fraction, IsSameQuotient}
-use Rattle.yds_model.specs.Level.{Level}
-use Rattle.yds_model.specs.Divisor.{in_lowest_terms}
-use Rattle.yds_model.specs.Curve.{Break}
+use Rattle.yds_model.proofs.Common.{◌≡◌, ◌≤◌, ◌-◌, ◌*◌, ap, ap₂, subst, ◌∙◌, arith, Fraction, IsSameQuotient, Level, in_lowest_terms, Break}
 use Rattle.yds_fraction.proofs.Lowest.{speed_reduced}
 use Rattle.yds_curve.proofs.bends.break_at.Goals as goal
 

@@ -1,5 +1,4 @@
-use Rattle.std.proofs.Common.{◌∙◌, ap, reverse}
-use Rattle.yds_model.specs.Curve.{breaks_of}
+use Rattle.yds_model.proofs.Common.{◌∙◌, ap, reverse, breaks_of}
 use Rattle.yds_curve.proofs.Fronts.{falls, breaks_made}
 use Rattle.yds_curve.proofs.bends.curve.Goals as goal
 

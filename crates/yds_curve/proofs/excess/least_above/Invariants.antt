@@ -1,5 +1,4 @@
-use Rattle.std.proofs.Common.{◌≡◌, ◌*◌, ◌-◌, ◌≤◌, take}
-use Rattle.std.specs.Prelude.{sum_by}
+use Rattle.yds_model.proofs.Common.{◌≡◌, ◌*◌, ◌-◌, ◌≤◌, take, sum_by}
 use Rattle.yds_model.specs.declared.limits.TheConstants.{MAX_LEVEL_WORK}
 use Rattle.yds_curve.proofs.excess.least_above.Given as goal
 

@@ -1,4 +1,4 @@
-use Rattle.std.proofs.Common.{sym}
+use Rattle.yds_model.proofs.Common.{sym}
 use Rattle.yds_model.specs.declared.limits.TheConstants.{MAX_WHOLE}
 use Rattle.yds_fraction.proofs.Kept.{IsFraction-within}
 use Rattle.yds_document.proofs.FractionField.{fraction_within}

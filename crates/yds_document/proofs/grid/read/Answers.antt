@@ -1,5 +1,4 @@
-use Rattle.std.proofs.lemmas.Result.{err_from_is_err_and}
-use Rattle.yds_model.specs.Reading.{GridLine}
+use Rattle.yds_model.proofs.Common.{err_from_is_err_and, GridLine}
 use Rattle.yds_document.proofs.Told.{passed, fields_failed}
 use Rattle.yds_document.proofs.grid.read.Goals as goal
 

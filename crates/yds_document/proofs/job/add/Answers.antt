@@ -1,4 +1,4 @@
-use Rattle.std.proofs.Common.{ap}
+use Rattle.yds_model.proofs.Common.{ap}
 use Rattle.yds_document.proofs.Held.{holds_job}
 use Rattle.yds_document.proofs.job.add.Goals as goal
 

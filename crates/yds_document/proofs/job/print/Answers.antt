@@ -1,7 +1,4 @@
-use Rattle.std.proofs.Common.{◌++◌, ◌∙◌, ap}
-use Rattle.std.specs.List.{flat_map}
-use Rattle.std.proofs.lemmas.List.{drop_all}
-use Rattle.yds_model.specs.Text.{job_line}
+use Rattle.yds_model.proofs.Common.{◌++◌, ◌∙◌, ap, flat_map, drop_all, job_line}
 use Rattle.yds_document.specs.Job.{job_lines_from}
 use Rattle.yds_document.proofs.Batches.{part_put, part_failed, parts_put}
 use Rattle.yds_document.proofs.Named.{named_count}

@@ -1,5 +1,4 @@
-use Rattle.std.proofs.Common.{◌-◌}
-use Rattle.yds_model.specs.Text.{job_lines}
+use Rattle.yds_model.proofs.Common.{◌-◌, job_lines}
 use Rattle.yds_document.specs.Job.{job_lines_from}
 use Rattle.yds_document.proofs.Batches.{PutsUpTo}
 use Rattle.yds_document.proofs.job.print.Given as goal

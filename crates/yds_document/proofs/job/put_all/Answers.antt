@@ -1,6 +1,4 @@
-use Rattle.std.proofs.Common.{◌-◌, ◌<◌, ◌≤◌, ◌++◌, [], arith, length, ap, ◌∙◌, append_assoc}
-use Rattle.std.specs.List.{zip}
-use Rattle.yds_model.specs.Text.{job_line}
+use Rattle.yds_model.proofs.Common.{◌-◌, ◌<◌, ◌≤◌, ◌++◌, [], arith, length, ap, ◌∙◌, append_assoc, zip, job_line}
 use Rattle.yds_document.specs.Job.{job_lines_from}
 use Rattle.yds_document.proofs.Batches.{lines_before}
 use Rattle.yds_document.proofs.Named.{named_at, named_within}

@@ -1,4 +1,4 @@
-use Rattle.std.proofs.Common.{◌≡◌, ◌+◌, ◌*◌, ◌≤◌, ◌++◌, length}
+use Rattle.yds_model.proofs.Common.{◌≡◌, ◌+◌, ◌*◌, ◌≤◌, ◌++◌, length}
 use Rattle.yds_document.specs.declared.line_buffer.TheConstants.{LINE_BYTES}
 use Rattle.yds_document.specs.Job.{job_lines_from}
 use Rattle.yds_document.proofs.job.put_all.Given as goal

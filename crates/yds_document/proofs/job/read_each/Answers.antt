@@ -1,5 +1,4 @@
-use Rattle.std.proofs.Common.{subst}
-use Rattle.yds_model.specs.Reading.{JobLine}
+use Rattle.yds_model.proofs.Common.{subst, JobLine}
 use Rattle.yds_text.specs.Read.{field_read}
 use Rattle.yds_document.specs.Fields.{Fails}
 use Rattle.yds_document.proofs.Told.{fields_failed, job_same}

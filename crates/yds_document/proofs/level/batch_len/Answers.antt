@@ -1,4 +1,4 @@
-use Rattle.std.proofs.Common.{arith}
+use Rattle.yds_model.proofs.Common.{arith}
 use Rattle.yds_document.proofs.LevelLines.{line_total-more}
 use Rattle.yds_document.proofs.level.batch_len.Goals as goal
 

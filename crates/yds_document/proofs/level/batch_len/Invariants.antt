@@ -1,4 +1,4 @@
-use Rattle.std.proofs.Common.{◌≡◌, ◌+◌, take}
+use Rattle.yds_model.proofs.Common.{◌≡◌, ◌+◌, take}
 use Rattle.yds_document.specs.declared.tail_buffer.TheConstants.{BATCH_LINES}
 use Rattle.yds_document.specs.Level.{line_total}
 use Rattle.yds_document.proofs.level.batch_len.Given as goal

@@ -1,6 +1,4 @@
-use Rattle.std.proofs.Common.{◌<◌, ◌∙◌, length}
-use Rattle.std.specs.List.{All}
-use Rattle.yds_model.specs.Text.{level_lines}
+use Rattle.yds_model.proofs.Common.{◌<◌, ◌∙◌, length, All, level_lines}
 use Rattle.yds_document.proofs.Batches.{part_put, part_failed, lines_of_both, lines_of_one, all_of_others}
 use Rattle.yds_document.proofs.level.print.Goals as goal
 

@@ -1,6 +1,4 @@
-use Rattle.std.proofs.Common.{◌∷◌, [], ◌∙◌, ap}
-use Rattle.std.specs.Prelude.{codes, decimal, flat_map}
-use Rattle.yds_model.specs.Text.{line, piece_line, member_line}
+use Rattle.yds_model.proofs.Common.{◌∷◌, [], ◌∙◌, ap, codes, decimal, flat_map, line, piece_line, member_line}
 use Rattle.yds_port.proofs.Putting.{puts_whole, puts_text, puts_failed, puts_front, puts_after, whole_after}
 use Rattle.yds_document.proofs.Batches.{before_none}
 use Rattle.yds_document.proofs.level.print_level.Goals as goal

@@ -1,4 +1,4 @@
-use Rattle.std.proofs.Common.{◌-◌, arith}
+use Rattle.yds_model.proofs.Common.{◌-◌, arith}
 use Rattle.yds_document.proofs.LevelLines.{line_total-before, line_total-drop}
 use Rattle.yds_document.proofs.level.put_all.Goals as goal
 

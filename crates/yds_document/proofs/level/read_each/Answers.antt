@@ -1,5 +1,4 @@
-use Rattle.std.proofs.lemmas.Result.{err_from_is_err_and}
-use Rattle.yds_model.specs.Reading.{LevelLine}
+use Rattle.yds_model.proofs.Common.{err_from_is_err_and, LevelLine}
 use Rattle.yds_document.proofs.Told.{passed, fields_failed}
 use Rattle.yds_document.proofs.level.read_each.Goals as goal
 

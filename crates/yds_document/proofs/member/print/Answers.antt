@@ -1,5 +1,4 @@
-use Rattle.std.proofs.Common.{◌<◌, ◌∙◌, length}
-use Rattle.yds_model.specs.Text.{member_line}
+use Rattle.yds_model.proofs.Common.{◌<◌, ◌∙◌, length, member_line}
 use Rattle.yds_document.proofs.Batches.{part_put, part_failed, lines_of_both, all_of_others, before_none}
 use Rattle.yds_document.proofs.member.print.Goals as goal
 

@@ -1,7 +1,4 @@
-use Rattle.std.proofs.Common.{◌<◌, length}
-use Rattle.std.specs.Prelude.{flat_map}
-use Rattle.std.specs.List.{All}
-use Rattle.yds_model.specs.Text.{member_line}
+use Rattle.yds_model.proofs.Common.{◌<◌, length, flat_map, All, member_line}
 use Rattle.yds_document.proofs.Batches.{PutsUpTo}
 use Rattle.yds_document.proofs.member.print.Given as goal
 

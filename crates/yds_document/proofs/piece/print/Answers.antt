@@ -1,5 +1,4 @@
-use Rattle.std.proofs.Common.{◌∙◌}
-use Rattle.yds_model.specs.Text.{piece_line}
+use Rattle.yds_model.proofs.Common.{◌∙◌, piece_line}
 use Rattle.yds_document.proofs.Batches.{part_put, part_failed, lines_of_both, before_none}
 use Rattle.yds_document.proofs.piece.print.Goals as goal
 

@@ -1,6 +1,4 @@
-use Rattle.std.proofs.Common.{length}
-use Rattle.std.specs.Prelude.{flat_map}
-use Rattle.yds_model.specs.Text.{piece_line}
+use Rattle.yds_model.proofs.Common.{length, flat_map, piece_line}
 use Rattle.yds_document.proofs.Batches.{PutsUpTo}
 use Rattle.yds_document.proofs.piece.print.Given as goal
 

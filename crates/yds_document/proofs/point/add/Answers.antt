@@ -1,4 +1,4 @@
-use Rattle.std.proofs.Common.{Some, ◌∙◌, ap, sym, [], ◌∷◌, ◌++◌}
+use Rattle.yds_model.proofs.Common.{Some, ◌∙◌, ap, sym, [], ◌∷◌, ◌++◌}
 use Rattle.yds_document.specs.Draft.{points_of}
 use Rattle.yds_document.proofs.Held.{holds_point}
 use Rattle.yds_document.proofs.point.add.Goals as goal

@@ -1,5 +1,4 @@
-use Rattle.std.proofs.Common.{◌∙◌, sym}
-use Rattle.yds_model.specs.Text.{point_line}
+use Rattle.yds_model.proofs.Common.{◌∙◌, sym, point_line}
 use Rattle.yds_port.proofs.Putting.{item_failed}
 use Rattle.yds_document.proofs.point.print.Goals as goal
 

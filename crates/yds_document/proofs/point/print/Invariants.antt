@@ -1,6 +1,4 @@
-use Rattle.std.proofs.Common.{take}
-use Rattle.std.specs.List.{flat_map}
-use Rattle.yds_model.specs.Text.{point_line}
+use Rattle.yds_model.proofs.Common.{take, flat_map, point_line}
 use Rattle.yds_port.proofs.Putting.{PutsWhole}
 use Rattle.yds_document.proofs.point.print.Given as goal
 

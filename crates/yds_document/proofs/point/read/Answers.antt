@@ -1,6 +1,4 @@
-use Rattle.std.proofs.Common.{subst}
-use Rattle.std.proofs.lemmas.Result.{err_from_is_err_and}
-use Rattle.yds_model.specs.Reading.{PointLine}
+use Rattle.yds_model.proofs.Common.{subst, err_from_is_err_and, PointLine}
 use Rattle.yds_text.specs.Read.{field_read}
 use Rattle.yds_document.specs.Fields.{Fails}
 use Rattle.yds_document.proofs.Told.{passed, fields_failed, point_same, point_failed}

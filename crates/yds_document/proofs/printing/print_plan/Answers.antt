@@ -1,6 +1,4 @@
-use Rattle.std.proofs.Common.{refl, ap}
-use Rattle.std.specs.Prelude.{flat_map}
-use Rattle.yds_model.specs.Text.{slot_line, level_lines}
+use Rattle.yds_model.proofs.Common.{refl, ap, flat_map, slot_line, level_lines}
 use Rattle.yds_port.proofs.Putting.{puts_whole, puts_text, puts_failed, puts_front, puts_after, whole_after}
 use Rattle.yds_document.proofs.printing.print_plan.Goals as goal
 

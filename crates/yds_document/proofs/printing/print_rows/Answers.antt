@@ -1,6 +1,4 @@
-use Rattle.std.proofs.Common.{refl, ap}
-use Rattle.std.specs.Prelude.{flat_map}
-use Rattle.yds_model.specs.Text.{point_line}
+use Rattle.yds_model.proofs.Common.{refl, ap, flat_map, point_line}
 use Rattle.yds_port.proofs.Putting.{puts_whole, puts_text, puts_failed, puts_front, puts_after}
 use Rattle.yds_document.proofs.printing.print_rows.Goals as goal
 

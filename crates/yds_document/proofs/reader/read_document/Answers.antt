@@ -1,5 +1,4 @@
-use Rattle.std.proofs.Common.{◌∙◌, ap}
-use Rattle.yds_model.specs.Reading.{live_lines, read_after}
+use Rattle.yds_model.proofs.Common.{◌∙◌, ap, live_lines, read_after}
 use Rattle.yds_document.proofs.reader.read_document.Goals as goal
 
 pub loop-line-preserved : goal.loop-line-preserved

@@ -1,7 +1,4 @@
-use Rattle.std.proofs.Common.{◌≡◌, List, []}
-use Rattle.yds_model.specs.Lines.{lines_of}
-use Rattle.yds_model.specs.Entry.{Entry}
-use Rattle.yds_model.specs.Reading.{live_lines, read_after}
+use Rattle.yds_model.proofs.Common.{◌≡◌, List, [], lines_of, Entry, live_lines, read_after}
 use Rattle.yds_document.specs.Draft.{IsDraft, Holds}
 use Rattle.yds_document.proofs.reader.read_document.Given as goal
 

@@ -1,6 +1,5 @@
-use Rattle.std.proofs.Common.{◌≡◌, ◌*◌, refl}
+use Rattle.yds_model.proofs.Common.{◌≡◌, ◌*◌, refl, SlotEntry}
 use Rattle.yds_model.specs.declared.limits.TheConstants.{MAX_TIME}
-use Rattle.yds_model.specs.Entry.{SlotEntry}
 use Rattle.yds_document.proofs.PlainLine.{says_run}
 use Rattle.yds_document.proofs.run.plain_run.Goals as goal
 

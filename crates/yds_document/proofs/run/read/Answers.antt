@@ -1,5 +1,4 @@
-use Rattle.std.proofs.Common.{subst}
-use Rattle.yds_model.specs.Entry.{SlotEntry}
+use Rattle.yds_model.proofs.Common.{subst, SlotEntry}
 use Rattle.yds_text.specs.Left.{FieldsLeft}
 use Rattle.yds_text.specs.Read.{field_read}
 use Rattle.yds_document.specs.Plain.{SaysFour}

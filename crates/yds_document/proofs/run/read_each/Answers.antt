@@ -1,6 +1,4 @@
-use Rattle.std.proofs.Common.{sym, subst, ◌∙◌}
-use Rattle.std.proofs.lemmas.Result.{err_from_is_err_and}
-use Rattle.yds_model.specs.Reading.{RunLine}
+use Rattle.yds_model.proofs.Common.{sym, subst, ◌∙◌, err_from_is_err_and, RunLine}
 use Rattle.yds_text.specs.Read.{field_read}
 use Rattle.yds_document.specs.Fields.{Fails}
 use Rattle.yds_document.proofs.Told.{passed, fields_failed, holds_more, run_same}

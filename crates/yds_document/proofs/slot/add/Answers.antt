@@ -1,5 +1,5 @@
 use Rattle.yds_document.proofs.Held.{holds_slot}
-use Rattle.std.proofs.Common.{ap}
+use Rattle.yds_model.proofs.Common.{ap}
 use Rattle.yds_document.proofs.slot.add.Goals as goal
 
 pub returns-clause-takes : goal.returns-clause-takes

@@ -1,4 +1,4 @@
-use Rattle.std.proofs.Common.{sym, ◌∙◌, ap}
+use Rattle.yds_model.proofs.Common.{sym, ◌∙◌, ap}
 use Rattle.yds_document.specs.Slot.{fits_test}
 use Rattle.yds_document.proofs.SlotGrain.{fits_is}
 use Rattle.yds_document.proofs.slot.fits_grain.Goals as goal

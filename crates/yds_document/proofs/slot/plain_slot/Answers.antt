@@ -1,5 +1,4 @@
-use Rattle.std.proofs.Common.{sym, ◌∙◌}
-use Rattle.yds_model.proofs.Alike.{alike_test}
+use Rattle.yds_model.proofs.Common.{sym, ◌∙◌, alike_test}
 use Rattle.yds_document.proofs.PlainLine.{says_slot}
 use Rattle.yds_document.proofs.slot.plain_slot.Goals as goal
 

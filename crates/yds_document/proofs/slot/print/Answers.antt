@@ -1,5 +1,4 @@
-use Rattle.std.proofs.Common.{◌<◌, ◌∙◌, length}
-use Rattle.yds_model.specs.Text.{slot_line}
+use Rattle.yds_model.proofs.Common.{◌<◌, ◌∙◌, length, slot_line}
 use Rattle.yds_document.proofs.Batches.{part_put, part_failed, lines_of_both, all_of_others}
 use Rattle.yds_document.proofs.slot.print.Goals as goal
 

@@ -1,7 +1,4 @@
-use Rattle.std.proofs.Common.{◌<◌, length}
-use Rattle.std.specs.Prelude.{flat_map}
-use Rattle.std.specs.List.{All}
-use Rattle.yds_model.specs.Text.{slot_line}
+use Rattle.yds_model.proofs.Common.{◌<◌, length, flat_map, All, slot_line}
 use Rattle.yds_document.proofs.Batches.{PutsUpTo}
 use Rattle.yds_document.proofs.slot.print.Given as goal
 

@@ -1,7 +1,4 @@
-use Rattle.std.proofs.Common.{◌≡◌, ◌∷◌, ◌++◌, [], List, ℕ, ◌∙◌, ap, ap₂, append_assoc, refl}
-use Rattle.std.specs.Prelude.{codes}
-use Rattle.yds_model.specs.Document.{name_at}
-use Rattle.yds_model.specs.Text.{fraction_text}
+use Rattle.yds_model.proofs.Common.{◌≡◌, ◌∷◌, ◌++◌, [], List, ℕ, ◌∙◌, ap, ap₂, append_assoc, refl, codes, name_at, fraction_text}
 use Rattle.yds_document.proofs.slot.put.Goals as goal
 
 -- the end of a line after its last field, or after all of them, and a text after the line

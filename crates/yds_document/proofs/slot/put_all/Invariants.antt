@@ -1,6 +1,4 @@
-use Rattle.std.proofs.Common.{◌≡◌, ◌+◌, ◌*◌, ◌≤◌, drop, length}
-use Rattle.std.specs.Prelude.{flat_map}
-use Rattle.yds_model.specs.Text.{slot_line}
+use Rattle.yds_model.proofs.Common.{◌≡◌, ◌+◌, ◌*◌, ◌≤◌, drop, length, flat_map, slot_line}
 use Rattle.yds_document.specs.declared.line_buffer.TheConstants.{LINE_BYTES}
 use Rattle.yds_document.proofs.slot.put_all.Given as goal
 

@@ -1,10 +1,6 @@
-use Rattle.std.specs.Prelude.{ℕ, ◌*◌, ◌≤◌, All}
-use Rattle.std.proofs.lemmas.List.Elements.{All-nil, All-append}
+use Rattle.yds_model.proofs.Common.{ℕ, ◌*◌, ◌≤◌, All, All-nil, All-append, ◌≡◌, ◌∙◌, length, arith, ap, subst, get_or_read, Piece}
 use Rattle.yds_model.specs.declared.limits.TheConstants.{MAX_WORK}
 use Rattle.yds_edf.specs.Engine.{TiedQueue}
-use Rattle.std.proofs.Common.{◌≡◌, ◌∙◌, length, arith, ap, subst}
-use Rattle.std.proofs.lemmas.List.{get_or_read}
-use Rattle.yds_model.specs.Piece.{Piece}
 use Rattle.yds_events.specs.Stretch.{no_stretch}
 use Rattle.yds_edf.proofs.Filled.{Filling, begun, filled_after, all_filled}
 use Rattle.yds_edf.proofs.filling.fill.Goals as goal

@@ -1,6 +1,5 @@
-use Rattle.std.specs.Prelude.{◌*◌, ◌≤◌, All}
+use Rattle.yds_model.proofs.Common.{◌*◌, ◌≤◌, All, IsJob}
 use Rattle.yds_model.specs.declared.limits.TheConstants.{MAX_WORK}
-use Rattle.yds_model.specs.Job.{IsJob}
 use Rattle.yds_edf.proofs.Filled.{Filling}
 use Rattle.yds_edf.proofs.filling.fill.Given as goal
 

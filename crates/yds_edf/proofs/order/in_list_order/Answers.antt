@@ -1,9 +1,4 @@
-use Rattle.std.proofs.Common.{◌∙◌, ◌++◌, ◌∷◌, [], List, map, slice_index, sym, subst, ap, arith, below_more}
-use Rattle.std.specs.List.{range_with_len}
-use Rattle.std.proofs.lemmas.List.{get_or_read}
-use Rattle.std.proofs.lemmas.List.FromFn.{map-range_with_len_more}
-use Rattle.std.proofs.lemmas.List.Elements.{All-from_get_or}
-use Rattle.yds_model.specs.Job.{Job, IsJob, no_job}
+use Rattle.yds_model.proofs.Common.{◌∙◌, ◌++◌, ◌∷◌, [], List, map, slice_index, sym, subst, ap, arith, below_more, range_with_len, get_or_read, map-range_with_len_more, All-from_get_or, Job, IsJob, no_job}
 use Rattle.yds_edf.specs.declared.order.Due.{Due}
 use Rattle.yds_edf.specs.Order.{due_job}
 use Rattle.yds_edf.proofs.order.in_list_order.Goals as goal

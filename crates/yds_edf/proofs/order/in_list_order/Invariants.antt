@@ -1,6 +1,4 @@
-use Rattle.std.proofs.Common.{◌≡◌, ℕ, ◌<◌, map}
-use Rattle.std.specs.List.{range_with_len}
-use Rattle.yds_model.specs.Job.{IsJob, job_at}
+use Rattle.yds_model.proofs.Common.{◌≡◌, ℕ, ◌<◌, map, range_with_len, IsJob, job_at}
 use Rattle.yds_edf.specs.Order.{due_job}
 use Rattle.yds_edf.proofs.order.in_list_order.Given as goal
 

@@ -1,5 +1,4 @@
-use Rattle.std.proofs.Common.{◌∙◌, sym, arith, refl}
-use Rattle.std.proofs.lemmas.List.{length-set}
+use Rattle.yds_model.proofs.Common.{◌∙◌, sym, arith, refl, length-set}
 use Rattle.yds_edf.specs.Order.{due_at}
 use Rattle.yds_edf.proofs.Places.{all_placed, entry_at, one_place_more}
 use Rattle.yds_edf.proofs.order.places_in.Goals as goal

@@ -1,4 +1,4 @@
-use Rattle.std.proofs.Common.{◌≡◌, length}
+use Rattle.yds_model.proofs.Common.{◌≡◌, length}
 use Rattle.yds_edf.proofs.Places.{ArePlacesTo}
 use Rattle.yds_edf.proofs.order.places_in.Given as goal
 

@@ -1,7 +1,4 @@
-use Rattle.std.proofs.Common.{◌≡◌, ℕ, ◌+◌, ◌<◌, ◌≤◌, List, length, ◌∙◌, sym, subst, ap, arith, refl, Bool}
-use Rattle.yds_model.specs.Job.{Job}
-use Rattle.yds_model.specs.Piece.{Piece}
-use Rattle.yds_model.specs.Event.{stretches}
+use Rattle.yds_model.proofs.Common.{◌≡◌, ℕ, ◌+◌, ◌<◌, ◌≤◌, List, length, ◌∙◌, sym, subst, ap, arith, refl, Bool, Job, Piece, stretches}
 use Rattle.yds_events.proofs.Neighbours.{few_stretches, stretch_read}
 use Rattle.yds_edf.specs.Queue.{JobQueue, new_queue, IsNoEarlier, pending_in}
 use Rattle.yds_edf.proofs.Running.{seen_none, seen_told, seen_next, begun, none_tabled, tabled_many, stepped, all_run, can_lay, one_or_none}

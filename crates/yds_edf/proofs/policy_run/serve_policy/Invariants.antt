@@ -1,5 +1,4 @@
-use Rattle.std.proofs.Common.{◌≡◌}
-use Rattle.yds_model.specs.Event.{stretches}
+use Rattle.yds_model.proofs.Common.{◌≡◌, stretches}
 use Rattle.yds_timetable.specs.Timetable.{shares_of}
 use Rattle.yds_edf.proofs.Running.{Running, Tabled, Seen, count_rounded}
 use Rattle.yds_edf.proofs.policy_run.serve_policy.Given as goal

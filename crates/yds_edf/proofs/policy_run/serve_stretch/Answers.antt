@@ -1,5 +1,4 @@
-use Rattle.std.proofs.Common.{◌≡◌, min, ◌∙◌, ap, sym, arith, List, ◌++◌, ◌∷◌, []}
-use Rattle.std.proofs.lemmas.Result.{on_ok_weaker}
+use Rattle.yds_model.proofs.Common.{◌≡◌, min, ◌∙◌, ap, sym, arith, List, ◌++◌, ◌∷◌, [], on_ok_weaker}
 use Rattle.yds_timetable.specs.Shares.{JobShare}
 use Rattle.yds_edf.proofs.Running.{row_put}
 use Rattle.yds_edf.proofs.policy_run.serve_stretch.Goals as goal

@@ -1,9 +1,5 @@
 -- The releases and deadlines of all rows, each of which was read.
-use Rattle.std.proofs.Common.{arith}
-use Rattle.std.proofs.lemmas.Grind.{common_steps}
-use Rattle.std.proofs.lemmas.List.{get_or_read}
-use Rattle.std.proofs.lemmas.List.Elements.{All-more}
-use Rattle.yds_model.specs.Job.{IsJob, no_job}
+use Rattle.yds_model.proofs.Common.{arith, common_steps, get_or_read, All-more, IsJob, no_job}
 use Rattle.yds_events.proofs.event_points.ends.Goals as goal
 
 pub loop-row-preserved : goal.loop-row-preserved

@@ -1,6 +1,4 @@
-use Rattle.std.proofs.Common.{◌≡◌, take}
-use Rattle.std.specs.List.{All}
-use Rattle.yds_model.specs.Job.{IsJob}
+use Rattle.yds_model.proofs.Common.{◌≡◌, take, All, IsJob}
 use Rattle.yds_events.specs.Keys.{ends_of}
 use Rattle.yds_events.proofs.event_points.ends.Given as goal
 

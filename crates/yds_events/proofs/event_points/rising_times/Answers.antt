@@ -1,8 +1,5 @@
 -- What is sorted and rid of repeats is the releases and deadlines of all rows.
-use Rattle.std.proofs.Common.{◌∙◌, ap}
-use Rattle.std.specs.Prelude.{◌==◌}
-use Rattle.std.proofs.lemmas.List.Filters.{dedup_is}
-use Rattle.yds_model.specs.Event.{rising_times}
+use Rattle.yds_model.proofs.Common.{◌∙◌, ap, ◌==◌, dedup_is, rising_times}
 use Rattle.yds_events.proofs.Rising.{sorted_times}
 use Rattle.yds_events.proofs.event_points.rising_times.Goals as goal
 

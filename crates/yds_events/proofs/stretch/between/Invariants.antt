@@ -1,5 +1,4 @@
-use Rattle.std.proofs.Common.{◌≡◌, take}
-use Rattle.yds_model.specs.Event.{neighbours}
+use Rattle.yds_model.proofs.Common.{◌≡◌, take, neighbours}
 use Rattle.yds_events.proofs.stretch.between.Given as goal
 
 abbrev pub invariant-loop-next : goal.invariant-loop-next

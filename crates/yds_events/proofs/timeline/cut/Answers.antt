@@ -1,5 +1,4 @@
-use Rattle.std.proofs.Common.{◌≡◌, ◌-◌, ◌∙◌, List, ℕ, length, get_or, ap, arith}
-use Rattle.std.proofs.lemmas.List.{length-set}
+use Rattle.yds_model.proofs.Common.{◌≡◌, ◌-◌, ◌∙◌, List, ℕ, length, get_or, ap, arith, length-set}
 use Rattle.yds_events.specs.Keys.{time_of_key, with_end}
 use Rattle.yds_events.proofs.Keys.{as_many, all_keys}
 use Rattle.yds_events.proofs.Cut.{added, times_more, placed_more, all_placed}

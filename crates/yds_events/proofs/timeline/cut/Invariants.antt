@@ -1,6 +1,4 @@
-use Rattle.std.proofs.Common.{◌≡◌, ◌≤◌, length, map, take}
-use Rattle.std.specs.Prelude.{◌==◌}
-use Rattle.std.specs.List.{dedup}
+use Rattle.yds_model.proofs.Common.{◌≡◌, ◌≤◌, length, map, take, ◌==◌, dedup}
 use Rattle.yds_events.specs.Keys.{time_of_key}
 use Rattle.yds_events.proofs.Cut.{ArePlaced}
 use Rattle.yds_events.proofs.timeline.cut.Given as goal

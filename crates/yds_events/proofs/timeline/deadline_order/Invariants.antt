@@ -1,5 +1,4 @@
-use Rattle.std.proofs.Common.{◌≡◌, ◌≤◌, length, map, take}
-use Rattle.std.specs.List.{filter}
+use Rattle.yds_model.proofs.Common.{◌≡◌, ◌≤◌, length, map, take, filter}
 use Rattle.yds_events.specs.Keys.{is_deadline, job_of_key}
 use Rattle.yds_events.proofs.timeline.deadline_order.Given as goal
 

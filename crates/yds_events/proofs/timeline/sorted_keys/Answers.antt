@@ -1,8 +1,4 @@
-use Rattle.std.proofs.Common.{ℕ, ◌∙◌, List, map, sym, subst, arith}
-use Rattle.std.specs.List.{range_with_len}
-use Rattle.std.specs.List.Sorted.{IsPermutation}
-use Rattle.std.proofs.lemmas.List.FromFn.{map-range_with_len_more}
-use Rattle.std.proofs.lemmas.List.Sorted.{IsNonDecreasingBy-from_sort}
+use Rattle.yds_model.proofs.Common.{ℕ, ◌∙◌, List, map, sym, subst, arith, range_with_len, IsPermutation, map-range_with_len_more, IsNonDecreasingBy-from_sort}
 use Rattle.yds_events.specs.Keys.{key_of}
 use Rattle.yds_events.proofs.timeline.sorted_keys.Goals as goal
 

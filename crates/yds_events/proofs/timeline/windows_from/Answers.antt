@@ -1,5 +1,4 @@
-use Rattle.std.proofs.Common.{◌∙◌, sym, arith}
-use Rattle.std.proofs.lemmas.List.FromFn.{map-range_with_len_more}
+use Rattle.yds_model.proofs.Common.{◌∙◌, sym, arith, map-range_with_len_more}
 use Rattle.yds_events.specs.Keys.{window_from}
 use Rattle.yds_events.proofs.timeline.windows_from.Goals as goal
 

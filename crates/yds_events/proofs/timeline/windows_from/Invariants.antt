@@ -1,5 +1,4 @@
-use Rattle.std.proofs.Common.{◌≡◌, map}
-use Rattle.std.specs.List.{range_with_len}
+use Rattle.yds_model.proofs.Common.{◌≡◌, map, range_with_len}
 use Rattle.yds_events.specs.Keys.{window_from}
 use Rattle.yds_events.proofs.timeline.windows_from.Given as goal
 

@@ -1,8 +1,4 @@
-use Rattle.std.proofs.Common.{◌*◌, ◌^◌, ◌<◌, subst, arith}
-use Rattle.std.specs.Int.{IsGcd, trailing_zeros, w64}
-use Rattle.std.proofs.Math.Nat.{mod-eq_of_lt}
-use Rattle.std.proofs.lemmas.Nat.Gcd.{IsGcd-from_zero, IsGcd-swap, le_of_dvd, same_from_IsGcd}
-use Rattle.yds_model.proofs.Divisor.{divisor_is_greatest}
+use Rattle.yds_model.proofs.Common.{◌*◌, ◌^◌, ◌<◌, subst, arith, IsGcd, trailing_zeros, w64, mod-eq_of_lt, IsGcd-from_zero, IsGcd-swap, le_of_dvd, same_from_IsGcd, divisor_is_greatest}
 use Rattle.yds_fraction.proofs.Halves.{divisor_of_parts}
 use Rattle.yds_fraction.proofs.divisors.gcd.Goals as goal
 

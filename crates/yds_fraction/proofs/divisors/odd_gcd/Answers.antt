@@ -1,6 +1,4 @@
-use Rattle.std.proofs.Common.{◌≡◌, ◌*◌, ◌-◌, ◌^◌, max, min, sym, arith}
-use Rattle.std.specs.Int.{trailing_zeros, w64}
-use Rattle.std.proofs.lemmas.Nat.Gcd.{dvd_refl}
+use Rattle.yds_model.proofs.Common.{◌≡◌, ◌*◌, ◌-◌, ◌^◌, max, min, sym, arith, trailing_zeros, w64, dvd_refl}
 use Rattle.yds_fraction.proofs.Halves.{turned, lesser_odd}
 use Rattle.yds_fraction.proofs.divisors.odd_gcd.Goals as goal
 

@@ -1,5 +1,4 @@
-use Rattle.std.proofs.Common.{◌≡◌, ℕ, ◌+◌, ◌%◌}
-use Rattle.std.specs.Int.{IsGcd}
+use Rattle.yds_model.proofs.Common.{◌≡◌, ℕ, ◌+◌, ◌%◌, IsGcd}
 use Rattle.yds_fraction.proofs.divisors.odd_gcd.Given as goal
 
 -- both are odd, and what divides the pair now divides the pair at the start

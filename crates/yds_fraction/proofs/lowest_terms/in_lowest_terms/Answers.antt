@@ -1,5 +1,4 @@
-use Rattle.std.proofs.Common.{subst}
-use Rattle.yds_model.specs.Scale.{IsSame}
+use Rattle.yds_model.proofs.Common.{subst, IsSame}
 use Rattle.yds_fraction.proofs.Lowest.{reduced_is}
 use Rattle.yds_fraction.proofs.lowest_terms.in_lowest_terms.Goals as goal
 

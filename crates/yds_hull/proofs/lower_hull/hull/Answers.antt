@@ -1,4 +1,4 @@
-use Rattle.std.proofs.Common.{◌≤◌, length, arith}
+use Rattle.yds_model.proofs.Common.{◌≤◌, length, arith}
 use Rattle.yds_hull.proofs.Part.{pushed_rises, grows_pushed, whole, part_rises, part_few, part_last}
 use Rattle.yds_hull.proofs.lower_hull.hull.Goals as goal
 

@@ -1,5 +1,4 @@
-use Rattle.std.proofs.Common.{refl}
-use Rattle.std.proofs.lemmas.Bool.{false≢true}
+use Rattle.yds_model.proofs.Common.{refl, false≢true}
 use Rattle.yds_hull.proofs.Ends.{keeps_popped, convex_kept}
 use Rattle.yds_hull.proofs.lower_hull.pop_above.Goals as goal
 

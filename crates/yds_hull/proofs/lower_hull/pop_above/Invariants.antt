@@ -1,4 +1,4 @@
-use Rattle.std.proofs.Common.{length}
+use Rattle.yds_model.proofs.Common.{length}
 use Rattle.yds_hull.proofs.Ends.{Keeps}
 use Rattle.yds_hull.proofs.lower_hull.pop_above.Given as goal
 

@@ -1,8 +1,4 @@
-use Rattle.std.proofs.Common.{◌≡◌, ℕ, ◌∙◌, List, [], ◌∷◌, ◌++◌, map, sym, ap, arith}
-use Rattle.std.specs.List.{range_with_len}
-use Rattle.std.proofs.lemmas.List.{get_or_read}
-use Rattle.std.proofs.lemmas.List.FromFn.{map-range_with_len_more}
-use Rattle.yds_model.specs.Job.{Job, job_at, no_job}
+use Rattle.yds_model.proofs.Common.{◌≡◌, ℕ, ◌∙◌, List, [], ◌∷◌, ◌++◌, map, sym, ap, arith, range_with_len, get_or_read, map-range_with_len_more, Job, job_at, no_job}
 use Rattle.yds_intensity.specs.declared.deadline_order.Due.{Due}
 use Rattle.yds_intensity.specs.Due.{due_of}
 use Rattle.yds_intensity.proofs.deadline_order.dues.Goals as goal

@@ -1,5 +1,4 @@
-use Rattle.std.proofs.Common.{◌≡◌, map}
-use Rattle.std.specs.List.{range_with_len}
+use Rattle.yds_model.proofs.Common.{◌≡◌, map, range_with_len}
 use Rattle.yds_intensity.specs.Due.{due_of}
 use Rattle.yds_intensity.proofs.deadline_order.dues.Given as goal
 

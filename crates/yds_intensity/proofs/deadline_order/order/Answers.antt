@@ -1,6 +1,4 @@
-use Rattle.std.proofs.Common.{◌∙◌, map, ap, rules}
-use Rattle.std.proofs.lemmas.List.{take_all}
-use Rattle.std.proofs.lemmas.List.Sorted.{IsNonDecreasingBy-from_sort_by_key, answers_always}
+use Rattle.yds_model.proofs.Common.{◌∙◌, map, ap, rules, take_all, IsNonDecreasingBy-from_sort_by_key, answers_always}
 use Rattle.yds_intensity.specs.declared.deadline_order.Due.{Due}
 use Rattle.yds_intensity.proofs.Orders.{sorted_order}
 use Rattle.yds_intensity.proofs.deadline_order.order.Goals as goal

@@ -1,4 +1,4 @@
-use Rattle.std.proofs.Common.{◌≡◌, map, take}
+use Rattle.yds_model.proofs.Common.{◌≡◌, map, take}
 use Rattle.yds_intensity.proofs.deadline_order.order.Given as goal
 
 abbrev pub invariant-loop-due : goal.invariant-loop-due

@@ -1,6 +1,4 @@
-use Rattle.std.proofs.Common.{◌≡◌, ℕ, ◌∙◌, List, length, map, take, subst, inl, inr, arith, refl}
-use Rattle.std.proofs.lemmas.List.{get_or_read, take_all, length-map, length-take-le}
-use Rattle.yds_model.specs.Job.{job_at, no_job}
+use Rattle.yds_model.proofs.Common.{◌≡◌, ℕ, ◌∙◌, List, length, map, take, subst, inl, inr, arith, refl, get_or_read, take_all, length-map, length-take-le, job_at, no_job}
 use Rattle.yds_intensity.specs.Sums.{AreSums}
 use Rattle.yds_intensity.proofs.Sweeps.{number_known, order_length, swept_more, sums_reordered}
 use Rattle.yds_intensity.proofs.sweeping.sweep.Goals as goal

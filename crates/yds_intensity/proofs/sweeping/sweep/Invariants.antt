@@ -1,5 +1,4 @@
-use Rattle.std.proofs.Common.{map, take}
-use Rattle.yds_model.specs.Job.{job_at}
+use Rattle.yds_model.proofs.Common.{map, take, job_at}
 use Rattle.yds_intensity.proofs.Sweeps.{SweptSoFar}
 use Rattle.yds_intensity.proofs.sweeping.sweep.Given as goal
 

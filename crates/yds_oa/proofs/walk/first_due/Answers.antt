@@ -1,5 +1,4 @@
-use Rattle.std.proofs.Common.{arith, ap}
-use Rattle.std.proofs.lemmas.List.{get_or_read}
+use Rattle.yds_model.proofs.Common.{arith, ap, get_or_read}
 use Rattle.yds_edf.specs.declared.order.Due.{Due}
 use Rattle.yds_edf.specs.Order.{no_due}
 use Rattle.yds_oa.proofs.Walked.{due_behind}

@@ -1,4 +1,4 @@
-use Rattle.std.proofs.Common.{ℕ, length, subst}
+use Rattle.yds_model.proofs.Common.{ℕ, length, subst}
 use Rattle.yds_oa.specs.Greatest.{AreDueAfter, IsGreatestWithin}
 use Rattle.yds_oa.proofs.Walked.{walked_through}
 use Rattle.yds_oa.proofs.walk.greatest_quotient.Goals as goal

@@ -1,4 +1,4 @@
-use Rattle.std.proofs.Common.{◌≡◌, ◌-◌, length}
+use Rattle.yds_model.proofs.Common.{◌≡◌, ◌-◌, length}
 use Rattle.yds_oa.specs.Greatest.{IsWalk}
 use Rattle.yds_oa.proofs.walk.greatest_quotient.Given as goal
 

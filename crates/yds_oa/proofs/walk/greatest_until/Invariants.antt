@@ -1,4 +1,4 @@
-use Rattle.std.proofs.Common.{◌≡◌, ◌+◌}
+use Rattle.yds_model.proofs.Common.{◌≡◌, ◌+◌}
 use Rattle.yds_edf.specs.Blocks.{units_before}
 use Rattle.yds_oa.specs.Greatest.{IsGreatestWithin}
 use Rattle.yds_oa.proofs.walk.greatest_until.Given as goal

@@ -1,5 +1,4 @@
-use Rattle.std.proofs.Common.{◌≡◌, ◌+◌, ◌-◌, ◌*◌, ◌≤◌, rules, ◌∙◌, subst, arith}
-use Rattle.std.proofs.lemmas.List.{get_or_default}
+use Rattle.yds_model.proofs.Common.{◌≡◌, ◌+◌, ◌-◌, ◌*◌, ◌≤◌, rules, ◌∙◌, subst, arith, get_or_default}
 use Rattle.yds_edf.specs.declared.order.Due.{Due}
 use Rattle.yds_edf.specs.Blocks.{units_before}
 use Rattle.yds_edf.specs.Order.{no_due, due_at}

@@ -1,5 +1,4 @@
-use Rattle.std.proofs.Common.{ℕ, List, length, map, ◌∙◌, sym, ap, ap₂, subst}
-use Rattle.std.specs.Prelude.{slice_get}
+use Rattle.yds_model.proofs.Common.{ℕ, List, length, map, ◌∙◌, sym, ap, ap₂, subst, slice_get}
 use Rattle.yds_slots.specs.Schedule.{WrittenSchedule}
 use Rattle.yds_timetable.specs.Timetable.{Row}
 use Rattle.yds_timetable.specs.Room.{CanLay}

@@ -1,5 +1,4 @@
-use Rattle.std.proofs.Common.{◌∙◌, sym, ap, map, length}
-use Rattle.std.proofs.lemmas.List.{length-map}
+use Rattle.yds_model.proofs.Common.{◌∙◌, sym, ap, map, length, length-map}
 use Rattle.yds_search.specs.Views.{group_view}
 use Rattle.yds_plan.specs.Drafts.{empty_levels}
 use Rattle.yds_plan.proofs.layout.levels_of_found.Goals as goal

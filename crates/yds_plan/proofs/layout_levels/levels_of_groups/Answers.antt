@@ -1,5 +1,4 @@
-use Rattle.std.proofs.Common.{◌≡◌, ◌+◌, ◌-◌, ◌∙◌, sym, ap, arith, length, map}
-use Rattle.std.proofs.lemmas.List.{length-map}
+use Rattle.yds_model.proofs.Common.{◌≡◌, ◌+◌, ◌-◌, ◌∙◌, sym, ap, arith, length, map, length-map}
 use Rattle.yds_search.specs.Views.{group_view}
 use Rattle.yds_plan.specs.Drafts.{empty_levels}
 use Rattle.yds_plan.proofs.Drafts.{level_below, work_at, length_at, joining, work_within, length_within, empty_length, levels_next, count_next, numbers_next}

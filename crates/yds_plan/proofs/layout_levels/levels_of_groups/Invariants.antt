@@ -1,4 +1,4 @@
-use Rattle.std.proofs.Common.{map}
+use Rattle.yds_model.proofs.Common.{map}
 use Rattle.yds_search.specs.Views.{group_view}
 use Rattle.yds_plan.proofs.Drafts.{IsDrafted}
 use Rattle.yds_plan.proofs.layout_levels.levels_of_groups.Given as goal

@@ -1,4 +1,4 @@
-use Rattle.std.proofs.Common.{[], ◌∙◌, ap, get_or}
+use Rattle.yds_model.proofs.Common.{[], ◌∙◌, ap, get_or}
 use Rattle.yds_search.specs.Views.{found_view}
 use Rattle.yds_plan.proofs.DraftSteps.{number_within, member_step, member_skip}
 use Rattle.yds_plan.proofs.layout_members.add_members.Goals as goal

@@ -1,4 +1,4 @@
-use Rattle.std.proofs.Common.{◌≡◌, []}
+use Rattle.yds_model.proofs.Common.{◌≡◌, []}
 use Rattle.yds_search.specs.Views.{found_view}
 use Rattle.yds_plan.specs.Drafts.{drafts}
 use Rattle.yds_plan.proofs.layout_members.add_members.Given as goal

@@ -1,5 +1,4 @@
-use Rattle.std.proofs.Common.{◌<◌, ◌∙◌, ap, arith, length, get_or}
-use Rattle.std.proofs.lemmas.List.{get_or_read}
+use Rattle.yds_model.proofs.Common.{◌<◌, ◌∙◌, ap, arith, length, get_or, get_or_read}
 use Rattle.yds_events.specs.Stretch.{no_stretch}
 use Rattle.yds_search.specs.Views.{found_view}
 use Rattle.yds_plan.proofs.DraftSteps.{number_within, piece_step, piece_skip}

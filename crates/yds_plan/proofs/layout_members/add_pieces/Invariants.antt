@@ -1,4 +1,4 @@
-use Rattle.std.proofs.Common.{◌≡◌, length}
+use Rattle.yds_model.proofs.Common.{◌≡◌, length}
 use Rattle.yds_search.specs.Views.{found_view}
 use Rattle.yds_plan.specs.Drafts.{drafts}
 use Rattle.yds_plan.proofs.layout_members.add_pieces.Given as goal

@@ -1,6 +1,4 @@
-use Rattle.std.proofs.Common.{◌++◌, ◌∷◌, [], ◌∙◌, ℕ, List, map, take, get_or, sym, ap, ap₂}
-use Rattle.std.specs.Prelude.{Option, slice_get}
-use Rattle.std.proofs.lemmas.List.{map-append, take_more}
+use Rattle.yds_model.proofs.Common.{◌++◌, ◌∷◌, [], ◌∙◌, ℕ, List, map, take, get_or, sym, ap, ap₂, Option, slice_get, map-append, take_more}
 use Rattle.yds_timetable.proofs.Lists.{copied_read}
 use Rattle.yds_plan.proofs.layout_timetable.levels_of_stretches.Goals as goal
 

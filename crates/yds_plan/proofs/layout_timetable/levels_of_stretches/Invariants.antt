@@ -1,5 +1,4 @@
-use Rattle.std.proofs.Common.{◌≡◌, map, take}
-use Rattle.std.specs.Prelude.{slice_get}
+use Rattle.yds_model.proofs.Common.{◌≡◌, map, take, slice_get}
 use Rattle.yds_plan.proofs.layout_timetable.levels_of_stretches.Given as goal
 
 abbrev pub invariant-loop-place : goal.invariant-loop-place

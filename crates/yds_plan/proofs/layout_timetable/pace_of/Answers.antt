@@ -1,5 +1,4 @@
-use Rattle.std.proofs.Common.{◌≡◌, ◌/◌, ap, arith}
-use Rattle.yds_model.specs.Divisor.{common_divisor}
+use Rattle.yds_model.proofs.Common.{◌≡◌, ◌/◌, ap, arith, common_divisor}
 use Rattle.yds_search.proofs.Lowest.{lowest}
 use Rattle.yds_plan.proofs.layout_timetable.pace_of.Goals as goal
 use Rattle.yds_plan.proofs.layout_timetable.pace_of.Goals.{After-gcd-divisor}

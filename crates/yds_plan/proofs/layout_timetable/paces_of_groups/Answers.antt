@@ -1,5 +1,4 @@
-use Rattle.std.proofs.Common.{◌≤◌, subst}
-use Rattle.std.proofs.lemmas.List.{get_or-map}
+use Rattle.yds_model.proofs.Common.{◌≤◌, subst, get_or-map}
 use Rattle.yds_search.specs.Found.{Group, no_group}
 use Rattle.yds_search.specs.Views.{group_view}
 use Rattle.yds_plan.proofs.layout_timetable.paces_of_groups.Goals as goal

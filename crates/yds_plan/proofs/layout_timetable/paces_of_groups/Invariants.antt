@@ -1,4 +1,4 @@
-use Rattle.std.proofs.Common.{◌≡◌, map, take}
+use Rattle.yds_model.proofs.Common.{◌≡◌, map, take}
 use Rattle.yds_search.specs.Views.{group_view}
 use Rattle.yds_plan.specs.Laid.{pace_of_group}
 use Rattle.yds_plan.proofs.layout_timetable.paces_of_groups.Given as goal

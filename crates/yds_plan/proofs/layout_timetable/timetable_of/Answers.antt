@@ -1,7 +1,4 @@
-use Rattle.std.proofs.Common.{◌≡◌, List, map, ◌∙◌, sym, ap, subst}
-use Rattle.std.specs.Prelude.{IfOk}
-use Rattle.std.specs.List.{All}
-use Rattle.std.proofs.lemmas.Simd.{map-map}
+use Rattle.yds_model.proofs.Common.{◌≡◌, List, map, ◌∙◌, sym, ap, subst, IfOk, All, map-map}
 use Rattle.yds_timetable.specs.Timetable.{Row, rows_of, IsRow}
 use Rattle.yds_search.specs.declared.found.Group.{Group}
 use Rattle.yds_search.specs.Views.{group_view, found_view}

@@ -1,4 +1,4 @@
-use Rattle.std.proofs.Common.{◌∙◌}
+use Rattle.yds_model.proofs.Common.{◌∙◌}
 use Rattle.yds_search.specs.Views.{found_view}
 use Rattle.yds_plan.specs.Laid.{laid_slots}
 use Rattle.yds_plan.proofs.Bounds.{groups_within}

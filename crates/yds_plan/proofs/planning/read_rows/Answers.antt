@@ -1,6 +1,4 @@
-use Rattle.std.proofs.lemmas.List.{get_or_read}
-use Rattle.std.proofs.lemmas.List.Elements.{All-more}
-use Rattle.yds_model.specs.Job.{IsJob, no_job}
+use Rattle.yds_model.proofs.Common.{get_or_read, All-more, IsJob, no_job}
 use Rattle.yds_plan.proofs.planning.read_rows.Goals as goal
 
 pub loop-row-preserved : goal.loop-row-preserved

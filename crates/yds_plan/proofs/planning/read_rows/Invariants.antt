@@ -1,6 +1,4 @@
-use Rattle.std.proofs.Common.{take}
-use Rattle.std.specs.List.{All}
-use Rattle.yds_model.specs.Job.{IsJob}
+use Rattle.yds_model.proofs.Common.{take, All, IsJob}
 use Rattle.yds_plan.proofs.planning.read_rows.Given as goal
 
 abbrev pub invariant-loop-row : goal.invariant-loop-row

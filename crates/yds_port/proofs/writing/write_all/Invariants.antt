@@ -1,5 +1,4 @@
-use Rattle.std.proofs.Common.{◌≡◌, List, ℕ, ◌++◌, length}
-use Rattle.std.specs.Io.KnownBytes.{Appends}
+use Rattle.yds_model.proofs.Common.{◌≡◌, List, ℕ, ◌++◌, length, Appends}
 use Rattle.yds_port.proofs.writing.write_all.Given as goal
 
 -- a front of the piece was appended, and the rest is to be written

@@ -1,4 +1,4 @@
-use Rattle.std.proofs.Common.{ap, ap₂, length, ◌∙◌}
+use Rattle.yds_model.proofs.Common.{ap, ap₂, length, ◌∙◌}
 use Rattle.serde_json.specs.Read.{read}
 use Rattle.yds_report.specs.JsonValue.{report_value}
 use Rattle.yds_report.proofs.JsonRead.{reports_are_read}

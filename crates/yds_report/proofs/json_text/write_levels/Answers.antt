@@ -1,4 +1,4 @@
-use Rattle.std.proofs.lemmas.Result.{on_ok_weaker}
+use Rattle.yds_model.proofs.Common.{on_ok_weaker}
 use Rattle.yds_report.proofs.Sent.{sent_all}
 use Rattle.yds_report.proofs.json_text.write_levels.Goals as goal
 

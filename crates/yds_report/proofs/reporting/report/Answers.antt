@@ -1,6 +1,4 @@
-use Rattle.std.proofs.Common.{ap, ◌∙◌}
-use Rattle.std.specs.List.{flat_map, enumerate_from}
-use Rattle.yds_model.specs.ReportAnswer.{jobs_row, level_row, idle_row}
+use Rattle.yds_model.proofs.Common.{ap, ◌∙◌, flat_map, enumerate_from, jobs_row, level_row, idle_row}
 use Rattle.yds_port.proofs.Putting.{puts_whole, puts_text, puts_failed, puts_front, puts_after, whole_after}
 use Rattle.yds_report.proofs.reporting.report.Goals as goal
 

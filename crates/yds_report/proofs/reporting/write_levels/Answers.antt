@@ -1,5 +1,4 @@
-use Rattle.std.proofs.Common.{◌∙◌}
-use Rattle.yds_model.specs.ReportAnswer.{level_row}
+use Rattle.yds_model.proofs.Common.{◌∙◌, level_row}
 use Rattle.yds_port.proofs.Putting.{item_put, item_failed, all_put}
 use Rattle.yds_report.proofs.Rows.{numbered_at, numbered_within, numbered_count}
 use Rattle.yds_report.proofs.reporting.write_levels.Goals as goal

@@ -1,6 +1,4 @@
-use Rattle.std.proofs.Common.{take}
-use Rattle.std.specs.List.{flat_map, enumerate_from}
-use Rattle.yds_model.specs.ReportAnswer.{level_row}
+use Rattle.yds_model.proofs.Common.{take, flat_map, enumerate_from, level_row}
 use Rattle.yds_port.proofs.Putting.{PutsWhole}
 use Rattle.yds_report.proofs.reporting.write_levels.Given as goal
 

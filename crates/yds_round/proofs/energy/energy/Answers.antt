@@ -1,4 +1,4 @@
-use Rattle.std.proofs.Common.{◌-◌}
+use Rattle.yds_model.proofs.Common.{◌-◌}
 use Rattle.yds_model.specs.declared.limits.TheConstants.{MAX_WHOLE}
 use Rattle.yds_round.proofs.Energies.{is_lowest}
 use Rattle.yds_round.proofs.energy.energy.Goals as goal

@@ -1,5 +1,4 @@
-use Rattle.std.proofs.Common.{◌<◌, ◌-◌, ◌*◌, arith}
-use Rattle.std.specs.Int.{◌∣◌}
+use Rattle.yds_model.proofs.Common.{◌<◌, ◌-◌, ◌*◌, arith, ◌∣◌}
 use Rattle.yds_model.specs.declared.limits.TheConstants.{MAX_POINT_POWER}
 use Rattle.yds_round.proofs.Splits.{speeds_rise}
 use Rattle.yds_round.proofs.Paces.{chord_on_line, chord_fits, small}

@@ -1,4 +1,4 @@
-use Rattle.std.proofs.Common.{◌≡◌, ◌++◌, take}
+use Rattle.yds_model.proofs.Common.{◌≡◌, ◌++◌, take}
 use Rattle.yds_round.proofs.rounding.keep.Given as goal
 
 abbrev pub invariant-loop-slot : goal.invariant-loop-slot

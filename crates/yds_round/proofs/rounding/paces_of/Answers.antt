@@ -1,6 +1,4 @@
-use Rattle.std.proofs.Common.{◌++◌, ◌∷◌, [], take, sym, ap, ◌∙◌}
-use Rattle.std.proofs.lemmas.List.{take_more}
-use Rattle.yds_model.specs.Level.{Level}
+use Rattle.yds_model.proofs.Common.{◌++◌, ◌∷◌, [], take, sym, ap, ◌∙◌, take_more, Level}
 use Rattle.yds_round.specs.Pace.{IsPaceOf}
 use Rattle.yds_timetable.proofs.Lists.{all_zip_push}
 use Rattle.yds_round.proofs.rounding.paces_of.Goals as goal

@@ -1,5 +1,4 @@
-use Rattle.std.proofs.Common.{take}
-use Rattle.std.specs.List.{AllZip}
+use Rattle.yds_model.proofs.Common.{take, AllZip}
 use Rattle.yds_round.specs.Pace.{IsPaceOf}
 use Rattle.yds_round.proofs.rounding.paces_of.Given as goal
 

@@ -1,9 +1,5 @@
-use Rattle.std.proofs.Common.{◌≡◌, ◌*◌, List, ap, subst}
-use Rattle.std.specs.List.{AllZip}
+use Rattle.yds_model.proofs.Common.{◌≡◌, ◌*◌, List, ap, subst, AllZip, numerator, Level, hull_multiple}
 use Rattle.yds_model.specs.declared.limits.TheConstants.{MAX_ENERGY}
-use Rattle.yds_model.specs.Scale.{numerator}
-use Rattle.yds_model.specs.Level.{Level}
-use Rattle.yds_model.specs.Table.{hull_multiple}
 use Rattle.yds_fraction.proofs.Kept.{some_parts}
 use Rattle.yds_slots.specs.Schedule.{WrittenSchedule}
 use Rattle.yds_round.specs.Pace.{IsPaceOf}

@@ -1,9 +1,4 @@
-use Rattle.std.proofs.Common.{◌≡◌, ◌+◌, ◌++◌, ◌∙◌, ◌<◌, ℕ, List, length, take, drop, sym, ap, ap₂, arith, add-one, Some, None}
-use Rattle.std.specs.Prelude.{Option}
-use Rattle.std.specs.List.{All, AllZip}
-use Rattle.std.proofs.lemmas.List.{append-nil, get_or_read}
-use Rattle.yds_model.specs.Slot.{WrittenSlot}
-use Rattle.yds_model.specs.Level.{Level}
+use Rattle.yds_model.proofs.Common.{◌≡◌, ◌+◌, ◌++◌, ◌∙◌, ◌<◌, ℕ, List, length, take, drop, sym, ap, ap₂, arith, add-one, Some, None, Option, All, AllZip, append-nil, get_or_read, WrittenSlot, Level}
 use Rattle.yds_slots.specs.Schedule.{WrittenSchedule}
 use Rattle.yds_timetable.specs.Shares.{JobShare}
 use Rattle.yds_timetable.specs.Timetable.{Row, row_at, row_slots, slots_of, IsRow}

@@ -1,4 +1,4 @@
-use Rattle.std.proofs.Common.{◌≡◌, length, drop}
+use Rattle.yds_model.proofs.Common.{◌≡◌, length, drop}
 use Rattle.yds_timetable.specs.Timetable.{slots_of}
 use Rattle.yds_round.specs.Rounded.{written_to}
 use Rattle.yds_round.proofs.rounding.round_slots.Given as goal

@@ -1,9 +1,5 @@
-use Rattle.std.proofs.Common.{ℕ, List, ◌∙◌, ap, subst, sym}
+use Rattle.yds_model.proofs.Common.{ℕ, List, ◌∙◌, ap, subst, sym, Job, Document, no_document, jobs_with, IsAdmission, IsAdmittedRun, with_taken}
 use Rattle.yds_run.specs.Admit.{RiseFrom}
-use Rattle.yds_model.specs.Job.{Job}
-use Rattle.yds_model.specs.Document.{Document, no_document}
-use Rattle.yds_model.specs.Admission.{jobs_with, IsAdmission, IsAdmittedRun}
-use Rattle.yds_model.specs.AdmitAnswer.{with_taken}
 use Rattle.yds_instance.specs.Named.{Named}
 use Rattle.yds_document.specs.Documents.{document_view}
 use Rattle.yds_document.specs.Draft.{points_of}

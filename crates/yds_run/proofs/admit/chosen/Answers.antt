@@ -1,7 +1,4 @@
-use Rattle.std.proofs.Common.{ℕ, List, length, map, take, ap, ◌∙◌, arith}
-use Rattle.std.proofs.lemmas.List.{length-map, length-take-le}
-use Rattle.yds_model.specs.Job.{job_at}
-use Rattle.yds_model.specs.Document.{name_at}
+use Rattle.yds_model.proofs.Common.{ℕ, List, length, map, take, ap, ◌∙◌, arith, length-map, length-take-le, job_at, name_at}
 use Rattle.yds_instance.specs.Named.{Named, number_of}
 use Rattle.yds_run.proofs.Admitting.{rise_places, next_is_new}
 use Rattle.yds_run.proofs.admit.chosen.Goals as goal

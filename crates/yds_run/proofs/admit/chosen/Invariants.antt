@@ -1,6 +1,4 @@
-use Rattle.std.proofs.Common.{◌≡◌, map, take}
-use Rattle.yds_model.specs.Document.{name_at}
-use Rattle.yds_model.specs.Admission.{jobs_with}
+use Rattle.yds_model.proofs.Common.{◌≡◌, map, take, name_at, jobs_with}
 use Rattle.yds_run.proofs.admit.chosen.Given as goal
 
 -- the jobs with the first numbers

@@ -1,5 +1,4 @@
-use Rattle.std.specs.Prelude.{codes, decimal}
-use Rattle.yds_model.specs.Document.{name_at}
+use Rattle.yds_model.proofs.Common.{codes, decimal, name_at}
 use Rattle.yds_run.proofs.Comments.{comment_line}
 use Rattle.yds_run.proofs.admit.comment.Goals as goal
 

@@ -1,5 +1,4 @@
-use Rattle.std.proofs.Common.{◌∙◌, sym, ap}
-use Rattle.std.specs.List.{flat_map}
+use Rattle.yds_model.proofs.Common.{◌∙◌, sym, ap, flat_map}
 use Rattle.yds_port.proofs.Putting.{item_put, item_failed, all_put, puts_text}
 use Rattle.yds_run.specs.Admit.{comment_text}
 use Rattle.yds_run.proofs.admit.write_comments.Goals as goal

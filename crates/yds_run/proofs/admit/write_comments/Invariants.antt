@@ -1,5 +1,4 @@
-use Rattle.std.proofs.Common.{take}
-use Rattle.std.specs.List.{flat_map}
+use Rattle.yds_model.proofs.Common.{take, flat_map}
 use Rattle.yds_port.proofs.Putting.{PutsWhole}
 use Rattle.yds_run.specs.Admit.{comment_text}
 use Rattle.yds_run.proofs.admit.write_comments.Given as goal

@@ -1,5 +1,4 @@
-use Rattle.std.proofs.Common.{subst}
-use Rattle.yds_model.specs.Judgement.{IsJudgement}
+use Rattle.yds_model.proofs.Common.{subst, IsJudgement}
 use Rattle.yds_checker.specs.Judgement.{judgement_view}
 use Rattle.yds_run.proofs.check.check_document.Goals as goal
 

@@ -1,7 +1,4 @@
-use Rattle.std.proofs.Common.{◌≤◌, List, length, sym, ap, subst}
-use Rattle.yds_model.specs.Job.{Job}
-use Rattle.yds_model.specs.Plan.{IsPlan}
-use Rattle.yds_model.specs.Table.{Point}
+use Rattle.yds_model.proofs.Common.{◌≤◌, List, length, sym, ap, subst, Job, IsPlan, Point}
 use Rattle.yds_document.specs.Documents.{document_view}
 use Rattle.yds_document.specs.Draft.{points_of}
 use Rattle.yds_round.specs.declared.fault.RoundFault.TheVariants as faults

@@ -1,4 +1,4 @@
-use Rattle.std.specs.Prelude.{codes, decimal}
+use Rattle.yds_model.proofs.Common.{codes, decimal}
 use Rattle.yds_run.proofs.Compared.{side_line}
 use Rattle.yds_run.proofs.compare.too_slow_side.Goals as goal
 

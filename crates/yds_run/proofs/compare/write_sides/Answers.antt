@@ -1,4 +1,4 @@
-use Rattle.std.proofs.Common.{refl}
+use Rattle.yds_model.proofs.Common.{refl}
 use Rattle.yds_port.proofs.Putting.{puts_whole, puts_failed, puts_front, puts_after, whole_after}
 use Rattle.yds_run.proofs.compare.write_sides.Goals as goal
 

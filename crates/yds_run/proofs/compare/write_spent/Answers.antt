@@ -1,9 +1,4 @@
-use Rattle.std.proofs.Common.{◌∙◌, ◌∷◌, [], List, ap}
-use Rattle.std.specs.Prelude.{codes, flat_map}
-use Rattle.std.specs.List.{zip}
-use Rattle.yds_model.specs.Scale.{Fraction}
-use Rattle.yds_model.specs.Text.{line, fraction_text}
-use Rattle.yds_model.specs.Comparison.{Spent}
+use Rattle.yds_model.proofs.Common.{◌∙◌, ◌∷◌, [], List, ap, codes, flat_map, zip, Fraction, line, fraction_text, Spent}
 use Rattle.yds_port.proofs.Putting.{puts_whole, puts_text, puts_failed, puts_front, puts_after}
 use Rattle.yds_run.specs.Compare.{time_line}
 use Rattle.yds_run.proofs.compare.write_spent.Goals as goal

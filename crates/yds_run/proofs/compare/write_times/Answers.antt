@@ -1,8 +1,4 @@
-use Rattle.std.proofs.Common.{◌≡◌, ◌<◌, ◌∙◌, ◌∷◌, [], List, length, get_or, ap, arith, inl, inr, true, false}
-use Rattle.std.specs.Prelude.{codes, decimal}
-use Rattle.std.specs.List.{zip}
-use Rattle.yds_model.specs.Table.{Point}
-use Rattle.yds_model.specs.Text.{line, fraction_text}
+use Rattle.yds_model.proofs.Common.{◌≡◌, ◌<◌, ◌∙◌, ◌∷◌, [], List, length, get_or, ap, arith, inl, inr, true, false, codes, decimal, zip, Point, line, fraction_text}
 use Rattle.yds_port.proofs.Putting.{item_put, item_failed, all_put}
 use Rattle.yds_run.specs.Compare.{time_line}
 use Rattle.yds_run.proofs.Compared.{timed_within, timed_at, timed_few}

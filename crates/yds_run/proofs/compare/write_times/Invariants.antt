@@ -1,5 +1,4 @@
-use Rattle.std.proofs.Common.{take}
-use Rattle.std.specs.List.{flat_map, zip}
+use Rattle.yds_model.proofs.Common.{take, flat_map, zip}
 use Rattle.yds_port.proofs.Putting.{PutsWhole}
 use Rattle.yds_run.specs.Compare.{time_line}
 use Rattle.yds_run.proofs.compare.write_times.Given as goal

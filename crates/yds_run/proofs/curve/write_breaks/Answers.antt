@@ -1,5 +1,4 @@
-use Rattle.std.proofs.Common.{◌∙◌, sym}
-use Rattle.yds_model.specs.CurveAnswer.{break_line}
+use Rattle.yds_model.proofs.Common.{◌∙◌, sym, break_line}
 use Rattle.yds_port.proofs.Putting.{item_put, item_failed, all_put}
 use Rattle.yds_run.proofs.curve.write_breaks.Goals as goal
 

@@ -1,6 +1,4 @@
-use Rattle.std.proofs.Common.{take}
-use Rattle.std.specs.List.{flat_map}
-use Rattle.yds_model.specs.CurveAnswer.{break_line}
+use Rattle.yds_model.proofs.Common.{take, flat_map, break_line}
 use Rattle.yds_port.proofs.Putting.{PutsWhole}
 use Rattle.yds_run.proofs.curve.write_breaks.Given as goal
 

@@ -1,6 +1,4 @@
-use Rattle.std.proofs.Common.{subst, inl, arith}
-use Rattle.yds_model.specs.Answer.{AnswersTasks}
-use Rattle.yds_model.specs.TaskReading.{task_reading}
+use Rattle.yds_model.proofs.Common.{subst, inl, arith, AnswersTasks, task_reading}
 use Rattle.yds_run.specs.Run.{Writes}
 use Rattle.yds_run.proofs.Complete.{short_answers}
 use Rattle.yds_run.proofs.expand.expand_input.Goals as goal

@@ -1,7 +1,4 @@
-use Rattle.yds_model.specs.Answer.{AnswersReading, AnswersRequest}
-use Rattle.yds_model.specs.Reading.{reading}
-use Rattle.yds_model.specs.TrialAnswer.{TrialAnswer}
-use Rattle.std.proofs.Common.{subst}
+use Rattle.yds_model.proofs.Common.{AnswersReading, AnswersRequest, reading, TrialAnswer, subst}
 use Rattle.yds_run.specs.Words.{words_of, asked, question_view}
 use Rattle.yds_run.proofs.AskedWords.{named}
 use Rattle.yds_run.proofs.Complete.{short_answer}

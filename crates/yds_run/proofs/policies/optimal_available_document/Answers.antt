@@ -1,10 +1,4 @@
-use Rattle.std.proofs.Common.{List, ap, subst, refl}
-use Rattle.std.specs.List.{All}
-use Rattle.yds_model.specs.Job.{Job}
-use Rattle.yds_model.specs.Text.{canonical_text}
-use Rattle.yds_model.specs.Within.{IsDocument}
-use Rattle.yds_model.specs.Policy.{HasRunDenominators}
-use Rattle.yds_model.specs.OptimalAvailable.{IsOptimalAvailableRun}
+use Rattle.yds_model.proofs.Common.{List, ap, subst, refl, All, Job, canonical_text, IsDocument, HasRunDenominators, IsOptimalAvailableRun}
 use Rattle.yds_run.proofs.policies.optimal_available_document.Goals as goal
 
 pub returns : goal.returns

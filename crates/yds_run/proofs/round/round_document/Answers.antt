@@ -1,16 +1,5 @@
-use Rattle.std.proofs.Common.{◌≡◌, ◌≤◌, List, [], length, sym, refl, ap, subst, ◌∙◌, inr, Some, None}
-use Rattle.yds_model.specs.Job.{Job}
+use Rattle.yds_model.proofs.Common.{◌≡◌, ◌≤◌, List, [], length, sym, refl, ap, subst, ◌∙◌, inr, Some, None, Job, Fraction, WrittenSlot, Level, IsPlan, IsRounding, Point, with_answer, canonical_text, IsDocument, RoundAnswer}
 use Rattle.yds_model.specs.declared.status.Status.TheVariants as statuses
-use Rattle.yds_model.specs.Scale.{Fraction}
-use Rattle.yds_model.specs.Slot.{WrittenSlot}
-use Rattle.yds_model.specs.Level.{Level}
-use Rattle.yds_model.specs.Plan.{IsPlan}
-use Rattle.yds_model.specs.Rounding.{IsRounding}
-use Rattle.yds_model.specs.Table.{Point}
-use Rattle.yds_model.specs.Document.{with_answer}
-use Rattle.yds_model.specs.Text.{canonical_text}
-use Rattle.yds_model.specs.Within.{IsDocument}
-use Rattle.yds_model.specs.RoundAnswer.{RoundAnswer}
 use Rattle.yds_texts.proofs.RoundText.{points_answer}
 use Rattle.yds_document.specs.Documents.{document_view}
 use Rattle.yds_document.specs.Draft.{points_of}

@@ -1,5 +1,4 @@
-use Rattle.std.proofs.Common.{subst, sym}
-use Rattle.yds_model.specs.Answer.{AnswersReading}
+use Rattle.yds_model.proofs.Common.{subst, sym, AnswersReading}
 use Rattle.yds_run.specs.Words.{question_view}
 use Rattle.yds_run.specs.Run.{Replies}
 use Rattle.yds_run.proofs.running.answer_bytes.Goals as goal

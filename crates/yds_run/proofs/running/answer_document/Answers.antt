@@ -1,5 +1,4 @@
-use Rattle.std.proofs.Common.{subst, sym, ap, ◌∙◌}
-use Rattle.yds_model.specs.Answer.{AnswersQuestion}
+use Rattle.yds_model.proofs.Common.{subst, sym, ap, ◌∙◌, AnswersQuestion}
 use Rattle.yds_document.specs.Documents.{document_view}
 use Rattle.yds_run.specs.declared.command.Question.TheVariants as questions
 use Rattle.yds_run.specs.Words.{question_view}

@@ -1,6 +1,4 @@
-use Rattle.std.proofs.Common.{subst, inl, arith}
-use Rattle.yds_model.specs.Answer.{AnswersReading}
-use Rattle.yds_model.specs.Reading.{reading}
+use Rattle.yds_model.proofs.Common.{subst, inl, arith, AnswersReading, reading}
 use Rattle.yds_run.specs.Words.{question_view}
 use Rattle.yds_run.specs.Run.{Writes}
 use Rattle.yds_run.proofs.Complete.{short_answers}

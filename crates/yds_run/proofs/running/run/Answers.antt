@@ -1,4 +1,4 @@
-use Rattle.std.proofs.Common.{ap}
+use Rattle.yds_model.proofs.Common.{ap}
 use Rattle.yds_texts.specs.AdmitText.{HoldsAdmission}
 use Rattle.yds_texts.specs.CompareText.{HoldsComparison}
 use Rattle.yds_texts.specs.JudgedText.{HoldsJudgement, HoldsVerdict, HoldsVerdictOnPoints}

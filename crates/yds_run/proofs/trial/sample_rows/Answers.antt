@@ -1,4 +1,4 @@
-use Rattle.yds_model.specs.TrialAnswer.{drawn_jobs}
+use Rattle.yds_model.proofs.Common.{drawn_jobs}
 use Rattle.yds_run.proofs.Drawn.{drawn_more, drawn_all}
 use Rattle.yds_run.proofs.trial.sample_rows.Goals as goal
 

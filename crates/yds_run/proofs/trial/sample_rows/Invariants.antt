@@ -1,5 +1,4 @@
-use Rattle.std.proofs.Common.{◌≡◌, ◌-◌, ◌++◌}
-use Rattle.yds_model.specs.TrialAnswer.{drawn_jobs}
+use Rattle.yds_model.proofs.Common.{◌≡◌, ◌-◌, ◌++◌, drawn_jobs}
 use Rattle.yds_run.proofs.trial.sample_rows.Given as goal
 
 -- the jobs so far, and those that are still drawn from this state

@@ -1,4 +1,4 @@
-use Rattle.std.proofs.Common.{◌∙◌}
+use Rattle.yds_model.proofs.Common.{◌∙◌}
 use Rattle.yds_run.proofs.Drawn.{few_drawn}
 use Rattle.yds_run.proofs.trial.try_plan.Goals as goal
 

@@ -1,6 +1,4 @@
-use Rattle.std.proofs.Common.{[], ◌∷◌, ◌∙◌, ap, length, List, ℕ}
-use Rattle.std.specs.Prelude.{codes, decimal}
-use Rattle.yds_model.specs.Text.{line}
+use Rattle.yds_model.proofs.Common.{[], ◌∷◌, ◌∙◌, ap, length, List, ℕ, codes, decimal, line}
 use Rattle.yds_port.proofs.Putting.{puts_whole, puts_text, puts_failed, puts_front, puts_after, whole_after}
 use Rattle.yds_run.proofs.trial.write_counts.Goals as goal
 

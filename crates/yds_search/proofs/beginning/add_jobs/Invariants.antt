@@ -1,4 +1,4 @@
-use Rattle.std.proofs.Common.{◌≡◌, ◌++◌, take}
+use Rattle.yds_model.proofs.Common.{◌≡◌, ◌++◌, take}
 use Rattle.yds_search.specs.Beginning.{first_jobs}
 use Rattle.yds_search.proofs.beginning.add_jobs.Given as goal
 

@@ -1,14 +1,4 @@
-use Rattle.std.proofs.Common.{◌≡◌, ℕ, ◌+◌, ◌∙◌, List, [], ◌∷◌, ◌++◌, true, false, not, max, length, get_or, map, take, nat_cmp, refl, sym, ap, arith}
-use Rattle.std.specs.Prelude.{Bool, cond}
-use Rattle.std.specs.List.{filter, range_with_len}
-use Rattle.std.specs.Ordering.{ord_max}
-use Rattle.std.proofs.lemmas.Bool.{lt-ltb, le-ltb}
-use Rattle.std.proofs.lemmas.Bool.Decides.{nat_tests}
-use Rattle.std.proofs.lemmas.List.{map-append, append-nil, length-map, get_or_read}
-use Rattle.std.proofs.lemmas.List.Filters.{length-filter_both}
-use Rattle.std.proofs.lemmas.List.FromFn.{length-range_with_len, map-range_with_len_more}
-use Rattle.yds_model.proofs.Filters.{filter-range_with_len_more}
-use Rattle.yds_model.specs.Piece.{Piece}
+use Rattle.yds_model.proofs.Common.{◌≡◌, ℕ, ◌+◌, ◌∙◌, List, [], ◌∷◌, ◌++◌, true, false, not, max, length, get_or, map, take, nat_cmp, refl, sym, ap, arith, Bool, cond, filter, range_with_len, ord_max, lt-ltb, le-ltb, nat_tests, map-append, append-nil, length-map, get_or_read, length-filter_both, length-range_with_len, map-range_with_len_more, filter-range_with_len_more, Piece}
 use Rattle.yds_events.specs.Stretch.{no_stretch, length_of}
 use Rattle.yds_search.specs.declared.own.OwnStretch.{OwnStretch}
 use Rattle.yds_search.specs.Beginning.{first_stretch, greatest_end, is_reached, reached_before}

@@ -1,5 +1,4 @@
-use Rattle.std.proofs.Common.{◌≡◌, ◌≤◌, length, map, take}
-use Rattle.std.specs.List.{filter, range_with_len}
+use Rattle.yds_model.proofs.Common.{◌≡◌, ◌≤◌, length, map, take, filter, range_with_len}
 use Rattle.yds_search.specs.Beginning.{first_stretch, greatest_end, is_reached, reached_before}
 use Rattle.yds_search.proofs.beginning.add_stretches.Given as goal
 

@@ -1,6 +1,4 @@
-use Rattle.std.proofs.Common.{ℕ, ◌+◌, ◌∙◌, List, ap, arith, length}
-use Rattle.std.proofs.lemmas.List.FromFn.{length-map-range_with_len}
-use Rattle.yds_model.specs.Piece.{Piece}
+use Rattle.yds_model.proofs.Common.{ℕ, ◌+◌, ◌∙◌, List, ap, arith, length, length-map-range_with_len, Piece}
 use Rattle.yds_search.specs.Beginning.{reached_before}
 use Rattle.yds_search.proofs.beginning.first_group.Goals as goal
 

@@ -1,4 +1,4 @@
-use Rattle.std.proofs.Common.{◌≡◌, ℕ, ◌+◌, ◌≤◌, length, get_or, take, sum}
+use Rattle.yds_model.proofs.Common.{◌≡◌, ℕ, ◌+◌, ◌≤◌, length, get_or, take, sum}
 use Rattle.yds_search.proofs.closing.rank.Given as goal
 
 abbrev pub invariant-loop-place : goal.invariant-loop-place

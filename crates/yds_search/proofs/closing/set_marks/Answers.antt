@@ -1,7 +1,4 @@
-use Rattle.std.proofs.Common.{ℕ, ◌-◌, ◌≡◌, ◌≤◌, ◌<◌, ◌∙◌, min, List, length, map, get_or, set-set, ap, sym, arith}
-use Rattle.std.specs.Prelude.{nat_le, if◌then◌else◌}
-use Rattle.std.proofs.lemmas.Bool.Decides.{nat_tests}
-use Rattle.std.proofs.lemmas.List.{get_or-map}
+use Rattle.yds_model.proofs.Common.{ℕ, ◌-◌, ◌≡◌, ◌≤◌, ◌<◌, ◌∙◌, min, List, length, map, get_or, set-set, ap, sym, arith, nat_le, if◌then◌else◌, nat_tests, get_or-map}
 use Rattle.yds_search.specs.declared.filling.Cell.{Cell}
 use Rattle.yds_search.specs.Closure.{reach_from}
 use Rattle.yds_search.specs.Cells.{lates_of, shared_of, no_cell, cell_at}

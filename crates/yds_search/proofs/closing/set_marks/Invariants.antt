@@ -1,4 +1,4 @@
-use Rattle.std.proofs.Common.{length}
+use Rattle.yds_model.proofs.Common.{length}
 use Rattle.yds_search.specs.Cells.{lates_of, shared_of}
 use Rattle.yds_search.proofs.Closures.{AreMarkedFrom}
 use Rattle.yds_search.proofs.closing.set_marks.Given as goal

@@ -1,4 +1,4 @@
-use Rattle.std.proofs.Common.{◌-◌, ◌<◌, ◌≤◌, List, ℕ, length}
+use Rattle.yds_model.proofs.Common.{◌-◌, ◌<◌, ◌≤◌, List, ℕ, length}
 use Rattle.yds_search.specs.Fill.{IsNext, IsNextFrom}
 use Rattle.yds_search.proofs.filling.next_place.Given as goal
 

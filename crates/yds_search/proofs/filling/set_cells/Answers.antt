@@ -1,5 +1,4 @@
-use Rattle.std.proofs.Common.{◌∙◌, length, sym, arith}
-use Rattle.std.proofs.lemmas.List.{take_at, same_lists, get_or_default, length-map}
+use Rattle.yds_model.proofs.Common.{◌∙◌, length, sym, arith, take_at, same_lists, get_or_default, length-map}
 use Rattle.yds_search.specs.Cells.{no_cell, first_cell}
 use Rattle.yds_search.proofs.filling.set_cells.Goals as goal
 

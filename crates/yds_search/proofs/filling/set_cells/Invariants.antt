@@ -1,4 +1,4 @@
-use Rattle.std.proofs.Common.{◌≡◌, ℕ, ◌<◌, length, map, get_or}
+use Rattle.yds_model.proofs.Common.{◌≡◌, ℕ, ◌<◌, length, map, get_or}
 use Rattle.yds_search.specs.Cells.{no_cell, first_cell}
 use Rattle.yds_search.proofs.filling.set_cells.Given as goal
 

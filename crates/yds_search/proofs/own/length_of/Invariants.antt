@@ -1,5 +1,4 @@
-use Rattle.std.proofs.Common.{◌≡◌, ◌*◌, ◌≤◌, take}
-use Rattle.std.specs.List.{sum_by}
+use Rattle.yds_model.proofs.Common.{◌≡◌, ◌*◌, ◌≤◌, take, sum_by}
 use Rattle.yds_search.proofs.own.length_of.Given as goal
 
 abbrev pub invariant-loop-own : goal.invariant-loop-own

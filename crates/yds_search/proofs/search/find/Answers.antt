@@ -1,5 +1,4 @@
-use Rattle.std.proofs.Common.{List, length, ap, subst, refl, arith}
-use Rattle.std.proofs.lemmas.List.{length_push}
+use Rattle.yds_model.proofs.Common.{List, length, ap, subst, refl, arith, length_push}
 use Rattle.yds_search.specs.declared.own.OwnStretch.{OwnStretch}
 use Rattle.yds_search.specs.declared.stack.Size.{Size}
 use Rattle.yds_search.specs.Views.{found_view}

@@ -1,4 +1,4 @@
-use Rattle.std.proofs.Common.{◌*◌, ◌-◌, length}
+use Rattle.yds_model.proofs.Common.{◌*◌, ◌-◌, length}
 use Rattle.yds_search.specs.Searching.{IsSearching}
 use Rattle.yds_search.proofs.search.find.Given as goal
 

@@ -1,5 +1,4 @@
-use Rattle.std.proofs.Common.{◌∙◌, arith}
-use Rattle.std.proofs.lemmas.List.{length-set}
+use Rattle.yds_model.proofs.Common.{◌∙◌, arith, length-set}
 use Rattle.yds_search.proofs.Partings.{left_ranked, parting_moves, parting_stays}
 use Rattle.yds_search.proofs.stack.part_jobs.Goals as goal
 use Rattle.yds_search.proofs.stack.part_jobs.Goals.{then-end-first+in_ok-push, else-end-first}

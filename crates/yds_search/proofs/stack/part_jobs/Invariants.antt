@@ -1,4 +1,4 @@
-use Rattle.std.proofs.Common.{◌≡◌, ◌++◌, length, take, drop}
+use Rattle.yds_model.proofs.Common.{◌≡◌, ◌++◌, length, take, drop}
 use Rattle.yds_search.specs.Stack.{staying_jobs, moving_jobs}
 use Rattle.yds_search.proofs.Partings.{IsParting}
 use Rattle.yds_search.proofs.stack.part_jobs.Given as goal

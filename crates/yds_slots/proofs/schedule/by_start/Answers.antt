@@ -1,6 +1,4 @@
-use Rattle.std.proofs.Common.{rules}
-use Rattle.std.proofs.lemmas.List.Sorted.{answers_always}
-use Rattle.yds_model.specs.Slot.{WrittenSlot}
+use Rattle.yds_model.proofs.Common.{rules, answers_always, WrittenSlot}
 use Rattle.yds_slots.proofs.schedule.by_start.Goals as goal
 
 pub returns-clause-rising : goal.returns-clause-rising

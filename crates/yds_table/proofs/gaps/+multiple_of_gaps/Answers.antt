@@ -1,5 +1,4 @@
-use Rattle.std.proofs.Common.{◌≤◌, ◌-◌, length, drop, arith}
-use Rattle.std.proofs.lemmas.List.{length-take, length-drop}
+use Rattle.yds_model.proofs.Common.{◌≤◌, ◌-◌, length, drop, arith, length-take, length-drop}
 use Rattle.yds_table.proofs.Multiples.{splits, too_great, answers}
 use Rattle.yds_table.proofs.gaps.+multiple_of_gaps.Goals as goal
 

@@ -1,4 +1,4 @@
-use Rattle.std.proofs.Common.{length}
+use Rattle.yds_model.proofs.Common.{length}
 use Rattle.yds_table.proofs.gaps.+multiple_of_gaps.Given as goal
 
 abbrev pub decreases-multiple_of_gaps : goal.decreases-multiple_of_gaps

@@ -1,5 +1,4 @@
-use Rattle.std.proofs.Common.{ℕ, ◌<◌}
-use Rattle.yds_model.specs.Table.{point_at}
+use Rattle.yds_model.proofs.Common.{ℕ, ◌<◌, point_at}
 use Rattle.yds_table.specs.Around.{IsPointBelow}
 use Rattle.yds_table.proofs.table.first_at_least.Given as goal
 

@@ -1,5 +1,4 @@
-use Rattle.std.proofs.Common.{ap}
-use Rattle.yds_model.specs.ExpandAnswer.{level_comment}
+use Rattle.yds_model.proofs.Common.{ap, level_comment}
 use Rattle.yds_port.proofs.Putting.{puts_whole, puts_text, puts_failed, puts_front, puts_after}
 use Rattle.yds_tasks.proofs.Printed.{lines_told}
 use Rattle.yds_tasks.proofs.printing.print_jobs.Goals as goal

@@ -1,5 +1,4 @@
-use Rattle.std.proofs.Common.{◌∙◌, ◌<◌, arith}
-use Rattle.yds_model.specs.Tasks.{numbers_of_jobs, count_of_jobs}
+use Rattle.yds_model.proofs.Common.{◌∙◌, ◌<◌, arith, numbers_of_jobs, count_of_jobs}
 use Rattle.yds_port.proofs.Putting.{item_put, item_failed, all_put}
 use Rattle.yds_tasks.specs.Printed.{nth_line}
 use Rattle.yds_tasks.specs.Read.{task_read}

@@ -1,6 +1,4 @@
-use Rattle.std.proofs.Common.{take}
-use Rattle.std.specs.List.{flat_map}
-use Rattle.yds_model.specs.Tasks.{numbers_of_jobs}
+use Rattle.yds_model.proofs.Common.{take, flat_map, numbers_of_jobs}
 use Rattle.yds_port.proofs.Putting.{PutsWhole}
 use Rattle.yds_tasks.specs.Printed.{nth_line}
 use Rattle.yds_tasks.specs.Read.{task_read}

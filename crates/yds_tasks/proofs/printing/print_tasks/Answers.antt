@@ -1,4 +1,4 @@
-use Rattle.std.proofs.Common.{refl, sym}
+use Rattle.yds_model.proofs.Common.{refl, sym}
 use Rattle.yds_port.proofs.Putting.{item_failed}
 use Rattle.yds_tasks.specs.Printed.{task_lines}
 use Rattle.yds_tasks.specs.Read.{task_read}

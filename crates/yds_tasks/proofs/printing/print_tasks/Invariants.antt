@@ -1,5 +1,4 @@
-use Rattle.std.proofs.Common.{take}
-use Rattle.std.specs.List.{flat_map}
+use Rattle.yds_model.proofs.Common.{take, flat_map}
 use Rattle.yds_port.proofs.Putting.{PutsWhole}
 use Rattle.yds_tasks.specs.Printed.{task_lines}
 use Rattle.yds_tasks.specs.Read.{task_read}

@@ -1,6 +1,4 @@
-use Rattle.std.proofs.Common.{◌∙◌, ap}
-use Rattle.yds_model.specs.Reading.{live_lines}
-use Rattle.yds_model.specs.TaskReading.{read_tasks_after}
+use Rattle.yds_model.proofs.Common.{◌∙◌, ap, live_lines, read_tasks_after}
 use Rattle.yds_tasks.proofs.reader.read_tasks.Goals as goal
 
 pub loop-line-preserved : goal.loop-line-preserved

@@ -1,7 +1,4 @@
-use Rattle.std.proofs.Common.{◌≡◌, List, []}
-use Rattle.yds_model.specs.Lines.{lines_of}
-use Rattle.yds_model.specs.Reading.{live_lines}
-use Rattle.yds_model.specs.TaskReading.{TaskEntry, read_tasks_after}
+use Rattle.yds_model.proofs.Common.{◌≡◌, List, [], lines_of, live_lines, TaskEntry, read_tasks_after}
 use Rattle.yds_tasks.specs.Lines.{IsDraft, Holds}
 use Rattle.yds_tasks.proofs.reader.read_tasks.Given as goal
 

@@ -1,5 +1,4 @@
-use Rattle.std.proofs.Common.{◌∙◌, [], ap, drop, arith}
-use Rattle.std.proofs.lemmas.List.{drop_all}
+use Rattle.yds_model.proofs.Common.{◌∙◌, [], ap, drop, arith, drop_all}
 use Rattle.yds_text.proofs.FirstField.{fields_from-parts, rest-none, fields_from-none}
 use Rattle.yds_text.proofs.field.first_field.Goals as goal
 

@@ -1,6 +1,4 @@
-use Rattle.std.proofs.Common.{◌≡◌, ◌+◌, drop}
-use Rattle.yds_model.specs.Lines.{fields_from, fields_of}
-use Rattle.yds_model.specs.Reading.{begins_comment}
+use Rattle.yds_model.proofs.Common.{◌≡◌, ◌+◌, drop, fields_from, fields_of, begins_comment}
 use Rattle.yds_text.proofs.field.is_comment.Given as goal
 
 -- the bytes so far are blank, so the rest says what the whole does

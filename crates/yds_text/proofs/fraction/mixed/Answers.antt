@@ -1,7 +1,4 @@
-use Rattle.std.proofs.Common.{◌≡◌, ◌∙◌, Err, take, get_or, sym, subst, arith, ne_eqb}
-use Rattle.std.proofs.lemmas.List.{take_all}
-use Rattle.std.proofs.lemmas.Result.{err_from_is_err_and}
-use Rattle.yds_model.specs.Spelling.{number_at}
+use Rattle.yds_model.proofs.Common.{◌≡◌, ◌∙◌, Err, take, get_or, sym, subst, arith, ne_eqb, take_all, err_from_is_err_and, number_at}
 use Rattle.yds_text.proofs.Fractions.{other_fraction, whole_fault}
 use Rattle.yds_text.proofs.fraction.mixed.Goals as goal
 

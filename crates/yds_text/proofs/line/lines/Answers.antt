@@ -1,5 +1,4 @@
-use Rattle.std.proofs.lemmas.List.{length-map}
-use Rattle.yds_model.proofs.Lines.{length-lines_from-le}
+use Rattle.yds_model.proofs.Common.{length-map, length-lines_from-le}
 use Rattle.yds_text.proofs.line.lines.Goals as goal
 
 pub returns-clause-count : goal.returns-clause-count

@@ -1,6 +1,4 @@
-use Rattle.std.proofs.Common.{ℕ, ◌++◌, ◌∷◌, [], sym, ap, ◌∙◌}
-use Rattle.yds_model.specs.Lines.{without_return}
-use Rattle.yds_model.proofs.Lines.{without_return-end, without_return-other}
+use Rattle.yds_model.proofs.Common.{ℕ, ◌++◌, ◌∷◌, [], sym, ap, ◌∙◌, without_return, without_return-end, without_return-other}
 use Rattle.yds_text.proofs.line.trim_return.Goals as goal
 
 pub returns-in-Some-clause-value : goal.returns-in-Some-clause-value

@@ -1,4 +1,4 @@
-use Rattle.std.proofs.Common.{sym, ◌∙◌, arith}
+use Rattle.yds_model.proofs.Common.{sym, ◌∙◌, arith}
 use Rattle.yds_text.proofs.PlainField.{plain_whole, plain_mixed}
 use Rattle.yds_text.proofs.plain.first_fraction.Goals as goal
 

@@ -1,5 +1,4 @@
-use Rattle.std.proofs.Common.{◌≡◌, ◌∙◌, ◌<◌, sym, ap, subst, arith, length, List, ℕ}
-use Rattle.std.proofs.lemmas.Bool.{eqb-false}
+use Rattle.yds_model.proofs.Common.{◌≡◌, ◌∙◌, ◌<◌, sym, ap, subst, arith, length, List, ℕ, eqb-false}
 use Rattle.yds_text.specs.Plain.{BeginsPlainly, ends_field}
 use Rattle.yds_text.proofs.PlainField.{plain_name}
 use Rattle.yds_text.proofs.plain.first_name.Goals as goal

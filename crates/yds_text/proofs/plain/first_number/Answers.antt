@@ -1,4 +1,4 @@
-use Rattle.std.proofs.Common.{sym, ◌∙◌}
+use Rattle.yds_model.proofs.Common.{sym, ◌∙◌}
 use Rattle.yds_text.proofs.PlainField.{plain_number}
 use Rattle.yds_text.proofs.plain.first_number.Goals as goal
 

@@ -1,6 +1,4 @@
-use Rattle.std.proofs.Common.{◌∙◌, ap, arith}
-use Rattle.std.specs.List.{list_all}
-use Rattle.yds_model.specs.Spelling.{is_digit}
+use Rattle.yds_model.proofs.Common.{◌∙◌, ap, arith, list_all, is_digit}
 use Rattle.yds_text.proofs.Digits.{front_digits}
 use Rattle.yds_text.proofs.plain.number_front.Goals as goal
 

@@ -1,5 +1,4 @@
-use Rattle.std.proofs.Common.{◌-◌, ◌^◌, ◌≤◌, arith}
-use Rattle.std.proofs.Math.Nat.{pow-le-pow_right}
+use Rattle.yds_model.proofs.Common.{◌-◌, ◌^◌, ◌≤◌, arith, pow-le-pow_right}
 use Rattle.yds_text.proofs.spelling.few_digits.Goals as goal
 
 pub overflow_mul-value : goal.overflow_mul-value

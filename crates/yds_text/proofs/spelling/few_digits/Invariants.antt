@@ -1,7 +1,4 @@
-use Rattle.std.proofs.Common.{◌≡◌, ◌+◌, ◌<◌, ◌^◌, drop, take}
-use Rattle.std.specs.List.{prefix_len}
-use Rattle.std.specs.Str.Parse.{digits_value}
-use Rattle.yds_model.specs.Spelling.{is_digit}
+use Rattle.yds_model.proofs.Common.{◌≡◌, ◌+◌, ◌<◌, ◌^◌, drop, take, prefix_len, digits_value, is_digit}
 use Rattle.yds_text.proofs.spelling.few_digits.Given as goal
 
 abbrev pub invariant-loop-index : goal.invariant-loop-index

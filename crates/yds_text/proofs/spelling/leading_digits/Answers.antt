@@ -1,5 +1,4 @@
-use Rattle.std.proofs.Common.{inl, inr, arith}
-use Rattle.std.proofs.lemmas.Bool.{cases_lt}
+use Rattle.yds_model.proofs.Common.{inl, inr, arith, cases_lt}
 use Rattle.yds_text.proofs.Digits.{digits_of_part}
 use Rattle.yds_text.proofs.spelling.leading_digits.Goals as goal
 

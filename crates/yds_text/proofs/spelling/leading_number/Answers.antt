@@ -1,4 +1,4 @@
-use Rattle.yds_model.specs.Spelling.{is_digit}
+use Rattle.yds_model.proofs.Common.{is_digit}
 use Rattle.yds_text.proofs.Digits.{front_all}
 use Rattle.yds_text.proofs.spelling.leading_number.Goals as goal
 

@@ -1,11 +1,4 @@
-use Rattle.std.proofs.Common.{◌≡◌, ◌+◌, ◌*◌, drop, take, get_or, true, arith, rules}
-use Rattle.std.specs.Char.{digit_value}
-use Rattle.std.specs.List.{prefix_len}
-use Rattle.std.specs.Str.Parse.{digits_value}
-use Rattle.std.proofs.lemmas.Grind.{common_steps}
-use Rattle.std.proofs.lemmas.Int.Digits.{digits_value_more}
-use Rattle.std.proofs.lemmas.List.Sums.{prefix_len-drop_yes}
-use Rattle.yds_model.specs.Spelling.{is_digit}
+use Rattle.yds_model.proofs.Common.{◌≡◌, ◌+◌, ◌*◌, drop, take, get_or, true, arith, rules, digit_value, prefix_len, digits_value, common_steps, digits_value_more, prefix_len-drop_yes, is_digit}
 use Rattle.yds_text.proofs.Spelled.{front_above}
 use Rattle.yds_text.proofs.spelling.many_digits.Goals as goal
 

@@ -1,5 +1,4 @@
-use Rattle.std.proofs.Common.{◌≡◌, false, refl, arith}
-use Rattle.yds_model.specs.Spelling.{is_number}
+use Rattle.yds_model.proofs.Common.{◌≡◌, false, refl, arith, is_number}
 use Rattle.yds_text.proofs.Digits.{number_ends}
 use Rattle.yds_text.proofs.spelling.number_of.Goals as goal
 

@@ -1,4 +1,4 @@
-use Rattle.std.proofs.Common.{◌≡◌, ℕ, List, ◌∙◌, sym, subst, ap}
+use Rattle.yds_model.proofs.Common.{◌≡◌, ℕ, List, ◌∙◌, sym, subst, ap}
 use Rattle.yds_critical.specs.Critical.{IsCritical}
 use Rattle.yds_contract.specs.Contracted.{Removes}
 use Rattle.yds_textbook.specs.declared.stage.Stage.{Stage}

@@ -1,4 +1,4 @@
-use Rattle.std.proofs.Common.{length}
+use Rattle.yds_model.proofs.Common.{length}
 use Rattle.yds_textbook.proofs.Chain.{LeadTo}
 use Rattle.yds_textbook.proofs.Stands.{IsBetween}
 use Rattle.yds_textbook.proofs.planning.stages.Given as goal

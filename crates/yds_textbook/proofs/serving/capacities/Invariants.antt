@@ -1,4 +1,4 @@
-use Rattle.std.proofs.Common.{◌≡◌, take, map}
+use Rattle.yds_model.proofs.Common.{◌≡◌, take, map}
 use Rattle.yds_textbook.specs.Served.{capacity_of}
 use Rattle.yds_textbook.proofs.serving.capacities.Given as goal
 

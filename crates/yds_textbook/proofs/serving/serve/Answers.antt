@@ -1,5 +1,4 @@
-use Rattle.std.proofs.Common.{ℕ, List, ◌∙◌, length, ap}
-use Rattle.std.proofs.lemmas.List.FromFn.{length-range_with_len}
+use Rattle.yds_model.proofs.Common.{ℕ, List, ◌∙◌, length, ap, length-range_with_len}
 use Rattle.yds_textbook.proofs.serving.serve.Goals as goal
 
 pub fill-requires-clause-all_tied : goal.fill-requires-clause-all_tied

@@ -1,4 +1,4 @@
-use Rattle.std.proofs.Common.{◌≡◌, take, map}
+use Rattle.yds_model.proofs.Common.{◌≡◌, take, map}
 use Rattle.yds_textbook.specs.Stages.{share_of_members}
 use Rattle.yds_textbook.proofs.stage.shares_by_number.Given as goal
 

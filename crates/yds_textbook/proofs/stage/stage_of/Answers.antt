@@ -1,10 +1,4 @@
-use Rattle.std.proofs.Common.{◌≡◌, ℕ, ◌<◌, ◌≤◌, List, ◌∙◌, length, map, sym, subst, ap, arith}
-use Rattle.std.specs.List.{All}
-use Rattle.std.proofs.lemmas.List.{length-map}
-use Rattle.std.proofs.lemmas.List.Elements.{All-filter, All-weaker, filter_passes}
-use Rattle.yds_model.specs.Job.{Job}
-use Rattle.yds_model.specs.Piece.{Piece}
-use Rattle.yds_model.specs.Event.{stretches}
+use Rattle.yds_model.proofs.Common.{◌≡◌, ℕ, ◌<◌, ◌≤◌, List, ◌∙◌, length, map, sym, subst, ap, arith, All, length-map, All-filter, All-weaker, filter_passes, Job, Piece, stretches}
 use Rattle.yds_events.specs.Stretch.{nth_stretch}
 use Rattle.yds_timetable.specs.Shares.{JobShare}
 use Rattle.yds_edf.specs.Demand.{AreUncut, IsWithinCapacity}

@@ -1,4 +1,4 @@
-use Rattle.std.proofs.Common.{◌++◌, ◌∙◌, ap}
+use Rattle.yds_model.proofs.Common.{◌++◌, ◌∙◌, ap}
 use Rattle.yds_textbook.proofs.Making.{groups_next, shares_next}
 use Rattle.yds_textbook.proofs.together.found_of.Goals as goal
 

@@ -1,5 +1,4 @@
-use Rattle.std.proofs.Common.{◌≡◌, take, map}
-use Rattle.std.specs.List.{flat_map}
+use Rattle.yds_model.proofs.Common.{◌≡◌, take, map, flat_map}
 use Rattle.yds_search.specs.Views.{group_view}
 use Rattle.yds_textbook.specs.declared.stage.Stage.{Stage}
 use Rattle.yds_textbook.proofs.together.found_of.Given as goal

@@ -1,4 +1,4 @@
-use Rattle.std.proofs.Common.{◌≡◌, ℕ, ◌<◌, get_or, false}
+use Rattle.yds_model.proofs.Common.{◌≡◌, ℕ, ◌<◌, get_or, false}
 use Rattle.yds_textbook.specs.declared.stage.Stage.{Stage}
 use Rattle.yds_textbook.specs.Together.{stands_among}
 use Rattle.yds_textbook.proofs.together.stage_of_job.Given as goal

@@ -1,4 +1,4 @@
-use Rattle.std.proofs.Common.{ℕ, List, ◌∙◌, sym, ap}
+use Rattle.yds_model.proofs.Common.{ℕ, List, ◌∙◌, sym, ap}
 use Rattle.yds_textbook.specs.declared.stage.Stage.{Stage}
 use Rattle.yds_textbook.specs.Together.{stands_among}
 use Rattle.yds_textbook.proofs.Members.{passes_here}

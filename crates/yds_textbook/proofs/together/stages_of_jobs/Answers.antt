@@ -1,6 +1,4 @@
-use Rattle.std.proofs.Common.{ℕ, List, [], ◌∷◌, ◌++◌, ◌∙◌, map, sym, ap, arith}
-use Rattle.std.specs.List.{range_with_len}
-use Rattle.std.proofs.lemmas.List.FromFn.{map-range_with_len_more}
+use Rattle.yds_model.proofs.Common.{ℕ, List, [], ◌∷◌, ◌++◌, ◌∙◌, map, sym, ap, arith, range_with_len, map-range_with_len_more}
 use Rattle.yds_textbook.specs.Together.{stage_of_job}
 use Rattle.yds_textbook.proofs.together.stages_of_jobs.Goals as goal
 

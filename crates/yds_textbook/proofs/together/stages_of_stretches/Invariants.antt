@@ -1,5 +1,4 @@
-use Rattle.std.proofs.Common.{◌≡◌, map}
-use Rattle.std.specs.List.{range_with_len}
+use Rattle.yds_model.proofs.Common.{◌≡◌, map, range_with_len}
 use Rattle.yds_textbook.specs.Together.{stage_of_stretch}
 use Rattle.yds_textbook.proofs.together.stages_of_stretches.Given as goal
 

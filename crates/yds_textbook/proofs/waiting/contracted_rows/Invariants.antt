@@ -1,4 +1,4 @@
-use Rattle.std.proofs.Common.{◌≡◌, take}
+use Rattle.yds_model.proofs.Common.{◌≡◌, take}
 use Rattle.yds_textbook.specs.Waiting.{contracted_jobs}
 use Rattle.yds_textbook.proofs.waiting.contracted_rows.Given as goal
 

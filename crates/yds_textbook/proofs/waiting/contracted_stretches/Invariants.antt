@@ -1,4 +1,4 @@
-use Rattle.std.proofs.Common.{◌≡◌, take}
+use Rattle.yds_model.proofs.Common.{◌≡◌, take}
 use Rattle.yds_textbook.specs.Waiting.{contracted_stretches}
 use Rattle.yds_textbook.proofs.waiting.contracted_stretches.Given as goal
 

@@ -1,6 +1,4 @@
-use Rattle.std.proofs.Common.{◌≤◌, ◌∙◌, refl, sym, subst, arith}
-use Rattle.std.proofs.lemmas.List.{get_or_read}
-use Rattle.yds_model.specs.Job.{Job, IsJob, no_job}
+use Rattle.yds_model.proofs.Common.{◌≤◌, ◌∙◌, refl, sym, subst, arith, get_or_read, Job, IsJob, no_job}
 use Rattle.yds_intensity.specs.Order.{IsDeadlineOrder}
 use Rattle.yds_intensity.proofs.Sweeps.{number_known}
 use Rattle.yds_textbook.proofs.Starting.{with_next, without_next}

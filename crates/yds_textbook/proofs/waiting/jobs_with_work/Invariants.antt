@@ -1,6 +1,4 @@
-use Rattle.std.proofs.Common.{◌≡◌, [], take}
-use Rattle.std.specs.Prelude.{filter}
-use Rattle.std.specs.List.{All}
+use Rattle.yds_model.proofs.Common.{◌≡◌, [], take, filter, All}
 use Rattle.yds_textbook.specs.Waiting.{CanWait, job_has_work}
 use Rattle.yds_textbook.proofs.waiting.jobs_with_work.Given as goal
 

@@ -1,4 +1,4 @@
-use Rattle.std.proofs.Common.{◌≡◌, take}
+use Rattle.yds_model.proofs.Common.{◌≡◌, take}
 use Rattle.yds_textbook.specs.Waiting.{inside, outside}
 use Rattle.yds_textbook.proofs.waiting.parted.Given as goal
 

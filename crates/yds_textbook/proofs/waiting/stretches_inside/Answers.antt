@@ -1,8 +1,4 @@
-use Rattle.std.proofs.Common.{ℕ, List, [], ◌∷◌, ◌++◌, ◌∙◌, sym, ap, cond}
-use Rattle.std.specs.Prelude.{Bool, filter}
-use Rattle.std.specs.List.{range_with_len}
-use Rattle.std.proofs.lemmas.List.{append-nil, get_or_read}
-use Rattle.yds_model.proofs.Filters.{filter-range_with_len_more}
+use Rattle.yds_model.proofs.Common.{ℕ, List, [], ◌∷◌, ◌++◌, ◌∙◌, sym, ap, cond, Bool, filter, range_with_len, append-nil, get_or_read, filter-range_with_len_more}
 use Rattle.yds_events.specs.Stretch.{no_stretch}
 use Rattle.yds_textbook.specs.Waiting.{is_left_in, stretch_lies_in}
 use Rattle.yds_textbook.proofs.waiting.stretches_inside.Goals as goal

@@ -1,6 +1,4 @@
-use Rattle.std.proofs.Common.{◌≡◌}
-use Rattle.std.specs.Prelude.{filter}
-use Rattle.std.specs.List.{range_with_len}
+use Rattle.yds_model.proofs.Common.{◌≡◌, filter, range_with_len}
 use Rattle.yds_textbook.specs.Waiting.{stretch_lies_in}
 use Rattle.yds_textbook.proofs.waiting.stretches_inside.Given as goal
 

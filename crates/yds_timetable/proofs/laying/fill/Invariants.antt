@@ -1,4 +1,4 @@
-use Rattle.std.proofs.Common.{◌≡◌, ◌++◌, take}
+use Rattle.yds_model.proofs.Common.{◌≡◌, ◌++◌, take}
 use Rattle.yds_timetable.specs.Pace.{slots_from}
 use Rattle.yds_timetable.proofs.Filling.{IsReached}
 use Rattle.yds_timetable.proofs.laying.fill.Given as goal

@@ -1,4 +1,4 @@
-use Rattle.std.proofs.Common.{arith}
+use Rattle.yds_model.proofs.Common.{arith}
 use Rattle.yds_timetable.proofs.Filling.{can_fill}
 use Rattle.yds_timetable.proofs.laying.lay.Goals as goal
 

@@ -1,4 +1,4 @@
-use Rattle.std.proofs.Common.{◌≡◌, take}
+use Rattle.yds_model.proofs.Common.{◌≡◌, take}
 use Rattle.yds_timetable.specs.Timetable.{slots_of}
 use Rattle.yds_timetable.proofs.laying.lay.Given as goal
 

@@ -1,5 +1,4 @@
-use Rattle.std.proofs.Common.{◌∙◌, ap, sym}
-use Rattle.yds_model.specs.Piece.{Piece}
+use Rattle.yds_model.proofs.Common.{◌∙◌, ap, sym, Piece}
 use Rattle.yds_timetable.specs.Timetable.{row_at}
 use Rattle.yds_timetable.proofs.Filling.{can_follow}
 use Rattle.yds_timetable.proofs.laying.lay_stretch.Goals as goal

@@ -1,7 +1,5 @@
-use Rattle.std.proofs.Common.{◌≡◌, ◌≤◌, ◌∙◌, ◌++◌, ◌∷◌, [], List, arith, sym, ap, ap₂, subst, get_or}
+use Rattle.yds_model.proofs.Common.{◌≡◌, ◌≤◌, ◌∙◌, ◌++◌, ◌∷◌, [], List, arith, sym, ap, ap₂, subst, get_or, WrittenSlot, IsFraction}
 use Rattle.yds_model.specs.declared.limits.TheConstants.{MAX_TIME}
-use Rattle.yds_model.specs.Slot.{WrittenSlot}
-use Rattle.yds_model.specs.Within.{IsFraction}
 use Rattle.yds_timetable.specs.Shares.{JobShare}
 use Rattle.yds_timetable.proofs.Filling.{IsNext, can_reach, slots_next, all_next, reached_next}
 use Rattle.yds_timetable.proofs.laying.slots_at.Goals as goal

@@ -1,5 +1,4 @@
-use Rattle.std.proofs.Common.{◌≡◌, ◌≤◌, take}
-use Rattle.std.specs.List.{All}
+use Rattle.yds_model.proofs.Common.{◌≡◌, ◌≤◌, take, All}
 use Rattle.yds_timetable.specs.Pace.{slots_from}
 use Rattle.yds_timetable.proofs.Filling.{IsReached}
 use Rattle.yds_timetable.proofs.laying.slots_at.Given as goal

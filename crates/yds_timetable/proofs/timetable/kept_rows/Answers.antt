@@ -1,9 +1,4 @@
-use Rattle.std.proofs.Common.{◌≡◌, ℕ, ◌++◌, ◌∷◌, [], ◌∙◌, List, ap, ap₂, sym, get_or, arith, add-one}
-use Rattle.std.specs.Prelude.{Option, nat_lt}
-use Rattle.std.specs.Bool.{then_some}
-use Rattle.std.proofs.lemmas.List.{get_or_read}
-use Rattle.std.proofs.lemmas.List.FromFn.{map-range_with_len_more}
-use Rattle.yds_model.specs.Piece.{Piece}
+use Rattle.yds_model.proofs.Common.{◌≡◌, ℕ, ◌++◌, ◌∷◌, [], ◌∙◌, List, ap, ap₂, sym, get_or, arith, add-one, Option, nat_lt, then_some, get_or_read, map-range_with_len_more, Piece}
 use Rattle.yds_events.specs.Stretch.{no_stretch}
 use Rattle.yds_timetable.specs.declared.timetable.KeptRow.{KeptRow}
 use Rattle.yds_timetable.specs.Sorted.{kept_row, start_of}

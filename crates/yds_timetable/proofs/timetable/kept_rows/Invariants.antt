@@ -1,5 +1,4 @@
-use Rattle.std.proofs.Common.{◌≡◌, map}
-use Rattle.std.specs.List.{range_with_len}
+use Rattle.yds_model.proofs.Common.{◌≡◌, map, range_with_len}
 use Rattle.yds_timetable.specs.Sorted.{kept_row, start_of}
 use Rattle.yds_timetable.proofs.timetable.kept_rows.Given as goal
 

@@ -1,6 +1,4 @@
-use Rattle.std.proofs.Common.{List, ℕ, subst}
-use Rattle.std.proofs.lemmas.List.Sorted.{IsPermutation-sym, IsPermutation-trans, IsPermutation-map, All-permutation}
-use Rattle.yds_model.specs.Job.{Job}
+use Rattle.yds_model.proofs.Common.{List, ℕ, subst, IsPermutation-sym, IsPermutation-trans, IsPermutation-map, All-permutation, Job}
 use Rattle.yds_admit.specs.declared.board.Spot.{Spot}
 use Rattle.yds_admit.specs.Board.{IsSpot, AreEnds, AreGaps, AreSpots}
 use Rattle.yds_admit.specs.Chain.{AreTimes}

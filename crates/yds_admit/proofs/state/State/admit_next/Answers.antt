@@ -1,5 +1,4 @@
-use Rattle.std.proofs.Common.{◌∷◌, [], ◌++◌, sym, arith, subst}
-use Rattle.yds_model.specs.Job.{Job, IsJob, no_job}
+use Rattle.yds_model.proofs.Common.{◌∷◌, [], ◌++◌, sym, arith, subst, Job, IsJob, no_job}
 use Rattle.yds_laws.specs.AdmissionLaws.{HasRoom}
 use Rattle.yds_admit.proofs.Deciding.{takes}
 use Rattle.yds_admit.proofs.Ordered.{ordered_more}

@@ -1,9 +1,6 @@
-use Rattle.std.proofs.Common.{◌≡◌, ℕ, ◌∷◌, ◌++◌, [], List, ◌<◌, length, get_or, ◌∙◌, take, drop, sym, subst, ap, arith}
-use Rattle.std.proofs.lemmas.List.{get_or_default, append-nil, drop_all, length-take-le}
+use Rattle.yds_model.proofs.Common.{◌≡◌, ℕ, ◌∷◌, ◌++◌, [], List, ◌<◌, length, get_or, ◌∙◌, take, drop, sym, subst, ap, arith, get_or_default, append-nil, drop_all, length-take-le, Job, no_job, job_at, IsPermutation-append_left, IsPermutation-trans}
 use Rattle.yds_admit.specs.Board.{IsMarked}
 use Rattle.yds_admit.specs.State.{Decided}
-use Rattle.yds_model.specs.Job.{Job, no_job, job_at}
-use Rattle.std.proofs.lemmas.List.Sorted.{IsPermutation-append_left, IsPermutation-trans}
 use Rattle.yds_admit.proofs.Deciding.{takes_first}
 use Rattle.yds_admit.proofs.state.State.admit_until.Goals as goal
 

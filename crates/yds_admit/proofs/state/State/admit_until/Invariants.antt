@@ -1,5 +1,4 @@
-use Rattle.std.proofs.Common.{◌≡◌, ◌++◌, take, drop}
-use Rattle.std.specs.List.Sorted.{IsPermutation}
+use Rattle.yds_model.proofs.Common.{◌≡◌, ◌++◌, take, drop, IsPermutation}
 use Rattle.yds_admit.specs.State.{Decided}
 use Rattle.yds_admit.proofs.state.State.admit_until.Given as goal
 

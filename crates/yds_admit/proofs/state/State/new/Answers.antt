@@ -1,7 +1,4 @@
-use Rattle.std.proofs.Common.{ℕ, ◌≡◌, false, arith, [], length, inl, inr, replicate, get_or}
-use Rattle.std.proofs.lemmas.Bool.{cases_lt}
-use Rattle.std.proofs.lemmas.List.{get_or-replicate, length-replicate, get_or_past}
-use Rattle.std.proofs.lemmas.List.Sorted.{IsPermutation-refl}
+use Rattle.yds_model.proofs.Common.{ℕ, ◌≡◌, false, arith, [], length, inl, inr, replicate, get_or, cases_lt, get_or-replicate, length-replicate, get_or_past, IsPermutation-refl}
 use Rattle.yds_admit.proofs.Deciding.{begun}
 use Rattle.yds_admit.proofs.Marks.{none_marked}
 use Rattle.yds_admit.proofs.state.State.new.Goals as goal

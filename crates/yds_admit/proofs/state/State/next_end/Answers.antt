@@ -1,5 +1,4 @@
-use Rattle.std.proofs.Common.{arith, sym, subst}
-use Rattle.std.proofs.lemmas.List.{get_or_read}
+use Rattle.yds_model.proofs.Common.{arith, sym, subst, get_or_read}
 use Rattle.yds_admit.specs.Chain.{IsEnd}
 use Rattle.yds_admit.specs.State.{next_job}
 use Rattle.yds_admit.proofs.state.State.next_end.Goals as goal

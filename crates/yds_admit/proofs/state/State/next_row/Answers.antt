@@ -1,5 +1,4 @@
-use Rattle.std.proofs.lemmas.List.{get_or_default}
-use Rattle.yds_model.specs.Job.{no_job}
+use Rattle.yds_model.proofs.Common.{get_or_default, no_job}
 use Rattle.yds_admit.proofs.state.State.next_row.Goals as goal
 
 pub returns : goal.returns

@@ -1,5 +1,4 @@
-use Rattle.std.proofs.Common.{arith, refl}
-use Rattle.yds_model.specs.Job.{no_job}
+use Rattle.yds_model.proofs.Common.{arith, refl, no_job}
 use Rattle.yds_admit.specs.State.{next_job}
 use Rattle.yds_admit.proofs.Deciding.{refuses}
 use Rattle.yds_admit.proofs.Marks.{later_none}

@@ -1,5 +1,4 @@
-use Rattle.std.proofs.Common.{◌∙◌, arith, ap}
-use Rattle.yds_model.specs.Piece.{Piece}
+use Rattle.yds_model.proofs.Common.{◌∙◌, arith, ap, Piece}
 use Rattle.yds_avr.proofs.Terms.{deadlines_outside}
 use Rattle.yds_avr.proofs.Standing.{all_rates, live_few, are_live, live_terms_are, live_rounds_are}
 use Rattle.yds_avr.proofs.average_rate.AverageRatePolicy.set.Goals as goal

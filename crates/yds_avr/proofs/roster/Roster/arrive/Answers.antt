@@ -1,6 +1,4 @@
-use Rattle.std.proofs.Common.{◌<◌, ◌++◌, ◌∷◌, [], ◌∙◌, arith, sym, ap, length}
-use Rattle.std.proofs.lemmas.List.{get_or_default, length_push, take-append-le}
-use Rattle.std.proofs.lemmas.List.Sorted.{IsPermutation-append_comm}
+use Rattle.yds_model.proofs.Common.{◌<◌, ◌++◌, ◌∷◌, [], ◌∙◌, arith, sym, ap, length, get_or_default, length_push, take-append-le, IsPermutation-append_comm}
 use Rattle.yds_avr.specs.declared.rate.Rate.{Rate}
 use Rattle.yds_avr.specs.Rate.{IsRate}
 use Rattle.yds_avr.specs.Roster.{no_rate, AreRates}

@@ -1,4 +1,4 @@
-use Rattle.std.proofs.Common.{◌≡◌, ◌≤◌, ◌-◌, length, take, vec_capacity}
+use Rattle.yds_model.proofs.Common.{◌≡◌, ◌≤◌, ◌-◌, length, take, vec_capacity}
 use Rattle.yds_avr.specs.Roster.{AreParts}
 use Rattle.yds_avr.proofs.roster.Roster.arrive.Given as goal
 

@@ -1,5 +1,4 @@
-use Rattle.std.proofs.Common.{◌-◌, arith, ap}
-use Rattle.std.proofs.lemmas.List.{get_or_default}
+use Rattle.yds_model.proofs.Common.{◌-◌, arith, ap, get_or_default}
 use Rattle.yds_avr.specs.Roster.{no_rate}
 use Rattle.yds_avr.specs.declared.rate.Rate.{Rate}
 use Rattle.yds_avr.proofs.Standing.{none_due}

@@ -1,5 +1,4 @@
-use Rattle.std.proofs.Common.{◌≡◌, ℕ, ◌<◌, ◌≤◌, length, take}
-use Rattle.std.specs.Prelude.{sum_by}
+use Rattle.yds_model.proofs.Common.{◌≡◌, ℕ, ◌<◌, ◌≤◌, length, take, sum_by}
 use Rattle.yds_avr.specs.Roster.{rate_at}
 use Rattle.yds_avr.proofs.roster.Roster.leave.Given as goal
 

@@ -1,4 +1,4 @@
-use Rattle.std.proofs.Common.{◌≡◌, ◌∙◌, length}
+use Rattle.yds_model.proofs.Common.{◌≡◌, ◌∙◌, length}
 use Rattle.yds_certificate.proofs.LastLevel.{piece_kept}
 use Rattle.yds_certificate.proofs.certificate.Certificate.piece.Goals as goal
 

@@ -1,7 +1,4 @@
-use Rattle.std.proofs.Common.{◌≡◌, ◌+◌, ◌*◌, drop}
-use Rattle.std.specs.Prelude.{nat_lt}
-use Rattle.std.specs.List.{prefix_len}
-use Rattle.yds_model.specs.Level.{Level}
+use Rattle.yds_model.proofs.Common.{◌≡◌, ◌+◌, ◌*◌, drop, nat_lt, prefix_len, Level}
 use Rattle.yds_certificate.proofs.certificate.Certificate.prefix.Given as goal
 
 abbrev pub invariant-loop-level : goal.invariant-loop-level

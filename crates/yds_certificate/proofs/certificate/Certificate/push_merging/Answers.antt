@@ -1,6 +1,4 @@
-use Rattle.std.proofs.Common.{◌≡◌, ◌∙◌, length, refl, arith}
-use Rattle.std.proofs.lemmas.List.{get_or_read}
-use Rattle.yds_model.specs.Level.{no_level}
+use Rattle.yds_model.proofs.Common.{◌≡◌, ◌∙◌, length, refl, arith, get_or_read, no_level}
 use Rattle.yds_certificate.specs.Merging.{HasSpeedOfLast, last_level}
 use Rattle.yds_certificate.proofs.LastLevel.{merged_kept, new_to_last}
 use Rattle.yds_certificate.proofs.certificate.Certificate.push_merging.Goals as goal

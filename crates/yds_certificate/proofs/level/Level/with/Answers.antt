@@ -1,4 +1,4 @@
-use Rattle.std.proofs.Common.{refl}
+use Rattle.yds_model.proofs.Common.{refl}
 use Rattle.yds_certificate.proofs.Together.{together}
 use Rattle.yds_certificate.proofs.level.Level.with.Goals as goal
 

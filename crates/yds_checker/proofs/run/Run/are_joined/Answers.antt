@@ -1,6 +1,4 @@
-use Rattle.std.proofs.Common.{◌≡◌, ◌-◌, ◌+◌, ◌≤◌, ◌∙◌, length, arith}
-use Rattle.std.specs.Prelude.{◌↔◌, IsTrue}
-use Rattle.std.proofs.lemmas.List.{get_or_read}
+use Rattle.yds_model.proofs.Common.{◌≡◌, ◌-◌, ◌+◌, ◌≤◌, ◌∙◌, length, arith, ◌↔◌, IsTrue, get_or_read}
 use Rattle.yds_checker.specs.Heights.{no_placed, placed_at, AreRaised, AreWithin}
 use Rattle.yds_checker.proofs.Turns.{heights_tell}
 use Rattle.yds_checker.proofs.run.Run.are_joined.Goals as goal

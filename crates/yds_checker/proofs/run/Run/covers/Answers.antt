@@ -1,6 +1,4 @@
-use Rattle.std.proofs.Common.{◌≡◌, ◌-◌, arith}
-use Rattle.std.proofs.lemmas.Bool.{false≢true}
-use Rattle.std.proofs.lemmas.List.{get_or_read}
+use Rattle.yds_model.proofs.Common.{◌≡◌, ◌-◌, arith, false≢true, get_or_read}
 use Rattle.yds_checker.specs.Heights.{no_placed, placed_at}
 use Rattle.yds_checker.proofs.Turns.{Around, around_found, joined_cover, cover_joined}
 use Rattle.yds_checker.proofs.run.Run.covers.Goals as goal

@@ -1,4 +1,4 @@
-use Rattle.std.proofs.Common.{subst, sym, arith}
+use Rattle.yds_model.proofs.Common.{subst, sym, arith}
 use Rattle.yds_contract.specs.Removed.{IsContraction}
 use Rattle.yds_contract.proofs.Kept.{few_removed}
 use Rattle.yds_contract.proofs.contraction.Contraction.place.Goals as goal

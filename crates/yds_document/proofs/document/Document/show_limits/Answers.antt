@@ -1,6 +1,4 @@
-use Rattle.std.proofs.Common.{◌≡◌, ◌<◌, length, sym, ◌∙◌, subst}
-use Rattle.std.specs.List.{All}
-use Rattle.yds_model.specs.Within.{AreSlotsOf}
+use Rattle.yds_model.proofs.Common.{◌≡◌, ◌<◌, length, sym, ◌∙◌, subst, All, AreSlotsOf}
 use Rattle.yds_document.proofs.Limits.{levels_fit}
 use Rattle.yds_document.proofs.document.Document.show_limits.Goals as goal
 

@@ -1,6 +1,5 @@
-use Rattle.std.proofs.Common.{sym, ◌∙◌, ◌∷◌}
+use Rattle.yds_model.proofs.Common.{sym, ◌∙◌, ◌∷◌, read_fields}
 use Rattle.yds_model.specs.declared.reason.Reason.TheVariants as reasons
-use Rattle.yds_model.specs.Reading.{read_fields}
 use Rattle.yds_text.specs.Read.{field_read}
 use Rattle.yds_document.proofs.Placed.{misplaced, too_many, told_by_kind, fails_at}
 use Rattle.yds_document.proofs.draft.Draft.read_fields.Goals as goal

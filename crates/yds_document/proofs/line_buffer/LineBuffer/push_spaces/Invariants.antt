@@ -1,4 +1,4 @@
-use Rattle.std.proofs.Common.{◌≡◌, ◌++◌, replicate}
+use Rattle.yds_model.proofs.Common.{◌≡◌, ◌++◌, replicate}
 use Rattle.yds_document.proofs.line_buffer.LineBuffer.push_spaces.Given as goal
 
 -- so many spaces were put

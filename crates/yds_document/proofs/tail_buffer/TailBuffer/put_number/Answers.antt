@@ -1,6 +1,4 @@
-use Rattle.std.proofs.Common.{◌≡◌, ◌-◌, ◌≤◌, ◌∙◌, length, drop, arith, rules, ap, sym, length-append, length-drop}
-use Rattle.std.specs.Prelude.{decimal}
-use Rattle.std.proofs.lemmas.Fmt.{length-decimal-le}
+use Rattle.yds_model.proofs.Common.{◌≡◌, ◌-◌, ◌≤◌, ◌∙◌, length, drop, arith, rules, ap, sym, length-append, length-drop, decimal, length-decimal-le}
 use Rattle.yds_document.proofs.tail_buffer.TailBuffer.put_number.Goals as goal
 
 pub write_digits-self-inside-requires : goal.write_digits-self-inside-requires

@@ -1,5 +1,4 @@
-use Rattle.std.proofs.Common.{◌+◌, ◌-◌, ◌≤◌, ◌++◌, ◌∙◌, length, drop, arith, ap, ap₂, sym}
-use Rattle.std.proofs.lemmas.List.{drop-drop, drop-append-le}
+use Rattle.yds_model.proofs.Common.{◌+◌, ◌-◌, ◌≤◌, ◌++◌, ◌∙◌, length, drop, arith, ap, ap₂, sym, drop-drop, drop-append-le}
 use Rattle.yds_document.proofs.tail_buffer.TailBuffer.put_text.Goals as goal
 
 pub returns-clause-bytes : goal.returns-clause-bytes

@@ -1,5 +1,4 @@
-use Rattle.std.proofs.Common.{◌/◌, ◌<◌, length, ◌∙◌, ap, arith}
-use Rattle.std.proofs.lemmas.Grind.{get_or_default_zero}
+use Rattle.yds_model.proofs.Common.{◌/◌, ◌<◌, length, ◌∙◌, ap, arith, get_or_default_zero}
 use Rattle.yds_edf.proofs.PlacedSums.{few_units, in_group, whole_group}
 use Rattle.yds_edf.proofs.blocks.PlacedUnits.between.Goals as goal
 

@@ -1,4 +1,4 @@
-use Rattle.std.proofs.Common.{arith}
+use Rattle.yds_model.proofs.Common.{arith}
 use Rattle.yds_edf.proofs.PlacedSums.{place_left}
 use Rattle.yds_edf.proofs.blocks.PlacedUnits.first.Goals as goal
 

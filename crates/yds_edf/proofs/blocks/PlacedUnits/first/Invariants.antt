@@ -1,4 +1,4 @@
-use Rattle.std.proofs.Common.{◌≡◌, ◌-◌, ◌≤◌, length}
+use Rattle.yds_model.proofs.Common.{◌≡◌, ◌-◌, ◌≤◌, length}
 use Rattle.yds_edf.specs.Blocks.{units_before}
 use Rattle.yds_edf.proofs.blocks.PlacedUnits.first.Given as goal
 

@@ -1,5 +1,4 @@
-use Rattle.std.proofs.Common.{ℕ, ◌+◌, ◌/◌, length, replicate, refl, sym, arith}
-use Rattle.std.proofs.lemmas.List.{length-replicate}
+use Rattle.yds_model.proofs.Common.{ℕ, ◌+◌, ◌/◌, length, replicate, refl, sym, arith, length-replicate}
 use Rattle.yds_edf.proofs.PlacedSums.{none_in_blocks, small_in_range, none_before}
 use Rattle.yds_edf.proofs.blocks.PlacedUnits.new.Goals as goal
 

@@ -1,5 +1,4 @@
-use Rattle.std.proofs.Common.{◌<◌, ◌/◌, length, ◌∙◌, refl, ap, arith}
-use Rattle.std.proofs.lemmas.Grind.{get_or_default_zero}
+use Rattle.yds_model.proofs.Common.{◌<◌, ◌/◌, length, ◌∙◌, refl, ap, arith, get_or_default_zero}
 use Rattle.yds_edf.proofs.PlacedSums.{in_group, whole_group}
 use Rattle.yds_edf.proofs.blocks.PlacedUnits.next.Goals as goal
 

@@ -1,4 +1,4 @@
-use Rattle.std.proofs.Common.{length, ap, arith}
+use Rattle.yds_model.proofs.Common.{length, ap, arith}
 use Rattle.yds_edf.proofs.PlacedSums.{group_fits, set_read}
 use Rattle.yds_edf.proofs.blocks.PlacedUnits.set.Goals as goal
 

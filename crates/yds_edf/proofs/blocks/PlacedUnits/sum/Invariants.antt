@@ -1,4 +1,4 @@
-use Rattle.std.proofs.Common.{◌≡◌, ◌+◌, ◌-◌, ◌≤◌}
+use Rattle.yds_model.proofs.Common.{◌≡◌, ◌+◌, ◌-◌, ◌≤◌}
 use Rattle.yds_edf.specs.Blocks.{units_before}
 use Rattle.yds_edf.proofs.blocks.PlacedUnits.sum.Given as goal
 

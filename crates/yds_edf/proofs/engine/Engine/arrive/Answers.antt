@@ -1,4 +1,4 @@
-use Rattle.std.proofs.Common.{ap, rules, arith, below_more}
+use Rattle.yds_model.proofs.Common.{ap, rules, arith, below_more}
 use Rattle.yds_edf.specs.declared.order.Due.{Due}
 use Rattle.yds_edf.proofs.Arrivals.{due_read, job_known, place_read, now_within, arrived_read, all_come}
 use Rattle.yds_edf.proofs.engine.Engine.arrive.Goals as goal

@@ -1,5 +1,4 @@
-use Rattle.std.proofs.Common.{◌<◌, length, arith, ap}
-use Rattle.yds_model.specs.Job.{Job}
+use Rattle.yds_model.proofs.Common.{◌<◌, length, arith, ap, Job}
 use Rattle.yds_edf.specs.Queue.{JobQueue}
 use Rattle.yds_edf.proofs.DueBy.{due_fits, pending_read, due_read}
 use Rattle.yds_edf.proofs.engine.Engine.due.Goals as goal

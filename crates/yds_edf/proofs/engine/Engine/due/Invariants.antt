@@ -1,4 +1,4 @@
-use Rattle.std.proofs.Common.{◌≡◌}
+use Rattle.yds_model.proofs.Common.{◌≡◌}
 use Rattle.yds_edf.specs.Pending.{sum_below}
 use Rattle.yds_edf.proofs.DueBy.{due_of}
 use Rattle.yds_edf.proofs.engine.Engine.due.Given as goal

@@ -1,4 +1,4 @@
-use Rattle.std.proofs.Common.{◌∙◌, ap, arith}
+use Rattle.yds_model.proofs.Common.{◌∙◌, ap, arith}
 use Rattle.yds_edf.specs.Queue.{all_pending}
 use Rattle.yds_edf.specs.Engine.{TiedQueue}
 use Rattle.yds_edf.proofs.Ranked.{units_tell}

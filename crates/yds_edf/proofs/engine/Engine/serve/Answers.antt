@@ -1,4 +1,4 @@
-use Rattle.std.proofs.Common.{arith, inl, inr}
+use Rattle.yds_model.proofs.Common.{arith, inl, inr}
 use Rattle.yds_edf.proofs.Serving.{next, next_fits, end, works}
 use Rattle.yds_edf.proofs.engine.Engine.serve.Goals as goal
 

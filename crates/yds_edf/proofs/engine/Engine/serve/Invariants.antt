@@ -1,5 +1,4 @@
-use Rattle.std.proofs.Common.{◌≤◌, length}
-use Rattle.std.specs.Vec.{vec_capacity}
+use Rattle.yds_model.proofs.Common.{◌≤◌, length, vec_capacity}
 use Rattle.yds_edf.proofs.Serving.{Progress}
 use Rattle.yds_edf.proofs.engine.Engine.serve.Given as goal
 

@@ -1,4 +1,4 @@
-use Rattle.std.proofs.Common.{◌∙◌, sym, refl, arith}
+use Rattle.yds_model.proofs.Common.{◌∙◌, sym, refl, arith}
 use Rattle.yds_edf.proofs.Ranked.{units_tell}
 use Rattle.yds_edf.proofs.Steps.{job_read, now_fits, kept_read, serves_read}
 use Rattle.yds_edf.proofs.engine.Engine.serve_first.Goals as goal

@@ -1,7 +1,4 @@
-use Rattle.std.proofs.Common.{◌≡◌, ℕ, ◌<◌, List, length, slice_index, ◌∙◌, sym, subst, ap, arith}
-use Rattle.std.specs.Prelude.{All}
-use Rattle.std.proofs.lemmas.List.{length-replicate, get_or_default}
-use Rattle.yds_model.specs.Numbers.{Each}
+use Rattle.yds_model.proofs.Common.{◌≡◌, ℕ, ◌<◌, List, length, slice_index, ◌∙◌, sym, subst, ap, arith, All, length-replicate, get_or_default, Each}
 use Rattle.yds_edf.specs.declared.order.Due.{Due}
 use Rattle.yds_edf.specs.Order.{due_at}
 use Rattle.yds_edf.proofs.Places.{all_placed, deadlines_rise, in_turn}

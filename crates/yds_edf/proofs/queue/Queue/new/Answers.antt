@@ -1,5 +1,4 @@
-use Rattle.std.proofs.Common.{length, arith}
-use Rattle.std.proofs.lemmas.List.FromFn.{length-range_with_len, get_or-range_with_len}
+use Rattle.yds_model.proofs.Common.{length, arith, length-range_with_len, get_or-range_with_len}
 use Rattle.yds_edf.proofs.queue.Queue.new.Goals as goal
 
 pub new-requires-clause-all_tied : goal.new-requires-clause-all_tied

@@ -1,4 +1,4 @@
-use Rattle.std.proofs.lemmas.Result.{on_ok_weaker}
+use Rattle.yds_model.proofs.Common.{on_ok_weaker}
 use Rattle.yds_edf.proofs.Serving.{by_number}
 use Rattle.yds_edf.proofs.queue.Queue.serve_into.Goals as goal
 

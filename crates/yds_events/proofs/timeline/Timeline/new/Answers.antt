@@ -1,6 +1,4 @@
-use Rattle.std.proofs.Common.{◌≡◌, ◌∙◌, List, ap}
-use Rattle.yds_model.specs.Job.{Job}
-use Rattle.yds_model.specs.Event.{event_points, neighbours}
+use Rattle.yds_model.proofs.Common.{◌≡◌, ◌∙◌, List, ap, Job, event_points, neighbours}
 use Rattle.yds_events.specs.Keys.{ends_of, AreKeys}
 use Rattle.yds_events.proofs.Orders.{keys_order}
 use Rattle.yds_events.proofs.Places.{windows_placed}

@@ -1,5 +1,4 @@
-use Rattle.std.proofs.Common.{◌≡◌, ℕ, Err, sym, ap}
-use Rattle.std.specs.Result.{IsErrOf}
+use Rattle.yds_model.proofs.Common.{◌≡◌, ℕ, Err, sym, ap, IsErrOf}
 use Rattle.yds_instance.specs.declared.fault.AddFault.{AddFault}
 use Rattle.yds_instance.proofs.instance.Instance.add.Goals as goal
 

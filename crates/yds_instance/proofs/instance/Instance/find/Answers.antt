@@ -1,5 +1,4 @@
-use Rattle.std.proofs.Common.{◌∙◌, subst, ap, Some, None}
-use Rattle.yds_model.specs.Within.{AreNamedJobs}
+use Rattle.yds_model.proofs.Common.{◌∙◌, subst, ap, Some, None, AreNamedJobs}
 use Rattle.yds_instance.specs.Named.{Named, number_of}
 use Rattle.yds_instance.proofs.Names.{number_of_key, number_says}
 use Rattle.yds_instance.proofs.instance.Instance.find.Goals as goal

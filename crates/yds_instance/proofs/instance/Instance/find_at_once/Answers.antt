@@ -1,8 +1,4 @@
-use Rattle.std.proofs.Common.{◌≡◌, ◌∙◌, ◌<◌, [], sym, subst, ap, ℕ, List, Bor, length, arith}
-use Rattle.std.specs.List.{slice_index_or}
-use Rattle.std.proofs.lemmas.Slice.Eq.{bytes_eq-Decides}
-use Rattle.std.proofs.lemmas.List.{length-map}
-use Rattle.yds_model.specs.Document.{name_at}
+use Rattle.yds_model.proofs.Common.{◌≡◌, ◌∙◌, ◌<◌, [], sym, subst, ap, ℕ, List, Bor, length, arith, slice_index_or, bytes_eq-Decides, length-map, name_at}
 use Rattle.yds_instance.specs.Named.{Named, number_of}
 use Rattle.yds_instance.proofs.Names.{number_at, named_at, name_of_key, texts}
 use Rattle.yds_instance.proofs.instance.Instance.find_at_once.Goals as goal

@@ -1,5 +1,4 @@
-use Rattle.std.proofs.Common.{◌-◌, subst, ap, arith}
-use Rattle.yds_model.specs.Piece.{Piece}
+use Rattle.yds_model.proofs.Common.{◌-◌, subst, ap, arith, Piece}
 use Rattle.yds_edf.specs.Queue.{pending_in}
 use Rattle.yds_oa.specs.Greatest.{IsGreatest}
 use Rattle.yds_oa.proofs.Chosen.{is_greatest}

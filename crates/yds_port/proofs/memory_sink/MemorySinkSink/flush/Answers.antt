@@ -1,5 +1,4 @@
-use Rattle.std.proofs.Common.{◌∙◌, refl, ap, subst}
-use Rattle.std.specs.List.{Contains}
+use Rattle.yds_model.proofs.Common.{◌∙◌, refl, ap, subst, Contains}
 use Rattle.yds_port.specs.Memory.{SinkState}
 use Rattle.yds_port.proofs.memory_sink.MemorySinkSink.flush.Goals as goal
 

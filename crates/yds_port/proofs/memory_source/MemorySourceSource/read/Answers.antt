@@ -1,5 +1,4 @@
-use Rattle.std.proofs.Common.{ap, sym, ◌∙◌, arith}
-use Rattle.std.proofs.lemmas.Grind.{common_steps}
+use Rattle.yds_model.proofs.Common.{ap, sym, ◌∙◌, arith, common_steps}
 use Rattle.yds_port.specs.Memory.{SourceState}
 use Rattle.yds_port.proofs.Read.{Consumes-copied}
 use Rattle.yds_port.proofs.memory_source.MemorySourceSource.read.Goals as goal

@@ -1,4 +1,4 @@
-use Rattle.std.proofs.lemmas.Result.{on_ok_weaker}
+use Rattle.yds_model.proofs.Common.{on_ok_weaker}
 use Rattle.serde.specs.Event.{Logs, map_ends}
 use Rattle.yds_report.proofs.json_text.ReportSerialize.serialize.Goals as goal
 

@@ -1,4 +1,4 @@
-use Rattle.std.proofs.Common.{◌≤◌, ◌<◌, ◌*◌, refl, arith}
+use Rattle.yds_model.proofs.Common.{◌≤◌, ◌<◌, ◌*◌, refl, arith}
 use Rattle.yds_round.specs.Written.{turn}
 use Rattle.yds_round.proofs.Reaching.{time_kept, reached_before, reached_after}
 use Rattle.yds_round.proofs.cut.Cut.reach.Goals as goal

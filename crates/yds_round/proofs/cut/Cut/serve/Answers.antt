@@ -1,5 +1,4 @@
-use Rattle.std.proofs.Common.{◌≡◌, ◌+◌, ◌≤◌, ap, ◌∙◌, arith, length, get_or}
-use Rattle.std.proofs.lemmas.List.{length-append}
+use Rattle.yds_model.proofs.Common.{◌≡◌, ◌+◌, ◌≤◌, ap, ◌∙◌, arith, length, get_or, length-append}
 use Rattle.yds_model.specs.declared.limits.TheConstants.{MAX_SLOTS}
 use Rattle.yds_slots.specs.Schedule.{WrittenSchedule}
 use Rattle.yds_timetable.specs.Shares.{JobShare}

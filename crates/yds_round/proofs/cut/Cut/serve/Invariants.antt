@@ -1,4 +1,4 @@
-use Rattle.std.proofs.Common.{take}
+use Rattle.yds_model.proofs.Common.{take}
 use Rattle.yds_round.proofs.Serving.{IsServed}
 use Rattle.yds_round.proofs.cut.Cut.serve.Given as goal
 

@@ -1,5 +1,4 @@
-use Rattle.std.proofs.Common.{◌*◌, arith}
-use Rattle.std.proofs.Math.Nat.{div-le_of_le-mul}
+use Rattle.yds_model.proofs.Common.{◌*◌, arith, div-le_of_le-mul}
 use Rattle.yds_round.proofs.cut.Cut.work.Goals as goal
 
 pub returns-clause-in_range : goal.returns-clause-in_range

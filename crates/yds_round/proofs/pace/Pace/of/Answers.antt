@@ -1,5 +1,4 @@
-use Rattle.std.proofs.Common.{ap, sym, ◌∙◌}
-use Rattle.yds_model.specs.Table.{Point}
+use Rattle.yds_model.proofs.Common.{ap, sym, ◌∙◌, Point}
 use Rattle.yds_round.proofs.Paces.{gap_of_two}
 use Rattle.yds_round.proofs.pace.Pace.of.Goals as goal
 

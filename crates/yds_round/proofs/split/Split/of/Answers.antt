@@ -1,5 +1,4 @@
-use Rattle.std.proofs.Common.{◌≡◌, ◌∙◌, ap, arith}
-use Rattle.yds_model.specs.Table.{Point}
+use Rattle.yds_model.proofs.Common.{◌≡◌, ◌∙◌, ap, arith, Point}
 use Rattle.yds_round.proofs.Splits.{split_is}
 use Rattle.yds_round.proofs.split.Split.of.Goals as goal
 

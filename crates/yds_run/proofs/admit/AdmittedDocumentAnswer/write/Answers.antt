@@ -1,4 +1,4 @@
-use Rattle.std.proofs.Common.{refl}
+use Rattle.yds_model.proofs.Common.{refl}
 use Rattle.yds_port.proofs.Putting.{puts_whole, puts_failed, puts_front, puts_after}
 use Rattle.yds_run.proofs.admit.AdmittedDocumentAnswer.write.Goals as goal
 

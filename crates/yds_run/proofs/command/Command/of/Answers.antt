@@ -1,4 +1,4 @@
-use Rattle.std.proofs.Common.{arith}
+use Rattle.yds_model.proofs.Common.{arith}
 use Rattle.yds_run.proofs.AskedWords.{four_or_more}
 use Rattle.yds_run.proofs.command.Command.of.Goals as goal
 

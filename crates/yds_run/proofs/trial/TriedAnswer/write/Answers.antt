@@ -1,6 +1,4 @@
-use Rattle.std.proofs.Common.{◌∙◌, ap, refl}
-use Rattle.yds_model.specs.Text.{line}
-use Rattle.yds_model.specs.TrialAnswer.{peak_words}
+use Rattle.yds_model.proofs.Common.{◌∙◌, ap, refl, line, peak_words}
 use Rattle.yds_port.proofs.Putting.{puts_whole, puts_failed, puts_front, puts_after, whole_after}
 use Rattle.yds_run.proofs.trial.TriedAnswer.write.Goals as goal
 

@@ -1,5 +1,4 @@
-use Rattle.std.proofs.Common.{◌*◌, ◌<◌, ◌∙◌, length, map, sym, arith}
-use Rattle.std.proofs.lemmas.List.{get_or-map, length-map}
+use Rattle.yds_model.proofs.Common.{◌*◌, ◌<◌, ◌∙◌, length, map, sym, arith, get_or-map, length-map}
 use Rattle.yds_events.specs.Window.{no_window}
 use Rattle.yds_search.specs.Own.{own_windows, window_of, wants_at, rooms_at}
 use Rattle.yds_search.proofs.Filled.{no_own}

@@ -1,5 +1,4 @@
-use Rattle.std.proofs.Common.{◌≡◌, ◌<◌, ◌≤◌, ◌+◌, ◌++◌, ◌∙◌, length, get_or, take, drop, List, [], ℕ, ap, arith}
-use Rattle.std.proofs.lemmas.List.{take_at, get_or-map, length-map, length-set}
+use Rattle.yds_model.proofs.Common.{◌≡◌, ◌<◌, ◌≤◌, ◌+◌, ◌++◌, ◌∙◌, length, get_or, take, drop, List, [], ℕ, ap, arith, take_at, get_or-map, length-map, length-set}
 use Rattle.yds_events.specs.declared.window.Window.{Window}
 use Rattle.yds_events.specs.Window.{window_at, no_window, IsIn}
 use Rattle.yds_search.specs.declared.own.OwnJob.{OwnJob}

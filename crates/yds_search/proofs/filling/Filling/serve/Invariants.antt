@@ -1,5 +1,4 @@
-use Rattle.std.proofs.Common.{◌≡◌, ◌-◌, ◌≤◌, ◌<◌, List, length}
-use Rattle.std.specs.List.{All}
+use Rattle.yds_model.proofs.Common.{◌≡◌, ◌-◌, ◌≤◌, ◌<◌, List, length, All}
 use Rattle.yds_timetable.specs.Shares.{JobShare}
 use Rattle.yds_events.specs.Window.{window_at}
 use Rattle.yds_search.specs.Own.{own_windows}

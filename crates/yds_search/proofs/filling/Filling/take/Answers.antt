@@ -1,5 +1,4 @@
-use Rattle.std.proofs.Common.{◌++◌, ◌∷◌, ◌∙◌, ◌≡◌, [], set, refl, ap, inl, inr, rules, arith}
-use Rattle.std.proofs.lemmas.List.{get_or_read, set-get_or}
+use Rattle.yds_model.proofs.Common.{◌++◌, ◌∷◌, ◌∙◌, ◌≡◌, [], set, refl, ap, inl, inr, rules, arith, get_or_read, set-get_or}
 use Rattle.yds_search.specs.declared.filling.Cell.{Cell}
 use Rattle.yds_search.specs.Cells.{no_cell, cell_at}
 use Rattle.yds_search.proofs.filling.Filling.take.Goals as goal

@@ -1,4 +1,4 @@
-use Rattle.std.proofs.Common.{◌≡◌, ◌++◌, take}
+use Rattle.yds_model.proofs.Common.{◌≡◌, ◌++◌, take}
 use Rattle.yds_search.specs.Own.{shares_by_number}
 use Rattle.yds_search.proofs.found.Found.add.Given as goal
 

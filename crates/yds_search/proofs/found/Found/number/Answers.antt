@@ -1,4 +1,4 @@
-use Rattle.std.proofs.Common.{ℕ, List, length, ap, refl}
+use Rattle.yds_model.proofs.Common.{ℕ, List, length, ap, refl}
 use Rattle.yds_search.proofs.Members.{written_more}
 use Rattle.yds_search.proofs.found.Found.number.Goals as goal
 

@@ -1,4 +1,4 @@
-use Rattle.std.proofs.Common.{◌≡◌}
+use Rattle.yds_model.proofs.Common.{◌≡◌}
 use Rattle.yds_search.specs.Numbers.{AreWritten}
 use Rattle.yds_search.specs.Own.{job_numbers, stretch_numbers}
 use Rattle.yds_search.proofs.found.Found.number.Given as goal

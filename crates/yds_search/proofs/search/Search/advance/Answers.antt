@@ -1,8 +1,7 @@
-use Rattle.std.proofs.Common.{◌∙◌, ap, arith, refl}
+use Rattle.yds_model.proofs.Common.{◌∙◌, ap, arith, refl, on_ok_weaker}
 use Rattle.yds_search.proofs.Chosen.{chosen_as, chosen_waits, chosen_few, chosen_windows, chosen_known, chosen_some, chosen_units, chosen_rooms_some, chosen_single, chosen_laid_out, chosen_finished, chosen_split, chosen_cells, chosen_parts, chosen_room}
 use Rattle.yds_search.proofs.Laid.{finish_nearer, split_nearer}
 use Rattle.yds_search.specs.declared.stack.Size.{Size}
-use Rattle.std.proofs.lemmas.Result.{on_ok_weaker}
 use Rattle.yds_search.proofs.search.Search.advance.Goals as goal
 
 pub total-group-requires : goal.total-group-requires

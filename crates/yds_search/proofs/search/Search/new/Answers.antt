@@ -1,6 +1,4 @@
-use Rattle.std.proofs.Common.{◌≡◌, ◌∙◌, ℕ, [], List, length, replicate, ap, sym, subst, arith}
-use Rattle.yds_model.specs.Event.{stretches}
-use Rattle.yds_model.specs.Piece.{Piece}
+use Rattle.yds_model.proofs.Common.{◌≡◌, ◌∙◌, ℕ, [], List, length, replicate, ap, sym, subst, arith, stretches, Piece}
 use Rattle.yds_events.proofs.Neighbours.{few_stretches}
 use Rattle.yds_search.specs.declared.found.TheConstants.{NO_GROUP}
 use Rattle.yds_search.specs.Found.{Found}

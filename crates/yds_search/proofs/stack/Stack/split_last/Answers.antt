@@ -1,5 +1,4 @@
-use Rattle.std.proofs.Common.{◌≡◌, ℕ, ◌-◌, ◌++◌, List, length, ap, arith}
-use Rattle.std.proofs.lemmas.List.{length-append}
+use Rattle.yds_model.proofs.Common.{◌≡◌, ℕ, ◌-◌, ◌++◌, List, length, ap, arith, length-append}
 use Rattle.yds_search.specs.declared.stack.Size.{Size}
 use Rattle.yds_search.specs.Stack.{jobs_of, own_stretches_of}
 use Rattle.yds_search.proofs.Marked.{jobs_parted, stretches_parted}

@@ -1,4 +1,4 @@
-use Rattle.std.proofs.Common.{sym, subst}
+use Rattle.yds_model.proofs.Common.{sym, subst}
 use Rattle.yds_slots.specs.Received.{Receipt}
 use Rattle.yds_slots.specs.Kept.{IsReceiptOf}
 use Rattle.yds_slots.proofs.schedule.Schedule.given.Goals as goal

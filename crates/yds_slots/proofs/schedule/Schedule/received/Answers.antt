@@ -1,5 +1,4 @@
-use Rattle.std.proofs.Common.{◌<◌, ◌≤◌, length, ◌∙◌, arith, sym, subst}
-use Rattle.std.proofs.lemmas.List.{get_or_read, get_or_past}
+use Rattle.yds_model.proofs.Common.{◌<◌, ◌≤◌, length, ◌∙◌, arith, sym, subst, get_or_read, get_or_past}
 use Rattle.yds_slots.specs.Received.{Receipt}
 use Rattle.yds_slots.specs.Kept.{IsReceiptOf, nothing}
 use Rattle.yds_slots.proofs.schedule.Schedule.received.Goals as goal

@@ -1,7 +1,4 @@
-use Rattle.std.proofs.Common.{◌<◌, arith}
-use Rattle.std.proofs.lemmas.List.{length-take}
-use Rattle.std.proofs.lemmas.List.Sorted.{All-permutation, length_permutation}
-use Rattle.yds_model.specs.Slot.{WrittenSlot}
+use Rattle.yds_model.proofs.Common.{◌<◌, arith, length-take, All-permutation, length_permutation, WrittenSlot}
 use Rattle.yds_slots.proofs.Grains.{fits_next}
 use Rattle.yds_slots.proofs.schedule.Schedule.sorted.Goals as goal
 

@@ -1,4 +1,4 @@
-use Rattle.std.proofs.Common.{◌≡◌, take}
+use Rattle.yds_model.proofs.Common.{◌≡◌, take}
 use Rattle.yds_slots.proofs.schedule.Schedule.sorted.Given as goal
 
 abbrev pub invariant-loop-slot : goal.invariant-loop-slot

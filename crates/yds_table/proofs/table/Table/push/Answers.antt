@@ -1,6 +1,4 @@
-use Rattle.std.proofs.Common.{◌≡◌, ◌++◌, ◌∷◌, [], List, ap, ◌∙◌, arith}
-use Rattle.yds_model.specs.Table.{Point, AreRising}
-use Rattle.yds_model.proofs.HullOf.{hull_is_computed}
+use Rattle.yds_model.proofs.Common.{◌≡◌, ◌++◌, ◌∷◌, [], List, ap, ◌∙◌, arith, Point, AreRising, hull_is_computed}
 use Rattle.yds_table.proofs.Lowest.{rising_pushed, kept_pushed}
 use Rattle.yds_table.proofs.table.Table.push.Goals as goal
 

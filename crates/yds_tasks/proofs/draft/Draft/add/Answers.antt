@@ -1,6 +1,4 @@
-use Rattle.std.proofs.Common.{◌∙◌, ap, sym, refl}
-use Rattle.std.specs.declared.random_state.RandomState.{RandomState}
-use Rattle.yds_model.specs.Tasks.{TaskSet}
+use Rattle.yds_model.proofs.Common.{◌∙◌, ap, sym, refl, RandomState, TaskSet}
 use Rattle.yds_tasks.specs.Fields.{has_name}
 use Rattle.yds_tasks.specs.Read.{task_read}
 use Rattle.yds_tasks.proofs.Names.{names_pushed}

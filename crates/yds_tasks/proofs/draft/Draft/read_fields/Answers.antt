@@ -1,4 +1,4 @@
-use Rattle.std.proofs.Common.{◌∙◌, ◌∷◌, ap, sym, subst, Some}
+use Rattle.yds_model.proofs.Common.{◌∙◌, ◌∷◌, ap, sym, subst, Some}
 use Rattle.yds_text.specs.Read.{field_read}
 use Rattle.yds_tasks.specs.Lines.{Tells}
 use Rattle.yds_tasks.proofs.LineKinds.{horizon_line}

@@ -1,6 +1,4 @@
-use Rattle.std.proofs.Common.{◌∙◌, ◌∷◌, ap, sym, Ok}
-use Rattle.yds_model.specs.Fields.{◌>>=◌}
-use Rattle.yds_model.specs.TaskReading.{HorizonEntry}
+use Rattle.yds_model.proofs.Common.{◌∙◌, ◌∷◌, ap, sym, Ok, ◌>>=◌, HorizonEntry}
 use Rattle.yds_text.specs.Read.{field_read}
 use Rattle.yds_laws.proofs.TasksSaid.{horizon_more}
 use Rattle.yds_tasks.proofs.Told.{horizon_fields, not_some}

@@ -1,9 +1,5 @@
-use Rattle.std.proofs.Common.{◌≡◌, ◌∙◌, ◌∷◌, ◌<◌, true, length, ap, sym, arith, List}
-use Rattle.std.specs.Prelude.{is_some}
-use Rattle.std.proofs.lemmas.List.{length-map}
-use Rattle.std.proofs.lemmas.Result.{err_from_is_err_and}
+use Rattle.yds_model.proofs.Common.{◌≡◌, ◌∙◌, ◌∷◌, ◌<◌, true, length, ap, sym, arith, List, is_some, length-map, err_from_is_err_and, Task}
 use Rattle.yds_model.specs.declared.limits.TheConstants.{MAX_TASKS}
-use Rattle.yds_model.specs.Tasks.{Task}
 use Rattle.yds_text.specs.Read.{field_read}
 use Rattle.yds_tasks.specs.Read.{task_read}
 use Rattle.yds_tasks.proofs.Told.{passed, task_refused, task_added}

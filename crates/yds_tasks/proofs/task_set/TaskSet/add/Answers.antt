@@ -1,6 +1,4 @@
-use Rattle.std.proofs.Common.{ap, ◌∙◌, ◌∷◌, [], map, arith}
-use Rattle.std.proofs.lemmas.List.{map-append}
-use Rattle.yds_model.specs.Tasks.{TaskSet}
+use Rattle.yds_model.proofs.Common.{ap, ◌∙◌, ◌∷◌, [], map, arith, map-append, TaskSet}
 use Rattle.yds_tasks.specs.Read.{task_read}
 use Rattle.yds_tasks.proofs.Counts.{keeps_pushed, work_within}
 use Rattle.yds_tasks.proofs.task_set.TaskSet.add.Goals as goal

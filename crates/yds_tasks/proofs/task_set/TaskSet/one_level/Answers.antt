@@ -1,6 +1,4 @@
-use Rattle.std.proofs.Common.{◌∙◌, sym, ap, refl}
-use Rattle.yds_model.specs.Tasks.{TaskSet, jobs_of_tasks}
-use Rattle.std.specs.List.{sum_by}
+use Rattle.yds_model.proofs.Common.{◌∙◌, sym, ap, refl, TaskSet, jobs_of_tasks, sum_by}
 use Rattle.yds_tasks.proofs.Level.{all_filled, work_had, level_told, no_level_told}
 use Rattle.yds_tasks.proofs.task_set.TaskSet.one_level.Goals as goal
 use Rattle.yds_tasks.proofs.task_set.TaskSet.one_level.Goals.{else-filled-via-then-filled+else-have_work, else-filled-via-else-filled}

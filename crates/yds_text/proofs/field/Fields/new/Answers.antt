@@ -1,4 +1,4 @@
-use Rattle.yds_model.proofs.Lines.{length-fields_from-le}
+use Rattle.yds_model.proofs.Common.{length-fields_from-le}
 use Rattle.yds_text.proofs.field.Fields.new.Goals as goal
 
 pub returns-clause-count : goal.returns-clause-count

@@ -1,8 +1,5 @@
-use Rattle.std.proofs.Common.{◌≡◌, ◌+◌, ◌-◌, ℕ, List, Ok, length, sym, subst}
+use Rattle.yds_model.proofs.Common.{◌≡◌, ◌+◌, ◌-◌, ℕ, List, Ok, length, sym, subst, Field, fields_from, Fraction, fraction_at}
 use Rattle.yds_fraction.specs.Mixed.{fraction_of}
-use Rattle.yds_model.specs.Lines.{Field, fields_from}
-use Rattle.yds_model.specs.Scale.{Fraction}
-use Rattle.yds_model.specs.Spelling.{fraction_at}
 use Rattle.yds_text.specs.Left.{FieldsLeft}
 use Rattle.yds_text.specs.Plain.{ReadsText}
 use Rattle.yds_text.proofs.PlainField.{reads_text}

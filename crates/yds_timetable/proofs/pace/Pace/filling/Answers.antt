@@ -1,4 +1,4 @@
-use Rattle.std.proofs.Common.{arith}
+use Rattle.yds_model.proofs.Common.{arith}
 use Rattle.yds_fraction.proofs.Lowest.{IsGcd-positive}
 use Rattle.yds_timetable.proofs.pace.Pace.filling.Goals as goal
 

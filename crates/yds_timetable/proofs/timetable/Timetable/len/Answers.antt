@@ -1,4 +1,4 @@
-use Rattle.std.proofs.lemmas.List.Elements.{All-map}
+use Rattle.yds_model.proofs.Common.{All-map}
 use Rattle.yds_timetable.specs.Timetable.{IsRow}
 use Rattle.yds_timetable.specs.Kept.{row_kept}
 use Rattle.yds_timetable.proofs.timetable.Timetable.len.Goals as goal

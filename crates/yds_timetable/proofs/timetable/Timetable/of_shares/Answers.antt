@@ -1,4 +1,4 @@
-use Rattle.std.proofs.Common.{ℕ, List, length, sym, subst}
+use Rattle.yds_model.proofs.Common.{ℕ, List, length, sym, subst}
 use Rattle.yds_timetable.specs.declared.pace.Pace.{Pace}
 use Rattle.yds_timetable.specs.declared.timetable.KeptRow.{KeptRow}
 use Rattle.yds_timetable.specs.Kept.{AreKept}

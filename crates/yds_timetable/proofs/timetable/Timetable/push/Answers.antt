@@ -1,4 +1,4 @@
-use Rattle.std.proofs.Common.{◌≡◌, List, ◌++◌, ap, ap₂, ◌∙◌, arith, length, refl}
+use Rattle.yds_model.proofs.Common.{◌≡◌, List, ◌++◌, ap, ap₂, ◌∙◌, arith, length, refl}
 use Rattle.yds_timetable.specs.declared.timetable.KeptRow.{KeptRow}
 use Rattle.yds_timetable.specs.Shares.{JobShare}
 use Rattle.yds_timetable.specs.Kept.{rows_kept}
